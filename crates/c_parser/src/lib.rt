@@ -1,0 +1,2 @@
+//! c_parser.
+#![tactic(auto)]

@@ -1,0 +1,2 @@
+//! cpa_iface.
+#![tactic(auto)]

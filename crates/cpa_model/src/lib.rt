@@ -1,0 +1,2 @@
+//! cpa_model.
+#![tactic(auto)]

@@ -1,0 +1,2 @@
+//! cpa_top.
+#![tactic(auto)]
