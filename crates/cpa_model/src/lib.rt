@@ -1,2 +1,18 @@
-//! cpa_model.
+//! The program as core statements, its states and steps, facts on states, and the automaton.
 #![tactic(auto)]
+
+mod automaton;
+mod expressions;
+mod facts;
+mod integers;
+mod program;
+mod seq;
+mod states;
+
+pub use automaton::{Act, Cfa, Edge, Path};
+pub use expressions::Expr;
+pub use facts::{Elem, Fact};
+pub use integers::IntType;
+pub use program::{Cell, Program, Stmt};
+pub use seq::Seq;
+pub use states::{State, Store};

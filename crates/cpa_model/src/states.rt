@@ -1,0 +1,15 @@
+use crate::seq::Seq;
+
+/// The value of each cell.
+#[derive(Debug, Drop)]
+pub struct Store {
+    pub values: Seq<i128>,
+}
+
+/// A state of an execution. The last item of the stack is its top: the call site to return to.
+#[derive(Debug, Drop)]
+pub struct State {
+    pub point: u32,
+    pub stack: Seq<u32>,
+    pub store: Store,
+}
