@@ -1,0 +1,3 @@
+pub mod Tiling
+pub mod Parts
+pub mod Trees
