@@ -1,2 +1,10 @@
-//! cpa_iface.
+//! The interface of analyses, with its laws as clauses, and the analysis of locations.
 #![tactic(auto)]
+
+mod analysis;
+mod location;
+mod standing;
+
+pub use analysis::{Analysis, Part, Precision, Settings};
+pub use location::Location;
+pub use standing::has_facts;
