@@ -1,0 +1,5 @@
+pub mod formers
+pub mod Spelling
+pub mod Tree
+pub mod FirstForm
+pub mod Reading

@@ -1,0 +1,5 @@
+pub mod Cases
+pub mod TreeLemmas
+pub mod Nearest
+pub mod Front
+pub mod OneReading
