@@ -1,6 +1,7 @@
-//! cpa_top.
+//! The program: its words, its job, its answer.
 #![tactic(auto)]
 
+mod explore;
 mod outside;
 
 pub use outside::{Failed, Inputs, ReadFault, Sink, write_whole};
