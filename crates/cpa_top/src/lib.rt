@@ -3,5 +3,7 @@
 
 mod explore;
 mod outside;
+mod report;
 
 pub use outside::{Failed, Inputs, ReadFault, Sink, write_whole};
+pub use report::{Listed, Report};
