@@ -10,8 +10,8 @@ mod seq;
 mod states;
 
 pub use automaton::{Act, Cfa, Edge, Path};
-pub use expressions::Expr;
-pub use facts::{Elem, Fact};
+pub use expressions::{Expr, has_truth, is_expr, value};
+pub use facts::{Elem, Fact, holds, is_elem};
 pub use integers::IntType;
 pub use program::{Cell, Program, Stmt};
 pub use seq::Seq;
