@@ -1,3 +1,4 @@
+pub mod Lists
 pub mod Tiling
 pub mod Parts
 pub mod Trees
