@@ -3,3 +3,4 @@ pub mod TreeLemmas
 pub mod Nearest
 pub mod Front
 pub mod OneReading
+pub mod SpellingLemmas

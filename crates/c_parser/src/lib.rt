@@ -5,11 +5,14 @@ ghost use Rattle.std.specs.Prelude.{◌≡◌, ℕ, List};
 ghost use Rattle.c_parser.specs.FirstForm.{IsFirstForm};
 
 mod boxed;
+mod error;
 mod items;
+mod lexer;
 mod token;
 mod tree;
 
 pub use boxed::Boxed;
+pub use error::FirstError;
 pub use items::Items;
 pub use token::Token;
 pub use tree::{Expression, Statement, Unit};
