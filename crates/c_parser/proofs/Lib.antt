@@ -4,3 +4,4 @@ pub mod Nearest
 pub mod Front
 pub mod OneReading
 pub mod SpellingLemmas
+pub mod Steps

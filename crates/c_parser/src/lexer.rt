@@ -1,4 +1,4 @@
-ghost use Rattle.std.specs.Prelude.{◌≡◌, List, [], ◌++◌, ◌<◌, ◌≤◌, length, MatchOption, IfOk, IsErrOf};
+ghost use Rattle.std.specs.Prelude.{◌≡◌, List, [], ◌++◌, ◌<◌, ◌≤◌, length, MatchOption, IfOk, IfErr};
 ghost use Rattle.std.specs.List.{prefix_len};
 ghost use Rattle.c_parser.specs.Spelling.{spelling, is_blank, is_word_byte, Spells};
 ghost use Rattle.c_parser.specs.Lexing.{unblanked, run_length_of, Begins, NoToken, NoneSpelled};
@@ -10,7 +10,7 @@ use std::alloc::Global;
 /// The tokens of a text.
 pub fn tokens(alloc: Global, text: &[u8]) -> Result<Vec<Token>, FirstError>
     ensures ok { IfOk result (λ found. Spells text.now found.items) }
-    ensures unbuilt { IsErrOf result FirstError.Unbuilt → NoneSpelled text.now }
+    ensures unbuilt { IfErr result (λ error. error ≡ FirstError.Unbuilt → NoneSpelled text.now) }
 {
     let mut found = Vec::new(alloc);
     let mut rest = after_blanks(text);

@@ -8,6 +8,7 @@ mod boxed;
 mod error;
 mod items;
 mod lexer;
+mod parser;
 mod token;
 mod tree;
 
