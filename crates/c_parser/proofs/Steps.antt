@@ -1,6 +1,7 @@
 -- What a reader of statements may conclude at each step, from what it has read of the parts.
-use Rattle.std.proofs.Common.{◌≡◌, ℕ, ◌+◌, ◌<◌, ◌≤◌, max, Bool, true, false, ◌++◌, List, [], ◌∷◌, inl, inr, length, length-append, Option, None, Some, map, ap, sym, ◌∙◌, append_assoc, refl, subst, arith}
+use Rattle.std.proofs.Common.{◌≡◌, ◌≢◌, ℕ, ◌+◌, ◌<◌, ◌≤◌, max, Bool, true, false, ◌++◌, List, [], ◌∷◌, inl, inr, length, length-append, Option, None, Some, Result, Ok, Err, MatchOption, IfOk, IfErr, map, ap, sym, ◌∙◌, append_assoc, refl, subst, arith}
 use Rattle.std.specs.List.{AllByRecursion}
+use Rattle.std.specs.Option.{ok_or}
 use Rattle.std.proofs.lemmas.Bool.{cases_Bool}
 use Rattle.std.proofs.lemmas.List.{append-nil}
 use Rattle.c_parser.specs.declared.token.Token.{Token}
@@ -8,7 +9,7 @@ use Rattle.c_parser.specs.declared.tree.Expression.{Expression}
 use Rattle.c_parser.specs.declared.tree.Statement.{Statement}
 use Rattle.c_parser.specs.declared.tree.Statement.TheVariants.{Block, Empty, If, While, ReachError, Abort, Return}
 use Rattle.c_parser.specs.Tree.{joined, greatest, test_leaves, leaves, level, ends_open, IsNearest}
-use Rattle.c_parser.specs.Reading.{NoneAfter, ReadsTest, NoTest, IsClosed, Reads, NoneReads, ReadsItems, NoneReadsItems}
+use Rattle.c_parser.specs.Reading.{NoneAfter, ReadsTest, NoTest, IsClosed, Reads, NoneReads, NoneSimple, ReadsItems, NoneReadsItems}
 use Rattle.c_parser.proofs.Cases.{shown_of_all, Shown}
 use Rattle.c_parser.proofs.TreeLemmas.{level-Block, level-Empty, level-If, level-If_else, level-While, level-ReachError, level-Abort, level-Return, ends_open-Block, ends_open-Empty, ends_open-If, ends_open-If_else, ends_open-While, ends_open-ReachError, ends_open-Abort, ends_open-Return}
 use Rattle.c_parser.proofs.Nearest.{near_first, near_items, near_branch, near_branches, near_body, near_Block, near_Empty, near_If, near_If_else, near_While, near_ReachError, near_Abort, near_Return}
@@ -24,17 +25,34 @@ same_reading tokens left left2 s u r q one two = one_statement s u r q (sym one.
 shut : (s : Statement) (rest : List Token) → ends_open s ≡ false → IsClosed s rest
 shut s rest e is_open after f = let bad : false ≡ true = sym e ∙ is_open in cc
 
-pub reads_Empty : (rest : List Token) (left : ℕ) → 0 < left → Reads (Token.Semicolon ∷ rest) left Empty rest
-reads_Empty rest left room = record { spelled = sym (front-Empty rest); nearest = near_Empty; levels = rw level-Empty (omega arith); closed = shut Empty rest ends_open-Empty }
+pub reads_Empty : (rest : List Token) → Reads (Token.Semicolon ∷ rest) 1 Empty rest
+reads_Empty rest = record { spelled = sym (front-Empty rest); nearest = near_Empty; levels = rw level-Empty (omega arith); closed = shut Empty rest ends_open-Empty }
 
-pub reads_ReachError : (rest : List Token) (left : ℕ) → 0 < left → Reads (Token.ReachError ∷ Token.LeftParen ∷ Token.RightParen ∷ Token.Semicolon ∷ rest) left ReachError rest
-reads_ReachError rest left room = record { spelled = sym (front-ReachError rest); nearest = near_ReachError; levels = rw level-ReachError (omega arith); closed = shut ReachError rest ends_open-ReachError }
+-- what a call ends with
+abbrev CallEnd : List Token → List Token → Type 0
+CallEnd tokens rest = tokens ≡ Token.LeftParen ∷ Token.RightParen ∷ Token.Semicolon ∷ rest
 
-pub reads_Abort : (rest : List Token) (left : ℕ) → 0 < left → Reads (Token.Abort ∷ Token.LeftParen ∷ Token.RightParen ∷ Token.Semicolon ∷ rest) left Abort rest
-reads_Abort rest left room = record { spelled = sym (front-Abort rest); nearest = near_Abort; levels = rw level-Abort (omega arith); closed = shut Abort rest ends_open-Abort }
+pub reads_ReachError : (tokens rest : List Token) → CallEnd tokens rest → Reads (Token.ReachError ∷ tokens) 1 ReachError rest
+reads_ReachError tokens rest e = record { spelled = ap (λ z. Token.ReachError ∷ z) e ∙ sym (front-ReachError rest); nearest = near_ReachError; levels = rw level-ReachError (omega arith); closed = shut ReachError rest ends_open-ReachError }
 
-pub reads_Return : (rest : List Token) (left : ℕ) → 0 < left → Reads (Token.Return ∷ Token.Zero ∷ Token.Semicolon ∷ rest) left Return rest
-reads_Return rest left room = record { spelled = sym (front-Return rest); nearest = near_Return; levels = rw level-Return (omega arith); closed = shut Return rest ends_open-Return }
+pub reads_Abort : (tokens rest : List Token) → CallEnd tokens rest → Reads (Token.Abort ∷ tokens) 1 Abort rest
+reads_Abort tokens rest e = record { spelled = ap (λ z. Token.Abort ∷ z) e ∙ sym (front-Abort rest); nearest = near_Abort; levels = rw level-Abort (omega arith); closed = shut Abort rest ends_open-Abort }
+
+pub reads_Return : (tokens rest : List Token) → tokens ≡ Token.Zero ∷ Token.Semicolon ∷ rest → Reads (Token.Return ∷ tokens) 1 Return rest
+reads_Return tokens rest e = record { spelled = ap (λ z. Token.Return ∷ z) e ∙ sym (front-Return rest); nearest = near_Return; levels = rw level-Return (omega arith); closed = shut Return rest ends_open-Return }
+
+pub none_ReachError : (tokens : List Token) → ((rest : List Token) → CallEnd tokens rest → ⊥) → NoneSimple Token.ReachError tokens
+none_ReachError tokens none p q r left s rest read = none rest (front_of s Token.ReachError tokens rest read.spelled).1
+
+pub none_Abort : (tokens : List Token) → ((rest : List Token) → CallEnd tokens rest → ⊥) → NoneSimple Token.Abort tokens
+none_Abort tokens none p q r left s rest read = none rest (front_of s Token.Abort tokens rest read.spelled).1
+
+pub none_Return : (tokens : List Token) → ((rest : List Token) → tokens ≡ Token.Zero ∷ Token.Semicolon ∷ rest → ⊥) → NoneSimple Token.Return tokens
+none_Return tokens none p q r left s rest read = none rest (front_of s Token.Return tokens rest read.spelled).1
+
+-- a statement with no parts may be read with any levels
+pub more_levels : (tokens : List Token) (left : ℕ) (s : Statement) (rest : List Token) → 0 < left → Reads tokens 1 s rest → Reads tokens left s rest
+more_levels tokens left s rest room read = record { spelled = read.spelled; nearest = read.nearest; levels = omega (arith, read.levels); closed = read.closed }
 
 -- each statement takes a level
 
@@ -55,36 +73,6 @@ has_level = record {
 
 pub none_without_level : (tokens : List Token) (left : ℕ) → left ≡ 0 → NoneReads tokens left
 none_without_level tokens left none s rest read = omega (arith, shown_of_all HasLevel has_level s, read.levels)
-
--- tokens by which no statement begins
-
--- the first tokens that no statement goes on by
-pub record NoStart (tokens : List Token) : Type 0 where
-  pub brace : NoneAfter Token.LeftBrace tokens
-  pub semicolon : NoneAfter Token.Semicolon tokens
-  pub if : NoneAfter Token.If tokens
-  pub while : NoneAfter Token.While tokens
-  pub reach_error : (rest : List Token) → tokens ≡ Token.ReachError ∷ Token.LeftParen ∷ Token.RightParen ∷ Token.Semicolon ∷ rest → ⊥
-  pub abort : (rest : List Token) → tokens ≡ Token.Abort ∷ Token.LeftParen ∷ Token.RightParen ∷ Token.Semicolon ∷ rest → ⊥
-  pub return : (rest : List Token) → tokens ≡ Token.Return ∷ Token.Zero ∷ Token.Semicolon ∷ rest → ⊥
-
-abbrev StartsNone : List Token → Statement → Type 0
-StartsNone tokens s = (rest : List Token) → tokens ≡ leaves s ++ rest → ⊥
-
-starts_none : (tokens : List Token) → NoStart tokens → Shown (StartsNone tokens)
-starts_none tokens none = record {
-  block = λ items parts rest e. none.brace _ (e ∙ front-Block items rest);
-  empty = λ rest e. none.semicolon _ (e ∙ front-Empty rest);
-  if_only = λ test branch part rest e. none.if _ (e ∙ front-If test branch None rest);
-  if_else = λ test branch other part part2 rest e. none.if _ (e ∙ front-If test branch (Some other) rest);
-  while = λ test body part rest e. none.while _ (e ∙ front-While test body rest);
-  reach_error = λ rest e. none.reach_error rest (e ∙ front-ReachError rest);
-  abort = λ rest e. none.abort rest (e ∙ front-Abort rest);
-  return = λ rest e. none.return rest (e ∙ front-Return rest);
-}
-
-pub none_without_start : (tokens : List Token) (left : ℕ) → NoStart tokens → NoneReads tokens left
-none_without_start tokens left none s rest read = shown_of_all (StartsNone tokens) (starts_none tokens none) s rest read.spelled
 
 -- a block
 
@@ -177,6 +165,29 @@ has_token = record {
 
 pub shorter : (tokens : List Token) (left : ℕ) (s : Statement) (rest : List Token) → Reads tokens left s rest → length rest < length tokens
 shorter tokens left s rest read = rw read.spelled (shown_of_all HasToken has_token s rest)
+
+-- no other token begins a statement
+pub none_other : (first : Token) (tokens : List Token) → first ≢ Token.Semicolon → first ≢ Token.ReachError → first ≢ Token.Abort → first ≢ Token.Return → NoneSimple first tokens
+none_other Token.Int tokens p1 p2 p3 p4 q1 q2 q3 left s rest read = front_of s Token.Int tokens rest read.spelled
+none_other Token.Main tokens p1 p2 p3 p4 q1 q2 q3 left s rest read = front_of s Token.Main tokens rest read.spelled
+none_other Token.Void tokens p1 p2 p3 p4 q1 q2 q3 left s rest read = front_of s Token.Void tokens rest read.spelled
+none_other Token.If tokens p1 p2 p3 p4 q1 q2 q3 left s rest read = absurd (q2 refl)
+none_other Token.Else tokens p1 p2 p3 p4 q1 q2 q3 left s rest read = front_of s Token.Else tokens rest read.spelled
+none_other Token.While tokens p1 p2 p3 p4 q1 q2 q3 left s rest read = absurd (q3 refl)
+none_other Token.Return tokens p1 p2 p3 p4 q1 q2 q3 left s rest read = absurd (p4 refl)
+none_other Token.ReachError tokens p1 p2 p3 p4 q1 q2 q3 left s rest read = absurd (p2 refl)
+none_other Token.Abort tokens p1 p2 p3 p4 q1 q2 q3 left s rest read = absurd (p3 refl)
+none_other Token.NondetInt tokens p1 p2 p3 p4 q1 q2 q3 left s rest read = front_of s Token.NondetInt tokens rest read.spelled
+none_other Token.Zero tokens p1 p2 p3 p4 q1 q2 q3 left s rest read = front_of s Token.Zero tokens rest read.spelled
+none_other Token.One tokens p1 p2 p3 p4 q1 q2 q3 left s rest read = front_of s Token.One tokens rest read.spelled
+none_other Token.LeftParen tokens p1 p2 p3 p4 q1 q2 q3 left s rest read = front_of s Token.LeftParen tokens rest read.spelled
+none_other Token.RightParen tokens p1 p2 p3 p4 q1 q2 q3 left s rest read = front_of s Token.RightParen tokens rest read.spelled
+none_other Token.LeftBrace tokens p1 p2 p3 p4 q1 q2 q3 left s rest read = absurd (q1 refl)
+none_other Token.RightBrace tokens p1 p2 p3 p4 q1 q2 q3 left s rest read = front_of s Token.RightBrace tokens rest read.spelled
+none_other Token.Semicolon tokens p1 p2 p3 p4 q1 q2 q3 left s rest read = absurd (p1 refl)
+
+pub none_at_end : (tokens : List Token) (left : ℕ) → length tokens ≡ 0 → NoneReads tokens left
+none_at_end tokens left none s rest read = omega (arith, shown_of_all HasToken has_token s rest, ap length read.spelled)
 
 -- a while
 
@@ -292,3 +303,9 @@ none_else tokens left test inner branch rest behind condition read e none s afte
     let part = if_read tokens left test inner condition s after whole in
     let same = same_reading inner left left branch part.branch rest (else_front part.other after) read part.first in
     none_behind left part.test part.branch part.other after behind part.whole (sym e ∙ same.1) none
+
+-- what `ok_or` makes of an answer
+pub ok_or_gives : {T E : Type 0} (found : Option T) (result : Result T E) (error : E) (Nothing : Type 0) (Found A : T → Type 0) (B : E → Type 0) →
+    result ≡ ok_or found error → MatchOption found Nothing Found → ((read : T) → Found read → A read) → (Nothing → B error) → IfOk result A × IfErr result B
+ok_or_gives None result error none Found A B e given on_some on_none = rw e (tt, on_none given)
+ok_or_gives (Some read) result error none Found A B e given on_some on_none = rw e (on_some read given, tt)

@@ -1,5 +1,5 @@
 -- What a list of tokens begins with.
-use Rattle.std.specs.Prelude.{◌≡◌, ℕ, ◌≤◌, true, ◌++◌, List, ◌∷◌, map}
+use Rattle.std.specs.Prelude.{◌≡◌, ◌≢◌, ℕ, ◌≤◌, true, ◌++◌, List, ◌∷◌, map}
 use Rattle.std.specs.List.{AllByRecursion}
 use Rattle.c_parser.specs.declared.token.Token.{Token}
 use Rattle.c_parser.specs.declared.tree.Expression.{Expression}
@@ -32,6 +32,10 @@ pub record Reads (tokens : List Token) (left : ℕ) (statement : Statement) (res
 -- they begin with no statement of so few levels
 abbrev pub NoneReads : List Token → ℕ → Type 0
 NoneReads tokens left = (statement : Statement) (rest : List Token) → Reads tokens left statement rest → ⊥
+
+-- they begin with no statement that has no parts, whatever its levels
+abbrev pub NoneSimple : Token → List Token → Type 0
+NoneSimple first tokens = first ≢ Token.LeftBrace → first ≢ Token.If → first ≢ Token.While → (left : ℕ) → NoneReads (first ∷ tokens) left
 
 -- the tokens begin with these statements and a right brace
 pub record ReadsItems (tokens : List Token) (left : ℕ) (items : List Statement) (rest : List Token) : Type 0 where

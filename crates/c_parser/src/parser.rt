@@ -1,6 +1,6 @@
 ghost use Rattle.std.specs.Prelude.{◌≡◌, List, ◌∷◌, ◌++◌, ◌+◌, ◌*◌, ◌<◌, ◌≤◌, length, MatchOption, IfOk, IfErr};
 ghost use Rattle.c_parser.specs.Tree.{test_leaves};
-ghost use Rattle.c_parser.specs.Reading.{NoneAfter, ReadsTest, NoTest, Reads, NoneReads, ReadsItems, NoneReadsItems};
+ghost use Rattle.c_parser.specs.Reading.{NoneAfter, ReadsTest, NoTest, Reads, NoneReads, NoneSimple, ReadsItems, NoneReadsItems};
 
 use crate::boxed::Boxed;
 use crate::error::FirstError;
@@ -29,6 +29,15 @@ fn after_call(tokens: &[Token]) -> Option<&[Token]>
     after(tokens, Token::Semicolon)
 }
 
+/// The tokens after `0 ;`, which is to come first.
+fn after_zero(tokens: &[Token]) -> Option<&[Token]>
+    ensures { MatchOption result ((rest : List Token) → tokens.now ≡ Token.Zero ∷ Token.Semicolon ∷ rest → ⊥)
+        (λ rest. tokens.now ≡ Token.Zero ∷ Token.Semicolon ∷ rest.now) }
+{
+    let tokens = after(tokens, Token::Zero)?;
+    after(tokens, Token::Semicolon)
+}
+
 /// A test, and the tokens after it.
 fn expression(tokens: &[Token]) -> Option<(Expression, &[Token])>
     ensures { MatchOption result ((test : Expression) (rest : List Token) → tokens.now ≡ test_leaves test ++ rest → ⊥)
@@ -52,6 +61,19 @@ fn condition(tokens: &[Token]) -> Option<(Expression, &[Token])>
     Some((test, tokens))
 }
 
+/// A statement with no parts that begins with the token `first`, and the tokens after it.
+fn simple(first: Token, tokens: &[Token]) -> Option<(Statement, &[Token])>
+    ensures { MatchOption result (NoneSimple first tokens.now) (λ read. Reads (first ∷ tokens.now) 1 read.0 read.1.now) }
+{
+    match first {
+        Token::Semicolon => Some((Statement::Empty, tokens)),
+        Token::ReachError => Some((Statement::ReachError, after_call(tokens)?)),
+        Token::Abort => Some((Statement::Abort, after_call(tokens)?)),
+        Token::Return => Some((Statement::Return, after_zero(tokens)?)),
+        _ => None,
+    }
+}
+
 /// A statement of at most `left` levels, and the tokens after it.
 #[cycle(statement)]
 pub fn statement(
@@ -65,15 +87,14 @@ pub fn statement(
     if left == 0 {
         return Err(FirstError::Unbuilt);
     }
-    match tokens {
-        [Token::LeftBrace, rest @ ..] => block(alloc, rest, left - 1),
-        [Token::If, rest @ ..] => conditional(alloc, rest, left - 1),
-        [Token::While, rest @ ..] => repetition(alloc, rest, left - 1),
-        [Token::Semicolon, rest @ ..] => Ok((Statement::Empty, rest)),
-        [Token::ReachError, Token::LeftParen, Token::RightParen, Token::Semicolon, rest @ ..] => Ok((Statement::ReachError, rest)),
-        [Token::Abort, Token::LeftParen, Token::RightParen, Token::Semicolon, rest @ ..] => Ok((Statement::Abort, rest)),
-        [Token::Return, Token::Zero, Token::Semicolon, rest @ ..] => Ok((Statement::Return, rest)),
-        _ => Err(FirstError::Unbuilt),
+    let Some((first, rest)) = tokens.split_first() else {
+        return Err(FirstError::Unbuilt);
+    };
+    match *first {
+        Token::LeftBrace => block(alloc, rest, left - 1),
+        Token::If => conditional(alloc, rest, left - 1),
+        Token::While => repetition(alloc, rest, left - 1),
+        _ => simple(*first, rest).ok_or(FirstError::Unbuilt),
     }
 }
 

@@ -4,7 +4,7 @@ use Rattle.c_parser.specs.declared.tree.Unit.{Unit as Program}
 use Rattle.c_parser.specs.Tree.{joined, leaves}
 use Rattle.c_parser.specs.FirstForm.{unit_leaves}
 use Rattle.c_parser.proofs.OneReading.{one_block}
-use Rattle.c_parser.proofs.Steps.{none_block}
+use Rattle.c_parser.proofs.Steps.{none_block, none_at_end}
 use Rattle.c_parser.proofs.SpellingLemmas.{one_spelling}
 use Rattle.c_parser.proofs.one_tree.Goals as goal
 
