@@ -5,3 +5,4 @@ pub mod Front
 pub mod OneReading
 pub mod SpellingLemmas
 pub mod Steps
+pub mod ProgramLemmas

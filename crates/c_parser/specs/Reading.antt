@@ -1,5 +1,5 @@
 -- What a list of tokens begins with.
-use Rattle.std.specs.Prelude.{◌≡◌, ◌≢◌, ℕ, ◌≤◌, true, ◌++◌, List, ◌∷◌, map}
+use Rattle.std.specs.Prelude.{◌≡◌, ◌≢◌, ℕ, ◌≤◌, ◌+◌, true, ◌++◌, List, [], ◌∷◌, map}
 use Rattle.std.specs.List.{AllByRecursion}
 use Rattle.c_parser.specs.declared.token.Token.{Token}
 use Rattle.c_parser.specs.declared.tree.Expression.{Expression}
@@ -46,3 +46,13 @@ pub record ReadsItems (tokens : List Token) (left : ℕ) (items : List Statement
 -- they begin with no statements of so few levels and a right brace
 abbrev pub NoneReadsItems : List Token → ℕ → Type 0
 NoneReadsItems tokens left = (items : List Statement) (rest : List Token) → ReadsItems tokens left items rest → ⊥
+
+-- these tokens come behind int main ( void ) {
+abbrev pub AfterHead : List Token → List Token → Type 0
+AfterHead tokens rest = tokens ≡ Token.Int ∷ Token.Main ∷ Token.LeftParen ∷ Token.Void ∷ Token.RightParen ∷ Token.LeftBrace ∷ rest
+
+-- the tokens are a program with these items, of at most 200 levels
+pub record ReadsProgram (tokens : List Token) (body : List Statement) : Type 0 where
+  pub spelled : AfterHead tokens (joined (map leaves body) ++ (Token.RightBrace ∷ []))
+  pub nearest : AllByRecursion IsNearest body
+  pub levels : 1 + greatest (map level body) ≤ 200

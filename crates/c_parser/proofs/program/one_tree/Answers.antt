@@ -6,7 +6,7 @@ use Rattle.c_parser.specs.FirstForm.{unit_leaves}
 use Rattle.c_parser.proofs.OneReading.{one_block}
 use Rattle.c_parser.proofs.Steps.{none_block, none_at_end}
 use Rattle.c_parser.proofs.SpellingLemmas.{one_spelling}
-use Rattle.c_parser.proofs.one_tree.Goals as goal
+use Rattle.c_parser.proofs.program.one_tree.Goals as goal
 
 same_unit : (u v : Program) → u.body ≡ v.body → u.length ≡ v.length → u ≡ v
 same_unit u v body length = λ i. record { body = body i; length = length i }
