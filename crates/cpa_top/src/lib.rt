@@ -3,4 +3,4 @@
 
 mod outside;
 
-pub use outside::{Failed, Inputs, ReadFault, Sink, write_whole};
+pub use outside::{Failed, Inputs, MemoryInputs, MemorySink, ReadFault, Sink, write_whole};
