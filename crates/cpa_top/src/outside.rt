@@ -7,6 +7,8 @@ ghost use Rattle.cpa_top.specs.declared.outside.ReadFault.TheVariants.{OutOfMemo
 mod failing_calls;
 mod memory_inputs;
 mod memory_sink;
+#[cfg(test)]
+mod tests;
 
 pub use memory_inputs::MemoryInputs;
 pub use memory_sink::MemorySink;

@@ -1,4 +1,3 @@
-use Rattle.std.proofs.Common.{◌∙◌, ap}
 use Rattle.cpa_top.proofs.Places.{place_of-position}
 use Rattle.cpa_top.proofs.outside.memory_inputs.find_place.Goals as goal
 

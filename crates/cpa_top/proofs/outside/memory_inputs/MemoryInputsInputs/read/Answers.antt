@@ -1,6 +1,5 @@
-use Rattle.std.proofs.Common.{◌≡◌, ◌≢◌, ◌≤◌, ◌||◌, Bool, true, false, length, sym, ap, ◌∙◌, refl, rules, arith, IsTrue}
-use Rattle.std.proofs.lemmas.Grind.{common_steps}
-use Rattle.cpa_top.specs.OutsideMemory.{place_of, first_bytes, is_listed}
+use Rattle.std.proofs.Common.{sym, ◌∙◌, refl, arith}
+use Rattle.cpa_top.specs.OutsideMemory.{place_of}
 use Rattle.cpa_top.proofs.Places.{place_of-told, place_of-apart, first_bytes-at, first_bytes-past, IsTrue-left, IsTrue-missing, not_fails, none_listed, count-kept}
 use Rattle.cpa_top.proofs.outside.memory_inputs.MemoryInputsInputs.read.Goals as goal
 use Rattle.cpa_top.proofs.outside.memory_inputs.MemoryInputsInputs.read.Goals.{then-next_fails-via-then-next_fails, then-next_fails-via-else-next_fails+then-place-len}
