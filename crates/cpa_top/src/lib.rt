@@ -5,5 +5,5 @@ mod explore;
 mod outside;
 mod report;
 
-pub use outside::{Failed, Inputs, ReadFault, Sink, write_whole};
 pub use report::{Listed, Report};
+pub use outside::{Failed, Inputs, MemoryInputs, MemorySink, ReadFault, Sink, write_whole};
