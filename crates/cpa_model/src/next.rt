@@ -1,4 +1,4 @@
-ghost use Rattle.std.specs.Prelude.{◌≡◌, ℕ, ◌+◌, ◌^◌, ◌<◌, Some, length, IfSome, IfNone, option_map, slice_get};
+ghost use Rattle.std.specs.Prelude.{◌≡◌, ℕ, ◌+◌, ◌^◌, ◌<◌, ◌↔◌, Some, length, IfSome, IfNone, IsSome, option_map, slice_get};
 ghost use Rattle.cpa_model.specs.Programs.{IsBody, IsPart, IsWellFormed, Next, after_item, after_part};
 ghost use Rattle.cpa_model.specs.Successors.{IsPartAt, place_of, before_item};
 
@@ -17,6 +17,7 @@ pub fn next_point(program: &Program, number: u32) -> Option<u32>
     requires { IsWellFormed program.now }
     ensures goes { IfSome result (λ m. Next program.now number m) }
     ensures only { (m : ℕ) → Next program.now number m → result ≡ Some m }
+    ensures some { IsSome result ↔ (number < length program.now.stmts) }
 {
     if let Some(function) = function_of_body(program, number) {
         return Some(program.stmts.as_slice().len() as u32 + function);
