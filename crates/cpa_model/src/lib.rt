@@ -10,6 +10,8 @@ mod program;
 mod seq;
 mod states;
 mod steps;
+#[cfg(test)]
+mod tests;
 
 pub use automaton::{Act, Cfa, Edge, Path};
 pub use expressions::{Expr, has_truth, is_expr, value};

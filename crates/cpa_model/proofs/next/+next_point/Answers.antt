@@ -27,7 +27,7 @@ next_point-requires t c =
     let found : IsPartAt c.args.program.now c.in_ok-whole.whole c.args.number (place_of c.in_ok-whole.successor) = c.in_ok-whole.ensures.found in
     let above = part_above c.args.program.now c.requires.numbered c.in_ok-whole.whole c.args.number
     (record { stmt = found.0; is = found.1; place = place_of c.in_ok-whole.successor; part = found.2 }) in
-    (omega (arith, above.0), c.requires)
+    (omega (arith, above.0), (c.requires.numbered, c.requires.few))
 
 -- after another part control goes to the point of the part
 point : (t : ℕ) (c : goal.In-GoesTo t) → Next c.args.program.now c.args.number c.in-GoesTo.point
