@@ -95,6 +95,16 @@ const FIRST: Expr = Expr::Read {
     base: 0,
 };
 
+const OTHER: Expr = Expr::Read {
+    ty: IntType::U8,
+    base: 0,
+};
+
+const WIDE: Expr = Expr::Const {
+    ty: IntType::U8,
+    value: 256,
+};
+
 const ZERO: Expr = Expr::Const {
     ty: IntType::U8,
     value: 0,
@@ -106,81 +116,88 @@ fn sites(alloc: Global, items: &[u32]) -> Result<Fact, AllocError> {
     })
 }
 
-#[test]
-fn tells_facts_of_a_state(rt: HostRuntime) -> Result<(), Fail> {
-    let alloc = rt.alloc();
-    let state = State {
+fn elem(alloc: Global, fact: Fact) -> Result<Elem, AllocError> {
+    Ok(Elem {
+        facts: Seq::from_vec(vec![in alloc; fact]?),
+    })
+}
+
+fn state(alloc: Global) -> Result<State, AllocError> {
+    Ok(State {
         point: 3,
         stack: Seq::from_vec(vec![in alloc; 1, 2]?),
         store: Store {
             values: Seq::from_vec(vec![in alloc; 5, -7]?),
         },
-    };
-    let facts = vec![in alloc;
-        (Fact::At { point: 3 }, true),
-        (Fact::At { point: 4 }, false),
-        (sites(alloc, &[1, 2])?, true),
-        (sites(alloc, &[2, 1])?, false),
-        (sites(alloc, &[2])?, false),
-        (Fact::Equals { cell: 0, value: 5 }, true),
-        (Fact::Equals { cell: 1, value: 7 }, false),
-        (Fact::Equals { cell: 2, value: 0 }, false),
-        (Fact::Within { cell: 1, lo: -7, hi: -7 }, true),
-        (Fact::Within { cell: 1, lo: -6, hi: 0 }, false),
-        (Fact::Truth { expr: FIRST, holds: true }, true),
-        (Fact::Truth { expr: FIRST, holds: false }, false),
-        (Fact::Truth { expr: ZERO, holds: false }, true),
-    ]?;
-    for (fact, wanted) in facts {
-        let elem = Elem {
-            facts: Seq::from_vec(vec![in alloc; Fact::At { point: 3 }, fact]?),
-        };
-        assert_eq!(rt; holds(&elem, &state), wanted, "{elem:?}");
+    })
+}
+
+#[test]
+fn tells_facts_of_a_state(rt: HostRuntime) -> Result<(), Fail> {
+    let alloc = rt.alloc();
+    let state = state(alloc)?;
+    for (point, wanted) in [(3, true), (4, false)] {
+        assert_eq!(rt; holds(&elem(alloc, Fact::At { point })?, &state), wanted, "at {point}");
     }
-    let empty = Elem {
-        facts: Seq::new(alloc),
-    };
-    assert!(rt; holds(&empty, &state));
+    for (cell, value, wanted) in [(0, 5, true), (1, 7, false), (2, 0, false)] {
+        let fact = Fact::Equals { cell, value };
+        assert_eq!(rt; holds(&elem(alloc, fact)?, &state), wanted, "{cell} is {value}");
+    }
+    for (lo, hi, wanted) in [(-7, -7, true), (-6, 0, false), (-9, -8, false)] {
+        let fact = Fact::Within { cell: 1, lo, hi };
+        assert_eq!(rt; holds(&elem(alloc, fact)?, &state), wanted, "from {lo} to {hi}");
+    }
+    for (expr, truth, wanted) in [(FIRST, true, true), (FIRST, false, false), (ZERO, false, true)] {
+        let fact = Fact::Truth { expr, holds: truth };
+        assert_eq!(rt; holds(&elem(alloc, fact)?, &state), wanted, "{expr:?} {truth}");
+    }
     assert_eq!(rt; value(&FIRST, &state.store), Some(5));
     Ok(())
 }
 
 #[test]
-fn tells_shaped_elements(rt: HostRuntime) -> Result<(), Fail> {
+fn tells_the_whole_stack(rt: HostRuntime) -> Result<(), Fail> {
     let alloc = rt.alloc();
-    let cfa = Cfa {
-        cells: Seq::from_vec(vec![in alloc; Cell { ty: IntType::I8, start: 0 }]?),
+    let state = state(alloc)?;
+    assert!(rt; holds(&elem(alloc, sites(alloc, &[1, 2])?)?, &state));
+    assert!(rt; !holds(&elem(alloc, sites(alloc, &[2])?)?, &state));
+    let mut both = elem(alloc, Fact::At { point: 3 })?;
+    both.facts.push(sites(alloc, &[2, 1])?)?;
+    assert!(rt; !holds(&both, &state));
+    Ok(())
+}
+
+fn one_cell(alloc: Global) -> Result<Cfa, AllocError> {
+    let ty = IntType::I8;
+    Ok(Cfa {
+        cells: Seq::from_vec(vec![in alloc; Cell { ty, start: 0 }]?),
         points: 4,
         start: 0,
         errors: Seq::new(alloc),
         edges: Seq::new(alloc),
         text_len: 0,
-    };
-    let wide = Expr::Const {
-        ty: IntType::U8,
-        value: 256,
-    };
-    let facts = vec![in alloc;
-        (Fact::At { point: 3 }, true),
-        (Fact::At { point: 4 }, false),
-        (sites(alloc, &[0, 3])?, true),
-        (sites(alloc, &[3, 4])?, false),
-        (Fact::Equals { cell: 0, value: -128 }, true),
-        (Fact::Equals { cell: 0, value: 128 }, false),
-        (Fact::Equals { cell: 1, value: 0 }, false),
-        (Fact::Within { cell: 0, lo: -1, hi: 127 }, true),
-        (Fact::Within { cell: 0, lo: 1, hi: 0 }, false),
-        (Fact::Within { cell: 0, lo: 0, hi: 128 }, false),
-        (Fact::Truth { expr: FIRST, holds: true }, true),
-        (Fact::Truth { expr: ZERO, holds: true }, true),
-        (Fact::Truth { expr: wide, holds: true }, false),
-        (Fact::Truth { expr: Expr::Read { ty: IntType::U8, base: 0 }, holds: true }, false),
-    ]?;
-    for (fact, wanted) in facts {
-        let elem = Elem {
-            facts: Seq::from_vec(vec![in alloc; fact]?),
-        };
-        assert_eq!(rt; is_elem(&elem, &cfa), wanted, "{elem:?}");
+    })
+}
+
+#[test]
+fn tells_shaped_elements(rt: HostRuntime) -> Result<(), Fail> {
+    let alloc = rt.alloc();
+    let cfa = one_cell(alloc)?;
+    for (point, wanted) in [(3, true), (4, false)] {
+        assert_eq!(rt; is_elem(&elem(alloc, Fact::At { point })?, &cfa), wanted, "at {point}");
+        assert_eq!(rt; is_elem(&elem(alloc, sites(alloc, &[0, point])?)?, &cfa), wanted, "{point}");
+    }
+    for (cell, value, wanted) in [(0, -128, true), (0, 128, false), (1, 0, false)] {
+        let fact = Fact::Equals { cell, value };
+        assert_eq!(rt; is_elem(&elem(alloc, fact)?, &cfa), wanted, "{cell} is {value}");
+    }
+    for (lo, hi, wanted) in [(-1, 127, true), (1, 0, false), (0, 128, false)] {
+        let fact = Fact::Within { cell: 0, lo, hi };
+        assert_eq!(rt; is_elem(&elem(alloc, fact)?, &cfa), wanted, "from {lo} to {hi}");
+    }
+    for (expr, wanted) in [(FIRST, true), (ZERO, true), (WIDE, false), (OTHER, false)] {
+        let fact = Fact::Truth { expr, holds: true };
+        assert_eq!(rt; is_elem(&elem(alloc, fact)?, &cfa), wanted, "{expr:?}");
     }
     Ok(())
 }
