@@ -1,7 +1,7 @@
 -- Numbered programs: each statement has one origin, a body or one statement before it.
-use Rattle.std.proofs.Common.{◌≡◌, ℕ, zero, suc, ◌+◌, ◌<◌, ◌≤◌, Some, None, length, slice_get, get_or, ◌⊎◌, true, sym, ◌∙◌, ap, subst, inl, inr, refl, arith, ⊎_elim}
+use Rattle.std.proofs.Common.{◌≡◌, ℕ, zero, suc, ◌+◌, ◌<◌, ◌≤◌, ◌↔◌, Option, Some, None, IfSome, IsSome, length, slice_get, get_or, ◌⊎◌, true, sym, ◌∙◌, ap, subst, inl, inr, refl, arith, ⊎_elim}
 use Rattle.std.proofs.lemmas.Option.{none-some, same_Some, slice_get_within, slice_get-get_or}
-use Rattle.std.proofs.lemmas.Bool.{cases_eq, cases_order}
+use Rattle.std.proofs.lemmas.Bool.{false≢true, cases_eq, cases_order}
 use Rattle.cpa_model.specs.declared.program.Stmt.{Stmt}
 use Rattle.cpa_model.specs.declared.program.Stmt.TheVariants as stmt
 use Rattle.cpa_model.specs.declared.program.Program.{Program}
@@ -361,3 +361,15 @@ next_of_whole P N b n m (s, is, e) (next_within c t is_t f) =
     absurd (cc)
 next_of_whole P N b n m (s, is, e) (next_whole c t is_t f up) =
     subst (λ (v : ℕ). Next P v m) (sym (one_place_after P N b c n s t after_whole after_whole is is_t e f).0) up
+
+-- what has a successor is a statement
+next_from_inside : (P : Program) → IsNumbered P → (n m : ℕ) → Next P n m → n < length P.stmts
+next_from_inside P N n m (next_body f is_f) = body_inside P N f n is_f
+next_from_inside P N n m (next_within b s is e) = (part_above P N b n (record { stmt = s; is = is; place = goes_to m; part = e })).1
+next_from_inside P N n m (next_whole b s is e up) = (part_above P N b n (record { stmt = s; is = is; place = after_whole; part = e })).1
+
+-- the successor, if it is found exactly where there is one, is found exactly for statements
+pub next_found : (P : Program) → IsNumbered P → (n : ℕ) (r : Option ℕ) → IfSome r (λ m. Next P n m) → ((m : ℕ) → Next P n m → r ≡ Some m) → IsSome r ↔ (n < length P.stmts)
+next_found P N n None goes only =
+    ((λ none. absurd (false≢true none)), (λ inside. let m : (m : ℕ) × Next P n m = some_next P N n inside in absurd (none-some m.0 (only m.0 m.1))))
+next_found P N n (Some m) goes only = ((λ some. next_from_inside P N n m goes), (λ inside. refl))

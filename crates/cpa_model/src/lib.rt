@@ -9,6 +9,9 @@ mod next;
 mod program;
 mod seq;
 mod states;
+mod steps;
+#[cfg(test)]
+mod tests;
 
 pub use automaton::{Act, Cfa, Edge, Path};
 pub use expressions::{Expr, has_truth, is_expr, value};
@@ -18,3 +21,4 @@ pub use next::next_point;
 pub use program::{Cell, Program, Stmt};
 pub use seq::Seq;
 pub use states::{State, Store};
+pub use steps::{initial_is_state, steps_keep_states};

@@ -1,5 +1,5 @@
-ghost use Rattle.std.specs.Prelude.{◌≡◌, ℕ, ◌+◌, ◌^◌, ◌<◌, Some, length, IfSome, IfNone, option_map, slice_get};
-ghost use Rattle.cpa_model.specs.Programs.{IsBody, IsPart, IsWellFormed, Next, after_item, after_part};
+ghost use Rattle.std.specs.Prelude.{◌≡◌, ℕ, ◌+◌, ◌^◌, ◌<◌, ◌≤◌, ◌↔◌, Some, length, IfSome, IfNone, IsSome, option_map, slice_get};
+ghost use Rattle.cpa_model.specs.Programs.{IsBody, IsNumbered, IsPart, Next, point_count, after_item, after_part};
 ghost use Rattle.cpa_model.specs.Successors.{IsPartAt, place_of, before_item};
 
 use crate::program::{Program, Stmt};
@@ -14,9 +14,11 @@ enum Successor {
 /// The point to which control goes after the statement `number`, or `None` where there is no such
 /// statement. It looks through all statements once for each enclosing one.
 pub fn next_point(program: &Program, number: u32) -> Option<u32>
-    requires { IsWellFormed program.now }
+    requires numbered { IsNumbered program.now }
+    requires few { point_count program.now ≤ 65536 }
     ensures goes { IfSome result (λ m. Next program.now number m) }
     ensures only { (m : ℕ) → Next program.now number m → result ≡ Some m }
+    ensures some { IsSome result ↔ (number < length program.now.stmts) }
 {
     if let Some(function) = function_of_body(program, number) {
         return Some(program.stmts.as_slice().len() as u32 + function);
