@@ -1,2 +1,4 @@
 //! cpa_top.
 #![tactic(auto)]
+
+mod automaton;

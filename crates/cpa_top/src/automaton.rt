@@ -1,0 +1,3 @@
+//! The control-flow automaton of a program.
+
+mod places;
