@@ -1,3 +1,4 @@
 //! The control-flow automaton of a program.
 
+mod edges;
 mod places;
