@@ -1,4 +1,5 @@
 //! The control-flow automaton of a program.
 
 mod edges;
+mod numbers;
 mod places;
