@@ -1,6 +1,7 @@
 //! The edges of the automaton, by the points that they leave.
 
 ghost use Rattle.std.specs.Prelude.{◌≡◌, ◌+◌, ◌<◌, ◌++◌, ◌∷◌, [], ℕ, List, Some, true, false, length, map, slice_get, option_to_list, IfSome, IfOk, OnOk};
+ghost use Rattle.std.specs.List.{All};
 ghost use Rattle.cpa_model.specs.declared.automaton.Act.TheVariants as acts;
 ghost use Rattle.cpa_model.specs.declared.program.Stmt.TheVariants as stmts;
 ghost use Rattle.cpa_model.specs.Automata.{edge_of};
@@ -78,7 +79,7 @@ fn first_or(items: &[u32], next: u32) -> u32
 }
 
 /// The body of a function.
-fn body_of(program: &Program, f: u32) -> u32
+pub(crate) fn body_of(program: &Program, f: u32) -> u32
     requires { f < length program.now.bodies }
     ensures { IsBody program.now f result }
 {
@@ -169,4 +170,90 @@ fn leaving(program: &Program, places: &[Place], n: u32) -> Outgoing
         Stmt::Leave => skip(n, exit(program, place.function)),
         Stmt::Stop | Stmt::Error => Outgoing::Nothing,
     }
+}
+
+/// Adds the edges that leave the statement `n`.
+fn add_leaving(
+    program: &Program,
+    places: &[Place],
+    n: u32,
+    edges: &mut Seq<Edge>,
+) -> Result<(), AllocError>
+    requires well_formed { IsWellFormed program.now }
+    requires placed { ArePlaces program.now places.now }
+    requires inside { n < length program.now.stmts }
+    requires below { AreEdgesBelow program.now n edges.old }
+    ensures { OnOk result (AreEdgesBelow program.now (n + 1) edges.new) }
+{
+    match leaving(program, places, n) {
+        Outgoing::Nothing => Ok(()),
+        Outgoing::One(edge) => edges.push(edge),
+        Outgoing::Two(first, second) => {
+            edges.push(first)?;
+            edges.push(second)
+        }
+    }
+}
+
+/// Adds the edges from an exit to what follows each of the calls.
+fn add_return_edges(
+    places: &[Place],
+    exit: u32,
+    sites: &[u32],
+    edges: &mut Seq<Edge>,
+) -> Result<(), AllocError>
+    requires { All (λ site. site < length places.now) sites.now }
+    ensures { OnOk result (edges.new ≡ edges.old ++ map (return_edge exit places.now) sites.now) }
+{
+    for site in sites {
+        edges.push(Edge {
+            from: exit,
+            to: place_of(places, *site).next,
+            act: Act::Return { site: *site },
+        })?;
+    }
+    Ok(())
+}
+
+/// Adds the edges that leave the exit of the function `f`.
+fn add_returns(
+    program: &Program,
+    places: &[Place],
+    sites: &[Seq<u32>],
+    f: u32,
+    edges: &mut Seq<Edge>,
+) -> Result<(), AllocError>
+    requires well_formed { IsWellFormed program.now }
+    requires placed { ArePlaces program.now places.now }
+    requires sites { AreSitesBelow program.now (length program.now.stmts) sites.now }
+    requires inside { f < length program.now.bodies }
+    requires below { AreEdgesBelow program.now (exit_of program.now f) edges.old }
+    ensures { OnOk result (AreEdgesBelow program.now (exit_of program.now f + 1) edges.new) }
+{
+    if f == program.main {
+        return Ok(());
+    }
+    add_return_edges(places, exit(program, f), sites[f as usize].as_slice(), edges)
+}
+
+/// All edges.
+pub(crate) fn edges(
+    alloc: Global,
+    program: &Program,
+    places: &[Place],
+    sites: &[Seq<u32>],
+) -> Result<Seq<Edge>, AllocError>
+    requires well_formed { IsWellFormed program.now }
+    requires placed { ArePlaces program.now places.now }
+    requires sites { AreSitesBelow program.now (length program.now.stmts) sites.now }
+    ensures { IfOk result (AreEdgesBelow program.now (point_count program.now)) }
+{
+    let mut edges = Seq::new(alloc);
+    for n in 0..program.stmts.as_slice().len() {
+        add_leaving(program, places, n as u32, &mut edges)?;
+    }
+    for f in 0..program.bodies.as_slice().len() {
+        add_returns(program, places, sites, f as u32, &mut edges)?;
+    }
+    Ok(edges)
 }
