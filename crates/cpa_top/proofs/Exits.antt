@@ -1,17 +1,17 @@
 -- Lists of edges that grow to the next point, and the edges from the exits.
-use Rattle.std.proofs.Common.{◌≡◌, ◌≢◌, ℕ, zero, suc, ◌+◌, ◌<◌, ◌≤◌, List, [], ◌∷◌, ◌++◌, length, map, get_or, Option, Some, None, option_map, unwrap_or, ◌⊎◌, refl, sym, ap, ◌∙◌, subst, inl, inr, ⊎_elim, arith, IsSomeAnd, append_assoc}
+use Rattle.std.proofs.Common.{◌≡◌, ◌≢◌, ℕ, ◌+◌, ◌<◌, List, [], ◌∷◌, ◌++◌, length, map, get_or, Option, Some, None, option_map, unwrap_or, refl, sym, ap, ◌∙◌, subst, inl, inr, ⊎_elim, arith, IsSomeAnd}
 use Rattle.std.specs.List.{All, AllByRecursion, Contains, slice_get}
 use Rattle.std.proofs.lemmas.Bool.{cases_eq}
 use Rattle.std.proofs.lemmas.List.{append-nil, length-map, get_or-map}
-use Rattle.std.proofs.lemmas.List.Elements.{Contains-append_left, Contains-append_right, All-from_recursion, All-contains}
-use Rattle.std.proofs.lemmas.Option.{same_Some, slice_get_within, slice_get-get_or}
+use Rattle.std.proofs.lemmas.List.Elements.{Contains-append_left, Contains-append_right, All-from_recursion}
+use Rattle.std.proofs.lemmas.Option.{slice_get_within, slice_get-get_or}
 use Rattle.cpa_model.specs.declared.automaton.Act.{Act}
 use Rattle.cpa_model.specs.declared.automaton.Act.TheVariants as act
 use Rattle.cpa_model.specs.declared.automaton.Edge.{Edge}
 use Rattle.cpa_model.specs.declared.program.Stmt.TheVariants as stmt
 use Rattle.cpa_model.specs.declared.program.Program.{Program}
-use Rattle.cpa_model.specs.Automata.{edge_of, rank_of, Precedes, AreOrdered, AreAscending}
-use Rattle.cpa_model.specs.Programs.{IsNumbered, IsStmt, exit_of, Next}
+use Rattle.cpa_model.specs.Automata.{edge_of, Precedes, AreOrdered, AreAscending}
+use Rattle.cpa_model.specs.Programs.{IsNumbered, exit_of, Next}
 use Rattle.cpa_model.specs.Steps.{Moves, at_statement, at_exit, Returns}
 use Rattle.cpa_model.proofs.Trees.{one_next}
 use Rattle.cpa_top.specs.declared.automaton.places.Place.{Place}
@@ -28,15 +28,15 @@ ordered_append n (x ∷ xs) ys h k below at =
 pub more_edges : (P : Program) (n : ℕ) (edges out : List Edge) → AreEdgesBelow P n edges → AreEdgesFrom P n out → AreEdgesBelow P (n + 1) (edges ++ out)
 more_edges P n edges out below here = record {
   moves = each_append (λ e. (e.from < n + 1) × Moves P e.from e.act e.to) edges out
-    (each_weaker (λ e. (e.from < n) × Moves P e.from e.act e.to) (λ e. (e.from < n + 1) × Moves P e.from e.act e.to) (λ e k. (omega (arith, k.0), k.1)) edges below.moves)
-    (each_weaker (λ e. (e.from ≡ n) × Moves P e.from e.act e.to) (λ e. (e.from < n + 1) × Moves P e.from e.act e.to) (λ e k. (omega (arith, k.0), k.1)) out here.moves);
+      (each_weaker (λ e. (e.from < n) × Moves P e.from e.act e.to) (λ e. (e.from < n + 1) × Moves P e.from e.act e.to) (λ e k. (omega (arith, k.0), k.1)) edges below.moves)
+      (each_weaker (λ e. (e.from ≡ n) × Moves P e.from e.act e.to) (λ e. (e.from < n + 1) × Moves P e.from e.act e.to) (λ e k. (omega (arith, k.0), k.1)) out here.moves);
   all = λ p a q less move. ⊎_elim
-    (λ same. Contains-append_right edges out (edge_of p a q) (subst (λ (k : ℕ). Contains out (edge_of k a q)) (sym same) (here.all a q (subst (λ (k : ℕ). Moves P k a q) same move))))
-    (λ other. Contains-append_left edges out (edge_of p a q) (below.all p a q (omega arith) move))
-    (cases_eq p n);
+      (λ same. Contains-append_right edges out (edge_of p a q) (subst (λ (k : ℕ). Contains out (edge_of k a q)) (sym same) (here.all a q (subst (λ (k : ℕ). Moves P k a q) same move))))
+      (λ other. Contains-append_left edges out (edge_of p a q) (below.all p a q (omega arith) move))
+      (cases_eq p n);
   ordered = ordered_append n edges out below.ordered here.ordered
-    (each_weaker (λ e. (e.from < n) × Moves P e.from e.act e.to) (λ e. e.from < n) (λ e k. k.0) edges below.moves)
-    (each_weaker (λ e. (e.from ≡ n) × Moves P e.from e.act e.to) (λ e. e.from ≡ n) (λ e k. k.0) out here.moves)
+      (each_weaker (λ e. (e.from < n) × Moves P e.from e.act e.to) (λ e. e.from < n) (λ e k. k.0) edges below.moves)
+      (each_weaker (λ e. (e.from ≡ n) × Moves P e.from e.act e.to) (λ e. e.from ≡ n) (λ e k. k.0) out here.moves);
 }
 
 -- no edges from the next point
@@ -71,7 +71,7 @@ pub from_main : (P : Program) (f : ℕ) → f ≡ P.main → AreEdgesFrom P (exi
 from_main P f main = record {
   moves = tt;
   all = λ a q h. absurd ((returns_at P (exit_of P f) f a q refl h).0 main);
-  ordered = tt
+  ordered = tt;
 }
 
 ordered_returns : (exit : ℕ) (places : List Place) (sites : List ℕ) → AreAscending sites → AreOrdered (map (return_edge exit places) sites)
@@ -83,15 +83,15 @@ ordered_returns exit places (s ∷ sites) h =
 pub from_exit : (P : Program) → IsNumbered P → (f : ℕ) (places : List Place) (sites : List ℕ) → f ≢ P.main → f < length P.bodies → ArePlaces P places → AreNumbersBelow (IsCallOf P f) (length P.stmts) sites → AreEdgesFrom P (exit_of P f) (map (return_edge (exit_of P f) places) sites)
 from_exit P N f places sites other inside placed calls = record {
   moves = each_map (λ s. (s < length P.stmts) × IsCallOf P f s) (λ e. (e.from ≡ exit_of P f) × Moves P e.from e.act e.to) (return_edge (exit_of P f) places)
-    (λ s call. (refl, at_exit f inside refl (other, s, call.1, refl, next_in_is P places s placed call.0))) sites calls.only;
+      (λ s call. (refl, at_exit f inside refl (other, s, call.1, refl, next_in_is P places s placed call.0))) sites calls.only;
   all = λ a q h.
-    let r : Returns P f a q = returns_at P (exit_of P f) f a q refl h in
-    let site : ℕ = r.1 in
-    let below : site < length P.stmts = slice_get_within P.stmts site (stmt.Call f) r.2 in
-    let to : next_in places site ≡ q = one_next P N site (next_in places site) q (next_in_is P places site placed below) r.4 in
-    let is : return_edge (exit_of P f) places site ≡ edge_of (exit_of P f) a q = ap (edge_of (exit_of P f) (act.Return site)) to ∙ ap (λ c. edge_of (exit_of P f) c q) (sym r.3) in
-    subst (Contains (map (return_edge (exit_of P f) places) sites)) is (contains_map (return_edge (exit_of P f) places) sites site (calls.all site below r.2));
-  ordered = ordered_returns (exit_of P f) places sites calls.ascending
+      let r : Returns P f a q = returns_at P (exit_of P f) f a q refl h in
+      let site : ℕ = r.1 in
+      let below : site < length P.stmts = slice_get_within P.stmts site (stmt.Call f) r.2 in
+      let to : next_in places site ≡ q = one_next P N site (next_in places site) q (next_in_is P places site placed below) r.4 in
+      let is : return_edge (exit_of P f) places site ≡ edge_of (exit_of P f) a q = ap (edge_of (exit_of P f) (act.Return site)) to ∙ ap (λ c. edge_of (exit_of P f) c q) (sym r.3) in
+      subst (Contains (map (return_edge (exit_of P f) places) sites)) is (contains_map (return_edge (exit_of P f) places) sites site (calls.all site below r.2));
+  ordered = ordered_returns (exit_of P f) places sites calls.ascending;
 }
 
 -- the calls of one function

@@ -1,14 +1,13 @@
 -- Lists of numbers that grow to the next point.
-use Rattle.std.proofs.Common.{◌≡◌, ◌≢◌, ℕ, zero, suc, ◌+◌, ◌<◌, ◌≤◌, ◌↔◌, List, [], ◌∷◌, ◌++◌, length, set, get_or, replicate, Option, Some, None, ◌⊎◌, refl, sym, ap, ◌∙◌, subst, inl, inr, ⊎_elim, arith, IsSomeAnd}
-use Rattle.std.specs.List.{All, AllByRecursion, Contains, slice_get}
+use Rattle.std.proofs.Common.{◌≡◌, ℕ, ◌+◌, ◌<◌, List, [], ◌∷◌, ◌++◌, length, set, get_or, Option, Some, None, sym, ◌∙◌, subst, ⊎_elim, arith, IsSomeAnd}
+use Rattle.std.specs.List.{AllByRecursion, Contains, slice_get}
 use Rattle.std.proofs.lemmas.Bool.{cases_eq}
 use Rattle.std.proofs.lemmas.List.{length-set}
-use Rattle.std.proofs.lemmas.List.Elements.{Contains-append_left, Contains-append_right, Contains-push}
+use Rattle.std.proofs.lemmas.List.Elements.{Contains-append_left, Contains-push}
 use Rattle.std.proofs.lemmas.Option.{same_Some, slice_get-get_or}
 use Rattle.cpa_model.specs.declared.program.Program.{Program}
 use Rattle.cpa_model.specs.declared.program.Stmt.TheVariants as stmt
 use Rattle.cpa_model.specs.Automata.{AreAscending}
-use Rattle.cpa_model.specs.Programs.{IsWellFormed, IsStmt}
 use Rattle.cpa_top.specs.Edges.{AreNumbersBelow, AreSitesBelow, IsCallOf}
 use Rattle.cpa_top.proofs.Tables.{slice_get-set_same, slice_get-set_other}
 
@@ -29,10 +28,10 @@ pub take_number : (Q : ℕ → Type 0) (i : ℕ) (ns : List ℕ) → AreNumbersB
 take_number Q i ns h here = record {
   only = each_append (λ n. (n < i + 1) × Q n) ns (i ∷ []) (each_weaker (λ n. (n < i) × Q n) (λ n. (n < i + 1) × Q n) (λ n k. (omega (arith, k.0), k.1)) ns h.only) ((omega arith, here), tt);
   all = λ n less is. ⊎_elim
-    (λ same. subst (λ (m : ℕ). Contains (ns ++ i ∷ []) m) (sym same) (Contains-push ns i))
-    (λ other. Contains-append_left ns (i ∷ []) n (h.all n (omega arith) is))
-    (cases_eq n i);
-  ascending = ascending_push ns i h.ascending (each_weaker (λ n. (n < i) × Q n) (λ n. n < i) (λ n k. k.0) ns h.only)
+      (λ same. subst (λ (m : ℕ). Contains (ns ++ i ∷ []) m) (sym same) (Contains-push ns i))
+      (λ other. Contains-append_left ns (i ∷ []) n (h.all n (omega arith) is))
+      (cases_eq n i);
+  ascending = ascending_push ns i h.ascending (each_weaker (λ n. (n < i) × Q n) (λ n. n < i) (λ n k. k.0) ns h.only);
 }
 
 -- the next number has not
@@ -40,10 +39,10 @@ pub pass_number : (Q : ℕ → Type 0) (i : ℕ) (ns : List ℕ) → AreNumbersB
 pass_number Q i ns h never = record {
   only = each_weaker (λ n. (n < i) × Q n) (λ n. (n < i + 1) × Q n) (λ n k. (omega (arith, k.0), k.1)) ns h.only;
   all = λ n less is. ⊎_elim
-    (λ same. absurd (never (subst Q same is)))
-    (λ other. h.all n (omega arith) is)
-    (cases_eq n i);
-  ascending = h.ascending
+      (λ same. absurd (never (subst Q same is)))
+      (λ other. h.all n (omega arith) is)
+      (cases_eq n i);
+  ascending = h.ascending;
 }
 
 some_then : {X : Type 0} (o : Option X) (Q R : X → Type 0) → IsSomeAnd o Q → ((x : X) → Q x → R x) → IsSomeAnd o R
@@ -59,19 +58,19 @@ pub take_site : (P : Program) (i f : ℕ) (sites : List (List ℕ)) (d new : Lis
 take_site P i f sites d new inside more h call = record {
   each = length-set sites f new ∙ h.each;
   right = λ g below. ⊎_elim
-    (λ same.
-    let known : IsSomeAnd (slice_get sites f) (AreNumbersBelow (IsCallOf P f) i) = subst (λ (k : ℕ). IsSomeAnd (slice_get sites k) (AreNumbersBelow (IsCallOf P k) i)) same (h.right g below) in
-    let was : AreNumbersBelow (IsCallOf P f) i (get_or sites f d) = rw (slice_get-get_or sites f d inside) at known in
-    let now : AreNumbersBelow (IsCallOf P f) (i + 1) new = rw more (take_number (IsCallOf P f) i (get_or sites f d) was call) in
-    let here : IsSomeAnd (slice_get (set sites f new) f) (AreNumbersBelow (IsCallOf P f) (i + 1)) = rw (slice_get-set_same sites f new inside) now in
-    subst (λ (k : ℕ). IsSomeAnd (slice_get (set sites f new) k) (AreNumbersBelow (IsCallOf P k) (i + 1))) (sym same) here)
-    (λ apart. rw (slice_get-set_other sites f g new apart) (some_then (slice_get sites g) (AreNumbersBelow (IsCallOf P g) i) (AreNumbersBelow (IsCallOf P g) (i + 1)) (h.right g below) (λ ns k. pass_number (IsCallOf P g) i ns k (λ other. apart (one_callee P i g f other call)))))
-    (cases_eq g f)
+      (λ same.
+      let known : IsSomeAnd (slice_get sites f) (AreNumbersBelow (IsCallOf P f) i) = subst (λ (k : ℕ). IsSomeAnd (slice_get sites k) (AreNumbersBelow (IsCallOf P k) i)) same (h.right g below) in
+      let was : AreNumbersBelow (IsCallOf P f) i (get_or sites f d) = rw (slice_get-get_or sites f d inside) at known in
+      let now : AreNumbersBelow (IsCallOf P f) (i + 1) new = rw more (take_number (IsCallOf P f) i (get_or sites f d) was call) in
+      let here : IsSomeAnd (slice_get (set sites f new) f) (AreNumbersBelow (IsCallOf P f) (i + 1)) = rw (slice_get-set_same sites f new inside) now in
+      subst (λ (k : ℕ). IsSomeAnd (slice_get (set sites f new) k) (AreNumbersBelow (IsCallOf P k) (i + 1))) (sym same) here)
+      (λ apart. rw (slice_get-set_other sites f g new apart) (some_then (slice_get sites g) (AreNumbersBelow (IsCallOf P g) i) (AreNumbersBelow (IsCallOf P g) (i + 1)) (h.right g below) (λ ns k. pass_number (IsCallOf P g) i ns k (λ other. apart (one_callee P i g f other call)))))
+      (cases_eq g f);
 }
 
 -- the next statement is no call
 pub pass_site : (P : Program) (i : ℕ) (sites : List (List ℕ)) → AreSitesBelow P i sites → ((f : ℕ) → IsCallOf P f i → ⊥) → AreSitesBelow P (i + 1) sites
 pass_site P i sites h never = record {
   each = h.each;
-  right = λ g below. some_then (slice_get sites g) (AreNumbersBelow (IsCallOf P g) i) (AreNumbersBelow (IsCallOf P g) (i + 1)) (h.right g below) (λ ns k. pass_number (IsCallOf P g) i ns k (never g))
+  right = λ g below. some_then (slice_get sites g) (AreNumbersBelow (IsCallOf P g) i) (AreNumbersBelow (IsCallOf P g) (i + 1)) (h.right g below) (λ ns k. pass_number (IsCallOf P g) i ns k (never g));
 }

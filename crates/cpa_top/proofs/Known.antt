@@ -1,13 +1,12 @@
 -- The place of a part follows from the place of the whole, and so the table grows from each statement to its parts.
-use Rattle.std.proofs.Common.{◌≡◌, ◌≢◌, ℕ, ◌+◌, ◌<◌, ◌≤◌, true, false, List, length, get_or, set, Option, Some, None, ◌⊎◌, refl, sym, ap, ◌∙◌, subst, inl, inr, ⊎_elim, arith, cond, IfSome, IsSomeAnd}
-use Rattle.std.specs.List.{All, Contains, slice_get}
+use Rattle.std.proofs.Common.{◌≡◌, ◌≢◌, ℕ, ◌+◌, ◌<◌, ◌≤◌, false, List, length, get_or, set, Option, Some, None, refl, sym, ap, ◌∙◌, subst, inl, inr, ⊎_elim, arith, cond, IfSome, IsSomeAnd}
+use Rattle.std.specs.List.{All, slice_get}
 use Rattle.std.proofs.lemmas.Bool.{cases_eq, cases_Bool, cond-true, cond-false}
-use Rattle.std.proofs.lemmas.List.{length-set}
 use Rattle.std.proofs.lemmas.List.Elements.{Contains-get_or}
 use Rattle.std.proofs.lemmas.Option.{same_Some, IfSome_then, slice_get_within, slice_get-get_or}
 use Rattle.cpa_model.specs.declared.program.Stmt.{Stmt}
 use Rattle.cpa_model.specs.declared.program.Program.{Program}
-use Rattle.cpa_model.specs.Programs.{IsStmt, IsBody, IsPart, IsNumbered, Successor, goes_to, after_whole, after_part, parts_of, exit_of, Next, next_body, next_within, next_whole, is_loop, InLoop, loop_nearest, loop_further, InFunction, function_body, function_part}
+use Rattle.cpa_model.specs.Programs.{IsStmt, IsBody, IsPart, IsNumbered, Successor, goes_to, after_whole, after_part, parts_of, exit_of, Next, next_body, next_within, next_whole, is_loop, InLoop, loop_nearest, loop_further, function_body, function_part}
 use Rattle.cpa_model.proofs.Trees.{part_above, one_place_after, body_apart, body_inside, has_origin, part_of_parts}
 use Rattle.cpa_top.specs.declared.automaton.places.Place.{Place}
 use Rattle.cpa_top.specs.Places.{IsPlace, ArePlaces, ArePlacesBelow, IsKnown, PartsPlaced, place_at, point_of, within}
@@ -35,14 +34,14 @@ pub place_of_part : (P : Program) → IsNumbered P → (n c : ℕ) (s : Stmt) (t
 place_of_part P N n c s t whole is e h = record {
   next = next_of_part P n c s t whole.next is e h.next;
   inner = ⊎_elim
-    (λ loops. let inner : IfSome (cond (is_loop s) (Some n) whole.inner_loop) (λ l. InLoop P l c) = rw loops (loop_nearest s t is loops e) in inner)
-    (λ plain. let inner : IfSome (cond (is_loop s) (Some n) whole.inner_loop) (λ l. InLoop P l c) = rw plain (IfSome_then whole.inner_loop h.inner (λ l up. loop_further n s t is plain e up)) in inner)
-    (cases_Bool (is_loop s));
+      (λ loops. let inner : IfSome (cond (is_loop s) (Some n) whole.inner_loop) (λ l. InLoop P l c) = rw loops (loop_nearest s t is loops e) in inner)
+      (λ plain. let inner : IfSome (cond (is_loop s) (Some n) whole.inner_loop) (λ l. InLoop P l c) = rw plain (IfSome_then whole.inner_loop h.inner (λ l up. loop_further n s t is plain e up)) in inner)
+      (cases_Bool (is_loop s));
   outer = λ none l in_loop. ⊎_elim
-    (λ loops. let wrong : Some n ≡ None = sym (cond-true (is_loop s) (Some n) whole.inner_loop loops) ∙ none in absurd (cc))
-    (λ plain. h.outer (sym (cond-false (is_loop s) (Some n) whole.inner_loop plain) ∙ none) l (loop_of_whole P N n c l s t is e plain in_loop))
-    (cases_Bool (is_loop s));
-  function = function_part n (record { stmt = s; is = is; place = t; part = e }) h.function
+      (λ loops. let wrong : Some n ≡ None = sym (cond-true (is_loop s) (Some n) whole.inner_loop loops) ∙ none in absurd (cc))
+      (λ plain. h.outer (sym (cond-false (is_loop s) (Some n) whole.inner_loop plain) ∙ none) l (loop_of_whole P N n c l s t is e plain in_loop))
+      (cases_Bool (is_loop s));
+  function = function_part n (record { stmt = s; is = is; place = t; part = e }) h.function;
 }
 
 -- the place of a body
@@ -51,7 +50,7 @@ place_of_body P N f n body = record {
   next = next_body f body;
   inner = tt;
   outer = λ none l in_loop. no_loop_of_body P N f n l body in_loop;
-  function = function_body body
+  function = function_body body;
 }
 
 -- the table has room for the parts of a statement
@@ -94,7 +93,7 @@ more_known P N n s whole old new is below at len placed =
     let other : (k : ℕ) → after_part n s k ≡ None → IsKnown P n k → Right k = λ k e known. rw (placed.others k e) (below.right k known) in
     record {
       each = len ∙ below.each;
-      right = λ k known. by_successor (after_part n s k) (Right k) (part k) (λ none. other k none (known_before P n s k is none known))
+      right = λ k known. by_successor (after_part n s k) (Right k) (part k) (λ none. other k none (known_before P n s k is none known));
     }
 
 -- a write of a right place keeps what is right
@@ -109,7 +108,7 @@ right_after_write P places c k place inside right other =
 pub all_known : (P : Program) → IsNumbered P → (n : ℕ) (places : List Place) → length P.stmts ≤ n → ArePlacesBelow P n places → ArePlaces P places
 all_known P N n places all h = record {
   each = h.each;
-  right = λ k inside. h.right k (⊎_elim (λ body. inl body) (λ part. inr (part.0, omega (arith, part.1), part.2)) (has_origin P N k inside))
+  right = λ k inside. h.right k (⊎_elim (λ body. inl body) (λ part. inr (part.0, omega (arith, part.1), part.2)) (has_origin P N k inside));
 }
 
 -- the table has the places of the bodies of the functions below f
@@ -136,5 +135,5 @@ one_more_body P N f exits bodies places e e' h len below g n less is =
 pub bodies_known : (P : Program) (count f : ℕ) (places : List Place) → count ≡ length P.bodies → count ≤ f → length places ≡ length P.stmts → BodiesPlaced P f places → ArePlacesBelow P 0 places
 bodies_known P count f places e all len h = record {
   each = len;
-  right = λ k known. ⊎_elim (λ body. h body.0 k (let inside = slice_get_within P.bodies body.0 k body.1 in omega arith) body.1) (λ part. absurd (omega (arith, part.1))) known
+  right = λ k known. ⊎_elim (λ body. h body.0 k (let inside = slice_get_within P.bodies body.0 k body.1 in omega arith) body.1) (λ part. absurd (omega (arith, part.1))) known;
 }

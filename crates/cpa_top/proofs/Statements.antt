@@ -1,6 +1,6 @@
 -- The edges from a statement are its moves, kind by kind.
-use Rattle.std.proofs.Common.{◌≡◌, ℕ, ◌+◌, ◌<◌, ◌≤◌, true, false, List, [], ◌∷◌, length, Option, Some, None, ◌⊎◌, refl, sym, ap, ◌∙◌, subst, inl, inr, ⊎_elim, arith, lit<, IfSome, IsSomeAnd, map, option_to_list}
-use Rattle.std.specs.List.{Contains, slice_get}
+use Rattle.std.proofs.Common.{◌≡◌, ℕ, ◌<◌, true, false, List, [], ◌∷◌, length, Option, Some, None, refl, sym, ap, ◌∙◌, subst, inl, inr, ⊎_elim, arith, lit<, IfSome, IsSomeAnd, map, option_to_list}
+use Rattle.std.specs.List.{slice_get}
 use Rattle.std.proofs.lemmas.Option.{same_Some, none-some, slice_get_within}
 use Rattle.cpa_model.specs.declared.automaton.Act.{Act}
 use Rattle.cpa_model.specs.declared.automaton.Act.TheVariants as act
@@ -12,7 +12,7 @@ use Rattle.cpa_model.specs.declared.program.Program.{Program}
 use Rattle.cpa_model.specs.Automata.{edge_of}
 use Rattle.cpa_model.specs.Programs.{IsStmt, IsBody, IsNumbered, exit_of, Next, InLoop, InFunction}
 use Rattle.cpa_model.specs.Steps.{Moves, MovesAt, at_statement, at_exit}
-use Rattle.cpa_model.proofs.Trees.{one_next, one_loop, one_function}
+use Rattle.cpa_model.proofs.Trees.{one_next, one_function}
 use Rattle.cpa_top.specs.declared.automaton.places.Place.{Place}
 use Rattle.cpa_top.specs.Places.{IsPlace, ArePlaces}
 use Rattle.cpa_top.specs.Edges.{AreEdgesFrom}
@@ -30,7 +30,7 @@ pub none_from : (P : Program) (n : ℕ) (s : Stmt) → IsStmt P n s → ((a : Ac
 none_from P n s is never = record {
   moves = tt;
   all = λ a q h. absurd (never a q (moves_at P n s a q is h));
-  ordered = tt
+  ordered = tt;
 }
 
 -- one move
@@ -38,9 +38,9 @@ pub one_from : (P : Program) (n : ℕ) (s : Stmt) (a : Act) (q : ℕ) → IsStmt
 one_from P n s a q is move only = record {
   moves = ((refl, at_statement s is move), tt);
   all = λ b m h.
-    let same : (b ≡ a) × (m ≡ q) = only b m (moves_at P n s b m is h) in
-    (0, lit< tt, (let e : edge_of n a q ≡ edge_of n b m = ap (λ c. edge_of n c q) (sym same.0) ∙ ap (edge_of n b) (sym same.1) in e));
-  ordered = (tt, tt)
+      let same : (b ≡ a) × (m ≡ q) = only b m (moves_at P n s b m is h) in
+      (0, lit< tt, (let e : edge_of n a q ≡ edge_of n b m = ap (λ c. edge_of n c q) (sym same.0) ∙ ap (edge_of n b) (sym same.1) in e));
+  ordered = (tt, tt);
 }
 
 pub from_block : (P : Program) → IsNumbered P → (n next : ℕ) → IsStmt P n (stmt.Block []) → Next P n next → AreEdgesFrom P n (edge_of n act.Skip next ∷ [])
@@ -53,10 +53,10 @@ pub from_if : (P : Program) (n : ℕ) (test : Expr) (first second : ℕ) → IsS
 from_if P n test first second is = record {
   moves = ((refl, at_statement (stmt.If test first second) is (inl (refl, refl))), ((refl, at_statement (stmt.If test first second) is (inr (refl, refl))), tt));
   all = λ a q h. ⊎_elim
-    (λ move. (0, lit< tt, (let e : edge_of n (act.Assume test true) first ≡ edge_of n a q = ap (λ c. edge_of n c first) (sym move.0) ∙ ap (edge_of n a) (sym move.1) in e)))
-    (λ move. (1, lit< tt, (let e : edge_of n (act.Assume test false) second ≡ edge_of n a q = ap (λ c. edge_of n c second) (sym move.0) ∙ ap (edge_of n a) (sym move.1) in e)))
-    (moves_at P n (stmt.If test first second) a q is h);
-  ordered = ((inr (refl, lit< tt), tt), (tt, tt))
+      (λ move. (0, lit< tt, (let e : edge_of n (act.Assume test true) first ≡ edge_of n a q = ap (λ c. edge_of n c first) (sym move.0) ∙ ap (edge_of n a) (sym move.1) in e)))
+      (λ move. (1, lit< tt, (let e : edge_of n (act.Assume test false) second ≡ edge_of n a q = ap (λ c. edge_of n c second) (sym move.0) ∙ ap (edge_of n a) (sym move.1) in e)))
+      (moves_at P n (stmt.If test first second) a q is h);
+  ordered = ((inr (refl, lit< tt), tt), (tt, tt));
 }
 
 pub from_loop : (P : Program) (n body step : ℕ) → IsStmt P n (stmt.Loop body step) → AreEdgesFrom P n (edge_of n act.Skip body ∷ [])

@@ -29,20 +29,20 @@ pub one_more_part : (f : ℕ → Option Successor) (place : Place) (old now : Li
 one_more_part f place old now c s inside r = record {
   parts = λ k t h. elim (cases_eq c k) [
     | inl e ↦
-      let st : s ≡ t = same_Some _ _ (rw (eq-eqb c k e) at h) in
-      ap (slice_get (set now c (place_at place s))) (sym e) ∙ slice_get-set_same now c (place_at place s) inside ∙ ap (λ u. Some (place_at place u)) st
+        let st : s ≡ t = same_Some _ _ (rw (eq-eqb c k e) at h) in
+        ap (slice_get (set now c (place_at place s))) (sym e) ∙ slice_get-set_same now c (place_at place s) inside ∙ ap (λ u. Some (place_at place u)) st
     | inr ne ↦ slice_get-set_other now c k (place_at place s) (λ e. ne (sym e)) ∙ r.parts k t (rw (ne_eqb c k ne) at h)
   ];
   others = λ k h. elim (cases_eq c k) [
     | inl e ↦ let impossible : Some s ≡ None = rw (eq-eqb c k e) at h in absurd cc
     | inr ne ↦ slice_get-set_other now c k (place_at place s) (λ e. ne (sym e)) ∙ r.others k (rw (ne_eqb c k ne) at h)
-  ]
+  ];
 }
 
 pub same_parts : (f g : ℕ → Option Successor) (place : Place) (old now : List Place) → ((c : ℕ) → g c ≡ f c) → PartsPlaced f place old now → PartsPlaced g place old now
 same_parts f g place old now e r = record {
   parts = λ c s h. r.parts c s (sym (e c) ∙ h);
-  others = λ c h. r.others c (sym (e c) ∙ h)
+  others = λ c h. r.others c (sym (e c) ∙ h);
 }
 
 -- what follows an item that stands before these

@@ -1,16 +1,15 @@
 -- The edges lead from points to points, and so the parts make an automaton.
-use Rattle.std.proofs.Common.{◌≡◌, ℕ, ◌+◌, ◌<◌, ◌≤◌, List, [], ◌∷◌, length, get_or, Some, ◌⊎◌, refl, sym, ap, ◌∙◌, inl, inr, ⊎_elim, arith, lit<}
+use Rattle.std.proofs.Common.{◌≡◌, ℕ, ◌<◌, List, [], ◌∷◌, length, Some, refl, sym, ⊎_elim, arith, lit<}
 use Rattle.std.specs.List.{AllByRecursion, Contains, slice_get}
 use Rattle.std.proofs.lemmas.List.Elements.{All-from_recursion, All-contains}
 use Rattle.std.proofs.lemmas.Option.{slice_get_within}
 use Rattle.cpa_model.specs.declared.automaton.Act.{Act}
 use Rattle.cpa_model.specs.declared.automaton.Cfa.{Cfa}
-use Rattle.cpa_model.specs.declared.automaton.Edge.{Edge}
 use Rattle.cpa_model.specs.declared.program.Stmt.{Stmt}
 use Rattle.cpa_model.specs.declared.program.Stmt.TheVariants as stmt
 use Rattle.cpa_model.specs.declared.program.Program.{Program}
-use Rattle.cpa_model.specs.Automata.{edge_of, IsAutomatonOf}
-use Rattle.cpa_model.specs.Programs.{IsNumbered, IsWellFormed, IsStmt, parts_of, exit_of, point_count}
+use Rattle.cpa_model.specs.Automata.{IsAutomatonOf}
+use Rattle.cpa_model.specs.Programs.{IsNumbered, IsWellFormed, IsStmt, parts_of, point_count}
 use Rattle.cpa_model.specs.Steps.{Moves, MovesAt, at_statement, at_exit, IsError}
 use Rattle.cpa_model.proofs.Trees.{part_above, part_of_parts, body_inside, next_inside, function_inside, some_function}
 use Rattle.cpa_top.specs.Edges.{AreNumbersBelow, AreEdgesBelow}
@@ -68,5 +67,5 @@ automaton_is P W cfa cells points start text_len edges errors = record {
   inside = rw points (each_weaker (λ e. (e.from < point_count P) × Moves P e.from e.act e.to) (λ e. (e.from < point_count P) × (e.to < point_count P)) (λ e h. (h.0, (moves_inside P W e.from e.act e.to h.1).1)) cfa.edges edges.moves);
   errors = λ p is. errors.all p (slice_get_within P.stmts p stmt.Error is) is;
   only_errors = λ p among. (contained (λ n. (n < length P.stmts) × IsError P n) cfa.errors p errors.only among).1;
-  ascending = errors.ascending
+  ascending = errors.ascending;
 }

@@ -233,7 +233,12 @@ fn add_returns(
     if f == program.main {
         return Ok(());
     }
-    add_return_edges(places, exit(program, f), sites[f as usize].as_slice(), edges)
+    add_return_edges(
+        places,
+        exit(program, f),
+        sites[f as usize].as_slice(),
+        edges,
+    )
 }
 
 /// All edges.

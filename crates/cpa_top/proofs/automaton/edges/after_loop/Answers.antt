@@ -1,5 +1,5 @@
-use Rattle.std.proofs.Common.{◌≡◌, ℕ, ◌<◌, length, Some, sym, ap, ◌∙◌, arith}
-use Rattle.cpa_model.specs.Programs.{InLoop, Next}
+use Rattle.std.proofs.Common.{◌≡◌, Some, ap, arith}
+use Rattle.cpa_model.specs.Programs.{Next}
 use Rattle.cpa_model.proofs.Trees.{one_loop, one_next, loop_inside}
 use Rattle.cpa_top.specs.Places.{IsPlace}
 use Rattle.cpa_top.proofs.Statements.{loop_of_place, place_in_table}

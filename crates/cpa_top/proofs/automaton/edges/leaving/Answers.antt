@@ -1,9 +1,9 @@
-use Rattle.std.proofs.Common.{◌≡◌, ℕ, ◌<◌, [], ◌∷◌, length, Some, sym, ap, ◌∙◌, arith}
+use Rattle.std.proofs.Common.{Some, sym, ap, ◌∙◌}
 use Rattle.cpa_model.specs.declared.program.Stmt.TheVariants as stmt
 use Rattle.cpa_model.specs.Programs.{IsStmt}
 use Rattle.cpa_model.proofs.Trees.{function_inside}
 use Rattle.cpa_top.specs.Places.{IsPlace}
-use Rattle.cpa_top.proofs.Statements.{place_in_table, from_any_block, from_if, from_loop, from_assign, from_input, from_call, from_goto, from_break, from_continue, from_leave, from_stop, from_error}
+use Rattle.cpa_top.proofs.Statements.{place_in_table, from_any_block, from_if, from_loop, from_assign, from_input, from_call, from_goto, from_break, from_continue, from_leave}
 use Rattle.cpa_top.proofs.automaton.edges.leaving.Goals as goal
 
 pub body_of-requires : goal.body_of-requires

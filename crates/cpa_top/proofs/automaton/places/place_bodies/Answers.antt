@@ -1,4 +1,4 @@
-use Rattle.std.proofs.Common.{◌≡◌, ◌<◌, length, Some, ap, sym, ◌∙◌, arith}
+use Rattle.std.proofs.Common.{length, ap, arith}
 use Rattle.cpa_top.proofs.Known.{body_in_table, one_more_body, bodies_known}
 use Rattle.cpa_top.proofs.automaton.places.place_bodies.Goals as goal
 

@@ -1,10 +1,7 @@
-use Rattle.std.proofs.Common.{◌≡◌, ℕ, ◌+◌, ◌-◌, ◌<◌, List, ◌∷◌, length, get_or, drop, refl, sym, ap, ◌∙◌, subst, arith}
-use Rattle.std.proofs.lemmas.List.{drop_more, drop_all}
-use Rattle.std.proofs.lemmas.Grind.{common_steps}
+use Rattle.std.proofs.Common.{◌≡◌, ℕ, ◌-◌, ◌<◌, length, get_or, drop, subst, arith}
 use Rattle.cpa_model.specs.Programs.{after_item}
-use Rattle.cpa_top.specs.declared.automaton.places.Place.{Place}
-use Rattle.cpa_top.specs.Places.{PartsPlaced, place_at}
-use Rattle.cpa_top.proofs.Tables.{one_more_item, first_of_items, placed_before}
+use Rattle.cpa_top.specs.Places.{PartsPlaced}
+use Rattle.cpa_top.proofs.Tables.{placed_before}
 use Rattle.cpa_top.proofs.automaton.places.place_items.Goals as goal
 
 pub loop-i-preserved : goal.loop-i-preserved

@@ -1,4 +1,4 @@
-use Rattle.std.proofs.Common.{◌≡◌, length, drop}
+use Rattle.std.proofs.Common.{◌≡◌, drop}
 use Rattle.cpa_model.specs.Programs.{after_item}
 use Rattle.cpa_top.specs.Places.{PartsPlaced, place_at}
 use Rattle.cpa_top.proofs.Tables.{first_of_items}

@@ -1,11 +1,4 @@
-use Rattle.std.proofs.Common.{◌≡◌, ℕ, ◌<◌, List, length, Some, refl, sym, ap, ◌∙◌, subst, arith}
-use Rattle.std.proofs.lemmas.List.{length-set}
-use Rattle.cpa_model.specs.declared.program.Stmt.{Stmt}
-use Rattle.cpa_model.specs.declared.program.Stmt.TheVariants as stmt
-use Rattle.cpa_model.specs.Programs.{Successor, after_item, after_part}
-use Rattle.cpa_top.specs.declared.automaton.places.Place.{Place}
-use Rattle.cpa_top.specs.Places.{PartsPlaced, within}
-use Rattle.cpa_top.proofs.Tables.{if_placed, loop_placed, no_part}
+use Rattle.cpa_top.proofs.Tables.{if_placed, loop_placed}
 use Rattle.cpa_top.proofs.automaton.places.place_parts.Goals as goal
 
 pub returns-in-If : goal.returns-in-If

@@ -1,6 +1,4 @@
-use Rattle.std.proofs.Common.{◌≡◌, ◌<◌, length, Some, sym, ◌∙◌, arith}
-use Rattle.std.specs.List.{slice_get}
-use Rattle.cpa_top.specs.declared.automaton.places.Place.{Place}
+use Rattle.std.proofs.Common.{length, arith}
 use Rattle.cpa_top.proofs.Known.{parts_inside, more_known}
 use Rattle.cpa_top.proofs.automaton.places.place_parts_of.Goals as goal
 

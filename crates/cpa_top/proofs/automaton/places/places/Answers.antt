@@ -1,4 +1,4 @@
-use Rattle.std.proofs.Common.{◌≡◌, ◌≤◌, length, ap, arith}
+use Rattle.std.proofs.Common.{length, ap, arith}
 use Rattle.cpa_top.proofs.Known.{all_known}
 use Rattle.cpa_top.proofs.automaton.places.places.Goals as goal
 
