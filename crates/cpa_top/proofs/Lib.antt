@@ -1,3 +1,12 @@
-pub mod Grown
+pub mod Exits
 pub mod ExploredLemmas
+pub mod Grown
+pub mod Growth
+pub mod Known
 pub mod Places
+pub mod Statements
+pub mod Tables
+pub mod Whole
+pub mod Lawful
+pub mod Judged
+pub mod Listings

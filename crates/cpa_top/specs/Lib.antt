@@ -1,8 +1,13 @@
-pub mod Outside
 pub mod Covers
+pub mod Edges
 pub mod Explored
-pub mod Spelled
-pub mod Reports
-pub mod OutsideMemory
 pub mod MemoryInputs
 pub mod MemorySink
+pub mod Outside
+pub mod OutsideMemory
+pub mod Places
+pub mod Reports
+pub mod Spelled
+pub mod Run
+pub mod Answered
+pub mod Listing
