@@ -1,2 +1,4 @@
 pub mod Grown
 pub mod ExploredLemmas
+pub mod Places
+pub mod Ties

@@ -1,3 +1,4 @@
 pub mod Outside
 pub mod Covers
 pub mod Explored
+pub mod Reached

@@ -1,3 +1,6 @@
+mod asked;
+mod reached;
+
 use cpa_model::{Elem, Seq};
 
 /// What an exploration comes to.

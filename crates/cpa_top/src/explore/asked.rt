@@ -1,0 +1,46 @@
+//! The questions of an exploration to a boxed analysis.
+ghost use Rattle.std.specs.Prelude.{◌≡◌, ◌<◌, [], ◌∷◌, length, slice_get, IfOk, Some, IsTrue, if◌then◌else◌, ◌==◌};
+ghost use Rattle.std.specs.List.{All};
+ghost use Rattle.cpa_model.specs.Automata.{IsAutomaton};
+ghost use Rattle.cpa_iface.specs.declared.analysis.Part.TheVariants.{Point};
+ghost use Rattle.cpa_iface.specs.Meanings.{pin, IsPrecision};
+ghost use Rattle.cpa_top.specs.Reached.{IsWalkedPin};
+
+use cpa_iface::{Analysis, Precision, Settings};
+use cpa_model::{Cfa, Elem};
+use std::alloc::{AllocError, Global};
+
+/// The precision to begin with.
+pub(crate) fn first_precision(
+    alloc: Global,
+    cfa: &Cfa,
+    settings: &Settings,
+    analysis: &mut Box<dyn Analysis + Send>,
+) -> Result<Precision, AllocError>
+    requires { IsAutomaton cfa.now }
+    ensures shaped { IfOk result (λ p. IsPrecision cfa.now p) }
+    ensures kept { meaning analysis.new ≡ meaning analysis.old }
+{
+    analysis.first_precision(alloc, cfa, settings)
+}
+
+/// The element of the initial state.
+pub(crate) fn initial(
+    alloc: Global,
+    cfa: &Cfa,
+    analysis: &mut Box<dyn Analysis + Send>,
+) -> Result<Elem, AllocError>
+    requires automaton { IsAutomaton cfa.now }
+    requires exact { (meaning analysis.old).part ≡ Point }
+    ensures pinned { IfOk result (λ e. e ≡ pin cfa.now.start) }
+    ensures kept { meaning analysis.new ≡ meaning analysis.old }
+{
+    analysis.initial(alloc, cfa)
+}
+
+/// Whether the analysis takes each state of `elem` for one of `other`.
+pub(crate) fn covered_by(analysis: &Box<dyn Analysis + Send>, elem: &Elem, other: &Elem) -> bool
+    ensures { elem.now ≡ other.now → IsTrue result }
+{
+    analysis.covered_by(elem, other)
+}
