@@ -2,3 +2,5 @@ pub mod Grown
 pub mod ExploredLemmas
 pub mod Places
 pub mod Ties
+pub mod Edges
+pub mod Errors

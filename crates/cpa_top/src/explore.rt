@@ -1,4 +1,5 @@
 mod asked;
+mod graph;
 mod reached;
 
 use cpa_model::{Elem, Seq};

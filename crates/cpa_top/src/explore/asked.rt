@@ -4,7 +4,7 @@ ghost use Rattle.std.specs.List.{All};
 ghost use Rattle.cpa_model.specs.Automata.{IsAutomaton};
 ghost use Rattle.cpa_iface.specs.declared.analysis.Part.TheVariants.{Point};
 ghost use Rattle.cpa_iface.specs.Meanings.{pin, IsPrecision};
-ghost use Rattle.cpa_top.specs.Reached.{IsWalkedPin};
+ghost use Rattle.cpa_top.specs.Reached.{IsWalkedPin, LeadsInto};
 
 use cpa_iface::{Analysis, Precision, Settings};
 use cpa_model::{Cfa, Elem};
@@ -36,6 +36,27 @@ pub(crate) fn initial(
     ensures kept { meaning analysis.new ≡ meaning analysis.old }
 {
     analysis.initial(alloc, cfa)
+}
+
+/// The elements in which the successors of an entry by an edge lie.
+pub(crate) fn successors(
+    alloc: Global,
+    cfa: &Cfa,
+    edge: u32,
+    entry: &Elem,
+    precision: &Precision,
+    analysis: &mut Box<dyn Analysis + Send>,
+) -> Result<Vec<Elem>, AllocError>
+    requires automaton { IsAutomaton cfa.now }
+    requires exact { (meaning analysis.old).part ≡ Point }
+    requires edge { edge < length cfa.now.edges }
+    requires entry { IsWalkedPin cfa.now entry.now }
+    requires precision { IsPrecision cfa.now precision.now }
+    ensures walked { IfOk result (λ es. All (IsWalkedPin cfa.now) es.items) }
+    ensures leads { IfOk result (λ es. LeadsInto cfa.now edge entry.now es.items) }
+    ensures kept { meaning analysis.new ≡ meaning analysis.old }
+{
+    analysis.transfer(alloc, cfa, edge, entry, precision)
 }
 
 /// Whether the analysis takes each state of `elem` for one of `other`.
