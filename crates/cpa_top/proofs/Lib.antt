@@ -4,3 +4,5 @@ pub mod Places
 pub mod Ties
 pub mod Edges
 pub mod Errors
+pub mod Follow
+pub mod Added

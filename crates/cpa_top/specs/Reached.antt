@@ -35,11 +35,23 @@ pub record KeepsNumbers (before now : List Elem) : Type 0 where
 abbrev pub GrewBy : Elem → List Elem → List Elem → Type 0
 GrewBy e before now = (now ≡ before) ⊎ (now ≡ before ++ e ∷ [])
 
+-- the elements were added: what was an entry kept its number, and what is an entry was one or is one of the elements
+pub record AreAdded (elems : List Elem) (before now : Reached) : Type 0 where
+  pub tied : AreTied now.entries now.entry_at.items
+  pub size : length now.entry_at.items ≡ length before.entry_at.items
+  pub numbers : KeepsNumbers before.entries now.entries
+  pub held : All (Contains now.entries) elems
+  pub origin : (e : Elem) → Contains now.entries e → Contains before.entries e ⊎ Contains elems e
+
 -- where the element is the pin of the point that the edge of this number leaves, the pin of the point to which the
 -- edge leads is in the list
 abbrev pub LeadsInto : Cfa → ℕ → Elem → List Elem → Type 0
 LeadsInto cfa k e es = (edge : Edge) → slice_get cfa.edges k ≡ Some edge → e ≡ pin edge.from → Contains es (pin edge.to)
 
--- all edges from the entry of this number lead into the entries
-pub record IsExpanded (cfa : Cfa) (entries : List Elem) (number : ℕ) : Type 0 where
-  pub leads : (k : ℕ) (e : Elem) → slice_get entries number ≡ Some e → LeadsInto cfa k e entries
+-- the edge of that number leads from the entry of this number into the entries
+pub record LeadsOn (cfa : Cfa) (entries : List Elem) (number k : ℕ) : Type 0 where
+  pub leads : (e : Elem) → slice_get entries number ≡ Some e → LeadsInto cfa k e entries
+
+-- all edges lead from the entry of this number into the entries
+abbrev pub IsExpanded : Cfa → List Elem → ℕ → Type 0
+IsExpanded cfa entries number = (k : ℕ) → LeadsOn cfa entries number k

@@ -1,8 +1,21 @@
+ghost use Rattle.std.specs.Prelude.{◌≡◌, ◌<◌, length, IfOk, OnOk};
+ghost use Rattle.std.specs.List.{Contains};
+ghost use Rattle.cpa_model.specs.Automata.{IsAutomaton};
+ghost use Rattle.cpa_iface.specs.declared.analysis.Part.TheVariants.{Point};
+ghost use Rattle.cpa_iface.specs.Meanings.{pin, IsPrecision};
+ghost use Rattle.cpa_top.specs.Explored.{IsExplored};
+ghost use Rattle.cpa_top.specs.Reached.{IsReached, KeepsNumbers, LeadsOn, IsExpanded};
+
 mod asked;
 mod graph;
 mod reached;
 
-use cpa_model::{Elem, Seq};
+use crate::explore::asked::{first_precision, initial, successors};
+use crate::explore::graph::{is_error, leaving};
+use crate::explore::reached::{Reached, point_of};
+use cpa_iface::{Analysis, Precision, Settings};
+use cpa_model::{Cfa, Elem, Seq};
+use std::alloc::{AllocError, Global};
 
 /// What an exploration comes to.
 #[derive(Debug, Drop)]
@@ -11,4 +24,29 @@ pub(crate) enum Explored {
     Safe { entries: Seq<Elem> },
     /// A chain of edges leads to a call of `reach_error`.
     ErrorReached,
+}
+
+/// Adds the successors of an entry by one edge.
+fn follow(
+    alloc: Global,
+    cfa: &Cfa,
+    precision: &Precision,
+    analysis: &mut Box<dyn Analysis + Send>,
+    reached: &mut Reached,
+    number: usize,
+    edge: u32,
+) -> Result<(), AllocError>
+    requires automaton { IsAutomaton cfa.now }
+    requires exact { (meaning analysis.old).part ≡ Point }
+    requires precision { IsPrecision cfa.now precision.now }
+    requires reached { IsReached cfa.now reached.old }
+    requires number { number < length reached.old.entries }
+    requires edge { edge < length cfa.now.edges }
+    ensures reached { OnOk result (IsReached cfa.now reached.new) }
+    ensures numbers { OnOk result (KeepsNumbers reached.old.entries reached.new.entries) }
+    ensures leads { OnOk result (LeadsOn cfa.now reached.new.entries number edge) }
+    ensures kept { meaning analysis.new ≡ meaning analysis.old }
+{
+    let elems = successors(alloc, cfa, edge, reached.entry(number), precision, analysis)?;
+    reached.add_each(analysis, elems)
 }

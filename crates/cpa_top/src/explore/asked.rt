@@ -3,7 +3,7 @@ ghost use Rattle.std.specs.Prelude.{◌≡◌, ◌<◌, [], ◌∷◌, length, s
 ghost use Rattle.std.specs.List.{All};
 ghost use Rattle.cpa_model.specs.Automata.{IsAutomaton};
 ghost use Rattle.cpa_iface.specs.declared.analysis.Part.TheVariants.{Point};
-ghost use Rattle.cpa_iface.specs.Meanings.{pin, IsPrecision};
+ghost use Rattle.cpa_iface.specs.Meanings.{pin, IsPrecision, PinsEdge};
 ghost use Rattle.cpa_top.specs.Reached.{IsWalkedPin, LeadsInto};
 
 use cpa_iface::{Analysis, Precision, Settings};
@@ -54,6 +54,25 @@ pub(crate) fn successors(
     requires precision { IsPrecision cfa.now precision.now }
     ensures walked { IfOk result (λ es. All (IsWalkedPin cfa.now) es.items) }
     ensures leads { IfOk result (λ es. LeadsInto cfa.now edge entry.now es.items) }
+    ensures kept { meaning analysis.new ≡ meaning analysis.old }
+{
+    transfer(alloc, cfa, edge, entry, precision, analysis)
+}
+
+/// What the analysis answers at the edge.
+fn transfer(
+    alloc: Global,
+    cfa: &Cfa,
+    edge: u32,
+    entry: &Elem,
+    precision: &Precision,
+    analysis: &mut Box<dyn Analysis + Send>,
+) -> Result<Vec<Elem>, AllocError>
+    requires automaton { IsAutomaton cfa.now }
+    requires edge { edge < length cfa.now.edges }
+    requires entry { IsWalkedPin cfa.now entry.now }
+    requires precision { IsPrecision cfa.now precision.now }
+    ensures exact { IfOk result (λ es. PinsEdge (meaning analysis.old) cfa.now edge entry.now es.items) }
     ensures kept { meaning analysis.new ≡ meaning analysis.old }
 {
     analysis.transfer(alloc, cfa, edge, entry, precision)

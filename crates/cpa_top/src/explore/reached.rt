@@ -1,8 +1,8 @@
 //! The reached set: the entries, and which of them stands at a point.
 ghost use Rattle.std.specs.Prelude.{◌≡◌, ℕ, ◌<◌, [], ◌∷◌, ◌++◌, Some, None, IsTrue, false, length, slice_get, IfOk, OnOk};
-ghost use Rattle.std.specs.List.{Contains};
+ghost use Rattle.std.specs.List.{All, Contains};
 ghost use Rattle.cpa_iface.specs.Meanings.{pin};
-ghost use Rattle.cpa_top.specs.Reached.{IsPinBelow, AreTied, GrewBy};
+ghost use Rattle.cpa_top.specs.Reached.{IsPinBelow, AreTied, AreAdded, GrewBy};
 
 use crate::explore::asked::covered_by;
 use cpa_iface::Analysis;
@@ -53,6 +53,22 @@ impl Reached {
             return Ok(());
         }
         self.insert(point, elem)
+    }
+
+    /// Adds the elements in order, each unless the entry at its point covers it.
+    pub(crate) fn add_each(
+        &mut self,
+        analysis: &Box<dyn Analysis + Send>,
+        elems: Vec<Elem>,
+    ) -> Result<(), AllocError>
+        requires tied { AreTied self.old.entries self.old.entry_at.items }
+        requires pinned { All (IsPinBelow (length self.old.entry_at.items)) elems.items }
+        ensures { OnOk result (AreAdded elems.items self.old self.new) }
+    {
+        for elem in elems {
+            self.add(analysis, elem)?;
+        }
+        Ok(())
     }
 
     /// Whether the entry at the element's point covers it, where there is one.
