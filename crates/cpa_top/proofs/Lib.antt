@@ -6,3 +6,4 @@ pub mod Edges
 pub mod Errors
 pub mod Follow
 pub mod Added
+pub mod Expanding

@@ -50,3 +50,29 @@ fn follow(
     let elems = successors(alloc, cfa, edge, reached.entry(number), precision, analysis)?;
     reached.add_each(analysis, elems)
 }
+
+/// Adds the successors of an entry by all edges that leave its point.
+fn expand(
+    alloc: Global,
+    cfa: &Cfa,
+    precision: &Precision,
+    analysis: &mut Box<dyn Analysis + Send>,
+    reached: &mut Reached,
+    number: usize,
+) -> Result<(), AllocError>
+    requires automaton { IsAutomaton cfa.now }
+    requires exact { (meaning analysis.old).part ≡ Point }
+    requires precision { IsPrecision cfa.now precision.now }
+    requires reached { IsReached cfa.now reached.old }
+    requires number { number < length reached.old.entries }
+    ensures reached { OnOk result (IsReached cfa.now reached.new) }
+    ensures numbers { OnOk result (KeepsNumbers reached.old.entries reached.new.entries) }
+    ensures expanded { OnOk result (IsExpanded cfa.now reached.new.entries number) }
+    ensures kept { meaning analysis.new ≡ meaning analysis.old }
+{
+    let (first, last) = leaving(cfa, point_of(reached.entry(number)));
+    for edge in first..last {
+        follow(alloc, cfa, precision, analysis, reached, number, edge)?;
+    }
+    Ok(())
+}
