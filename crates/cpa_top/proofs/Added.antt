@@ -120,3 +120,7 @@ leads_after cfa number k e elems before now at leads a = record {
     let same : e ≡ other = cc in
     All-contains (Contains now.entries) elems (pin edge.to) a.held (leads edge at_edge (same ∙ is));
 }
+
+-- an entry of a reached set is a pin of a point that was walked to
+pub entry_walked : (cfa : Cfa) (r : Reached) (number : ℕ) (e : Elem) → IsReached cfa r → slice_get r.entries number ≡ Some e → IsWalkedPin cfa e
+entry_walked cfa r number e reached at = All-contains (IsWalkedPin cfa) r.entries e reached.walked (in_list r.entries number e at)

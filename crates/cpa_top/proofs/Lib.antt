@@ -7,3 +7,4 @@ pub mod Errors
 pub mod Follow
 pub mod Added
 pub mod Expanding
+pub mod Exploring

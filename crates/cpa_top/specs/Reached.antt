@@ -55,3 +55,7 @@ pub record LeadsOn (cfa : Cfa) (entries : List Elem) (number k : ℕ) : Type 0 w
 -- all edges lead from the entry of this number into the entries
 abbrev pub IsExpanded : Cfa → List Elem → ℕ → Type 0
 IsExpanded cfa entries number = (k : ℕ) → LeadsOn cfa entries number k
+
+-- the entry of this number is the pin of no point of the errors
+abbrev pub IsErrorFree : Cfa → List Elem → ℕ → Type 0
+IsErrorFree cfa entries number = (p : ℕ) → slice_get entries number ≡ Some (pin p) → Contains cfa.errors p → ⊥
