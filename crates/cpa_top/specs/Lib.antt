@@ -11,3 +11,4 @@ pub mod Spelled
 pub mod Run
 pub mod Answered
 pub mod Listing
+pub mod Reached
