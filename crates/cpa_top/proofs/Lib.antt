@@ -4,3 +4,4 @@ pub mod Statements
 pub mod Growth
 pub mod Exits
 pub mod Whole
+pub mod Samples
