@@ -18,3 +18,4 @@ pub mod Statements
 pub mod Tables
 pub mod Ties
 pub mod Whole
+pub mod Samples

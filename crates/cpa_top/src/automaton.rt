@@ -7,6 +7,8 @@ ghost use Rattle.cpa_model.specs.Programs.{IsWellFormed, point_count};
 mod edges;
 mod numbers;
 mod places;
+#[cfg(test)]
+mod tests;
 
 use cpa_model::{Cfa, Program, Seq};
 use std::alloc::{AllocError, Global};
