@@ -14,8 +14,8 @@ pub mod Lawful
 pub mod Listings
 pub mod Places
 pub mod PointPlaces
+pub mod Samples
 pub mod Statements
 pub mod Tables
 pub mod Ties
 pub mod Whole
-pub mod Samples
