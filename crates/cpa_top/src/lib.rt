@@ -1,6 +1,7 @@
 //! The program: its words, its job, its answer.
 #![tactic(auto)]
 
+mod core_program;
 mod explore;
 mod outside;
 

@@ -1,0 +1,32 @@
+-- The core of each variant of a statement.
+use Rattle.std.proofs.Common.{◌≡◌, List, Option, None, Some, map, ap, sym, ◌∙◌}
+use Rattle.c_parser.specs.declared.tree.Expression.{Expression}
+use Rattle.c_parser.specs.declared.tree.Statement.{Statement}
+use Rattle.c_parser.specs.declared.tree.Statement.TheOpen.{Statement-F}
+use Rattle.c_parser.specs.declared.tree.Statement.TheFolds.{fold-roll-Statement}
+use Rattle.c_parser.specs.declared.tree.Statement.TheVariants.{Block, Empty, If, While, ReachError, Abort, Return, rolls-Block, rolls-Empty, rolls-If, rolls-While, rolls-ReachError, rolls-Abort, rolls-Return}
+use Rattle.cpa_model.specs.declared.program.Stmt.TheVariants as stmt
+use Rattle.cpa_top.specs.Core.{Core, no_core, single, block, if_core, while_core, return_core, core_step, core_of_statement, core_of_items}
+use Rattle.cpa_top.specs.CoreSteps.{core_of_else}
+
+pub core-Block : (items : List Statement) → core_of_statement (Block items) ≡ block (core_of_items items)
+core-Block items = ap core_of_statement (sym (rolls-Block items)) ∙ fold-roll-Statement Core core_step (Statement-F.Block items)
+
+pub core-Empty : core_of_statement Empty ≡ no_core
+core-Empty = ap core_of_statement (sym rolls-Empty) ∙ fold-roll-Statement Core core_step Statement-F.Empty
+
+pub core-If : (test : Expression) (branch : Statement) (other : Option Statement) → core_of_statement (If test branch other) ≡ if_core test (core_of_statement branch) (core_of_else other)
+core-If test branch None = ap core_of_statement (sym (rolls-If test branch None)) ∙ fold-roll-Statement Core core_step (Statement-F.If test branch None)
+core-If test branch (Some other) = ap core_of_statement (sym (rolls-If test branch (Some other))) ∙ fold-roll-Statement Core core_step (Statement-F.If test branch (Some other))
+
+pub core-While : (test : Expression) (body : Statement) → core_of_statement (While test body) ≡ while_core test (core_of_statement body)
+core-While test body = ap core_of_statement (sym (rolls-While test body)) ∙ fold-roll-Statement Core core_step (Statement-F.While test body)
+
+pub core-ReachError : core_of_statement ReachError ≡ single stmt.Error
+core-ReachError = ap core_of_statement (sym rolls-ReachError) ∙ fold-roll-Statement Core core_step Statement-F.ReachError
+
+pub core-Abort : core_of_statement Abort ≡ single stmt.Stop
+core-Abort = ap core_of_statement (sym rolls-Abort) ∙ fold-roll-Statement Core core_step Statement-F.Abort
+
+pub core-Return : core_of_statement Return ≡ return_core
+core-Return = ap core_of_statement (sym rolls-Return) ∙ fold-roll-Statement Core core_step Statement-F.Return
