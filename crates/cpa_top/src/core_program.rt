@@ -134,7 +134,15 @@ impl Builder {
                 Ok(())
             }
             Statement::Empty => Ok(()),
-            Statement::If { test, yes, no } => self.choice(alloc, items, *test, yes.get(), no),
+            Statement::If { test, yes, no } => {
+                let value = self.test(items, *test)?;
+                let number = self.put(Stmt::Stop)?;
+                let yes = self.branch(alloc, yes.get())?;
+                let no = self.other_branch(alloc, no)?;
+                self.replace(number, Stmt::If { test: value, yes, no });
+                items.push(number)?;
+                Ok(())
+            }
             Statement::While { test, body } => self.repetition(alloc, items, *test, body.get()),
             Statement::ReachError => self.single(items, Stmt::Error),
             Statement::Abort => self.single(items, Stmt::Stop),
@@ -190,21 +198,6 @@ impl Builder {
             Some(other) => self.branch(alloc, other.get()),
             None => self.empty_block(alloc),
         }
-    }
-
-    /// Adds the core of an if to a list.
-    #[cycle(statements)]
-    fn choice(&mut self, alloc: Global, items: &mut Seq<u32>, test: Expression, yes: &Statement, no: &Option<Boxed<Statement>>) -> Result<(), AllocError>
-        requires { Fits self.old (if_core test (core_of_statement yes.now) (core_of_else no.now)) }
-        ensures { OnOk result (Adds self.old items.old (if_core test (core_of_statement yes.now) (core_of_else no.now)) self.new items.new) }
-    {
-        let value = self.test(items, test)?;
-        let number = self.put(Stmt::Stop)?;
-        let yes = self.branch(alloc, yes)?;
-        let no = self.other_branch(alloc, no)?;
-        self.replace(number, Stmt::If { test: value, yes, no });
-        items.push(number)?;
-        Ok(())
     }
 
     /// Adds the core of a while to a list.
