@@ -1,3 +1,4 @@
 pub mod Grown
 pub mod CoreBuild
 pub mod CoreVariants
+pub mod CoreSizes

@@ -125,9 +125,13 @@ core_of_statement = fold-Statement (ℕ → ℕ → CoreList) core_step
 abbrev pub core_of_items : List Statement → Core
 core_of_items items = in_order (map core_of_statement items)
 
--- main's block: its result is 0 at first, then come the items; cell 0 is the result
+-- main's block: its result is 0 at first, then come the items
+abbrev pub main_block : List Statement → Core
+main_block items = block (followed (single result_zero) (core_of_items items))
+
+-- main's block is numbered from 0 on; cell 0 is its result
 abbrev pub main_core : Tree → CoreList
-main_core tree = block (followed (single result_zero) (core_of_items tree.body)) 0 1
+main_core tree = main_block tree.body 0 1
 
 -- an int of start 0
 abbrev pub int_cell : Cell

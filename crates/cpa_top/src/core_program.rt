@@ -2,7 +2,7 @@
 ghost use Rattle.std.specs.Prelude.{◌≡◌, ℕ, ◌+◌, ◌<◌, ◌≤◌, [], ◌∷◌, ◌++◌, length, replicate, IfOk, OnOk};
 ghost use Rattle.c_parser.specs.FirstForm.{unit_points};
 ghost use Rattle.cpa_model.specs.declared.program.Stmt.TheVariants as stmt;
-ghost use Rattle.cpa_top.specs.Core.{no_core, single, input, followed, block, choice, test_core, test_value, if_core, while_body, while_core, result_zero, return_core, core_of_statement, core_of_items, int_cell, core_of};
+ghost use Rattle.cpa_top.specs.Core.{no_core, single, input, followed, block, choice, test_core, test_value, if_core, while_body, while_core, result_zero, return_core, core_of_statement, core_of_items, main_block, int_cell, core_of};
 ghost use Rattle.cpa_top.specs.CoreSteps.{Fits, Adds, Grown, Replaced, core_of_else};
 
 use c_parser::{Boxed, Expression, Statement, Unit};
@@ -214,6 +214,19 @@ impl Builder {
         Ok(())
     }
 
+    /// Adds main's block.
+    fn main(&mut self, alloc: Global, statements: &[Statement]) -> Result<u32, AllocError>
+        requires { Fits self.old (main_block statements.now) }
+        ensures { IfOk result (λ number. Adds self.old [] (main_block statements.now) self.new (number ∷ [])) }
+    {
+        let number = self.put(Stmt::Stop)?;
+        let mut items = Seq::new(alloc);
+        self.single(&mut items, result_is_zero())?;
+        self.statements(alloc, &mut items, statements)?;
+        self.replace(number, Stmt::Block { items });
+        Ok(number)
+    }
+
     /// Adds the body of a while's loop.
     #[cycle(statements)]
     fn loop_body(&mut self, alloc: Global, test: Expression, body: &Statement) -> Result<u32, AllocError>
@@ -228,6 +241,40 @@ impl Builder {
         self.replace(number, Stmt::Block { items });
         Ok(number)
     }
+}
+
+/// The program that a tree stands for.
+pub(crate) fn core(alloc: Global, unit: &Unit) -> Result<Program, AllocError>
+    requires small { unit.now.length ≤ 1048576 }
+    requires points { unit_points unit.now ≤ 65536 }
+    ensures { IfOk result (λ program. program ≡ core_of unit.now) }
+{
+    let mut builder = Builder {
+        stmts: Vec::new(alloc),
+        cells: 1,
+    };
+    builder.main(alloc, unit.body.as_slice())?;
+    let Builder { stmts, cells } = builder;
+    let mut bodies = Seq::new(alloc);
+    bodies.push(0)?;
+    Ok(Program {
+        cells: int_cells(alloc, cells)?,
+        bodies,
+        main: 0,
+        stmts: Seq::from_vec(stmts),
+        text_len: unit.length as u32,
+    })
+}
+
+/// Cells of type `int` that start at 0.
+fn int_cells(alloc: Global, count: u32) -> Result<Seq<Cell>, AllocError>
+    ensures { IfOk result (λ cells. cells ≡ replicate count int_cell) }
+{
+    let cell = Cell {
+        ty: IntType::I32,
+        start: 0,
+    };
+    Ok(Seq::from_vec(vec![in alloc; cell; count as usize]?))
 }
 
 /// A number of type `int`.
