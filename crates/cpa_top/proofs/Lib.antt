@@ -2,3 +2,5 @@ pub mod Grown
 pub mod CoreBuild
 pub mod CoreVariants
 pub mod CoreSizes
+pub mod Segments
+pub mod CoreNumbering
