@@ -4,3 +4,5 @@ pub mod CoreVariants
 pub mod CoreSizes
 pub mod Segments
 pub mod CoreNumbering
+pub mod CoreSound
+pub mod CoreLemmas
