@@ -3,3 +3,6 @@ pub mod TreeLemmas
 pub mod Nearest
 pub mod Front
 pub mod OneReading
+pub mod SpellingLemmas
+pub mod Steps
+pub mod ProgramLemmas

@@ -3,3 +3,4 @@ pub mod Spelling
 pub mod Tree
 pub mod FirstForm
 pub mod Reading
+pub mod Lexing

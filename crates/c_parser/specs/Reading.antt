@@ -1,5 +1,5 @@
 -- What a list of tokens begins with.
-use Rattle.std.specs.Prelude.{◌≡◌, ℕ, ◌≤◌, true, ◌++◌, List, ◌∷◌, map}
+use Rattle.std.specs.Prelude.{◌≡◌, ◌≢◌, ℕ, ◌≤◌, ◌+◌, true, ◌++◌, List, [], ◌∷◌, map}
 use Rattle.std.specs.List.{AllByRecursion}
 use Rattle.c_parser.specs.declared.token.Token.{Token}
 use Rattle.c_parser.specs.declared.tree.Expression.{Expression}
@@ -33,6 +33,10 @@ pub record Reads (tokens : List Token) (left : ℕ) (statement : Statement) (res
 abbrev pub NoneReads : List Token → ℕ → Type 0
 NoneReads tokens left = (statement : Statement) (rest : List Token) → Reads tokens left statement rest → ⊥
 
+-- they begin with no statement that has no parts, whatever its levels
+abbrev pub NoneSimple : Token → List Token → Type 0
+NoneSimple first tokens = first ≢ Token.LeftBrace → first ≢ Token.If → first ≢ Token.While → (left : ℕ) → NoneReads (first ∷ tokens) left
+
 -- the tokens begin with these statements and a right brace
 pub record ReadsItems (tokens : List Token) (left : ℕ) (items : List Statement) (rest : List Token) : Type 0 where
   pub spelled : tokens ≡ joined (map leaves items) ++ (Token.RightBrace ∷ rest)
@@ -42,3 +46,13 @@ pub record ReadsItems (tokens : List Token) (left : ℕ) (items : List Statement
 -- they begin with no statements of so few levels and a right brace
 abbrev pub NoneReadsItems : List Token → ℕ → Type 0
 NoneReadsItems tokens left = (items : List Statement) (rest : List Token) → ReadsItems tokens left items rest → ⊥
+
+-- these tokens come behind int main ( void ) {
+abbrev pub AfterHead : List Token → List Token → Type 0
+AfterHead tokens rest = tokens ≡ Token.Int ∷ Token.Main ∷ Token.LeftParen ∷ Token.Void ∷ Token.RightParen ∷ Token.LeftBrace ∷ rest
+
+-- the tokens are a program with these items, of at most 200 levels
+pub record ReadsProgram (tokens : List Token) (body : List Statement) : Type 0 where
+  pub spelled : AfterHead tokens (joined (map leaves body) ++ (Token.RightBrace ∷ []))
+  pub nearest : AllByRecursion IsNearest body
+  pub levels : 1 + greatest (map level body) ≤ 200

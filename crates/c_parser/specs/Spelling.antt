@@ -1,5 +1,6 @@
 -- How a text spells a list of tokens.
-use Rattle.std.specs.Prelude.{◌≡◌, ℕ, ◌&&◌, ◌||◌, Bool, true, false, ◌++◌, List, [], ◌∷◌, IsTrue, nat_le, ◌==◌, codes}
+use Rattle.std.specs.Prelude.{◌≡◌, ℕ, ◌&&◌, ◌||◌, Bool, true, false, ◌++◌, List, [], ◌∷◌, IsTrue, ◌==◌, codes}
+use Rattle.std.specs.Char.{is_ascii_alphanumeric}
 use Rattle.std.specs.List.{AllByRecursion}
 use Rattle.c_parser.specs.declared.token.Token.{Token}
 
@@ -29,7 +30,7 @@ is_blank byte = byte == 32 || byte == 9 || byte == 10 || byte == 13
 
 -- a byte that a word is made of: a letter, a digit or the underscore
 abbrev pub is_word_byte : ℕ → Bool
-is_word_byte byte = nat_le 97 byte && nat_le byte 122 || nat_le 65 byte && nat_le byte 90 || nat_le 48 byte && nat_le byte 57 || byte == 95
+is_word_byte byte = is_ascii_alphanumeric byte || byte == 95
 
 -- the text begins with a byte that a word is made of
 abbrev pub begins_word : List ℕ → Bool

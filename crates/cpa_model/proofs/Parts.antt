@@ -1,10 +1,11 @@
 -- The parts of a statement are what control goes on from by `after_part`.
-use Rattle.std.proofs.Common.{◌≡◌, ℕ, zero, suc, List, [], ◌∷◌, Option, Some, None, slice_get, ◌⊎◌, Bool, true, false, cond, eqb, sym, ◌∙◌, ap, inl, inr, refl, ⊎_elim, eqb-true, eq-eqb, ne_eqb}
+use Rattle.std.proofs.Common.{◌≡◌, ℕ, zero, suc, ◌+◌, ◌<◌, length, get_or, drop, add-one, arith, List, [], ◌∷◌, Option, Some, None, slice_get, ◌⊎◌, Bool, true, false, cond, eqb, sym, ◌∙◌, ap, inl, inr, refl, ⊎_elim, eqb-true, eq-eqb, ne_eqb}
 use Rattle.std.specs.List.{Contains}
 use Rattle.std.proofs.lemmas.Option.{none-some, same_Some, slice_get_within, slice_get-get_or, get_or_from_slice_get}
 use Rattle.std.proofs.lemmas.Bool.{cases_eq, cond-true, cond-false}
 use Rattle.cpa_model.specs.declared.program.Stmt.{Stmt}
 use Rattle.cpa_model.specs.declared.program.Stmt.TheVariants as stmt
+use Rattle.cpa_model.specs.Successors.{before_item}
 use Rattle.cpa_model.specs.Programs.{Successor, goes_to, after_whole, after_item, after_part, parts_of}
 
 -- an element of a list stands at a place
@@ -170,3 +171,14 @@ successor_of_part n stmt.Continue c m e = absurd (none-some (goes_to m) e)
 successor_of_part n stmt.Leave c m e = absurd (none-some (goes_to m) e)
 successor_of_part n stmt.Stop c m e = absurd (none-some (goes_to m) e)
 successor_of_part n stmt.Error c m e = absurd (none-some (goes_to m) e)
+
+-- after the first item control goes to what is behind it
+after_item-first : (a : ℕ) (items : List ℕ) (c : ℕ) → a ≡ c → after_item (a ∷ items) c ≡ Some (before_item (slice_get items 0))
+after_item-first a [] c same = cond-true (eqb a c) (Some after_whole) None (eq-eqb a c same)
+after_item-first a (b ∷ items) c same = cond-true (eqb a c) (Some (goes_to b)) (after_item (b ∷ items) c) (eq-eqb a c same)
+
+-- after the item at a place
+pub after_item-at : (items : List ℕ) (i c x : ℕ) → i < length items → get_or items i x ≡ c → after_item (drop i items) c ≡ Some (before_item (slice_get items (i + 1)))
+after_item-at [] i c x inside same = absurd (omega arith)
+after_item-at (a ∷ items) zero c x inside same = after_item-first a items c same
+after_item-at (a ∷ items) (suc i) c x inside same = rw add-one (rw add-one at (after_item-at items i c x (omega arith) same))

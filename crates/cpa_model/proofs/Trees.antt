@@ -1,11 +1,12 @@
 -- Numbered programs: each statement has one origin, a body or one statement before it.
-use Rattle.std.proofs.Common.{◌≡◌, ℕ, zero, suc, ◌+◌, ◌<◌, ◌≤◌, Some, length, slice_get, get_or, ◌⊎◌, true, sym, ◌∙◌, ap, subst, inl, inr, refl, arith, ⊎_elim}
-use Rattle.std.proofs.lemmas.Option.{same_Some, slice_get_within, slice_get-get_or}
-use Rattle.std.proofs.lemmas.Bool.{cases_eq, cases_order}
+use Rattle.std.proofs.Common.{◌≡◌, ℕ, zero, suc, ◌+◌, ◌<◌, ◌≤◌, ◌↔◌, Option, Some, None, IfSome, IsSome, length, slice_get, get_or, ◌⊎◌, true, sym, ◌∙◌, ap, subst, inl, inr, refl, arith, ⊎_elim}
+use Rattle.std.proofs.lemmas.Option.{none-some, same_Some, slice_get_within, slice_get-get_or}
+use Rattle.std.proofs.lemmas.Bool.{false≢true, cases_eq, cases_order}
 use Rattle.cpa_model.specs.declared.program.Stmt.{Stmt}
 use Rattle.cpa_model.specs.declared.program.Stmt.TheVariants as stmt
 use Rattle.cpa_model.specs.declared.program.Program.{Program}
 use Rattle.cpa_model.specs.Programs.{IsStmt, IsBody, IsPart, IsNumbered, Tiles, Successor, goes_to, after_whole, after_part, parts_of, exit_of, point_count, Next, next_body, next_within, next_whole, is_loop, InLoop, loop_nearest, loop_further, InFunction, function_body, function_part}
+use Rattle.cpa_model.specs.Successors.{IsPartAt}
 use Rattle.cpa_model.proofs.Tiling.{Grows, one_value, part_within, parts_apart, part_ends, one_place, Covering, covering, Tiles-grow}
 use Rattle.cpa_model.proofs.Parts.{part_of_place, place_of_part, successor_of_part}
 pub use Rattle.cpa_model.proofs.Parts.{part_of_parts, parts_of_part}
@@ -338,3 +339,37 @@ some_next_within P N (suc k) n less inside =
 
 pub some_next : (P : Program) → IsNumbered P → (n : ℕ) → n < length P.stmts → (m : ℕ) × Next P n m
 some_next P N n inside = some_next_within P N (suc n) n (omega arith) inside
+
+-- a statement with no successor after a part has no such part
+pub no_part : (P : Program) → (b c : ℕ) (s : Stmt) → IsStmt P b s → after_part b s c ≡ None → IsPart P b c → ⊥
+no_part P b c s is none part =
+    let same : s ≡ part.stmt = one_stmt P b s part.stmt is part.is in
+    none-some part.place (sym none ∙ subst (λ (v : Stmt). after_part b v c ≡ Some part.place) (sym same) part.part)
+
+-- control goes on after a body or a part only
+pub next_needs : (P : Program) → (n m : ℕ) → Next P n m → ((f : ℕ) → IsBody P f n → ⊥) → ((b : ℕ) → IsPart P b n → ⊥) → ⊥
+next_needs P n m (next_body f is_f) no_body no_whole = no_body f is_f
+next_needs P n m (next_within b s is e) no_body no_whole = no_whole b (record { stmt = s; is = is; place = goes_to m; part = e })
+next_needs P n m (next_whole b s is e up) no_body no_whole = no_whole b (record { stmt = s; is = is; place = after_whole; part = e })
+
+-- after the last part of a statement control goes where it goes after the statement
+pub next_of_whole : (P : Program) → IsNumbered P → (b n m : ℕ) → IsPartAt P b n after_whole → Next P n m → Next P b m
+next_of_whole P N b n m (s, is, e) (next_body f is_f) =
+    absurd (body_apart P N f b n is_f (record { stmt = s; is = is; place = after_whole; part = e }))
+next_of_whole P N b n m (s, is, e) (next_within c t is_t f) =
+    let same : after_whole ≡ goes_to m = (one_place_after P N b c n s t after_whole (goes_to m) is is_t e f).2 in
+    absurd (cc)
+next_of_whole P N b n m (s, is, e) (next_whole c t is_t f up) =
+    subst (λ (v : ℕ). Next P v m) (sym (one_place_after P N b c n s t after_whole after_whole is is_t e f).0) up
+
+-- what has a successor is a statement
+next_from_inside : (P : Program) → IsNumbered P → (n m : ℕ) → Next P n m → n < length P.stmts
+next_from_inside P N n m (next_body f is_f) = body_inside P N f n is_f
+next_from_inside P N n m (next_within b s is e) = (part_above P N b n (record { stmt = s; is = is; place = goes_to m; part = e })).1
+next_from_inside P N n m (next_whole b s is e up) = (part_above P N b n (record { stmt = s; is = is; place = after_whole; part = e })).1
+
+-- the successor, if it is found exactly where there is one, is found exactly for statements
+pub next_found : (P : Program) → IsNumbered P → (n : ℕ) (r : Option ℕ) → IfSome r (λ m. Next P n m) → ((m : ℕ) → Next P n m → r ≡ Some m) → IsSome r ↔ (n < length P.stmts)
+next_found P N n None goes only =
+    ((λ none. absurd (false≢true none)), (λ inside. let m : (m : ℕ) × Next P n m = some_next P N n inside in absurd (none-some m.0 (only m.0 m.1))))
+next_found P N n (Some m) goes only = ((λ some. next_from_inside P N n m goes), (λ inside. refl))

@@ -1,6 +1,7 @@
 pub mod Integers
 pub mod Expressions
 pub mod Programs
+pub mod Successors
 pub mod States
 pub mod Steps
 pub mod Facts

@@ -77,6 +77,21 @@ pub record Step (P : Program) (s t : State) : Type 0 where
   pub stack : StepsStack act s.stack t.stack
   pub store : StepsStore P.cells act s.store.values t.store.values
 
+-- The three parts of a step alone, without the demand that its ends are states.
+pub record StepsApart (P : Program) (s t : State) : Type 0 where
+  pub act : Act
+  pub point : Moves P s.point act t.point
+  pub stack : StepsStack act s.stack t.stack
+  pub store : StepsStore P.cells act s.store.values t.store.values
+
+-- from a state these parts lead to a state, so that the demand on the new state cuts no execution off
+abbrev pub StepsKeepStates : Program → Type 0
+StepsKeepStates P = (s t : State) → IsState P.cells (point_count P) s → StepsApart P s t → IsState P.cells (point_count P) t
+
+-- an execution begins in a state
+abbrev pub BeginsInState : Program → Type 0
+BeginsInState P = IsState P.cells (point_count P) (initial_of P)
+
 -- neighbours in the list are related, the first one to s
 abbrev pub IsChain : {X : Type 0} → (X → X → Type 0) → X → List X → Type 0
 IsChain R s [] = Unit {0}

@@ -1,5 +1,12 @@
-use crate::expressions::Expr;
+ghost use Rattle.std.specs.Prelude.{◌≡◌, ◌<◌, ◌↔◌, IsTrue};
+ghost use Rattle.std.specs.List.{AllByRecursion};
+ghost use Rattle.cpa_model.specs.Facts.{FactHolds, Holds, IsElem, IsFact, IsValueOf};
+
+use crate::automaton::Cfa;
+use crate::expressions::{self, Expr};
+use crate::program::Cell;
 use crate::seq::Seq;
+use crate::states::State;
 
 /// A fact on the point, the stack or the store of a state.
 #[derive(Debug, Drop)]
@@ -18,4 +25,80 @@ pub enum Fact {
 #[derive(Debug, Drop)]
 pub struct Elem {
     pub facts: Seq<Fact>,
+}
+
+/// Whether the element holds of the state. A fact on a cell that the state lacks does not.
+pub fn holds(elem: &Elem, state: &State) -> bool
+    ensures { IsTrue result ↔ Holds elem.now state.now }
+{
+    for fact in elem.facts.as_slice() {
+        if !fact_holds(fact, state) {
+            return false;
+        }
+    }
+    true
+}
+
+fn fact_holds(fact: &Fact, state: &State) -> bool
+    ensures { IsTrue result ↔ FactHolds state.now fact.now }
+{
+    let values = state.store.values.as_slice();
+    match fact {
+        Fact::At { point } => state.point == *point,
+        Fact::Stack { sites } => state.stack.as_slice() == sites.as_slice(),
+        Fact::Equals { cell, value } => values.get(*cell as usize) == Some(value),
+        Fact::Within { cell, lo, hi } => match values.get(*cell as usize) {
+            Some(value) => *lo <= *value && *value <= *hi,
+            None => false,
+        },
+        Fact::Truth { expr, holds } => expressions::has_truth(expr, *holds, &state.store),
+    }
+}
+
+/// Whether each fact names points and cells that the automaton has, values of the cells' types,
+/// bounds in order and well-typed expressions.
+pub fn is_elem(elem: &Elem, cfa: &Cfa) -> bool
+    ensures { IsTrue result ↔ IsElem cfa.now.cells cfa.now.points elem.now }
+{
+    let cells = cfa.cells.as_slice();
+    for fact in elem.facts.as_slice() {
+        if !is_fact(fact, cells, cfa.points) {
+            return false;
+        }
+    }
+    true
+}
+
+fn is_fact(fact: &Fact, cells: &[Cell], points: u32) -> bool
+    ensures { IsTrue result ↔ IsFact cells.now points fact.now }
+{
+    match fact {
+        Fact::At { point } => *point < points,
+        Fact::Stack { sites } => are_points(sites.as_slice(), points),
+        Fact::Equals { cell, value } => is_value_of(cells, *cell, *value),
+        Fact::Within { cell, lo, hi } => {
+            is_value_of(cells, *cell, *lo) && is_value_of(cells, *cell, *hi) && *lo <= *hi
+        }
+        Fact::Truth { expr, .. } => expressions::is_expr(expr, cells),
+    }
+}
+
+fn are_points(sites: &[u32], points: u32) -> bool
+    ensures { IsTrue result ↔ AllByRecursion (λ site. site < points) sites.now }
+{
+    for site in sites {
+        if *site >= points {
+            return false;
+        }
+    }
+    true
+}
+
+fn is_value_of(cells: &[Cell], cell: u32, value: i128) -> bool
+    ensures { IsTrue result ↔ IsValueOf cells.now cell value }
+{
+    match cells.get(cell as usize) {
+        Some(found) => found.ty.contains(value),
+        None => false,
+    }
 }

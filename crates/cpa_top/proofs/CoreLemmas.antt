@@ -23,6 +23,10 @@ use Rattle.cpa_top.proofs.CoreSound.{HasCells, zero_in_range, sound_main}
 pub core_points : (u : Tree) → point_count (core_of u) ≡ unit_points u
 core_points u = counted_unit u
 
+-- its text is as long as the tree says
+pub core-text_len : (u : Tree) → (core_of u).text_len ≡ u.length
+core-text_len u = refl
+
 -- main's block has number 0
 main_items : (u : Tree) → (main_core u).items ≡ 0 ∷ []
 unfolding block

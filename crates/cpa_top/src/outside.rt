@@ -4,6 +4,14 @@ ghost use Rattle.std.specs.Prelude.{◌≡◌, ◌≢◌, ℕ, ◌<◌, ◌≤�
 ghost use Rattle.cpa_top.specs.Outside.{Rose, grown, GrewByPrefix, IsTooLongOrFailed};
 ghost use Rattle.cpa_top.specs.declared.outside.ReadFault.TheVariants.{OutOfMemory};
 
+mod failing_calls;
+mod memory_inputs;
+mod memory_sink;
+#[cfg(test)]
+mod tests;
+
+pub use memory_inputs::MemoryInputs;
+pub use memory_sink::MemorySink;
 use std::alloc::{AllocError, Global};
 
 /// Why a file was not read.

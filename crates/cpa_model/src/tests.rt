@@ -1,0 +1,213 @@
+ghost use Rattle.std.specs.Prelude.{◌≡◌, ◌≤◌, [], ◌∷◌, IfOk};
+ghost use Rattle.cpa_model.specs.Programs.{IsNumbered, point_count};
+
+use crate::{
+    Cell, Cfa, Elem, Expr, Fact, IntType, Program, Seq, State, Stmt, Store, holds, is_elem, next_point,
+    value,
+};
+use std::alloc::{AllocError, Global};
+use std::test::Fail;
+
+const TEST: Expr = Expr::Const {
+    ty: IntType::I32,
+    value: 1,
+};
+
+/// A loop, an If and their parts in one function, and a second function.
+fn statements(alloc: Global) -> Result<Seq<Stmt>, AllocError>
+    ensures { IfOk result (λ stmts. stmts ≡
+        Stmt.Block (1 ∷ 4 ∷ []) ∷ Stmt.Loop 2 3 ∷ Stmt.Break ∷ Stmt.Leave
+        ∷ Stmt.If TEST 5 6 ∷ Stmt.Stop ∷ Stmt.Leave ∷ Stmt.Error ∷ []) }
+{
+    let items = Seq::from_vec(vec![in alloc; 1, 4]?);
+    let stmts = vec![in alloc;
+        Stmt::Block { items },
+        Stmt::Loop { body: 2, step: 3 },
+        Stmt::Break,
+        Stmt::Leave,
+        Stmt::If { test: TEST, yes: 5, no: 6 },
+        Stmt::Stop,
+        Stmt::Leave,
+        Stmt::Error,
+    ]?;
+    Ok(Seq::from_vec(stmts))
+}
+
+fn two_functions(alloc: Global) -> Result<Program, AllocError>
+    ensures numbered { IfOk result (λ P. IsNumbered P) }
+    ensures few { IfOk result (λ P. point_count P ≤ 65536) }
+{
+    Ok(Program {
+        cells: Seq::new(alloc),
+        bodies: Seq::from_vec(vec![in alloc; 0, 7]?),
+        main: 0,
+        stmts: statements(alloc)?,
+        text_len: 0,
+    })
+}
+
+#[test]
+fn finds_where_control_goes(rt: HostRuntime) -> Result<(), Fail> {
+    let program = two_functions(rt.alloc())?;
+    let successors = [
+        (0, Some(8)),
+        (1, Some(4)),
+        (2, Some(3)),
+        (3, Some(1)),
+        (4, Some(8)),
+        (5, Some(8)),
+        (6, Some(8)),
+        (7, Some(9)),
+        (8, None),
+        (9, None),
+    ];
+    for (number, point) in successors {
+        assert_eq!(rt; next_point(&program, number), point, "after {number}");
+    }
+    Ok(())
+}
+
+#[test]
+fn gives_the_ends_of_types(rt: HostRuntime) {
+    let types = [
+        (IntType::Bool, 1, false, 0, 1),
+        (IntType::I8, 8, true, -128, 127),
+        (IntType::U8, 8, false, 0, 255),
+        (IntType::I16, 16, true, -32768, 32767),
+        (IntType::U16, 16, false, 0, 65535),
+        (IntType::I32, 32, true, -2147483648, 2147483647),
+        (IntType::U32, 32, false, 0, 4294967295),
+        (IntType::I64, 64, true, -9223372036854775808, 9223372036854775807),
+        (IntType::U64, 64, false, 0, 18446744073709551615),
+    ];
+    for (ty, width, signed, least, greatest) in types {
+        assert_eq!(rt; ty.width(), width, "bits of {ty:?}");
+        assert_eq!(rt; ty.is_signed(), signed, "sign of {ty:?}");
+        assert_eq!(rt; ty.least(), least, "least of {ty:?}");
+        assert_eq!(rt; ty.greatest(), greatest, "greatest of {ty:?}");
+        assert!(rt; ty.contains(least) && ty.contains(greatest), "ends of {ty:?}");
+        assert!(rt; !ty.contains(least - 1) && !ty.contains(greatest + 1), "beyond {ty:?}");
+    }
+}
+
+const FIRST: Expr = Expr::Read {
+    ty: IntType::I8,
+    base: 0,
+};
+
+const OTHER: Expr = Expr::Read {
+    ty: IntType::U8,
+    base: 0,
+};
+
+const WIDE: Expr = Expr::Const {
+    ty: IntType::U8,
+    value: 256,
+};
+
+const ZERO: Expr = Expr::Const {
+    ty: IntType::U8,
+    value: 0,
+};
+
+fn sites(alloc: Global, items: &[u32]) -> Result<Fact, AllocError> {
+    Ok(Fact::Stack {
+        sites: Seq::from_vec(items.to_vec(alloc)?),
+    })
+}
+
+fn elem(alloc: Global, fact: Fact) -> Result<Elem, AllocError> {
+    Ok(Elem {
+        facts: Seq::from_vec(vec![in alloc; fact]?),
+    })
+}
+
+fn state(alloc: Global) -> Result<State, AllocError> {
+    Ok(State {
+        point: 3,
+        stack: Seq::from_vec(vec![in alloc; 1, 2]?),
+        store: Store {
+            values: Seq::from_vec(vec![in alloc; 5, -7]?),
+        },
+    })
+}
+
+#[test]
+fn tells_facts_of_a_state(rt: HostRuntime) -> Result<(), Fail> {
+    let alloc = rt.alloc();
+    let state = state(alloc)?;
+    for (point, wanted) in [(3, true), (4, false)] {
+        assert_eq!(rt; holds(&elem(alloc, Fact::At { point })?, &state), wanted, "at {point}");
+    }
+    for (cell, value, wanted) in [(0, 5, true), (1, 7, false), (2, 0, false)] {
+        let fact = Fact::Equals { cell, value };
+        assert_eq!(rt; holds(&elem(alloc, fact)?, &state), wanted, "{cell} is {value}");
+    }
+    for (lo, hi, wanted) in [(-7, -7, true), (-6, 0, false), (-9, -8, false)] {
+        let fact = Fact::Within { cell: 1, lo, hi };
+        assert_eq!(rt; holds(&elem(alloc, fact)?, &state), wanted, "from {lo} to {hi}");
+    }
+    for (expr, truth, wanted) in [(FIRST, true, true), (FIRST, false, false), (ZERO, false, true)] {
+        let fact = Fact::Truth { expr, holds: truth };
+        assert_eq!(rt; holds(&elem(alloc, fact)?, &state), wanted, "{expr:?} {truth}");
+    }
+    assert_eq!(rt; value(&FIRST, &state.store), Some(5));
+    Ok(())
+}
+
+#[test]
+fn tells_the_whole_stack(rt: HostRuntime) -> Result<(), Fail> {
+    let alloc = rt.alloc();
+    let state = state(alloc)?;
+    assert!(rt; holds(&elem(alloc, sites(alloc, &[1, 2])?)?, &state));
+    assert!(rt; !holds(&elem(alloc, sites(alloc, &[2])?)?, &state));
+    let mut both = elem(alloc, Fact::At { point: 3 })?;
+    both.facts.push(sites(alloc, &[2, 1])?)?;
+    assert!(rt; !holds(&both, &state));
+    Ok(())
+}
+
+fn one_cell(alloc: Global) -> Result<Cfa, AllocError> {
+    let ty = IntType::I8;
+    Ok(Cfa {
+        cells: Seq::from_vec(vec![in alloc; Cell { ty, start: 0 }]?),
+        points: 4,
+        start: 0,
+        errors: Seq::new(alloc),
+        edges: Seq::new(alloc),
+        text_len: 0,
+    })
+}
+
+#[test]
+fn tells_shaped_elements(rt: HostRuntime) -> Result<(), Fail> {
+    let alloc = rt.alloc();
+    let cfa = one_cell(alloc)?;
+    for (point, wanted) in [(3, true), (4, false)] {
+        assert_eq!(rt; is_elem(&elem(alloc, Fact::At { point })?, &cfa), wanted, "at {point}");
+        assert_eq!(rt; is_elem(&elem(alloc, sites(alloc, &[0, point])?)?, &cfa), wanted, "{point}");
+    }
+    for (cell, value, wanted) in [(0, -128, true), (0, 128, false), (1, 0, false)] {
+        let fact = Fact::Equals { cell, value };
+        assert_eq!(rt; is_elem(&elem(alloc, fact)?, &cfa), wanted, "{cell} is {value}");
+    }
+    for (lo, hi, wanted) in [(-1, 127, true), (1, 0, false), (0, 128, false)] {
+        let fact = Fact::Within { cell: 0, lo, hi };
+        assert_eq!(rt; is_elem(&elem(alloc, fact)?, &cfa), wanted, "from {lo} to {hi}");
+    }
+    for (expr, wanted) in [(FIRST, true), (ZERO, true), (WIDE, false), (OTHER, false)] {
+        let fact = Fact::Truth { expr, holds: true };
+        assert_eq!(rt; is_elem(&elem(alloc, fact)?, &cfa), wanted, "{expr:?}");
+    }
+    Ok(())
+}
+
+#[test]
+fn keeps_items_in_order(rt: HostRuntime) -> Result<(), Fail> {
+    let mut items = Seq::new(rt.alloc());
+    items.push(4_u32)?;
+    items.push(2)?;
+    assert_eq!(rt; items.as_slice(), [4, 2].as_slice());
+    assert_eq!(rt; items.into_vec().as_slice(), [4, 2].as_slice());
+    Ok(())
+}

@@ -1,0 +1,19 @@
+-- The reached set of a report.
+use Rattle.std.specs.Prelude.{◌≡◌, ℕ, ◌+◌, List, [], ◌∷◌, length}
+use Rattle.cpa_model.specs.declared.facts.Elem.{Elem}
+use Rattle.cpa_model.specs.declared.automaton.Cfa.{Cfa}
+use Rattle.cpa_top.specs.declared.report.Listed.{Listed}
+use Rattle.cpa_top.specs.declared.report.Report.{Report}
+
+-- the elements as entries of one element each, numbered from first on
+abbrev pub listed_from : ℕ → List Elem → List Listed
+listed_from first [] = []
+listed_from first (e ∷ es) = (record { number = first; elems = e ∷ [] }) ∷ listed_from (first + 1) es
+
+-- the counts are the automaton's, and the entries are these elements
+pub record IsReportOf (cfa : Cfa) (elems : List Elem) (r : Report) : Type 0 where
+  pub text : r.text ≡ cfa.text_len
+  pub points : r.points ≡ cfa.points
+  pub cells : r.cells ≡ length cfa.cells
+  pub edges : r.edges ≡ length cfa.edges
+  pub entries : r.entries ≡ listed_from 0 elems
