@@ -1,4 +1,10 @@
 pub mod Added
+pub mod CoreBuild
+pub mod CoreLemmas
+pub mod CoreNumbering
+pub mod CoreSizes
+pub mod CoreSound
+pub mod CoreVariants
 pub mod Edges
 pub mod Errors
 pub mod Exits
@@ -15,6 +21,7 @@ pub mod Listings
 pub mod Places
 pub mod PointPlaces
 pub mod Samples
+pub mod Segments
 pub mod Statements
 pub mod Tables
 pub mod Ties

@@ -1,4 +1,6 @@
 pub mod Answered
+pub mod Core
+pub mod CoreSteps
 pub mod Covers
 pub mod Edges
 pub mod Explored
