@@ -9,7 +9,7 @@ use Rattle.c_parser.specs.declared.tree.Expression.{Expression}
 use Rattle.c_parser.specs.declared.tree.Statement.{Statement}
 use Rattle.c_parser.specs.declared.tree.Statement.TheVariants.{Block, Empty, If, While, ReachError, Abort, Return}
 use Rattle.c_parser.specs.Tree.{joined, greatest, test_leaves, leaves, level, ends_open, IsNearest}
-use Rattle.c_parser.specs.Reading.{NoneAfter, ReadsTest, NoTest, IsClosed, Reads, NoneReads, NoneSimple, ReadsItems, NoneReadsItems}
+use Rattle.c_parser.specs.Reading.{NoneAfter, EndsCall, EndsReturn, ReadsTest, NoTest, IsClosed, Reads, NoneReads, NoneSimple, ReadsItems, NoneReadsItems}
 use Rattle.c_parser.proofs.Cases.{shown_of_all, Shown}
 use Rattle.c_parser.proofs.TreeLemmas.{level-Block, level-Empty, level-If, level-If_else, level-While, level-ReachError, level-Abort, level-Return, ends_open-Block, ends_open-Empty, ends_open-If, ends_open-If_else, ends_open-While, ends_open-ReachError, ends_open-Abort, ends_open-Return}
 use Rattle.c_parser.proofs.Nearest.{near_first, near_items, near_branch, near_branches, near_body, near_Block, near_Empty, near_If, near_If_else, near_While, near_ReachError, near_Abort, near_Return}
@@ -28,26 +28,22 @@ shut s rest e is_open after f = let bad : false ≡ true = sym e ∙ is_open in 
 pub reads_Empty : (rest : List Token) → Reads (Token.Semicolon ∷ rest) 1 Empty rest
 reads_Empty rest = record { spelled = sym (front-Empty rest); nearest = near_Empty; levels = rw level-Empty (omega arith); closed = shut Empty rest ends_open-Empty }
 
--- what a call ends with
-abbrev CallEnd : List Token → List Token → Type 0
-CallEnd tokens rest = tokens ≡ Token.LeftParen ∷ Token.RightParen ∷ Token.Semicolon ∷ rest
-
-pub reads_ReachError : (tokens rest : List Token) → CallEnd tokens rest → Reads (Token.ReachError ∷ tokens) 1 ReachError rest
+pub reads_ReachError : (tokens rest : List Token) → EndsCall tokens rest → Reads (Token.ReachError ∷ tokens) 1 ReachError rest
 reads_ReachError tokens rest e = record { spelled = ap (λ z. Token.ReachError ∷ z) e ∙ sym (front-ReachError rest); nearest = near_ReachError; levels = rw level-ReachError (omega arith); closed = shut ReachError rest ends_open-ReachError }
 
-pub reads_Abort : (tokens rest : List Token) → CallEnd tokens rest → Reads (Token.Abort ∷ tokens) 1 Abort rest
+pub reads_Abort : (tokens rest : List Token) → EndsCall tokens rest → Reads (Token.Abort ∷ tokens) 1 Abort rest
 reads_Abort tokens rest e = record { spelled = ap (λ z. Token.Abort ∷ z) e ∙ sym (front-Abort rest); nearest = near_Abort; levels = rw level-Abort (omega arith); closed = shut Abort rest ends_open-Abort }
 
-pub reads_Return : (tokens rest : List Token) → tokens ≡ Token.Zero ∷ Token.Semicolon ∷ rest → Reads (Token.Return ∷ tokens) 1 Return rest
+pub reads_Return : (tokens rest : List Token) → EndsReturn tokens rest → Reads (Token.Return ∷ tokens) 1 Return rest
 reads_Return tokens rest e = record { spelled = ap (λ z. Token.Return ∷ z) e ∙ sym (front-Return rest); nearest = near_Return; levels = rw level-Return (omega arith); closed = shut Return rest ends_open-Return }
 
-pub none_ReachError : (tokens : List Token) → ((rest : List Token) → CallEnd tokens rest → ⊥) → NoneSimple Token.ReachError tokens
+pub none_ReachError : (tokens : List Token) → ((rest : List Token) → EndsCall tokens rest → ⊥) → NoneSimple Token.ReachError tokens
 none_ReachError tokens none p q r left s rest read = none rest (front_of s Token.ReachError tokens rest read.spelled).1
 
-pub none_Abort : (tokens : List Token) → ((rest : List Token) → CallEnd tokens rest → ⊥) → NoneSimple Token.Abort tokens
+pub none_Abort : (tokens : List Token) → ((rest : List Token) → EndsCall tokens rest → ⊥) → NoneSimple Token.Abort tokens
 none_Abort tokens none p q r left s rest read = none rest (front_of s Token.Abort tokens rest read.spelled).1
 
-pub none_Return : (tokens : List Token) → ((rest : List Token) → tokens ≡ Token.Zero ∷ Token.Semicolon ∷ rest → ⊥) → NoneSimple Token.Return tokens
+pub none_Return : (tokens : List Token) → ((rest : List Token) → EndsReturn tokens rest → ⊥) → NoneSimple Token.Return tokens
 none_Return tokens none p q r left s rest read = none rest (front_of s Token.Return tokens rest read.spelled).1
 
 -- a statement with no parts may be read with any levels

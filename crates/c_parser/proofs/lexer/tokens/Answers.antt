@@ -12,7 +12,7 @@ pub loop-rest-preserved : goal.loop-rest-preserved
 loop-rest-preserved c =
     let some : 0 < length c.loop-rest.rest.now = search rules in
     cut_moved _ _ _ _ _ c.after_blanks-rest-in-loop-rest.ensures c.in_ok-push.ensures.items
-      (next_cut _ _ _ _ c.in-Some.token some c.loop-rest.invariant c.in-Some.ensures)
+    (next_cut _ _ _ _ c.in-Some.token some c.loop-rest.invariant c.in-Some.ensures)
 
 pub returns-clause-ok : goal.returns-clause-ok
 returns-clause-ok c = last_cut _ _ _ (search rules) c.loop-rest.invariant

@@ -22,4 +22,4 @@ pub returns-then-saturating_add-gt-MAX_POINTS-clause-unbuilt : goal.returns-then
 returns-then-saturating_add-gt-MAX_POINTS-clause-unbuilt c e unit first =
     let spelled : Spells c.args.text.now c.deref.result.now = subst (Spells c.args.text.now) (sym c.deref.ensures.value) c.in_ok-tokens.ensures.ok in
     too_many _ _ c.in_ok-body.body unit c.point_sum.result spelled c.in_ok-body.ensures.ok first
-      (c.point_sum.ensures ∙ ap (λ z. min (sum (map point_count z)) 4294967295) c.as_slice.ensures) (omega arith)
+    (c.point_sum.ensures ∙ ap (λ z. min (sum (map point_count z)) 4294967295) c.as_slice.ensures) (omega arith)
