@@ -1,11 +1,11 @@
 -- No statement begins another: from one place on at most one can be read.
-use Rattle.std.proofs.Common.{◌≡◌, Bool, true, false, ◌++◌, List, [], ◌∷◌, Option, None, Some, map, ap, sym, ◌∙◌, append_assoc, refl, subst}
+use Rattle.std.proofs.Common.{◌≡◌, ◌++◌, List, [], ◌∷◌, Option, None, Some, map, ap, sym, ◌∙◌, append_assoc, refl, subst}
 use Rattle.std.specs.List.{AllByRecursion}
 use Rattle.c_parser.specs.declared.token.Token.{Token}
 use Rattle.c_parser.specs.declared.tree.Expression.{Expression}
 use Rattle.c_parser.specs.declared.tree.Statement.{Statement}
 use Rattle.c_parser.specs.declared.tree.Statement.TheVariants.{Block, Empty, If, While, ReachError, Abort, Return}
-use Rattle.c_parser.specs.Tree.{joined, test_leaves, leaves, ends_open, IsNearest}
+use Rattle.c_parser.specs.Tree.{joined, test_leaves, leaves, IsNearest}
 use Rattle.c_parser.specs.Reading.{NoneAfter, IsClosed}
 use Rattle.c_parser.proofs.Cases.{shown_of_all, Shown}
 use Rattle.c_parser.proofs.TreeLemmas.{ends_open-If, ends_open-If_else, ends_open-While}

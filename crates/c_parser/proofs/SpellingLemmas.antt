@@ -1,7 +1,7 @@
 -- How a text falls into tokens: one way at most.
-use Rattle.std.proofs.Common.{◌≡◌, ℕ, ◌+◌, ◌<◌, ◌≤◌, max, Bool, true, false, cond, ◌++◌, List, [], ◌∷◌, length, take, drop, Option, None, Some, IsTrue, ap, sym, ◌∙◌, refl, subst, append_assoc, arith, ◌⊎◌, inl, inr, nat_eq, add-one, add_comm, lit<, length-append, length-drop}
+use Rattle.std.proofs.Common.{◌≡◌, ℕ, ◌<◌, Bool, true, false, ◌++◌, List, [], ◌∷◌, length, drop, Option, Some, IsTrue, ap, sym, ◌∙◌, refl, subst, append_assoc, arith, ◌⊎◌, inl, inr, nat_eq, add-one, add_comm, lit<, length-append, length-drop}
 use Rattle.std.specs.Cmp.Lexicographic.{pointwise}
-use Rattle.std.specs.List.{AllByRecursion, prefix_len, list_all, find}
+use Rattle.std.specs.List.{prefix_len, list_all, find}
 use Rattle.std.proofs.lemmas.Bool.{cases_Bool}
 use Rattle.std.proofs.lemmas.List.{append-nil}
 use Rattle.c_parser.specs.declared.token.Token.{Token}

@@ -1,6 +1,5 @@
 -- What a reader of statements may conclude at each step, from what it has read of the parts.
-use Rattle.std.proofs.Common.{◌≡◌, ◌≢◌, ℕ, ◌+◌, ◌<◌, ◌≤◌, max, Bool, true, false, ◌++◌, List, [], ◌∷◌, inl, inr, length, length-append, Option, None, Some, Result, Ok, Err, MatchOption, IfOk, IfErr, map, ap, sym, ◌∙◌, append_assoc, refl, subst, arith}
-use Rattle.std.specs.List.{AllByRecursion}
+use Rattle.std.proofs.Common.{◌≡◌, ◌≢◌, ℕ, ◌+◌, ◌<◌, ◌≤◌, true, false, ◌++◌, List, [], ◌∷◌, inl, inr, length, length-append, Option, None, Some, Result, MatchOption, IfOk, IfErr, map, ap, sym, ◌∙◌, append_assoc, refl, subst, arith}
 use Rattle.std.specs.Option.{ok_or}
 use Rattle.std.proofs.lemmas.Bool.{cases_Bool}
 use Rattle.std.proofs.lemmas.List.{append-nil}
@@ -8,11 +7,11 @@ use Rattle.c_parser.specs.declared.token.Token.{Token}
 use Rattle.c_parser.specs.declared.tree.Expression.{Expression}
 use Rattle.c_parser.specs.declared.tree.Statement.{Statement}
 use Rattle.c_parser.specs.declared.tree.Statement.TheVariants.{Block, Empty, If, While, ReachError, Abort, Return}
-use Rattle.c_parser.specs.Tree.{joined, greatest, test_leaves, leaves, level, ends_open, IsNearest}
+use Rattle.c_parser.specs.Tree.{joined, test_leaves, leaves, level, ends_open, IsNearest}
 use Rattle.c_parser.specs.Reading.{NoneAfter, EndsCall, EndsReturn, ReadsTest, NoTest, IsClosed, Reads, NoneReads, NoneSimple, ReadsItems, NoneReadsItems}
 use Rattle.c_parser.proofs.Cases.{shown_of_all, Shown}
 use Rattle.c_parser.proofs.TreeLemmas.{level-Block, level-Empty, level-If, level-If_else, level-While, level-ReachError, level-Abort, level-Return, ends_open-Block, ends_open-Empty, ends_open-If, ends_open-If_else, ends_open-While, ends_open-ReachError, ends_open-Abort, ends_open-Return}
-use Rattle.c_parser.proofs.Nearest.{near_first, near_items, near_branch, near_branches, near_body, near_Block, near_Empty, near_If, near_If_else, near_While, near_ReachError, near_Abort, near_Return}
+use Rattle.c_parser.proofs.Nearest.{near_items, near_branches, near_body, near_Block, near_Empty, near_If, near_If_else, near_While, near_ReachError, near_Abort, near_Return}
 use Rattle.c_parser.proofs.Front.{else_front, front_of, front-Block, front-Empty, front-If, front-While, front-ReachError, front-Abort, front-Return}
 use Rattle.c_parser.proofs.OneReading.{same_condition, closed_branch, closed_other, closed_body, near_if_branch, no_brace_first, no_else_in_items, items_leaves, items_leaves-cons, one_statement}
 

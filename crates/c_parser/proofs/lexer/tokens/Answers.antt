@@ -1,5 +1,5 @@
-use Rattle.std.proofs.Common.{◌≡◌, ◌<◌, ℕ, length, rules, arith, sym, ◌∙◌}
-use Rattle.c_parser.proofs.SpellingLemmas.{first_cut, next_cut, cut_moved, last_cut, no_cut, shorter_after}
+use Rattle.std.proofs.Common.{◌<◌, length, rules}
+use Rattle.c_parser.proofs.SpellingLemmas.{first_cut, next_cut, cut_moved, last_cut, no_cut}
 use Rattle.c_parser.proofs.lexer.tokens.Goals as goal
 
 pub loop-rest-init : goal.loop-rest-init

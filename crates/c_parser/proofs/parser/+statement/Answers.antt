@@ -1,9 +1,8 @@
-use Rattle.std.proofs.Common.{◌≡◌, ◌≢◌, ◌∷◌, [], ◌++◌, ◌+◌, ◌<◌, ◌≤◌, length, rules, arith, sym, ◌∙◌}
+use Rattle.std.proofs.Common.{◌≡◌, ◌<◌, length, arith, sym, ◌∙◌}
 use Rattle.std.proofs.lemmas.Result.{err_from_is_err_and}
 use Rattle.c_parser.specs.declared.error.FirstError.{FirstError}
-use Rattle.c_parser.specs.declared.token.Token.{Token}
 use Rattle.c_parser.specs.Reading.{Reads, NoneReads}
-use Rattle.c_parser.proofs.Steps.{reads_Block, none_block, reads_While, none_while, none_while_test, reads_If, reads_If_else, none_if, none_if_test, none_else, read_first, read_last, read_next, read_none, shorter, more_levels, ok_or_gives}
+use Rattle.c_parser.proofs.Steps.{reads_Block, none_block, reads_While, none_while, reads_If, reads_If_else, none_if, none_else, read_last, read_next, read_none, shorter, more_levels, ok_or_gives}
 use Rattle.c_parser.proofs.parser.+statement.Goals as goal
 
 pub block-returns-in_err-items-clause-unbuilt : goal.block-returns-in_err-items-clause-unbuilt

@@ -1,8 +1,7 @@
-use Rattle.std.proofs.Common.{◌≡◌, ◌∙◌, sym, subst, ap, min, map, sum, arith}
+use Rattle.std.proofs.Common.{◌∙◌, sym, subst, ap, min, map, sum, arith}
 use Rattle.std.proofs.lemmas.Result.{err_from_is_err_and}
 use Rattle.c_parser.specs.Spelling.{Spells}
 use Rattle.c_parser.specs.Tree.{point_count}
-use Rattle.c_parser.specs.Reading.{ReadsProgram}
 use Rattle.c_parser.specs.FirstForm.{unit_leaves}
 use Rattle.c_parser.proofs.ProgramLemmas.{as_program, too_many, same_error}
 use Rattle.c_parser.proofs.program.first_form.Goals as goal
