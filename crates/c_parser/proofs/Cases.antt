@@ -1,5 +1,5 @@
 -- Cases and induction on statements, variant by variant.
-use Rattle.std.proofs.Common.{◌≡◌, List, [], ◌∷◌, Option, None, Some, map, subst, sym, refl}
+use Rattle.std.proofs.Common.{◌≡◌, List, [], ◌∷◌, None, Some, map, subst, sym}
 use Rattle.std.specs.List.{AllByRecursion}
 use Rattle.c_parser.specs.declared.tree.Expression.{Expression}
 use Rattle.c_parser.specs.declared.tree.Statement.{Statement, roll-Statement}

@@ -1,8 +1,8 @@
 -- What `IsNearest` says of a statement and of its parts.
-use Rattle.std.proofs.Common.{◌≡◌, Bool, true, false, List, [], ◌∷◌, Option, None, Some, map, subst, sym, refl, ap, ◌∙◌}
+use Rattle.std.proofs.Common.{◌≡◌, false, List, [], ◌∷◌, None, Some, map, subst, refl, ap, ◌∙◌}
 use Rattle.std.specs.List.{AllByRecursion}
 use Rattle.c_parser.specs.declared.tree.Expression.{Expression}
-use Rattle.c_parser.specs.declared.tree.Statement.{Statement, roll-Statement, out-Statement}
+use Rattle.c_parser.specs.declared.tree.Statement.{Statement}
 use Rattle.c_parser.specs.declared.tree.Statement.TheOpen.{Statement-F}
 use Rattle.c_parser.specs.declared.tree.Statement.TheFolds.{map-Statement, every_here-Statement, every_held-Statement, every_made-Statement}
 use Rattle.c_parser.specs.declared.tree.Statement.TheVariants.{Block, Empty, If, While, ReachError, Abort, Return, rolls-Block, rolls-Empty, rolls-If, rolls-While, rolls-ReachError, rolls-Abort, rolls-Return, outs-Block, outs-If, outs-While}

@@ -1,11 +1,11 @@
 -- No statement begins another: from one place on at most one can be read.
-use Rattle.std.proofs.Common.{◌≡◌, Bool, true, false, ◌++◌, List, [], ◌∷◌, Option, None, Some, map, ap, sym, ◌∙◌, append_assoc, refl, subst}
+use Rattle.std.proofs.Common.{◌≡◌, ◌++◌, List, [], ◌∷◌, Option, None, Some, map, ap, sym, ◌∙◌, append_assoc, refl, subst}
 use Rattle.std.specs.List.{AllByRecursion}
 use Rattle.c_parser.specs.declared.token.Token.{Token}
 use Rattle.c_parser.specs.declared.tree.Expression.{Expression}
 use Rattle.c_parser.specs.declared.tree.Statement.{Statement}
 use Rattle.c_parser.specs.declared.tree.Statement.TheVariants.{Block, Empty, If, While, ReachError, Abort, Return}
-use Rattle.c_parser.specs.Tree.{joined, test_leaves, leaves, ends_open, IsNearest}
+use Rattle.c_parser.specs.Tree.{joined, test_leaves, leaves, IsNearest}
 use Rattle.c_parser.specs.Reading.{NoneAfter, IsClosed}
 use Rattle.c_parser.proofs.Cases.{shown_of_all, Shown}
 use Rattle.c_parser.proofs.TreeLemmas.{ends_open-If, ends_open-If_else, ends_open-While}
@@ -81,7 +81,7 @@ only_items [] parts (u ∷ us) r q e near near2 = absurd (no_brace_first u (item
 only_items (s ∷ ss) parts [] r q e near near2 = absurd (no_brace_first s (items_leaves ss r) q (sym (items_leaves-cons s ss r) ∙ e))
 only_items (s ∷ ss) parts (u ∷ us) r q e near near2 =
     let here = parts.0 u (items_leaves ss r) (items_leaves us q) (sym (items_leaves-cons s ss r) ∙ e ∙ items_leaves-cons u us q) near.0 near2.0
-        (λ is_open. no_else_in_items ss r) (λ is_open. no_else_in_items us q) in
+    (λ is_open. no_else_in_items ss r) (λ is_open. no_else_in_items us q) in
     let rest = only_items ss parts.1 us r q here.1 near.1 near2.1 in
     let head : s ≡ u = here.0 in
     let tail : ss ≡ us = rest.0 in
@@ -118,7 +118,7 @@ only_while test body part u r q e near near2 closed closed2 =
     let is = front.2 in
     let condition = same_condition test front.0 _ _ front.3 in
     let inner = part front.1 r q condition.1 (near_body test body near) (near_body front.0 front.1 (subst IsNearest is near2))
-        (closed_body test body r closed) (closed_body front.0 front.1 q (subst (λ w. IsClosed w q) is closed2)) in
+    (closed_body test body r closed) (closed_body front.0 front.1 q (subst (λ w. IsClosed w q) is closed2)) in
     let one : test ≡ front.0 = condition.0 in
     let two : body ≡ front.1 = inner.0 in
     let same : While test body ≡ While front.0 front.1 = cc in
@@ -149,7 +149,7 @@ only_if test branch other part near_part part2 u r q e near near2 closed closed2
     let closed3 : IsClosed (If front.0 front.1 front.2) q = subst (λ w. IsClosed w q) is closed2 in
     let condition = same_condition test front.0 _ _ front.4 in
     let first = part front.1 (else_front other r) (else_front front.2 q) condition.1 (near_part near) (near_if_branch front.0 front.1 front.2 near3)
-        (closed_branch test branch other r near closed) (closed_branch front.0 front.1 front.2 q near3 closed3) in
+    (closed_branch test branch other r near closed) (closed_branch front.0 front.1 front.2 q near3 closed3) in
     let second = part2 r near front.0 front.1 front.2 q first.1 near3 closed closed3 in
     let one : test ≡ front.0 = condition.0 in
     let two : branch ≡ front.1 = first.0 in

@@ -1,5 +1,5 @@
 -- A program is read in one way at most.
-use Rattle.std.proofs.Common.{◌≡◌, ℕ, ◌+◌, ◌<◌, ◌≤◌, min, ◌++◌, List, [], ◌∷◌, length, map, sum, Result, Err, ap, sym, ◌∙◌, subst, arith}
+use Rattle.std.proofs.Common.{◌≡◌, ℕ, ◌+◌, ◌<◌, min, List, [], map, sum, Result, Err, ap, sym, ◌∙◌, arith}
 use Rattle.c_parser.specs.declared.token.Token.{Token}
 use Rattle.c_parser.specs.declared.tree.Statement.{Statement}
 use Rattle.c_parser.specs.declared.tree.Unit.{Unit as Program}

@@ -1,7 +1,7 @@
 -- How a text falls into tokens: one way at most.
-use Rattle.std.proofs.Common.{◌≡◌, ℕ, ◌+◌, ◌<◌, ◌≤◌, max, Bool, true, false, cond, ◌++◌, List, [], ◌∷◌, length, take, drop, Option, None, Some, IsTrue, ap, sym, ◌∙◌, refl, subst, append_assoc, arith, ◌⊎◌, inl, inr, nat_eq, add-one, add_comm, lit<, length-append, length-drop}
+use Rattle.std.proofs.Common.{◌≡◌, ℕ, ◌<◌, Bool, true, false, ◌++◌, List, [], ◌∷◌, length, drop, Option, Some, IsTrue, ap, sym, ◌∙◌, refl, subst, append_assoc, arith, ◌⊎◌, inl, inr, nat_eq, add-one, add_comm, lit<, length-append, length-drop}
 use Rattle.std.specs.Cmp.Lexicographic.{pointwise}
-use Rattle.std.specs.List.{AllByRecursion, prefix_len, list_all, find}
+use Rattle.std.specs.List.{prefix_len, list_all, find}
 use Rattle.std.proofs.lemmas.Bool.{cases_Bool}
 use Rattle.std.proofs.lemmas.List.{append-nil}
 use Rattle.c_parser.specs.declared.token.Token.{Token}
@@ -102,9 +102,9 @@ same_token t u e =
 run_passes : (p : ℕ → Bool) (word rest : List ℕ) → list_all p word ≡ true → prefix_len p rest ≡ 0 → prefix_len p (word ++ rest) ≡ length word
 run_passes p [] rest all stop = stop
 run_passes p (byte ∷ word) rest all stop = elim (cases_Bool (p byte)) [
-    inl h ↦ (let more : list_all p word ≡ true = rw h at all in let ih = run_passes p word rest more stop in rw h (omega (arith, ih)))
+  | inl h ↦ (let more : list_all p word ≡ true = rw h at all in let ih = run_passes p word rest more stop in rw h (omega (arith, ih)))
   | inr h ↦ (let bad : false ≡ true = rw h at all in cc)
-  ]
+]
 
 no_run : (rest : List ℕ) → begins_word rest ≡ false → prefix_len is_word_byte rest ≡ 0
 no_run [] stop = refl
@@ -113,9 +113,9 @@ no_run (byte ∷ rest) stop = rw stop
 -- the longest run at the front of a token and what follows it is the token
 run_is : (token : Token) (rest : List ℕ) → IsWholeBefore (spelling token) rest → run_length_of (spelling token ++ rest) ≡ length (spelling token)
 run_is token rest whole = elim (word_or_mark token) [
-    inl w ↦ (let run = run_passes is_word_byte (spelling token) rest w.all (no_run rest (whole (w.begins))) in omega (arith, run, w.some))
+  | inl w ↦ (let run = run_passes is_word_byte (spelling token) rest w.all (no_run rest (whole (w.begins))) in omega (arith, run, w.some))
   | inr m ↦ (rw m.is (rw m.mark))
-  ]
+]
 
 -- two equal lists whose fronts have one length have one front and one rest
 same_parts : (a b r q : List ℕ) → length a ≡ length b → a ++ r ≡ b ++ q → (a ≡ b) × (r ≡ q)
@@ -175,23 +175,23 @@ after_stop p byte bytes h = rw h
 pub more_unblanked : (bytes : List ℕ) (tokens : List Token) → Spells (unblanked bytes) tokens → Spells bytes tokens
 more_unblanked [] tokens spelled = spelled
 more_unblanked (byte ∷ bytes) tokens spelled = elim (cases_Bool (is_blank byte)) [
-    inl h ↦ more_blank byte bytes tokens h (more_unblanked bytes tokens (subst (λ z. Spells z tokens) (after_pass is_blank byte bytes h) spelled))
+  | inl h ↦ more_blank byte bytes tokens h (more_unblanked bytes tokens (subst (λ z. Spells z tokens) (after_pass is_blank byte bytes h) spelled))
   | inr h ↦ subst (λ z. Spells z tokens) (after_stop is_blank byte bytes h) spelled
-  ]
+]
 
 pub fewer_unblanked : (bytes : List ℕ) (tokens : List Token) → Spells bytes tokens → Spells (unblanked bytes) tokens
 fewer_unblanked [] tokens spelled = spelled
 fewer_unblanked (byte ∷ bytes) tokens spelled = elim (cases_Bool (is_blank byte)) [
-    inl h ↦ subst (λ z. Spells z tokens) (sym (after_pass is_blank byte bytes h)) (fewer_unblanked bytes tokens (fewer_blank byte bytes tokens h spelled))
+  | inl h ↦ subst (λ z. Spells z tokens) (sym (after_pass is_blank byte bytes h)) (fewer_unblanked bytes tokens (fewer_blank byte bytes tokens h spelled))
   | inr h ↦ subst (λ z. Spells z tokens) (sym (after_stop is_blank byte bytes h)) spelled
-  ]
+]
 
 pub unblanked_front : (bytes : List ℕ) → begins_blank (unblanked bytes) ≡ false
 unblanked_front [] = refl
 unblanked_front (byte ∷ bytes) = elim (cases_Bool (is_blank byte)) [
-    inl h ↦ ap begins_blank (after_pass is_blank byte bytes h) ∙ unblanked_front bytes
+  | inl h ↦ ap begins_blank (after_pass is_blank byte bytes h) ∙ unblanked_front bytes
   | inr h ↦ ap begins_blank (after_stop is_blank byte bytes h) ∙ h
-  ]
+]
 
 -- one more token at the front
 
@@ -281,11 +281,11 @@ first_cut text rest found e empty = let P : List ℕ → Type 0 = λ z. IsCut te
 
 pub next_cut : (text rest after : List ℕ) (found : List Token) (token : Token) → 0 < length rest → IsCut text rest found → Begins rest token after → IsCut text (unblanked after) (found ++ token ∷ [])
 next_cut text rest after found token some cut begins = record {
-    plain = unblanked_front after;
-    spelled = λ tokens spelled. subst (Spells text) (sym (append_assoc found (token ∷ []) tokens))
-        (cut.spelled (token ∷ tokens) (more_tokens rest after token tokens begins (more_unblanked after tokens spelled)));
-    none = λ none. cut.none (none_more rest token after some cut.plain begins none);
-  }
+  plain = unblanked_front after;
+  spelled = λ tokens spelled. subst (Spells text) (sym (append_assoc found (token ∷ []) tokens))
+      (cut.spelled (token ∷ tokens) (more_tokens rest after token tokens begins (more_unblanked after tokens spelled)));
+  none = λ none. cut.none (none_more rest token after some cut.plain begins none);
+}
 
 pub cut_moved : (text rest rest2 : List ℕ) (found found2 : List Token) → rest2 ≡ rest → found2 ≡ found → IsCut text rest found → IsCut text rest2 found2
 cut_moved text rest rest2 found found2 e e2 cut = let P : List ℕ → Type 0 = λ z. IsCut text z found2 in

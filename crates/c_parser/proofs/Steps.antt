@@ -1,6 +1,5 @@
 -- What a reader of statements may conclude at each step, from what it has read of the parts.
-use Rattle.std.proofs.Common.{◌≡◌, ◌≢◌, ℕ, ◌+◌, ◌<◌, ◌≤◌, max, Bool, true, false, ◌++◌, List, [], ◌∷◌, inl, inr, length, length-append, Option, None, Some, Result, Ok, Err, MatchOption, IfOk, IfErr, map, ap, sym, ◌∙◌, append_assoc, refl, subst, arith}
-use Rattle.std.specs.List.{AllByRecursion}
+use Rattle.std.proofs.Common.{◌≡◌, ◌≢◌, ℕ, ◌+◌, ◌<◌, ◌≤◌, true, false, ◌++◌, List, [], ◌∷◌, inl, inr, length, length-append, Option, None, Some, Result, MatchOption, IfOk, IfErr, map, ap, sym, ◌∙◌, append_assoc, refl, subst, arith}
 use Rattle.std.specs.Option.{ok_or}
 use Rattle.std.proofs.lemmas.Bool.{cases_Bool}
 use Rattle.std.proofs.lemmas.List.{append-nil}
@@ -8,11 +7,11 @@ use Rattle.c_parser.specs.declared.token.Token.{Token}
 use Rattle.c_parser.specs.declared.tree.Expression.{Expression}
 use Rattle.c_parser.specs.declared.tree.Statement.{Statement}
 use Rattle.c_parser.specs.declared.tree.Statement.TheVariants.{Block, Empty, If, While, ReachError, Abort, Return}
-use Rattle.c_parser.specs.Tree.{joined, greatest, test_leaves, leaves, level, ends_open, IsNearest}
-use Rattle.c_parser.specs.Reading.{NoneAfter, ReadsTest, NoTest, IsClosed, Reads, NoneReads, NoneSimple, ReadsItems, NoneReadsItems}
+use Rattle.c_parser.specs.Tree.{joined, test_leaves, leaves, level, ends_open, IsNearest}
+use Rattle.c_parser.specs.Reading.{NoneAfter, EndsCall, EndsReturn, ReadsTest, NoTest, IsClosed, Reads, NoneReads, NoneSimple, ReadsItems, NoneReadsItems}
 use Rattle.c_parser.proofs.Cases.{shown_of_all, Shown}
 use Rattle.c_parser.proofs.TreeLemmas.{level-Block, level-Empty, level-If, level-If_else, level-While, level-ReachError, level-Abort, level-Return, ends_open-Block, ends_open-Empty, ends_open-If, ends_open-If_else, ends_open-While, ends_open-ReachError, ends_open-Abort, ends_open-Return}
-use Rattle.c_parser.proofs.Nearest.{near_first, near_items, near_branch, near_branches, near_body, near_Block, near_Empty, near_If, near_If_else, near_While, near_ReachError, near_Abort, near_Return}
+use Rattle.c_parser.proofs.Nearest.{near_items, near_branches, near_body, near_Block, near_Empty, near_If, near_If_else, near_While, near_ReachError, near_Abort, near_Return}
 use Rattle.c_parser.proofs.Front.{else_front, front_of, front-Block, front-Empty, front-If, front-While, front-ReachError, front-Abort, front-Return}
 use Rattle.c_parser.proofs.OneReading.{same_condition, closed_branch, closed_other, closed_body, near_if_branch, no_brace_first, no_else_in_items, items_leaves, items_leaves-cons, one_statement}
 
@@ -28,26 +27,22 @@ shut s rest e is_open after f = let bad : false ≡ true = sym e ∙ is_open in 
 pub reads_Empty : (rest : List Token) → Reads (Token.Semicolon ∷ rest) 1 Empty rest
 reads_Empty rest = record { spelled = sym (front-Empty rest); nearest = near_Empty; levels = rw level-Empty (omega arith); closed = shut Empty rest ends_open-Empty }
 
--- what a call ends with
-abbrev CallEnd : List Token → List Token → Type 0
-CallEnd tokens rest = tokens ≡ Token.LeftParen ∷ Token.RightParen ∷ Token.Semicolon ∷ rest
-
-pub reads_ReachError : (tokens rest : List Token) → CallEnd tokens rest → Reads (Token.ReachError ∷ tokens) 1 ReachError rest
+pub reads_ReachError : (tokens rest : List Token) → EndsCall tokens rest → Reads (Token.ReachError ∷ tokens) 1 ReachError rest
 reads_ReachError tokens rest e = record { spelled = ap (λ z. Token.ReachError ∷ z) e ∙ sym (front-ReachError rest); nearest = near_ReachError; levels = rw level-ReachError (omega arith); closed = shut ReachError rest ends_open-ReachError }
 
-pub reads_Abort : (tokens rest : List Token) → CallEnd tokens rest → Reads (Token.Abort ∷ tokens) 1 Abort rest
+pub reads_Abort : (tokens rest : List Token) → EndsCall tokens rest → Reads (Token.Abort ∷ tokens) 1 Abort rest
 reads_Abort tokens rest e = record { spelled = ap (λ z. Token.Abort ∷ z) e ∙ sym (front-Abort rest); nearest = near_Abort; levels = rw level-Abort (omega arith); closed = shut Abort rest ends_open-Abort }
 
-pub reads_Return : (tokens rest : List Token) → tokens ≡ Token.Zero ∷ Token.Semicolon ∷ rest → Reads (Token.Return ∷ tokens) 1 Return rest
+pub reads_Return : (tokens rest : List Token) → EndsReturn tokens rest → Reads (Token.Return ∷ tokens) 1 Return rest
 reads_Return tokens rest e = record { spelled = ap (λ z. Token.Return ∷ z) e ∙ sym (front-Return rest); nearest = near_Return; levels = rw level-Return (omega arith); closed = shut Return rest ends_open-Return }
 
-pub none_ReachError : (tokens : List Token) → ((rest : List Token) → CallEnd tokens rest → ⊥) → NoneSimple Token.ReachError tokens
+pub none_ReachError : (tokens : List Token) → ((rest : List Token) → EndsCall tokens rest → ⊥) → NoneSimple Token.ReachError tokens
 none_ReachError tokens none p q r left s rest read = none rest (front_of s Token.ReachError tokens rest read.spelled).1
 
-pub none_Abort : (tokens : List Token) → ((rest : List Token) → CallEnd tokens rest → ⊥) → NoneSimple Token.Abort tokens
+pub none_Abort : (tokens : List Token) → ((rest : List Token) → EndsCall tokens rest → ⊥) → NoneSimple Token.Abort tokens
 none_Abort tokens none p q r left s rest read = none rest (front_of s Token.Abort tokens rest read.spelled).1
 
-pub none_Return : (tokens : List Token) → ((rest : List Token) → tokens ≡ Token.Zero ∷ Token.Semicolon ∷ rest → ⊥) → NoneSimple Token.Return tokens
+pub none_Return : (tokens : List Token) → ((rest : List Token) → EndsReturn tokens rest → ⊥) → NoneSimple Token.Return tokens
 none_Return tokens none p q r left s rest read = none rest (front_of s Token.Return tokens rest read.spelled).1
 
 -- a statement with no parts may be read with any levels

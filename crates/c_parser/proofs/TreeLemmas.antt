@@ -1,10 +1,10 @@
 -- The equations of what is said of statements, variant by variant.
-use Rattle.std.proofs.Common.{◌≡◌, ℕ, ◌+◌, max, Bool, true, false, ◌++◌, List, [], ◌∷◌, sum, Option, None, Some, map, ap, sym, ◌∙◌}
+use Rattle.std.proofs.Common.{◌≡◌, ℕ, ◌+◌, max, Bool, true, false, ◌++◌, List, [], ◌∷◌, sum, None, Some, map, ap, sym, ◌∙◌}
 use Rattle.c_parser.specs.declared.token.Token.{Token}
 use Rattle.c_parser.specs.declared.tree.Expression.{Expression}
 use Rattle.c_parser.specs.declared.tree.Statement.{Statement}
 use Rattle.c_parser.specs.declared.tree.Statement.TheOpen.{Statement-F}
-use Rattle.c_parser.specs.declared.tree.Statement.TheFolds.{fold-Statement, fold-roll-Statement}
+use Rattle.c_parser.specs.declared.tree.Statement.TheFolds.{fold-roll-Statement}
 use Rattle.c_parser.specs.declared.tree.Statement.TheVariants.{Block, Empty, If, While, ReachError, Abort, Return, rolls-Block, rolls-Empty, rolls-If, rolls-While, rolls-ReachError, rolls-Abort, rolls-Return}
 use Rattle.c_parser.specs.Tree.{joined, greatest, test_leaves, leaves, leaves_step, level, level_step, ends_open, ends_open_step, point_count, point_step, test_points}
 

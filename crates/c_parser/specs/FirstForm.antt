@@ -8,7 +8,9 @@ use Rattle.c_parser.specs.Tree.{joined, greatest, leaves, level, IsNearest, poin
 
 -- the tokens of a program: int main ( void ) block
 abbrev pub unit_leaves : Program → List Token
-unit_leaves unit = Token.Int ∷ Token.Main ∷ Token.LeftParen ∷ Token.Void ∷ Token.RightParen ∷ Token.LeftBrace ∷ (joined (map leaves unit.body) ++ Token.RightBrace ∷ [])
+unit_leaves unit =
+    Token.Int ∷ Token.Main ∷ Token.LeftParen ∷ Token.Void ∷ Token.RightParen ∷
+    Token.LeftBrace ∷ (joined (map leaves unit.body) ++ Token.RightBrace ∷ [])
 
 -- the levels of main's block, which itself stands at level 1
 abbrev pub unit_level : Program → ℕ

@@ -10,6 +10,14 @@ use Rattle.c_parser.specs.Tree.{joined, greatest, test_leaves, leaves, level, en
 abbrev pub NoneAfter : Token → List Token → Type 0
 NoneAfter token tokens = (rest : List Token) → tokens ≡ token ∷ rest → ⊥
 
+-- the tokens are what a call goes on by behind its name, and the rest
+abbrev pub EndsCall : List Token → List Token → Type 0
+EndsCall tokens rest = tokens ≡ Token.LeftParen ∷ Token.RightParen ∷ Token.Semicolon ∷ rest
+
+-- the tokens are what a return goes on by, and the rest
+abbrev pub EndsReturn : List Token → List Token → Type 0
+EndsReturn tokens rest = tokens ≡ Token.Zero ∷ Token.Semicolon ∷ rest
+
 -- the tokens begin with this test in brackets
 abbrev pub ReadsTest : List Token → Expression → List Token → Type 0
 ReadsTest tokens test rest = tokens ≡ Token.LeftParen ∷ (test_leaves test ++ Token.RightParen ∷ rest)
@@ -35,7 +43,8 @@ NoneReads tokens left = (statement : Statement) (rest : List Token) → Reads to
 
 -- they begin with no statement that has no parts, whatever its levels
 abbrev pub NoneSimple : Token → List Token → Type 0
-NoneSimple first tokens = first ≢ Token.LeftBrace → first ≢ Token.If → first ≢ Token.While → (left : ℕ) → NoneReads (first ∷ tokens) left
+NoneSimple first tokens = first ≢ Token.LeftBrace → first ≢ Token.If → first ≢ Token.While →
+    (left : ℕ) → NoneReads (first ∷ tokens) left
 
 -- the tokens begin with these statements and a right brace
 pub record ReadsItems (tokens : List Token) (left : ℕ) (items : List Statement) (rest : List Token) : Type 0 where
@@ -49,7 +58,8 @@ NoneReadsItems tokens left = (items : List Statement) (rest : List Token) → Re
 
 -- these tokens come behind int main ( void ) {
 abbrev pub AfterHead : List Token → List Token → Type 0
-AfterHead tokens rest = tokens ≡ Token.Int ∷ Token.Main ∷ Token.LeftParen ∷ Token.Void ∷ Token.RightParen ∷ Token.LeftBrace ∷ rest
+AfterHead tokens rest = tokens ≡
+    Token.Int ∷ Token.Main ∷ Token.LeftParen ∷ Token.Void ∷ Token.RightParen ∷ Token.LeftBrace ∷ rest
 
 -- the tokens are a program with these items, of at most 200 levels
 pub record ReadsProgram (tokens : List Token) (body : List Statement) : Type 0 where

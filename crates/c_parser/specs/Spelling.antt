@@ -1,5 +1,5 @@
 -- How a text spells a list of tokens.
-use Rattle.std.specs.Prelude.{◌≡◌, ℕ, ◌&&◌, ◌||◌, Bool, true, false, ◌++◌, List, [], ◌∷◌, IsTrue, ◌==◌, codes}
+use Rattle.std.specs.Prelude.{◌≡◌, ℕ, ◌||◌, Bool, false, ◌++◌, List, [], ◌∷◌, IsTrue, ◌==◌, codes}
 use Rattle.std.specs.Char.{is_ascii_alphanumeric}
 use Rattle.std.specs.List.{AllByRecursion}
 use Rattle.c_parser.specs.declared.token.Token.{Token}
@@ -37,7 +37,7 @@ abbrev pub begins_word : List ℕ → Bool
 begins_word [] = false
 begins_word (byte ∷ rest) = is_word_byte byte
 
--- what follows these bytes does not go on with their word (C11 6.4p4)
+-- where these bytes are a word, what follows does not go on with it (C11 6.4p4)
 abbrev pub IsWholeBefore : List ℕ → List ℕ → Type 0
 IsWholeBefore bytes rest = IsTrue (begins_word bytes) → begins_word rest ≡ false
 
@@ -48,4 +48,6 @@ AllBlank = AllByRecursion (λ byte. IsTrue (is_blank byte))
 -- the text falls into blanks and these tokens, each word as long as it can be
 abbrev pub Spells : List ℕ → List Token → Type 0
 Spells bytes [] = AllBlank bytes
-Spells bytes (token ∷ tokens) = (gap : List ℕ) × (rest : List ℕ) × AllBlank gap × (bytes ≡ gap ++ (spelling token ++ rest)) × IsWholeBefore (spelling token) rest × Spells rest tokens
+Spells bytes (token ∷ tokens) = (gap : List ℕ) × (rest : List ℕ) ×
+    AllBlank gap × (bytes ≡ gap ++ (spelling token ++ rest)) ×
+    IsWholeBefore (spelling token) rest × Spells rest tokens

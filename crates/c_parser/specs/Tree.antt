@@ -31,9 +31,12 @@ else_leaves (Some branch) = Token.Else ∷ branch
 abbrev pub leaves_step : Statement-F (List Token) → List Token
 leaves_step (Statement-F.Block items) = Token.LeftBrace ∷ (joined items ++ Token.RightBrace ∷ [])
 leaves_step Statement-F.Empty = Token.Semicolon ∷ []
-leaves_step (Statement-F.If test branch other) = Token.If ∷ Token.LeftParen ∷ (test_leaves test ++ Token.RightParen ∷ (branch ++ else_leaves other))
-leaves_step (Statement-F.While test body) = Token.While ∷ Token.LeftParen ∷ (test_leaves test ++ Token.RightParen ∷ body)
-leaves_step Statement-F.ReachError = Token.ReachError ∷ Token.LeftParen ∷ Token.RightParen ∷ Token.Semicolon ∷ []
+leaves_step (Statement-F.If test branch other) =
+    Token.If ∷ Token.LeftParen ∷ (test_leaves test ++ Token.RightParen ∷ (branch ++ else_leaves other))
+leaves_step (Statement-F.While test body) =
+    Token.While ∷ Token.LeftParen ∷ (test_leaves test ++ Token.RightParen ∷ body)
+leaves_step Statement-F.ReachError =
+    Token.ReachError ∷ Token.LeftParen ∷ Token.RightParen ∷ Token.Semicolon ∷ []
 leaves_step Statement-F.Abort = Token.Abort ∷ Token.LeftParen ∷ Token.RightParen ∷ Token.Semicolon ∷ []
 leaves_step Statement-F.Return = Token.Return ∷ Token.Zero ∷ Token.Semicolon ∷ []
 

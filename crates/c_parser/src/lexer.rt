@@ -82,7 +82,8 @@ fn first_token(text: &[u8]) -> Option<(Token, &[u8])>
 
 /// The token that these bytes spell.
 fn token_of(run: &[u8]) -> Option<Token>
-    ensures { MatchOption result ((token : Token) → run.now ≡ spelling token → ⊥) (λ token. run.now ≡ spelling token) }
+    ensures { MatchOption result ((token : Token) → run.now ≡ spelling token → ⊥)
+        (λ token. run.now ≡ spelling token) }
 {
     match run {
         b"int" => Some(Token::Int),

@@ -17,3 +17,6 @@ pub use items::Items;
 pub use program::{MAX_LEVEL, MAX_POINTS, first_form, one_tree};
 pub use token::Token;
 pub use tree::{Expression, Statement, Unit};
+
+#[cfg(test)]
+mod tests;

@@ -1,6 +1,6 @@
 ghost use Rattle.std.specs.Prelude.{◌≡◌, List, ◌∷◌, ◌++◌, ◌+◌, ◌*◌, ◌<◌, ◌≤◌, length, MatchOption, IfOk, IfErr};
 ghost use Rattle.c_parser.specs.Tree.{test_leaves};
-ghost use Rattle.c_parser.specs.Reading.{NoneAfter, ReadsTest, NoTest, Reads, NoneReads, NoneSimple, ReadsItems, NoneReadsItems};
+ghost use Rattle.c_parser.specs.Reading.{NoneAfter, EndsCall, EndsReturn, ReadsTest, NoTest, Reads, NoneReads, NoneSimple, ReadsItems, NoneReadsItems};
 
 use crate::boxed::Boxed;
 use crate::error::FirstError;
@@ -10,7 +10,7 @@ use crate::tree::{Expression, Statement};
 use std::alloc::Global;
 
 /// The tokens after this one, which is to come first.
-pub fn after(tokens: &[Token], token: Token) -> Option<&[Token]>
+fn after(tokens: &[Token], token: Token) -> Option<&[Token]>
     ensures { MatchOption result (NoneAfter token tokens.now) (λ rest. tokens.now ≡ token ∷ rest.now) }
 {
     match tokens {
@@ -21,8 +21,7 @@ pub fn after(tokens: &[Token], token: Token) -> Option<&[Token]>
 
 /// The tokens after `( ) ;`, which is to come first.
 fn after_call(tokens: &[Token]) -> Option<&[Token]>
-    ensures { MatchOption result ((rest : List Token) → tokens.now ≡ Token.LeftParen ∷ Token.RightParen ∷ Token.Semicolon ∷ rest → ⊥)
-        (λ rest. tokens.now ≡ Token.LeftParen ∷ Token.RightParen ∷ Token.Semicolon ∷ rest.now) }
+    ensures { MatchOption result ((rest : List Token) → EndsCall tokens.now rest → ⊥) (λ rest. EndsCall tokens.now rest.now) }
 {
     let tokens = after(tokens, Token::LeftParen)?;
     let tokens = after(tokens, Token::RightParen)?;
@@ -31,8 +30,7 @@ fn after_call(tokens: &[Token]) -> Option<&[Token]>
 
 /// The tokens after `0 ;`, which is to come first.
 fn after_zero(tokens: &[Token]) -> Option<&[Token]>
-    ensures { MatchOption result ((rest : List Token) → tokens.now ≡ Token.Zero ∷ Token.Semicolon ∷ rest → ⊥)
-        (λ rest. tokens.now ≡ Token.Zero ∷ Token.Semicolon ∷ rest.now) }
+    ensures { MatchOption result ((rest : List Token) → EndsReturn tokens.now rest → ⊥) (λ rest. EndsReturn tokens.now rest.now) }
 {
     let tokens = after(tokens, Token::Zero)?;
     after(tokens, Token::Semicolon)
@@ -40,13 +38,19 @@ fn after_zero(tokens: &[Token]) -> Option<&[Token]>
 
 /// A test, and the tokens after it.
 fn expression(tokens: &[Token]) -> Option<(Expression, &[Token])>
-    ensures { MatchOption result ((test : Expression) (rest : List Token) → tokens.now ≡ test_leaves test ++ rest → ⊥)
+    ensures { MatchOption result
+        ((test : Expression) (rest : List Token) → tokens.now ≡ test_leaves test ++ rest → ⊥)
         (λ read. tokens.now ≡ test_leaves read.0 ++ read.1.now) }
 {
     match tokens {
         [Token::Zero, rest @ ..] => Some((Expression::Zero, rest)),
         [Token::One, rest @ ..] => Some((Expression::One, rest)),
-        [Token::NondetInt, Token::LeftParen, Token::RightParen, rest @ ..] => Some((Expression::NondetInt, rest)),
+        [
+            Token::NondetInt,
+            Token::LeftParen,
+            Token::RightParen,
+            rest @ ..,
+        ] => Some((Expression::NondetInt, rest)),
         _ => None,
     }
 }
@@ -63,7 +67,8 @@ fn condition(tokens: &[Token]) -> Option<(Expression, &[Token])>
 
 /// A statement with no parts that begins with the token `first`, and the tokens after it.
 fn simple(first: Token, tokens: &[Token]) -> Option<(Statement, &[Token])>
-    ensures { MatchOption result (NoneSimple first tokens.now) (λ read. Reads (first ∷ tokens.now) 1 read.0 read.1.now) }
+    ensures { MatchOption result (NoneSimple first tokens.now)
+        (λ read. Reads (first ∷ tokens.now) 1 read.0 read.1.now) }
 {
     match first {
         Token::Semicolon => Some((Statement::Empty, tokens)),
@@ -76,7 +81,7 @@ fn simple(first: Token, tokens: &[Token]) -> Option<(Statement, &[Token])>
 
 /// A statement of at most `left` levels, and the tokens after it.
 #[cycle(statement)]
-pub fn statement(
+fn statement(
     alloc: Global,
     tokens: &[Token],
     left: u32,
@@ -122,13 +127,10 @@ pub fn items(
 
 /// What follows the left brace of a block.
 #[cycle(statement)]
-fn block(
-    alloc: Global,
-    tokens: &[Token],
-    left: u32,
-) -> Result<(Statement, &[Token]), FirstError>
+fn block(alloc: Global, tokens: &[Token], left: u32) -> Result<(Statement, &[Token]), FirstError>
     ensures ok { IfOk result (λ read. Reads (Token.LeftBrace ∷ tokens.now) (left + 1) read.0 read.1.now) }
-    ensures unbuilt { IfErr result (λ error. error ≡ FirstError.Unbuilt → NoneReads (Token.LeftBrace ∷ tokens.now) (left + 1)) }
+    ensures unbuilt { IfErr result (λ error. error ≡ FirstError.Unbuilt →
+        NoneReads (Token.LeftBrace ∷ tokens.now) (left + 1)) }
 {
     let (items, rest) = items(alloc, tokens, left)?;
     Ok((Statement::Block { items }, rest))
@@ -142,7 +144,8 @@ fn conditional(
     left: u32,
 ) -> Result<(Statement, &[Token]), FirstError>
     ensures ok { IfOk result (λ read. Reads (Token.If ∷ tokens.now) (left + 1) read.0 read.1.now) }
-    ensures unbuilt { IfErr result (λ error. error ≡ FirstError.Unbuilt → NoneReads (Token.If ∷ tokens.now) (left + 1)) }
+    ensures unbuilt { IfErr result (λ error. error ≡ FirstError.Unbuilt →
+        NoneReads (Token.If ∷ tokens.now) (left + 1)) }
 {
     let Some((test, inner)) = condition(tokens) else {
         return Err(FirstError::Unbuilt);
@@ -150,7 +153,14 @@ fn conditional(
     let (first, rest) = statement(alloc, inner, left)?;
     let yes = Boxed::new(alloc, first)?;
     match after(rest, Token::Else) {
-        None => Ok((Statement::If { test, yes, no: None }, rest)),
+        None => Ok((
+            Statement::If {
+                test,
+                yes,
+                no: None,
+            },
+            rest,
+        )),
         Some(other) => {
             let (second, last) = statement(alloc, other, left)?;
             let no = Some(Boxed::new(alloc, second)?);
@@ -167,7 +177,8 @@ fn repetition(
     left: u32,
 ) -> Result<(Statement, &[Token]), FirstError>
     ensures ok { IfOk result (λ read. Reads (Token.While ∷ tokens.now) (left + 1) read.0 read.1.now) }
-    ensures unbuilt { IfErr result (λ error. error ≡ FirstError.Unbuilt → NoneReads (Token.While ∷ tokens.now) (left + 1)) }
+    ensures unbuilt { IfErr result (λ error. error ≡ FirstError.Unbuilt →
+        NoneReads (Token.While ∷ tokens.now) (left + 1)) }
 {
     let Some((test, inner)) = condition(tokens) else {
         return Err(FirstError::Unbuilt);

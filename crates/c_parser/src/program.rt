@@ -20,7 +20,8 @@ pub const MAX_POINTS: u32 = 65_536;
 /// The tree of a text of the first form.
 pub fn first_form(alloc: Global, text: &[u8]) -> Result<Unit, FirstError>
     ensures ok { IfOk result (λ unit. IsFirstForm text.now unit) }
-    ensures unbuilt { IsErrOf result FirstError.Unbuilt → (unit : Unit) → IsFirstForm text.now unit → ⊥ }
+    ensures unbuilt { IsErrOf result FirstError.Unbuilt →
+        (unit : Unit) → IsFirstForm text.now unit → ⊥ }
 {
     let tokens = tokens(alloc, text)?;
     let body = program(alloc, &tokens)?;
@@ -36,13 +37,13 @@ pub fn first_form(alloc: Global, text: &[u8]) -> Result<Unit, FirstError>
 /// A text has at most one tree.
 pub fn one_tree()
     ensures { (bytes : List ℕ) (u v : Unit) → IsFirstForm bytes u → IsFirstForm bytes v → u ≡ v }
-{
-}
+{}
 
 /// The items of main's block, where these tokens are a program.
 fn program(alloc: Global, tokens: &[Token]) -> Result<Items<Statement>, FirstError>
     ensures ok { IfOk result (λ body. ReadsProgram tokens.now body) }
-    ensures unbuilt { IfErr result (λ error. error ≡ FirstError.Unbuilt → (body : List Statement) → ReadsProgram tokens.now body → ⊥) }
+    ensures unbuilt { IfErr result (λ error. error ≡ FirstError.Unbuilt →
+        (body : List Statement) → ReadsProgram tokens.now body → ⊥) }
 {
     let Some(inner) = after_head(tokens) else {
         return Err(FirstError::Unbuilt);
@@ -56,10 +57,19 @@ fn program(alloc: Global, tokens: &[Token]) -> Result<Items<Statement>, FirstErr
 
 /// The tokens after `int main ( void ) {`, which is to come first.
 fn after_head(tokens: &[Token]) -> Option<&[Token]>
-    ensures { MatchOption result ((rest : List Token) → AfterHead tokens.now rest → ⊥) (λ rest. AfterHead tokens.now rest.now) }
+    ensures { MatchOption result ((rest : List Token) → AfterHead tokens.now rest → ⊥)
+        (λ rest. AfterHead tokens.now rest.now) }
 {
     match tokens {
-        [Token::Int, Token::Main, Token::LeftParen, Token::Void, Token::RightParen, Token::LeftBrace, rest @ ..] => Some(rest),
+        [
+            Token::Int,
+            Token::Main,
+            Token::LeftParen,
+            Token::Void,
+            Token::RightParen,
+            Token::LeftBrace,
+            rest @ ..,
+        ] => Some(rest),
         _ => None,
     }
 }

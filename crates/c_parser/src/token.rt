@@ -1,4 +1,6 @@
-/// A terminal of the grammar.
+/// A terminal of the grammar: the words first, and then the marks.
+///
+/// `specs/Spelling.antt` says by which bytes each is spelled.
 #[derive(Clone, Copy, Debug, PartialEq, Eq)]
 pub enum Token {
     Int,

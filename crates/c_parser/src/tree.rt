@@ -1,36 +1,52 @@
 use crate::boxed::Boxed;
 use crate::items::Items;
 
-/// A test.
+/// The test of an `if` or a `while`.
 #[derive(Clone, Copy, Debug, PartialEq, Eq)]
 pub enum Expression {
+    /// `0`, which is false.
     Zero,
+    /// `1`, which is true.
     One,
+    /// `__VERIFIER_nondet_int()`, which reads an input.
     NondetInt,
 }
 
+/// A statement, with one variant for each form of the grammar.
+///
+/// `specs/Tree.antt` says by which tokens each is spelled.
 #[derive(Debug, Drop)]
 pub enum Statement {
+    /// The statements between two braces.
     Block {
         items: Items<Statement>,
     },
+    /// A semicolon alone.
     Empty,
+    /// `if (test) yes else no`, or `if (test) yes` where `no` is `None`.
     If {
         test: Expression,
         yes: Boxed<Statement>,
         no: Option<Boxed<Statement>>,
     },
+    /// `while (test) body`.
     While {
         test: Expression,
         body: Boxed<Statement>,
     },
+    /// `reach_error();`
     ReachError,
+    /// `abort();`
     Abort,
+    /// `return 0;`
     Return,
 }
 
+/// A program: `int main(void)` and its block.
 #[derive(Debug, Drop)]
 pub struct Unit {
+    /// The statements of main's block.
     pub body: Items<Statement>,
+    /// The length of the text in bytes.
     pub length: usize,
 }

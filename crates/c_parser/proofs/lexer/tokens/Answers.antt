@@ -1,5 +1,5 @@
-use Rattle.std.proofs.Common.{◌≡◌, ◌<◌, ℕ, length, rules, arith, sym, ◌∙◌}
-use Rattle.c_parser.proofs.SpellingLemmas.{first_cut, next_cut, cut_moved, last_cut, no_cut, shorter_after}
+use Rattle.std.proofs.Common.{◌<◌, length, rules}
+use Rattle.c_parser.proofs.SpellingLemmas.{first_cut, next_cut, cut_moved, last_cut, no_cut}
 use Rattle.c_parser.proofs.lexer.tokens.Goals as goal
 
 pub loop-rest-init : goal.loop-rest-init
@@ -12,7 +12,7 @@ pub loop-rest-preserved : goal.loop-rest-preserved
 loop-rest-preserved c =
     let some : 0 < length c.loop-rest.rest.now = search rules in
     cut_moved _ _ _ _ _ c.after_blanks-rest-in-loop-rest.ensures c.in_ok-push.ensures.items
-      (next_cut _ _ _ _ c.in-Some.token some c.loop-rest.invariant c.in-Some.ensures)
+    (next_cut _ _ _ _ c.in-Some.token some c.loop-rest.invariant c.in-Some.ensures)
 
 pub returns-clause-ok : goal.returns-clause-ok
 returns-clause-ok c = last_cut _ _ _ (search rules) c.loop-rest.invariant

@@ -1,9 +1,8 @@
-use Rattle.std.proofs.Common.{◌≡◌, ◌≢◌, ◌∷◌, [], ◌++◌, ◌+◌, ◌<◌, ◌≤◌, length, rules, arith, sym, ◌∙◌}
+use Rattle.std.proofs.Common.{◌≡◌, ◌<◌, length, arith, sym, ◌∙◌}
 use Rattle.std.proofs.lemmas.Result.{err_from_is_err_and}
 use Rattle.c_parser.specs.declared.error.FirstError.{FirstError}
-use Rattle.c_parser.specs.declared.token.Token.{Token}
 use Rattle.c_parser.specs.Reading.{Reads, NoneReads}
-use Rattle.c_parser.proofs.Steps.{reads_Block, none_block, reads_While, none_while, none_while_test, reads_If, reads_If_else, none_if, none_if_test, none_else, read_first, read_last, read_next, read_none, shorter, more_levels, ok_or_gives}
+use Rattle.c_parser.proofs.Steps.{reads_Block, none_block, reads_While, none_while, reads_If, reads_If_else, none_if, none_else, read_last, read_next, read_none, shorter, more_levels, ok_or_gives}
 use Rattle.c_parser.proofs.parser.+statement.Goals as goal
 
 pub block-returns-in_err-items-clause-unbuilt : goal.block-returns-in_err-items-clause-unbuilt
@@ -21,7 +20,7 @@ pub conditional-returns-in_err-second-in-Some-after-clause-unbuilt : goal.condit
 conditional-returns-in_err-second-in-Some-after-clause-unbuilt t c =
     let p = err_from_is_err_and c.from_residual-in_err-second-in-Some-after.result c.from_residual-in_err-second-in-Some-after.ensures.1 in
     rw p.1 (λ e. none_else _ _ c.in-Some.test _ c.in_ok-first.first _ _ c.in-Some.ensures c.in_ok-first.ensures.ok c.in-Some-after.ensures
-      (c.in_err-second-in-Some-after.ensures.unbuilt (sym p.2 ∙ e)))
+    (c.in_err-second-in-Some-after.ensures.unbuilt (sym p.2 ∙ e)))
 
 pub conditional-returns-in-None-clause-ok : goal.conditional-returns-in-None-clause-ok
 conditional-returns-in-None-clause-ok t c = rw c.in_ok-yes.ensures (reads_If _ _ c.in-Some.test _ c.in_ok-first.first _ c.in-Some.ensures c.in_ok-first.ensures.ok c.in-None.ensures)
@@ -55,7 +54,7 @@ statement-returns-in_default-first t c =
     let room : 0 < c.args.left = omega arith in
     let front = c.in-Some.ensures.cases.0 in
     let both = ok_or_gives c.simple.result c.ok_or.result _ _ _ (λ read. Reads c.args.tokens.now c.args.left read.0 read.1.now)
-          (λ error. error ≡ FirstError.Unbuilt → NoneReads c.args.tokens.now c.args.left) c.ok_or.ensures.value c.simple.ensures
-          (λ read given. rw front (more_levels _ c.args.left read.0 _ room given))
-          (λ none e. rw front (none c.in_default-first.not-LeftBrace c.in_default-first.not-If c.in_default-first.not-While c.args.left)) in
+    (λ error. error ≡ FirstError.Unbuilt → NoneReads c.args.tokens.now c.args.left) c.ok_or.ensures.value c.simple.ensures
+    (λ read given. rw front (more_levels _ c.args.left read.0 _ room given))
+    (λ none e. rw front (none c.in_default-first.not-LeftBrace c.in_default-first.not-If c.in_default-first.not-While c.args.left)) in
     record { ok = both.0; unbuilt = both.1 }

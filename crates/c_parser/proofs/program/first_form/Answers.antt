@@ -1,8 +1,7 @@
-use Rattle.std.proofs.Common.{◌≡◌, ◌∙◌, sym, subst, ap, min, map, sum, arith}
+use Rattle.std.proofs.Common.{◌∙◌, sym, subst, ap, min, map, sum, arith}
 use Rattle.std.proofs.lemmas.Result.{err_from_is_err_and}
 use Rattle.c_parser.specs.Spelling.{Spells}
 use Rattle.c_parser.specs.Tree.{point_count}
-use Rattle.c_parser.specs.Reading.{ReadsProgram}
 use Rattle.c_parser.specs.FirstForm.{unit_leaves}
 use Rattle.c_parser.proofs.ProgramLemmas.{as_program, too_many, same_error}
 use Rattle.c_parser.proofs.program.first_form.Goals as goal
@@ -22,4 +21,4 @@ pub returns-then-saturating_add-gt-MAX_POINTS-clause-unbuilt : goal.returns-then
 returns-then-saturating_add-gt-MAX_POINTS-clause-unbuilt c e unit first =
     let spelled : Spells c.args.text.now c.deref.result.now = subst (Spells c.args.text.now) (sym c.deref.ensures.value) c.in_ok-tokens.ensures.ok in
     too_many _ _ c.in_ok-body.body unit c.point_sum.result spelled c.in_ok-body.ensures.ok first
-      (c.point_sum.ensures ∙ ap (λ z. min (sum (map point_count z)) 4294967295) c.as_slice.ensures) (omega arith)
+    (c.point_sum.ensures ∙ ap (λ z. min (sum (map point_count z)) 4294967295) c.as_slice.ensures) (omega arith)

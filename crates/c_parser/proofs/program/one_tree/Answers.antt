@@ -1,10 +1,9 @@
-use Rattle.std.proofs.Common.{◌≡◌, ◌++◌, List, [], ◌∷◌, map, sym, ◌∙◌}
+use Rattle.std.proofs.Common.{◌≡◌, ◌++◌, [], ◌∷◌, map, sym, ◌∙◌}
 use Rattle.c_parser.specs.declared.token.Token.{Token}
 use Rattle.c_parser.specs.declared.tree.Unit.{Unit as Program}
 use Rattle.c_parser.specs.Tree.{joined, leaves}
 use Rattle.c_parser.specs.FirstForm.{unit_leaves}
 use Rattle.c_parser.proofs.OneReading.{one_block}
-use Rattle.c_parser.proofs.Steps.{none_block, none_at_end}
 use Rattle.c_parser.proofs.SpellingLemmas.{one_spelling}
 use Rattle.c_parser.proofs.program.one_tree.Goals as goal
 

@@ -1,4 +1,4 @@
-use Rattle.std.proofs.Common.{◌≡◌, ap, length, ◌∙◌, sym, false, true, rules, arith}
+use Rattle.std.proofs.Common.{◌≡◌, ap, length, rules}
 use Rattle.c_parser.proofs.ProgramLemmas.{ends_there}
 use Rattle.c_parser.proofs.program.program.Goals as goal
 
