@@ -2,8 +2,8 @@ ghost use Rattle.std.specs.Prelude.{◌≡◌, ◌≤◌, [], ◌∷◌, IfOk};
 ghost use Rattle.cpa_model.specs.Programs.{IsNumbered, point_count};
 
 use crate::{
-    Cell, Cfa, Elem, Expr, Fact, IntType, Program, Seq, State, Stmt, Store, holds, is_elem, next_point,
-    value,
+    Cell, Cfa, Elem, Expr, Fact, IntType, Program, Seq, State, Stmt, Store, holds, is_elem,
+    next_point, value,
 };
 use std::alloc::{AllocError, Global};
 use std::test::Fail;
@@ -25,7 +25,11 @@ fn statements(alloc: Global) -> Result<Seq<Stmt>, AllocError>
         Stmt::Loop { body: 2, step: 3 },
         Stmt::Break,
         Stmt::Leave,
-        Stmt::If { test: TEST, yes: 5, no: 6 },
+        Stmt::If {
+            test: TEST,
+            yes: 5,
+            no: 6
+        },
         Stmt::Stop,
         Stmt::Leave,
         Stmt::Error,
@@ -77,7 +81,13 @@ fn gives_the_ends_of_types(rt: HostRuntime) {
         (IntType::U16, 16, false, 0, 65535),
         (IntType::I32, 32, true, -2147483648, 2147483647),
         (IntType::U32, 32, false, 0, 4294967295),
-        (IntType::I64, 64, true, -9223372036854775808, 9223372036854775807),
+        (
+            IntType::I64,
+            64,
+            true,
+            -9223372036854775808,
+            9223372036854775807,
+        ),
         (IntType::U64, 64, false, 0, 18446744073709551615),
     ];
     for (ty, width, signed, least, greatest) in types {
@@ -85,8 +95,14 @@ fn gives_the_ends_of_types(rt: HostRuntime) {
         assert_eq!(rt; ty.is_signed(), signed, "sign of {ty:?}");
         assert_eq!(rt; ty.least(), least, "least of {ty:?}");
         assert_eq!(rt; ty.greatest(), greatest, "greatest of {ty:?}");
-        assert!(rt; ty.contains(least) && ty.contains(greatest), "ends of {ty:?}");
-        assert!(rt; !ty.contains(least - 1) && !ty.contains(greatest + 1), "beyond {ty:?}");
+        assert!(rt;
+            ty.contains(least) && ty.contains(greatest),
+            "ends of {ty:?}"
+        );
+        assert!(rt;
+            !ty.contains(least - 1) && !ty.contains(greatest + 1),
+            "beyond {ty:?}"
+        );
     }
 }
 
@@ -137,19 +153,39 @@ fn tells_facts_of_a_state(rt: HostRuntime) -> Result<(), Fail> {
     let alloc = rt.alloc();
     let state = state(alloc)?;
     for (point, wanted) in [(3, true), (4, false)] {
-        assert_eq!(rt; holds(&elem(alloc, Fact::At { point })?, &state), wanted, "at {point}");
+        assert_eq!(rt;
+            holds(&elem(alloc, Fact::At { point })?, &state),
+            wanted,
+            "at {point}"
+        );
     }
     for (cell, value, wanted) in [(0, 5, true), (1, 7, false), (2, 0, false)] {
         let fact = Fact::Equals { cell, value };
-        assert_eq!(rt; holds(&elem(alloc, fact)?, &state), wanted, "{cell} is {value}");
+        assert_eq!(rt;
+            holds(&elem(alloc, fact)?, &state),
+            wanted,
+            "{cell} is {value}"
+        );
     }
     for (lo, hi, wanted) in [(-7, -7, true), (-6, 0, false), (-9, -8, false)] {
         let fact = Fact::Within { cell: 1, lo, hi };
-        assert_eq!(rt; holds(&elem(alloc, fact)?, &state), wanted, "from {lo} to {hi}");
+        assert_eq!(rt;
+            holds(&elem(alloc, fact)?, &state),
+            wanted,
+            "from {lo} to {hi}"
+        );
     }
-    for (expr, truth, wanted) in [(FIRST, true, true), (FIRST, false, false), (ZERO, false, true)] {
+    for (expr, truth, wanted) in [
+        (FIRST, true, true),
+        (FIRST, false, false),
+        (ZERO, false, true),
+    ] {
         let fact = Fact::Truth { expr, holds: truth };
-        assert_eq!(rt; holds(&elem(alloc, fact)?, &state), wanted, "{expr:?} {truth}");
+        assert_eq!(rt;
+            holds(&elem(alloc, fact)?, &state),
+            wanted,
+            "{expr:?} {truth}"
+        );
     }
     assert_eq!(rt; value(&FIRST, &state.store), Some(5));
     Ok(())
@@ -184,16 +220,32 @@ fn tells_shaped_elements(rt: HostRuntime) -> Result<(), Fail> {
     let alloc = rt.alloc();
     let cfa = one_cell(alloc)?;
     for (point, wanted) in [(3, true), (4, false)] {
-        assert_eq!(rt; is_elem(&elem(alloc, Fact::At { point })?, &cfa), wanted, "at {point}");
-        assert_eq!(rt; is_elem(&elem(alloc, sites(alloc, &[0, point])?)?, &cfa), wanted, "{point}");
+        assert_eq!(rt;
+            is_elem(&elem(alloc, Fact::At { point })?, &cfa),
+            wanted,
+            "at {point}"
+        );
+        assert_eq!(rt;
+            is_elem(&elem(alloc, sites(alloc, &[0, point])?)?, &cfa),
+            wanted,
+            "{point}"
+        );
     }
     for (cell, value, wanted) in [(0, -128, true), (0, 128, false), (1, 0, false)] {
         let fact = Fact::Equals { cell, value };
-        assert_eq!(rt; is_elem(&elem(alloc, fact)?, &cfa), wanted, "{cell} is {value}");
+        assert_eq!(rt;
+            is_elem(&elem(alloc, fact)?, &cfa),
+            wanted,
+            "{cell} is {value}"
+        );
     }
     for (lo, hi, wanted) in [(-1, 127, true), (1, 0, false), (0, 128, false)] {
         let fact = Fact::Within { cell: 0, lo, hi };
-        assert_eq!(rt; is_elem(&elem(alloc, fact)?, &cfa), wanted, "from {lo} to {hi}");
+        assert_eq!(rt;
+            is_elem(&elem(alloc, fact)?, &cfa),
+            wanted,
+            "from {lo} to {hi}"
+        );
     }
     for (expr, wanted) in [(FIRST, true), (ZERO, true), (WIDE, false), (OTHER, false)] {
         let fact = Fact::Truth { expr, holds: true };

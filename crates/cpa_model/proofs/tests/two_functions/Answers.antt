@@ -1,4 +1,4 @@
-use Rattle.std.proofs.Common.{◌≡◌, ℕ, ◌+◌, zero, suc, List, [], ◌∷◌, Some, length, slice_get, sym, subst, refl, ap, ◌∙◌, rules}
+use Rattle.std.proofs.Common.{◌≡◌, ℕ, ◌+◌, zero, suc, List, [], ◌∷◌, Some, length, slice_get, sym, subst, refl, ap, rules}
 use Rattle.std.proofs.lemmas.Option.{none-some, same_Some}
 use Rattle.cpa_model.specs.declared.expressions.Expr.{Expr}
 use Rattle.cpa_model.specs.declared.program.Stmt.{Stmt}
@@ -34,10 +34,10 @@ parts test (suc (suc (suc (suc (suc (suc (suc (suc n)))))))) s end is at = absur
 numbered : (P : Program) (test : Expr) → P.bodies ≡ 0 ∷ 7 ∷ [] → P.stmts ≡ example test → IsNumbered P
 numbered P test bodies stmts =
     record {
-        ends = ends;
-        each = ap length (sym stmts);
-        bodies = subst (λ stmts. Tiles ends 0 P.bodies (length stmts)) (sym stmts) (subst (λ cs. Tiles ends 0 cs 8) (sym bodies) (refl, 7, refl, (refl, 8, refl, refl)));
-        parts = λ n s end is at. parts test n s end (subst (λ stmts. slice_get stmts n ≡ Some s) stmts is) at
+      ends = ends;
+      each = ap length (sym stmts);
+      bodies = subst (λ stmts. Tiles ends 0 P.bodies (length stmts)) (sym stmts) (subst (λ cs. Tiles ends 0 cs 8) (sym bodies) (refl, 7, refl, (refl, 8, refl, refl)));
+      parts = λ n s end is at. parts test n s end (subst (λ stmts. slice_get stmts n ≡ Some s) stmts is) at;
     }
 
 pub returns-clause-numbered : goal.returns-clause-numbered
