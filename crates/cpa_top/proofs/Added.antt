@@ -1,5 +1,5 @@
 -- Elements added to a reached set.
-use Rattle.std.proofs.Common.{◌≡◌, ℕ, ◌+◌, ◌<◌, List, [], ◌∷◌, ◌++◌, length, get_or, Option, Some, slice_get, ◌⊎◌, refl, sym, ap, ◌∙◌, subst, inl, inr, ⊎_elim, append_assoc, arith}
+use Rattle.std.proofs.Common.{◌≡◌, ℕ, ◌+◌, List, [], ◌∷◌, ◌++◌, length, get_or, Some, slice_get, ◌⊎◌, refl, sym, ap, ◌∙◌, subst, inl, inr, ⊎_elim, append_assoc, arith}
 use Rattle.std.specs.List.{All, Contains}
 use Rattle.std.proofs.lemmas.List.Elements.{All-nil, All-cons, All-append, All-weaker, All-contains, Contains-append_left, Contains-append_right, Contains-push_cases, Contains-get_or}
 use Rattle.cpa_model.specs.declared.facts.Elem.{Elem}
@@ -65,11 +65,11 @@ more_added xs ys before mid now a b = record {
   numbers = numbers_along before.entries mid.entries now.entries a.numbers b.numbers;
   held = All-append (Contains now.entries) xs ys (All-weaker (Contains mid.entries) (Contains now.entries) (λ e h. kept_contained mid.entries now.entries e b.numbers h) xs a.held) b.held;
   origin = λ e h.
-    ⊎_elim
-    (λ old.
-    ⊎_elim (λ first. inl first) (λ one. inr (Contains-append_left xs ys e one)) (a.origin e old))
-    (λ new. inr (Contains-append_right xs ys e new))
-    (b.origin e h);
+      ⊎_elim
+      (λ old.
+      ⊎_elim (λ first. inl first) (λ one. inr (Contains-append_left xs ys e one)) (a.origin e old))
+      (λ new. inr (Contains-append_right xs ys e new))
+      (b.origin e h);
 }
 
 -- how far a loop over the elements has come
@@ -84,11 +84,11 @@ reached_after cfa elems before now r a walked = record {
   size = a.size ∙ r.size;
   tied = a.tied;
   walked = λ k d h.
-    let e = get_or now.entries k d in
-    ⊎_elim
-    (λ old. All-contains (IsWalkedPin cfa) before.entries e r.walked old)
-    (λ new. All-contains (IsWalkedPin cfa) elems e walked new)
-    (a.origin e (Contains-get_or now.entries k d h));
+      let e = get_or now.entries k d in
+      ⊎_elim
+      (λ old. All-contains (IsWalkedPin cfa) before.entries e r.walked old)
+      (λ new. All-contains (IsWalkedPin cfa) elems e walked new)
+      (a.origin e (Contains-get_or now.entries k d h));
 }
 
 -- walked pins are pins of points in the table
@@ -116,9 +116,9 @@ pub leads_after : (cfa : Cfa) (number k : ℕ) (e : Elem) (elems : List Elem) (b
     → LeadsOn cfa now.entries number k
 leads_after cfa number k e elems before now at leads a = record {
   leads = λ other here edge at_edge is.
-    let kept = a.numbers.kept number e at in
-    let same : e ≡ other = cc in
-    All-contains (Contains now.entries) elems (pin edge.to) a.held (leads edge at_edge (same ∙ is));
+      let kept = a.numbers.kept number e at in
+      let same : e ≡ other = cc in
+      All-contains (Contains now.entries) elems (pin edge.to) a.held (leads edge at_edge (same ∙ is));
 }
 
 -- an entry of a reached set is a pin of a point that was walked to

@@ -1,9 +1,9 @@
 -- The edges of an automaton: how many there are, and where those of a point stand.
-use Rattle.std.proofs.Common.{◌≡◌, ℕ, zero, suc, ◌+◌, ◌*◌, ◌^◌, ◌<◌, ◌≤◌, List, [], ◌∷◌, length, get_or, Some, slice_get, true, false, ◌⊎◌, refl, sym, ap, subst, ⊎_elim, lit<, lit≤, arith}
+use Rattle.std.proofs.Common.{◌≡◌, ℕ, zero, suc, ◌+◌, ◌*◌, ◌^◌, ◌<◌, ◌≤◌, List, [], ◌∷◌, length, get_or, Some, slice_get, true, false, refl, sym, ap, subst, ⊎_elim, lit<, lit≤, arith}
 use Rattle.std.specs.List.{AllByRecursion, Contains}
 use Rattle.std.specs.List.Sorted.{IsNonDecreasingBy}
 use Rattle.std.proofs.lemmas.Option.{slice_get_within, get_or_from_slice_get}
-use Rattle.std.proofs.lemmas.List.Elements.{All-from_recursion, All-contains}
+use Rattle.std.proofs.lemmas.List.Elements.{All-from_recursion}
 use Rattle.std.proofs.lemmas.Bool.{cases_lt}
 use Rattle.cpa_model.specs.declared.automaton.Act.{Act}
 use Rattle.cpa_model.specs.declared.automaton.Act.TheVariants as act
@@ -12,7 +12,7 @@ use Rattle.cpa_model.specs.declared.automaton.Cfa.{Cfa}
 use Rattle.cpa_model.specs.declared.program.Stmt.{Stmt}
 use Rattle.cpa_model.specs.declared.program.Stmt.TheVariants as stmt
 use Rattle.cpa_model.specs.declared.program.Program.{Program}
-use Rattle.cpa_model.specs.Programs.{IsWellFormed, point_count}
+use Rattle.cpa_model.specs.Programs.{IsWellFormed}
 use Rattle.cpa_model.specs.Steps.{MovesAt, Moves, at_statement, at_exit}
 use Rattle.cpa_model.specs.Automata.{rank_of, Precedes, AreOrdered, IsAutomaton}
 use Rattle.cpa_top.proofs.PointPlaces.{place_of, in_list}
@@ -83,9 +83,10 @@ all_small : (cfa : Cfa) → IsAutomaton cfa → (edges : List Edge) → ((edge :
 all_small cfa a [] within inside = tt
 all_small cfa a (edge ∷ edges) within inside =
     let P = a.program in
-    let at = within edge (in_list (edge ∷ edges) 0 edge refl) in
-    ((omega (arith, inside.0.0, a.automaton.points, a.well_formed.few_points), rank_small P a.well_formed edge.from edge.act edge.to (a.automaton.moves edge at)),
-    all_small cfa a edges (λ e h. within e (let k = place_of edges e h in in_list (edge ∷ edges) (suc k.0) e k.1)) inside.1)
+    let at = within edge (in_list (edge ∷ edges) 0 edge refl) in (
+      (omega (arith, inside.0.0, a.automaton.points, a.well_formed.few_points), rank_small P a.well_formed edge.from edge.act edge.to (a.automaton.moves edge at)),
+      all_small cfa a edges (λ e h. within e (let k = place_of edges e h in in_list (edge ∷ edges) (suc k.0) e k.1)) inside.1,
+    )
 
 -- the number of each edge is a u32, and so is how many there are
 pub few_edges : (cfa : Cfa) → IsAutomaton cfa → length cfa.edges < 2 ^ 32
@@ -110,6 +111,7 @@ pub leaving_within : (edges : List Edge) (point first last : ℕ) → ((k : ℕ)
     → (k : ℕ) (edge : Edge) → slice_get edges k ≡ Some edge → edge.from ≡ point → (first ≤ k) × (k < last)
 leaving_within edges point first last before after k edge at from =
     let inside = slice_get_within edges k edge at in
-    let is = ap (λ (e : Edge). e.from) (get_or_from_slice_get edges k edge edge at) in
-    (⊎_elim (λ less. let low = before k edge less in absurd (omega (arith, low, is, from))) (λ more. more) (cases_lt k first),
-    ⊎_elim (λ less. less) (λ more. let high = after k edge more inside in absurd (omega (arith, high, is, from))) (cases_lt k last))
+    let is = ap (λ (e : Edge). e.from) (get_or_from_slice_get edges k edge edge at) in (
+      ⊎_elim (λ less. let low = before k edge less in absurd (omega (arith, low, is, from))) (λ more. more) (cases_lt k first),
+      ⊎_elim (λ less. less) (λ more. let high = after k edge more inside in absurd (omega (arith, high, is, from))) (cases_lt k last),
+    )

@@ -1,5 +1,5 @@
 -- How far the edges from an entry were followed.
-use Rattle.std.proofs.Common.{◌≡◌, ℕ, ◌+◌, ◌<◌, ◌≤◌, List, length, get_or, Some, slice_get, ◌⊎◌, sym, ap, ◌∙◌, subst, ⊎_elim, arith}
+use Rattle.std.proofs.Common.{◌≡◌, ℕ, ◌+◌, ◌<◌, ◌≤◌, List, length, get_or, Some, slice_get, sym, ap, ◌∙◌, subst, ⊎_elim, arith}
 use Rattle.std.proofs.lemmas.Bool.{cases_lt}
 use Rattle.std.proofs.lemmas.Option.{same_Some, slice_get-get_or, slice_get_within}
 use Rattle.cpa_model.specs.declared.facts.Elem.{Elem}
@@ -26,10 +26,10 @@ still_within xs ys number e at kept = slice_get_within ys number e (kept.kept nu
 pub leads_kept : (cfa : Cfa) (xs ys : List Elem) (number k : ℕ) → number < length xs → KeepsNumbers xs ys → LeadsOn cfa xs number k → LeadsOn cfa ys number k
 leads_kept cfa xs ys number k inside kept led = record {
   leads = λ e here edge at is.
-    let old = slice_get-get_or xs number e inside in
-    let now = kept.kept number _ old in
-    let same : get_or xs number e ≡ e = cc in
-    kept_contained xs ys (pin edge.to) kept (led.leads (get_or xs number e) old edge at (same ∙ is));
+      let old = slice_get-get_or xs number e inside in
+      let now = kept.kept number _ old in
+      let same : get_or xs number e ≡ e = cc in
+      kept_contained xs ys (pin edge.to) kept (led.leads (get_or xs number e) old edge at (same ∙ is));
 }
 
 -- one more edge was followed
@@ -40,10 +40,10 @@ edge_expanded cfa number first next before mid now was is later so_far reached n
   numbers = numbers_along before.entries mid.entries now.entries so_far.numbers numbers;
   within = let inside = so_far.within in still_within mid.entries now.entries number _ (slice_get-get_or mid.entries number (pin 0) inside) numbers;
   led = λ k from below.
-    ⊎_elim
-    (λ old. leads_kept cfa mid.entries now.entries number k so_far.within numbers (so_far.led k from old))
-    (λ new. let same : next ≡ k = omega arith in subst (λ (n : ℕ). LeadsOn cfa now.entries number n) same leads)
-    (cases_lt k next);
+      ⊎_elim
+      (λ old. leads_kept cfa mid.entries now.entries number k so_far.within numbers (so_far.led k from old))
+      (λ new. let same : next ≡ k = omega arith in subst (λ (n : ℕ). LeadsOn cfa now.entries number n) same leads)
+      (cases_lt k next);
   kept = kept ∙ so_far.kept;
 }
 
@@ -53,7 +53,7 @@ pub all_expanded : (cfa : Cfa) (number point first last next : ℕ) (entries : L
     → last ≤ next → ((k : ℕ) → first ≤ k → k < next → LeadsOn cfa entries number k) → IsExpanded cfa entries number
 all_expanded cfa number point first last next entries at leaves done led k = record {
   leads = λ e here edge at_edge is.
-    let pins : pin point ≡ pin edge.from = same_Some (pin point) (pin edge.from) (sym at ∙ here ∙ ap Some is) in
-    let within = leaves k edge at_edge (sym (same_point point edge.from pins)) in
-    (led k within.0 (omega (arith, within.1))).leads e here edge at_edge is;
+      let pins : pin point ≡ pin edge.from = same_Some (pin point) (pin edge.from) (sym at ∙ here ∙ ap Some is) in
+      let within = leaves k edge at_edge (sym (same_point point edge.from pins)) in
+      (led k within.0 (omega (arith, within.1))).leads e here edge at_edge is;
 }

@@ -1,20 +1,18 @@
 -- What a closed set of points, and a chain of edges to an error, show of the program.
-use Rattle.std.proofs.Common.{◌≡◌, ℕ, zero, suc, ◌<◌, ℤ, List, [], ◌∷◌, ◌++◌, map, length, get_or, ◌⊎◌, refl, sym, ap, ◌∙◌, subst, inl, inr, ⊎_elim, arith}
-use Rattle.std.specs.Prelude.{slice_index, slice_get, Some}
+use Rattle.std.proofs.Common.{◌≡◌, ℕ, zero, suc, ◌<◌, List, [], ◌∷◌, ◌++◌, map, length, get_or, sym, ◌∙◌, subst, inl, inr, ⊎_elim, arith}
+use Rattle.std.specs.Prelude.{slice_index}
 use Rattle.std.specs.List.{AllByRecursion, Contains}
-use Rattle.std.proofs.lemmas.Option.{slice_get-get_or, get_or_from_slice_get, slice_get_within}
+use Rattle.std.proofs.lemmas.Option.{slice_get-get_or, get_or_from_slice_get}
 use Rattle.cpa_model.specs.declared.facts.Elem.{Elem}
 use Rattle.cpa_model.specs.declared.states.State.{State}
 use Rattle.cpa_model.specs.declared.automaton.Act.{Act}
-use Rattle.cpa_model.specs.declared.automaton.Edge.{Edge}
 use Rattle.cpa_model.specs.declared.automaton.Cfa.{Cfa}
 use Rattle.cpa_model.specs.declared.program.Cell.{Cell}
 use Rattle.cpa_model.specs.declared.program.Program.{Program}
 use Rattle.cpa_model.specs.Integers.{IsInRange}
 use Rattle.cpa_model.specs.Programs.{IsWellFormed, point_count}
 use Rattle.cpa_model.specs.States.{IsState, AreValues, initial_of}
-use Rattle.cpa_model.specs.Steps.{Moves, Step, IsChain, IsExecution, IsReachable, IsError, CallsError}
-use Rattle.cpa_model.specs.Facts.{LiesIn}
+use Rattle.cpa_model.specs.Steps.{Moves, Step, IsChain, IsExecution, CallsError}
 use Rattle.cpa_model.specs.Automata.{IsAutomatonOf, edge_of}
 use Rattle.cpa_model.proofs.Trees.{body_inside}
 use Rattle.cpa_iface.specs.Meanings.{pin}

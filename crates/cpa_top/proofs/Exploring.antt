@@ -1,29 +1,25 @@
 -- How far an exploration has come, and what it comes to.
-use Rattle.std.proofs.Common.{◌≡◌, ℕ, zero, suc, ◌+◌, ◌<◌, ◌≤◌, List, [], ◌∷◌, map, length, get_or, Option, Some, slice_get, Bool, true, false, ◌||◌, eqb, eqb-true, ne_eqb, ◌⊎◌, refl, sym, ap, ◌∙◌, subst, inl, inr, ⊎_elim, arith}
-use Rattle.std.specs.List.{All, AllByRecursion, Contains, list_any}
-use Rattle.std.proofs.lemmas.Bool.{cases_lt, cases_eq}
+use Rattle.std.proofs.Common.{◌≡◌, ℕ, ◌+◌, ◌<◌, ◌≤◌, List, [], ◌∷◌, map, length, get_or, Some, slice_get, Bool, true, false, ◌||◌, eqb, eqb-true, ne_eqb, ◌⊎◌, refl, sym, ap, ◌∙◌, subst, inl, inr, ⊎_elim, arith}
+use Rattle.std.specs.List.{All, Contains, list_any}
+use Rattle.std.proofs.lemmas.Bool.{cases_lt}
 use Rattle.std.proofs.lemmas.List.{get_or-map, length-map}
-use Rattle.std.proofs.lemmas.List.Elements.{All-nil, All-cons, All-head, All-tail, All-contains, Contains-get_or}
+use Rattle.std.proofs.lemmas.List.Elements.{All-nil, All-cons, All-head, All-tail}
 use Rattle.std.proofs.lemmas.Map.Keys.{IsDistinct-from_apart}
 use Rattle.std.proofs.lemmas.Map.Steps.{length-le_from_distinct_below}
-use Rattle.std.proofs.lemmas.Option.{same_Some, slice_get-get_or, slice_get_within, get_or_from_slice_get}
+use Rattle.std.proofs.lemmas.Option.{slice_get-get_or, slice_get_within}
 use Rattle.cpa_model.specs.declared.facts.Fact.{Fact}
-use Rattle.cpa_model.specs.declared.facts.Fact.TheVariants.{At, Stack, Equals, Within, Truth}
+use Rattle.cpa_model.specs.declared.facts.Fact.TheVariants.{At}
 use Rattle.cpa_model.specs.declared.facts.Elem.{Elem}
-use Rattle.cpa_model.specs.declared.automaton.Edge.{Edge}
 use Rattle.cpa_model.specs.declared.automaton.Cfa.{Cfa}
-use Rattle.cpa_model.specs.Programs.{point_count}
 use Rattle.cpa_model.specs.Automata.{IsAutomaton}
 use Rattle.cpa_model.proofs.Trees.{body_inside}
 use Rattle.cpa_iface.specs.Meanings.{pin, Meaning}
 use Rattle.cpa_top.specs.declared.explore.reached.Reached.{Reached}
-use Rattle.cpa_top.specs.declared.explore.Explored.{Explored}
-use Rattle.cpa_top.specs.declared.explore.Explored.TheVariants.{Safe, ErrorReached}
-use Rattle.cpa_top.specs.Explored.{IsWalkedTo, walked_start, IsClosed, IsExplored}
-use Rattle.cpa_top.specs.Reached.{KeepsNumbers, AreTied, AreAdded, GrewBy, LeadsOn, IsExpanded, IsErrorFree, IsReached, IsWalkedPin}
-use Rattle.cpa_top.proofs.PointPlaces.{place_of, in_list}
-use Rattle.cpa_top.proofs.Ties.{same_point}
-use Rattle.cpa_top.proofs.Added.{kept_contained, one_added, reached_after}
+use Rattle.cpa_top.specs.declared.explore.Explored.TheVariants.{Safe}
+use Rattle.cpa_top.specs.Explored.{walked_start, IsExplored}
+use Rattle.cpa_top.specs.Reached.{KeepsNumbers, AreTied, AreAdded, IsExpanded, IsErrorFree, IsReached, IsWalkedPin}
+use Rattle.cpa_top.proofs.PointPlaces.{place_of}
+use Rattle.cpa_top.proofs.Added.{kept_contained, reached_after}
 use Rattle.cpa_top.proofs.Expanding.{leads_kept, still_within}
 
 -- the point of a pin
@@ -55,9 +51,9 @@ points_below cfa (e ∷ entries) q walked h =
     (λ here. let same = eqb-true q (point_in e.facts) here in let is = point_in-pin w.0 e w.1 in omega (arith, w.2))
     (λ there. points_below cfa entries q (All-tail (IsWalkedPin cfa) e entries walked) there)
     (either (eqb q (point_in e.facts)) (list_any (eqb q) (points_of entries)) h) where
-  either : (a b : Bool) → (a || b) ≡ true → (a ≡ true) ⊎ (b ≡ true)
-  either true b e = inl refl
-  either false b e = inr e
+      either : (a b : Bool) → (a || b) ≡ true → (a ≡ true) ⊎ (b ≡ true)
+      either true b e = inl refl
+      either false b e = inr e
 
 -- entries of two numbers are pins of two points
 points_apart : (cfa : Cfa) (r : Reached) → IsReached cfa r → (i j d : ℕ) → i < j → j < length (points_of r.entries) → eqb (get_or (points_of r.entries) i d) (get_or (points_of r.entries) j d) ≡ false
@@ -135,15 +131,15 @@ one_explored cfa next mid now was is later so_far inside free reached numbers ex
   start = kept_contained mid.entries now.entries (pin cfa.start) numbers so_far.start;
   within = let there = still_within mid.entries now.entries next (get_or mid.entries next (pin 0)) (slice_get-get_or mid.entries next (pin 0) inside) numbers in omega (arith, there);
   expanded = λ k below.
-    ⊎_elim
-    (λ old number. leads_kept cfa mid.entries now.entries k number (let at = so_far.within in omega arith) numbers (so_far.expanded k old number))
-    (λ new. let same : next ≡ k = omega arith in subst (IsExpanded cfa now.entries) same expanded)
-    (cases_lt k next);
+      ⊎_elim
+      (λ old number. leads_kept cfa mid.entries now.entries k number (let at = so_far.within in omega arith) numbers (so_far.expanded k old number))
+      (λ new. let same : next ≡ k = omega arith in subst (IsExpanded cfa now.entries) same expanded)
+      (cases_lt k next);
   safe = λ k below.
-    ⊎_elim
-    (λ old. error_free_kept cfa mid.entries now.entries k (let at = so_far.within in omega arith) numbers (so_far.safe k old))
-    (λ new. let same : next ≡ k = omega arith in subst (IsErrorFree cfa now.entries) same (error_free_kept cfa mid.entries now.entries next inside numbers free))
-    (cases_lt k next);
+      ⊎_elim
+      (λ old. error_free_kept cfa mid.entries now.entries k (let at = so_far.within in omega arith) numbers (so_far.safe k old))
+      (λ new. let same : next ≡ k = omega arith in subst (IsErrorFree cfa now.entries) same (error_free_kept cfa mid.entries now.entries next inside numbers free))
+      (cases_lt k next);
   kept = kept ∙ so_far.kept;
 }
 
@@ -168,16 +164,19 @@ entry_of_point cfa entries p walked h =
 pub all_explored : (cfa : Cfa) (next : ℕ) (now : Reached) (was is : Meaning) → Explores cfa next now was is → length now.entries ≤ next → IsExplored cfa (Safe now.entries)
 all_explored cfa next now was is so_far all =
     let entries = now.entries in
-    let walked = so_far.reached.walked in
-    (points_of entries, pins_again cfa entries walked, record {
-      start = point_of_entry entries cfa.start so_far.start;
-      edges = λ edge in_edges from.
-        let at = place_of cfa.edges edge in_edges in
-        let here = entry_of_point cfa entries edge.from walked from in
-        let inside = slice_get_within entries here.0 (pin edge.from) here.1 in
-        point_of_entry entries edge.to ((so_far.expanded here.0 (omega arith) at.0).leads (pin edge.from) here.1 edge at.1 refl);
-      safe = λ p among error.
-        let here = entry_of_point cfa entries p walked among in
-        let inside = slice_get_within entries here.0 (pin p) here.1 in
-        so_far.safe here.0 (omega arith) p here.1 error;
-    })
+    let walked = so_far.reached.walked in (
+      points_of entries,
+      pins_again cfa entries walked,
+      record {
+        start = point_of_entry entries cfa.start so_far.start;
+        edges = λ edge in_edges from.
+            let at = place_of cfa.edges edge in_edges in
+            let here = entry_of_point cfa entries edge.from walked from in
+            let inside = slice_get_within entries here.0 (pin edge.from) here.1 in
+            point_of_entry entries edge.to ((so_far.expanded here.0 (omega arith) at.0).leads (pin edge.from) here.1 edge at.1 refl);
+        safe = λ p among error.
+            let here = entry_of_point cfa entries p walked among in
+            let inside = slice_get_within entries here.0 (pin p) here.1 in
+            so_far.safe here.0 (omega arith) p here.1 error;
+      },
+    )

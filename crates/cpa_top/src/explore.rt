@@ -1,3 +1,4 @@
+//! The exploration of an automaton by a boxed analysis that is exact on the point.
 ghost use Rattle.std.specs.Prelude.{◌≡◌, ◌<◌, false, IsTrue, length, IfOk, OnOk};
 ghost use Rattle.std.specs.List.{Contains};
 ghost use Rattle.cpa_model.specs.Automata.{IsAutomaton};
@@ -129,7 +130,6 @@ pub(crate) fn explore(
         expand(alloc, cfa, &precision, analysis, &mut reached, next)?;
         next += 1;
     }
-    Ok(Explored::Safe {
-        entries: reached.entries,
-    })
+    let entries = reached.entries;
+    Ok(Explored::Safe { entries })
 }

@@ -40,7 +40,11 @@ impl Reached {
     }
 
     /// Adds the element, unless the entry at its point covers it.
-    pub(crate) fn add(&mut self, analysis: &Box<dyn Analysis + Send>, elem: Elem) -> Result<(), AllocError>
+    pub(crate) fn add(
+        &mut self,
+        analysis: &Box<dyn Analysis + Send>,
+        elem: Elem,
+    ) -> Result<(), AllocError>
         requires tied { AreTied self.old.entries self.old.entry_at.items }
         requires pinned { IsPinBelow (length self.old.entry_at.items) elem }
         ensures tied { OnOk result (AreTied self.new.entries self.new.entry_at.items) }

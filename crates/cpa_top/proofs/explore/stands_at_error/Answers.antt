@@ -1,4 +1,4 @@
-use Rattle.std.proofs.Common.{ℕ, sym, ap, ◌∙◌, subst}
+use Rattle.std.proofs.Common.{ℕ, sym, ◌∙◌, subst}
 use Rattle.std.specs.List.{Contains}
 use Rattle.cpa_top.specs.Explored.{IsWalkedTo}
 use Rattle.cpa_top.proofs.Ties.{same_point}

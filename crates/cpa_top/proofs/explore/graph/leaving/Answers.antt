@@ -1,4 +1,4 @@
-use Rattle.std.proofs.Common.{◌≡◌, ◌<◌, ◌≤◌, ◌^◌, List, length, ap, arith}
+use Rattle.std.proofs.Common.{List, length, ap, arith}
 use Rattle.cpa_model.specs.declared.automaton.Edge.{Edge}
 use Rattle.cpa_top.proofs.Edges.{few_edges, edges_by_from, leaving_within}
 use Rattle.cpa_top.proofs.explore.graph.leaving.Goals as goal

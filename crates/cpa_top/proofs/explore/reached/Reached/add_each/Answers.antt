@@ -1,4 +1,4 @@
-use Rattle.std.proofs.Common.{ℕ, sym, subst, ◌∙◌}
+use Rattle.std.proofs.Common.{ℕ, sym, subst}
 use Rattle.std.specs.Vec.Iter.{into_iter_items}
 use Rattle.cpa_top.specs.Reached.{IsPinBelow}
 use Rattle.cpa_top.proofs.Added.{one_added, next_below, next_added}

@@ -1,4 +1,4 @@
-use Rattle.std.proofs.Common.{List, Option, Some, length, set, sym, subst}
+use Rattle.std.proofs.Common.{List, Some, length, set, sym, subst}
 use Rattle.cpa_model.specs.declared.facts.Elem.{Elem}
 use Rattle.cpa_top.specs.Reached.{AreTied}
 use Rattle.cpa_top.proofs.Ties.{tied_more}
