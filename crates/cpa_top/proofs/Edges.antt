@@ -115,3 +115,13 @@ leaving_within edges point first last before after k edge at from =
       ⊎_elim (λ less. let low = before k edge less in absurd (omega (arith, low, is, from))) (λ more. more) (cases_lt k first),
       ⊎_elim (λ less. less) (λ more. let high = after k edge more inside in absurd (omega (arith, high, is, from))) (cases_lt k last),
     )
+
+-- what stands between some edges and others leaves the point between theirs
+pub leaving_only : (edges : List Edge) (point first last : ℕ) → ((k : ℕ) (d : Edge) → first ≤ k → k < length edges → point ≤ (get_or edges k d).from) → ((k : ℕ) (d : Edge) → k < last → (get_or edges k d).from ≤ point)
+    → (k : ℕ) (edge : Edge) → slice_get edges k ≡ Some edge → first ≤ k → k < last → edge.from ≡ point
+leaving_only edges point first last from upto k edge at above below =
+    let inside = slice_get_within edges k edge at in
+    let is = ap (λ (e : Edge). e.from) (get_or_from_slice_get edges k edge edge at) in
+    let low = from k edge above inside in
+    let high = upto k edge below in
+    omega (arith, low, high, is)

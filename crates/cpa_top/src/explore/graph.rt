@@ -20,6 +20,7 @@ fn first_from(edges: &[Edge], point: u32) -> usize
     requires { IsNonDecreasingBy (λ (e : Edge). e.from) edges.now }
     ensures bound { result ≤ length edges.now }
     ensures before { (k : ℕ) (d : Edge) → k < result → (slice_index_or edges.now k d).from < point }
+    ensures from { (k : ℕ) (d : Edge) → result ≤ k → k < length edges.now → point ≤ (slice_index_or edges.now k d).from }
 {
     edges.partition_point(|edge| edge.from < point)
 }
@@ -28,6 +29,7 @@ fn first_from(edges: &[Edge], point: u32) -> usize
 fn first_after(edges: &[Edge], point: u32) -> usize
     requires { IsNonDecreasingBy (λ (e : Edge). e.from) edges.now }
     ensures bound { result ≤ length edges.now }
+    ensures upto { (k : ℕ) (d : Edge) → k < result → (slice_index_or edges.now k d).from ≤ point }
     ensures after { (k : ℕ) (d : Edge) → result ≤ k → k < length edges.now → point < (slice_index_or edges.now k d).from }
 {
     edges.partition_point(|edge| edge.from <= point)
@@ -39,6 +41,8 @@ pub(crate) fn leaving(cfa: &Cfa, point: u32) -> (u32, u32)
     ensures within { result.1 ≤ length cfa.now.edges }
     ensures all { (k : ℕ) (edge : Edge) → slice_get cfa.now.edges k ≡ Some edge → edge.from ≡ point →
         (result.0 ≤ k) × (k < result.1) }
+    ensures only { (k : ℕ) (edge : Edge) → slice_get cfa.now.edges k ≡ Some edge → result.0 ≤ k → k < result.1 →
+        edge.from ≡ point }
 {
     let edges = cfa.edges.as_slice();
     let first = first_from(edges, point);

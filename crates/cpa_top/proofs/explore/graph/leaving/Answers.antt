@@ -1,6 +1,6 @@
 use Rattle.std.proofs.Common.{List, length, ap, arith}
 use Rattle.cpa_model.specs.declared.automaton.Edge.{Edge}
-use Rattle.cpa_top.proofs.Edges.{few_edges, edges_by_from, leaving_within}
+use Rattle.cpa_top.proofs.Edges.{few_edges, edges_by_from, leaving_within, leaving_only}
 use Rattle.cpa_top.proofs.explore.graph.leaving.Goals as goal
 
 pub first_from-first-requires : goal.first_from-first-requires
@@ -28,3 +28,9 @@ returns-clause-all c =
     leaving_within c.args.cfa.now.edges c.args.point c.first_from-first.result c.first_after-last.result
     (rw c.as_slice-edges.ensures at c.first_from-first.ensures.before)
     (rw c.as_slice-edges.ensures at c.first_after-last.ensures.after)
+
+pub returns-clause-only : goal.returns-clause-only
+returns-clause-only c =
+    leaving_only c.args.cfa.now.edges c.args.point c.first_from-first.result c.first_after-last.result
+    (rw c.as_slice-edges.ensures at c.first_from-first.ensures.from)
+    (rw c.as_slice-edges.ensures at c.first_after-last.ensures.upto)
