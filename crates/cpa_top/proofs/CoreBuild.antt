@@ -132,7 +132,7 @@ adds_block b x s b1 n b2 items b3 g p r =
     let grown : b2.stmts.items ≡ b1.stmts.items ++ inner.stmts = p.stmts ∙ ap (λ (l : CoreList). b1.stmts.items ++ l.stmts) place in
     record {
       stmts = replaced_front b s b1 n b2 inner.stmts (stmt.Block items) b3 g grown r
-      ∙ ap (λ (z : List ℕ). b.stmts.items ++ stmt.Block z ∷ inner.stmts) is;
+          ∙ ap (λ (z : List ℕ). b.stmts.items ++ stmt.Block z ∷ inner.stmts) is;
       items = ap (λ (k : ℕ). k ∷ []) g.next;
       cells = r.cells ∙ p.cells ∙ ap (λ (l : CoreList). b1.cells + l.cells) place ∙ ap (λ (k : ℕ). k + inner.cells) g.cells;
     }
@@ -183,8 +183,8 @@ adds_blocks b had s x y t b1 n b2 first b3 second b4 g p q r =
     let grown : b3.stmts.items ≡ b1.stmts.items ++ inner.stmts = all.stmts ∙ ap (λ (l : CoreList). b1.stmts.items ++ l.stmts) place in
     record {
       stmts = replaced_front b t b1 n b3 inner.stmts (s first second) b4 g grown r
-      ∙ ap (λ (k : ℕ). b.stmts.items ++ s k second ∷ inner.stmts) one
-      ∙ ap (λ (k : ℕ). b.stmts.items ++ s (length b.stmts.items + 1) k ∷ inner.stmts) two;
+          ∙ ap (λ (k : ℕ). b.stmts.items ++ s k second ∷ inner.stmts) one
+          ∙ ap (λ (k : ℕ). b.stmts.items ++ s (length b.stmts.items + 1) k ∷ inner.stmts) two;
       items = ap (λ (k : ℕ). had ++ k ∷ []) g.next;
       cells = r.cells ∙ all.cells ∙ ap (λ (l : CoreList). b1.cells + l.cells) place ∙ ap (λ (k : ℕ). k + inner.cells) g.cells;
     }

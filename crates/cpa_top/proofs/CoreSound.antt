@@ -154,9 +154,12 @@ sound_if P cells test x y p q = sound_tested false P cells test (λ v. choice v 
 
 -- cell 0 is there to be written
 result_sound : (P : Program) → HasCells P → (n : ℕ) → IsSound P n result_zero
-result_sound P cells n =
-    (omega arith, zero_in_range, zero_in_range,
-    λ k below. let first : 0 + k ≡ 0 = omega arith in subst (λ (m : ℕ). IsCellOf P.cells m I32) (sym first) (cells.ints 0 cells.some))
+result_sound P cells n = (
+  omega arith,
+  zero_in_range,
+  zero_in_range,
+  λ k below. let first : 0 + k ≡ 0 = omega arith in subst (λ (m : ℕ). IsCellOf P.cells m I32) (sym first) (cells.ints 0 cells.some),
+)
 
 sound_result : (P : Program) → HasCells P → Sounds false P (single result_zero)
 sound_result P cells = sound_single false P result_zero (result_sound P cells)

@@ -108,22 +108,27 @@ impl Builder {
         Ok(number)
     }
 
-    /// Adds the way out of a loop to a list: a break where the value is zero.
-    fn way_out(&mut self, alloc: Global, items: &mut Seq<u32>, value: Expr) -> Result<(), AllocError>
-        requires { Fits self.old (choice value no_core (single stmt.Break)) }
-        ensures { OnOk result (Adds self.old items.old (choice value no_core (single stmt.Break)) self.new items.new) }
+    /// Adds the way out of a loop to a list: a break where the test is zero.
+    fn way_out(&mut self, alloc: Global, items: &mut Seq<u32>, test: Expr) -> Result<(), AllocError>
+        requires { Fits self.old (choice test no_core (single stmt.Break)) }
+        ensures { OnOk result (Adds self.old items.old (choice test no_core (single stmt.Break)) self.new items.new) }
     {
         let number = self.put(Stmt::Stop)?;
         let yes = self.empty_block(alloc)?;
         let no = self.break_block(alloc)?;
-        self.replace(number, Stmt::If { test: value, yes, no });
+        self.replace(number, Stmt::If { test, yes, no });
         items.push(number)?;
         Ok(())
     }
 
     /// Adds the core of a statement to a list.
     #[cycle(statements)]
-    fn statement(&mut self, alloc: Global, items: &mut Seq<u32>, statement: &Statement) -> Result<(), AllocError>
+    fn statement(
+        &mut self,
+        alloc: Global,
+        items: &mut Seq<u32>,
+        statement: &Statement,
+    ) -> Result<(), AllocError>
         requires { Fits self.old (core_of_statement statement.now) }
         ensures { OnOk result (Adds self.old items.old (core_of_statement statement.now) self.new items.new) }
     {
@@ -137,9 +142,16 @@ impl Builder {
             Statement::If { test, yes, no } => {
                 let value = self.test(items, *test)?;
                 let number = self.put(Stmt::Stop)?;
-                let yes = self.branch(alloc, yes.get())?;
-                let no = self.other_branch(alloc, no)?;
-                self.replace(number, Stmt::If { test: value, yes, no });
+                let first = self.branch(alloc, yes.get())?;
+                let second = self.other_branch(alloc, no)?;
+                self.replace(
+                    number,
+                    Stmt::If {
+                        test: value,
+                        yes: first,
+                        no: second,
+                    },
+                );
                 items.push(number)?;
                 Ok(())
             }
@@ -152,7 +164,12 @@ impl Builder {
 
     /// Adds the core of statements in order to a list.
     #[cycle(statements)]
-    fn statements(&mut self, alloc: Global, items: &mut Seq<u32>, statements: &[Statement]) -> Result<(), AllocError>
+    fn statements(
+        &mut self,
+        alloc: Global,
+        items: &mut Seq<u32>,
+        statements: &[Statement],
+    ) -> Result<(), AllocError>
         requires { Fits self.old (core_of_items statements.now) }
         ensures { OnOk result (Adds self.old items.old (core_of_items statements.now) self.new items.new) }
     {
@@ -190,7 +207,11 @@ impl Builder {
 
     /// Adds a block of what stands behind an else, where there is one.
     #[cycle(statements)]
-    fn other_branch(&mut self, alloc: Global, other: &Option<Boxed<Statement>>) -> Result<u32, AllocError>
+    fn other_branch(
+        &mut self,
+        alloc: Global,
+        other: &Option<Boxed<Statement>>,
+    ) -> Result<u32, AllocError>
         requires { Fits self.old (block (core_of_else other.now)) }
         ensures { IfOk result (λ number. Adds self.old [] (block (core_of_else other.now)) self.new (number ∷ [])) }
     {
@@ -202,7 +223,13 @@ impl Builder {
 
     /// Adds the core of a while to a list.
     #[cycle(statements)]
-    fn repetition(&mut self, alloc: Global, items: &mut Seq<u32>, test: Expression, body: &Statement) -> Result<(), AllocError>
+    fn repetition(
+        &mut self,
+        alloc: Global,
+        items: &mut Seq<u32>,
+        test: Expression,
+        body: &Statement,
+    ) -> Result<(), AllocError>
         requires { Fits self.old (while_core test (core_of_statement body.now)) }
         ensures { OnOk result (Adds self.old items.old (while_core test (core_of_statement body.now)) self.new items.new) }
     {
@@ -229,7 +256,12 @@ impl Builder {
 
     /// Adds the body of a while's loop.
     #[cycle(statements)]
-    fn loop_body(&mut self, alloc: Global, test: Expression, body: &Statement) -> Result<u32, AllocError>
+    fn loop_body(
+        &mut self,
+        alloc: Global,
+        test: Expression,
+        body: &Statement,
+    ) -> Result<u32, AllocError>
         requires { Fits self.old (block (while_body test (core_of_statement body.now))) }
         ensures { IfOk result (λ number. Adds self.old [] (block (while_body test (core_of_statement body.now))) self.new (number ∷ [])) }
     {
@@ -298,3 +330,6 @@ fn result_is_zero() -> Stmt
         value: constant(0),
     }
 }
+
+#[cfg(test)]
+mod tests;

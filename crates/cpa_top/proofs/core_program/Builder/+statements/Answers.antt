@@ -37,7 +37,7 @@ pub loop_body-statement-requires : goal.loop_body-statement-requires
 loop_body-statement-requires t c = (search rules, fits_then _ _ _ _ _ _ (fits_after_test _ _ _ _ _ _ _ (fits_block_inside _ _ _ _ _ c.requires c.in_ok-number.ensures) c.in_ok-value.ensures.added c.in_ok-value.ensures.value) c.in_ok-way_out.ensures)
 
 pub loop_body-returns : goal.loop_body-returns
-loop_body-returns t c = 
+loop_body-returns t c =
     adds_block _ _ _ _ _ _ _ _ c.in_ok-number.ensures
     (adds_tested _ _ _ _ _ _ _ _ _ (rw c.new-items.ensures at c.in_ok-value.ensures.added) c.in_ok-value.ensures.value
     (adds_followed _ _ _ _ _ _ _ _ c.in_ok-way_out.ensures c.in_ok-statement.ensures))
@@ -86,18 +86,20 @@ statement-put-requires t c =
 
 pub statement-branch-self-requires : goal.statement-branch-self-requires
 statement-branch-self-requires t c =
-    let fits = rw (c.in-If.is, core-If) at c.requires in
-    (search (rules, the_lemmas),
-    rw c.get.ensures (fits_blocks_first _ _ _ _ _ _ _ (fits_after_test _ _ _ _ _ _ _ fits c.in_ok-value-in-If.ensures.added c.in_ok-value-in-If.ensures.value) c.in_ok-number-in-If.ensures))
+    let fits = rw (c.in-If.is, core-If) at c.requires in (
+      search (rules, the_lemmas),
+      rw c.get.ensures (fits_blocks_first _ _ _ _ _ _ _ (fits_after_test _ _ _ _ _ _ _ fits c.in_ok-value-in-If.ensures.added c.in_ok-value-in-If.ensures.value) c.in_ok-number-in-If.ensures),
+    )
 
 pub statement-other_branch-requires : goal.statement-other_branch-requires
 statement-other_branch-requires t c =
-    let fits = rw (c.in-If.is, core-If) at c.requires in
-    (search (rules, the_lemmas),
-    fits_blocks_second _ _ _ _ _ _ _ _ _ (fits_after_test _ _ _ _ _ _ _ fits c.in_ok-value-in-If.ensures.added c.in_ok-value-in-If.ensures.value) c.in_ok-number-in-If.ensures (rw c.get.ensures at c.in_ok-yes-in-If.ensures))
+    let fits = rw (c.in-If.is, core-If) at c.requires in (
+      search (rules, the_lemmas),
+      fits_blocks_second _ _ _ _ _ _ _ _ _ (fits_after_test _ _ _ _ _ _ _ fits c.in_ok-value-in-If.ensures.added c.in_ok-value-in-If.ensures.value) c.in_ok-number-in-If.ensures (rw c.get.ensures at c.in_ok-first-in-If.ensures),
+    )
 
 pub statement-returns-in_ok-push-in-If : goal.statement-returns-in_ok-push-in-If
 statement-returns-in_ok-push-in-If t c =
     rw (c.in-If.is, core-If, c.in_ok-push-in-If.ensures.ok)
     (adds_tested _ _ _ _ _ _ _ _ _ c.in_ok-value-in-If.ensures.added c.in_ok-value-in-If.ensures.value
-    (adds_blocks _ _ _ _ _ _ _ _ _ _ _ _ _ c.in_ok-number-in-If.ensures (rw c.get.ensures at c.in_ok-yes-in-If.ensures) c.in_ok-no-in-If.ensures c.replace.ensures))
+    (adds_blocks _ _ _ _ _ _ _ _ _ _ _ _ _ c.in_ok-number-in-If.ensures (rw c.get.ensures at c.in_ok-first-in-If.ensures) c.in_ok-second-in-If.ensures c.replace.ensures))
