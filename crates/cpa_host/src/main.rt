@@ -6,16 +6,15 @@ mod stdout;
 #[cfg(test)]
 mod tests;
 
-pub use files::FileInputs;
-pub use stdout::StdoutSink;
-
 use cpa_iface::{Analysis, Location};
 use cpa_top::{run, write_whole};
+pub use files::FileInputs;
 use std::alloc::{AllocError, Global};
 use std::env;
 use std::io::ErrorKind;
 use std::process::ExitCode;
 use std::rt::Env;
+pub use stdout::StdoutSink;
 
 /// The words after the program's own name. Where one of them is no text, there is no command.
 fn words<R: Env + Alloc<A = Global>>(rt: &R) -> Result<Vec<String>, AllocError> {

@@ -139,8 +139,8 @@ holds-found : (s : State) (f : Fact) (own : List Fact) → list_any (λ g. same_
 holds-found s f [] h all = cc
 holds-found s f (g ∷ own) h all =
     elim (either (same_fact g f) (list_any (λ x. same_fact x f) own) h) [
-      inl here ↦ subst (FactHolds s) (same_fact-means g f here) all.0
-    | inr there ↦ holds-found s f own there all.1
+      | inl here ↦ subst (FactHolds s) (same_fact-means g f here) all.0
+      | inr there ↦ holds-found s f own there all.1
     ]
 
 all-found : (s : State) (own others : List Fact) → list_all (λ f. list_any (λ g. same_fact g f) own) others ≡ true → AllByRecursion (FactHolds s) own → AllByRecursion (FactHolds s) others

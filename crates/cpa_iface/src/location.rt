@@ -82,7 +82,7 @@ fn successors(alloc: Global, elem: &Elem, from: u32, to: u32) -> Result<Vec<Elem
 }
 
 /// The element of one fact, that control is at the point.
-fn pin(alloc: Global, point: u32) -> Result<Elem, AllocError> 
+fn pin(alloc: Global, point: u32) -> Result<Elem, AllocError>
     ensures { IfOk result (λ e. e ≡ pin point) }
 {
     let mut facts = Seq::new(alloc);
@@ -94,7 +94,10 @@ fn pin(alloc: Global, point: u32) -> Result<Elem, AllocError>
 fn may_stand_at(elem: &Elem, point: u32) -> bool
     ensures { result ≡ may_stand_at elem.now point }
 {
-    elem.facts.as_slice().iter().all(|fact| names_point(fact, point))
+    elem.facts
+        .as_slice()
+        .iter()
+        .all(|fact| names_point(fact, point))
 }
 
 fn names_point(fact: &Fact, point: u32) -> bool

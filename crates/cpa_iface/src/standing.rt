@@ -65,12 +65,20 @@ fn same_expr(a: Expr, b: Expr) -> bool
     ensures { result ≡ same_expr a b }
 {
     match (a, b) {
-        (Expr::Const { ty, value }, Expr::Const { ty: other, value: wanted }) => {
-            same_type(ty, other) && value == wanted
-        }
-        (Expr::Read { ty, base }, Expr::Read { ty: other, base: wanted }) => {
-            same_type(ty, other) && base == wanted
-        }
+        (
+            Expr::Const { ty, value },
+            Expr::Const {
+                ty: other,
+                value: wanted,
+            },
+        ) => { same_type(ty, other) && value == wanted }
+        (
+            Expr::Read { ty, base },
+            Expr::Read {
+                ty: other,
+                base: wanted,
+            },
+        ) => { same_type(ty, other) && base == wanted }
         _ => false,
     }
 }

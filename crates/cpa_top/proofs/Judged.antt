@@ -42,9 +42,9 @@ safe_text bytes text tree P cfa elems r b explored reported printed =
     let wf = well_formed bytes tree P b.form b.core in
     let points = explored.0 in
     let same : map (λ (entry : Listed). entry.elems) r.entries ≡ map (λ p. pin p ∷ []) points =
-        ap (map (λ (entry : Listed). entry.elems)) (reported.entries ∙ ap (listed_from 0) explored.1) ∙ listed_pins 0 points in
+    ap (map (λ (entry : Listed). entry.elems)) (reported.entries ∙ ap (listed_from 0) explored.1) ∙ listed_pins 0 points in
     let cover : IsCover P (map (λ (entry : Listed). entry.elems) r.entries) =
-        subst (IsCover P) (sym same) (cover_of P cfa points wf b.automaton explored.2) in
+    subst (IsCover P) (sym same) (cover_of P cfa points wf b.automaton explored.2) in
     record {
       program = P;
       is = (tree, b.form, b.core);

@@ -17,13 +17,13 @@ verified_of bytes None before after answer.TooLong short same judged = absurd ju
 verified_of bytes None before after answer.OutOfMemory short same judged = tt
 verified_of bytes (Some t) before after a short same judged =
     some_told t a (subst (λ x. length x ≤ program_limit) same short) (subst (λ x. IsJudged x a) same judged) where
-  some_told : (t : List ℕ) (a : Answer) → length t ≤ program_limit → IsJudged t a → IsVerified (Some t) before after a
-  some_told t (answer.Safe report) fits j = (fits, j)
-  some_told t answer.Usage fits j = j
-  some_told t answer.Unbuilt fits j = j
-  some_told t answer.ReadFailed fits j = absurd j
-  some_told t answer.TooLong fits j = absurd j
-  some_told t answer.OutOfMemory fits j = tt
+      some_told : (t : List ℕ) (a : Answer) → length t ≤ program_limit → IsJudged t a → IsVerified (Some t) before after a
+      some_told t (answer.Safe report) fits j = (fits, j)
+      some_told t answer.Usage fits j = j
+      some_told t answer.Unbuilt fits j = j
+      some_told t answer.ReadFailed fits j = absurd j
+      some_told t answer.TooLong fits j = absurd j
+      some_told t answer.OutOfMemory fits j = tt
 
 pub lawful_of : (call : Call) (name : List ℕ) (a : Answer) → IsVerify call.words name → IsOneExact call.analyses
     → IsVerified (call.bytes_of name) (call.faults_before name) (call.faults_after name) a → IsLawful call a

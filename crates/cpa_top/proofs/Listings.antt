@@ -14,8 +14,8 @@ pub listed_push : (n : ℕ) (es : List Elem) (e : Elem) → listed_from n (es ++
 listed_push n [] e = ap (λ k. entry_at k e ∷ []) (sym (add-zero n))
 listed_push n (d ∷ es) e =
     ap (λ rest. entry_at n d ∷ rest) (listed_push (n + 1) es e ∙ ap (λ k. listed_from (n + 1) es ++ entry_at k e ∷ []) moved) where
-  moved : n + 1 + length es ≡ n + length (d ∷ es)
-  moved = omega arith
+      moved : n + 1 + length es ≡ n + length (d ∷ es)
+      moved = omega arith
 
 -- the entries are numbered by their places
 listed_number : (n : ℕ) (es : List Elem) (k : ℕ) (entry : Listed) → slice_get (listed_from n es) k ≡ Some entry → entry.number ≡ n + k

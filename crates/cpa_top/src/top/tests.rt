@@ -117,17 +117,31 @@ fn texts(alloc: Global, words: &[&str]) -> Result<Vec<String>, AllocError> {
 /// The one file `p.c`.
 fn file(alloc: Global, text: &[u8]) -> Result<MemoryInputs, AllocError> {
     let mut files = Vec::new(alloc);
-    files.push((String::from_str(alloc, "p.c")?, Vec::from_slice(alloc, text)?))?;
+    files.push((
+        String::from_str(alloc, "p.c")?,
+        Vec::from_slice(alloc, text)?,
+    ))?;
     MemoryInputs::new(alloc, files, Vec::new(alloc))
 }
 
 /// The status of `verify p.c` on the text, and what is written.
-fn verify_text(rt: &HostRuntime, text: &[u8], room: usize) -> Result<(u8, MemorySink), AllocError> {
-    let alloc = rt.alloc();
+fn verify_text<R: Threads + Sync>(
+    rt: &R,
+    alloc: Global,
+    text: &[u8],
+    room: usize,
+) -> Result<(u8, MemorySink), AllocError> {
     let mut inputs = file(alloc, text)?;
     let mut out = MemorySink::new(alloc, room, room, Vec::new(alloc))?;
     let words = texts(alloc, &["verify", "p.c"])?;
-    let status = run(rt, alloc, words, locations(alloc, 1)?, &mut inputs, &mut out);
+    let status = run(
+        rt,
+        alloc,
+        words,
+        locations(alloc, 1)?,
+        &mut inputs,
+        &mut out,
+    );
     Ok((status, out))
 }
 
@@ -143,7 +157,7 @@ fn texts_and_their_answers(rt: HostRuntime) -> Result<(), Fail> {
         ("int main(void){int x;return 0;}", 11, UNBUILT),
         ("", 11, UNBUILT),
     ] {
-        let (got, out) = verify_text(&rt, text.as_bytes(), 9999)?;
+        let (got, out) = verify_text(&rt, rt.alloc(), text.as_bytes(), 9999)?;
         assert_eq!(rt; got, status, "{text}");
         assert_eq!(rt; out.written(), written.as_bytes(), "{text}");
     }
@@ -167,7 +181,14 @@ fn words_and_lists(rt: HostRuntime) -> Result<(), Fail> {
         let mut inputs = file(alloc, RETURNS.as_bytes())?;
         let mut out = MemorySink::new(alloc, 999, 999, Vec::new(alloc))?;
         let words = texts(alloc, words)?;
-        let got = run(&rt, alloc, words, locations(alloc, count)?, &mut inputs, &mut out);
+        let got = run(
+            &rt,
+            alloc,
+            words,
+            locations(alloc, count)?,
+            &mut inputs,
+            &mut out,
+        );
         assert_eq!(rt; got, status);
         assert_eq!(rt; out.written(), written.as_bytes());
     }
@@ -198,7 +219,17 @@ fn reads_that_fail(rt: HostRuntime) -> Result<(), Fail> {
     let mut inputs = MemoryInputs::new(alloc, files, [0].to_vec(alloc)?)?;
     let mut out = MemorySink::new(alloc, 99, 99, Vec::new(alloc))?;
     let words = texts(alloc, &["verify", "p.c"])?;
-    assert_eq!(rt; run(&rt, alloc, words, locations(alloc, 1)?, &mut inputs, &mut out), 4);
+    assert_eq!(rt;
+        run(
+            &rt,
+            alloc,
+            words,
+            locations(alloc, 1)?,
+            &mut inputs,
+            &mut out
+        ),
+        4
+    );
     assert_eq!(rt; out.written(), "refused read program\n".as_bytes());
     Ok(())
 }
@@ -207,14 +238,14 @@ fn reads_that_fail(rt: HostRuntime) -> Result<(), Fail> {
 fn long_texts(rt: HostRuntime) -> Result<(), Fail> {
     let alloc = rt.alloc();
     let blanks = vec![in alloc; b' '; 1_048_577]?;
-    let (status, out) = verify_text(&rt, blanks.as_slice(), 99)?;
+    let (status, out) = verify_text(&rt, rt.alloc(), blanks.as_slice(), 99)?;
     assert_eq!(rt; status, 5);
     assert_eq!(rt; out.written(), "refused long program\n".as_bytes());
     // At the limit the text is read: a program, and blanks behind it.
     let mut text = Vec::from_slice(alloc, RETURNS.as_bytes())?;
     text.extend_from_slice(&blanks.as_slice()[..1_048_551])?;
     assert_eq!(rt; text.len(), 1_048_576);
-    let (status, _) = verify_text(&rt, text.as_slice(), 999)?;
+    let (status, _) = verify_text(&rt, rt.alloc(), text.as_slice(), 999)?;
     assert_eq!(rt; status, 0);
     Ok(())
 }
@@ -235,9 +266,20 @@ fn sinks_that_fail_or_take_little(rt: HostRuntime) -> Result<(), Fail> {
         let mut inputs = file(alloc, RETURNS.as_bytes())?;
         let mut out = MemorySink::new(alloc, 999, most, numbers)?;
         let words = texts(alloc, &["verify", "p.c"])?;
-        let got = run(&rt, alloc, words, locations(alloc, 1)?, &mut inputs, &mut out);
+        let got = run(
+            &rt,
+            alloc,
+            words,
+            locations(alloc, 1)?,
+            &mut inputs,
+            &mut out,
+        );
         assert_eq!(rt; got, status, "most {most}");
-        assert_eq!(rt; out.written(), RETURNS_REPORT.as_bytes().split_at(length).0, "most {most}");
+        assert_eq!(rt;
+            out.written(),
+            RETURNS_REPORT.as_bytes().split_at(length).0,
+            "most {most}"
+        );
     }
     Ok(())
 }
@@ -260,7 +302,7 @@ fn levels(rt: HostRuntime) -> Result<(), Fail> {
     // Main's own block stands at level 1.
     for (blocks, status) in [(199, 0), (200, 11)] {
         let text = nested(rt.alloc(), blocks)?;
-        let (got, _) = verify_text(&rt, text.as_bytes(), 99_999)?;
+        let (got, _) = verify_text(&rt, rt.alloc(), text.as_bytes(), 99_999)?;
         assert_eq!(rt; got, status, "{blocks} blocks");
     }
     Ok(())
@@ -274,10 +316,11 @@ fn many_statements(rt: HostRuntime) -> Result<(), Fail> {
         text.push_str("if(__VERIFIER_nondet_int()){}else;")?;
     }
     text.push_str("}")?;
-    let (status, out) = verify_text(&rt, text.as_bytes(), 999_999)?;
+    let (status, out) = verify_text(&rt, rt.alloc(), text.as_bytes(), 999_999)?;
     assert_eq!(rt; status, 0);
     // Each statement takes an input's cell, five points and six edges; main's block, result and exit come besides.
-    let front = "TRUE\n{\"cells\":2001,\"edges\":12002,\"entries\":[{\"elems\":[[[\"at\",0]]],\"number\":0},";
+    let front =
+        "TRUE\n{\"cells\":2001,\"edges\":12002,\"entries\":[{\"elems\":[[[\"at\",0]]],\"number\":0},";
     let back = ",\"number\":10002}],\"form\":1,\"points\":10003,\"text\":68016}\n";
     let written = out.written();
     assert!(rt; written.starts_with(front.as_bytes()));
