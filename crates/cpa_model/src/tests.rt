@@ -138,6 +138,14 @@ fn elem(alloc: Global, fact: Fact) -> Result<Elem, AllocError> {
     })
 }
 
+fn holds_alone(alloc: Global, fact: Fact, state: &State) -> Result<bool, AllocError> {
+    Ok(holds(&elem(alloc, fact)?, state))
+}
+
+fn is_shaped(alloc: Global, fact: Fact, cfa: &Cfa) -> Result<bool, AllocError> {
+    Ok(is_elem(&elem(alloc, fact)?, cfa))
+}
+
 fn state(alloc: Global) -> Result<State, AllocError> {
     Ok(State {
         point: 3,
@@ -152,54 +160,47 @@ fn state(alloc: Global) -> Result<State, AllocError> {
 fn tells_facts_of_a_state(rt: HostRuntime) -> Result<(), Fail> {
     let alloc = rt.alloc();
     let state = state(alloc)?;
-    for (point, wanted) in [(3, true), (4, false)] {
-        assert_eq!(rt;
-            holds(&elem(alloc, Fact::At { point })?, &state),
-            wanted,
-            "at {point}"
-        );
-    }
-    for (cell, value, wanted) in [(0, 5, true), (1, 7, false), (2, 0, false)] {
-        let fact = Fact::Equals { cell, value };
-        assert_eq!(rt;
-            holds(&elem(alloc, fact)?, &state),
-            wanted,
-            "{cell} is {value}"
-        );
-    }
-    for (lo, hi, wanted) in [(-7, -7, true), (-6, 0, false), (-9, -8, false)] {
-        let fact = Fact::Within { cell: 1, lo, hi };
-        assert_eq!(rt;
-            holds(&elem(alloc, fact)?, &state),
-            wanted,
-            "from {lo} to {hi}"
-        );
-    }
-    for (expr, truth, wanted) in [
-        (FIRST, true, true),
-        (FIRST, false, false),
-        (ZERO, false, true),
-    ] {
-        let fact = Fact::Truth { expr, holds: truth };
-        assert_eq!(rt;
-            holds(&elem(alloc, fact)?, &state),
-            wanted,
-            "{expr:?} {truth}"
-        );
-    }
-    assert_eq!(rt; value(&FIRST, &state.store), Some(5));
-    Ok(())
-}
-
-#[test]
-fn tells_the_whole_stack(rt: HostRuntime) -> Result<(), Fail> {
-    let alloc = rt.alloc();
-    let state = state(alloc)?;
-    assert!(rt; holds(&elem(alloc, sites(alloc, &[1, 2])?)?, &state));
-    assert!(rt; !holds(&elem(alloc, sites(alloc, &[2])?)?, &state));
-    let mut both = elem(alloc, Fact::At { point: 3 })?;
-    both.facts.push(sites(alloc, &[2, 1])?)?;
-    assert!(rt; !holds(&both, &state));
+    let told = [
+        holds_alone(alloc, Fact::At { point: 3 }, &state)?,
+        holds_alone(alloc, Fact::At { point: 4 }, &state)?,
+        holds_alone(alloc, Fact::Equals { cell: 0, value: 5 }, &state)?,
+        holds_alone(alloc, Fact::Equals { cell: 2, value: 0 }, &state)?,
+        holds_alone(
+            alloc,
+            Fact::Within {
+                cell: 1,
+                lo: -7,
+                hi: -7,
+            },
+            &state,
+        )?,
+        holds_alone(
+            alloc,
+            Fact::Within {
+                cell: 1,
+                lo: -6,
+                hi: 0,
+            },
+            &state,
+        )?,
+        holds_alone(
+            alloc,
+            Fact::Truth {
+                expr: FIRST,
+                holds: true,
+            },
+            &state,
+        )?,
+        holds_alone(
+            alloc,
+            Fact::Truth {
+                expr: ZERO,
+                holds: true,
+            },
+            &state,
+        )?,
+    ];
+    assert_eq!(rt; told, [true, false, true, false, true, false, true, false]);
     Ok(())
 }
 
@@ -216,40 +217,39 @@ fn one_cell(alloc: Global) -> Result<Cfa, AllocError> {
 }
 
 #[test]
-fn tells_shaped_elements(rt: HostRuntime) -> Result<(), Fail> {
+fn tells_shaped_values(rt: HostRuntime) -> Result<(), Fail> {
+    let alloc = rt.alloc();
+    let cfa = one_cell(alloc)?;
+    for (cell, value, wanted) in [(0, -128, true), (0, 128, false), (1, 0, false)] {
+        let found = is_shaped(alloc, Fact::Equals { cell, value }, &cfa)?;
+        assert_eq!(rt; found, wanted, "{cell} is {value}");
+    }
+    for (lo, hi, wanted) in [(-1, 127, true), (1, 0, false), (0, 128, false)] {
+        let found = is_shaped(alloc, Fact::Within { cell: 0, lo, hi }, &cfa)?;
+        assert_eq!(rt; found, wanted, "from {lo} to {hi}");
+    }
+    Ok(())
+}
+
+#[test]
+fn tells_shaped_points_and_expressions(rt: HostRuntime) -> Result<(), Fail> {
     let alloc = rt.alloc();
     let cfa = one_cell(alloc)?;
     for (point, wanted) in [(3, true), (4, false)] {
         assert_eq!(rt;
-            is_elem(&elem(alloc, Fact::At { point })?, &cfa),
+            is_shaped(alloc, Fact::At { point }, &cfa)?,
             wanted,
             "at {point}"
         );
         assert_eq!(rt;
-            is_elem(&elem(alloc, sites(alloc, &[0, point])?)?, &cfa),
+            is_shaped(alloc, sites(alloc, &[0, point])?, &cfa)?,
             wanted,
             "{point}"
         );
     }
-    for (cell, value, wanted) in [(0, -128, true), (0, 128, false), (1, 0, false)] {
-        let fact = Fact::Equals { cell, value };
-        assert_eq!(rt;
-            is_elem(&elem(alloc, fact)?, &cfa),
-            wanted,
-            "{cell} is {value}"
-        );
-    }
-    for (lo, hi, wanted) in [(-1, 127, true), (1, 0, false), (0, 128, false)] {
-        let fact = Fact::Within { cell: 0, lo, hi };
-        assert_eq!(rt;
-            is_elem(&elem(alloc, fact)?, &cfa),
-            wanted,
-            "from {lo} to {hi}"
-        );
-    }
     for (expr, wanted) in [(FIRST, true), (ZERO, true), (WIDE, false), (OTHER, false)] {
-        let fact = Fact::Truth { expr, holds: true };
-        assert_eq!(rt; is_elem(&elem(alloc, fact)?, &cfa), wanted, "{expr:?}");
+        let found = is_shaped(alloc, Fact::Truth { expr, holds: true }, &cfa)?;
+        assert_eq!(rt; found, wanted, "{expr:?}");
     }
     Ok(())
 }
