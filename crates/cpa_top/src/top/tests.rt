@@ -4,38 +4,12 @@ use crate::outside::{MemoryInputs, MemorySink};
 use cpa_iface::{Location, Part, Precision, Settings, has_facts};
 use cpa_model::{Cfa, Elem, Seq};
 use std::alloc::AllocError;
+use std::process::Abort;
 use std::test::Fail;
 
 const RETURNS: &str = "int main(void){return 0;}";
 
-const RETURNS_REPORT: &str = "TRUE
-{\"cells\":1,\"edges\":4,\"entries\":[{\"elems\":[[[\"at\",0]]],\"number\":0},{\"elems\":[[[\"at\",1]]],\"number\":1},{\"elems\":[[[\"at\",2]]],\"number\":2},{\"elems\":[[[\"at\",3]]],\"number\":3},{\"elems\":[[[\"at\",4]]],\"number\":4}],\"form\":1,\"points\":5,\"text\":25}
-";
-
-const LOOPS: &str = "int main(void){while(__VERIFIER_nondet_int()){}abort();reach_error();}";
-
-const LOOPS_REPORT: &str = "TRUE
-{\"cells\":2,\"edges\":12,\"entries\":[{\"elems\":[[[\"at\",0]]],\"number\":0},{\"elems\":[[[\"at\",1]]],\"number\":1},{\"elems\":[[[\"at\",2]]],\"number\":2},{\"elems\":[[[\"at\",3]]],\"number\":3},{\"elems\":[[[\"at\",4]]],\"number\":4},{\"elems\":[[[\"at\",5]]],\"number\":5},{\"elems\":[[[\"at\",6]]],\"number\":6},{\"elems\":[[[\"at\",7]]],\"number\":7},{\"elems\":[[[\"at\",9]]],\"number\":8},{\"elems\":[[[\"at\",8]]],\"number\":9},{\"elems\":[[[\"at\",10]]],\"number\":10},{\"elems\":[[[\"at\",11]]],\"number\":11}],\"form\":1,\"points\":14,\"text\":70}
-";
-
-const NESTED: &str = "int main ( void )
-{
-  if (1) if (0) ; else { } 
-  while (0) { ; abort ( ) ; }
-}";
-
-const NESTED_REPORT: &str = "TRUE
-{\"cells\":1,\"edges\":20,\"entries\":[{\"elems\":[[[\"at\",0]]],\"number\":0},{\"elems\":[[[\"at\",1]]],\"number\":1},{\"elems\":[[[\"at\",2]]],\"number\":2},{\"elems\":[[[\"at\",3]]],\"number\":3},{\"elems\":[[[\"at\",8]]],\"number\":4},{\"elems\":[[[\"at\",4]]],\"number\":5},{\"elems\":[[[\"at\",9]]],\"number\":6},{\"elems\":[[[\"at\",5]]],\"number\":7},{\"elems\":[[[\"at\",6]]],\"number\":8},{\"elems\":[[[\"at\",10]]],\"number\":9},{\"elems\":[[[\"at\",7]]],\"number\":10},{\"elems\":[[[\"at\",11]]],\"number\":11},{\"elems\":[[[\"at\",12]]],\"number\":12},{\"elems\":[[[\"at\",13]]],\"number\":13},{\"elems\":[[[\"at\",15]]],\"number\":14},{\"elems\":[[[\"at\",14]]],\"number\":15},{\"elems\":[[[\"at\",16]]],\"number\":16},{\"elems\":[[[\"at\",18]]],\"number\":17}],\"form\":1,\"points\":19,\"text\":79}
-";
-
 const UNBUILT: &str = "refused unbuilt\n";
-
-const USAGE: &str = "usage: cpaverify verify PROGRAM [--config FILE]
-       cpaverify replay PROGRAM INPUTS [--steps N]
-       cpaverify recheck PROGRAM REPORT [--config FILE] [--proof] [--workers N]
-       cpaverify audit PROGRAM PROOF [--workers N]
-       cpaverify bench N
-";
 
 /// An analysis that knows nothing and is exact on nothing.
 #[derive(Debug, Drop)]
@@ -124,7 +98,7 @@ fn file(alloc: Global, text: &[u8]) -> Result<MemoryInputs, AllocError> {
     MemoryInputs::new(alloc, files, Vec::new(alloc))
 }
 
-/// The status of `verify p.c` on the text, and what is written.
+/// The status of `verify p.c` on the text, and the sink with what is written.
 fn verify_text<R: Threads + Sync>(
     rt: &R,
     alloc: Global,
@@ -134,64 +108,149 @@ fn verify_text<R: Threads + Sync>(
     let mut inputs = file(alloc, text)?;
     let mut out = MemorySink::new(alloc, room, room, Vec::new(alloc))?;
     let words = texts(alloc, &["verify", "p.c"])?;
-    let status = run(
-        rt,
-        alloc,
-        words,
-        locations(alloc, 1)?,
-        &mut inputs,
-        &mut out,
-    );
+    let analyses = locations(alloc, 1)?;
+    let status = run(rt, alloc, words, analyses, &mut inputs, &mut out);
     Ok((status, out))
 }
 
-#[test]
-fn texts_and_their_answers(rt: HostRuntime) -> Result<(), Fail> {
-    for (text, status, written) in [
-        (RETURNS, 0, RETURNS_REPORT),
-        (LOOPS, 0, LOOPS_REPORT),
-        (NESTED, 0, NESTED_REPORT),
-        ("int main(void){if(0)reach_error();return 0;}", 11, UNBUILT),
-        ("int main(void){reach_error();}", 11, UNBUILT),
-        ("int main(void){while(1){}reach_error();}", 11, UNBUILT),
-        ("int main(void){int x;return 0;}", 11, UNBUILT),
-        ("", 11, UNBUILT),
-    ] {
-        let (got, out) = verify_text(&rt, rt.alloc(), text.as_bytes(), 9999)?;
-        assert_eq!(rt; got, status, "{text}");
-        assert_eq!(rt; out.written(), written.as_bytes(), "{text}");
+/// What a program of so many cells, edges and points is answered, whose points come in this order.
+#[derive(Drop)]
+struct Wanted<'a> {
+    cells: u32,
+    edges: u32,
+    points: u32,
+    order: &'a [u32],
+}
+
+fn report(alloc: Global, wanted: &Wanted, length: usize) -> Result<String, AllocError> {
+    let cells = wanted.cells;
+    let edges = wanted.edges;
+    let points = wanted.points;
+    let mut text = format!(in alloc; "TRUE\n{{\"cells\":{cells},\"edges\":{edges},\"entries\":[")?;
+    for (number, point) in wanted.order.iter().enumerate() {
+        if number > 0 {
+            text.push_str(",")?;
+        }
+        write!(
+            text,
+            "{{\"elems\":[[[\"at\",{point}]]],\"number\":{number}}}"
+        )?;
     }
+    write!(
+        text,
+        "],\"form\":1,\"points\":{points},\"text\":{length}}}\n"
+    )?;
+    Ok(text)
+}
+
+fn expect_safe<R: Threads + Sync + Abort>(
+    rt: &R,
+    alloc: Global,
+    text: &str,
+    wanted: Wanted,
+) -> Result<(), AllocError> {
+    let report = report(alloc, &wanted, text.len())?;
+    let (status, out) = verify_text(rt, alloc, text.as_bytes(), 9999)?;
+    assert_eq!(rt; status, 0);
+    assert_eq!(rt; out.written(), report.as_bytes());
     Ok(())
 }
 
 #[test]
-fn words_and_lists(rt: HostRuntime) -> Result<(), Fail> {
-    let alloc = rt.alloc();
-    for (words, count, status, written) in [
-        ([].as_slice(), 1, 3, USAGE),
-        (["check"].as_slice(), 1, 3, USAGE),
-        (["verify"].as_slice(), 1, 3, USAGE),
-        (["verify", "p.c", "p.c"].as_slice(), 1, 3, USAGE),
-        (["replay", "p.c"].as_slice(), 1, 3, USAGE),
-        (["verify", "p.c"].as_slice(), 0, 11, UNBUILT),
-        (["verify", "p.c"].as_slice(), 2, 11, UNBUILT),
-        (["verify", "p.c"].as_slice(), 1, 0, RETURNS_REPORT),
-        (["verify", "q.c"].as_slice(), 1, 4, "refused read program\n"),
+fn a_return(rt: HostRuntime) -> Result<(), Fail> {
+    let wanted = Wanted {
+        cells: 1,
+        edges: 4,
+        points: 5,
+        order: &[0, 1, 2, 3, 4],
+    };
+    expect_safe(&rt, rt.alloc(), RETURNS, wanted)?;
+    Ok(())
+}
+
+#[test]
+fn a_loop_before_an_abort(rt: HostRuntime) -> Result<(), Fail> {
+    let text = "int main(void){while(__VERIFIER_nondet_int()){}abort();reach_error();}";
+    let wanted = Wanted {
+        cells: 2,
+        edges: 12,
+        points: 14,
+        order: &[0, 1, 2, 3, 4, 5, 6, 7, 9, 8, 10, 11],
+    };
+    expect_safe(&rt, rt.alloc(), text, wanted)?;
+    Ok(())
+}
+
+#[test]
+fn an_else_of_the_nearest_if(rt: HostRuntime) -> Result<(), Fail> {
+    let text =
+        "int main ( void )\n{\n  if (1) if (0) ; else { } \n  while (0) { ; abort ( ) ; }\n}";
+    let wanted = Wanted {
+        cells: 1,
+        edges: 20,
+        points: 19,
+        order: &[0, 1, 2, 3, 8, 4, 9, 5, 6, 10, 7, 11, 12, 13, 15, 14, 16, 18],
+    };
+    expect_safe(&rt, rt.alloc(), text, wanted)?;
+    Ok(())
+}
+
+fn expect_unbuilt<R: Threads + Sync + Abort>(
+    rt: &R,
+    alloc: Global,
+    text: &str,
+) -> Result<(), AllocError> {
+    let (status, out) = verify_text(rt, alloc, text.as_bytes(), 99)?;
+    assert_eq!(rt; status, 11, "{text}");
+    assert_eq!(rt; out.written(), UNBUILT.as_bytes(), "{text}");
+    Ok(())
+}
+
+#[test]
+fn texts_that_are_unbuilt(rt: HostRuntime) -> Result<(), Fail> {
+    for text in [
+        "int main(void){if(0)reach_error();return 0;}",
+        "int main(void){reach_error();}",
+        "int main(void){while(1){}reach_error();}",
+        "int main(void){int x;return 0;}",
+        "",
     ] {
-        let mut inputs = file(alloc, RETURNS.as_bytes())?;
-        let mut out = MemorySink::new(alloc, 999, 999, Vec::new(alloc))?;
-        let words = texts(alloc, words)?;
-        let got = run(
-            &rt,
-            alloc,
-            words,
-            locations(alloc, count)?,
-            &mut inputs,
-            &mut out,
-        );
-        assert_eq!(rt; got, status);
-        assert_eq!(rt; out.written(), written.as_bytes());
+        expect_unbuilt(&rt, rt.alloc(), text)?;
     }
+    Ok(())
+}
+
+/// The status of a call on the file `p.c` with these words and so many analyses.
+fn status_of<R: Threads + Sync>(
+    rt: &R,
+    alloc: Global,
+    words: &[&str],
+    count: usize,
+) -> Result<u8, AllocError> {
+    let mut inputs = file(alloc, RETURNS.as_bytes())?;
+    let mut out = MemorySink::new(alloc, 999, 999, Vec::new(alloc))?;
+    let words = texts(alloc, words)?;
+    let analyses = locations(alloc, count)?;
+    Ok(run(rt, alloc, words, analyses, &mut inputs, &mut out))
+}
+
+#[test]
+fn words_that_are_no_command(rt: HostRuntime) -> Result<(), Fail> {
+    let alloc = rt.alloc();
+    assert_eq!(rt; status_of(&rt, alloc, &[], 1)?, 3);
+    assert_eq!(rt; status_of(&rt, alloc, &["check"], 1)?, 3);
+    assert_eq!(rt; status_of(&rt, alloc, &["verify"], 1)?, 3);
+    assert_eq!(rt; status_of(&rt, alloc, &["verify", "p.c", "p.c"], 1)?, 3);
+    assert_eq!(rt; status_of(&rt, alloc, &["verify", "q.c"], 1)?, 4);
+    Ok(())
+}
+
+#[test]
+fn lists_of_analyses(rt: HostRuntime) -> Result<(), Fail> {
+    let alloc = rt.alloc();
+    assert_eq!(rt; status_of(&rt, alloc, &["verify", "p.c"], 0)?, 11);
+    assert_eq!(rt; status_of(&rt, alloc, &["verify", "p.c"], 1)?, 0);
+    assert_eq!(rt; status_of(&rt, alloc, &["verify", "p.c"], 2)?, 11);
     Ok(())
 }
 
@@ -203,84 +262,71 @@ fn an_analysis_that_is_exact_on_nothing(rt: HostRuntime) -> Result<(), Fail> {
     let mut inputs = file(alloc, RETURNS.as_bytes())?;
     let mut out = MemorySink::new(alloc, 99, 99, Vec::new(alloc))?;
     let words = texts(alloc, &["verify", "p.c"])?;
-    assert_eq!(rt; run(&rt, alloc, words, analyses, &mut inputs, &mut out), 11);
+    let status = run(&rt, alloc, words, analyses, &mut inputs, &mut out);
+    assert_eq!(rt; status, 11);
     assert_eq!(rt; out.written(), UNBUILT.as_bytes());
     Ok(())
 }
 
-#[test]
-fn reads_that_fail(rt: HostRuntime) -> Result<(), Fail> {
-    let alloc = rt.alloc();
+/// The status on a file whose first read fails.
+fn status_of_failing_read<R: Threads + Sync>(rt: &R, alloc: Global) -> Result<u8, AllocError> {
     let mut files = Vec::new(alloc);
-    files.push((
-        String::from_str(alloc, "p.c")?,
-        RETURNS.as_bytes().to_vec(alloc)?,
-    ))?;
+    let text = RETURNS.as_bytes().to_vec(alloc)?;
+    files.push((String::from_str(alloc, "p.c")?, text))?;
     let mut inputs = MemoryInputs::new(alloc, files, [0].to_vec(alloc)?)?;
     let mut out = MemorySink::new(alloc, 99, 99, Vec::new(alloc))?;
     let words = texts(alloc, &["verify", "p.c"])?;
-    assert_eq!(rt;
-        run(
-            &rt,
-            alloc,
-            words,
-            locations(alloc, 1)?,
-            &mut inputs,
-            &mut out
-        ),
-        4
-    );
-    assert_eq!(rt; out.written(), "refused read program\n".as_bytes());
+    let analyses = locations(alloc, 1)?;
+    Ok(run(rt, alloc, words, analyses, &mut inputs, &mut out))
+}
+
+#[test]
+fn a_read_that_fails(rt: HostRuntime) -> Result<(), Fail> {
+    assert_eq!(rt; status_of_failing_read(&rt, rt.alloc())?, 4);
     Ok(())
 }
 
 #[test]
-fn long_texts(rt: HostRuntime) -> Result<(), Fail> {
-    let alloc = rt.alloc();
-    let blanks = vec![in alloc; b' '; 1_048_577]?;
-    let (status, out) = verify_text(&rt, rt.alloc(), blanks.as_slice(), 99)?;
+fn a_text_beyond_the_limit(rt: HostRuntime) -> Result<(), Fail> {
+    let blanks = vec![in rt.alloc(); b' '; 1_048_577]?;
+    let (status, _) = verify_text(&rt, rt.alloc(), blanks.as_slice(), 99)?;
     assert_eq!(rt; status, 5);
-    assert_eq!(rt; out.written(), "refused long program\n".as_bytes());
-    // At the limit the text is read: a program, and blanks behind it.
-    let mut text = Vec::from_slice(alloc, RETURNS.as_bytes())?;
-    text.extend_from_slice(&blanks.as_slice()[..1_048_551])?;
+    Ok(())
+}
+
+#[test]
+fn a_text_at_the_limit(rt: HostRuntime) -> Result<(), Fail> {
+    let mut text = vec![in rt.alloc(); b' '; 1_048_551]?;
+    text.extend_from_slice(RETURNS.as_bytes())?;
     assert_eq!(rt; text.len(), 1_048_576);
     let (status, _) = verify_text(&rt, rt.alloc(), text.as_slice(), 999)?;
     assert_eq!(rt; status, 0);
     Ok(())
 }
 
+/// The status, and how much is written, where a write takes at most so many bytes and some write fails.
+fn written_to<R: Threads + Sync>(
+    rt: &R,
+    alloc: Global,
+    most: usize,
+    fail: &[u32],
+) -> Result<(u8, usize), AllocError> {
+    let mut inputs = file(alloc, RETURNS.as_bytes())?;
+    let mut out = MemorySink::new(alloc, 999, most, fail.to_vec(alloc)?)?;
+    let words = texts(alloc, &["verify", "p.c"])?;
+    let analyses = locations(alloc, 1)?;
+    let status = run(rt, alloc, words, analyses, &mut inputs, &mut out);
+    Ok((status, out.written().len()))
+}
+
 #[test]
 fn sinks_that_fail_or_take_little(rt: HostRuntime) -> Result<(), Fail> {
     let alloc = rt.alloc();
-    for (most, fail, status, length) in [
-        (1, None, 0, RETURNS_REPORT.len()),
-        (999, Some(0), 9, 0),
-        (4, Some(1), 9, 4),
-        (0, None, 9, 0),
-    ] {
-        let mut numbers = Vec::new(alloc);
-        if let Some(number) = fail {
-            numbers.push(number)?;
-        }
-        let mut inputs = file(alloc, RETURNS.as_bytes())?;
-        let mut out = MemorySink::new(alloc, 999, most, numbers)?;
-        let words = texts(alloc, &["verify", "p.c"])?;
-        let got = run(
-            &rt,
-            alloc,
-            words,
-            locations(alloc, 1)?,
-            &mut inputs,
-            &mut out,
-        );
-        assert_eq!(rt; got, status, "most {most}");
-        assert_eq!(rt;
-            out.written(),
-            RETURNS_REPORT.as_bytes().split_at(length).0,
-            "most {most}"
-        );
-    }
+    assert_eq!(rt; written_to(&rt, alloc, 999, &[])?, (0, 239));
+    assert_eq!(rt; written_to(&rt, alloc, 1, &[])?, (0, 239));
+    assert_eq!(rt; written_to(&rt, alloc, 999, &[0])?, (9, 0));
+    assert_eq!(rt; written_to(&rt, alloc, 4, &[1])?, (9, 4));
+    assert_eq!(rt; written_to(&rt, alloc, 0, &[])?, (9, 0));
     Ok(())
 }
 
@@ -308,22 +354,29 @@ fn levels(rt: HostRuntime) -> Result<(), Fail> {
     Ok(())
 }
 
-#[test]
-fn many_statements(rt: HostRuntime) -> Result<(), Fail> {
-    let alloc = rt.alloc();
+/// A program of so many ifs.
+fn ifs(alloc: Global, count: usize) -> Result<String, AllocError> {
     let mut text = String::from_str(alloc, "int main(void){")?;
-    for _ in 0..2_000 {
+    for _ in 0..count {
         text.push_str("if(__VERIFIER_nondet_int()){}else;")?;
     }
     text.push_str("}")?;
+    Ok(text)
+}
+
+#[test]
+fn many_statements(rt: HostRuntime) -> Result<(), Fail> {
+    let text = ifs(rt.alloc(), 2_000)?;
     let (status, out) = verify_text(&rt, rt.alloc(), text.as_bytes(), 999_999)?;
     assert_eq!(rt; status, 0);
-    // Each statement takes an input's cell, five points and six edges; main's block, result and exit come besides.
-    let front =
-        "TRUE\n{\"cells\":2001,\"edges\":12002,\"entries\":[{\"elems\":[[[\"at\",0]]],\"number\":0},";
-    let back = ",\"number\":10002}],\"form\":1,\"points\":10003,\"text\":68016}\n";
-    let written = out.written();
-    assert!(rt; written.starts_with(front.as_bytes()));
-    assert!(rt; written.ends_with(back.as_bytes()));
+    // Each if takes a cell, five points and six edges; main's block, result and exit come besides.
+    assert!(rt;
+        out.written()
+            .starts_with(b"TRUE\n{\"cells\":2001,\"edges\":12002,")
+    );
+    assert!(rt;
+        out.written()
+            .ends_with(b",\"points\":10003,\"text\":68016}\n")
+    );
     Ok(())
 }
