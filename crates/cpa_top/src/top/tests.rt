@@ -70,16 +70,6 @@ impl Analysis for Blind {
     }
 }
 
-type Analyses = Vec<Box<dyn Analysis + Send>>;
-
-fn locations(alloc: Global, count: usize) -> Result<Analyses, AllocError> {
-    let mut analyses: Analyses = Vec::new(alloc);
-    for _ in 0..count {
-        analyses.push(Box::new(alloc, Location::new())?)?;
-    }
-    Ok(analyses)
-}
-
 fn texts(alloc: Global, words: &[&str]) -> Result<Vec<String>, AllocError> {
     let mut texts = Vec::new(alloc);
     for word in words {
@@ -98,6 +88,23 @@ fn file(alloc: Global, text: &[u8]) -> Result<MemoryInputs, AllocError> {
     MemoryInputs::new(alloc, files, Vec::new(alloc))
 }
 
+/// The status of a call with these words and so many analyses of locations.
+fn call<R: Threads + Sync, I: Inputs, K: Sink>(
+    rt: &R,
+    alloc: Global,
+    words: &[&str],
+    count: usize,
+    inputs: &mut I,
+    out: &mut K,
+) -> Result<u8, AllocError> {
+    let words = texts(alloc, words)?;
+    let mut analyses: Vec<Box<dyn Analysis + Send>> = Vec::new(alloc);
+    for _ in 0..count {
+        analyses.push(Box::new(alloc, Location::new())?)?;
+    }
+    Ok(run(rt, alloc, words, analyses, inputs, out))
+}
+
 /// The status of `verify p.c` on the text, and the sink with what is written.
 fn verify_text<R: Threads + Sync>(
     rt: &R,
@@ -107,9 +114,7 @@ fn verify_text<R: Threads + Sync>(
 ) -> Result<(u8, MemorySink), AllocError> {
     let mut inputs = file(alloc, text)?;
     let mut out = MemorySink::new(alloc, room, room, Vec::new(alloc))?;
-    let words = texts(alloc, &["verify", "p.c"])?;
-    let analyses = locations(alloc, 1)?;
-    let status = run(rt, alloc, words, analyses, &mut inputs, &mut out);
+    let status = call(rt, alloc, &["verify", "p.c"], 1, &mut inputs, &mut out)?;
     Ok((status, out))
 }
 
@@ -229,9 +234,7 @@ fn status_of<R: Threads + Sync>(
 ) -> Result<u8, AllocError> {
     let mut inputs = file(alloc, RETURNS.as_bytes())?;
     let mut out = MemorySink::new(alloc, 999, 999, Vec::new(alloc))?;
-    let words = texts(alloc, words)?;
-    let analyses = locations(alloc, count)?;
-    Ok(run(rt, alloc, words, analyses, &mut inputs, &mut out))
+    call(rt, alloc, words, count, &mut inputs, &mut out)
 }
 
 #[test]
@@ -257,7 +260,7 @@ fn lists_of_analyses(rt: HostRuntime) -> Result<(), Fail> {
 #[test]
 fn an_analysis_that_is_exact_on_nothing(rt: HostRuntime) -> Result<(), Fail> {
     let alloc = rt.alloc();
-    let mut analyses: Analyses = Vec::new(alloc);
+    let mut analyses: Vec<Box<dyn Analysis + Send>> = Vec::new(alloc);
     analyses.push(Box::new(alloc, Blind)?)?;
     let mut inputs = file(alloc, RETURNS.as_bytes())?;
     let mut out = MemorySink::new(alloc, 99, 99, Vec::new(alloc))?;
@@ -275,9 +278,7 @@ fn status_of_failing_read<R: Threads + Sync>(rt: &R, alloc: Global) -> Result<u8
     files.push((String::from_str(alloc, "p.c")?, text))?;
     let mut inputs = MemoryInputs::new(alloc, files, [0].to_vec(alloc)?)?;
     let mut out = MemorySink::new(alloc, 99, 99, Vec::new(alloc))?;
-    let words = texts(alloc, &["verify", "p.c"])?;
-    let analyses = locations(alloc, 1)?;
-    Ok(run(rt, alloc, words, analyses, &mut inputs, &mut out))
+    call(rt, alloc, &["verify", "p.c"], 1, &mut inputs, &mut out)
 }
 
 #[test]
@@ -313,9 +314,7 @@ fn written_to<R: Threads + Sync>(
 ) -> Result<(u8, usize), AllocError> {
     let mut inputs = file(alloc, RETURNS.as_bytes())?;
     let mut out = MemorySink::new(alloc, 999, most, fail.to_vec(alloc)?)?;
-    let words = texts(alloc, &["verify", "p.c"])?;
-    let analyses = locations(alloc, 1)?;
-    let status = run(rt, alloc, words, analyses, &mut inputs, &mut out);
+    let status = call(rt, alloc, &["verify", "p.c"], 1, &mut inputs, &mut out)?;
     Ok((status, out.written().len()))
 }
 
