@@ -1,0 +1,5 @@
+pub mod Congruence
+mod Masks
+pub mod WrapLaws
+pub mod Arithmetic
+pub mod Promotion

@@ -1,0 +1,4 @@
+pub mod formers
+pub mod Integers
+pub mod Wrapping
+pub mod Conversions

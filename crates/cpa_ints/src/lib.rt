@@ -1,0 +1,23 @@
+//! The integer types of C, wrapping and the usual conversions; lists and boxes that contracts see
+//! as what they hold.
+#![tactic(auto)]
+
+mod boxed;
+mod conversions;
+mod integers;
+mod laws;
+mod seq;
+mod wrapping;
+
+pub use boxed::Boxed;
+pub use conversions::{common, promote};
+pub use integers::IntType;
+pub use laws::{
+    congruent_numbers_wrap_alike, wrap_commutes, wrap_is_the_congruent_number,
+    wrap_keeps_the_range, wrap_narrows,
+};
+pub use seq::Seq;
+pub use wrapping::wrap;
+
+#[cfg(test)]
+mod tests;
