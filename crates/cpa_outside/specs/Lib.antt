@@ -1,0 +1,4 @@
+pub mod Outside
+pub mod OutsideMemory
+pub mod MemoryInputs
+pub mod MemorySink

@@ -1,0 +1,20 @@
+//! The outside: where files are read from, and where the answer is written to; both in memory, which tell
+//! their bytes, and both of the system, which tell none.
+#![tactic(auto)]
+
+mod failing_calls;
+mod files;
+mod memory_inputs;
+mod memory_sink;
+mod reads;
+mod stdout;
+#[cfg(test)]
+mod tests;
+mod writes;
+
+pub use files::FileInputs;
+pub use memory_inputs::MemoryInputs;
+pub use memory_sink::MemorySink;
+pub use reads::{Inputs, ReadFault};
+pub use stdout::StdoutSink;
+pub use writes::{Failed, Sink, write_whole};
