@@ -1,0 +1,12 @@
+pub mod ScalarReads
+pub mod SameTrees
+pub mod CellTypes
+pub mod WrapSteps
+pub mod Quotients
+pub mod Parts
+pub mod Layers
+pub mod CellsRead
+pub mod Substitution
+pub mod ValueRanges
+pub mod TrapsKept
+pub mod Unread

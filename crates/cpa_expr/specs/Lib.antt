@@ -1,0 +1,4 @@
+pub mod Shape
+pub mod Values
+pub mod Cells
+pub mod Equality

@@ -1,0 +1,166 @@
+ghost use Rattle.std.specs.Prelude.{◌≡◌, ◌<◌, ◌+◌, ◌↔◌, IsTrue, map, slice_get};
+ghost use Rattle.cpa_ints.specs.declared.integers.IntType.{IntType as Ty};
+ghost use Rattle.cpa_expr.specs.declared.tree.Expr.{out-Expr};
+ghost use Rattle.cpa_expr.specs.Shape.{is_arithmetic, is_shift, AreCells, IsTypedHere, OfParts, IsTyped, IsExpr};
+
+use crate::shape::{height, type_of};
+use crate::tree::{BinOp, Expr};
+use cpa_ints::IntType;
+
+/// The greatest height of an expression that `is_expr` takes.
+pub const MAX_HEIGHT: u32 = 500;
+
+/// What has an integer type, as a cell has that keeps other things beside it.
+pub trait Typed {
+    ghost ty: { Self → Ty };
+
+    fn ty(&self) -> IntType
+        ensures { result ≡ ty self.now };
+}
+
+impl Typed for IntType {
+    ghost ty = { λ t. t };
+
+    fn ty(&self) -> IntType {
+        *self
+    }
+}
+
+/// Whether the expression is well typed over cells of these types, and of a height of at most
+/// `MAX_HEIGHT`.
+pub fn is_expr(e: &Expr, cells: &[IntType]) -> bool
+    ensures { IsTrue result ↔ IsExpr cells.now e.now }
+{
+    is_expr_over(e, cells)
+}
+
+/// `is_expr` over cells that keep their types.
+pub fn is_expr_over<C: Typed>(e: &Expr, cells: &[C]) -> bool
+    ensures { IsTrue result ↔ IsExpr (map C.ty cells.now) e.now }
+{
+    height(e) <= MAX_HEIGHT && is_typed(e, cells)
+}
+
+/// Whether every node is well typed.
+#[cycle(typing)]
+fn is_typed<C: Typed>(e: &Expr, cells: &[C]) -> bool
+    ensures { IsTrue result ↔ IsTyped (map C.ty cells.now) e.now }
+{
+    is_typed_here(e, cells) && are_parts_typed(e, cells)
+}
+
+/// Whether the parts of the expression are well typed.
+#[cycle(typing)]
+fn are_parts_typed<C: Typed>(e: &Expr, cells: &[C]) -> bool
+    ensures { IsTrue result ↔ OfParts (IsTyped (map C.ty cells.now)) (out-Expr e.now) }
+{
+    match e {
+        Expr::Const { .. } => true,
+        Expr::Read { index, .. } => is_typed(index.get(), cells),
+        Expr::Un { arg, .. } => is_typed(arg.get(), cells),
+        Expr::Bin { left, right, .. } => both(
+            is_typed(left.get(), cells),
+            is_typed(right.get(), cells),
+        ),
+        Expr::Cmp { left, right, .. } => both(
+            is_typed(left.get(), cells),
+            is_typed(right.get(), cells),
+        ),
+        Expr::Cast { arg, .. } => is_typed(arg.get(), cells),
+        Expr::And { left, right } => both(
+            is_typed(left.get(), cells),
+            is_typed(right.get(), cells),
+        ),
+        Expr::Or { left, right } => both(is_typed(left.get(), cells), is_typed(right.get(), cells)),
+        Expr::Not { arg } => is_typed(arg.get(), cells),
+        Expr::Cond { test, yes, no, .. } => both(
+            is_typed(test.get(), cells),
+            both(is_typed(yes.get(), cells), is_typed(no.get(), cells)),
+        ),
+    }
+}
+
+/// Whether both hold.
+fn both(first: bool, second: bool) -> bool
+    ensures { IsTrue result ↔ (IsTrue first × IsTrue second) }
+{
+    first && second
+}
+
+/// Whether the node is well typed, where its parts are.
+fn is_typed_here<C: Typed>(e: &Expr, cells: &[C]) -> bool
+    ensures { IsTrue result ↔ IsTypedHere (map C.ty cells.now) (out-Expr e.now) }
+{
+    match e {
+        Expr::Const { ty, value } => ty.contains(*value),
+        Expr::Read { ty, base, len, .. } => 1 <= *len && are_cells(cells, *base, *len, *ty),
+        Expr::Un { ty, arg, .. } => is_arithmetic(*ty) && type_of(arg.get()) == *ty,
+        Expr::Bin {
+            op,
+            ty,
+            left,
+            right,
+        } => {
+            is_arithmetic(*ty)
+                && type_of(left.get()) == *ty
+                && (is_shift(*op) || type_of(right.get()) == *ty)
+        }
+        Expr::Cmp {
+            ty,
+            left,
+            right,
+            ..
+        } => type_of(left.get()) == *ty && type_of(right.get()) == *ty,
+        Expr::Cond { ty, yes, no, .. } => type_of(yes.get()) == *ty && type_of(no.get()) == *ty,
+        Expr::Cast { .. } | Expr::And { .. } | Expr::Or { .. } | Expr::Not { .. } => true,
+    }
+}
+
+/// Whether arithmetic is done at the type.
+fn is_arithmetic(ty: IntType) -> bool
+    ensures { result ≡ is_arithmetic ty }
+{
+    match ty {
+        IntType::Bool | IntType::I8 | IntType::U8 | IntType::I16 | IntType::U16 => false,
+        IntType::I32 | IntType::U32 | IntType::I64 | IntType::U64 => true,
+    }
+}
+
+/// Whether the operator is a shift.
+fn is_shift(op: BinOp) -> bool
+    ensures { result ≡ is_shift op }
+{
+    match op {
+        BinOp::Shl | BinOp::Shr => true,
+        BinOp::Add
+        | BinOp::Sub
+        | BinOp::Mul
+        | BinOp::Div
+        | BinOp::Rem
+        | BinOp::BitAnd
+        | BinOp::BitOr
+        | BinOp::BitXor => false,
+    }
+}
+
+/// Whether `len` cells from `base` on are there and have the type.
+fn are_cells<C: Typed>(cells: &[C], base: u32, len: u32, ty: IntType) -> bool
+    ensures { IsTrue result ↔ AreCells (map C.ty cells.now) base len ty }
+{
+    for i in 0..len {
+        if !is_cell(cells, base as usize + i as usize, ty) {
+            return false;
+        }
+    }
+    true
+}
+
+/// Whether the cell is there and has the type.
+fn is_cell<C: Typed>(cells: &[C], cell: usize, ty: IntType) -> bool
+    ensures { IsTrue result ↔ (slice_get (map C.ty cells.now) cell ≡ Some ty) }
+{
+    match cells.get(cell) {
+        Some(found) => found.ty() == ty,
+        None => false,
+    }
+}
