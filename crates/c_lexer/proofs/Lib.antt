@@ -1,0 +1,15 @@
+pub mod Digits
+pub mod Spaces
+pub mod Pieces
+pub mod ByteFacts
+pub mod Runs
+pub mod Comments
+pub mod Directives
+pub mod Suffixes
+pub mod Constants
+pub mod Quotes
+pub mod MarkFacts
+pub mod Sound
+pub mod Complete
+pub mod Cuts
+pub mod InOrder

@@ -1,0 +1,11 @@
+pub mod Bytes
+pub mod Gaps
+pub mod Numbers
+pub mod Quoted
+pub mod Marks
+pub mod Parts
+pub mod Faults
+pub mod Reading
+pub mod ReadingNumbers
+pub mod Pieces
+pub mod Order

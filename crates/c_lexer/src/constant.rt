@@ -1,0 +1,211 @@
+ghost use Rattle.std.specs.Prelude.{◌≡◌, ◌+◌, ◌*◌, ◌≤◌, ◌<◌, ◌^◌, length, MatchOption};
+ghost use Rattle.std.specs.Str.Parse.{digits_value};
+ghost use Rattle.c_lexer.specs.Numbers.{radix, types_of, type_of};
+ghost use Rattle.c_lexer.specs.ReadingNumbers.{base_of, front_of, digit_run, is_u, rank_of, with_rank, suffix_of, typed, suffixed, number_in, number_of};
+
+use crate::byte::digit_value;
+use crate::{Rule, TokenKind};
+use cpa_ints::IntType;
+
+/// The base in which a constant is written.
+#[derive(Clone, Copy, PartialEq, Eq)]
+pub(crate) enum Base {
+    Decimal,
+    Octal,
+    Hexadecimal,
+}
+
+/// The least of `int`, `long` and `long long` that a constant can have.
+#[derive(Clone, Copy, PartialEq, Eq)]
+pub(crate) enum Rank {
+    Int,
+    Long,
+    LongLong,
+}
+
+/// What the letters behind a constant say.
+#[derive(Clone, Copy, PartialEq, Eq)]
+pub(crate) struct Suffix {
+    pub(crate) unsigned: bool,
+    pub(crate) rank: Rank,
+}
+
+/// The number of digits of a base.
+fn radix(base: Base) -> u8
+    ensures value { result ≡ radix base }
+    ensures most { result ≤ 16 }
+    ensures some { 2 ≤ result }
+{
+    match base {
+        Base::Decimal => 10,
+        Base::Octal => 8,
+        Base::Hexadecimal => 16,
+    }
+}
+
+/// The base that a constant's first bytes name.
+fn base_of(run: &[u8]) -> Base
+    ensures { result ≡ base_of run.now }
+{
+    match run {
+        [b'0', b'x' | b'X', ..] => Base::Hexadecimal,
+        [b'0', ..] => Base::Octal,
+        _ => Base::Decimal,
+    }
+}
+
+/// The rank that these letters name.
+fn rank_of(letters: &[u8]) -> Option<Rank>
+    ensures { result ≡ rank_of letters.now }
+{
+    match letters {
+        [] => Some(Rank::Int),
+        [b'l' | b'L'] => Some(Rank::Long),
+        [b'l', b'l'] | [b'L', b'L'] => Some(Rank::LongLong),
+        _ => None,
+    }
+}
+
+/// The types that a constant can have, the first that holds it first.
+fn types_of(suffix: Suffix, base: Base) -> &'static [IntType]
+    ensures { result.now ≡ types_of suffix.rank suffix.unsigned base }
+{
+    match (suffix.rank, suffix.unsigned, base) {
+        (Rank::Int, false, Base::Decimal) => &[IntType::I32, IntType::I64, IntType::I64],
+        (Rank::Int, false, _) => {
+            &[
+                IntType::I32,
+                IntType::U32,
+                IntType::I64,
+                IntType::U64,
+                IntType::I64,
+                IntType::U64,
+            ]
+        }
+        (Rank::Int, true, _) => &[IntType::U32, IntType::U64, IntType::U64],
+        (Rank::Long, false, Base::Decimal) => &[IntType::I64, IntType::I64],
+        (Rank::Long, false, _) => &[IntType::I64, IntType::U64, IntType::I64, IntType::U64],
+        (Rank::Long, true, _) => &[IntType::U64, IntType::U64],
+        (Rank::LongLong, false, Base::Decimal) => &[IntType::I64],
+        (Rank::LongLong, false, _) => &[IntType::I64, IntType::U64],
+        (Rank::LongLong, true, _) => &[IntType::U64],
+    }
+}
+
+/// The first of its types that holds the number.
+fn type_of(suffix: Suffix, base: Base, number: u64) -> Option<IntType>
+    ensures { result ≡ type_of suffix base number }
+{
+    types_of(suffix, base)
+        .iter()
+        .copied()
+        .find(|ty| number as i128 <= ty.greatest())
+}
+
+/// The number with one more digit, where it is below 2^64.
+fn pushed(number: u64, radix: u8, digit: u8) -> Option<u64>
+    ensures { MatchOption result (2 ^ 64 ≤ number * radix + digit) (λ more. more ≡ number * radix + digit) }
+{
+    let shifted = number.checked_mul(radix as u64)?;
+    shifted.checked_add(digit as u64)
+}
+
+/// The number that the digits write, where it is below 2^64.
+pub(crate) fn value_of(digits: &[u8], radix: u8) -> Option<u64>
+    requires { 0 < radix }
+    ensures { MatchOption result (2 ^ 64 ≤ digits_value radix digits.now) (λ number. number ≡ digits_value radix digits.now) }
+{
+    let mut number: u64 = 0;
+    for byte in digits {
+        number = pushed(number, radix, digit_value(*byte))?;
+    }
+    Some(number)
+}
+
+/// Whether a byte is u or U.
+fn is_u(byte: u8) -> bool
+    ensures { result ≡ is_u byte }
+{
+    byte == b'u' || byte == b'U'
+}
+
+/// The suffix of this rank, where there is a rank.
+fn with_rank(unsigned: bool, rank: Option<Rank>) -> Option<Suffix>
+    ensures { result ≡ with_rank unsigned rank }
+{
+    let rank = rank?;
+    Some(Suffix { unsigned, rank })
+}
+
+/// The suffix that the letters are.
+fn suffix_of(letters: &[u8]) -> Option<Suffix>
+    ensures { result ≡ suffix_of letters.now }
+{
+    match letters {
+        [first, rest @ ..] if is_u(*first) => with_rank(true, rank_of(rest)),
+        [rest @ .., last] if is_u(*last) => with_rank(true, rank_of(rest)),
+        _ => with_rank(false, rank_of(letters)),
+    }
+}
+
+/// How many digits of the base stand at the front.
+fn digit_run(base: Base, text: &[u8]) -> usize
+    ensures value { result ≡ digit_run base text.now }
+    ensures within { result ≤ length text.now }
+{
+    text.iter()
+        .take_while(|byte| digit_value(**byte) < radix(base))
+        .count()
+}
+
+/// How many bytes stand before the digits.
+fn front_of(base: Base) -> usize
+    ensures { result ≡ front_of base }
+{
+    if base == Base::Hexadecimal { 2 } else { 0 }
+}
+
+/// The number, with a type that holds it.
+fn typed(ty: Option<IntType>, number: u64) -> Result<TokenKind, Rule>
+    ensures { result ≡ typed ty number }
+{
+    match ty {
+        Some(ty) => Ok(TokenKind::Number {
+            ty,
+            value: number as i128,
+        }),
+        None => Err(Rule::L3),
+    }
+}
+
+/// The number with this suffix, where there is one.
+fn suffixed(suffix: Option<Suffix>, base: Base, digits: &[u8]) -> Result<TokenKind, Rule>
+    ensures { result ≡ suffixed suffix base (digits_value (radix base) digits.now) }
+{
+    let Some(suffix) = suffix else {
+        return Err(Rule::L1);
+    };
+    let Some(number) = value_of(digits, radix(base)) else {
+        return Err(Rule::L3);
+    };
+    typed(type_of(suffix, base, number), number)
+}
+
+/// The constant of this base whose digits begin the text.
+fn number_in(base: Base, text: &[u8]) -> Result<TokenKind, Rule>
+    ensures { result ≡ number_in base text.now }
+{
+    let run = digit_run(base, text);
+    if run == 0 {
+        return Err(Rule::L1);
+    }
+    suffixed(suffix_of(&text[run..]), base, &text[..run])
+}
+
+/// The integer constant that the run is.
+pub(crate) fn number_of(run: &[u8]) -> Result<TokenKind, Rule>
+    ensures { result ≡ number_of run.now }
+{
+    let base = base_of(run);
+    number_in(base, &run[front_of(base)..])
+}

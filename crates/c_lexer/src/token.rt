@@ -1,0 +1,26 @@
+use cpa_ints::IntType;
+
+/// What a token is. The bytes of a word, a text and a mark stand in the text at its places.
+#[derive(Clone, Copy, Debug, PartialEq, Eq)]
+pub enum TokenKind {
+    /// A keyword or an identifier.
+    Word,
+    /// An integer constant.
+    Number { ty: IntType, value: i128 },
+    /// A character constant, which has type `int`.
+    Character { value: i128 },
+    /// A string literal.
+    Text,
+    /// An operator or a punctuator.
+    Mark,
+    /// The end of the text.
+    End,
+}
+
+/// A token, and its bytes: those from `from` up to `to`.
+#[derive(Clone, Copy, Debug, PartialEq, Eq)]
+pub struct Token {
+    pub kind: TokenKind,
+    pub from: u32,
+    pub to: u32,
+}
