@@ -1,6 +1,6 @@
 -- What a location keeps.
-use Rattle.std.proofs.Common.{◌≡◌, ℕ, ◌<◌, arith, ◌&&◌, eqb, Bool, true, false, List, [], ◌∷◌, refl, sym, ap, ◌∙◌, subst, inl, cond}
-use Rattle.std.specs.Prelude.{slice_get, Some, if◌then◌else◌, ◌==◌}
+use Rattle.std.proofs.Common.{◌≡◌, ℕ, ◌<◌, arith, ◌&&◌, true, List, [], ◌∷◌, refl, sym, ap, ◌∙◌, subst, inl}
+use Rattle.std.specs.Prelude.{slice_get, Some, if◌then◌else◌}
 use Rattle.std.specs.List.{AllByRecursion, list_all}
 use Rattle.std.proofs.lemmas.Bool.Decides.{Decides-eqb}
 use Rattle.cpa_model.specs.declared.facts.Fact.{Fact}

@@ -6,7 +6,6 @@ use Rattle.cpa_model.specs.declared.facts.Elem.{Elem}
 use Rattle.cpa_model.specs.declared.states.State.{State}
 use Rattle.cpa_model.specs.declared.automaton.Edge.{Edge}
 use Rattle.cpa_model.specs.declared.automaton.Cfa.{Cfa}
-use Rattle.cpa_model.specs.declared.program.Cell.{Cell}
 use Rattle.cpa_model.specs.Expressions.{IsExpr}
 use Rattle.cpa_model.specs.Facts.{Holds, IsElem}
 use Rattle.cpa_model.specs.Automata.{StepsAlong, initial_state}

@@ -2,33 +2,10 @@
 use Rattle.std.specs.Prelude.{ℕ, ◌==◌, ◌&&◌, Bool, true, false, List, [], ◌∷◌}
 use Rattle.std.specs.List.{list_all, list_any}
 use Rattle.std.specs.Ordering.{int_eq}
-use Rattle.cpa_model.specs.declared.integers.IntType.{IntType}
-use Rattle.cpa_model.specs.declared.integers.IntType.TheVariants as ty
-use Rattle.cpa_model.specs.declared.expressions.Expr.{Expr}
-use Rattle.cpa_model.specs.declared.expressions.Expr.TheVariants.{Const, Read}
+use Rattle.cpa_expr.specs.Equality.{same_expr}
 use Rattle.cpa_model.specs.declared.facts.Fact.{Fact}
 use Rattle.cpa_model.specs.declared.facts.Fact.TheVariants.{At, Stack, Equals, Within, Truth}
 use Rattle.cpa_model.specs.declared.facts.Elem.{Elem}
-
-abbrev pub tag_of : IntType → ℕ
-tag_of ty.Bool = 0
-tag_of ty.I8 = 1
-tag_of ty.U8 = 2
-tag_of ty.I16 = 3
-tag_of ty.U16 = 4
-tag_of ty.I32 = 5
-tag_of ty.U32 = 6
-tag_of ty.I64 = 7
-tag_of ty.U64 = 8
-
-abbrev pub same_type : IntType → IntType → Bool
-same_type t u = tag_of t == tag_of u
-
-abbrev pub same_expr : Expr → Expr → Bool
-same_expr (Const t n) (Const u m) = same_type t u && int_eq n m
-same_expr (Read t base) (Read u other) = same_type t u && (base == other)
-same_expr (Const t n) (Read u other) = false
-same_expr (Read t base) (Const u m) = false
 
 abbrev pub same_bool : Bool → Bool → Bool
 same_bool true b = b

@@ -1,49 +1,22 @@
 -- What a fact that stands in an element shows.
-use Rattle.std.specs.Prelude.{◌≡◌, ℕ, ℤ, ◌==◌, ◌&&◌, ◌||◌, Bool, true, false, List, [], ◌∷◌, ◌⊎◌, IsTrue, refl, slice_index_or}
+use Rattle.std.specs.Prelude.{◌≡◌, ℕ, ℤ, ◌==◌, ◌&&◌, ◌||◌, Bool, true, false, List, [], ◌∷◌, ◌⊎◌, IsTrue, refl}
 use Rattle.std.proofs.Common.{ap, sym, ◌∙◌, subst, inl, inr}
 use Rattle.std.specs.List.{AllByRecursion, list_all, list_any}
 use Rattle.std.specs.Ordering.{int_eq}
+use Rattle.std.proofs.lemmas.Bool.{and_parts}
 use Rattle.std.proofs.lemmas.Bool.Decides.{Decides-eqb, Decides-int_eq}
-use Rattle.cpa_model.specs.declared.integers.IntType.{IntType}
-use Rattle.cpa_model.specs.declared.integers.IntType.TheVariants as ty
-use Rattle.cpa_model.specs.declared.expressions.Expr.{Expr}
-use Rattle.cpa_model.specs.declared.expressions.Expr.TheVariants.{Const, Read}
+use Rattle.cpa_expr.specs.Equality.{same_expr}
+use Rattle.cpa_expr.proofs.SameTrees.{same_expr_is, same_expr_self}
 use Rattle.cpa_model.specs.declared.facts.Fact.{Fact}
 use Rattle.cpa_model.specs.declared.facts.Fact.TheVariants.{At, Stack, Equals, Within, Truth}
 use Rattle.cpa_model.specs.declared.facts.Elem.{Elem}
 use Rattle.cpa_model.specs.declared.states.State.{State}
 use Rattle.cpa_model.specs.Facts.{FactHolds, Holds}
-use Rattle.cpa_iface.specs.Standing.{tag_of, same_type, same_expr, same_bool, same_sites, same_fact, has_facts}
-
-both : (a b : Bool) → (a && b) ≡ true → (a ≡ true) × (b ≡ true)
-both true b h = (refl, h)
-both false b h = absurd (cc)
+use Rattle.cpa_iface.specs.Standing.{same_bool, same_sites, same_fact, has_facts}
 
 either : (a b : Bool) → (a || b) ≡ true → (a ≡ true) ⊎ (b ≡ true)
 either true b h = inl refl
 either false b h = inr h
-
-types : List IntType
-types = ty.Bool ∷ ty.I8 ∷ ty.U8 ∷ ty.I16 ∷ ty.U16 ∷ ty.I32 ∷ ty.U32 ∷ ty.I64 ∷ ty.U64 ∷ []
-
-type_at-tag : (t : IntType) → slice_index_or types (tag_of t) ty.Bool ≡ t
-unfolding types
-type_at-tag ty.Bool = refl
-type_at-tag ty.I8 = refl
-type_at-tag ty.U8 = refl
-type_at-tag ty.I16 = refl
-type_at-tag ty.U16 = refl
-type_at-tag ty.I32 = refl
-type_at-tag ty.U32 = refl
-type_at-tag ty.I64 = refl
-type_at-tag ty.U64 = refl
-
-same_type-means : (t u : IntType) → same_type t u ≡ true → t ≡ u
-same_type-means t u h =
-    sym (type_at-tag t) ∙ ap (λ n. slice_index_or types n ty.Bool) ((Decides-eqb (tag_of t) (tag_of u)).0 h) ∙ type_at-tag u
-
-same_type-self : (t : IntType) → same_type t t ≡ true
-same_type-self t = (Decides-eqb (tag_of t) (tag_of t)).1 refl
 
 eqb-means : (m n : ℕ) → (m == n) ≡ true → m ≡ n
 eqb-means m n = (Decides-eqb m n).0
@@ -57,20 +30,6 @@ int_eq-means m n = (Decides-int_eq m n).0
 int_eq-self : (n : ℤ) → int_eq n n ≡ true
 int_eq-self n = (Decides-int_eq n n).1 refl
 
-same_expr-means : (e f : Expr) → same_expr e f ≡ true → e ≡ f
-same_expr-means (Const t n) (Const u m) h =
-    let p = both (same_type t u) (int_eq n m) h in
-    let a = same_type-means t u p.0 in let b = int_eq-means n m p.1 in cc
-same_expr-means (Read t c) (Read u d) h =
-    let p = both (same_type t u) (c == d) h in
-    let a = same_type-means t u p.0 in let b = eqb-means c d p.1 in cc
-same_expr-means (Const t n) (Read u d) h = cc
-same_expr-means (Read t c) (Const u m) h = cc
-
-same_expr-self : (e : Expr) → same_expr e e ≡ true
-same_expr-self (Const t n) = ap (λ b. b && int_eq n n) (same_type-self t) ∙ int_eq-self n
-same_expr-self (Read t c) = ap (λ b. b && (c == c)) (same_type-self t) ∙ eqb-self c
-
 same_bool-means : (a b : Bool) → same_bool a b ≡ true → a ≡ b
 same_bool-means true b h = sym h
 same_bool-means false true h = cc
@@ -83,7 +42,7 @@ same_bool-self false = refl
 same_sites-means : (s t : List ℕ) → same_sites s t ≡ true → s ≡ t
 same_sites-means [] [] h = refl
 same_sites-means (m ∷ s) (n ∷ t) h =
-    let p = both (m == n) (same_sites s t) h in
+    let p = and_parts (m == n) (same_sites s t) h in
     let a = eqb-means m n p.0 in let b = same_sites-means s t p.1 in cc
 same_sites-means [] (n ∷ t) h = cc
 same_sites-means (m ∷ s) [] h = cc
@@ -97,15 +56,15 @@ pub same_fact-means : (f g : Fact) → same_fact f g ≡ true → f ≡ g
 same_fact-means (At p) (At q) h = ap At (eqb-means p q h)
 same_fact-means (Stack s) (Stack t) h = ap Stack (same_sites-means s t h)
 same_fact-means (Equals c v) (Equals d w) h =
-    let p = both (c == d) (int_eq v w) h in
+    let p = and_parts (c == d) (int_eq v w) h in
     let a = eqb-means c d p.0 in let b = int_eq-means v w p.1 in cc
 same_fact-means (Within c lo hi) (Within d low high) h =
-    let p = both ((c == d) && int_eq lo low) (int_eq hi high) h in
-    let q = both (c == d) (int_eq lo low) p.0 in
+    let p = and_parts ((c == d) && int_eq lo low) (int_eq hi high) h in
+    let q = and_parts (c == d) (int_eq lo low) p.0 in
     let a = eqb-means c d q.0 in let b = int_eq-means lo low q.1 in let e = int_eq-means hi high p.1 in cc
 same_fact-means (Truth e x) (Truth f y) h =
-    let p = both (same_expr e f) (same_bool x y) h in
-    let a = same_expr-means e f p.0 in let b = same_bool-means x y p.1 in cc
+    let p = and_parts (same_expr e f) (same_bool x y) h in
+    let a = same_expr_is e f p.0 in let b = same_bool-means x y p.1 in cc
 same_fact-means (At p) (Stack t) h = cc
 same_fact-means (At p) (Equals d w) h = cc
 same_fact-means (At p) (Within d low high) h = cc
@@ -133,7 +92,7 @@ same_fact-self (Stack s) = same_sites-self s
 same_fact-self (Equals c v) = ap (λ b. b && int_eq v v) (eqb-self c) ∙ int_eq-self v
 same_fact-self (Within c lo hi) =
     ap (λ b. (b && int_eq lo lo) && int_eq hi hi) (eqb-self c) ∙ (ap (λ b. b && int_eq hi hi) (int_eq-self lo) ∙ int_eq-self hi)
-same_fact-self (Truth e x) = ap (λ b. b && same_bool x x) (same_expr-self e) ∙ same_bool-self x
+same_fact-self (Truth e x) = ap (λ b. b && same_bool x x) (same_expr_self e) ∙ same_bool-self x
 
 holds-found : (s : State) (f : Fact) (own : List Fact) → list_any (λ g. same_fact g f) own ≡ true → AllByRecursion (FactHolds s) own → FactHolds s f
 holds-found s f [] h all = cc
@@ -146,7 +105,7 @@ holds-found s f (g ∷ own) h all =
 all-found : (s : State) (own others : List Fact) → list_all (λ f. list_any (λ g. same_fact g f) own) others ≡ true → AllByRecursion (FactHolds s) own → AllByRecursion (FactHolds s) others
 all-found s own [] h all = tt
 all-found s own (f ∷ others) h all =
-    let p = both (list_any (λ g. same_fact g f) own) (list_all (λ x. list_any (λ g. same_fact g x) own) others) h in
+    let p = and_parts (list_any (λ g. same_fact g f) own) (list_all (λ x. list_any (λ g. same_fact g x) own) others) h in
     (holds-found s f own p.0 all, all-found s own others p.1 all)
 
 -- an element with the facts of another holds of fewer states
@@ -163,7 +122,7 @@ any-more f g own h = or-right (same_fact g f) (list_any (λ x. same_fact x f) ow
 all-more : (g : Fact) (own others : List Fact) → list_all (λ f. list_any (λ x. same_fact x f) own) others ≡ true → list_all (λ f. list_any (λ x. same_fact x f) (g ∷ own)) others ≡ true
 all-more g own [] h = refl
 all-more g own (f ∷ others) h =
-    let p = both (list_any (λ x. same_fact x f) own) (list_all (λ y. list_any (λ x. same_fact x y) own) others) h in
+    let p = and_parts (list_any (λ x. same_fact x f) own) (list_all (λ y. list_any (λ x. same_fact x y) own) others) h in
     ap (λ b. b && list_all (λ y. list_any (λ x. same_fact x y) (g ∷ own)) others) (any-more f g own p.0) ∙ all-more g own others p.1
 
 all-own : (own : List Fact) → list_all (λ f. list_any (λ x. same_fact x f) own) own ≡ true

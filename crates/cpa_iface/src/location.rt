@@ -63,11 +63,11 @@ impl Analysis for Location {
     }
 }
 
-fn edge_at(cfa: &Cfa, edge: u32) -> Edge
+fn edge_at(cfa: &Cfa, edge: u32) -> &Edge
     requires { edge < length cfa.now.edges }
-    ensures { slice_get cfa.now.edges edge ≡ Some result }
+    ensures { slice_get cfa.now.edges edge ≡ Some result.now }
 {
-    cfa.edges.as_slice()[edge as usize]
+    &cfa.edges.as_slice()[edge as usize]
 }
 
 /// The pin of `to`, where the element may stand at `from`.

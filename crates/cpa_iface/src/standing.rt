@@ -1,8 +1,9 @@
 ghost use Rattle.std.specs.Prelude.{◌≡◌};
 ghost use Rattle.std.specs.List.{list_any};
-ghost use Rattle.cpa_iface.specs.Standing.{tag_of, same_type, same_expr, same_sites, same_fact, has_facts};
+ghost use Rattle.cpa_iface.specs.Standing.{same_sites, same_fact, has_facts};
 
-use cpa_model::{Elem, Expr, Fact, IntType};
+use cpa_expr::same_expr;
+use cpa_model::{Elem, Fact};
 
 /// Whether each fact of `other` stands in `elem`, to the letter: then each state of `elem` is one of `other`.
 pub fn has_facts(elem: &Elem, other: &Elem) -> bool
@@ -50,7 +51,7 @@ fn same_fact(a: &Fact, b: &Fact) -> bool
                 expr: other,
                 holds: wanted,
             },
-        ) => same_expr(*expr, *other) && holds == wanted,
+        ) => same_expr(expr, other) && holds == wanted,
         _ => false,
     }
 }
@@ -59,48 +60,4 @@ fn same_sites(a: &[u32], b: &[u32]) -> bool
     ensures { result ≡ same_sites a.now b.now }
 {
     a == b
-}
-
-fn same_expr(a: Expr, b: Expr) -> bool
-    ensures { result ≡ same_expr a b }
-{
-    match (a, b) {
-        (
-            Expr::Const { ty, value },
-            Expr::Const {
-                ty: other,
-                value: wanted,
-            },
-        ) => { same_type(ty, other) && value == wanted }
-        (
-            Expr::Read { ty, base },
-            Expr::Read {
-                ty: other,
-                base: wanted,
-            },
-        ) => { same_type(ty, other) && base == wanted }
-        _ => false,
-    }
-}
-
-fn same_type(a: IntType, b: IntType) -> bool
-    ensures { result ≡ same_type a b }
-{
-    tag_of(a) == tag_of(b)
-}
-
-fn tag_of(ty: IntType) -> u8
-    ensures { result ≡ tag_of ty }
-{
-    match ty {
-        IntType::Bool => 0,
-        IntType::I8 => 1,
-        IntType::U8 => 2,
-        IntType::I16 => 3,
-        IntType::U16 => 4,
-        IntType::I32 => 5,
-        IntType::U32 => 6,
-        IntType::I64 => 7,
-        IntType::U64 => 8,
-    }
 }

@@ -8,12 +8,13 @@ use Rattle.cpa_model.specs.declared.program.Stmt.TheVariants as stmt
 use Rattle.cpa_model.specs.declared.program.Program.{Program}
 use Rattle.cpa_model.specs.declared.automaton.Act.{Act}
 use Rattle.cpa_model.specs.declared.automaton.Act.TheVariants as act
-use Rattle.cpa_model.specs.Expressions.{IsCellOf, IsExpr, type_of}
+use Rattle.cpa_expr.specs.Shape.{type_of, AreCells}
+use Rattle.cpa_expr.specs.Cells.{AreValues}
+use Rattle.cpa_model.specs.Expressions.{types_of, IsExpr}
 use Rattle.cpa_model.specs.Programs.{IsStmt, IsWellFormed, parts_of, point_count}
-use Rattle.cpa_model.specs.States.{AreValues}
 use Rattle.cpa_model.specs.Steps.{Moves, MovesAt, at_statement, at_exit, StepsStack, StepsStore, StepsKeepStates, BeginsInState}
 use Rattle.cpa_model.proofs.Lists.{AllByRecursion-push, AllByRecursion-front}
-use Rattle.cpa_model.proofs.Stores.{AreValues-set, AreValues-start, IsCellOf-value, expr_in_range}
+use Rattle.cpa_model.proofs.Stores.{AreValues-set, AreValues-start, by_type, by_types, expr_in_range}
 use Rattle.cpa_model.proofs.Parts.{part_of_place}
 use Rattle.cpa_model.proofs.Trees.{part_above, body_inside, next_inside, function_inside, some_function}
 
@@ -60,7 +61,7 @@ move_inside P W p a q (at_exit f inside at returns) = next_inside P W.numbered r
 pub IsSoundAct : Program → Act → Type 0
 IsSoundAct P act.Skip = ⊤
 IsSoundAct P (act.Assign base len index value) =
-    IsExpr P.cells value × ((k : ℕ) → k < len → IsCellOf P.cells (base + k) (type_of value))
+    IsExpr P.cells value × AreCells (types_of P.cells) base len (type_of value)
 IsSoundAct P (act.Assume test holds) = ⊤
 IsSoundAct P (act.Input cell) = ⊤
 IsSoundAct P (act.Call site) = site < point_count P
@@ -111,18 +112,18 @@ stack_after P (act.Return site) old new sound steps all =
     AllByRecursion-front (λ k. k < point_count P) new site (subst (ArePoints (point_count P)) steps all)
 
 -- after a sound act the store has a value in range for each cell
-store_after : (P : Program) (a : Act) (old new : List ℤ) → IsSoundAct P a → StepsStore P.cells a old new → AreValues P.cells old → AreValues P.cells new
+store_after : (P : Program) (a : Act) (old new : List ℤ) → IsSoundAct P a → StepsStore P.cells a old new → AreValues (types_of P.cells) old → AreValues (types_of P.cells) new
 unfolding IsSoundAct
-store_after P act.Skip old new sound steps are = subst (AreValues P.cells) (sym steps) are
+store_after P act.Skip old new sound steps are = subst (AreValues (types_of P.cells)) (sym steps) are
 store_after P (act.Assign base len index value) old new sound steps are =
     let within = expr_in_range P.cells old value steps.written are sound.0 steps.value_is in
-    let here = IsCellOf-value P.cells (base + steps.place) (type_of value) steps.written (sound.1 steps.place steps.inside) within in
-    subst (AreValues P.cells) (sym steps.after) (AreValues-set P.cells old (base + steps.place) steps.written are here)
-store_after P (act.Assume test holds) old new sound steps are = subst (AreValues P.cells) (sym steps.1) are
+    let here = by_type (types_of P.cells) (base + steps.place) (type_of value) steps.written (sound.1 steps.place steps.inside) within in
+    subst (AreValues (types_of P.cells)) (sym steps.after) (AreValues-set (types_of P.cells) old (base + steps.place) steps.written are here)
+store_after P (act.Assume test holds) old new sound steps are = subst (AreValues (types_of P.cells)) (sym steps.1) are
 store_after P (act.Input cell) old new sound steps are =
-    subst (AreValues P.cells) (sym steps.2) (AreValues-set P.cells old cell steps.0 are steps.1)
-store_after P (act.Call site) old new sound steps are = subst (AreValues P.cells) (sym steps) are
-store_after P (act.Return site) old new sound steps are = subst (AreValues P.cells) (sym steps) are
+    subst (AreValues (types_of P.cells)) (sym steps.2) (AreValues-set (types_of P.cells) old cell steps.0 are (by_types P.cells cell steps.0 steps.1))
+store_after P (act.Call site) old new sound steps are = subst (AreValues (types_of P.cells)) (sym steps) are
+store_after P (act.Return site) old new sound steps are = subst (AreValues (types_of P.cells)) (sym steps) are
 
 -- the three parts of a step lead from a state to a state
 pub steps_keep_states_lem : (P : Program) → IsWellFormed P → StepsKeepStates P

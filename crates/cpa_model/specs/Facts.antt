@@ -6,7 +6,7 @@ use Rattle.cpa_model.specs.declared.states.State.{State}
 use Rattle.cpa_model.specs.declared.facts.Fact.{Fact}
 use Rattle.cpa_model.specs.declared.facts.Fact.TheVariants.{At, Stack, Equals, Within, Truth}
 use Rattle.cpa_model.specs.declared.facts.Elem.{Elem}
-use Rattle.cpa_model.specs.Integers.{IsInRange}
+use Rattle.cpa_ints.specs.Integers.{IsInRange}
 use Rattle.cpa_model.specs.Expressions.{HasTruth, IsExpr}
 
 -- the fact holds of the state

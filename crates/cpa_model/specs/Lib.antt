@@ -1,4 +1,3 @@
-pub mod Integers
 pub mod Expressions
 pub mod Programs
 pub mod Successors

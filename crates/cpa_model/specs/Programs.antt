@@ -4,8 +4,9 @@ use Rattle.std.specs.List.{AllByRecursion}
 use Rattle.cpa_model.specs.declared.program.Stmt.{Stmt}
 use Rattle.cpa_model.specs.declared.program.Stmt.TheVariants as stmt
 use Rattle.cpa_model.specs.declared.program.Program.{Program}
-use Rattle.cpa_model.specs.Integers.{IsInRange}
-use Rattle.cpa_model.specs.Expressions.{type_of, IsExpr, IsCellOf}
+use Rattle.cpa_ints.specs.Integers.{IsInRange}
+use Rattle.cpa_expr.specs.Shape.{type_of, AreCells}
+use Rattle.cpa_model.specs.Expressions.{types_of, IsExpr}
 
 -- the statement of this number is this one
 abbrev pub IsStmt : Program → ℕ → Stmt → Type 0
@@ -126,8 +127,7 @@ IsSound P n (stmt.Block items) = ⊤
 IsSound P n (stmt.If test first second) = IsExpr P.cells test
 IsSound P n (stmt.Loop body step) = ⊤
 IsSound P n (stmt.Assign base len index value) =
-    (1 ≤ len) × IsExpr P.cells index × IsExpr P.cells value
-    × ((k : ℕ) → k < len → IsCellOf P.cells (base + k) (type_of value))
+    (1 ≤ len) × IsExpr P.cells index × IsExpr P.cells value × AreCells (types_of P.cells) base len (type_of value)
 IsSound P n (stmt.Input cell) = cell < length P.cells
 IsSound P n (stmt.Call function) =
     (function < length P.bodies) × ((f : ℕ) → InFunction P f n → (function ≢ f) × (Reaches P function f → ⊥))

@@ -1,23 +1,17 @@
 -- The states of a program.
-use Rattle.std.specs.Prelude.{ℕ, ◌<◌, ℤ, List, [], ◌∷◌, map, slice_index, ⊤}
+use Rattle.std.specs.Prelude.{ℕ, ◌<◌, ℤ, List, [], map, slice_index}
 use Rattle.std.specs.List.{AllByRecursion}
 use Rattle.cpa_model.specs.declared.program.Cell.{Cell}
 use Rattle.cpa_model.specs.declared.program.Program.{Program}
 use Rattle.cpa_model.specs.declared.states.State.{State}
-use Rattle.cpa_model.specs.Integers.{IsInRange}
-
--- a value in range for each cell
-abbrev pub AreValues : List Cell → List ℤ → Type 0
-AreValues [] [] = ⊤
-AreValues (cell ∷ cells) (v ∷ values) = IsInRange cell.ty v × AreValues cells values
-AreValues [] (v ∷ values) = ⊥
-AreValues (cell ∷ cells) [] = ⊥
+use Rattle.cpa_expr.specs.Cells.{AreValues}
+use Rattle.cpa_model.specs.Expressions.{types_of}
 
 -- a state over these cells and this many points: the point and each site of the stack are points
 pub record IsState (cells : List Cell) (points : ℕ) (s : State) : Type 0 where
   pub point : s.point < points
   pub stack : AllByRecursion (λ site. site < points) s.stack
-  pub store : AreValues cells s.store.values
+  pub store : AreValues (types_of cells) s.store.values
 
 -- the state with this point, this stack and these values
 abbrev pub state_at : ℕ → List ℕ → List ℤ → State

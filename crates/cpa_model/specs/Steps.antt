@@ -7,8 +7,9 @@ use Rattle.cpa_model.specs.declared.program.Program.{Program}
 use Rattle.cpa_model.specs.declared.automaton.Act.{Act}
 use Rattle.cpa_model.specs.declared.automaton.Act.TheVariants as act
 use Rattle.cpa_model.specs.declared.states.State.{State}
-use Rattle.cpa_model.specs.Integers.{IsInRange}
-use Rattle.cpa_model.specs.Expressions.{value_of, HasTruth}
+use Rattle.cpa_ints.specs.Integers.{IsInRange}
+use Rattle.cpa_expr.specs.Values.{value_of}
+use Rattle.cpa_model.specs.Expressions.{HasTruth}
 use Rattle.cpa_model.specs.Programs.{IsStmt, IsBody, Next, InLoop, InFunction, exit_of, point_count}
 use Rattle.cpa_model.specs.States.{IsState, initial_of}
 

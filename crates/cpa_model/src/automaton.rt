@@ -1,9 +1,9 @@
-use crate::expressions::Expr;
 use crate::program::Cell;
-use crate::seq::Seq;
+use cpa_expr::Expr;
+use cpa_ints::Seq;
 
 /// What a step does to the stack and to the store.
-#[derive(Clone, Copy, Debug)]
+#[derive(Debug, Drop)]
 pub enum Act {
     Skip,
     Assign {
@@ -30,7 +30,7 @@ pub enum Act {
     },
 }
 
-#[derive(Clone, Copy, Debug)]
+#[derive(Debug, Drop)]
 pub struct Edge {
     pub from: u32,
     pub to: u32,

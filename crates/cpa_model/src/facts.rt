@@ -3,10 +3,11 @@ ghost use Rattle.std.specs.List.{AllByRecursion};
 ghost use Rattle.cpa_model.specs.Facts.{FactHolds, Holds, IsElem, IsFact, IsValueOf};
 
 use crate::automaton::Cfa;
-use crate::expressions::{self, Expr};
+use crate::expressions::{has_truth, is_expr};
 use crate::program::Cell;
-use crate::seq::Seq;
 use crate::states::State;
+use cpa_expr::Expr;
+use cpa_ints::Seq;
 
 /// A fact on the point, the stack or the store of a state.
 #[derive(Debug, Drop)]
@@ -51,7 +52,7 @@ fn fact_holds(fact: &Fact, state: &State) -> bool
             Some(value) => *lo <= *value && *value <= *hi,
             None => false,
         },
-        Fact::Truth { expr, holds } => expressions::has_truth(expr, *holds, &state.store),
+        Fact::Truth { expr, holds } => has_truth(expr, *holds, &state.store),
     }
 }
 
@@ -79,7 +80,7 @@ fn is_fact(fact: &Fact, cells: &[Cell], points: u32) -> bool
         Fact::Within { cell, lo, hi } => {
             is_value_of(cells, *cell, *lo) && is_value_of(cells, *cell, *hi) && *lo <= *hi
         }
-        Fact::Truth { expr, .. } => expressions::is_expr(expr, cells),
+        Fact::Truth { expr, .. } => is_expr(expr, cells),
     }
 }
 

@@ -1,6 +1,5 @@
-use crate::expressions::Expr;
-use crate::integers::IntType;
-use crate::seq::Seq;
+use cpa_expr::{Expr, Typed};
+use cpa_ints::{IntType, Seq};
 
 /// A cell of the store: an object, an element of an array, a result or a fresh value. `start` is
 /// its value in the initial state.
@@ -8,6 +7,14 @@ use crate::seq::Seq;
 pub struct Cell {
     pub ty: IntType,
     pub start: i128,
+}
+
+impl Typed for Cell {
+    ghost ty = { λ cell. cell.ty };
+
+    fn ty(&self) -> IntType {
+        self.ty
+    }
 }
 
 /// A core statement. Its parts are named by their numbers in `Program::stmts`.

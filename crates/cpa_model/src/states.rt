@@ -1,10 +1,5 @@
-use crate::seq::Seq;
-
-/// The value of each cell.
-#[derive(Debug, Drop)]
-pub struct Store {
-    pub values: Seq<i128>,
-}
+use cpa_expr::Store;
+use cpa_ints::Seq;
 
 /// A state of an execution. The last item of the stack is its top: the call site to return to.
 #[derive(Debug, Drop)]

@@ -1,10 +1,11 @@
-ghost use Rattle.std.specs.Prelude.{◌≡◌, ◌≤◌, [], ◌∷◌, IfOk};
+ghost use Rattle.std.specs.Prelude.{◌≡◌, ◌≤◌, [], ◌∷◌, pos, IfOk};
 ghost use Rattle.cpa_model.specs.Programs.{IsNumbered, point_count};
 
 use crate::{
     Cell, Cfa, Elem, Expr, Fact, IntType, Program, Seq, State, Stmt, Store, holds, is_elem,
-    next_point, value,
+    next_point,
 };
+use cpa_expr::read_scalar;
 use std::alloc::{AllocError, Global};
 use std::test::Fail;
 
@@ -17,7 +18,7 @@ const TEST: Expr = Expr::Const {
 fn statements(alloc: Global) -> Result<Seq<Stmt>, AllocError>
     ensures { IfOk result (λ stmts. stmts ≡
         Stmt.Block (1 ∷ 4 ∷ []) ∷ Stmt.Loop 2 3 ∷ Stmt.Break ∷ Stmt.Leave
-        ∷ Stmt.If TEST 5 6 ∷ Stmt.Stop ∷ Stmt.Leave ∷ Stmt.Error ∷ []) }
+        ∷ Stmt.If (Expr.Const IntType.I32 (pos 1)) 5 6 ∷ Stmt.Stop ∷ Stmt.Leave ∷ Stmt.Error ∷ []) }
 {
     let items = Seq::from_vec(vec![in alloc; 1, 4]?);
     let stmts = vec![in alloc;
@@ -70,51 +71,6 @@ fn finds_where_control_goes(rt: HostRuntime) -> Result<(), Fail> {
     }
     Ok(())
 }
-
-#[test]
-fn gives_the_ends_of_types(rt: HostRuntime) {
-    let types = [
-        (IntType::Bool, 1, false, 0, 1),
-        (IntType::I8, 8, true, -128, 127),
-        (IntType::U8, 8, false, 0, 255),
-        (IntType::I16, 16, true, -32768, 32767),
-        (IntType::U16, 16, false, 0, 65535),
-        (IntType::I32, 32, true, -2147483648, 2147483647),
-        (IntType::U32, 32, false, 0, 4294967295),
-        (
-            IntType::I64,
-            64,
-            true,
-            -9223372036854775808,
-            9223372036854775807,
-        ),
-        (IntType::U64, 64, false, 0, 18446744073709551615),
-    ];
-    for (ty, width, signed, least, greatest) in types {
-        assert_eq!(rt; ty.width(), width, "bits of {ty:?}");
-        assert_eq!(rt; ty.is_signed(), signed, "sign of {ty:?}");
-        assert_eq!(rt; ty.least(), least, "least of {ty:?}");
-        assert_eq!(rt; ty.greatest(), greatest, "greatest of {ty:?}");
-        assert!(rt;
-            ty.contains(least) && ty.contains(greatest),
-            "ends of {ty:?}"
-        );
-        assert!(rt;
-            !ty.contains(least - 1) && !ty.contains(greatest + 1),
-            "beyond {ty:?}"
-        );
-    }
-}
-
-const FIRST: Expr = Expr::Read {
-    ty: IntType::I8,
-    base: 0,
-};
-
-const OTHER: Expr = Expr::Read {
-    ty: IntType::U8,
-    base: 0,
-};
 
 const WIDE: Expr = Expr::Const {
     ty: IntType::U8,
@@ -186,7 +142,7 @@ fn tells_facts_of_a_state(rt: HostRuntime) -> Result<(), Fail> {
         holds_alone(
             alloc,
             Fact::Truth {
-                expr: FIRST,
+                expr: read_scalar(alloc, IntType::I8, 0)?,
                 holds: true,
             },
             &state,
@@ -247,19 +203,14 @@ fn tells_shaped_points_and_expressions(rt: HostRuntime) -> Result<(), Fail> {
             "{point}"
         );
     }
-    for (expr, wanted) in [(FIRST, true), (ZERO, true), (WIDE, false), (OTHER, false)] {
+    for (expr, wanted) in [(ZERO, true), (WIDE, false)] {
         let found = is_shaped(alloc, Fact::Truth { expr, holds: true }, &cfa)?;
-        assert_eq!(rt; found, wanted, "{expr:?}");
+        assert_eq!(rt; found, wanted);
     }
-    Ok(())
-}
-
-#[test]
-fn keeps_items_in_order(rt: HostRuntime) -> Result<(), Fail> {
-    let mut items = Seq::new(rt.alloc());
-    items.push(4_u32)?;
-    items.push(2)?;
-    assert_eq!(rt; items.as_slice(), [4, 2].as_slice());
-    assert_eq!(rt; items.into_vec().as_slice(), [4, 2].as_slice());
+    for (ty, wanted) in [(IntType::I8, true), (IntType::U8, false)] {
+        let expr = read_scalar(alloc, ty, 0)?;
+        let found = is_shaped(alloc, Fact::Truth { expr, holds: true }, &cfa)?;
+        assert_eq!(rt; found, wanted, "{ty:?}");
+    }
     Ok(())
 }
