@@ -1,20 +1,14 @@
 //! The program: the analyses and the outside that the top call is handed.
 #![tactic(auto)]
 
-mod files;
-mod stdout;
-#[cfg(test)]
-mod tests;
-
 use cpa_iface::{Analysis, Location};
-use cpa_top::{run, write_whole};
-pub use files::FileInputs;
+use cpa_outside::{FileInputs, StdoutSink, write_whole};
+use cpa_top::run;
 use std::alloc::{AllocError, Global};
 use std::env;
 use std::io::ErrorKind;
 use std::process::ExitCode;
 use std::rt::Env;
-pub use stdout::StdoutSink;
 
 /// The words after the program's own name. Where one of them is no text, there is no command.
 fn words<R: Env + Alloc<A = Global>>(rt: &R) -> Result<Vec<String>, AllocError> {

@@ -1,14 +1,14 @@
 -- How what a builder has grown by is put together.
-use Rattle.std.proofs.Common.{◌≡◌, ℕ, suc, ◌+◌, ◌<◌, ◌≤◌, List, [], ◌∷◌, ◌++◌, length, set, slice_set, refl, sym, ap, ◌∙◌, subst, append_assoc, append-nil, add_assoc, add-zero, add-one, zero-add, length-append, arith}
+use Rattle.std.proofs.Common.{◌≡◌, ℕ, ◌+◌, ◌<◌, List, [], ◌∷◌, ◌++◌, length, set, refl, sym, ap, ◌∙◌, subst, append_assoc, append-nil, add_assoc, add-zero, length-append, arith}
 use Rattle.std.proofs.Math.Seq.{set-append_seam}
 use Rattle.cpa_model.specs.declared.program.Stmt.{Stmt}
 use Rattle.cpa_model.specs.declared.program.Stmt.TheVariants as stmt
 use Rattle.cpa_top.specs.declared.core_program.Builder.{Builder}
-use Rattle.cpa_top.specs.Core.{Core, CoreList, no_core, single, input, followed, in_order, block, of_blocks, choice, loop, test_core, test_value, tested, if_core}
+use Rattle.cpa_top.specs.Core.{Core, CoreList, no_core, single, input, followed, block, of_blocks, test_core, test_value, tested}
 use Rattle.std.specs.declared.vec.Vec.{Vec}
 use Rattle.std.specs.declared.alloc.Global.{Global}
 use Rattle.c_parser.specs.declared.tree.Expression.{Expression}
-use Rattle.cpa_model.specs.declared.expressions.Expr.{Expr}
+use Rattle.cpa_expr.specs.declared.tree.Expr.{Expr}
 use Rattle.cpa_top.specs.CoreSteps.{list_at, Fits, Adds, Grown, Replaced}
 
 -- what a core adds

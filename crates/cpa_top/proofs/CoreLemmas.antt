@@ -1,16 +1,13 @@
 -- The core of a tree is a well-formed program of as many points as the tree counts.
-use Rattle.std.proofs.Common.{◌≡◌, ℕ, zero, suc, ◌+◌, ◌<◌, ◌≤◌, List, [], ◌∷◌, length, replicate, Option, Some, IsSomeAnd, slice_get, get_or, false, refl, sym, ap, ◌∙◌, subst, arith}
+use Rattle.std.proofs.Common.{◌≡◌, ℕ, zero, suc, ◌+◌, ◌≤◌, List, [], ◌∷◌, length, replicate, Some, slice_get, option_map, refl, ap, ◌∙◌, subst, arith}
 use Rattle.std.specs.List.{AllByRecursion}
 use Rattle.std.proofs.lemmas.List.{length-replicate, get_or-replicate}
-use Rattle.std.proofs.lemmas.Option.{same_Some, slice_get-get_or}
+use Rattle.std.proofs.lemmas.Option.{slice_get-get_or, slice_get-map}
 use Rattle.c_parser.specs.declared.tree.Unit.{Unit as Tree}
 use Rattle.c_parser.specs.FirstForm.{unit_points}
-use Rattle.cpa_model.specs.declared.integers.IntType.TheVariants.{I32}
 use Rattle.cpa_model.specs.declared.program.Cell.{Cell}
 use Rattle.cpa_model.specs.declared.program.Stmt.{Stmt}
-use Rattle.cpa_model.specs.declared.program.Program.{Program}
-use Rattle.cpa_model.specs.Integers.{IsInRange}
-use Rattle.cpa_model.specs.Expressions.{IsCellOf}
+use Rattle.cpa_ints.specs.Integers.{IsInRange}
 use Rattle.cpa_model.specs.Programs.{point_count, parts_of, IsStmt, Tiles, IsNumbered, IsSound, IsWellFormed}
 use Rattle.cpa_model.proofs.Tiling.{one_value}
 use Rattle.cpa_top.specs.Core.{block, main_core, int_cell, core_of}
@@ -58,7 +55,7 @@ has_cells u =
       ints = λ k below.
           let at : slice_get (replicate count int_cell) k ≡ Some int_cell =
           slice_get-get_or (replicate count int_cell) k int_cell below ∙ ap Some (get_or-replicate count k int_cell int_cell (omega (arith, many, below))) in
-          subst (λ (o : Option Cell). IsSomeAnd o (λ cell. cell.ty ≡ I32)) (sym at) refl;
+          slice_get-map (λ (cell : Cell). cell.ty) (replicate count int_cell) k ∙ ap (option_map (λ (cell : Cell). cell.ty)) at;
     }
 
 sound : (u : Tree) (n : ℕ) (s : Stmt) → IsStmt (core_of u) n s → IsSound (core_of u) n s

@@ -1,14 +1,14 @@
 -- The statements of a core are numbered in the order of the tree.
-use Rattle.std.proofs.Common.{◌≡◌, ℕ, suc, ◌+◌, List, [], ◌∷◌, ◌++◌, map, length, Option, None, Some, slice_get, refl, sym, ap, ◌∙◌, subst, length-append, add-zero, add_assoc, arith}
+use Rattle.std.proofs.Common.{◌≡◌, ℕ, suc, ◌+◌, List, [], ◌∷◌, ◌++◌, length, None, Some, slice_get, refl, sym, ap, ◌∙◌, subst, length-append, add-zero, arith}
 use Rattle.std.specs.List.{AllByRecursion}
 use Rattle.c_parser.specs.declared.tree.Expression.{Expression}
 use Rattle.c_parser.specs.declared.tree.Statement.{Statement}
 use Rattle.c_parser.proofs.Cases.{shown_of_all, Shown}
-use Rattle.cpa_model.specs.declared.expressions.Expr.{Expr}
+use Rattle.cpa_expr.specs.declared.tree.Expr.{Expr}
 use Rattle.cpa_model.specs.declared.program.Stmt.{Stmt}
 use Rattle.cpa_model.specs.declared.program.Stmt.TheVariants as stmt
 use Rattle.cpa_model.specs.Programs.{parts_of, Tiles}
-use Rattle.cpa_top.specs.Core.{Core, CoreList, no_core, single, input, followed, block, of_blocks, choice, loop, test_core, test_value, tested, if_core, while_body, while_core, result_zero, return_core, core_of_statement, core_of_items, main_block}
+use Rattle.cpa_top.specs.Core.{Core, CoreList, no_core, single, input, followed, block, of_blocks, choice, test_core, test_value, tested, while_body, while_core, result_zero, core_of_statement, core_of_items, main_block}
 use Rattle.cpa_top.proofs.CoreVariants.{core-Block, core-Empty, core-If, core-While, core-ReachError, core-Abort, core-Return}
 use Rattle.cpa_top.proofs.Segments.{StandsAt, EachFrom, StandsAt-left, StandsAt-right, EachFrom-append}
 

@@ -1,19 +1,18 @@
 -- How many core statements a statement stands for, and how many cells it takes.
-use Rattle.std.proofs.Common.{◌≡◌, ℕ, ◌+◌, ◌≤◌, List, [], ◌∷◌, ◌++◌, map, length, sum, Option, None, Some, refl, sym, ap, ◌∙◌, subst, length-append, arith}
+use Rattle.std.proofs.Common.{◌≡◌, ℕ, ◌+◌, ◌≤◌, List, [], ◌∷◌, ◌++◌, map, length, sum, None, Some, refl, sym, ap, ◌∙◌, subst, length-append, arith}
 use Rattle.std.proofs.lemmas.List.Sums.{sum_by-cons}
 use Rattle.std.specs.List.{AllByRecursion}
 use Rattle.c_parser.specs.declared.tree.Expression.{Expression}
 use Rattle.c_parser.specs.declared.tree.Statement.{Statement}
-use Rattle.c_parser.specs.declared.tree.Statement.TheVariants.{Block, Empty, If, While, ReachError, Abort, Return}
 use Rattle.c_parser.specs.declared.tree.Unit.{Unit as Tree}
 use Rattle.c_parser.specs.Tree.{test_points, point_count}
 use Rattle.c_parser.specs.FirstForm.{unit_points}
 use Rattle.c_parser.proofs.Cases.{shown_of_all, Shown}
 use Rattle.c_parser.proofs.TreeLemmas.{point_count-Block, point_count-Empty, point_count-If, point_count-If_else, point_count-While, point_count-ReachError, point_count-Abort, point_count-Return}
-use Rattle.cpa_model.specs.declared.expressions.Expr.{Expr}
+use Rattle.cpa_expr.specs.declared.tree.Expr.{Expr}
 use Rattle.cpa_model.specs.declared.program.Stmt.{Stmt}
 use Rattle.cpa_model.specs.declared.program.Stmt.TheVariants as stmt
-use Rattle.cpa_top.specs.Core.{Core, CoreList, no_core, single, input, followed, block, of_blocks, choice, loop, test_core, test_value, tested, if_core, while_body, while_core, result_zero, return_core, core_of_statement, core_of_items, main_block, main_core}
+use Rattle.cpa_top.specs.Core.{Core, CoreList, no_core, single, input, followed, block, of_blocks, choice, test_core, test_value, tested, if_core, while_body, while_core, result_zero, core_of_statement, core_of_items, main_block, main_core}
 use Rattle.cpa_top.specs.declared.core_program.Builder.{Builder}
 use Rattle.cpa_top.specs.CoreSteps.{list_at, Fits, Adds}
 use Rattle.cpa_top.proofs.CoreVariants.{core-Block, core-Empty, core-If, core-While, core-ReachError, core-Abort, core-Return}

@@ -1,28 +1,31 @@
 -- The statements of a core name what is there, and each break stands in a loop.
-use Rattle.std.proofs.Common.{◌≡◌, ℕ, ◌+◌, ◌<◌, ◌≤◌, ℤ, pos, List, [], ◌∷◌, ◌++◌, map, length, Option, None, Some, IsSomeAnd, slice_get, Bool, true, false, refl, sym, ap, ◌∙◌, subst, length-append, add_assoc, arith, rules}
+use Rattle.std.proofs.Common.{◌≡◌, ℕ, ◌+◌, ◌<◌, ◌≤◌, pos, List, [], ◌∷◌, ◌++◌, length, None, Some, slice_get, Bool, true, false, refl, sym, subst, arith, rules}
 use Rattle.std.proofs.lemmas.List.Elements.{Contains-append_left, Contains-append_right}
 use Rattle.std.specs.List.{AllByRecursion, Contains}
 use Rattle.c_parser.specs.declared.tree.Expression.{Expression}
 use Rattle.c_parser.specs.declared.tree.Statement.{Statement}
 use Rattle.c_parser.proofs.Cases.{shown_of_all, Shown}
-use Rattle.cpa_model.specs.declared.integers.IntType.TheVariants.{I32}
-use Rattle.cpa_model.specs.declared.expressions.Expr.{Expr}
-use Rattle.cpa_model.specs.declared.expressions.Expr.TheVariants.{Const, Read}
+use Rattle.cpa_ints.specs.declared.integers.IntType.TheVariants.{I32}
+use Rattle.cpa_expr.specs.declared.tree.Expr.{Expr}
+use Rattle.cpa_expr.specs.declared.tree.Expr.TheVariants.{Const}
+use Rattle.cpa_expr.specs.Shape.{AreCells}
+use Rattle.cpa_expr.specs.Cells.{scalar_read}
+use Rattle.cpa_expr.proofs.ScalarReads.{constant_type, constant_expr, scalar_expr}
 use Rattle.cpa_model.specs.declared.program.Stmt.{Stmt}
 use Rattle.cpa_model.specs.declared.program.Stmt.TheVariants as stmt
 use Rattle.cpa_model.specs.declared.program.Program.{Program}
-use Rattle.cpa_model.specs.Integers.{IsInRange}
-use Rattle.cpa_model.specs.Expressions.{IsExpr, IsCellOf}
+use Rattle.cpa_ints.specs.Integers.{IsInRange}
+use Rattle.cpa_model.specs.Expressions.{types_of, IsExpr}
 use Rattle.cpa_model.specs.Programs.{parts_of, is_loop, IsStmt, InLoop, loop_nearest, loop_further, IsSound}
 use Rattle.cpa_model.proofs.Parts.{part_of_parts, Contains-from_place}
-use Rattle.cpa_top.specs.Core.{Core, CoreList, no_core, single, input, followed, block, of_blocks, choice, loop, test_core, test_value, tested, if_core, while_body, while_core, result_zero, return_core, core_of_statement, core_of_items, main_block}
+use Rattle.cpa_top.specs.Core.{Core, CoreList, no_core, single, input, followed, block, of_blocks, choice, loop, tested, if_core, while_body, while_core, result_zero, return_core, core_of_statement, core_of_items, main_block}
 use Rattle.cpa_top.proofs.CoreVariants.{core-Block, core-Empty, core-If, core-While, core-ReachError, core-Abort, core-Return}
 use Rattle.cpa_top.proofs.Segments.{StandsAt, EachFrom, StandsAt-left, StandsAt-right, EachFrom-append}
 
 -- the program has cells, and each is an int
 pub record HasCells (P : Program) : Type 0 where
   pub some : 0 < length P.cells
-  pub ints : (k : ℕ) → k < length P.cells → IsCellOf P.cells k I32
+  pub ints : (k : ℕ) → k < length P.cells → slice_get (types_of P.cells) k ≡ Some I32
 
 -- each of these statements stands in a loop; without a demand nothing is said
 abbrev pub InLoops : Bool → Program → List ℕ → Type 0
@@ -131,14 +134,20 @@ zero_in_range = search rules
 one_in_range : IsInRange I32 (pos 1)
 one_in_range = search rules
 
+zero_expr : (P : Program) → IsExpr P.cells (Const I32 (pos 0))
+zero_expr P = (constant_expr (types_of P.cells) I32 (pos 0)).1 zero_in_range
+
+one_expr : (P : Program) → IsExpr P.cells (Const I32 (pos 1))
+one_expr P = (constant_expr (types_of P.cells) I32 (pos 1)).1 one_in_range
+
 sound_tested : (demand : Bool) (P : Program) → HasCells P → (test : Expression) (rest : Expr → Core) → ((v : Expr) → IsExpr P.cells v → Sounds demand P (rest v)) → Sounds demand P (tested test rest)
 unfolding tested followed input
-sound_tested demand P cells Expression.Zero rest p = sound_followed demand P no_core (rest (Const I32 (pos 0))) (sound_nothing demand P) (p (Const I32 (pos 0)) zero_in_range)
-sound_tested demand P cells Expression.One rest p = sound_followed demand P no_core (rest (Const I32 (pos 1))) (sound_nothing demand P) (p (Const I32 (pos 1)) one_in_range)
+sound_tested demand P cells Expression.Zero rest p = sound_followed demand P no_core (rest (Const I32 (pos 0))) (sound_nothing demand P) (p (Const I32 (pos 0)) (zero_expr P))
+sound_tested demand P cells Expression.One rest p = sound_followed demand P no_core (rest (Const I32 (pos 1))) (sound_nothing demand P) (p (Const I32 (pos 1)) (one_expr P))
 sound_tested demand P cells Expression.NondetInt rest p = λ n c at few loops.
-    let typed : IsCellOf P.cells c I32 = cells.ints c (omega (arith, few)) in
-    let used = rest (Read I32 c) (n + 1) (c + 1) in
-    sound_joined demand P (input n c) used n c (sound_input demand P n c) (p (Read I32 c) typed (n + 1) (c + 1)) at few loops
+    let typed : IsExpr P.cells (scalar_read I32 c) = (scalar_expr (types_of P.cells) I32 c).1 (cells.ints c (omega (arith, few))) in
+    let used = rest (scalar_read I32 c) (n + 1) (c + 1) in
+    sound_joined demand P (input n c) used n c (sound_input demand P n c) (p (scalar_read I32 c) typed (n + 1) (c + 1)) at few loops
 
 sound_while : (P : Program) → HasCells P → (test : Expression) (x : Core) → Sounds false P x → Sounds false P (while_core test x)
 sound_while P cells test x p =
@@ -154,12 +163,15 @@ sound_if P cells test x y p q = sound_tested false P cells test (λ v. choice v 
 
 -- cell 0 is there to be written
 result_sound : (P : Program) → HasCells P → (n : ℕ) → IsSound P n result_zero
-result_sound P cells n = (
-  omega arith,
-  zero_in_range,
-  zero_in_range,
-  λ k below. let first : 0 + k ≡ 0 = omega arith in subst (λ (m : ℕ). IsCellOf P.cells m I32) (sym first) (cells.ints 0 cells.some),
-)
+result_sound P cells n =
+    let here : AreCells (types_of P.cells) 0 1 I32 = λ k below.
+    let first : 0 + k ≡ 0 = omega arith in
+    subst (λ (m : ℕ). slice_get (types_of P.cells) m ≡ Some I32) (sym first) (cells.ints 0 cells.some) in (
+      omega arith,
+      zero_expr P,
+      zero_expr P,
+      subst (AreCells (types_of P.cells) 0 1) (sym (constant_type I32 (pos 0))) here,
+    )
 
 sound_result : (P : Program) → HasCells P → Sounds false P (single result_zero)
 sound_result P cells = sound_single false P result_zero (result_sound P cells)

@@ -1,20 +1,19 @@
 -- What a closed set of points, and a chain of edges to an error, show of the program.
 use Rattle.std.proofs.Common.{◌≡◌, ℕ, zero, suc, ◌<◌, List, [], ◌∷◌, ◌++◌, map, length, get_or, sym, ◌∙◌, subst, inl, inr, ⊎_elim, arith}
 use Rattle.std.specs.Prelude.{slice_index}
-use Rattle.std.specs.List.{AllByRecursion, Contains}
+use Rattle.std.specs.List.{Contains}
 use Rattle.std.proofs.lemmas.Option.{slice_get-get_or, get_or_from_slice_get}
 use Rattle.cpa_model.specs.declared.facts.Elem.{Elem}
 use Rattle.cpa_model.specs.declared.states.State.{State}
 use Rattle.cpa_model.specs.declared.automaton.Act.{Act}
 use Rattle.cpa_model.specs.declared.automaton.Cfa.{Cfa}
-use Rattle.cpa_model.specs.declared.program.Cell.{Cell}
 use Rattle.cpa_model.specs.declared.program.Program.{Program}
-use Rattle.cpa_model.specs.Integers.{IsInRange}
 use Rattle.cpa_model.specs.Programs.{IsWellFormed, point_count}
-use Rattle.cpa_model.specs.States.{IsState, AreValues, initial_of}
+use Rattle.cpa_model.specs.States.{IsState, initial_of}
 use Rattle.cpa_model.specs.Steps.{Moves, Step, IsChain, IsExecution, CallsError}
 use Rattle.cpa_model.specs.Automata.{IsAutomatonOf, edge_of}
 use Rattle.cpa_model.proofs.Trees.{body_inside}
+use Rattle.cpa_model.proofs.Stores.{AreValues-start}
 use Rattle.cpa_iface.specs.Meanings.{pin}
 use Rattle.cpa_top.specs.Covers.{LiesInSome, IsCover, IsSafe, IsLedTo, led_start, led_on, LeadsToError}
 use Rattle.cpa_top.specs.Explored.{IsWalkedTo, walked_start, walked_on, IsClosed}
@@ -57,11 +56,6 @@ cover_of P cfa points W A C = record {
   safe = λ s is lies error. C.safe s.point (point_of_pins s points lies) (A.errors s.point error);
 }
 
--- each cell at its start has a value in range
-starts_in_range : (cells : List Cell) → AllByRecursion (λ cell. IsInRange cell.ty cell.start) cells → AreValues cells (map (λ cell. cell.start) cells)
-starts_in_range [] h = tt
-starts_in_range (cell ∷ cells) h = (h.0, starts_in_range cells h.1)
-
 -- the initial state is a state
 initial_is_state : (P : Program) → IsWellFormed P → IsState P.cells (point_count P) (initial_of P)
 initial_is_state P W = record {
@@ -70,7 +64,7 @@ initial_is_state P W = record {
       let inside = body_inside P W.numbered P.main (slice_index P.bodies P.main) at in
       omega (arith, inside);
   stack = tt;
-  store = starts_in_range P.cells W.starts;
+  store = AreValues-start P.cells W.starts;
 }
 
 -- the last state of a chain that begins in a cover lies in it

@@ -1,6 +1,6 @@
 -- What the job comes to.
 use Rattle.std.specs.Prelude.{slice_get, Some}
-use Rattle.std.proofs.Common.{◌≡◌, ℕ, ◌≤◌, List, [], ◌∷◌, length, map, sym, ap, ◌∙◌, subst, inl, inr, arith}
+use Rattle.std.proofs.Common.{◌≡◌, ℕ, ◌≤◌, List, [], ◌∷◌, length, map, sym, ap, ◌∙◌, subst, inl, inr}
 use Rattle.cpa_model.specs.declared.facts.Elem.{Elem}
 use Rattle.cpa_model.specs.declared.program.Program.{Program}
 use Rattle.cpa_model.specs.declared.automaton.Cfa.{Cfa}
@@ -12,12 +12,12 @@ use Rattle.c_parser.specs.FirstForm.{IsFirstForm}
 use Rattle.cpa_top.specs.declared.report.Listed.{Listed}
 use Rattle.cpa_top.specs.declared.report.Report.{Report}
 use Rattle.cpa_top.specs.declared.explore.Explored.TheVariants.{Safe, ErrorReached}
-use Rattle.cpa_top.specs.Covers.{IsCover, IsSafe, LeadsToError}
+use Rattle.cpa_top.specs.Covers.{IsCover}
 use Rattle.cpa_top.specs.Explored.{IsExplored}
 use Rattle.cpa_top.specs.Reports.{report_text}
 use Rattle.cpa_top.specs.Listing.{listed_from, IsReportOf}
 use Rattle.cpa_top.specs.Core.{core_of}
-use Rattle.cpa_top.specs.Run.{IsProgram, IsSafeText, IsUnbuiltText, program_limit}
+use Rattle.cpa_top.specs.Run.{IsSafeText, IsUnbuiltText, program_limit}
 use Rattle.cpa_top.proofs.CoreLemmas.{core_is_well_formed, core-text_len}
 use Rattle.cpa_top.proofs.ExploredLemmas.{cover_of, safe_of, never_led, led_of}
 use Rattle.cpa_top.proofs.Listings.{listed_by_place, listed_pins}

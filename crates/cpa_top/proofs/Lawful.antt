@@ -1,9 +1,9 @@
 -- From what a job comes to, to what the call may answer.
-use Rattle.std.proofs.Common.{◌≡◌, ℕ, ◌≤◌, List, [], ◌∷◌, length, sym, ap, ◌∙◌, subst, inl, inr, arith, refl}
-use Rattle.std.specs.Prelude.{Option, Some, None, IfSome, codes}
+use Rattle.std.proofs.Common.{◌≡◌, ℕ, ◌≤◌, List, length, sym, ◌∙◌, subst, inl, inr, arith, refl}
+use Rattle.std.specs.Prelude.{Option, Some, None, IfSome}
 use Rattle.cpa_top.specs.declared.answers.Answer.{Answer}
 use Rattle.cpa_top.specs.declared.answers.Answer.TheVariants as answer
-use Rattle.cpa_top.specs.Run.{Call, IsVerify, IsOneExact, IsUnbuiltText, program_limit, Wrote, IsSafeAnswer, IsUsage, IsUnbuilt, IsReadFault, IsTooLong, IsShortOfMemory, IsAnswerText, IsWriteFault, Refuses, IsStatus}
+use Rattle.cpa_top.specs.Run.{Call, IsVerify, IsOneExact, program_limit, Wrote, IsSafeAnswer, IsUsage, IsUnbuilt, IsReadFault, IsTooLong, IsShortOfMemory, IsAnswerText, IsWriteFault, Refuses, IsStatus}
 use Rattle.cpa_top.specs.Answered.{status_of, text_of, IsDelivered, IsJudged, IsVerified, IsLawful}
 
 -- a judged text is a verified file, where its bytes are those told

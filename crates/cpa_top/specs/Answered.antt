@@ -3,7 +3,7 @@ use Rattle.std.specs.Prelude.{◌≡◌, ℕ, ◌<◌, ◌≤◌, List, length, 
 use Rattle.std.specs.String.{string_bytes}
 use Rattle.cpa_top.specs.declared.answers.Answer.{Answer}
 use Rattle.cpa_top.specs.declared.answers.Answer.TheVariants as answer
-use Rattle.cpa_top.specs.Outside.{Rose, grown, GrewByPrefix}
+use Rattle.cpa_outside.specs.Outside.{Rose, grown, GrewByPrefix}
 use Rattle.cpa_top.specs.Run.{Call, usage_text, program_limit, IsSafeText, IsUnbuiltText, IsSafeAnswer, IsUsage, IsUnbuilt, IsReadFault, IsTooLong, IsShortOfMemory}
 
 abbrev pub status_of : Answer → ℕ

@@ -6,9 +6,10 @@ use Rattle.c_parser.specs.declared.tree.Statement.{Statement}
 use Rattle.c_parser.specs.declared.tree.Statement.TheOpen.{Statement-F}
 use Rattle.c_parser.specs.declared.tree.Statement.TheFolds.{fold-Statement}
 use Rattle.c_parser.specs.declared.tree.Unit.{Unit as Tree}
-use Rattle.cpa_model.specs.declared.integers.IntType.TheVariants.{I32}
-use Rattle.cpa_model.specs.declared.expressions.Expr.{Expr}
-use Rattle.cpa_model.specs.declared.expressions.Expr.TheVariants.{Const, Read}
+use Rattle.cpa_ints.specs.declared.integers.IntType.TheVariants.{I32}
+use Rattle.cpa_expr.specs.declared.tree.Expr.{Expr}
+use Rattle.cpa_expr.specs.declared.tree.Expr.TheVariants.{Const}
+use Rattle.cpa_expr.specs.Cells.{scalar_read}
 use Rattle.cpa_model.specs.declared.program.Cell.{Cell}
 use Rattle.cpa_model.specs.declared.program.Stmt.{Stmt}
 use Rattle.cpa_model.specs.declared.program.Stmt.TheVariants as stmt
@@ -81,7 +82,7 @@ test_core Expression.NondetInt = input
 abbrev pub test_value : Expression → ℕ → Expr
 test_value Expression.Zero c = Const I32 (pos 0)
 test_value Expression.One c = Const I32 (pos 1)
-test_value Expression.NondetInt c = Read I32 c
+test_value Expression.NondetInt c = scalar_read I32 c
 
 -- a test, and after it what uses its value
 unfoldable pub tested : Expression → (Expr → Core) → Core

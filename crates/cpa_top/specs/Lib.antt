@@ -2,14 +2,8 @@ pub mod Answered
 pub mod Core
 pub mod CoreSteps
 pub mod Covers
-pub mod Edges
 pub mod Explored
 pub mod Listing
-pub mod MemoryInputs
-pub mod MemorySink
-pub mod Outside
-pub mod OutsideMemory
-pub mod Places
 pub mod Reached
 pub mod Reports
 pub mod Run

@@ -14,7 +14,7 @@ use Rattle.cpa_top.specs.declared.report.Report.{Report}
 use Rattle.cpa_top.specs.Reports.{report_text}
 use Rattle.cpa_top.specs.Covers.{IsCover, IsSafe, LeadsToError}
 use Rattle.cpa_top.specs.Core.{core_of}
-use Rattle.cpa_top.specs.Outside.{Rose, grown, GrewByPrefix}
+use Rattle.cpa_outside.specs.Outside.{Rose, grown, GrewByPrefix}
 
 -- what a call is given, and the counts of faults that it leaves
 pub record Call : Type 0 where

@@ -1,11 +1,18 @@
 -- How the parts of a report are spelled, as compact JSON (RFC 8259).
-use Rattle.std.specs.Prelude.{ℕ, ◌++◌, List, [], ◌∷◌, Bool, true, false, if◌then◌else◌, decimal, codes}
+use Rattle.std.specs.Prelude.{ℕ, ◌++◌, List, [], ◌∷◌, if◌then◌else◌, decimal, codes}
 use Rattle.std.specs.List.{flat_map}
 use Rattle.std.specs.Fmt.{signed_decimal}
-use Rattle.cpa_model.specs.declared.integers.IntType.{IntType}
-use Rattle.cpa_model.specs.declared.integers.IntType.TheVariants as ty
-use Rattle.cpa_model.specs.declared.expressions.Expr.{Expr}
-use Rattle.cpa_model.specs.declared.expressions.Expr.TheVariants.{Const, Read}
+use Rattle.cpa_ints.specs.declared.integers.IntType.{IntType}
+use Rattle.cpa_ints.specs.declared.integers.IntType.TheVariants as ty
+use Rattle.cpa_expr.specs.declared.tree.UnOp.{UnOp}
+use Rattle.cpa_expr.specs.declared.tree.BinOp.{BinOp}
+use Rattle.cpa_expr.specs.declared.tree.CmpOp.{CmpOp}
+use Rattle.cpa_expr.specs.declared.tree.UnOp.TheVariants as un
+use Rattle.cpa_expr.specs.declared.tree.BinOp.TheVariants as bin
+use Rattle.cpa_expr.specs.declared.tree.CmpOp.TheVariants as cmp
+use Rattle.cpa_expr.specs.declared.tree.Expr.{Expr}
+use Rattle.cpa_expr.specs.declared.tree.Expr.TheOpen.{Expr-F}
+use Rattle.cpa_expr.specs.declared.tree.Expr.TheFolds.{fold-Expr}
 use Rattle.cpa_model.specs.declared.facts.Fact.{Fact}
 use Rattle.cpa_model.specs.declared.facts.Fact.TheVariants.{At, Stack, Equals, Within, Truth}
 use Rattle.cpa_model.specs.declared.facts.Elem.{Elem}
@@ -31,14 +38,47 @@ type_word ty.U32 = codes "u32"
 type_word ty.I64 = codes "i64"
 type_word ty.U64 = codes "u64"
 
--- a cell, as the array of one element at the index 0
-abbrev pub cell_text : ℕ → List ℕ
-cell_text base = decimal base ++ codes " 1 const i32 0"
+-- the words of the operators
+abbrev pub un_word : UnOp → List ℕ
+un_word un.Neg = codes "neg"
+un_word un.Flip = codes "flip"
+
+abbrev pub bin_word : BinOp → List ℕ
+bin_word bin.Add = codes "add"
+bin_word bin.Sub = codes "sub"
+bin_word bin.Mul = codes "mul"
+bin_word bin.Div = codes "div"
+bin_word bin.Rem = codes "rem"
+bin_word bin.BitAnd = codes "and"
+bin_word bin.BitOr = codes "or"
+bin_word bin.BitXor = codes "xor"
+bin_word bin.Shl = codes "shl"
+bin_word bin.Shr = codes "shr"
+
+abbrev pub cmp_word : CmpOp → List ℕ
+cmp_word cmp.Eq = codes "eq"
+cmp_word cmp.Ne = codes "ne"
+cmp_word cmp.Lt = codes "lt"
+cmp_word cmp.Le = codes "le"
+cmp_word cmp.Gt = codes "gt"
+cmp_word cmp.Ge = codes "ge"
+
+-- a node with the text of each part in its place
+abbrev pub text_step : Expr-F (List ℕ) → List ℕ
+text_step (Expr-F.Const t n) = codes "const " ++ type_word t ++ codes " " ++ signed_decimal n
+text_step (Expr-F.Read t base len index) = codes "read " ++ type_word t ++ codes " " ++ decimal base ++ codes " " ++ decimal len ++ codes " " ++ index
+text_step (Expr-F.Un o t arg) = un_word o ++ codes " " ++ type_word t ++ codes " " ++ arg
+text_step (Expr-F.Bin o t left right) = bin_word o ++ codes " " ++ type_word t ++ codes " " ++ left ++ codes " " ++ right
+text_step (Expr-F.Cmp o t left right) = cmp_word o ++ codes " " ++ type_word t ++ codes " " ++ left ++ codes " " ++ right
+text_step (Expr-F.Cast t arg) = codes "cast " ++ type_word t ++ codes " " ++ arg
+text_step (Expr-F.And left right) = codes "both " ++ left ++ codes " " ++ right
+text_step (Expr-F.Or left right) = codes "either " ++ left ++ codes " " ++ right
+text_step (Expr-F.Not arg) = codes "not " ++ arg
+text_step (Expr-F.Cond t test first second) = codes "cond " ++ type_word t ++ codes " " ++ test ++ codes " " ++ first ++ codes " " ++ second
 
 -- an expression in prefix order, words with one space between
 abbrev pub expr_text : Expr → List ℕ
-expr_text (Const t n) = codes "const " ++ type_word t ++ codes " " ++ signed_decimal n
-expr_text (Read t base) = codes "read " ++ type_word t ++ codes " " ++ cell_text base
+expr_text = fold-Expr (List ℕ) text_step
 
 abbrev pub fact_text : Fact → List ℕ
 fact_text (At point) = codes "[\"at\"," ++ decimal point ++ codes "]"

@@ -1,7 +1,7 @@
 ghost use Rattle.std.specs.Prelude.{◌≡◌};
 ghost use Rattle.cpa_top.specs.Answered.{status_of, text_of, IsDelivered};
 
-use crate::outside::{Sink, write_whole};
+use cpa_outside::{Sink, write_whole};
 
 /// What a call comes to, before anything is written.
 #[derive(Debug, Drop)]

@@ -6,6 +6,7 @@ ghost use Rattle.cpa_top.specs.Core.{no_core, single, input, followed, block, ch
 ghost use Rattle.cpa_top.specs.CoreSteps.{Fits, Adds, Grown, Replaced, core_of_else};
 
 use c_parser::{Boxed, Expression, Statement, Unit};
+use cpa_expr::read_scalar;
 use cpa_model::{Cell, Expr, IntType, Program, Seq, Stmt};
 use std::alloc::{AllocError, Global};
 
@@ -59,7 +60,12 @@ impl Builder {
     }
 
     /// Adds what a test does to a list, and gives its value.
-    fn test(&mut self, items: &mut Seq<u32>, test: Expression) -> Result<Expr, AllocError>
+    fn test(
+        &mut self,
+        alloc: Global,
+        items: &mut Seq<u32>,
+        test: Expression,
+    ) -> Result<Expr, AllocError>
         requires { Fits self.old (test_core test) }
         ensures added { OnOk result (Adds self.old items.old (test_core test) self.new items.new) }
         ensures value { IfOk result (λ value. value ≡ test_value test self.old.cells) }
@@ -69,10 +75,7 @@ impl Builder {
             Expression::One => Ok(constant(1)),
             Expression::NondetInt => {
                 let cell = self.input(items)?;
-                Ok(Expr::Read {
-                    ty: IntType::I32,
-                    base: cell,
-                })
+                read_scalar(alloc, IntType::I32, cell)
             }
         }
     }
@@ -140,7 +143,7 @@ impl Builder {
             }
             Statement::Empty => Ok(()),
             Statement::If { test, yes, no } => {
-                let value = self.test(items, *test)?;
+                let value = self.test(alloc, items, *test)?;
                 let number = self.put(Stmt::Stop)?;
                 let first = self.branch(alloc, yes.get())?;
                 let second = self.other_branch(alloc, no)?;
@@ -267,7 +270,7 @@ impl Builder {
     {
         let number = self.put(Stmt::Stop)?;
         let mut items = Seq::new(alloc);
-        let value = self.test(&mut items, test)?;
+        let value = self.test(alloc, &mut items, test)?;
         self.way_out(alloc, &mut items, value)?;
         self.statement(alloc, &mut items, body)?;
         self.replace(number, Stmt::Block { items });

@@ -3,9 +3,9 @@ ghost use Rattle.std.specs.String.{string_bytes};
 ghost use Rattle.cpa_top.specs.Run.{Call, call_of, IsSafeAnswer, Wrote, Refuses, IsStatus};
 
 use crate::answers::deliver;
-use crate::outside::{Inputs, Sink};
 use crate::verify::answer;
 use cpa_iface::Analysis;
+use cpa_outside::{Inputs, Sink};
 use std::alloc::Global;
 use std::thread::Threads;
 

@@ -8,14 +8,14 @@ ghost use Rattle.cpa_top.specs.Answered.{IsJudged, IsVerified, IsLawful};
 ghost use Rattle.cpa_top.specs.Listing.{listed_from, IsReportOf};
 
 use crate::answers::Answer;
-use crate::automaton::build;
 use crate::core_program::core;
 use crate::explore::{Explored, explore};
-use crate::outside::{Inputs, ReadFault};
 use crate::report::{Listed, Report, print};
 use c_parser::{FirstError, first_form};
+use cfa_build::build;
 use cpa_iface::{Analysis, Part, Settings};
 use cpa_model::{Cfa, Elem, Seq};
+use cpa_outside::{Inputs, ReadFault};
 use std::alloc::{AllocError, Global};
 
 /// The most bytes that a program text may have.

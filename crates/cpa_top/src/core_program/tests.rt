@@ -6,10 +6,11 @@ use cpa_model::{Expr, Program, Stmt};
 use std::alloc::{AllocError, Global};
 use std::test::Fail;
 
-fn write_expr(out: &mut String, expr: Expr) -> Result<(), AllocError> {
+fn write_expr(out: &mut String, expr: &Expr) -> Result<(), AllocError> {
     match expr {
         Expr::Const { value, .. } => write!(out, "{value}"),
-        Expr::Read { base, .. } => write!(out, "cell {base}"),
+        Expr::Read { base, len: 1, .. } => write!(out, "cell {base}"),
+        _ => out.push_str("other"),
     }
 }
 
@@ -25,7 +26,7 @@ fn write_stmt(out: &mut String, stmt: &Stmt) -> Result<(), AllocError> {
         }
         Stmt::If { test, yes, no } => {
             write!(out, "If {yes} {no} ")?;
-            write_expr(out, *test)
+            write_expr(out, test)
         }
         Stmt::Loop { body, step } => write!(out, "Loop {body} {step}"),
         Stmt::Assign {
@@ -35,9 +36,9 @@ fn write_stmt(out: &mut String, stmt: &Stmt) -> Result<(), AllocError> {
             value,
         } => {
             write!(out, "Assign {base} {len} ")?;
-            write_expr(out, *index)?;
+            write_expr(out, index)?;
             out.push_str(" := ")?;
-            write_expr(out, *value)
+            write_expr(out, value)
         }
         Stmt::Input { cell } => write!(out, "Input {cell}"),
         Stmt::Break => out.push_str("Break"),

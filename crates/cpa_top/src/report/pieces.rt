@@ -1,9 +1,10 @@
-ghost use Rattle.std.specs.Prelude.{◌≡◌, ◌++◌, ◌∷◌, [], List, ℕ, OnOk, decimal};
+ghost use Rattle.std.specs.Prelude.{◌≡◌, ◌++◌, ◌∷◌, List, ℕ, OnOk, codes, decimal};
 ghost use Rattle.std.specs.List.{flat_map};
 ghost use Rattle.std.specs.String.{string_bytes};
-ghost use Rattle.cpa_top.specs.Spelled.{list_text, fact_text, elem_text, expr_text, cell_text, type_word};
+ghost use Rattle.cpa_top.specs.Spelled.{list_text, fact_text, elem_text, expr_text, type_word, un_word, bin_word, cmp_word};
 
-use cpa_model::{Elem, Expr, Fact, IntType};
+use cpa_expr::{BinOp, CmpOp, Expr, UnOp};
+use cpa_model::{Elem, Fact, IntType};
 use std::alloc::AllocError;
 
 /// A part of a report, by the bytes that spell it.
@@ -59,6 +60,8 @@ pub(crate) fn push_number(out: &mut String, number: u32) -> Result<(), AllocErro
     write!(out, "{number}")
 }
 
+/// Adds an expression in prefix order.
+#[cycle(expressions)]
 fn push_expr(out: &mut String, expr: &Expr) -> Result<(), AllocError>
     ensures { OnOk result (string_bytes out.new ≡ string_bytes out.old ++ expr_text expr.now) }
 {
@@ -67,19 +70,121 @@ fn push_expr(out: &mut String, expr: &Expr) -> Result<(), AllocError>
             let word = type_word(*ty);
             write!(out, "const {word} {value}")
         }
-        Expr::Read { ty, base } => {
+        Expr::Read {
+            ty,
+            base,
+            len,
+            index,
+        } => {
             let word = type_word(*ty);
-            write!(out, "read {word} ")?;
-            push_cell(out, *base)
+            write!(out, "read {word} {base} {len} ")?;
+            push_expr(out, index.get())
+        }
+        Expr::Un { op, ty, arg } => {
+            push_words(out, un_word(*op), *ty)?;
+            push_expr(out, arg.get())
+        }
+        Expr::Bin {
+            op,
+            ty,
+            left,
+            right,
+        } => {
+            push_words(out, bin_word(*op), *ty)?;
+            push_expr(out, left.get())?;
+            push_next(out, right.get())
+        }
+        Expr::Cmp {
+            op,
+            ty,
+            left,
+            right,
+        } => {
+            push_words(out, cmp_word(*op), *ty)?;
+            push_expr(out, left.get())?;
+            push_next(out, right.get())
+        }
+        Expr::Cast { ty, arg } => {
+            push_words(out, "cast", *ty)?;
+            push_expr(out, arg.get())
+        }
+        Expr::And { left, right } => {
+            out.push_str("both ")?;
+            push_expr(out, left.get())?;
+            push_next(out, right.get())
+        }
+        Expr::Or { left, right } => {
+            out.push_str("either ")?;
+            push_expr(out, left.get())?;
+            push_next(out, right.get())
+        }
+        Expr::Not { arg } => {
+            out.push_str("not ")?;
+            push_expr(out, arg.get())
+        }
+        Expr::Cond { ty, test, yes, no } => {
+            push_words(out, "cond", *ty)?;
+            push_expr(out, test.get())?;
+            push_next(out, yes.get())?;
+            push_next(out, no.get())
         }
     }
 }
 
-/// A read of one cell, spelled as an array of one element at the index 0.
-fn push_cell(out: &mut String, base: u32) -> Result<(), AllocError>
-    ensures { OnOk result (string_bytes out.new ≡ string_bytes out.old ++ cell_text base) }
+/// Adds an expression behind another part, with a space between them.
+#[cycle(expressions)]
+fn push_next(out: &mut String, expr: &Expr) -> Result<(), AllocError>
+    ensures { OnOk result (string_bytes out.new ≡ string_bytes out.old ++ (codes " " ++ expr_text expr.now)) }
 {
-    write!(out, "{base} 1 const i32 0")
+    out.push_str(" ")?;
+    push_expr(out, expr)
+}
+
+/// Adds the word of an operator and that of its type, and a space after each.
+fn push_words(out: &mut String, word: &str, ty: IntType) -> Result<(), AllocError>
+    ensures { OnOk result (string_bytes out.new ≡ string_bytes out.old ++ word.now ++ codes " " ++ type_word ty ++ codes " ") }
+{
+    let type_name = type_word(ty);
+    write!(out, "{word} {type_name} ")
+}
+
+fn un_word(op: UnOp) -> &'static str
+    ensures { result.now ≡ un_word op }
+{
+    match op {
+        UnOp::Neg => "neg",
+        UnOp::Flip => "flip",
+    }
+}
+
+fn bin_word(op: BinOp) -> &'static str
+    ensures { result.now ≡ bin_word op }
+{
+    match op {
+        BinOp::Add => "add",
+        BinOp::Sub => "sub",
+        BinOp::Mul => "mul",
+        BinOp::Div => "div",
+        BinOp::Rem => "rem",
+        BinOp::BitAnd => "and",
+        BinOp::BitOr => "or",
+        BinOp::BitXor => "xor",
+        BinOp::Shl => "shl",
+        BinOp::Shr => "shr",
+    }
+}
+
+fn cmp_word(op: CmpOp) -> &'static str
+    ensures { result.now ≡ cmp_word op }
+{
+    match op {
+        CmpOp::Eq => "eq",
+        CmpOp::Ne => "ne",
+        CmpOp::Lt => "lt",
+        CmpOp::Le => "le",
+        CmpOp::Gt => "gt",
+        CmpOp::Ge => "ge",
+    }
 }
 
 fn type_word(ty: IntType) -> &'static str

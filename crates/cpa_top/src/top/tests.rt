@@ -1,8 +1,8 @@
 //! Whole calls over files and a sink in memory.
 use super::*;
-use crate::outside::{MemoryInputs, MemorySink};
 use cpa_iface::{Location, Part, Precision, Settings, has_facts};
 use cpa_model::{Cfa, Elem, Seq};
+use cpa_outside::{MemoryInputs, MemorySink};
 use std::alloc::AllocError;
 use std::process::Abort;
 use std::test::Fail;

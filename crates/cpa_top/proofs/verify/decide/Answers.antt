@@ -1,4 +1,4 @@
-use Rattle.std.proofs.Common.{◌≡◌, subst}
+use Rattle.std.proofs.Common.{subst}
 use Rattle.std.specs.String.{string_bytes}
 use Rattle.cpa_top.specs.Explored.{IsExplored}
 use Rattle.cpa_top.proofs.Judged.{IsBuilt, well_formed, is_automaton, safe_text, unbuilt_text}

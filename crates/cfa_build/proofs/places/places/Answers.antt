@@ -1,0 +1,6 @@
+use Rattle.std.proofs.Common.{length, ap, arith}
+use Rattle.cfa_build.proofs.Known.{all_known}
+use Rattle.cfa_build.proofs.places.places.Goals as goal
+
+pub returns : goal.returns
+returns c = all_known c.args.program.now c.requires.numbered c.loop-n.n c.loop-n.places.items (omega (arith, ap length c.as_slice-count.ensures)) c.loop-n.invariant

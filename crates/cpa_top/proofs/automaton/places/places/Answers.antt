@@ -1,6 +1,0 @@
-use Rattle.std.proofs.Common.{length, ap, arith}
-use Rattle.cpa_top.proofs.Known.{all_known}
-use Rattle.cpa_top.proofs.automaton.places.places.Goals as goal
-
-pub returns : goal.returns
-returns c = all_known c.args.program.now c.requires.numbered c.loop-n.n c.loop-n.places.items (omega (arith, ap length c.as_slice-count.ensures)) c.loop-n.invariant
