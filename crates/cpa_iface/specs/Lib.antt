@@ -1,4 +1,2 @@
-pub mod Standing
-pub mod StandingLaws
 pub mod Meanings
 pub mod Places

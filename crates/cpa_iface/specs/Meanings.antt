@@ -7,15 +7,11 @@ use Rattle.cpa_model.specs.declared.states.State.{State}
 use Rattle.cpa_model.specs.declared.automaton.Edge.{Edge}
 use Rattle.cpa_model.specs.declared.automaton.Cfa.{Cfa}
 use Rattle.cpa_model.specs.Expressions.{IsExpr}
-use Rattle.cpa_model.specs.Facts.{Holds, IsElem}
+use Rattle.cpa_model.specs.Facts.{Holds, IsElem, IsWithin}
 use Rattle.cpa_model.specs.Automata.{StepsAlong, initial_state}
 use Rattle.cpa_iface.specs.declared.analysis.Part.{Part}
 use Rattle.cpa_iface.specs.declared.analysis.Part.TheVariants as part
 use Rattle.cpa_iface.specs.declared.analysis.Precision.{Precision}
-
--- every state of e is one of f
-abbrev pub IsWithin : Elem → Elem → Type 0
-IsWithin e f = (s : State) → Holds e s → Holds f s
 
 -- What an analysis means, whatever state the object is in. The cover is what `covered_by` answers; a true cover
 -- is inclusion, and each element covers itself.

@@ -5,9 +5,9 @@ use Rattle.cpa_model.specs.declared.facts.Fact.{Fact}
 use Rattle.cpa_model.specs.declared.facts.Fact.TheVariants.{At, Stack, Equals, Within, Truth}
 use Rattle.cpa_model.specs.declared.facts.Elem.{Elem}
 use Rattle.cpa_iface.specs.declared.analysis.Part.TheVariants as part
-use Rattle.cpa_iface.specs.Standing.{has_facts}
+use Rattle.cpa_model.specs.Standing.{has_facts}
 use Rattle.cpa_iface.specs.Meanings.{Meaning}
-use Rattle.cpa_iface.specs.StandingLaws.{has_facts-within, has_facts-same}
+use Rattle.cpa_model.specs.StandingLaws.{has_facts-within, has_facts-same}
 
 -- the fact does not name another point
 abbrev pub names_point : ℕ → Fact → Bool

@@ -3,8 +3,6 @@
 
 mod analysis;
 mod location;
-mod standing;
 
 pub use analysis::{Analysis, Part, Precision, Settings};
 pub use location::Location;
-pub use standing::has_facts;

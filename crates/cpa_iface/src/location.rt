@@ -3,8 +3,7 @@ ghost use Rattle.cpa_iface.specs.Meanings.{pin};
 ghost use Rattle.cpa_iface.specs.Places.{location, names_point, may_stand_at};
 
 use crate::analysis::{Analysis, Part, Precision, Settings};
-use crate::standing::has_facts;
-use cpa_model::{Cfa, Edge, Elem, Fact, Seq};
+use cpa_model::{Cfa, Edge, Elem, Fact, Seq, has_facts};
 use std::alloc::{AllocError, Global};
 
 /// The smallest analysis: it keeps the point of a state, and is exact on it.

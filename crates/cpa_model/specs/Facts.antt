@@ -1,6 +1,6 @@
 -- What facts, elements and entries say of a state, and which are shaped for an automaton.
 use Rattle.std.specs.Prelude.{◌≡◌, ℕ, ◌<◌, ℤ, ◌≤ℤ◌, List, Some, slice_get, IsSomeAnd}
-use Rattle.std.specs.List.{AllByRecursion}
+use Rattle.std.specs.List.{AllByRecursion, Contains}
 use Rattle.cpa_model.specs.declared.program.Cell.{Cell}
 use Rattle.cpa_model.specs.declared.states.State.{State}
 use Rattle.cpa_model.specs.declared.facts.Fact.{Fact}
@@ -20,6 +20,14 @@ FactHolds s (Truth expr holds) = HasTruth expr holds s.store.values
 -- the element holds of the state: all its facts do, the element without facts always
 abbrev pub Holds : Elem → State → Type 0
 Holds e s = AllByRecursion (FactHolds s) e.facts
+
+-- every state of e is one of f
+abbrev pub IsWithin : Elem → Elem → Type 0
+IsWithin e f = (s : State) → Holds e s → Holds f s
+
+-- each fact of the other element is one of the element's own
+abbrev pub HasFacts : Elem → Elem → Type 0
+HasFacts e other = AllByRecursion (Contains e.facts) other.facts
 
 -- all elements of an entry hold of the state: the state lies in the entry
 abbrev pub LiesIn : State → List Elem → Type 0

@@ -5,3 +5,5 @@ pub mod States
 pub mod Steps
 pub mod Facts
 pub mod Automata
+pub mod Standing
+pub mod StandingLaws

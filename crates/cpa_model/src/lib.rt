@@ -2,21 +2,25 @@
 #![tactic(auto)]
 
 mod automaton;
+mod copying;
 mod expressions;
 mod facts;
 mod next;
 mod program;
+mod standing;
 mod states;
 mod steps;
 #[cfg(test)]
 mod tests;
 
 pub use automaton::{Act, Cfa, Edge, Path};
+pub use copying::{copy_elem, copy_fact};
 pub use cpa_expr::{BinOp, CmpOp, Expr, Store, UnOp, value};
 pub use cpa_ints::{IntType, Seq};
 pub use expressions::{has_truth, is_expr};
 pub use facts::{Elem, Fact, holds, is_elem};
 pub use next::next_point;
 pub use program::{Cell, Program, Stmt};
+pub use standing::{facts_that_stand, has_facts, same_fact};
 pub use states::State;
 pub use steps::{initial_is_state, steps_keep_states};

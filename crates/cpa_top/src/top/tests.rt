@@ -1,7 +1,7 @@
 //! Whole calls over files and a sink in memory.
 use super::*;
-use cpa_iface::{Location, Part, Precision, Settings, has_facts};
-use cpa_model::{Cfa, Elem, Seq};
+use cpa_iface::{Location, Part, Precision, Settings};
+use cpa_model::{Cfa, Elem, Seq, has_facts};
 use cpa_outside::{MemoryInputs, MemorySink};
 use std::alloc::AllocError;
 use std::process::Abort;
@@ -18,8 +18,8 @@ struct Blind;
 impl Analysis for Blind {
     ghost use Rattle.std.specs.Prelude.{codes};
     ghost use Rattle.cpa_iface.specs.declared.analysis.Part.TheVariants as part;
-    ghost use Rattle.cpa_iface.specs.Standing.{has_facts};
-    ghost use Rattle.cpa_iface.specs.StandingLaws.{has_facts-within, has_facts-same};
+    ghost use Rattle.cpa_model.specs.Standing.{has_facts};
+    ghost use Rattle.cpa_model.specs.StandingLaws.{has_facts-within, has_facts-same};
 
     ghost meaning = { λ _. record { name = codes "blind"; part = part.Nothing; cover = has_facts; within = has_facts-within; same = has_facts-same } };
 

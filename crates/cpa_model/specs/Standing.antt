@@ -1,4 +1,4 @@
--- Whether a fact stands in an element, to the letter.
+-- Whether a fact stands in an element, to the letter, as a test (this project's own).
 use Rattle.std.specs.Prelude.{ℕ, ◌==◌, ◌&&◌, Bool, true, false, List, [], ◌∷◌}
 use Rattle.std.specs.List.{list_all, list_any}
 use Rattle.std.specs.Ordering.{int_eq}

@@ -1,0 +1,48 @@
+//! Copies of facts and elements, equal to what they copy.
+ghost use Rattle.std.specs.Prelude.{◌≡◌, IfOk};
+
+use crate::facts::{Elem, Fact};
+use cpa_ints::Seq;
+use std::alloc::{AllocError, Global};
+
+/// An equal element. It fails only where memory runs out.
+pub fn copy_elem(alloc: Global, elem: &Elem) -> Result<Elem, AllocError>
+    ensures { IfOk result (λ e. e ≡ elem.now) }
+{
+    let mut facts = Seq::new(alloc);
+    for fact in elem.facts.as_slice() {
+        facts.push(copy_fact(alloc, fact)?)?;
+    }
+    Ok(Elem { facts })
+}
+
+/// An equal fact. It fails only where memory runs out.
+pub fn copy_fact(alloc: Global, fact: &Fact) -> Result<Fact, AllocError>
+    ensures { IfOk result (λ f. f ≡ fact.now) }
+{
+    match fact {
+        Fact::At { point } => Ok(Fact::At { point: *point }),
+        Fact::Stack { sites } => Ok(Fact::Stack {
+            sites: copy_sites(alloc, sites.as_slice())?,
+        }),
+        Fact::Equals { cell, value } => Ok(Fact::Equals {
+            cell: *cell,
+            value: *value,
+        }),
+        Fact::Within { cell, lo, hi } => Ok(Fact::Within {
+            cell: *cell,
+            lo: *lo,
+            hi: *hi,
+        }),
+        Fact::Truth { expr, holds } => Ok(Fact::Truth {
+            expr: cpa_expr::copy(alloc, expr)?,
+            holds: *holds,
+        }),
+    }
+}
+
+fn copy_sites(alloc: Global, sites: &[u32]) -> Result<Seq<u32>, AllocError>
+    ensures { IfOk result (λ s. s ≡ sites.now) }
+{
+    Ok(Seq::from_vec(sites.to_vec(alloc)?))
+}
