@@ -7,7 +7,7 @@ use Rattle.cpa_top.specs.declared.core_program.Builder.{Builder}
 use Rattle.cpa_top.specs.Core.{Core, CoreList, no_core, single, input, followed, block, of_blocks, test_core, test_value, tested}
 use Rattle.std.specs.declared.vec.Vec.{Vec}
 use Rattle.std.specs.declared.alloc.Global.{Global}
-use Rattle.c_parser.specs.declared.tree.Expression.{Expression}
+use Rattle.first_form.specs.declared.tree.Expression.{Expression}
 use Rattle.cpa_expr.specs.declared.tree.Expr.{Expr}
 use Rattle.cpa_top.specs.CoreSteps.{list_at, Fits, Adds, Grown, Replaced}
 

@@ -3,8 +3,8 @@ use Rattle.std.proofs.Common.{◌≡◌, ℕ, zero, suc, ◌+◌, ◌≤◌, Lis
 use Rattle.std.specs.List.{AllByRecursion}
 use Rattle.std.proofs.lemmas.List.{length-replicate, get_or-replicate}
 use Rattle.std.proofs.lemmas.Option.{slice_get-get_or, slice_get-map}
-use Rattle.c_parser.specs.declared.tree.Unit.{Unit as Tree}
-use Rattle.c_parser.specs.FirstForm.{unit_points}
+use Rattle.first_form.specs.declared.tree.Unit.{Unit as Tree}
+use Rattle.first_form.specs.FirstForm.{unit_points}
 use Rattle.cpa_model.specs.declared.program.Cell.{Cell}
 use Rattle.cpa_model.specs.declared.program.Stmt.{Stmt}
 use Rattle.cpa_ints.specs.Integers.{IsInRange}

@@ -1,9 +1,9 @@
 -- The statements of a core are numbered in the order of the tree.
 use Rattle.std.proofs.Common.{◌≡◌, ℕ, suc, ◌+◌, List, [], ◌∷◌, ◌++◌, length, None, Some, slice_get, refl, sym, ap, ◌∙◌, subst, length-append, add-zero, arith}
 use Rattle.std.specs.List.{AllByRecursion}
-use Rattle.c_parser.specs.declared.tree.Expression.{Expression}
-use Rattle.c_parser.specs.declared.tree.Statement.{Statement}
-use Rattle.c_parser.proofs.Cases.{shown_of_all, Shown}
+use Rattle.first_form.specs.declared.tree.Expression.{Expression}
+use Rattle.first_form.specs.declared.tree.Statement.{Statement}
+use Rattle.first_form.proofs.Cases.{shown_of_all, Shown}
 use Rattle.cpa_expr.specs.declared.tree.Expr.{Expr}
 use Rattle.cpa_model.specs.declared.program.Stmt.{Stmt}
 use Rattle.cpa_model.specs.declared.program.Stmt.TheVariants as stmt

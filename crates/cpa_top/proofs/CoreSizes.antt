@@ -2,13 +2,13 @@
 use Rattle.std.proofs.Common.{◌≡◌, ℕ, ◌+◌, ◌≤◌, List, [], ◌∷◌, ◌++◌, map, length, sum, None, Some, refl, sym, ap, ◌∙◌, subst, length-append, arith}
 use Rattle.std.proofs.lemmas.List.Sums.{sum_by-cons}
 use Rattle.std.specs.List.{AllByRecursion}
-use Rattle.c_parser.specs.declared.tree.Expression.{Expression}
-use Rattle.c_parser.specs.declared.tree.Statement.{Statement}
-use Rattle.c_parser.specs.declared.tree.Unit.{Unit as Tree}
-use Rattle.c_parser.specs.Tree.{test_points, point_count}
-use Rattle.c_parser.specs.FirstForm.{unit_points}
-use Rattle.c_parser.proofs.Cases.{shown_of_all, Shown}
-use Rattle.c_parser.proofs.TreeLemmas.{point_count-Block, point_count-Empty, point_count-If, point_count-If_else, point_count-While, point_count-ReachError, point_count-Abort, point_count-Return}
+use Rattle.first_form.specs.declared.tree.Expression.{Expression}
+use Rattle.first_form.specs.declared.tree.Statement.{Statement}
+use Rattle.first_form.specs.declared.tree.Unit.{Unit as Tree}
+use Rattle.first_form.specs.Tree.{test_points, point_count}
+use Rattle.first_form.specs.FirstForm.{unit_points}
+use Rattle.first_form.proofs.Cases.{shown_of_all, Shown}
+use Rattle.first_form.proofs.TreeLemmas.{point_count-Block, point_count-Empty, point_count-If, point_count-If_else, point_count-While, point_count-ReachError, point_count-Abort, point_count-Return}
 use Rattle.cpa_expr.specs.declared.tree.Expr.{Expr}
 use Rattle.cpa_model.specs.declared.program.Stmt.{Stmt}
 use Rattle.cpa_model.specs.declared.program.Stmt.TheVariants as stmt

@@ -2,9 +2,9 @@
 use Rattle.std.proofs.Common.{◌≡◌, ℕ, ◌+◌, ◌<◌, ◌≤◌, pos, List, [], ◌∷◌, ◌++◌, length, None, Some, slice_get, Bool, true, false, refl, sym, subst, arith, rules}
 use Rattle.std.proofs.lemmas.List.Elements.{Contains-append_left, Contains-append_right}
 use Rattle.std.specs.List.{AllByRecursion, Contains}
-use Rattle.c_parser.specs.declared.tree.Expression.{Expression}
-use Rattle.c_parser.specs.declared.tree.Statement.{Statement}
-use Rattle.c_parser.proofs.Cases.{shown_of_all, Shown}
+use Rattle.first_form.specs.declared.tree.Expression.{Expression}
+use Rattle.first_form.specs.declared.tree.Statement.{Statement}
+use Rattle.first_form.proofs.Cases.{shown_of_all, Shown}
 use Rattle.cpa_ints.specs.declared.integers.IntType.TheVariants.{I32}
 use Rattle.cpa_expr.specs.declared.tree.Expr.{Expr}
 use Rattle.cpa_expr.specs.declared.tree.Expr.TheVariants.{Const}

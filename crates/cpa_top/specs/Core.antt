@@ -1,11 +1,11 @@
 -- The core of a program of the first form: which core statements each statement stands for, how they are numbered,
 -- and which cells its tests take.
 use Rattle.std.specs.Prelude.{ℕ, ◌+◌, pos, List, [], ◌∷◌, ◌++◌, map, length, replicate, unwrap_or}
-use Rattle.c_parser.specs.declared.tree.Expression.{Expression}
-use Rattle.c_parser.specs.declared.tree.Statement.{Statement}
-use Rattle.c_parser.specs.declared.tree.Statement.TheOpen.{Statement-F}
-use Rattle.c_parser.specs.declared.tree.Statement.TheFolds.{fold-Statement}
-use Rattle.c_parser.specs.declared.tree.Unit.{Unit as Tree}
+use Rattle.first_form.specs.declared.tree.Expression.{Expression}
+use Rattle.first_form.specs.declared.tree.Statement.{Statement}
+use Rattle.first_form.specs.declared.tree.Statement.TheOpen.{Statement-F}
+use Rattle.first_form.specs.declared.tree.Statement.TheFolds.{fold-Statement}
+use Rattle.first_form.specs.declared.tree.Unit.{Unit as Tree}
 use Rattle.cpa_ints.specs.declared.integers.IntType.TheVariants.{I32}
 use Rattle.cpa_expr.specs.declared.tree.Expr.{Expr}
 use Rattle.cpa_expr.specs.declared.tree.Expr.TheVariants.{Const}

@@ -1,6 +1,6 @@
 -- How a builder of core statements grows.
 use Rattle.std.specs.Prelude.{◌≡◌, ℕ, ◌+◌, ◌≤◌, List, [], ◌∷◌, ◌++◌, length, slice_set, Option, None, Some}
-use Rattle.c_parser.specs.declared.tree.Statement.{Statement}
+use Rattle.first_form.specs.declared.tree.Statement.{Statement}
 use Rattle.cpa_model.specs.declared.program.Stmt.{Stmt}
 use Rattle.cpa_top.specs.declared.core_program.Builder.{Builder}
 use Rattle.cpa_top.specs.Core.{Core, CoreList, no_core, core_of_statement}

@@ -7,8 +7,8 @@ use Rattle.cpa_model.specs.Programs.{IsWellFormed}
 use Rattle.cpa_model.specs.Automata.{IsAutomatonOf}
 use Rattle.cpa_iface.specs.declared.analysis.Part.TheVariants as part
 use Rattle.cpa_iface.specs.Meanings.{Meaning}
-use Rattle.c_parser.specs.declared.tree.Unit.{Unit as Tree}
-use Rattle.c_parser.specs.FirstForm.{IsFirstForm}
+use Rattle.first_form.specs.declared.tree.Unit.{Unit as Tree}
+use Rattle.first_form.specs.FirstForm.{IsFirstForm}
 use Rattle.cpa_top.specs.declared.report.Listed.{Listed}
 use Rattle.cpa_top.specs.declared.report.Report.{Report}
 use Rattle.cpa_top.specs.Reports.{report_text}

@@ -1,13 +1,13 @@
 //! The core of the first form: from a tree to a program of core statements.
 ghost use Rattle.std.specs.Prelude.{◌≡◌, ℕ, ◌+◌, ◌<◌, ◌≤◌, [], ◌∷◌, ◌++◌, length, replicate, IfOk, OnOk};
-ghost use Rattle.c_parser.specs.FirstForm.{unit_points};
+ghost use Rattle.first_form.specs.FirstForm.{unit_points};
 ghost use Rattle.cpa_model.specs.declared.program.Stmt.TheVariants as stmt;
 ghost use Rattle.cpa_top.specs.Core.{no_core, single, input, followed, block, choice, test_core, test_value, if_core, while_body, while_core, result_zero, return_core, core_of_statement, core_of_items, main_block, int_cell, core_of};
 ghost use Rattle.cpa_top.specs.CoreSteps.{Fits, Adds, Grown, Replaced, core_of_else};
 
-use c_parser::{Boxed, Expression, Statement, Unit};
 use cpa_expr::read_scalar;
 use cpa_model::{Cell, Expr, IntType, Program, Seq, Stmt};
+use first_form::{Boxed, Expression, Statement, Unit};
 use std::alloc::{AllocError, Global};
 
 /// Core statements in the order of their numbers, and how many cells they take.

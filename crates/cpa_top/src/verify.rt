@@ -11,11 +11,11 @@ use crate::answers::Answer;
 use crate::core_program::core;
 use crate::explore::{Explored, explore};
 use crate::report::{Listed, Report, print};
-use c_parser::{FirstError, first_form};
 use cfa_build::build;
 use cpa_iface::{Analysis, Part, Settings};
 use cpa_model::{Cfa, Elem, Seq};
 use cpa_outside::{Inputs, ReadFault};
+use first_form::{FirstError, first_form};
 use std::alloc::{AllocError, Global};
 
 /// The most bytes that a program text may have.

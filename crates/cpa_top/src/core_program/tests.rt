@@ -1,8 +1,8 @@
 ghost use Rattle.std.specs.Prelude.{◌≤◌, length};
 
 use super::core;
-use c_parser::{FirstError, first_form};
 use cpa_model::{Expr, Program, Stmt};
+use first_form::{FirstError, first_form};
 use std::alloc::{AllocError, Global};
 use std::test::Fail;
 
