@@ -4,3 +4,7 @@ pub mod Parts
 pub mod Trees
 pub mod Stores
 pub mod Moves
+pub mod EdgeSteps
+pub mod CoverLemmas
+pub mod Edges
+pub mod Errors

@@ -75,3 +75,7 @@ pub record StepsAlong (cfa : Cfa) (edge : Edge) (s t : State) : Type 0 where
   pub to : t.point ≡ edge.to
   pub stack : StepsStack edge.act s.stack t.stack
   pub store : StepsStore cfa.cells edge.act s.store.values t.store.values
+
+-- a step along some edge
+abbrev pub EdgeStep : Cfa → State → State → Type 0
+EdgeStep cfa s t = (edge : Edge) × Contains cfa.edges edge × StepsAlong cfa edge s t

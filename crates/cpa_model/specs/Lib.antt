@@ -5,5 +5,6 @@ pub mod States
 pub mod Steps
 pub mod Facts
 pub mod Automata
+pub mod Covers
 pub mod Standing
 pub mod StandingLaws

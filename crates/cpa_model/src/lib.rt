@@ -5,11 +5,12 @@ mod automaton;
 mod copying;
 mod expressions;
 mod facts;
+mod graph;
+mod laws;
 mod next;
 mod program;
 mod standing;
 mod states;
-mod steps;
 #[cfg(test)]
 mod tests;
 
@@ -19,8 +20,11 @@ pub use cpa_expr::{BinOp, CmpOp, Expr, Store, UnOp, value};
 pub use cpa_ints::{IntType, Seq};
 pub use expressions::{has_truth, is_expr};
 pub use facts::{Elem, Fact, holds, is_elem};
+pub use graph::{is_error, leaving};
+pub use laws::{
+    automata_are_small, covers_are_safe, edges_are_steps, initial_is_state, steps_keep_states,
+};
 pub use next::next_point;
 pub use program::{Cell, Program, Stmt};
 pub use standing::{facts_that_stand, has_facts, same_fact};
 pub use states::State;
-pub use steps::{initial_is_state, steps_keep_states};

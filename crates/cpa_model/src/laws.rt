@@ -1,0 +1,48 @@
+//! Laws on steps, automata and covers: functions with an empty body, whose contract is the law. They are
+//! shown in `proofs/Moves.antt`, `proofs/EdgeSteps.antt`, `proofs/CoverLemmas.antt` and `proofs/Edges.antt`.
+ghost use Rattle.std.specs.Prelude.{◌≡◌, ◌^◌, ◌<◌, ◌≤◌, ◌↔◌, List, length};
+ghost use Rattle.std.specs.List.{AllByRecursion};
+ghost use Rattle.cpa_model.specs.declared.automaton.Cfa.{Cfa};
+ghost use Rattle.cpa_model.specs.declared.facts.Elem.{Elem};
+ghost use Rattle.cpa_model.specs.declared.program.Program.{Program};
+ghost use Rattle.cpa_model.specs.declared.states.State.{State};
+ghost use Rattle.cpa_model.specs.Automata.{EdgeStep, IsAutomaton, IsAutomatonOf, initial_state};
+ghost use Rattle.cpa_model.specs.Covers.{CoversAutomaton, IsCover, IsSafe};
+ghost use Rattle.cpa_model.specs.Programs.{IsWellFormed};
+ghost use Rattle.cpa_model.specs.States.{initial_of};
+ghost use Rattle.cpa_model.specs.Steps.{BeginsInState, Step, StepsKeepStates};
+
+/// A law: of a well-formed program, whatever steps from a state, in its point, its stack and its
+/// store, is a state again.
+pub fn steps_keep_states()
+    ensures { (P : Program) → IsWellFormed P → StepsKeepStates P }
+{}
+
+/// A law: the initial state of a well-formed program is a state.
+pub fn initial_is_state()
+    ensures { (P : Program) → IsWellFormed P → BeginsInState P }
+{}
+
+/// A law: the automaton of a program begins where the program does, and its steps along its edges are
+/// the program's steps.
+pub fn edges_are_steps()
+    ensures initial { (P : Program) (cfa : Cfa) → IsAutomatonOf P cfa
+        → initial_state cfa ≡ initial_of P }
+    ensures steps { (P : Program) (cfa : Cfa) (s t : State) → IsAutomatonOf P cfa
+        → Step P s t ↔ EdgeStep cfa s t }
+{}
+
+/// A law: the numbers of an automaton's edges and points are within `u32`, and what it names is there.
+pub fn automata_are_small()
+    ensures edges { (cfa : Cfa) → IsAutomaton cfa → length cfa.edges < 2 ^ 32 }
+    ensures start { (cfa : Cfa) → IsAutomaton cfa → cfa.start < cfa.points }
+    ensures errors { (cfa : Cfa) → IsAutomaton cfa → AllByRecursion (λ p. p < cfa.points) cfa.errors }
+{}
+
+/// A law: the covers of an automaton are those of its program, and a program with a cover is safe.
+pub fn covers_are_safe()
+    ensures agree { (P : Program) (cfa : Cfa) (entries : List (List Elem)) → IsAutomatonOf P cfa
+        → CoversAutomaton cfa entries ↔ IsCover P entries }
+    ensures safe { (P : Program) (entries : List (List Elem)) → IsWellFormed P
+        → IsCover P entries → IsSafe P entries }
+{}
