@@ -8,16 +8,11 @@ use Rattle.std.proofs.lemmas.Bool.Decides.{nat_tests}
 use Rattle.std.proofs.Math.Seq.{take-append_seam, drop-append_seam}
 use Rattle.std.proofs.lemmas.List.{take-append-drop}
 use Rattle.cpa_ints.specs.declared.integers.IntType.{IntType}
-use Rattle.c_lexer.specs.declared.constant.Base.{Base}
-use Rattle.c_lexer.specs.declared.constant.Base.TheVariants.{Decimal, Octal, Hexadecimal}
-use Rattle.c_lexer.specs.declared.constant.Rank.{Rank}
-use Rattle.c_lexer.specs.declared.constant.Rank.TheVariants.{Int, Long, LongLong}
-use Rattle.c_lexer.specs.declared.constant.Suffix.{Suffix}
 use Rattle.c_lexer.specs.declared.fault.Rule.{Rule}
 use Rattle.c_lexer.specs.declared.fault.Rule.TheVariants.{L1}
 use Rattle.c_lexer.specs.declared.token.TokenKind.{TokenKind}
 use Rattle.c_lexer.specs.Bytes.{is_number_byte, begins_with, StopsAt}
-use Rattle.c_lexer.specs.Numbers.{radix, IsBaseMark, begins_as, IsUnsignedMark, IsRankMark, IsSuffix, IsConstant, type_of}
+use Rattle.c_lexer.specs.Numbers.{Base, Decimal, Octal, Hexadecimal, Rank, Int, Long, LongLong, Suffix, radix, IsBaseMark, begins_as, IsUnsignedMark, IsRankMark, IsSuffix, IsConstant, type_of}
 use Rattle.c_lexer.specs.ReadingNumbers.{is_x, base_of, front_of, digit_run, suffix_of, typed, suffixed, number_in, number_of}
 use Rattle.c_lexer.proofs.Runs.{run_stops, run_passes, take_more}
 use Rattle.c_lexer.proofs.Suffixes.{suffix_read, suffix_is}

@@ -12,4 +12,4 @@ pub mod MarkFacts
 pub mod Sound
 pub mod Complete
 pub mod Cuts
-pub mod InOrder
+pub mod LexemeFacts

@@ -1,10 +1,7 @@
 -- The suffix that letters are.
 use Rattle.std.proofs.Common.{◌≡◌, ℕ, Bool, true, false, ◌&&◌, ◌||◌, ◌==◌, List, [], ◌∷◌, ◌++◌, refl, ap, ◌∙◌, ◌⊎◌, inl, inr, Option, Some, None, codes, subst}
 use Rattle.std.proofs.lemmas.Bool.{cases_Bool, and_parts, or_cases, eqb-true}
-use Rattle.c_lexer.specs.declared.constant.Rank.{Rank}
-use Rattle.c_lexer.specs.declared.constant.Rank.TheVariants.{Int, Long, LongLong}
-use Rattle.c_lexer.specs.declared.constant.Suffix.{Suffix}
-use Rattle.c_lexer.specs.Numbers.{IsUnsignedMark, IsRankMark, IsSuffix}
+use Rattle.c_lexer.specs.Numbers.{Rank, Int, Long, LongLong, Suffix, IsUnsignedMark, IsRankMark, IsSuffix}
 use Rattle.c_lexer.specs.ReadingNumbers.{is_u, rank_of, with_rank, suffix_of}
 
 abbrev made : Bool → Rank → Suffix

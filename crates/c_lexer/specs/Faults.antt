@@ -2,8 +2,6 @@
 use Rattle.std.specs.Prelude.{◌≡◌, ℕ, ◌<◌, Bool, true, false, ◌⊎◌, ◌++◌, List, ◌∷◌, length, IsTrue, codes, None}
 use Rattle.std.specs.List.{list_all}
 use Rattle.std.specs.Char.{is_ascii_digit}
-use Rattle.c_lexer.specs.declared.constant.Base.{Base}
-use Rattle.c_lexer.specs.declared.constant.Suffix.{Suffix}
 use Rattle.c_lexer.specs.declared.fault.Rule.{Rule}
 use Rattle.c_lexer.specs.declared.fault.Rule.TheVariants.{L1, L2, L3, L4}
 use Rattle.c_lexer.specs.declared.fault.TextFault.{TextFault}
@@ -11,7 +9,7 @@ use Rattle.c_lexer.specs.declared.fault.TextError.{TextError}
 use Rattle.c_lexer.specs.declared.fault.TextError.TheVariants.{Fault, OutOfMemory}
 use Rattle.c_lexer.specs.Bytes.{is_blank, is_word_head, is_number_byte, is_on_line, begins_with, StopsAt}
 use Rattle.c_lexer.specs.Gaps.{Lacks, IsDirective}
-use Rattle.c_lexer.specs.Numbers.{IsConstant, type_of}
+use Rattle.c_lexer.specs.Numbers.{Base, Suffix, IsConstant, type_of}
 use Rattle.c_lexer.specs.Quoted.{IsQuoted, StandsFor}
 use Rattle.c_lexer.specs.Marks.{is_mark}
 use Rattle.c_lexer.specs.Parts.{Part, joined, Falls, fresh_after, NoTokens}

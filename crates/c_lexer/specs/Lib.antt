@@ -4,8 +4,9 @@ pub mod Numbers
 pub mod Quoted
 pub mod Marks
 pub mod Parts
+pub mod Rules
 pub mod Faults
 pub mod Reading
 pub mod ReadingNumbers
 pub mod Pieces
-pub mod Order
+pub mod Lexemes

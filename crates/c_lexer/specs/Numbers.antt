@@ -6,12 +6,24 @@ use Rattle.std.specs.Str.Parse.{digits_value}
 use Rattle.cpa_ints.specs.declared.integers.IntType.{IntType}
 use Rattle.cpa_ints.specs.declared.integers.IntType.TheVariants as ty
 use Rattle.cpa_ints.specs.Integers.{greatest}
-use Rattle.c_lexer.specs.declared.constant.Base.{Base}
-use Rattle.c_lexer.specs.declared.constant.Base.TheVariants.{Decimal, Octal, Hexadecimal}
-use Rattle.c_lexer.specs.declared.constant.Rank.{Rank}
-use Rattle.c_lexer.specs.declared.constant.Rank.TheVariants.{Int, Long, LongLong}
-use Rattle.c_lexer.specs.declared.constant.Suffix.{Suffix}
 use Rattle.c_lexer.specs.Bytes.{begins_with}
+
+-- in which base a constant is written
+pub data Base : Type 0 where
+  Decimal : Base
+  Octal : Base
+  Hexadecimal : Base
+
+-- the least of int, long and long long that a constant can have
+pub data Rank : Type 0 where
+  Int : Rank
+  Long : Rank
+  LongLong : Rank
+
+-- what the letters behind a constant's digits say
+pub record Suffix : Type 0 where
+  pub unsigned : Bool
+  pub rank : Rank
 
 -- the number of digits of a base
 abbrev pub radix : Base → ℕ

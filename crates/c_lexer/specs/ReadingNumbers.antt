@@ -6,16 +6,11 @@ use Rattle.std.specs.Str.Parse.{digits_value}
 use Rattle.cpa_ints.specs.declared.integers.IntType.{IntType}
 use Rattle.cpa_ints.specs.declared.integers.IntType.TheVariants as ty
 use Rattle.cpa_ints.specs.Wrapping.{wrapped}
-use Rattle.c_lexer.specs.declared.constant.Base.{Base}
-use Rattle.c_lexer.specs.declared.constant.Base.TheVariants.{Decimal, Octal, Hexadecimal}
-use Rattle.c_lexer.specs.declared.constant.Rank.{Rank}
-use Rattle.c_lexer.specs.declared.constant.Rank.TheVariants.{Int, Long, LongLong}
-use Rattle.c_lexer.specs.declared.constant.Suffix.{Suffix}
 use Rattle.c_lexer.specs.declared.fault.Rule.{Rule}
 use Rattle.c_lexer.specs.declared.fault.Rule.TheVariants.{L1, L3}
 use Rattle.c_lexer.specs.declared.token.TokenKind.{TokenKind}
 use Rattle.c_lexer.specs.declared.token.TokenKind.TheVariants.{Number, Character}
-use Rattle.c_lexer.specs.Numbers.{radix, type_of}
+use Rattle.c_lexer.specs.Numbers.{Base, Decimal, Octal, Hexadecimal, Rank, Int, Long, LongLong, Suffix, radix, type_of}
 use Rattle.c_lexer.specs.Quoted.{simple_escape}
 
 -- x or X

@@ -1,3 +1,5 @@
+//! Blanks, comments and directives. What they are stands in `specs/Gaps.antt`;
+//! `proofs/Comments.antt` and `proofs/Directives.antt` show that this finds them.
 ghost use Rattle.std.specs.Prelude.{◌≡◌, ◌≤◌, ◌<◌, false, length, drop, IfSome};
 ghost use Rattle.c_lexer.specs.Gaps.{names_directive};
 ghost use Rattle.c_lexer.specs.Reading.{close_from, comment_length, opens_comment, opens_line_comment, space_of, behind_spaces};

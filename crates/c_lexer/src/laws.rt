@@ -1,26 +1,64 @@
 //! Laws of the tokens of a text. Each function does nothing: its contract is the law.
 
-ghost use Rattle.std.specs.Prelude.{◌≡◌, ◌⊎◌, ℕ, List};
+ghost use Rattle.std.specs.Prelude.{◌≡◌, ◌≢◌, ◌⊎◌, ℕ, ℤ, List};
+ghost use Rattle.cpa_ints.specs.declared.integers.IntType.{IntType};
+ghost use Rattle.cpa_ints.specs.declared.integers.IntType.TheVariants.{I8};
+ghost use Rattle.cpa_ints.specs.Integers.{IsInRange};
 ghost use Rattle.c_lexer.specs.declared.token.Token.{Token};
+ghost use Rattle.c_lexer.specs.declared.token.TokenKind.TheVariants.{Number, Character, End};
 ghost use Rattle.c_lexer.specs.declared.fault.TextFault.{TextFault};
+ghost use Rattle.std.specs.Ordering.{nat_cmp};
+ghost use Rattle.c_lexer.specs.declared.fault.Rule.{Rule};
+ghost use Rattle.c_lexer.specs.Rules.{rule_number};
 ghost use Rattle.c_lexer.specs.Parts.{Tokens, NoTokens};
 ghost use Rattle.c_lexer.specs.Faults.{HasFault};
-ghost use Rattle.c_lexer.specs.Order.{IsInOrder};
+ghost use Rattle.c_lexer.specs.Lexemes.{IsSpelled, EndsOnce, AreInOrder, ForEachToken};
+
+use crate::Rule;
+use cpa_ints::wrap_keeps_the_range;
 
 /// A text has one list of tokens at most.
 pub fn one_token_list()
-    ensures { (text : List ℕ) (first second : List Token) → Tokens text first → Tokens text second → first ≡ second }
+    ensures { (text : List ℕ) (first second : List Token) →
+        Tokens text first → Tokens text second → first ≡ second }
 {}
 
 /// A text has a list of tokens or a fault, never both, and one fault at most.
 pub fn tokens_or_one_fault()
-    ensures some { (text : List ℕ) → ((found : List Token) × Tokens text found) ⊎ ((fault : TextFault) × HasFault text fault) }
+    ensures some { (text : List ℕ) →
+        ((found : List Token) × Tokens text found) ⊎ ((fault : TextFault) × HasFault text fault) }
     ensures either { (text : List ℕ) (fault : TextFault) → HasFault text fault → NoTokens text }
-    ensures one { (text : List ℕ) (first second : TextFault) → HasFault text first → HasFault text second → first ≡ second }
+    ensures one { (text : List ℕ) (first second : TextFault) →
+        HasFault text first → HasFault text second → first ≡ second }
 {}
 
-/// The tokens of a text lie in order and do not overlap, and between them stand blanks, comments
-/// and directive lines alone.
+/// Each token but `End` has bytes, and is what they spell.
+pub fn tokens_are_spelled()
+    ensures { ForEachToken (λ text token. token.kind ≢ End → IsSpelled text token) }
+{}
+
+/// The last token is `End` at the text's length, and no other is `End`.
+pub fn tokens_end_once()
+    ensures { (text : List ℕ) (found : List Token) → Tokens text found → EndsOnce text found }
+{}
+
+/// Tokens stand in the order of the text and do not overlap.
 pub fn tokens_lie_in_order()
-    ensures { (text : List ℕ) (found : List Token) → Tokens text found → IsInOrder text 0 found }
+    ensures { (text : List ℕ) (found : List Token) → Tokens text found → AreInOrder found }
+{}
+
+/// The value of a number lies in the range of its type, that of a character in the range of `char`.
+pub fn constants_lie_in_range()
+    ensures number { ForEachToken (λ _ token.
+        (t : IntType) (value : ℤ) → token.kind ≡ Number t value → IsInRange t value) }
+    ensures character { ForEachToken (λ _ token.
+        (value : ℤ) → token.kind ≡ Character value → IsInRange I8 value) }
+{
+    wrap_keeps_the_range();
+}
+
+/// Rules are ordered by their numbers, and no two have one.
+pub fn rules_are_ordered_by_number()
+    ensures order { (a b : Rule) → ⟦<Rule as Ord>⟧.cmp a b ≡ nat_cmp (rule_number a) (rule_number b) }
+    ensures one { (a b : Rule) → rule_number a ≡ rule_number b → a ≡ b }
 {}

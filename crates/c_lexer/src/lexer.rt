@@ -1,3 +1,5 @@
+//! The tokens of a whole text, part by part. What they are is `Tokens` of `specs/Parts.antt`, and
+//! what a fault is `HasFault` of `specs/Faults.antt`; `proofs/Cuts.antt` has the loop's invariant.
 ghost use Rattle.std.specs.Prelude.{◌≡◌, ◌+◌, ◌≤◌, ◌++◌, ◌==◌, length, IfOk, IfErr};
 ghost use Rattle.std.specs.List.{list_any};
 ghost use Rattle.c_lexer.specs.Parts.{Tokens, fresh_behind};
@@ -9,6 +11,9 @@ use crate::byte::behind;
 use crate::piece::{Piece, PieceKind, piece_of};
 use crate::{TextError, TextFault, Token, TokenKind};
 use std::alloc::Global;
+
+/// The most bytes that a text may have, 2^20, as a program file. So each place fits a `u32`.
+pub const MAX_TEXT: usize = 1_048_576;
 
 /// Whether a line feed is among the bytes.
 fn has_line_feed(bytes: &[u8]) -> bool
@@ -30,7 +35,7 @@ fn fresh_behind(fresh: bool, kind: PieceKind, bytes: &[u8]) -> bool
 
 /// Adds the token that the piece at this place is, if it is one.
 fn push_token(found: &mut Vec<Token>, place: usize, piece: Piece) -> Result<(), TextError>
-    requires { place + piece.length ≤ 1048576 }
+    requires { place + piece.length ≤ MAX_TEXT }
     ensures ok { IfOk result (λ _. found.new.items ≡ found.old.items ++ tokens_of place piece.length piece.kind) }
     ensures memory { IfErr result (λ error. error ≡ OutOfMemory) }
 {
@@ -48,7 +53,7 @@ fn push_token(found: &mut Vec<Token>, place: usize, piece: Piece) -> Result<(), 
 ///
 /// One pass over the text; memory for the list alone.
 pub fn tokens(alloc: Global, text: &[u8]) -> Result<Vec<Token>, TextError>
-    requires { length text.now ≤ 1048576 }
+    requires { length text.now ≤ MAX_TEXT }
     ensures ok { IfOk result (λ found. Tokens text.now found.items) }
     ensures fault { IfErr result (λ error. IsRefused text.now error) }
 {

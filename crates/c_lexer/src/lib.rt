@@ -2,9 +2,10 @@
 #![tactic(auto)]
 
 mod byte;
-mod constant;
+mod character;
 mod fault;
 mod gap;
+mod integer;
 mod laws;
 mod lexer;
 mod mark;
@@ -13,8 +14,11 @@ mod quote;
 mod token;
 
 pub use fault::{Rule, TextError, TextFault};
-pub use laws::{one_token_list, tokens_lie_in_order, tokens_or_one_fault};
-pub use lexer::tokens;
+pub use laws::{
+    constants_lie_in_range, one_token_list, rules_are_ordered_by_number, tokens_are_spelled,
+    tokens_end_once, tokens_lie_in_order, tokens_or_one_fault,
+};
+pub use lexer::{MAX_TEXT, tokens};
 pub use token::{Token, TokenKind};
 
 #[cfg(test)]

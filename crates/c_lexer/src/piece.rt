@@ -1,13 +1,16 @@
+//! The part of a text that begins at a place. What a part is stands in `specs/Parts.antt`;
+//! `proofs/Sound.antt` and `proofs/Complete.antt` show that this finds it, or the broken rule.
 ghost use Rattle.std.specs.Prelude.{◌≡◌, ◌≤◌, ◌<◌, true, false, length, drop, IfOk};
 ghost use Rattle.c_lexer.specs.declared.piece.PieceKind.TheVariants.{Gap, Token};
 ghost use Rattle.c_lexer.specs.Bytes.{begins_with, is_on_line};
 ghost use Rattle.c_lexer.specs.Reading.{comment_length, comment_piece, directive_piece, number_piece, close_quote, character_in, text_in, mark_length, mark_piece, token_at, piece_of};
 
 use crate::byte::{is_blank, is_word_head, line_run, number_run, word_run};
-use crate::constant::number_of;
+use crate::character::character_of;
 use crate::gap::{comment_length, is_known, opens_comment, opens_line_comment};
+use crate::integer::number_of;
 use crate::mark::mark_length;
-use crate::quote::{character_of, close_quote};
+use crate::quote::close_quote;
 use crate::{Rule, TokenKind};
 
 /// What a part of the text is.

@@ -1,3 +1,4 @@
+//! Tokens: what they are, and where they lie in their text.
 use cpa_ints::IntType;
 
 /// What a token is. The bytes of a word, a text and a mark stand in the text at its places.

@@ -1,4 +1,4 @@
-use Rattle.c_lexer.proofs.InOrder.{in_order}
+use Rattle.c_lexer.proofs.LexemeFacts.{in_order}
 use Rattle.c_lexer.proofs.laws.tokens_lie_in_order.Goals as goal
 
 pub returns : goal.returns

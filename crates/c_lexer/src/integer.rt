@@ -1,6 +1,9 @@
-ghost use Rattle.std.specs.Prelude.{◌≡◌, ◌+◌, ◌*◌, ◌≤◌, ◌<◌, ◌^◌, length, MatchOption};
+//! Integer constants: their base, suffix, digits and type. What they mean stands in
+//! `specs/Numbers.antt`; `proofs/Constants.antt` shows that this reads each of them and no others.
+ghost use Rattle.std.specs.Prelude.{◌≡◌, ◌+◌, ◌*◌, ◌≤◌, ◌<◌, ◌^◌, length, MatchOption, option_map};
 ghost use Rattle.std.specs.Str.Parse.{digits_value};
 ghost use Rattle.c_lexer.specs.Numbers.{radix, types_of, type_of};
+ghost use Rattle.c_lexer.specs.Pieces.{base_from, rank_from, suffix_from};
 ghost use Rattle.c_lexer.specs.ReadingNumbers.{base_of, front_of, digit_run, is_u, rank_of, with_rank, suffix_of, typed, suffixed, number_in, number_of};
 
 use crate::byte::digit_value;
@@ -32,7 +35,7 @@ pub(crate) struct Suffix {
 
 /// The number of digits of a base.
 fn radix(base: Base) -> u8
-    ensures value { result ≡ radix base }
+    ensures value { result ≡ radix (base_from base) }
     ensures most { result ≤ 16 }
     ensures some { 2 ≤ result }
 {
@@ -45,7 +48,7 @@ fn radix(base: Base) -> u8
 
 /// The base that a constant's first bytes name.
 fn base_of(run: &[u8]) -> Base
-    ensures { result ≡ base_of run.now }
+    ensures { base_from result ≡ base_of run.now }
 {
     match run {
         [b'0', b'x' | b'X', ..] => Base::Hexadecimal,
@@ -56,7 +59,7 @@ fn base_of(run: &[u8]) -> Base
 
 /// The rank that these letters name.
 fn rank_of(letters: &[u8]) -> Option<Rank>
-    ensures { result ≡ rank_of letters.now }
+    ensures { option_map rank_from result ≡ rank_of letters.now }
 {
     match letters {
         [] => Some(Rank::Int),
@@ -68,7 +71,7 @@ fn rank_of(letters: &[u8]) -> Option<Rank>
 
 /// The types that a constant can have, the first that holds it first.
 fn types_of(suffix: Suffix, base: Base) -> &'static [IntType]
-    ensures { result.now ≡ types_of suffix.rank suffix.unsigned base }
+    ensures { result.now ≡ types_of (rank_from suffix.rank) suffix.unsigned (base_from base) }
 {
     match (suffix.rank, suffix.unsigned, base) {
         (Rank::Int, false, Base::Decimal) => &[IntType::I32, IntType::I64, IntType::I64],
@@ -94,7 +97,7 @@ fn types_of(suffix: Suffix, base: Base) -> &'static [IntType]
 
 /// The first of its types that holds the number.
 fn type_of(suffix: Suffix, base: Base, number: u64) -> Option<IntType>
-    ensures { result ≡ type_of suffix base number }
+    ensures { result ≡ type_of (suffix_from suffix) (base_from base) number }
 {
     types_of(suffix, base)
         .iter()
@@ -131,7 +134,7 @@ fn is_u(byte: u8) -> bool
 
 /// The suffix of this rank, where there is a rank.
 fn with_rank(unsigned: bool, rank: Option<Rank>) -> Option<Suffix>
-    ensures { result ≡ with_rank unsigned rank }
+    ensures { option_map suffix_from result ≡ with_rank unsigned (option_map rank_from rank) }
 {
     let rank = rank?;
     Some(Suffix { unsigned, rank })
@@ -139,7 +142,7 @@ fn with_rank(unsigned: bool, rank: Option<Rank>) -> Option<Suffix>
 
 /// The suffix that the letters are.
 fn suffix_of(letters: &[u8]) -> Option<Suffix>
-    ensures { result ≡ suffix_of letters.now }
+    ensures { option_map suffix_from result ≡ suffix_of letters.now }
 {
     match letters {
         [first, rest @ ..] if is_u(*first) => with_rank(true, rank_of(rest)),
@@ -150,7 +153,7 @@ fn suffix_of(letters: &[u8]) -> Option<Suffix>
 
 /// How many digits of the base stand at the front.
 fn digit_run(base: Base, text: &[u8]) -> usize
-    ensures value { result ≡ digit_run base text.now }
+    ensures value { result ≡ digit_run (base_from base) text.now }
     ensures within { result ≤ length text.now }
 {
     text.iter()
@@ -160,7 +163,7 @@ fn digit_run(base: Base, text: &[u8]) -> usize
 
 /// How many bytes stand before the digits.
 fn front_of(base: Base) -> usize
-    ensures { result ≡ front_of base }
+    ensures { result ≡ front_of (base_from base) }
 {
     if base == Base::Hexadecimal { 2 } else { 0 }
 }
@@ -180,7 +183,7 @@ fn typed(ty: Option<IntType>, number: u64) -> Result<TokenKind, Rule>
 
 /// The number with this suffix, where there is one.
 fn suffixed(suffix: Option<Suffix>, base: Base, digits: &[u8]) -> Result<TokenKind, Rule>
-    ensures { result ≡ suffixed suffix base (digits_value (radix base) digits.now) }
+    ensures { result ≡ suffixed (option_map suffix_from suffix) (base_from base) (digits_value (radix (base_from base)) digits.now) }
 {
     let Some(suffix) = suffix else {
         return Err(Rule::L1);
@@ -193,7 +196,7 @@ fn suffixed(suffix: Option<Suffix>, base: Base, digits: &[u8]) -> Result<TokenKi
 
 /// The constant of this base whose digits begin the text.
 fn number_in(base: Base, text: &[u8]) -> Result<TokenKind, Rule>
-    ensures { result ≡ number_in base text.now }
+    ensures { result ≡ number_in (base_from base) text.now }
 {
     let run = digit_run(base, text);
     if run == 0 {

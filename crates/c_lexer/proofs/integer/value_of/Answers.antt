@@ -3,7 +3,7 @@ use Rattle.std.specs.Char.{digit_value}
 use Rattle.std.specs.Str.Parse.{digits_value}
 use Rattle.std.proofs.lemmas.Int.Digits.{digits_value_more}
 use Rattle.c_lexer.proofs.Digits.{value_of_front}
-use Rattle.c_lexer.proofs.constant.value_of.Goals as goal
+use Rattle.c_lexer.proofs.integer.value_of.Goals as goal
 
 pub loop-byte-preserved : goal.loop-byte-preserved
 loop-byte-preserved c =
