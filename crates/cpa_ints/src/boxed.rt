@@ -1,3 +1,5 @@
+//! A box that contracts see as what it holds, so that a tree of boxes is plain data.
+//! `specs/formers` lets a tree hold itself through one.
 ghost use Rattle.std.specs.Prelude.{◌≡◌, IfOk};
 
 use std::alloc::{AllocError, Global};
@@ -43,4 +45,19 @@ impl<T: Drop> Boxed<T> {
             inner: Box::new(alloc, value)?,
         })
     }
+}
+
+/// Boxes are equal where what they hold is.
+impl<T: PartialEq> PartialEq for Boxed<T> {
+    ghost eq = { T.eq };
+
+    ghost laws = { T.laws };
+
+    fn eq(&self, other: &Self) -> bool {
+        *self.get() == *other.get()
+    }
+}
+
+impl<T: Eq> Eq for Boxed<T> {
+    ghost laws = { T.Eq.laws };
 }
