@@ -2,7 +2,7 @@
 use Rattle.std.proofs.Common.{◌≡◌, ℕ, ◌+◌, Bool, true, false, not, ◌&&◌, ◌==◌, List, [], ◌∷◌, ◌++◌, length, arith, refl, ap, sym, ◌∙◌, subst, inl, inr, Option, Some, None, codes}
 use Rattle.std.proofs.lemmas.Bool.{cases_Bool, and_parts, not-true, and_from, eqb-true, false_from_ne_true, not_from_false}
 use Rattle.c_lexer.specs.Gaps.{Lacks}
-use Rattle.c_lexer.specs.Reading.{close_from, one_more}
+use Rattle.c_lexer.specs.Steps.Reading.{close_from, one_more}
 
 -- no star is followed by a slash, where `star` says that a star stands before
 abbrev pub stays_open : Bool → List ℕ → Bool

@@ -16,8 +16,8 @@ use Rattle.c_lexer.specs.Quoted.{IsCharacter, IsText, IsQuoted}
 use Rattle.c_lexer.specs.Marks.{is_mark, IsLongestMark}
 use Rattle.c_lexer.specs.Parts.{Part, gap, directive, token, bytes_of, IsPart, IsToken, is_word}
 use Rattle.c_lexer.specs.Faults.{Fails, HasStrayByte, HasMalformedNumber, HasMalformedCharacter, HasOpenComment, HasOpenQuote, HasLargeNumber, HasLargeCharacter, HasUnknownDirective}
-use Rattle.c_lexer.specs.ReadingNumbers.{number_of, character_of, typed, held}
-use Rattle.c_lexer.specs.Reading.{piece_of, token_at, token_piece, gap_piece, comment_piece, comment_length, directive_piece, directive_line, behind_spaces, number_piece, character_in, text_in, close_quote, mark_length, mark_piece, opens_comment, opens_line_comment}
+use Rattle.c_lexer.specs.Steps.ReadingConstants.{number_of, character_of, typed, held}
+use Rattle.c_lexer.specs.Steps.Reading.{piece_of, token_at, token_piece, gap_piece, comment_piece, comment_length, directive_piece, directive_line, behind_spaces, number_piece, character_in, text_in, close_quote, mark_length, mark_piece, opens_comment, opens_line_comment}
 use Rattle.c_lexer.proofs.ByteFacts.{not_blank, not_word_head, word_head_high, digit_low, digit_high}
 use Rattle.c_lexer.proofs.Runs.{run_stops, run_ends}
 use Rattle.c_lexer.proofs.Comments.{open_read, lacks_open}

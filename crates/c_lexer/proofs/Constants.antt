@@ -13,7 +13,7 @@ use Rattle.c_lexer.specs.declared.fault.Rule.TheVariants.{L1}
 use Rattle.c_lexer.specs.declared.token.TokenKind.{TokenKind}
 use Rattle.c_lexer.specs.Bytes.{is_number_byte, begins_with, StopsAt}
 use Rattle.c_lexer.specs.Numbers.{Base, Decimal, Octal, Hexadecimal, Rank, Int, Long, LongLong, Suffix, radix, IsBaseMark, begins_as, IsUnsignedMark, IsRankMark, IsSuffix, IsConstant, type_of}
-use Rattle.c_lexer.specs.ReadingNumbers.{is_x, base_of, front_of, digit_run, suffix_of, typed, suffixed, number_in, number_of}
+use Rattle.c_lexer.specs.Steps.ReadingConstants.{is_x, base_of, front_of, digit_run, suffix_of, typed, suffixed, number_in, number_of}
 use Rattle.c_lexer.proofs.Runs.{run_stops, run_passes, take_more}
 use Rattle.c_lexer.proofs.Suffixes.{suffix_read, suffix_is}
 

@@ -9,9 +9,9 @@ use Rattle.c_lexer.specs.declared.piece.Piece.{Piece}
 use Rattle.c_lexer.specs.declared.piece.PieceKind.{PieceKind}
 use Rattle.c_lexer.specs.declared.token.Token.{Token}
 use Rattle.c_lexer.specs.Parts.{Part, gap, directive, token, bytes_of, joined, IsPart, Stand, Falls, fresh_behind, fresh_after, tokens_from, Tokens, NoTokens, end_token}
-use Rattle.c_lexer.specs.Pieces.{part_of, tokens_of}
+use Rattle.c_lexer.specs.Steps.Pieces.{part_of, tokens_of}
 use Rattle.c_lexer.specs.Faults.{Fails, HasFault}
-use Rattle.c_lexer.specs.Reading.{piece_of}
+use Rattle.c_lexer.specs.Steps.Reading.{piece_of}
 use Rattle.c_lexer.proofs.Pieces.{kind_of, piece_from, part_again, bytes_again, one_token}
 use Rattle.c_lexer.proofs.Runs.{same_fronts}
 use Rattle.c_lexer.proofs.Sound.{piece_stands, piece_fails}

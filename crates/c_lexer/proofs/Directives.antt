@@ -6,7 +6,7 @@ use Rattle.std.proofs.lemmas.Bool.{cases_Bool, and_parts, or_cases, eqb-true, ne
 use Rattle.std.proofs.Math.Seq.{take-append_seam, drop-append_seam}
 use Rattle.c_lexer.specs.Bytes.{is_blank, is_on_line, begins_with, StopsAt}
 use Rattle.c_lexer.specs.Gaps.{IsBlank, IsBlockComment, IsDirective, names_directive}
-use Rattle.c_lexer.specs.Reading.{close_from, comment_length, opens_comment, space_of, behind_spaces, directive_line}
+use Rattle.c_lexer.specs.Steps.Reading.{close_from, comment_length, opens_comment, space_of, behind_spaces, directive_line}
 use Rattle.c_lexer.proofs.ByteFacts.{not_blank, digit_low}
 use Rattle.c_lexer.proofs.Runs.{run_stops, run_passes, take_more}
 use Rattle.c_lexer.proofs.Comments.{stays_open, open_lacks, lacks_open, close_some, close_read, front_body}

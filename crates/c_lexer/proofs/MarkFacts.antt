@@ -9,7 +9,7 @@ use Rattle.std.proofs.Math.Seq.{take-append_seam}
 use Rattle.std.proofs.lemmas.List.{take-append-drop}
 use Rattle.c_lexer.specs.Bytes.{is_blank, is_word_head}
 use Rattle.c_lexer.specs.Marks.{is_mark, single_marks, double_marks, triple_marks}
-use Rattle.c_lexer.specs.Reading.{mark_length}
+use Rattle.c_lexer.specs.Steps.Reading.{mark_length}
 
 -- what all the items have, one of them has
 any_has : {X : Type 0} (test good : X → Bool) (xs : List X) → list_any test xs ≡ true → list_all good xs ≡ true → (x : X) × (test x ≡ true) × (good x ≡ true)

@@ -4,7 +4,7 @@ use Rattle.c_lexer.specs.declared.piece.Piece.{Piece}
 use Rattle.c_lexer.specs.declared.piece.PieceKind.{PieceKind}
 use Rattle.c_lexer.specs.declared.piece.PieceKind.TheVariants as piece
 use Rattle.c_lexer.specs.Parts.{Part, gap, directive, token, bytes_of, tokens_from}
-use Rattle.c_lexer.specs.Pieces.{part_of, tokens_of}
+use Rattle.c_lexer.specs.Steps.Pieces.{part_of, tokens_of}
 
 abbrev pub kind_of : Part → PieceKind
 kind_of (gap bytes) = piece.Gap

@@ -8,8 +8,8 @@ use Rattle.std.proofs.lemmas.Bool.{cases_Bool, and_parts, and_from, eqb-true, eq
 use Rattle.c_lexer.specs.declared.fault.Rule.TheVariants.{L1}
 use Rattle.c_lexer.specs.Bytes.{is_on_line}
 use Rattle.c_lexer.specs.Quoted.{IsUnescaped, IsEscaped, IsQuoted, simple_escape, IsPlain, IsOctalEscape, IsHexEscape, StandsFor}
-use Rattle.c_lexer.specs.Reading.{close_quote, one_more}
-use Rattle.c_lexer.specs.ReadingNumbers.{is_plain, single_of, is_numeral, is_hex_escape, is_octal_escape, held, numeric_escape, single_or, character_of}
+use Rattle.c_lexer.specs.Steps.Reading.{close_quote, one_more}
+use Rattle.c_lexer.specs.Steps.ReadingConstants.{is_plain, single_of, is_numeral, is_hex_escape, is_octal_escape, held, numeric_escape, single_or, character_of}
 
 -- what may stand up to the closing quote, where `escaped` says that a backslash stands before
 abbrev pub is_inside : ℕ → Bool → List ℕ → Bool

@@ -16,10 +16,10 @@ use Rattle.c_lexer.specs.Numbers.{type_of}
 use Rattle.c_lexer.specs.Quoted.{IsQuoted}
 use Rattle.c_lexer.specs.Marks.{is_mark}
 use Rattle.c_lexer.specs.Parts.{IsPart, IsToken}
-use Rattle.c_lexer.specs.Pieces.{part_of}
+use Rattle.c_lexer.specs.Steps.Pieces.{part_of}
 use Rattle.c_lexer.specs.Faults.{Fails}
-use Rattle.c_lexer.specs.ReadingNumbers.{number_of, character_of, typed, held}
-use Rattle.c_lexer.specs.Reading.{piece_of, token_at, token_piece, gap_piece, comment_piece, comment_length, directive_piece, directive_line, behind_spaces, number_piece, character_in, text_in, close_quote, close_from, mark_length, mark_piece, opens_comment, opens_line_comment}
+use Rattle.c_lexer.specs.Steps.ReadingConstants.{number_of, character_of, typed, held}
+use Rattle.c_lexer.specs.Steps.Reading.{piece_of, token_at, token_piece, gap_piece, comment_piece, comment_length, directive_piece, directive_line, behind_spaces, number_piece, character_in, text_in, close_quote, close_from, mark_length, mark_piece, opens_comment, opens_line_comment}
 use Rattle.c_lexer.proofs.ByteFacts.{word_head_goes_on, digit_goes_on}
 use Rattle.c_lexer.proofs.Runs.{run_passes, run_ends, take_more}
 use Rattle.c_lexer.proofs.Comments.{close_none, open_lacks}

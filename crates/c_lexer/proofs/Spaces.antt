@@ -2,7 +2,7 @@
 use Rattle.std.proofs.Common.{◌≡◌, ℕ, ◌+◌, ◌-◌, ◌<◌, ◌≤◌, zero, suc, List, [], ◌∷◌, drop, length, length-drop, arith, refl, sym, ◌∙◌, Option, Some, None, false, option_map, inl, inr}
 use Rattle.std.proofs.lemmas.Bool.{cases_Bool}
 use Rattle.c_lexer.specs.Bytes.{is_blank, begins_with}
-use Rattle.c_lexer.specs.Reading.{space_of, after_spaces, behind_spaces, opens_comment, comment_length, close_from}
+use Rattle.c_lexer.specs.Steps.Reading.{space_of, after_spaces, behind_spaces, opens_comment, comment_length, close_from}
 
 -- what begins with no space stays
 pub none_stays : (most : ℕ) (text : List ℕ) → space_of text ≡ None → after_spaces most text ≡ text

@@ -2,7 +2,7 @@
 use Rattle.std.proofs.Common.{◌≡◌, ℕ, Bool, true, false, ◌&&◌, ◌||◌, ◌==◌, List, [], ◌∷◌, ◌++◌, refl, ap, ◌∙◌, ◌⊎◌, inl, inr, Option, Some, None, codes, subst}
 use Rattle.std.proofs.lemmas.Bool.{cases_Bool, and_parts, or_cases, eqb-true}
 use Rattle.c_lexer.specs.Numbers.{Rank, Int, Long, LongLong, Suffix, IsUnsignedMark, IsRankMark, IsSuffix}
-use Rattle.c_lexer.specs.ReadingNumbers.{is_u, rank_of, with_rank, suffix_of}
+use Rattle.c_lexer.specs.Steps.ReadingConstants.{is_u, rank_of, with_rank, suffix_of}
 
 abbrev made : Bool → Rank → Suffix
 made unsigned rank = record { unsigned = unsigned; rank = rank }

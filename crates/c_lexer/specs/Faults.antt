@@ -1,5 +1,6 @@
--- Why a text falls into no tokens, and where the first reason stands.
-use Rattle.std.specs.Prelude.{◌≡◌, ℕ, ◌<◌, Bool, true, false, ◌⊎◌, ◌++◌, List, ◌∷◌, length, IsTrue, codes, None}
+-- Why a text falls into no tokens, and where the first reason stands (this project's own rules, for
+-- texts that break C11 6.4).
+use Rattle.std.specs.Prelude.{◌≡◌, ◌≢◌, ℕ, ◌<◌, Bool, true, false, ◌⊎◌, ◌++◌, List, ◌∷◌, length, IsTrue, codes, None}
 use Rattle.std.specs.List.{list_all}
 use Rattle.std.specs.Char.{is_ascii_digit}
 use Rattle.c_lexer.specs.declared.fault.Rule.{Rule}
@@ -7,7 +8,7 @@ use Rattle.c_lexer.specs.declared.fault.Rule.TheVariants.{L1, L2, L3, L4}
 use Rattle.c_lexer.specs.declared.fault.TextFault.{TextFault}
 use Rattle.c_lexer.specs.declared.fault.TextError.{TextError}
 use Rattle.c_lexer.specs.declared.fault.TextError.TheVariants.{Fault, OutOfMemory}
-use Rattle.c_lexer.specs.Bytes.{is_blank, is_word_head, is_number_byte, is_on_line, begins_with, StopsAt}
+use Rattle.c_lexer.specs.Bytes.{single_quote, double_quote, number_sign, is_blank, is_word_head, is_number_byte, is_on_line, begins_with, StopsAt}
 use Rattle.c_lexer.specs.Gaps.{Lacks, IsDirective}
 use Rattle.c_lexer.specs.Numbers.{Base, Suffix, IsConstant, type_of}
 use Rattle.c_lexer.specs.Quoted.{IsQuoted, StandsFor}
@@ -18,9 +19,9 @@ use Rattle.c_lexer.specs.Parts.{Part, joined, Falls, fresh_after, NoTokens}
 abbrev pub Begins : ℕ → List ℕ → Type 0
 Begins byte text = (rest : List ℕ) × (text ≡ byte ∷ rest)
 
--- a # (35) that is not the first on its line
+-- a # that is not the first on its line
 abbrev pub HasStrayHash : Bool → List ℕ → Type 0
-HasStrayHash fresh text = (fresh ≡ false) × Begins 35 text
+HasStrayHash fresh text = (fresh ≡ false) × Begins number_sign text
 
 -- a byte with which nothing begins: no blank, #, quote, word, number or mark
 pub record HasStrayByte (text : List ℕ) : Type 0 where
@@ -28,8 +29,8 @@ pub record HasStrayByte (text : List ℕ) : Type 0 where
   pub rest : List ℕ
   pub spelled : text ≡ byte ∷ rest
   pub no_blank : is_blank byte ≡ false
-  pub no_hash : byte ≡ 35 → ⊥
-  pub no_quote : (byte ≡ 39) ⊎ (byte ≡ 34) → ⊥
+  pub no_hash : byte ≢ number_sign
+  pub no_quote : (byte ≡ single_quote) ⊎ (byte ≡ double_quote) → ⊥
   pub no_word : is_word_head byte ≡ false
   pub no_number : is_ascii_digit byte ≡ false
   pub no_mark : (mark after : List ℕ) → IsTrue (is_mark mark) → text ≡ mark ++ after → ⊥
@@ -46,7 +47,8 @@ pub record HasMalformedNumber (text : List ℕ) : Type 0 where
   pub rest : List ℕ
   pub spelled : text ≡ run ++ rest
   pub longest : IsNumberRun run rest
-  pub malformed : (base : Base) (suffix : Suffix) (number : ℕ) → IsConstant run base suffix number → ⊥
+  pub malformed : (base : Base) (suffix : Suffix) (number : ℕ) →
+      IsConstant run base suffix number → ⊥
 
 -- quotes of a character around what stands for nothing
 pub record HasMalformedCharacter (text : List ℕ) : Type 0 where
@@ -54,7 +56,7 @@ pub record HasMalformedCharacter (text : List ℕ) : Type 0 where
   pub content : List ℕ
   pub rest : List ℕ
   pub spelled : text ≡ bytes ++ rest
-  pub quoted : IsQuoted 39 bytes content
+  pub quoted : IsQuoted single_quote bytes content
   pub malformed : (number : ℕ) → StandsFor content number → ⊥
 
 -- a comment that never ends
@@ -66,7 +68,8 @@ pub record HasOpenComment (text : List ℕ) : Type 0 where
 -- a quote that is not closed on its line
 pub record HasOpenQuote (quote : ℕ) (text : List ℕ) : Type 0 where
   pub begins : Begins quote text
-  pub unclosed : (bytes content rest : List ℕ) → text ≡ bytes ++ rest → IsQuoted quote bytes content → ⊥
+  pub unclosed : (bytes content rest : List ℕ) → text ≡ bytes ++ rest →
+      IsQuoted quote bytes content → ⊥
 
 -- an integer constant that no type of its list holds
 pub record HasLargeNumber (text : List ℕ) : Type 0 where
@@ -87,20 +90,22 @@ pub record HasLargeCharacter (text : List ℕ) : Type 0 where
   pub rest : List ℕ
   pub number : ℕ
   pub spelled : text ≡ bytes ++ rest
-  pub quoted : IsQuoted 39 bytes content
+  pub quoted : IsQuoted single_quote bytes content
   pub stands_for : StandsFor content number
   pub large : 255 < number
 
 -- a # that is the first on its line, which is no line marker, #line or #pragma
 pub record HasUnknownDirective (fresh : Bool) (text : List ℕ) : Type 0 where
   pub first : IsTrue fresh
-  pub begins : Begins 35 text
-  pub unknown : (bytes rest : List ℕ) → text ≡ bytes ++ rest → IsDirective bytes → StopsAt is_on_line rest → ⊥
+  pub begins : Begins number_sign text
+  pub unknown : (bytes rest : List ℕ) → text ≡ bytes ++ rest → IsDirective bytes →
+      StopsAt is_on_line rest → ⊥
 
 -- why no part begins the text, by the rule that is broken
 abbrev pub Fails : Bool → Rule → List ℕ → Type 0
-Fails fresh L1 text = HasStrayHash fresh text ⊎ (HasStrayByte text ⊎ (HasMalformedNumber text ⊎ HasMalformedCharacter text))
-Fails fresh L2 text = HasOpenComment text ⊎ (HasOpenQuote 39 text ⊎ HasOpenQuote 34 text)
+Fails fresh L1 text = HasStrayHash fresh text ⊎ (HasStrayByte text ⊎
+    (HasMalformedNumber text ⊎ HasMalformedCharacter text))
+Fails fresh L2 text = HasOpenComment text ⊎ (HasOpenQuote single_quote text ⊎ HasOpenQuote double_quote text)
 Fails fresh L3 text = HasLargeNumber text ⊎ HasLargeCharacter text
 Fails fresh L4 text = HasUnknownDirective fresh text
 Fails fresh _ text = ⊥

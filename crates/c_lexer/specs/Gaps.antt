@@ -28,7 +28,8 @@ pub record IsLineComment (bytes : List ℕ) : Type 0 where
 
 -- a blank or a comment, before the rest of the text; a // comment goes to the end of its line
 abbrev pub IsGap : List ℕ → List ℕ → Type 0
-IsGap bytes rest = IsBlank bytes ⊎ (IsBlockComment bytes ⊎ (IsLineComment bytes × StopsAt is_on_line rest))
+IsGap bytes rest = IsBlank bytes ⊎
+    (IsBlockComment bytes ⊎ (IsLineComment bytes × StopsAt is_on_line rest))
 
 -- blanks and /* */ comments, one after another
 pub record IsSpaced (gap : List ℕ) : Type 0 where
@@ -36,9 +37,11 @@ pub record IsSpaced (gap : List ℕ) : Type 0 where
   pub spelled : gap ≡ concat pieces
   pub each : AllByRecursion (λ piece. IsBlank piece ⊎ IsBlockComment piece) pieces
 
--- what a line marker, #line and #pragma have behind the # and its blanks: a digit, or the word's letters
+-- what a line marker, #line and #pragma have behind the # and its blanks: a digit, or the word's
+-- letters
 abbrev pub names_directive : List ℕ → Bool
-names_directive tail = begins_with is_ascii_digit tail || starts_with nat_eq tail (codes "line") || starts_with nat_eq tail (codes "pragma")
+names_directive tail = begins_with is_ascii_digit tail ||
+    starts_with nat_eq tail (codes "line") || starts_with nat_eq tail (codes "pragma")
 
 -- a line marker, #line or #pragma, on one line
 pub record IsDirective (bytes : List ℕ) : Type 0 where

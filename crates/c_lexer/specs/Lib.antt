@@ -6,7 +6,5 @@ pub mod Marks
 pub mod Parts
 pub mod Rules
 pub mod Faults
-pub mod Reading
-pub mod ReadingNumbers
-pub mod Pieces
 pub mod Lexemes
+pub mod Steps

@@ -32,5 +32,6 @@ begins_comment text = starts_with nat_eq text (codes "/*") || starts_with nat_eq
 -- no longer mark, and no comment, begins where the mark does
 pub record IsLongestMark (bytes rest : List ℕ) : Type 0 where
   pub marked : IsTrue (is_mark bytes)
-  pub longest : (longer after : List ℕ) → IsTrue (is_mark longer) → bytes ++ rest ≡ longer ++ after → length longer ≤ length bytes
+  pub longest : (longer after : List ℕ) → IsTrue (is_mark longer) →
+      bytes ++ rest ≡ longer ++ after → length longer ≤ length bytes
   pub no_comment : begins_comment (bytes ++ rest) ≡ false

@@ -88,7 +88,8 @@ types_of LongLong true _ = ty.U64 ∷ []
 
 -- the first of them that holds the number
 abbrev pub type_of : Suffix → Base → ℕ → Option IntType
-type_of suffix base number = find (λ t. int_le (pos number) (greatest t)) (types_of suffix.rank suffix.unsigned base)
+type_of suffix base number =
+    find (λ t. int_le (pos number) (greatest t)) (types_of suffix.rank suffix.unsigned base)
 
 -- an integer constant of this type and value
 pub record IsNumber (bytes : List ℕ) (t : IntType) (value : ℤ) : Type 0 where

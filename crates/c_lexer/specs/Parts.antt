@@ -4,7 +4,7 @@ use Rattle.std.specs.List.{list_all, list_any}
 use Rattle.c_lexer.specs.declared.token.Token.{Token}
 use Rattle.c_lexer.specs.declared.token.TokenKind.{TokenKind}
 use Rattle.c_lexer.specs.declared.token.TokenKind.TheVariants.{Word, Number, Character, Text, Mark, End}
-use Rattle.c_lexer.specs.Bytes.{is_word_head, is_word_byte, is_number_byte, is_on_line, begins_with, StopsAt}
+use Rattle.c_lexer.specs.Bytes.{line_feed, is_word_head, is_word_byte, is_number_byte, is_on_line, begins_with, StopsAt}
 use Rattle.c_lexer.specs.Gaps.{IsGap, IsDirective}
 use Rattle.c_lexer.specs.Numbers.{IsNumber}
 use Rattle.c_lexer.specs.Quoted.{IsCharacter, IsText}
@@ -35,7 +35,8 @@ IsToken Text bytes rest = IsText bytes
 IsToken Mark bytes rest = IsLongestMark bytes rest
 IsToken End bytes rest = ⊥
 
--- the part may stand before the rest; `fresh` says that only blanks and comments stand before it on its line
+-- the part may stand before the rest; `fresh` says that only blanks and comments stand before it on
+-- its line
 abbrev pub IsPart : Bool → Part → List ℕ → Type 0
 IsPart fresh (gap bytes) rest = IsGap bytes rest
 IsPart fresh (directive bytes) rest = IsTrue fresh × IsDirective bytes × StopsAt is_on_line rest
@@ -43,7 +44,7 @@ IsPart fresh (token kind bytes) rest = IsToken kind bytes rest
 
 -- whether behind the part only blanks and comments stand before on the line
 abbrev pub fresh_behind : Bool → Part → Bool
-fresh_behind fresh (gap bytes) = fresh || list_any (λ byte. byte == 10) bytes
+fresh_behind fresh (gap bytes) = fresh || list_any (λ byte. byte == line_feed) bytes
 fresh_behind fresh (directive bytes) = true
 fresh_behind fresh (token kind bytes) = false
 
@@ -60,7 +61,8 @@ joined (part ∷ parts) = bytes_of part ++ joined parts
 -- the parts may stand in this order before the rest
 abbrev pub Stand : Bool → List Part → List ℕ → Type 0
 Stand fresh [] rest = Unit {0}
-Stand fresh (part ∷ parts) rest = IsPart fresh part (joined parts ++ rest) × Stand (fresh_behind fresh part) parts rest
+Stand fresh (part ∷ parts) rest =
+    IsPart fresh part (joined parts ++ rest) × Stand (fresh_behind fresh part) parts rest
 
 -- the text falls into these parts and a rest
 pub record Falls (text : List ℕ) (parts : List Part) (rest : List ℕ) : Type 0 where
@@ -73,7 +75,8 @@ tokens_from place [] = []
 tokens_from place (gap bytes ∷ parts) = tokens_from (place + length bytes) parts
 tokens_from place (directive bytes ∷ parts) = tokens_from (place + length bytes) parts
 tokens_from place (token kind bytes ∷ parts) =
-    record { kind = kind; from = place; to = place + length bytes } ∷ tokens_from (place + length bytes) parts
+    record { kind = kind; from = place; to = place + length bytes } ∷
+    tokens_from (place + length bytes) parts
 
 -- the token behind the text
 abbrev pub end_token : ℕ → Token

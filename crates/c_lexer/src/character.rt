@@ -5,7 +5,7 @@ ghost use Rattle.std.specs.Str.Parse.{digits_value};
 ghost use Rattle.std.specs.List.{list_all};
 ghost use Rattle.std.specs.Char.{is_digit};
 ghost use Rattle.c_lexer.specs.Quoted.{simple_escape};
-ghost use Rattle.c_lexer.specs.ReadingNumbers.{is_plain, single_of, is_numeral, is_hex_escape, is_octal_escape, held, numeric_escape, character_of};
+ghost use Rattle.c_lexer.specs.Steps.ReadingConstants.{is_plain, single_of, is_numeral, is_hex_escape, is_octal_escape, held, numeric_escape, character_of};
 
 use crate::byte::digit_value;
 use crate::integer::value_of;

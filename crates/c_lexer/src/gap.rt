@@ -2,7 +2,7 @@
 //! `proofs/Comments.antt` and `proofs/Directives.antt` show that this finds them.
 ghost use Rattle.std.specs.Prelude.{◌≡◌, ◌≤◌, ◌<◌, false, length, drop, IfSome};
 ghost use Rattle.c_lexer.specs.Gaps.{names_directive};
-ghost use Rattle.c_lexer.specs.Reading.{close_from, comment_length, opens_comment, opens_line_comment, space_of, behind_spaces};
+ghost use Rattle.c_lexer.specs.Steps.Reading.{close_from, comment_length, opens_comment, opens_line_comment, space_of, behind_spaces};
 
 use crate::byte::{behind, is_blank, line_run};
 

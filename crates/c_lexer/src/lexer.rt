@@ -3,7 +3,7 @@
 ghost use Rattle.std.specs.Prelude.{◌≡◌, ◌+◌, ◌≤◌, ◌++◌, ◌==◌, length, IfOk, IfErr};
 ghost use Rattle.std.specs.List.{list_any};
 ghost use Rattle.c_lexer.specs.Parts.{Tokens, fresh_behind};
-ghost use Rattle.c_lexer.specs.Pieces.{part_of, tokens_of};
+ghost use Rattle.c_lexer.specs.Steps.Pieces.{part_of, tokens_of};
 ghost use Rattle.c_lexer.specs.Faults.{IsRefused};
 ghost use Rattle.c_lexer.specs.declared.fault.TextError.TheVariants.{OutOfMemory};
 

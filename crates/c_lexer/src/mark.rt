@@ -2,7 +2,7 @@
 //! shows that none is missed.
 ghost use Rattle.std.specs.Prelude.{◌≡◌, ◌≤◌, length, take, [], ◌∷◌};
 ghost use Rattle.c_lexer.specs.Marks.{is_mark};
-ghost use Rattle.c_lexer.specs.Reading.{mark_length};
+ghost use Rattle.c_lexer.specs.Steps.Reading.{mark_length};
 
 /// Whether the byte is a mark.
 fn is_single(byte: u8) -> bool

@@ -3,7 +3,7 @@
 ghost use Rattle.std.specs.Prelude.{◌≡◌, ◌≤◌, ◌<◌, true, false, length, drop, IfOk};
 ghost use Rattle.c_lexer.specs.declared.piece.PieceKind.TheVariants.{Gap, Token};
 ghost use Rattle.c_lexer.specs.Bytes.{begins_with, is_on_line};
-ghost use Rattle.c_lexer.specs.Reading.{comment_length, comment_piece, directive_piece, number_piece, close_quote, character_in, text_in, mark_length, mark_piece, token_at, piece_of};
+ghost use Rattle.c_lexer.specs.Steps.Reading.{comment_length, comment_piece, directive_piece, number_piece, close_quote, character_in, text_in, mark_length, mark_piece, token_at, piece_of};
 
 use crate::byte::{is_blank, is_word_head, line_run, number_run, word_run};
 use crate::character::character_of;

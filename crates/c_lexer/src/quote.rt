@@ -1,7 +1,7 @@
 //! Where a quote is closed. What may stand between quotes is `IsQuoted` of `specs/Quoted.antt`;
 //! `proofs/Quotes.antt` shows that this finds it.
 ghost use Rattle.std.specs.Prelude.{◌≡◌, ◌<◌, false, length, IfSome};
-ghost use Rattle.c_lexer.specs.Reading.{close_quote};
+ghost use Rattle.c_lexer.specs.Steps.Reading.{close_quote};
 
 /// How many bytes there are before the quote that closes the text, where one does on its line.
 pub(crate) fn close_quote(text: &[u8], quote: u8) -> Option<usize>

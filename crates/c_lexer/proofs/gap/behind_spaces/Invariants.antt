@@ -1,5 +1,5 @@
 use Rattle.std.proofs.Common.{◌≡◌, length}
-use Rattle.c_lexer.specs.Reading.{behind_spaces}
+use Rattle.c_lexer.specs.Steps.Reading.{behind_spaces}
 use Rattle.c_lexer.proofs.gap.behind_spaces.Given as goal
 
 abbrev pub invariant-loop-length : goal.invariant-loop-length

@@ -1,5 +1,5 @@
 use Rattle.std.proofs.Common.{◌≡◌, ◌<◌, ◌≤◌, length, drop, arith, rules, ap, sym, ◌∙◌, Err}
-use Rattle.c_lexer.specs.Reading.{piece_of}
+use Rattle.c_lexer.specs.Steps.Reading.{piece_of}
 use Rattle.c_lexer.proofs.Cuts.{fault_cut, fault_no_tokens, cut_on, piece_some}
 use Rattle.c_lexer.proofs.lexer.tokens.Goals as goal
 

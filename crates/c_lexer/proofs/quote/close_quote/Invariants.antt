@@ -1,5 +1,5 @@
 use Rattle.std.proofs.Common.{◌≡◌, ◌+◌, false, drop, option_map}
-use Rattle.c_lexer.specs.Reading.{close_quote}
+use Rattle.c_lexer.specs.Steps.Reading.{close_quote}
 use Rattle.c_lexer.proofs.quote.close_quote.Given as goal
 
 abbrev pub invariant-loop-i : goal.invariant-loop-i

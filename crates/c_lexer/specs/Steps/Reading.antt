@@ -1,4 +1,5 @@
--- What reading one part of a text computes, for the clauses of single steps. What it means stands in Parts and Faults.
+-- What reading one part of a text computes. It promises nothing: what it means stands in Parts and
+-- Faults, and proofs/Sound and proofs/Complete tie the two.
 use Rattle.std.specs.Prelude.{ℕ, ◌+◌, Bool, false, not, ◌&&◌, List, [], ◌∷◌, length, drop, take, ◌==◌, Option, Some, None, Result, Ok, Err, cond, option_map, unwrap_or, nat_eq, zero, suc, codes}
 use Rattle.std.specs.List.{prefix_len, starts_with}
 use Rattle.std.specs.Char.{is_ascii_digit}
@@ -11,7 +12,7 @@ use Rattle.c_lexer.specs.declared.piece.PieceKind.TheVariants.{Gap, Directive, T
 use Rattle.c_lexer.specs.Bytes.{is_blank, is_word_head, is_word_byte, is_number_byte, is_on_line, begins_with}
 use Rattle.c_lexer.specs.Gaps.{names_directive}
 use Rattle.c_lexer.specs.Marks.{is_mark}
-use Rattle.c_lexer.specs.ReadingNumbers.{number_of, character_of}
+use Rattle.c_lexer.specs.Steps.ReadingConstants.{number_of, character_of}
 
 -- one more, where there is a number
 abbrev pub one_more : Option ℕ → Option ℕ

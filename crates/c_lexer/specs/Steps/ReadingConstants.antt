@@ -1,4 +1,5 @@
--- What reading a constant computes, for the clauses of single steps. What it means stands in Numbers and Quoted.
+-- What reading a constant computes. It promises nothing: what it means stands in Numbers and Quoted,
+-- and proofs/Constants and proofs/Quotes tie the two.
 use Rattle.std.specs.Prelude.{ℕ, Bool, true, false, not, ◌&&◌, ◌||◌, List, [], ◌∷◌, length, drop, take, ◌==◌, nat_le, pos, Option, Some, None, Result, Ok, Err, cond}
 use Rattle.std.specs.List.{list_all, prefix_len}
 use Rattle.std.specs.Char.{is_digit}
