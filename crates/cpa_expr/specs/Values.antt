@@ -2,12 +2,13 @@
 -- quotient is rounded toward zero, a shift to the right rounds down, and operands are evaluated from left to right. None
 -- stands for a trap, which ends the execution: a division by zero, a shift amount outside the width, an index outside
 -- its array.
-use Rattle.std.specs.Prelude.{ℕ, ◌+◌, ◌^◌, ℤ, pos, negsuc, neg_ℤ, ◌+ℤ◌, ◌-ℤ◌, ◌*ℤ◌, unsigned_abs, int_div, int_lt, int_le, nat_lt, bit_and, bit_or, bit_xor, Bool, true, false, not, if◌then◌else◌, List, Option, None, Some, option_map, option_and_then, slice_get}
-use Rattle.std.specs.Int.{int_rem_euclid, int_div_euclid}
+use Rattle.std.specs.Prelude.{ℕ, ◌+◌, ◌^◌, ℤ, pos, negsuc, neg_ℤ, ◌+ℤ◌, ◌-ℤ◌, ◌*ℤ◌, int_div, int_lt, int_le, nat_lt, bit_and, bit_or, bit_xor, Bool, true, false, not, if◌then◌else◌, List, Option, None, Some, option_map, option_and_then, slice_get}
+use Rattle.std.specs.Int.{int_div_euclid}
 use Rattle.std.specs.Ordering.{int_eq}
 use Rattle.cpa_ints.specs.declared.integers.IntType.{IntType}
 use Rattle.cpa_ints.specs.Integers.{width}
 use Rattle.cpa_ints.specs.Wrapping.{wrapped}
+pub use Rattle.cpa_ints.specs.Bits.{bits_of}
 use Rattle.cpa_expr.specs.declared.tree.UnOp.{UnOp}
 use Rattle.cpa_expr.specs.declared.tree.BinOp.{BinOp}
 use Rattle.cpa_expr.specs.declared.tree.CmpOp.{CmpOp}
@@ -22,10 +23,6 @@ use Rattle.cpa_expr.specs.declared.tree.Expr.TheFolds.{fold-Expr}
 abbrev pub un_value : UnOp → IntType → ℤ → ℤ
 un_value un.Neg t a = wrapped t (neg_ℤ a)
 un_value un.Flip t a = wrapped t (neg_ℤ a -ℤ pos 1)
-
--- the two's complement of a at the type's width, read as a natural number
-abbrev pub bits_of : IntType → ℤ → ℕ
-bits_of t a = unsigned_abs (int_rem_euclid a (pos (2 ^ width t)))
 
 -- the amount of a shift, where it lies from 0 to the width less 1
 abbrev pub amount_of : IntType → ℤ → Option ℕ

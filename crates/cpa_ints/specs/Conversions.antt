@@ -1,10 +1,15 @@
--- The integer promotions and the usual arithmetic conversions (C11 6.3.1.1 and 6.3.1.8), by rank, sign and range.
+-- The integer promotions and the usual arithmetic conversions (C11 6.3.1.1 and 6.3.1.8), by rank,
+-- sign and range.
 use Rattle.std.specs.Prelude.{ℕ, ◌<◌, ◌≤◌, ◌≡◌, ℤ, true, false, nat_lt, if◌then◌else◌}
 use Rattle.cpa_ints.specs.declared.integers.IntType.{IntType}
 use Rattle.cpa_ints.specs.declared.integers.IntType.TheVariants as ty
 use Rattle.cpa_ints.specs.Integers.{width, is_signed, IsInRange}
 
--- the conversion rank: types of one width have one rank, and a wider type has a greater one
+-- the conversion rank (C11 6.3.1.1p1): types of one width have one rank, and a wider type has a
+-- greater one. C11 ranks long long above long, which LP64 gives the same width: here one type stands
+-- for both, since to rank them apart changes no conversion. Signed with signed and unsigned with
+-- unsigned keep that one type, and signed with unsigned gives the unsigned one by either order, as
+-- neither signed one has the unsigned one's values.
 abbrev pub rank : IntType → ℕ
 rank t = width t
 
@@ -38,7 +43,8 @@ pub record IsMixedCommonOf (u s c : IntType) : Type 0 where
 
 -- two promoted types p and q have the common type c (C11 6.3.1.8)
 pub record IsCommonOf (p q c : IntType) : Type 0 where
-  pub of_one_sign : is_signed p ≡ is_signed q → (rank q ≤ rank p → c ≡ p) × (rank p ≤ rank q → c ≡ q)
+  pub of_one_sign : is_signed p ≡ is_signed q →
+      (rank q ≤ rank p → c ≡ p) × (rank p ≤ rank q → c ≡ q)
   pub left_unsigned : is_signed p ≡ false → is_signed q ≡ true → IsMixedCommonOf p q c
   pub right_unsigned : is_signed p ≡ true → is_signed q ≡ false → IsMixedCommonOf q p c
 
@@ -56,7 +62,10 @@ promoted t = if nat_lt (width t) (width ty.I32) then ty.I32 else t
 
 -- the wider type, and of equal widths the unsigned one if either is
 abbrev pub wider : IntType → IntType → IntType
-wider p q = if nat_lt (width q) (width p) then p else if nat_lt (width p) (width q) then q else if is_signed p then q else p
+wider p q =
+    if nat_lt (width q) (width p) then p
+    else if nat_lt (width p) (width q) then q
+    else if is_signed p then q else p
 
 -- the type in which a binary operation computes
 abbrev pub common_type : IntType → IntType → IntType

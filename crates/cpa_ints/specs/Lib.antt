@@ -2,3 +2,5 @@ pub mod formers
 pub mod Integers
 pub mod Wrapping
 pub mod Conversions
+pub mod Bits
+pub mod Quotients

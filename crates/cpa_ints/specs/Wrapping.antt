@@ -21,7 +21,8 @@ pub record IsWrapOf (t : IntType) (n m : ℤ) : Type 0 where
   pub truth : t ≡ ty.Bool → IsTruth n m
   pub congruent : t ≢ ty.Bool → IsCongruent (width t) n m
 
--- that number: n's distance from the least value, reduced modulo 2^width, and counted from there; 0 or 1 for Bool
+-- that number: n's distance from the least value, reduced modulo 2^width, and counted from there;
+-- 0 or 1 for Bool
 unfoldable pub wrapped : IntType → ℤ → ℤ
 wrapped ty.Bool n = if int_eq n (pos 0) then pos 0 else pos 1
 wrapped t n = least t +ℤ int_rem_euclid (n -ℤ least t) (pos (2 ^ width t))

@@ -13,7 +13,8 @@ pub use boxed::Boxed;
 pub use conversions::{common, promote};
 pub use integers::IntType;
 pub use laws::{
-    congruent_numbers_wrap_alike, wrap_commutes, wrap_is_the_congruent_number,
+    bits_are_the_congruent_number, bits_keep_the_number, congruent_numbers_wrap_alike,
+    floors_round_down, quotients_round_toward_zero, wrap_commutes, wrap_is_the_congruent_number,
     wrap_keeps_the_range, wrap_narrows,
 };
 pub use seq::Seq;
