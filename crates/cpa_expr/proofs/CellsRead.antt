@@ -8,8 +8,8 @@ use Rattle.cpa_expr.specs.declared.tree.Expr.TheFolds.{map-Expr}
 use Rattle.cpa_expr.specs.Shape.{OfParts}
 use Rattle.cpa_expr.specs.Values.{un_value, bin_value, compares, truth, cell_at, evaluated, value_step, value_of}
 use Rattle.cpa_expr.specs.Cells.{is_within, reads_step, may_read, AgreesWhereRead}
-use Rattle.cpa_expr.proofs.Parts.{by_parts}
-use Rattle.cpa_expr.proofs.Layers.{values_in, value_rolled, reads_rolled}
+use Rattle.cpa_expr.specs.lemmas.Parts.{by_parts}
+use Rattle.cpa_expr.specs.lemmas.Layers.{values_in, value_rolled, reads_rolled}
 
 pub or_left : (a b : Bool) → IsTrue a → IsTrue (a || b)
 or_left true b h = refl
@@ -47,30 +47,30 @@ module _ (values others : List ℤ) where
   layer_agrees : (x : Expr-F Expr) → OfParts Agreed x → LayerAgrees x → value_step values (values_in values x) ≡ value_step others (values_in others x)
   layer_agrees (Expr-F.Const t n) h a = refl
   layer_agrees (Expr-F.Read t base len index) h a =
-      same_read values base len (value_of index values) (value_of index others) (h (λ c r. a c (or_right (is_within base len c) (may_read index c) r))) ∙
-      same_cells values others base len (λ c r. a c (or_left (is_within base len c) (may_read index c) r)) (value_of index others)
-  layer_agrees (Expr-F.Un o t arg) h a = ap (option_map (un_value o t)) (h a)
+      same_read values base len (value_of index values) (value_of index others) (h.0 (λ c r. a c (or_right (is_within base len c) (may_read index c || false) (or_left (may_read index c) false r)))) ∙
+      same_cells values others base len (λ c r. a c (or_left (is_within base len c) (may_read index c || false) r)) (value_of index others)
+  layer_agrees (Expr-F.Un o t arg) h a = ap (option_map (un_value o t)) (h.0 (λ c r. a c (or_left (may_read arg c) false r)))
   layer_agrees (Expr-F.Bin o t left right) h a =
       both_same (Option ℤ) (evaluated (bin_value o t)) (value_of left values) (value_of left others) (value_of right values) (value_of right others)
-      (h.0 (λ c r. a c (or_left (may_read left c) (may_read right c) r))) (h.1 (λ c r. a c (or_right (may_read left c) (may_read right c) r)))
+      (h.0 (λ c r. a c (or_left (may_read left c) (may_read right c || false) r))) ((h.1).0 (λ c r. a c (or_right (may_read left c) (may_read right c || false) (or_left (may_read right c) false r))))
   layer_agrees (Expr-F.Cmp o t left right) h a =
       both_same (Option ℤ) (evaluated (λ p q. Some (truth (compares o p q)))) (value_of left values) (value_of left others) (value_of right values) (value_of right others)
-      (h.0 (λ c r. a c (or_left (may_read left c) (may_read right c) r))) (h.1 (λ c r. a c (or_right (may_read left c) (may_read right c) r)))
-  layer_agrees (Expr-F.Cast t arg) h a = ap (λ o. value_step values (Expr-F.Cast t o)) (h a)
+      (h.0 (λ c r. a c (or_left (may_read left c) (may_read right c || false) r))) ((h.1).0 (λ c r. a c (or_right (may_read left c) (may_read right c || false) (or_left (may_read right c) false r))))
+  layer_agrees (Expr-F.Cast t arg) h a = ap (λ o. value_step values (Expr-F.Cast t o)) (h.0 (λ c r. a c (or_left (may_read arg c) false r)))
   layer_agrees (Expr-F.And left right) h a =
       both_same (Option ℤ) (λ p q. value_step values (Expr-F.And p q)) (value_of left values) (value_of left others) (value_of right values) (value_of right others)
-      (h.0 (λ c r. a c (or_left (may_read left c) (may_read right c) r))) (h.1 (λ c r. a c (or_right (may_read left c) (may_read right c) r)))
+      (h.0 (λ c r. a c (or_left (may_read left c) (may_read right c || false) r))) ((h.1).0 (λ c r. a c (or_right (may_read left c) (may_read right c || false) (or_left (may_read right c) false r))))
   layer_agrees (Expr-F.Or left right) h a =
       both_same (Option ℤ) (λ p q. value_step values (Expr-F.Or p q)) (value_of left values) (value_of left others) (value_of right values) (value_of right others)
-      (h.0 (λ c r. a c (or_left (may_read left c) (may_read right c) r))) (h.1 (λ c r. a c (or_right (may_read left c) (may_read right c) r)))
-  layer_agrees (Expr-F.Not arg) h a = ap (λ o. value_step values (Expr-F.Not o)) (h a)
+      (h.0 (λ c r. a c (or_left (may_read left c) (may_read right c || false) r))) ((h.1).0 (λ c r. a c (or_right (may_read left c) (may_read right c || false) (or_left (may_read right c) false r))))
+  layer_agrees (Expr-F.Not arg) h a = ap (λ o. value_step values (Expr-F.Not o)) (h.0 (λ c r. a c (or_left (may_read arg c) false r)))
   layer_agrees (Expr-F.Cond t test first second) h a =
-      let reads_first = λ (c : ℕ) (r : IsTrue (may_read first c)). a c (or_left (may_read test c || may_read first c) (may_read second c) (or_right (may_read test c) (may_read first c) r)) in
-      let reads_test = λ (c : ℕ) (r : IsTrue (may_read test c)). a c (or_left (may_read test c || may_read first c) (may_read second c) (or_left (may_read test c) (may_read first c) r)) in
-      let reads_second = λ (c : ℕ) (r : IsTrue (may_read second c)). a c (or_right (may_read test c || may_read first c) (may_read second c) r) in
+      let reads_test = λ (c : ℕ) (r : IsTrue (may_read test c)). a c (or_left (may_read test c) (may_read first c || (may_read second c || false)) r) in
+      let reads_first = λ (c : ℕ) (r : IsTrue (may_read first c)). a c (or_right (may_read test c) (may_read first c || (may_read second c || false)) (or_left (may_read first c) (may_read second c || false) r)) in
+      let reads_second = λ (c : ℕ) (r : IsTrue (may_read second c)). a c (or_right (may_read test c) (may_read first c || (may_read second c || false)) (or_right (may_read first c) (may_read second c || false) (or_left (may_read second c) false r))) in
       ap (λ o. value_step values (Expr-F.Cond t o (value_of first values) (value_of second values))) (h.0 reads_test) ∙
-      ap (λ o. value_step values (Expr-F.Cond t (value_of test others) o (value_of second values))) (h.1 reads_first) ∙
-      ap (λ o. value_step values (Expr-F.Cond t (value_of test others) (value_of first others) o)) (h.2 reads_second)
+      ap (λ o. value_step values (Expr-F.Cond t (value_of test others) o (value_of second values))) ((h.1).0 reads_first) ∙
+      ap (λ o. value_step values (Expr-F.Cond t (value_of test others) (value_of first others) o)) (((h.1).1).0 reads_second)
 
   agreed_at : (x : Expr-F Expr) → OfParts Agreed x → Agreed (roll-Expr x)
   agreed_at x h a = value_rolled values x ∙ layer_agrees x h (λ c r. a c (reads_rolled c x ∙ r)) ∙ sym (value_rolled others x)

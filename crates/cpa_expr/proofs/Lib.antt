@@ -1,12 +1,10 @@
-pub mod ScalarReads
-pub mod SameTrees
 pub mod CellTypes
 pub mod WrapSteps
 pub mod Quotients
-pub mod Parts
-pub mod Layers
 pub mod CellsRead
 pub mod Substitution
-pub mod ValueRanges
 pub mod TrapsKept
 pub mod Unread
+pub mod SameTrees
+pub mod ScalarReads
+pub mod ValueRanges

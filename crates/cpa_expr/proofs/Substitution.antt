@@ -13,8 +13,8 @@ use Rattle.cpa_expr.specs.declared.tree.Expr.TheFolds.{map-Expr, fold-Expr, fold
 use Rattle.cpa_expr.specs.Shape.{OfParts, node_type, type_of, height_step, height, IsTypedHere, IsTyped}
 use Rattle.cpa_expr.specs.Values.{un_value, bin_value, compares, truth, cell_at, evaluated, value_step, value_of}
 use Rattle.cpa_expr.specs.Cells.{is_within, is_zero, is_scalar_read, Replacement, replace_step, replaced, reads_here, ReadsAsScalar}
-use Rattle.cpa_expr.proofs.Parts.{by_parts, every_rolled, every_of_parts}
-use Rattle.cpa_expr.proofs.Layers.{values_in, value_rolled, type_rolled, height_rolled}
+use Rattle.cpa_expr.specs.lemmas.Parts.{by_parts, every_rolled, every_of_parts}
+use Rattle.cpa_expr.specs.lemmas.Layers.{values_in, value_rolled, type_rolled, height_rolled}
 use Rattle.cpa_expr.proofs.CellsRead.{same_read, both_same, same_cells}
 
 -- the list at the place that is set, and at another
@@ -66,17 +66,17 @@ module _ (cell : ℕ) (by : Expr) where
 
   layer_kept : (x : Expr-F Expr) → OfParts Kept x → befores x ≡ x
   layer_kept (Expr-F.Const t n) h = refl
-  layer_kept (Expr-F.Read t base len index) h = ap (λ z. Expr-F.Read t base len z) h
-  layer_kept (Expr-F.Un o t arg) h = ap (λ z. Expr-F.Un o t z) h
-  layer_kept (Expr-F.Bin o t left right) h = ap (λ z. Expr-F.Bin o t z (pair right).before) h.0 ∙ ap (λ z. Expr-F.Bin o t left z) h.1
-  layer_kept (Expr-F.Cmp o t left right) h = ap (λ z. Expr-F.Cmp o t z (pair right).before) h.0 ∙ ap (λ z. Expr-F.Cmp o t left z) h.1
-  layer_kept (Expr-F.Cast t arg) h = ap (λ z. Expr-F.Cast t z) h
-  layer_kept (Expr-F.And left right) h = ap (λ z. Expr-F.And z (pair right).before) h.0 ∙ ap (λ z. Expr-F.And left z) h.1
-  layer_kept (Expr-F.Or left right) h = ap (λ z. Expr-F.Or z (pair right).before) h.0 ∙ ap (λ z. Expr-F.Or left z) h.1
-  layer_kept (Expr-F.Not arg) h = ap (λ z. Expr-F.Not z) h
+  layer_kept (Expr-F.Read t base len index) h = ap (λ z. Expr-F.Read t base len z) h.0
+  layer_kept (Expr-F.Un o t arg) h = ap (λ z. Expr-F.Un o t z) h.0
+  layer_kept (Expr-F.Bin o t left right) h = ap (λ z. Expr-F.Bin o t z (pair right).before) h.0 ∙ ap (λ z. Expr-F.Bin o t left z) (h.1).0
+  layer_kept (Expr-F.Cmp o t left right) h = ap (λ z. Expr-F.Cmp o t z (pair right).before) h.0 ∙ ap (λ z. Expr-F.Cmp o t left z) (h.1).0
+  layer_kept (Expr-F.Cast t arg) h = ap (λ z. Expr-F.Cast t z) h.0
+  layer_kept (Expr-F.And left right) h = ap (λ z. Expr-F.And z (pair right).before) h.0 ∙ ap (λ z. Expr-F.And left z) (h.1).0
+  layer_kept (Expr-F.Or left right) h = ap (λ z. Expr-F.Or z (pair right).before) h.0 ∙ ap (λ z. Expr-F.Or left z) (h.1).0
+  layer_kept (Expr-F.Not arg) h = ap (λ z. Expr-F.Not z) h.0
   layer_kept (Expr-F.Cond t test first second) h =
       ap (λ z. Expr-F.Cond t z (pair first).before (pair second).before) h.0 ∙
-      ap (λ z. Expr-F.Cond t test z (pair second).before) h.1 ∙ ap (λ z. Expr-F.Cond t test first z) h.2
+      ap (λ z. Expr-F.Cond t test z (pair second).before) (h.1).0 ∙ ap (λ z. Expr-F.Cond t test first z) ((h.1).1).0
 
   pair_rolled : (x : Expr-F Expr) → pair (roll-Expr x) ≡ replace_step cell by (map-Expr Expr Replacement pair x)
   pair_rolled x = fold-roll-Expr Replacement (replace_step cell by) x
@@ -86,15 +86,15 @@ module _ (cell : ℕ) (by : Expr) where
 
   all_kept : (x : Expr-F Expr) → OfParts Kept x
   all_kept (Expr-F.Const t n) = tt
-  all_kept (Expr-F.Read t base len index) = kept index
-  all_kept (Expr-F.Un o t arg) = kept arg
-  all_kept (Expr-F.Bin o t left right) = (kept left, kept right)
-  all_kept (Expr-F.Cmp o t left right) = (kept left, kept right)
-  all_kept (Expr-F.Cast t arg) = kept arg
-  all_kept (Expr-F.And left right) = (kept left, kept right)
-  all_kept (Expr-F.Or left right) = (kept left, kept right)
-  all_kept (Expr-F.Not arg) = kept arg
-  all_kept (Expr-F.Cond t test first second) = (kept test, kept first, kept second)
+  all_kept (Expr-F.Read t base len index) = (kept index, tt)
+  all_kept (Expr-F.Un o t arg) = (kept arg, tt)
+  all_kept (Expr-F.Bin o t left right) = (kept left, (kept right, tt))
+  all_kept (Expr-F.Cmp o t left right) = (kept left, (kept right, tt))
+  all_kept (Expr-F.Cast t arg) = (kept arg, tt)
+  all_kept (Expr-F.And left right) = (kept left, (kept right, tt))
+  all_kept (Expr-F.Or left right) = (kept left, (kept right, tt))
+  all_kept (Expr-F.Not arg) = (kept arg, tt)
+  all_kept (Expr-F.Cond t test first second) = (kept test, (kept first, (kept second, tt)))
 
   abbrev pub new : Expr → Expr
   new e = replaced e cell by
@@ -175,22 +175,22 @@ module _ (cell : ℕ) (by : Expr) (values : List ℤ) (v : ℤ) (inside : cell <
       let apart : IsTrue (is_within base len cell) → ⊥ = λ w. let one = here w in cc in
       let other : (c : ℕ) → IsTrue (is_within base len c) → slice_get values c ≡ slice_get after c =
       λ c r. sym (get_set_other values cell c v (λ f. apart (subst (λ k. IsTrue (is_within base len k)) f r))) in
-      same_read values base len (value_of (new cell by index) values) (value_of index after) (h q) ∙ same_cells values after base len other (value_of index after)
-  layer_set (Expr-F.Un o t arg) h here q e = ap (option_map (un_value o t)) (h q)
+      same_read values base len (value_of (new cell by index) values) (value_of index after) (h.0 q.0) ∙ same_cells values after base len other (value_of index after)
+  layer_set (Expr-F.Un o t arg) h here q e = ap (option_map (un_value o t)) (h.0 q.0)
   layer_set (Expr-F.Bin o t left right) h here q e =
-      both_same (Option ℤ) (evaluated (bin_value o t)) (value_of (new cell by left) values) (value_of left after) (value_of (new cell by right) values) (value_of right after) (h.0 q.0) (h.1 q.1)
+      both_same (Option ℤ) (evaluated (bin_value o t)) (value_of (new cell by left) values) (value_of left after) (value_of (new cell by right) values) (value_of right after) (h.0 q.0) ((h.1).0 (q.1).0)
   layer_set (Expr-F.Cmp o t left right) h here q e =
-      both_same (Option ℤ) (evaluated (λ m n. Some (truth (compares o m n)))) (value_of (new cell by left) values) (value_of left after) (value_of (new cell by right) values) (value_of right after) (h.0 q.0) (h.1 q.1)
-  layer_set (Expr-F.Cast t arg) h here q e = ap (λ o. value_step values (Expr-F.Cast t o)) (h q)
+      both_same (Option ℤ) (evaluated (λ m n. Some (truth (compares o m n)))) (value_of (new cell by left) values) (value_of left after) (value_of (new cell by right) values) (value_of right after) (h.0 q.0) ((h.1).0 (q.1).0)
+  layer_set (Expr-F.Cast t arg) h here q e = ap (λ o. value_step values (Expr-F.Cast t o)) (h.0 q.0)
   layer_set (Expr-F.And left right) h here q e =
-      both_same (Option ℤ) (λ m n. value_step values (Expr-F.And m n)) (value_of (new cell by left) values) (value_of left after) (value_of (new cell by right) values) (value_of right after) (h.0 q.0) (h.1 q.1)
+      both_same (Option ℤ) (λ m n. value_step values (Expr-F.And m n)) (value_of (new cell by left) values) (value_of left after) (value_of (new cell by right) values) (value_of right after) (h.0 q.0) ((h.1).0 (q.1).0)
   layer_set (Expr-F.Or left right) h here q e =
-      both_same (Option ℤ) (λ m n. value_step values (Expr-F.Or m n)) (value_of (new cell by left) values) (value_of left after) (value_of (new cell by right) values) (value_of right after) (h.0 q.0) (h.1 q.1)
-  layer_set (Expr-F.Not arg) h here q e = ap (λ o. value_step values (Expr-F.Not o)) (h q)
+      both_same (Option ℤ) (λ m n. value_step values (Expr-F.Or m n)) (value_of (new cell by left) values) (value_of left after) (value_of (new cell by right) values) (value_of right after) (h.0 q.0) ((h.1).0 (q.1).0)
+  layer_set (Expr-F.Not arg) h here q e = ap (λ o. value_step values (Expr-F.Not o)) (h.0 q.0)
   layer_set (Expr-F.Cond t test first second) h here q e =
       ap (λ o. value_step values (Expr-F.Cond t o (value_of (new cell by first) values) (value_of (new cell by second) values))) (h.0 q.0) ∙
-      ap (λ o. value_step values (Expr-F.Cond t (value_of test after) o (value_of (new cell by second) values))) (h.1 q.1) ∙
-      ap (λ o. value_step values (Expr-F.Cond t (value_of test after) (value_of first after) o)) (h.2 q.2)
+      ap (λ o. value_step values (Expr-F.Cond t (value_of test after) o (value_of (new cell by second) values))) ((h.1).0 (q.1).0) ∙
+      ap (λ o. value_step values (Expr-F.Cond t (value_of test after) (value_of first after) o)) (((h.1).1).0 ((q.1).1).0)
 
   set_at : (x : Expr-F Expr) → OfParts IsSet x → IsSet (roll-Expr x)
   set_at x h r =
@@ -249,29 +249,29 @@ module _ (cells : List IntType) (cell : ℕ) (by : Expr) (is : slice_get cells c
   here_new : (x : Expr-F Expr) → IsTypedHere cells x → OfParts (IsTyped cells) x → IsTypedHere cells (news cell by x)
   here_new (Expr-F.Const t n) here q = here
   here_new (Expr-F.Read t base len index) here q = here
-  here_new (Expr-F.Un o t arg) here q = (here.0, new_type arg q ∙ here.1)
-  here_new (Expr-F.Bin o t left right) here q = (here.0, new_type left q.0 ∙ here.1, λ s. new_type right q.1 ∙ here.2 s)
-  here_new (Expr-F.Cmp o t left right) here q = (new_type left q.0 ∙ here.0, new_type right q.1 ∙ here.1)
+  here_new (Expr-F.Un o t arg) here q = (here.0, new_type arg q.0 ∙ here.1)
+  here_new (Expr-F.Bin o t left right) here q = (here.0, new_type left q.0 ∙ here.1, λ s. new_type right (q.1).0 ∙ here.2 s)
+  here_new (Expr-F.Cmp o t left right) here q = (new_type left q.0 ∙ here.0, new_type right (q.1).0 ∙ here.1)
   here_new (Expr-F.Cast t arg) here q = tt
   here_new (Expr-F.And left right) here q = tt
   here_new (Expr-F.Or left right) here q = tt
   here_new (Expr-F.Not arg) here q = tt
-  here_new (Expr-F.Cond t test first second) here q = (new_type first q.1 ∙ here.0, new_type second q.2 ∙ here.1)
+  here_new (Expr-F.Cond t test first second) here q = (new_type first (q.1).0 ∙ here.0, new_type second ((q.1).1).0 ∙ here.1)
 
   abbrev StaysTyped : Expr → Type 0
   StaysTyped e = IsTyped cells e → IsTyped cells (new cell by e)
 
   parts_new : (x : Expr-F Expr) → OfParts StaysTyped x → OfParts (IsTyped cells) x → OfParts (IsTyped cells) (news cell by x)
   parts_new (Expr-F.Const t n) h q = tt
-  parts_new (Expr-F.Read t base len index) h q = h q
-  parts_new (Expr-F.Un o t arg) h q = h q
-  parts_new (Expr-F.Bin o t left right) h q = (h.0 q.0, h.1 q.1)
-  parts_new (Expr-F.Cmp o t left right) h q = (h.0 q.0, h.1 q.1)
-  parts_new (Expr-F.Cast t arg) h q = h q
-  parts_new (Expr-F.And left right) h q = (h.0 q.0, h.1 q.1)
-  parts_new (Expr-F.Or left right) h q = (h.0 q.0, h.1 q.1)
-  parts_new (Expr-F.Not arg) h q = h q
-  parts_new (Expr-F.Cond t test first second) h q = (h.0 q.0, h.1 q.1, h.2 q.2)
+  parts_new (Expr-F.Read t base len index) h q = (h.0 q.0, tt)
+  parts_new (Expr-F.Un o t arg) h q = (h.0 q.0, tt)
+  parts_new (Expr-F.Bin o t left right) h q = (h.0 q.0, ((h.1).0 (q.1).0, tt))
+  parts_new (Expr-F.Cmp o t left right) h q = (h.0 q.0, ((h.1).0 (q.1).0, tt))
+  parts_new (Expr-F.Cast t arg) h q = (h.0 q.0, tt)
+  parts_new (Expr-F.And left right) h q = (h.0 q.0, ((h.1).0 (q.1).0, tt))
+  parts_new (Expr-F.Or left right) h q = (h.0 q.0, ((h.1).0 (q.1).0, tt))
+  parts_new (Expr-F.Not arg) h q = (h.0 q.0, tt)
+  parts_new (Expr-F.Cond t test first second) h q = (h.0 q.0, ((h.1).0 (q.1).0, (((h.1).1).0 ((q.1).1).0, tt)))
 
   typed_at : IsTyped cells by → (x : Expr-F Expr) → OfParts StaysTyped x → StaysTyped (roll-Expr x)
   typed_at typed x h r =
@@ -292,15 +292,15 @@ module _ (cell : ℕ) (by : Expr) where
 
   layer_bound : (x : Expr-F Expr) → OfParts IsBounded x → height_step (map-Expr Expr ℕ height (news cell by x)) ≤ height_step (map-Expr Expr ℕ height x) + height by
   layer_bound (Expr-F.Const t n) h = omega arith
-  layer_bound (Expr-F.Read t base len index) h = omega arith
-  layer_bound (Expr-F.Un o t arg) h = omega arith
-  layer_bound (Expr-F.Bin o t left right) h = let a = h.0 in let b = h.1 in omega arith
-  layer_bound (Expr-F.Cmp o t left right) h = let a = h.0 in let b = h.1 in omega arith
-  layer_bound (Expr-F.Cast t arg) h = omega arith
-  layer_bound (Expr-F.And left right) h = let a = h.0 in let b = h.1 in omega arith
-  layer_bound (Expr-F.Or left right) h = let a = h.0 in let b = h.1 in omega arith
-  layer_bound (Expr-F.Not arg) h = omega arith
-  layer_bound (Expr-F.Cond t test first second) h = let a = h.0 in let b = h.1 in let d = h.2 in omega arith
+  layer_bound (Expr-F.Read t base len index) h = let a = h.0 in omega arith
+  layer_bound (Expr-F.Un o t arg) h = let a = h.0 in omega arith
+  layer_bound (Expr-F.Bin o t left right) h = let a = h.0 in let b = (h.1).0 in omega arith
+  layer_bound (Expr-F.Cmp o t left right) h = let a = h.0 in let b = (h.1).0 in omega arith
+  layer_bound (Expr-F.Cast t arg) h = let a = h.0 in omega arith
+  layer_bound (Expr-F.And left right) h = let a = h.0 in let b = (h.1).0 in omega arith
+  layer_bound (Expr-F.Or left right) h = let a = h.0 in let b = (h.1).0 in omega arith
+  layer_bound (Expr-F.Not arg) h = let a = h.0 in omega arith
+  layer_bound (Expr-F.Cond t test first second) h = let a = h.0 in let b = (h.1).0 in let d = ((h.1).1).0 in omega arith
 
   bounded_at : (x : Expr-F Expr) → OfParts IsBounded x → IsBounded (roll-Expr x)
   bounded_at x h =

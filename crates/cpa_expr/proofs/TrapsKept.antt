@@ -7,8 +7,8 @@ use Rattle.cpa_expr.specs.declared.tree.Expr.TheOpen.{Expr-F}
 use Rattle.cpa_expr.specs.Shape.{OfParts}
 use Rattle.cpa_expr.specs.Values.{un_value, bin_value, compares, truth, is_nonzero, truth_of, cell_at, evaluated, value_step, value_of}
 use Rattle.cpa_expr.specs.Cells.{is_within, is_scalar_read, replaced, ReadsAsScalar}
-use Rattle.cpa_expr.proofs.Parts.{by_parts, every_rolled}
-use Rattle.cpa_expr.proofs.Layers.{values_in, value_rolled}
+use Rattle.cpa_expr.specs.lemmas.Parts.{by_parts, every_rolled}
+use Rattle.cpa_expr.specs.lemmas.Layers.{values_in, value_rolled}
 use Rattle.cpa_expr.proofs.CellsRead.{both_same, same_cells}
 use Rattle.cpa_expr.proofs.Substitution.{new, news, new_cases, AsScalar, get_set_other}
 
@@ -59,23 +59,23 @@ module _ (cell : ℕ) (by : Expr) (values : List ℤ) (w : ℤ) (traps : value_o
       let other : (c : ℕ) → IsTrue (is_within base len c) → slice_get values c ≡ slice_get after c =
       λ c r. sym (get_set_other values cell c w (λ f. apart (subst (λ k. IsTrue (is_within base len k)) f r))) in
       subst (λ o. TrapsOr (option_and_then (cell_at values base len) (value_of (new cell by index) values)) o) (same_cells values after base len other (value_of index after))
-      (strict (option_and_then (cell_at values base len)) refl (value_of (new cell by index) values) (value_of index after) (h q))
-  layer_kept (Expr-F.Un o t arg) h here q e = strict (option_map (un_value o t)) refl (value_of (new cell by arg) values) (value_of arg after) (h q)
+      (strict (option_and_then (cell_at values base len)) refl (value_of (new cell by index) values) (value_of index after) (h.0 q.0))
+  layer_kept (Expr-F.Un o t arg) h here q e = strict (option_map (un_value o t)) refl (value_of (new cell by arg) values) (value_of arg after) (h.0 q.0)
   layer_kept (Expr-F.Bin o t left right) h here q e =
-      strict_both (bin_value o t) (value_of (new cell by left) values) (value_of left after) (value_of (new cell by right) values) (value_of right after) (h.0 q.0) (h.1 q.1)
+      strict_both (bin_value o t) (value_of (new cell by left) values) (value_of left after) (value_of (new cell by right) values) (value_of right after) (h.0 q.0) ((h.1).0 (q.1).0)
   layer_kept (Expr-F.Cmp o t left right) h here q e =
-      strict_both (λ m n. Some (truth (compares o m n))) (value_of (new cell by left) values) (value_of left after) (value_of (new cell by right) values) (value_of right after) (h.0 q.0) (h.1 q.1)
-  layer_kept (Expr-F.Cast t arg) h here q e = strict (option_map (wrapped t)) refl (value_of (new cell by arg) values) (value_of arg after) (h q)
+      strict_both (λ m n. Some (truth (compares o m n))) (value_of (new cell by left) values) (value_of left after) (value_of (new cell by right) values) (value_of right after) (h.0 q.0) ((h.1).0 (q.1).0)
+  layer_kept (Expr-F.Cast t arg) h here q e = strict (option_map (wrapped t)) refl (value_of (new cell by arg) values) (value_of arg after) (h.0 q.0)
   layer_kept (Expr-F.And left right) h here q e =
       strict_tested (value_of (new cell by left) values) (value_of left after) (truth_of (value_of (new cell by right) values)) (Some (pos 0)) (truth_of (value_of right after)) (Some (pos 0)) (h.0 q.0)
-      (strict truth_of refl (value_of (new cell by right) values) (value_of right after) (h.1 q.1)) (inr refl)
+      (strict truth_of refl (value_of (new cell by right) values) (value_of right after) ((h.1).0 (q.1).0)) (inr refl)
   layer_kept (Expr-F.Or left right) h here q e =
       strict_tested (value_of (new cell by left) values) (value_of left after) (Some (pos 1)) (truth_of (value_of (new cell by right) values)) (Some (pos 1)) (truth_of (value_of right after)) (h.0 q.0)
-      (inr refl) (strict truth_of refl (value_of (new cell by right) values) (value_of right after) (h.1 q.1))
-  layer_kept (Expr-F.Not arg) h here q e = strict (option_map (λ a. truth (not (is_nonzero a)))) refl (value_of (new cell by arg) values) (value_of arg after) (h q)
+      (inr refl) (strict truth_of refl (value_of (new cell by right) values) (value_of right after) ((h.1).0 (q.1).0))
+  layer_kept (Expr-F.Not arg) h here q e = strict (option_map (λ a. truth (not (is_nonzero a)))) refl (value_of (new cell by arg) values) (value_of arg after) (h.0 q.0)
   layer_kept (Expr-F.Cond t test first second) h here q e =
       strict_tested (value_of (new cell by test) values) (value_of test after) (value_of (new cell by first) values) (value_of (new cell by second) values) (value_of first after) (value_of second after)
-      (h.0 q.0) (h.1 q.1) (h.2 q.2)
+      (h.0 q.0) ((h.1).0 (q.1).0) (((h.1).1).0 ((q.1).1).0)
 
   kept_at : (x : Expr-F Expr) → OfParts IsKept x → IsKept (roll-Expr x)
   kept_at x h r =

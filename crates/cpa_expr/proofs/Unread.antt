@@ -6,13 +6,16 @@ use Rattle.cpa_expr.specs.declared.tree.Expr.TheOpen.{Expr-F}
 use Rattle.cpa_expr.specs.declared.tree.Expr.TheFolds.{map-Expr}
 use Rattle.cpa_expr.specs.Shape.{OfParts}
 use Rattle.cpa_expr.specs.Cells.{is_within, reads_step, may_read, is_scalar_read, replaced}
-use Rattle.cpa_expr.proofs.Parts.{by_parts}
-use Rattle.cpa_expr.proofs.Layers.{reads_rolled}
+use Rattle.cpa_expr.specs.lemmas.Parts.{by_parts}
+use Rattle.cpa_expr.specs.lemmas.Layers.{reads_rolled}
 use Rattle.cpa_expr.proofs.Substitution.{new, news, new_cases, scalar_parts}
 
 neither : (a b : Bool) → (a || b) ≡ false → (a ≡ false) × (b ≡ false)
 neither true b h = absurd (cc)
 neither false b h = (refl, h)
+
+alone : (b : Bool) → (b || false) ≡ false → b ≡ false
+alone b h = (neither b false h).0
 
 module _ (cell : ℕ) (by : Expr) where
   abbrev Stays : Expr → Type 0
@@ -23,22 +26,22 @@ module _ (cell : ℕ) (by : Expr) where
 
   layer_stays : (x : Expr-F Expr) → OfParts Stays x → reads x ≡ false → news cell by x ≡ x
   layer_stays (Expr-F.Const t n) h r = refl
-  layer_stays (Expr-F.Read t base len index) h r = ap (λ z. Expr-F.Read t base len z) (h ((neither (is_within base len cell) (may_read index cell) r).1))
-  layer_stays (Expr-F.Un o t arg) h r = ap (λ z. Expr-F.Un o t z) (h r)
+  layer_stays (Expr-F.Read t base len index) h r = ap (λ z. Expr-F.Read t base len z) (h.0 (alone (may_read index cell) ((neither (is_within base len cell) (may_read index cell || false) r).1)))
+  layer_stays (Expr-F.Un o t arg) h r = ap (λ z. Expr-F.Un o t z) (h.0 (alone (may_read arg cell) r))
   layer_stays (Expr-F.Bin o t left right) h r =
-      let s = neither (may_read left cell) (may_read right cell) r in ap (λ z. Expr-F.Bin o t z (new cell by right)) (h.0 s.0) ∙ ap (λ z. Expr-F.Bin o t left z) (h.1 s.1)
+      let s = neither (may_read left cell) (may_read right cell || false) r in ap (λ z. Expr-F.Bin o t z (new cell by right)) (h.0 s.0) ∙ ap (λ z. Expr-F.Bin o t left z) ((h.1).0 (alone (may_read right cell) s.1))
   layer_stays (Expr-F.Cmp o t left right) h r =
-      let s = neither (may_read left cell) (may_read right cell) r in ap (λ z. Expr-F.Cmp o t z (new cell by right)) (h.0 s.0) ∙ ap (λ z. Expr-F.Cmp o t left z) (h.1 s.1)
-  layer_stays (Expr-F.Cast t arg) h r = ap (λ z. Expr-F.Cast t z) (h r)
+      let s = neither (may_read left cell) (may_read right cell || false) r in ap (λ z. Expr-F.Cmp o t z (new cell by right)) (h.0 s.0) ∙ ap (λ z. Expr-F.Cmp o t left z) ((h.1).0 (alone (may_read right cell) s.1))
+  layer_stays (Expr-F.Cast t arg) h r = ap (λ z. Expr-F.Cast t z) (h.0 (alone (may_read arg cell) r))
   layer_stays (Expr-F.And left right) h r =
-      let s = neither (may_read left cell) (may_read right cell) r in ap (λ z. Expr-F.And z (new cell by right)) (h.0 s.0) ∙ ap (λ z. Expr-F.And left z) (h.1 s.1)
+      let s = neither (may_read left cell) (may_read right cell || false) r in ap (λ z. Expr-F.And z (new cell by right)) (h.0 s.0) ∙ ap (λ z. Expr-F.And left z) ((h.1).0 (alone (may_read right cell) s.1))
   layer_stays (Expr-F.Or left right) h r =
-      let s = neither (may_read left cell) (may_read right cell) r in ap (λ z. Expr-F.Or z (new cell by right)) (h.0 s.0) ∙ ap (λ z. Expr-F.Or left z) (h.1 s.1)
-  layer_stays (Expr-F.Not arg) h r = ap (λ z. Expr-F.Not z) (h r)
+      let s = neither (may_read left cell) (may_read right cell || false) r in ap (λ z. Expr-F.Or z (new cell by right)) (h.0 s.0) ∙ ap (λ z. Expr-F.Or left z) ((h.1).0 (alone (may_read right cell) s.1))
+  layer_stays (Expr-F.Not arg) h r = ap (λ z. Expr-F.Not z) (h.0 (alone (may_read arg cell) r))
   layer_stays (Expr-F.Cond t test first second) h r =
-      let s = neither (may_read test cell || may_read first cell) (may_read second cell) r in
-      let u = neither (may_read test cell) (may_read first cell) s.0 in
-      ap (λ z. Expr-F.Cond t z (new cell by first) (new cell by second)) (h.0 u.0) ∙ ap (λ z. Expr-F.Cond t test z (new cell by second)) (h.1 u.1) ∙ ap (λ z. Expr-F.Cond t test first z) (h.2 s.1)
+      let s = neither (may_read test cell) (may_read first cell || (may_read second cell || false)) r in
+      let u = neither (may_read first cell) (may_read second cell || false) s.1 in
+      ap (λ z. Expr-F.Cond t z (new cell by first) (new cell by second)) (h.0 s.0) ∙ ap (λ z. Expr-F.Cond t test z (new cell by second)) ((h.1).0 u.0) ∙ ap (λ z. Expr-F.Cond t test first z) (((h.1).1).0 (alone (may_read second cell) u.1))
 
   -- a scalar read of the cell reads it
   scalar_reads : (x : Expr-F Expr) → is_scalar_read cell x ≡ true → reads x ≡ false → ⊥
@@ -46,7 +49,7 @@ module _ (cell : ℕ) (by : Expr) where
       let parts = scalar_parts cell t base len index e in
       let a = parts.at_cell in
       let b = parts.alone in
-      let out = (neither (is_within base len cell) (may_read index cell) r).0 in
+      let out = (neither (is_within base len cell) (may_read index cell || false) r).0 in
       let within : is_within base len cell ≡ true = grind (arith, nat_tests) in
       cc
   scalar_reads (Expr-F.Const t n) e r = absurd (cc)

@@ -1,10 +1,11 @@
 -- The cells that an expression reads, and what it becomes where one of them is replaced.
 use Rattle.std.specs.Prelude.{◌≡◌, ℕ, ◌+◌, ℤ, pos, nat_le, nat_lt, ◌==◌, Bool, false, IsTrue, ◌&&◌, ◌||◌, if◌then◌else◌, List, slice_get}
-use Rattle.std.specs.List.{AllZip}
+use Rattle.std.specs.List.{AllZip, list_any}
 use Rattle.std.specs.Ordering.{int_eq}
 use Rattle.cpa_ints.specs.declared.integers.IntType.{IntType}
 use Rattle.cpa_ints.specs.declared.integers.IntType.TheVariants as ty
 use Rattle.cpa_ints.specs.Integers.{IsInRange}
+use Rattle.cpa_expr.specs.Shape.{parts}
 use Rattle.cpa_expr.specs.declared.tree.Expr.{Expr, out-Expr, roll-Expr}
 use Rattle.cpa_expr.specs.declared.tree.Expr.TheVariants.{Const, Read}
 use Rattle.cpa_expr.specs.declared.tree.Expr.TheOpen.{Expr-F}
@@ -14,18 +15,14 @@ use Rattle.cpa_expr.specs.declared.tree.Expr.TheFolds.{fold-Expr, map-Expr, ever
 abbrev pub is_within : ℕ → ℕ → ℕ → Bool
 is_within base len cell = nat_le base cell && nat_lt cell (base + len)
 
+-- the node itself reads the cell, as a scalar or in an array
+abbrev pub reads_here : {A : Type 0} → ℕ → Expr-F A → Bool
+reads_here cell (Expr-F.Read t base len index) = is_within base len cell
+reads_here cell _ = false
+
 -- a node, with whether each part may read the cell in its place
 abbrev pub reads_step : ℕ → Expr-F Bool → Bool
-reads_step cell (Expr-F.Const t n) = false
-reads_step cell (Expr-F.Read t base len index) = is_within base len cell || index
-reads_step cell (Expr-F.Un o t arg) = arg
-reads_step cell (Expr-F.Bin o t left right) = left || right
-reads_step cell (Expr-F.Cmp o t left right) = left || right
-reads_step cell (Expr-F.Cast t arg) = arg
-reads_step cell (Expr-F.And left right) = left || right
-reads_step cell (Expr-F.Or left right) = left || right
-reads_step cell (Expr-F.Not arg) = arg
-reads_step cell (Expr-F.Cond t test first second) = test || first || second
+reads_step cell node = reads_here cell node || list_any (λ reads. reads) (parts node)
 
 -- whether some part of the expression, evaluated or not, may read the cell
 abbrev pub may_read : Expr → ℕ → Bool
@@ -46,12 +43,12 @@ scalar_read t cell = Read t cell 1 (Const ty.I32 (pos 0))
 -- the number 0 of type int
 abbrev pub is_zero : {A : Type 0} → Expr-F A → Bool
 is_zero (Expr-F.Const ty.I32 n) = int_eq n (pos 0)
-is_zero node = false
+is_zero _ = false
 
 -- the node reads the cell as a scalar: as the one cell at index 0
 abbrev pub is_scalar_read : ℕ → Expr-F Expr → Bool
 is_scalar_read cell (Expr-F.Read t base len index) = base == cell && len == 1 && is_zero (out-Expr index)
-is_scalar_read cell node = false
+is_scalar_read cell _ = false
 
 -- an expression, and what it becomes
 pub record Replacement : Type 0 where
@@ -70,11 +67,6 @@ replace_step cell by node =
 -- the expression with `by` in place of each scalar read of the cell; reads of arrays stay, but for their indices
 abbrev pub replaced : Expr → ℕ → Expr → Expr
 replaced e cell by = (fold-Expr Replacement (replace_step cell by) e).after
-
--- the node itself reads the cell, as a scalar or in an array
-abbrev pub reads_here : {A : Type 0} → ℕ → Expr-F A → Bool
-reads_here cell (Expr-F.Read t base len index) = is_within base len cell
-reads_here cell node = false
 
 -- the node with f of each part in the part's place
 abbrev pub with_parts : (Expr → Expr) → Expr → Expr

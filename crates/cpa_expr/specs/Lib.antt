@@ -2,3 +2,9 @@ pub mod Shape
 pub mod Values
 pub mod Cells
 pub mod Equality
+pub mod Parts
+pub mod Rewriting
+pub mod Words
+pub mod Spelling
+pub mod lemmas
+pub mod Laws

@@ -8,7 +8,7 @@ use Rattle.std.specs.Ordering.{int_eq}
 use Rattle.cpa_ints.specs.declared.integers.IntType.{IntType}
 use Rattle.cpa_ints.specs.Integers.{width}
 use Rattle.cpa_ints.specs.Wrapping.{wrapped}
-pub use Rattle.cpa_ints.specs.Bits.{bits_of}
+use Rattle.cpa_ints.specs.Bits.{bits_of}
 use Rattle.cpa_expr.specs.declared.tree.UnOp.{UnOp}
 use Rattle.cpa_expr.specs.declared.tree.BinOp.{BinOp}
 use Rattle.cpa_expr.specs.declared.tree.CmpOp.{CmpOp}

@@ -4,7 +4,7 @@ ghost use Rattle.cpa_expr.specs.Equality.{same_expr};
 use crate::tree::Expr;
 
 /// Whether the two are the same tree.
-#[tactic(auto, using(crate::proofs::SameTrees::same_expr_decides))]
+#[tactic(auto, using(crate::specs::lemmas::SameTrees::same_expr_decides))]
 pub fn same_expr(a: &Expr, b: &Expr) -> bool
     ensures value { result ≡ same_expr a.now b.now }
     ensures same { IsTrue result ↔ (a.now ≡ b.now) }

@@ -6,7 +6,49 @@ ghost use Rattle.cpa_ints.specs.Integers.{IsInRange};
 ghost use Rattle.cpa_expr.specs.declared.tree.Expr.{Expr};
 ghost use Rattle.cpa_expr.specs.Shape.{type_of, height, IsTyped};
 ghost use Rattle.cpa_expr.specs.Values.{value_of};
+ghost use Rattle.cpa_expr.specs.Laws.{ValueAtVariants, TypeAtVariants, TypedAtVariants, ReadsAtVariants, SizeAtVariants, HeightAtVariants};
 ghost use Rattle.cpa_expr.specs.Cells.{may_read, AgreesWhereRead, AreValues, ReadsAsScalar, replaced};
+
+/// The value of each variant, from the values of its parts.
+///
+/// Each of the laws `.._at_variants` has a field for each variant: `constant`, `read`, `unary`,
+/// `binary`, `comparison`, `cast`, `conjunction`, `disjunction`, `negation` and `conditional`. A lemma
+/// cites it as `value_at_variants.binary o t left right values`, of `Rattle.cpa_expr.specs.Laws`; an
+/// answer of a function that calls the law also as `c.value_at_variants.ensures.binary ..`.
+#[tactic(auto, using(crate::specs::Laws::value_at_variants))]
+pub fn value_at_variants()
+    ensures { ValueAtVariants }
+{}
+
+/// The type of each variant.
+#[tactic(auto, using(crate::specs::Laws::type_at_variants))]
+pub fn type_at_variants()
+    ensures { TypeAtVariants }
+{}
+
+/// Each variant is well typed exactly where its node is and its parts are.
+#[tactic(auto, using(crate::specs::Laws::typed_at_variants))]
+pub fn typed_at_variants()
+    ensures { TypedAtVariants }
+{}
+
+/// Which cells each variant may read.
+#[tactic(auto, using(crate::specs::Laws::reads_at_variants))]
+pub fn reads_at_variants()
+    ensures { ReadsAtVariants }
+{}
+
+/// The size of each variant: one more than the sizes of its parts.
+#[tactic(auto, using(crate::specs::Laws::size_at_variants))]
+pub fn size_at_variants()
+    ensures { SizeAtVariants }
+{}
+
+/// The height of each variant: one more than that of its highest part.
+#[tactic(auto, using(crate::specs::Laws::height_at_variants))]
+pub fn height_at_variants()
+    ensures { HeightAtVariants }
+{}
 
 /// A value of a well-typed expression lies in the range of its type, where each cell's value does.
 pub fn values_lie_in_range()

@@ -3,8 +3,9 @@
 
 ghost use Rattle.std.specs.Prelude.{◌≡◌, ◌^◌, ◌≤◌, ◌<◌, pos, neg_ℤ, ◌+ℤ◌, ◌-ℤ◌, ◌*ℤ◌, ◌≤ℤ◌, ◌<ℤ◌, int_div, IfSome};
 ghost use Rattle.cpa_ints.specs.declared.integers.IntType.TheVariants.{Bool as Boolean};
+ghost use Rattle.cpa_ints.specs.Bits.{bits_of};
 ghost use Rattle.cpa_ints.specs.Wrapping.{wrapped};
-ghost use Rattle.cpa_expr.specs.Values.{un_value, bin_value, bits_of, amount_of, divided_by, compares, truth, is_nonzero};
+ghost use Rattle.cpa_expr.specs.Values.{un_value, bin_value, amount_of, divided_by, compares, truth, is_nonzero};
 
 use crate::tree::{BinOp, CmpOp, UnOp};
 use cpa_ints::{IntType, wrap};

@@ -1,108 +1,60 @@
+//! Copies of expressions, as they are and with a cell replaced (`replaced` of `specs/Cells.antt`): one
+//! rewriting of a node's parts. `proofs/replacing` has what the recursion leaves.
+
 ghost use Rattle.std.specs.Prelude.{◌≡◌, IfOk};
 ghost use Rattle.cpa_expr.specs.declared.tree.Expr.{out-Expr};
+ghost use Rattle.cpa_expr.specs.Rewriting.{image};
 ghost use Rattle.cpa_expr.specs.Cells.{is_zero, is_scalar_read, replaced, with_parts};
 
 use crate::tree::Expr;
 use cpa_ints::{Boxed, IntType};
 use std::alloc::{AllocError, Global};
 
+/// What becomes of an expression.
+#[derive(Clone, Copy)]
+pub(crate) enum Rewriting<'a> {
+    /// It stays as it is.
+    Keep,
+    /// Each scalar read of the cell becomes the other expression.
+    Replace { cell: u32, by: &'a Expr },
+}
+
 /// An equal expression.
-#[cycle(copying)]
 pub fn copy(alloc: Global, e: &Expr) -> Result<Expr, AllocError>
     ensures { IfOk result (λ r. r ≡ e.now) }
 {
-    match e {
-        Expr::Const { ty, value } => Ok(Expr::Const {
-            ty: *ty,
-            value: *value,
-        }),
-        Expr::Read {
-            ty,
-            base,
-            len,
-            index,
-        } => Ok(Expr::Read {
-            ty: *ty,
-            base: *base,
-            len: *len,
-            index: copy_part(alloc, index)?,
-        }),
-        Expr::Un { op, ty, arg } => Ok(Expr::Un {
-            op: *op,
-            ty: *ty,
-            arg: copy_part(alloc, arg)?,
-        }),
-        Expr::Bin {
-            op,
-            ty,
-            left,
-            right,
-        } => Ok(Expr::Bin {
-            op: *op,
-            ty: *ty,
-            left: copy_part(alloc, left)?,
-            right: copy_part(alloc, right)?,
-        }),
-        Expr::Cmp {
-            op,
-            ty,
-            left,
-            right,
-        } => Ok(Expr::Cmp {
-            op: *op,
-            ty: *ty,
-            left: copy_part(alloc, left)?,
-            right: copy_part(alloc, right)?,
-        }),
-        Expr::Cast { ty, arg } => Ok(Expr::Cast {
-            ty: *ty,
-            arg: copy_part(alloc, arg)?,
-        }),
-        Expr::And { left, right } => Ok(Expr::And {
-            left: copy_part(alloc, left)?,
-            right: copy_part(alloc, right)?,
-        }),
-        Expr::Or { left, right } => Ok(Expr::Or {
-            left: copy_part(alloc, left)?,
-            right: copy_part(alloc, right)?,
-        }),
-        Expr::Not { arg } => Ok(Expr::Not {
-            arg: copy_part(alloc, arg)?,
-        }),
-        Expr::Cond { ty, test, yes, no } => Ok(Expr::Cond {
-            ty: *ty,
-            test: copy_part(alloc, test)?,
-            yes: copy_part(alloc, yes)?,
-            no: copy_part(alloc, no)?,
-        }),
-    }
-}
-
-/// An equal part.
-#[cycle(copying)]
-fn copy_part(alloc: Global, part: &Boxed<Expr>) -> Result<Boxed<Expr>, AllocError>
-    ensures { IfOk result (λ r. r ≡ part.now) }
-{
-    Boxed::new(alloc, copy(alloc, part.get())?)
+    rewrite(alloc, e, Rewriting::Keep)
 }
 
 /// The expression with `by` in place of each scalar read of the cell. Reads of arrays stay, but for
 /// their indices.
-#[cycle(replacing)]
 pub fn replace_cell(alloc: Global, e: &Expr, cell: u32, by: &Expr) -> Result<Expr, AllocError>
     ensures { IfOk result (λ r. r ≡ replaced e.now cell by.now) }
 {
-    if is_scalar_read(e, cell) {
-        copy(alloc, by)
-    } else {
-        replace_in_parts(alloc, e, cell, by)
+    rewrite(alloc, e, Rewriting::Replace { cell, by })
+}
+
+/// What becomes of the expression.
+#[cycle(rewriting)]
+fn rewrite(alloc: Global, e: &Expr, with: Rewriting<'_>) -> Result<Expr, AllocError>
+    ensures { IfOk result (λ r. r ≡ image with.entry e.now) }
+{
+    match with {
+        Rewriting::Keep => rewrite_parts(alloc, e, with),
+        Rewriting::Replace { cell, by } => {
+            if is_scalar_read(e, cell) {
+                rewrite(alloc, by, Rewriting::Keep)
+            } else {
+                rewrite_parts(alloc, e, with)
+            }
+        }
     }
 }
 
-/// The node with each part as `replace_cell` gives it.
-#[cycle(replacing)]
-fn replace_in_parts(alloc: Global, e: &Expr, cell: u32, by: &Expr) -> Result<Expr, AllocError>
-    ensures { IfOk result (λ r. r ≡ with_parts (λ part. replaced part cell by.now) e.now) }
+/// The node with what becomes of each part in the part's place.
+#[cycle(rewriting)]
+fn rewrite_parts(alloc: Global, e: &Expr, with: Rewriting<'_>) -> Result<Expr, AllocError>
+    ensures { IfOk result (λ r. r ≡ with_parts (image with.entry) e.now) }
 {
     match e {
         Expr::Const { ty, value } => Ok(Expr::Const {
@@ -118,12 +70,12 @@ fn replace_in_parts(alloc: Global, e: &Expr, cell: u32, by: &Expr) -> Result<Exp
             ty: *ty,
             base: *base,
             len: *len,
-            index: replace_part(alloc, index, cell, by)?,
+            index: rewrite_part(alloc, index, with)?,
         }),
         Expr::Un { op, ty, arg } => Ok(Expr::Un {
             op: *op,
             ty: *ty,
-            arg: replace_part(alloc, arg, cell, by)?,
+            arg: rewrite_part(alloc, arg, with)?,
         }),
         Expr::Bin {
             op,
@@ -133,8 +85,8 @@ fn replace_in_parts(alloc: Global, e: &Expr, cell: u32, by: &Expr) -> Result<Exp
         } => Ok(Expr::Bin {
             op: *op,
             ty: *ty,
-            left: replace_part(alloc, left, cell, by)?,
-            right: replace_part(alloc, right, cell, by)?,
+            left: rewrite_part(alloc, left, with)?,
+            right: rewrite_part(alloc, right, with)?,
         }),
         Expr::Cmp {
             op,
@@ -144,44 +96,43 @@ fn replace_in_parts(alloc: Global, e: &Expr, cell: u32, by: &Expr) -> Result<Exp
         } => Ok(Expr::Cmp {
             op: *op,
             ty: *ty,
-            left: replace_part(alloc, left, cell, by)?,
-            right: replace_part(alloc, right, cell, by)?,
+            left: rewrite_part(alloc, left, with)?,
+            right: rewrite_part(alloc, right, with)?,
         }),
         Expr::Cast { ty, arg } => Ok(Expr::Cast {
             ty: *ty,
-            arg: replace_part(alloc, arg, cell, by)?,
+            arg: rewrite_part(alloc, arg, with)?,
         }),
         Expr::And { left, right } => Ok(Expr::And {
-            left: replace_part(alloc, left, cell, by)?,
-            right: replace_part(alloc, right, cell, by)?,
+            left: rewrite_part(alloc, left, with)?,
+            right: rewrite_part(alloc, right, with)?,
         }),
         Expr::Or { left, right } => Ok(Expr::Or {
-            left: replace_part(alloc, left, cell, by)?,
-            right: replace_part(alloc, right, cell, by)?,
+            left: rewrite_part(alloc, left, with)?,
+            right: rewrite_part(alloc, right, with)?,
         }),
         Expr::Not { arg } => Ok(Expr::Not {
-            arg: replace_part(alloc, arg, cell, by)?,
+            arg: rewrite_part(alloc, arg, with)?,
         }),
         Expr::Cond { ty, test, yes, no } => Ok(Expr::Cond {
             ty: *ty,
-            test: replace_part(alloc, test, cell, by)?,
-            yes: replace_part(alloc, yes, cell, by)?,
-            no: replace_part(alloc, no, cell, by)?,
+            test: rewrite_part(alloc, test, with)?,
+            yes: rewrite_part(alloc, yes, with)?,
+            no: rewrite_part(alloc, no, with)?,
         }),
     }
 }
 
-/// A part as `replace_cell` gives it.
-#[cycle(replacing)]
-fn replace_part(
+/// What becomes of a part.
+#[cycle(rewriting)]
+fn rewrite_part(
     alloc: Global,
     part: &Boxed<Expr>,
-    cell: u32,
-    by: &Expr,
+    with: Rewriting<'_>,
 ) -> Result<Boxed<Expr>, AllocError>
-    ensures { IfOk result (λ r. r ≡ replaced part.now cell by.now) }
+    ensures { IfOk result (λ r. r ≡ image with.entry part.now) }
 {
-    Boxed::new(alloc, replace_cell(alloc, part.get(), cell, by)?)
+    Boxed::new(alloc, rewrite(alloc, part.get(), with)?)
 }
 
 /// Whether the expression is the number 0 of type `int`.

@@ -1,8 +1,18 @@
-ghost use Rattle.std.specs.Prelude.{◌≡◌, ◌+◌, min, max};
-ghost use Rattle.cpa_expr.specs.Shape.{type_of, size, height};
+//! The type, the size and the height of an expression (`specs/Shape.antt`), proved by the recursion
+//! itself, and which cells it may read (`specs/Cells.antt`).
 
+ghost use Rattle.std.specs.Prelude.{◌≡◌, ◌+◌, min};
+ghost use Rattle.std.specs.List.{list_any};
+ghost use Rattle.cpa_expr.specs.declared.tree.Expr.{out-Expr};
+ghost use Rattle.cpa_expr.specs.Cells.{is_within, reads_here, may_read};
+ghost use Rattle.cpa_expr.specs.Shape.{parts, type_of, size, height};
+
+use crate::parts::{Parts, parts_of};
 use crate::tree::Expr;
 use cpa_ints::IntType;
+
+/// The greatest height of an expression that `is_expr` takes.
+pub const MAX_HEIGHT: u32 = 500;
 
 /// The type of the expression's value.
 pub fn type_of(e: &Expr) -> IntType
@@ -23,28 +33,22 @@ pub fn type_of(e: &Expr) -> IntType
 pub fn size(e: &Expr) -> u64
     ensures { result ≡ min (size e.now) u64.MAX }
 {
-    match e {
-        Expr::Const { .. } => 1,
-        Expr::Read { index: arg, .. }
-        | Expr::Un { arg, .. }
-        | Expr::Cast { arg, .. }
-        | Expr::Not { arg } => size(arg.get()).saturating_add(1),
-        Expr::Bin { left, right, .. }
-        | Expr::Cmp { left, right, .. }
-        | Expr::And { left, right }
-        | Expr::Or { left, right } => size_of_two(size(left.get()), size(right.get())),
-        Expr::Cond { test, yes, no, .. } => {
-            let ends = size_of_two(size(yes.get()), size(no.get()));
-            size(test.get()).saturating_add(ends)
+    match parts_of(e) {
+        Parts::None => 1,
+        Parts::One(part) => one_more(size(part)),
+        Parts::Two(left, right) => one_more(size(left).saturating_add(size(right))),
+        Parts::Three(test, yes, no) => {
+            let ends = size(yes).saturating_add(size(no));
+            one_more(size(test).saturating_add(ends))
         }
     }
 }
 
-/// The size of a node with two parts of these sizes.
-fn size_of_two(left: u64, right: u64) -> u64
-    ensures { result ≡ min (1 + left + right) u64.MAX }
+/// One node and these.
+fn one_more(nodes: u64) -> u64
+    ensures { result ≡ min (1 + nodes) u64.MAX }
 {
-    left.saturating_add(right).saturating_add(1)
+    nodes.saturating_add(1)
 }
 
 /// How many nodes lie on the longest way from the root to a node without parts, or the greatest
@@ -52,26 +56,61 @@ fn size_of_two(left: u64, right: u64) -> u64
 pub fn height(e: &Expr) -> u32
     ensures { result ≡ min (height e.now) u32.MAX }
 {
-    match e {
-        Expr::Const { .. } => 1,
-        Expr::Read { index, .. } => height(index.get()).saturating_add(1),
-        Expr::Un { arg, .. } | Expr::Cast { arg, .. } | Expr::Not { arg } => {
-            height(arg.get()).saturating_add(1)
-        }
-        Expr::Bin { left, right, .. }
-        | Expr::Cmp { left, right, .. }
-        | Expr::And { left, right }
-        | Expr::Or { left, right } => height_of_two(height(left.get()), height(right.get())),
-        Expr::Cond { test, yes, no, .. } => {
-            let ends = height(yes.get()).max(height(no.get()));
-            height_of_two(height(test.get()), ends)
+    match parts_of(e) {
+        Parts::None => 1,
+        Parts::One(part) => one_above(height(part)),
+        Parts::Two(left, right) => one_above(height(left).max(height(right))),
+        Parts::Three(test, yes, no) => {
+            let ends = height(yes).max(height(no));
+            one_above(height(test).max(ends))
         }
     }
 }
 
-/// The height of a node with two parts of these heights.
-fn height_of_two(left: u32, right: u32) -> u32
-    ensures { result ≡ min (1 + max left right) u32.MAX }
+/// The height of a node whose highest part has this height.
+fn one_above(greatest: u32) -> u32
+    ensures { result ≡ min (1 + greatest) u32.MAX }
 {
-    left.max(right).saturating_add(1)
+    greatest.saturating_add(1)
+}
+
+/// Whether the expression may read the cell: whether some node, evaluated or not, reads the cell as a
+/// scalar or in an array.
+#[cycle(reading)]
+pub fn may_read(e: &Expr, cell: u32) -> bool
+    ensures { result ≡ may_read e.now cell }
+{
+    reads_here(e, cell) || do_parts_read(e, cell)
+}
+
+/// Whether some part may read the cell.
+#[cycle(reading)]
+fn do_parts_read(e: &Expr, cell: u32) -> bool
+    ensures { result ≡ list_any (λ part. may_read part cell) (parts (out-Expr e.now)) }
+{
+    match parts_of(e) {
+        Parts::None => false,
+        Parts::One(part) => may_read(part, cell),
+        Parts::Two(left, right) => may_read(left, cell) || may_read(right, cell),
+        Parts::Three(test, yes, no) => {
+            may_read(test, cell) || may_read(yes, cell) || may_read(no, cell)
+        }
+    }
+}
+
+/// Whether the node itself reads the cell.
+fn reads_here(e: &Expr, cell: u32) -> bool
+    ensures { result ≡ reads_here cell (out-Expr e.now) }
+{
+    match e {
+        Expr::Read { base, len, .. } => is_within(*base, *len, cell),
+        _ => false,
+    }
+}
+
+/// Whether the cell is one of `len` cells from `base` on.
+fn is_within(base: u32, len: u32, cell: u32) -> bool
+    ensures { result ≡ is_within base len cell }
+{
+    base <= cell && cell - base < len
 }

@@ -3,12 +3,10 @@ ghost use Rattle.cpa_ints.specs.declared.integers.IntType.{IntType as Ty};
 ghost use Rattle.cpa_expr.specs.declared.tree.Expr.{out-Expr};
 ghost use Rattle.cpa_expr.specs.Shape.{is_arithmetic, is_shift, AreCells, IsTypedHere, OfParts, IsTyped, IsExpr};
 
-use crate::shape::{height, type_of};
+use crate::parts::{Parts, parts_of};
+use crate::shape::{MAX_HEIGHT, height, type_of};
 use crate::tree::{BinOp, Expr};
 use cpa_ints::IntType;
-
-/// The greatest height of an expression that `is_expr` takes.
-pub const MAX_HEIGHT: u32 = 500;
 
 /// What has an integer type, as a cell has that keeps other things beside it.
 pub trait Typed {
@@ -54,28 +52,13 @@ fn is_typed<C: Typed>(e: &Expr, cells: &[C]) -> bool
 fn are_parts_typed<C: Typed>(e: &Expr, cells: &[C]) -> bool
     ensures { IsTrue result ↔ OfParts (IsTyped (map C.ty cells.now)) (out-Expr e.now) }
 {
-    match e {
-        Expr::Const { .. } => true,
-        Expr::Read { index, .. } => is_typed(index.get(), cells),
-        Expr::Un { arg, .. } => is_typed(arg.get(), cells),
-        Expr::Bin { left, right, .. } => both(
-            is_typed(left.get(), cells),
-            is_typed(right.get(), cells),
-        ),
-        Expr::Cmp { left, right, .. } => both(
-            is_typed(left.get(), cells),
-            is_typed(right.get(), cells),
-        ),
-        Expr::Cast { arg, .. } => is_typed(arg.get(), cells),
-        Expr::And { left, right } => both(
-            is_typed(left.get(), cells),
-            is_typed(right.get(), cells),
-        ),
-        Expr::Or { left, right } => both(is_typed(left.get(), cells), is_typed(right.get(), cells)),
-        Expr::Not { arg } => is_typed(arg.get(), cells),
-        Expr::Cond { test, yes, no, .. } => both(
-            is_typed(test.get(), cells),
-            both(is_typed(yes.get(), cells), is_typed(no.get(), cells)),
+    match parts_of(e) {
+        Parts::None => true,
+        Parts::One(part) => is_typed(part, cells),
+        Parts::Two(left, right) => both(is_typed(left, cells), is_typed(right, cells)),
+        Parts::Three(test, yes, no) => both(
+            is_typed(test, cells),
+            both(is_typed(yes, cells), is_typed(no, cells)),
         ),
     }
 }
@@ -121,8 +104,8 @@ fn is_arithmetic(ty: IntType) -> bool
     ensures { result ≡ is_arithmetic ty }
 {
     match ty {
-        IntType::Bool | IntType::I8 | IntType::U8 | IntType::I16 | IntType::U16 => false,
         IntType::I32 | IntType::U32 | IntType::I64 | IntType::U64 => true,
+        _ => false,
     }
 }
 
@@ -132,14 +115,7 @@ fn is_shift(op: BinOp) -> bool
 {
     match op {
         BinOp::Shl | BinOp::Shr => true,
-        BinOp::Add
-        | BinOp::Sub
-        | BinOp::Mul
-        | BinOp::Div
-        | BinOp::Rem
-        | BinOp::BitAnd
-        | BinOp::BitOr
-        | BinOp::BitXor => false,
+        _ => false,
     }
 }
 

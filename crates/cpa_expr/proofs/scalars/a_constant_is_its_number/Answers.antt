@@ -1,4 +1,4 @@
-use Rattle.cpa_expr.proofs.ScalarReads.{constant_type, constant_value, constant_expr}
+use Rattle.cpa_expr.specs.lemmas.ScalarReads.{constant_type, constant_value, constant_expr}
 use Rattle.cpa_expr.proofs.scalars.a_constant_is_its_number.Goals as goal
 
 pub returns-clause-ty : goal.returns-clause-ty

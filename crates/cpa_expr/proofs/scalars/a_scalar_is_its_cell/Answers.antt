@@ -1,4 +1,4 @@
-use Rattle.cpa_expr.proofs.ScalarReads.{scalar_type, scalar_value, scalar_expr}
+use Rattle.cpa_expr.specs.lemmas.ScalarReads.{scalar_type, scalar_value, scalar_expr}
 use Rattle.cpa_expr.proofs.scalars.a_scalar_is_its_cell.Goals as goal
 
 pub returns-clause-value : goal.returns-clause-value

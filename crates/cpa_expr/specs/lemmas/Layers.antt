@@ -4,7 +4,7 @@ use Rattle.cpa_ints.specs.declared.integers.IntType.{IntType}
 use Rattle.cpa_expr.specs.declared.tree.Expr.{Expr, roll-Expr}
 use Rattle.cpa_expr.specs.declared.tree.Expr.TheOpen.{Expr-F}
 use Rattle.cpa_expr.specs.declared.tree.Expr.TheFolds.{map-Expr, fold-roll-Expr}
-use Rattle.cpa_expr.specs.Shape.{node_type, type_of, height_step, height}
+use Rattle.cpa_expr.specs.Shape.{node_type, type_of, size_step, size, height_step, height}
 use Rattle.cpa_expr.specs.Values.{value_step, value_of}
 use Rattle.cpa_expr.specs.Cells.{reads_step, may_read}
 
@@ -17,6 +17,9 @@ value_rolled values x = fold-roll-Expr (Option ℤ) (value_step values) x
 
 pub type_rolled : (x : Expr-F Expr) → type_of (roll-Expr x) ≡ node_type (map-Expr Expr IntType type_of x)
 type_rolled x = fold-roll-Expr IntType node_type x
+
+pub size_rolled : (x : Expr-F Expr) → size (roll-Expr x) ≡ size_step (map-Expr Expr ℕ size x)
+size_rolled x = fold-roll-Expr ℕ size_step x
 
 pub height_rolled : (x : Expr-F Expr) → height (roll-Expr x) ≡ height_step (map-Expr Expr ℕ height x)
 height_rolled x = fold-roll-Expr ℕ height_step x

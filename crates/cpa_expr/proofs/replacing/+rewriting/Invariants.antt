@@ -1,0 +1,14 @@
+-- The nodes of the expression and those of one replacement; three steps for each.
+use Rattle.std.proofs.Common.{◌+◌, ◌*◌}
+use Rattle.cpa_expr.specs.Shape.{size}
+use Rattle.cpa_expr.specs.Rewriting.{weight}
+use Rattle.cpa_expr.proofs.replacing.+rewriting.Given as goal
+
+abbrev pub decreases-rewrite : goal.decreases-rewrite
+decreases-rewrite l = 3 * (size l.e.now + weight l.with) + 1
+
+abbrev pub decreases-rewrite_parts : goal.decreases-rewrite_parts
+decreases-rewrite_parts l = 3 * (size l.e.now + weight l.with)
+
+abbrev pub decreases-rewrite_part : goal.decreases-rewrite_part
+decreases-rewrite_part l = 3 * (size l.part.now + weight l.with) + 2

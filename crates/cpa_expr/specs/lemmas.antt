@@ -1,0 +1,8 @@
+-- Lemmas on the definitions, which the laws of Laws.antt and lemmas of other crates cite. No
+-- definition that a contract cites stands here.
+pub mod Parts
+pub mod Layers
+pub mod Variants
+pub mod SameTrees
+pub mod ScalarReads
+pub mod ValueRanges
