@@ -1,10 +1,6 @@
 pub mod CellTypes
 pub mod WrapSteps
 pub mod Quotients
-pub mod CellsRead
-pub mod Substitution
-pub mod TrapsKept
-pub mod Unread
 pub mod SameTrees
 pub mod ScalarReads
 pub mod ValueRanges

@@ -2,8 +2,9 @@
 -- (C11 6.5.8 to 6.5.14) and typing, the cells that it reads, its size and its height. A fold does
 -- not compute at a variant, so every proof about expressions stands on these equations. Each record
 -- is the contract of a law of src/laws.rt. The lemma below it is its proof, which a lemma of another
--- crate cites; a function calls the law, and its answers cite the call's clause.
-use Rattle.std.specs.Prelude.{◌≡◌, ◌↔◌, ℕ, ◌+◌, ◌≤◌, max, ℤ, Bool, false, ◌||◌, IsTrue, List, Some, option_map, option_and_then}
+-- crate cites; a function may call the law, and its answers cite the call's clause. After them come
+-- the laws of whole expressions, in the same form.
+use Rattle.std.specs.Prelude.{◌≡◌, ◌↔◌, ℕ, ◌+◌, ◌≤◌, max, ℤ, pos, ◌≤ℤ◌, ◌<ℤ◌, ◌<◌, ◌⊎◌, Bool, false, ◌||◌, IsTrue, List, Some, None, IsSome, IfSome, length, slice_get, slice_set, option_map, option_and_then}
 use Rattle.cpa_ints.specs.declared.integers.IntType.{IntType}
 use Rattle.cpa_ints.specs.declared.integers.IntType.TheVariants as ty
 use Rattle.cpa_ints.specs.Integers.{IsInRange}
@@ -13,10 +14,20 @@ use Rattle.cpa_expr.specs.declared.tree.BinOp.{BinOp}
 use Rattle.cpa_expr.specs.declared.tree.CmpOp.{CmpOp}
 use Rattle.cpa_expr.specs.declared.tree.Expr.{Expr}
 use Rattle.cpa_expr.specs.declared.tree.Expr.TheVariants.{Const, Read, Un, Bin, Cmp, Cast, And, Or, Not, Cond}
-use Rattle.cpa_expr.specs.Shape.{is_arithmetic, is_shift, type_of, size, height, AreCells, IsTyped}
+use Rattle.cpa_expr.specs.Shape.{is_arithmetic, is_shift, type_of, size, height, AreCells, IsTyped, IsExpr}
 use Rattle.cpa_expr.specs.Values.{un_value, bin_value, cell_at, evaluated, comparison as compared, logical_and, logical_or, logical_not, conditional as chosen, value_of}
-use Rattle.cpa_expr.specs.Cells.{is_within, may_read}
+use Rattle.cpa_expr.specs.Cells.{is_within, may_read, AgreesWhereRead, AreValues, scalar_read, ReadsAsScalar, replaced}
+use Rattle.cpa_expr.specs.Traps.{Traps}
+use Rattle.cpa_expr.specs.Equality.{same_expr}
 use Rattle.cpa_expr.specs.lemmas.Variants as at
+use Rattle.cpa_expr.specs.lemmas.ValueRanges.{value_in_range}
+use Rattle.cpa_expr.specs.lemmas.CellsRead.{value_agrees}
+use Rattle.cpa_expr.specs.lemmas.Substitution.{replaced_value, replaced_type, replaced_typed, replaced_height}
+use Rattle.cpa_expr.specs.lemmas.TrapsKept.{replaced_trap}
+use Rattle.cpa_expr.specs.lemmas.Unread.{replaced_unread}
+use Rattle.cpa_expr.specs.lemmas.Traps.{read_some, none_traps}
+use Rattle.cpa_expr.specs.lemmas.SameTrees.{same_expr_decides}
+use Rattle.cpa_expr.specs.lemmas.ScalarReads.{constant_expr, scalar_type, scalar_value, scalar_expr}
 
 -- the value of each variant on a store
 pub record ValueAtVariants : Type 0 where
@@ -216,3 +227,119 @@ height_at_variants = record {
   negation = at.height_negation;
   conditional = at.height_conditional;
 }
+
+-- ---- constants and scalars
+
+-- a constant is an expression where its number lies in its type's range
+abbrev pub ConstantIsItsNumber : Type 0
+ConstantIsItsNumber =
+    (cells : List IntType) (t : IntType) (n : ℤ) → IsExpr cells (Const t n) ↔ IsInRange t n
+
+pub a_constant_is_its_number : ConstantIsItsNumber
+a_constant_is_its_number = constant_expr
+
+-- the read of a scalar has the type and the value of its cell, and is an expression where the cell
+-- has that type
+pub record ScalarIsItsCell : Type 0 where
+  pub ty : (t : IntType) (cell : ℕ) → type_of (scalar_read t cell) ≡ t
+  pub value : (t : IntType) (cell : ℕ) (values : List ℤ)
+      → value_of (scalar_read t cell) values ≡ slice_get values cell
+  pub expr : (cells : List IntType) (t : IntType) (cell : ℕ)
+      → IsExpr cells (scalar_read t cell) ↔ (slice_get cells cell ≡ Some t)
+
+pub a_scalar_is_its_cell : ScalarIsItsCell
+a_scalar_is_its_cell = record { ty = scalar_type; value = scalar_value; expr = scalar_expr }
+
+-- ---- values
+
+-- a value of a well-typed expression lies in the range of its type, where each cell's value does
+abbrev pub ValuesLieInRange : Type 0
+ValuesLieInRange =
+    (cells : List IntType) (e : Expr) (values : List ℤ) → IsTyped cells e → AreValues cells values
+    → IfSome (value_of e values) (IsInRange (type_of e))
+
+pub values_lie_in_range : ValuesLieInRange
+values_lie_in_range = value_in_range
+
+-- a well-typed read whose index has a value has one exactly where that lies from 0 to len - 1
+abbrev pub ReadsWithinTheArray : Type 0
+ReadsWithinTheArray =
+    (cells : List IntType) (t : IntType) (base len : ℕ) (index : Expr) (values : List ℤ) (i : ℤ)
+    → IsTyped cells (Read t base len index) → AreValues cells values → value_of index values ≡ Some i
+    → IsSome (value_of (Read t base len index) values) ↔ ((pos 0 ≤ℤ i) × (i <ℤ pos len))
+
+pub reads_have_values_within_the_array : ReadsWithinTheArray
+reads_have_values_within_the_array = read_some
+
+-- a well-typed expression has no value exactly where its evaluation traps
+abbrev pub NoneIsATrap : Type 0
+NoneIsATrap =
+    (cells : List IntType) (e : Expr) (values : List ℤ) → IsTyped cells e → AreValues cells values
+    → (value_of e values ≡ None) ↔ Traps values e
+
+pub no_value_is_a_trap : NoneIsATrap
+no_value_is_a_trap = none_traps
+
+-- a value, and a trap, depends on no cell but those that the expression may read
+abbrev pub DependsOnWhatIsRead : Type 0
+DependsOnWhatIsRead =
+    (e : Expr) (values others : List ℤ) → AgreesWhereRead e values others
+    → value_of e values ≡ value_of e others
+
+pub value_depends_on_what_is_read : DependsOnWhatIsRead
+value_depends_on_what_is_read = value_agrees
+
+-- ---- a cell replaced
+
+-- v is the value that `by` brings to a cell of the store that e reads as a scalar alone
+pub record ReplacesFor (e : Expr) (cell : ℕ) (by : Expr) (values : List ℤ) (v : ℤ) : Type 0 where
+  pub scalar : ReadsAsScalar cell e
+  pub inside : cell < length values
+  pub value : value_of by values ≡ Some v
+
+-- to replace a cell that is read as a scalar alone is to set it: where `by` has a value, values and
+-- traps are those on the store with the cell set; where `by` traps, the result traps or does not
+-- depend on the cell. An expression that does not read the cell stays as it is.
+pub record ReplacingIsSetting : Type 0 where
+  pub set : (e : Expr) (cell : ℕ) (by : Expr) (values : List ℤ) (v : ℤ) → ReplacesFor e cell by values v
+      → value_of (replaced e cell by) values ≡ value_of e (slice_set values cell v)
+  pub traps : (e : Expr) (cell : ℕ) (by : Expr) (values : List ℤ) (v : ℤ)
+      → ReadsAsScalar cell e → value_of by values ≡ None
+      → (value_of (replaced e cell by) values ≡ None)
+      ⊎ (value_of (replaced e cell by) values ≡ value_of e (slice_set values cell v))
+  pub unread : (e : Expr) (cell : ℕ) (by : Expr) → may_read e cell ≡ false → replaced e cell by ≡ e
+
+pub to_replace_is_to_set : ReplacingIsSetting
+to_replace_is_to_set = record {
+  set = λ e cell by values v h. replaced_value e cell by values v h.scalar h.inside h.value;
+  traps = replaced_trap;
+  unread = replaced_unread;
+}
+
+-- to replace a cell by an expression of its type keeps the type and what is well typed; the heights
+-- add up at most
+pub record ReplacingKeepsTypes : Type 0 where
+  pub same_type : (cells : List IntType) (e : Expr) (cell : ℕ) (by : Expr)
+      → IsTyped cells e → slice_get cells cell ≡ Some (type_of by)
+      → type_of (replaced e cell by) ≡ type_of e
+  pub typed : (cells : List IntType) (e : Expr) (cell : ℕ) (by : Expr)
+      → IsTyped cells e → IsTyped cells by → slice_get cells cell ≡ Some (type_of by)
+      → IsTyped cells (replaced e cell by)
+  pub heights : (e : Expr) (cell : ℕ) (by : Expr)
+      → height (replaced e cell by) ≤ height e + height by
+
+pub to_replace_keeps_types : ReplacingKeepsTypes
+to_replace_keeps_types = record {
+  same_type = replaced_type;
+  typed = replaced_typed;
+  heights = replaced_height;
+}
+
+-- ---- equality
+
+-- the test of two expressions is true exactly where they are equal
+abbrev pub SameWhereEqual : Type 0
+SameWhereEqual = (e f : Expr) → IsTrue (same_expr e f) ↔ (e ≡ f)
+
+pub same_where_equal : SameWhereEqual
+same_where_equal = same_expr_decides

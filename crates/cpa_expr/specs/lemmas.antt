@@ -6,3 +6,8 @@ pub mod Variants
 pub mod SameTrees
 pub mod ScalarReads
 pub mod ValueRanges
+pub mod CellsRead
+pub mod Substitution
+pub mod TrapsKept
+pub mod Unread
+pub mod Traps

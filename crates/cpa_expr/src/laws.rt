@@ -1,20 +1,14 @@
-//! Laws of expressions. Each function does nothing: its contract is the law.
+//! Laws of expressions. Each function does nothing: its contract is the law, which stands in
+//! `specs/Laws.antt` with a lemma of the function's name. A lemma of another crate cites that one, as
+//! `value_at_variants.binary o t left right values`; an answer of a function that calls the law may
+//! also cite the call, as `c.value_at_variants.ensures.binary o t left right values`.
 
-ghost use Rattle.std.specs.Prelude.{◌≡◌, ◌+◌, ◌<◌, ◌≤◌, ℕ, ℤ, List, IfSome, length, slice_get, slice_set, Some, None, ◌⊎◌, false};
-ghost use Rattle.cpa_ints.specs.declared.integers.IntType.{IntType};
-ghost use Rattle.cpa_ints.specs.Integers.{IsInRange};
-ghost use Rattle.cpa_expr.specs.declared.tree.Expr.{Expr};
-ghost use Rattle.cpa_expr.specs.Shape.{type_of, height, IsTyped};
-ghost use Rattle.cpa_expr.specs.Values.{value_of};
-ghost use Rattle.cpa_expr.specs.Laws.{ValueAtVariants, TypeAtVariants, TypedAtVariants, ReadsAtVariants, SizeAtVariants, HeightAtVariants};
-ghost use Rattle.cpa_expr.specs.Cells.{may_read, AgreesWhereRead, AreValues, ReadsAsScalar, replaced};
+ghost use Rattle.cpa_expr.specs.Laws.{ValueAtVariants, TypeAtVariants, TypedAtVariants, ReadsAtVariants, SizeAtVariants, HeightAtVariants, ConstantIsItsNumber, ScalarIsItsCell, ValuesLieInRange, ReadsWithinTheArray, NoneIsATrap, DependsOnWhatIsRead, ReplacingIsSetting, ReplacingKeepsTypes, SameWhereEqual};
 
 /// The value of each variant, from the values of its parts.
 ///
 /// Each of the laws `.._at_variants` has a field for each variant: `constant`, `read`, `unary`,
-/// `binary`, `comparison`, `cast`, `conjunction`, `disjunction`, `negation` and `conditional`. A lemma
-/// cites it as `value_at_variants.binary o t left right values`, of `Rattle.cpa_expr.specs.Laws`; an
-/// answer of a function that calls the law also as `c.value_at_variants.ensures.binary ..`.
+/// `binary`, `comparison`, `cast`, `conjunction`, `disjunction`, `negation` and `conditional`.
 #[tactic(auto, using(crate::specs::Laws::value_at_variants))]
 pub fn value_at_variants()
     ensures { ValueAtVariants }
@@ -50,32 +44,58 @@ pub fn height_at_variants()
     ensures { HeightAtVariants }
 {}
 
+/// A constant is an expression where its number lies in the type's range.
+pub fn a_constant_is_its_number()
+    ensures { ConstantIsItsNumber }
+{}
+
+/// The read of a scalar has the cell's type and value, and is an expression where the cell has its
+/// type.
+#[tactic(auto, using(crate::specs::Laws::a_scalar_is_its_cell))]
+pub fn a_scalar_is_its_cell()
+    ensures { ScalarIsItsCell }
+{}
+
 /// A value of a well-typed expression lies in the range of its type, where each cell's value does.
 pub fn values_lie_in_range()
-    ensures { (cells : List IntType) (e : Expr) (values : List ℤ) → IsTyped cells e → AreValues cells values → IfSome (value_of e values) (IsInRange (type_of e)) }
+    ensures { ValuesLieInRange }
+{}
+
+/// A well-typed read whose index has a value has one exactly where that lies from 0 to `len` - 1.
+pub fn reads_have_values_within_the_array()
+    ensures { ReadsWithinTheArray }
+{}
+
+/// A well-typed expression has no value exactly where its evaluation traps.
+#[tactic(auto, using(crate::specs::Laws::no_value_is_a_trap))]
+pub fn no_value_is_a_trap()
+    ensures { NoneIsATrap }
 {}
 
 /// A value depends on no cell but those that the expression may read. So do traps.
-#[tactic(auto, using(crate::proofs::CellsRead::value_agrees))]
+#[tactic(auto, using(crate::specs::Laws::value_depends_on_what_is_read))]
 pub fn value_depends_on_what_is_read()
-    ensures { (e : Expr) (values others : List ℤ) → AgreesWhereRead e values others → value_of e values ≡ value_of e others }
+    ensures { DependsOnWhatIsRead }
 {}
 
 /// Where every read of a cell is a scalar one, to replace the cell by an expression is to set the
 /// cell to the expression's value: where it has one, the value is the same, and so is each trap;
 /// where it traps, the result traps or does not depend on the cell. An expression that does not read
 /// the cell stays as it is.
+#[tactic(auto, using(crate::specs::Laws::to_replace_is_to_set))]
 pub fn to_replace_is_to_set()
-    ensures set { (e : Expr) (cell : ℕ) (by : Expr) (values : List ℤ) (v : ℤ) → ReadsAsScalar cell e → cell < length values → value_of by values ≡ Some v → value_of (replaced e cell by) values ≡ value_of e (slice_set values cell v) }
-    ensures traps { (e : Expr) (cell : ℕ) (by : Expr) (values : List ℤ) (v : ℤ) → ReadsAsScalar cell e → value_of by values ≡ None → (value_of (replaced e cell by) values ≡ None) ⊎ (value_of (replaced e cell by) values ≡ value_of e (slice_set values cell v)) }
-    ensures unread { (e : Expr) (cell : ℕ) (by : Expr) → may_read e cell ≡ false → replaced e cell by ≡ e }
+    ensures { ReplacingIsSetting }
 {}
 
 /// To replace a cell by an expression of the cell's type keeps the type, and what is well typed. The
 /// heights add up at most.
-#[tactic(auto, using(crate::proofs::Substitution::replaced_type, crate::proofs::Substitution::replaced_typed, crate::proofs::Substitution::replaced_height))]
+#[tactic(auto, using(crate::specs::Laws::to_replace_keeps_types))]
 pub fn to_replace_keeps_types()
-    ensures same_type { (cells : List IntType) (e : Expr) (cell : ℕ) (by : Expr) → IsTyped cells e → slice_get cells cell ≡ Some (type_of by) → type_of (replaced e cell by) ≡ type_of e }
-    ensures typed { (cells : List IntType) (e : Expr) (cell : ℕ) (by : Expr) → IsTyped cells e → IsTyped cells by → slice_get cells cell ≡ Some (type_of by) → IsTyped cells (replaced e cell by) }
-    ensures height { (e : Expr) (cell : ℕ) (by : Expr) → height (replaced e cell by) ≤ height e + height by }
+    ensures { ReplacingKeepsTypes }
+{}
+
+/// The test of two expressions is true exactly where they are equal.
+#[tactic(auto, using(crate::specs::Laws::same_where_equal))]
+pub fn same_where_equal()
+    ensures { SameWhereEqual }
 {}

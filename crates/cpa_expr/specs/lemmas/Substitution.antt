@@ -15,7 +15,7 @@ use Rattle.cpa_expr.specs.Values.{un_value, bin_value, compares, truth, cell_at,
 use Rattle.cpa_expr.specs.Cells.{is_within, is_zero, is_scalar_read, Replacement, replace_step, replaced, reads_here, ReadsAsScalar}
 use Rattle.cpa_expr.specs.lemmas.Parts.{by_parts, every_rolled, every_of_parts}
 use Rattle.cpa_expr.specs.lemmas.Layers.{values_in, value_rolled, type_rolled, height_rolled}
-use Rattle.cpa_expr.proofs.CellsRead.{same_read, both_same, same_cells}
+use Rattle.cpa_expr.specs.lemmas.CellsRead.{same_read, both_same, same_cells}
 
 -- the list at the place that is set, and at another
 get_set : (xs : List ℤ) (i : ℕ) (v : ℤ) → i < length xs → slice_get (slice_set xs i v) i ≡ Some v

@@ -9,8 +9,8 @@ use Rattle.cpa_expr.specs.Values.{un_value, bin_value, compares, truth, is_nonze
 use Rattle.cpa_expr.specs.Cells.{is_within, is_scalar_read, replaced, ReadsAsScalar}
 use Rattle.cpa_expr.specs.lemmas.Parts.{by_parts, every_rolled}
 use Rattle.cpa_expr.specs.lemmas.Layers.{values_in, value_rolled}
-use Rattle.cpa_expr.proofs.CellsRead.{both_same, same_cells}
-use Rattle.cpa_expr.proofs.Substitution.{new, news, new_cases, AsScalar, get_set_other}
+use Rattle.cpa_expr.specs.lemmas.CellsRead.{both_same, same_cells}
+use Rattle.cpa_expr.specs.lemmas.Substitution.{new, news, new_cases, AsScalar, get_set_other}
 
 -- a trap, or the same
 abbrev TrapsOr : Option ℤ → Option ℤ → Type 0

@@ -8,7 +8,7 @@ use Rattle.cpa_expr.specs.Shape.{OfParts}
 use Rattle.cpa_expr.specs.Cells.{is_within, reads_step, may_read, is_scalar_read, replaced}
 use Rattle.cpa_expr.specs.lemmas.Parts.{by_parts}
 use Rattle.cpa_expr.specs.lemmas.Layers.{reads_rolled}
-use Rattle.cpa_expr.proofs.Substitution.{new, news, new_cases, scalar_parts}
+use Rattle.cpa_expr.specs.lemmas.Substitution.{new, news, new_cases, scalar_parts}
 
 neither : (a b : Bool) → (a || b) ≡ false → (a ≡ false) × (b ≡ false)
 neither true b h = absurd (cc)
