@@ -6,8 +6,9 @@ ghost use Rattle.cpa_top.specs.Core.{no_core, single, input, followed, block, ch
 ghost use Rattle.cpa_top.specs.CoreSteps.{Fits, Adds, Grown, Replaced, core_of_else};
 
 use cpa_expr::read_scalar;
+use cpa_ints::Boxed;
 use cpa_model::{Cell, Expr, IntType, Program, Seq, Stmt};
-use first_form::{Boxed, Expression, Statement, Unit};
+use first_form::{Expression, Statement, Unit};
 use std::alloc::{AllocError, Global};
 
 /// Core statements in the order of their numbers, and how many cells they take.

@@ -1,4 +1,3 @@
-pub mod formers
 pub mod Spelling
 pub mod Tree
 pub mod FirstForm

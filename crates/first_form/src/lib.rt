@@ -1,9 +1,7 @@
 //! The first form of programs: its tree, how a text spells it, and a reader.
 #![tactic(auto)]
 
-mod boxed;
 mod error;
-mod items;
 mod lexer;
 mod parser;
 mod points;
@@ -11,9 +9,7 @@ mod program;
 mod token;
 mod tree;
 
-pub use boxed::Boxed;
 pub use error::FirstError;
-pub use items::Items;
 pub use program::{MAX_LEVEL, MAX_POINTS, first_form, one_tree};
 pub use token::Token;
 pub use tree::{Expression, Statement, Unit};

@@ -2,11 +2,10 @@ ghost use Rattle.std.specs.Prelude.{◌≡◌, List, ◌∷◌, ◌++◌, ◌+�
 ghost use Rattle.first_form.specs.Tree.{test_leaves};
 ghost use Rattle.first_form.specs.Reading.{NoneAfter, EndsCall, EndsReturn, ReadsTest, NoTest, Reads, NoneReads, NoneSimple, ReadsItems, NoneReadsItems};
 
-use crate::boxed::Boxed;
 use crate::error::FirstError;
-use crate::items::Items;
 use crate::token::Token;
 use crate::tree::{Expression, Statement};
+use cpa_ints::{Boxed, Seq};
 use std::alloc::Global;
 
 /// The tokens after this one, which is to come first.
@@ -109,11 +108,11 @@ pub fn items(
     alloc: Global,
     tokens: &[Token],
     left: u32,
-) -> Result<(Items<Statement>, &[Token]), FirstError>
+) -> Result<(Seq<Statement>, &[Token]), FirstError>
     ensures ok { IfOk result (λ read. ReadsItems tokens.now left read.0 read.1.now) }
     ensures unbuilt { IfErr result (λ error. error ≡ FirstError.Unbuilt → NoneReadsItems tokens.now left) }
 {
-    let mut items = Items::from_vec(Vec::new(alloc));
+    let mut items = Seq::new(alloc);
     let mut rest = tokens;
     'items: loop {
         if let Some(behind) = after(rest, Token::RightBrace) {

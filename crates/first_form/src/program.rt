@@ -3,12 +3,12 @@ ghost use Rattle.first_form.specs.FirstForm.{IsFirstForm};
 ghost use Rattle.first_form.specs.Reading.{ReadsProgram, AfterHead};
 
 use crate::error::FirstError;
-use crate::items::Items;
 use crate::lexer::tokens;
 use crate::parser::items;
 use crate::points::point_sum;
 use crate::token::Token;
 use crate::tree::{Statement, Unit};
+use cpa_ints::Seq;
 use std::alloc::Global;
 
 /// How deep the parts of a program may stand.
@@ -40,7 +40,7 @@ pub fn one_tree()
 {}
 
 /// The items of main's block, where these tokens are a program.
-fn program(alloc: Global, tokens: &[Token]) -> Result<Items<Statement>, FirstError>
+fn program(alloc: Global, tokens: &[Token]) -> Result<Seq<Statement>, FirstError>
     ensures ok { IfOk result (λ body. ReadsProgram tokens.now body) }
     ensures unbuilt { IfErr result (λ error. error ≡ FirstError.Unbuilt →
         (body : List Statement) → ReadsProgram tokens.now body → ⊥) }

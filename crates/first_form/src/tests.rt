@@ -7,7 +7,7 @@ fn write_short(out: &mut String, statement: &Statement) -> Result<(), AllocError
     match statement {
         Statement::Block { items } => {
             out.push_str("{")?;
-            for item in items.as_slice() {
+            for item in items {
                 write_short(out, item)?;
             }
             out.push_str("}")
@@ -52,7 +52,7 @@ fn short(alloc: Global, text: &[u8]) -> Result<Option<String>, FirstError> {
     match first_form(alloc, text) {
         Ok(unit) => {
             let mut out = String::new(alloc);
-            for item in unit.body.as_slice() {
+            for item in &unit.body {
                 write_short(&mut out, item)?;
             }
             Ok(Some(out))

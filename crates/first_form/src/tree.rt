@@ -1,5 +1,4 @@
-use crate::boxed::Boxed;
-use crate::items::Items;
+use cpa_ints::{Boxed, Seq};
 
 /// The test of an `if` or a `while`.
 #[derive(Clone, Copy, Debug, PartialEq, Eq)]
@@ -19,7 +18,7 @@ pub enum Expression {
 pub enum Statement {
     /// The statements between two braces.
     Block {
-        items: Items<Statement>,
+        items: Seq<Statement>,
     },
     /// A semicolon alone.
     Empty,
@@ -46,7 +45,7 @@ pub enum Statement {
 #[derive(Debug, Drop)]
 pub struct Unit {
     /// The statements of main's block.
-    pub body: Items<Statement>,
+    pub body: Seq<Statement>,
     /// The length of the text in bytes.
     pub length: usize,
 }
