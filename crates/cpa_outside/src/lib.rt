@@ -7,14 +7,14 @@ mod files;
 mod memory_inputs;
 mod memory_sink;
 mod reads;
-mod stdout;
 #[cfg(test)]
 mod tests;
+mod writer_sink;
 mod writes;
 
-pub use files::FileInputs;
+pub use files::{FileInputs, Opens, SystemFiles};
 pub use memory_inputs::MemoryInputs;
 pub use memory_sink::MemorySink;
 pub use reads::{Inputs, ReadFault};
-pub use stdout::StdoutSink;
+pub use writer_sink::{StdoutSink, WriterSink};
 pub use writes::{Failed, Sink, write_whole};
