@@ -9,13 +9,15 @@ use Rattle.cpa_outside.specs.declared.reads.ReadFault.{ReadFault}
 use Rattle.cpa_outside.specs.declared.reads.ReadFault.TheVariants.{Failed, TooLong, OutOfMemory}
 
 -- an opened file had just these bytes, where its bytes are told
-pub record IsWhole {F : Type 0} (Opened : F → Type 0) (remaining : F → Option (List ℕ)) (bytes : List ℕ) : Type 0 where
+pub record IsWhole {F : Type 0} (Opened : F → Type 0) (remaining : F → Option (List ℕ))
+    (bytes : List ℕ) : Type 0 where
   pub file : F
   pub opened : Opened file
   pub whole : IfSome (remaining file) (λ told. bytes ≡ told)
 
 -- an opened file had more bytes than the limit, where they are told
-pub record IsLonger {F : Type 0} (Opened : F → Type 0) (remaining : F → Option (List ℕ)) (limit : ℕ) : Type 0 where
+pub record IsLonger {F : Type 0} (Opened : F → Type 0) (remaining : F → Option (List ℕ))
+    (limit : ℕ) : Type 0 where
   pub file : F
   pub opened : Opened file
   pub longer : IfSome (remaining file) (λ told. limit < length told)

@@ -1,3 +1,4 @@
+-- What files in memory tell, and when a read of them fails (this project's own).
 use Rattle.std.specs.Prelude.{ℕ, Bool, ◌||◌, ◌&&◌, List, slice_index, Option, is_none}
 use Rattle.std.specs.Str.{bytes_eq}
 use Rattle.cpa_outside.specs.OutsideMemory.{is_listed, place_of, first_bytes}
@@ -21,8 +22,10 @@ next_read inputs = inputs.calls.next
 
 -- the next read fails by its number, or the name is not there
 abbrev pub read_fails : MemoryInputs → List ℕ → Bool
-read_fails inputs name = is_listed (failing_reads inputs) (next_read inputs) || is_none (stored_bytes inputs name)
+read_fails inputs name =
+    is_listed (failing_reads inputs) (next_read inputs) || is_none (stored_bytes inputs name)
 
 -- two names have one count: they are the same, or no file of either is there
 abbrev pub shares_count : MemoryInputs → List ℕ → List ℕ → Bool
-shares_count inputs name other = bytes_eq name other || (is_none (stored_bytes inputs name) && is_none (stored_bytes inputs other))
+shares_count inputs name other = bytes_eq name other ||
+    (is_none (stored_bytes inputs name) && is_none (stored_bytes inputs other))

@@ -1,3 +1,4 @@
+-- What a sink in memory holds, and when a write to it fails (this project's own).
 use Rattle.std.specs.Prelude.{ℕ, ◌-◌, min, Bool, ◌||◌, ◌&&◌, ◌==◌, not, List, length}
 use Rattle.cpa_outside.specs.OutsideMemory.{is_listed}
 use Rattle.cpa_outside.specs.declared.memory_sink.MemorySink.{MemorySink}
@@ -26,11 +27,14 @@ failing_writes sink = sink.calls.numbers.items
 abbrev pub next_write : MemorySink → ℕ
 next_write sink = sink.calls.next
 
--- how many bytes of a piece the next write takes: the least of its length, the most and the room left
+-- how many bytes of a piece the next write takes: the least of its length, the most and the room
+-- left
 abbrev pub taken_of : MemorySink → List ℕ → ℕ
-taken_of sink piece = min (length piece) (min (sink_most sink) (sink_room sink - length (sink_bytes sink)))
+taken_of sink piece =
+    min (length piece) (min (sink_most sink) (sink_room sink - length (sink_bytes sink)))
 
 -- the next write fails by its number, or takes nothing of a piece that is not empty
 abbrev pub write_fails : MemorySink → List ℕ → Bool
 write_fails sink piece =
-    is_listed (failing_writes sink) (next_write sink) || (not (length piece == 0) && (taken_of sink piece == 0))
+    is_listed (failing_writes sink) (next_write sink) ||
+    (not (length piece == 0) && (taken_of sink piece == 0))

@@ -1,3 +1,4 @@
+-- What a read and a write leave behind: counts of faults, what was written (this project's own).
 use Rattle.std.specs.Prelude.{◌≡◌, ℕ, ◌+◌, ◌-◌, ◌^◌, ◌≤◌, min, List, ◌++◌, length, take, Option, Some, None, Result, Ok, Err}
 use Rattle.cpa_outside.specs.declared.reads.ReadFault.{ReadFault}
 use Rattle.cpa_outside.specs.declared.reads.ReadFault.TheVariants.{Failed, TooLong, OutOfMemory}
@@ -12,7 +13,8 @@ grown None more = None
 grown (Some had) more = Some (had ++ more)
 
 -- what was written, where it is told, has grown by a prefix of the bytes
-pub record GrewByPrefix (before : Option (List ℕ)) (bytes : List ℕ) (now : Option (List ℕ)) : Type 0 where
+pub record GrewByPrefix (before : Option (List ℕ)) (bytes : List ℕ)
+    (now : Option (List ℕ)) : Type 0 where
   pub count : ℕ
   pub within : count ≤ length bytes
   pub grew : now ≡ grown before (take count bytes)

@@ -1,4 +1,4 @@
-//! Which calls fail, by their numbers.
+//! Which calls fail, by their numbers: `is_listed` and `one_more` of `specs/OutsideMemory.antt`.
 ghost use Rattle.std.specs.Prelude.{◌≡◌};
 ghost use Rattle.cpa_outside.specs.OutsideMemory.{is_listed, one_more};
 

@@ -40,9 +40,11 @@ impl<'a, R: Files> Opens for SystemFiles<'a, R> {
     }
 }
 
-/// Reads files that an opener opens. They may change from one read to the next, so it tells nothing
-/// of their bytes; what one read gave is the contract of `read`. Its one count of failed reads is the
-/// count of every name. A file that is missing is a failed read.
+/// Reads files that an opener opens.
+///
+/// They may change from one read to the next, so it tells nothing of their bytes; what one read gave
+/// is the contract of `read`. Its one count of failed reads is the count of every name. A file that
+/// is missing is a failed read.
 #[derive(Drop)]
 pub struct FileInputs<O> {
     opener: O,
@@ -52,7 +54,8 @@ pub struct FileInputs<O> {
 impl<'a, R: Files> FileInputs<SystemFiles<'a, R>> {
     /// Reads the files of the system. No read has failed yet.
     pub fn new(rt: &'a R) -> Self
-        ensures { (name : List ℕ) → ⟦<FileInputs<SystemFiles<'a, R>> as Inputs>⟧.faults_of result name ≡ 0 }
+        ensures { (name : List ℕ) →
+            ⟦<FileInputs<SystemFiles<'a, R>> as Inputs>⟧.faults_of result name ≡ 0 }
     {
         FileInputs::over(SystemFiles { rt })
     }
@@ -176,7 +179,8 @@ fn read_within<F: Read + Drop>(
 
 // What a reader has left, but at most `most` bytes of it.
 fn read_front<F: Read + Drop>(reader: F, alloc: Global, most: u64) -> io::Result<Vec<u8>>
-    ensures { IfOk result (λ bytes. IfSome (F.remaining reader) (λ left. bytes.items ≡ take most left)) }
+    ensures { IfOk result (λ bytes.
+        IfSome (F.remaining reader) (λ left. bytes.items ≡ take most left)) }
 {
     let mut bytes = Vec::new(alloc);
     reader.take(most).read_to_end(&mut bytes)?;

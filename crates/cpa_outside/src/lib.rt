@@ -1,5 +1,5 @@
-//! The outside: where files are read from, and where the answer is written to; both in memory, which tell
-//! their bytes, and both of the system, which tell none.
+//! The outside: where files are read from, and where the answer is written to; both in memory, where
+//! their bytes are told, and both of the system, where none are.
 #![tactic(auto)]
 
 mod failing_calls;

@@ -1,4 +1,5 @@
-//! Files in memory, whose reads fail where a list says so.
+//! Files in memory, whose reads fail where a list says so. When and what they count is
+//! `specs/MemoryInputs.antt`; `proofs/SharedCounts.antt` has which names share a count.
 ghost use Rattle.std.specs.Prelude.{◌≡◌, ◌≢◌, ◌↔◌, ℕ, ◌+◌, ◌<◌, ◌≤◌, List, [], length, slice_index, vec_len, IfOk, IfErr, OnOk, IfSome, IsSome, IsTrue, IsErrOf, ◌&&◌, if◌then◌else◌};
 ghost use Rattle.std.specs.List.{position};
 ghost use Rattle.cpa_outside.specs.Outside.{Rose, IsTooLongOrFailed};
@@ -51,28 +52,34 @@ impl Inputs for MemoryInputs {
     fn read(&mut self, alloc: Global, name: &str, limit: usize) -> Result<Vec<u8>, ReadFault>
         // As the trait has it.
         ensures told { stored_bytes self.new ≡ stored_bytes self.old }
-        ensures never_falls { (other : List ℕ) → failed_reads self.old other ≤ failed_reads self.new other }
+        ensures never_falls { (other : List ℕ) →
+            failed_reads self.old other ≤ failed_reads self.new other }
         ensures within { IfOk result (λ bytes. length bytes.items ≤ limit) }
-        ensures bytes { IfOk result (λ bytes. IfSome (stored_bytes self.old name.now) (λ told. bytes.items ≡ told)) }
+        ensures bytes { IfOk result (λ bytes.
+            IfSome (stored_bytes self.old name.now) (λ told. bytes.items ≡ told)) }
         ensures failed { IfErr result (λ fault. fault ≡ ReadFault.Failed →
             Rose (failed_reads self.old name.now) (failed_reads self.new name.now)) }
         ensures ok_keeps { OnOk result (failed_reads self.new ≡ failed_reads self.old) }
-        ensures err_keeps { IfErr result (λ fault. fault ≢ ReadFault.Failed → failed_reads self.new ≡ failed_reads self.old) }
-        ensures others { (other : List ℕ) → other ≢ name.now → IsSome (stored_bytes self.old other) →
+        ensures err_keeps { IfErr result (λ fault. fault ≢ ReadFault.Failed →
+            failed_reads self.new ≡ failed_reads self.old) }
+        ensures others { (other : List ℕ) →
+            other ≢ name.now → IsSome (stored_bytes self.old other) →
             failed_reads self.new other ≡ failed_reads self.old other }
         ensures too_long { IfErr result (λ fault. fault ≡ ReadFault.TooLong →
             IfSome (stored_bytes self.old name.now) (λ told. limit < length told)) }
-        ensures long { IfSome (stored_bytes self.old name.now) (λ told. limit < length told → IsTooLongOrFailed result) }
+        ensures long { IfSome (stored_bytes self.old name.now) (λ told.
+            limit < length told → IsTooLongOrFailed result) }
 
-        // It fails exactly where the number is listed or the name is not there. It counts that once, for
-        // each name whose count this is: all names that are not there have one.
+        // It fails exactly where the number is listed or the name is not there. It counts that once,
+        // for each name whose count this is: all names that are not there have one.
         ensures fails { IsErrOf result ReadFault.Failed ↔ IsTrue (read_fails self.old name.now) }
         ensures counts { (other : List ℕ) → failed_reads self.new other ≡
             (if read_fails self.old name.now && shares_count self.old name.now other
             then one_more (failed_reads self.old other) else failed_reads self.old other) }
 
         // Where no number is listed, no count of a file that is there rises.
-        ensures steady { failing_reads self.old ≡ [] → (other : List ℕ) → IsSome (stored_bytes self.old other) →
+        ensures steady { failing_reads self.old ≡ [] →
+            (other : List ℕ) → IsSome (stored_bytes self.old other) →
             failed_reads self.new other ≡ failed_reads self.old other }
         ensures failing { failing_reads self.new ≡ failing_reads self.old }
         ensures next { next_read self.new ≡ one_more (next_read self.old) }

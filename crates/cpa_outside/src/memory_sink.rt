@@ -1,4 +1,5 @@
-//! A sink in memory, whose writes fail where a list says so.
+//! A sink in memory, whose writes fail where a list says so. When, and how much they take, is
+//! `specs/MemorySink.antt`.
 ghost use Rattle.std.specs.Prelude.{◌≡◌, ◌↔◌, ◌+◌, ◌<◌, ◌≤◌, [], ◌++◌, Some, length, take, vec_len, vec_capacity, IfOk, OnOk, OnErr, IsOk, IsErr, IsTrue};
 ghost use Rattle.cpa_outside.specs.Outside.{Rose, grown};
 ghost use Rattle.cpa_outside.specs.OutsideMemory.{one_more};
@@ -64,7 +65,8 @@ impl Sink for MemorySink {
         // As the trait has it.
         ensures within { IfOk result (λ count. count ≤ length piece.now) }
         ensures progress { IfOk result (λ count. 0 < length piece.now → 0 < count) }
-        ensures grows { IfOk result (λ count. Some (sink_bytes self.new) ≡ grown (Some (sink_bytes self.old)) (take count piece.now)) }
+        ensures grows { IfOk result (λ count. Some (sink_bytes self.new) ≡
+            grown (Some (sink_bytes self.old)) (take count piece.now)) }
         ensures ok_keeps { OnOk result (failed_writes self.new ≡ failed_writes self.old) }
         ensures failed { OnErr result (Rose (failed_writes self.old) (failed_writes self.new)) }
         ensures err_keeps { OnErr result (Some (sink_bytes self.new) ≡ Some (sink_bytes self.old)) }

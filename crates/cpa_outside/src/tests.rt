@@ -1,4 +1,4 @@
-//! The outside in memory at the edges of its numbers, and the system itself, which no clause speaks of.
+//! The outside in memory at the edges of its numbers, and the system, of which no clause speaks.
 ghost use Rattle.std.specs.Prelude.{⊤};
 
 use super::*;

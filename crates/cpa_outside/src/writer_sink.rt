@@ -51,10 +51,13 @@ impl<W: Write> Sink for WriterSink<W> {
     ghost faults = { failed_writes };
 
     fn write(&mut self, piece: &[u8]) -> Result<usize, Failed>
-        // The writer has the front of the piece behind what it had, and nothing where the write failed.
+        // The writer has the front of the piece behind what it had, and nothing more where the write
+        // failed.
         ensures appends { IfOk result (λ count.
-            Appends (W.contents (writer_of self.old)) (W.contents (writer_of self.new)) (take count piece.now)) }
-        ensures keeps { OnErr result (Keeps (W.contents (writer_of self.old)) (W.contents (writer_of self.new))) }
+            Appends (W.contents (writer_of self.old)) (W.contents (writer_of self.new))
+            (take count piece.now)) }
+        ensures keeps { OnErr result
+            (Keeps (W.contents (writer_of self.old)) (W.contents (writer_of self.new))) }
 
         ensures counts { failed_writes self.new ≡
             (if is_err result then one_more (failed_writes self.old) else failed_writes self.old) }
@@ -79,8 +82,8 @@ impl<W: Write> Sink for WriterSink<W> {
     }
 }
 
-// Writes the front of a piece, and says how many bytes that is. To take nothing of a piece that is not
-// empty is a failure too.
+// Writes the front of a piece, and says how many bytes that is. To take nothing of a piece that is
+// not empty is a failure too.
 fn write_front<W: Write>(out: &mut W, piece: &[u8]) -> Option<usize>
     ensures within { IfSome result (λ count. count ≤ length piece.now) }
     ensures progress { IfSome result (λ count. 0 < length piece.now → 0 < count) }

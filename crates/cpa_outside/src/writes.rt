@@ -1,4 +1,5 @@
-//! Where the answer is written to.
+//! Where the answer is written to: the trait, and `write_whole` over it, whose loop's invariant is
+//! `HasWritten` of `proofs/Grown.antt`.
 ghost use Rattle.std.specs.Prelude.{◌≡◌, ℕ, ◌<◌, ◌≤◌, List, Option, length, take, IfOk, OnOk, OnErr};
 ghost use Rattle.cpa_outside.specs.Outside.{Rose, grown, GrewByPrefix};
 
@@ -19,7 +20,8 @@ pub trait Sink {
     fn write(&mut self, piece: &[u8]) -> Result<usize, Failed>
         ensures within { IfOk result (λ count. count ≤ length piece.now) }
         ensures progress { IfOk result (λ count. 0 < length piece.now → 0 < count) }
-        ensures grows { IfOk result (λ count. written self.new ≡ grown (written self.old) (take count piece.now)) }
+        ensures grows { IfOk result (λ count.
+            written self.new ≡ grown (written self.old) (take count piece.now)) }
         ensures ok_keeps { OnOk result (faults self.new ≡ faults self.old) }
         ensures failed { OnErr result (Rose (faults self.old) (faults self.new)) }
         ensures err_keeps { OnErr result (written self.new ≡ written self.old) }

@@ -1,0 +1,30 @@
+//! Texts as rows write them.
+
+use std::alloc::{AllocError, Global};
+
+/// The value of a hexadecimal digit.
+fn digit(byte: u8) -> Option<u8> {
+    let value = char::from(byte).to_digit(16)?;
+    u8::try_from(value).ok()
+}
+
+/// The bytes that a row writes: `$` and two hexadecimal digits write one byte, and any other byte
+/// writes itself. `None` where two digits are missing.
+pub(crate) fn bytes_of(alloc: Global, row: &str) -> Result<Option<Vec<u8>>, AllocError> {
+    let mut bytes = Vec::new(alloc);
+    let mut pieces = row.split('$');
+    if let Some(first) = pieces.next() {
+        bytes.extend_from_slice(first.as_bytes())?;
+    }
+    for piece in pieces {
+        let [high, low, behind @ ..] = piece.as_bytes() else {
+            return Ok(None);
+        };
+        let (Some(high), Some(low)) = (digit(*high), digit(*low)) else {
+            return Ok(None);
+        };
+        bytes.push((high & 15) << 4 | (low & 15))?;
+        bytes.extend_from_slice(behind)?;
+    }
+    Ok(Some(bytes))
+}
