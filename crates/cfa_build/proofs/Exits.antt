@@ -11,9 +11,9 @@ use Rattle.cpa_model.specs.declared.automaton.Edge.{Edge}
 use Rattle.cpa_model.specs.declared.program.Stmt.TheVariants as stmt
 use Rattle.cpa_model.specs.declared.program.Program.{Program}
 use Rattle.cpa_model.specs.Automata.{edge_of, Precedes, AreOrdered, AreAscending}
-use Rattle.cpa_model.specs.Programs.{IsNumbered, exit_of, Next}
+use Rattle.cpa_model.specs.Programs.{exit_of, Next}
 use Rattle.cpa_model.specs.Steps.{Moves, at_statement, at_exit, Returns}
-use Rattle.cpa_model.proofs.Trees.{one_next}
+use Rattle.cpa_model.specs.TreeLaws.{TreeLaws}
 use Rattle.cfa_build.specs.declared.places.Place.{Place}
 use Rattle.cfa_build.specs.Places.{IsPlace, ArePlaces}
 use Rattle.cfa_build.specs.Edges.{AreNumbersBelow, AreSitesBelow, AreEdgesBelow, AreEdgesFrom, IsCallOf, return_edge, next_in}
@@ -80,15 +80,15 @@ ordered_returns exit places (s ∷ sites) h =
     (each_map (λ m. s < m) (Precedes (return_edge exit places s)) (return_edge exit places) (λ m less. inr (refl, less)) sites h.0, ordered_returns exit places sites h.1)
 
 -- the edges from the exit of another function
-pub from_exit : (P : Program) → IsNumbered P → (f : ℕ) (places : List Place) (sites : List ℕ) → f ≢ P.main → f < length P.bodies → ArePlaces P places → AreNumbersBelow (IsCallOf P f) (length P.stmts) sites → AreEdgesFrom P (exit_of P f) (map (return_edge (exit_of P f) places) sites)
-from_exit P N f places sites other inside placed calls = record {
+pub from_exit : (P : Program) → TreeLaws P → (f : ℕ) (places : List Place) (sites : List ℕ) → f ≢ P.main → f < length P.bodies → ArePlaces P places → AreNumbersBelow (IsCallOf P f) (length P.stmts) sites → AreEdgesFrom P (exit_of P f) (map (return_edge (exit_of P f) places) sites)
+from_exit P T f places sites other inside placed calls = record {
   moves = each_map (λ s. (s < length P.stmts) × IsCallOf P f s) (λ e. (e.from ≡ exit_of P f) × Moves P e.from e.act e.to) (return_edge (exit_of P f) places)
       (λ s call. (refl, at_exit f inside refl (other, s, call.1, refl, next_in_is P places s placed call.0))) sites calls.only;
   all = λ a q h.
       let r : Returns P f a q = returns_at P (exit_of P f) f a q refl h in
       let site : ℕ = r.1 in
       let below : site < length P.stmts = slice_get_within P.stmts site (stmt.Call f) r.2 in
-      let to : next_in places site ≡ q = one_next P N site (next_in places site) q (next_in_is P places site placed below) r.4 in
+      let to : next_in places site ≡ q = T.one_next site (next_in places site) q (next_in_is P places site placed below) r.4 in
       let is : return_edge (exit_of P f) places site ≡ edge_of (exit_of P f) a q = ap (edge_of (exit_of P f) (act.Return site)) to ∙ ap (λ c. edge_of (exit_of P f) c q) (sym r.3) in
       subst (Contains (map (return_edge (exit_of P f) places) sites)) is (contains_map (return_edge (exit_of P f) places) sites site (calls.all site below r.2));
   ordered = ordered_returns (exit_of P f) places sites calls.ascending;

@@ -7,9 +7,10 @@ use Rattle.std.proofs.lemmas.Option.{none-some, same_Some}
 use Rattle.cpa_model.specs.declared.program.Stmt.{Stmt}
 use Rattle.cpa_model.specs.declared.program.Stmt.TheVariants as stmt
 use Rattle.cpa_model.specs.declared.program.Program.{Program}
+use Rattle.cpa_model.specs.declared.program.TheConstants.{MAX_CELLS, MAX_POINTS}
 use Rattle.cpa_ints.specs.Integers.{IsInRange}
 use Rattle.cpa_model.specs.Programs.{IsStmt, IsBody, IsPart, IsNumbered, IsWellFormed, IsSound, InFunction, function_body, function_part, Reaches, reaches_call, reaches_through, Tiles, parts_of, point_count}
-use Rattle.cpa_model.proofs.Trees.{parts_of_part, some_function}
+use Rattle.cpa_model.specs.TreeLaws.{TreeLaws}
 
 -- each item of the list is as Q says of its number, the first one having the number i
 abbrev pub Each : {X : Type 0} → (ℕ → X → Type 0) → ℕ → List X → Type 0
@@ -64,48 +65,50 @@ numbered P ends own level T = record {
       subst (λ (e : ℕ). Tiles ends (n + 1) (parts_of s) e) (same_Some found end (sym there ∙ at)) tiles;
 }
 
-own_of : (P : Program) (ends : List ℕ) (own level : ℕ → ℕ) → Tables P ends own level → (f n : ℕ) → InFunction P f n → own n ≡ f
-own_of P ends own level T = own_is P own
+own_of : (P : Program) → TreeLaws P → (ends : List ℕ) (own level : ℕ → ℕ) → Tables P ends own level → (f n : ℕ) → InFunction P f n → own n ≡ f
+own_of P L ends own level T = own_is P own
     (λ f n is. each_at (λ f n. own n ≡ f) P.bodies T.bodies f n is)
-    (λ b n part. All-contains (λ c. own c ≡ own b) (parts_of part.stmt) n (All-from_recursion (λ c. own c ≡ own b) (parts_of part.stmt) (each_at (λ n s. AllByRecursion (λ c. own c ≡ own n) (parts_of s)) P.stmts T.owns b part.stmt part.is)) (parts_of_part b part.stmt n part.place part.part))
+    (λ b n part. All-contains (λ c. own c ≡ own b) (parts_of part.stmt) n (All-from_recursion (λ c. own c ≡ own b) (parts_of part.stmt) (each_at (λ n s. AllByRecursion (λ c. own c ≡ own n) (parts_of s)) P.stmts T.owns b part.stmt part.is)) ((L.parts b part.stmt n).1 (part.place, part.part)))
 
-level_of_call : (P : Program) (ends : List ℕ) (own level : ℕ → ℕ) → Tables P ends own level → (f g n : ℕ) → InFunction P f n → IsStmt P n (stmt.Call g) → level g < level f
-level_of_call P ends own level T f g n in_f is =
+level_of_call : (P : Program) → TreeLaws P → (ends : List ℕ) (own level : ℕ → ℕ) → Tables P ends own level → (f g n : ℕ) → InFunction P f n → IsStmt P n (stmt.Call g) → level g < level f
+level_of_call P L ends own level T f g n in_f is =
     let good = each_at (IsGood P own level) P.stmts T.good n (stmt.Call g) is in
-    subst (λ (k : ℕ). level g < level k) (own_of P ends own level T f n in_f) good.1
+    subst (λ (k : ℕ). level g < level k) (own_of P L ends own level T f n in_f) good.1
 
-sound_if_good : (P : Program) (ends : List ℕ) (own level : ℕ → ℕ) → Tables P ends own level → (n : ℕ) (s : Stmt) → IsStmt P n s → IsGood P own level n s → IsSound P n s
-sound_if_good P ends own level T n (stmt.Call g) is h = (
+sound_if_good : (P : Program) → TreeLaws P → (ends : List ℕ) (own level : ℕ → ℕ) → Tables P ends own level → (n : ℕ) (s : Stmt) → IsStmt P n s → IsGood P own level n s → IsSound P n s
+sound_if_good P L ends own level T n (stmt.Call g) is h = (
   h.0,
   λ f in_f.
-      let below : level g < level f = level_of_call P ends own level T f g n in_f is in (
+      let below : level g < level f = level_of_call P L ends own level T f g n in_f is in (
         λ same. let equal : level g ≡ level f = ap level same in absurd (omega arith),
-        λ reaches. let above : level f < level g = lower P level (level_of_call P ends own level T) g f reaches in omega arith,
+        λ reaches. let above : level f < level g = lower P level (level_of_call P L ends own level T) g f reaches in omega arith,
       ),
 )
-sound_if_good P ends own level T n (stmt.Goto to) is h = λ f in_f. (
+sound_if_good P L ends own level T n (stmt.Goto to) is h = λ f in_f. (
   h.0,
-  let target = some_function P (numbered P ends own level T) to h.0 in
-      let same : target.0 ≡ f = sym (own_of P ends own level T target.0 to target.1) ∙ h.1 ∙ own_of P ends own level T f n in_f in
+  let target = L.some_function to h.0 in
+      let same : target.0 ≡ f = sym (own_of P L ends own level T target.0 to target.1) ∙ h.1 ∙ own_of P L ends own level T f n in_f in
       subst (λ (k : ℕ). InFunction P k to) same target.1,
 )
-sound_if_good P ends own level T n (stmt.Block items) is h = h
-sound_if_good P ends own level T n (stmt.If test first second) is h = h
-sound_if_good P ends own level T n (stmt.Loop body step) is h = h
-sound_if_good P ends own level T n (stmt.Assign base len index value) is h = h
-sound_if_good P ends own level T n (stmt.Input cell) is h = h
-sound_if_good P ends own level T n stmt.Break is h = h
-sound_if_good P ends own level T n stmt.Continue is h = h
-sound_if_good P ends own level T n stmt.Leave is h = h
-sound_if_good P ends own level T n stmt.Stop is h = h
-sound_if_good P ends own level T n stmt.Error is h = h
+sound_if_good P L ends own level T n (stmt.Block items) is h = h
+sound_if_good P L ends own level T n (stmt.If test first second) is h = h
+sound_if_good P L ends own level T n (stmt.Loop body step) is h = h
+sound_if_good P L ends own level T n (stmt.Assign base len index value) is h = h
+sound_if_good P L ends own level T n (stmt.Input cell) is h = h
+sound_if_good P L ends own level T n stmt.Break is h = h
+sound_if_good P L ends own level T n stmt.Continue is h = h
+sound_if_good P L ends own level T n _ is h = h
 
-pub well_formed_by : (P : Program) (ends : List ℕ) (own level : ℕ → ℕ) → Tables P ends own level → AllByRecursion (λ cell. IsInRange cell.ty cell.start) P.cells → length P.cells ≤ 65536 → point_count P ≤ 65536 → P.main < length P.bodies → IsWellFormed P
-well_formed_by P ends own level T starts cells points main = record {
-  numbered = numbered P ends own level T;
-  sound = λ n s is. sound_if_good P ends own level T n s is (each_at (IsGood P own level) P.stmts T.good n s is);
-  starts = starts;
-  few_cells = cells;
-  few_points = points;
-  main = main;
-}
+pub well_formed_by : (P : Program) (ends : List ℕ) (own level : ℕ → ℕ) → Tables P ends own level
+    → (IsNumbered P → TreeLaws P) → AllByRecursion (λ cell. IsInRange cell.ty cell.start) P.cells
+    → length P.cells ≤ MAX_CELLS → point_count P ≤ MAX_POINTS → P.main < length P.bodies → IsWellFormed P
+well_formed_by P ends own level T law starts cells points main =
+    let N = numbered P ends own level T in
+    record {
+      numbered = N;
+      sound = λ n s is. sound_if_good P (law N) ends own level T n s is (each_at (IsGood P own level) P.stmts T.good n s is);
+      starts = starts;
+      few_cells = cells;
+      few_points = points;
+      main = main;
+    }

@@ -10,9 +10,9 @@ use Rattle.cpa_model.specs.declared.program.Stmt.{Stmt}
 use Rattle.cpa_model.specs.declared.program.Stmt.TheVariants as stmt
 use Rattle.cpa_model.specs.declared.program.Program.{Program}
 use Rattle.cpa_model.specs.Automata.{edge_of}
-use Rattle.cpa_model.specs.Programs.{IsStmt, IsBody, IsNumbered, exit_of, Next, InLoop, InFunction}
+use Rattle.cpa_model.specs.Programs.{IsStmt, IsBody, exit_of, Next, InLoop, InFunction}
 use Rattle.cpa_model.specs.Steps.{Moves, MovesAt, at_statement, at_exit}
-use Rattle.cpa_model.proofs.Trees.{one_next, one_function}
+use Rattle.cpa_model.specs.TreeLaws.{TreeLaws}
 use Rattle.cfa_build.specs.declared.places.Place.{Place}
 use Rattle.cfa_build.specs.Places.{IsPlace, ArePlaces}
 use Rattle.cfa_build.specs.Edges.{AreEdgesFrom}
@@ -43,8 +43,8 @@ one_from P n s a q is move only = record {
   ordered = (tt, tt);
 }
 
-pub from_block : (P : Program) → IsNumbered P → (n next : ℕ) → IsStmt P n (stmt.Block []) → Next P n next → AreEdgesFrom P n (edge_of n act.Skip next ∷ [])
-from_block P N n next is h = one_from P n (stmt.Block []) act.Skip next is (refl, h) (λ b m move. (move.0, one_next P N n m next move.1 h))
+pub from_block : (P : Program) → TreeLaws P → (n next : ℕ) → IsStmt P n (stmt.Block []) → Next P n next → AreEdgesFrom P n (edge_of n act.Skip next ∷ [])
+from_block P T n next is h = one_from P n (stmt.Block []) act.Skip next is (refl, h) (λ b m move. (move.0, T.one_next n m next move.1 h))
 
 pub from_items : (P : Program) (n item : ℕ) (items : List ℕ) → IsStmt P n (stmt.Block (item ∷ items)) → AreEdgesFrom P n (edge_of n act.Skip item ∷ [])
 from_items P n item items is = one_from P n (stmt.Block (item ∷ items)) act.Skip item is (refl, refl) (λ b m move. move)
@@ -62,11 +62,11 @@ from_if P n test first second is = record {
 pub from_loop : (P : Program) (n body step : ℕ) → IsStmt P n (stmt.Loop body step) → AreEdgesFrom P n (edge_of n act.Skip body ∷ [])
 from_loop P n body step is = one_from P n (stmt.Loop body step) act.Skip body is (refl, refl) (λ b m move. move)
 
-pub from_assign : (P : Program) → IsNumbered P → (n base len : ℕ) (index value : Expr) (next : ℕ) → IsStmt P n (stmt.Assign base len index value) → Next P n next → AreEdgesFrom P n (edge_of n (act.Assign base len index value) next ∷ [])
-from_assign P N n base len index value next is h = one_from P n (stmt.Assign base len index value) (act.Assign base len index value) next is (refl, h) (λ b m move. (move.0, one_next P N n m next move.1 h))
+pub from_assign : (P : Program) → TreeLaws P → (n base len : ℕ) (index value : Expr) (next : ℕ) → IsStmt P n (stmt.Assign base len index value) → Next P n next → AreEdgesFrom P n (edge_of n (act.Assign base len index value) next ∷ [])
+from_assign P T n base len index value next is h = one_from P n (stmt.Assign base len index value) (act.Assign base len index value) next is (refl, h) (λ b m move. (move.0, T.one_next n m next move.1 h))
 
-pub from_input : (P : Program) → IsNumbered P → (n cell next : ℕ) → IsStmt P n (stmt.Input cell) → Next P n next → AreEdgesFrom P n (edge_of n (act.Input cell) next ∷ [])
-from_input P N n cell next is h = one_from P n (stmt.Input cell) (act.Input cell) next is (refl, h) (λ b m move. (move.0, one_next P N n m next move.1 h))
+pub from_input : (P : Program) → TreeLaws P → (n cell next : ℕ) → IsStmt P n (stmt.Input cell) → Next P n next → AreEdgesFrom P n (edge_of n (act.Input cell) next ∷ [])
+from_input P T n cell next is h = one_from P n (stmt.Input cell) (act.Input cell) next is (refl, h) (λ b m move. (move.0, T.one_next n m next move.1 h))
 
 pub from_call : (P : Program) (n function body : ℕ) → IsStmt P n (stmt.Call function) → IsBody P function body → AreEdgesFrom P n (edge_of n (act.Call n) body ∷ [])
 from_call P n function body is h = one_from P n (stmt.Call function) (act.Call n) body is (refl, h) (λ b m move. (move.0, same_Some m body (sym move.1 ∙ h)))
@@ -74,8 +74,8 @@ from_call P n function body is h = one_from P n (stmt.Call function) (act.Call n
 pub from_goto : (P : Program) (n to : ℕ) → IsStmt P n (stmt.Goto to) → AreEdgesFrom P n (edge_of n act.Skip to ∷ [])
 from_goto P n to is = one_from P n (stmt.Goto to) act.Skip to is (refl, refl) (λ b m move. move)
 
-pub from_leave : (P : Program) → IsNumbered P → (n f : ℕ) → IsStmt P n stmt.Leave → InFunction P f n → AreEdgesFrom P n (edge_of n act.Skip (exit_of P f) ∷ [])
-from_leave P N n f is h = one_from P n stmt.Leave act.Skip (exit_of P f) is (refl, f, h, refl) (λ b m move. (move.0, move.3 ∙ ap (exit_of P) (one_function P N move.1 f n move.2 h)))
+pub from_leave : (P : Program) → TreeLaws P → (n f : ℕ) → IsStmt P n stmt.Leave → InFunction P f n → AreEdgesFrom P n (edge_of n act.Skip (exit_of P f) ∷ [])
+from_leave P T n f is h = one_from P n stmt.Leave act.Skip (exit_of P f) is (refl, f, h, refl) (λ b m move. (move.0, move.3 ∙ ap (exit_of P) (T.one_function move.1 f n move.2 h)))
 
 pub from_stop : (P : Program) (n : ℕ) → IsStmt P n stmt.Stop → AreEdgesFrom P n []
 from_stop P n is = none_from P n stmt.Stop is (λ a q h. h)
@@ -95,9 +95,9 @@ place_in_table P n places place inside h e =
     let is : IsSomeAnd (slice_get places n) (IsPlace P n) = h.right n inside in
     rw e at is
 
-pub from_any_block : (P : Program) → IsNumbered P → (n next to : ℕ) (items : List ℕ) → IsStmt P n (stmt.Block items) → Next P n next → (items ≡ [] → to ≡ next) → ((item : ℕ) (rest : List ℕ) → items ≡ item ∷ rest → to ≡ item) → AreEdgesFrom P n (edge_of n act.Skip to ∷ [])
-from_any_block P N n next to [] is h empty first = rw (empty refl) (from_block P N n next is h)
-from_any_block P N n next to (item ∷ rest) is h empty first = rw (first item rest refl) (from_items P n item rest is)
+pub from_any_block : (P : Program) → TreeLaws P → (n next to : ℕ) (items : List ℕ) → IsStmt P n (stmt.Block items) → Next P n next → (items ≡ [] → to ≡ next) → ((item : ℕ) (rest : List ℕ) → items ≡ item ∷ rest → to ≡ item) → AreEdgesFrom P n (edge_of n act.Skip to ∷ [])
+from_any_block P T n next to [] is h empty first = rw (empty refl) (from_block P T n next is h)
+from_any_block P T n next to (item ∷ rest) is h empty first = rw (first item rest refl) (from_items P n item rest is)
 
 -- one edge to the point, if there is one
 abbrev pub skips_to : ℕ → Option ℕ → List Edge

@@ -6,7 +6,9 @@ use Rattle.std.proofs.lemmas.List.{drop_more, length-set}
 use Rattle.std.proofs.lemmas.Option.{same_Some}
 use Rattle.cpa_expr.specs.declared.tree.Expr.{Expr}
 use Rattle.cpa_model.specs.declared.program.Stmt.TheVariants as stmt
-use Rattle.cpa_model.specs.Programs.{Successor, goes_to, after_whole, after_item, after_part}
+use Rattle.cpa_model.specs.declared.program.Successor.{Successor}
+use Rattle.cpa_model.specs.declared.program.Successor.TheVariants.{GoesTo, AfterWhole}
+use Rattle.cpa_model.specs.Programs.{first_of, after_item, after_part}
 use Rattle.cfa_build.specs.declared.places.Place.{Place}
 use Rattle.cfa_build.specs.Places.{PartsPlaced, place_at, within}
 
@@ -39,29 +41,14 @@ one_more_part f place old now c s inside r = record {
   ];
 }
 
-pub same_parts : (f g : ℕ → Option Successor) (place : Place) (old now : List Place) → ((c : ℕ) → g c ≡ f c) → PartsPlaced f place old now → PartsPlaced g place old now
-same_parts f g place old now e r = record {
-  parts = λ c s h. r.parts c s (sym (e c) ∙ h);
-  others = λ c h. r.others c (sym (e c) ∙ h);
-}
-
--- what follows an item that stands before these
-abbrev pub first_of_items : List ℕ → Successor
-first_of_items [] = after_whole
-first_of_items (b ∷ items) = goes_to b
-
-after_item_cons : (a : ℕ) (items : List ℕ) (c : ℕ) → after_item (a ∷ items) c ≡ (if a == c then Some (first_of_items items) else after_item items c)
-after_item_cons a [] c = refl
-after_item_cons a (b ∷ items) c = refl
-
-pub one_more_item : (a : ℕ) (items : List ℕ) (place : Place) (old now : List Place) → a < length now → PartsPlaced (after_item items) place old now → PartsPlaced (after_item (a ∷ items)) place old (set now a (place_at place (first_of_items items)))
+pub one_more_item : (a : ℕ) (items : List ℕ) (place : Place) (old now : List Place) → a < length now → PartsPlaced (after_item items) place old now → PartsPlaced (after_item (a ∷ items)) place old (set now a (place_at place (first_of items)))
 one_more_item a items place old now inside r =
-    same_parts _ (after_item (a ∷ items)) place old _ (after_item_cons a items) (one_more_part (after_item items) place old now a (first_of_items items) inside r)
+    one_more_part (after_item items) place old now a (first_of items) inside r
 
 -- the items from i on are placed, and the place before them is known
 abbrev pub PlacedFrom : List ℕ → Place → List Place → ℕ → Place → List Place → Type 0
 PlacedFrom items whole old i place now =
-    PartsPlaced (after_item (drop i items)) whole old now × (place ≡ place_at whole (first_of_items (drop i items)))
+    PartsPlaced (after_item (drop i items)) whole old now × (place ≡ place_at whole (first_of (drop i items)))
 
 pub placed_before : (items : List ℕ) (i : ℕ) (whole place : Place) (old now : List Place) → 0 < i → i ≤ length items → get_or items (i - 1) 0 < length now → PlacedFrom items whole old i place now → PlacedFrom items whole old (i - 1) (record place { next = get_or items (i - 1) 0 }) (set now (get_or items (i - 1) 0) place)
 placed_before items i whole place old now positive inside within h =
@@ -75,13 +62,13 @@ pub if_placed : (n : ℕ) (test : Expr) (first second : ℕ) (whole : Place) (ol
 if_placed n test first second whole old inside =
     let f : first < length old = inside 0 0 (lit< tt) in
     let s : second < length old = inside 1 0 (lit< tt) in
-    one_more_part _ whole old (set old second whole) first after_whole (omega (arith, length-set old second whole))
-    (one_more_part _ whole old old second after_whole s (no_part whole old))
+    one_more_part _ whole old (set old second whole) first AfterWhole (omega (arith, length-set old second whole))
+    (one_more_part _ whole old old second AfterWhole s (no_part whole old))
 
 pub loop_placed : (n body step : ℕ) (whole : Place) (old : List Place) → All (λ c. c < length old) (body ∷ step ∷ []) → PartsPlaced (after_part n (stmt.Loop body step)) (within n (stmt.Loop body step) whole) old (set (set old step (record { next = n; inner_loop = Some n; function = whole.function })) body (record { next = step; inner_loop = Some n; function = whole.function }))
 loop_placed n body step whole old inside =
     let b : body < length old = inside 0 0 (lit< tt) in
     let s : step < length old = inside 1 0 (lit< tt) in
     let place : Place = within n (stmt.Loop body step) whole in
-    one_more_part _ place old (set old step (place_at place (goes_to n))) body (goes_to step) (omega (arith, length-set old step (place_at place (goes_to n))))
-    (one_more_part _ place old old step (goes_to n) s (no_part place old))
+    one_more_part _ place old (set old step (place_at place (GoesTo n))) body (GoesTo step) (omega (arith, length-set old step (place_at place (GoesTo n))))
+    (one_more_part _ place old old step (GoesTo n) s (no_part place old))

@@ -26,7 +26,8 @@ IsCallOf P f n = IsStmt P n (stmt.Call f)
 -- for each function its calls among the statements below i
 pub record AreSitesBelow (P : Program) (i : ℕ) (sites : List (List ℕ)) : Type 0 where
   pub each : length sites ≡ length P.bodies
-  pub right : (f : ℕ) → f < length P.bodies → IsSomeAnd (slice_get sites f) (AreNumbersBelow (IsCallOf P f) i)
+  pub right : (f : ℕ) → f < length P.bodies
+      → IsSomeAnd (slice_get sites f) (AreNumbersBelow (IsCallOf P f) i)
 
 -- all edges from the points below n
 pub record AreEdgesBelow (P : Program) (n : ℕ) (edges : List Edge) : Type 0 where

@@ -2,7 +2,9 @@
 use Rattle.std.specs.Prelude.{◌≡◌, ℕ, ◌<◌, List, length, slice_get, Option, Some, None, ◌⊎◌, IfSome, IsSomeAnd, if◌then◌else◌}
 use Rattle.cpa_model.specs.declared.program.Stmt.{Stmt}
 use Rattle.cpa_model.specs.declared.program.Program.{Program}
-use Rattle.cpa_model.specs.Programs.{Next, InLoop, InFunction, IsBody, IsPart, Successor, goes_to, after_whole, is_loop}
+use Rattle.cpa_model.specs.declared.program.Successor.{Successor}
+use Rattle.cpa_model.specs.declared.program.Successor.TheVariants.{GoesTo, AfterWhole}
+use Rattle.cpa_model.specs.Programs.{Next, InLoop, InFunction, IsBody, IsPart, is_loop}
 use Rattle.cfa_build.specs.declared.places.Place.{Place}
 
 -- what follows the statement n, its nearest loop and its function
@@ -28,8 +30,8 @@ pub record ArePlacesBelow (P : Program) (i : ℕ) (places : List Place) : Type 0
 
 -- the point that a part's successor names, next being what follows the whole
 abbrev pub point_of : ℕ → Successor → ℕ
-point_of next (goes_to m) = m
-point_of next after_whole = next
+point_of next (GoesTo m) = m
+point_of next AfterWhole = next
 
 -- the place of a part with this successor
 abbrev pub place_at : Place → Successor → Place
@@ -40,6 +42,7 @@ abbrev pub within : ℕ → Stmt → Place → Place
 within n s whole = record whole { inner_loop = if is_loop s then Some n else whole.inner_loop }
 
 -- new is old with the place of each part that has a successor
-pub record PartsPlaced (after : ℕ → Option Successor) (place : Place) (old new : List Place) : Type 0 where
+pub record PartsPlaced (after : ℕ → Option Successor) (place : Place) (old new : List Place)
+    : Type 0 where
   pub parts : (c : ℕ) (s : Successor) → after c ≡ Some s → slice_get new c ≡ Some (place_at place s)
   pub others : (c : ℕ) → after c ≡ None → slice_get new c ≡ slice_get old c

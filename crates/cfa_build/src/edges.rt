@@ -1,15 +1,18 @@
-//! The edges of the automaton, by the points that they leave.
+//! The edges of the automaton, by the points that they leave: for each statement and each exit its
+//! moves, by `AreEdgesFrom`. That the edges of a statement are its moves is shown in
+//! `proofs/Statements.antt`.
 
 ghost use Rattle.std.specs.Prelude.{◌≡◌, ◌+◌, ◌<◌, ◌++◌, ◌∷◌, [], ℕ, List, Some, true, false, length, map, slice_get, option_to_list, IfSome, IfOk, OnOk};
 ghost use Rattle.std.specs.List.{All};
 ghost use Rattle.cpa_model.specs.declared.automaton.Act.TheVariants as acts;
 ghost use Rattle.cpa_model.specs.declared.program.Stmt.TheVariants as stmts;
 ghost use Rattle.cpa_model.specs.Automata.{edge_of};
-ghost use Rattle.cpa_model.specs.Programs.{IsWellFormed, IsStmt, IsBody, Next, InLoop, exit_of, point_count};
+ghost use Rattle.cpa_model.specs.Programs.{IsWellFormed, IsStmt, Next, InLoop, exit_of, point_count};
+ghost use Rattle.cpa_model.specs.TreeLaws.{TreeLaws};
 ghost use Rattle.cfa_build.specs.Places.{IsPlace, ArePlaces};
 ghost use Rattle.cfa_build.specs.Edges.{AreSitesBelow, AreEdgesBelow, AreEdgesFrom, edges_in, return_edge};
 
-use crate::places::{Place, place_of, stmt_at};
+use crate::places::{Place, place_of};
 use cpa_expr::{Expr, copy};
 use cpa_model::{Act, Edge, Program, Seq, Stmt};
 use std::alloc::{AllocError, Global};
@@ -109,30 +112,15 @@ fn first_or(items: &[u32], next: u32) -> u32
     }
 }
 
-/// The body of a function.
-pub(crate) fn body_of(program: &Program, f: u32) -> u32
-    requires { f < length program.now.bodies }
-    ensures { IsBody program.now f result }
-{
-    program.bodies.as_slice()[f as usize]
-}
-
-/// The exit of a function.
-fn exit(program: &Program, f: u32) -> u32
-    requires well_formed { IsWellFormed program.now }
-    requires inside { f < length program.now.bodies }
-    ensures { result ≡ exit_of program.now f }
-{
-    program.stmts.as_slice().len() as u32 + f
-}
-
 /// The step of the loop `n`, if there is such a loop.
 fn step_of(program: &Program, n: u32) -> Option<u32>
     requires { n < length program.now.stmts }
-    ensures found { IfSome result (λ step. (body : ℕ) × IsStmt program.now n (stmts.Loop body step)) }
-    ensures all { (body step : ℕ) → IsStmt program.now n (stmts.Loop body step) → result ≡ Some step }
+    ensures found { IfSome result
+        (λ step. (body : ℕ) × IsStmt program.now n (stmts.Loop body step)) }
+    ensures all { (body step : ℕ) → IsStmt program.now n (stmts.Loop body step)
+        → result ≡ Some step }
 {
-    match stmt_at(program, n) {
+    match program.statement(n) {
         Stmt::Loop { step, .. } => Some(*step),
         _ => None,
     }
@@ -140,7 +128,7 @@ fn step_of(program: &Program, n: u32) -> Option<u32>
 
 /// What follows the nearest loop around the statement `n`.
 fn after_loop(program: &Program, places: &[Place], place: Place, n: u32) -> Option<u32>
-    requires well_formed { IsWellFormed program.now }
+    requires trees { TreeLaws program.now }
     requires placed { ArePlaces program.now places.now }
     requires place { IsPlace program.now n place }
     ensures found { IfSome result (λ m. (l : ℕ) × InLoop program.now l n × Next program.now l m) }
@@ -154,7 +142,7 @@ fn after_loop(program: &Program, places: &[Place], place: Place, n: u32) -> Opti
 
 /// The step of the nearest loop around the statement `n`.
 fn loop_step(program: &Program, place: Place, n: u32) -> Option<u32>
-    requires well_formed { IsWellFormed program.now }
+    requires trees { TreeLaws program.now }
     requires place { IsPlace program.now n place }
     ensures found { IfSome result
         (λ m. (l body : ℕ) × InLoop program.now l n × IsStmt program.now l (stmts.Loop body m)) }
@@ -175,12 +163,13 @@ fn leaving(
     n: u32,
 ) -> Result<Outgoing, AllocError>
     requires well_formed { IsWellFormed program.now }
+    requires trees { TreeLaws program.now }
     requires placed { ArePlaces program.now places.now }
     requires inside { n < length program.now.stmts }
     ensures { IfOk result (λ outgoing. AreEdgesFrom program.now n (edges_in outgoing)) }
 {
     let place = place_of(places, n);
-    match stmt_at(program, n) {
+    match program.statement(n) {
         Stmt::Block { items } => Ok(skip(n, first_or(items.as_slice(), place.next))),
         Stmt::If { test, yes, no } => branch(alloc, n, test, *yes, *no),
         Stmt::Loop { body, .. } => Ok(skip(n, *body)),
@@ -194,11 +183,11 @@ fn leaving(
             Ok(one(n, act, place.next))
         }
         Stmt::Input { cell } => Ok(one(n, Act::Input { cell: *cell }, place.next)),
-        Stmt::Call { function } => Ok(one(n, Act::Call { site: n }, body_of(program, *function))),
+        Stmt::Call { function } => Ok(one(n, Act::Call { site: n }, program.body(*function))),
         Stmt::Goto { to } => Ok(skip(n, *to)),
         Stmt::Break => Ok(skip_if(n, after_loop(program, places, place, n))),
         Stmt::Continue => Ok(skip_if(n, loop_step(program, place, n))),
-        Stmt::Leave => Ok(skip(n, exit(program, place.function))),
+        Stmt::Leave => Ok(skip(n, program.exit(place.function))),
         Stmt::Stop | Stmt::Error => Ok(Outgoing::Nothing),
     }
 }
@@ -212,6 +201,7 @@ fn add_leaving(
     edges: &mut Seq<Edge>,
 ) -> Result<(), AllocError>
     requires well_formed { IsWellFormed program.now }
+    requires trees { TreeLaws program.now }
     requires placed { ArePlaces program.now places.now }
     requires inside { n < length program.now.stmts }
     requires below { AreEdgesBelow program.now n edges.old }
@@ -257,6 +247,7 @@ fn add_returns(
     edges: &mut Seq<Edge>,
 ) -> Result<(), AllocError>
     requires well_formed { IsWellFormed program.now }
+    requires trees { TreeLaws program.now }
     requires placed { ArePlaces program.now places.now }
     requires sites { AreSitesBelow program.now (length program.now.stmts) sites.now }
     requires inside { f < length program.now.bodies }
@@ -266,12 +257,7 @@ fn add_returns(
     if f == program.main {
         return Ok(());
     }
-    add_return_edges(
-        places,
-        exit(program, f),
-        sites[f as usize].as_slice(),
-        edges,
-    )
+    add_return_edges(places, program.exit(f), sites[f as usize].as_slice(), edges)
 }
 
 /// All edges.
@@ -282,6 +268,7 @@ pub(crate) fn edges(
     sites: &[Seq<u32>],
 ) -> Result<Seq<Edge>, AllocError>
     requires well_formed { IsWellFormed program.now }
+    requires trees { TreeLaws program.now }
     requires placed { ArePlaces program.now places.now }
     requires sites { AreSitesBelow program.now (length program.now.stmts) sites.now }
     ensures { IfOk result (AreEdgesBelow program.now (point_count program.now)) }

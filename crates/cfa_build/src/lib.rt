@@ -3,8 +3,9 @@
 
 mod automaton;
 mod edges;
-mod numbers;
+mod errors;
 mod places;
+mod sites;
 #[cfg(test)]
 mod tests;
 

@@ -1,11 +1,14 @@
-//! Where control goes after each statement, found in one pass from the bodies down.
+//! Where control goes after each statement, found in one pass from the bodies down. The table that
+//! it fills is `ArePlaces`; that a part's place follows from the whole's is shown in
+//! `proofs/Known.antt`.
 
 ghost use Rattle.std.specs.Prelude.{◌≡◌, ◌+◌, ◌<◌, length, slice_get, Some, IfOk};
 ghost use Rattle.std.specs.List.{All};
-ghost use Rattle.cpa_model.specs.Programs.{IsWellFormed, IsStmt, after_part, after_item, parts_of};
+ghost use Rattle.cpa_model.specs.Programs.{IsWellFormed, after_part, after_item, parts_of};
+ghost use Rattle.cpa_model.specs.TreeLaws.{TreeLaws};
 ghost use Rattle.cfa_build.specs.Places.{ArePlaces, ArePlacesBelow, PartsPlaced, within};
 
-use cpa_model::{Program, Stmt};
+use cpa_model::{Program, Stmt, statements_are_trees};
 use std::alloc::{AllocError, Global};
 
 /// Of a statement: the point to which control goes after it, the nearest loop that encloses it,
@@ -35,6 +38,7 @@ fn place_parts(n: u32, stmt: &Stmt, whole: Place, places: &mut [Place])
     requires { All (λ c. c < length places.old) (parts_of stmt.now) }
     ensures { PartsPlaced (after_part n stmt.now) (within n stmt.now whole) places.old places.new }
 {
+    statements_are_trees();
     match stmt {
         Stmt::Block { items } => place_items(items.as_slice(), whole, places),
         Stmt::If { yes, no, .. } => {
@@ -65,35 +69,27 @@ pub(crate) fn place_of(places: &[Place], n: u32) -> Place
     places[n as usize]
 }
 
-/// The statement of this number.
-pub(crate) fn stmt_at(program: &Program, n: u32) -> &Stmt
-    requires { n < length program.now.stmts }
-    ensures { IsStmt program.now n result.now }
-{
-    &program.stmts.as_slice()[n as usize]
-}
-
 /// Writes the places of the parts of the statement `n`, which the table knows.
 fn place_parts_of(program: &Program, n: u32, places: &mut [Place])
-    requires well_formed { IsWellFormed program.now }
+    requires trees { TreeLaws program.now }
     requires inside { n < length program.now.stmts }
     requires below { ArePlacesBelow program.now n places.old }
     ensures { ArePlacesBelow program.now (n + 1) places.new }
 {
     let whole = place_of(places, n);
-    place_parts(n, stmt_at(program, n), whole, places);
+    place_parts(n, program.statement(n), whole, places);
 }
 
 /// Writes the places of the functions' bodies.
 fn place_bodies(program: &Program, places: &mut [Place])
     requires well_formed { IsWellFormed program.now }
+    requires trees { TreeLaws program.now }
     requires each { length places.old ≡ length program.now.stmts }
     ensures { ArePlacesBelow program.now 0 places.new }
 {
-    let exits = program.stmts.as_slice().len() as u32;
     for (f, body) in program.bodies.as_slice().iter().enumerate() {
         places[*body as usize] = Place {
-            next: exits + f as u32,
+            next: program.exit(f as u32),
             inner_loop: None,
             function: f as u32,
         };
@@ -102,7 +98,8 @@ fn place_bodies(program: &Program, places: &mut [Place])
 
 /// The place of each statement.
 pub(crate) fn places(alloc: Global, program: &Program) -> Result<Vec<Place>, AllocError>
-    requires { IsWellFormed program.now }
+    requires well_formed { IsWellFormed program.now }
+    requires trees { TreeLaws program.now }
     ensures { IfOk result (λ places. ArePlaces program.now places.items) }
 {
     let unknown = Place {

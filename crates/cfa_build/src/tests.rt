@@ -4,7 +4,7 @@ ghost use Rattle.cpa_model.specs.Programs.{IsWellFormed};
 
 use crate::build;
 use cpa_expr::read_scalar;
-use cpa_model::{Act, Cell, Edge, Expr, IntType, Program, Seq, Stmt};
+use cpa_model::{Cell, Edge, Expr, IntType, Program, Seq, Spell, Stmt, statements_are_trees};
 use std::alloc::{AllocError, Global};
 use std::test::Fail;
 
@@ -119,53 +119,22 @@ fn two_loops(alloc: Global) -> Result<Vec<Stmt>, AllocError>
 fn with_one_loop(alloc: Global) -> Result<Program, AllocError>
     ensures { IfOk result IsWellFormed }
 {
+    statements_are_trees();
     program(alloc, &[0, 13], 0, one_loop(alloc)?)
 }
 
 fn with_two_loops(alloc: Global) -> Result<Program, AllocError>
     ensures { IfOk result IsWellFormed }
 {
+    statements_are_trees();
     program(alloc, &[0, 2], 1, two_loops(alloc)?)
 }
 
-/// The edge as text: where it leads from and to, and the act.
+/// The edge as it is spelled.
 fn text_of(alloc: Global, edge: &Edge) -> Result<String, AllocError> {
-    let mut out = format!(in alloc; "{} to {}: ", edge.from, edge.to)?;
-    push_act(&mut out, &edge.act)?;
+    let mut out = String::new(alloc);
+    edge.spell(&mut out)?;
     Ok(out)
-}
-
-/// Writes a number, or the cell of a scalar.
-fn push_expr(out: &mut String, expr: &Expr) -> Result<(), AllocError> {
-    match expr {
-        Expr::Const { value, .. } => write!(out, "{value}"),
-        Expr::Read { base, len: 1, .. } => write!(out, "cell {base}"),
-        _ => out.push_str("other"),
-    }
-}
-
-fn push_act(out: &mut String, act: &Act) -> Result<(), AllocError> {
-    match act {
-        Act::Skip => out.push_str("Skip"),
-        Act::Assign {
-            base,
-            len,
-            index,
-            value,
-        } => {
-            write!(out, "Assign {base} {len} ")?;
-            push_expr(out, index)?;
-            out.push_str(" := ")?;
-            push_expr(out, value)
-        }
-        Act::Assume { test, holds } => {
-            write!(out, "Assume {holds} ")?;
-            push_expr(out, test)
-        }
-        Act::Input { cell } => write!(out, "Input {cell}"),
-        Act::Call { site } => write!(out, "Call {site}"),
-        Act::Return { site } => write!(out, "Return {site}"),
-    }
 }
 
 #[test]
@@ -173,21 +142,21 @@ fn gives_the_automaton_of_one_loop(rt: HostRuntime) -> Result<(), Fail> {
     let alloc = rt.alloc();
     let cfa = build(alloc, &with_one_loop(alloc)?)?;
     let edges = [
-        "0 to 1: Skip",
-        "1 to 2: Input 0",
-        "2 to 13: Call 2",
-        "3 to 4: Skip",
-        "4 to 5: Skip",
-        "5 to 6: Assume true cell 0",
-        "5 to 7: Assume false cell 0",
-        "6 to 11: Skip",
-        "7 to 10: Skip",
-        "8 to 13: Call 8",
-        "9 to 1: Skip",
-        "10 to 3: Assign 0 1 0 := 0",
-        "13 to 15: Skip",
-        "15 to 3: Return 2",
-        "15 to 9: Return 8",
+        "0 to 1: skip",
+        "1 to 2: input 0",
+        "2 to 13: call 2",
+        "3 to 4: skip",
+        "4 to 5: skip",
+        "5 to 6: assume true read i32 0 1 const i32 0",
+        "5 to 7: assume false read i32 0 1 const i32 0",
+        "6 to 11: skip",
+        "7 to 10: skip",
+        "8 to 13: call 8",
+        "9 to 1: skip",
+        "10 to 3: assign 0 1 const i32 0 := const i32 0",
+        "13 to 15: skip",
+        "15 to 3: return 2",
+        "15 to 9: return 8",
     ];
     assert_eq!(rt; cfa.edges.as_slice().len(), edges.len());
     for (edge, wanted) in cfa.edges.as_slice().iter().zip(&edges) {
@@ -204,21 +173,21 @@ fn gives_the_automaton_of_two_loops(rt: HostRuntime) -> Result<(), Fail> {
     let alloc = rt.alloc();
     let cfa = build(alloc, &with_two_loops(alloc)?)?;
     let edges = [
-        "0 to 1: Skip",
-        "1 to 13: Skip",
-        "2 to 3: Skip",
-        "3 to 4: Skip",
-        "4 to 5: Skip",
-        "5 to 6: Assume true cell 0",
-        "5 to 7: Assume false cell 0",
-        "6 to 11: Skip",
-        "7 to 8: Skip",
-        "8 to 0: Call 8",
-        "9 to 10: Input 0",
-        "10 to 4: Skip",
-        "11 to 0: Call 11",
-        "13 to 9: Return 8",
-        "13 to 3: Return 11",
+        "0 to 1: skip",
+        "1 to 13: skip",
+        "2 to 3: skip",
+        "3 to 4: skip",
+        "4 to 5: skip",
+        "5 to 6: assume true read i32 0 1 const i32 0",
+        "5 to 7: assume false read i32 0 1 const i32 0",
+        "6 to 11: skip",
+        "7 to 8: skip",
+        "8 to 0: call 8",
+        "9 to 10: input 0",
+        "10 to 4: skip",
+        "11 to 0: call 11",
+        "13 to 9: return 8",
+        "13 to 3: return 11",
     ];
     assert_eq!(rt; cfa.edges.as_slice().len(), edges.len());
     for (edge, wanted) in cfa.edges.as_slice().iter().zip(&edges) {

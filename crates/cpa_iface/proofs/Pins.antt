@@ -11,7 +11,7 @@ use Rattle.cpa_model.specs.declared.automaton.Edge.{Edge}
 use Rattle.cpa_model.specs.declared.automaton.Cfa.{Cfa}
 use Rattle.cpa_model.specs.Facts.{FactHolds, Holds}
 use Rattle.cpa_model.specs.Automata.{StepsAlong, IsAutomaton}
-use Rattle.cpa_model.proofs.Trees.{body_inside}
+use Rattle.cpa_model.specs.lemmas.Trees.{body_inside}
 use Rattle.cpa_iface.specs.Meanings.{pin, IsShaped, CoversEdge, SomeHolds}
 use Rattle.cpa_iface.specs.Places.{names_point, may_stand_at}
 

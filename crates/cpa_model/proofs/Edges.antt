@@ -15,8 +15,8 @@ use Rattle.cpa_model.specs.declared.program.Program.{Program}
 use Rattle.cpa_model.specs.Programs.{IsWellFormed}
 use Rattle.cpa_model.specs.Steps.{MovesAt, Moves, at_statement, at_exit}
 use Rattle.cpa_model.specs.Automata.{rank_of, Precedes, AreOrdered, IsAutomaton}
-use Rattle.cpa_model.proofs.Lists.{place_of, in_list}
-use Rattle.cpa_model.proofs.Trees.{body_inside}
+use Rattle.cpa_model.specs.lemmas.Lists.{place_of, in_list}
+use Rattle.cpa_model.specs.lemmas.Trees.{body_inside}
 
 -- the rank of an act, in a program of at most 65536 points
 rank_is : (a b : Act) → a ≡ b → rank_of b < 65535 → rank_of a < 65535

@@ -1,7 +1,3 @@
-pub mod Lists
-pub mod Tiling
-pub mod Parts
-pub mod Trees
 pub mod Stores
 pub mod Moves
 pub mod EdgeSteps

@@ -13,10 +13,10 @@ use Rattle.cpa_expr.specs.Cells.{AreValues}
 use Rattle.cpa_model.specs.Expressions.{types_of, IsExpr}
 use Rattle.cpa_model.specs.Programs.{IsStmt, IsWellFormed, parts_of, point_count}
 use Rattle.cpa_model.specs.Steps.{Moves, MovesAt, at_statement, at_exit, StepsStack, StepsStore, StepsKeepStates, BeginsInState}
-use Rattle.cpa_model.proofs.Lists.{AllByRecursion-push, AllByRecursion-front}
+use Rattle.cpa_model.specs.lemmas.Lists.{AllByRecursion-push, AllByRecursion-front}
 use Rattle.cpa_model.proofs.Stores.{AreValues-set, AreValues-start, by_type, by_types, expr_in_range}
-use Rattle.cpa_model.proofs.Parts.{part_of_place}
-use Rattle.cpa_model.proofs.Trees.{part_above, body_inside, next_inside, function_inside, some_function}
+use Rattle.cpa_model.specs.lemmas.Parts.{part_of_place}
+use Rattle.cpa_model.specs.lemmas.Trees.{part_above, body_inside, next_inside, function_inside, some_function}
 
 -- a part of a statement is a point
 part_inside : (P : Program) → IsWellFormed P → (b k c : ℕ) (s : Stmt) → IsStmt P b s → slice_get (parts_of s) k ≡ Some c → c < point_count P
@@ -56,6 +56,15 @@ point_after P W n stmt.Error a m is move = absurd move
 move_inside : (P : Program) → IsWellFormed P → (p : ℕ) (a : Act) (q : ℕ) → Moves P p a q → q < point_count P
 move_inside P W p a q (at_statement s is move) = point_after P W p s a q is move
 move_inside P W p a q (at_exit f inside at returns) = next_inside P W.numbered returns.1 q returns.4
+
+-- and from one
+pub moves_inside : (P : Program) (p : ℕ) (a : Act) (q : ℕ) → IsWellFormed P → Moves P p a q
+    → (p < point_count P) × (q < point_count P)
+moves_inside P p a q W (at_statement s is move) =
+    let h : p < length P.stmts = slice_get_within P.stmts p s is in
+    (omega arith, point_after P W p s a q is move)
+moves_inside P p a q W (at_exit f inside at returns) =
+    (omega arith, next_inside P W.numbered returns.1 q returns.4)
 
 -- what an act of the program names is there, and the value that it writes has the type of the cell
 pub IsSoundAct : Program → Act → Type 0

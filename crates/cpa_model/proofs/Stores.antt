@@ -7,7 +7,7 @@ use Rattle.cpa_expr.specs.declared.tree.Expr.{Expr}
 use Rattle.cpa_expr.specs.Shape.{type_of}
 use Rattle.cpa_expr.specs.Values.{value_of}
 use Rattle.cpa_expr.specs.Cells.{AreValues}
-use Rattle.cpa_expr.proofs.ValueRanges.{value_in_range}
+use Rattle.cpa_expr.specs.lemmas.ValueRanges.{value_in_range}
 use Rattle.cpa_model.specs.declared.program.Cell.{Cell}
 use Rattle.cpa_model.specs.Expressions.{types_of, IsExpr}
 

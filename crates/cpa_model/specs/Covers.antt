@@ -22,7 +22,8 @@ LiesInSome s (entry ∷ entries) = LiesIn s entry ⊎ LiesInSome s entries
 pub record IsCover (P : Program) (entries : List (List Elem)) : Type 0 where
   pub initial : LiesInSome (initial_of P) entries
   pub successors : (s t : State) → LiesInSome s entries → Step P s t → LiesInSome t entries
-  pub safe : (s : State) → IsState P.cells (point_count P) s → LiesInSome s entries → IsError P s.point → ⊥
+  pub safe : (s : State) → IsState P.cells (point_count P) s → LiesInSome s entries
+      → IsError P s.point → ⊥
 
 -- A cover of an automaton: the same of its initial state, the steps along its edges and its error
 -- points.

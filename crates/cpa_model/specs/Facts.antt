@@ -14,7 +14,8 @@ abbrev pub FactHolds : State → Fact → Type 0
 FactHolds s (At point) = s.point ≡ point
 FactHolds s (Stack sites) = s.stack ≡ sites
 FactHolds s (Equals cell value) = slice_get s.store.values cell ≡ Some value
-FactHolds s (Within cell lo hi) = IsSomeAnd (slice_get s.store.values cell) (λ v. (lo ≤ℤ v) × (v ≤ℤ hi))
+FactHolds s (Within cell lo hi) =
+    IsSomeAnd (slice_get s.store.values cell) (λ v. (lo ≤ℤ v) × (v ≤ℤ hi))
 FactHolds s (Truth expr holds) = HasTruth expr holds s.store.values
 
 -- the element holds of the state: all its facts do, the element without facts always
@@ -42,7 +43,8 @@ abbrev pub IsFact : List Cell → ℕ → Fact → Type 0
 IsFact cells points (At point) = point < points
 IsFact cells points (Stack sites) = AllByRecursion (λ site. site < points) sites
 IsFact cells points (Equals cell value) = IsValueOf cells cell value
-IsFact cells points (Within cell lo hi) = IsValueOf cells cell lo × IsValueOf cells cell hi × (lo ≤ℤ hi)
+IsFact cells points (Within cell lo hi) =
+    IsValueOf cells cell lo × IsValueOf cells cell hi × (lo ≤ℤ hi)
 IsFact cells points (Truth expr holds) = IsExpr cells expr
 
 abbrev pub IsElem : List Cell → ℕ → Elem → Type 0

@@ -1,6 +1,7 @@
 pub mod Expressions
 pub mod Programs
 pub mod Successors
+pub mod TreeLaws
 pub mod States
 pub mod Steps
 pub mod Facts
@@ -8,3 +9,5 @@ pub mod Automata
 pub mod Covers
 pub mod Standing
 pub mod StandingLaws
+pub mod Spelling
+pub mod lemmas

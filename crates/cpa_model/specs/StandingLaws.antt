@@ -6,7 +6,7 @@ use Rattle.std.specs.Ordering.{int_eq}
 use Rattle.std.proofs.lemmas.Bool.{and_parts}
 use Rattle.std.proofs.lemmas.Bool.Decides.{Decides-eqb, Decides-int_eq}
 use Rattle.cpa_expr.specs.Equality.{same_expr}
-use Rattle.cpa_expr.proofs.SameTrees.{same_expr_is, same_expr_self}
+use Rattle.cpa_expr.specs.lemmas.SameTrees.{same_expr_is, same_expr_self}
 use Rattle.cpa_model.specs.declared.facts.Fact.{Fact}
 use Rattle.cpa_model.specs.declared.facts.Fact.TheVariants.{At, Stack, Equals, Within, Truth}
 use Rattle.cpa_model.specs.declared.facts.Elem.{Elem}
@@ -61,7 +61,9 @@ same_fact-means (Equals c v) (Equals d w) h =
 same_fact-means (Within c lo hi) (Within d low high) h =
     let p = and_parts ((c == d) && int_eq lo low) (int_eq hi high) h in
     let q = and_parts (c == d) (int_eq lo low) p.0 in
-    let a = eqb-means c d q.0 in let b = int_eq-means lo low q.1 in let e = int_eq-means hi high p.1 in cc
+    let a = eqb-means c d q.0 in
+    let b = int_eq-means lo low q.1 in
+    let e = int_eq-means hi high p.1 in cc
 same_fact-means (Truth e x) (Truth f y) h =
     let p = and_parts (same_expr e f) (same_bool x y) h in
     let a = same_expr_is e f p.0 in let b = same_bool-means x y p.1 in cc
@@ -72,7 +74,8 @@ same_fact-self (At p) = eqb-self p
 same_fact-self (Stack s) = same_sites-self s
 same_fact-self (Equals c v) = ap (λ b. b && int_eq v v) (eqb-self c) ∙ int_eq-self v
 same_fact-self (Within c lo hi) =
-    ap (λ b. (b && int_eq lo lo) && int_eq hi hi) (eqb-self c) ∙ (ap (λ b. b && int_eq hi hi) (int_eq-self lo) ∙ int_eq-self hi)
+    ap (λ b. (b && int_eq lo lo) && int_eq hi hi) (eqb-self c)
+    ∙ (ap (λ b. b && int_eq hi hi) (int_eq-self lo) ∙ int_eq-self hi)
 same_fact-self (Truth e x) = ap (λ b. b && same_bool x x) (same_expr_self e) ∙ same_bool-self x
 
 -- facts are the same to the letter exactly where they are equal
@@ -106,7 +109,8 @@ tested f (g ∷ own) zero less at =
 tested f (g ∷ own) (suc k) less at =
     or-right (same_fact g f) (list_any (λ x. same_fact x f) own) (tested f own k (omega arith) at)
 
-all-found : (own others : List Fact) → list_all (λ f. list_any (λ g. same_fact g f) own) others ≡ true
+all-found : (own others : List Fact)
+    → list_all (λ f. list_any (λ g. same_fact g f) own) others ≡ true
     → AllByRecursion (Contains own) others
 all-found own [] h = tt
 all-found own (f ∷ others) h =

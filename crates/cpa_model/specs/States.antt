@@ -15,7 +15,8 @@ pub record IsState (cells : List Cell) (points : ℕ) (s : State) : Type 0 where
 
 -- the state with this point, this stack and these values
 abbrev pub state_at : ℕ → List ℕ → List ℤ → State
-state_at point stack values = record { point = point; stack = stack; store = record { values = values } }
+state_at point stack values =
+    record { point = point; stack = stack; store = record { values = values } }
 
 -- an empty stack, and each cell at its start
 abbrev pub initial_at : List Cell → ℕ → State

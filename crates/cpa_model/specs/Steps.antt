@@ -1,4 +1,5 @@
--- Steps and executions (the transition system of CAV 2007, section 2, for the statements of C11 6.8).
+-- Steps and executions (the transition system of CAV 2007, section 2, for the statements of C11
+-- 6.8).
 use Rattle.std.specs.Prelude.{◌≡◌, ◌≢◌, ℕ, ◌+◌, ◌<◌, ℤ, pos, List, [], ◌∷◌, ◌++◌, Option, Some, length, slice_get, slice_set, ◌⊎◌, true, false, IsSomeAnd}
 use Rattle.cpa_model.specs.declared.program.Cell.{Cell}
 use Rattle.cpa_model.specs.declared.program.Stmt.{Stmt}
@@ -20,7 +21,8 @@ MovesAt P n (stmt.Block (item ∷ items)) a m = (a ≡ act.Skip) × (m ≡ item)
 MovesAt P n (stmt.If test first second) a m =
     ((a ≡ act.Assume test true) × (m ≡ first)) ⊎ ((a ≡ act.Assume test false) × (m ≡ second))
 MovesAt P n (stmt.Loop body step) a m = (a ≡ act.Skip) × (m ≡ body)
-MovesAt P n (stmt.Assign base len index value) a m = (a ≡ act.Assign base len index value) × Next P n m
+MovesAt P n (stmt.Assign base len index value) a m =
+    (a ≡ act.Assign base len index value) × Next P n m
 MovesAt P n (stmt.Input cell) a m = (a ≡ act.Input cell) × Next P n m
 MovesAt P n (stmt.Call function) a m = (a ≡ act.Call n) × IsBody P function m
 MovesAt P n (stmt.Goto to) a m = (a ≡ act.Skip) × (m ≡ to)
@@ -33,12 +35,15 @@ MovesAt P n stmt.Error a m = ⊥
 
 -- From the exit of a function, other than main, control goes back to what follows a call of it.
 abbrev pub Returns : Program → ℕ → Act → ℕ → Type 0
-Returns P f a m = (f ≢ P.main) × (site : ℕ) × IsStmt P site (stmt.Call f) × (a ≡ act.Return site) × Next P site m
+Returns P f a m =
+    (f ≢ P.main) × (site : ℕ) × IsStmt P site (stmt.Call f) × (a ≡ act.Return site) × Next P site m
 
 -- At the point p the act a may be done, and control goes to q.
 pub data Moves : Program → ℕ → Act → ℕ → Type 0 where
-  at_statement : {P : Program} {p q : ℕ} {a : Act} (s : Stmt) → IsStmt P p s → MovesAt P p s a q → Moves P p a q
-  at_exit : {P : Program} {p q : ℕ} {a : Act} (f : ℕ) → f < length P.bodies → p ≡ exit_of P f → Returns P f a q → Moves P p a q
+  at_statement : {P : Program} {p q : ℕ} {a : Act} (s : Stmt) → IsStmt P p s → MovesAt P p s a q
+      → Moves P p a q
+  at_exit : {P : Program} {p q : ℕ} {a : Act} (f : ℕ) → f < length P.bodies → p ≡ exit_of P f
+      → Returns P f a q → Moves P p a q
 
 -- What the act does to the stack: a call pushes its site, a return pops it.
 abbrev pub StepsStack : Act → List ℕ → List ℕ → Type 0
@@ -49,8 +54,8 @@ StepsStack (act.Input cell) old new = new ≡ old
 StepsStack (act.Call site) old new = new ≡ old ++ site ∷ []
 StepsStack (act.Return site) old new = old ≡ new ++ site ∷ []
 
--- new is old with the value of an expression at the place that an index names; no such new where either traps
--- or the index is outside 0 .. len - 1
+-- new is old with the value of an expression at the place that an index names; no such new where
+-- either traps or the index is outside 0 .. len - 1
 pub record Assigns (base len : ℕ) (index value : Option ℤ) (old new : List ℤ) : Type 0 where
   pub place : ℕ
   pub written : ℤ
@@ -62,14 +67,17 @@ pub record Assigns (base len : ℕ) (index value : Option ℤ) (old new : List �
 -- What the act does to the store. An input gives any value of its cell's type.
 abbrev pub StepsStore : List Cell → Act → List ℤ → List ℤ → Type 0
 StepsStore cells act.Skip old new = new ≡ old
-StepsStore cells (act.Assign base len index value) old new = Assigns base len (value_of index old) (value_of value old) old new
+StepsStore cells (act.Assign base len index value) old new =
+    Assigns base len (value_of index old) (value_of value old) old new
 StepsStore cells (act.Assume test holds) old new = HasTruth test holds old × (new ≡ old)
 StepsStore cells (act.Input cell) old new =
-    (v : ℤ) × IsSomeAnd (slice_get cells cell) (λ c. IsInRange c.ty v) × (new ≡ slice_set old cell v)
+    (v : ℤ) × IsSomeAnd (slice_get cells cell) (λ c. IsInRange c.ty v)
+    × (new ≡ slice_set old cell v)
 StepsStore cells (act.Call site) old new = new ≡ old
 StepsStore cells (act.Return site) old new = new ≡ old
 
--- A step of the program from one state to another: of the point, of the stack and of the store, each by itself.
+-- A step of the program from one state to another: of the point, of the stack and of the store,
+-- each by itself.
 pub record Step (P : Program) (s t : State) : Type 0 where
   pub act : Act
   pub before : IsState P.cells (point_count P) s
@@ -85,9 +93,12 @@ pub record StepsApart (P : Program) (s t : State) : Type 0 where
   pub stack : StepsStack act s.stack t.stack
   pub store : StepsStore P.cells act s.store.values t.store.values
 
--- from a state these parts lead to a state, so that the demand on the new state cuts no execution off
+-- from a state these parts lead to a state, so that the demand on the new state cuts no execution
+-- off
 abbrev pub StepsKeepStates : Program → Type 0
-StepsKeepStates P = (s t : State) → IsState P.cells (point_count P) s → StepsApart P s t → IsState P.cells (point_count P) t
+StepsKeepStates P =
+    (s t : State) → IsState P.cells (point_count P) s → StepsApart P s t
+    → IsState P.cells (point_count P) t
 
 -- an execution begins in a state
 abbrev pub BeginsInState : Program → Type 0

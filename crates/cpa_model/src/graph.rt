@@ -1,5 +1,5 @@
-//! What an exploration reads off an automaton: its error points, and the edges that leave a point. Both
-//! stand in order, so each is found by halving.
+//! What an exploration reads off an automaton: its error points, and the edges that leave a point.
+//! Both stand in order, so each is found by halving.
 ghost use Rattle.std.specs.Prelude.{◌≡◌, ℕ, ◌+◌, ◌<◌, ◌≤◌, ◌↔◌, IsTrue, Some, length, slice_get, slice_index_or};
 ghost use Rattle.std.specs.List.{Contains};
 ghost use Rattle.std.specs.List.Sorted.{IsNonDecreasingBy};
@@ -46,8 +46,8 @@ fn first_after(edges: &[Edge], point: u32) -> usize
     edges.partition_point(|edge| edge.from <= point)
 }
 
-/// The edges that leave the point: the number of the first, and how many there are. Where none does, the
-/// first is where they would stand. It takes no memory.
+/// The edges that leave the point: the number of the first, and how many there are. Where none
+/// does, the first is where they would stand. It takes no memory.
 pub fn leaving(cfa: &Cfa, point: u32) -> (u32, u32)
     requires { IsAutomaton cfa.now }
     ensures within { result.0 + result.1 ≤ length cfa.now.edges }

@@ -1,16 +1,33 @@
-//! Laws on steps, automata and covers: functions with an empty body, whose contract is the law. They are
-//! shown in `proofs/Moves.antt`, `proofs/EdgeSteps.antt`, `proofs/CoverLemmas.antt` and `proofs/Edges.antt`.
-ghost use Rattle.std.specs.Prelude.{◌≡◌, ◌^◌, ◌<◌, ◌≤◌, ◌↔◌, List, length};
+//! Laws on programs, steps, automata and covers: functions with an empty body, whose contract is
+//! the law. They are shown in `proofs/`: `Trees.antt`, `Moves.antt`, `EdgeSteps.antt`, `Edges.antt`
+//! and `CoverLemmas.antt`.
+ghost use Rattle.std.specs.Prelude.{◌≡◌, ℕ, ◌^◌, ◌<◌, ◌↔◌, List, length};
 ghost use Rattle.std.specs.List.{AllByRecursion};
+ghost use Rattle.cpa_model.specs.declared.automaton.Act.{Act};
 ghost use Rattle.cpa_model.specs.declared.automaton.Cfa.{Cfa};
 ghost use Rattle.cpa_model.specs.declared.facts.Elem.{Elem};
 ghost use Rattle.cpa_model.specs.declared.program.Program.{Program};
+ghost use Rattle.cpa_model.specs.declared.program.Stmt.{Stmt};
 ghost use Rattle.cpa_model.specs.declared.states.State.{State};
 ghost use Rattle.cpa_model.specs.Automata.{EdgeStep, IsAutomaton, IsAutomatonOf, initial_state};
 ghost use Rattle.cpa_model.specs.Covers.{CoversAutomaton, IsCover, IsSafe};
-ghost use Rattle.cpa_model.specs.Programs.{IsWellFormed};
+ghost use Rattle.cpa_model.specs.Programs.{IsNumbered, IsWellFormed, parts_of, point_count};
 ghost use Rattle.cpa_model.specs.States.{initial_of};
-ghost use Rattle.cpa_model.specs.Steps.{BeginsInState, Step, StepsKeepStates};
+ghost use Rattle.cpa_model.specs.Steps.{BeginsInState, Moves, Step, StepsKeepStates};
+ghost use Rattle.cpa_model.specs.TreeLaws.{TreeLaws};
+
+/// A law: the statements of a numbered program are trees, each with one origin and one successor.
+/// The parts of a block are its items.
+pub fn statements_are_trees()
+    ensures trees { (P : Program) → IsNumbered P → TreeLaws P }
+    ensures items { (items : List ℕ) → parts_of (Stmt.Block items) ≡ items }
+{}
+
+/// A law: each move of a well-formed program leads from a point of it to a point of it.
+pub fn moves_stay_inside()
+    ensures { (P : Program) (p : ℕ) (a : Act) (q : ℕ) → IsWellFormed P → Moves P p a q
+        → (p < point_count P) × (q < point_count P) }
+{}
 
 /// A law: of a well-formed program, whatever steps from a state, in its point, its stack and its
 /// store, is a state again.
@@ -23,8 +40,8 @@ pub fn initial_is_state()
     ensures { (P : Program) → IsWellFormed P → BeginsInState P }
 {}
 
-/// A law: the automaton of a program begins where the program does, and its steps along its edges are
-/// the program's steps.
+/// A law: the automaton of a program begins where the program does, and its steps along its edges
+/// are the program's steps.
 pub fn edges_are_steps()
     ensures initial { (P : Program) (cfa : Cfa) → IsAutomatonOf P cfa
         → initial_state cfa ≡ initial_of P }
@@ -32,11 +49,13 @@ pub fn edges_are_steps()
         → Step P s t ↔ EdgeStep cfa s t }
 {}
 
-/// A law: the numbers of an automaton's edges and points are within `u32`, and what it names is there.
+/// A law: the numbers of an automaton's edges and points are within `u32`, and what it names is
+/// there.
 pub fn automata_are_small()
     ensures edges { (cfa : Cfa) → IsAutomaton cfa → length cfa.edges < 2 ^ 32 }
     ensures start { (cfa : Cfa) → IsAutomaton cfa → cfa.start < cfa.points }
-    ensures errors { (cfa : Cfa) → IsAutomaton cfa → AllByRecursion (λ p. p < cfa.points) cfa.errors }
+    ensures errors { (cfa : Cfa) → IsAutomaton cfa
+        → AllByRecursion (λ p. p < cfa.points) cfa.errors }
 {}
 
 /// A law: the covers of an automaton are those of its program, and a program with a cover is safe.

@@ -9,6 +9,7 @@ mod graph;
 mod laws;
 mod next;
 mod program;
+mod spelling;
 mod standing;
 mod states;
 #[cfg(test)]
@@ -22,9 +23,11 @@ pub use expressions::{has_truth, is_expr};
 pub use facts::{Elem, Fact, holds, is_elem};
 pub use graph::{is_error, leaving};
 pub use laws::{
-    automata_are_small, covers_are_safe, edges_are_steps, initial_is_state, steps_keep_states,
+    automata_are_small, covers_are_safe, edges_are_steps, initial_is_state, moves_stay_inside,
+    statements_are_trees, steps_keep_states,
 };
 pub use next::next_point;
-pub use program::{Cell, Program, Stmt};
+pub use program::{Cell, MAX_CELLS, MAX_POINTS, Program, Stmt, Successor};
+pub use spelling::{Spell, push_list};
 pub use standing::{facts_that_stand, has_facts, same_fact};
 pub use states::State;

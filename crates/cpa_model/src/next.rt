@@ -1,27 +1,22 @@
-ghost use Rattle.std.specs.Prelude.{◌≡◌, ℕ, ◌+◌, ◌^◌, ◌<◌, ◌≤◌, ◌↔◌, Some, length, IfSome, IfNone, IsSome, option_map, slice_get};
-ghost use Rattle.cpa_model.specs.Programs.{IsBody, IsNumbered, IsPart, Next, point_count, after_item, after_part};
-ghost use Rattle.cpa_model.specs.Successors.{IsPartAt, place_of, before_item};
+//! Where control goes after a statement, found in the statement tree by `Next`. That there is
+//! exactly one such point is shown in `proofs/Trees.antt`.
+ghost use Rattle.std.specs.Prelude.{◌≡◌, ℕ, ◌^◌, ◌<◌, ◌≤◌, ◌↔◌, Some, length, IfSome, IfNone, IsSome};
+ghost use Rattle.cpa_model.specs.Programs.{IsBody, IsNumbered, IsPart, Next, point_count, first_of, after_item, after_part};
+ghost use Rattle.cpa_model.specs.Successors.{IsPartAt};
 
-use crate::program::{Program, Stmt};
-
-/// Where control goes after a part of a statement.
-#[derive(Clone, Copy)]
-enum Successor {
-    GoesTo(u32),
-    AfterWhole,
-}
+use crate::program::{MAX_POINTS, Program, Stmt, Successor};
 
 /// The point to which control goes after the statement `number`, or `None` where there is no such
 /// statement. It looks through all statements once for each enclosing one.
 pub fn next_point(program: &Program, number: u32) -> Option<u32>
     requires numbered { IsNumbered program.now }
-    requires few { point_count program.now ≤ 65536 }
+    requires few { point_count program.now ≤ MAX_POINTS }
     ensures goes { IfSome result (λ m. Next program.now number m) }
     ensures only { (m : ℕ) → Next program.now number m → result ≡ Some m }
     ensures some { IsSome result ↔ (number < length program.now.stmts) }
 {
     if let Some(function) = function_of_body(program, number) {
-        return Some(program.stmts.as_slice().len() as u32 + function);
+        return Some(program.exit(function));
     }
     let (whole, successor) = whole_of(program, number)?;
     match successor {
@@ -47,7 +42,7 @@ fn function_of_body(program: &Program, number: u32) -> Option<u32>
 /// The statement of which this one is a part, and where control goes after the part.
 fn whole_of(program: &Program, part: u32) -> Option<(u32, Successor)>
     requires { length program.now.stmts < 2 ^ 32 }
-    ensures found { IfSome result (λ r. IsPartAt program.now r.0 part (place_of r.1)) }
+    ensures found { IfSome result (λ r. IsPartAt program.now r.0 part r.1) }
     ensures none { IfNone result ((b : ℕ) → IsPart program.now b part → ⊥) }
 {
     for (number, stmt) in program.stmts.as_slice().iter().enumerate() {
@@ -59,7 +54,7 @@ fn whole_of(program: &Program, part: u32) -> Option<(u32, Successor)>
 }
 
 fn after_part(number: u32, stmt: &Stmt, part: u32) -> Option<Successor>
-    ensures { option_map place_of result ≡ after_part number stmt.now part }
+    ensures { result ≡ after_part number stmt.now part }
 {
     match stmt {
         Stmt::Block { items } => after_item(items.as_slice(), part),
@@ -79,23 +74,24 @@ fn after_part(number: u32, stmt: &Stmt, part: u32) -> Option<Successor>
 }
 
 fn after_item(items: &[u32], part: u32) -> Option<Successor>
-    ensures { option_map place_of result ≡ after_item items.now part }
+    ensures { result ≡ after_item items.now part }
 {
-    for (place, item) in items.iter().enumerate() {
+    let mut rest = items;
+    while let [item, behind @ ..] = rest {
         if *item == part {
-            return Some(successor_at(items, place));
+            return Some(first_of(behind));
         }
+        rest = behind;
     }
     None
 }
 
-/// Where control goes after the item at a place: to the one behind it.
-fn successor_at(items: &[u32], place: usize) -> Successor
-    requires { place < length items.now }
-    ensures { place_of result ≡ before_item (slice_get items.now (place + 1)) }
+/// Where control goes before these items: to the first, or to what follows the whole.
+fn first_of(items: &[u32]) -> Successor
+    ensures { result ≡ first_of items.now }
 {
-    match items.get(place + 1) {
-        Some(item) => Successor::GoesTo(*item),
-        None => Successor::AfterWhole,
+    match items {
+        [item, ..] => Successor::GoesTo(*item),
+        [] => Successor::AfterWhole,
     }
 }

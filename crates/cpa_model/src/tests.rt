@@ -1,9 +1,11 @@
+//! Values worked by hand, and each allocating call once with ample memory.
 ghost use Rattle.std.specs.Prelude.{◌≡◌, ◌≤◌, [], ◌∷◌, pos, IfOk};
 ghost use Rattle.cpa_model.specs.Programs.{IsNumbered, point_count};
 
+use crate::program::MAX_POINTS;
 use crate::{
-    Cell, Cfa, Elem, Expr, Fact, IntType, Program, Seq, State, Stmt, Store, holds, is_elem,
-    next_point,
+    Cell, Cfa, Elem, Expr, Fact, IntType, Program, Seq, Spell, State, Stmt, Store, copy_elem,
+    has_facts, holds, is_elem, next_point,
 };
 use cpa_expr::read_scalar;
 use std::alloc::{AllocError, Global};
@@ -40,7 +42,7 @@ fn statements(alloc: Global) -> Result<Seq<Stmt>, AllocError>
 
 fn two_functions(alloc: Global) -> Result<Program, AllocError>
     ensures numbered { IfOk result (λ P. IsNumbered P) }
-    ensures few { IfOk result (λ P. point_count P ≤ 65536) }
+    ensures few { IfOk result (λ P. point_count P ≤ MAX_POINTS) }
 {
     Ok(Program {
         cells: Seq::new(alloc),
@@ -212,5 +214,42 @@ fn tells_shaped_points_and_expressions(rt: HostRuntime) -> Result<(), Fail> {
         let found = is_shaped(alloc, Fact::Truth { expr, holds: true }, &cfa)?;
         assert_eq!(rt; found, wanted, "{ty:?}");
     }
+    Ok(())
+}
+
+/// A fact of each kind.
+fn five_facts(alloc: Global) -> Result<Elem, AllocError> {
+    let facts = vec![in alloc;
+        Fact::At { point: 3 },
+        sites(alloc, &[1, 2])?,
+        Fact::Equals { cell: 0, value: 5 },
+        Fact::Within {
+            cell: 1,
+            lo: -7,
+            hi: 8
+        },
+        Fact::Truth {
+            expr: ZERO,
+            holds: false
+        },
+    ]?;
+    Ok(Elem {
+        facts: Seq::from_vec(facts),
+    })
+}
+
+#[test]
+fn copies_and_spells_facts(rt: HostRuntime) -> Result<(), Fail> {
+    let alloc = rt.alloc();
+    let elem = five_facts(alloc)?;
+    let copied = copy_elem(alloc, &elem)?;
+    assert!(rt; has_facts(&elem, &copied));
+    assert!(rt; has_facts(&copied, &elem));
+    let mut out = String::new(alloc);
+    copied.spell(&mut out)?;
+    assert_eq!(rt;
+        out.as_str(),
+        r#"[["at",3],["stack",[1,2]],["equals",0,5],["within",1,-7,8],["truth","const u8 0",0]]"#
+    );
     Ok(())
 }

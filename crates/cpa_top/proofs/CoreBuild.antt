@@ -1,6 +1,7 @@
 -- How what a builder has grown by is put together.
 use Rattle.std.proofs.Common.{◌≡◌, ℕ, ◌+◌, ◌<◌, List, [], ◌∷◌, ◌++◌, length, set, refl, sym, ap, ◌∙◌, subst, append_assoc, append-nil, add_assoc, add-zero, length-append, arith}
 use Rattle.std.proofs.Math.Seq.{set-append_seam}
+use Rattle.cpa_model.specs.declared.program.TheConstants.{MAX_POINTS}
 use Rattle.cpa_model.specs.declared.program.Stmt.{Stmt}
 use Rattle.cpa_model.specs.declared.program.Stmt.TheVariants as stmt
 use Rattle.cpa_top.specs.declared.core_program.Builder.{Builder}
@@ -64,7 +65,7 @@ adds_followed a b d h i j x y p q =
 
 -- what fits
 
-pub fits_single : (a : Builder) (s : Stmt) → Fits a (single s) → length a.stmts.items < 65536
+pub fits_single : (a : Builder) (s : Stmt) → Fits a (single s) → length a.stmts.items < MAX_POINTS
 unfolding single
 fits_single a s f = omega (arith, f.numbers)
 
@@ -88,7 +89,7 @@ fits_then a b h i x y f p =
       cells = rw next (omega (arith, f.cells, p.cells));
     }
 
-pub fits_input : (a : Builder) → Fits a input → length a.stmts.items < 65536
+pub fits_input : (a : Builder) → Fits a input → length a.stmts.items < MAX_POINTS
 unfolding input
 fits_input a f = omega (arith, f.numbers)
 
@@ -108,7 +109,7 @@ replaced_front b s b1 n b2 parts t b3 g grown r =
     grown ∙ ap (λ (z : List Stmt). z ++ parts) g.stmts ∙ append_assoc b.stmts.items (s ∷ []) parts in
     r.stmts ∙ ap (λ (z : List Stmt). set z n t) whole ∙ ap (λ (k : ℕ). set (b.stmts.items ++ s ∷ parts) k t) g.next ∙ set-append_seam b.stmts.items s parts t
 
-pub fits_block_put : (b : Builder) (x : Core) → Fits b (block x) → length b.stmts.items < 65536
+pub fits_block_put : (b : Builder) (x : Core) → Fits b (block x) → length b.stmts.items < MAX_POINTS
 unfolding block
 fits_block_put b x f = omega (arith, f.numbers)
 
@@ -137,7 +138,7 @@ adds_block b x s b1 n b2 items b3 g p r =
       cells = r.cells ∙ p.cells ∙ ap (λ (l : CoreList). b1.cells + l.cells) place ∙ ap (λ (k : ℕ). k + inner.cells) g.cells;
     }
 
-pub fits_blocks_put : (b : Builder) (s : ℕ → ℕ → Stmt) (x y : Core) → Fits b (of_blocks s x y) → length b.stmts.items < 65536
+pub fits_blocks_put : (b : Builder) (s : ℕ → ℕ → Stmt) (x y : Core) → Fits b (of_blocks s x y) → length b.stmts.items < MAX_POINTS
 unfolding of_blocks
 fits_blocks_put b s x y f = omega (arith, f.numbers)
 

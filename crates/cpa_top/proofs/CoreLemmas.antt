@@ -1,15 +1,15 @@
 -- The core of a tree is a well-formed program of as many points as the tree counts.
-use Rattle.std.proofs.Common.{◌≡◌, ℕ, zero, suc, ◌+◌, ◌≤◌, List, [], ◌∷◌, length, replicate, Some, slice_get, option_map, refl, ap, ◌∙◌, subst, arith}
+use Rattle.std.proofs.Common.{◌≡◌, ℕ, zero, suc, ◌+◌, ◌≤◌, List, [], ◌∷◌, length, replicate, Some, slice_get, option_map, refl, sym, ap, ◌∙◌, subst, arith}
 use Rattle.std.specs.List.{AllByRecursion}
 use Rattle.std.proofs.lemmas.List.{length-replicate, get_or-replicate}
-use Rattle.std.proofs.lemmas.Option.{slice_get-get_or, slice_get-map}
+use Rattle.std.proofs.lemmas.Option.{same_Some, slice_get-get_or, slice_get-map}
+use Rattle.cpa_model.specs.declared.program.TheConstants.{MAX_POINTS}
 use Rattle.first_form.specs.declared.tree.Unit.{Unit as Tree}
 use Rattle.first_form.specs.FirstForm.{unit_points}
 use Rattle.cpa_model.specs.declared.program.Cell.{Cell}
 use Rattle.cpa_model.specs.declared.program.Stmt.{Stmt}
 use Rattle.cpa_ints.specs.Integers.{IsInRange}
 use Rattle.cpa_model.specs.Programs.{point_count, parts_of, IsStmt, Tiles, IsNumbered, IsSound, IsWellFormed}
-use Rattle.cpa_model.proofs.Tiling.{one_value}
 use Rattle.cpa_top.specs.Core.{block, main_core, int_cell, core_of}
 use Rattle.cpa_top.proofs.Segments.{EachFrom-at, stands_in_itself}
 use Rattle.cpa_top.proofs.CoreSizes.{counted_unit, counted_cells}
@@ -43,7 +43,7 @@ numbered u =
       parts = λ n s end is at.
           let all : HasParts ends (0 + n) s = EachFrom-at (HasParts ends) 0 (main_core u).stmts n s (main.parts ends itself) is in
           let here : HasParts ends n s = subst (λ (k : ℕ). HasParts ends k s) (let e : 0 + n ≡ n = omega arith in e) all in
-          subst (λ (k : ℕ). Tiles ends (n + 1) (parts_of s) k) (one_value (slice_get ends n) here.0 end here.1 at) here.2;
+          subst (λ (k : ℕ). Tiles ends (n + 1) (parts_of s) k) (same_Some here.0 end (sym here.1 ∙ at)) here.2;
     }
 
 has_cells : (u : Tree) → HasCells (core_of u)
@@ -70,8 +70,8 @@ in_range : (n : ℕ) → AllByRecursion (λ cell. IsInRange cell.ty cell.start) 
 in_range zero = tt
 in_range (suc n) = (zero_in_range, in_range n)
 
--- the program of a tree of at most 65536 points is well formed
-pub core_is_well_formed : (u : Tree) → unit_points u ≤ 65536 → IsWellFormed (core_of u)
+-- the program of a tree of few points is well formed
+pub core_is_well_formed : (u : Tree) → unit_points u ≤ MAX_POINTS → IsWellFormed (core_of u)
 core_is_well_formed u few =
     let many : length (replicate (1 + (main_core u).cells) int_cell) ≡ 1 + (main_core u).cells = length-replicate (1 + (main_core u).cells) int_cell in
     let cells = counted_cells u in

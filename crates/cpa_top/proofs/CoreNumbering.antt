@@ -8,6 +8,7 @@ use Rattle.cpa_expr.specs.declared.tree.Expr.{Expr}
 use Rattle.cpa_model.specs.declared.program.Stmt.{Stmt}
 use Rattle.cpa_model.specs.declared.program.Stmt.TheVariants as stmt
 use Rattle.cpa_model.specs.Programs.{parts_of, Tiles}
+use Rattle.cpa_model.specs.lemmas.Parts.{firsts_items}
 use Rattle.cpa_top.specs.Core.{Core, CoreList, no_core, single, input, followed, block, of_blocks, choice, test_core, test_value, tested, while_body, while_core, result_zero, core_of_statement, core_of_items, main_block}
 use Rattle.cpa_top.proofs.CoreVariants.{core-Block, core-Empty, core-If, core-While, core-ReachError, core-Abort, core-Return}
 use Rattle.cpa_top.proofs.Segments.{StandsAt, EachFrom, StandsAt-left, StandsAt-right, EachFrom-append}
@@ -83,7 +84,7 @@ numbers_followed x y p q n c =
 
 numbers_block : (x : Core) → Numbers x → Numbers (block x)
 unfolding block
-numbers_block x p n c = numbered_parent (stmt.Block (x (n + 1) c).items) (x (n + 1) c) n (x (n + 1) c).cells refl (p (n + 1) c)
+numbers_block x p n c = numbered_parent (stmt.Block (x (n + 1) c).items) (x (n + 1) c) n (x (n + 1) c).cells (firsts_items (x (n + 1) c).items) (p (n + 1) c)
 
 -- the items of two blocks are their numbers
 items_of_blocks : (x y : Core) (n c : ℕ) → (followed (block x) (block y) n c).items ≡ n ∷ (n + length (block x n c).stmts) ∷ []

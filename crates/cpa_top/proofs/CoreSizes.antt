@@ -2,6 +2,7 @@
 use Rattle.std.proofs.Common.{◌≡◌, ℕ, ◌+◌, ◌≤◌, List, [], ◌∷◌, ◌++◌, map, length, sum, None, Some, refl, sym, ap, ◌∙◌, subst, length-append, arith}
 use Rattle.std.proofs.lemmas.List.Sums.{sum_by-cons}
 use Rattle.std.specs.List.{AllByRecursion}
+use Rattle.cpa_model.specs.declared.program.TheConstants.{MAX_POINTS}
 use Rattle.first_form.specs.declared.tree.Expression.{Expression}
 use Rattle.first_form.specs.declared.tree.Statement.{Statement}
 use Rattle.first_form.specs.declared.tree.Unit.{Unit as Tree}
@@ -133,7 +134,7 @@ counted_cells u = let all = counted_main u.body in omega (arith, all.cells 0 1)
 
 -- main's block in a new builder
 
-pub fits_main : (u : Tree) (b : Builder) → b.stmts.items ≡ [] → b.cells ≡ 1 → unit_points u ≤ 65536 → Fits b (main_block u.body)
+pub fits_main : (u : Tree) (b : Builder) → b.stmts.items ≡ [] → b.cells ≡ 1 → unit_points u ≤ MAX_POINTS → Fits b (main_block u.body)
 fits_main u b none one few =
     let all = counted_main u.body in
     let numbers = all.stmts (length b.stmts.items) b.cells in

@@ -10,14 +10,15 @@ use Rattle.cpa_expr.specs.declared.tree.Expr.{Expr}
 use Rattle.cpa_expr.specs.declared.tree.Expr.TheVariants.{Const}
 use Rattle.cpa_expr.specs.Shape.{AreCells}
 use Rattle.cpa_expr.specs.Cells.{scalar_read}
-use Rattle.cpa_expr.proofs.ScalarReads.{constant_type, constant_expr, scalar_expr}
+use Rattle.cpa_expr.specs.lemmas.ScalarReads.{constant_type, constant_expr, scalar_expr}
 use Rattle.cpa_model.specs.declared.program.Stmt.{Stmt}
 use Rattle.cpa_model.specs.declared.program.Stmt.TheVariants as stmt
 use Rattle.cpa_model.specs.declared.program.Program.{Program}
 use Rattle.cpa_ints.specs.Integers.{IsInRange}
 use Rattle.cpa_model.specs.Expressions.{types_of, IsExpr}
 use Rattle.cpa_model.specs.Programs.{parts_of, is_loop, IsStmt, InLoop, loop_nearest, loop_further, IsSound}
-use Rattle.cpa_model.proofs.Parts.{part_of_parts, Contains-from_place}
+use Rattle.cpa_model.specs.lemmas.Lists.{in_list}
+use Rattle.cpa_model.specs.lemmas.Parts.{part_of_parts, firsts_items}
 use Rattle.cpa_top.specs.Core.{Core, CoreList, no_core, single, input, followed, block, of_blocks, choice, loop, tested, if_core, while_body, while_core, result_zero, return_core, core_of_statement, core_of_items, main_block}
 use Rattle.cpa_top.proofs.CoreVariants.{core-Block, core-Empty, core-If, core-While, core-ReachError, core-Abort, core-Return}
 use Rattle.cpa_top.proofs.Segments.{StandsAt, EachFrom, StandsAt-left, StandsAt-right, EachFrom-append}
@@ -50,7 +51,7 @@ loops_right true P xs ys h = λ k inside. h k (Contains-append_right xs ys k ins
 loops_right false P xs ys h = tt
 
 loop_of_one : (P : Program) (n : ℕ) → InLoops true P (n ∷ []) → (l : ℕ) × InLoop P l n
-loop_of_one P n h = h n (Contains-from_place (n ∷ []) 0 n refl)
+loop_of_one P n h = h n (in_list (n ∷ []) 0 n refl)
 
 -- the parts of a statement that is no loop stand in the loop in which it stands
 loops_parts : (demand : Bool) (P : Program) (n : ℕ) (s : Stmt) (items : List ℕ) → is_loop s ≡ false → parts_of s ≡ items → IsStmt P n s → InLoops demand P (n ∷ []) → InLoops demand P items
@@ -101,7 +102,7 @@ sound_block : (demand : Bool) (P : Program) (x : Core) → Sounds demand P x →
 unfolding block
 sound_block demand P x p n c at few loops =
     let inner = x (n + 1) c in
-    (tt, p (n + 1) c at.1 few (loops_parts demand P n (stmt.Block inner.items) inner.items refl refl at.0 loops))
+    (tt, p (n + 1) c at.1 few (loops_parts demand P n (stmt.Block inner.items) inner.items refl (firsts_items inner.items) at.0 loops))
 
 -- the items of two blocks are their numbers
 items_of_blocks : (x y : Core) (n c : ℕ) → (followed (block x) (block y) n c).items ≡ n ∷ (n + length (block x n c).stmts) ∷ []

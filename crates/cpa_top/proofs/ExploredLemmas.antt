@@ -1,21 +1,20 @@
 -- What a closed set of points, and a chain of edges to an error, show of the program.
-use Rattle.std.proofs.Common.{◌≡◌, ℕ, zero, suc, ◌<◌, List, [], ◌∷◌, ◌++◌, map, length, get_or, sym, ◌∙◌, subst, inl, inr, ⊎_elim, arith}
+use Rattle.std.proofs.Common.{◌≡◌, ℕ, zero, suc, ◌<◌, List, [], ◌∷◌, map, length, get_or, sym, ◌∙◌, subst, inl, inr, ⊎_elim, arith}
 use Rattle.std.specs.Prelude.{slice_index}
 use Rattle.std.specs.List.{Contains}
-use Rattle.std.proofs.lemmas.Option.{slice_get-get_or, get_or_from_slice_get}
+use Rattle.std.proofs.lemmas.Option.{get_or_from_slice_get}
 use Rattle.cpa_model.specs.declared.facts.Elem.{Elem}
 use Rattle.cpa_model.specs.declared.states.State.{State}
 use Rattle.cpa_model.specs.declared.automaton.Act.{Act}
 use Rattle.cpa_model.specs.declared.automaton.Cfa.{Cfa}
 use Rattle.cpa_model.specs.declared.program.Program.{Program}
-use Rattle.cpa_model.specs.Programs.{IsWellFormed, point_count}
-use Rattle.cpa_model.specs.States.{IsState, initial_of}
-use Rattle.cpa_model.specs.Steps.{Moves, Step, IsChain, IsExecution, CallsError}
+use Rattle.cpa_model.specs.Programs.{IsWellFormed}
+use Rattle.cpa_model.specs.States.{initial_of}
+use Rattle.cpa_model.specs.Steps.{Moves}
 use Rattle.cpa_model.specs.Automata.{IsAutomatonOf, edge_of}
-use Rattle.cpa_model.proofs.Trees.{body_inside}
-use Rattle.cpa_model.proofs.Stores.{AreValues-start}
 use Rattle.cpa_iface.specs.Meanings.{pin}
-use Rattle.cpa_top.specs.Covers.{LiesInSome, IsCover, IsSafe, IsLedTo, led_start, led_on, LeadsToError}
+use Rattle.cpa_model.specs.Covers.{LiesInSome, IsCover}
+use Rattle.cpa_top.specs.Led.{IsLedTo, led_start, led_on, LeadsToError}
 use Rattle.cpa_top.specs.Explored.{IsWalkedTo, walked_start, walked_on, IsClosed}
 
 -- the entries of the points
@@ -54,52 +53,6 @@ cover_of P cfa points W A C = record {
   successors = λ s t lies step.
       lies_in_pins t points (moves_inside P cfa points A C s.point step.act t.point step.point (point_of_pins s points lies));
   safe = λ s is lies error. C.safe s.point (point_of_pins s points lies) (A.errors s.point error);
-}
-
--- the initial state is a state
-initial_is_state : (P : Program) → IsWellFormed P → IsState P.cells (point_count P) (initial_of P)
-initial_is_state P W = record {
-  point =
-      let at = slice_get-get_or P.bodies P.main 0 W.main in
-      let inside = body_inside P W.numbered P.main (slice_index P.bodies P.main) at in
-      omega (arith, inside);
-  stack = tt;
-  store = AreValues-start P.cells W.starts;
-}
-
--- the last state of a chain that begins in a cover lies in it
-lies_along : (P : Program) (entries : List (List Elem)) → IsCover P entries → (s t : State) (before : List State) → LiesInSome s entries → IsChain (Step P) s (before ++ t ∷ []) → LiesInSome t entries
-lies_along P entries C s t [] lies chain = C.successors s t lies chain.0
-lies_along P entries C s t (u ∷ before) lies chain = lies_along P entries C u t before (C.successors s u lies chain.0) chain.1
-
-lies_at_end : (P : Program) (entries : List (List Elem)) → IsCover P entries → (t : State) (before : List State) → IsExecution P (before ++ t ∷ []) → LiesInSome t entries
-lies_at_end P entries C t [] run = subst (λ (s : State). LiesInSome s entries) (sym run.0) C.initial
-lies_at_end P entries C t (s ∷ before) run =
-    lies_along P entries C s t before (subst (λ (u : State). LiesInSome u entries) (sym run.0) C.initial) run.1
-
--- no state of a chain that begins in a cover stands at an error
-safe_along : (P : Program) (entries : List (List Elem)) → IsCover P entries → (s : State) (states : List State) → IsState P.cells (point_count P) s → LiesInSome s entries → IsChain (Step P) s states → CallsError P (s ∷ states) → ⊥
-safe_along P entries C s [] is lies chain calls = ⊎_elim (λ here. C.safe s is lies here) (λ never. never) calls
-safe_along P entries C s (t ∷ states) is lies chain calls =
-    let step : Step P s t = chain.0 in
-    ⊎_elim
-    (λ here. C.safe s is lies here)
-    (λ later. safe_along P entries C t states step.after (C.successors s t lies step) chain.1 later)
-    calls
-
-never_calls : (P : Program) (entries : List (List Elem)) → IsWellFormed P → IsCover P entries → (states : List State) → IsExecution P states → CallsError P states → ⊥
-never_calls P entries W C [] run calls = run
-never_calls P entries W C (s ∷ states) run calls =
-    safe_along P entries C s states
-    (subst (λ (u : State). IsState P.cells (point_count P) u) (sym run.0) (initial_is_state P W))
-    (subst (λ (u : State). LiesInSome u entries) (sym run.0) C.initial)
-    run.1 calls
-
--- a covered program is safe
-pub safe_of : (P : Program) (entries : List (List Elem)) → IsWellFormed P → IsCover P entries → IsSafe P entries
-safe_of P entries W C = record {
-  reachable = λ s h. lies_at_end P entries C s h.before h.execution;
-  never = never_calls P entries W C;
 }
 
 -- a chain of moves from the start stays in a closed set

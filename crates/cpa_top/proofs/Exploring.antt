@@ -11,8 +11,6 @@ use Rattle.cpa_model.specs.declared.facts.Fact.{Fact}
 use Rattle.cpa_model.specs.declared.facts.Fact.TheVariants.{At}
 use Rattle.cpa_model.specs.declared.facts.Elem.{Elem}
 use Rattle.cpa_model.specs.declared.automaton.Cfa.{Cfa}
-use Rattle.cpa_model.specs.Automata.{IsAutomaton}
-use Rattle.cpa_model.proofs.Trees.{body_inside}
 use Rattle.cpa_iface.specs.Meanings.{pin, Meaning}
 use Rattle.cpa_top.specs.declared.explore.reached.Reached.{Reached}
 use Rattle.cpa_top.specs.declared.explore.Explored.TheVariants.{Safe}
@@ -82,15 +80,9 @@ few_entries cfa r reached =
     let few = length-le_from_distinct_below (points_of r.entries) cfa.points (IsDistinct-from_apart eqb (points_of r.entries) (points_apart cfa r reached)) (λ q h. points_below cfa r.entries q reached.walked h) in
     omega (arith, long, few)
 
--- an automaton starts at one of its points
-start_inside : (cfa : Cfa) → IsAutomaton cfa → cfa.start < cfa.points
-start_inside cfa a =
-    let P = a.program in
-    let inside = body_inside P a.well_formed.numbered P.main cfa.start a.automaton.start in
-    omega (arith, inside, a.automaton.points)
-
-pub start_walked : (cfa : Cfa) (e : Elem) → IsAutomaton cfa → e ≡ pin cfa.start → IsWalkedPin cfa e
-start_walked cfa e a is = (cfa.start, is, start_inside cfa a, walked_start refl)
+-- the initial element is the pin of the start, a point
+pub start_walked : (cfa : Cfa) (e : Elem) → cfa.start < cfa.points → e ≡ pin cfa.start → IsWalkedPin cfa e
+start_walked cfa e inside is = (cfa.start, is, inside, walked_start refl)
 
 -- a reached set of no entries
 none_reached : (cfa : Cfa) (r : Reached) → r.entries ≡ [] → AreTied r.entries r.entry_at.items → length r.entry_at.items ≡ cfa.points → IsReached cfa r
@@ -101,11 +93,11 @@ none_reached cfa r empty tied size = record {
 }
 
 -- of the initial element alone
-pub first_reached : (cfa : Cfa) (e : Elem) (before now : Reached) → IsAutomaton cfa → e ≡ pin cfa.start → before.entries ≡ [] → AreTied before.entries before.entry_at.items
+pub first_reached : (cfa : Cfa) (e : Elem) (before now : Reached) → cfa.start < cfa.points → e ≡ pin cfa.start → before.entries ≡ [] → AreTied before.entries before.entry_at.items
     → length before.entry_at.items ≡ cfa.points → AreAdded (e ∷ []) before now → IsReached cfa now
-first_reached cfa e before now a is empty tied size added =
+first_reached cfa e before now inside is empty tied size added =
     reached_after cfa (e ∷ []) before now (none_reached cfa before empty tied size) added
-    (All-cons (IsWalkedPin cfa) e [] (start_walked cfa e a is) (All-nil (IsWalkedPin cfa)))
+    (All-cons (IsWalkedPin cfa) e [] (start_walked cfa e inside is) (All-nil (IsWalkedPin cfa)))
 
 -- the entries before next were expanded, and none of them stands at an error
 pub record Explores (cfa : Cfa) (next : ℕ) (now : Reached) (was is : Meaning) : Type 0 where

@@ -12,14 +12,15 @@ use Rattle.first_form.specs.FirstForm.{IsFirstForm}
 use Rattle.cpa_top.specs.declared.report.Listed.{Listed}
 use Rattle.cpa_top.specs.declared.report.Report.{Report}
 use Rattle.cpa_top.specs.declared.explore.Explored.TheVariants.{Safe, ErrorReached}
-use Rattle.cpa_top.specs.Covers.{IsCover}
+use Rattle.cpa_model.specs.Covers.{IsCover, IsSafe}
 use Rattle.cpa_top.specs.Explored.{IsExplored}
+use Rattle.cpa_top.specs.declared.verify.TheConstants.{PROGRAM_LIMIT}
 use Rattle.cpa_top.specs.Reports.{report_text}
 use Rattle.cpa_top.specs.Listing.{listed_from, IsReportOf}
 use Rattle.cpa_top.specs.Core.{core_of}
-use Rattle.cpa_top.specs.Run.{IsSafeText, IsUnbuiltText, program_limit}
+use Rattle.cpa_top.specs.Run.{IsSafeText, IsUnbuiltText}
 use Rattle.cpa_top.proofs.CoreLemmas.{core_is_well_formed, core-text_len}
-use Rattle.cpa_top.proofs.ExploredLemmas.{cover_of, safe_of, never_led, led_of}
+use Rattle.cpa_top.proofs.ExploredLemmas.{cover_of, never_led, led_of}
 use Rattle.cpa_top.proofs.Listings.{listed_by_place, listed_pins}
 
 -- what is known of a program before it is explored
@@ -37,8 +38,9 @@ is_automaton bytes tree P cfa b =
 
 -- a closed set of points is a report of a safe program
 pub safe_text : (bytes text : List ℕ) (tree : Tree) (P : Program) (cfa : Cfa) (elems : List Elem) (r : Report)
+    → ((entries : List (List Elem)) → IsWellFormed P → IsCover P entries → IsSafe P entries)
     → IsBuilt bytes tree P cfa → IsExplored cfa (Safe elems) → IsReportOf cfa elems r → text ≡ report_text r → IsSafeText bytes text
-safe_text bytes text tree P cfa elems r b explored reported printed =
+safe_text bytes text tree P cfa elems r law b explored reported printed =
     let wf = well_formed bytes tree P b.form b.core in
     let points = explored.0 in
     let same : map (λ (entry : Listed). entry.elems) r.entries ≡ map (λ p. pin p ∷ []) points =
@@ -59,16 +61,16 @@ safe_text bytes text tree P cfa elems r b explored reported printed =
       edges_are = reported.edges;
       numbered = λ k entry h. listed_by_place elems k entry (subst (λ es. slice_get es k ≡ Some entry) reported.entries h);
       cover = cover;
-      safe = safe_of P (map (λ (entry : Listed). entry.elems) r.entries) wf cover;
+      safe = law (map (λ (entry : Listed). entry.elems) r.entries) wf cover;
       apart = never_led P cfa points wf b.automaton explored.2;
     }
 
 -- a chain of edges to an error leaves the text unbuilt
-pub unbuilt_text : (bytes : List ℕ) (tree : Tree) (P : Program) (cfa : Cfa) → length bytes ≤ program_limit
+pub unbuilt_text : (bytes : List ℕ) (tree : Tree) (P : Program) (cfa : Cfa) → length bytes ≤ PROGRAM_LIMIT
     → IsBuilt bytes tree P cfa → IsExplored cfa ErrorReached → IsUnbuiltText bytes
 unbuilt_text bytes tree P cfa short b explored =
     (short, inr (P, (tree, b.form, b.core), led_of P cfa explored.0 (well_formed bytes tree P b.form b.core) b.automaton explored.1 explored.2))
 
 -- so does a text of another form
-pub no_program : (bytes : List ℕ) → length bytes ≤ program_limit → ((tree : Tree) → IsFirstForm bytes tree → ⊥) → IsUnbuiltText bytes
+pub no_program : (bytes : List ℕ) → length bytes ≤ PROGRAM_LIMIT → ((tree : Tree) → IsFirstForm bytes tree → ⊥) → IsUnbuiltText bytes
 no_program bytes short none = (short, inl (λ P is. none is.0 is.1))

@@ -5,8 +5,6 @@ pub mod CoreNumbering
 pub mod CoreSizes
 pub mod CoreSound
 pub mod CoreVariants
-pub mod Edges
-pub mod Errors
 pub mod Expanding
 pub mod ExploredLemmas
 pub mod Exploring

@@ -1,5 +1,6 @@
 -- How a builder of core statements grows.
 use Rattle.std.specs.Prelude.{◌≡◌, ℕ, ◌+◌, ◌≤◌, List, [], ◌∷◌, ◌++◌, length, slice_set, Option, None, Some}
+use Rattle.cpa_model.specs.declared.program.TheConstants.{MAX_CELLS, MAX_POINTS}
 use Rattle.first_form.specs.declared.tree.Statement.{Statement}
 use Rattle.cpa_model.specs.declared.program.Stmt.{Stmt}
 use Rattle.cpa_top.specs.declared.core_program.Builder.{Builder}
@@ -9,10 +10,10 @@ use Rattle.cpa_top.specs.Core.{Core, CoreList, no_core, core_of_statement}
 abbrev pub list_at : Core → Builder → CoreList
 list_at core b = core (length b.stmts.items) b.cells
 
--- the core's numbers and cells stay within 65536
+-- the core's numbers and cells are few enough
 pub record Fits (before : Builder) (core : Core) : Type 0 where
-  pub numbers : length before.stmts.items + length (list_at core before).stmts ≤ 65536
-  pub cells : before.cells + (list_at core before).cells ≤ 65536
+  pub numbers : length before.stmts.items + length (list_at core before).stmts ≤ MAX_POINTS
+  pub cells : before.cells + (list_at core before).cells ≤ MAX_CELLS
 
 -- the builder has grown by a core, and a list by the numbers of its items
 pub record Adds (before : Builder) (had : List ℕ) (core : Core) (after : Builder) (has : List ℕ) : Type 0 where

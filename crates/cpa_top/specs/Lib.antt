@@ -1,10 +1,9 @@
 pub mod Answered
 pub mod Core
 pub mod CoreSteps
-pub mod Covers
+pub mod Led
 pub mod Explored
 pub mod Listing
 pub mod Reached
 pub mod Reports
 pub mod Run
-pub mod Spelled

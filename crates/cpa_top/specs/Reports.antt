@@ -2,10 +2,12 @@
 use Rattle.std.specs.Prelude.{ℕ, ◌++◌, List, decimal, codes}
 use Rattle.cpa_top.specs.declared.report.Listed.{Listed}
 use Rattle.cpa_top.specs.declared.report.Report.{Report}
-use Rattle.cpa_top.specs.Spelled.{list_text, elem_text}
+use Rattle.cpa_model.specs.Spelling.{list_text, elem_text}
 
 abbrev pub entry_text : Listed → List ℕ
-entry_text entry = codes "{\"elems\":" ++ list_text elem_text entry.elems ++ codes ",\"number\":" ++ decimal entry.number ++ codes "}"
+entry_text entry =
+    codes "{\"elems\":" ++ list_text elem_text entry.elems
+    ++ codes ",\"number\":" ++ decimal entry.number ++ codes "}"
 
 -- the one spelling of a TRUE report
 abbrev pub report_text : Report → List ℕ

@@ -11,8 +11,10 @@ use Rattle.first_form.specs.declared.tree.Unit.{Unit as Tree}
 use Rattle.first_form.specs.FirstForm.{IsFirstForm}
 use Rattle.cpa_top.specs.declared.report.Listed.{Listed}
 use Rattle.cpa_top.specs.declared.report.Report.{Report}
+use Rattle.cpa_top.specs.declared.verify.TheConstants.{PROGRAM_LIMIT}
 use Rattle.cpa_top.specs.Reports.{report_text}
-use Rattle.cpa_top.specs.Covers.{IsCover, IsSafe, LeadsToError}
+use Rattle.cpa_model.specs.Covers.{IsCover, IsSafe}
+use Rattle.cpa_top.specs.Led.{LeadsToError}
 use Rattle.cpa_top.specs.Core.{core_of}
 use Rattle.cpa_outside.specs.Outside.{Rose, grown, GrewByPrefix}
 
@@ -39,10 +41,6 @@ IsOneExact analyses = (m : Meaning) × (analyses ≡ m ∷ []) × (m.part ≡ pa
 -- the bytes stand for the program: they are a text of the first form, and it is its core
 abbrev pub IsProgram : List ℕ → Program → Type 0
 IsProgram bytes P = (tree : Tree) × IsFirstForm bytes tree × (P ≡ core_of tree)
-
--- the most bytes that a program text may have
-abbrev pub program_limit : ℕ
-program_limit = 1048576
 
 abbrev pub usage_text : List ℕ
 usage_text =
@@ -75,7 +73,7 @@ pub record IsSafeText (bytes text : List ℕ) : Type 0 where
 abbrev pub IsSafeAnswer : Call → List ℕ → Type 0
 IsSafeAnswer call text =
     (name : List ℕ) × IsVerify call.words name × IsOneExact call.analyses
-    × IfSome (call.bytes_of name) (λ bytes. (length bytes ≤ program_limit) × IsSafeText bytes text)
+    × IfSome (call.bytes_of name) (λ bytes. (length bytes ≤ PROGRAM_LIMIT) × IsSafeText bytes text)
 
 -- Status 3: the words are no command.
 abbrev pub IsUsage : Call → List ℕ → Type 0
@@ -84,7 +82,7 @@ IsUsage call text = ((name : List ℕ) → IsVerify call.words name → ⊥) × 
 -- the text is no program of the first form, or edges lead to an error
 abbrev pub IsUnbuiltText : List ℕ → Type 0
 IsUnbuiltText bytes =
-    (length bytes ≤ program_limit)
+    (length bytes ≤ PROGRAM_LIMIT)
     × (((P : Program) → IsProgram bytes P → ⊥) ⊎ ((P : Program) × IsProgram bytes P × LeadsToError P))
 
 -- Status 11: the list is not one analysis exact on the point, or the text is one of those above.
@@ -104,7 +102,7 @@ IsReadFault call text =
 abbrev pub IsTooLong : Call → List ℕ → Type 0
 IsTooLong call text =
     (name : List ℕ) × IsVerify call.words name × IsOneExact call.analyses
-    × IfSome (call.bytes_of name) (λ bytes. program_limit < length bytes) × (text ≡ codes "refused long program\n")
+    × IfSome (call.bytes_of name) (λ bytes. PROGRAM_LIMIT < length bytes) × (text ≡ codes "refused long program\n")
 
 -- Status 10: memory ran out.
 abbrev pub IsShortOfMemory : Call → List ℕ → Type 0

@@ -5,9 +5,10 @@ ghost use Rattle.cpa_model.specs.declared.program.Stmt.TheVariants as stmt;
 ghost use Rattle.cpa_top.specs.Core.{no_core, single, input, followed, block, choice, test_core, test_value, if_core, while_body, while_core, result_zero, return_core, core_of_statement, core_of_items, main_block, int_cell, core_of};
 ghost use Rattle.cpa_top.specs.CoreSteps.{Fits, Adds, Grown, Replaced, core_of_else};
 
+use crate::verify::PROGRAM_LIMIT;
 use cpa_expr::read_scalar;
 use cpa_ints::Boxed;
-use cpa_model::{Cell, Expr, IntType, Program, Seq, Stmt};
+use cpa_model::{Cell, Expr, IntType, MAX_POINTS, Program, Seq, Stmt};
 use first_form::{Expression, Statement, Unit};
 use std::alloc::{AllocError, Global};
 
@@ -21,7 +22,7 @@ struct Builder {
 impl Builder {
     /// Adds a statement under the next number.
     fn put(&mut self, stmt: Stmt) -> Result<u32, AllocError>
-        requires { length self.old.stmts.items < 65536 }
+        requires { length self.old.stmts.items < MAX_POINTS }
         ensures { IfOk result (λ number. Grown self.old stmt self.new number) }
     {
         let number = self.stmts.len() as u32;
@@ -281,8 +282,8 @@ impl Builder {
 
 /// The program that a tree stands for.
 pub(crate) fn core(alloc: Global, unit: &Unit) -> Result<Program, AllocError>
-    requires small { unit.now.length ≤ 1048576 }
-    requires points { unit_points unit.now ≤ 65536 }
+    requires small { unit.now.length ≤ PROGRAM_LIMIT }
+    requires points { unit_points unit.now ≤ MAX_POINTS }
     ensures { IfOk result (λ program. program ≡ core_of unit.now) }
 {
     let mut builder = Builder {

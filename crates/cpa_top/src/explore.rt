@@ -9,14 +9,12 @@ ghost use Rattle.cpa_top.specs.declared.explore.Explored.TheVariants.{ErrorReach
 ghost use Rattle.cpa_top.specs.Reached.{IsReached, KeepsNumbers, LeadsOn, IsExpanded, IsErrorFree};
 
 mod asked;
-mod graph;
 mod reached;
 
 use crate::explore::asked::{first_precision, initial, successors};
-use crate::explore::graph::{is_error, leaving};
 use crate::explore::reached::{Reached, point_of};
 use cpa_iface::{Analysis, Precision, Settings};
-use cpa_model::{Cfa, Elem, Seq};
+use cpa_model::{Cfa, Elem, Seq, automata_are_small, is_error, leaving};
 use std::alloc::{AllocError, Global};
 
 /// What an exploration comes to.
@@ -72,8 +70,9 @@ fn expand(
     ensures expanded { OnOk result (IsExpanded cfa.now reached.new.entries number) }
     ensures kept { meaning analysis.new ≡ meaning analysis.old }
 {
-    let (first, last) = leaving(cfa, point_of(reached.entry(number)));
-    for edge in first..last {
+    automata_are_small();
+    let (first, count) = leaving(cfa, point_of(reached.entry(number)));
+    for edge in first..first + count {
         follow(alloc, cfa, precision, analysis, reached, number, edge)?;
     }
     Ok(())
@@ -87,7 +86,7 @@ fn stands_at_error(cfa: &Cfa, reached: &Reached, number: usize) -> bool
     ensures yes { IsTrue result → IsExplored cfa.now ErrorReached }
     ensures no { result ≡ false → IsErrorFree cfa.now reached.now.entries number }
 {
-    is_error(cfa.errors.as_slice(), point_of(reached.entry(number)))
+    is_error(cfa, point_of(reached.entry(number)))
 }
 
 /// The reached set of the initial element alone.
@@ -102,6 +101,7 @@ fn begin(
     ensures start { IfOk result (λ r. Contains r.entries (pin cfa.now.start)) }
     ensures kept { meaning analysis.new ≡ meaning analysis.old }
 {
+    automata_are_small();
     let first = initial(alloc, cfa, analysis)?;
     let mut reached = Reached::new(alloc, cfa.points)?;
     reached.add(analysis, first)?;

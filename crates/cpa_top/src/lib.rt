@@ -10,3 +10,4 @@ mod verify;
 
 pub use report::{Listed, Report};
 pub use top::run;
+pub use verify::PROGRAM_LIMIT;

@@ -1,11 +1,9 @@
-ghost use Rattle.std.specs.Prelude.{◌≡◌, ◌++◌, OnOk, IfOk, decimal};
+//! The report of a safe program and its one spelling, by `Reports`.
+ghost use Rattle.std.specs.Prelude.{◌≡◌, IfOk};
 ghost use Rattle.cpa_top.specs.Reports.{report_text};
 ghost use Rattle.std.specs.String.{string_bytes};
 
-mod pieces;
-
-use cpa_model::{Elem, Seq};
-use pieces::{Spell, push_list, push_number};
+use cpa_model::{Elem, Seq, Spell, push_list};
 use std::alloc::{AllocError, Global};
 
 /// An entry of a printed reached set: its number, and one element for each analysis.
@@ -35,7 +33,7 @@ impl Spell for Listed {
         out.push_str("{\"elems\":")?;
         push_list(out, self.elems.as_slice())?;
         out.push_str(",\"number\":")?;
-        push_number(out, self.number)?;
+        self.number.spell(out)?;
         out.push_str("}")
     }
 }
@@ -45,15 +43,15 @@ pub(crate) fn print(alloc: Global, report: &Report) -> Result<String, AllocError
     ensures { IfOk result (λ s. string_bytes s ≡ report_text report.now) }
 {
     let mut out = String::from_str(alloc, "TRUE\n{\"cells\":")?;
-    push_number(&mut out, report.cells)?;
+    report.cells.spell(&mut out)?;
     out.push_str(",\"edges\":")?;
-    push_number(&mut out, report.edges)?;
+    report.edges.spell(&mut out)?;
     out.push_str(",\"entries\":")?;
     push_list(&mut out, report.entries.as_slice())?;
     out.push_str(",\"form\":1,\"points\":")?;
-    push_number(&mut out, report.points)?;
+    report.points.spell(&mut out)?;
     out.push_str(",\"text\":")?;
-    push_number(&mut out, report.text)?;
+    report.text.spell(&mut out)?;
     out.push_str("}\n")?;
     Ok(out)
 }

@@ -1,4 +1,4 @@
-ghost use Rattle.std.specs.Prelude.{◌≡◌, ◌≤◌, length, map, IfOk, IfSome, IfNone, IsTrue, ◌↔◌, [], ◌∷◌, List, ℕ, Option};
+ghost use Rattle.std.specs.Prelude.{◌≡◌, ◌^◌, ◌≤◌, length, map, IfOk, OnErr, IfSome, IfNone, IsTrue, ◌↔◌, [], ◌∷◌, List, ℕ, Option};
 ghost use Rattle.std.specs.String.{string_bytes};
 ghost use Rattle.cpa_model.specs.Programs.{IsWellFormed};
 ghost use Rattle.cpa_model.specs.Automata.{IsAutomaton};
@@ -13,13 +13,13 @@ use crate::explore::{Explored, explore};
 use crate::report::{Listed, Report, print};
 use cfa_build::build;
 use cpa_iface::{Analysis, Part, Settings};
-use cpa_model::{Cfa, Elem, Seq};
+use cpa_model::{Cfa, Elem, Seq, covers_are_safe};
 use cpa_outside::{Inputs, ReadFault};
 use first_form::{FirstError, first_form};
 use std::alloc::{AllocError, Global};
 
 /// The most bytes that a program text may have.
-const PROGRAM_LIMIT: usize = 1_048_576;
+pub const PROGRAM_LIMIT: usize = 1_048_576;
 
 /// What an analysis is told where there is no configuration.
 const SETTINGS: Settings = Settings {
@@ -102,7 +102,7 @@ fn is_exact_on_point(analysis: &Box<dyn Analysis + Send>) -> bool
 
 /// What the job comes to on the text of a program.
 fn judge(alloc: Global, text: &[u8], analysis: &mut Box<dyn Analysis + Send>) -> Answer
-    requires short { length text.now ≤ 1048576 }
+    requires short { length text.now ≤ PROGRAM_LIMIT }
     requires exact { (meaning analysis.old).part ≡ Part.Point }
     ensures { IsJudged text.now result }
 {
@@ -117,7 +117,7 @@ fn decide(
     text: &[u8],
     analysis: &mut Box<dyn Analysis + Send>,
 ) -> Result<Answer, AllocError>
-    requires short { length text.now ≤ 1048576 }
+    requires short { length text.now ≤ PROGRAM_LIMIT }
     requires exact { (meaning analysis.old).part ≡ Part.Point }
     ensures { IfOk result (λ answer. IsJudged text.now answer) }
 {
@@ -126,6 +126,7 @@ fn decide(
         Err(FirstError::Unbuilt) => return Ok(Answer::Unbuilt),
         Err(FirstError::OutOfMemory) => return Err(AllocError),
     };
+    covers_are_safe();
     let program = core(alloc, &tree)?;
     let cfa = build(alloc, &program)?;
     match explore(alloc, &cfa, &SETTINGS, analysis)? {
@@ -153,7 +154,8 @@ fn report_of(alloc: Global, cfa: &Cfa, entries: Seq<Elem>) -> Result<Report, All
 
 /// How many items there are. A list beyond the numbers of a report counts as want of memory.
 fn count<T>(items: &[T]) -> Result<u32, AllocError>
-    ensures { IfOk result (λ n. n ≡ length items.now) }
+    ensures ok { IfOk result (λ n. n ≡ length items.now) }
+    ensures err { OnErr result (2 ^ 32 ≤ length items.now) }
 {
     u32::try_from(items.len()).map_err(|_| AllocError)
 }

@@ -1,4 +1,5 @@
-//! Whole calls over files and a sink in memory.
+//! Whole calls over files and a sink in memory that fail, and over other lists than the one analysis. The answers
+//! of texts and words are rows of the crate `cases_run`.
 use super::*;
 use cpa_iface::{Location, Part, Precision, Settings};
 use cpa_model::{Cfa, Elem, Seq, has_facts};
@@ -8,8 +9,6 @@ use std::process::Abort;
 use std::test::Fail;
 
 const RETURNS: &str = "int main(void){return 0;}";
-
-const UNBUILT: &str = "refused unbuilt\n";
 
 /// An analysis that knows nothing and is exact on nothing.
 #[derive(Debug, Drop)]
@@ -118,156 +117,30 @@ fn verify_text<R: Threads + Sync>(
     Ok((status, out))
 }
 
-/// What a program of so many cells, edges and points is answered, whose points come in this order.
-#[derive(Drop)]
-struct Wanted<'a> {
-    cells: u32,
-    edges: u32,
-    points: u32,
-    order: &'a [u32],
-}
-
-fn report(alloc: Global, wanted: &Wanted, length: usize) -> Result<String, AllocError> {
-    let cells = wanted.cells;
-    let edges = wanted.edges;
-    let points = wanted.points;
-    let mut text = format!(in alloc; "TRUE\n{{\"cells\":{cells},\"edges\":{edges},\"entries\":[")?;
-    for (number, point) in wanted.order.iter().enumerate() {
-        if number > 0 {
-            text.push_str(",")?;
-        }
-        write!(
-            text,
-            "{{\"elems\":[[[\"at\",{point}]]],\"number\":{number}}}"
-        )?;
-    }
-    write!(
-        text,
-        "],\"form\":1,\"points\":{points},\"text\":{length}}}\n"
-    )?;
-    Ok(text)
-}
-
-fn expect_safe<R: Threads + Sync + Abort>(
-    rt: &R,
-    alloc: Global,
-    text: &str,
-    wanted: Wanted,
-) -> Result<(), AllocError> {
-    let report = report(alloc, &wanted, text.len())?;
-    let (status, out) = verify_text(rt, alloc, text.as_bytes(), 9999)?;
-    assert_eq!(rt; status, 0);
-    assert_eq!(rt; out.written(), report.as_bytes());
-    Ok(())
-}
-
-#[test]
-fn a_return(rt: HostRuntime) -> Result<(), Fail> {
-    let wanted = Wanted {
-        cells: 1,
-        edges: 4,
-        points: 5,
-        order: &[0, 1, 2, 3, 4],
-    };
-    expect_safe(&rt, rt.alloc(), RETURNS, wanted)?;
-    Ok(())
-}
-
-#[test]
-fn a_loop_before_an_abort(rt: HostRuntime) -> Result<(), Fail> {
-    let text = "int main(void){while(__VERIFIER_nondet_int()){}abort();reach_error();}";
-    let wanted = Wanted {
-        cells: 2,
-        edges: 12,
-        points: 14,
-        order: &[0, 1, 2, 3, 4, 5, 6, 7, 9, 8, 10, 11],
-    };
-    expect_safe(&rt, rt.alloc(), text, wanted)?;
-    Ok(())
-}
-
-#[test]
-fn an_else_of_the_nearest_if(rt: HostRuntime) -> Result<(), Fail> {
-    let text =
-        "int main ( void )\n{\n  if (1) if (0) ; else { } \n  while (0) { ; abort ( ) ; }\n}";
-    let wanted = Wanted {
-        cells: 1,
-        edges: 20,
-        points: 19,
-        order: &[0, 1, 2, 3, 8, 4, 9, 5, 6, 10, 7, 11, 12, 13, 15, 14, 16, 18],
-    };
-    expect_safe(&rt, rt.alloc(), text, wanted)?;
-    Ok(())
-}
-
-fn expect_unbuilt<R: Threads + Sync + Abort>(
-    rt: &R,
-    alloc: Global,
-    text: &str,
-) -> Result<(), AllocError> {
-    let (status, out) = verify_text(rt, alloc, text.as_bytes(), 99)?;
-    assert_eq!(rt; status, 11, "{text}");
-    assert_eq!(rt; out.written(), UNBUILT.as_bytes(), "{text}");
-    Ok(())
-}
-
-#[test]
-fn texts_that_are_unbuilt(rt: HostRuntime) -> Result<(), Fail> {
-    for text in [
-        "int main(void){if(0)reach_error();return 0;}",
-        "int main(void){reach_error();}",
-        "int main(void){while(1){}reach_error();}",
-        "int main(void){int x;return 0;}",
-        "",
-    ] {
-        expect_unbuilt(&rt, rt.alloc(), text)?;
-    }
-    Ok(())
-}
-
-/// The status of a call on the file `p.c` with these words and so many analyses.
-fn status_of<R: Threads + Sync>(
-    rt: &R,
-    alloc: Global,
-    words: &[&str],
-    count: usize,
-) -> Result<u8, AllocError> {
+/// The status of a call on the file `p.c` with so many analyses of locations.
+fn status_with<R: Threads + Sync>(rt: &R, alloc: Global, count: usize) -> Result<u8, AllocError> {
     let mut inputs = file(alloc, RETURNS.as_bytes())?;
     let mut out = MemorySink::new(alloc, 999, 999, Vec::new(alloc))?;
-    call(rt, alloc, words, count, &mut inputs, &mut out)
+    call(rt, alloc, &["verify", "p.c"], count, &mut inputs, &mut out)
 }
 
-#[test]
-fn words_that_are_no_command(rt: HostRuntime) -> Result<(), Fail> {
-    let alloc = rt.alloc();
-    assert_eq!(rt; status_of(&rt, alloc, &[], 1)?, 3);
-    assert_eq!(rt; status_of(&rt, alloc, &["check"], 1)?, 3);
-    assert_eq!(rt; status_of(&rt, alloc, &["verify"], 1)?, 3);
-    assert_eq!(rt; status_of(&rt, alloc, &["verify", "p.c", "p.c"], 1)?, 3);
-    assert_eq!(rt; status_of(&rt, alloc, &["verify", "q.c"], 1)?, 4);
-    Ok(())
-}
-
-#[test]
-fn lists_of_analyses(rt: HostRuntime) -> Result<(), Fail> {
-    let alloc = rt.alloc();
-    assert_eq!(rt; status_of(&rt, alloc, &["verify", "p.c"], 0)?, 11);
-    assert_eq!(rt; status_of(&rt, alloc, &["verify", "p.c"], 1)?, 0);
-    assert_eq!(rt; status_of(&rt, alloc, &["verify", "p.c"], 2)?, 11);
-    Ok(())
-}
-
-#[test]
-fn an_analysis_that_is_exact_on_nothing(rt: HostRuntime) -> Result<(), Fail> {
-    let alloc = rt.alloc();
+/// The status with one analysis that is exact on nothing.
+fn status_with_blind<R: Threads + Sync>(rt: &R, alloc: Global) -> Result<u8, AllocError> {
     let mut analyses: Vec<Box<dyn Analysis + Send>> = Vec::new(alloc);
     analyses.push(Box::new(alloc, Blind)?)?;
     let mut inputs = file(alloc, RETURNS.as_bytes())?;
     let mut out = MemorySink::new(alloc, 99, 99, Vec::new(alloc))?;
     let words = texts(alloc, &["verify", "p.c"])?;
-    let status = run(&rt, alloc, words, analyses, &mut inputs, &mut out);
-    assert_eq!(rt; status, 11);
-    assert_eq!(rt; out.written(), UNBUILT.as_bytes());
+    Ok(run(rt, alloc, words, analyses, &mut inputs, &mut out))
+}
+
+#[test]
+fn lists_of_analyses(rt: HostRuntime) -> Result<(), Fail> {
+    let alloc = rt.alloc();
+    assert_eq!(rt; status_with(&rt, alloc, 0)?, 11);
+    assert_eq!(rt; status_with(&rt, alloc, 1)?, 0);
+    assert_eq!(rt; status_with(&rt, alloc, 2)?, 11);
+    assert_eq!(rt; status_with_blind(&rt, alloc)?, 11);
     Ok(())
 }
 
@@ -284,24 +157,6 @@ fn status_of_failing_read<R: Threads + Sync>(rt: &R, alloc: Global) -> Result<u8
 #[test]
 fn a_read_that_fails(rt: HostRuntime) -> Result<(), Fail> {
     assert_eq!(rt; status_of_failing_read(&rt, rt.alloc())?, 4);
-    Ok(())
-}
-
-#[test]
-fn a_text_beyond_the_limit(rt: HostRuntime) -> Result<(), Fail> {
-    let blanks = vec![in rt.alloc(); b' '; 1_048_577]?;
-    let (status, _) = verify_text(&rt, rt.alloc(), blanks.as_slice(), 99)?;
-    assert_eq!(rt; status, 5);
-    Ok(())
-}
-
-#[test]
-fn a_text_at_the_limit(rt: HostRuntime) -> Result<(), Fail> {
-    let mut text = vec![in rt.alloc(); b' '; 1_048_551]?;
-    text.extend_from_slice(RETURNS.as_bytes())?;
-    assert_eq!(rt; text.len(), 1_048_576);
-    let (status, _) = verify_text(&rt, rt.alloc(), text.as_slice(), 999)?;
-    assert_eq!(rt; status, 0);
     Ok(())
 }
 
@@ -326,30 +181,6 @@ fn sinks_that_fail_or_take_little(rt: HostRuntime) -> Result<(), Fail> {
     assert_eq!(rt; written_to(&rt, alloc, 999, &[0])?, (9, 0));
     assert_eq!(rt; written_to(&rt, alloc, 4, &[1])?, (9, 4));
     assert_eq!(rt; written_to(&rt, alloc, 0, &[])?, (9, 0));
-    Ok(())
-}
-
-/// A program of so many blocks, each in the one before.
-fn nested(alloc: Global, blocks: usize) -> Result<String, AllocError> {
-    let mut text = String::from_str(alloc, "int main(void){")?;
-    for _ in 0..blocks {
-        text.push_str("{")?;
-    }
-    for _ in 0..blocks {
-        text.push_str("}")?;
-    }
-    text.push_str("}")?;
-    Ok(text)
-}
-
-#[test]
-fn levels(rt: HostRuntime) -> Result<(), Fail> {
-    // Main's own block stands at level 1.
-    for (blocks, status) in [(199, 0), (200, 11)] {
-        let text = nested(rt.alloc(), blocks)?;
-        let (got, _) = verify_text(&rt, rt.alloc(), text.as_bytes(), 99_999)?;
-        assert_eq!(rt; got, status, "{blocks} blocks");
-    }
     Ok(())
 }
 

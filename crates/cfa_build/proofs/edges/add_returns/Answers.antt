@@ -23,6 +23,6 @@ returns c =
     let sites = c.as_slice.result.now in
     let is = c.as_slice.ensures ∙ c.index-sites-f.is in
     let calls : AreNumbersBelow (IsCallOf P c.args.f) (length P.stmts) c.as_slice.result.now = rw is (sites_of P (length P.stmts) c.args.f c.args.sites.now c.index-sites-f.result c.requires.sites c.requires.inside) in
-    let out = from_exit P c.requires.well_formed.numbered c.args.f c.args.places.now sites c.if-f-program.false c.requires.inside c.requires.placed calls in
+    let out = from_exit P c.requires.trees c.args.f c.args.places.now sites c.if-f-program.false c.requires.inside c.requires.placed calls in
     let more = more_edges P (exit_of P c.args.f) c.args.edges.now (map (return_edge (exit_of P c.args.f) c.args.places.now) sites) c.requires.below out in
     on_ok_weaker c.add_return_edges.result (λ e. rw e (rw c.exit.ensures more)) c.add_return_edges.ensures

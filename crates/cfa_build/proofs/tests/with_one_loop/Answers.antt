@@ -5,13 +5,15 @@ use Rattle.cpa_expr.specs.declared.tree.Expr.{Expr}
 use Rattle.cpa_expr.specs.declared.tree.Expr.TheVariants as expr
 use Rattle.cpa_expr.specs.Shape.{AreCells, type_of}
 use Rattle.cpa_expr.specs.Cells.{scalar_read}
-use Rattle.cpa_expr.proofs.ScalarReads.{constant_type, constant_expr, scalar_expr}
+use Rattle.cpa_expr.specs.lemmas.ScalarReads.{constant_type, constant_expr, scalar_expr}
 use Rattle.cpa_model.specs.declared.program.Stmt.{Stmt}
 use Rattle.cpa_model.specs.declared.program.Stmt.TheVariants as stmt
 use Rattle.cpa_model.specs.declared.program.Program.{Program}
 use Rattle.cpa_ints.specs.Integers.{IsInRange}
 use Rattle.cpa_model.specs.Expressions.{IsExpr}
-use Rattle.cpa_model.specs.Programs.{IsWellFormed, goes_to, after_whole, loop_nearest, loop_further}
+use Rattle.cpa_model.specs.TreeLaws.{TreeLaws}
+use Rattle.cpa_model.specs.declared.program.Successor.TheVariants.{GoesTo, AfterWhole}
+use Rattle.cpa_model.specs.Programs.{IsNumbered, IsWellFormed, loop_nearest, loop_further}
 use Rattle.cfa_build.proofs.Samples.{Tables, well_formed_by}
 use Rattle.cfa_build.proofs.tests.with_one_loop.Goals as goal
 
@@ -58,13 +60,13 @@ tables = record {
   parts = ((13, refl, (refl, 2, refl, (refl, 3, refl, (refl, 11, refl, (refl, 12, refl, (refl, 13, refl, refl)))))), ((2, refl, refl), ((3, refl, refl), ((11, refl, (refl, 10, refl, (refl, 11, refl, refl))), ((10, refl, (refl, 8, refl, (refl, 9, refl, (refl, 10, refl, refl)))), ((8, refl, (refl, 7, refl, (refl, 8, refl, refl))), ((7, refl, refl), ((8, refl, refl), ((9, refl, refl), ((10, refl, refl), ((11, refl, refl), ((12, refl, refl), ((13, refl, refl), ((14, refl, refl), tt))))))))))))));
   bodies = (refl, (refl, tt));
   owns = ((refl, (refl, (refl, (refl, (refl, tt))))), (tt, (tt, ((refl, (refl, tt)), ((refl, (refl, (refl, tt))), ((refl, (refl, tt)), (tt, (tt, (tt, (tt, (tt, (tt, (tt, (tt, tt))))))))))))));
-  good = (tt, (lit< tt, ((lit< tt, lit< tt), (tt, (tt, (test_expr, ((3, loop_further 5 (stmt.If test 6 7) after_whole refl refl refl (loop_further 4 (stmt.Block (5 ∷ 8 ∷ 9 ∷ [])) (goes_to 8) refl refl refl (loop_nearest (stmt.Loop 4 10) (goes_to 10) refl refl refl))), ((3, loop_further 5 (stmt.If test 6 7) after_whole refl refl refl (loop_further 4 (stmt.Block (5 ∷ 8 ∷ 9 ∷ [])) (goes_to 8) refl refl refl (loop_nearest (stmt.Loop 4 10) (goes_to 10) refl refl refl))), ((lit< tt, lit< tt), ((lit< tt, refl), ((lit≤ tt, zero_expr, zero_expr, first_cell), (tt, (tt, (tt, tt))))))))))))));
+  good = (tt, (lit< tt, ((lit< tt, lit< tt), (tt, (tt, (test_expr, ((3, loop_further 5 (stmt.If test 6 7) AfterWhole refl refl refl (loop_further 4 (stmt.Block (5 ∷ 8 ∷ 9 ∷ [])) (GoesTo 8) refl refl refl (loop_nearest (stmt.Loop 4 10) (GoesTo 10) refl refl refl))), ((3, loop_further 5 (stmt.If test 6 7) AfterWhole refl refl refl (loop_further 4 (stmt.Block (5 ∷ 8 ∷ 9 ∷ [])) (GoesTo 8) refl refl refl (loop_nearest (stmt.Loop 4 10) (GoesTo 10) refl refl refl))), ((lit< tt, lit< tt), ((lit< tt, refl), ((lit≤ tt, zero_expr, zero_expr, first_cell), (tt, (tt, (tt, tt))))))))))))));
 }
 
-well_formed : IsWellFormed (with_stmts example)
-well_formed = well_formed_by (with_stmts example) ends own level tables (in_range, tt) (lit≤ tt) (lit≤ tt) (lit< tt)
+well_formed : ((P : Program) → IsNumbered P → TreeLaws P) → IsWellFormed (with_stmts example)
+well_formed law = well_formed_by (with_stmts example) ends own level tables (law (with_stmts example)) (in_range, tt) (lit≤ tt) (lit≤ tt) (lit< tt)
 
 pub returns : goal.returns
 returns c =
     IfOk-weaker c.program.result (λ P. P ≡ with_stmts c.in_ok-one_loop.field-0.items) IsWellFormed
-    (λ P e. subst IsWellFormed (sym (e ∙ ap with_stmts c.in_ok-one_loop.ensures)) well_formed) c.program.ensures
+    (λ P e. subst IsWellFormed (sym (e ∙ ap with_stmts c.in_ok-one_loop.ensures)) (well_formed c.statements_are_trees.ensures.trees)) c.program.ensures

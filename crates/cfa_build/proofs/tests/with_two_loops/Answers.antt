@@ -4,13 +4,15 @@ use Rattle.cpa_ints.specs.declared.integers.IntType.TheVariants as ty
 use Rattle.cpa_expr.specs.declared.tree.Expr.{Expr}
 use Rattle.cpa_expr.specs.declared.tree.Expr.TheVariants as expr
 use Rattle.cpa_expr.specs.Cells.{scalar_read}
-use Rattle.cpa_expr.proofs.ScalarReads.{scalar_expr}
+use Rattle.cpa_expr.specs.lemmas.ScalarReads.{scalar_expr}
 use Rattle.cpa_model.specs.declared.program.Stmt.{Stmt}
 use Rattle.cpa_model.specs.declared.program.Stmt.TheVariants as stmt
 use Rattle.cpa_model.specs.declared.program.Program.{Program}
 use Rattle.cpa_ints.specs.Integers.{IsInRange}
 use Rattle.cpa_model.specs.Expressions.{IsExpr}
-use Rattle.cpa_model.specs.Programs.{IsWellFormed, goes_to, after_whole, loop_nearest, loop_further}
+use Rattle.cpa_model.specs.TreeLaws.{TreeLaws}
+use Rattle.cpa_model.specs.declared.program.Successor.TheVariants.{GoesTo, AfterWhole}
+use Rattle.cpa_model.specs.Programs.{IsNumbered, IsWellFormed, loop_nearest, loop_further}
 use Rattle.cfa_build.proofs.Samples.{Tables, well_formed_by}
 use Rattle.cfa_build.proofs.tests.with_two_loops.Goals as goal
 
@@ -49,13 +51,13 @@ tables = record {
   parts = ((2, refl, (refl, 2, refl, refl)), ((2, refl, refl), ((13, refl, (refl, 12, refl, (refl, 13, refl, refl))), ((12, refl, (refl, 11, refl, (refl, 12, refl, refl))), ((11, refl, (refl, 10, refl, (refl, 11, refl, refl))), ((10, refl, (refl, 7, refl, (refl, 10, refl, refl))), ((7, refl, refl), ((10, refl, (refl, 9, refl, (refl, 10, refl, refl))), ((9, refl, refl), ((10, refl, refl), ((11, refl, refl), ((12, refl, refl), ((13, refl, refl), tt)))))))))))));
   bodies = (refl, (refl, tt));
   owns = ((refl, tt), (tt, ((refl, (refl, tt)), ((refl, (refl, tt)), ((refl, (refl, tt)), ((refl, (refl, tt)), (tt, ((refl, (refl, tt)), (tt, (tt, (tt, (tt, (tt, tt)))))))))))));
-  good = (tt, (tt, (tt, (tt, (tt, (test_expr, ((4, loop_further 5 (stmt.If test 6 7) after_whole refl refl refl (loop_nearest (stmt.Loop 5 10) (goes_to 10) refl refl refl)), (tt, ((lit< tt, lit< tt), (lit< tt, (tt, ((lit< tt, lit< tt), (tt, tt)))))))))))));
+  good = (tt, (tt, (tt, (tt, (tt, (test_expr, ((4, loop_further 5 (stmt.If test 6 7) AfterWhole refl refl refl (loop_nearest (stmt.Loop 5 10) (GoesTo 10) refl refl refl)), (tt, ((lit< tt, lit< tt), (lit< tt, (tt, ((lit< tt, lit< tt), (tt, tt)))))))))))));
 }
 
-well_formed : IsWellFormed (with_stmts example)
-well_formed = well_formed_by (with_stmts example) ends own level tables (in_range, tt) (lit≤ tt) (lit≤ tt) (lit< tt)
+well_formed : ((P : Program) → IsNumbered P → TreeLaws P) → IsWellFormed (with_stmts example)
+well_formed law = well_formed_by (with_stmts example) ends own level tables (law (with_stmts example)) (in_range, tt) (lit≤ tt) (lit≤ tt) (lit< tt)
 
 pub returns : goal.returns
 returns c =
     IfOk-weaker c.program.result (λ P. P ≡ with_stmts c.in_ok-two_loops.field-0.items) IsWellFormed
-    (λ P e. subst IsWellFormed (sym (e ∙ ap with_stmts c.in_ok-two_loops.ensures)) well_formed) c.program.ensures
+    (λ P e. subst IsWellFormed (sym (e ∙ ap with_stmts c.in_ok-two_loops.ensures)) (well_formed c.statements_are_trees.ensures.trees)) c.program.ensures

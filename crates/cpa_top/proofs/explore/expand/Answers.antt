@@ -1,4 +1,4 @@
-use Rattle.std.proofs.Common.{Some, ap, ◌∙◌}
+use Rattle.std.proofs.Common.{◌+◌, Some, ap, ◌∙◌, arith}
 use Rattle.std.proofs.lemmas.List.Elements.{All-contains}
 use Rattle.cpa_model.specs.declared.facts.Elem.{Elem}
 use Rattle.cpa_top.specs.Reached.{IsWalkedPin}
@@ -13,6 +13,11 @@ point_of-requires g c =
     let w : IsWalkedPin c.args.cfa.now e = All-contains (IsWalkedPin c.args.cfa.now) entries e c.requires.reached.walked (in_list entries c.args.number e c.entry.ensures) in
     (w.0, w.1)
 
+pub overflow_add-edge-end : goal.overflow_add-edge-end
+overflow_add-edge-end g c =
+    let few = c.automata_are_small.ensures.edges c.args.cfa.now c.requires.automaton in
+    omega (arith, few, c.leaving-first.ensures.within)
+
 pub loop-edge-preserved : goal.loop-edge-preserved
 loop-edge-preserved g c =
     let at = c.loop-edge in
@@ -24,5 +29,5 @@ returns-clause-expanded g c =
     let at = c.loop-edge in
     let number = c.args.number in
     let pinned = c.entry.ensures ∙ ap (λ (e : Elem). Some e) c.point_of.ensures in
-    all_expanded c.args.cfa.now number c.point_of.result c.leaving-first.result.0 c.leaving-first.result.1 at.edge at.reached.entries
-    (at.invariant.numbers.kept number _ pinned) c.leaving-first.ensures.all c.loop-edge-test.false at.invariant.led
+    all_expanded c.args.cfa.now number c.point_of.result c.leaving-first.result.0 (c.leaving-first.result.0 + c.leaving-first.result.1) at.edge at.reached.entries
+    (at.invariant.numbers.kept number _ pinned) (λ k edge is. (c.leaving-first.ensures.leave k edge is).1) c.loop-edge-test.false at.invariant.led

@@ -24,6 +24,6 @@ returns g c =
     let built : IsBuilt c.args.text.now c.in-Ok.tree c.in_ok-program.program c.in_ok-cfa.cfa =
     record { form = c.in-Ok.ensures.ok; core = c.in_ok-program.ensures; automaton = c.in_ok-cfa.ensures } in
     safe_text c.args.text.now (string_bytes c.in_ok-report-in-Safe-2.report) c.in-Ok.tree c.in_ok-program.program c.in_ok-cfa.cfa
-    c.in-Safe.entries c.in_ok-report-in-Safe.report built
+    c.in-Safe.entries c.in_ok-report-in-Safe.report (c.covers_are_safe.ensures.safe c.in_ok-program.program) built
     (subst (IsExplored c.in_ok-cfa.cfa) c.in-Safe.is c.in_ok-explore.ensures)
     c.in_ok-report-in-Safe.ensures c.in_ok-report-in-Safe-2.ensures

@@ -1,0 +1,59 @@
+//! Runs the whole program on the rows of `stdin`, each a call on the one file `p.c` in memory, and prints each
+//! row's status and what the call wrote. README.md says how the wanted answers were made.
+#![tactic(auto)]
+
+mod row;
+
+use cpa_iface::{Analysis, Location};
+use cpa_outside::{MemoryInputs, MemorySink};
+use cpa_top::run;
+use row::Row;
+use std::alloc::{AllocError, Global};
+use std::io::{self, BufRead, BufReader, BufWriter, Write};
+use std::thread::Threads;
+
+/// The most bytes that an answer may have.
+const ROOM: usize = 1_000_000;
+
+fn analyses(alloc: Global) -> Result<Vec<Box<dyn Analysis + Send>>, AllocError> {
+    let mut analyses: Vec<Box<dyn Analysis + Send>> = Vec::new(alloc);
+    analyses.push(Box::new(alloc, Location::new())?)?;
+    Ok(analyses)
+}
+
+fn file(alloc: Global, text: Vec<u8>) -> Result<MemoryInputs, AllocError> {
+    let mut files = Vec::new(alloc);
+    files.push((String::from_str(alloc, "p.c")?, text))?;
+    MemoryInputs::new(alloc, files, Vec::new(alloc))
+}
+
+/// The status of the call, and the sink with what it wrote.
+fn answer<R: Threads + Sync>(
+    rt: &R,
+    alloc: Global,
+    row: Row,
+) -> Result<(u8, MemorySink), AllocError> {
+    let mut inputs = file(alloc, row.text)?;
+    let mut out = MemorySink::new(alloc, ROOM, ROOM, Vec::new(alloc))?;
+    let status = run(
+        rt,
+        alloc,
+        row.words,
+        analyses(alloc)?,
+        &mut inputs,
+        &mut out,
+    );
+    Ok((status, out))
+}
+
+fn main(rt: HostRuntime) -> io::Result<()> {
+    let alloc = rt.alloc();
+    let mut out = BufWriter::new(alloc, io::writer(&rt))?;
+    for (number, line) in BufReader::new(alloc, rt.reader())?.lines(alloc).enumerate() {
+        let row = Row::parse(alloc, line?.as_str())?;
+        let (status, sink) = answer(&rt, alloc, row)?;
+        writeln!(out, "row {number}: status {status}")?;
+        out.write_all(sink.written())?;
+    }
+    out.flush()
+}

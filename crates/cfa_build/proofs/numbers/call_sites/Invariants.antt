@@ -1,5 +1,0 @@
-use Rattle.cfa_build.specs.Edges.{AreSitesBelow}
-use Rattle.cfa_build.proofs.numbers.call_sites.Given as goal
-
-abbrev pub invariant-loop-n : goal.invariant-loop-n
-invariant-loop-n l = AreSitesBelow l.program l.n l.sites.items
