@@ -105,7 +105,8 @@ pub record HasUnknownDirective (fresh : Bool) (text : List ℕ) : Type 0 where
 abbrev pub Fails : Bool → Rule → List ℕ → Type 0
 Fails fresh L1 text = HasStrayHash fresh text ⊎ (HasStrayByte text ⊎
     (HasMalformedNumber text ⊎ HasMalformedCharacter text))
-Fails fresh L2 text = HasOpenComment text ⊎ (HasOpenQuote single_quote text ⊎ HasOpenQuote double_quote text)
+Fails fresh L2 text = HasOpenComment text ⊎
+    (HasOpenQuote single_quote text ⊎ HasOpenQuote double_quote text)
 Fails fresh L3 text = HasLargeNumber text ⊎ HasLargeCharacter text
 Fails fresh L4 text = HasUnknownDirective fresh text
 Fails fresh _ text = ⊥

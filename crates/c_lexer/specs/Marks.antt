@@ -9,9 +9,10 @@ single_marks = codes "[](){}.&*+-~!/%<>^|?:;=,"
 
 -- the marks of two bytes
 abbrev pub double_marks : List (List ℕ)
-double_marks = codes "->" ∷ codes "++" ∷ codes "--" ∷ codes "<<" ∷ codes ">>" ∷ codes "<=" ∷ codes ">=" ∷
-    codes "==" ∷ codes "!=" ∷ codes "&&" ∷ codes "||" ∷ codes "*=" ∷ codes "/=" ∷ codes "%=" ∷ codes "+=" ∷
-    codes "-=" ∷ codes "&=" ∷ codes "^=" ∷ codes "|=" ∷ []
+double_marks =
+    codes "->" ∷ codes "++" ∷ codes "--" ∷ codes "<<" ∷ codes ">>" ∷ codes "&&" ∷ codes "||" ∷
+    codes "<=" ∷ codes ">=" ∷ codes "==" ∷ codes "!=" ∷ codes "*=" ∷ codes "/=" ∷ codes "%=" ∷
+    codes "+=" ∷ codes "-=" ∷ codes "&=" ∷ codes "^=" ∷ codes "|=" ∷ []
 
 -- the marks of three bytes
 abbrev pub triple_marks : List (List ℕ)
@@ -22,7 +23,8 @@ abbrev pub is_mark : List ℕ → Bool
 is_mark [] = false
 is_mark (first ∷ []) = list_any (λ mark. mark == first) single_marks
 is_mark (first ∷ second ∷ []) = list_any (bytes_eq (first ∷ second ∷ [])) double_marks
-is_mark (first ∷ second ∷ third ∷ []) = list_any (bytes_eq (first ∷ second ∷ third ∷ [])) triple_marks
+is_mark (first ∷ second ∷ third ∷ []) =
+    list_any (bytes_eq (first ∷ second ∷ third ∷ [])) triple_marks
 is_mark (first ∷ second ∷ third ∷ fourth ∷ rest) = false
 
 -- a comment begins here

@@ -1,5 +1,5 @@
-//! The rules that a text can break, and the fault that names one. What each rule of tokens refuses is
-//! `Fails` of `specs/Faults.antt`.
+//! The rules that a text can break, and the fault that names one. What each rule of tokens refuses
+//! is `Fails` of `specs/Faults.antt`.
 ghost use Rattle.std.specs.Prelude.{◌≡◌};
 ghost use Rattle.c_lexer.specs.Rules.{rule_number};
 ghost use Rattle.c_lexer.specs.declared.fault.TextError.TheVariants.{OutOfMemory};
@@ -33,8 +33,8 @@ pub enum Rule {
     N3,
     /// A call has another number of arguments than the function has parameters.
     N4,
-    /// An array without an index, an index on a scalar, or a void expression or object where a value or
-    /// a scalar is needed.
+    /// An array without an index, an index on a scalar, or a void expression or object where a value
+    /// or a scalar is needed.
     N5,
     /// `goto` names no label of its function.
     N6,

@@ -107,7 +107,8 @@ fn type_of(suffix: Suffix, base: Base, number: u64) -> Option<IntType>
 
 /// The number with one more digit, where it is below 2^64.
 fn pushed(number: u64, radix: u8, digit: u8) -> Option<u64>
-    ensures { MatchOption result (2 ^ 64 ≤ number * radix + digit) (λ more. more ≡ number * radix + digit) }
+    ensures { MatchOption result (2 ^ 64 ≤ number * radix + digit)
+        (λ more. more ≡ number * radix + digit) }
 {
     let shifted = number.checked_mul(radix as u64)?;
     shifted.checked_add(digit as u64)
@@ -116,7 +117,8 @@ fn pushed(number: u64, radix: u8, digit: u8) -> Option<u64>
 /// The number that the digits write, where it is below 2^64.
 pub(crate) fn value_of(digits: &[u8], radix: u8) -> Option<u64>
     requires { 0 < radix }
-    ensures { MatchOption result (2 ^ 64 ≤ digits_value radix digits.now) (λ number. number ≡ digits_value radix digits.now) }
+    ensures { MatchOption result (2 ^ 64 ≤ digits_value radix digits.now)
+        (λ number. number ≡ digits_value radix digits.now) }
 {
     let mut number: u64 = 0;
     for byte in digits {
@@ -183,7 +185,8 @@ fn typed(ty: Option<IntType>, number: u64) -> Result<TokenKind, Rule>
 
 /// The number with this suffix, where there is one.
 fn suffixed(suffix: Option<Suffix>, base: Base, digits: &[u8]) -> Result<TokenKind, Rule>
-    ensures { result ≡ suffixed (option_map suffix_from suffix) (base_from base) (digits_value (radix (base_from base)) digits.now) }
+    ensures { result ≡ suffixed (option_map suffix_from suffix) (base_from base)
+        (digits_value (radix (base_from base)) digits.now) }
 {
     let Some(suffix) = suffix else {
         return Err(Rule::L1);

@@ -59,6 +59,7 @@ pub fn constants_lie_in_range()
 
 /// Rules are ordered by their numbers, and no two have one.
 pub fn rules_are_ordered_by_number()
-    ensures order { (a b : Rule) → ⟦<Rule as Ord>⟧.cmp a b ≡ nat_cmp (rule_number a) (rule_number b) }
+    ensures order { (a b : Rule) →
+        ⟦<Rule as Ord>⟧.cmp a b ≡ nat_cmp (rule_number a) (rule_number b) }
     ensures one { (a b : Rule) → rule_number a ≡ rule_number b → a ≡ b }
 {}

@@ -36,7 +36,8 @@ fn fresh_behind(fresh: bool, kind: PieceKind, bytes: &[u8]) -> bool
 /// Adds the token that the piece at this place is, if it is one.
 fn push_token(found: &mut Vec<Token>, place: usize, piece: Piece) -> Result<(), TextError>
     requires { place + piece.length ≤ MAX_TEXT }
-    ensures ok { IfOk result (λ _. found.new.items ≡ found.old.items ++ tokens_of place piece.length piece.kind) }
+    ensures ok { IfOk result (λ _.
+        found.new.items ≡ found.old.items ++ tokens_of place piece.length piece.kind) }
     ensures memory { IfErr result (λ error. error ≡ OutOfMemory) }
 {
     if let PieceKind::Token(kind) = piece.kind {

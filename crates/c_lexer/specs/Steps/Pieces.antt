@@ -21,7 +21,8 @@ part_of (piece.Token kind) bytes = token kind bytes
 abbrev pub tokens_of : ℕ → ℕ → PieceKind → List Token
 tokens_of place length piece.Gap = []
 tokens_of place length piece.Directive = []
-tokens_of place length (piece.Token kind) = record { kind = kind; from = place; to = place + length } ∷ []
+tokens_of place length (piece.Token kind) =
+    record { kind = kind; from = place; to = place + length } ∷ []
 
 -- the base that the code names
 abbrev pub base_from : CodeBase → Base

@@ -21,7 +21,8 @@ one_more found = option_map (λ n. n + 1) found
 -- how many bytes there are through the first */, where `star` says that a star stands before
 abbrev pub close_from : Bool → List ℕ → Option ℕ
 close_from star [] = None
-close_from star (byte ∷ rest) = cond (star && byte == 47) (Some 1) (one_more (close_from (byte == 42) rest))
+close_from star (byte ∷ rest) =
+    cond (star && byte == 47) (Some 1) (one_more (close_from (byte == 42) rest))
 
 -- the length of the /* comment that begins the text; None where it has no end, or none begins
 abbrev pub comment_length : List ℕ → Option ℕ
@@ -37,7 +38,8 @@ opens_line_comment text = starts_with nat_eq text (codes "//")
 
 -- the length of the blank or finished comment that begins the text
 abbrev pub space_of : List ℕ → Option ℕ
-space_of text = cond (begins_with is_blank text) (Some 1) (cond (opens_comment text) (comment_length text) None)
+space_of text = cond (begins_with is_blank text) (Some 1)
+    (cond (opens_comment text) (comment_length text) None)
 
 -- the text behind its blanks and finished comments, of which there are at most `most`
 abbrev pub after_spaces : ℕ → List ℕ → List ℕ
@@ -52,15 +54,18 @@ behind_spaces text = after_spaces (length text) text
 abbrev pub directive_line : List ℕ → List ℕ
 directive_line text = drop 1 (take (prefix_len is_on_line text) text)
 
--- how many bytes there are before the quote that closes the text, where `escaped` says that a backslash stands before
+-- how many bytes there are before the quote that closes the text, where `escaped` says that a
+-- backslash stands before
 abbrev pub close_quote : ℕ → Bool → List ℕ → Option ℕ
 close_quote quote escaped [] = None
 close_quote quote escaped (byte ∷ rest) = cond (byte == 10) None
-    (cond (byte == quote && not escaped) (Some 0) (one_more (close_quote quote (byte == 92 && not escaped) rest)))
+    (cond (byte == quote && not escaped) (Some 0)
+    (one_more (close_quote quote (byte == 92 && not escaped) rest)))
 
 -- the length of the longest mark that begins the text, or 0
 abbrev pub mark_length : List ℕ → ℕ
-mark_length text = cond (is_mark (take 3 text)) (length (take 3 text)) (cond (is_mark (take 2 text)) (length (take 2 text))
+mark_length text = cond (is_mark (take 3 text)) (length (take 3 text))
+    (cond (is_mark (take 2 text)) (length (take 2 text))
     (cond (is_mark (take 1 text)) (length (take 1 text)) 0))
 
 -- a blank or a comment of this length
@@ -80,12 +85,14 @@ comment_piece (Some n) = gap_piece n
 -- the directive line, where it is the first on its line and one that is known
 abbrev pub directive_piece : Bool → List ℕ → Result Piece Rule
 directive_piece fresh text = cond fresh
-    (cond (names_directive (behind_spaces (directive_line text))) (Ok (record { kind = Directive; length = prefix_len is_on_line text })) (Err L4))
+    (cond (names_directive (behind_spaces (directive_line text)))
+    (Ok (record { kind = Directive; length = prefix_len is_on_line text })) (Err L4))
     (Err L1)
 
 -- the number that the longest run of a number's bytes is
 abbrev pub number_piece : List ℕ → Result Piece Rule
-number_piece text = token_piece (prefix_len is_number_byte text) (number_of (take (prefix_len is_number_byte text) text))
+number_piece text = token_piece (prefix_len is_number_byte text)
+    (number_of (take (prefix_len is_number_byte text) text))
 
 -- the character between the quotes, where they are closed
 abbrev pub character_in : Option ℕ → List ℕ → Result Piece Rule
@@ -103,10 +110,12 @@ mark_piece n = cond (n == 0) (Err L1) (token_piece n (Ok Mark))
 
 -- the part that begins a text of this first byte, if it is no blank, directive or comment
 abbrev pub token_at : ℕ → List ℕ → Result Piece Rule
-token_at byte text = cond (is_word_head byte) (token_piece (prefix_len is_word_byte text) (Ok Word)) (
+token_at byte text =
+    cond (is_word_head byte) (token_piece (prefix_len is_word_byte text) (Ok Word)) (
     cond (is_ascii_digit byte) (number_piece text) (
     cond (byte == 39) (character_in (close_quote 39 false (drop 1 text)) text) (
-    cond (byte == 34) (text_in (close_quote 34 false (drop 1 text))) (mark_piece (mark_length text)))))
+    cond (byte == 34) (text_in (close_quote 34 false (drop 1 text)))
+    (mark_piece (mark_length text)))))
 
 -- the part that begins the text, or the rule that is broken there
 abbrev pub piece_of : Bool → List ℕ → Result Piece Rule

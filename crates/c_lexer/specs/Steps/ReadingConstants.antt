@@ -1,5 +1,5 @@
--- What reading a constant computes. It promises nothing: what it means stands in Numbers and Quoted,
--- and proofs/Constants and proofs/Quotes tie the two.
+-- What reading a constant computes. It promises nothing: what it means stands in Numbers and in
+-- Quoted, and proofs/Constants and proofs/Quotes tie the two.
 use Rattle.std.specs.Prelude.{ℕ, Bool, true, false, not, ◌&&◌, ◌||◌, List, [], ◌∷◌, length, drop, take, ◌==◌, nat_le, pos, Option, Some, None, Result, Ok, Err, cond}
 use Rattle.std.specs.List.{list_all, prefix_len}
 use Rattle.std.specs.Char.{is_digit}
@@ -41,7 +41,8 @@ is_u byte = byte == 117 || byte == 85
 abbrev pub rank_of : List ℕ → Option Rank
 rank_of [] = Some Int
 rank_of (first ∷ []) = cond (first == 108 || first == 76) (Some Long) None
-rank_of (first ∷ second ∷ []) = cond ((first == 108 && second == 108) || (first == 76 && second == 76)) (Some LongLong) None
+rank_of (first ∷ second ∷ []) =
+    cond ((first == 108 && second == 108) || (first == 76 && second == 76)) (Some LongLong) None
 rank_of (first ∷ second ∷ third ∷ rest) = None
 
 -- a suffix of this rank, if there is one
@@ -52,10 +53,13 @@ with_rank unsigned (Some rank) = Some (record { unsigned = unsigned; rank = rank
 -- the suffix that the letters are
 abbrev pub suffix_of : List ℕ → Option Suffix
 suffix_of [] = Some (record { unsigned = false; rank = Int })
-suffix_of (first ∷ []) = cond (is_u first) (Some (record { unsigned = true; rank = Int })) (with_rank false (rank_of (first ∷ [])))
+suffix_of (first ∷ []) = cond (is_u first) (Some (record { unsigned = true; rank = Int }))
+    (with_rank false (rank_of (first ∷ [])))
 suffix_of (first ∷ second ∷ []) = cond (is_u first) (with_rank true (rank_of (second ∷ [])))
-    (cond (is_u second) (with_rank true (rank_of (first ∷ []))) (with_rank false (rank_of (first ∷ second ∷ []))))
-suffix_of (first ∷ second ∷ third ∷ []) = cond (is_u first) (with_rank true (rank_of (second ∷ third ∷ [])))
+    (cond (is_u second) (with_rank true (rank_of (first ∷ [])))
+    (with_rank false (rank_of (first ∷ second ∷ []))))
+suffix_of (first ∷ second ∷ third ∷ []) =
+    cond (is_u first) (with_rank true (rank_of (second ∷ third ∷ [])))
     (cond (is_u third) (with_rank true (rank_of (first ∷ second ∷ []))) None)
 suffix_of (first ∷ second ∷ third ∷ fourth ∷ rest) = None
 
@@ -72,7 +76,8 @@ suffixed (Some suffix) base number = typed (type_of suffix base number) number
 -- the constant of this base whose digits come first
 abbrev pub number_in : Base → List ℕ → Result TokenKind Rule
 number_in base text = cond (digit_run base text == 0) (Err L1)
-    (suffixed (suffix_of (drop (digit_run base text) text)) base (digits_value (radix base) (take (digit_run base text) text)))
+    (suffixed (suffix_of (drop (digit_run base text) text)) base
+    (digits_value (radix base) (take (digit_run base text) text)))
 
 -- the integer constant that the run is
 abbrev pub number_of : List ℕ → Result TokenKind Rule
