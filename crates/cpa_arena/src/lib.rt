@@ -1,0 +1,6 @@
+//! The clauses of a search in one flat array of literals, and the look-up of a clause among them.
+#![tactic(auto)]
+
+mod arena;
+
+pub use arena::Arena;

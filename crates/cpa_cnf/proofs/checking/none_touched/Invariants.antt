@@ -1,0 +1,8 @@
+use Rattle.std.proofs.Common.{◌≡◌, ℕ, true, false, take}
+use Rattle.cpa_cnf.specs.Lines.{known}
+use Rattle.cpa_cnf.specs.Marking.{marked, is_touched}
+use Rattle.cpa_cnf.proofs.checking.none_touched.Given as goal
+
+abbrev pub invariant-loop-step : goal.invariant-loop-step
+invariant-loop-step l =
+    (x : ℕ) → is_touched (known l.cnf l.earlier) l.line.first (take l.step-index l.step-items) x ≡ true → marked l.table x ≡ false

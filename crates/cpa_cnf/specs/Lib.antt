@@ -1,0 +1,6 @@
+pub mod Literals
+pub mod Clauses
+pub mod Resolution
+pub mod Lines
+pub mod Models
+pub mod Marking
