@@ -3,6 +3,8 @@ use Rattle.std.proofs.Common.{◌≡◌, ◌≢◌, ℕ, ◌+◌, ◌-◌, ◌<�
 use Rattle.std.specs.List.{AllByRecursion, slice_get}
 use Rattle.std.proofs.lemmas.Bool.{cases_Bool}
 use Rattle.std.proofs.lemmas.Int.{ints}
+use Rattle.std.proofs.lemmas.Option.{slice_get-map}
+use Rattle.std.specs.Option.{option_map}
 use lib.Signed.{le_z_yes}
 use lib.Dec.{T}
 use Rattle.std.proofs.Math.Seq.{take-append_seam, drop-append_seam}
@@ -15,7 +17,7 @@ use Rattle.c_lexer.specs.declared.token.TokenKind.{TokenKind}
 use Rattle.c_lexer.specs.declared.token.TokenKind.TheVariants.{Word, Number, Character, Text, Mark, End}
 use Rattle.c_lexer.specs.Parts.{Part, gap, directive, token, bytes_of, joined, IsToken, Stand, fresh_behind, tokens_from, end_token, Tokens}
 use Rattle.c_lexer.specs.Numbers.{IsNumber, types_of}
-use Rattle.c_lexer.specs.Lexemes.{bytes_at, IsSpelled, EndsOnce, AreInOrder, ForEachToken}
+use Rattle.c_lexer.specs.Lexemes.{end_lexeme, lexeme_of, lexemes, bytes_at, IsSpelled, EndsOnce, AreInOrder, ForEachToken}
 use Rattle.c_lexer.proofs.Complete.{part_some}
 
 not_end : (kind : TokenKind) (bytes rest : List ℕ) → IsToken kind bytes rest → kind ≢ End
@@ -210,3 +212,18 @@ pub character_value : ((type : IntType) (n : ℤ) → IsInRange type (wrapped ty
 character_value range text found i t is e value kind =
     let c = kind_at text found i t (Character value) is e kind (λ bad. (cc)) in
     subst (IsInRange ty.I8) (sym c.valued) (range ty.I8 (pos c.number))
+
+-- each token lies in the text, End too
+pub within_text : ForEachToken (λ text t. (t.from ≤ t.to) × (t.to ≤ length text))
+within_text text found i t is e = elim (at_index text found i t is e) [
+  | inl real ↦ (omega (arith, real.0.some), real.0.within)
+  | inr last ↦ subst (λ z. (z.from ≤ z.to) × (z.to ≤ length text)) (sym last.same) (omega arith, omega arith)
+]
+
+end_lexeme_of : (text : List ℕ) → lexeme_of text (end_token (length text)) ≡ end_lexeme
+end_lexeme_of text = let none : length text - length text ≡ 0 = omega arith in rw none refl
+
+-- the last lexeme is that of the end
+pub last_lexeme : (text : List ℕ) (found : List Token) → Tokens text found → slice_get (lexemes text found) (length found - 1) ≡ Some end_lexeme
+last_lexeme text found is =
+    slice_get-map (lexeme_of text) found (length found - 1) ∙ ap (option_map (lexeme_of text)) (ends_once text found is).last ∙ ap Some (end_lexeme_of text)

@@ -1,6 +1,6 @@
 //! Laws of the tokens of a text. Each function does nothing: its contract is the law.
 
-ghost use Rattle.std.specs.Prelude.{◌≡◌, ◌≢◌, ◌⊎◌, ℕ, ℤ, List};
+ghost use Rattle.std.specs.Prelude.{◌≡◌, ◌≢◌, ◌≤◌, ◌-◌, ◌⊎◌, ℕ, ℤ, List, length, slice_get};
 ghost use Rattle.cpa_ints.specs.declared.integers.IntType.{IntType};
 ghost use Rattle.cpa_ints.specs.declared.integers.IntType.TheVariants.{I8};
 ghost use Rattle.cpa_ints.specs.Integers.{IsInRange};
@@ -12,7 +12,7 @@ ghost use Rattle.c_lexer.specs.declared.fault.Rule.{Rule};
 ghost use Rattle.c_lexer.specs.Rules.{rule_number};
 ghost use Rattle.c_lexer.specs.Parts.{Tokens, NoTokens};
 ghost use Rattle.c_lexer.specs.Faults.{HasFault};
-ghost use Rattle.c_lexer.specs.Lexemes.{IsSpelled, EndsOnce, AreInOrder, ForEachToken};
+ghost use Rattle.c_lexer.specs.Lexemes.{end_lexeme, lexemes, IsSpelled, EndsOnce, AreInOrder, ForEachToken};
 
 use crate::Rule;
 use cpa_ints::wrap_keeps_the_range;
@@ -39,12 +39,16 @@ pub fn tokens_are_spelled()
 
 /// The last token is `End` at the text's length, and no other is `End`.
 pub fn tokens_end_once()
-    ensures { (text : List ℕ) (found : List Token) → Tokens text found → EndsOnce text found }
+    ensures once { (text : List ℕ) (found : List Token) → Tokens text found → EndsOnce text found }
+    ensures lexeme { (text : List ℕ) (found : List Token) → Tokens text found →
+        slice_get (lexemes text found) (length found - 1) ≡ Some end_lexeme }
 {}
 
-/// Tokens stand in the order of the text and do not overlap.
+/// Tokens lie in the text, stand in its order and do not overlap.
 pub fn tokens_lie_in_order()
-    ensures { (text : List ℕ) (found : List Token) → Tokens text found → AreInOrder found }
+    ensures within { ForEachToken (λ text token.
+        (token.from ≤ token.to) × (token.to ≤ length text)) }
+    ensures order { (text : List ℕ) (found : List Token) → Tokens text found → AreInOrder found }
 {}
 
 /// The value of a number lies in the range of its type, that of a character in the range of `char`.
