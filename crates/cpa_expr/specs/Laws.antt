@@ -4,7 +4,7 @@
 -- is the contract of a law of src/laws.rt. The lemma below it is its proof, which a lemma of another
 -- crate cites; a function may call the law, and its answers cite the call's clause. After them come
 -- the laws of whole expressions, in the same form.
-use Rattle.std.specs.Prelude.{◌≡◌, ◌↔◌, ℕ, ◌+◌, ◌≤◌, max, ℤ, pos, ◌≤ℤ◌, ◌<ℤ◌, ◌<◌, ◌⊎◌, Bool, false, ◌||◌, IsTrue, List, Some, None, IsSome, IfSome, length, slice_get, slice_set, option_map, option_and_then}
+use Rattle.std.specs.Prelude.{◌≡◌, ◌↔◌, ℕ, ◌+◌, ◌≤◌, max, ℤ, pos, ◌≤ℤ◌, ◌<ℤ◌, ◌<◌, ◌⊎◌, Bool, false, ◌||◌, IsTrue, List, Some, None, IsSome, IfSome, length, slice_get, slice_set, if◌then◌else◌, option_map, option_and_then}
 use Rattle.cpa_ints.specs.declared.integers.IntType.{IntType}
 use Rattle.cpa_ints.specs.declared.integers.IntType.TheVariants as ty
 use Rattle.cpa_ints.specs.Integers.{IsInRange}
@@ -12,17 +12,17 @@ use Rattle.cpa_ints.specs.Wrapping.{wrapped}
 use Rattle.cpa_expr.specs.declared.tree.UnOp.{UnOp}
 use Rattle.cpa_expr.specs.declared.tree.BinOp.{BinOp}
 use Rattle.cpa_expr.specs.declared.tree.CmpOp.{CmpOp}
-use Rattle.cpa_expr.specs.declared.tree.Expr.{Expr}
+use Rattle.cpa_expr.specs.declared.tree.Expr.{Expr, out-Expr}
 use Rattle.cpa_expr.specs.declared.tree.Expr.TheVariants.{Const, Read, Un, Bin, Cmp, Cast, And, Or, Not, Cond}
 use Rattle.cpa_expr.specs.Shape.{is_arithmetic, is_shift, type_of, size, height, AreCells, IsTyped, IsExpr}
 use Rattle.cpa_expr.specs.Values.{un_value, bin_value, cell_at, evaluated, comparison as compared, logical_and, logical_or, logical_not, conditional as chosen, value_of}
-use Rattle.cpa_expr.specs.Cells.{is_within, may_read, AgreesWhereRead, AreValues, scalar_read, ReadsAsScalar, replaced}
+use Rattle.cpa_expr.specs.Cells.{is_within, may_read, AgreesWhereRead, AreValues, scalar_read, is_scalar_read, ReadsAsScalar, replaced, with_parts}
 use Rattle.cpa_expr.specs.Traps.{Traps}
 use Rattle.cpa_expr.specs.Equality.{same_expr}
 use Rattle.cpa_expr.specs.lemmas.Variants as at
 use Rattle.cpa_expr.specs.lemmas.ValueRanges.{value_in_range}
 use Rattle.cpa_expr.specs.lemmas.CellsRead.{value_agrees}
-use Rattle.cpa_expr.specs.lemmas.Substitution.{replaced_value, replaced_type, replaced_typed, replaced_height}
+use Rattle.cpa_expr.specs.lemmas.Substitution.{replaced_node, replaced_value, replaced_type, replaced_typed, replaced_height}
 use Rattle.cpa_expr.specs.lemmas.TrapsKept.{replaced_trap}
 use Rattle.cpa_expr.specs.lemmas.Unread.{replaced_unread}
 use Rattle.cpa_expr.specs.lemmas.Traps.{read_some, none_traps}
@@ -290,6 +290,15 @@ pub value_depends_on_what_is_read : DependsOnWhatIsRead
 value_depends_on_what_is_read = value_agrees
 
 -- ---- a cell replaced
+
+-- a node that reads the cell as a scalar becomes `by`; any other keeps its form, each part replaced
+abbrev pub ReplacedAtNodes : Type 0
+ReplacedAtNodes =
+    (e : Expr) (cell : ℕ) (by : Expr) → replaced e cell by
+    ≡ (if is_scalar_read cell (out-Expr e) then by else with_parts (λ part. replaced part cell by) e)
+
+pub replaced_at_nodes : ReplacedAtNodes
+replaced_at_nodes = replaced_node
 
 -- v is the value that `by` brings to a cell of the store that e reads as a scalar alone
 pub record ReplacesFor (e : Expr) (cell : ℕ) (by : Expr) (values : List ℤ) (v : ℤ) : Type 0 where

@@ -9,3 +9,4 @@ pub mod Words
 pub mod Spelling
 pub mod lemmas
 pub mod Laws
+pub mod Induction

@@ -3,7 +3,7 @@
 //! `value_at_variants.binary o t left right values`; an answer of a function that calls the law may
 //! also cite the call, as `c.value_at_variants.ensures.binary o t left right values`.
 
-ghost use Rattle.cpa_expr.specs.Laws.{ValueAtVariants, TypeAtVariants, TypedAtVariants, ReadsAtVariants, SizeAtVariants, HeightAtVariants, ConstantIsItsNumber, ScalarIsItsCell, ValuesLieInRange, ReadsWithinTheArray, NoneIsATrap, DependsOnWhatIsRead, ReplacingIsSetting, ReplacingKeepsTypes, SameWhereEqual};
+ghost use Rattle.cpa_expr.specs.Laws.{ValueAtVariants, TypeAtVariants, TypedAtVariants, ReadsAtVariants, SizeAtVariants, HeightAtVariants, ConstantIsItsNumber, ScalarIsItsCell, ValuesLieInRange, ReadsWithinTheArray, NoneIsATrap, DependsOnWhatIsRead, ReplacedAtNodes, ReplacingIsSetting, ReplacingKeepsTypes, SameWhereEqual};
 
 /// The value of each variant, from the values of its parts.
 ///
@@ -76,6 +76,13 @@ pub fn no_value_is_a_trap()
 #[tactic(auto, using(crate::specs::Laws::value_depends_on_what_is_read))]
 pub fn value_depends_on_what_is_read()
     ensures { DependsOnWhatIsRead }
+{}
+
+/// What `replace_cell` makes of a node: `by` of a scalar read of the cell, and of any other node the
+/// same with each part replaced.
+#[tactic(auto, using(crate::specs::Laws::replaced_at_nodes))]
+pub fn replaced_at_nodes()
+    ensures { ReplacedAtNodes }
 {}
 
 /// Where every read of a cell is a scalar one, to replace the cell by an expression is to set the

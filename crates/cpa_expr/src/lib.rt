@@ -22,9 +22,9 @@ pub use equality::same_expr;
 pub use evaluation::value;
 pub use laws::{
     a_constant_is_its_number, a_scalar_is_its_cell, height_at_variants, no_value_is_a_trap,
-    reads_at_variants, reads_have_values_within_the_array, same_where_equal, size_at_variants,
-    to_replace_is_to_set, to_replace_keeps_types, type_at_variants, typed_at_variants,
-    value_at_variants, value_depends_on_what_is_read, values_lie_in_range,
+    reads_at_variants, reads_have_values_within_the_array, replaced_at_nodes, same_where_equal,
+    size_at_variants, to_replace_is_to_set, to_replace_keeps_types, type_at_variants,
+    typed_at_variants, value_at_variants, value_depends_on_what_is_read, values_lie_in_range,
 };
 pub use operators::{bin_value, compares, is_nonzero, truth, un_value};
 pub use parts::{Parts, parts_of};

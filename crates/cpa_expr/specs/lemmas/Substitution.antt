@@ -12,7 +12,7 @@ use Rattle.cpa_expr.specs.declared.tree.Expr.TheOpen.{Expr-F}
 use Rattle.cpa_expr.specs.declared.tree.Expr.TheFolds.{map-Expr, fold-Expr, fold-roll-Expr}
 use Rattle.cpa_expr.specs.Shape.{OfParts, node_type, type_of, height_step, height, IsTypedHere, IsTyped}
 use Rattle.cpa_expr.specs.Values.{un_value, bin_value, compares, truth, cell_at, evaluated, value_step, value_of}
-use Rattle.cpa_expr.specs.Cells.{is_within, is_zero, is_scalar_read, Replacement, replace_step, replaced, reads_here, ReadsAsScalar}
+use Rattle.cpa_expr.specs.Cells.{is_within, is_zero, is_scalar_read, Replacement, replace_step, replaced, reads_here, ReadsAsScalar, with_parts}
 use Rattle.cpa_expr.specs.lemmas.Parts.{by_parts, every_rolled, every_of_parts}
 use Rattle.cpa_expr.specs.lemmas.Layers.{values_in, value_rolled, type_rolled, height_rolled}
 use Rattle.cpa_expr.specs.lemmas.CellsRead.{same_read, both_same, same_cells}
@@ -128,6 +128,10 @@ module _ (cell : ℕ) (by : Expr) where
       choose : (b : Bool) → is_scalar_read cell x ≡ b → P (if b then by else roll-Expr (news x))
       choose true e = scalar e
       choose false e = other e
+
+pub replaced_node : (e : Expr) (cell : ℕ) (by : Expr)
+    → replaced e cell by ≡ (if is_scalar_read cell (out-Expr e) then by else with_parts (λ part. replaced part cell by) e)
+replaced_node e cell by = ap (new cell by) (sym (roll-out-Expr e)) ∙ new_rolled cell by (out-Expr e)
 
 -- what a scalar read of the cell is
 pub record IsScalar (cell base len : ℕ) (index : Expr) : Type 0 where
