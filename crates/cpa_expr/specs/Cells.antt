@@ -1,4 +1,5 @@
--- The cells that an expression reads, and what it becomes where one of them is replaced.
+-- The cells that an expression reads, and what it becomes where one of them is replaced (this
+-- project's own).
 use Rattle.std.specs.Prelude.{◌≡◌, ℕ, ◌+◌, ℤ, pos, nat_le, nat_lt, ◌==◌, Bool, false, IsTrue, ◌&&◌, ◌||◌, if◌then◌else◌, List, slice_get}
 use Rattle.std.specs.List.{AllZip, list_any}
 use Rattle.std.specs.Ordering.{int_eq}
@@ -30,13 +31,15 @@ may_read e cell = fold-Expr Bool (reads_step cell) e
 
 -- the two stores have the same at each cell that the expression may read
 abbrev pub AgreesWhereRead : Expr → List ℤ → List ℤ → Type 0
-AgreesWhereRead e values others = (cell : ℕ) → IsTrue (may_read e cell) → slice_get values cell ≡ slice_get others cell
+AgreesWhereRead e values others =
+    (cell : ℕ) → IsTrue (may_read e cell) → slice_get values cell ≡ slice_get others cell
 
 -- a value in range for each cell
 abbrev pub AreValues : List IntType → List ℤ → Type 0
 AreValues = AllZip IsInRange
 
--- the read of a scalar: of the one cell at index 0
+-- the read of a scalar: of an array of the one cell, at the index 0 of type int. `a[0]` of an array
+-- of length 1 is one, and an index of another type makes none
 abbrev pub scalar_read : IntType → ℕ → Expr
 scalar_read t cell = Read t cell 1 (Const ty.I32 (pos 0))
 
@@ -47,7 +50,8 @@ is_zero _ = false
 
 -- the node reads the cell as a scalar: as the one cell at index 0
 abbrev pub is_scalar_read : ℕ → Expr-F Expr → Bool
-is_scalar_read cell (Expr-F.Read t base len index) = base == cell && len == 1 && is_zero (out-Expr index)
+is_scalar_read cell (Expr-F.Read t base len index) =
+    base == cell && len == 1 && is_zero (out-Expr index)
 is_scalar_read cell _ = false
 
 -- an expression, and what it becomes
@@ -61,10 +65,12 @@ replace_step cell by node =
     let whole = map-Expr Replacement Expr (λ part. part.before) node in
     record {
       before = roll-Expr whole;
-      after = if is_scalar_read cell whole then by else roll-Expr (map-Expr Replacement Expr (λ part. part.after) node);
+      after = if is_scalar_read cell whole then by
+          else roll-Expr (map-Expr Replacement Expr (λ part. part.after) node);
     }
 
--- the expression with `by` in place of each scalar read of the cell; reads of arrays stay, but for their indices
+-- the expression with `by` in place of each scalar read of the cell; reads of arrays stay, but for
+-- their indices
 abbrev pub replaced : Expr → ℕ → Expr → Expr
 replaced e cell by = (fold-Expr Replacement (replace_step cell by) e).after
 
@@ -74,4 +80,5 @@ with_parts f e = roll-Expr (map-Expr Expr Expr f (out-Expr e))
 
 -- every read of the cell is a scalar one
 abbrev pub ReadsAsScalar : ℕ → Expr → Type 0
-ReadsAsScalar cell = every-Expr (λ node. IsTrue (reads_here cell node) → IsTrue (is_scalar_read cell node))
+ReadsAsScalar cell =
+    every-Expr (λ node. IsTrue (reads_here cell node) → IsTrue (is_scalar_read cell node))

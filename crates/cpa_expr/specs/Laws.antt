@@ -1,9 +1,9 @@
 -- What each variant of an expression means, in terms of its parts: its value (C11 6.5), its type
 -- (C11 6.5.8 to 6.5.14) and typing, the cells that it reads, its size and its height. A fold does
 -- not compute at a variant, so every proof about expressions stands on these equations. Each record
--- is the contract of a law of src/laws.rt. The lemma below it is its proof, which a lemma of another
--- crate cites; a function may call the law, and its answers cite the call's clause. After them come
--- the laws of whole expressions, in the same form.
+-- is the contract of a law of src/laws.rt. The lemma below it is its proof, which a lemma of
+-- another crate cites; a function may call the law, and its answers cite the call's clause. After
+-- them come the laws of whole expressions, in the same form.
 use Rattle.std.specs.Prelude.{◌≡◌, ◌↔◌, ℕ, ◌+◌, ◌≤◌, max, ℤ, pos, ◌≤ℤ◌, ◌<ℤ◌, ◌<◌, ◌⊎◌, Bool, false, ◌||◌, IsTrue, List, Some, None, IsSome, IfSome, length, slice_get, slice_set, if◌then◌else◌, option_map, option_and_then}
 use Rattle.cpa_ints.specs.declared.integers.IntType.{IntType}
 use Rattle.cpa_ints.specs.declared.integers.IntType.TheVariants as ty
@@ -33,23 +33,28 @@ use Rattle.cpa_expr.specs.lemmas.ScalarReads.{constant_expr, scalar_type, scalar
 pub record ValueAtVariants : Type 0 where
   pub constant : (t : IntType) (n : ℤ) (values : List ℤ) → value_of (Const t n) values ≡ Some n
   pub read : (t : IntType) (base len : ℕ) (index : Expr) (values : List ℤ)
-      → value_of (Read t base len index) values ≡ option_and_then (cell_at values base len) (value_of index values)
+      → value_of (Read t base len index) values
+      ≡ option_and_then (cell_at values base len) (value_of index values)
   pub unary : (o : UnOp) (t : IntType) (arg : Expr) (values : List ℤ)
       → value_of (Un o t arg) values ≡ option_map (un_value o t) (value_of arg values)
   pub binary : (o : BinOp) (t : IntType) (left right : Expr) (values : List ℤ)
-      → value_of (Bin o t left right) values ≡ evaluated (bin_value o t) (value_of left values) (value_of right values)
+      → value_of (Bin o t left right) values
+      ≡ evaluated (bin_value o t) (value_of left values) (value_of right values)
   pub comparison : (o : CmpOp) (t : IntType) (left right : Expr) (values : List ℤ)
-      → value_of (Cmp o t left right) values ≡ compared o (value_of left values) (value_of right values)
+      → value_of (Cmp o t left right) values
+      ≡ compared o (value_of left values) (value_of right values)
   pub cast : (t : IntType) (arg : Expr) (values : List ℤ)
       → value_of (Cast t arg) values ≡ option_map (wrapped t) (value_of arg values)
   pub conjunction : (left right : Expr) (values : List ℤ)
-      → value_of (And left right) values ≡ logical_and (value_of left values) (value_of right values)
+      → value_of (And left right) values
+      ≡ logical_and (value_of left values) (value_of right values)
   pub disjunction : (left right : Expr) (values : List ℤ)
       → value_of (Or left right) values ≡ logical_or (value_of left values) (value_of right values)
   pub negation : (arg : Expr) (values : List ℤ)
       → value_of (Not arg) values ≡ logical_not (value_of arg values)
   pub conditional : (t : IntType) (test first second : Expr) (values : List ℤ)
-      → value_of (Cond t test first second) values ≡ chosen (value_of test values) (value_of first values) (value_of second values)
+      → value_of (Cond t test first second) values
+      ≡ chosen (value_of test values) (value_of first values) (value_of second values)
 
 pub value_at_variants : ValueAtVariants
 value_at_variants = record {
@@ -99,13 +104,18 @@ pub record TypedAtVariants : Type 0 where
   pub constant : (cells : List IntType) (t : IntType) (n : ℤ)
       → IsTyped cells (Const t n) ↔ IsInRange t n
   pub read : (cells : List IntType) (t : IntType) (base len : ℕ) (index : Expr)
-      → IsTyped cells (Read t base len index) ↔ ((1 ≤ len) × AreCells cells base len t × IsTyped cells index)
+      → IsTyped cells (Read t base len index)
+      ↔ ((1 ≤ len) × AreCells cells base len t × IsTyped cells index)
   pub unary : (cells : List IntType) (o : UnOp) (t : IntType) (arg : Expr)
-      → IsTyped cells (Un o t arg) ↔ (IsTrue (is_arithmetic t) × (type_of arg ≡ t) × IsTyped cells arg)
+      → IsTyped cells (Un o t arg)
+      ↔ (IsTrue (is_arithmetic t) × (type_of arg ≡ t) × IsTyped cells arg)
   pub binary : (cells : List IntType) (o : BinOp) (t : IntType) (left right : Expr)
-      → IsTyped cells (Bin o t left right) ↔ (IsTrue (is_arithmetic t) × (type_of left ≡ t) × (is_shift o ≡ false → type_of right ≡ t) × IsTyped cells left × IsTyped cells right)
+      → IsTyped cells (Bin o t left right)
+      ↔ (IsTrue (is_arithmetic t) × (type_of left ≡ t) × (is_shift o ≡ false → type_of right ≡ t)
+      × IsTyped cells left × IsTyped cells right)
   pub comparison : (cells : List IntType) (o : CmpOp) (t : IntType) (left right : Expr)
-      → IsTyped cells (Cmp o t left right) ↔ ((type_of left ≡ t) × (type_of right ≡ t) × IsTyped cells left × IsTyped cells right)
+      → IsTyped cells (Cmp o t left right)
+      ↔ ((type_of left ≡ t) × (type_of right ≡ t) × IsTyped cells left × IsTyped cells right)
   pub cast : (cells : List IntType) (t : IntType) (arg : Expr)
       → IsTyped cells (Cast t arg) ↔ IsTyped cells arg
   pub conjunction : (cells : List IntType) (left right : Expr)
@@ -114,7 +124,9 @@ pub record TypedAtVariants : Type 0 where
       → IsTyped cells (Or left right) ↔ (IsTyped cells left × IsTyped cells right)
   pub negation : (cells : List IntType) (arg : Expr) → IsTyped cells (Not arg) ↔ IsTyped cells arg
   pub conditional : (cells : List IntType) (t : IntType) (test first second : Expr)
-      → IsTyped cells (Cond t test first second) ↔ ((type_of first ≡ t) × (type_of second ≡ t) × IsTyped cells test × IsTyped cells first × IsTyped cells second)
+      → IsTyped cells (Cond t test first second)
+      ↔ ((type_of first ≡ t) × (type_of second ≡ t)
+      × IsTyped cells test × IsTyped cells first × IsTyped cells second)
 
 pub typed_at_variants : TypedAtVariants
 typed_at_variants = record {
@@ -148,7 +160,8 @@ pub record ReadsAtVariants : Type 0 where
       → may_read (Or left right) cell ≡ (may_read left cell || may_read right cell)
   pub negation : (arg : Expr) (cell : ℕ) → may_read (Not arg) cell ≡ may_read arg cell
   pub conditional : (t : IntType) (test first second : Expr) (cell : ℕ)
-      → may_read (Cond t test first second) cell ≡ (may_read test cell || may_read first cell || may_read second cell)
+      → may_read (Cond t test first second) cell
+      ≡ (may_read test cell || may_read first cell || may_read second cell)
 
 pub reads_at_variants : ReadsAtVariants
 reads_at_variants = record {
@@ -212,7 +225,8 @@ pub record HeightAtVariants : Type 0 where
       → height (Or left right) ≡ 1 + max (height left) (height right)
   pub negation : (arg : Expr) → height (Not arg) ≡ 1 + height arg
   pub conditional : (t : IntType) (test first second : Expr)
-      → height (Cond t test first second) ≡ 1 + max (height test) (max (height first) (height second))
+      → height (Cond t test first second)
+      ≡ 1 + max (height test) (max (height first) (height second))
 
 pub height_at_variants : HeightAtVariants
 height_at_variants = record {
@@ -265,7 +279,8 @@ values_lie_in_range = value_in_range
 abbrev pub ReadsWithinTheArray : Type 0
 ReadsWithinTheArray =
     (cells : List IntType) (t : IntType) (base len : ℕ) (index : Expr) (values : List ℤ) (i : ℤ)
-    → IsTyped cells (Read t base len index) → AreValues cells values → value_of index values ≡ Some i
+    → IsTyped cells (Read t base len index) → AreValues cells values
+    → value_of index values ≡ Some i
     → IsSome (value_of (Read t base len index) values) ↔ ((pos 0 ≤ℤ i) × (i <ℤ pos len))
 
 pub reads_have_values_within_the_array : ReadsWithinTheArray
@@ -295,7 +310,8 @@ value_depends_on_what_is_read = value_agrees
 abbrev pub ReplacedAtNodes : Type 0
 ReplacedAtNodes =
     (e : Expr) (cell : ℕ) (by : Expr) → replaced e cell by
-    ≡ (if is_scalar_read cell (out-Expr e) then by else with_parts (λ part. replaced part cell by) e)
+    ≡ (if is_scalar_read cell (out-Expr e) then by
+    else with_parts (λ part. replaced part cell by) e)
 
 pub replaced_at_nodes : ReplacedAtNodes
 replaced_at_nodes = replaced_node
@@ -310,7 +326,8 @@ pub record ReplacesFor (e : Expr) (cell : ℕ) (by : Expr) (values : List ℤ) (
 -- traps are those on the store with the cell set; where `by` traps, the result traps or does not
 -- depend on the cell. An expression that does not read the cell stays as it is.
 pub record ReplacingIsSetting : Type 0 where
-  pub set : (e : Expr) (cell : ℕ) (by : Expr) (values : List ℤ) (v : ℤ) → ReplacesFor e cell by values v
+  pub set : (e : Expr) (cell : ℕ) (by : Expr) (values : List ℤ) (v : ℤ)
+      → ReplacesFor e cell by values v
       → value_of (replaced e cell by) values ≡ value_of e (slice_set values cell v)
   pub traps : (e : Expr) (cell : ℕ) (by : Expr) (values : List ℤ) (v : ℤ)
       → ReadsAsScalar cell e → value_of by values ≡ None

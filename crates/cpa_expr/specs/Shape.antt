@@ -1,4 +1,6 @@
--- The type, the size and the height of an expression, and which expressions are well typed.
+-- The type, the parts, the size and the height of an expression, and which expressions are well
+-- typed (C11 6.5, over the types after conversion; size, height and the bound on it are this
+-- project's own).
 use Rattle.std.specs.Prelude.{◌≡◌, ℕ, ◌+◌, ◌<◌, ◌≤◌, max, Bool, true, false, IsTrue, List, [], ◌∷◌, sum, Some, slice_get, ⊤}
 use Rattle.std.specs.List.{AllByRecursion}
 use Rattle.cpa_ints.specs.declared.integers.IntType.{IntType}
@@ -24,11 +26,12 @@ node_type (Expr-F.Or left right) = ty.I32
 node_type (Expr-F.Not arg) = ty.I32
 node_type (Expr-F.Cond t test first second) = t
 
--- the type of an expression: that of its node; comparisons and logical operators give an int (C11 6.5.8 to 6.5.14)
+-- the type of an expression: that of its node; comparisons and logical operators give an int
+-- (C11 6.5.3.3, 6.5.8, 6.5.9, 6.5.13, 6.5.14)
 abbrev pub type_of : Expr → IntType
 type_of = fold-Expr IntType node_type
 
--- the parts of a node, from left to right, whatever stands for them; the index of a read is its part
+-- the parts of a node, from left to right, whatever stands for them; a read's index is its part
 abbrev pub parts : {A : Type 0} → Expr-F A → List A
 parts (Expr-F.Const t n) = []
 parts (Expr-F.Read t base len index) = index ∷ []
@@ -62,7 +65,8 @@ greatest (n ∷ ns) = max n (greatest ns)
 abbrev pub height_step : Expr-F ℕ → ℕ
 height_step node = 1 + greatest (parts node)
 
--- how many nodes lie on the longest way from the root to a node without parts
+-- how many nodes lie on the longest way from the root to a node without parts; such a node has
+-- height 1, and a read stands one above its index
 abbrev pub height : Expr → ℕ
 height = fold-Expr ℕ height_step
 
@@ -84,12 +88,14 @@ is_shift _ = false
 abbrev pub AreCells : List IntType → ℕ → ℕ → IntType → Type 0
 AreCells cells base len t = (i : ℕ) → i < len → slice_get cells (base + i) ≡ Some t
 
--- a node is well typed over the cells, where its parts are
+-- a node is well typed over the cells, where its parts are (C11 6.5.3.3, 6.5.5 to 6.5.15: operands
+-- stand after the usual conversions, 6.3.1.8)
 abbrev pub IsTypedHere : List IntType → Expr-F Expr → Type 0
 IsTypedHere cells (Expr-F.Const t n) = IsInRange t n
 IsTypedHere cells (Expr-F.Read t base len index) = (1 ≤ len) × AreCells cells base len t
 IsTypedHere cells (Expr-F.Un o t arg) = IsTrue (is_arithmetic t) × (type_of arg ≡ t)
-IsTypedHere cells (Expr-F.Bin o t left right) = IsTrue (is_arithmetic t) × (type_of left ≡ t) × (is_shift o ≡ false → type_of right ≡ t)
+IsTypedHere cells (Expr-F.Bin o t left right) =
+    IsTrue (is_arithmetic t) × (type_of left ≡ t) × (is_shift o ≡ false → type_of right ≡ t)
 IsTypedHere cells (Expr-F.Cmp o t left right) = (type_of left ≡ t) × (type_of right ≡ t)
 IsTypedHere cells (Expr-F.Cast t arg) = ⊤
 IsTypedHere cells (Expr-F.And left right) = ⊤
@@ -101,7 +107,7 @@ IsTypedHere cells (Expr-F.Cond t test first second) = (type_of first ≡ t) × (
 abbrev pub IsTyped : List IntType → Expr → Type 0
 IsTyped cells = every-Expr (IsTypedHere cells)
 
--- an expression over the cells: well typed, and no higher than MAX_HEIGHT (this project's own bound)
+-- an expression over the cells: well typed, and no higher than MAX_HEIGHT (a bound of this project)
 pub record IsExpr (cells : List IntType) (e : Expr) : Type 0 where
   pub typed : IsTyped cells e
   pub height : height e ≤ MAX_HEIGHT

@@ -12,7 +12,8 @@ use Rattle.cpa_expr.specs.Words.{type_word, un_word, bin_word, cmp_word}
 -- the words of a node before those of its parts
 abbrev pub head_text : {A : Type 0} → Expr-F A → List ℕ
 head_text (Expr-F.Const t n) = codes "const " ++ type_word t ++ codes " " ++ signed_decimal n
-head_text (Expr-F.Read t base len index) = codes "read " ++ type_word t ++ codes " " ++ decimal base ++ codes " " ++ decimal len
+head_text (Expr-F.Read t base len index) =
+    codes "read " ++ type_word t ++ codes " " ++ decimal base ++ codes " " ++ decimal len
 head_text (Expr-F.Un o t arg) = un_word o ++ codes " " ++ type_word t
 head_text (Expr-F.Bin o t left right) = bin_word o ++ codes " " ++ type_word t
 head_text (Expr-F.Cmp o t left right) = cmp_word o ++ codes " " ++ type_word t

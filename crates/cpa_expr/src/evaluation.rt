@@ -1,3 +1,6 @@
+//! The value of an expression, `value_of` of `specs/Values.antt`: one function for each form of node.
+//! It proves itself; the measures are in `proofs/evaluation`.
+
 ghost use Rattle.std.specs.Prelude.{◌≡◌, option_map, option_and_then};
 ghost use Rattle.cpa_ints.specs.Wrapping.{wrapped};
 ghost use Rattle.cpa_expr.specs.Values.{

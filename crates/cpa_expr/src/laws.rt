@@ -1,7 +1,7 @@
 //! Laws of expressions. Each function does nothing: its contract is the law, which stands in
-//! `specs/Laws.antt` with a lemma of the function's name. A lemma of another crate cites that one, as
-//! `value_at_variants.binary o t left right values`; an answer of a function that calls the law may
-//! also cite the call, as `c.value_at_variants.ensures.binary o t left right values`.
+//! `specs/Laws.antt` with a lemma of the function's name. A lemma of another crate cites that one,
+//! as `value_at_variants.binary o t left right values`; an answer of a function that calls the law
+//! may also cite the call, as `c.value_at_variants.ensures.binary o t left right values`.
 
 ghost use Rattle.cpa_expr.specs.Laws.{ValueAtVariants, TypeAtVariants, TypedAtVariants, ReadsAtVariants, SizeAtVariants, HeightAtVariants, ConstantIsItsNumber, ScalarIsItsCell, ValuesLieInRange, ReadsWithinTheArray, NoneIsATrap, DependsOnWhatIsRead, ReplacedAtNodes, ReplacingIsSetting, ReplacingKeepsTypes, SameWhereEqual};
 
@@ -78,8 +78,8 @@ pub fn value_depends_on_what_is_read()
     ensures { DependsOnWhatIsRead }
 {}
 
-/// What `replace_cell` makes of a node: `by` of a scalar read of the cell, and of any other node the
-/// same with each part replaced.
+/// What `replace_cell` makes of a node: `by` of a scalar read of the cell, and of any other node
+/// the same with each part replaced.
 #[tactic(auto, using(crate::specs::Laws::replaced_at_nodes))]
 pub fn replaced_at_nodes()
     ensures { ReplacedAtNodes }
@@ -87,15 +87,15 @@ pub fn replaced_at_nodes()
 
 /// Where every read of a cell is a scalar one, to replace the cell by an expression is to set the
 /// cell to the expression's value: where it has one, the value is the same, and so is each trap;
-/// where it traps, the result traps or does not depend on the cell. An expression that does not read
-/// the cell stays as it is.
+/// where it traps, the result traps or does not depend on the cell. An expression that does not
+/// read the cell stays as it is.
 #[tactic(auto, using(crate::specs::Laws::to_replace_is_to_set))]
 pub fn to_replace_is_to_set()
     ensures { ReplacingIsSetting }
 {}
 
-/// To replace a cell by an expression of the cell's type keeps the type, and what is well typed. The
-/// heights add up at most.
+/// To replace a cell by an expression of the cell's type keeps the type, and what is well typed.
+/// The heights add up at most.
 #[tactic(auto, using(crate::specs::Laws::to_replace_keeps_types))]
 pub fn to_replace_keeps_types()
     ensures { ReplacingKeepsTypes }

@@ -1,5 +1,5 @@
-//! Copies of expressions, as they are and with a cell replaced (`replaced` of `specs/Cells.antt`): one
-//! rewriting of a node's parts. `proofs/replacing` has what the recursion leaves.
+//! Copies of expressions, as they are and with a cell replaced (`replaced` of `specs/Cells.antt`),
+//! by one rewriting of a node's parts. It proves itself; its measure is in `proofs/replacing`.
 
 ghost use Rattle.std.specs.Prelude.{◌≡◌, IfOk};
 ghost use Rattle.cpa_expr.specs.declared.tree.Expr.{out-Expr};

@@ -1,5 +1,5 @@
-//! The type, the size and the height of an expression (`specs/Shape.antt`), proved by the recursion
-//! itself, and which cells it may read (`specs/Cells.antt`).
+//! The type, the size and the height of an expression (`specs/Shape.antt`), and which cells it may
+//! read (`specs/Cells.antt`), by its parts; `proofs/shape` has what they leave.
 
 ghost use Rattle.std.specs.Prelude.{◌≡◌, ◌+◌, min};
 ghost use Rattle.std.specs.List.{list_any};
@@ -74,8 +74,8 @@ fn one_above(greatest: u32) -> u32
     greatest.saturating_add(1)
 }
 
-/// Whether the expression may read the cell: whether some node, evaluated or not, reads the cell as a
-/// scalar or in an array.
+/// Whether the expression may read the cell: whether some node, evaluated or not, reads the cell as
+/// a scalar or in an array.
 #[cycle(reading)]
 pub fn may_read(e: &Expr, cell: u32) -> bool
     ensures { result ≡ may_read e.now cell }

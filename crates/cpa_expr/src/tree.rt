@@ -1,3 +1,6 @@
+//! The trees of expressions, and stores. What a node means is in `specs/Values.antt` and
+//! `specs/Shape.antt`.
+
 use cpa_ints::{Boxed, IntType, Seq};
 
 /// An operator of one argument.
@@ -9,7 +12,8 @@ pub enum UnOp {
     Flip,
 }
 
-/// An operator of two arguments whose result has the node's type.
+/// An operator of two arguments whose result has the node's type. The right one of a shift may have
+/// another type.
 #[derive(Clone, Copy, Debug, PartialEq, Eq)]
 pub enum BinOp {
     Add,
@@ -45,8 +49,8 @@ pub enum Expr {
         ty: IntType,
         value: i128,
     },
-    /// One of `len` cells in a row from `base` on, chosen by the index. A scalar is read as the one
-    /// cell at index 0.
+    /// One of `len` cells in a row from `base` on, chosen by the index. A scalar is read as an array
+    /// of the one cell, at the index 0 of type `int`.
     Read {
         ty: IntType,
         base: u32,

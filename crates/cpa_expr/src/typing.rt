@@ -1,3 +1,6 @@
+//! Which expressions are well typed, `IsExpr` of `specs/Shape.antt`: each node by itself, and its
+//! parts; `proofs/typing` joins the two.
+
 ghost use Rattle.std.specs.Prelude.{◌≡◌, ◌<◌, ◌+◌, ◌↔◌, IsTrue, map, slice_get};
 ghost use Rattle.cpa_ints.specs.declared.integers.IntType.{IntType as Ty};
 ghost use Rattle.cpa_expr.specs.declared.tree.Expr.{out-Expr};
@@ -26,6 +29,8 @@ impl Typed for IntType {
 
 /// Whether the expression is well typed over cells of these types, and of a height of at most
 /// `MAX_HEIGHT`.
+///
+/// The height is looked at first, by a walk over the whole expression.
 pub fn is_expr(e: &Expr, cells: &[IntType]) -> bool
     ensures { IsTrue result ↔ IsExpr cells.now e.now }
 {
