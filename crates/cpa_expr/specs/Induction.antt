@@ -1,6 +1,6 @@
 -- Induction on expressions, variant by variant: what holds of each variant where it holds of the
 -- parts holds of every expression.
-use Rattle.std.specs.Prelude.{◌≡◌, ℕ, ℤ}
+use Rattle.std.specs.Prelude.{ℕ, ℤ}
 use Rattle.std.proofs.Common.{sym, subst}
 use Rattle.cpa_ints.specs.declared.integers.IntType.{IntType}
 use Rattle.cpa_expr.specs.declared.tree.UnOp.{UnOp}

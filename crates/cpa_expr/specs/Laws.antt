@@ -4,7 +4,7 @@
 -- is the contract of a law of src/laws.rt. The lemma below it is its proof, which a lemma of
 -- another crate cites; a function may call the law, and its answers cite the call's clause. After
 -- them come the laws of whole expressions, in the same form.
-use Rattle.std.specs.Prelude.{◌≡◌, ◌↔◌, ℕ, ◌+◌, ◌≤◌, max, ℤ, pos, ◌≤ℤ◌, ◌<ℤ◌, ◌<◌, ◌⊎◌, Bool, false, ◌||◌, IsTrue, List, Some, None, IsSome, IfSome, length, slice_get, slice_set, if◌then◌else◌, option_map, option_and_then}
+use Rattle.std.specs.Prelude.{◌≡◌, ◌↔◌, ℕ, ◌+◌, ◌≤◌, max, ℤ, pos, ◌≤ℤ◌, ◌<ℤ◌, ◌<◌, ◌⊎◌, false, ◌||◌, IsTrue, List, Some, None, IsSome, IfSome, length, slice_get, slice_set, if◌then◌else◌, option_map, option_and_then}
 use Rattle.cpa_ints.specs.declared.integers.IntType.{IntType}
 use Rattle.cpa_ints.specs.declared.integers.IntType.TheVariants as ty
 use Rattle.cpa_ints.specs.Integers.{IsInRange}

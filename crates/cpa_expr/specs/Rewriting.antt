@@ -1,5 +1,5 @@
 -- What a rewriting makes of an expression (this project's own).
-use Rattle.std.specs.Prelude.{ℕ, ◌+◌}
+use Rattle.std.specs.Prelude.{ℕ}
 use Rattle.cpa_expr.specs.declared.tree.Expr.{Expr}
 use Rattle.cpa_expr.specs.declared.replacing.Rewriting.{Rewriting as RewritingOf}
 use Rattle.cpa_expr.specs.declared.replacing.Rewriting.TheVariants as of

@@ -1,5 +1,5 @@
 -- No value is a trap, and a trap is no value.
-use Rattle.std.proofs.Common.{◌≡◌, ◌≢◌, ◌↔◌, ◌⊎◌, inl, inr, ℕ, zero, suc, ◌+◌, ◌<◌, ◌≤◌, nat_lt, ℤ, pos, negsuc, ◌≤ℤ◌, ◌<ℤ◌, ◌-ℤ◌, ◌*ℤ◌, int_div, ◌^◌, Bool, true, false, not, IsTrue, List, [], ◌∷◌, Option, None, Some, IsSome, IsSomeAnd, slice_get, option_map, option_and_then, refl, sym, ap, subst, ◌∙◌, arith}
+use Rattle.std.proofs.Common.{◌≡◌, ◌≢◌, ◌↔◌, ◌⊎◌, inl, inr, ℕ, zero, suc, ◌+◌, ◌<◌, ◌≤◌, nat_lt, ℤ, pos, negsuc, ◌≤ℤ◌, ◌<ℤ◌, ◌-ℤ◌, ◌*ℤ◌, int_div, ◌^◌, Bool, true, false, not, List, [], ◌∷◌, Option, None, Some, IsSome, IsSomeAnd, slice_get, option_map, option_and_then, refl, sym, ap, subst, ◌∙◌, arith}
 use Rattle.std.specs.Prelude.{if◌then◌else◌}
 use Rattle.std.specs.Int.{int_div_euclid}
 use Rattle.std.specs.Ordering.{int_eq}
@@ -17,7 +17,7 @@ use Rattle.cpa_expr.specs.declared.tree.Expr.TheOpen.{Expr-F}
 use Rattle.cpa_expr.specs.Shape.{OfParts, AreCells, IsTypedHere, IsTyped}
 use Rattle.cpa_expr.specs.Values.{un_value, amount_of, divided_by, bin_value, compares, truth, is_nonzero, truth_of, cell_at, evaluated, logical_and, logical_or, logical_not, conditional, value_step, value_of}
 use Rattle.cpa_expr.specs.Cells.{AreValues}
-use Rattle.cpa_expr.specs.Traps.{IsOutside, HasNoValue, TrapsHere, IsTruthy, Evaluates, Traps, at_node, in_part}
+use Rattle.cpa_expr.specs.Traps.{IsOutside, HasNoValue, TrapsHere, Evaluates, Traps, at_node, in_part}
 use Rattle.cpa_expr.specs.lemmas.Parts.{by_parts, every_rolled}
 use Rattle.cpa_expr.specs.lemmas.Layers.{values_in, value_rolled}
 use Rattle.cpa_expr.specs.lemmas.Variants.{value_read, typed_read}
