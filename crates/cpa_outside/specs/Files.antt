@@ -1,5 +1,5 @@
 -- What a read of an opened file gives (this project's own).
-use Rattle.std.specs.Prelude.{◌≡◌, ℕ, ◌<◌, Bool, true, false, List, length, Option, Some, None, Result, Ok, Err, IfSome, Vec}
+use Rattle.std.specs.Prelude.{◌≡◌, ◌⊎◌, ℕ, ◌<◌, Bool, true, false, List, length, Option, Some, None, Result, Ok, Err, IfSome, Vec}
 use Rattle.std.specs.IoError.{error_kind}
 use Rattle.std.specs.declared.io.Error.{Error}
 use Rattle.std.specs.declared.io.ErrorKind.{ErrorKind}
@@ -31,6 +31,15 @@ is_failed _ = false
 abbrev pub fault_of : ErrorKind → ReadFault
 fault_of kind.OutOfMemory = OutOfMemory
 fault_of _ = Failed
+
+-- opening failed with this error, or a file was opened and failed while it was read
+abbrev pub IsError : {F : Type 0} → (F → Type 0) → (Error → Type 0) → Error → Type 0
+IsError {F} Opened Fails error = Fails error ⊎ ((file : F) × Opened file)
+
+-- an error came that is this fault
+abbrev pub IsFault : {F : Type 0} → (F → Type 0) → (Error → Type 0) → ReadFault → Type 0
+IsFault Opened Fails fault =
+    (error : Error) × IsError Opened Fails error × (fault ≡ fault_of (error_kind error))
 
 -- what a read answers that came to bytes, to none within the limit, or to an error
 abbrev pub answer_of : Result (Option (Vec ℕ Global)) Error → Result (Vec ℕ Global) ReadFault

@@ -1,9 +1,10 @@
 //! Files that an opener opens, and those of the system among them. What a read answers is `IsWhole`
 //! and `IsLonger` of `specs/Files.antt`, over any opener and its readers.
 ghost use Rattle.std.specs.Prelude.{◌≡◌, ◌≢◌, ℕ, ◌<◌, ◌≤◌, ⊤, List, length, take, vec_len, IfOk, IfErr, OnOk, IfSome, IsSome, MatchOption, if◌then◌else◌};
+ghost use Rattle.std.specs.declared.io.Error.{Error};
 ghost use Rattle.cpa_outside.specs.Outside.{Rose, IsTooLongOrFailed};
 ghost use Rattle.cpa_outside.specs.OutsideMemory.{one_more};
-ghost use Rattle.cpa_outside.specs.Files.{IsWhole, IsLonger, is_failed, fault_of, answer_of};
+ghost use Rattle.cpa_outside.specs.Files.{IsWhole, IsLonger, IsError, IsFault, is_failed, fault_of, answer_of};
 
 use crate::reads::{Inputs, ReadFault};
 use std::alloc::Global;
@@ -19,9 +20,13 @@ pub trait Opens {
     /// The files that are opened by a name.
     ghost opens: { Self → List ℕ → Self.File → Type 0 };
 
+    /// The errors with which opening a name fails.
+    ghost fails: { Self → List ℕ → Error → Type 0 };
+
     /// Opens the file of exactly this name.
     fn open(&self, name: &str) -> io::Result<Self::File>
-        ensures { IfOk result (λ file. opens self.now name.now file) };
+        ensures ok { IfOk result (λ file. opens self.now name.now file) }
+        ensures err { IfErr result (λ error. fails self.now name.now error) };
 }
 
 /// The files of the system, of which nothing is told.
@@ -34,6 +39,8 @@ impl<'a, R: Files> Opens for SystemFiles<'a, R> {
     type File = R::File;
 
     ghost opens = { λ _ _ _. ⊤ };
+
+    ghost fails = { λ _ _ _. ⊤ };
 
     fn open(&self, name: &str) -> io::Result<R::File> {
         fs::open(self.rt, name)
@@ -81,11 +88,15 @@ impl<O: Opens> Inputs for FileInputs<O> {
     ghost faults_of = { faults_by_name };
 
     fn read(&mut self, alloc: Global, name: &str, limit: usize) -> Result<Vec<u8>, ReadFault>
-        // What a file had that was opened by exactly this name, or it had more than the limit.
+        // What a file had that was opened by exactly this name, or it had more than the limit, or
+        // an error came: any but want of memory is a failed read.
         ensures whole { IfOk result (λ bytes.
             IsWhole (O.opens (opener_of self.old) name.now) O.File.remaining bytes.items) }
         ensures longer { IfErr result (λ fault. fault ≡ ReadFault.TooLong →
             IsLonger (O.opens (opener_of self.old) name.now) O.File.remaining limit) }
+        ensures fault { IfErr result (λ fault. fault ≢ ReadFault.TooLong →
+            IsFault (O.opens (opener_of self.old) name.now) (O.fails (opener_of self.old) name.now)
+            fault) }
         ensures counts { failed_reads self.new ≡
             (if is_failed result then one_more (failed_reads self.old) else failed_reads self.old) }
         ensures opener { opener_of self.new ≡ opener_of self.old }
@@ -156,6 +167,8 @@ fn read_file<O: Opens>(
     ensures bytes { IfOk result (λ found. MatchOption found
         (IsLonger (O.opens opener.now name.now) O.File.remaining limit)
         (λ bytes. IsWhole (O.opens opener.now name.now) O.File.remaining bytes.items)) }
+    ensures error { IfErr result (λ error.
+        IsError (O.opens opener.now name.now) (O.fails opener.now name.now) error) }
 {
     read_within(opener.open(name)?, alloc, limit)
 }

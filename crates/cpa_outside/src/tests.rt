@@ -140,6 +140,8 @@ impl Opens for FailingOpener {
 
     ghost opens = { λ _ _ _. ⊤ };
 
+    ghost fails = { λ _ _ _. ⊤ };
+
     fn open(&self, _name: &str) -> io::Result<Failing> {
         match self.open {
             Some(kind) => Err(io::Error::from(kind)),
