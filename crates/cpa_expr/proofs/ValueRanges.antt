@@ -1,2 +1,0 @@
--- Another name of this lemma.
-pub use Rattle.cpa_expr.specs.lemmas.ValueRanges.{value_in_range}
