@@ -1,11 +1,11 @@
 -- Tokens in brackets, counted from the bracket that opens.
-use Rattle.std.specs.Prelude.{◌≡◌, ℕ, ◌+◌, ◌<◌, ◌≤◌, Bool, true, false, cond, zero, suc, refl}
-use Rattle.std.proofs.Common.{sym, ◌∙◌, ap, subst, arith, inl, inr}
+use Rattle.std.specs.Prelude.{◌≡◌, ℕ, ◌+◌, ◌<◌, ◌≤◌, Bool, true, false, cond, suc, refl}
+use Rattle.std.proofs.Common.{sym, ◌∙◌, ap, subst, arith}
 use native.Mathlib.Decide.{dec_le, dec_lt}
 use Prim.{yes, no}
-use Rattle.grammar_forms.specs.Forms.{World, count, Balanced}
+use Rattle.grammar_forms.specs.Forms.{count, Balanced}
 use Rattle.grammar_forms.specs.Steady.{closed_inside, ends_or_goes, test_path}
-use Rattle.grammar_forms.specs.Reading.{greedy_text, Reads, NoneThrough}
+use Rattle.grammar_forms.specs.Reading.{Reads, NoneThrough}
 
 -- behind a bracket that opens, n tokens on: so many brackets are open besides it, and the text has not ended
 pub record IsInside {Token : Type 0} (opens closes ends : Token → Bool) (at : ℕ → Token) (p depth n : ℕ) : Type 0 where
@@ -75,7 +75,7 @@ module _ {Token : Type 0} (opens closes ends : Token → Bool) {at : ℕ → Tok
     within = fits;
     none = λ m v b u q r.
         let short = λ (h : r.length < n).
-            closed_inside opens closes v.at at p r.length n (λ j less. sym (b.tokens j (omega (arith, less)))) r.closed s.inside h in
+        closed_inside opens closes v.at at p r.length n (λ j less. sym (b.tokens j (omega (arith, less)))) r.closed s.inside h in
         let long : n ≤ r.length = omega (arith, short) in
         ends_or_goes (r.before_end n long) (test_path ends (b.tokens (p + n) (omega arith)) ended);
   }

@@ -1,7 +1,7 @@
 -- Readings from readings of the parts.
-use Rattle.std.specs.Prelude.{◌≡◌, ℕ, ◌+◌, ◌-◌, ◌<◌, ◌≤◌, Bool, true, false, List, [], ◌∷◌, Option, None, Some, suc, zero, refl}
-use Rattle.std.proofs.Common.{sym, ◌∙◌, ap, subst, arith}
-use Rattle.grammar_forms.specs.Forms.{World, Form, Nothing, One, Such, Empty, Skip, Behind, Before, Pair, Then, Node, Shaped, Deeper, Choice, Ends, Goes, Stops, Many, Perhaps, Nearest, Balanced}
+use Rattle.std.specs.Prelude.{◌≡◌, ℕ, ◌+◌, ◌-◌, ◌<◌, Bool, true, false, List, [], ◌∷◌, None, Some, suc, zero, refl}
+use Rattle.std.proofs.Common.{sym, subst, arith}
+use Rattle.grammar_forms.specs.Forms.{World, Form, One, Such, Empty, Skip, Behind, Before, Pair, Then, Node, Shaped, Deeper, Choice, Many, Perhaps, Nearest}
 use Rattle.grammar_forms.specs.Reading.{greedy_text, Reads}
 
 -- B has one level more than A: with none it reads nothing

@@ -1,5 +1,5 @@
 -- Lists that are read part by part.
-use Rattle.std.specs.Prelude.{◌≡◌, ℕ, ◌+◌, ◌-◌, ◌<◌, ◌≤◌, Bool, true, false, List, [], ◌∷◌, ◌++◌, refl}
+use Rattle.std.specs.Prelude.{◌≡◌, ℕ, ◌<◌, ◌≤◌, Bool, true, false, List, [], ◌∷◌, ◌++◌, refl}
 use Rattle.std.proofs.Common.{sym, ◌∙◌, ap, subst, arith, append_assoc, append-nil}
 use Rattle.grammar_forms.specs.Forms.{World, Form, One, Such, Skip, Behind, Before, Pair, Node, Shaped, Choice, Many}
 use Rattle.grammar_forms.specs.Steady.{Good, Steady, cons_path, from_place, test_path, ends_or_goes}
@@ -58,6 +58,7 @@ module _ {Token T : Type 0} {at : ℕ → Token} {size left p : ℕ} where
     onward = r.onward;
     within = r.within;
   }
+
 -- a list that goes on has a first part, and a rest
 goes_on : {Token T : Type 0} (go : Token → Bool) (A : Form Token T) (v : World Token) (left m : ℕ) (items whole : List T) (us : List T) (q : ℕ) →
     v.greedy ≡ true → go (v.at m) ≡ true → whole ≡ items ++ us → Many go A v left m us q →
@@ -77,7 +78,7 @@ module _ {Token T : Type 0} {W : ℕ → Form Token (List T)} {go : Token → Bo
     front = λ i n v below b ts q x.
         let f = s.front i n v (omega (arith, r.onward)) b ts q x in
         let (t, j, y, z) = goes_on go (A n) v left m items ts f.rest q b.greedy
-            (test_path go (b.tokens m (omega (arith, r.onward))) goes) f.joined f.more in
+        (test_path go (b.tokens m (omega (arith, r.onward))) goes) f.joined f.more in
         let e = only {at = at} steady r below b y in
         record {
           rest = z.rest;
@@ -101,7 +102,7 @@ module _ {Token T : Type 0} {W : ℕ → Form Token (List T)} {go : Token → Bo
     none = λ n v b ts q x.
         let f = s.front i n v g.onward b ts q x in
         let (t, j, y, z) = goes_on go (A n) v left m items ts f.rest q b.greedy
-            (test_path go (b.tokens m g.onward) goes) f.joined f.more in
+        (test_path go (b.tokens m g.onward) goes) f.joined f.more in
         g.none n v b t j y;
   }
 
@@ -115,7 +116,7 @@ module _ {Token T : Type 0} {W : ℕ → Form Token (List T)} {go : Token → Bo
     none = λ n v b ts q x.
         let f = s.front m n v (omega arith) b ts q x.read in
         let (t, j, y, z) = goes_on go (A n) v left m items ts f.rest q b.greedy
-            (test_path go (b.tokens m (omega arith)) goes) f.joined f.more in
+        (test_path go (b.tokens m (omega arith)) goes) f.joined f.more in
         let whole = z.joined ∙ append_assoc items (t ∷ []) z.rest in
         ends_or_goes (ap test whole ∙ fails n v b t j y z.rest) x.passes;
   }

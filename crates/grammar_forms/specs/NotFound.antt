@@ -1,8 +1,8 @@
 -- No reading where a part has none.
 use Rattle.std.specs.Prelude.{◌≡◌, ℕ, ◌+◌, ◌-◌, ◌<◌, ◌≤◌, Bool, true, false, List, [], ◌∷◌, Option, None, Some, suc, zero, refl}
 use Rattle.std.proofs.Common.{sym, ◌∙◌, ap, subst, arith}
-use Rattle.grammar_forms.specs.Forms.{World, Form, Nothing, One, Such, Empty, Skip, Behind, Before, Pair, Then, Node, Shaped, Deeper, Choice, Ends, Goes, Stops, Many, Perhaps, Nearest, Balanced}
-use Rattle.grammar_forms.specs.Steady.{Alike, Good, Steady, from_place, ends_or_goes, test_path}
+use Rattle.grammar_forms.specs.Forms.{World, Form, Nothing, Such, Skip, Behind, Before, Pair, Then, Node, Shaped, Deeper, Choice, Many, Perhaps, Nearest}
+use Rattle.grammar_forms.specs.Steady.{Alike, Steady, from_place, ends_or_goes, test_path}
 use Rattle.grammar_forms.specs.Reading.{greedy_text, Reads, Begins, NoneThrough}
 use Rattle.grammar_forms.specs.Found.{IsAbove}
 

@@ -1,7 +1,7 @@
 -- A form has one reading at a place, and the tokens up to its end decide it.
-use Rattle.std.specs.Prelude.{◌≡◌, ℕ, ◌+◌, ◌-◌, ◌<◌, ◌≤◌, ◌⊎◌, Bool, true, false, cond, zero, suc, List, [], ◌∷◌, Option, None, Some, refl}
-use Rattle.std.proofs.Common.{sym, ◌∙◌, ap, subst, arith, inl, inr}
-use Rattle.grammar_forms.specs.Forms.{World, Form, Nothing, One, Such, Empty, Skip, Behind, Before, Pair, Then, Node, Shaped, Deeper, Choice, Ends, Goes, Stops, Many, Perhaps, Nearest, count, Balanced}
+use Rattle.std.specs.Prelude.{◌≡◌, ℕ, ◌+◌, ◌<◌, ◌≤◌, Bool, true, false, cond, zero, suc, List, [], ◌∷◌, Option, None, Some, refl}
+use Rattle.std.proofs.Common.{sym, ◌∙◌, ap, subst, arith}
+use Rattle.grammar_forms.specs.Forms.{World, Form, Nothing, One, Such, Empty, Skip, Behind, Before, Pair, Then, Node, Shaped, Deeper, Choice, Many, Perhaps, Nearest, count, Balanced}
 
 -- the texts have the same tokens up to this place, and both are greedy
 pub record Alike {Token : Type 0} (i : ℕ) (w v : World Token) : Type 0 where
@@ -184,7 +184,7 @@ module _ {Token T : Type 0} (go : Token → Bool) (A B : Form Token T) (g : Good
       absurd (ends_or_goes (x.stops a.first_greedy) (test_path go (sym (a.tokens p (omega (arith, x.behind)))) y.goes))
   many_same w v l k (u ∷ us) [] p q r a x y =
       absurd (ends_or_goes (y.stops a.second_greedy)
-          (test_path go (a.tokens p (omega (arith, g.onward x.first, many_onward w l us x.middle q x.rest))) x.goes))
+      (test_path go (a.tokens p (omega (arith, g.onward x.first, many_onward w l us x.middle q x.rest))) x.goes))
   many_same w v l k (u ∷ us) (s ∷ ss) p q r a x y =
       let e = g.same (alike_below x.middle (many_onward w l us x.middle q x.rest) a) x.first y.first in
       let f = many_same w v l k us ss x.middle q r a x.rest (subst (λ m. Many go B v k m ss r) (sym e.1) y.rest) in
@@ -233,7 +233,7 @@ good_balanced opens closes ends = record {
   same = λ {w} {v} {l} {k} {p} {u} {s} {q} {r} a x y.
       let shorter = closed_inside opens closes w.at v.at p x.length y.length (λ j h. a.tokens j (omega (arith, x.behind))) x.closed y.inside in
       let longer = λ (below : y.length < x.length). closed_inside opens closes v.at w.at p y.length x.length
-          (λ j h. sym (a.tokens j (omega (arith, x.behind)))) y.closed x.inside below in
+      (λ j h. sym (a.tokens j (omega (arith, x.behind)))) y.closed x.inside below in
       let equal = one_of_three x.length y.length shorter longer in
       (refl, x.behind ∙ (ap (λ n. p + (n + 1)) equal ∙ sym y.behind));
 }

@@ -1,0 +1,133 @@
+//! Expressions (C11 6.5). `specs/Expressions.antt` is their grammar.
+use crate::Name;
+use c_symbols::{AssignmentOperator, BinaryOperator, StepOperator, TypeWord};
+use cpa_ints::{Boxed, IntType, Seq};
+
+/// An operator before a cast that has one operand (C11 6.5.3.3).
+#[derive(Clone, Copy, Debug, PartialEq, Eq)]
+pub enum UnaryOperator {
+    /// `+`
+    Plus,
+    /// `-`
+    Minus,
+    /// `~`
+    Complement,
+    /// `!`
+    Not,
+}
+
+/// The type of a cast: its words in order, and the place of the first.
+#[derive(Debug, Drop)]
+pub struct TypeName {
+    pub words: Seq<TypeWord>,
+    pub place: u32,
+}
+
+/// An operator of a chain and the operand behind it.
+#[cycle(expression)]
+#[derive(Debug, Drop)]
+pub struct Operand {
+    pub operator: BinaryOperator,
+    pub expression: Expression,
+}
+
+/// An expression. A place is that of its first token.
+#[cycle(expression)]
+#[derive(Debug, Drop)]
+pub enum Expression {
+    /// An identifier.
+    Name(Name),
+    /// An integer constant.
+    Number {
+        ty: IntType,
+        value: i128,
+        place: u32,
+    },
+    /// A character constant.
+    Character {
+        value: i128,
+        place: u32,
+    },
+    /// `(inner)`
+    Bracketed {
+        inner: Boxed<Expression>,
+        place: u32,
+    },
+    /// `base[index]`
+    Index {
+        base: Boxed<Expression>,
+        index: Boxed<Expression>,
+        place: u32,
+    },
+    /// `callee(arguments)`
+    Call {
+        callee: Boxed<Expression>,
+        arguments: Seq<Expression>,
+        place: u32,
+    },
+    /// A call of `__assert_fail`, whose arguments are any tokens with balanced round brackets.
+    AssertFail {
+        callee: Boxed<Expression>,
+        place: u32,
+    },
+    /// `operand++` or `operand--`
+    PostfixStep {
+        operand: Boxed<Expression>,
+        operator: StepOperator,
+        place: u32,
+    },
+    /// `++operand` or `--operand`
+    PrefixStep {
+        operator: StepOperator,
+        operand: Boxed<Expression>,
+        place: u32,
+    },
+    /// `+ - ~ !` before an operand.
+    Unary {
+        operator: UnaryOperator,
+        operand: Boxed<Expression>,
+        place: u32,
+    },
+    /// `(type) operand`
+    Cast {
+        to: TypeName,
+        operand: Boxed<Expression>,
+        place: u32,
+    },
+    /// Two operands or more between operators of one level. They belong together from the left.
+    Chain {
+        first: Boxed<Expression>,
+        rest: Seq<Operand>,
+        place: u32,
+    },
+    /// `test ? yes : no`
+    Conditional {
+        test: Boxed<Expression>,
+        yes: Boxed<Expression>,
+        no: Boxed<Expression>,
+        place: u32,
+    },
+    /// `left = right`, or with an operator such as `+=`
+    Assignment {
+        left: Boxed<Expression>,
+        operator: AssignmentOperator,
+        right: Boxed<Expression>,
+        place: u32,
+    },
+    /// Two expressions or more with commas between them.
+    Comma {
+        items: Seq<Expression>,
+        place: u32,
+    },
+}
+
+/// What stands behind the base of a postfix expression (C11 6.5.2).
+#[derive(Debug, Drop)]
+pub enum Suffix {
+    /// `[index]`
+    Index(Expression),
+    /// `(arguments)`
+    Call(Seq<Expression>),
+    /// `++` or `--`
+    Step(StepOperator),
+}

@@ -1,0 +1,72 @@
+//! The items of a text (C11 6.9). `specs/Items.antt` is their grammar.
+use crate::{BlockItem, Declaration, Name, Specifiers};
+use cpa_ints::Seq;
+
+/// A parameter. A pointer stands only behind `char`, in a prototype.
+#[derive(Debug, Drop)]
+pub struct Parameter {
+    pub specifiers: Specifiers,
+    pub is_pointer: bool,
+    pub name: Option<Name>,
+}
+
+/// What stands between the brackets of a function's declarator.
+#[derive(Debug, Drop)]
+pub enum Parameters {
+    /// `()`, which says nothing of the parameters.
+    Unspecified,
+    /// `(void)`, no parameters.
+    Void,
+    /// At least one parameter.
+    Listed(Seq<Parameter>),
+}
+
+/// A function's name and its parameters. Attributes behind them are skipped.
+#[derive(Debug, Drop)]
+pub struct FunctionDeclarator {
+    pub name: Name,
+    pub parameters: Parameters,
+}
+
+/// The body of a function.
+#[derive(Debug, Drop)]
+pub enum Body {
+    /// `{items}`, and the place of the first brace.
+    Block {
+        items: Seq<BlockItem>,
+        place: u32,
+    },
+    /// That of a known function: any tokens with balanced braces.
+    Skipped,
+}
+
+/// An item of a text. Its place is that of its first token.
+#[derive(Debug, Drop)]
+pub enum Item {
+    /// A semicolon alone.
+    Empty {
+        place: u32,
+    },
+    /// Objects, or specifiers alone.
+    Objects(Declaration),
+    /// `specifiers declarator;`
+    Prototype {
+        specifiers: Specifiers,
+        declarator: FunctionDeclarator,
+    },
+    /// `specifiers declarator body`
+    Function {
+        specifiers: Specifiers,
+        declarator: FunctionDeclarator,
+        body: Body,
+    },
+}
+
+/// A whole text.
+#[derive(Debug, Drop)]
+pub struct Unit {
+    /// Its items in order.
+    pub items: Seq<Item>,
+    /// Its length in bytes.
+    pub length: u32,
+}

@@ -1,0 +1,9 @@
+//! Names, which the tree keeps by their bytes, since what comes after it gets no text.
+use cpa_ints::Seq;
+
+/// An identifier (C11 6.4.2) and the place of its first byte.
+#[derive(Debug, Drop)]
+pub struct Name {
+    pub bytes: Seq<u8>,
+    pub place: u32,
+}

@@ -1,0 +1,85 @@
+//! Statements (C11 6.8). `specs/Statements.antt` is their grammar.
+use crate::{Declaration, Expression, Name};
+use cpa_ints::{Boxed, Seq};
+
+/// A statement. A place is that of its first token.
+#[cycle(statement)]
+#[derive(Debug, Drop)]
+pub enum Statement {
+    /// `{items}`
+    Block {
+        items: Seq<BlockItem>,
+        place: u32,
+    },
+    /// `expression;`, or `;` alone
+    Expression {
+        expression: Option<Expression>,
+        place: u32,
+    },
+    /// `if (test) yes else no`; an `else` belongs to the nearest `if`.
+    If {
+        test: Expression,
+        yes: Boxed<Statement>,
+        no: Option<Boxed<Statement>>,
+        place: u32,
+    },
+    /// `while (test) body`
+    While {
+        test: Expression,
+        body: Boxed<Statement>,
+        place: u32,
+    },
+    /// `do body while (test);`
+    Do {
+        body: Boxed<Statement>,
+        test: Expression,
+        place: u32,
+    },
+    /// `for (start; test; step) body`
+    For {
+        start: ForStart,
+        test: Option<Expression>,
+        step: Option<Expression>,
+        body: Boxed<Statement>,
+        place: u32,
+    },
+    /// `goto label;`
+    Goto {
+        label: Name,
+        place: u32,
+    },
+    /// `break;`
+    Break {
+        place: u32,
+    },
+    /// `continue;`
+    Continue {
+        place: u32,
+    },
+    /// `return value;`, or `return;`
+    Return {
+        value: Option<Expression>,
+        place: u32,
+    },
+    /// `label: body`
+    Labeled {
+        label: Name,
+        body: Boxed<Statement>,
+    },
+}
+
+/// What stands in a block.
+#[cycle(statement)]
+#[derive(Debug, Drop)]
+pub enum BlockItem {
+    Declaration(Declaration),
+    Statement(Statement),
+}
+
+/// The first part of a `for`.
+#[derive(Debug, Drop)]
+pub enum ForStart {
+    Declaration(Declaration),
+    /// `expression;`, or `;` alone
+    Expression(Option<Expression>),
+}
