@@ -23,16 +23,7 @@ pub struct TypeName {
     pub place: u32,
 }
 
-/// An operator of a chain and the operand behind it.
-#[cycle(expression)]
-#[derive(Debug, Drop)]
-pub struct Operand {
-    pub operator: BinaryOperator,
-    pub expression: Expression,
-}
-
 /// An expression. A place is that of its first token.
-#[cycle(expression)]
 #[derive(Debug, Drop)]
 pub enum Expression {
     /// An identifier.
@@ -94,10 +85,11 @@ pub enum Expression {
         operand: Boxed<Expression>,
         place: u32,
     },
-    /// Two operands or more between operators of one level. They belong together from the left.
+    /// Two operands or more between operators of one level: the first, and each other behind its
+    /// operator. They belong together from the left.
     Chain {
         first: Boxed<Expression>,
-        rest: Seq<Operand>,
+        rest: Seq<(BinaryOperator, Expression)>,
         place: u32,
     },
     /// `test ? yes : no`

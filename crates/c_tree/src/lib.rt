@@ -10,7 +10,11 @@ mod statement;
 pub use declaration::{
     Array, Declaration, Declarator, Initializer, Specifier, SpecifierKind, Specifiers,
 };
-pub use expression::{Expression, Operand, Suffix, TypeName, UnaryOperator};
+pub use expression::{Expression, Suffix, TypeName, UnaryOperator};
 pub use item::{Body, FunctionDeclarator, Item, Parameter, Parameters, Unit};
 pub use name::Name;
 pub use statement::{BlockItem, ForStart, Statement};
+
+/// How deep the parts of a text may stand. The parts of an item stand at level 1, and a part that begins
+/// behind a token which opens it one level deeper than what it is a part of.
+pub const MAX_LEVEL: u32 = 200;
