@@ -1,5 +1,5 @@
 -- The grammar of declarations (C11 6.7).
-use Rattle.std.specs.Prelude.{◌≡◌, ℕ, ◌+◌, Bool, true, false, ◌&&◌, List, [], ◌∷◌, Option, None, Some, is_some}
+use Rattle.std.specs.Prelude.{Bool, true, false, List, Option, is_some}
 use Rattle.grammar_forms.specs.Forms.{Form, Nothing, One, Such, Empty, Skip, Behind, Before, Pair, Then, Node, Shaped, Deeper, Choice, Many, Perhaps}
 use Rattle.grammar_forms.specs.Loops.{listed}
 use Rattle.c_symbols.specs.declared.words.Terminal.TheVariants as terminal
@@ -17,7 +17,7 @@ use Rattle.c_tree.specs.declared.declaration.Initializer.{Initializer}
 use Rattle.c_tree.specs.declared.declaration.Initializer.TheVariants as node
 use Rattle.c_tree.specs.declared.declaration.Declarator.{Declarator}
 use Rattle.c_tree.specs.declared.declaration.Declaration.{Declaration}
-use Rattle.c_tree.specs.Parts.{is_not, is_name, name_of, is_specifier, is_local_specifier, is_initializing, have_type}
+use Rattle.c_tree.specs.Parts.{is_not, is_name, name_of, is_local_specifier, is_initializing, have_type}
 use Rattle.c_tree.specs.Nested.{Grammar}
 use Rattle.c_tree.specs.Expressions.{round_brackets}
 

@@ -1,15 +1,14 @@
 -- The grammar of expressions (C11 6.5). A part that begins behind a token which opens it stands one level deeper
 -- (`Deeper`); the first operand of a chain or a conditional, the later operands of a chain and the left side of
 -- an assignment have the level of the whole.
-use Rattle.std.specs.Prelude.{◌≡◌, ℕ, ◌+◌, zero, suc, Bool, true, false, ◌&&◌, List, [], ◌∷◌, fold, Option, None, Some}
-use Rattle.grammar_forms.specs.Forms.{Form, Nothing, One, Such, Skip, Behind, Before, Pair, Then, Node, Shaped, Deeper, Choice, Many, Perhaps, Balanced}
+use Rattle.std.specs.Prelude.{ℕ, zero, suc, Bool, ◌&&◌, List, [], ◌∷◌, fold, Option, None, Some}
+use Rattle.grammar_forms.specs.Forms.{Form, Nothing, One, Skip, Before, Pair, Then, Node, Shaped, Deeper, Choice, Many, Perhaps, Balanced}
 use Rattle.grammar_forms.specs.Loops.{listed}
 use Rattle.c_symbols.specs.declared.words.Terminal.TheVariants as terminal
 use Rattle.c_symbols.specs.declared.words.TypeWord.{TypeWord}
 use Rattle.c_symbols.specs.declared.operators.BinaryOperator.{BinaryOperator}
 use Rattle.c_symbols.specs.declared.operators.BinaryOperator.TheVariants as binary
 use Rattle.c_symbols.specs.declared.operators.AssignmentOperator.{AssignmentOperator}
-use Rattle.c_symbols.specs.declared.operators.StepOperator.{StepOperator}
 use Rattle.c_symbols.specs.declared.symbol.Symbol.{Symbol}
 use Rattle.c_symbols.specs.declared.symbol.Symbol.TheVariants as symbol
 use Rattle.c_symbols.specs.Symbols.{Leaf, symbol_of}
@@ -21,7 +20,7 @@ use Rattle.c_tree.specs.declared.expression.UnaryOperator.TheVariants as unary_o
 use Rattle.c_tree.specs.declared.expression.TypeName.{TypeName}
 use Rattle.c_tree.specs.declared.expression.Suffix.{Suffix}
 use Rattle.c_tree.specs.declared.expression.Suffix.TheVariants as suffix
-use Rattle.c_tree.specs.Parts.{is_not, is_name, name_of, is_operator, is_assignment, is_type_word, is_end, begins_suffix, is_unary, names_assert, is_type}
+use Rattle.c_tree.specs.Parts.{is_not, name_of, is_operator, is_assignment, is_type_word, is_end, begins_suffix, is_unary, names_assert, is_type}
 use Rattle.c_tree.specs.Nested.{Grammar}
 
 -- the node of a suffix behind its base

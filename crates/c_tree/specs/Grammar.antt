@@ -1,9 +1,9 @@
 -- The grammar as a whole, and the tree of a text.
 use Rattle.std.specs.Prelude.{◌≡◌, ℕ, ◌-◌, zero, suc, List, length}
-use Rattle.grammar_forms.specs.Forms.{Form, Nothing}
+use Rattle.grammar_forms.specs.Forms.{Nothing}
 use Rattle.grammar_forms.specs.Reading.{greedy_text}
 use Rattle.c_lexer.specs.declared.token.Token.{Token}
-use Rattle.c_symbols.specs.Symbols.{Leaf, leaves}
+use Rattle.c_symbols.specs.Symbols.{leaves}
 use Rattle.c_symbols.specs.Sources.{leaf_at}
 use Rattle.c_tree.specs.declared.item.Unit.{Unit as UnitTree}
 use Rattle.c_tree.specs.declared.TheConstants.{MAX_LEVEL}

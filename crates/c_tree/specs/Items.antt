@@ -1,8 +1,8 @@
 -- The grammar of items (C11 6.9).
-use Rattle.std.specs.Prelude.{◌≡◌, ℕ, Bool, true, false, not, ◌&&◌, List, [], ◌∷◌, Option, None, Some, codes}
+use Rattle.std.specs.Prelude.{ℕ, Bool, true, false, not, ◌&&◌, List, [], ◌∷◌, Option, None, Some, codes}
 use Rattle.std.specs.List.{list_any}
 use Rattle.std.specs.Str.{bytes_eq}
-use Rattle.grammar_forms.specs.Forms.{Form, Nothing, One, Such, Skip, Behind, Before, Pair, Then, Node, Deeper, Choice, Many, Perhaps, Balanced}
+use Rattle.grammar_forms.specs.Forms.{Form, Nothing, One, Skip, Before, Pair, Then, Node, Deeper, Choice, Many, Perhaps, Balanced}
 use Rattle.grammar_forms.specs.Loops.{listed}
 use Rattle.c_symbols.specs.declared.words.Terminal.TheVariants as terminal
 use Rattle.c_symbols.specs.declared.words.TypeWord.TheVariants as word
@@ -19,12 +19,11 @@ use Rattle.c_tree.specs.declared.declaration.Declarator.{Declarator}
 use Rattle.c_tree.specs.declared.item.Parameter.{Parameter}
 use Rattle.c_tree.specs.declared.item.Parameters.{Parameters}
 use Rattle.c_tree.specs.declared.item.Parameters.TheVariants as parameters
-use Rattle.c_tree.specs.declared.item.FunctionDeclarator.{FunctionDeclarator}
 use Rattle.c_tree.specs.declared.item.Body.{Body}
 use Rattle.c_tree.specs.declared.item.Body.TheVariants as body
 use Rattle.c_tree.specs.declared.item.Item.{Item}
 use Rattle.c_tree.specs.declared.item.Item.TheVariants as node
-use Rattle.c_tree.specs.Parts.{is_not, is_name, is_end, name_of, points, is_specifier, have_char}
+use Rattle.c_tree.specs.Parts.{is_not, is_name, is_end, points, is_specifier, have_char}
 use Rattle.c_tree.specs.Nested.{Grammar}
 use Rattle.c_tree.specs.Declarations.{identifier, specifiers, attributes, Rest, declarator_of, declarator_rest, more_declarators}
 use Rattle.c_tree.specs.Statements.{items}

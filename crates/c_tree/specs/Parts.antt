@@ -1,6 +1,6 @@
 -- What the grammar asks of tokens and of trees, and what it makes of them.
-use Rattle.std.specs.Prelude.{ℕ, ◌+◌, ◌==◌, Bool, true, false, not, ◌&&◌, ◌||◌, nat_le, nat_lt, List, [], ◌∷◌, length, count_by, codes, Option, None, Some, is_some}
-use Rattle.std.specs.List.{list_any, filter_map}
+use Rattle.std.specs.Prelude.{ℕ, ◌+◌, ◌==◌, Bool, true, false, not, ◌&&◌, ◌||◌, nat_le, nat_lt, List, length, count_by, codes, Option, None, Some}
+use Rattle.std.specs.List.{filter_map}
 use Rattle.std.specs.Str.{bytes_eq}
 use denote.Enum.Bare.{sameb}
 use Rattle.c_symbols.specs.declared.words.Terminal.{Terminal}
@@ -15,13 +15,12 @@ use Rattle.c_symbols.specs.declared.operators.AssignmentOperator.TheVariants as 
 use Rattle.c_symbols.specs.declared.symbol.Symbol.{Symbol}
 use Rattle.c_symbols.specs.declared.symbol.Symbol.TheVariants as symbol
 use Rattle.c_symbols.specs.Symbols.{Leaf, symbol_of}
-use Rattle.c_symbols.specs.Sources.{is, is_terminal}
+use Rattle.c_symbols.specs.Sources.{is}
 use Rattle.c_tree.specs.declared.name.Name.{Name}
 use Rattle.c_tree.specs.declared.expression.Expression.{Expression, out-Expression}
 use Rattle.c_tree.specs.declared.expression.Expression.TheOpen.{Expression-F}
 use Rattle.c_tree.specs.declared.expression.Expression.TheFolds.{fold-Expression}
 use Rattle.c_tree.specs.declared.declaration.Specifier.{Specifier}
-use Rattle.c_tree.specs.declared.declaration.SpecifierKind.{SpecifierKind}
 use Rattle.c_tree.specs.declared.declaration.SpecifierKind.TheVariants as kind
 
 -- the token is any but this terminal

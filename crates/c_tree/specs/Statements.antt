@@ -1,6 +1,6 @@
 -- The grammar of statements (C11 6.8).
-use Rattle.std.specs.Prelude.{◌≡◌, ℕ, ◌+◌, Bool, true, false, List, [], ◌∷◌, Option, None, Some}
-use Rattle.grammar_forms.specs.Forms.{Form, Nothing, One, Such, Empty, Skip, Behind, Before, Pair, Then, Node, Shaped, Deeper, Choice, Many, Perhaps, Nearest}
+use Rattle.std.specs.Prelude.{Bool, true, false, List, Option, None, Some}
+use Rattle.grammar_forms.specs.Forms.{Form, Nothing, One, Such, Skip, Behind, Before, Pair, Then, Node, Deeper, Choice, Many, Perhaps, Nearest}
 use Rattle.c_symbols.specs.declared.words.Terminal.{Terminal}
 use Rattle.c_symbols.specs.declared.words.Terminal.TheVariants as terminal
 use Rattle.c_symbols.specs.declared.symbol.Symbol.{Symbol}
@@ -8,14 +8,14 @@ use Rattle.c_symbols.specs.declared.symbol.Symbol.TheVariants as symbol
 use Rattle.c_symbols.specs.Symbols.{Leaf, symbol_of}
 use Rattle.c_symbols.specs.Sources.{is}
 use Rattle.c_tree.specs.declared.name.Name.{Name}
-use Rattle.c_tree.specs.declared.expression.Expression.{Expression, out-Expression}
+use Rattle.c_tree.specs.declared.expression.Expression.{Expression}
 use Rattle.c_tree.specs.declared.statement.Statement.{Statement}
 use Rattle.c_tree.specs.declared.statement.Statement.TheVariants as node
 use Rattle.c_tree.specs.declared.statement.BlockItem.{BlockItem}
 use Rattle.c_tree.specs.declared.statement.BlockItem.TheVariants as in_block
 use Rattle.c_tree.specs.declared.statement.ForStart.{ForStart}
 use Rattle.c_tree.specs.declared.statement.ForStart.TheVariants as in_for
-use Rattle.c_tree.specs.Parts.{is_not, is_name, is_local_specifier, bare_name}
+use Rattle.c_tree.specs.Parts.{is_not, is_local_specifier, bare_name}
 use Rattle.c_tree.specs.Nested.{Grammar}
 use Rattle.c_tree.specs.Expressions.{comma}
 use Rattle.c_tree.specs.Declarations.{identifier, declaration}

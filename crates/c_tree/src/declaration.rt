@@ -37,10 +37,7 @@ pub struct Array {
 pub enum Initializer {
     Scalar(Expression),
     /// `{items}`, and the place of the brace.
-    List {
-        items: Seq<Expression>,
-        place: u32,
-    },
+    List { items: Seq<Expression>, place: u32 },
 }
 
 /// A declared object. Its attributes are skipped.

@@ -32,10 +32,7 @@ pub struct FunctionDeclarator {
 #[derive(Debug, Drop)]
 pub enum Body {
     /// `{items}`, and the place of the first brace.
-    Block {
-        items: Seq<BlockItem>,
-        place: u32,
-    },
+    Block { items: Seq<BlockItem>, place: u32 },
     /// That of a known function: any tokens with balanced braces.
     Skipped,
 }

@@ -4,6 +4,7 @@
 mod declaration;
 mod expression;
 mod item;
+mod laws;
 mod name;
 mod statement;
 
@@ -12,6 +13,7 @@ pub use declaration::{
 };
 pub use expression::{Expression, Suffix, TypeName, UnaryOperator};
 pub use item::{Body, FunctionDeclarator, Item, Parameter, Parameters, Unit};
+pub use laws::one_tree;
 pub use name::Name;
 pub use statement::{BlockItem, ForStart, Statement};
 

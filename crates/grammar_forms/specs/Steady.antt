@@ -45,6 +45,9 @@ test_path test e h = ap test e ∙ h
 pub good_nothing : {Token T : Type 0} {B : Form Token T} → Good (Nothing {Token = Token} {T = T}) B
 good_nothing = record { onward = λ r. absurd r.never; same = λ a r s. absurd r.never }
 
+pub good_against_nothing : {Token T : Type 0} {A : Form Token T} → Good A A → Good A (Nothing {Token = Token} {T = T})
+good_against_nothing g = record { onward = λ r. g.onward r; same = λ a r s. absurd s.never }
+
 pub good_one : {Token : Type 0} → Good (One {Token = Token}) One
 good_one = record {
   onward = λ r. omega (arith, r.behind);
