@@ -5,3 +5,4 @@ pub mod Found
 pub mod NotFound
 pub mod Loops
 pub mod Brackets
+pub mod Exits
