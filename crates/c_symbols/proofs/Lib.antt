@@ -1,1 +1,2 @@
 pub mod SourceFacts
+mod Tables

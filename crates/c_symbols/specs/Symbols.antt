@@ -5,6 +5,8 @@ use Rattle.c_lexer.specs.declared.token.Token.{Token}
 use Rattle.c_lexer.specs.declared.token.TokenKind.{TokenKind}
 use Rattle.c_lexer.specs.declared.token.TokenKind.TheVariants as kind
 use Rattle.c_lexer.specs.Lexemes.{bytes_at}
+use Rattle.c_symbols.specs.declared.words.Terminal.{Terminal as Terminal'}
+use Rattle.c_symbols.specs.declared.words.Terminal.TheVariants as terminal
 use Rattle.c_symbols.specs.declared.symbol.Symbol.{Symbol}
 use Rattle.c_symbols.specs.declared.symbol.Symbol.TheVariants.{End, Name, Number, Character, Text, Terminal, Binary, Assign, Step, Storage, Specifier, TypeWord, Outside, Stray}
 use Rattle.c_symbols.specs.declared.symbol.TheConstants.{WORDS, MARKS}
@@ -29,7 +31,21 @@ spelling_of (Outside word) = spelling_of_outside_word word
 spelling_of (Stray mark) = spelling_of_stray_mark mark
 spelling_of _ = []
 
--- the word of the table that is spelled so
+-- of which kind the token of a terminal is
+abbrev pub kind_of_terminal : Terminal' → TokenKind
+kind_of_terminal terminal.If = kind.Word
+kind_of_terminal terminal.Else = kind.Word
+kind_of_terminal terminal.While = kind.Word
+kind_of_terminal terminal.Do = kind.Word
+kind_of_terminal terminal.For = kind.Word
+kind_of_terminal terminal.Goto = kind.Word
+kind_of_terminal terminal.Break = kind.Word
+kind_of_terminal terminal.Continue = kind.Word
+kind_of_terminal terminal.Return = kind.Word
+kind_of_terminal terminal.Attribute = kind.Word
+kind_of_terminal _ = kind.Mark
+
+-- the word of the table that is spelled so; that the tables lack none is a law (`keywords_stand_for_themselves`)
 unfoldable pub word_spelled : List ℕ → Option Symbol
 word_spelled bytes = find (λ symbol. bytes_eq (spelling_of symbol) bytes) WORDS
 
@@ -37,7 +53,8 @@ word_spelled bytes = find (λ symbol. bytes_eq (spelling_of symbol) bytes) WORDS
 unfoldable pub mark_spelled : List ℕ → Option Symbol
 mark_spelled bytes = find (λ symbol. bytes_eq (spelling_of symbol) bytes) MARKS
 
--- what a token of this kind stands for that is spelled so; a word that is not in the table is a name
+-- what a token of this kind stands for that is spelled so; a word that is not in the table is a name. A mark that is
+-- not in the table is none of C's (`marks_are_no_text`)
 abbrev pub symbol_spelled : TokenKind → List ℕ → Symbol
 symbol_spelled kind.Word bytes = unwrap_or (word_spelled bytes) Name
 symbol_spelled (kind.Number ty value) bytes = Number ty value

@@ -2,11 +2,16 @@
 //! sees them.
 #![tactic(auto)]
 
+mod laws;
 mod operators;
 mod source;
 mod symbol;
 mod words;
 
+pub use laws::{
+    keywords_stand_for_themselves, marks_are_no_text, marks_stand_for_themselves,
+    terminals_stand_for_themselves,
+};
 pub use operators::{AssignmentOperator, BinaryOperator, StepOperator};
 pub use source::Source;
 pub use symbol::{MARKS, Symbol, WORDS, classify, spelling};

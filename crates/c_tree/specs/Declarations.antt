@@ -1,7 +1,6 @@
 -- The grammar of declarations (C11 6.7).
 use Rattle.std.specs.Prelude.{Bool, true, false, List, Option, is_some}
-use Rattle.grammar_forms.specs.Forms.{Form, Nothing, One, Such, Empty, Skip, Behind, Before, Pair, Then, Node, Shaped, Deeper, Choice, Many, Perhaps}
-use Rattle.grammar_forms.specs.Loops.{listed}
+use Rattle.grammar_forms.specs.Forms.{Form, Nothing, One, Such, Empty, Skip, Behind, Before, Pair, Then, Node, Shaped, Deeper, Choice, Many, Perhaps, listed}
 use Rattle.c_symbols.specs.declared.words.Terminal.TheVariants as terminal
 use Rattle.c_symbols.specs.declared.symbol.Symbol.{Symbol}
 use Rattle.c_symbols.specs.declared.symbol.Symbol.TheVariants as symbol
@@ -45,16 +44,17 @@ attribute = Skip (Behind (is terminal.LeftParen) (Behind (is terminal.LeftParen)
 unfoldable pub attributes : Form Leaf (Unit {0})
 attributes = Node (λ leaf us. tt) (Many (is terminal.Attribute) attribute)
 
--- an expression of an initializer list, and the comma behind it, or the brace that ends the list
+-- a comma, or the brace that ends the list and is not taken
 unfoldable pub comma_or_end_at : Symbol → Form Leaf (Unit {0})
 comma_or_end_at (symbol.Terminal terminal.Comma) = One
 comma_or_end_at (symbol.Terminal terminal.RightBrace) = Empty
 comma_or_end_at _ = Nothing
 
+-- an expression of an initializer list, and the comma behind it, or the brace that ends the list
 unfoldable pub element : Grammar → Form Leaf Expression
 element G = Node (λ leaf parts. parts.0) (Pair (Deeper G.assignment) (Choice symbol_of comma_or_end_at))
 
--- "{" [assignment {"," assignment} [","]] "}" (C11 6.7.9)
+-- "{" [assignment {"," assignment} [","]] "}" (C11 6.7.9; the empty list is of GNU C and C23)
 unfoldable pub list : Grammar → Form Leaf Initializer
 list G = Node (λ leaf items. node.List items leaf.place)
     (Behind (is terminal.LeftBrace) (Before (Many (is_not terminal.RightBrace) (element G)) (is terminal.RightBrace)))
@@ -87,7 +87,7 @@ declarator_rest G = Node (λ leaf parts. record { array = parts.0.0; initializer
 abbrev pub declarator_of : Name × Rest → Declarator
 declarator_of parts = record { name = parts.0; array = parts.1.array; initializer = parts.1.initializer }
 
--- Word ["[" [conditional] "]"] {attribute} ["=" initializer] (C11 6.7.6)
+-- Word ["[" [conditional] "]"] {attribute} ["=" initializer] (C11 6.7.6 in part)
 unfoldable pub declarator : Grammar → Form Leaf Declarator
 declarator G = Node (λ leaf parts. declarator_of parts) (Pair identifier (declarator_rest G))
 
@@ -95,7 +95,8 @@ declarator G = Node (λ leaf parts. declarator_of parts) (Pair identifier (decla
 unfoldable pub more_declarators : Grammar → Form Leaf (List Declarator)
 more_declarators G = Many (is terminal.Comma) (Skip (declarator G))
 
--- specifiers declarator {"," declarator} ";" in a function: no storage class but register (C11 6.7)
+-- specifiers declarator {"," declarator} ";" in a function: no storage class but register (C11 6.7, which lets the
+-- declarators be absent: here they are not)
 unfoldable pub declaration : Grammar → Form Leaf Declaration
 declaration G = Node (λ leaf parts. record { specifiers = parts.0; declarators = parts.1 })
     (Pair (specifiers is_local_specifier)

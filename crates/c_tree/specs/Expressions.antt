@@ -1,9 +1,6 @@
--- The grammar of expressions (C11 6.5). A part that begins behind a token which opens it stands one level deeper
--- (`Deeper`); the first operand of a chain or a conditional, the later operands of a chain and the left side of
--- an assignment have the level of the whole.
-use Rattle.std.specs.Prelude.{ℕ, zero, suc, Bool, ◌&&◌, List, [], ◌∷◌, fold, Option, None, Some}
-use Rattle.grammar_forms.specs.Forms.{Form, Nothing, One, Skip, Before, Pair, Then, Node, Shaped, Deeper, Choice, Many, Perhaps, Balanced}
-use Rattle.grammar_forms.specs.Loops.{listed}
+-- The grammar of expressions (C11 6.5).
+use Rattle.std.specs.Prelude.{ℕ, zero, suc, Bool, ◌&&◌, List, [], ◌∷◌, Option, None, Some}
+use Rattle.grammar_forms.specs.Forms.{Form, Nothing, One, Skip, Before, Pair, Then, Node, Shaped, Deeper, Choice, Many, Perhaps, Nearest, Balanced, listed}
 use Rattle.c_symbols.specs.declared.words.Terminal.TheVariants as terminal
 use Rattle.c_symbols.specs.declared.words.TypeWord.{TypeWord}
 use Rattle.c_symbols.specs.declared.operators.BinaryOperator.{BinaryOperator}
@@ -20,23 +17,18 @@ use Rattle.c_tree.specs.declared.expression.UnaryOperator.TheVariants as unary_o
 use Rattle.c_tree.specs.declared.expression.TypeName.{TypeName}
 use Rattle.c_tree.specs.declared.expression.Suffix.{Suffix}
 use Rattle.c_tree.specs.declared.expression.Suffix.TheVariants as suffix
-use Rattle.c_tree.specs.Parts.{is_not, name_of, is_operator, is_assignment, is_type_word, is_end, begins_suffix, is_unary, names_assert, is_type}
+use Rattle.c_tree.specs.Parts.{is_not, name_of, is_operator, is_assignment, is_type_word, is_end, begins_suffix, is_unary, names_assert, is_type, loosest}
 use Rattle.c_tree.specs.Nested.{Grammar}
 
--- the node of a suffix behind its base
-abbrev pub applied : ℕ → Expression → Suffix → Expression
-applied place base (suffix.Index index) = expression.Index base index place
-applied place base (suffix.Call arguments) = expression.Call base arguments place
-applied place base (suffix.Step operator) = expression.PostfixStep base operator place
+-- no suffix, no postfix expression
+abbrev pub suffixed : ℕ → Expression → List Suffix → Expression
+suffixed place base [] = base
+suffixed place base (one ∷ more) = expression.Postfix base (one ∷ more) place
 
--- the same, of a suffix of a call whose arguments are skipped, where there is one
-abbrev pub skipped : ℕ → Expression → Option (Unit {0}) → Expression
-skipped place base None = base
-skipped place base (Some u) = expression.AssertFail base place
-
--- a primary expression and what stands behind it
-abbrev pub suffixed : ℕ → Expression → Option (Unit {0}) × List Suffix → Expression
-suffixed place base parts = fold (applied place) (skipped place base parts.0) parts.1
+-- the skipped call, where there is one, in front of the suffixes behind it
+abbrev pub in_front : Leaf → Option Suffix × List Suffix → List Suffix
+in_front leaf (None, more) = more
+in_front leaf (Some skipped, more) = skipped ∷ more
 
 -- one operand is itself
 abbrev pub chain_of : Leaf → Expression × List (BinaryOperator × Expression) → Expression
@@ -61,11 +53,11 @@ comma_of leaf (first, item ∷ items) = expression.Comma (first ∷ item ∷ ite
 -- a cast, or an expression in brackets and what stands behind it
 pub data Group : Type 0 where
   cast_group : TypeName → Expression → Group
-  bracket_group : Expression → Option (Unit {0}) × List Suffix → Group
+  bracket_group : Expression → List Suffix → Group
 
 abbrev pub group_of : Leaf → Group → Expression
 group_of leaf (cast_group to operand) = expression.Cast to operand leaf.place
-group_of leaf (bracket_group inner parts) = suffixed leaf.place (expression.Bracketed inner leaf.place) parts
+group_of leaf (bracket_group inner more) = suffixed leaf.place (expression.Bracketed inner leaf.place) more
 
 -- an operator on one operand
 abbrev pub unary_of : UnaryOperator → Leaf → Expression → Expression
@@ -91,22 +83,27 @@ arguments G = Before (Node list_of (Perhaps (is_not terminal.RightParen) (assign
 -- "[" comma "]" ; "(" arguments ; "++" ; "--" (C11 6.5.2)
 unfoldable pub suffix_at : Grammar → Symbol → Form Leaf Suffix
 suffix_at G (symbol.Terminal terminal.LeftBracket) =
-    Node (λ leaf index. suffix.Index index) (Skip (Before (Deeper G.comma) (is terminal.RightBracket)))
-suffix_at G (symbol.Terminal terminal.LeftParen) = Node (λ leaf given. suffix.Call given) (Skip (arguments G))
-suffix_at G (symbol.Step operator) = Node (λ leaf u. suffix.Step operator) One
+    Node (λ leaf index. suffix.Index index leaf.place) (Skip (Before (Deeper G.comma) (is terminal.RightBracket)))
+suffix_at G (symbol.Terminal terminal.LeftParen) = Node (λ leaf given. suffix.Call given leaf.place) (Skip (arguments G))
+suffix_at G (symbol.Step operator) = Node (λ leaf u. suffix.Step operator leaf.place) One
 suffix_at G _ = Nothing
 
 abbrev pub any_suffix : Grammar → Form Leaf Suffix
 any_suffix G = Choice symbol_of (suffix_at G)
 
--- the brackets behind __assert_fail and any tokens in them, this project's own
-abbrev pub skipped_arguments : Form Leaf (Unit {0})
-skipped_arguments = Skip round_brackets
+-- "(" tokens with balanced round brackets ")": a call of __assert_fail, this project's own
+unfoldable pub skipped_call : Form Leaf Suffix
+skipped_call = Node (λ leaf u. suffix.Skipped leaf.place) (Skip round_brackets)
 
--- {suffix} behind a base. Where the base names __assert_fail, the arguments of its call are skipped
-unfoldable pub suffixes : Grammar → Bool → Form Leaf (Option (Unit {0}) × List Suffix)
+-- the brackets behind the name __assert_fail
+abbrev pub opens_skipped : Bool → Leaf → Bool
+opens_skipped asserts leaf = asserts && is terminal.LeftParen leaf
+
+-- {suffix} behind a base. Where the base names __assert_fail, its call is skipped: here the look at the next token
+-- is the grammar's own rule, since a plain call could stand there too
+unfoldable pub suffixes : Grammar → Bool → Form Leaf (List Suffix)
 suffixes G asserts =
-    Pair (Perhaps (λ leaf. asserts && is terminal.LeftParen leaf) skipped_arguments) (Many begins_suffix (any_suffix G))
+    Node in_front (Pair (Nearest (opens_skipped asserts) skipped_call) (Many begins_suffix (any_suffix G)))
 
 -- Word ; Number ; Character ; "(" comma ")" (C11 6.5.1)
 unfoldable pub primary_at : Grammar → Symbol → Form Leaf Expression
@@ -145,7 +142,7 @@ unfoldable pub type_word_at : Symbol → Form Leaf TypeWord
 type_word_at (symbol.TypeWord word) = Node (λ leaf u. word) One
 type_word_at _ = Nothing
 
--- the words of one type
+-- the words of one type, without qualifiers (C11 6.7.7 in part)
 unfoldable pub type_name : Form Leaf TypeName
 type_name = Node (λ leaf words. record { words = words; place = leaf.place })
     (Shaped is_type (Many is_type_word (Choice symbol_of type_word_at)))
@@ -181,7 +178,7 @@ chain (suc k) G = Node chain_of (Pair (chain k G) (Many (is_operator (suc k)) (o
 
 -- chain ["?" comma ":" conditional] (C11 6.5.15)
 unfoldable pub conditional : Grammar → Form Leaf Expression
-conditional G = Node conditional_of (Pair (chain 10 G)
+conditional G = Node conditional_of (Pair (chain loosest G)
     (Perhaps (is terminal.Question) (Skip (Pair (Before (Deeper G.comma) (is terminal.Colon)) (Deeper G.conditional)))))
 
 -- an operator of assignment and the right side behind it
@@ -189,10 +186,17 @@ unfoldable pub right_side_at : Grammar → Symbol → Form Leaf (AssignmentOpera
 right_side_at G (symbol.Assign operator) = Node (λ leaf right. (operator, right)) (Skip (Deeper G.assignment))
 right_side_at G _ = Nothing
 
+abbrev pub right_side : Grammar → Form Leaf (AssignmentOperator × Expression)
+right_side G = Choice symbol_of (right_side_at G)
+
+-- an operator of assignment behind a unary
+abbrev pub assigns_to : Expression → Leaf → Bool
+assigns_to left leaf = is_unary left && is_assignment leaf
+
 -- conditional ; unary operator assignment (C11 6.5.16). A unary before an operator of assignment is its left side
 unfoldable pub assignment : Grammar → Form Leaf Expression
 assignment G = Node assignment_of (Then (conditional G)
-    (λ left. Perhaps (λ leaf. is_unary left && is_assignment leaf) (Choice symbol_of (right_side_at G))))
+    (λ left. Perhaps (assigns_to left) (right_side G)))
 
 -- assignment {"," assignment} (C11 6.5.17)
 unfoldable pub comma : Grammar → Form Leaf Expression

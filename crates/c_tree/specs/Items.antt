@@ -2,8 +2,7 @@
 use Rattle.std.specs.Prelude.{ℕ, Bool, true, false, not, ◌&&◌, List, [], ◌∷◌, Option, None, Some, codes}
 use Rattle.std.specs.List.{list_any}
 use Rattle.std.specs.Str.{bytes_eq}
-use Rattle.grammar_forms.specs.Forms.{Form, Nothing, One, Skip, Before, Pair, Then, Node, Deeper, Choice, Many, Perhaps, Balanced}
-use Rattle.grammar_forms.specs.Loops.{listed}
+use Rattle.grammar_forms.specs.Forms.{Form, Nothing, One, Skip, Before, Pair, Then, Node, Deeper, Choice, Many, Perhaps, Balanced, listed}
 use Rattle.c_symbols.specs.declared.words.Terminal.TheVariants as terminal
 use Rattle.c_symbols.specs.declared.words.TypeWord.TheVariants as word
 use Rattle.c_symbols.specs.declared.symbol.Symbol.{Symbol}
@@ -28,7 +27,8 @@ use Rattle.c_tree.specs.Nested.{Grammar}
 use Rattle.c_tree.specs.Declarations.{identifier, specifiers, attributes, Rest, declarator_of, declarator_rest, more_declarators}
 use Rattle.c_tree.specs.Statements.{items}
 
--- functions that the checker knows, this project's own (SV-COMP)
+-- functions whose meaning the checker gives itself, this project's own (the names are SV-COMP's): what a text says
+-- of them in a body is skipped
 abbrev pub known_functions : List (List ℕ)
 known_functions = codes "reach_error" ∷ codes "abort" ∷ codes "exit" ∷ codes "__assert_fail" ∷
     codes "__VERIFIER_nondet_bool" ∷ codes "__VERIFIER_nondet_char" ∷ codes "__VERIFIER_nondet_uchar" ∷
@@ -59,7 +59,7 @@ abbrev pub is_only_void : List Specifier → Bool → Option Name → Bool
 is_only_void (only ∷ []) false None = is_void only.kind
 is_only_void _ _ _ = false
 
--- ( void ) is no parameter (C11 6.7.6.3p10)
+-- ( void ) is no parameter (C11 6.7.6.3p10). A list that is there is never empty
 abbrev pub parameters_of : Option (List Parameter) → Parameters
 parameters_of None = parameters.Unspecified
 parameters_of (Some []) = parameters.Listed []

@@ -1,4 +1,4 @@
--- The nested forms at a depth are the grammar's own forms at the depth below.
+-- Lemmas: the nested forms at a depth are the grammar's own forms at the depth below.
 use Rattle.grammar_forms.specs.Found.{IsAbove}
 use Rattle.c_tree.specs.Expressions.{comma, assignment, conditional, cast, unary}
 use Rattle.c_tree.specs.Declarations.{list, declaration}

@@ -1,7 +1,7 @@
--- Each form of the grammar has one reading at a place, and the tokens up to its end decide it.
+-- Lemmas: each form of the grammar has one reading at a place, and the tokens up to its end decide it.
 use Rattle.std.specs.Prelude.{ℕ, zero, suc, Bool}
 use Rattle.grammar_forms.specs.Forms.{Form}
-use Rattle.grammar_forms.specs.Steady.{Good, good_nothing, good_one, good_skip, good_before, good_pair, good_then, good_node, good_shaped, good_deeper, good_choice, good_perhaps, good_many, good_balanced}
+use Rattle.grammar_forms.specs.Steady.{Good, good_nothing, good_one, good_skip, good_before, good_pair, good_then, good_node, good_shaped, good_deeper, good_choice, good_perhaps, good_nearest, good_many, good_balanced}
 use Rattle.c_symbols.specs.declared.words.Terminal.TheVariants as terminal
 use Rattle.c_symbols.specs.declared.operators.BinaryOperator.TheVariants as binary
 use Rattle.c_symbols.specs.declared.symbol.Symbol.{Symbol}
@@ -9,9 +9,9 @@ use Rattle.c_symbols.specs.declared.symbol.Symbol.TheVariants as symbol
 use Rattle.c_symbols.specs.Symbols.{Leaf, symbol_of}
 use Rattle.c_symbols.specs.Sources.{is}
 use Rattle.c_tree.specs.declared.expression.Expression.{Expression}
-use Rattle.c_tree.specs.Parts.{is_type_word, is_type, is_end, names_assert}
+use Rattle.c_tree.specs.Parts.{is_type_word, is_type, is_end, names_assert, loosest}
 use Rattle.c_tree.specs.Nested.{Grammar}
-use Rattle.c_tree.specs.Expressions.{round_brackets, assignments, arguments, suffix_at, suffixes, primary_at, postfix, sign, unary_at, unary, type_word_at, type_name, group_at, cast_at, cast, operand_at, operand, chain, conditional, right_side_at, assignment, comma}
+use Rattle.c_tree.specs.Expressions.{round_brackets, assignments, arguments, suffix_at, skipped_call, suffixes, primary_at, postfix, sign, unary_at, unary, type_word_at, type_name, group_at, cast_at, cast, operand_at, operand, chain, conditional, right_side_at, assignment, comma}
 
 -- the nested forms of two grammars, pair by pair
 pub record GoodGrammar (G H : Grammar) : Type 0 where
@@ -27,6 +27,10 @@ pub record GoodGrammar (G H : Grammar) : Type 0 where
 
 pub good_round_brackets : Good round_brackets round_brackets
 good_round_brackets = good_balanced (is terminal.LeftParen) (is terminal.RightParen) is_end
+
+pub good_skipped_call : Good skipped_call skipped_call
+unfolding skipped_call
+good_skipped_call = good_node _ (good_skip good_round_brackets)
 
 pub good_type_word_at : (s : Symbol) → Good (type_word_at s) (type_word_at s)
 unfolding type_word_at
@@ -64,7 +68,7 @@ module _ (G H : Grammar) (g : GoodGrammar G H) where
   pub good_suffixes : (asserts : Bool) → Good (suffixes G asserts) (suffixes H asserts)
   unfolding suffixes
   good_suffixes asserts =
-      good_pair (good_perhaps _ (good_skip good_round_brackets)) (good_many _ (good_choice symbol_of good_suffix_at))
+      good_node _ (good_pair (good_nearest _ good_skipped_call) (good_many _ (good_choice symbol_of good_suffix_at)))
 
   pub good_primary_at : (s : Symbol) → Good (primary_at G s) (primary_at H s)
   unfolding primary_at
@@ -112,7 +116,7 @@ module _ (G H : Grammar) (g : GoodGrammar G H) where
 
   pub good_conditional : Good (conditional G) (conditional H)
   unfolding conditional
-  good_conditional = good_node _ (good_pair (good_chain 10)
+  good_conditional = good_node _ (good_pair (good_chain loosest)
       (good_perhaps _ (good_skip (good_pair (good_before (good_deeper g.comma) _) (good_deeper g.conditional)))))
 
   pub good_right_side_at : (s : Symbol) → Good (right_side_at G s) (right_side_at H s)

@@ -1,4 +1,4 @@
--- The same of declarations, statements and items, and of the grammar at each two depths.
+-- Lemmas: the same of declarations, statements and items, and of the grammar at each two depths.
 use Rattle.std.specs.Prelude.{ℕ, zero, suc, Bool, true, false, is_some, Option, Some}
 use Rattle.grammar_forms.specs.Steady.{Good, good_nothing, good_one, good_such, good_empty, good_skip, good_behind, good_before, good_pair, good_then, good_node, good_shaped, good_deeper, good_choice, good_perhaps, good_nearest, good_many, good_balanced, good_against_nothing}
 use Rattle.c_symbols.specs.declared.words.Terminal.{Terminal}

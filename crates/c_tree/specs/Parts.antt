@@ -18,6 +18,7 @@ use Rattle.c_symbols.specs.Symbols.{Leaf, symbol_of}
 use Rattle.c_symbols.specs.Sources.{is}
 use Rattle.c_tree.specs.declared.name.Name.{Name}
 use Rattle.c_tree.specs.declared.expression.Expression.{Expression, out-Expression}
+use Rattle.c_tree.specs.declared.expression.Suffix.{Suffix}
 use Rattle.c_tree.specs.declared.expression.Expression.TheOpen.{Expression-F}
 use Rattle.c_tree.specs.declared.expression.Expression.TheFolds.{fold-Expression}
 use Rattle.c_tree.specs.declared.declaration.Specifier.{Specifier}
@@ -61,6 +62,10 @@ looseness operator.BitOr = 8
 looseness operator.LogicalAnd = 9
 looseness operator.LogicalOr = 10
 
+-- the loosest of these
+abbrev pub loosest : ℕ
+loosest = looseness operator.LogicalOr
+
 -- the symbol is an operator of so loose a chain
 abbrev pub binds : ℕ → Symbol → Bool
 binds rank (symbol.Binary operator) = looseness operator == rank
@@ -102,8 +107,25 @@ ends _ = false
 abbrev pub is_end : Leaf → Bool
 is_end leaf = ends (symbol_of leaf)
 
+-- the symbol is the first of an expression
+abbrev pub begins : Symbol → Bool
+begins symbol.Name = true
+begins (symbol.Number ty value) = true
+begins (symbol.Character value) = true
+begins (symbol.Step operator) = true
+begins (symbol.Binary operator.Add) = true
+begins (symbol.Binary operator.Subtract) = true
+begins (symbol.Terminal terminal.LeftParen) = true
+begins (symbol.Terminal terminal.Tilde) = true
+begins (symbol.Terminal terminal.Exclamation) = true
+begins _ = false
+
+-- an expression may begin with the token
+abbrev pub begins_expression : Leaf → Bool
+begins_expression leaf = begins (symbol_of leaf)
+
 -- one layer of an expression: a unary expression (C11 6.5.3)
-abbrev pub unary_layer : Expression-F Expression → Bool
+abbrev pub unary_layer : Expression-F Expression Suffix → Bool
 unary_layer (Expression-F.Cast to operand place) = false
 unary_layer (Expression-F.Chain first rest place) = false
 unary_layer (Expression-F.Conditional test then other place) = false
@@ -112,12 +134,12 @@ unary_layer (Expression-F.Comma items place) = false
 unary_layer _ = true
 
 -- one layer of an expression: the name, where it is one
-abbrev pub name_layer : Expression-F Expression → Option Name
+abbrev pub name_layer : Expression-F Expression Suffix → Option Name
 name_layer (Expression-F.Name name) = Some name
 name_layer _ = None
 
 -- one layer of an expression, with an answer for each part: the name __assert_fail in any brackets
-abbrev pub assert_layer : Expression-F Bool → Bool
+abbrev pub assert_layer : Expression-F Bool (Unit {0}) → Bool
 assert_layer (Expression-F.Name name) = bytes_eq name.bytes (codes "__assert_fail")
 assert_layer (Expression-F.Bracketed inner place) = inner
 assert_layer _ = false
@@ -130,7 +152,7 @@ bare_name expression = name_layer (out-Expression expression)
 
 -- the expression is the name __assert_fail, in brackets or not
 abbrev pub names_assert : Expression → Bool
-names_assert = fold-Expression Bool assert_layer
+names_assert = fold-Expression Bool (Unit {0}) assert_layer (λ suffix. tt)
 
 -- how often a word stands among these
 abbrev pub occurrences : TypeWord → List TypeWord → ℕ
@@ -145,15 +167,16 @@ abbrev pub has_no : TypeWord → List TypeWord → Bool
 has_no = at_most 0
 
 -- a sign at most
-abbrev pub has_one_sign : List TypeWord → Bool
-has_one_sign words = nat_le (occurrences word.Signed words + occurrences word.Unsigned words) 1
+abbrev pub at_most_one_sign : List TypeWord → Bool
+at_most_one_sign words = nat_le (occurrences word.Signed words + occurrences word.Unsigned words) 1
 
 -- none, or some, of the words of one of the integer types or of void, in any order (C11 6.7.2p2): no word but
--- void; none but _Bool; char and a sign; short, int and a sign; int and a sign; long once or twice, int and a sign
+-- void; none but _Bool; char with at most one sign; short, with or without int and a sign; int with at most one sign;
+-- long once or twice, with or without int and a sign; a sign alone
 abbrev pub is_part_of_type : List TypeWord → Bool
 is_part_of_type words =
     (length words == 1 || has_no word.Void words) && (length words == 1 || has_no word.Bool words)
-    && has_one_sign words && at_most 1 word.Char words && at_most 1 word.Short words
+    && at_most_one_sign words && at_most 1 word.Char words && at_most 1 word.Short words
     && at_most 1 word.Int words && at_most 2 word.Long words
     && (has_no word.Char words || (has_no word.Short words && has_no word.Int words && has_no word.Long words))
     && (has_no word.Short words || has_no word.Long words)

@@ -1,7 +1,7 @@
 -- What the readers of the grammar promise.
-use Rattle.std.specs.Prelude.{◌≡◌, ℕ, List, length, Result}
+use Rattle.std.specs.Prelude.{ℕ, ◌+◌, ◌-◌, ◌≤◌, Bool, cond, List, length, Result}
 use Rattle.grammar_forms.specs.declared.fault.ReadError.{ReadError}
-use Rattle.grammar_forms.specs.declared.fault.ReadError.TheVariants.{Unexpected, TooDeep, OutOfMemory}
+use Rattle.grammar_forms.specs.declared.fault.ReadError.TheVariants.{Unexpected, TooDeep}
 use Rattle.grammar_forms.specs.Forms.{Form, Deeper}
 use Rattle.grammar_forms.specs.Reading.{Answers}
 use Rattle.c_symbols.specs.Symbols.{Leaf}
@@ -33,8 +33,14 @@ deeper_cast G = Deeper G.cast
 abbrev pub deeper_unary : Grammar → Form Leaf Expression
 deeper_unary G = Deeper G.unary
 
--- the error names this place, for want of levels or since no part begins there
-abbrev pub IsDeep : ℕ → ReadError → Type 0
-IsDeep at (Unexpected i) = i ≡ at
-IsDeep at (TooDeep i) = i ≡ at
-IsDeep at OutOfMemory = ⊥
+-- so many tokens stand before the place, at least, that where no level is left they are MAX_LEVEL - 1
+abbrev pub HasRoom : ℕ → ℕ → Type 0
+HasRoom left at = MAX_LEVEL - 1 ≤ left + at
+
+-- the same of a part one level deeper, before which stands the token that opens it
+abbrev pub HasRoomBelow : ℕ → ℕ → Type 0
+HasRoomBelow left at = MAX_LEVEL ≤ left + at
+
+-- the error at a place where no level is left for a part: where the part could begin there, levels are wanting
+abbrev pub no_level : Bool → ℕ → ReadError
+no_level begins at = cond begins (TooDeep at) (Unexpected at)

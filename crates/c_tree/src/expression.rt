@@ -23,7 +23,8 @@ pub struct TypeName {
     pub place: u32,
 }
 
-/// An expression. A place is that of its first token.
+/// An expression. Its place is that of its first token; a name has its own.
+#[cycle(expression)]
 #[derive(Debug, Drop)]
 pub enum Expression {
     /// An identifier.
@@ -44,27 +45,11 @@ pub enum Expression {
         inner: Boxed<Expression>,
         place: u32,
     },
-    /// `base[index]`
-    Index {
+    /// A base and the suffixes behind it, one at least, each applied to what stands before it. They are
+    /// a list, since no suffix adds a level: walks over the tree stay within `MAX_LEVEL`.
+    Postfix {
         base: Boxed<Expression>,
-        index: Boxed<Expression>,
-        place: u32,
-    },
-    /// `callee(arguments)`
-    Call {
-        callee: Boxed<Expression>,
-        arguments: Seq<Expression>,
-        place: u32,
-    },
-    /// A call of `__assert_fail`, whose arguments are any tokens with balanced round brackets.
-    AssertFail {
-        callee: Boxed<Expression>,
-        place: u32,
-    },
-    /// `operand++` or `operand--`
-    PostfixStep {
-        operand: Boxed<Expression>,
-        operator: StepOperator,
+        suffixes: Seq<Suffix>,
         place: u32,
     },
     /// `++operand` or `--operand`
@@ -85,7 +70,7 @@ pub enum Expression {
         operand: Boxed<Expression>,
         place: u32,
     },
-    /// Two operands or more between operators of one level: the first, and each other behind its
+    /// Two operands or more between operators of one precedence: the first, and each other behind its
     /// operator. They belong together from the left.
     Chain {
         first: Boxed<Expression>,
@@ -113,13 +98,27 @@ pub enum Expression {
     },
 }
 
-/// What stands behind the base of a postfix expression (C11 6.5.2).
+/// What stands behind the base of a postfix expression (C11 6.5.2). Its place is that of its first token.
+#[cycle(expression)]
 #[derive(Debug, Drop)]
 pub enum Suffix {
     /// `[index]`
-    Index(Expression),
+    Index {
+        index: Expression,
+        place: u32,
+    },
     /// `(arguments)`
-    Call(Seq<Expression>),
+    Call {
+        arguments: Seq<Expression>,
+        place: u32,
+    },
     /// `++` or `--`
-    Step(StepOperator),
+    Step {
+        operator: StepOperator,
+        place: u32,
+    },
+    /// `(tokens)` behind the name `__assert_fail`: any tokens with balanced round brackets, which are not kept.
+    Skipped {
+        place: u32,
+    },
 }

@@ -2,7 +2,7 @@
 use crate::{Declaration, Expression, Name};
 use cpa_ints::{Boxed, Seq};
 
-/// A statement. A place is that of its first token.
+/// A statement. Its place is that of its first token; a labeled one has that of its label.
 #[cycle(statement)]
 #[derive(Debug, Drop)]
 pub enum Statement {

@@ -1,4 +1,4 @@
--- Tokens in brackets, counted from the bracket that opens.
+-- Lemmas: tokens in brackets, counted from the bracket that opens.
 use Rattle.std.specs.Prelude.{◌≡◌, ℕ, ◌+◌, ◌<◌, ◌≤◌, Bool, true, false, cond, suc, refl}
 use Rattle.std.proofs.Common.{sym, ◌∙◌, ap, subst, arith}
 use native.Mathlib.Decide.{dec_le, dec_lt}

@@ -1,4 +1,4 @@
--- From an error in a part to an error of the whole.
+-- Lemmas: from an error in a part to an error of the whole.
 use Rattle.std.specs.Prelude.{◌≡◌, ℕ, Result, IsErrAnd, Ok, Err}
 use Rattle.std.proofs.Common.{sym, ◌∙◌, subst}
 use Rattle.grammar_forms.specs.declared.fault.ReadError.{ReadError}

@@ -1,4 +1,5 @@
--- Grammars as relations between the places of a text. A place is the number of a token.
+-- Grammars as relations between the places of a text: the forms of EBNF (ISO/IEC 14977), and this project's own that
+-- look at the next token. A place is the number of a token.
 use Rattle.std.specs.Prelude.{◌≡◌, ℕ, ◌+◌, ◌-◌, ◌<◌, ◌≤◌, Bool, true, false, cond, zero, suc, List, [], ◌∷◌, Option, None, Some}
 
 -- a text to be read: the token at each place; up to which place the limit on levels is looked at;
@@ -7,6 +8,10 @@ pub record World (Token : Type 0) : Type 0 where
   pub at : ℕ → Token
   pub edge : ℕ
   pub greedy : Bool
+
+-- the greedy text with these tokens
+abbrev pub greedy_text : {Token : Type 0} → (ℕ → Token) → ℕ → World Token
+greedy_text at edge = record { at = at; edge = edge; greedy = true }
 
 -- what can be read: in a text, with so many levels left, from a place, a part, up to the place behind it
 abbrev pub Form : Type 0 → Type 0 → Type 1
@@ -84,6 +89,10 @@ pub record Choice {Token K T : Type 0} (class : Token → K) (A : K → Form Tok
     (w : World Token) (left p : ℕ) (u : T) (q : ℕ) : Type 0 where
   pub chosen : A (class (w.at p)) w left p u q
 
+-- the first item in front of the others
+abbrev pub listed : {Token T : Type 0} → Token → T × List T → List T
+listed first parts = parts.0 ∷ parts.1
+
 -- nothing more: in a greedy text because the next token does not go on
 pub record Ends {Token : Type 0} (go : Token → Bool) (w : World Token) (p q : ℕ) : Type 0 where
   pub stops : w.greedy ≡ true → go (w.at p) ≡ false
@@ -112,7 +121,7 @@ pub record Stops {Token : Type 0} (go : Token → Bool) (w : World Token) (p q :
   pub stops : go (w.at p) ≡ false
   pub behind : q ≡ p
 
--- the same, but in no text does it end where it could go on
+-- the same, but in no text does it end where it could go on: the look at the next token is the grammar's own rule
 unfoldable pub Nearest : {Token T : Type 0} → (Token → Bool) → Form Token T → Form Token (Option T)
 Nearest go A w left p None q = Stops go w p q
 Nearest go A w left p (Some u) q = Goes go A (λ m. q ≡ m) w left p u

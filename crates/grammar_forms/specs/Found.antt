@@ -1,8 +1,8 @@
--- Readings from readings of the parts.
+-- Lemmas: readings from readings of the parts.
 use Rattle.std.specs.Prelude.{◌≡◌, ℕ, ◌+◌, ◌-◌, ◌<◌, Bool, true, false, List, [], ◌∷◌, None, Some, suc, zero, refl}
 use Rattle.std.proofs.Common.{sym, subst, arith}
-use Rattle.grammar_forms.specs.Forms.{World, Form, One, Such, Empty, Skip, Behind, Before, Pair, Then, Node, Shaped, Deeper, Choice, Many, Perhaps, Nearest}
-use Rattle.grammar_forms.specs.Reading.{greedy_text, Reads}
+use Rattle.grammar_forms.specs.Forms.{World, Form, One, Such, Empty, Skip, Behind, Before, Pair, Then, Node, Shaped, Deeper, Choice, Many, Perhaps, Nearest, greedy_text}
+use Rattle.grammar_forms.specs.Reading.{Reads}
 
 -- B has one level more than A: with none it reads nothing
 pub record IsAbove {Token T : Type 0} (B A : ℕ → Form Token T) : Type 0 where

@@ -1,7 +1,7 @@
--- Lists that are read part by part.
+-- Lemmas: lists that are read part by part.
 use Rattle.std.specs.Prelude.{◌≡◌, ℕ, ◌<◌, ◌≤◌, Bool, true, false, List, [], ◌∷◌, ◌++◌, refl}
 use Rattle.std.proofs.Common.{sym, ◌∙◌, ap, subst, arith, append_assoc, append-nil}
-use Rattle.grammar_forms.specs.Forms.{World, Form, One, Such, Skip, Behind, Before, Pair, Node, Shaped, Choice, Many}
+use Rattle.grammar_forms.specs.Forms.{World, Form, One, Such, Skip, Behind, Before, Pair, Node, Shaped, Choice, Many, listed}
 use Rattle.grammar_forms.specs.Steady.{Good, Steady, cons_path, from_place, test_path, ends_or_goes}
 use Rattle.grammar_forms.specs.Reading.{Reads, Begins, NoneThrough}
 use Rattle.grammar_forms.specs.Found.{reads_pair, reads_node, reads_end, reads_more}
@@ -27,10 +27,6 @@ pub record SoFar {Token T : Type 0} (W : ℕ → Form Token (List T)) (go : Toke
       HasRest go (A n) v left m items ts q
   pub onward : p ≤ m
   pub within : m < size
-
--- the first item in front of the others
-abbrev pub listed : {Token T : Type 0} → Token → T × List T → List T
-listed first parts = parts.0 ∷ parts.1
 
 module _ {Token T : Type 0} {at : ℕ → Token} {size left p : ℕ} where
   -- a list of parts, at its start

@@ -1,9 +1,9 @@
--- No reading where a part has none.
+-- Lemmas: no reading where a part has none.
 use Rattle.std.specs.Prelude.{◌≡◌, ℕ, ◌+◌, ◌-◌, ◌<◌, ◌≤◌, Bool, true, false, List, [], ◌∷◌, Option, None, Some, suc, zero, refl}
 use Rattle.std.proofs.Common.{sym, ◌∙◌, ap, subst, arith}
-use Rattle.grammar_forms.specs.Forms.{World, Form, Nothing, Such, Skip, Behind, Before, Pair, Then, Node, Shaped, Deeper, Choice, Many, Perhaps, Nearest}
+use Rattle.grammar_forms.specs.Forms.{World, Form, Nothing, Such, Skip, Behind, Before, Pair, Then, Node, Shaped, Deeper, Choice, Many, Perhaps, Nearest, greedy_text}
 use Rattle.grammar_forms.specs.Steady.{Alike, Steady, from_place, ends_or_goes, test_path}
-use Rattle.grammar_forms.specs.Reading.{greedy_text, Reads, Begins, NoneThrough}
+use Rattle.grammar_forms.specs.Reading.{Reads, Begins, NoneThrough}
 use Rattle.grammar_forms.specs.Found.{IsAbove}
 
 -- the text and one that begins with the same tokens are alike

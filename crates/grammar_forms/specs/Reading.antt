@@ -2,14 +2,10 @@
 use Rattle.std.specs.Prelude.{◌≡◌, ℕ, ◌<◌, ◌≤◌, true, Result, MatchResult}
 use Rattle.grammar_forms.specs.declared.fault.ReadError.{ReadError}
 use Rattle.grammar_forms.specs.declared.fault.ReadError.TheVariants.{Unexpected, TooDeep, OutOfMemory}
-use Rattle.grammar_forms.specs.Forms.{World, Form}
-
--- the greedy text with these tokens
-abbrev pub greedy_text : {Token : Type 0} → (ℕ → Token) → ℕ → World Token
-greedy_text at edge = record { at = at; edge = edge; greedy = true }
+use Rattle.grammar_forms.specs.Forms.{World, Form, greedy_text}
 
 -- the part is read from p up to q, wherever the limit on levels is looked at. A form is given for each
--- number of levels that there are at all
+-- number of levels that there are at all. It ends before the text's end, which no part but the whole text takes
 pub record Reads {Token T : Type 0} (A : ℕ → Form Token T) (at : ℕ → Token) (size left p : ℕ) (u : T) (q : ℕ) : Type 0 where
   pub reading : (edge : ℕ) → A left (greedy_text at edge) left p u q
   pub onward : p ≤ q

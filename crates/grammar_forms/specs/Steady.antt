@@ -1,4 +1,4 @@
--- A form has one reading at a place, and the tokens up to its end decide it.
+-- Lemmas: a form has one reading at a place, and the tokens up to its end decide it.
 use Rattle.std.specs.Prelude.{◌≡◌, ℕ, ◌+◌, ◌<◌, ◌≤◌, Bool, true, false, cond, zero, suc, List, [], ◌∷◌, Option, None, Some, refl}
 use Rattle.std.proofs.Common.{sym, ◌∙◌, ap, subst, arith}
 use Rattle.grammar_forms.specs.Forms.{World, Form, Nothing, One, Such, Empty, Skip, Behind, Before, Pair, Then, Node, Shaped, Deeper, Choice, Many, Perhaps, Nearest, count, Balanced}
