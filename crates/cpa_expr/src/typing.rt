@@ -1,13 +1,13 @@
 //! Which expressions are well typed, `IsExpr` of `specs/Shape.antt`: each node by itself, and its
 //! parts; `proofs/typing` joins the two.
 
-ghost use Rattle.std.specs.Prelude.{◌≡◌, ◌<◌, ◌+◌, ◌↔◌, IsTrue, map, slice_get};
+ghost use Rattle.std.specs.Prelude.{◌≡◌, ◌<◌, ◌≤◌, ◌+◌, ◌↔◌, IsTrue, map, slice_get};
 ghost use Rattle.cpa_ints.specs.declared.integers.IntType.{IntType as Ty};
 ghost use Rattle.cpa_expr.specs.declared.tree.Expr.{out-Expr};
-ghost use Rattle.cpa_expr.specs.Shape.{is_arithmetic, is_shift, AreCells, IsTypedHere, OfParts, IsTyped, IsExpr};
+ghost use Rattle.cpa_expr.specs.Shape.{is_arithmetic, is_shift, height, AreCells, IsTypedHere, OfParts, IsTyped, IsExpr};
 
 use crate::parts::{Parts, parts_of};
-use crate::shape::{MAX_HEIGHT, height, type_of};
+use crate::shape::{MAX_HEIGHT, type_of};
 use crate::tree::{BinOp, Expr};
 use cpa_ints::IntType;
 
@@ -29,8 +29,6 @@ impl Typed for IntType {
 
 /// Whether the expression is well typed over cells of these types, and of a height of at most
 /// `MAX_HEIGHT`.
-///
-/// The height is looked at first, by a walk over the whole expression.
 pub fn is_expr(e: &Expr, cells: &[IntType]) -> bool
     ensures { IsTrue result ↔ IsExpr cells.now e.now }
 {
@@ -41,7 +39,27 @@ pub fn is_expr(e: &Expr, cells: &[IntType]) -> bool
 pub fn is_expr_over<C: Typed>(e: &Expr, cells: &[C]) -> bool
     ensures { IsTrue result ↔ IsExpr (map C.ty cells.now) e.now }
 {
-    height(e) <= MAX_HEIGHT && is_typed(e, cells)
+    is_at_most(e, MAX_HEIGHT) && is_typed(e, cells)
+}
+
+/// Whether the expression is at most this high. It looks no deeper, so that an expression of any
+/// height is judged on a stack of this height.
+fn is_at_most(e: &Expr, limit: u32) -> bool
+    ensures { IsTrue result ↔ (height e.now ≤ limit) }
+{
+    if limit == 0 {
+        return false;
+    }
+    let below = limit - 1;
+    match parts_of(e) {
+        Parts::None => true,
+        Parts::One(part) => is_at_most(part, below),
+        Parts::Two(left, right) => both(is_at_most(left, below), is_at_most(right, below)),
+        Parts::Three(test, yes, no) => both(
+            is_at_most(test, below),
+            both(is_at_most(yes, below), is_at_most(no, below)),
+        ),
+    }
 }
 
 /// Whether every node is well typed.
