@@ -1,3 +1,4 @@
+//! Two programs, shown well formed by `proofs/Samples.antt`, with their edges worked by hand.
 ghost use Rattle.std.specs.Prelude.{◌≡◌, [], ◌∷◌, pos, IfOk};
 ghost use Rattle.cpa_expr.specs.Cells.{scalar_read};
 ghost use Rattle.cpa_model.specs.Programs.{IsWellFormed};

@@ -1,3 +1,5 @@
+//! Control-flow automata, as data. Which one is a program's is `IsAutomatonOf` of
+//! `specs/Automata.antt`.
 use crate::program::Cell;
 use cpa_expr::Expr;
 use cpa_ints::Seq;

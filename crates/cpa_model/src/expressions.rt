@@ -1,3 +1,5 @@
+//! Expressions over the cells of a program: their truth on a store and their typing, by
+//! `specs/Expressions.antt`, over the calls of `cpa_expr`.
 ghost use Rattle.std.specs.Prelude.{◌↔◌, IsTrue};
 ghost use Rattle.cpa_model.specs.Expressions.{HasTruth, IsExpr};
 
@@ -14,7 +16,7 @@ pub fn has_truth(expr: &Expr, holds: bool, store: &Store) -> bool
     }
 }
 
-/// Whether the expression is well typed over the cells, and of a height of at most 500.
+/// Whether the expression is well typed over the cells, and of a height of at most `MAX_HEIGHT` of `cpa_expr`.
 pub fn is_expr(expr: &Expr, cells: &[Cell]) -> bool
     ensures { IsTrue result ↔ IsExpr cells.now expr.now }
 {

@@ -1,3 +1,5 @@
+//! The states of an execution, as data. Which of them are states of a program is `IsState` of
+//! `specs/States.antt`.
 use cpa_expr::Store;
 use cpa_ints::Seq;
 

@@ -47,7 +47,8 @@ IsJudged bytes answer.ReadFailed = ⊥
 IsJudged bytes answer.TooLong = ⊥
 IsJudged bytes answer.OutOfMemory = Unit {0}
 
--- what the job comes to on a named file: its bytes, where they are told, and its count of faults before and after
+-- what the job comes to on a named file: its bytes, where they are told, and its count of faults
+-- before and after
 abbrev pub IsVerified : Option (List ℕ) → ℕ → ℕ → Answer → Type 0
 IsVerified told before after (answer.Safe report) =
     IfSome told (λ bytes. (length bytes ≤ PROGRAM_LIMIT) × IsSafeText bytes (string_bytes report))

@@ -1,5 +1,5 @@
--- The core of a program of the first form: which core statements each statement stands for, how they are numbered,
--- and which cells its tests take.
+-- The core of a program of the first form: which core statements each statement stands for, how
+-- they are numbered, and which cells its tests take.
 use Rattle.std.specs.Prelude.{ℕ, ◌+◌, pos, List, [], ◌∷◌, ◌++◌, map, length, replicate, unwrap_or}
 use Rattle.first_form.specs.declared.tree.Expression.{Expression}
 use Rattle.first_form.specs.declared.tree.Statement.{Statement}
@@ -15,14 +15,15 @@ use Rattle.cpa_model.specs.declared.program.Stmt.{Stmt}
 use Rattle.cpa_model.specs.declared.program.Stmt.TheVariants as stmt
 use Rattle.cpa_model.specs.declared.program.Program.{Program}
 
--- A list of core statements: the statements and their parts in the order of their numbers, the numbers of the list's
--- items, and how many fresh cells they take.
+-- A list of core statements: the statements and their parts in the order of their numbers, the
+-- numbers of the list's items, and how many fresh cells they take.
 pub record CoreList : Type 0 where
   pub stmts : List Stmt
   pub items : List ℕ
   pub cells : ℕ
 
--- what a statement stands for: a list for each number of its first core statement and each next fresh cell
+-- what a statement stands for: a list for each number of its first core statement and each next
+-- fresh cell
 abbrev pub Core : Type 0
 Core = ℕ → ℕ → CoreList
 

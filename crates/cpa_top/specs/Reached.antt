@@ -1,4 +1,5 @@
--- The reached set of an exploration by an analysis that is exact on the point (CAV 2007, section 2).
+-- The reached set of an exploration by an analysis that is exact on the point (CAV 2007, section
+-- 2).
 use Rattle.std.specs.Prelude.{◌≡◌, ℕ, ◌<◌, List, [], ◌∷◌, ◌++◌, Option, Some, length, slice_get, ◌⊎◌}
 use Rattle.std.specs.List.{All, Contains}
 use Rattle.cpa_model.specs.declared.facts.Elem.{Elem}
@@ -21,7 +22,8 @@ pub record AreTied (entries : List Elem) (table : List (Option ℕ)) : Type 0 wh
   pub found : (p k : ℕ) → slice_get table p ≡ Some (Some k) → slice_get entries k ≡ Some (pin p)
   pub known : (k p : ℕ) → slice_get entries k ≡ Some (pin p) → slice_get table p ≡ Some (Some k)
 
--- a table with a place for each point, tied to the entries, all of them pins of points that were walked to
+-- a table with a place for each point, tied to the entries, all of them pins of points that were
+-- walked to
 pub record IsReached (cfa : Cfa) (reached : Reached) : Type 0 where
   pub size : length reached.entry_at.items ≡ cfa.points
   pub tied : AreTied reached.entries reached.entry_at.items
@@ -35,7 +37,8 @@ pub record KeepsNumbers (before now : List Elem) : Type 0 where
 abbrev pub GrewBy : Elem → List Elem → List Elem → Type 0
 GrewBy e before now = (now ≡ before) ⊎ (now ≡ before ++ e ∷ [])
 
--- the elements were added: what was an entry kept its number, and what is an entry was one or is one of the elements
+-- the elements were added: what was an entry kept its number, and what is an entry was one or is
+-- one of the elements
 pub record AreAdded (elems : List Elem) (before now : Reached) : Type 0 where
   pub tied : AreTied now.entries now.entry_at.items
   pub size : length now.entry_at.items ≡ length before.entry_at.items
@@ -43,8 +46,8 @@ pub record AreAdded (elems : List Elem) (before now : Reached) : Type 0 where
   pub held : All (Contains now.entries) elems
   pub origin : (e : Elem) → Contains now.entries e → Contains before.entries e ⊎ Contains elems e
 
--- where the element is the pin of the point that the edge of this number leaves, the pin of the point to which the
--- edge leads is in the list
+-- where the element is the pin of the point that the edge of this number leaves, the pin of the
+-- point to which the edge leads is in the list
 abbrev pub LeadsInto : Cfa → ℕ → Elem → List Elem → Type 0
 LeadsInto cfa k e es = (edge : Edge) → slice_get cfa.edges k ≡ Some edge → e ≡ pin edge.from → Contains es (pin edge.to)
 

@@ -14,4 +14,5 @@ abbrev pub report_text : Report → List ℕ
 report_text r =
     codes "TRUE\n{\"cells\":" ++ decimal r.cells ++ codes ",\"edges\":" ++ decimal r.edges
     ++ codes ",\"entries\":" ++ list_text entry_text r.entries
-    ++ codes ",\"form\":1,\"points\":" ++ decimal r.points ++ codes ",\"text\":" ++ decimal r.text ++ codes "}\n"
+    ++ codes ",\"form\":1,\"points\":" ++ decimal r.points
+    ++ codes ",\"text\":" ++ decimal r.text ++ codes "}\n"

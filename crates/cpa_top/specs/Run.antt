@@ -26,9 +26,16 @@ pub record Call : Type 0 where
   pub faults_before : List ℕ → ℕ
   pub faults_after : List ℕ → ℕ
 
-abbrev pub call_of : List (List ℕ) → List Meaning → (List ℕ → Option (List ℕ)) → (List ℕ → ℕ) → (List ℕ → ℕ) → Call
+abbrev pub call_of : List (List ℕ) → List Meaning → (List ℕ → Option (List ℕ))
+    → (List ℕ → ℕ) → (List ℕ → ℕ) → Call
 call_of words analyses bytes_of faults_before faults_after =
-    record { words = words; analyses = analyses; bytes_of = bytes_of; faults_before = faults_before; faults_after = faults_after }
+    record {
+      words = words;
+      analyses = analyses;
+      bytes_of = bytes_of;
+      faults_before = faults_before;
+      faults_after = faults_after;
+    }
 
 -- the words are `verify` and the name of a program
 abbrev pub IsVerify : List (List ℕ) → List ℕ → Type 0
@@ -50,8 +57,8 @@ usage_text =
     ++ codes "       cpaverify audit PROGRAM PROOF [--workers N]\n"
     ++ codes "       cpaverify bench N\n"
 
--- The text is the report of a program that is safe: the program of the bytes, with its counts, and entries that
--- cover it. No chain of edges leads to an error.
+-- The text is the report of a program that is safe: the program of the bytes, with its counts, and
+-- entries that cover it. No chain of edges leads to an error.
 pub record IsSafeText (bytes text : List ℕ) : Type 0 where
   pub program : Program
   pub is : IsProgram bytes program
@@ -64,7 +71,8 @@ pub record IsSafeText (bytes text : List ℕ) : Type 0 where
   pub points_are : report.points ≡ automaton.points
   pub cells_are : report.cells ≡ length program.cells
   pub edges_are : report.edges ≡ length automaton.edges
-  pub numbered : (k : ℕ) (entry : Listed) → slice_get report.entries k ≡ Some entry → entry.number ≡ k
+  pub numbered : (k : ℕ) (entry : Listed) → slice_get report.entries k ≡ Some entry
+      → entry.number ≡ k
   pub cover : IsCover program (map (λ entry. entry.elems) report.entries)
   pub safe : IsSafe program (map (λ entry. entry.elems) report.entries)
   pub apart : LeadsToError program → ⊥
@@ -83,31 +91,36 @@ IsUsage call text = ((name : List ℕ) → IsVerify call.words name → ⊥) × 
 abbrev pub IsUnbuiltText : List ℕ → Type 0
 IsUnbuiltText bytes =
     (length bytes ≤ PROGRAM_LIMIT)
-    × (((P : Program) → IsProgram bytes P → ⊥) ⊎ ((P : Program) × IsProgram bytes P × LeadsToError P))
+    × (((P : Program) → IsProgram bytes P → ⊥)
+    ⊎ ((P : Program) × IsProgram bytes P × LeadsToError P))
 
 -- Status 11: the list is not one analysis exact on the point, or the text is one of those above.
 abbrev pub IsUnbuilt : Call → List ℕ → Type 0
 IsUnbuilt call text =
     (name : List ℕ) × IsVerify call.words name
-    × ((IsOneExact call.analyses → ⊥) ⊎ (IsOneExact call.analyses × IfSome (call.bytes_of name) IsUnbuiltText))
+    × ((IsOneExact call.analyses → ⊥)
+    ⊎ (IsOneExact call.analyses × IfSome (call.bytes_of name) IsUnbuiltText))
     × (text ≡ codes "refused unbuilt\n")
 
 -- Status 4: a read of the named file failed in this call.
 abbrev pub IsReadFault : Call → List ℕ → Type 0
 IsReadFault call text =
     (name : List ℕ) × IsVerify call.words name × IsOneExact call.analyses
-    × Rose (call.faults_before name) (call.faults_after name) × (text ≡ codes "refused read program\n")
+    × Rose (call.faults_before name) (call.faults_after name)
+    × (text ≡ codes "refused read program\n")
 
 -- Status 5: the named file has more bytes than a program may have.
 abbrev pub IsTooLong : Call → List ℕ → Type 0
 IsTooLong call text =
     (name : List ℕ) × IsVerify call.words name × IsOneExact call.analyses
-    × IfSome (call.bytes_of name) (λ bytes. PROGRAM_LIMIT < length bytes) × (text ≡ codes "refused long program\n")
+    × IfSome (call.bytes_of name) (λ bytes. PROGRAM_LIMIT < length bytes)
+    × (text ≡ codes "refused long program\n")
 
 -- Status 10: memory ran out.
 abbrev pub IsShortOfMemory : Call → List ℕ → Type 0
 IsShortOfMemory call text =
-    (name : List ℕ) × IsVerify call.words name × IsOneExact call.analyses × (text ≡ codes "refused memory\n")
+    (name : List ℕ) × IsVerify call.words name × IsOneExact call.analyses
+    × (text ≡ codes "refused memory\n")
 
 -- what was written has grown by one whole text, which is as A says
 abbrev pub Wrote : (List ℕ → Type 0) → Option (List ℕ) → Option (List ℕ) → Type 0
@@ -122,11 +135,13 @@ IsAnswerText call text =
 -- Status 9: a write failed in this call, and a prefix of some answer's text was written.
 abbrev pub IsWriteFault : Call → ℕ → ℕ → Option (List ℕ) → Option (List ℕ) → Type 0
 IsWriteFault call faults_before faults_now before now =
-    Rose faults_before faults_now × (text : List ℕ) × IsAnswerText call text × GrewByPrefix before text now
+    Rose faults_before faults_now
+    × (text : List ℕ) × IsAnswerText call text × GrewByPrefix before text now
 
--- Each refusal has its status, its cause and its line. The first refusal in the order words, list, read, text, job
--- is the one answered.
-pub record Refuses (call : Call) (status : ℕ) (faults_before faults_now : ℕ) (before now : Option (List ℕ)) : Type 0 where
+-- Each refusal has its status, its cause and its line. The first refusal in the order words, list,
+-- read, text, job is the one answered.
+pub record Refuses (call : Call) (status : ℕ) (faults_before faults_now : ℕ)
+    (before now : Option (List ℕ)) : Type 0 where
   pub words : status ≡ 3 → Wrote (IsUsage call) before now
   pub read : status ≡ 4 → Wrote (IsReadFault call) before now
   pub long : status ≡ 5 → Wrote (IsTooLong call) before now

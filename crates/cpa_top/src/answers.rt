@@ -1,3 +1,5 @@
+//! What a call may answer, with its status and line, and how it is delivered, by
+//! `specs/Answered.antt`; shown in `proofs/Lawful.antt`.
 ghost use Rattle.std.specs.Prelude.{◌≡◌};
 ghost use Rattle.cpa_top.specs.Answered.{status_of, text_of, IsDelivered};
 
@@ -55,7 +57,8 @@ fn text(answer: &Answer) -> &str
 
 /// Writes the answer's text, and gives its status, or that of a failed write.
 pub(crate) fn deliver<K: Sink>(answer: &Answer, out: &mut K) -> u8
-    ensures { IsDelivered answer.now result (K.faults out.old) (K.faults out.new) (K.written out.old) (K.written out.new) }
+    ensures { IsDelivered answer.now result (K.faults out.old) (K.faults out.new)
+        (K.written out.old) (K.written out.new) }
 {
     match write_whole(out, text(answer).as_bytes()) {
         Ok(()) => status(answer),

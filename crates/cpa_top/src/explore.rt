@@ -108,8 +108,8 @@ fn begin(
     Ok(reached)
 }
 
-/// Explores the automaton from its start (the CPA algorithm of CAV 2007, section 2): each entry is taken in the order
-/// in which it was added, and a successor is added unless an entry covers it.
+/// Explores the automaton from its start (the CPA algorithm of CAV 2007, section 2): each entry is
+/// taken in the order in which it was added, and a successor is added unless an entry covers it.
 pub(crate) fn explore(
     alloc: Global,
     cfa: &Cfa,

@@ -13,8 +13,8 @@ pub struct Listed {
     pub elems: Seq<Elem>,
 }
 
-/// The report of a program that was shown safe: the text's length, how many points, cells and edges the
-/// program has, and the reached set.
+/// The report of a program that was shown safe: the text's length, how many points, cells and edges
+/// the program has, and the reached set.
 #[derive(Debug, Drop)]
 pub struct Report {
     pub text: u32,

@@ -1,3 +1,5 @@
+//! The job of the command `verify`: from the words and the inputs to an answer with its cause, by
+//! `IsLawful`; shown in `proofs/Judged.antt` and `proofs/Lawful.antt`.
 ghost use Rattle.std.specs.Prelude.{◌≡◌, ◌^◌, ◌≤◌, length, map, IfOk, OnErr, IfSome, IfNone, IsTrue, ◌↔◌, [], ◌∷◌, List, ℕ, Option};
 ghost use Rattle.std.specs.String.{string_bytes};
 ghost use Rattle.cpa_model.specs.Programs.{IsWellFormed};
@@ -56,7 +58,8 @@ fn verify<I: Inputs>(
     inputs: &mut I,
 ) -> Answer
     requires exact { (meaning analysis.old).part ≡ Part.Point }
-    ensures { IsVerified (I.bytes_of inputs.old name.now) (I.faults_of inputs.old name.now) (I.faults_of inputs.new name.now) result }
+    ensures { IsVerified (I.bytes_of inputs.old name.now) (I.faults_of inputs.old name.now)
+        (I.faults_of inputs.new name.now) result }
 {
     match inputs.read(alloc, name, PROGRAM_LIMIT) {
         Ok(text) => judge(alloc, text.as_slice(), analysis),
@@ -69,7 +72,8 @@ fn verify<I: Inputs>(
 /// The name of the program, where the words are `verify` and a name.
 fn program_name(words: &[String]) -> Option<&str>
     ensures some { IfSome result (λ name. IsVerify (map string_bytes words.now) name.now) }
-    ensures none { IfNone result ((name : List ℕ) → IsVerify (map string_bytes words.now) name → ⊥) }
+    ensures none { IfNone result
+        ((name : List ℕ) → IsVerify (map string_bytes words.now) name → ⊥) }
 {
     match words {
         [command, name] if command.as_str() == "verify" => Some(name.as_str()),
@@ -79,7 +83,8 @@ fn program_name(words: &[String]) -> Option<&str>
 
 /// The analysis of a list of one, where it is exact on the point.
 fn only_exact(analyses: Vec<Box<dyn Analysis + Send>>) -> Option<Box<dyn Analysis + Send>>
-    ensures some { IfSome result (λ b. ((meaning b).part ≡ Part.Point) × (map (λ c. meaning c) analyses.items ≡ meaning b ∷ [])) }
+    ensures some { IfSome result (λ b. ((meaning b).part ≡ Part.Point)
+        × (map (λ c. meaning c) analyses.items ≡ meaning b ∷ [])) }
     ensures none { IfNone result (IsOneExact (map (λ b. meaning b) analyses.items) → ⊥) }
 {
     let mut analyses = analyses;
@@ -139,7 +144,8 @@ fn decide(
     }
 }
 
-/// The report of a reached set: the entries are numbered in order, each with the one analysis's element.
+/// The report of a reached set: the entries are numbered in order, each with the one analysis's
+/// element.
 fn report_of(alloc: Global, cfa: &Cfa, entries: Seq<Elem>) -> Result<Report, AllocError>
     ensures { IfOk result (λ r. IsReportOf cfa.now entries r) }
 {

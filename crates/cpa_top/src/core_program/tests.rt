@@ -1,3 +1,4 @@
+//! The cores of three texts, as another implementation of the rules gives them.
 ghost use Rattle.std.specs.Prelude.{◌≤◌, length};
 
 use super::core;
@@ -21,7 +22,6 @@ fn core_of_text(alloc: Global, text: &[u8]) -> Result<Program, FirstError>
     Ok(core(alloc, &tree)?)
 }
 
-// The cells and the statements of each text, as an implementation of the core rules in another language gives them.
 #[test]
 fn texts_have_their_cores(rt: HostRuntime) -> Result<(), Fail> {
     let alloc = rt.alloc();

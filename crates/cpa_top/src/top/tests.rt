@@ -1,5 +1,5 @@
-//! Whole calls over files and a sink in memory that fail, and over other lists than the one analysis. The answers
-//! of texts and words are rows of the crate `cases_run`.
+//! Whole calls over files and a sink in memory that fail, and over other lists than the one
+//! analysis. The answers of texts and words are rows of the crate `cases_run`.
 use super::*;
 use cpa_iface::{Location, Part, Precision, Settings};
 use cpa_model::{Cfa, Elem, Seq, has_facts};
@@ -160,7 +160,8 @@ fn a_read_that_fails(rt: HostRuntime) -> Result<(), Fail> {
     Ok(())
 }
 
-/// The status, and how much is written, where a write takes at most so many bytes and some write fails.
+/// The status, and how much is written, where a write takes at most so many bytes and some write
+/// fails.
 fn written_to<R: Threads + Sync>(
     rt: &R,
     alloc: Global,
