@@ -1,4 +1,4 @@
--- Tables that give each statement of a program its place in the control flow.
+-- Tables that give each statement of a program its place in the control flow (this project's own).
 use Rattle.std.specs.Prelude.{◌≡◌, ℕ, ◌<◌, List, length, slice_get, Option, Some, None, ◌⊎◌, IfSome, IsSomeAnd, if◌then◌else◌}
 use Rattle.cpa_model.specs.declared.program.Stmt.{Stmt}
 use Rattle.cpa_model.specs.declared.program.Program.{Program}

@@ -1,4 +1,4 @@
--- Expressions over the cells of a program.
+-- Expressions over the cells of a program (C11 6.5), and their truth as tests (C11 6.8.4.1).
 use Rattle.std.specs.Prelude.{◌≡◌, ℤ, Bool, List, map, IsSomeAnd}
 use Rattle.cpa_ints.specs.declared.integers.IntType.{IntType}
 use Rattle.cpa_expr.specs.declared.tree.Expr.{Expr}

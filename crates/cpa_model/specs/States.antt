@@ -1,4 +1,4 @@
--- The states of a program.
+-- The states of a program (the concrete states of CAV 2007, section 2, with a stack of call sites).
 use Rattle.std.specs.Prelude.{ℕ, ◌<◌, ℤ, List, [], map, slice_index}
 use Rattle.std.specs.List.{AllByRecursion}
 use Rattle.cpa_model.specs.declared.program.Cell.{Cell}

@@ -1,4 +1,4 @@
--- Parts of a program's statements, with what follows them.
+-- Parts of a program's statements, with what follows them (this project's own).
 use Rattle.std.specs.Prelude.{◌≡◌, ℕ, Some}
 use Rattle.cpa_model.specs.declared.program.Stmt.{Stmt}
 use Rattle.cpa_model.specs.declared.program.Program.{Program}

@@ -1,4 +1,4 @@
--- What an answer says, and when it may be given.
+-- What an answer says, and when it may be given (this project's own).
 use Rattle.std.specs.Prelude.{◌≡◌, ℕ, ◌<◌, ◌≤◌, List, length, Option, IfSome, ◌⊎◌, codes}
 use Rattle.std.specs.String.{string_bytes}
 use Rattle.cpa_top.specs.declared.answers.Answer.{Answer}

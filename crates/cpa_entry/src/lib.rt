@@ -1,0 +1,57 @@
+//! The start of the program: the words of the command line, and the analyses and the outside that the top call is
+//! handed. It stands apart from `main`, so that a second program can show how a refusal ends.
+#![tactic(auto)]
+
+use cpa_iface::{Analysis, Location};
+use cpa_outside::{FileInputs, StdoutSink, write_whole};
+use cpa_top::run;
+use std::alloc::{AllocError, Global};
+use std::env;
+use std::io::ErrorKind;
+use std::process::ExitCode;
+use std::rt::{Env, Files};
+use std::thread::Threads;
+
+/// The words after the program's own name. Where one of them is no text, there is no command.
+fn words<R: Env + Alloc<A = Global>>(rt: &R) -> Result<Vec<String>, AllocError> {
+    let mut words = Vec::new(rt.alloc());
+    match env::args(rt) {
+        Ok(args) => {
+            for word in args.skip(1) {
+                words.push(word)?;
+            }
+        }
+        Err(error) => {
+            if error.kind() == ErrorKind::OutOfMemory {
+                return Err(AllocError);
+            }
+        }
+    }
+    Ok(words)
+}
+
+/// Refuses for want of memory before the call could be made.
+fn refuse_memory<R: Print>(out: &mut StdoutSink<R>) -> ExitCode {
+    match write_whole(out, b"refused memory\n") {
+        Ok(()) => ExitCode::from(10),
+        Err(_) => ExitCode::from(9),
+    }
+}
+
+/// Does what the command line asks, over the files of the system and its standard output, and gives the status.
+pub fn start<R: Threads + Sync + Env + Files + Print + AllocGlobal>(rt: &R) -> ExitCode {
+    let alloc = rt.alloc();
+    let mut inputs = FileInputs::new(rt);
+    let mut out = StdoutSink::new(rt);
+    let Ok(words) = words(rt) else {
+        return refuse_memory(&mut out);
+    };
+    let mut analyses: Vec<Box<dyn Analysis + Send>> = Vec::new(alloc);
+    let Ok(location) = Box::new(alloc, Location::new()) else {
+        return refuse_memory(&mut out);
+    };
+    if analyses.push(location).is_err() {
+        return refuse_memory(&mut out);
+    }
+    ExitCode::from(run(rt, alloc, words, analyses, &mut inputs, &mut out))
+}
