@@ -1,3 +1,5 @@
+//! The integer types: width, sign and range, as `specs/Integers.antt` gives them. Each call is a
+//! table, proved by itself.
 ghost use Rattle.std.specs.Prelude.{◌≡◌, ◌↔◌, IsTrue};
 ghost use Rattle.cpa_ints.specs.Integers.{width, is_signed, least, greatest, IsInRange};
 

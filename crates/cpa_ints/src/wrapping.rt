@@ -1,4 +1,18 @@
-ghost use Rattle.std.specs.Prelude.{◌≡◌, ◌≢◌, ℕ, ◌^◌, ◌≤◌, pos, ◌≤ℤ◌, ◌<ℤ◌, ◌-ℤ◌, int_lt, if◌then◌else◌};
+//! What a number becomes in a type, `IsWrapOf` of `specs/Wrapping.antt`: its low bits, moved into
+//! the range. Proved in `proofs/Masks.antt` and `proofs/WrapLaws.antt`.
+ghost use Rattle.std.specs.Prelude.{
+  ◌≡◌,
+  ◌≢◌,
+  ℕ,
+  ◌^◌,
+  ◌≤◌,
+  pos,
+  ◌≤ℤ◌,
+  ◌<ℤ◌,
+  ◌-ℤ◌,
+  int_lt,
+  if◌then◌else◌,
+};
 ghost use Rattle.std.specs.Int.{int_rem_euclid};
 ghost use Rattle.cpa_ints.specs.declared.integers.IntType.TheVariants.{Bool as Boolean};
 ghost use Rattle.cpa_ints.specs.Integers.{width, greatest};
