@@ -10,10 +10,6 @@ mod replacing;
 mod scalars;
 mod shape;
 mod spelling;
-#[cfg(test)]
-mod tables;
-#[cfg(test)]
-mod tests;
 mod tree;
 mod typing;
 mod words;
