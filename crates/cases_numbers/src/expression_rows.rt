@@ -1,0 +1,195 @@
+//! Rows on expressions, which stand behind colons: what the public calls of `cpa_expr` answer.
+
+use crate::fault::RowFault;
+use crate::operator_rows::push_value;
+use crate::reader::whole_expr;
+use crate::words::{next_cell, number_of_word, type_of_word, yes_or_no};
+use cpa_expr::{
+    Expr, Store, copy, height, is_expr, may_read, push_expr, replace_cell, same_expr, size,
+    type_of, type_word, value,
+};
+use cpa_ints::{IntType, Seq};
+use std::alloc::{AllocError, Global};
+use std::str::SplitWhitespace;
+
+/// A call on one expression.
+#[derive(Clone, Copy)]
+enum Call {
+    Value,
+    TypeOf,
+    IsExpr,
+    Size,
+    Height,
+    MayRead,
+    Copy,
+}
+
+const CALLS: [(&str, Call); 7] = [
+    ("value", Call::Value),
+    ("type_of", Call::TypeOf),
+    ("is_expr", Call::IsExpr),
+    ("size", Call::Size),
+    ("height", Call::Height),
+    ("may_read", Call::MayRead),
+    ("copy", Call::Copy),
+];
+
+/// The answer of a row on one expression, where the word names one: `value V .. : E`, where the
+/// cells have the values V, `type_of : E`, `is_expr T .. : E`, where they have the types T,
+/// `size : E`, `height : E`, `may_read CELL : E` and `copy : E`.
+pub fn answer(
+    alloc: Global,
+    out: &mut String,
+    word: &str,
+    words: &mut SplitWhitespace<'_>,
+    text: &str,
+) -> Result<bool, RowFault> {
+    let Some(call) = CALLS
+        .iter()
+        .find(|named| named.0 == word)
+        .map(|named| named.1)
+    else {
+        return Ok(false);
+    };
+    let expr = whole_expr(alloc, text)?;
+    push_answer(alloc, out, words, call, &expr)?;
+    Ok(true)
+}
+
+fn push_answer(
+    alloc: Global,
+    out: &mut String,
+    words: &mut SplitWhitespace<'_>,
+    call: Call,
+    expr: &Expr,
+) -> Result<(), RowFault> {
+    match call {
+        Call::Value => push_value_of(alloc, out, words, expr),
+        Call::TypeOf => push_type_of(out, expr),
+        Call::IsExpr => push_is_expr(alloc, out, words, expr),
+        Call::Size => push_size(out, expr),
+        Call::Height => push_height(out, expr),
+        Call::MayRead => push_may_read(out, words, expr),
+        Call::Copy => push_copy(alloc, out, expr),
+    }
+}
+
+fn push_value_of(
+    alloc: Global,
+    out: &mut String,
+    words: &mut SplitWhitespace<'_>,
+    expr: &Expr,
+) -> Result<(), RowFault> {
+    let store = next_store(alloc, words)?;
+    Ok(push_value(out, value(expr, &store))?)
+}
+
+fn push_type_of(out: &mut String, expr: &Expr) -> Result<(), RowFault> {
+    Ok(push_word(out, type_word(type_of(expr)))?)
+}
+
+fn push_is_expr(
+    alloc: Global,
+    out: &mut String,
+    words: &mut SplitWhitespace<'_>,
+    expr: &Expr,
+) -> Result<(), RowFault> {
+    let cells = next_types(alloc, words)?;
+    Ok(push_word(out, yes_or_no(is_expr(expr, cells.as_slice())))?)
+}
+
+fn push_size(out: &mut String, expr: &Expr) -> Result<(), RowFault> {
+    let count = size(expr);
+    Ok(write!(out, " {count}")?)
+}
+
+fn push_height(out: &mut String, expr: &Expr) -> Result<(), RowFault> {
+    let count = height(expr);
+    Ok(write!(out, " {count}")?)
+}
+
+fn push_may_read(
+    out: &mut String,
+    words: &mut SplitWhitespace<'_>,
+    expr: &Expr,
+) -> Result<(), RowFault> {
+    let cell = next_cell(words)?;
+    Ok(push_word(out, yes_or_no(may_read(expr, cell)))?)
+}
+
+fn push_copy(alloc: Global, out: &mut String, expr: &Expr) -> Result<(), RowFault> {
+    let copied = copy(alloc, expr)?;
+    Ok(push_spelled(out, &copied)?)
+}
+
+/// The answer of a row on two expressions, where the word names one: `same_expr : E : F`, and
+/// `replace_cell CELL : E : BY` for the text of E with BY in the cell's place.
+pub fn answer_on_two(
+    alloc: Global,
+    out: &mut String,
+    word: &str,
+    words: &mut SplitWhitespace<'_>,
+    texts: (&str, &str),
+) -> Result<bool, RowFault> {
+    let pair = whole_pair(alloc, texts)?;
+    if word == "same_expr" {
+        push_word(out, yes_or_no(same_expr(&pair.first, &pair.second)))?;
+        Ok(true)
+    } else if word == "replace_cell" {
+        push_replaced(alloc, out, words, &pair)?;
+        Ok(true)
+    } else {
+        Ok(false)
+    }
+}
+
+/// The two expressions of a row.
+#[derive(Drop)]
+struct Pair {
+    first: Expr,
+    second: Expr,
+}
+
+fn whole_pair(alloc: Global, texts: (&str, &str)) -> Result<Pair, RowFault> {
+    let first = whole_expr(alloc, texts.0)?;
+    let second = whole_expr(alloc, texts.1)?;
+    Ok(Pair { first, second })
+}
+
+fn push_replaced(
+    alloc: Global,
+    out: &mut String,
+    words: &mut SplitWhitespace<'_>,
+    pair: &Pair,
+) -> Result<(), RowFault> {
+    let cell = next_cell(words)?;
+    let replaced = replace_cell(alloc, &pair.first, cell, &pair.second)?;
+    Ok(push_spelled(out, &replaced)?)
+}
+
+/// The store of the values that are left.
+fn next_store(alloc: Global, words: &mut SplitWhitespace<'_>) -> Result<Store, RowFault> {
+    let mut values = Seq::new(alloc);
+    for word in words {
+        values.push(number_of_word(word)?)?;
+    }
+    Ok(Store { values })
+}
+
+/// The types that are left.
+fn next_types(alloc: Global, words: &mut SplitWhitespace<'_>) -> Result<Seq<IntType>, RowFault> {
+    let mut types = Seq::new(alloc);
+    for word in words {
+        types.push(type_of_word(word).ok_or(RowFault::Unreadable)?)?;
+    }
+    Ok(types)
+}
+
+fn push_word(out: &mut String, word: &str) -> Result<(), AllocError> {
+    write!(out, " {word}")
+}
+
+fn push_spelled(out: &mut String, expr: &Expr) -> Result<(), AllocError> {
+    out.push_str(" ")?;
+    push_expr(out, expr)
+}

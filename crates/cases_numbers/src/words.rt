@@ -1,0 +1,109 @@
+//! The words of a row: types, operators and numbers.
+
+use crate::fault::RowFault;
+use cpa_expr::{BinOp, CmpOp, UnOp, bin_word, cmp_word, type_word, un_word};
+use cpa_ints::IntType;
+use std::str::SplitWhitespace;
+
+/// The types, in the order of a row's columns.
+pub const TYPES: [IntType; 9] = [
+    IntType::Bool,
+    IntType::I8,
+    IntType::U8,
+    IntType::I16,
+    IntType::U16,
+    IntType::I32,
+    IntType::U32,
+    IntType::I64,
+    IntType::U64,
+];
+
+/// The unary operators, in the order of a row's columns.
+pub const UNARY: [UnOp; 2] = [UnOp::Neg, UnOp::Flip];
+
+/// The binary operators, in the order of a row's columns: first those without a shift.
+pub const BINARY: [BinOp; 10] = [
+    BinOp::Add,
+    BinOp::Sub,
+    BinOp::Mul,
+    BinOp::Div,
+    BinOp::Rem,
+    BinOp::BitAnd,
+    BinOp::BitOr,
+    BinOp::BitXor,
+    BinOp::Shl,
+    BinOp::Shr,
+];
+
+/// The comparisons, in the order of a row's columns.
+pub const COMPARISONS: [CmpOp; 6] = [
+    CmpOp::Eq,
+    CmpOp::Ne,
+    CmpOp::Lt,
+    CmpOp::Le,
+    CmpOp::Gt,
+    CmpOp::Ge,
+];
+
+/// The next word, which is to be there.
+pub fn next_word<'a>(words: &mut SplitWhitespace<'a>) -> Result<&'a str, RowFault> {
+    words.next().ok_or(RowFault::Unreadable)
+}
+
+/// Nothing is left.
+pub fn end_row(words: &mut SplitWhitespace<'_>) -> Result<(), RowFault> {
+    if words.next().is_some() {
+        return Err(RowFault::Unreadable);
+    }
+    Ok(())
+}
+
+/// The next word as a number.
+pub fn next_number(words: &mut SplitWhitespace<'_>) -> Result<i128, RowFault> {
+    number_of_word(next_word(words)?)
+}
+
+/// The next word as the number of a cell.
+pub fn next_cell(words: &mut SplitWhitespace<'_>) -> Result<u32, RowFault> {
+    cell_of_word(next_word(words)?)
+}
+
+/// The next word as a type.
+pub fn next_type(words: &mut SplitWhitespace<'_>) -> Result<IntType, RowFault> {
+    type_of_word(next_word(words)?).ok_or(RowFault::Unreadable)
+}
+
+/// The number that a word spells.
+pub fn number_of_word(word: &str) -> Result<i128, RowFault> {
+    Ok(word.parse::<i128>()?)
+}
+
+/// The number of a cell, or the count of cells, that a word spells.
+pub fn cell_of_word(word: &str) -> Result<u32, RowFault> {
+    Ok(word.parse::<u32>()?)
+}
+
+/// The type that a word names.
+pub fn type_of_word(word: &str) -> Option<IntType> {
+    TYPES.iter().copied().find(|ty| type_word(*ty) == word)
+}
+
+/// The unary operator that a word names.
+pub fn unary_of_word(word: &str) -> Option<UnOp> {
+    UNARY.iter().copied().find(|op| un_word(*op) == word)
+}
+
+/// The binary operator that a word names.
+pub fn binary_of_word(word: &str) -> Option<BinOp> {
+    BINARY.iter().copied().find(|op| bin_word(*op) == word)
+}
+
+/// The comparison that a word names.
+pub fn comparison_of_word(word: &str) -> Option<CmpOp> {
+    COMPARISONS.iter().copied().find(|op| cmp_word(*op) == word)
+}
+
+/// The word of an answer to a question.
+pub fn yes_or_no(answer: bool) -> &'static str {
+    if answer { "yes" } else { "no" }
+}
