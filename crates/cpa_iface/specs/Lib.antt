@@ -1,2 +1,7 @@
+pub mod Acts
 pub mod Meanings
-pub mod Places
+pub mod Pins
+pub mod Laws
+pub mod Common
+pub mod CommonLaws
+pub mod Locations

@@ -1,24 +1,37 @@
--- What an analysis means, and the laws that each of its calls keeps (CAV 2007, section 2; ASE 2008).
-use Rattle.std.specs.Prelude.{◌≡◌, ℕ, ◌<◌, List, [], ◌∷◌, length, slice_get, Some, IsTrue, ◌⊎◌, Bool, if◌then◌else◌, ◌==◌}
+-- What an analysis means, whatever state its object is in (CAV 2007, section 2; ASE 2008; height, rank and suggestion
+-- are this project's own).
+use Rattle.std.specs.Prelude.{ℕ, ◌<◌, List, length, Option, IsTrue, Bool}
 use Rattle.std.specs.List.{AllByRecursion}
-use Rattle.cpa_model.specs.declared.facts.Fact.TheVariants.{At}
+use Rattle.cpa_expr.specs.declared.tree.Expr.{Expr}
 use Rattle.cpa_model.specs.declared.facts.Elem.{Elem}
 use Rattle.cpa_model.specs.declared.states.State.{State}
-use Rattle.cpa_model.specs.declared.automaton.Edge.{Edge}
 use Rattle.cpa_model.specs.declared.automaton.Cfa.{Cfa}
+use Rattle.cpa_model.specs.declared.automaton.Path.{Path}
 use Rattle.cpa_model.specs.Expressions.{IsExpr}
 use Rattle.cpa_model.specs.Facts.{Holds, IsElem, IsWithin}
-use Rattle.cpa_model.specs.Automata.{StepsAlong, initial_state}
+use Rattle.cpa_model.specs.Automata.{IsStateOf}
 use Rattle.cpa_iface.specs.declared.analysis.Part.{Part}
-use Rattle.cpa_iface.specs.declared.analysis.Part.TheVariants as part
-use Rattle.cpa_iface.specs.declared.analysis.Precision.{Precision}
+use Rattle.cpa_iface.specs.declared.precisions.Precision.{Precision}
+use Rattle.cpa_iface.specs.declared.entries.Entry.{Entry}
 
--- What an analysis means, whatever state the object is in. The cover is what `covered_by` answers; a true cover
--- is inclusion, and each element covers itself.
+-- every state of the automaton that is one of e is one of f
+abbrev pub IsWithinOn : Cfa → Elem → Elem → Type 0
+IsWithinOn cfa e f = (s : State) → IsStateOf cfa s → Holds e s → Holds f s
+
+-- What an analysis would have a precision keep after a path that has no run.
+pub record Suggestion : Type 0 where
+  pub cells : List ℕ
+  pub preds : List Expr
+
+-- The six meanings of an analysis. Its cover is what `covered_by` answers, and its suggestion is there where it tells
+-- it. The cover law: a true cover is inclusion, and each element covers itself.
 pub record Meaning : Type 0 where
   pub name : List ℕ
   pub part : Part
   pub cover : Elem → Elem → Bool
+  pub height : Cfa → Precision → ℕ
+  pub rank : Cfa → Elem → ℕ
+  pub suggestion : Cfa → Path → Option Suggestion
   pub within : (e f : Elem) → IsTrue (cover e f) → IsWithin e f
   pub same : (e : Elem) → IsTrue (cover e e)
 
@@ -34,30 +47,13 @@ pub record IsPrecision (cfa : Cfa) (p : Precision) : Type 0 where
   pub tracked : AllByRecursion (λ cell. cell < length cfa.cells) p.tracked
   pub preds : AllByRecursion (IsExpr cfa.cells) p.preds
 
--- the element holds of the initial state
-abbrev pub HoldsInitially : Cfa → Elem → Type 0
-HoldsInitially cfa e = Holds e (initial_state cfa)
+-- the edges of the path are edges of the automaton
+abbrev pub IsPathOf : Cfa → Path → Type 0
+IsPathOf cfa path = AllByRecursion (λ edge. edge < length cfa.edges) path.edges
 
--- the state lies in some element of the list
-abbrev pub SomeHolds : State → List Elem → Type 0
-SomeHolds s [] = ⊥
-SomeHolds s (e ∷ es) = Holds e s ⊎ SomeHolds s es
-
--- each successor of a state of elem by the edge of this number lies in some element
-abbrev pub CoversEdge : Cfa → ℕ → Elem → List Elem → Type 0
-CoversEdge cfa edge elem es =
-    (g : Edge) (s t : State) → slice_get cfa.edges edge ≡ Some g → Holds elem s → StepsAlong cfa g s t → SomeHolds t es
-
--- the pin of a point
-abbrev pub pin : ℕ → Elem
-pin point = record { facts = At point ∷ [] }
-
--- Exact on the point: the initial element is the pin of the initial point.
-abbrev pub IsInitialPin : Meaning → Cfa → Elem → Type 0
-IsInitialPin m cfa e = m.part ≡ part.Point → e ≡ pin cfa.start
-
--- Exact on the point: a pin gives the pin of the point to which the edge leads, and nothing where the edge leaves another.
-abbrev pub PinsEdge : Meaning → Cfa → ℕ → Elem → List Elem → Type 0
-PinsEdge m cfa edge elem es =
-    m.part ≡ part.Point → (g : Edge) (point : ℕ) → slice_get cfa.edges edge ≡ Some g → elem ≡ pin point
-    → es ≡ (if point == g.from then pin g.to ∷ [] else [])
+-- the entry has a shaped element and a precision at this place
+pub record HasPlace (cfa : Cfa) (place : ℕ) (entry : Entry) : Type 0 where
+  pub shaped : AreShaped cfa entry.elems
+  pub precisions : AllByRecursion (IsPrecision cfa) entry.precisions
+  pub elem : place < length entry.elems
+  pub precision : place < length entry.precisions

@@ -1,11 +1,18 @@
-ghost use Rattle.std.specs.Prelude.{◌≡◌, ◌<◌, length, IfOk};
-ghost use Rattle.cpa_model.specs.Automata.{IsAutomaton};
-ghost use Rattle.cpa_iface.specs.Meanings.{Meaning, IsShaped, AreShaped, IsPrecision, HoldsInitially, CoversEdge, IsInitialPin, PinsEdge};
+//! The trait of analyses: ten calls, each with the record of the laws that it keeps as a clause.
 
-use cpa_model::{Cfa, Elem, Expr, Seq};
+ghost use Rattle.std.specs.Prelude.{◌≡◌, ◌<◌, length, IfOk};
+ghost use Rattle.std.specs.List.{AllByRecursion};
+ghost use Rattle.cpa_model.specs.Automata.{IsAutomaton};
+ghost use Rattle.cpa_iface.specs.Meanings.{Meaning, IsShaped, AreShaped, IsPrecision, IsPathOf, HasPlace};
+ghost use Rattle.cpa_iface.specs.Laws.{InitialLaws, FirstPrecisionLaws, TransferLaws, StrengthenLaws, MergeLaws, AdjustLaws, RefineLaws};
+
+use crate::entries::Entry;
+use crate::merging::MergeRule;
+use crate::precisions::Precision;
+use cpa_model::{Cfa, Elem, Path};
 use std::alloc::{AllocError, Global};
 
-/// The part of a state on which an analysis may be exact.
+/// The part of a state on which an analysis is exact.
 #[derive(Clone, Copy, Debug, PartialEq, Eq)]
 pub enum Part {
     Nothing,
@@ -14,22 +21,12 @@ pub enum Part {
     Store,
 }
 
-/// What an analysis is asked to keep (ASE 2008).
-#[derive(Debug, Drop)]
-pub struct Precision {
-    /// The cells whose values are kept.
-    pub tracked: Seq<u32>,
-    /// The most distinct values that are kept of a cell, 0 for no limit.
-    pub limit: u32,
-    /// The predicates whose truth is kept.
-    pub preds: Seq<Expr>,
-}
-
 /// What a configuration says to each analysis.
 #[derive(Clone, Copy, Debug)]
 pub struct Settings {
     /// Whether the first precision tracks all cells, or none.
     pub tracked_all: bool,
+    /// The most distinct values that are kept of a cell, 0 for no limit.
     pub limit: u32,
     /// How many clauses a search may learn.
     pub learnt: u32,
@@ -37,9 +34,10 @@ pub struct Settings {
     pub gates: u64,
 }
 
-/// An analysis (the domain, transfer and stop of CAV 2007, section 2). What each call answers holds in every
-/// state that the object may be in, and no call changes what the object means. Only want of memory
-/// refuses, and the object is still lawful after it.
+/// An analysis (the domain, transfer, merge and stop of CAV 2007, section 2, with the precisions of
+/// ASE 2008). What each call answers holds in every state that the object may be in, and no call
+/// changes what the object means. Only want of memory refuses, and the object is still lawful after
+/// it.
 pub trait Analysis: Drop {
     ghost meaning: { Self → Meaning };
 
@@ -53,9 +51,7 @@ pub trait Analysis: Drop {
     /// An element that holds of the initial state.
     fn initial(&mut self, alloc: Global, cfa: &Cfa) -> Result<Elem, AllocError>
         requires { IsAutomaton cfa.now }
-        ensures shaped { IfOk result (λ e. IsShaped cfa.now e) }
-        ensures initial { IfOk result (λ e. HoldsInitially cfa.now e) }
-        ensures exact { IfOk result (λ e. IsInitialPin (meaning self.old) cfa.now e) }
+        ensures laws { IfOk result (λ e. InitialLaws (meaning self.old) cfa.now e) }
         ensures kept { meaning self.new ≡ meaning self.old };
 
     /// The precision to begin with.
@@ -66,7 +62,8 @@ pub trait Analysis: Drop {
         settings: &Settings,
     ) -> Result<Precision, AllocError>
         requires { IsAutomaton cfa.now }
-        ensures shaped { IfOk result (λ p. IsPrecision cfa.now p) }
+        ensures laws { IfOk result (λ p.
+            FirstPrecisionLaws (meaning self.old) cfa.now settings.now p) }
         ensures kept { meaning self.new ≡ meaning self.old };
 
     /// Elements in which each successor of a state of `elem` by the edge lies.
@@ -82,12 +79,82 @@ pub trait Analysis: Drop {
         requires edge { edge < length cfa.now.edges }
         requires elem { IsShaped cfa.now elem.now }
         requires precision { IsPrecision cfa.now precision.now }
-        ensures shaped { IfOk result (λ es. AreShaped cfa.now es.items) }
-        ensures covers { IfOk result (λ es. CoversEdge cfa.now edge elem.now es.items) }
-        ensures exact { IfOk result (λ es. PinsEdge (meaning self.old) cfa.now edge elem.now es.items) }
+        ensures laws { IfOk result (λ es.
+            TransferLaws (meaning self.old) cfa.now edge elem.now precision.now es.items) }
+        ensures kept { meaning self.new ≡ meaning self.old };
+
+    /// `own`, or fewer states of it: all those that the elements of the other analyses have, too.
+    /// `None` where there are none.
+    fn strengthen(
+        &mut self,
+        alloc: Global,
+        cfa: &Cfa,
+        own: &Elem,
+        others: &[Elem],
+        precision: &Precision,
+    ) -> Result<Option<Elem>, AllocError>
+        requires automaton { IsAutomaton cfa.now }
+        requires own { IsShaped cfa.now own.now }
+        requires others { AreShaped cfa.now others.now }
+        requires precision { IsPrecision cfa.now precision.now }
+        ensures laws { IfOk result (λ e.
+            StrengthenLaws (meaning self.old) cfa.now own.now others.now precision.now e) }
+        ensures kept { meaning self.new ≡ meaning self.old };
+
+    /// What takes the place of `old` where `new` has come.
+    fn merge(
+        &mut self,
+        alloc: Global,
+        cfa: &Cfa,
+        rule: MergeRule,
+        new: &Elem,
+        old: &Elem,
+        precision: &Precision,
+    ) -> Result<Elem, AllocError>
+        requires automaton { IsAutomaton cfa.now }
+        requires new { IsShaped cfa.now new.now }
+        requires old { IsShaped cfa.now old.now }
+        requires precision { IsPrecision cfa.now precision.now }
+        ensures laws { IfOk result (λ e.
+            MergeLaws (meaning self.old) cfa.now rule new.now old.now precision.now e) }
         ensures kept { meaning self.new ≡ meaning self.old };
 
     /// Whether the analysis takes each state of `elem` for one of `other`.
     fn covered_by(&self, elem: &Elem, other: &Elem) -> bool
         ensures { result ≡ (meaning self.now).cover elem.now other.now };
+
+    /// An element of all states of `elem`, and the precision that goes with it, in view of what is
+    /// reached. The elements of this analysis stand there at `place`.
+    fn adjust(
+        &mut self,
+        alloc: Global,
+        cfa: &Cfa,
+        elem: &Elem,
+        precision: &Precision,
+        reached: &[Entry],
+        place: u32,
+    ) -> Result<(Elem, Precision), AllocError>
+        requires automaton { IsAutomaton cfa.now }
+        requires elem { IsShaped cfa.now elem.now }
+        requires precision { IsPrecision cfa.now precision.now }
+        requires reached { AllByRecursion (HasPlace cfa.now place) reached.now }
+        ensures laws { IfOk result (λ pair.
+            AdjustLaws (meaning self.old) cfa.now elem.now precision.now reached.now place
+            pair.0 pair.1) }
+        ensures kept { meaning self.new ≡ meaning self.old };
+
+    /// A precision that keeps more, after a path that has no run.
+    fn refine(
+        &mut self,
+        alloc: Global,
+        cfa: &Cfa,
+        path: &Path,
+        precision: &Precision,
+    ) -> Result<Precision, AllocError>
+        requires automaton { IsAutomaton cfa.now }
+        requires path { IsPathOf cfa.now path.now }
+        requires precision { IsPrecision cfa.now precision.now }
+        ensures laws { IfOk result (λ p.
+            RefineLaws (meaning self.old) cfa.now path.now precision.now p) }
+        ensures kept { meaning self.new ≡ meaning self.old };
 }

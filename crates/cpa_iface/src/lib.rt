@@ -2,7 +2,15 @@
 #![tactic(auto)]
 
 mod analysis;
+mod entries;
+mod laws;
 mod location;
+mod merging;
+mod precisions;
 
-pub use analysis::{Analysis, Part, Precision, Settings};
+pub use analysis::{Analysis, Part, Settings};
+pub use entries::{Entry, Refined, Turn};
+pub use laws::edges_are_sound;
 pub use location::Location;
+pub use merging::{MergeRule, Order, Pick, merge_facts};
+pub use precisions::{Precision, copy_precision, empty_precision};

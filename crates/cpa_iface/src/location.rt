@@ -1,9 +1,28 @@
-ghost use Rattle.std.specs.Prelude.{◌≡◌, ◌<◌, [], ◌∷◌, length, slice_get, IfOk, if◌then◌else◌};
-ghost use Rattle.cpa_iface.specs.Meanings.{pin};
-ghost use Rattle.cpa_iface.specs.Places.{location, names_point, may_stand_at};
+//! The analysis of locations, the smallest one. Each call gives what `specs/Locations.antt` says of
+//! it, and keeps the laws; that it does is proved over these definitions.
 
-use crate::analysis::{Analysis, Part, Precision, Settings};
-use cpa_model::{Cfa, Edge, Elem, Fact, Seq, has_facts};
+ghost use Rattle.std.specs.Prelude.{◌≡◌, ◌<◌, [], ◌∷◌, length, slice_get, IfOk, if◌then◌else◌};
+ghost use Rattle.cpa_model.specs.declared.automaton.Edge.{Edge as AnEdge};
+ghost use Rattle.cpa_model.specs.Automata.{IsAutomaton};
+ghost use Rattle.cpa_iface.specs.Meanings.{IsShaped, IsPrecision};
+ghost use Rattle.cpa_iface.specs.Common.{merged_facts, no_precision};
+ghost use Rattle.cpa_iface.specs.Laws.{
+  InitialLaws,
+  FirstPrecisionLaws,
+  TransferLaws,
+  StrengthenLaws,
+  MergeLaws,
+  AdjustLaws,
+  RefineLaws,
+};
+ghost use Rattle.cpa_iface.specs.Locations.{location, names_point, may_stand_at, next_points};
+ghost use Rattle.cpa_iface.specs.Pins.{pin};
+
+use crate::analysis::{Analysis, Part, Settings};
+use crate::entries::Entry;
+use crate::merging::{MergeRule, merge_facts};
+use crate::precisions::{Precision, copy_precision, empty_precision};
+use cpa_model::{Cfa, Edge, Elem, Fact, Path, Seq, automata_are_small, copy_elem, has_facts};
 use std::alloc::{AllocError, Global};
 
 /// The smallest analysis: it keeps the point of a state, and is exact on it.
@@ -28,7 +47,12 @@ impl Analysis for Location {
         Part::Point
     }
 
-    fn initial(&mut self, alloc: Global, cfa: &Cfa) -> Result<Elem, AllocError> {
+    fn initial(&mut self, alloc: Global, cfa: &Cfa) -> Result<Elem, AllocError>
+        requires { IsAutomaton cfa.now }
+        ensures laws { IfOk result (λ e. InitialLaws location cfa.now e) }
+        ensures given { IfOk result (λ e. e ≡ pin cfa.now.start) }
+    {
+        automata_are_small();
         pin(alloc, cfa.start)
     }
 
@@ -37,12 +61,11 @@ impl Analysis for Location {
         alloc: Global,
         _cfa: &Cfa,
         _settings: &Settings,
-    ) -> Result<Precision, AllocError> {
-        Ok(Precision {
-            tracked: Seq::new(alloc),
-            limit: 0,
-            preds: Seq::new(alloc),
-        })
+    ) -> Result<Precision, AllocError>
+        ensures laws { IfOk result (λ p. FirstPrecisionLaws location _cfa.now _settings.now p) }
+        ensures given { IfOk result (λ p. p ≡ no_precision) }
+    {
+        Ok(empty_precision(alloc))
     }
 
     fn transfer(
@@ -52,13 +75,86 @@ impl Analysis for Location {
         edge: u32,
         elem: &Elem,
         _precision: &Precision,
-    ) -> Result<Vec<Elem>, AllocError> {
-        let edge = edge_at(cfa, edge);
-        successors(alloc, elem, edge.from, edge.to)
+    ) -> Result<Vec<Elem>, AllocError>
+        requires automaton { IsAutomaton cfa.now }
+        requires edge { edge < length cfa.now.edges }
+        ensures laws { IfOk result (λ es.
+            TransferLaws location cfa.now edge elem.now _precision.now es.items) }
+        ensures given { IfOk result (λ es. (g : AnEdge) →
+            slice_get cfa.now.edges edge ≡ Some g → es.items ≡ next_points elem.now g) }
+    {
+        next_points(alloc, elem, edge_at(cfa, edge))
+    }
+
+    fn strengthen(
+        &mut self,
+        alloc: Global,
+        _cfa: &Cfa,
+        own: &Elem,
+        _others: &[Elem],
+        _precision: &Precision,
+    ) -> Result<Option<Elem>, AllocError>
+        requires { IsShaped _cfa.now own.now }
+        ensures laws { IfOk result (λ e.
+            StrengthenLaws location _cfa.now own.now _others.now _precision.now e) }
+        ensures given { IfOk result (λ e. e ≡ Some own.now) }
+    {
+        Ok(Some(copy_elem(alloc, own)?))
+    }
+
+    fn merge(
+        &mut self,
+        alloc: Global,
+        _cfa: &Cfa,
+        rule: MergeRule,
+        new: &Elem,
+        old: &Elem,
+        _precision: &Precision,
+    ) -> Result<Elem, AllocError>
+        requires { IsShaped _cfa.now old.now }
+        ensures laws { IfOk result (λ e.
+            MergeLaws location _cfa.now rule new.now old.now _precision.now e) }
+        ensures given { IfOk result (λ e. e ≡ merged_facts rule new.now old.now) }
+    {
+        merge_facts(alloc, rule, new, old)
     }
 
     fn covered_by(&self, elem: &Elem, other: &Elem) -> bool {
         has_facts(elem, other)
+    }
+
+    fn adjust(
+        &mut self,
+        alloc: Global,
+        _cfa: &Cfa,
+        elem: &Elem,
+        precision: &Precision,
+        _reached: &[Entry],
+        _place: u32,
+    ) -> Result<(Elem, Precision), AllocError>
+        requires elem { IsShaped _cfa.now elem.now }
+        requires precision { IsPrecision _cfa.now precision.now }
+        ensures laws { IfOk result (λ pair.
+            AdjustLaws location _cfa.now elem.now precision.now _reached.now _place
+            pair.0 pair.1) }
+        ensures given { IfOk result (λ pair. (pair.0 ≡ elem.now) × (pair.1 ≡ precision.now)) }
+    {
+        Ok((copy_elem(alloc, elem)?, copy_precision(alloc, precision)?))
+    }
+
+    fn refine(
+        &mut self,
+        alloc: Global,
+        _cfa: &Cfa,
+        _path: &Path,
+        precision: &Precision,
+    ) -> Result<Precision, AllocError>
+        requires { IsPrecision _cfa.now precision.now }
+        ensures laws { IfOk result (λ p.
+            RefineLaws location _cfa.now _path.now precision.now p) }
+        ensures given { IfOk result (λ p. p ≡ precision.now) }
+    {
+        copy_precision(alloc, precision)
     }
 }
 
@@ -69,18 +165,18 @@ fn edge_at(cfa: &Cfa, edge: u32) -> &Edge
     &cfa.edges.as_slice()[edge as usize]
 }
 
-/// The pin of `to`, where the element may stand at `from`.
-fn successors(alloc: Global, elem: &Elem, from: u32, to: u32) -> Result<Vec<Elem>, AllocError>
-    ensures { IfOk result (λ es. es.items ≡ (if may_stand_at elem.now from then pin to ∷ [] else [])) }
+/// The point to which the edge leads, where the element may stand at the one that it leaves.
+fn next_points(alloc: Global, elem: &Elem, edge: &Edge) -> Result<Vec<Elem>, AllocError>
+    ensures { IfOk result (λ es. es.items ≡ next_points elem.now edge.now) }
 {
     let mut successors = Vec::new(alloc);
-    if may_stand_at(elem, from) {
-        successors.push(pin(alloc, to)?)?;
+    if may_stand_at(elem, edge.from) {
+        successors.push(pin(alloc, edge.to)?)?;
     }
     Ok(successors)
 }
 
-/// The element of one fact, that control is at the point.
+/// The pin of a point.
 fn pin(alloc: Global, point: u32) -> Result<Elem, AllocError>
     ensures { IfOk result (λ e. e ≡ pin point) }
 {

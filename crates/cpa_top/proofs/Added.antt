@@ -4,7 +4,7 @@ use Rattle.std.specs.List.{All, Contains}
 use Rattle.std.proofs.lemmas.List.Elements.{All-nil, All-cons, All-append, All-weaker, All-contains, Contains-append_left, Contains-append_right, Contains-push_cases, Contains-get_or}
 use Rattle.cpa_model.specs.declared.facts.Elem.{Elem}
 use Rattle.cpa_model.specs.declared.automaton.Cfa.{Cfa}
-use Rattle.cpa_iface.specs.Meanings.{pin}
+use Rattle.cpa_iface.specs.Pins.{pin}
 use Rattle.cpa_top.specs.declared.explore.reached.Reached.{Reached}
 use Rattle.cpa_top.specs.Reached.{AreTied, KeepsNumbers, GrewBy, AreAdded, IsReached, IsWalkedPin, IsPinBelow, LeadsInto, LeadsOn}
 use Rattle.cpa_top.proofs.PointPlaces.{at_front, place_of, in_list}

@@ -5,7 +5,8 @@ use Rattle.std.proofs.lemmas.Option.{same_Some, slice_get-get_or, slice_get_with
 use Rattle.cpa_model.specs.declared.facts.Elem.{Elem}
 use Rattle.cpa_model.specs.declared.automaton.Edge.{Edge}
 use Rattle.cpa_model.specs.declared.automaton.Cfa.{Cfa}
-use Rattle.cpa_iface.specs.Meanings.{pin, Meaning}
+use Rattle.cpa_iface.specs.Meanings.{Meaning}
+use Rattle.cpa_iface.specs.Pins.{pin}
 use Rattle.cpa_top.specs.declared.explore.reached.Reached.{Reached}
 use Rattle.cpa_top.specs.Reached.{KeepsNumbers, LeadsOn, IsExpanded, IsReached}
 use Rattle.cpa_top.proofs.Ties.{same_point}

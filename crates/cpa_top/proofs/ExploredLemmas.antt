@@ -12,7 +12,7 @@ use Rattle.cpa_model.specs.Programs.{IsWellFormed}
 use Rattle.cpa_model.specs.States.{initial_of}
 use Rattle.cpa_model.specs.Steps.{Moves}
 use Rattle.cpa_model.specs.Automata.{IsAutomatonOf, edge_of}
-use Rattle.cpa_iface.specs.Meanings.{pin}
+use Rattle.cpa_iface.specs.Pins.{pin}
 use Rattle.cpa_model.specs.Covers.{LiesInSome, IsCover}
 use Rattle.cpa_top.specs.Led.{IsLedTo, led_start, led_on, LeadsToError}
 use Rattle.cpa_top.specs.Explored.{IsWalkedTo, walked_start, walked_on, IsClosed}

@@ -11,7 +11,8 @@ use Rattle.cpa_model.specs.declared.facts.Fact.{Fact}
 use Rattle.cpa_model.specs.declared.facts.Fact.TheVariants.{At}
 use Rattle.cpa_model.specs.declared.facts.Elem.{Elem}
 use Rattle.cpa_model.specs.declared.automaton.Cfa.{Cfa}
-use Rattle.cpa_iface.specs.Meanings.{pin, Meaning}
+use Rattle.cpa_iface.specs.Meanings.{Meaning}
+use Rattle.cpa_iface.specs.Pins.{pin}
 use Rattle.cpa_top.specs.declared.explore.reached.Reached.{Reached}
 use Rattle.cpa_top.specs.declared.explore.Explored.TheVariants.{Safe}
 use Rattle.cpa_top.specs.Explored.{walked_start, IsExplored}

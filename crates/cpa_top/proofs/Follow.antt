@@ -8,7 +8,7 @@ use Rattle.cpa_model.specs.declared.facts.Elem.{Elem}
 use Rattle.cpa_model.specs.declared.automaton.Edge.{Edge}
 use Rattle.cpa_model.specs.declared.automaton.Cfa.{Cfa}
 use Rattle.cpa_model.specs.Automata.{IsAutomaton}
-use Rattle.cpa_iface.specs.Meanings.{pin}
+use Rattle.cpa_iface.specs.Pins.{pin}
 use Rattle.cpa_top.specs.Explored.{IsWalkedTo, walked_on}
 use Rattle.cpa_top.specs.Reached.{IsWalkedPin, LeadsInto}
 use Rattle.cpa_top.proofs.PointPlaces.{in_list}

@@ -6,7 +6,7 @@ use Rattle.cpa_model.specs.declared.program.Program.{Program}
 use Rattle.cpa_model.specs.declared.automaton.Cfa.{Cfa}
 use Rattle.cpa_model.specs.Programs.{IsWellFormed}
 use Rattle.cpa_model.specs.Automata.{IsAutomatonOf, IsAutomaton}
-use Rattle.cpa_iface.specs.Meanings.{pin}
+use Rattle.cpa_iface.specs.Pins.{pin}
 use Rattle.first_form.specs.declared.tree.Unit.{Unit as Tree}
 use Rattle.first_form.specs.FirstForm.{IsFirstForm}
 use Rattle.cpa_top.specs.declared.report.Listed.{Listed}

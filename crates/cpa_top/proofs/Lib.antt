@@ -12,6 +12,7 @@ pub mod Follow
 pub mod Judged
 pub mod Lawful
 pub mod Listings
+pub mod Pinning
 pub mod PointPlaces
 pub mod Segments
 pub mod Ties

@@ -2,7 +2,7 @@
 use Rattle.std.proofs.Common.{◌≡◌, ℕ, zero, suc, ◌+◌, List, [], ◌∷◌, ◌++◌, length, map, refl, sym, ap, ◌∙◌, arith, add-zero}
 use Rattle.std.specs.Prelude.{slice_get, Some}
 use Rattle.cpa_model.specs.declared.facts.Elem.{Elem}
-use Rattle.cpa_iface.specs.Meanings.{pin}
+use Rattle.cpa_iface.specs.Pins.{pin}
 use Rattle.cpa_top.specs.declared.report.Listed.{Listed}
 use Rattle.cpa_top.specs.Listing.{listed_from}
 

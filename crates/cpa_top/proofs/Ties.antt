@@ -4,7 +4,7 @@ use Rattle.std.specs.List.{Contains}
 use Rattle.std.proofs.lemmas.Option.{slice_get_within}
 use Rattle.std.proofs.lemmas.Bool.{cases_eq}
 use Rattle.cpa_model.specs.declared.facts.Elem.{Elem}
-use Rattle.cpa_iface.specs.Meanings.{pin}
+use Rattle.cpa_iface.specs.Pins.{pin}
 use Rattle.cpa_top.specs.Reached.{AreTied}
 use Rattle.cpa_top.proofs.PointPlaces.{at_front, at_push, at_last, at_set_same, at_set_other, in_list}
 

@@ -3,7 +3,7 @@ use Rattle.std.specs.Prelude.{◌≡◌, ℕ, List, map}
 use Rattle.std.specs.List.{Contains}
 use Rattle.cpa_model.specs.declared.automaton.Edge.{Edge}
 use Rattle.cpa_model.specs.declared.automaton.Cfa.{Cfa}
-use Rattle.cpa_iface.specs.Meanings.{pin}
+use Rattle.cpa_iface.specs.Pins.{pin}
 use Rattle.cpa_top.specs.declared.explore.Explored.{Explored}
 use Rattle.cpa_top.specs.declared.explore.Explored.TheVariants.{Safe, ErrorReached}
 

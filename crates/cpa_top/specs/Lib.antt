@@ -1,3 +1,4 @@
+pub mod Blind
 pub mod Answered
 pub mod Core
 pub mod CoreSteps

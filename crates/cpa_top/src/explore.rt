@@ -3,7 +3,8 @@ ghost use Rattle.std.specs.Prelude.{◌≡◌, ◌<◌, false, IsTrue, length, I
 ghost use Rattle.std.specs.List.{Contains};
 ghost use Rattle.cpa_model.specs.Automata.{IsAutomaton};
 ghost use Rattle.cpa_iface.specs.declared.analysis.Part.TheVariants.{Point};
-ghost use Rattle.cpa_iface.specs.Meanings.{pin, IsPrecision};
+ghost use Rattle.cpa_iface.specs.Meanings.{IsPrecision};
+ghost use Rattle.cpa_iface.specs.Pins.{pin};
 ghost use Rattle.cpa_top.specs.Explored.{IsExplored};
 ghost use Rattle.cpa_top.specs.declared.explore.Explored.TheVariants.{ErrorReached};
 ghost use Rattle.cpa_top.specs.Reached.{IsReached, KeepsNumbers, LeadsOn, IsExpanded, IsErrorFree};

@@ -1,8 +1,14 @@
 //! Whole calls over files and a sink in memory that fail, and over other lists than the one
 //! analysis. The answers of texts and words are rows of the crate `cases_run`.
+ghost use Rattle.std.specs.Prelude.{◌≡◌};
+ghost use Rattle.cpa_top.specs.Blind.{no_facts};
+
 use super::*;
-use cpa_iface::{Location, Part, Precision, Settings};
-use cpa_model::{Cfa, Elem, Seq, has_facts};
+use cpa_iface::{
+    Entry, Location, MergeRule, Part, Precision, Settings, copy_precision, empty_precision,
+    merge_facts,
+};
+use cpa_model::{Cfa, Elem, Path, Seq, copy_elem, has_facts};
 use cpa_outside::{MemoryInputs, MemorySink};
 use std::alloc::AllocError;
 use std::process::Abort;
@@ -15,12 +21,9 @@ const RETURNS: &str = "int main(void){return 0;}";
 struct Blind;
 
 impl Analysis for Blind {
-    ghost use Rattle.std.specs.Prelude.{codes};
-    ghost use Rattle.cpa_iface.specs.declared.analysis.Part.TheVariants as part;
-    ghost use Rattle.cpa_model.specs.Standing.{has_facts};
-    ghost use Rattle.cpa_model.specs.StandingLaws.{has_facts-within, has_facts-same};
+    ghost use Rattle.cpa_top.specs.Blind.{blind};
 
-    ghost meaning = { λ _. record { name = codes "blind"; part = part.Nothing; cover = has_facts; within = has_facts-within; same = has_facts-same } };
+    ghost meaning = { λ _. blind };
 
     fn name(&self) -> &str {
         "blind"
@@ -31,9 +34,7 @@ impl Analysis for Blind {
     }
 
     fn initial(&mut self, alloc: Global, _cfa: &Cfa) -> Result<Elem, AllocError> {
-        Ok(Elem {
-            facts: Seq::new(alloc),
-        })
+        Ok(no_facts(alloc))
     }
 
     fn first_precision(
@@ -42,11 +43,7 @@ impl Analysis for Blind {
         _cfa: &Cfa,
         _settings: &Settings,
     ) -> Result<Precision, AllocError> {
-        Ok(Precision {
-            tracked: Seq::new(alloc),
-            limit: 0,
-            preds: Seq::new(alloc),
-        })
+        Ok(empty_precision(alloc))
     }
 
     fn transfer(
@@ -58,14 +55,66 @@ impl Analysis for Blind {
         _precision: &Precision,
     ) -> Result<Vec<Elem>, AllocError> {
         let mut successors = Vec::new(alloc);
-        successors.push(Elem {
-            facts: Seq::new(alloc),
-        })?;
+        successors.push(no_facts(alloc))?;
         Ok(successors)
+    }
+
+    fn strengthen(
+        &mut self,
+        alloc: Global,
+        _cfa: &Cfa,
+        own: &Elem,
+        _others: &[Elem],
+        _precision: &Precision,
+    ) -> Result<Option<Elem>, AllocError> {
+        Ok(Some(copy_elem(alloc, own)?))
+    }
+
+    fn merge(
+        &mut self,
+        alloc: Global,
+        _cfa: &Cfa,
+        rule: MergeRule,
+        new: &Elem,
+        old: &Elem,
+        _precision: &Precision,
+    ) -> Result<Elem, AllocError> {
+        merge_facts(alloc, rule, new, old)
     }
 
     fn covered_by(&self, elem: &Elem, other: &Elem) -> bool {
         has_facts(elem, other)
+    }
+
+    fn adjust(
+        &mut self,
+        alloc: Global,
+        _cfa: &Cfa,
+        elem: &Elem,
+        precision: &Precision,
+        _reached: &[Entry],
+        _place: u32,
+    ) -> Result<(Elem, Precision), AllocError> {
+        Ok((copy_elem(alloc, elem)?, copy_precision(alloc, precision)?))
+    }
+
+    fn refine(
+        &mut self,
+        alloc: Global,
+        _cfa: &Cfa,
+        _path: &Path,
+        precision: &Precision,
+    ) -> Result<Precision, AllocError> {
+        copy_precision(alloc, precision)
+    }
+}
+
+/// The element without facts.
+fn no_facts(alloc: Global) -> Elem
+    ensures { result ≡ no_facts }
+{
+    Elem {
+        facts: Seq::new(alloc),
     }
 }
 

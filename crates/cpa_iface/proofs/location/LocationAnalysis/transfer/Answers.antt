@@ -1,11 +1,18 @@
 use Rattle.std.specs.declared.vec.Vec.{Vec}
 use Rattle.std.specs.declared.alloc.Global.{Global}
+use Rattle.std.proofs.Common.{sym, subst}
 use Rattle.std.proofs.lemmas.Result.{IfOk-weaker}
 use Rattle.cpa_model.specs.declared.facts.Elem.{Elem}
-use Rattle.cpa_iface.proofs.Pins.{location-covers}
+use Rattle.cpa_iface.specs.Laws.{TransferLaws}
+use Rattle.cpa_iface.specs.Locations.{location}
+use Rattle.cpa_iface.proofs.LocationLaws.{next_points-laws}
 use Rattle.cpa_iface.proofs.location.LocationAnalysis.transfer.Goals as goal
 
-pub returns-clause-covers : goal.returns-clause-covers
-returns-clause-covers c =
+pub returns-clause-laws : goal.returns-clause-laws
+returns-clause-laws c =
     let cfa = c.args.cfa.now in
-    IfOk-weaker _ _ _ (λ (es : Vec Elem Global) is. location-covers cfa c.args.edge c.args.elem.now _ es.items c.edge_at-edge.ensures is) c.successors.ensures
+    let e = c.args.elem.now in
+    let p = c.args._precision.now in
+    IfOk-weaker _ _ _ (λ (es : Vec Elem Global) is.
+    subst (TransferLaws location cfa c.args.edge e p) (sym is) (next_points-laws cfa c.args.edge e p _ c.requires.automaton c.edge_at.ensures))
+    c.next_points.ensures

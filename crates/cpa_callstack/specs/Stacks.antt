@@ -1,0 +1,73 @@
+-- The analysis of call stacks (this project's own).
+use Rattle.std.specs.Prelude.{ℕ, ◌==◌, Bool, true, List, [], ◌∷◌, ◌++◌, Option, None, Some, option_map, codes, if◌then◌else◌}
+use Rattle.std.specs.List.{list_all}
+use Rattle.cpa_model.specs.declared.facts.Fact.{Fact}
+use Rattle.cpa_model.specs.declared.facts.Fact.TheVariants.{Stack}
+use Rattle.cpa_model.specs.declared.facts.Elem.{Elem}
+use Rattle.cpa_model.specs.declared.automaton.Act.{Act}
+use Rattle.cpa_model.specs.declared.automaton.Act.TheVariants.{Call, Return}
+use Rattle.cpa_model.specs.declared.automaton.Edge.{Edge}
+use Rattle.cpa_model.specs.Standing.{same_sites, has_facts}
+use Rattle.cpa_model.specs.StandingLaws.{has_facts-within, has_facts-same}
+use Rattle.cpa_iface.specs.declared.analysis.Part.TheVariants as part
+use Rattle.cpa_iface.specs.Meanings.{Meaning}
+use Rattle.cpa_iface.specs.Common.{fact_count, no_suggestion}
+
+-- the element of one fact, that this is the stack
+abbrev pub with_stack : List ℕ → Elem
+with_stack sites = record { facts = Stack sites ∷ [] }
+
+-- the element without facts
+abbrev pub any_stack : Elem
+any_stack = record { facts = [] }
+
+-- the stack that the first fact on it names
+abbrev pub first_stack : List Fact → Option (List ℕ)
+first_stack [] = None
+first_stack (Stack sites ∷ facts) = Some sites
+first_stack (fact ∷ facts) = first_stack facts
+
+-- the fact does not name another stack
+abbrev pub names_stack : List ℕ → Fact → Bool
+names_stack sites (Stack own) = same_sites own sites
+names_stack sites fact = true
+
+-- the stack without its top, where this site is the top
+abbrev pub popped : ℕ → List ℕ → Option (List ℕ)
+popped site [] = None
+popped site (top ∷ []) = if top == site then Some [] else None
+popped site (s ∷ next ∷ sites) = option_map (λ rest. s ∷ rest) (popped site (next ∷ sites))
+
+-- the stack after the act: a call pushes its site, and a return pops it, or cannot be
+abbrev pub stack_after : Act → List ℕ → Option (List ℕ)
+stack_after (Call site) sites = Some (sites ++ site ∷ [])
+stack_after (Return site) sites = popped site sites
+stack_after act sites = Some sites
+
+-- the element of a stack that is there
+abbrev pub elem_of : Option (List ℕ) → List Elem
+elem_of None = []
+elem_of (Some sites) = with_stack sites ∷ []
+
+-- of the stack on which all facts agree, what the act makes of it; nothing where two facts name two stacks; the
+-- element without facts where none names a stack
+abbrev pub stacks_after : Act → List Fact → Option (List ℕ) → List Elem
+stacks_after act facts None = any_stack ∷ []
+stacks_after act facts (Some sites) = if list_all (names_stack sites) facts then elem_of (stack_after act sites) else []
+
+-- what the edge makes of the element
+abbrev pub next_stacks : Elem → Edge → List Elem
+next_stacks e g = stacks_after g.act e.facts (first_stack e.facts)
+
+-- It is exact on the stack, covers by the letter, and asks for nothing.
+abbrev pub callstack : Meaning
+callstack = record {
+  name = codes "callstack";
+  part = part.Stack;
+  cover = has_facts;
+  height = λ cfa p. 1;
+  rank = fact_count;
+  suggestion = λ cfa path. Some no_suggestion;
+  within = has_facts-within;
+  same = has_facts-same;
+}

@@ -1,0 +1,57 @@
+//! What an analysis is asked to keep, and an equal copy of it.
+
+ghost use Rattle.std.specs.Prelude.{◌≡◌, IfOk};
+ghost use Rattle.cpa_iface.specs.Common.{no_precision};
+
+use cpa_expr::copy;
+use cpa_model::{Expr, Seq};
+use std::alloc::{AllocError, Global};
+
+/// What an analysis is asked to keep (ASE 2008).
+#[derive(Debug, Drop)]
+pub struct Precision {
+    /// The cells whose values are kept.
+    pub tracked: Seq<u32>,
+    /// The most distinct values that are kept of a cell, 0 for no limit.
+    pub limit: u32,
+    /// The predicates whose truth is kept.
+    pub preds: Seq<Expr>,
+}
+
+/// The precision that asks for nothing. It takes no memory.
+pub fn empty_precision(alloc: Global) -> Precision
+    ensures { result ≡ no_precision }
+{
+    Precision {
+        tracked: Seq::new(alloc),
+        limit: 0,
+        preds: Seq::new(alloc),
+    }
+}
+
+/// An equal precision.
+pub fn copy_precision(alloc: Global, precision: &Precision) -> Result<Precision, AllocError>
+    ensures { IfOk result (λ p. p ≡ precision.now) }
+{
+    Ok(Precision {
+        tracked: copy_cells(alloc, precision.tracked.as_slice())?,
+        limit: precision.limit,
+        preds: copy_preds(alloc, precision.preds.as_slice())?,
+    })
+}
+
+fn copy_cells(alloc: Global, cells: &[u32]) -> Result<Seq<u32>, AllocError>
+    ensures { IfOk result (λ list. list ≡ cells.now) }
+{
+    Ok(Seq::from_vec(cells.to_vec(alloc)?))
+}
+
+fn copy_preds(alloc: Global, preds: &[Expr]) -> Result<Seq<Expr>, AllocError>
+    ensures { IfOk result (λ list. list ≡ preds.now) }
+{
+    let mut copies = Seq::new(alloc);
+    for pred in preds {
+        copies.push(copy(alloc, pred)?)?;
+    }
+    Ok(copies)
+}
