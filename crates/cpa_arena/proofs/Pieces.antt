@@ -22,7 +22,7 @@ piece_last xs ys =
     ∙ take_all (length (xs ++ ys) - length xs) ys (omega arith)
 
 pub pushed : (xs ys : List ℕ) (es : List Extent) (e : Extent) → AllByRecursion (IsWithin (length xs)) es → e ≡ record { from = length xs; to = length (xs ++ ys) }
-  → map (piece (xs ++ ys)) (es ++ e ∷ []) ≡ map (piece xs) es ++ ys ∷ []
+    → map (piece (xs ++ ys)) (es ++ e ∷ []) ≡ map (piece xs) es ++ ys ∷ []
 pushed xs ys es e all is =
     map-append (piece (xs ++ ys)) es (e ∷ [])
     ∙ ap (λ ps. ps ++ piece (xs ++ ys) e ∷ []) (map-more xs ys es all)

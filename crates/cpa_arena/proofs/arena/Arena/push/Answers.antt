@@ -17,9 +17,9 @@ returns c =
     let last : Extent = record { from = c.len-from.result; to = c.len-to.result } in
     let past : length items ≤ c.loop-literal.literal-index = omega arith in
     let literals : c.loop-literal.self-inside.literals.items ≡ xs ++ ys =
-          c.loop-literal.invariant.1 ∙ ap (λ t. xs ++ t) (take_all c.loop-literal.literal-index items past ∙ c.literals-literal-items.ensures.literals) in
+    c.loop-literal.invariant.1 ∙ ap (λ t. xs ++ t) (take_all c.loop-literal.literal-index items past ∙ c.literals-literal-items.ensures.literals) in
     let extents : c.push-2.new.self.items ≡ es ++ last ∷ [] =
-          c.in_ok-push-2.ensures.items ∙ ap (λ (v : Vec Extent Global). v.items ++ last ∷ []) c.loop-literal.invariant.0 in
+    c.in_ok-push-2.ensures.items ∙ ap (λ (v : Vec Extent Global). v.items ++ last ∷ []) c.loop-literal.invariant.0 in
     let from : c.len-from.result ≡ length xs = omega arith in
     let to : c.len-to.result ≡ length (xs ++ ys) = omega (arith, ap length literals) in
     ap (λ l. map (piece l) c.push-2.new.self.items) literals
