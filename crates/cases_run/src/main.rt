@@ -1,5 +1,5 @@
-//! Runs the whole program on the rows of `stdin`, each a call on the one file `p.c` in memory, and prints each
-//! row's status and what the call wrote. README.md says how the wanted answers were made.
+//! Runs the whole program on the rows of `stdin`, each a call on the one file `p.c` in memory, and
+//! prints each row's status and what the call wrote. README.md says how the wanted answers were made.
 #![tactic(auto)]
 
 mod row;
@@ -15,12 +15,6 @@ use std::thread::Threads;
 /// The most bytes that an answer may have.
 const ROOM: usize = 1_000_000;
 
-fn analyses(alloc: Global) -> Result<Vec<Box<dyn Analysis + Send>>, AllocError> {
-    let mut analyses: Vec<Box<dyn Analysis + Send>> = Vec::new(alloc);
-    analyses.push(Box::new(alloc, Location::new())?)?;
-    Ok(analyses)
-}
-
 fn file(alloc: Global, text: Vec<u8>) -> Result<MemoryInputs, AllocError> {
     let mut files = Vec::new(alloc);
     files.push((String::from_str(alloc, "p.c")?, text))?;
@@ -35,14 +29,9 @@ fn answer<R: Threads + Sync>(
 ) -> Result<(u8, MemorySink), AllocError> {
     let mut inputs = file(alloc, row.text)?;
     let mut out = MemorySink::new(alloc, ROOM, ROOM, Vec::new(alloc))?;
-    let status = run(
-        rt,
-        alloc,
-        row.words,
-        analyses(alloc)?,
-        &mut inputs,
-        &mut out,
-    );
+    let mut analyses: Vec<Box<dyn Analysis + Send>> = Vec::new(alloc);
+    analyses.push(Box::new(alloc, Location::new())?)?;
+    let status = run(rt, alloc, row.words, analyses, &mut inputs, &mut out);
     Ok((status, out))
 }
 
