@@ -1,0 +1,7 @@
+pub mod Places
+pub mod TypeParts
+pub mod Among
+pub mod Skipped
+pub mod TypeNames
+pub mod SpecifierWords
+pub mod ParameterForms
