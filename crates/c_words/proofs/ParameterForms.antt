@@ -51,10 +51,16 @@ pub pointer_is : (found : Bool) → found ≡ points_or_not (cond found (Some tt
 pointer_is true = refl
 pointer_is false = refl
 
+-- the same reading, of an equal test
+pub pointer_by : (leaves : List Leaf) (left p q : ℕ) (u : Option (Unit {0})) (a b : Bool) → a ≡ b →
+    Reads (λ n. any_pointer a) (leaf_at leaves) (length leaves) left p u q →
+    Reads (λ n. any_pointer b) (leaf_at leaves) (length leaves) left p u q
+pointer_by leaves left p q u a b e r = subst (λ t. Reads (λ n. any_pointer t) (leaf_at leaves) (length leaves) left p u q) e r
+
 -- the same answer one level deeper
-pub deeper_answer : {T : Type 0} (limit : ℕ) {A : Form Leaf T} {at : ℕ → Leaf} {size p : ℕ} (left : ℕ) (answer : Result (T × ℕ) ReadError) →
+pub deeper_answer : {T : Type 0} (limit : ℕ) (A : Form Leaf T) (at : ℕ → Leaf) (size p left : ℕ) (answer : Result (T × ℕ) ReadError) →
     0 < left → Answers limit (λ n. A) at size (left - 1) p answer → Answers limit (λ n. Deeper A) at size left p answer
-deeper_answer limit left answer some h =
+deeper_answer limit A at size p left answer some h =
     MatchResult-weaker answer h (λ read r. reads_deeper_flat left some r) (λ e f. faults limit e f (λ i g. none_deeper_flat g))
 
 -- parameters are read from p up to here
@@ -63,17 +69,20 @@ pub record AreParameters (leaves : List Leaf) (left p : ℕ) (items : List Param
       items here
 
 module _ (leaves : List Leaf) (left p : ℕ) where
-  pub parameters_first : (u : Parameter) (here : ℕ) → Reads (λ n. Deeper parameter) (leaf_at leaves) (length leaves) left p u here →
-      AreParameters leaves left p (u ∷ []) here
+  pub parameters_first : (u : Parameter) (here : ℕ) (items : List Parameter) → items ≡ u ∷ [] →
+      Reads (λ n. Deeper parameter) (leaf_at leaves) (length leaves) left p u here → AreParameters leaves left p items here
   unfolding parameter_list
-  parameters_first u here r =
-      record { so_far = first_part (is terminal.Comma) (λ n. Skip (Deeper parameter)) steady_inner r }
+  parameters_first u here items pushed r =
+      subst (λ list. AreParameters leaves left p list here) (sym pushed)
+      (record { so_far = first_part (is terminal.Comma) (λ n. Skip (Deeper parameter)) steady_inner r })
 
-  pub parameters_more : (items : List Parameter) (here : ℕ) → AreParameters leaves left p items here → (u : Parameter) (next : ℕ) →
-      is terminal.Comma (leaf_at leaves here) ≡ true →
+  pub parameters_more : (items : List Parameter) (here : ℕ) → AreParameters leaves left p items here →
+      (u : Parameter) (next : ℕ) (more : List Parameter) → more ≡ items ++ u ∷ [] → is terminal.Comma (leaf_at leaves here) ≡ true →
       Reads (λ n. Deeper parameter) (leaf_at leaves) (length leaves) left (here + 1) u next →
-      AreParameters leaves left p (items ++ u ∷ []) next
-  parameters_more items here s u next goes r = record { so_far = one_more s.so_far steady_next goes (reads_skip r) }
+      AreParameters leaves left p more next
+  parameters_more items here s u next more pushed goes r =
+      subst (λ list. AreParameters leaves left p list next) (sym pushed)
+      (record { so_far = one_more s.so_far steady_next goes (reads_skip r) })
 
   pub parameters_fail_first : (i : ℕ) → NoneThrough (λ n. Deeper parameter) (leaf_at leaves) (length leaves) left p i →
       NoneThrough (λ n. parameter_list) (leaf_at leaves) (length leaves) left p i

@@ -3,8 +3,8 @@ use Rattle.std.proofs.Common.{◌-◌, length}
 use Rattle.c_words.proofs.ParameterForms.{AreParameters}
 use Rattle.c_words.proofs.parameters.parameter_list.Given as goal
 
-abbrev pub invariant-loop-here : goal.invariant-loop-here
-invariant-loop-here l = AreParameters l.source l.left l.at l.listed.items l.here
+abbrev pub invariant-loop-alloc : goal.invariant-loop-alloc
+invariant-loop-alloc l = AreParameters l.source l.left l.at l.listed.items l.here
 
-abbrev pub decreases-loop-here : goal.decreases-loop-here
-decreases-loop-here l = length l.source - l.here
+abbrev pub decreases-loop-alloc : goal.decreases-loop-alloc
+decreases-loop-alloc l = length l.source - l.here
