@@ -24,8 +24,8 @@ use Rattle.c_tree.specs.Parts.{is_part_of_type, is_type, type_word_of, type_word
 use Rattle.c_tree.specs.Declarations.{specifier_at, specifiers}
 use Rattle.c_tree.specs.OneReadingOfText.{good_specifier_at}
 use Rattle.c_words.specs.declared.words.AllowedStorage.{AllowedStorage}
-use Rattle.c_words.specs.Types.{words_in, AreGrown, IsRefused}
-use Rattle.c_words.specs.Storage.{goes, goes_in, kind_of}
+use Rattle.c_words.specs.Storage.{goes, goes_in}
+use Rattle.c_words.specs.Steps.{words_in, AreGrown, IsRefused, kind_of}
 use Rattle.c_words.proofs.TypeParts.{no_type_longer, is_type_of, no_words}
 
 abbrev pub any_specifier : Form Leaf Specifier

@@ -20,7 +20,7 @@ use Rattle.c_tree.specs.declared.declaration.SpecifierKind.TheVariants as kind
 use Rattle.c_tree.specs.Parts.{types, is_type_word, is_part_of_type, is_type}
 use Rattle.c_tree.specs.Expressions.{type_word_at, type_name}
 use Rattle.c_tree.specs.OneReading.{good_type_word_at}
-use Rattle.c_words.specs.Types.{AreGrown, IsRefused}
+use Rattle.c_words.specs.Steps.{AreGrown, IsRefused}
 use Rattle.c_words.proofs.TypeParts.{no_type_longer, is_type_of, no_words}
 
 abbrev pub any_type_word : Form Leaf TypeWord

@@ -1,4 +1,5 @@
--- What the readers of parts that have no level promise: the same with however many levels left. This project's own.
+-- What the readers of parts that have no level promise, this project's own: the same with however many
+-- levels left.
 use Rattle.std.specs.Prelude.{ℕ, List, length, Result, MatchResult}
 use Rattle.grammar_forms.specs.declared.fault.ReadError.{ReadError}
 use Rattle.grammar_forms.specs.Forms.{Form}
@@ -8,7 +9,7 @@ use Rattle.c_symbols.specs.Sources.{leaf_at}
 use Rattle.c_tree.specs.declared.TheConstants.{MAX_LEVEL}
 use Rattle.c_tree.specs.Reading.{Gives}
 
--- the reader answers the part and the place behind it, or a token through which there is no such part
+-- the answer is a part and the place behind it, or a token through which there is no such part
 abbrev pub Finds : {T : Type 0} → Form Leaf T → List Leaf → ℕ → Result (T × ℕ) ReadError → Type 0
 Finds A leaves at answer = (left : ℕ) → Gives (λ G. A) leaves left at answer
 

@@ -1,5 +1,3 @@
 pub mod Answers
-pub mod Depth
-pub mod Types
 pub mod Storage
-pub mod Pointers
+pub mod Steps

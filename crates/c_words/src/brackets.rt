@@ -1,5 +1,5 @@
-//! Readers of tokens that are skipped: in brackets, and attributes. They are `round_brackets`, `skipped_body` and
-//! `attributes` of `c_tree`.
+//! Readers of tokens that are skipped: in brackets, and attributes. They are `round_brackets`,
+//! `skipped_body` and `attributes` of `c_tree`.
 ghost use Rattle.std.specs.Prelude.{◌≡◌, ◌≢◌, ◌+◌, ◌^◌, ◌<◌, length};
 ghost use Rattle.grammar_forms.specs.Forms.{Balanced};
 ghost use Rattle.c_symbols.specs.Sources.{leaf_at, is, GoesOn};
@@ -8,14 +8,14 @@ ghost use Rattle.c_tree.specs.Expressions.{round_brackets};
 ghost use Rattle.c_tree.specs.Declarations.{attribute, attributes};
 ghost use Rattle.c_tree.specs.Items.{skipped_body};
 ghost use Rattle.c_words.specs.Answers.{Skips};
-ghost use Rattle.c_words.specs.Depth.{DepthBehind};
+ghost use Rattle.c_words.specs.Steps.{DepthBehind};
 
 use crate::classes::is_end;
 use c_symbols::{Source, Terminal};
 use grammar_forms::ReadError;
 
-/// How many brackets are open behind the token at this place, where `depth` are open before it; None where
-/// it closes and none is open.
+/// How many brackets are open behind the token at this place, where `depth` are open before it; None
+/// where it closes and none is open.
 fn depth_behind(
     source: &Source,
     at: usize,
@@ -68,7 +68,8 @@ pub fn round_brackets(source: &Source, at: usize) -> Result<usize, ReadError>
     balanced(source, at, Terminal::LeftParen, Terminal::RightParen)
 }
 
-/// The place behind the brace that closes the one before this place, as in the body of a known function.
+/// The place behind the brace that closes the one before this place: the tokens of a body that is
+/// skipped.
 #[tactic(auto, unfolding(c_tree::specs::Items::skipped_body))]
 pub fn skipped_body(source: &Source, at: usize) -> Result<usize, ReadError>
     requires { at < length source.now }

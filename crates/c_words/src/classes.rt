@@ -1,4 +1,5 @@
-//! Classes of tokens, which are those of `Parts.antt` of `c_tree`, and that the text goes on behind them.
+//! Classes of tokens, which are those of `Parts.antt` of `c_tree`, and that the text goes on behind
+//! a token that is not its end.
 ghost use Rattle.std.specs.Prelude.{◌≡◌, ◌<◌, true, false, length};
 ghost use Rattle.c_symbols.specs.Sources.{leaf_at, GoesOn};
 ghost use Rattle.c_symbols.specs.Symbols.{symbol_of};

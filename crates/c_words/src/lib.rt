@@ -1,5 +1,5 @@
-//! Readers of the parts of C's grammar that hold no other part of their kind: names, words of types, specifiers,
-//! what is skipped, and parameters. Each gives what its form of `c_tree` is.
+//! Readers of the parts of C's grammar that hold no other part of their kind: names, words of
+//! types, specifiers, what is skipped, and parameters. Each meets the form of its name in `c_tree`.
 #![tactic(auto)]
 
 mod brackets;

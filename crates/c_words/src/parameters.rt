@@ -1,17 +1,17 @@
-//! Readers of a function's parameters, which are `parameter`, `parameter_list` and `function_rest` of `Items.antt` of
-//! `c_tree`.
-ghost use Rattle.std.specs.Prelude.{◌≡◌, ◌+◌, ◌-◌, ◌<◌, ◌≤◌, length, ◌&&◌, if◌then◌else◌, Some, None};
+//! Readers of a function's parameters, which are `parameter`, `parameter_list` and `function_rest`
+//! of `Items.antt` of `c_tree`.
+ghost use Rattle.std.specs.Prelude.{◌≡◌, ◌<◌, length};
 ghost use Rattle.grammar_forms.specs.Forms.{One, Perhaps, Deeper};
 ghost use Rattle.grammar_forms.specs.Reading.{Reads};
 ghost use Rattle.c_symbols.specs.Symbols.{symbol_of};
 ghost use Rattle.c_symbols.specs.Sources.{leaf_at, GoesOn};
 ghost use Rattle.c_symbols.specs.declared.words.Terminal.TheVariants.{RightParen};
-ghost use Rattle.c_tree.specs.declared.TheConstants.{MAX_LEVEL};
 ghost use Rattle.c_tree.specs.Parts.{is_not, is_specifier, have_char};
-ghost use Rattle.c_tree.specs.Items.{parameter, parameter_list, function_rest, is_void, is_only_void, parameters_of};
-ghost use Rattle.c_tree.specs.Reading.{Gives};
+ghost use Rattle.c_tree.specs.Items.{parameter, parameter_list, function_rest};
+ghost use Rattle.c_tree.specs.Items.{is_void, is_only_void, parameters_of};
+ghost use Rattle.c_tree.specs.Reading.{Gives, HasRoom, HasRoomBelow, no_level};
 ghost use Rattle.c_words.specs.Answers.{Finds};
-ghost use Rattle.c_words.specs.Pointers.{HasPointer, is_char, is_void_alone, no_level};
+ghost use Rattle.c_words.specs.Steps.{HasPointer, is_char, is_void_alone};
 
 use crate::brackets::attributes;
 use crate::classes::is_pointer;
@@ -49,7 +49,7 @@ fn pointer(source: &Source, at: usize, allowed: bool) -> (bool, usize)
     }
 }
 
-/// The parameter that begins here.
+/// The parameter that begins here. A pointer is taken only behind `char`.
 pub fn parameter(alloc: Global, source: &Source, at: usize) -> Result<(Parameter, usize), ReadError>
     requires { at < length source.now }
     ensures { Finds parameter source.now at result }
@@ -74,7 +74,7 @@ fn inner_parameter(
     left: u32,
 ) -> Result<(Parameter, usize), ReadError>
     requires within { at < length source.now }
-    requires room { MAX_LEVEL ≤ left + at }
+    requires room { HasRoomBelow left at }
     ensures { Gives (λ G. Deeper parameter) source.now left at result }
 {
     if left == 0 {
@@ -94,7 +94,7 @@ fn no_level(source: &Source, at: usize) -> ReadError
     }
 }
 
-/// The parameters that stand here, of which there is one at least.
+/// The parameters that stand here, of which there is one at least, each one level deeper.
 pub fn parameter_list(
     alloc: Global,
     source: &Source,
@@ -102,7 +102,7 @@ pub fn parameter_list(
     left: u32,
 ) -> Result<(Seq<Parameter>, usize), ReadError>
     requires within { at < length source.now }
-    requires room { MAX_LEVEL ≤ left + at }
+    requires room { HasRoomBelow left at }
     ensures { Gives (λ G. parameter_list) source.now left at result }
 {
     let (first, next) = inner_parameter(alloc, source, at, left)?;
@@ -125,7 +125,7 @@ fn optional_parameters(
     left: u32,
 ) -> Result<(Option<Seq<Parameter>>, usize), ReadError>
     requires within { at < length source.now }
-    requires room { MAX_LEVEL ≤ left + at }
+    requires room { HasRoomBelow left at }
     ensures { Gives (λ G. Perhaps (is_not RightParen) parameter_list) source.now left at result }
 {
     if source.is(at, Terminal::RightParen) {
@@ -138,7 +138,8 @@ fn optional_parameters(
 
 /// Whether the parameter is `void` alone.
 fn is_only_void(parameter: &Parameter) -> bool
-    ensures { result ≡ is_only_void parameter.now.specifiers.words parameter.now.is_pointer parameter.now.name }
+    ensures { let p = parameter.now in
+        result ≡ is_only_void p.specifiers.words p.is_pointer p.name }
 {
     match parameter.specifiers.words.as_slice() {
         [only] => !parameter.is_pointer && parameter.name.is_none() && is_void(only.kind),
@@ -163,8 +164,8 @@ fn is_void_alone(parameters: &[Parameter]) -> bool
     }
 }
 
-/// What stands between the brackets of a declarator, where the list may be absent. A list that is there has
-/// a parameter.
+/// What stands between the brackets of a declarator, where the list may be absent. A list that is
+/// there has a parameter.
 fn parameters_of(listed: Option<Seq<Parameter>>) -> Parameters
     ensures { result ≡ parameters_of listed }
 {
@@ -180,8 +181,8 @@ fn parameters_of(listed: Option<Seq<Parameter>>) -> Parameters
     }
 }
 
-/// What stands behind a function's name: its parameters in brackets, and attributes. The first token is the
-/// bracket that opens.
+/// What stands behind a function's name: its parameters in brackets, and attributes. The token here is
+/// the bracket that opens, as the caller has seen. Parameters stand one level deeper.
 pub fn function_rest(
     alloc: Global,
     source: &Source,
@@ -189,7 +190,7 @@ pub fn function_rest(
     left: u32,
 ) -> Result<(Parameters, usize), ReadError>
     requires more { GoesOn source.now at }
-    requires room { MAX_LEVEL - 1 ≤ left + at }
+    requires room { HasRoom left at }
     ensures { Gives (λ G. function_rest) source.now left at result }
 {
     let (listed, closer) = optional_parameters(alloc, source, at + 1, left)?;

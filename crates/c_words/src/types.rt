@@ -1,9 +1,10 @@
-//! The words of a type: which may stand together, and the reader of `type_name` of `Expressions.antt` of `c_tree`.
+//! The words of a type: which may stand together, and their reader, which is `type_name` of
+//! `Expressions.antt` of `c_tree`.
 ghost use Rattle.std.specs.Prelude.{◌≡◌, ◌<◌, ◌≤◌, true, length, OnOk, IfErr, Vec};
-ghost use Rattle.c_tree.specs.Parts.{occurrences, at_most, has_one_sign, is_part_of_type};
+ghost use Rattle.c_tree.specs.Parts.{occurrences, at_most, at_most_one_sign, is_part_of_type};
 ghost use Rattle.c_tree.specs.Expressions.{type_name};
 ghost use Rattle.c_words.specs.Answers.{Finds};
-ghost use Rattle.c_words.specs.Types.{AreGrown, IsRefused, is_part_with_char};
+ghost use Rattle.c_words.specs.Steps.{AreGrown, IsRefused, has_no_size};
 
 use c_symbols::{Source, Symbol, TypeWord};
 use c_tree::{SpecifierKind, TypeName};
@@ -28,7 +29,7 @@ fn at_most(most: usize, wanted: TypeWord, words: &[TypeWord]) -> bool
 
 /// Whether there is one sign at most.
 fn at_most_one_sign(words: &[TypeWord]) -> bool
-    ensures { result ≡ has_one_sign words.now }
+    ensures { result ≡ at_most_one_sign words.now }
 {
     let signed = occurrences(TypeWord::Signed, words);
     let unsigned = occurrences(TypeWord::Unsigned, words);
@@ -47,21 +48,21 @@ pub fn is_part_of_type(words: &[TypeWord]) -> bool
         && at_most(1, TypeWord::Short, words)
         && at_most(1, TypeWord::Int, words)
         && at_most(2, TypeWord::Long, words)
-        && (at_most(0, TypeWord::Char, words) || is_part_with_char(words))
+        && (at_most(0, TypeWord::Char, words) || has_no_size(words))
         && (at_most(0, TypeWord::Short, words) || at_most(0, TypeWord::Long, words))
 }
 
 /// Whether no word of an integer type stands here that cannot stand with `char`.
-fn is_part_with_char(words: &[TypeWord]) -> bool
-    ensures { result ≡ is_part_with_char words.now }
+fn has_no_size(words: &[TypeWord]) -> bool
+    ensures { result ≡ has_no_size words.now }
 {
     at_most(0, TypeWord::Short, words)
         && at_most(0, TypeWord::Int, words)
         && at_most(0, TypeWord::Long, words)
 }
 
-/// Appends the word to those of a type, if it is one of a type. Where they then are no part of a type, the
-/// error names the place of the word.
+/// Appends the word to those of a type, if it is one of a type. Where they then are no part of a
+/// type, the error names the place of the word.
 pub fn push_type(types: &mut Vec<TypeWord>, kind: SpecifierKind, at: usize) -> Result<(), ReadError>
     requires { is_part_of_type types.old.items ≡ true }
     ensures pushed { OnOk result (AreGrown types.old.items kind types.new.items) }
@@ -80,7 +81,8 @@ pub fn push_type(types: &mut Vec<TypeWord>, kind: SpecifierKind, at: usize) -> R
     }
 }
 
-/// The words of a type that stand here. A word that no type has with those before it is the fault.
+/// The words of a type that stand here. A word that no type has with those before it is the fault,
+/// and so is what stands here where it is no such word. Never more than five words are kept.
 pub fn type_name(alloc: Global, source: &Source, at: usize) -> Result<(TypeName, usize), ReadError>
     requires { at < length source.now }
     ensures { Finds type_name source.now at result }

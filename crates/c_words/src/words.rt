@@ -3,7 +3,8 @@ ghost use Rattle.std.specs.Prelude.{◌≡◌, ◌<◌, length};
 ghost use Rattle.c_tree.specs.Declarations.{specifiers};
 ghost use Rattle.c_words.specs.Answers.{Finds};
 ghost use Rattle.c_symbols.specs.declared.symbol.Symbol.TheVariants.{Storage};
-ghost use Rattle.c_words.specs.Storage.{goes, goes_in, IsKind};
+ghost use Rattle.c_words.specs.Storage.{goes, goes_in};
+ghost use Rattle.c_words.specs.Steps.{IsKind};
 
 use crate::types::push_type;
 use c_symbols::{Source, StorageWord, Symbol};
@@ -51,7 +52,9 @@ pub fn specifier_kind(allowed: AllowedStorage, symbol: Symbol) -> Option<Specifi
     }
 }
 
-/// The specifiers that stand here, with the words of one type among them.
+/// The specifiers that stand here, with the words of one type among them, in any order. A word that
+/// no type has with those before it is the fault; without a word of a type it is what stands behind
+/// them.
 pub fn specifiers(
     alloc: Global,
     source: &Source,

@@ -13,7 +13,7 @@ use Rattle.c_tree.specs.declared.declaration.Specifier.{Specifier}
 use Rattle.c_tree.specs.declared.declaration.SpecifierKind.{SpecifierKind}
 use Rattle.c_tree.specs.declared.declaration.SpecifierKind.TheVariants as kind
 use Rattle.c_tree.specs.Parts.{have_char, occurrences, type_words}
-use Rattle.c_words.specs.Pointers.{is_char_kind, is_char}
+use Rattle.c_words.specs.Steps.{is_char_kind, is_char}
 use Rattle.c_words.proofs.parameters.have_char.Goals as goal
 
 some_more : (n : ℕ) → nat_lt 0 (1 + n) ≡ true

@@ -4,7 +4,8 @@ use Rattle.std.proofs.Common.{◌≡◌, ℕ, ◌==◌, ◌++◌, [], ◌∷◌,
 use Rattle.grammar_forms.specs.Exits.{at_exit}
 use Rattle.c_symbols.specs.Sources.{leaf_at}
 use Rattle.c_tree.specs.declared.TheConstants.{MAX_LEVEL}
-use Rattle.c_words.specs.Storage.{goes, kind_of}
+use Rattle.c_words.specs.Storage.{goes}
+use Rattle.c_words.specs.Steps.{kind_of}
 use Rattle.c_words.proofs.SpecifierWords.{specifiers_more, specifiers_refused, specifiers_none, specifiers_found}
 use Rattle.c_words.proofs.words.specifiers.Goals as goal
 
