@@ -26,14 +26,14 @@ pub record CoversByFacts (m : Meaning) : Type 0 where
   pub rank : m.rank ≡ fact_count
 
 -- what holds of all items holds of those that pass a test
-kept_all : (P : Fact → Type 0) (test : Fact → Bool) (fs : List Fact) → AllByRecursion P fs → AllByRecursion P (filter test fs)
+pub kept_all : (P : Fact → Type 0) (test : Fact → Bool) (fs : List Fact) → AllByRecursion P fs → AllByRecursion P (filter test fs)
 kept_all P test [] all = tt
 kept_all P test (f ∷ fs) all =
     cond_both (test f) (f ∷ filter test fs) (filter test fs) (AllByRecursion P)
     (λ _. (all.0, kept_all P test fs all.1)) (λ _. kept_all P test fs all.1)
 
 -- no more items pass a test than there are
-kept_length : (test : Fact → Bool) (fs : List Fact) → length (filter test fs) ≤ length fs
+pub kept_length : (test : Fact → Bool) (fs : List Fact) → length (filter test fs) ≤ length fs
 kept_length test [] = omega arith
 kept_length test (f ∷ fs) =
     let less : length (filter test fs) ≤ length fs = kept_length test fs in
