@@ -1,6 +1,7 @@
 -- The cells that an expression reads, and what it becomes where one of them is replaced (this
 -- project's own).
-use Rattle.std.specs.Prelude.{◌≡◌, ℕ, ◌+◌, ℤ, pos, nat_le, nat_lt, ◌==◌, Bool, false, IsTrue, ◌&&◌, ◌||◌, if◌then◌else◌, List, slice_get}
+use Rattle.std.specs.Prelude.{◌≡◌, ℕ, ◌+◌, ℤ, pos, nat_le, nat_lt, ◌==◌, Bool, false, IsTrue, ◌&&◌}
+use Rattle.std.specs.Prelude.{◌||◌, if◌then◌else◌, List, slice_get}
 use Rattle.std.specs.List.{AllZip, list_any}
 use Rattle.std.specs.Ordering.{int_eq}
 use Rattle.cpa_ints.specs.declared.integers.IntType.{IntType}

@@ -4,7 +4,9 @@
 -- is the contract of a law of src/laws.rt. The lemma below it is its proof, which a lemma of
 -- another crate cites; a function may call the law, and its answers cite the call's clause. After
 -- them come the laws of whole expressions, in the same form.
-use Rattle.std.specs.Prelude.{◌≡◌, ◌↔◌, ℕ, ◌+◌, ◌≤◌, max, ℤ, pos, ◌≤ℤ◌, ◌<ℤ◌, ◌<◌, ◌⊎◌, false, ◌||◌, IsTrue, List, Some, None, IsSome, IfSome, length, slice_get, slice_set, if◌then◌else◌, option_map, option_and_then}
+use Rattle.std.specs.Prelude.{◌≡◌, ◌↔◌, ℕ, ◌+◌, ◌≤◌, max, ℤ, pos, ◌≤ℤ◌, ◌<ℤ◌, ◌<◌, ◌⊎◌, false, ◌||◌}
+use Rattle.std.specs.Prelude.{IsTrue, List, Some, None, IsSome, IfSome, length, slice_get}
+use Rattle.std.specs.Prelude.{slice_set, if◌then◌else◌, option_map, option_and_then}
 use Rattle.cpa_ints.specs.declared.integers.IntType.{IntType}
 use Rattle.cpa_ints.specs.declared.integers.IntType.TheVariants as ty
 use Rattle.cpa_ints.specs.Integers.{IsInRange}
@@ -13,16 +15,22 @@ use Rattle.cpa_expr.specs.declared.tree.UnOp.{UnOp}
 use Rattle.cpa_expr.specs.declared.tree.BinOp.{BinOp}
 use Rattle.cpa_expr.specs.declared.tree.CmpOp.{CmpOp}
 use Rattle.cpa_expr.specs.declared.tree.Expr.{Expr, out-Expr}
-use Rattle.cpa_expr.specs.declared.tree.Expr.TheVariants.{Const, Read, Un, Bin, Cmp, Cast, And, Or, Not, Cond}
-use Rattle.cpa_expr.specs.Shape.{is_arithmetic, is_shift, type_of, size, height, AreCells, IsTyped, IsExpr}
-use Rattle.cpa_expr.specs.Values.{un_value, bin_value, cell_at, evaluated, comparison as compared, logical_and, logical_or, logical_not, conditional as chosen, value_of}
-use Rattle.cpa_expr.specs.Cells.{is_within, may_read, AgreesWhereRead, AreValues, scalar_read, is_scalar_read, ReadsAsScalar, replaced, with_parts}
+use Rattle.cpa_expr.specs.declared.tree.Expr.TheVariants.{Const, Read, Un, Bin, Cmp, Cast, And, Or}
+use Rattle.cpa_expr.specs.declared.tree.Expr.TheVariants.{Not, Cond}
+use Rattle.cpa_expr.specs.Shape.{is_arithmetic, is_shift, type_of, size, height, AreCells, IsTyped}
+use Rattle.cpa_expr.specs.Shape.{IsExpr}
+use Rattle.cpa_expr.specs.Values.{un_value, bin_value, cell_at, evaluated, comparison as compared}
+use Rattle.cpa_expr.specs.Values.{logical_and, logical_or, logical_not, conditional as chosen}
+use Rattle.cpa_expr.specs.Values.{value_of}
+use Rattle.cpa_expr.specs.Cells.{is_within, may_read, AgreesWhereRead, AreValues, scalar_read}
+use Rattle.cpa_expr.specs.Cells.{is_scalar_read, ReadsAsScalar, replaced, with_parts}
 use Rattle.cpa_expr.specs.Traps.{Traps}
 use Rattle.cpa_expr.specs.Equality.{same_expr}
 use Rattle.cpa_expr.specs.lemmas.Variants as at
 use Rattle.cpa_expr.specs.lemmas.ValueRanges.{value_in_range}
 use Rattle.cpa_expr.specs.lemmas.CellsRead.{value_agrees}
-use Rattle.cpa_expr.specs.lemmas.Substitution.{replaced_node, replaced_value, replaced_type, replaced_typed, replaced_height}
+use Rattle.cpa_expr.specs.lemmas.Substitution.{replaced_node, replaced_value, replaced_type}
+use Rattle.cpa_expr.specs.lemmas.Substitution.{replaced_typed, replaced_height}
 use Rattle.cpa_expr.specs.lemmas.TrapsKept.{replaced_trap}
 use Rattle.cpa_expr.specs.lemmas.Unread.{replaced_unread}
 use Rattle.cpa_expr.specs.lemmas.Traps.{read_some, none_traps}

@@ -1,7 +1,8 @@
 -- The type, the parts, the size and the height of an expression, and which expressions are well
 -- typed (C11 6.5, over the types after conversion; size, height and the bound on it are this
 -- project's own).
-use Rattle.std.specs.Prelude.{◌≡◌, ℕ, ◌+◌, ◌<◌, ◌≤◌, max, Bool, true, false, IsTrue, List, [], ◌∷◌, sum, Some, slice_get, ⊤}
+use Rattle.std.specs.Prelude.{◌≡◌, ℕ, ◌+◌, ◌<◌, ◌≤◌, max, Bool, true, false, IsTrue, List, [], ◌∷◌}
+use Rattle.std.specs.Prelude.{sum, Some, slice_get, ⊤}
 use Rattle.std.specs.List.{AllByRecursion}
 use Rattle.cpa_ints.specs.declared.integers.IntType.{IntType}
 use Rattle.cpa_ints.specs.declared.integers.IntType.TheVariants as ty

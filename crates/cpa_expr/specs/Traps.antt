@@ -1,7 +1,7 @@
 -- Where the evaluation of an expression traps: a division by zero (C11 6.5.5), a shift amount
 -- outside the width (C11 6.5.7), an index outside its array (C11 6.5.6), in a part that is
--- evaluated. The right side of && and ||, and an end of a conditional, are evaluated by the value of
--- the first part alone (C11 6.5.13 to 6.5.15). Of two operands the left one is evaluated first
+-- evaluated. The right side of && and ||, and an end of a conditional, are evaluated by the value
+-- of the first part alone (C11 6.5.13 to 6.5.15). Of two operands the left one is evaluated first
 -- (this project's own).
 use Rattle.std.specs.Prelude.{◌≡◌, ◌≢◌, ◌⊎◌, ℕ, ℤ, pos, ◌≤ℤ◌, ◌<ℤ◌, List, Some, IsSome, IsSomeAnd}
 use Rattle.cpa_ints.specs.declared.integers.IntType.{IntType}

@@ -2,7 +2,10 @@
 -- choice, it is this project's: results wrap, a shift to the right rounds down, and operands are
 -- evaluated from left to right. None stands for a trap, which ends the execution: a division by
 -- zero, a shift amount outside the width, an index outside its array.
-use Rattle.std.specs.Prelude.{ℕ, ◌+◌, ◌^◌, ℤ, pos, negsuc, neg_ℤ, ◌+ℤ◌, ◌-ℤ◌, ◌*ℤ◌, int_div, int_lt, int_le, nat_lt, bit_and, bit_or, bit_xor, Bool, true, false, not, if◌then◌else◌, List, Option, None, Some, option_map, option_and_then, slice_get}
+use Rattle.std.specs.Prelude.{ℕ, ◌+◌, ◌^◌, ℤ, pos, negsuc, neg_ℤ, ◌+ℤ◌, ◌-ℤ◌, ◌*ℤ◌, int_div, int_lt}
+use Rattle.std.specs.Prelude.{int_le, nat_lt, bit_and, bit_or, bit_xor, Bool, true, false, not}
+use Rattle.std.specs.Prelude.{if◌then◌else◌, List, Option, None, Some, option_map, option_and_then}
+use Rattle.std.specs.Prelude.{slice_get}
 use Rattle.std.specs.Int.{int_div_euclid}
 use Rattle.std.specs.Ordering.{int_eq}
 use Rattle.cpa_ints.specs.declared.integers.IntType.{IntType}

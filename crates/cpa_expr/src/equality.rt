@@ -5,6 +5,7 @@ ghost use Rattle.std.specs.Prelude.{◌≡◌, ◌↔◌, IsTrue, map};
 ghost use Rattle.cpa_expr.specs.declared.tree.Expr.{out-Expr};
 ghost use Rattle.cpa_expr.specs.Shape.{parts};
 ghost use Rattle.cpa_expr.specs.Equality.{same_head, all_hold, same_expr};
+ghost use Rattle.cpa_expr.specs.lemmas.SameTrees.{same_expr_per, same_expr_equivalence};
 
 use crate::parts::{Parts, parts_of};
 use crate::tree::Expr;
@@ -16,6 +17,21 @@ pub fn same_expr(a: &Expr, b: &Expr) -> bool
     ensures same { IsTrue result ↔ (a.now ≡ b.now) }
 {
     is_same(a, b)
+}
+
+/// Equal where they are the same tree.
+impl PartialEq for Expr {
+    ghost eq = { same_expr };
+
+    ghost laws = { same_expr_per };
+
+    fn eq(&self, other: &Self) -> bool {
+        same_expr(self, other)
+    }
+}
+
+impl Eq for Expr {
+    ghost laws = { same_expr_equivalence };
 }
 
 /// The test, node by node.

@@ -1,20 +1,11 @@
-//! The value of an expression, `value_of` of `specs/Values.antt`: one function for each form of node.
-//! It proves itself; the measures are in `proofs/evaluation`.
+//! The value of an expression, `value_of` of `specs/Values.antt`: one function for each form of
+//! node. It proves itself; the measures are in `proofs/evaluation`.
 
 ghost use Rattle.std.specs.Prelude.{◌≡◌, option_map, option_and_then};
 ghost use Rattle.cpa_ints.specs.Wrapping.{wrapped};
-ghost use Rattle.cpa_expr.specs.Values.{
-  value_of,
-  cell_at,
-  un_value,
-  bin_value,
-  evaluated,
-  comparison,
-  logical_and,
-  logical_or,
-  logical_not,
-  conditional,
-};
+ghost use Rattle.cpa_expr.specs.Values.{value_of, cell_at, un_value, bin_value, evaluated};
+ghost use Rattle.cpa_expr.specs.Values.{comparison, logical_and, logical_or, logical_not};
+ghost use Rattle.cpa_expr.specs.Values.{conditional};
 
 use crate::operators::{bin_value, compares, is_nonzero, truth, un_value};
 use crate::tree::{BinOp, CmpOp, Expr, Store, UnOp};
@@ -159,7 +150,7 @@ fn read(store: &Store, base: u32, len: u32, index: i128) -> Option<i128>
 {
     if 0 <= index && index < len as i128 {
         let cell = base as usize + index as usize;
-        store.values.as_slice().get(cell).copied()
+        store.values.get(cell).copied()
     } else {
         None
     }

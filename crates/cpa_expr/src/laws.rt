@@ -3,7 +3,12 @@
 //! as `value_at_variants.binary o t left right values`; an answer of a function that calls the law
 //! may also cite the call, as `c.value_at_variants.ensures.binary o t left right values`.
 
-ghost use Rattle.cpa_expr.specs.Laws.{ValueAtVariants, TypeAtVariants, TypedAtVariants, ReadsAtVariants, SizeAtVariants, HeightAtVariants, ConstantIsItsNumber, ScalarIsItsCell, ValuesLieInRange, ReadsWithinTheArray, NoneIsATrap, DependsOnWhatIsRead, ReplacedAtNodes, ReplacingIsSetting, ReplacingKeepsTypes, SameWhereEqual};
+ghost use Rattle.cpa_expr.specs.Laws.{ValueAtVariants, TypeAtVariants, TypedAtVariants};
+ghost use Rattle.cpa_expr.specs.Laws.{ReadsAtVariants, SizeAtVariants, HeightAtVariants};
+ghost use Rattle.cpa_expr.specs.Laws.{ConstantIsItsNumber, ScalarIsItsCell, ValuesLieInRange};
+ghost use Rattle.cpa_expr.specs.Laws.{ReadsWithinTheArray, NoneIsATrap, DependsOnWhatIsRead};
+ghost use Rattle.cpa_expr.specs.Laws.{ReplacedAtNodes, ReplacingIsSetting, ReplacingKeepsTypes};
+ghost use Rattle.cpa_expr.specs.Laws.{SameWhereEqual};
 
 /// The value of each variant, from the values of its parts.
 ///

@@ -1,11 +1,13 @@
 //! The operators on numbers. Each takes any numbers, since a number that is too wide for 128 bits
 //! is reduced on the way.
 
-ghost use Rattle.std.specs.Prelude.{◌≡◌, ◌^◌, ◌≤◌, ◌<◌, pos, neg_ℤ, ◌+ℤ◌, ◌-ℤ◌, ◌*ℤ◌, ◌≤ℤ◌, ◌<ℤ◌, int_div, IfSome};
+ghost use Rattle.std.specs.Prelude.{◌≡◌, ◌^◌, ◌≤◌, ◌<◌, pos, neg_ℤ, ◌+ℤ◌, ◌-ℤ◌, ◌*ℤ◌, ◌≤ℤ◌, ◌<ℤ◌};
+ghost use Rattle.std.specs.Prelude.{int_div, IfSome};
 ghost use Rattle.cpa_ints.specs.declared.integers.IntType.TheVariants.{Bool as Boolean};
 ghost use Rattle.cpa_ints.specs.Bits.{bits_of};
 ghost use Rattle.cpa_ints.specs.Wrapping.{wrapped};
-ghost use Rattle.cpa_expr.specs.Values.{un_value, bin_value, amount_of, divided_by, compares, truth, is_nonzero};
+ghost use Rattle.cpa_expr.specs.Values.{un_value, bin_value, amount_of, divided_by, compares};
+ghost use Rattle.cpa_expr.specs.Values.{truth, is_nonzero};
 
 use crate::tree::{BinOp, CmpOp, UnOp};
 use cpa_ints::{IntType, wrap};

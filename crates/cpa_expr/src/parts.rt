@@ -1,5 +1,5 @@
-//! The parts of a node, said once (`parts` of `specs/Shape.antt`). A function that does the same with
-//! each part goes by these; a new form of node is asked for here.
+//! The parts of a node, said once (`parts` of `specs/Shape.antt`). A function that does the same
+//! with each part goes by these; a new form of node is asked for here.
 
 ghost use Rattle.std.specs.Prelude.{◌≡◌};
 ghost use Rattle.cpa_expr.specs.declared.tree.Expr.{out-Expr};

@@ -1,7 +1,7 @@
 //! The one spelling of an expression, `expr_text` of `specs/Spelling.antt`: a node's words, and
 //! behind them its parts.
 
-ghost use Rattle.std.specs.Prelude.{◌≡◌, ◌++◌, OnOk, Some};
+ghost use Rattle.std.specs.Prelude.{◌≡◌, ◌++◌, OnOk, OnErr, Some};
 ghost use Rattle.std.specs.String.{string_bytes};
 ghost use Rattle.cpa_expr.specs.declared.tree.Expr.{out-Expr};
 ghost use Rattle.cpa_expr.specs.Spelling.{head_text, expr_text};
@@ -93,9 +93,12 @@ impl fmt::Display for Expr {
 
 /// Adds the expression's text at the end.
 ///
-/// Where memory ends, some of the text may stand there.
+/// The text is made beside `out` first, since a write into `out` that fails says nothing of what
+/// stands there.
 pub fn push_expr(out: &mut String, expr: &Expr) -> Result<(), AllocError>
-    ensures { OnOk result (string_bytes out.new ≡ string_bytes out.old ++ expr_text expr.now) }
+    ensures ok { OnOk result (string_bytes out.new ≡ string_bytes out.old ++ expr_text expr.now) }
+    ensures err { OnErr result (string_bytes out.new ≡ string_bytes out.old) }
 {
-    write!(out, "{expr}")
+    let text = format!(in *out.allocator(); "{expr}")?;
+    out.push_str(text.as_str())
 }

@@ -49,8 +49,8 @@ pub enum Expr {
         ty: IntType,
         value: i128,
     },
-    /// One of `len` cells in a row from `base` on, chosen by the index. A scalar is read as an array
-    /// of the one cell, at the index 0 of type `int`.
+    /// One of `len` cells in a row from `base` on, chosen by the index. A scalar is read as an
+    /// array of the one cell, at the index 0 of type `int`.
     Read {
         ty: IntType,
         base: u32,

@@ -4,7 +4,8 @@
 ghost use Rattle.std.specs.Prelude.{◌≡◌, ◌<◌, ◌≤◌, ◌+◌, ◌↔◌, IsTrue, map, slice_get};
 ghost use Rattle.cpa_ints.specs.declared.integers.IntType.{IntType as Ty};
 ghost use Rattle.cpa_expr.specs.declared.tree.Expr.{out-Expr};
-ghost use Rattle.cpa_expr.specs.Shape.{is_arithmetic, is_shift, height, AreCells, IsTypedHere, OfParts, IsTyped, IsExpr};
+ghost use Rattle.cpa_expr.specs.Shape.{is_arithmetic, is_shift, height, AreCells, IsTypedHere};
+ghost use Rattle.cpa_expr.specs.Shape.{OfParts, IsTyped, IsExpr};
 
 use crate::parts::{Parts, parts_of};
 use crate::shape::{MAX_HEIGHT, type_of};

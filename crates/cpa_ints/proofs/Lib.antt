@@ -1,7 +1,3 @@
-pub mod Congruence
-mod Masks
-pub mod WrapLaws
-pub mod Arithmetic
 pub mod BitLaws
 pub mod QuotientLaws
 pub mod Promotion

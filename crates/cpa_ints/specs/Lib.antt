@@ -4,3 +4,4 @@ pub mod Wrapping
 pub mod Conversions
 pub mod Bits
 pub mod Quotients
+pub mod lemmas

@@ -1,5 +1,5 @@
--- What it means to divide whole numbers: toward zero (C11 6.5.5p6), and rounded down (a shift to the
--- right: C11 6.5.7p5 leaves negative numbers to the implementation, and gcc rounds down).
+-- What it means to divide whole numbers: toward zero (C11 6.5.5p6), and rounded down (a shift to
+-- the right: C11 6.5.7p5 leaves negative numbers to the implementation, and gcc rounds down).
 use Rattle.std.specs.Prelude.{◌≡◌, ℕ, ℤ, pos, ◌+ℤ◌, ◌*ℤ◌, ◌≤ℤ◌, ◌<◌, unsigned_abs}
 
 -- r is 0 or has the sign of a

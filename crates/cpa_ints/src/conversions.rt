@@ -1,13 +1,8 @@
 //! The integer promotions and the usual arithmetic conversions (`specs/Conversions.antt`). That the
 //! tables meet the standard's wording is proved in `proofs/Promotion.antt`.
 ghost use Rattle.std.specs.Prelude.{◌≡◌};
-ghost use Rattle.cpa_ints.specs.Conversions.{
-  IsPromotionOf,
-  IsUsualConversionOf,
-  promoted,
-  wider,
-  common_type,
-};
+ghost use Rattle.cpa_ints.specs.Conversions.{IsPromotionOf, IsUsualConversionOf, promoted, wider};
+ghost use Rattle.cpa_ints.specs.Conversions.{common_type};
 
 use crate::IntType;
 

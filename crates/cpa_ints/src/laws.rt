@@ -1,19 +1,7 @@
-//! Laws of wrapping (`specs/Wrapping.antt`), proved in `proofs/WrapLaws.antt` and
-//! `proofs/Arithmetic.antt`. Each function does nothing: its contract is the law.
+//! Laws of wrapping (`specs/Wrapping.antt`), proved in `specs/lemmas/WrapLaws.antt` and
+//! `specs/lemmas/Arithmetic.antt`. Each function does nothing: its contract is the law.
 
-ghost use Rattle.std.specs.Prelude.{
-  ◌≡◌,
-  ◌≢◌,
-  ◌≤◌,
-  ◌^◌,
-  ℤ,
-  pos,
-  negsuc,
-  ◌+ℤ◌,
-  ◌-ℤ◌,
-  ◌*ℤ◌,
-  neg_ℤ,
-};
+ghost use Rattle.std.specs.Prelude.{◌≡◌, ◌≢◌, ◌≤◌, ◌^◌, ℤ, pos, negsuc, ◌+ℤ◌, ◌-ℤ◌, ◌*ℤ◌, neg_ℤ};
 ghost use Rattle.cpa_ints.specs.declared.integers.IntType.{IntType};
 ghost use Rattle.cpa_ints.specs.declared.integers.IntType.TheVariants.{Bool as Boolean};
 ghost use Rattle.cpa_ints.specs.Integers.{width, IsInRange};
@@ -32,7 +20,7 @@ pub fn wrap_is_the_congruent_number()
 {}
 
 /// A wrapped number lies in the type's range, and a number of the range stays as it is.
-#[tactic(auto, using(crate::proofs::Arithmetic::wrapped_in_range, crate::proofs::Arithmetic::wrapped_of_range, crate::proofs::Arithmetic::wrapped_twice))]
+#[tactic(auto, using(crate::specs::lemmas::Arithmetic::wrapped_in_range, crate::specs::lemmas::Arithmetic::wrapped_of_range, crate::specs::lemmas::Arithmetic::wrapped_twice))]
 pub fn wrap_keeps_the_range()
     ensures within { (t : IntType) (n : ℤ) → IsInRange t (wrapped t n) }
     ensures stays { (t : IntType) (n : ℤ) → IsInRange t n → wrapped t n ≡ n }
@@ -41,7 +29,7 @@ pub fn wrap_keeps_the_range()
 
 /// Two numbers wrap to one of a type other than `Bool` exactly where they are congruent modulo
 /// 2^width. `Bool` keeps neither way: 2 and 0 are congruent, and 2 wraps as 1 does.
-#[tactic(auto, using(crate::proofs::Arithmetic::congruent_wrapped, crate::proofs::Arithmetic::wrapped_congruent, crate::proofs::BitLaws::boolean_congruent, crate::proofs::BitLaws::boolean_apart, crate::proofs::BitLaws::boolean_together, crate::proofs::BitLaws::boolean_incongruent))]
+#[tactic(auto, using(crate::specs::lemmas::Arithmetic::congruent_wrapped, crate::specs::lemmas::Arithmetic::wrapped_congruent, crate::proofs::BitLaws::boolean_congruent, crate::proofs::BitLaws::boolean_apart, crate::proofs::BitLaws::boolean_together, crate::proofs::BitLaws::boolean_incongruent))]
 pub fn congruent_numbers_wrap_alike()
     ensures alike { (t : IntType) (a b : ℤ) →
         t ≢ Boolean → IsCongruent (width t) a b → wrapped t a ≡ wrapped t b }
@@ -55,7 +43,7 @@ pub fn congruent_numbers_wrap_alike()
 
 /// To wrap the operands first changes nothing: for products and negations at every type, for sums
 /// and differences at every type but `Bool`.
-#[tactic(auto, using(crate::proofs::Arithmetic::wrapped_sum, crate::proofs::Arithmetic::wrapped_difference, crate::proofs::Arithmetic::wrapped_product, crate::proofs::Arithmetic::wrapped_negation, crate::proofs::Arithmetic::boolean_sum, crate::proofs::Arithmetic::boolean_difference))]
+#[tactic(auto, using(crate::specs::lemmas::Arithmetic::wrapped_sum, crate::specs::lemmas::Arithmetic::wrapped_difference, crate::specs::lemmas::Arithmetic::wrapped_product, crate::specs::lemmas::Arithmetic::wrapped_negation, crate::specs::lemmas::Arithmetic::boolean_sum, crate::specs::lemmas::Arithmetic::boolean_difference))]
 pub fn wrap_commutes()
     ensures sum { (t : IntType) (a b : ℤ) →
         t ≢ Boolean → wrapped t (a +ℤ b) ≡ wrapped t (wrapped t a +ℤ wrapped t b) }
@@ -73,7 +61,7 @@ pub fn wrap_commutes()
 
 /// To wrap to a type that is no narrower first changes nothing, except before `Bool`: there each
 /// other type turns 2^width into 0, where `Bool` alone gives 1.
-#[tactic(auto, using(crate::proofs::Arithmetic::wrapped_narrower, crate::proofs::Arithmetic::boolean_loses))]
+#[tactic(auto, using(crate::specs::lemmas::Arithmetic::wrapped_narrower, crate::specs::lemmas::Arithmetic::boolean_loses))]
 pub fn wrap_narrows()
     ensures narrower { (s t : IntType) (n : ℤ) →
         s ≢ Boolean → width s ≤ width t → wrapped s (wrapped t n) ≡ wrapped s n }

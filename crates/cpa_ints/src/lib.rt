@@ -19,6 +19,3 @@ pub use laws::{
 };
 pub use seq::Seq;
 pub use wrapping::wrap;
-
-#[cfg(test)]
-mod tests;

@@ -1,20 +1,7 @@
 //! Lists that contracts see as what they hold, so that a tree of them is plain data. Each clause
 //! names the list that `Model` gives; `specs/formers` lets a tree hold itself through one.
-ghost use Rattle.std.specs.Prelude.{
-  ◌≡◌,
-  [],
-  ◌∷◌,
-  ◌++◌,
-  ◌<◌,
-  ◌^◌,
-  length,
-  slice_get,
-  ◌↔◌,
-  IsTrue,
-  OnOk,
-  OnErr,
-  OnSome,
-};
+ghost use Rattle.std.specs.Prelude.{◌≡◌, [], ◌∷◌, ◌++◌, ◌<◌, ◌^◌, length, slice_get, ◌↔◌, IsTrue};
+ghost use Rattle.std.specs.Prelude.{OnOk, OnErr, OnSome};
 ghost use Rattle.std.specs.Option.{option_copied};
 ghost use Rattle.std.specs.Cmp.Lexicographic.{pointwise, lists_per, lists_equiv};
 ghost use Rattle.std.specs.Iterator.Adapters.{IterYieldsInOrder, IterYieldsInReverse};

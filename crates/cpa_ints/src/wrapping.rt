@@ -1,18 +1,7 @@
 //! What a number becomes in a type, `IsWrapOf` of `specs/Wrapping.antt`: its low bits, moved into
-//! the range. Proved in `proofs/Masks.antt` and `proofs/WrapLaws.antt`.
-ghost use Rattle.std.specs.Prelude.{
-  ◌≡◌,
-  ◌≢◌,
-  ℕ,
-  ◌^◌,
-  ◌≤◌,
-  pos,
-  ◌≤ℤ◌,
-  ◌<ℤ◌,
-  ◌-ℤ◌,
-  int_lt,
-  if◌then◌else◌,
-};
+//! the range. Proved in `specs/lemmas/Masks.antt` and `specs/lemmas/WrapLaws.antt`.
+ghost use Rattle.std.specs.Prelude.{◌≡◌, ◌≢◌, ℕ, ◌^◌, ◌≤◌, pos, ◌≤ℤ◌, ◌<ℤ◌, ◌-ℤ◌, int_lt};
+ghost use Rattle.std.specs.Prelude.{if◌then◌else◌};
 ghost use Rattle.std.specs.Int.{int_rem_euclid};
 ghost use Rattle.cpa_ints.specs.declared.integers.IntType.TheVariants.{Bool as Boolean};
 ghost use Rattle.cpa_ints.specs.Integers.{width, greatest};
@@ -63,7 +52,7 @@ fn wrap_modular(ty: IntType, n: i128) -> i128
 
 /// The number that `n` becomes when it is converted to the type: the one of the type's range that
 /// is congruent to `n` modulo 2^width; for `Bool` 0 where `n` is 0, and 1 otherwise.
-#[tactic(auto, using(crate::proofs::WrapLaws::wrap_unique))]
+#[tactic(auto, using(crate::specs::lemmas::WrapLaws::wrap_unique))]
 pub fn wrap(ty: IntType, n: i128) -> i128
     ensures congruent { IsWrapOf ty n result }
     ensures value { result ≡ wrapped ty n }

@@ -12,17 +12,21 @@ use Rattle.cpa_expr.specs.Cells.{reads_step, may_read}
 abbrev pub values_in : List ℤ → Expr-F Expr → Expr-F (Option ℤ)
 values_in values = map-Expr Expr (Option ℤ) (λ e. value_of e values)
 
-pub value_rolled : (values : List ℤ) (x : Expr-F Expr) → value_of (roll-Expr x) values ≡ value_step values (values_in values x)
+pub value_rolled : (values : List ℤ) (x : Expr-F Expr) →
+    value_of (roll-Expr x) values ≡ value_step values (values_in values x)
 value_rolled values x = fold-roll-Expr (Option ℤ) (value_step values) x
 
-pub type_rolled : (x : Expr-F Expr) → type_of (roll-Expr x) ≡ node_type (map-Expr Expr IntType type_of x)
+pub type_rolled : (x : Expr-F Expr) →
+    type_of (roll-Expr x) ≡ node_type (map-Expr Expr IntType type_of x)
 type_rolled x = fold-roll-Expr IntType node_type x
 
 pub size_rolled : (x : Expr-F Expr) → size (roll-Expr x) ≡ size_step (map-Expr Expr ℕ size x)
 size_rolled x = fold-roll-Expr ℕ size_step x
 
-pub height_rolled : (x : Expr-F Expr) → height (roll-Expr x) ≡ height_step (map-Expr Expr ℕ height x)
+pub height_rolled : (x : Expr-F Expr) →
+    height (roll-Expr x) ≡ height_step (map-Expr Expr ℕ height x)
 height_rolled x = fold-roll-Expr ℕ height_step x
 
-pub reads_rolled : (cell : ℕ) (x : Expr-F Expr) → may_read (roll-Expr x) cell ≡ reads_step cell (map-Expr Expr Bool (λ e. may_read e cell) x)
+pub reads_rolled : (cell : ℕ) (x : Expr-F Expr) →
+    may_read (roll-Expr x) cell ≡ reads_step cell (map-Expr Expr Bool (λ e. may_read e cell) x)
 reads_rolled cell x = fold-roll-Expr Bool (reads_step cell) x

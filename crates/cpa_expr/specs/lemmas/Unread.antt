@@ -26,22 +26,37 @@ module _ (cell : ℕ) (by : Expr) where
 
   layer_stays : (x : Expr-F Expr) → OfParts Stays x → reads x ≡ false → news cell by x ≡ x
   layer_stays (Expr-F.Const t n) h r = refl
-  layer_stays (Expr-F.Read t base len index) h r = ap (λ z. Expr-F.Read t base len z) (h.0 (alone (may_read index cell) ((neither (is_within base len cell) (may_read index cell || false) r).1)))
-  layer_stays (Expr-F.Un o t arg) h r = ap (λ z. Expr-F.Un o t z) (h.0 (alone (may_read arg cell) r))
+  layer_stays (Expr-F.Read t base len index) h r =
+      ap (λ z. Expr-F.Read t base len z) (h.0 (alone (may_read index cell)
+      ((neither (is_within base len cell) (may_read index cell || false) r).1)))
+  layer_stays (Expr-F.Un o t arg) h r =
+      ap (λ z. Expr-F.Un o t z) (h.0 (alone (may_read arg cell) r))
   layer_stays (Expr-F.Bin o t left right) h r =
-      let s = neither (may_read left cell) (may_read right cell || false) r in ap (λ z. Expr-F.Bin o t z (new cell by right)) (h.0 s.0) ∙ ap (λ z. Expr-F.Bin o t left z) ((h.1).0 (alone (may_read right cell) s.1))
+      let s = neither (may_read left cell) (may_read right cell || false) r in
+      ap (λ z. Expr-F.Bin o t z (new cell by right)) (h.0 s.0)
+      ∙ ap (λ z. Expr-F.Bin o t left z) ((h.1).0 (alone (may_read right cell) s.1))
   layer_stays (Expr-F.Cmp o t left right) h r =
-      let s = neither (may_read left cell) (may_read right cell || false) r in ap (λ z. Expr-F.Cmp o t z (new cell by right)) (h.0 s.0) ∙ ap (λ z. Expr-F.Cmp o t left z) ((h.1).0 (alone (may_read right cell) s.1))
-  layer_stays (Expr-F.Cast t arg) h r = ap (λ z. Expr-F.Cast t z) (h.0 (alone (may_read arg cell) r))
+      let s = neither (may_read left cell) (may_read right cell || false) r in
+      ap (λ z. Expr-F.Cmp o t z (new cell by right)) (h.0 s.0)
+      ∙ ap (λ z. Expr-F.Cmp o t left z) ((h.1).0 (alone (may_read right cell) s.1))
+  layer_stays (Expr-F.Cast t arg) h r =
+      ap (λ z. Expr-F.Cast t z) (h.0 (alone (may_read arg cell) r))
   layer_stays (Expr-F.And left right) h r =
-      let s = neither (may_read left cell) (may_read right cell || false) r in ap (λ z. Expr-F.And z (new cell by right)) (h.0 s.0) ∙ ap (λ z. Expr-F.And left z) ((h.1).0 (alone (may_read right cell) s.1))
+      let s = neither (may_read left cell) (may_read right cell || false) r in
+      ap (λ z. Expr-F.And z (new cell by right)) (h.0 s.0)
+      ∙ ap (λ z. Expr-F.And left z) ((h.1).0 (alone (may_read right cell) s.1))
   layer_stays (Expr-F.Or left right) h r =
-      let s = neither (may_read left cell) (may_read right cell || false) r in ap (λ z. Expr-F.Or z (new cell by right)) (h.0 s.0) ∙ ap (λ z. Expr-F.Or left z) ((h.1).0 (alone (may_read right cell) s.1))
+      let s = neither (may_read left cell) (may_read right cell || false) r in
+      ap (λ z. Expr-F.Or z (new cell by right)) (h.0 s.0)
+      ∙ ap (λ z. Expr-F.Or left z) ((h.1).0 (alone (may_read right cell) s.1))
   layer_stays (Expr-F.Not arg) h r = ap (λ z. Expr-F.Not z) (h.0 (alone (may_read arg cell) r))
   layer_stays (Expr-F.Cond t test first second) h r =
-      let s = neither (may_read test cell) (may_read first cell || (may_read second cell || false)) r in
+      let s = neither (may_read test cell) (may_read first cell || (may_read second cell || false))
+      r in
       let u = neither (may_read first cell) (may_read second cell || false) s.1 in
-      ap (λ z. Expr-F.Cond t z (new cell by first) (new cell by second)) (h.0 s.0) ∙ ap (λ z. Expr-F.Cond t test z (new cell by second)) ((h.1).0 u.0) ∙ ap (λ z. Expr-F.Cond t test first z) (((h.1).1).0 (alone (may_read second cell) u.1))
+      ap (λ z. Expr-F.Cond t z (new cell by first) (new cell by second)) (h.0 s.0)
+      ∙ ap (λ z. Expr-F.Cond t test z (new cell by second)) ((h.1).0 u.0)
+      ∙ ap (λ z. Expr-F.Cond t test first z) (((h.1).1).0 (alone (may_read second cell) u.1))
 
   -- a scalar read of the cell reads it
   scalar_reads : (x : Expr-F Expr) → is_scalar_read cell x ≡ true → reads x ≡ false → ⊥
@@ -65,7 +80,9 @@ module _ (cell : ℕ) (by : Expr) where
   stays_at : (x : Expr-F Expr) → OfParts Stays x → Stays (roll-Expr x)
   stays_at x h r =
       let s = sym (reads_rolled cell x) ∙ r in
-      new_cases cell by (λ d. d ≡ roll-Expr x) x (λ e. absurd (scalar_reads x e s)) (λ e. ap roll-Expr (layer_stays x h s))
+      new_cases cell by (λ d. d ≡ roll-Expr x) x (λ e. absurd (scalar_reads x e s)) (λ e.
+      ap roll-Expr (layer_stays x h s))
 
-pub replaced_unread : (e : Expr) (cell : ℕ) (by : Expr) → may_read e cell ≡ false → replaced e cell by ≡ e
+pub replaced_unread : (e : Expr) (cell : ℕ) (by : Expr) → may_read e cell ≡ false →
+    replaced e cell by ≡ e
 replaced_unread e cell by = by_parts (Stays cell by) (stays_at cell by) e

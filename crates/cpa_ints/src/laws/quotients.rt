@@ -1,18 +1,7 @@
 //! Laws of division (`specs/Quotients.antt`), proved in `proofs/QuotientLaws.antt`. Each function
 //! does nothing: its contract is the law.
 
-ghost use Rattle.std.specs.Prelude.{
-  ◌≡◌,
-  ◌≢◌,
-  ◌<◌,
-  ◌↔◌,
-  ℕ,
-  ℤ,
-  pos,
-  ◌-ℤ◌,
-  ◌*ℤ◌,
-  int_div,
-};
+ghost use Rattle.std.specs.Prelude.{◌≡◌, ◌≢◌, ◌<◌, ◌↔◌, ℕ, ℤ, pos, ◌-ℤ◌, ◌*ℤ◌, int_div};
 ghost use Rattle.std.specs.Int.{int_div_euclid};
 ghost use Rattle.cpa_ints.specs.Quotients.{IsQuotient, IsFloor};
 

@@ -6,4 +6,8 @@ pub returns : goal.returns
 returns c =
     let r = c.reduced.ensures in
     let s = c.reduced-2.ensures in
-    wrap_product c.args.ty c.args.a c.args.b c.reduced.result c.reduced-2.result c.wrap.result c.ranges.a c.ranges.b (record { sfits = c.wrap.type_inv }) (r.low, r.high) (s.low, s.high) r.alike s.alike c.wrap.ensures.value
+    wrap_product c.args.ty c.args.a c.args.b c.reduced.result c.reduced-2.result c.wrap.result
+    c.ranges.a c.ranges.b (record { sfits = c.wrap.type_inv }) (r.low, r.high) (
+      s.low,
+      s.high,
+    ) r.alike s.alike c.wrap.ensures.value

@@ -12,6 +12,14 @@ returns-in-None c =
     let t = c.args.ty in
     let r = c.reduced.ensures in
     let s = c.reduced-in-None.ensures in
-    let exact : back a +ℤ back b ≡ a +ℤ b = ap (λ z. z +ℤ back b) (comes_back a c.ranges.a) ∙ ap (λ z. a +ℤ z) (comes_back b c.ranges.b) in
-    let far = far_sum a b c.ranges.a (λ f. c.in-None.ensures (subst (FitsSigned w128) (sym exact) f)) in
-    wrap_far_sum t a b c.reduced.result c.reduced-in-None.result c.wrap-in-None.result far (record { sfits = c.wrap-in-None.type_inv }) (r.low, r.high) (reduced_small c.reduced-in-None.result (s.low, s.high)) r.boolean s.boolean (r.alike ∙ ap (wrapped t) (comes_back a c.ranges.a)) (s.alike ∙ ap (wrapped t) (comes_back b c.ranges.b)) c.wrap-in-None.ensures.value
+    let exact : back a +ℤ back b ≡ a +ℤ b = ap (λ z. z +ℤ back b) (comes_back a c.ranges.a)
+    ∙ ap (λ z. a +ℤ z) (comes_back b c.ranges.b) in
+    let far = far_sum a b c.ranges.a (λ f. c.in-None.ensures
+    (subst (FitsSigned w128) (sym exact) f)) in
+    wrap_far_sum t a b c.reduced.result c.reduced-in-None.result c.wrap-in-None.result far
+    (record { sfits = c.wrap-in-None.type_inv }) (
+      r.low,
+      r.high,
+    ) (reduced_small c.reduced-in-None.result (s.low, s.high)) r.boolean s.boolean
+    (r.alike ∙ ap (wrapped t) (comes_back a c.ranges.a)) (s.alike
+    ∙ ap (wrapped t) (comes_back b c.ranges.b)) c.wrap-in-None.ensures.value

@@ -5,7 +5,8 @@ use Rattle.cpa_expr.proofs.shape.+size.Goals as goal
 
 pub returns-in-Two : goal.returns-in-Two
 returns-in-Two t c =
-    let whole = size_parts c.args.e.now (c.in-Two.left.now ∷ c.in-Two.right.now ∷ []) c.in-Two.ensures in
+    let whole = size_parts c.args.e.now (c.in-Two.left.now ∷ c.in-Two.right.now ∷ [])
+    c.in-Two.ensures in
     omega (arith, whole)
 
 pub returns-in-Three : goal.returns-in-Three

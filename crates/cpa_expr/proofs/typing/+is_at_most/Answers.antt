@@ -19,5 +19,8 @@ returns-in-Three t c =
           let b = yes.0 two.0 in
           let d = no.0 two.1 in
           omega (arith, whole, a, b, d),
-      λ h. all.1 (test.1 (omega (arith, whole, h)), ends.1 (yes.1 (omega (arith, whole, h)), no.1 (omega (arith, whole, h)))),
+      λ h. all.1 (
+        test.1 (omega (arith, whole, h)),
+        ends.1 (yes.1 (omega (arith, whole, h)), no.1 (omega (arith, whole, h))),
+      ),
     )

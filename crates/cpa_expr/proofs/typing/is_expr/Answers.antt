@@ -6,4 +6,5 @@ use Rattle.cpa_expr.proofs.typing.is_expr.Goals as goal
 
 pub returns : goal.returns
 returns c =
-    subst (λ types. IsTrue c.is_expr_over.result ↔ IsExpr types c.args.e.now) (map_itself c.args.cells.now) c.is_expr_over.ensures
+    subst (λ types. IsTrue c.is_expr_over.result ↔
+    IsExpr types c.args.e.now) (map_itself c.args.cells.now) c.is_expr_over.ensures

@@ -9,5 +9,6 @@ returns-clause-standard c =
     let left = c.args.left in
     let right = c.args.right in
     let is : c.widest.result ≡ common_type left right =
-    c.widest.ensures ∙ ap (λ p. wider p c.promote-2.result) c.promote.ensures.value ∙ ap (wider (promoted left)) c.promote-2.ensures.value in
+    c.widest.ensures ∙ ap (λ p. wider p c.promote-2.result) c.promote.ensures.value
+    ∙ ap (wider (promoted left)) c.promote-2.ensures.value in
     subst (IsUsualConversionOf left right) (sym is) (common_standard left right)

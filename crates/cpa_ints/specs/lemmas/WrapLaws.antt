@@ -1,5 +1,6 @@
 -- What holds of `wrapped`: it is the congruent number of the range, and the laws that follow.
-use Rattle.std.proofs.Common.{◌≡◌, ◌≢◌, ◌⊎◌, inl, inr, zero, suc, ◌^◌, refl, sym, subst, ◌∙◌, arith, ℤ, pos, negsuc, ◌+ℤ◌, ◌-ℤ◌, ◌≤ℤ◌, ◌<ℤ◌, int_lt, Bool, true, false}
+use Rattle.std.proofs.Common.{◌≡◌, ◌≢◌, ◌⊎◌, inl, inr, zero, suc, ◌^◌, refl, sym, subst, ◌∙◌, arith}
+use Rattle.std.proofs.Common.{ℤ, pos, negsuc, ◌+ℤ◌, ◌-ℤ◌, ◌≤ℤ◌, ◌<ℤ◌, int_lt, Bool, true, false}
 use Rattle.std.specs.Prelude.{if◌then◌else◌}
 use Rattle.std.proofs.lemmas.Int.{ints}
 use Rattle.std.specs.Int.{int_rem_euclid}
@@ -7,8 +8,9 @@ use Rattle.cpa_ints.specs.declared.integers.IntType.{IntType}
 use Rattle.cpa_ints.specs.declared.integers.IntType.TheVariants as ty
 use Rattle.cpa_ints.specs.Integers.{width, least, greatest, IsInRange}
 use Rattle.cpa_ints.specs.Wrapping.{IsCongruent, IsTruth, IsWrapOf, wrapped}
-use Rattle.cpa_ints.proofs.Congruence.{Same, Same-refl, Same-sym, Same-trans, Same-add, Same-rem, Same-unique, Same-from, Same-to}
-use Rattle.cpa_ints.proofs.Masks.{rem_range}
+use Rattle.cpa_ints.specs.lemmas.Congruence.{Same, Same-refl, Same-sym, Same-trans, Same-add}
+use Rattle.cpa_ints.specs.lemmas.Congruence.{Same-rem, Same-unique, Same-from, Same-to}
+use Rattle.cpa_ints.specs.lemmas.Masks.{rem_range}
 use mathlib.Core.Logic.{⊎_elim}
 use lib.Pow.{pow_pos}
 
@@ -24,7 +26,8 @@ span ty.U32 = refl
 span ty.I64 = refl
 span ty.U64 = refl
 
-modular : (t : IntType) → t ≢ ty.Bool → (n : ℤ) → wrapped t n ≡ least t +ℤ int_rem_euclid (n -ℤ least t) (pos (2 ^ width t))
+modular : (t : IntType) → t ≢ ty.Bool → (n : ℤ) →
+    wrapped t n ≡ least t +ℤ int_rem_euclid (n -ℤ least t) (pos (2 ^ width t))
 unfolding wrapped
 modular ty.Bool h n = absurd (h refl)
 modular ty.I8 h n = refl
@@ -55,18 +58,23 @@ module _ (t : IntType) where
       let range = rem_range (n -ℤ least t) m (pow_pos (width t)) in
       let s = span t in
       let back : least t +ℤ (n -ℤ least t) ≡ n = omega (arith, ints) in
-      let near = Same-add m (least t) (least t) (n -ℤ least t) r (Same-refl m (least t)) (Same-rem m (pow_pos (width t)) (n -ℤ least t)) in
+      let near = Same-add m (least t) (least t) (n -ℤ least t) r (Same-refl m (least t))
+      (Same-rem m (pow_pos (width t)) (n -ℤ least t)) in
       record {
         in_range = subst (IsInRange t) (sym e) (omega (arith, ints), omega (arith, ints));
         truth = λ b. absurd (h b);
-        congruent = λ _. subst (IsCongruent (width t) n) (sym e) (Same-to (width t) n (least t +ℤ r) (subst (λ z. Same m z (least t +ℤ r)) back near));
+        congruent =
+            λ _. subst (IsCongruent (width t) n) (sym e)
+            (Same-to (width t) n (least t +ℤ r) (subst (λ z. Same m z (least t +ℤ r)) back near));
       }
 
 -- of the numbers of the range, one at most is congruent to another
-pub congruent_equal : (t : IntType) (a b : ℤ) → IsInRange t a → IsInRange t b → IsCongruent (width t) a b → a ≡ b
+pub congruent_equal : (t : IntType) (a b : ℤ) → IsInRange t a → IsInRange t b →
+    IsCongruent (width t) a b → a ≡ b
 congruent_equal t a b ra rb c =
     let s = span t in
-    Same-unique (2 ^ width t) (least t) a b ra.0 (omega (arith, ints)) rb.0 (omega (arith, ints)) (Same-from (width t) a b c)
+    Same-unique (2 ^ width t) (least t) a b ra.0 (omega (arith, ints)) rb.0 (omega (arith, ints))
+    (Same-from (width t) a b c)
 
 pub is_boolean : (t : IntType) → (t ≡ ty.Bool) ⊎ (t ≢ ty.Bool)
 is_boolean ty.Bool = inl refl
@@ -82,11 +90,19 @@ is_boolean ty.U64 = inr (λ e. cc)
 boolean_is_wrap : (n : ℤ) → IsWrapOf ty.Bool n (wrapped ty.Bool n)
 boolean_is_wrap n =
     let t = truth n in
-    record { in_range = ⊎_elim (λ z. let e = t.0 z in (omega (arith, ints), omega (arith, ints))) (λ z. let e = t.1 z in (omega (arith, ints), omega (arith, ints))) (zero_or n); truth = λ _. t; congruent = λ h. absurd (h refl) }
+    record {
+      in_range = ⊎_elim (λ z. let e = t.0 z in
+          (omega (arith, ints), omega (arith, ints))) (λ z. let e = t.1 z in
+          (omega (arith, ints), omega (arith, ints))) (zero_or n);
+      truth = λ _. t;
+      congruent = λ h. absurd (h refl);
+    }
 
 -- `wrapped` names a number to which n wraps
 pub wrapped_is_wrap : (t : IntType) (n : ℤ) → IsWrapOf t n (wrapped t n)
-wrapped_is_wrap t n = ⊎_elim (λ e. subst (λ s. IsWrapOf s n (wrapped s n)) (sym e) (boolean_is_wrap n)) (λ h. modular_is_wrap t h n) (is_boolean t)
+wrapped_is_wrap t n =
+    ⊎_elim (λ e. subst (λ s. IsWrapOf s n (wrapped s n)) (sym e) (boolean_is_wrap n)) (λ h.
+    modular_is_wrap t h n) (is_boolean t)
 
 -- and the only one
 pub wrap_unique : (t : IntType) (n m : ℤ) → IsWrapOf t n m → m ≡ wrapped t n
@@ -104,7 +120,9 @@ wrap_unique t n m w = ⊎_elim boolean modular (is_boolean t)
         let p = 2 ^ width t in
         let a = Same-from (width t) n m (w.congruent h) in
         let b = Same-from (width t) n (wrapped t n) (u.congruent h) in
-        congruent_equal t m (wrapped t n) w.in_range u.in_range (Same-to (width t) m (wrapped t n) (Same-trans p m n (wrapped t n) (Same-sym p n m a) b))
+        congruent_equal t m (wrapped t n) w.in_range u.in_range
+        (Same-to (width t) m (wrapped t n) (Same-trans p m n (wrapped t n) (Same-sym p n m a)
+        b))
 
 pub zero_within : (t : IntType) → (least t ≤ℤ pos 0) × (pos 0 ≤ℤ greatest t)
 zero_within ty.Bool = (omega (arith, ints), omega (arith, ints))
@@ -118,27 +136,42 @@ zero_within ty.I64 = (omega (arith, ints), omega (arith, ints))
 zero_within ty.U64 = (omega (arith, ints), omega (arith, ints))
 
 -- the remainder, moved down where it lies above the range, is a wrap
-pub lowered_is_wrap : (t : IntType) → t ≢ ty.Bool → (n low : ℤ) → low ≡ int_rem_euclid n (pos (2 ^ width t)) → IsWrapOf t n (if int_lt (greatest t) low then low -ℤ pos (2 ^ width t) else low)
+pub lowered_is_wrap : (t : IntType) → t ≢ ty.Bool → (n low : ℤ) →
+    low ≡ int_rem_euclid n (pos (2 ^ width t)) →
+    IsWrapOf t n (if int_lt (greatest t) low then low -ℤ pos (2 ^ width t) else low)
 lowered_is_wrap t h n low e = by (int_lt (greatest t) low) refl
   where
     near : Same (2 ^ width t) n low
     near = subst (Same (2 ^ width t) n) (sym e) (Same-rem (2 ^ width t) (pow_pos (width t)) n)
 
     range : (pos 0 ≤ℤ low) × (low <ℤ pos (2 ^ width t))
-    range = subst (λ z. (pos 0 ≤ℤ z) × (z <ℤ pos (2 ^ width t))) (sym e) (rem_range n (2 ^ width t) (pow_pos (width t)))
+    range =
+        subst (λ z. (pos 0 ≤ℤ z) × (z <ℤ pos (2 ^ width t))) (sym e)
+        (rem_range n (2 ^ width t) (pow_pos (width t)))
 
-    by : (b : Bool) → int_lt (greatest t) low ≡ b → IsWrapOf t n (if b then low -ℤ pos (2 ^ width t) else low)
+    by : (b : Bool) → int_lt (greatest t) low ≡ b →
+        IsWrapOf t n (if b then low -ℤ pos (2 ^ width t) else low)
     by true above =
         let s = span t in
         let r = range in
         let z = zero_within t in
-        let down : Same (2 ^ width t) low (low -ℤ pos (2 ^ width t)) = record { j = 0; k = 1; same = omega (arith, ints) } in
+        let down : Same (2 ^ width t) low (low -ℤ pos (2 ^ width t)) = record {
+          j = 0;
+          k = 1;
+          same = omega (arith, ints);
+        } in
         record {
           in_range = (omega (arith, ints), omega (arith, ints));
           truth = λ b. absurd (h b);
-          congruent = λ _. Same-to (width t) n (low -ℤ pos (2 ^ width t)) (Same-trans (2 ^ width t) n low (low -ℤ pos (2 ^ width t)) near down);
+          congruent =
+              λ _. Same-to (width t) n (low -ℤ pos (2 ^ width t))
+              (Same-trans (2 ^ width t) n low (low -ℤ pos (2 ^ width t)) near down);
         }
     by false within =
         let r = range in
         let z = zero_within t in
-        record { in_range = (omega (arith, ints), omega (arith, ints)); truth = λ b. absurd (h b); congruent = λ _. Same-to (width t) n low near }
+        record {
+          in_range = (omega (arith, ints), omega (arith, ints));
+          truth = λ b. absurd (h b);
+          congruent = λ _. Same-to (width t) n low near;
+        }

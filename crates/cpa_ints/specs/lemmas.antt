@@ -1,0 +1,6 @@
+-- Lemmas on the definitions, which the laws' proofs and crates above cite. No definition that a
+-- contract cites stands here.
+pub mod Congruence
+pub mod Masks
+pub mod WrapLaws
+pub mod Arithmetic
