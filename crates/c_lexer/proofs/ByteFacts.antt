@@ -15,7 +15,8 @@ pub word_head_high : (b : ℕ) → is_word_head b ≡ true → 64 < b
 word_head_high b h = grind (arith, nat_tests)
 
 pub not_word_head : (b : ℕ) → b ≤ 64 → is_word_head b ≡ false
-not_word_head b h = false_from_ne_true (is_word_head b) (λ t. let high = word_head_high b t in omega arith)
+not_word_head b h =
+    false_from_ne_true (is_word_head b) (λ t. let high = word_head_high b t in omega arith)
 
 pub digit_low : (b : ℕ) → is_ascii_digit b ≡ true → 47 < b
 digit_low b h = grind (arith, nat_tests)
@@ -27,7 +28,8 @@ pub not_digit : (b : ℕ) → b ≤ 47 → is_ascii_digit b ≡ false
 not_digit b h = false_from_ne_true (is_ascii_digit b) (λ t. let low = digit_low b t in omega arith)
 
 pub not_digit_high : (b : ℕ) → 57 < b → is_ascii_digit b ≡ false
-not_digit_high b h = false_from_ne_true (is_ascii_digit b) (λ t. let low = digit_high b t in omega arith)
+not_digit_high b h =
+    false_from_ne_true (is_ascii_digit b) (λ t. let low = digit_high b t in omega arith)
 
 pub word_head_goes_on : (b : ℕ) → is_word_head b ≡ true → is_word_byte b ≡ true
 word_head_goes_on b h = grind (arith, nat_tests)

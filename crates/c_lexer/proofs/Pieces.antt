@@ -21,7 +21,8 @@ bytes_again piece.Gap bytes = refl
 bytes_again piece.Directive bytes = refl
 bytes_again (piece.Token kind) bytes = refl
 
-pub one_token : (place : ℕ) (kind : PieceKind) (bytes : List ℕ) → tokens_from place (part_of kind bytes ∷ []) ≡ tokens_of place (length bytes) kind
+pub one_token : (place : ℕ) (kind : PieceKind) (bytes : List ℕ) →
+    tokens_from place (part_of kind bytes ∷ []) ≡ tokens_of place (length bytes) kind
 one_token place piece.Gap bytes = refl
 one_token place piece.Directive bytes = refl
 one_token place (piece.Token kind) bytes = refl

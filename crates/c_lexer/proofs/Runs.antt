@@ -1,11 +1,13 @@
 -- The longest run of bytes that pass.
-use Rattle.std.proofs.Common.{◌≡◌, ℕ, Bool, true, List, [], ◌∷◌, ◌++◌, length, take, drop, arith, refl, inl, inr, add_comm, add-one}
+use Rattle.std.proofs.Common.{◌≡◌, ℕ, Bool, true, List, [], ◌∷◌, ◌++◌, length, take, drop, arith}
+use Rattle.std.proofs.Common.{refl, inl, inr, add_comm, add-one}
 use Rattle.std.specs.List.{prefix_len, list_all}
 use Rattle.std.proofs.lemmas.Bool.{cases_Bool, and_parts}
 use Rattle.c_lexer.specs.Bytes.{StopsAt}
 
 -- bytes that all pass, and then none: they are the run
-pub run_stops : (p : ℕ → Bool) (word rest : List ℕ) → list_all p word ≡ true → StopsAt p rest → prefix_len p (word ++ rest) ≡ length word
+pub run_stops : (p : ℕ → Bool) (word rest : List ℕ) → list_all p word ≡ true → StopsAt p rest →
+    prefix_len p (word ++ rest) ≡ length word
 run_stops p [] [] all stop = refl
 run_stops p [] (byte ∷ rest) all stop = rw stop
 run_stops p (byte ∷ word) rest all stop =
@@ -14,10 +16,12 @@ run_stops p (byte ∷ word) rest all stop =
     let ih = run_stops p word rest both.1 stop in
     rw here (omega (arith, ih))
 
-pub take_more : (p : ℕ → Bool) (byte : ℕ) (rest : List ℕ) → p byte ≡ true → take (prefix_len p (byte ∷ rest)) (byte ∷ rest) ≡ byte ∷ take (prefix_len p rest) rest
+pub take_more : (p : ℕ → Bool) (byte : ℕ) (rest : List ℕ) → p byte ≡ true →
+    take (prefix_len p (byte ∷ rest)) (byte ∷ rest) ≡ byte ∷ take (prefix_len p rest) rest
 take_more p byte rest h = rw (h, add_comm 1 (prefix_len p rest), add-one)
 
-pub drop_more : (p : ℕ → Bool) (byte : ℕ) (rest : List ℕ) → p byte ≡ true → drop (prefix_len p (byte ∷ rest)) (byte ∷ rest) ≡ drop (prefix_len p rest) rest
+pub drop_more : (p : ℕ → Bool) (byte : ℕ) (rest : List ℕ) → p byte ≡ true →
+    drop (prefix_len p (byte ∷ rest)) (byte ∷ rest) ≡ drop (prefix_len p rest) rest
 drop_more p byte rest h = rw (h, add_comm 1 (prefix_len p rest), add-one)
 
 -- the run passes

@@ -1,14 +1,17 @@
 -- Why a text falls into no tokens, and where the first reason stands (this project's own rules, for
 -- texts that break C11 6.4).
-use Rattle.std.specs.Prelude.{◌≡◌, ◌≢◌, ℕ, ◌<◌, Bool, true, false, ◌⊎◌, ◌++◌, List, ◌∷◌, length, IsTrue, codes, None}
+use Rattle.std.specs.Prelude.{◌≡◌, ◌≢◌, ℕ, ◌<◌, Bool, true, false, ◌⊎◌, ◌++◌, List, ◌∷◌, length}
+use Rattle.std.specs.Prelude.{IsTrue, codes, None}
 use Rattle.std.specs.List.{list_all}
 use Rattle.std.specs.Char.{is_ascii_digit}
+use Rattle.c_lexer.specs.declared.byte.TheConstants.{DOUBLE_QUOTE, NUMBER_SIGN, SINGLE_QUOTE}
 use Rattle.c_lexer.specs.declared.fault.Rule.{Rule}
 use Rattle.c_lexer.specs.declared.fault.Rule.TheVariants.{L1, L2, L3, L4}
 use Rattle.c_lexer.specs.declared.fault.TextFault.{TextFault}
 use Rattle.c_lexer.specs.declared.fault.TextError.{TextError}
 use Rattle.c_lexer.specs.declared.fault.TextError.TheVariants.{Fault, OutOfMemory}
-use Rattle.c_lexer.specs.Bytes.{single_quote, double_quote, number_sign, is_blank, is_word_head, is_number_byte, is_on_line, begins_with, StopsAt}
+use Rattle.c_lexer.specs.Bytes.{is_blank, is_word_head, is_number_byte, is_on_line, begins_with}
+use Rattle.c_lexer.specs.Bytes.{StopsAt}
 use Rattle.c_lexer.specs.Gaps.{Lacks, IsDirective}
 use Rattle.c_lexer.specs.Numbers.{Base, Suffix, IsConstant, type_of}
 use Rattle.c_lexer.specs.Quoted.{IsQuoted, StandsFor}
@@ -21,7 +24,7 @@ Begins byte text = (rest : List ℕ) × (text ≡ byte ∷ rest)
 
 -- a # that is not the first on its line
 abbrev pub HasStrayHash : Bool → List ℕ → Type 0
-HasStrayHash fresh text = (fresh ≡ false) × Begins number_sign text
+HasStrayHash fresh text = (fresh ≡ false) × Begins NUMBER_SIGN text
 
 -- a byte with which nothing begins: no blank, #, quote, word, number or mark
 pub record HasStrayByte (text : List ℕ) : Type 0 where
@@ -29,8 +32,8 @@ pub record HasStrayByte (text : List ℕ) : Type 0 where
   pub rest : List ℕ
   pub spelled : text ≡ byte ∷ rest
   pub no_blank : is_blank byte ≡ false
-  pub no_hash : byte ≢ number_sign
-  pub no_quote : (byte ≡ single_quote) ⊎ (byte ≡ double_quote) → ⊥
+  pub no_hash : byte ≢ NUMBER_SIGN
+  pub no_quote : (byte ≡ SINGLE_QUOTE) ⊎ (byte ≡ DOUBLE_QUOTE) → ⊥
   pub no_word : is_word_head byte ≡ false
   pub no_number : is_ascii_digit byte ≡ false
   pub no_mark : (mark after : List ℕ) → IsTrue (is_mark mark) → text ≡ mark ++ after → ⊥
@@ -56,7 +59,7 @@ pub record HasMalformedCharacter (text : List ℕ) : Type 0 where
   pub content : List ℕ
   pub rest : List ℕ
   pub spelled : text ≡ bytes ++ rest
-  pub quoted : IsQuoted single_quote bytes content
+  pub quoted : IsQuoted SINGLE_QUOTE bytes content
   pub malformed : (number : ℕ) → StandsFor content number → ⊥
 
 -- a comment that never ends
@@ -90,14 +93,14 @@ pub record HasLargeCharacter (text : List ℕ) : Type 0 where
   pub rest : List ℕ
   pub number : ℕ
   pub spelled : text ≡ bytes ++ rest
-  pub quoted : IsQuoted single_quote bytes content
+  pub quoted : IsQuoted SINGLE_QUOTE bytes content
   pub stands_for : StandsFor content number
   pub large : 255 < number
 
 -- a # that is the first on its line, which is no line marker, #line or #pragma
 pub record HasUnknownDirective (fresh : Bool) (text : List ℕ) : Type 0 where
   pub first : IsTrue fresh
-  pub begins : Begins number_sign text
+  pub begins : Begins NUMBER_SIGN text
   pub unknown : (bytes rest : List ℕ) → text ≡ bytes ++ rest → IsDirective bytes →
       StopsAt is_on_line rest → ⊥
 
@@ -106,7 +109,7 @@ abbrev pub Fails : Bool → Rule → List ℕ → Type 0
 Fails fresh L1 text = HasStrayHash fresh text ⊎ (HasStrayByte text ⊎
     (HasMalformedNumber text ⊎ HasMalformedCharacter text))
 Fails fresh L2 text = HasOpenComment text ⊎
-    (HasOpenQuote single_quote text ⊎ HasOpenQuote double_quote text)
+    (HasOpenQuote SINGLE_QUOTE text ⊎ HasOpenQuote DOUBLE_QUOTE text)
 Fails fresh L3 text = HasLargeNumber text ⊎ HasLargeCharacter text
 Fails fresh L4 text = HasUnknownDirective fresh text
 Fails fresh _ text = ⊥

@@ -1,5 +1,6 @@
 -- Punctuators (C11 6.4.6), without those of the preprocessor and the digraphs.
-use Rattle.std.specs.Prelude.{◌≡◌, ℕ, ◌≤◌, Bool, false, ◌++◌, List, [], ◌∷◌, length, IsTrue, codes, nat_eq, ◌==◌, ◌||◌}
+use Rattle.std.specs.Prelude.{◌≡◌, ℕ, ◌≤◌, Bool, false, ◌++◌, List, [], ◌∷◌, length, IsTrue, codes}
+use Rattle.std.specs.Prelude.{nat_eq, ◌==◌, ◌||◌}
 use Rattle.std.specs.Str.{bytes_eq}
 use Rattle.std.specs.List.{list_any, starts_with}
 

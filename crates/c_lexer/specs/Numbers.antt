@@ -1,8 +1,10 @@
 -- Integer constants (C11 6.4.4.1).
-use Rattle.std.specs.Prelude.{◌≡◌, ℕ, Bool, true, false, not, ◌⊎◌, ◌++◌, List, [], ◌∷◌, IsTrue, codes, ◌==◌, ℤ, pos, int_le, Option, Some, find}
+use Rattle.std.specs.Prelude.{◌≡◌, ℕ, Bool, true, false, not, ◌⊎◌, ◌++◌, List, [], ◌∷◌, IsTrue}
+use Rattle.std.specs.Prelude.{codes, ◌==◌, ℤ, pos, int_le, Option, Some, find}
 use Rattle.std.specs.List.{list_all}
 use Rattle.std.specs.Char.{is_digit}
 use Rattle.std.specs.Str.Parse.{digits_value}
+use Rattle.c_lexer.specs.declared.byte.TheConstants.{ZERO}
 use Rattle.cpa_ints.specs.declared.integers.IntType.{IntType}
 use Rattle.cpa_ints.specs.declared.integers.IntType.TheVariants as ty
 use Rattle.cpa_ints.specs.Integers.{greatest}
@@ -39,8 +41,8 @@ IsBaseMark Hexadecimal front = (front ≡ codes "0x") ⊎ (front ≡ codes "0X")
 
 -- what the digits begin with: of a decimal constant not 0, of an octal one 0
 abbrev pub begins_as : Base → List ℕ → Bool
-begins_as Decimal = begins_with (λ byte. not (byte == 48))
-begins_as Octal = begins_with (λ byte. byte == 48)
+begins_as Decimal = begins_with (λ byte. not (byte == ZERO))
+begins_as Octal = begins_with (λ byte. byte == ZERO)
 begins_as Hexadecimal = begins_with (λ byte. true)
 
 -- u or U where the constant is unsigned

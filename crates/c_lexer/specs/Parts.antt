@@ -1,10 +1,14 @@
 -- How a text falls into blanks, comments, directive lines and longest tokens (C11 6.4).
-use Rattle.std.specs.Prelude.{◌≡◌, ℕ, ◌+◌, Bool, true, false, ◌==◌, ◌&&◌, ◌||◌, ◌++◌, List, [], ◌∷◌, length, IsTrue}
+use Rattle.std.specs.Prelude.{◌≡◌, ℕ, ◌+◌, Bool, true, false, ◌==◌, ◌&&◌, ◌||◌, ◌++◌, List, [], ◌∷◌}
+use Rattle.std.specs.Prelude.{length, IsTrue}
 use Rattle.std.specs.List.{list_all, list_any}
+use Rattle.c_lexer.specs.declared.byte.TheConstants.{LINE_FEED}
 use Rattle.c_lexer.specs.declared.token.Token.{Token}
 use Rattle.c_lexer.specs.declared.token.TokenKind.{TokenKind}
-use Rattle.c_lexer.specs.declared.token.TokenKind.TheVariants.{Word, Number, Character, Text, Mark, End}
-use Rattle.c_lexer.specs.Bytes.{line_feed, is_word_head, is_word_byte, is_number_byte, is_on_line, begins_with, StopsAt}
+use Rattle.c_lexer.specs.declared.token.TokenKind.TheVariants.{Word, Number, Character, Text, Mark}
+use Rattle.c_lexer.specs.declared.token.TokenKind.TheVariants.{End}
+use Rattle.c_lexer.specs.Bytes.{is_word_head, is_word_byte, is_number_byte, is_on_line, begins_with}
+use Rattle.c_lexer.specs.Bytes.{StopsAt}
 use Rattle.c_lexer.specs.Gaps.{IsGap, IsDirective}
 use Rattle.c_lexer.specs.Numbers.{IsNumber}
 use Rattle.c_lexer.specs.Quoted.{IsCharacter, IsText}
@@ -44,7 +48,7 @@ IsPart fresh (token kind bytes) rest = IsToken kind bytes rest
 
 -- whether behind the part only blanks and comments stand before on the line
 abbrev pub fresh_behind : Bool → Part → Bool
-fresh_behind fresh (gap bytes) = fresh || list_any (λ byte. byte == line_feed) bytes
+fresh_behind fresh (gap bytes) = fresh || list_any (λ byte. byte == LINE_FEED) bytes
 fresh_behind fresh (directive bytes) = true
 fresh_behind fresh (token kind bytes) = false
 

@@ -1,24 +1,29 @@
 -- Character constants and string literals (C11 6.4.4.4 and 6.4.5).
-use Rattle.std.specs.Prelude.{◌≡◌, ◌≢◌, ℕ, ◌<◌, ◌≤◌, ◌⊎◌, ◌++◌, List, [], ◌∷◌, length, IsTrue, ◌==◌, ℤ, pos, codes, Option, Some, None, if◌then◌else◌}
+use Rattle.std.specs.Prelude.{◌≡◌, ◌≢◌, ℕ, ◌<◌, ◌≤◌, ◌⊎◌, ◌++◌, List, [], ◌∷◌, length, IsTrue, ◌==◌}
+use Rattle.std.specs.Prelude.{ℤ, pos, codes, Option, Some, None, if◌then◌else◌}
 use Rattle.std.specs.List.{AllByRecursion, concat, list_all}
 use Rattle.std.specs.Char.{is_digit}
 use Rattle.std.specs.Str.Parse.{digits_value}
+use Rattle.c_lexer.specs.declared.byte.TheConstants.{ALERT, BACKSLASH, BACKSPACE, CARRIAGE_RETURN}
+use Rattle.c_lexer.specs.declared.byte.TheConstants.{DOUBLE_QUOTE, FORM_FEED, LINE_FEED}
+use Rattle.c_lexer.specs.declared.byte.TheConstants.{QUESTION_MARK, SINGLE_QUOTE, SPACE, TAB, TILDE}
+use Rattle.c_lexer.specs.declared.byte.TheConstants.{VERTICAL_TAB}
 use Rattle.cpa_ints.specs.declared.integers.IntType.TheVariants as ty
 use Rattle.cpa_ints.specs.Wrapping.{wrapped}
-use Rattle.c_lexer.specs.Bytes.{is_on_line, single_quote, double_quote, backslash}
+use Rattle.c_lexer.specs.Bytes.{is_on_line}
 
 -- one byte other than the quote, the backslash and the line feed
 pub record IsUnescaped (quote : ℕ) (bytes : List ℕ) : Type 0 where
   pub byte : ℕ
   pub spelled : bytes ≡ byte ∷ []
   pub no_quote : byte ≢ quote
-  pub no_backslash : byte ≢ backslash
+  pub no_backslash : byte ≢ BACKSLASH
   pub on_line : IsTrue (is_on_line byte)
 
 -- a backslash and the byte that it takes with it, no line feed (the text has no line splices left)
 pub record IsEscaped (bytes : List ℕ) : Type 0 where
   pub byte : ℕ
-  pub spelled : bytes ≡ backslash ∷ byte ∷ []
+  pub spelled : bytes ≡ BACKSLASH ∷ byte ∷ []
   pub on_line : IsTrue (is_on_line byte)
 
 -- a content of such bytes between two quotes
@@ -31,15 +36,15 @@ pub record IsQuoted (quote : ℕ) (bytes content : List ℕ) : Type 0 where
 -- a string literal
 pub record IsText (bytes : List ℕ) : Type 0 where
   pub content : List ℕ
-  pub quoted : IsQuoted double_quote bytes content
+  pub quoted : IsQuoted DOUBLE_QUOTE bytes content
 
 -- one byte from the space to ~ other than ' and the backslash
 pub record IsPlain (content : List ℕ) (number : ℕ) : Type 0 where
   pub spelled : content ≡ number ∷ []
-  pub from_space : 32 ≤ number
-  pub to_tilde : number ≤ 126
-  pub no_quote : number ≢ single_quote
-  pub no_backslash : number ≢ backslash
+  pub from_space : SPACE ≤ number
+  pub to_tilde : number ≤ TILDE
+  pub no_quote : number ≢ SINGLE_QUOTE
+  pub no_backslash : number ≢ BACKSLASH
 
 -- what the byte stands for by a table of bytes and their values
 abbrev pub value_in : List ℕ → List ℕ → ℕ → Option ℕ
@@ -50,18 +55,19 @@ value_in _ _ byte = None
 -- what the byte behind a backslash stands for
 abbrev pub simple_escape : ℕ → Option ℕ
 simple_escape = value_in (codes "'\"?\\abfnrtv")
-    (39 ∷ 34 ∷ 63 ∷ 92 ∷ 7 ∷ 8 ∷ 12 ∷ 10 ∷ 13 ∷ 9 ∷ 11 ∷ [])
+    (SINGLE_QUOTE ∷ DOUBLE_QUOTE ∷ QUESTION_MARK ∷ BACKSLASH ∷ ALERT ∷ BACKSPACE ∷ FORM_FEED ∷
+    LINE_FEED ∷ CARRIAGE_RETURN ∷ TAB ∷ VERTICAL_TAB ∷ [])
 
 -- a backslash and one of these bytes
 pub record IsSimpleEscape (content : List ℕ) (number : ℕ) : Type 0 where
   pub byte : ℕ
-  pub spelled : content ≡ backslash ∷ byte ∷ []
+  pub spelled : content ≡ BACKSLASH ∷ byte ∷ []
   pub stands_for : simple_escape byte ≡ Some number
 
 -- a backslash and one to three octal digits
 pub record IsOctalEscape (content : List ℕ) (number : ℕ) : Type 0 where
   pub digits : List ℕ
-  pub spelled : content ≡ backslash ∷ digits
+  pub spelled : content ≡ BACKSLASH ∷ digits
   pub octal : IsTrue (list_all (λ byte. is_digit byte 8) digits)
   pub some : 0 < length digits
   pub few : length digits ≤ 3
@@ -85,7 +91,7 @@ StandsFor content number = IsPlain content number ⊎ (IsSimpleEscape content nu
 pub record IsCharacter (bytes : List ℕ) (value : ℤ) : Type 0 where
   pub content : List ℕ
   pub number : ℕ
-  pub quoted : IsQuoted single_quote bytes content
+  pub quoted : IsQuoted SINGLE_QUOTE bytes content
   pub stands_for : StandsFor content number
   pub fits : number ≤ 255
   pub valued : value ≡ wrapped ty.I8 (pos number)

@@ -1,7 +1,9 @@
 -- The order of the rules that a text can break (this project's own).
 use Rattle.std.specs.Prelude.{ℕ}
 use Rattle.c_lexer.specs.declared.fault.Rule.{Rule}
-use Rattle.c_lexer.specs.declared.fault.Rule.TheVariants.{L1, L2, L3, L4, S1, S2, S3, N1, N2, N3, N4, N5, N6, N7, N8, N9, N10, N11, N12, N13, N14, N15, N16}
+use Rattle.c_lexer.specs.declared.fault.Rule.TheVariants.{L1, L2, L3, L4, S1, S2, S3, N1, N2, N3}
+use Rattle.c_lexer.specs.declared.fault.Rule.TheVariants.{N4, N5, N6, N7, N8, N9, N10, N11, N12}
+use Rattle.c_lexer.specs.declared.fault.Rule.TheVariants.{N13, N14, N15, N16}
 
 -- how many rules come before it
 abbrev pub rule_number : Rule → ℕ

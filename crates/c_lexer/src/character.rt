@@ -5,9 +5,14 @@ ghost use Rattle.std.specs.Str.Parse.{digits_value};
 ghost use Rattle.std.specs.List.{list_all};
 ghost use Rattle.std.specs.Char.{is_digit};
 ghost use Rattle.c_lexer.specs.Quoted.{simple_escape};
-ghost use Rattle.c_lexer.specs.Steps.ReadingConstants.{is_plain, single_of, is_numeral, is_hex_escape, is_octal_escape, held, numeric_escape, character_of};
+ghost use Rattle.c_lexer.specs.Steps.ReadingConstants.{is_plain, single_of, is_numeral};
+ghost use Rattle.c_lexer.specs.Steps.ReadingConstants.{is_hex_escape, is_octal_escape, held};
+ghost use Rattle.c_lexer.specs.Steps.ReadingConstants.{numeric_escape, character_of};
 
-use crate::byte::digit_value;
+use crate::byte::{
+    ALERT, BACKSLASH, BACKSPACE, CARRIAGE_RETURN, FORM_FEED, LINE_FEED, SINGLE_QUOTE, SPACE, TAB,
+    TILDE, VERTICAL_TAB, digit_value,
+};
 use crate::integer::value_of;
 use crate::{Rule, TokenKind};
 use cpa_ints::{IntType, wrap};
@@ -16,7 +21,7 @@ use cpa_ints::{IntType, wrap};
 fn is_plain(byte: u8) -> bool
     ensures { result ≡ is_plain byte }
 {
-    b' ' <= byte && byte <= b'~' && byte != b'\'' && byte != b'\\'
+    SPACE <= byte && byte <= TILDE && byte != SINGLE_QUOTE && byte != BACKSLASH
 }
 
 /// What the byte behind a backslash stands for.
@@ -25,13 +30,13 @@ fn simple_escape(byte: u8) -> Option<u8>
 {
     match byte {
         b'\'' | b'"' | b'?' | b'\\' => Some(byte),
-        b'a' => Some(7),
-        b'b' => Some(8),
-        b'f' => Some(12),
-        b'n' => Some(10),
-        b'r' => Some(13),
-        b't' => Some(9),
-        b'v' => Some(11),
+        b'a' => Some(ALERT),
+        b'b' => Some(BACKSPACE),
+        b'f' => Some(FORM_FEED),
+        b'n' => Some(LINE_FEED),
+        b'r' => Some(CARRIAGE_RETURN),
+        b't' => Some(TAB),
+        b'v' => Some(VERTICAL_TAB),
         _ => None,
     }
 }

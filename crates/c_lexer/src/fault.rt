@@ -33,8 +33,8 @@ pub enum Rule {
     N3,
     /// A call has another number of arguments than the function has parameters.
     N4,
-    /// An array without an index, an index on a scalar, or a void expression or object where a value
-    /// or a scalar is needed.
+    /// An array without an index, an index on a scalar, or a void expression or object where a
+    /// value or a scalar is needed.
     N5,
     /// `goto` names no label of its function.
     N6,

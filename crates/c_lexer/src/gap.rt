@@ -2,9 +2,10 @@
 //! `proofs/Comments.antt` and `proofs/Directives.antt` show that this finds them.
 ghost use Rattle.std.specs.Prelude.{◌≡◌, ◌≤◌, ◌<◌, false, length, drop, IfSome};
 ghost use Rattle.c_lexer.specs.Gaps.{names_directive};
-ghost use Rattle.c_lexer.specs.Steps.Reading.{close_from, comment_length, opens_comment, opens_line_comment, space_of, behind_spaces};
+ghost use Rattle.c_lexer.specs.Steps.Reading.{close_from, comment_length, opens_comment};
+ghost use Rattle.c_lexer.specs.Steps.Reading.{opens_line_comment, space_of, behind_spaces};
 
-use crate::byte::{behind, is_blank, line_run};
+use crate::byte::{SLASH, STAR, behind, is_blank, line_run};
 
 /// How many bytes there are through the first `*/`.
 fn close(text: &[u8]) -> Option<usize>
@@ -13,10 +14,10 @@ fn close(text: &[u8]) -> Option<usize>
 {
     let mut star = false;
     for (i, byte) in text.iter().enumerate() {
-        if star && *byte == b'/' {
+        if star && *byte == SLASH {
             return Some(i + 1);
         }
-        star = *byte == b'*';
+        star = *byte == STAR;
     }
     None
 }

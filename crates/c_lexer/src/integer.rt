@@ -4,7 +4,9 @@ ghost use Rattle.std.specs.Prelude.{◌≡◌, ◌+◌, ◌*◌, ◌≤◌, ◌<
 ghost use Rattle.std.specs.Str.Parse.{digits_value};
 ghost use Rattle.c_lexer.specs.Numbers.{radix, types_of, type_of};
 ghost use Rattle.c_lexer.specs.Steps.Pieces.{base_from, rank_from, suffix_from};
-ghost use Rattle.c_lexer.specs.Steps.ReadingConstants.{base_of, front_of, digit_run, is_u, rank_of, with_rank, suffix_of, typed, suffixed, number_in, number_of};
+ghost use Rattle.c_lexer.specs.Steps.ReadingConstants.{base_of, front_of, digit_run, is_u, rank_of};
+ghost use Rattle.c_lexer.specs.Steps.ReadingConstants.{with_rank, suffix_of, typed, suffixed};
+ghost use Rattle.c_lexer.specs.Steps.ReadingConstants.{number_in, number_of};
 
 use crate::byte::digit_value;
 use crate::{Rule, TokenKind};

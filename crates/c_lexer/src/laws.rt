@@ -12,7 +12,8 @@ ghost use Rattle.c_lexer.specs.declared.fault.Rule.{Rule};
 ghost use Rattle.c_lexer.specs.Rules.{rule_number};
 ghost use Rattle.c_lexer.specs.Parts.{Tokens, NoTokens};
 ghost use Rattle.c_lexer.specs.Faults.{HasFault};
-ghost use Rattle.c_lexer.specs.Lexemes.{end_lexeme, lexemes, IsSpelled, EndsOnce, AreInOrder, ForEachToken};
+ghost use Rattle.c_lexer.specs.Lexemes.{end_lexeme, lexemes, IsSpelled, EndsOnce, AreInOrder};
+ghost use Rattle.c_lexer.specs.Lexemes.{ForEachToken};
 
 use crate::Rule;
 use cpa_ints::wrap_keeps_the_range;

@@ -7,7 +7,7 @@ ghost use Rattle.c_lexer.specs.Steps.Pieces.{part_of, tokens_of};
 ghost use Rattle.c_lexer.specs.Faults.{IsRefused};
 ghost use Rattle.c_lexer.specs.declared.fault.TextError.TheVariants.{OutOfMemory};
 
-use crate::byte::behind;
+use crate::byte::{LINE_FEED, behind};
 use crate::piece::{Piece, PieceKind, piece_of};
 use crate::{TextError, TextFault, Token, TokenKind};
 use std::alloc::Global;
@@ -17,9 +17,9 @@ pub const MAX_TEXT: usize = 1_048_576;
 
 /// Whether a line feed is among the bytes.
 fn has_line_feed(bytes: &[u8]) -> bool
-    ensures { result ≡ list_any (λ byte. byte == 10) bytes.now }
+    ensures { result ≡ list_any (λ byte. byte == LINE_FEED) bytes.now }
 {
-    bytes.iter().any(|byte| *byte == b'\n')
+    bytes.iter().any(|byte| *byte == LINE_FEED)
 }
 
 /// Whether behind a part with these bytes only blanks and comments stand before on the line.

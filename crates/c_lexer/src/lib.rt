@@ -13,6 +13,11 @@ mod piece;
 mod quote;
 mod token;
 
+pub use byte::{
+    ALERT, BACKSLASH, BACKSPACE, CARRIAGE_RETURN, DOUBLE_QUOTE, FORM_FEED, FULL_STOP, LINE_FEED,
+    NUMBER_SIGN, QUESTION_MARK, SINGLE_QUOTE, SLASH, SPACE, STAR, TAB, TILDE, UNDERSCORE,
+    VERTICAL_TAB, ZERO,
+};
 pub use fault::{Rule, TextError, TextFault};
 pub use laws::{
     constants_lie_in_range, one_token_list, rules_are_ordered_by_number, tokens_are_spelled,
@@ -20,6 +25,3 @@ pub use laws::{
 };
 pub use lexer::{MAX_TEXT, tokens};
 pub use token::{Token, TokenKind};
-
-#[cfg(test)]
-mod tests;

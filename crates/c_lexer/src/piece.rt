@@ -3,9 +3,13 @@
 ghost use Rattle.std.specs.Prelude.{◌≡◌, ◌≤◌, ◌<◌, true, false, length, drop, IfOk};
 ghost use Rattle.c_lexer.specs.declared.piece.PieceKind.TheVariants.{Gap, Token};
 ghost use Rattle.c_lexer.specs.Bytes.{begins_with, is_on_line};
-ghost use Rattle.c_lexer.specs.Steps.Reading.{comment_length, comment_piece, directive_piece, number_piece, close_quote, character_in, text_in, mark_length, mark_piece, token_at, piece_of};
+ghost use Rattle.c_lexer.specs.Steps.Reading.{comment_length, comment_piece, directive_piece};
+ghost use Rattle.c_lexer.specs.Steps.Reading.{number_piece, close_quote, character_in, text_in};
+ghost use Rattle.c_lexer.specs.Steps.Reading.{mark_length, mark_piece, token_at, piece_of};
 
-use crate::byte::{is_blank, is_word_head, line_run, number_run, word_run};
+use crate::byte::{
+    DOUBLE_QUOTE, NUMBER_SIGN, SINGLE_QUOTE, is_blank, is_word_head, line_run, number_run, word_run,
+};
 use crate::character::character_of;
 use crate::gap::{comment_length, is_known, opens_comment, opens_line_comment};
 use crate::integer::number_of;
@@ -93,11 +97,12 @@ fn number(text: &[u8]) -> Result<Piece, Rule>
 /// The character constant that begins the text.
 fn character(text: &[u8]) -> Result<Piece, Rule>
     requires { 0 < length text.now }
-    ensures value { result ≡ character_in (close_quote 39 false (drop 1 text.now)) text.now }
+    ensures value { result ≡
+        character_in (close_quote SINGLE_QUOTE false (drop 1 text.now)) text.now }
     ensures within { IfOk result (λ piece. piece.length ≤ length text.now) }
 {
     let behind = &text[1..];
-    let Some(length) = close_quote(behind, b'\'') else {
+    let Some(length) = close_quote(behind, SINGLE_QUOTE) else {
         return Err(Rule::L2);
     };
     let kind = character_of(&behind[..length])?;
@@ -107,10 +112,10 @@ fn character(text: &[u8]) -> Result<Piece, Rule>
 /// The string literal that begins the text.
 fn string(text: &[u8]) -> Result<Piece, Rule>
     requires { 0 < length text.now }
-    ensures value { result ≡ text_in (close_quote 34 false (drop 1 text.now)) }
+    ensures value { result ≡ text_in (close_quote DOUBLE_QUOTE false (drop 1 text.now)) }
     ensures within { IfOk result (λ piece. piece.length ≤ length text.now) }
 {
-    let Some(length) = close_quote(&text[1..], b'"') else {
+    let Some(length) = close_quote(&text[1..], DOUBLE_QUOTE) else {
         return Err(Rule::L2);
     };
     Ok(token(TokenKind::Text, length + 2))
@@ -139,9 +144,9 @@ fn token_at(byte: u8, text: &[u8]) -> Result<Piece, Rule>
         Ok(token(TokenKind::Word, word_run(text)))
     } else if byte.is_ascii_digit() {
         number(text)
-    } else if byte == b'\'' {
+    } else if byte == SINGLE_QUOTE {
         character(text)
-    } else if byte == b'"' {
+    } else if byte == DOUBLE_QUOTE {
         string(text)
     } else {
         mark(text)
@@ -158,7 +163,7 @@ pub(crate) fn piece_of(text: &[u8], fresh: bool) -> Result<Piece, Rule>
     let byte = text[0];
     if is_blank(byte) {
         Ok(gap(1))
-    } else if byte == b'#' {
+    } else if byte == NUMBER_SIGN {
         directive(text, fresh)
     } else if opens_comment(text) {
         comment(text)

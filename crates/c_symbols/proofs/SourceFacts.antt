@@ -12,7 +12,8 @@ use Rattle.c_symbols.specs.Sources.{nowhere, leaf_at, IsSource}
 use Rattle.std.specs.Option.{option_map}
 
 -- there are as many leaves as tokens
-pub length-leaves : (text : List ℕ) (tokens : List Token) → length (leaves text tokens) ≡ length tokens
+pub length-leaves : (text : List ℕ) (tokens : List Token) →
+    length (leaves text tokens) ≡ length tokens
 length-leaves text tokens = simp length-map
 
 -- the leaf of a token
@@ -27,7 +28,8 @@ same_token : (a b : Token) → Some a ≡ Some b → a ≡ b
 same_token a b e = cc
 
 -- behind a token that is no end stands another
-pub more_behind : (text : List ℕ) (tokens : List Token) (i : ℕ) (token : Token) → IsSource text tokens →
+pub more_behind : (text : List ℕ) (tokens : List Token) (i : ℕ) (token : Token) →
+    IsSource text tokens →
     slice_get tokens i ≡ Some token → token.kind ≢ End → i + 1 < length (leaves text tokens)
 more_behind text tokens i token source e other =
     let within = slice_get_within tokens i token e in

@@ -1,5 +1,6 @@
 -- The tables of words and marks have each of them, and each mark of C.
-use Rattle.std.specs.Prelude.{◌≡◌, ◌≢◌, ℕ, Bool, true, false, ◌&&◌, ◌||◌, ◌==◌, List, [], ◌∷◌, Option, None, Some, IsTrue, unwrap_or, refl}
+use Rattle.std.specs.Prelude.{◌≡◌, ◌≢◌, ℕ, Bool, true, false, ◌&&◌, ◌||◌, ◌==◌, List, [], ◌∷◌}
+use Rattle.std.specs.Prelude.{Option, None, Some, IsTrue, unwrap_or, refl}
 use Rattle.std.specs.List.{list_any, list_all}
 use Rattle.std.specs.Str.{bytes_eq}
 use Rattle.std.specs.Cmp.{unsigned_Decides}
@@ -9,7 +10,8 @@ use Rattle.c_lexer.specs.declared.token.TokenKind.TheVariants as kind
 use Rattle.c_lexer.specs.Marks.{is_mark, single_marks, double_marks, triple_marks}
 use Rattle.c_symbols.specs.declared.symbol.Symbol.{Symbol}
 use Rattle.c_symbols.specs.declared.symbol.Symbol.TheVariants as symbol
-use Rattle.c_symbols.specs.Symbols.{spelling_of, word_spelled, mark_spelled, symbol_spelled, kind_of_terminal}
+use Rattle.c_symbols.specs.Symbols.{spelling_of, word_spelled, mark_spelled, symbol_spelled}
+use Rattle.c_symbols.specs.Symbols.{kind_of_terminal}
 use Rattle.c_symbols.specs.declared.operators.BinaryOperator.{BinaryOperator}
 use Rattle.c_symbols.specs.declared.operators.BinaryOperator.TheVariants as binary_operator
 use Rattle.c_symbols.specs.declared.operators.AssignmentOperator.{AssignmentOperator}
@@ -29,7 +31,8 @@ use Rattle.c_symbols.specs.declared.words.StrayMark.TheVariants as stray_mark
 use Rattle.c_symbols.specs.declared.words.Terminal.{Terminal}
 use Rattle.c_symbols.specs.declared.words.Terminal.TheVariants as terminal
 
-pub spelled_binary_operator : (t : BinaryOperator) → symbol_spelled kind.Mark (spelling_of (symbol.Binary t)) ≡ symbol.Binary t
+pub spelled_binary_operator : (t : BinaryOperator) →
+    symbol_spelled kind.Mark (spelling_of (symbol.Binary t)) ≡ symbol.Binary t
 unfolding word_spelled mark_spelled
 spelled_binary_operator binary_operator.LogicalOr = refl
 spelled_binary_operator binary_operator.LogicalAnd = refl
@@ -50,7 +53,8 @@ spelled_binary_operator binary_operator.Multiply = refl
 spelled_binary_operator binary_operator.Divide = refl
 spelled_binary_operator binary_operator.Remainder = refl
 
-pub spelled_assignment_operator : (t : AssignmentOperator) → symbol_spelled kind.Mark (spelling_of (symbol.Assign t)) ≡ symbol.Assign t
+pub spelled_assignment_operator : (t : AssignmentOperator) →
+    symbol_spelled kind.Mark (spelling_of (symbol.Assign t)) ≡ symbol.Assign t
 unfolding word_spelled mark_spelled
 spelled_assignment_operator assignment_operator.Assign = refl
 spelled_assignment_operator assignment_operator.Multiply = refl
@@ -64,18 +68,21 @@ spelled_assignment_operator assignment_operator.BitAnd = refl
 spelled_assignment_operator assignment_operator.BitXor = refl
 spelled_assignment_operator assignment_operator.BitOr = refl
 
-pub spelled_step_operator : (t : StepOperator) → symbol_spelled kind.Mark (spelling_of (symbol.Step t)) ≡ symbol.Step t
+pub spelled_step_operator : (t : StepOperator) →
+    symbol_spelled kind.Mark (spelling_of (symbol.Step t)) ≡ symbol.Step t
 unfolding word_spelled mark_spelled
 spelled_step_operator step_operator.Increment = refl
 spelled_step_operator step_operator.Decrement = refl
 
-pub spelled_storage_word : (t : StorageWord) → symbol_spelled kind.Word (spelling_of (symbol.Storage t)) ≡ symbol.Storage t
+pub spelled_storage_word : (t : StorageWord) →
+    symbol_spelled kind.Word (spelling_of (symbol.Storage t)) ≡ symbol.Storage t
 unfolding word_spelled mark_spelled
 spelled_storage_word storage_word.Extern = refl
 spelled_storage_word storage_word.Static = refl
 spelled_storage_word storage_word.Register = refl
 
-pub spelled_specifier_word : (t : SpecifierWord) → symbol_spelled kind.Word (spelling_of (symbol.Specifier t)) ≡ symbol.Specifier t
+pub spelled_specifier_word : (t : SpecifierWord) →
+    symbol_spelled kind.Word (spelling_of (symbol.Specifier t)) ≡ symbol.Specifier t
 unfolding word_spelled mark_spelled
 spelled_specifier_word specifier_word.Inline = refl
 spelled_specifier_word specifier_word.InlineUnderscored = refl
@@ -83,7 +90,8 @@ spelled_specifier_word specifier_word.InlineInUnderscores = refl
 spelled_specifier_word specifier_word.Const = refl
 spelled_specifier_word specifier_word.Noreturn = refl
 
-pub spelled_type_word : (t : TypeWord) → symbol_spelled kind.Word (spelling_of (symbol.TypeWord t)) ≡ symbol.TypeWord t
+pub spelled_type_word : (t : TypeWord) →
+    symbol_spelled kind.Word (spelling_of (symbol.TypeWord t)) ≡ symbol.TypeWord t
 unfolding word_spelled mark_spelled
 spelled_type_word type_word.Void = refl
 spelled_type_word type_word.Bool = refl
@@ -94,7 +102,8 @@ spelled_type_word type_word.Long = refl
 spelled_type_word type_word.Signed = refl
 spelled_type_word type_word.Unsigned = refl
 
-pub spelled_outside_word : (t : OutsideWord) → symbol_spelled kind.Word (spelling_of (symbol.Outside t)) ≡ symbol.Outside t
+pub spelled_outside_word : (t : OutsideWord) →
+    symbol_spelled kind.Word (spelling_of (symbol.Outside t)) ≡ symbol.Outside t
 unfolding word_spelled mark_spelled
 spelled_outside_word outside_word.Alignas = refl
 spelled_outside_word outside_word.Alignof = refl
@@ -122,13 +131,15 @@ spelled_outside_word outside_word.AsmInUnderscores = refl
 spelled_outside_word outside_word.Int128 = refl
 spelled_outside_word outside_word.Extension = refl
 
-pub spelled_stray_mark : (t : StrayMark) → symbol_spelled kind.Mark (spelling_of (symbol.Stray t)) ≡ symbol.Stray t
+pub spelled_stray_mark : (t : StrayMark) →
+    symbol_spelled kind.Mark (spelling_of (symbol.Stray t)) ≡ symbol.Stray t
 unfolding word_spelled mark_spelled
 spelled_stray_mark stray_mark.Dot = refl
 spelled_stray_mark stray_mark.Arrow = refl
 spelled_stray_mark stray_mark.Ellipsis = refl
 
-pub spelled_terminal : (t : Terminal) → symbol_spelled (kind_of_terminal t) (spelling_of (symbol.Terminal t)) ≡ symbol.Terminal t
+pub spelled_terminal : (t : Terminal) →
+    symbol_spelled (kind_of_terminal t) (spelling_of (symbol.Terminal t)) ≡ symbol.Terminal t
 unfolding word_spelled mark_spelled
 spelled_terminal terminal.LeftParen = refl
 spelled_terminal terminal.RightParen = refl
@@ -170,21 +181,25 @@ by_bools false b true d f g any each = g any each
 by_bools false b false d f g any each = let clash : false ≡ true = each in cc
 
 -- one item passes the first test, each item the second: so one passes both
-both_pass : {T P : Type 0} (p q : T → Bool) → ((y : T) → p y ≡ true → q y ≡ true → P) → (ys : List T) →
+both_pass : {T P : Type 0} (p q : T → Bool) → ((y : T) → p y ≡ true → q y ≡ true → P) →
+    (ys : List T) →
     list_any p ys ≡ true → list_all q ys ≡ true → P
 both_pass p q f [] any each = let clash : false ≡ true = any in cc
 both_pass p q f (y ∷ ys) any each =
     by_bools (p y) (list_any p ys) (q y) (list_all q ys) (f y) (both_pass p q f ys) any each
 
-one_byte : (first : ℕ) → list_any (λ mark. mark == first) single_marks ≡ true → in_table (first ∷ []) ≡ true
+one_byte : (first : ℕ) → list_any (λ mark. mark == first) single_marks ≡ true →
+    in_table (first ∷ []) ≡ true
 unfolding mark_spelled
 one_byte first e = both_pass (λ mark. mark == first) (λ mark. in_table (mark ∷ []))
-    (λ y same good. subst (λ b. in_table (b ∷ []) ≡ true) ((unsigned_Decides y first).0 same) good) single_marks e refl
+    (λ y same good. subst (λ b. in_table (b ∷ []) ≡ true) ((unsigned_Decides y first).0 same) good)
+    single_marks e refl
 
 of_list : (bytes : List ℕ) (marks : List (List ℕ)) → list_all in_table marks ≡ true →
     list_any (bytes_eq bytes) marks ≡ true → in_table bytes ≡ true
 of_list bytes marks each e = both_pass (bytes_eq bytes) in_table
-    (λ y same good. subst (λ b. in_table b ≡ true) (sym ((bytes_eq-Decides bytes y).0 same)) good) marks e each
+    (λ y same good. subst (λ b. in_table b ≡ true) (sym ((bytes_eq-Decides bytes y).0 same)) good)
+    marks e each
 
 marked : (bytes : List ℕ) → is_mark bytes ≡ true → in_table bytes ≡ true
 unfolding mark_spelled
@@ -194,9 +209,12 @@ marked (a ∷ b ∷ []) e = of_list (a ∷ b ∷ []) double_marks refl e
 marked (a ∷ b ∷ c ∷ []) e = of_list (a ∷ b ∷ c ∷ []) triple_marks refl e
 marked (a ∷ b ∷ c ∷ d ∷ more) e = let clash : false ≡ true = e in cc
 
-no_text_in : (found : Option Symbol) → other_than_text found ≡ true → unwrap_or found symbol.Text ≢ symbol.Text
+no_text_in : (found : Option Symbol) → other_than_text found ≡ true →
+    unwrap_or found symbol.Text ≢ symbol.Text
 no_text_in None e f = let clash : false ≡ true = e in cc
-no_text_in (Some s) e f = let clash : false ≡ true = ap (λ t. other_than_text (Some t)) (sym f) ∙ e in cc
+no_text_in (Some s) e f =
+    let clash : false ≡ true = ap (λ t. other_than_text (Some t)) (sym f) ∙ e in cc
 
-pub no_text : (bytes : List ℕ) → IsTrue (is_mark bytes) → symbol_spelled kind.Mark bytes ≢ symbol.Text
+pub no_text : (bytes : List ℕ) → IsTrue (is_mark bytes) →
+    symbol_spelled kind.Mark bytes ≢ symbol.Text
 no_text bytes e = no_text_in (mark_spelled bytes) (marked bytes e)

@@ -1,5 +1,6 @@
 -- The tokens of a text as a reader sees them.
-use Rattle.std.specs.Prelude.{◌≡◌, ℕ, ◌+◌, ◌<◌, ◌≤◌, ◌^◌, Bool, true, false, List, [], length, Some, slice_index_or}
+use Rattle.std.specs.Prelude.{◌≡◌, ℕ, ◌+◌, ◌<◌, ◌≤◌, ◌^◌, Bool, true, false, List, [], length, Some}
+use Rattle.std.specs.Prelude.{slice_index_or}
 use Rattle.std.specs.List.{slice_get}
 use denote.Enum.Bare.{sameb}
 use Rattle.c_lexer.specs.declared.token.Token.{Token}
@@ -23,7 +24,8 @@ leaf_at leaves place = slice_index_or leaves place nowhere
 
 -- the tokens lie in the text, and the last one, and no other, is its end
 pub record IsSource (text : List ℕ) (tokens : List Token) : Type 0 where
-  pub within : (i : ℕ) (token : Token) → slice_get tokens i ≡ Some token → (token.from ≤ token.to) × (token.to ≤ length text)
+  pub within : (i : ℕ) (token : Token) → slice_get tokens i ≡ Some token →
+      (token.from ≤ token.to) × (token.to ≤ length text)
   pub ends : EndsOnce text tokens
 
 -- two terminals are one
@@ -51,6 +53,7 @@ pub record Takes (leaves : List Leaf) (at : ℕ) (wanted : Terminal) (behind : �
   pub within : behind < length leaves
 
 -- the terminal does not stand here, where another token is
-pub record Lacks (leaves : List Leaf) (at : ℕ) (wanted : Terminal) (error : ReadError) : Type 0 where
-  pub fails : is wanted (leaf_at leaves at) ≡ false
-  pub named : error ≡ Unexpected at
+pub record Lacks (leaves : List Leaf) (at : ℕ) (wanted : Terminal) (error : ReadError) : Type 0
+  where
+    pub fails : is wanted (leaf_at leaves at) ≡ false
+    pub named : error ≡ Unexpected at

@@ -1,5 +1,5 @@
--- How the words and marks of C are spelled (C11 6.4.1 and 6.4.6; __inline, __inline__, __attribute__, asm, __asm__,
--- __int128 and __extension__ are words of GNU C).
+-- How the words and marks of C are spelled (C11 6.4.1 and 6.4.6; __inline, __inline__,
+-- __attribute__, asm, __asm__, __int128 and __extension__ are words of GNU C).
 use Rattle.std.specs.Prelude.{ℕ, List, codes}
 use Rattle.c_symbols.specs.declared.operators.BinaryOperator.{BinaryOperator}
 use Rattle.c_symbols.specs.declared.operators.BinaryOperator.TheVariants as binary_operator

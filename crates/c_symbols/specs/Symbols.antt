@@ -8,9 +8,16 @@ use Rattle.c_lexer.specs.Lexemes.{bytes_at}
 use Rattle.c_symbols.specs.declared.words.Terminal.{Terminal as Terminal'}
 use Rattle.c_symbols.specs.declared.words.Terminal.TheVariants as terminal
 use Rattle.c_symbols.specs.declared.symbol.Symbol.{Symbol}
-use Rattle.c_symbols.specs.declared.symbol.Symbol.TheVariants.{End, Name, Number, Character, Text, Terminal, Binary, Assign, Step, Storage, Specifier, TypeWord, Outside, Stray}
+use Rattle.c_symbols.specs.declared.symbol.Symbol.TheVariants.{End, Name, Number, Character, Text}
+use Rattle.c_symbols.specs.declared.symbol.Symbol.TheVariants.{Terminal, Binary, Assign, Step}
+use Rattle.c_symbols.specs.declared.symbol.Symbol.TheVariants.{Storage, Specifier, TypeWord}
+use Rattle.c_symbols.specs.declared.symbol.Symbol.TheVariants.{Outside, Stray}
 use Rattle.c_symbols.specs.declared.symbol.TheConstants.{WORDS, MARKS}
-use Rattle.c_symbols.specs.Spelling.{spelling_of_binary_operator, spelling_of_assignment_operator, spelling_of_step_operator, spelling_of_storage_word, spelling_of_specifier_word, spelling_of_type_word, spelling_of_outside_word, spelling_of_terminal, spelling_of_stray_mark}
+use Rattle.c_symbols.specs.Spelling.{spelling_of_binary_operator, spelling_of_assignment_operator}
+use Rattle.c_symbols.specs.Spelling.{spelling_of_step_operator, spelling_of_storage_word}
+use Rattle.c_symbols.specs.Spelling.{spelling_of_specifier_word, spelling_of_type_word}
+use Rattle.c_symbols.specs.Spelling.{spelling_of_outside_word, spelling_of_terminal}
+use Rattle.c_symbols.specs.Spelling.{spelling_of_stray_mark}
 
 -- a token with its bytes and the place where it stands
 pub record Leaf : Type 0 where
@@ -45,7 +52,8 @@ kind_of_terminal terminal.Return = kind.Word
 kind_of_terminal terminal.Attribute = kind.Word
 kind_of_terminal _ = kind.Mark
 
--- the word of the table that is spelled so; that the tables lack none is a law (`keywords_stand_for_themselves`)
+-- the word of the table that is spelled so; that the tables lack none is a law
+-- (`keywords_stand_for_themselves`)
 unfoldable pub word_spelled : List ℕ → Option Symbol
 word_spelled bytes = find (λ symbol. bytes_eq (spelling_of symbol) bytes) WORDS
 
@@ -53,8 +61,8 @@ word_spelled bytes = find (λ symbol. bytes_eq (spelling_of symbol) bytes) WORDS
 unfoldable pub mark_spelled : List ℕ → Option Symbol
 mark_spelled bytes = find (λ symbol. bytes_eq (spelling_of symbol) bytes) MARKS
 
--- what a token of this kind stands for that is spelled so; a word that is not in the table is a name. A mark that is
--- not in the table is none of C's (`marks_are_no_text`)
+-- what a token of this kind stands for that is spelled so; a word that is not in the table is a
+-- name. A mark that is not in the table is none of C's (`marks_are_no_text`)
 abbrev pub symbol_spelled : TokenKind → List ℕ → Symbol
 symbol_spelled kind.Word bytes = unwrap_or (word_spelled bytes) Name
 symbol_spelled (kind.Number ty value) bytes = Number ty value

@@ -1,4 +1,5 @@
-//! Laws of words and marks: `WORDS` and `MARKS` lack none. Each function does nothing: its contract is the law.
+//! Laws of words and marks: `WORDS` and `MARKS` lack none. Each function does nothing: its contract
+//! is the law.
 ghost use Rattle.std.specs.Prelude.{◌≡◌, ◌≢◌, ℕ, List, IsTrue};
 ghost use Rattle.c_lexer.specs.declared.token.TokenKind.TheVariants.{Word, Mark};
 ghost use Rattle.c_lexer.specs.Marks.{is_mark};

@@ -1,5 +1,5 @@
-//! Terminal symbols of C's grammar: what a token stands for in it, and the tokens of a text as a reader
-//! sees them.
+//! Terminal symbols of C's grammar: what a token stands for in it, and the tokens of a text as a
+//! reader sees them.
 #![tactic(auto)]
 
 mod laws;

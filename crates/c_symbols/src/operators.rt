@@ -1,6 +1,8 @@
 //! The operators of expressions and their spelling, which is that of `specs/Spelling.antt`.
 ghost use Rattle.std.specs.Prelude.{◌≡◌};
-ghost use Rattle.c_symbols.specs.Spelling.{spelling_of_binary_operator, spelling_of_assignment_operator, spelling_of_step_operator};
+ghost use Rattle.c_symbols.specs.Spelling.{spelling_of_binary_operator};
+ghost use Rattle.c_symbols.specs.Spelling.{spelling_of_assignment_operator};
+ghost use Rattle.c_symbols.specs.Spelling.{spelling_of_step_operator};
 
 /// An operator between two operands (C11 6.5.5 to 6.5.14).
 #[derive(Clone, Copy, Debug, PartialEq, Eq)]

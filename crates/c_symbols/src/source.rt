@@ -1,5 +1,5 @@
-//! The tokens of a text as a reader sees them: symbols, bytes and places by number. Contracts see them as
-//! the list of `Leaf`s.
+//! The tokens of a text as a reader sees them: symbols, bytes and places by number. Contracts see
+//! them as the list of `Leaf`s.
 ghost use Rattle.std.specs.Prelude.{◌≡◌, ◌≢◌, ◌+◌, ◌<◌, ◌≤◌, length, Some, IsTrue, MatchResult};
 ghost use Rattle.std.specs.List.{slice_get};
 ghost use Rattle.c_lexer.specs.Lexemes.{bytes_at};

@@ -1,7 +1,9 @@
 //! The words and marks of declarations and statements and their spelling, which is that of
 //! `specs/Spelling.antt`.
 ghost use Rattle.std.specs.Prelude.{◌≡◌};
-ghost use Rattle.c_symbols.specs.Spelling.{spelling_of_storage_word, spelling_of_specifier_word, spelling_of_type_word, spelling_of_outside_word, spelling_of_terminal, spelling_of_stray_mark};
+ghost use Rattle.c_symbols.specs.Spelling.{spelling_of_storage_word, spelling_of_specifier_word};
+ghost use Rattle.c_symbols.specs.Spelling.{spelling_of_type_word, spelling_of_outside_word};
+ghost use Rattle.c_symbols.specs.Spelling.{spelling_of_terminal, spelling_of_stray_mark};
 
 /// A storage class (C11 6.7.1).
 #[derive(Clone, Copy, Debug, PartialEq, Eq)]

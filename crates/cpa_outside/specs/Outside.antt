@@ -1,11 +1,12 @@
 -- What a read and a write leave behind: counts of faults, what was written (this project's own).
-use Rattle.std.specs.Prelude.{◌≡◌, ℕ, ◌+◌, ◌-◌, ◌^◌, ◌≤◌, min, List, ◌++◌, length, take, Option, Some, None, Result, Ok, Err}
+use Rattle.std.specs.Prelude.{◌≡◌, ◌≢◌, ℕ, ◌-◌, ◌^◌, ◌<◌, ◌≤◌, List, ◌++◌, length, take, Option}
+use Rattle.std.specs.Prelude.{Some, None, Result, Ok, Err}
 use Rattle.cpa_outside.specs.declared.reads.ReadFault.{ReadFault}
 use Rattle.cpa_outside.specs.declared.reads.ReadFault.TheVariants.{Failed, TooLong, OutOfMemory}
 
--- a count of faults is greater than before, or stands at the greatest u64
+-- a count of faults is greater than before; one that stood at the greatest u64 does not fall
 abbrev pub Rose : ℕ → ℕ → Type 0
-Rose before now = min (before + 1) (2 ^ 64 - 1) ≤ now
+Rose before now = (before ≤ now) × (before ≢ 2 ^ 64 - 1 → before < now)
 
 -- what was written, where it is told, with more bytes behind it
 abbrev pub grown : Option (List ℕ) → List ℕ → Option (List ℕ)

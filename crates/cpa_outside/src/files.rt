@@ -1,10 +1,12 @@
 //! Files that an opener opens, and those of the system among them. What a read answers is `IsWhole`
 //! and `IsLonger` of `specs/Files.antt`, over any opener and its readers.
-ghost use Rattle.std.specs.Prelude.{◌≡◌, ◌≢◌, ℕ, ◌<◌, ◌≤◌, ⊤, List, length, take, vec_len, IfOk, IfErr, OnOk, IfSome, IsSome, MatchOption, if◌then◌else◌};
+ghost use Rattle.std.specs.Prelude.{◌≡◌, ◌≢◌, ℕ, ◌<◌, ◌≤◌, ⊤, List, length, take, vec_len, IfOk};
+ghost use Rattle.std.specs.Prelude.{IfErr, OnOk, IfSome, IsSome, MatchOption, if◌then◌else◌};
 ghost use Rattle.std.specs.declared.io.Error.{Error};
 ghost use Rattle.cpa_outside.specs.Outside.{Rose, IsTooLongOrFailed};
 ghost use Rattle.cpa_outside.specs.OutsideMemory.{one_more};
-ghost use Rattle.cpa_outside.specs.Files.{IsWhole, IsLonger, IsError, IsFault, is_failed, fault_of, answer_of};
+ghost use Rattle.cpa_outside.specs.Files.{IsWhole, IsLonger, IsError, IsFault, is_failed, fault_of};
+ghost use Rattle.cpa_outside.specs.Files.{answer_of};
 
 use crate::reads::{Inputs, ReadFault};
 use std::alloc::Global;
@@ -49,9 +51,9 @@ impl<'a, R: Files> Opens for SystemFiles<'a, R> {
 
 /// Reads files that an opener opens.
 ///
-/// They may change from one read to the next, so it tells nothing of their bytes; what one read gave
-/// is the contract of `read`. Its one count of failed reads is the count of every name. A file that
-/// is missing is a failed read.
+/// They may change from one read to the next, so it tells nothing of their bytes; what one read
+/// gave is the contract of `read`. Its one count of failed reads is the count of every name. A file
+/// that is missing is a failed read.
 #[derive(Drop)]
 pub struct FileInputs<O> {
     opener: O,
@@ -81,7 +83,8 @@ impl<O: Opens> FileInputs<O> {
 }
 
 impl<O: Opens> Inputs for FileInputs<O> {
-    ghost use Rattle.cpa_outside.specs.FileInputs.{opener_of, failed_reads, faults_by_name, told_bytes};
+    ghost use Rattle.cpa_outside.specs.FileInputs.{opener_of, failed_reads, faults_by_name};
+    ghost use Rattle.cpa_outside.specs.FileInputs.{told_bytes};
 
     ghost bytes_of = { told_bytes };
 

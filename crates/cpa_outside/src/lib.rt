@@ -1,5 +1,5 @@
-//! The outside: where files are read from, and where the answer is written to; both in memory, where
-//! their bytes are told, and both of the system, where none are.
+//! The outside: where files are read from, and where the answer is written to; both in memory,
+//! where their bytes are told, and both of the system, where none are.
 #![tactic(auto)]
 
 mod failing_calls;
@@ -7,8 +7,6 @@ mod files;
 mod memory_inputs;
 mod memory_sink;
 mod reads;
-#[cfg(test)]
-mod tests;
 mod writer_sink;
 mod writes;
 

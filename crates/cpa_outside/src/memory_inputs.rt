@@ -1,6 +1,8 @@
 //! Files in memory, whose reads fail where a list says so. When and what they count is
 //! `specs/MemoryInputs.antt`; `proofs/SharedCounts.antt` has which names share a count.
-ghost use Rattle.std.specs.Prelude.{◌≡◌, ◌≢◌, ◌↔◌, ℕ, ◌+◌, ◌<◌, ◌≤◌, List, [], length, slice_index, vec_len, IfOk, IfErr, OnOk, IfSome, IsSome, IsTrue, IsErrOf, ◌&&◌, if◌then◌else◌};
+ghost use Rattle.std.specs.Prelude.{◌≡◌, ◌≢◌, ◌↔◌, ℕ, ◌+◌, ◌<◌, ◌≤◌, List, [], length, slice_index};
+ghost use Rattle.std.specs.Prelude.{vec_len, IfOk, IfErr, OnOk, IfSome, IsSome, IsTrue, IsErrOf};
+ghost use Rattle.std.specs.Prelude.{◌&&◌, if◌then◌else◌};
 ghost use Rattle.std.specs.List.{position};
 ghost use Rattle.cpa_outside.specs.Outside.{Rose, IsTooLongOrFailed};
 ghost use Rattle.cpa_outside.specs.OutsideMemory.{has_name, place_of, first_bytes, one_more};
@@ -20,7 +22,8 @@ pub struct MemoryInputs {
 }
 
 impl MemoryInputs {
-    ghost use Rattle.cpa_outside.specs.MemoryInputs.{stored_bytes, failed_reads, failing_reads, next_read};
+    ghost use Rattle.cpa_outside.specs.MemoryInputs.{stored_bytes, failed_reads, failing_reads};
+    ghost use Rattle.cpa_outside.specs.MemoryInputs.{next_read};
 
     /// Holds the files. The reads whose number stands in `fail` fail, counted from 0.
     pub fn new(
@@ -43,7 +46,8 @@ impl MemoryInputs {
 }
 
 impl Inputs for MemoryInputs {
-    ghost use Rattle.cpa_outside.specs.MemoryInputs.{stored_bytes, failed_reads, failing_reads, next_read, read_fails, shares_count};
+    ghost use Rattle.cpa_outside.specs.MemoryInputs.{stored_bytes, failed_reads, failing_reads};
+    ghost use Rattle.cpa_outside.specs.MemoryInputs.{next_read, read_fails, shares_count};
 
     ghost bytes_of = { stored_bytes };
 
@@ -70,8 +74,8 @@ impl Inputs for MemoryInputs {
         ensures long { IfSome (stored_bytes self.old name.now) (λ told.
             limit < length told → IsTooLongOrFailed result) }
 
-        // It fails exactly where the number is listed or the name is not there. It counts that once,
-        // for each name whose count this is: all names that are not there have one.
+        // It fails exactly where the number is listed or the name is not there. It counts that
+        // once, for each name whose count this is: all names that are not there have one.
         ensures fails { IsErrOf result ReadFault.Failed ↔ IsTrue (read_fails self.old name.now) }
         ensures counts { (other : List ℕ) → failed_reads self.new other ≡
             (if read_fails self.old name.now && shares_count self.old name.now other
@@ -122,7 +126,8 @@ fn count_fault(faults: &mut [u64], place: usize)
 fn copy_within(alloc: Global, bytes: &[u8], limit: usize) -> Result<Vec<u8>, ReadFault>
     ensures ok { IfOk result (λ copy. copy.items ≡ bytes.now) }
     ensures within { OnOk result (length bytes.now ≤ limit) }
-    ensures too_long { IfErr result (λ fault. fault ≡ ReadFault.TooLong → limit < length bytes.now) }
+    ensures too_long { IfErr result (λ fault.
+        fault ≡ ReadFault.TooLong → limit < length bytes.now) }
     ensures long { limit < length bytes.now → IsTooLongOrFailed result }
     ensures not_failed { IfErr result (λ fault. fault ≢ ReadFault.Failed) }
 {

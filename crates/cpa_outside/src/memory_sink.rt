@@ -1,6 +1,7 @@
 //! A sink in memory, whose writes fail where a list says so. When, and how much they take, is
 //! `specs/MemorySink.antt`.
-ghost use Rattle.std.specs.Prelude.{◌≡◌, ◌↔◌, ◌+◌, ◌<◌, ◌≤◌, [], ◌++◌, Some, length, take, vec_len, vec_capacity, IfOk, OnOk, OnErr, IsOk, IsErr, IsTrue};
+ghost use Rattle.std.specs.Prelude.{◌≡◌, ◌↔◌, ◌+◌, ◌<◌, ◌≤◌, [], ◌++◌, Some, length, take, vec_len};
+ghost use Rattle.std.specs.Prelude.{vec_capacity, IfOk, OnOk, OnErr, IsOk, IsErr, IsTrue};
 ghost use Rattle.cpa_outside.specs.Outside.{Rose, grown};
 ghost use Rattle.cpa_outside.specs.OutsideMemory.{one_more};
 
@@ -21,7 +22,8 @@ pub struct MemorySink {
 }
 
 impl MemorySink {
-    ghost use Rattle.cpa_outside.specs.MemorySink.{sink_bytes, failed_writes, sink_room, sink_most, failing_writes, next_write};
+    ghost use Rattle.cpa_outside.specs.MemorySink.{sink_bytes, failed_writes, sink_room, sink_most};
+    ghost use Rattle.cpa_outside.specs.MemorySink.{failing_writes, next_write};
 
     /// Reserves `room` bytes. The writes whose number stands in `fail` fail, counted from 0.
     pub fn new(
@@ -55,7 +57,9 @@ impl MemorySink {
 }
 
 impl Sink for MemorySink {
-    ghost use Rattle.cpa_outside.specs.MemorySink.{sink_bytes, failed_writes, sink_room, sink_most, failing_writes, next_write, taken_of, write_fails};
+    ghost use Rattle.cpa_outside.specs.MemorySink.{sink_bytes, failed_writes, sink_room, sink_most};
+    ghost use Rattle.cpa_outside.specs.MemorySink.{failing_writes, next_write, taken_of};
+    ghost use Rattle.cpa_outside.specs.MemorySink.{write_fails};
 
     ghost written = { λ sink. Some (sink_bytes sink) };
 
@@ -72,7 +76,8 @@ impl Sink for MemorySink {
         ensures err_keeps { OnErr result (Some (sink_bytes self.new) ≡ Some (sink_bytes self.old)) }
         ensures never_falls { failed_writes self.old ≤ failed_writes self.new }
 
-        // It fails exactly where the number is listed or nothing can be taken, and counts that once.
+        // It fails exactly where the number is listed or nothing can be taken, and counts that
+        // once.
         ensures fails { IsErr result ↔ IsTrue (write_fails self.old piece.now) }
         ensures takes { IfOk result (λ count. count ≡ taken_of self.old piece.now) }
         ensures counts { OnErr result (failed_writes self.new ≡ one_more (failed_writes self.old)) }

@@ -1,6 +1,7 @@
 //! Where files are read from: the trait and its faults. What it promises is in its clauses, over
 //! `specs/Outside.antt`.
-ghost use Rattle.std.specs.Prelude.{◌≡◌, ◌≢◌, ℕ, ◌<◌, ◌≤◌, List, Option, length, IfOk, IfErr, OnOk, IfSome, IsSome};
+ghost use Rattle.std.specs.Prelude.{◌≡◌, ◌≢◌, ℕ, ◌<◌, ◌≤◌, List, Option, length, IfOk, IfErr, OnOk};
+ghost use Rattle.std.specs.Prelude.{IfSome, IsSome};
 ghost use Rattle.cpa_outside.specs.Outside.{Rose, IsTooLongOrFailed};
 ghost use Rattle.cpa_outside.specs.declared.reads.ReadFault.TheVariants.{OutOfMemory};
 

@@ -1,6 +1,7 @@
 //! A writer as a sink, and the standard output among them. What a write does to the writer is a
 //! clause of `write`, over any writer.
-ghost use Rattle.std.specs.Prelude.{◌≡◌, ◌<◌, ◌≤◌, length, take, IfOk, IfSome, IfNone, OnOk, OnErr, is_err, if◌then◌else◌};
+ghost use Rattle.std.specs.Prelude.{◌≡◌, ◌<◌, ◌≤◌, length, take, IfOk, IfSome, IfNone, OnOk, OnErr};
+ghost use Rattle.std.specs.Prelude.{is_err, if◌then◌else◌};
 ghost use Rattle.std.specs.Io.KnownBytes.{Appends, Keeps};
 ghost use Rattle.cpa_outside.specs.Outside.{Rose, grown};
 ghost use Rattle.cpa_outside.specs.OutsideMemory.{one_more};
@@ -51,8 +52,8 @@ impl<W: Write> Sink for WriterSink<W> {
     ghost faults = { failed_writes };
 
     fn write(&mut self, piece: &[u8]) -> Result<usize, Failed>
-        // The writer has the front of the piece behind what it had, and nothing more where the write
-        // failed.
+        // The writer has the front of the piece behind what it had, and nothing more where the
+        // write failed.
         ensures appends { IfOk result (λ count.
             Appends (W.contents (writer_of self.old)) (W.contents (writer_of self.new))
             (take count piece.now)) }

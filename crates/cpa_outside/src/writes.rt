@@ -1,6 +1,7 @@
 //! Where the answer is written to: the trait, and `write_whole` over it, whose loop's invariant is
 //! `HasWritten` of `proofs/Grown.antt`.
-ghost use Rattle.std.specs.Prelude.{◌≡◌, ℕ, ◌<◌, ◌≤◌, List, Option, length, take, IfOk, OnOk, OnErr};
+ghost use Rattle.std.specs.Prelude.{◌≡◌, ℕ, ◌<◌, ◌≤◌, List, Option, length, take, IfOk, OnOk};
+ghost use Rattle.std.specs.Prelude.{OnErr};
 ghost use Rattle.cpa_outside.specs.Outside.{Rose, grown, GrewByPrefix};
 
 /// A write failed.

@@ -3,7 +3,7 @@ use Rattle.std.proofs.Common.{◌≡◌, ℕ, suc, ◌+◌, List, [], ◌∷◌,
 use Rattle.std.specs.List.{AllByRecursion}
 use Rattle.first_form.specs.declared.tree.Expression.{Expression}
 use Rattle.first_form.specs.declared.tree.Statement.{Statement}
-use Rattle.first_form.proofs.Cases.{shown_of_all, Shown}
+use Rattle.first_form.specs.lemmas.Cases.{shown_of_all, Shown}
 use Rattle.cpa_expr.specs.declared.tree.Expr.{Expr}
 use Rattle.cpa_model.specs.declared.program.Stmt.{Stmt}
 use Rattle.cpa_model.specs.declared.program.Stmt.TheVariants as stmt

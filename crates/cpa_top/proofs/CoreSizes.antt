@@ -8,8 +8,8 @@ use Rattle.first_form.specs.declared.tree.Statement.{Statement}
 use Rattle.first_form.specs.declared.tree.Unit.{Unit as Tree}
 use Rattle.first_form.specs.Tree.{test_points, point_count}
 use Rattle.first_form.specs.FirstForm.{unit_points}
-use Rattle.first_form.proofs.Cases.{shown_of_all, Shown}
-use Rattle.first_form.proofs.TreeLemmas.{point_count-Block, point_count-Empty, point_count-If, point_count-If_else, point_count-While, point_count-ReachError, point_count-Abort, point_count-Return}
+use Rattle.first_form.specs.lemmas.Cases.{shown_of_all, Shown}
+use Rattle.first_form.specs.lemmas.TreeLemmas.{point_count-Block, point_count-Empty, point_count-If, point_count-If_else, point_count-While, point_count-ReachError, point_count-Abort, point_count-Return}
 use Rattle.cpa_expr.specs.declared.tree.Expr.{Expr}
 use Rattle.cpa_model.specs.declared.program.Stmt.{Stmt}
 use Rattle.cpa_model.specs.declared.program.Stmt.TheVariants as stmt

@@ -4,7 +4,7 @@ use Rattle.std.proofs.lemmas.List.Elements.{Contains-append_left, Contains-appen
 use Rattle.std.specs.List.{AllByRecursion, Contains}
 use Rattle.first_form.specs.declared.tree.Expression.{Expression}
 use Rattle.first_form.specs.declared.tree.Statement.{Statement}
-use Rattle.first_form.proofs.Cases.{shown_of_all, Shown}
+use Rattle.first_form.specs.lemmas.Cases.{shown_of_all, Shown}
 use Rattle.cpa_ints.specs.declared.integers.IntType.TheVariants.{I32}
 use Rattle.cpa_expr.specs.declared.tree.Expr.{Expr}
 use Rattle.cpa_expr.specs.declared.tree.Expr.TheVariants.{Const}

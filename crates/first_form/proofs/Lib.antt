@@ -1,5 +1,3 @@
-pub mod Cases
-pub mod TreeLemmas
 pub mod Nearest
 pub mod Front
 pub mod OneReading

@@ -1,6 +1,7 @@
 -- The first form of programs.
 use Rattle.std.specs.Prelude.{◌≡◌, ℕ, ◌+◌, ◌≤◌, ◌++◌, List, [], ◌∷◌, map, length, sum}
 use Rattle.std.specs.List.{AllByRecursion}
+use Rattle.first_form.specs.declared.program.TheConstants.{MAX_LEVEL, MAX_POINTS}
 use Rattle.first_form.specs.declared.token.Token.{Token}
 use Rattle.first_form.specs.declared.tree.Unit.{Unit as Program}
 use Rattle.first_form.specs.Spelling.{Spells}
@@ -24,6 +25,6 @@ unit_points unit = 3 + sum (map point_count unit.body)
 pub record IsFirstForm (bytes : List ℕ) (unit : Program) : Type 0 where
   pub text : Spells bytes (unit_leaves unit)
   pub nearest : AllByRecursion IsNearest unit.body
-  pub levels : unit_level unit ≤ 200
-  pub points : unit_points unit ≤ 65536
+  pub levels : unit_level unit ≤ MAX_LEVEL
+  pub points : unit_points unit ≤ MAX_POINTS
   pub length : unit.length ≡ length bytes

@@ -3,3 +3,4 @@ pub mod Tree
 pub mod FirstForm
 pub mod Reading
 pub mod Lexing
+pub mod lemmas

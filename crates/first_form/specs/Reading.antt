@@ -1,10 +1,12 @@
 -- What a list of tokens begins with.
 use Rattle.std.specs.Prelude.{◌≡◌, ◌≢◌, ℕ, ◌≤◌, ◌+◌, true, ◌++◌, List, [], ◌∷◌, map}
 use Rattle.std.specs.List.{AllByRecursion}
+use Rattle.first_form.specs.declared.program.TheConstants.{MAX_LEVEL}
 use Rattle.first_form.specs.declared.token.Token.{Token}
 use Rattle.first_form.specs.declared.tree.Expression.{Expression}
 use Rattle.first_form.specs.declared.tree.Statement.{Statement}
-use Rattle.first_form.specs.Tree.{joined, greatest, test_leaves, leaves, level, ends_open, IsNearest}
+use Rattle.first_form.specs.Tree.{joined, greatest, test_leaves, leaves, level, ends_open}
+use Rattle.first_form.specs.Tree.{IsNearest}
 
 -- no token list goes on from here by this token
 abbrev pub NoneAfter : Token → List Token → Type 0
@@ -20,7 +22,8 @@ EndsReturn tokens rest = tokens ≡ Token.Zero ∷ Token.Semicolon ∷ rest
 
 -- the tokens begin with this test in brackets
 abbrev pub ReadsTest : List Token → Expression → List Token → Type 0
-ReadsTest tokens test rest = tokens ≡ Token.LeftParen ∷ (test_leaves test ++ Token.RightParen ∷ rest)
+ReadsTest tokens test rest =
+    tokens ≡ Token.LeftParen ∷ (test_leaves test ++ Token.RightParen ∷ rest)
 
 -- they begin with no test in brackets
 abbrev pub NoTest : List Token → Type 0
@@ -31,7 +34,8 @@ abbrev pub IsClosed : Statement → List Token → Type 0
 IsClosed statement rest = ends_open statement ≡ true → NoneAfter Token.Else rest
 
 -- the tokens begin with this statement, which takes at most this many levels
-pub record Reads (tokens : List Token) (left : ℕ) (statement : Statement) (rest : List Token) : Type 0 where
+pub record Reads (tokens : List Token) (left : ℕ) (statement : Statement)
+    (rest : List Token) : Type 0 where
   pub spelled : tokens ≡ leaves statement ++ rest
   pub nearest : IsNearest statement
   pub levels : level statement ≤ left
@@ -39,7 +43,8 @@ pub record Reads (tokens : List Token) (left : ℕ) (statement : Statement) (res
 
 -- they begin with no statement of so few levels
 abbrev pub NoneReads : List Token → ℕ → Type 0
-NoneReads tokens left = (statement : Statement) (rest : List Token) → Reads tokens left statement rest → ⊥
+NoneReads tokens left =
+    (statement : Statement) (rest : List Token) → Reads tokens left statement rest → ⊥
 
 -- they begin with no statement that has no parts, whatever its levels
 abbrev pub NoneSimple : Token → List Token → Type 0
@@ -47,22 +52,25 @@ NoneSimple first tokens = first ≢ Token.LeftBrace → first ≢ Token.If → f
     (left : ℕ) → NoneReads (first ∷ tokens) left
 
 -- the tokens begin with these statements and a right brace
-pub record ReadsItems (tokens : List Token) (left : ℕ) (items : List Statement) (rest : List Token) : Type 0 where
+pub record ReadsItems (tokens : List Token) (left : ℕ) (items : List Statement)
+    (rest : List Token) : Type 0 where
   pub spelled : tokens ≡ joined (map leaves items) ++ (Token.RightBrace ∷ rest)
   pub nearest : AllByRecursion IsNearest items
   pub levels : greatest (map level items) ≤ left
 
 -- they begin with no statements of so few levels and a right brace
 abbrev pub NoneReadsItems : List Token → ℕ → Type 0
-NoneReadsItems tokens left = (items : List Statement) (rest : List Token) → ReadsItems tokens left items rest → ⊥
+NoneReadsItems tokens left =
+    (items : List Statement) (rest : List Token) → ReadsItems tokens left items rest → ⊥
 
 -- these tokens come behind int main ( void ) {
 abbrev pub AfterHead : List Token → List Token → Type 0
 AfterHead tokens rest = tokens ≡
-    Token.Int ∷ Token.Main ∷ Token.LeftParen ∷ Token.Void ∷ Token.RightParen ∷ Token.LeftBrace ∷ rest
+    Token.Int ∷ Token.Main ∷ Token.LeftParen ∷ Token.Void ∷ Token.RightParen ∷ Token.LeftBrace ∷
+    rest
 
--- the tokens are a program with these items, of at most 200 levels
+-- the tokens are a program with these items, of at most `MAX_LEVEL` levels
 pub record ReadsProgram (tokens : List Token) (body : List Statement) : Type 0 where
   pub spelled : AfterHead tokens (joined (map leaves body) ++ (Token.RightBrace ∷ []))
   pub nearest : AllByRecursion IsNearest body
-  pub levels : 1 + greatest (map level body) ≤ 200
+  pub levels : 1 + greatest (map level body) ≤ MAX_LEVEL

@@ -1,5 +1,6 @@
 -- What a statement is spelled by, and its measures.
-use Rattle.std.specs.Prelude.{◌≡◌, ℕ, ◌+◌, max, Bool, true, false, ◌++◌, List, [], ◌∷◌, sum, Option, None, Some, unwrap_or}
+use Rattle.std.specs.Prelude.{◌≡◌, ℕ, ◌+◌, max, Bool, true, false, ◌++◌, List, [], ◌∷◌, sum, Option}
+use Rattle.std.specs.Prelude.{None, Some, unwrap_or}
 use Rattle.first_form.specs.declared.token.Token.{Token}
 use Rattle.first_form.specs.declared.tree.Expression.{Expression}
 use Rattle.first_form.specs.declared.tree.Statement.{Statement}
@@ -32,19 +33,22 @@ abbrev pub leaves_step : Statement-F (List Token) → List Token
 leaves_step (Statement-F.Block items) = Token.LeftBrace ∷ (joined items ++ Token.RightBrace ∷ [])
 leaves_step Statement-F.Empty = Token.Semicolon ∷ []
 leaves_step (Statement-F.If test branch other) =
-    Token.If ∷ Token.LeftParen ∷ (test_leaves test ++ Token.RightParen ∷ (branch ++ else_leaves other))
+    Token.If ∷ Token.LeftParen ∷
+    (test_leaves test ++ Token.RightParen ∷ (branch ++ else_leaves other))
 leaves_step (Statement-F.While test body) =
     Token.While ∷ Token.LeftParen ∷ (test_leaves test ++ Token.RightParen ∷ body)
 leaves_step Statement-F.ReachError =
     Token.ReachError ∷ Token.LeftParen ∷ Token.RightParen ∷ Token.Semicolon ∷ []
-leaves_step Statement-F.Abort = Token.Abort ∷ Token.LeftParen ∷ Token.RightParen ∷ Token.Semicolon ∷ []
+leaves_step Statement-F.Abort =
+    Token.Abort ∷ Token.LeftParen ∷ Token.RightParen ∷ Token.Semicolon ∷ []
 leaves_step Statement-F.Return = Token.Return ∷ Token.Zero ∷ Token.Semicolon ∷ []
 
 -- the tokens of a statement
 abbrev pub leaves : Statement → List Token
 leaves = fold-Statement (List Token) leaves_step
 
--- one statement, with the levels of each part in its place; a test takes one level, as each branch does at least
+-- one statement, with the levels of each part in its place; a test takes one level, as each branch
+-- does at least
 abbrev pub level_step : Statement-F ℕ → ℕ
 level_step (Statement-F.Block items) = 1 + greatest items
 level_step (Statement-F.If test branch other) = 1 + max branch (unwrap_or other 0)
@@ -83,7 +87,8 @@ test_points _ = 0
 abbrev pub point_step : Statement-F ℕ → ℕ
 point_step (Statement-F.Block items) = 1 + sum items
 point_step Statement-F.Empty = 0
-point_step (Statement-F.If test branch other) = test_points test + 1 + (1 + branch) + (1 + unwrap_or other 0)
+point_step (Statement-F.If test branch other) =
+    test_points test + 1 + (1 + branch) + (1 + unwrap_or other 0)
 point_step (Statement-F.While test body) = 7 + test_points test + body
 point_step Statement-F.ReachError = 1
 point_step Statement-F.Abort = 1

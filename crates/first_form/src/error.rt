@@ -1,3 +1,5 @@
+//! Why a text gave no tree. What each cause means is a clause of `first_form`; proved by the
+//! checker alone.
 ghost use Rattle.std.specs.Prelude.{◌≡◌};
 ghost use Rattle.first_form.specs.declared.error.FirstError.TheVariants.{OutOfMemory};
 

@@ -1,4 +1,7 @@
-ghost use Rattle.std.specs.Prelude.{◌≡◌, List, [], ◌++◌, ◌<◌, ◌≤◌, length, MatchOption, IfOk, IfErr};
+//! The tokens of a text, `Spells` of `specs/Spelling.antt`, by the steps of `specs/Lexing.antt`;
+//! `proofs/SpellingLemmas.antt` shows that a text has no others.
+ghost use Rattle.std.specs.Prelude.{◌≡◌, List, [], ◌++◌, ◌<◌, ◌≤◌, length, MatchOption, IfOk};
+ghost use Rattle.std.specs.Prelude.{IfErr};
 ghost use Rattle.std.specs.List.{prefix_len};
 ghost use Rattle.first_form.specs.Spelling.{spelling, is_blank, is_word_byte, Spells};
 ghost use Rattle.first_form.specs.Lexing.{unblanked, run_length_of, Begins, NoToken, NoneSpelled};

@@ -13,6 +13,3 @@ pub use error::FirstError;
 pub use program::{MAX_LEVEL, MAX_POINTS, first_form, one_tree};
 pub use token::Token;
 pub use tree::{Expression, Statement, Unit};
-
-#[cfg(test)]
-mod tests;

@@ -1,6 +1,11 @@
-ghost use Rattle.std.specs.Prelude.{◌≡◌, List, ◌∷◌, ◌++◌, ◌+◌, ◌*◌, ◌<◌, ◌≤◌, length, MatchOption, IfOk, IfErr};
+//! Statements from tokens, by their first token: `Reads` and `ReadsItems` of `specs/Reading.antt`;
+//! `proofs/Steps.antt` has a lemma for each form.
+ghost use Rattle.std.specs.Prelude.{◌≡◌, List, ◌∷◌, ◌++◌, ◌+◌, ◌*◌, ◌<◌, ◌≤◌, length, MatchOption};
+ghost use Rattle.std.specs.Prelude.{IfOk, IfErr};
 ghost use Rattle.first_form.specs.Tree.{test_leaves};
-ghost use Rattle.first_form.specs.Reading.{NoneAfter, EndsCall, EndsReturn, ReadsTest, NoTest, Reads, NoneReads, NoneSimple, ReadsItems, NoneReadsItems};
+ghost use Rattle.first_form.specs.Reading.{NoneAfter, EndsCall, EndsReturn, ReadsTest, NoTest};
+ghost use Rattle.first_form.specs.Reading.{Reads, NoneReads, NoneSimple, ReadsItems};
+ghost use Rattle.first_form.specs.Reading.{NoneReadsItems};
 
 use crate::error::FirstError;
 use crate::token::Token;
@@ -10,7 +15,8 @@ use std::alloc::Global;
 
 /// The tokens after this one, which is to come first.
 fn after(tokens: &[Token], token: Token) -> Option<&[Token]>
-    ensures { MatchOption result (NoneAfter token tokens.now) (λ rest. tokens.now ≡ token ∷ rest.now) }
+    ensures { MatchOption result (NoneAfter token tokens.now)
+        (λ rest. tokens.now ≡ token ∷ rest.now) }
 {
     match tokens {
         [first, rest @ ..] if *first == token => Some(rest),
@@ -20,7 +26,8 @@ fn after(tokens: &[Token], token: Token) -> Option<&[Token]>
 
 /// The tokens after `( ) ;`, which is to come first.
 fn after_call(tokens: &[Token]) -> Option<&[Token]>
-    ensures { MatchOption result ((rest : List Token) → EndsCall tokens.now rest → ⊥) (λ rest. EndsCall tokens.now rest.now) }
+    ensures { MatchOption result ((rest : List Token) → EndsCall tokens.now rest → ⊥)
+        (λ rest. EndsCall tokens.now rest.now) }
 {
     let tokens = after(tokens, Token::LeftParen)?;
     let tokens = after(tokens, Token::RightParen)?;
@@ -29,7 +36,8 @@ fn after_call(tokens: &[Token]) -> Option<&[Token]>
 
 /// The tokens after `0 ;`, which is to come first.
 fn after_zero(tokens: &[Token]) -> Option<&[Token]>
-    ensures { MatchOption result ((rest : List Token) → EndsReturn tokens.now rest → ⊥) (λ rest. EndsReturn tokens.now rest.now) }
+    ensures { MatchOption result ((rest : List Token) → EndsReturn tokens.now rest → ⊥)
+        (λ rest. EndsReturn tokens.now rest.now) }
 {
     let tokens = after(tokens, Token::Zero)?;
     after(tokens, Token::Semicolon)
@@ -56,7 +64,8 @@ fn expression(tokens: &[Token]) -> Option<(Expression, &[Token])>
 
 /// A test in brackets, and the tokens after it.
 fn condition(tokens: &[Token]) -> Option<(Expression, &[Token])>
-    ensures { MatchOption result (NoTest tokens.now) (λ read. ReadsTest tokens.now read.0 read.1.now) }
+    ensures { MatchOption result (NoTest tokens.now)
+        (λ read. ReadsTest tokens.now read.0 read.1.now) }
 {
     let tokens = after(tokens, Token::LeftParen)?;
     let (test, tokens) = expression(tokens)?;
@@ -86,7 +95,8 @@ fn statement(
     left: u32,
 ) -> Result<(Statement, &[Token]), FirstError>
     ensures ok { IfOk result (λ read. Reads tokens.now left read.0 read.1.now) }
-    ensures unbuilt { IfErr result (λ error. error ≡ FirstError.Unbuilt → NoneReads tokens.now left) }
+    ensures unbuilt { IfErr result (λ error.
+        error ≡ FirstError.Unbuilt → NoneReads tokens.now left) }
 {
     if left == 0 {
         return Err(FirstError::Unbuilt);
@@ -102,7 +112,8 @@ fn statement(
     }
 }
 
-/// The items of a block and its right brace, each of at most `left` levels, and the tokens after it.
+/// The items of a block and its right brace, each of at most `left` levels, and the tokens after
+/// it.
 #[cycle(statement)]
 pub fn items(
     alloc: Global,
@@ -110,7 +121,8 @@ pub fn items(
     left: u32,
 ) -> Result<(Seq<Statement>, &[Token]), FirstError>
     ensures ok { IfOk result (λ read. ReadsItems tokens.now left read.0 read.1.now) }
-    ensures unbuilt { IfErr result (λ error. error ≡ FirstError.Unbuilt → NoneReadsItems tokens.now left) }
+    ensures unbuilt { IfErr result (λ error.
+        error ≡ FirstError.Unbuilt → NoneReadsItems tokens.now left) }
 {
     let mut items = Seq::new(alloc);
     let mut rest = tokens;
@@ -127,7 +139,8 @@ pub fn items(
 /// What follows the left brace of a block.
 #[cycle(statement)]
 fn block(alloc: Global, tokens: &[Token], left: u32) -> Result<(Statement, &[Token]), FirstError>
-    ensures ok { IfOk result (λ read. Reads (Token.LeftBrace ∷ tokens.now) (left + 1) read.0 read.1.now) }
+    ensures ok { IfOk result (λ read.
+        Reads (Token.LeftBrace ∷ tokens.now) (left + 1) read.0 read.1.now) }
     ensures unbuilt { IfErr result (λ error. error ≡ FirstError.Unbuilt →
         NoneReads (Token.LeftBrace ∷ tokens.now) (left + 1)) }
 {
@@ -175,7 +188,8 @@ fn repetition(
     tokens: &[Token],
     left: u32,
 ) -> Result<(Statement, &[Token]), FirstError>
-    ensures ok { IfOk result (λ read. Reads (Token.While ∷ tokens.now) (left + 1) read.0 read.1.now) }
+    ensures ok { IfOk result (λ read.
+        Reads (Token.While ∷ tokens.now) (left + 1) read.0 read.1.now) }
     ensures unbuilt { IfErr result (λ error. error ≡ FirstError.Unbuilt →
         NoneReads (Token.While ∷ tokens.now) (left + 1)) }
 {

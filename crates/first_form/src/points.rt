@@ -1,3 +1,5 @@
+//! How many points the core of a tree has, `point_count` of `specs/Tree.antt`. The loop's invariant
+//! is in `proofs/points`.
 ghost use Rattle.std.specs.Prelude.{◌≡◌, ◌+◌, ◌*◌, ◌≤◌, min, map, sum};
 ghost use Rattle.first_form.specs.Tree.{test_points, point_count};
 

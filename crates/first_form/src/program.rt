@@ -1,4 +1,7 @@
-ghost use Rattle.std.specs.Prelude.{◌≡◌, ℕ, List, [], ◌∷◌, ◌+◌, ◌<◌, ◌≤◌, length, MatchOption, IfOk, IfErr, IsErrOf};
+//! The tree of a text: the head of `main`, its block and the bounds, `IsFirstForm` of
+//! `specs/FirstForm.antt`. `proofs/OneReading.antt` shows that there is one tree at most.
+ghost use Rattle.std.specs.Prelude.{◌≡◌, ℕ, List, [], ◌∷◌, ◌+◌, ◌<◌, ◌≤◌, length, MatchOption};
+ghost use Rattle.std.specs.Prelude.{IfOk, IfErr, IsErrOf};
 ghost use Rattle.first_form.specs.FirstForm.{IsFirstForm};
 ghost use Rattle.first_form.specs.Reading.{ReadsProgram, AfterHead};
 

@@ -1,3 +1,6 @@
+//! The tokens of the first form, and their bytes in `specs/Spelling.antt`. The type has no
+//! functions to prove.
+
 /// A terminal of the grammar: the words first, and then the marks.
 ///
 /// `specs/Spelling.antt` says by which bytes each is spelled.

@@ -1,3 +1,6 @@
+//! The tree of a text of the first form; `specs/Tree.antt` says what each variant is spelled by.
+//! The types have no functions to prove.
+
 use cpa_ints::{Boxed, Seq};
 
 /// The test of an `if` or a `while`.

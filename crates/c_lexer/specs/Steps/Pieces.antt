@@ -8,7 +8,8 @@ use Rattle.c_lexer.specs.declared.integer.Base.TheVariants as base
 use Rattle.c_lexer.specs.declared.integer.Rank.{Rank as CodeRank}
 use Rattle.c_lexer.specs.declared.integer.Rank.TheVariants as rank
 use Rattle.c_lexer.specs.declared.integer.Suffix.{Suffix as CodeSuffix}
-use Rattle.c_lexer.specs.Numbers.{Base, Decimal, Octal, Hexadecimal, Rank, Int, Long, LongLong, Suffix}
+use Rattle.c_lexer.specs.Numbers.{Base, Decimal, Octal, Hexadecimal, Rank, Int, Long, LongLong}
+use Rattle.c_lexer.specs.Numbers.{Suffix}
 use Rattle.c_lexer.specs.Parts.{Part, gap, directive, token}
 
 -- the part of this kind with these bytes

@@ -1,15 +1,20 @@
 -- What reading one part of a text computes. It promises nothing: what it means stands in Parts and
 -- Faults, and proofs/Sound and proofs/Complete tie the two.
-use Rattle.std.specs.Prelude.{ℕ, ◌+◌, Bool, false, not, ◌&&◌, List, [], ◌∷◌, length, drop, take, ◌==◌, Option, Some, None, Result, Ok, Err, cond, option_map, unwrap_or, nat_eq, zero, suc, codes}
+use Rattle.std.specs.Prelude.{ℕ, ◌+◌, Bool, false, not, ◌&&◌, List, [], ◌∷◌, length, drop, take}
+use Rattle.std.specs.Prelude.{◌==◌, Option, Some, None, Result, Ok, Err, cond, option_map}
+use Rattle.std.specs.Prelude.{unwrap_or, nat_eq, zero, suc, codes}
 use Rattle.std.specs.List.{prefix_len, starts_with}
 use Rattle.std.specs.Char.{is_ascii_digit}
+use Rattle.c_lexer.specs.declared.byte.TheConstants.{BACKSLASH, DOUBLE_QUOTE, LINE_FEED}
+use Rattle.c_lexer.specs.declared.byte.TheConstants.{NUMBER_SIGN, SINGLE_QUOTE, SLASH, STAR}
 use Rattle.c_lexer.specs.declared.fault.Rule.{Rule}
 use Rattle.c_lexer.specs.declared.fault.Rule.TheVariants.{L1, L2, L4}
 use Rattle.c_lexer.specs.declared.token.TokenKind.{TokenKind}
 use Rattle.c_lexer.specs.declared.token.TokenKind.TheVariants.{Word, Text, Mark}
 use Rattle.c_lexer.specs.declared.piece.Piece.{Piece}
 use Rattle.c_lexer.specs.declared.piece.PieceKind.TheVariants.{Gap, Directive, Token}
-use Rattle.c_lexer.specs.Bytes.{is_blank, is_word_head, is_word_byte, is_number_byte, is_on_line, begins_with}
+use Rattle.c_lexer.specs.Bytes.{is_blank, is_word_head, is_word_byte, is_number_byte, is_on_line}
+use Rattle.c_lexer.specs.Bytes.{begins_with}
 use Rattle.c_lexer.specs.Gaps.{names_directive}
 use Rattle.c_lexer.specs.Marks.{is_mark}
 use Rattle.c_lexer.specs.Steps.ReadingConstants.{number_of, character_of}
@@ -22,7 +27,7 @@ one_more found = option_map (λ n. n + 1) found
 abbrev pub close_from : Bool → List ℕ → Option ℕ
 close_from star [] = None
 close_from star (byte ∷ rest) =
-    cond (star && byte == 47) (Some 1) (one_more (close_from (byte == 42) rest))
+    cond (star && byte == SLASH) (Some 1) (one_more (close_from (byte == STAR) rest))
 
 -- the length of the /* comment that begins the text; None where it has no end, or none begins
 abbrev pub comment_length : List ℕ → Option ℕ
@@ -58,9 +63,9 @@ directive_line text = drop 1 (take (prefix_len is_on_line text) text)
 -- backslash stands before
 abbrev pub close_quote : ℕ → Bool → List ℕ → Option ℕ
 close_quote quote escaped [] = None
-close_quote quote escaped (byte ∷ rest) = cond (byte == 10) None
+close_quote quote escaped (byte ∷ rest) = cond (byte == LINE_FEED) None
     (cond (byte == quote && not escaped) (Some 0)
-    (one_more (close_quote quote (byte == 92 && not escaped) rest)))
+    (one_more (close_quote quote (byte == BACKSLASH && not escaped) rest)))
 
 -- the length of the longest mark that begins the text, or 0
 abbrev pub mark_length : List ℕ → ℕ
@@ -113,15 +118,15 @@ abbrev pub token_at : ℕ → List ℕ → Result Piece Rule
 token_at byte text =
     cond (is_word_head byte) (token_piece (prefix_len is_word_byte text) (Ok Word)) (
     cond (is_ascii_digit byte) (number_piece text) (
-    cond (byte == 39) (character_in (close_quote 39 false (drop 1 text)) text) (
-    cond (byte == 34) (text_in (close_quote 34 false (drop 1 text)))
+    cond (byte == SINGLE_QUOTE) (character_in (close_quote SINGLE_QUOTE false (drop 1 text)) text) (
+    cond (byte == DOUBLE_QUOTE) (text_in (close_quote DOUBLE_QUOTE false (drop 1 text)))
     (mark_piece (mark_length text)))))
 
 -- the part that begins the text, or the rule that is broken there
 abbrev pub piece_of : Bool → List ℕ → Result Piece Rule
 piece_of fresh [] = Err L1
 piece_of fresh (byte ∷ rest) = cond (is_blank byte) (gap_piece 1) (
-    cond (byte == 35) (directive_piece fresh (byte ∷ rest)) (
+    cond (byte == NUMBER_SIGN) (directive_piece fresh (byte ∷ rest)) (
     cond (opens_comment (byte ∷ rest)) (comment_piece (comment_length (byte ∷ rest))) (
     cond (opens_line_comment (byte ∷ rest)) (gap_piece (prefix_len is_on_line (byte ∷ rest))) (
     token_at byte (byte ∷ rest)))))

@@ -1,9 +1,11 @@
 -- What reading a constant computes. It promises nothing: what it means stands in Numbers and in
 -- Quoted, and proofs/Constants and proofs/Quotes tie the two.
-use Rattle.std.specs.Prelude.{ℕ, Bool, true, false, not, ◌&&◌, ◌||◌, List, [], ◌∷◌, length, drop, take, ◌==◌, nat_le, pos, Option, Some, None, Result, Ok, Err, cond}
+use Rattle.std.specs.Prelude.{ℕ, Bool, true, false, not, ◌&&◌, ◌||◌, List, [], ◌∷◌, length, drop}
+use Rattle.std.specs.Prelude.{take, ◌==◌, nat_le, pos, Option, Some, None, Result, Ok, Err, cond}
 use Rattle.std.specs.List.{list_all, prefix_len}
 use Rattle.std.specs.Char.{is_digit}
 use Rattle.std.specs.Str.Parse.{digits_value}
+use Rattle.c_lexer.specs.declared.byte.TheConstants.{BACKSLASH, SINGLE_QUOTE, SPACE, TILDE, ZERO}
 use Rattle.cpa_ints.specs.declared.integers.IntType.{IntType}
 use Rattle.cpa_ints.specs.declared.integers.IntType.TheVariants as ty
 use Rattle.cpa_ints.specs.Wrapping.{wrapped}
@@ -11,7 +13,8 @@ use Rattle.c_lexer.specs.declared.fault.Rule.{Rule}
 use Rattle.c_lexer.specs.declared.fault.Rule.TheVariants.{L1, L3}
 use Rattle.c_lexer.specs.declared.token.TokenKind.{TokenKind}
 use Rattle.c_lexer.specs.declared.token.TokenKind.TheVariants.{Number, Character}
-use Rattle.c_lexer.specs.Numbers.{Base, Decimal, Octal, Hexadecimal, Rank, Int, Long, LongLong, Suffix, radix, type_of}
+use Rattle.c_lexer.specs.Numbers.{Base, Decimal, Octal, Hexadecimal, Rank, Int, Long, LongLong}
+use Rattle.c_lexer.specs.Numbers.{Suffix, radix, type_of}
 use Rattle.c_lexer.specs.Quoted.{simple_escape}
 
 -- x or X
@@ -21,8 +24,9 @@ is_x byte = byte == 120 || byte == 88
 -- the base by the first bytes
 abbrev pub base_of : List ℕ → Base
 base_of [] = Decimal
-base_of (first ∷ []) = cond (first == 48) Octal Decimal
-base_of (first ∷ second ∷ rest) = cond (first == 48) (cond (is_x second) Hexadecimal Octal) Decimal
+base_of (first ∷ []) = cond (first == ZERO) Octal Decimal
+base_of (first ∷ second ∷ rest) =
+    cond (first == ZERO) (cond (is_x second) Hexadecimal Octal) Decimal
 
 -- how many bytes stand before the digits
 abbrev pub front_of : Base → ℕ
@@ -85,13 +89,14 @@ number_of run = number_in (base_of run) (drop (front_of (base_of run)) run)
 
 -- a byte that stands for itself between quotes of a character
 abbrev pub is_plain : ℕ → Bool
-is_plain byte = nat_le 32 byte && nat_le byte 126 && not (byte == 39) && not (byte == 92)
+is_plain byte =
+    nat_le SPACE byte && nat_le byte TILDE && not (byte == SINGLE_QUOTE) && not (byte == BACKSLASH)
 
 -- the number of a plain byte or a simple escape
 abbrev pub single_of : List ℕ → Option ℕ
 single_of [] = None
 single_of (first ∷ []) = cond (is_plain first) (Some first) None
-single_of (first ∷ second ∷ []) = cond (first == 92) (simple_escape second) None
+single_of (first ∷ second ∷ []) = cond (first == BACKSLASH) (simple_escape second) None
 single_of (first ∷ second ∷ third ∷ rest) = None
 
 -- all the bytes are digits of this many, and there are some
@@ -102,12 +107,12 @@ is_numeral radix digits = not (length digits == 0) && list_all (λ byte. is_digi
 abbrev pub is_hex_escape : List ℕ → Bool
 is_hex_escape [] = false
 is_hex_escape (first ∷ []) = false
-is_hex_escape (first ∷ second ∷ rest) = first == 92 && second == 120 && is_numeral 16 rest
+is_hex_escape (first ∷ second ∷ rest) = first == BACKSLASH && second == 120 && is_numeral 16 rest
 
 -- a backslash and one to three octal digits
 abbrev pub is_octal_escape : List ℕ → Bool
 is_octal_escape [] = false
-is_octal_escape (first ∷ rest) = first == 92 && nat_le (length rest) 3 && is_numeral 8 rest
+is_octal_escape (first ∷ rest) = first == BACKSLASH && nat_le (length rest) 3 && is_numeral 8 rest
 
 -- a character of this number, where a byte holds it
 abbrev pub held : ℕ → Result TokenKind Rule

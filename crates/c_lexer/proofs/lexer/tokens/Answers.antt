@@ -8,17 +8,24 @@ returns-in-Err-clause-fault c =
     let more : c.parts.place < length c.args.text.now = search rules in
     let read : piece_of c.parts.fresh (drop c.parts.place c.args.text.now) ≡ Err c.in-Err.rule =
     ap (piece_of c.parts.fresh) (sym c.behind-rest.ensures) ∙ sym c.in-Err.ensures.value in
-    let fault = fault_cut c.args.text.now c.parts.place c.parts.fresh c.parts.found.items c.in-Err.rule c.parts.invariant more read in
-    (fault, fault_no_tokens c.args.text.now (record { rule = c.in-Err.rule; place = c.parts.place }) fault)
+    let fault = fault_cut c.args.text.now c.parts.place c.parts.fresh c.parts.found.items
+    c.in-Err.rule c.parts.invariant more read in (
+      fault,
+      fault_no_tokens c.args.text.now (record { rule = c.in-Err.rule; place = c.parts.place })
+          fault,
+    )
 
 pub parts-smaller : goal.parts-smaller
 parts-smaller c =
     let more : c.parts.place < length c.args.text.now = search rules in
-    let some : 0 < c.in-Ok.piece.length = piece_some c.parts.fresh c.behind-rest.result.now c.in-Ok.piece (sym c.in-Ok.ensures.value) in
+    let some : 0 < c.in-Ok.piece.length = piece_some c.parts.fresh c.behind-rest.result.now
+    c.in-Ok.piece (sym c.in-Ok.ensures.value) in
     omega arith
 
 pub parts-preserved : goal.parts-preserved
 parts-preserved c =
     let within : c.in-Ok.piece.length ≤ length c.behind-rest.result.now = c.in-Ok.ensures.within in
-    cut_on c.args.text.now c.behind-rest.result.now _ c.parts.place c.parts.fresh c.fresh_behind-fresh.result c.parts.found.items c.push_token.new.found.items c.in-Ok.piece
-    c.parts.invariant c.behind-rest.ensures c.in-Ok.ensures.value within (search rules) c.fresh_behind-fresh.ensures c.in_ok-push_token.ensures.ok
+    cut_on c.args.text.now c.behind-rest.result.now _ c.parts.place c.parts.fresh
+    c.fresh_behind-fresh.result c.parts.found.items c.push_token.new.found.items c.in-Ok.piece
+    c.parts.invariant c.behind-rest.ensures c.in-Ok.ensures.value within (search rules)
+    c.fresh_behind-fresh.ensures c.in_ok-push_token.ensures.ok

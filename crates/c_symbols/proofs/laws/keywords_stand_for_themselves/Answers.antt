@@ -1,4 +1,5 @@
-use Rattle.c_symbols.proofs.Tables.{spelled_storage_word, spelled_specifier_word, spelled_type_word, spelled_outside_word}
+use Rattle.c_symbols.proofs.Tables.{spelled_storage_word, spelled_specifier_word, spelled_type_word}
+use Rattle.c_symbols.proofs.Tables.{spelled_outside_word}
 use Rattle.c_symbols.proofs.laws.keywords_stand_for_themselves.Goals as goal
 
 pub returns-clause-storage : goal.returns-clause-storage

@@ -1,4 +1,5 @@
-use Rattle.c_symbols.proofs.Tables.{spelled_binary_operator, spelled_assignment_operator, spelled_step_operator, spelled_stray_mark}
+use Rattle.c_symbols.proofs.Tables.{spelled_binary_operator, spelled_assignment_operator}
+use Rattle.c_symbols.proofs.Tables.{spelled_step_operator, spelled_stray_mark}
 use Rattle.c_symbols.proofs.laws.marks_stand_for_themselves.Goals as goal
 
 pub returns-clause-binary : goal.returns-clause-binary

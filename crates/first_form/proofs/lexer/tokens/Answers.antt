@@ -6,7 +6,9 @@ pub loop-rest-init : goal.loop-rest-init
 loop-rest-init c = first_cut _ _ _ c.after_blanks-rest.ensures c.new-found.ensures.items
 
 pub returns-in_default-clause-unbuilt : goal.returns-in_default-clause-unbuilt
-returns-in_default-clause-unbuilt c e = let some : 0 < length c.loop-rest.rest.now = search rules in no_cut _ _ _ some c.loop-rest.invariant c.in_default.ensures
+returns-in_default-clause-unbuilt c e =
+    let some : 0 < length c.loop-rest.rest.now = search rules in
+    no_cut _ _ _ some c.loop-rest.invariant c.in_default.ensures
 
 pub loop-rest-preserved : goal.loop-rest-preserved
 loop-rest-preserved c =

@@ -13,5 +13,7 @@ same_unit u v body length = λ i. record { body = body i; length = length i }
 pub returns : goal.returns
 returns c bytes u v first second =
     let tokens = one_spelling bytes (unit_leaves u) (unit_leaves v) first.text second.text in
-    let inner : joined (map leaves u.body) ++ (Token.RightBrace ∷ []) ≡ joined (map leaves v.body) ++ (Token.RightBrace ∷ []) = cc tokens in
-    same_unit u v (one_block u.body v.body [] [] inner first.nearest second.nearest).0 (first.length ∙ sym second.length)
+    let inner : joined (map leaves u.body) ++ (Token.RightBrace ∷ [])
+    ≡ joined (map leaves v.body) ++ (Token.RightBrace ∷ []) = cc tokens in
+    same_unit u v (one_block u.body v.body [] [] inner first.nearest second.nearest).0 (first.length
+    ∙ sym second.length)
