@@ -274,10 +274,10 @@ pub(crate) fn edges(
     ensures { IfOk result (AreEdgesBelow program.now (point_count program.now)) }
 {
     let mut edges = Seq::new(alloc);
-    for n in 0..program.stmts.as_slice().len() {
+    for n in 0..program.stmts.len() {
         add_leaving(alloc, program, places, n as u32, &mut edges)?;
     }
-    for f in 0..program.bodies.as_slice().len() {
+    for f in 0..program.bodies.len() {
         add_returns(program, places, sites, f as u32, &mut edges)?;
     }
     Ok(edges)

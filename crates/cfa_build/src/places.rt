@@ -87,7 +87,7 @@ fn place_bodies(program: &Program, places: &mut [Place])
     requires each { length places.old ≡ length program.now.stmts }
     ensures { ArePlacesBelow program.now 0 places.new }
 {
-    for (f, body) in program.bodies.as_slice().iter().enumerate() {
+    for (f, body) in program.bodies.iter().enumerate() {
         places[*body as usize] = Place {
             next: program.exit(f as u32),
             inner_loop: None,
@@ -107,7 +107,7 @@ pub(crate) fn places(alloc: Global, program: &Program) -> Result<Vec<Place>, All
         inner_loop: None,
         function: 0,
     };
-    let count = program.stmts.as_slice().len();
+    let count = program.stmts.len();
     let mut places = vec![in alloc; unknown; count]?;
     place_bodies(program, &mut places);
     for n in 0..count {

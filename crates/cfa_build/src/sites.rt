@@ -23,7 +23,7 @@ fn no_sites(alloc: Global, program: &Program) -> Result<Vec<Seq<u32>>, AllocErro
     ensures { IfOk result (λ sites. AreSitesBelow program.now 0 sites.items) }
 {
     let mut sites = Vec::new(alloc);
-    for _ in program.bodies.as_slice() {
+    for _ in &program.bodies {
         sites.push(Seq::new(alloc))?;
     }
     Ok(sites)
@@ -49,7 +49,7 @@ pub(crate) fn call_sites(alloc: Global, program: &Program) -> Result<Vec<Seq<u32
         (λ sites. AreSitesBelow program.now (length program.now.stmts) sites.items) }
 {
     let mut sites = no_sites(alloc, program)?;
-    for n in 0..program.stmts.as_slice().len() {
+    for n in 0..program.stmts.len() {
         add_site(program, n as u32, &mut sites)?;
     }
     Ok(sites)

@@ -19,7 +19,7 @@ use Rattle.cpa_model.specs.Automata.{StepsAlong}
 use Rattle.cpa_model.specs.Steps.{StepsStack}
 use Rattle.cpa_iface.specs.declared.analysis.Part.TheVariants as part
 use Rattle.cpa_iface.specs.declared.precisions.Precision.{Precision}
-use Rattle.cpa_iface.specs.Acts.{IsActOf, IsEdgeOf}
+use Rattle.cpa_model.specs.Acts.{IsActOf, IsEdgeOf}
 use Rattle.cpa_iface.specs.Meanings.{IsShaped}
 use Rattle.cpa_iface.specs.Pins.{PinsStep}
 use Rattle.cpa_iface.specs.Laws.{InitialLaws, TransferLaws, SomeHolds, CoversEdge, PinsEdge, IsBounded}

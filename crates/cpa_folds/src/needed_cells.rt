@@ -38,16 +38,9 @@ fn mark_needed(marks: &mut [bool], cfa: &Cfa, edges: &[u32])
     let mut place = edges.len();
     while 0 < place {
         place -= 1;
-        let edge = edge_at(cfa, edges[place]);
+        let edge = cfa.edge(edges[place]);
         add(marks, &edge.act);
     }
-}
-
-fn edge_at(cfa: &Cfa, edge: u32) -> &Edge
-    requires { edge < length cfa.now.edges }
-    ensures { slice_get cfa.now.edges edge ≡ Some result.now }
-{
-    &cfa.edges.as_slice()[edge as usize]
 }
 
 /// Marks the cells that the act adds to those that are marked.

@@ -18,7 +18,7 @@ use Rattle.cpa_iface.specs.declared.precisions.Precision.{Precision}
 use Rattle.cpa_iface.specs.Meanings.{AreShaped}
 use Rattle.cpa_iface.specs.Pins.{pin, PinsStep}
 use Rattle.cpa_iface.specs.Laws.{InitialLaws, TransferLaws, SomeHolds, CoversEdge, PinsEdge, IsBounded}
-use Rattle.cpa_iface.proofs.EdgesSound.{edge_sound}
+use Rattle.cpa_model.specs.lemmas.EdgesSound.{edge_sound}
 use Rattle.cpa_iface.specs.Locations.{location, names_point, may_stand_at, next_points}
 
 names_holds : (s : State) (point : ℕ) (f : Fact) → s.point ≡ point → FactHolds s f → names_point point f ≡ true

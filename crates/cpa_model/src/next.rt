@@ -1,5 +1,5 @@
 //! Where control goes after a statement, found in the statement tree by `Next`. That there is
-//! exactly one such point is shown in `proofs/Trees.antt`.
+//! exactly one such point is shown in `specs/lemmas/Trees.antt`.
 ghost use Rattle.std.specs.Prelude.{◌≡◌, ℕ, ◌^◌, ◌<◌, ◌≤◌, ◌↔◌, Some, length, IfSome, IfNone, IsSome};
 ghost use Rattle.cpa_model.specs.Programs.{IsBody, IsNumbered, IsPart, Next, point_count, first_of, after_item, after_part};
 ghost use Rattle.cpa_model.specs.Successors.{IsPartAt};
@@ -31,7 +31,7 @@ fn function_of_body(program: &Program, number: u32) -> Option<u32>
     ensures found { IfSome result (λ f. IsBody program.now f number) }
     ensures none { IfNone result ((f : ℕ) → IsBody program.now f number → ⊥) }
 {
-    for (function, body) in program.bodies.as_slice().iter().enumerate() {
+    for (function, body) in program.bodies.iter().enumerate() {
         if *body == number {
             return Some(function as u32);
         }
@@ -45,7 +45,7 @@ fn whole_of(program: &Program, part: u32) -> Option<(u32, Successor)>
     ensures found { IfSome result (λ r. IsPartAt program.now r.0 part r.1) }
     ensures none { IfNone result ((b : ℕ) → IsPart program.now b part → ⊥) }
 {
-    for (number, stmt) in program.stmts.as_slice().iter().enumerate() {
+    for (number, stmt) in program.stmts.iter().enumerate() {
         if let Some(successor) = after_part(number as u32, stmt, part) {
             return Some((number as u32, successor));
         }

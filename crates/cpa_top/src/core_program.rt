@@ -281,7 +281,7 @@ impl Builder {
 }
 
 /// The program that a tree stands for.
-pub(crate) fn core(alloc: Global, unit: &Unit) -> Result<Program, AllocError>
+pub fn core(alloc: Global, unit: &Unit) -> Result<Program, AllocError>
     requires small { unit.now.length ≤ PROGRAM_LIMIT }
     requires points { unit_points unit.now ≤ MAX_POINTS }
     ensures { IfOk result (λ program. program ≡ core_of unit.now) }
@@ -335,6 +335,3 @@ fn result_is_zero() -> Stmt
         value: constant(0),
     }
 }
-
-#[cfg(test)]
-mod tests;

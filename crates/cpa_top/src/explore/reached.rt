@@ -106,7 +106,7 @@ impl Reached {
         ensures size { OnOk result (length self.new.entry_at.items ≡ length self.old.entry_at.items) }
         ensures pushed { OnOk result (self.new.entries ≡ self.old.entries ++ elem ∷ []) }
     {
-        let number = self.entries.as_slice().len();
+        let number = self.entries.len();
         self.entries.push(elem)?;
         self.entry_at[point as usize] = Some(number);
         Ok(())

@@ -1,9 +1,8 @@
 //! The cores of three texts, as another implementation of the rules gives them.
 ghost use Rattle.std.specs.Prelude.{◌≤◌, length};
 
-use super::core;
-use crate::verify::PROGRAM_LIMIT;
 use cpa_model::{Program, Spell, Stmt};
+use cpa_top::{PROGRAM_LIMIT, core};
 use first_form::{FirstError, first_form};
 use std::alloc::{AllocError, Global};
 use std::test::Fail;
@@ -91,17 +90,13 @@ fn texts_have_their_cores(rt: HostRuntime) -> Result<(), Fail> {
     ] {
         assert!(rt; text.len() <= 1_048_576);
         let program = core_of_text(alloc, text.as_bytes())?;
+        assert_eq!(rt; program.cells.len(), cells, "the cells of {text}");
         assert_eq!(rt;
-            program.cells.as_slice().len(),
-            cells,
-            "the cells of {text}"
-        );
-        assert_eq!(rt;
-            program.stmts.as_slice().len(),
+            program.stmts.len(),
             stmts.len(),
             "the statements of {text}"
         );
-        for (stmt, want) in program.stmts.as_slice().iter().zip(stmts) {
+        for (stmt, want) in program.stmts.iter().zip(stmts) {
             assert_eq!(rt; spelled(alloc, stmt)?.as_str(), *want, "in {text}");
         }
         assert_eq!(rt; program.text_len as usize, text.len());

@@ -13,7 +13,7 @@ use Rattle.cpa_model.specs.Expressions.{types_of, IsExpr}
 use Rattle.cpa_model.specs.Programs.{IsStmt}
 use Rattle.cpa_model.specs.Steps.{Moves, MovesAt, at_statement, at_exit}
 use Rattle.cpa_model.specs.Automata.{IsAutomaton}
-use Rattle.cpa_iface.specs.Acts.{IsActOf, IsEdgeOf}
+use Rattle.cpa_model.specs.Acts.{IsActOf, IsEdgeOf}
 
 -- a statement of the automaton's program moves by an act that names what is there
 of_statement : (cfa : Cfa) (a : IsAutomaton cfa) (n : ℕ) (s : Stmt) (move : Act) (m : ℕ) → IsStmt a.program n s

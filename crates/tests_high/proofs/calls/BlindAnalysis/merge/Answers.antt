@@ -3,8 +3,8 @@ use Rattle.std.proofs.lemmas.Result.{IfOk-weaker}
 use Rattle.cpa_model.specs.declared.facts.Elem.{Elem}
 use Rattle.cpa_iface.specs.Laws.{MergeLaws}
 use Rattle.cpa_iface.specs.CommonLaws.{merged_facts-laws}
-use Rattle.cpa_top.specs.Blind.{blind}
-use Rattle.cpa_top.proofs.top.tests.BlindAnalysis.merge.Goals as goal
+use Rattle.tests_high.specs.Blind.{blind}
+use Rattle.tests_high.proofs.calls.BlindAnalysis.merge.Goals as goal
 
 pub returns-clause-laws : goal.returns-clause-laws
 returns-clause-laws c =

@@ -5,7 +5,7 @@ use Rattle.cpa_model.specs.declared.program.Stmt.{Stmt}
 use Rattle.cpa_model.specs.declared.program.Stmt.TheVariants as stmt
 use Rattle.cpa_model.specs.declared.program.Program.{Program}
 use Rattle.cpa_model.specs.Programs.{IsNumbered, Tiles, parts_of}
-use Rattle.cpa_model.proofs.tests.two_functions.Goals as goal
+use Rattle.tests_high.proofs.programs.two_functions.Goals as goal
 
 -- the statements of the example, and the number after the tree of each
 abbrev example : Expr → List Stmt
