@@ -25,7 +25,8 @@ use cpa_iface::{
 use cpa_model::{Cfa, Elem, Path, edges_are_sound, has_facts};
 use std::alloc::{AllocError, Global};
 
-/// The analysis of call stacks: an element says which stack a state has, from the bottom to the top.
+/// The analysis of call stacks: an element says which stack a state has, from the bottom to the
+/// top.
 #[derive(Debug, Drop)]
 pub struct Callstack;
 

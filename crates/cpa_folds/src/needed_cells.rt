@@ -13,8 +13,8 @@ use std::alloc::{AllocError, Global};
 
 /// The cells of the automaton that are needed along the path, ascending: those that its tests may
 /// read, and from the last edge to the first those that decide what is written to such a cell, or
-/// whether a write traps. An analysis that tracks them has what it takes to see that the path has no
-/// run, as far as values of cells show it.
+/// whether a write traps. An analysis that tracks them has what it takes to see that the path has
+/// no run, as far as values of cells show it.
 ///
 /// It takes time in the sizes of the expressions along the path and the arrays that they name.
 pub fn needed(alloc: Global, cfa: &Cfa, path: &Path) -> Result<Seq<u32>, AllocError>
@@ -47,7 +47,8 @@ fn mark_needed(marks: &mut [bool], cfa: &Cfa, edges: &[u32])
 fn add(marks: &mut [bool], act: &Act)
     ensures length { length marks.new ≡ length marks.old }
     ensures marks { (cell : ℕ) → is_marked marks.new cell
-        ≡ (is_marked marks.old cell || (nat_lt cell (length marks.old) && adds act.now (is_marked marks.old) cell)) }
+        ≡ (is_marked marks.old cell
+        || (nat_lt cell (length marks.old) && adds act.now (is_marked marks.old) cell)) }
 {
     match act {
         Act::Assume { test, .. } => mark_reads(marks, test),

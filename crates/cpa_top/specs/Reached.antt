@@ -49,7 +49,9 @@ pub record AreAdded (elems : List Elem) (before now : Reached) : Type 0 where
 -- where the element is the pin of the point that the edge of this number leaves, the pin of the
 -- point to which the edge leads is in the list
 abbrev pub LeadsInto : Cfa → ℕ → Elem → List Elem → Type 0
-LeadsInto cfa k e es = (edge : Edge) → slice_get cfa.edges k ≡ Some edge → e ≡ pin edge.from → Contains es (pin edge.to)
+LeadsInto cfa k e es =
+    (edge : Edge) → slice_get cfa.edges k ≡ Some edge → e ≡ pin edge.from
+    → Contains es (pin edge.to)
 
 -- the edge of that number leads from the entry of this number into the entries
 pub record LeadsOn (cfa : Cfa) (entries : List Elem) (number k : ℕ) : Type 0 where
@@ -61,4 +63,5 @@ IsExpanded cfa entries number = (k : ℕ) → LeadsOn cfa entries number k
 
 -- the entry of this number is the pin of no point of the errors
 abbrev pub IsErrorFree : Cfa → List Elem → ℕ → Type 0
-IsErrorFree cfa entries number = (p : ℕ) → slice_get entries number ≡ Some (pin p) → Contains cfa.errors p → ⊥
+IsErrorFree cfa entries number =
+    (p : ℕ) → slice_get entries number ≡ Some (pin p) → Contains cfa.errors p → ⊥

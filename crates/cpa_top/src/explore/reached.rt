@@ -48,7 +48,8 @@ impl Reached {
         requires tied { AreTied self.old.entries self.old.entry_at.items }
         requires pinned { IsPinBelow (length self.old.entry_at.items) elem }
         ensures tied { OnOk result (AreTied self.new.entries self.new.entry_at.items) }
-        ensures size { OnOk result (length self.new.entry_at.items ≡ length self.old.entry_at.items) }
+        ensures size { OnOk result
+            (length self.new.entry_at.items ≡ length self.old.entry_at.items) }
         ensures grown { OnOk result (GrewBy elem self.old.entries self.new.entries) }
         ensures held { OnOk result (Contains self.new.entries elem) }
     {
@@ -103,7 +104,8 @@ impl Reached {
         requires pinned { elem ≡ pin point }
         requires free { slice_get self.old.entry_at.items point ≡ Some None }
         ensures tied { OnOk result (AreTied self.new.entries self.new.entry_at.items) }
-        ensures size { OnOk result (length self.new.entry_at.items ≡ length self.old.entry_at.items) }
+        ensures size { OnOk result
+            (length self.new.entry_at.items ≡ length self.old.entry_at.items) }
         ensures pushed { OnOk result (self.new.entries ≡ self.old.entries ++ elem ∷ []) }
     {
         let number = self.entries.len();

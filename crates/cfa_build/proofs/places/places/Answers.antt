@@ -3,4 +3,6 @@ use Rattle.cfa_build.proofs.Known.{all_known}
 use Rattle.cfa_build.proofs.places.places.Goals as goal
 
 pub returns : goal.returns
-returns c = all_known c.args.program.now c.requires.trees c.loop-n.n c.loop-n.places.items (omega (arith, ap length c.as_slice-count.ensures)) c.loop-n.invariant
+returns c =
+    all_known c.args.program.now c.requires.trees c.loop-n.n c.loop-n.places.items
+    (omega (arith, ap length c.as_slice-count.ensures)) c.loop-n.invariant

@@ -18,7 +18,8 @@ overflow_sub-result c =
     let before = rw c.as_slice-edges.ensures at c.first_from-first.ensures.before in
     let after = rw c.as_slice-edges.ensures at c.first_after-last.ensures.after in
     let bound = rw c.as_slice-edges.ensures at c.first_from-first.ensures.bound in
-    first_to_last edges c.args.point c.first_from-first.result c.first_after-last.result bound before after
+    first_to_last edges c.args.point c.first_from-first.result
+    c.first_after-last.result bound before after
 
 pub overflow_cast-result : goal.overflow_cast-result
 overflow_cast-result c =
@@ -41,7 +42,9 @@ returns-clause-within c =
     let before = rw c.as_slice-edges.ensures at c.first_from-first.ensures.before in
     let after = rw c.as_slice-edges.ensures at c.first_after-last.ensures.after in
     let bound = rw c.as_slice-edges.ensures at c.first_from-first.ensures.bound in
-    let le = first_to_last edges c.args.point c.first_from-first.result c.first_after-last.result bound before after in
+    let le =
+    first_to_last edges c.args.point c.first_from-first.result
+    c.first_after-last.result bound before after in
     let high = c.first_after-last.ensures.bound in
     omega (arith, same, le, high)
 
@@ -58,6 +61,7 @@ returns-clause-leave c =
     let after = rw c.as_slice-edges.ensures at c.first_after-last.ensures.after in
     let bound = rw c.as_slice-edges.ensures at c.first_from-first.ensures.bound in
     stands_between edges c.args.point c.first_from-first.result c.first_after-last.result
-    (first_to_last edges c.args.point c.first_from-first.result c.first_after-last.result bound before after)
+    (first_to_last edges c.args.point c.first_from-first.result
+    c.first_after-last.result bound before after)
     before (rw c.as_slice-edges.ensures at c.first_from-first.ensures.from)
     (rw c.as_slice-edges.ensures at c.first_after-last.ensures.upto) after

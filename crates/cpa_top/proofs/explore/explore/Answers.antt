@@ -17,7 +17,9 @@ loop-next-preserved g c =
     let same = ap (λ (xs : List Elem). length xs) c.as_slice.ensures in
     let inside : at.next < length at.reached.entries = omega (arith, same, c.loop-next-test.true) in
     let done = c.in_ok-expand.ensures in
-    one_explored c.args.cfa.now at.next at.reached c.expand.new.reached _ _ _ at.invariant inside (c.stands_at_error.ensures.no c.if-stands_at_error.false) done.reached done.numbers done.expanded done.kept
+    one_explored c.args.cfa.now at.next at.reached c.expand.new.reached _ _ _ at.invariant inside
+    (c.stands_at_error.ensures.no c.if-stands_at_error.false) done.reached done.numbers
+    done.expanded done.kept
 
 pub returns : goal.returns
 returns g c =

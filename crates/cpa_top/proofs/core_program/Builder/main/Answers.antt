@@ -5,14 +5,19 @@ pub put-requires : goal.put-requires
 put-requires c = fits_block_put _ _ c.requires
 
 pub single-requires : goal.single-requires
-single-requires c = rw c.result_is_zero.ensures (fits_first _ _ _ (fits_block_inside _ _ _ _ _ c.requires c.in_ok-number.ensures))
+single-requires c =
+    rw c.result_is_zero.ensures (fits_first _ _ _
+    (fits_block_inside _ _ _ _ _ c.requires c.in_ok-number.ensures))
 
 pub statements-requires : goal.statements-requires
 statements-requires c =
-    fits_then _ _ _ _ _ _ (fits_block_inside _ _ _ _ _ c.requires c.in_ok-number.ensures) (rw c.result_is_zero.ensures at c.in_ok-single.ensures)
+    fits_then _ _ _ _ _ _ (fits_block_inside _ _ _ _ _ c.requires c.in_ok-number.ensures)
+    (rw c.result_is_zero.ensures at c.in_ok-single.ensures)
 
 pub returns : goal.returns
 returns c =
     adds_block _ _ _ _ _ _ _ _ c.in_ok-number.ensures
-    (adds_followed _ _ _ _ _ _ _ _ (rw (c.new-items.ensures, c.result_is_zero.ensures) at c.in_ok-single.ensures) c.in_ok-statements.ensures)
+    (adds_followed _ _ _ _ _ _ _ _
+    (rw (c.new-items.ensures, c.result_is_zero.ensures) at c.in_ok-single.ensures)
+    c.in_ok-statements.ensures)
     c.replace.ensures

@@ -8,7 +8,10 @@ pub empty_block-requires : goal.empty_block-requires
 empty_block-requires c = fits_blocks_first _ _ _ _ _ _ _ c.requires c.in_ok-number.ensures
 
 pub break_block-requires : goal.break_block-requires
-break_block-requires c = fits_blocks_second _ _ _ _ _ _ _ _ _ c.requires c.in_ok-number.ensures c.in_ok-yes.ensures
+break_block-requires c =
+    fits_blocks_second _ _ _ _ _ _ _ _ _ c.requires c.in_ok-number.ensures c.in_ok-yes.ensures
 
 pub returns : goal.returns
-returns c = rw c.in_ok-push.ensures.ok (adds_blocks _ _ _ _ _ _ _ _ _ _ _ _ _ c.in_ok-number.ensures c.in_ok-yes.ensures c.in_ok-no.ensures c.replace.ensures)
+returns c =
+    rw c.in_ok-push.ensures.ok (adds_blocks _ _ _ _ _ _ _ _ _ _ _ _ _ c.in_ok-number.ensures
+    c.in_ok-yes.ensures c.in_ok-no.ensures c.replace.ensures)
