@@ -14,7 +14,7 @@ use Rattle.cpa_top.specs.declared.report.Report.{Report}
 use Rattle.cpa_top.specs.declared.explore.Explored.TheVariants.{Safe, ErrorReached}
 use Rattle.cpa_model.specs.Covers.{IsCover, IsSafe}
 use Rattle.cpa_top.specs.Explored.{IsExplored}
-use Rattle.cpa_top.specs.declared.verify.TheConstants.{PROGRAM_LIMIT}
+use Rattle.c_lexer.specs.declared.lexer.TheConstants.{MAX_TEXT}
 use Rattle.cpa_top.specs.Reports.{report_text}
 use Rattle.cpa_top.specs.Listing.{listed_from, IsReportOf}
 use Rattle.cpa_top.specs.Core.{core_of}
@@ -81,7 +81,7 @@ safe_text bytes text tree P cfa elems r law b explored reported printed =
 
 -- a chain of edges to an error leaves the text unbuilt
 pub unbuilt_text : (bytes : List ℕ) (tree : Tree) (P : Program) (cfa : Cfa)
-    → length bytes ≤ PROGRAM_LIMIT
+    → length bytes ≤ MAX_TEXT
     → IsBuilt bytes tree P cfa → IsExplored cfa ErrorReached → IsUnbuiltText bytes
 unbuilt_text bytes tree P cfa short b explored = (
   short,
@@ -94,6 +94,6 @@ unbuilt_text bytes tree P cfa short b explored = (
 )
 
 -- so does a text of another form
-pub no_program : (bytes : List ℕ) → length bytes ≤ PROGRAM_LIMIT
+pub no_program : (bytes : List ℕ) → length bytes ≤ MAX_TEXT
     → ((tree : Tree) → IsFirstForm bytes tree → ⊥) → IsUnbuiltText bytes
 no_program bytes short none = (short, inl (λ P is. none is.0 is.1))

@@ -3,13 +3,13 @@ use Rattle.std.proofs.Common.{◌≡◌, ℕ, ◌≤◌, List, length, sym, ◌�
 use Rattle.std.specs.Prelude.{Option, Some, None, IfSome}
 use Rattle.cpa_top.specs.declared.answers.Answer.{Answer}
 use Rattle.cpa_top.specs.declared.answers.Answer.TheVariants as answer
-use Rattle.cpa_top.specs.declared.verify.TheConstants.{PROGRAM_LIMIT}
+use Rattle.c_lexer.specs.declared.lexer.TheConstants.{MAX_TEXT}
 use Rattle.cpa_top.specs.Run.{Call, IsVerify, IsOneExact, Wrote, IsSafeAnswer, IsUsage, IsUnbuilt, IsReadFault, IsTooLong, IsShortOfMemory, IsAnswerText, IsWriteFault, Refuses, IsStatus}
 use Rattle.cpa_top.specs.Answered.{status_of, text_of, IsDelivered, IsJudged, IsVerified, IsLawful}
 
 -- a judged text is a verified file, where its bytes are those told
 pub verified_of : (bytes : List ℕ) (told : Option (List ℕ)) (before after : ℕ) (a : Answer)
-    → length bytes ≤ PROGRAM_LIMIT
+    → length bytes ≤ MAX_TEXT
     → IfSome told (λ t. bytes ≡ t) → IsJudged bytes a → IsVerified told before after a
 verified_of bytes None before after (answer.Safe report) short same judged = tt
 verified_of bytes None before after answer.Usage short same judged = judged
@@ -18,9 +18,9 @@ verified_of bytes None before after answer.ReadFailed short same judged = absurd
 verified_of bytes None before after answer.TooLong short same judged = absurd judged
 verified_of bytes None before after answer.OutOfMemory short same judged = tt
 verified_of bytes (Some t) before after a short same judged =
-    some_told t a (subst (λ x. length x ≤ PROGRAM_LIMIT) same short)
+    some_told t a (subst (λ x. length x ≤ MAX_TEXT) same short)
     (subst (λ x. IsJudged x a) same judged) where
-      some_told : (t : List ℕ) (a : Answer) → length t ≤ PROGRAM_LIMIT → IsJudged t a
+      some_told : (t : List ℕ) (a : Answer) → length t ≤ MAX_TEXT → IsJudged t a
           → IsVerified (Some t) before after a
       some_told t (answer.Safe report) fits j = (fits, j)
       some_told t answer.Usage fits j = j

@@ -5,7 +5,7 @@ ghost use Rattle.cpa_model.specs.declared.program.Stmt.TheVariants as stmt;
 ghost use Rattle.cpa_top.specs.Core.{no_core, single, input, followed, block, choice, test_core, test_value, if_core, while_body, while_core, result_zero, return_core, core_of_statement, core_of_items, main_block, int_cell, core_of};
 ghost use Rattle.cpa_top.specs.CoreSteps.{Fits, Adds, AddsBlock, Grown, Replaced, core_of_else};
 
-use crate::verify::PROGRAM_LIMIT;
+use c_lexer::MAX_TEXT;
 use cpa_expr::read_scalar;
 use cpa_ints::Boxed;
 use cpa_model::{Cell, Expr, IntType, MAX_POINTS, Program, Seq, Stmt};
@@ -289,7 +289,7 @@ impl Builder {
 
 /// The program that a tree stands for.
 pub fn core(alloc: Global, unit: &Unit) -> Result<Program, AllocError>
-    requires small { unit.now.length ≤ PROGRAM_LIMIT }
+    requires small { unit.now.length ≤ MAX_TEXT }
     requires points { unit_points unit.now ≤ MAX_POINTS }
     ensures { IfOk result (λ program. program ≡ core_of unit.now) }
 {

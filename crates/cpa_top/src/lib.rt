@@ -11,4 +11,3 @@ mod verify;
 pub use core_program::core;
 pub use report::{Listed, Report};
 pub use top::run;
-pub use verify::PROGRAM_LIMIT;

@@ -13,15 +13,13 @@ use crate::answers::Answer;
 use crate::core_program::core;
 use crate::explore::{Explored, explore};
 use crate::report::{Listed, Report, print};
+use c_lexer::MAX_TEXT;
 use cfa_build::build;
 use cpa_iface::{Analysis, Part, Settings};
 use cpa_model::{Cfa, Elem, Seq, covers_are_safe};
 use cpa_outside::{Inputs, ReadFault};
 use first_form::{FirstError, first_form};
 use std::alloc::{AllocError, Global};
-
-/// The most bytes that a program text may have.
-pub const PROGRAM_LIMIT: usize = 1_048_576;
 
 /// What an analysis is told where there is no configuration.
 const SETTINGS: Settings = Settings {
@@ -61,7 +59,7 @@ fn verify<I: Inputs>(
     ensures { IsVerified (I.bytes_of inputs.old name.now) (I.faults_of inputs.old name.now)
         (I.faults_of inputs.new name.now) result }
 {
-    match inputs.read(alloc, name, PROGRAM_LIMIT) {
+    match inputs.read(alloc, name, MAX_TEXT) {
         Ok(text) => judge(alloc, text.as_slice(), analysis),
         Err(ReadFault::Failed) => Answer::ReadFailed,
         Err(ReadFault::TooLong) => Answer::TooLong,
@@ -107,7 +105,7 @@ fn is_exact_on_point(analysis: &Box<dyn Analysis + Send>) -> bool
 
 /// What the job comes to on the text of a program.
 fn judge(alloc: Global, text: &[u8], analysis: &mut Box<dyn Analysis + Send>) -> Answer
-    requires short { length text.now ≤ PROGRAM_LIMIT }
+    requires short { length text.now ≤ MAX_TEXT }
     requires exact { (meaning analysis.old).part ≡ Part.Point }
     ensures { IsJudged text.now result }
 {
@@ -122,7 +120,7 @@ fn decide(
     text: &[u8],
     analysis: &mut Box<dyn Analysis + Send>,
 ) -> Result<Answer, AllocError>
-    requires short { length text.now ≤ PROGRAM_LIMIT }
+    requires short { length text.now ≤ MAX_TEXT }
     requires exact { (meaning analysis.old).part ≡ Part.Point }
     ensures { IfOk result (λ answer. IsJudged text.now answer) }
 {

@@ -1,8 +1,9 @@
 //! The cores of three texts, as another implementation of the rules gives them.
 ghost use Rattle.std.specs.Prelude.{◌≤◌, length};
 
+use c_lexer::MAX_TEXT;
 use cpa_model::{Program, Spell, Stmt};
-use cpa_top::{PROGRAM_LIMIT, core};
+use cpa_top::core;
 use first_form::{FirstError, first_form};
 use std::alloc::{AllocError, Global};
 use std::test::Fail;
@@ -15,7 +16,7 @@ fn spelled(alloc: Global, stmt: &Stmt) -> Result<String, AllocError> {
 }
 
 fn core_of_text(alloc: Global, text: &[u8]) -> Result<Program, FirstError>
-    requires { length text.now ≤ PROGRAM_LIMIT }
+    requires { length text.now ≤ MAX_TEXT }
 {
     let tree = first_form(alloc, text)?;
     Ok(core(alloc, &tree)?)
@@ -88,7 +89,7 @@ fn texts_have_their_cores(rt: HostRuntime) -> Result<(), Fail> {
             ][..],
         ),
     ] {
-        assert!(rt; text.len() <= 1_048_576);
+        assert!(rt; text.len() <= MAX_TEXT);
         let program = core_of_text(alloc, text.as_bytes())?;
         assert_eq!(rt; program.cells.len(), cells, "the cells of {text}");
         assert_eq!(rt;
