@@ -5,4 +5,4 @@ use Rattle.cfa_build.proofs.places.places.Goals as goal
 pub returns : goal.returns
 returns c =
     all_known c.args.program.now c.requires.trees c.loop-n.n c.loop-n.places.items
-    (omega (arith, ap length c.as_slice-count.ensures)) c.loop-n.invariant
+    (omega (arith, ap length c.len-count.ensures)) c.loop-n.invariant
