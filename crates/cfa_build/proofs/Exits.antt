@@ -1,9 +1,12 @@
 -- Lists of edges that grow to the next point, and the edges from the exits.
-use Rattle.std.proofs.Common.{◌≡◌, ◌≢◌, ℕ, ◌+◌, ◌<◌, List, [], ◌∷◌, ◌++◌, length, map, get_or, Option, Some, None, option_map, unwrap_or, refl, sym, ap, ◌∙◌, subst, inl, inr, ⊎_elim, arith, IsSomeAnd}
+use Rattle.std.proofs.Common.{◌≡◌, ◌≢◌, ℕ, ◌+◌, ◌<◌, List, [], ◌∷◌, ◌++◌, length, map, get_or}
+use Rattle.std.proofs.Common.{Option, Some, None, option_map, unwrap_or, refl, sym, ap, ◌∙◌, subst}
+use Rattle.std.proofs.Common.{inl, inr, ⊎_elim, arith, IsSomeAnd}
 use Rattle.std.specs.List.{All, AllByRecursion, Contains, slice_get}
 use Rattle.std.proofs.lemmas.Bool.{cases_eq}
 use Rattle.std.proofs.lemmas.List.{append-nil, length-map, get_or-map}
-use Rattle.std.proofs.lemmas.List.Elements.{Contains-append_left, Contains-append_right, All-from_recursion}
+use Rattle.std.proofs.lemmas.List.Elements.{Contains-append_left, Contains-append_right}
+use Rattle.std.proofs.lemmas.List.Elements.{All-from_recursion}
 use Rattle.std.proofs.lemmas.Option.{slice_get_within, slice_get-get_or}
 use Rattle.cpa_model.specs.declared.automaton.Act.{Act}
 use Rattle.cpa_model.specs.declared.automaton.Act.TheVariants as act
@@ -16,7 +19,8 @@ use Rattle.cpa_model.specs.Steps.{Moves, at_statement, at_exit, Returns}
 use Rattle.cpa_model.specs.TreeLaws.{TreeLaws}
 use Rattle.cfa_build.specs.declared.places.Place.{Place}
 use Rattle.cfa_build.specs.Places.{IsPlace, ArePlaces}
-use Rattle.cfa_build.specs.Edges.{AreNumbersBelow, AreSitesBelow, AreEdgesBelow, AreEdgesFrom, IsCallOf, return_edge, next_in}
+use Rattle.cfa_build.specs.Edges.{AreNumbersBelow, AreSitesBelow, AreEdgesBelow, AreEdgesFrom}
+use Rattle.cfa_build.specs.Edges.{IsCallOf, return_edge, next_in}
 use Rattle.cfa_build.proofs.Growth.{each_append, each_weaker}
 
 ordered_append : (n : ℕ) (xs ys : List Edge) → AreOrdered xs → AreOrdered ys

@@ -1,6 +1,8 @@
 -- The place of a part follows from the place of the whole, and so the table grows from each
 -- statement to its parts.
-use Rattle.std.proofs.Common.{◌≡◌, ◌≢◌, ℕ, ◌+◌, ◌<◌, ◌≤◌, false, List, length, get_or, set, Option, Some, None, refl, sym, ap, ◌∙◌, subst, inl, inr, ⊎_elim, arith, cond, IfSome, IsSomeAnd}
+use Rattle.std.proofs.Common.{◌≡◌, ◌≢◌, ℕ, ◌+◌, ◌<◌, ◌≤◌, false, List, length, get_or, set, Option}
+use Rattle.std.proofs.Common.{Some, None, refl, sym, ap, ◌∙◌, subst, inl, inr, ⊎_elim, arith, cond}
+use Rattle.std.proofs.Common.{IfSome, IsSomeAnd}
 use Rattle.std.specs.List.{All, slice_get}
 use Rattle.std.proofs.lemmas.Bool.{cases_eq, cases_Bool, cond-true, cond-false}
 use Rattle.std.proofs.lemmas.List.Elements.{Contains-get_or}
@@ -9,10 +11,13 @@ use Rattle.cpa_model.specs.declared.program.Stmt.{Stmt}
 use Rattle.cpa_model.specs.declared.program.Program.{Program}
 use Rattle.cpa_model.specs.declared.program.Successor.{Successor}
 use Rattle.cpa_model.specs.declared.program.Successor.TheVariants.{GoesTo, AfterWhole}
-use Rattle.cpa_model.specs.Programs.{IsStmt, IsBody, IsPart, after_part, parts_of, exit_of, Next, next_body, next_within, next_whole, is_loop, InLoop, loop_nearest, loop_further, function_body, function_part}
+use Rattle.cpa_model.specs.Programs.{IsStmt, IsBody, IsPart, after_part, parts_of, exit_of, Next}
+use Rattle.cpa_model.specs.Programs.{next_body, next_within, next_whole, is_loop, InLoop}
+use Rattle.cpa_model.specs.Programs.{loop_nearest, loop_further, function_body, function_part}
 use Rattle.cpa_model.specs.TreeLaws.{TreeLaws}
 use Rattle.cfa_build.specs.declared.places.Place.{Place}
-use Rattle.cfa_build.specs.Places.{IsPlace, ArePlaces, ArePlacesBelow, IsKnown, PartsPlaced, place_at, point_of, within}
+use Rattle.cfa_build.specs.Places.{IsPlace, ArePlaces, ArePlacesBelow, IsKnown, PartsPlaced}
+use Rattle.cfa_build.specs.Places.{place_at, point_of, within}
 use Rattle.cfa_build.proofs.Tables.{slice_get-set_same, slice_get-set_other}
 
 -- a part of a statement that is no loop stands in the loops in which the statement stands

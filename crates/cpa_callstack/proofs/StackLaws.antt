@@ -1,5 +1,6 @@
 -- That the analysis of call stacks keeps the laws.
-use Rattle.std.proofs.Common.{◌≡◌, ℕ, ◌<◌, arith, ◌&&◌, true, List, [], ◌∷◌, ◌++◌, refl, sym, ap, ◌∙◌, subst, inl, inr}
+use Rattle.std.proofs.Common.{◌≡◌, ℕ, ◌<◌, arith, ◌&&◌, true, List, [], ◌∷◌, ◌++◌, refl, sym, ap}
+use Rattle.std.proofs.Common.{◌∙◌, subst, inl, inr}
 use Rattle.std.specs.Prelude.{slice_get, Option, None, Some, if◌then◌else◌, ◌⊎◌}
 use Rattle.std.specs.List.{AllByRecursion, list_all}
 use Rattle.std.proofs.lemmas.Bool.{cond_both}
@@ -8,7 +9,8 @@ use Rattle.cpa_model.specs.declared.facts.Fact.TheVariants.{At, Stack, Equals, W
 use Rattle.cpa_model.specs.declared.facts.Elem.{Elem}
 use Rattle.cpa_model.specs.declared.states.State.{State}
 use Rattle.cpa_model.specs.declared.automaton.Act.{Act}
-use Rattle.cpa_model.specs.declared.automaton.Act.TheVariants.{Skip, Assign, Assume, Input, Call, Return}
+use Rattle.cpa_model.specs.declared.automaton.Act.TheVariants.{Skip, Assign, Assume, Input, Call}
+use Rattle.cpa_model.specs.declared.automaton.Act.TheVariants.{Return}
 use Rattle.cpa_model.specs.declared.automaton.Edge.{Edge}
 use Rattle.cpa_model.specs.declared.automaton.Cfa.{Cfa}
 use Rattle.cpa_model.specs.States.{state_at}
@@ -22,8 +24,10 @@ use Rattle.cpa_iface.specs.declared.precisions.Precision.{Precision}
 use Rattle.cpa_model.specs.Acts.{IsActOf, IsEdgeOf}
 use Rattle.cpa_iface.specs.Meanings.{IsShaped}
 use Rattle.cpa_iface.specs.Pins.{PinsStep}
-use Rattle.cpa_iface.specs.Laws.{InitialLaws, TransferLaws, SomeHolds, CoversEdge, PinsEdge, IsBounded}
-use Rattle.cpa_callstack.specs.Stacks.{callstack, with_stack, any_stack, first_stack, names_stack, stack_after, elem_of, stacks_after, next_stacks}
+use Rattle.cpa_iface.specs.Laws.{InitialLaws, TransferLaws, SomeHolds, CoversEdge, PinsEdge}
+use Rattle.cpa_iface.specs.Laws.{IsBounded}
+use Rattle.cpa_callstack.specs.Stacks.{callstack, with_stack, any_stack, first_stack, names_stack}
+use Rattle.cpa_callstack.specs.Stacks.{stack_after, elem_of, stacks_after, next_stacks}
 use Rattle.cpa_callstack.proofs.Popping.{stack_after-whole, stack_after-means}
 
 -- of facts that hold of a state, the first on the stack names its stack

@@ -5,15 +5,8 @@ ghost use Rattle.std.specs.Prelude.{◌≡◌, ◌<◌, [], length, slice_get, I
 ghost use Rattle.cpa_model.specs.declared.automaton.Edge.{Edge as AnEdge};
 ghost use Rattle.cpa_model.specs.Automata.{IsAutomaton};
 ghost use Rattle.cpa_iface.specs.Common.{merged_facts, no_precision};
-ghost use Rattle.cpa_iface.specs.Laws.{
-  InitialLaws,
-  FirstPrecisionLaws,
-  TransferLaws,
-  StrengthenLaws,
-  MergeLaws,
-  AdjustLaws,
-  RefineLaws,
-};
+ghost use Rattle.cpa_iface.specs.Laws.{InitialLaws, FirstPrecisionLaws, TransferLaws};
+ghost use Rattle.cpa_iface.specs.Laws.{StrengthenLaws, MergeLaws, AdjustLaws, RefineLaws};
 ghost use Rattle.cpa_iface.specs.Meanings.{IsShaped, IsPrecision};
 ghost use Rattle.cpa_callstack.specs.Stacks.{callstack, with_stack, next_stacks};
 

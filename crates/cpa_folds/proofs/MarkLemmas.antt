@@ -1,5 +1,6 @@
 -- Marks of a set of cells.
-use Rattle.std.proofs.Common.{◌≡◌, ℕ, ◌+◌, Bool, true, false, ◌&&◌, ◌||◌, List, [], ◌∷◌, ◌++◌, refl, sym, ap, ◌∙◌, arith, cond, add-one}
+use Rattle.std.proofs.Common.{◌≡◌, ℕ, ◌+◌, Bool, true, false, ◌&&◌, ◌||◌, List, [], ◌∷◌, ◌++◌, refl}
+use Rattle.std.proofs.Common.{sym, ap, ◌∙◌, arith, cond, add-one}
 use Rattle.std.specs.Prelude.{zero, suc, length, nat_lt, replicate}
 use Rattle.std.specs.List.{filter, list_any, range_with_len}
 use Rattle.cpa_expr.specs.declared.tree.Expr.{Expr, out-Expr}

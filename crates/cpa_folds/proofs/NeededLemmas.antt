@@ -1,10 +1,12 @@
 -- What one edge more adds to the needed cells.
-use Rattle.std.proofs.Common.{◌≡◌, ℕ, ◌<◌, Bool, ◌&&◌, ◌||◌, List, [], ◌∷◌, refl, sym, ap, ◌∙◌, drop, get_or, drop-cons, suc}
+use Rattle.std.proofs.Common.{◌≡◌, ℕ, ◌<◌, Bool, ◌&&◌, ◌||◌, List, [], ◌∷◌, refl, sym, ap, ◌∙◌}
+use Rattle.std.proofs.Common.{drop, get_or, drop-cons, suc}
 use Rattle.std.specs.Prelude.{length, nat_lt, Some, slice_get}
 use Rattle.std.specs.List.{list_any, range_with_len}
 use Rattle.cpa_expr.specs.Cells.{may_read}
 use Rattle.cpa_model.specs.declared.automaton.Act.{Act}
-use Rattle.cpa_model.specs.declared.automaton.Act.TheVariants.{Skip, Assign, Assume, Input, Call, Return}
+use Rattle.cpa_model.specs.declared.automaton.Act.TheVariants.{Skip, Assign, Assume, Input, Call}
+use Rattle.cpa_model.specs.declared.automaton.Act.TheVariants.{Return}
 use Rattle.cpa_model.specs.declared.automaton.Edge.{Edge}
 use Rattle.cpa_model.specs.declared.automaton.Cfa.{Cfa}
 use Rattle.cpa_folds.specs.Needed.{may_stop, adds, edge_adds, is_needed}

@@ -1,5 +1,6 @@
 -- That the analysis of locations keeps the laws.
-use Rattle.std.proofs.Common.{◌≡◌, ℕ, ◌<◌, arith, ◌&&◌, Bool, true, false, List, [], ◌∷◌, refl, sym, ap, ◌∙◌, subst, inl}
+use Rattle.std.proofs.Common.{◌≡◌, ℕ, ◌<◌, arith, ◌&&◌, Bool, true, false, List, [], ◌∷◌, refl, sym}
+use Rattle.std.proofs.Common.{ap, ◌∙◌, subst, inl}
 use Rattle.std.specs.Prelude.{slice_get, Some, if◌then◌else◌, ◌==◌}
 use Rattle.std.specs.List.{AllByRecursion, list_all}
 use Rattle.std.proofs.lemmas.Bool.{cond_both}
@@ -17,7 +18,8 @@ use Rattle.cpa_iface.specs.declared.analysis.Part.TheVariants as part
 use Rattle.cpa_iface.specs.declared.precisions.Precision.{Precision}
 use Rattle.cpa_iface.specs.Meanings.{AreShaped}
 use Rattle.cpa_iface.specs.Pins.{pin, PinsStep}
-use Rattle.cpa_iface.specs.Laws.{InitialLaws, TransferLaws, SomeHolds, CoversEdge, PinsEdge, IsBounded}
+use Rattle.cpa_iface.specs.Laws.{InitialLaws, TransferLaws, SomeHolds, CoversEdge, PinsEdge}
+use Rattle.cpa_iface.specs.Laws.{IsBounded}
 use Rattle.cpa_model.specs.lemmas.EdgesSound.{edge_sound}
 use Rattle.cpa_iface.specs.Locations.{location, names_point, may_stand_at, next_points}
 

@@ -1,5 +1,6 @@
 -- That what analyses share keeps the laws: to keep the common facts, and to change nothing.
-use Rattle.std.specs.Prelude.{◌≡◌, ◌≢◌, ℕ, ◌<◌, ◌≤◌, Bool, true, List, [], ◌∷◌, length, Some, IfSome, refl, ◌&&◌}
+use Rattle.std.specs.Prelude.{◌≡◌, ◌≢◌, ℕ, ◌<◌, ◌≤◌, Bool, true, List, [], ◌∷◌, length, Some}
+use Rattle.std.specs.Prelude.{IfSome, refl, ◌&&◌}
 use Rattle.std.specs.List.{AllByRecursion, filter, list_all}
 use Rattle.std.proofs.Common.{ap, sym, ◌∙◌, subst, arith, append-nil}
 use Rattle.std.proofs.lemmas.Bool.{cond_both}
@@ -17,8 +18,10 @@ use Rattle.cpa_iface.specs.declared.merging.MergeRule.TheVariants.{Sep, Join, Wi
 use Rattle.cpa_iface.specs.declared.precisions.Precision.{Precision}
 use Rattle.cpa_iface.specs.declared.entries.Entry.{Entry}
 use Rattle.cpa_iface.specs.Meanings.{Meaning, IsShaped, IsPrecision}
-use Rattle.cpa_iface.specs.Laws.{FirstPrecisionLaws, StrengthenLaws, MergeLaws, AdjustLaws, RefineLaws, AppendsMissing, AppendsSuggested}
-use Rattle.cpa_iface.specs.Common.{stands_in, common_facts, merged_facts, fact_count, no_precision, no_suggestion}
+use Rattle.cpa_iface.specs.Laws.{FirstPrecisionLaws, StrengthenLaws, MergeLaws, AdjustLaws}
+use Rattle.cpa_iface.specs.Laws.{RefineLaws, AppendsMissing, AppendsSuggested}
+use Rattle.cpa_iface.specs.Common.{stands_in, common_facts, merged_facts, fact_count, no_precision}
+use Rattle.cpa_iface.specs.Common.{no_suggestion}
 
 -- the analysis covers by the letter, and its rank is the number of facts
 pub record CoversByFacts (m : Meaning) : Type 0 where

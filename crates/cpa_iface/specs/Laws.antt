@@ -1,7 +1,8 @@
 -- The laws that each call of an analysis keeps, one record a call (CAV 2007, section 2, and ASE
 -- 2008; the refinement, exactness and widening laws are this project's own). The cover law stands
 -- in `Meaning`.
-use Rattle.std.specs.Prelude.{◌≡◌, ◌≢◌, ℕ, ◌<◌, ◌≤◌, List, [], ◌∷◌, ◌++◌, slice_get, Option, Some, None, IsSomeAnd, IfSome, IsTrue, true, ◌⊎◌, ⊤}
+use Rattle.std.specs.Prelude.{◌≡◌, ◌≢◌, ℕ, ◌<◌, ◌≤◌, List, [], ◌∷◌, ◌++◌, slice_get, Option, Some}
+use Rattle.std.specs.Prelude.{None, IsSomeAnd, IfSome, IsTrue, true, ◌⊎◌, ⊤}
 use Rattle.std.specs.List.{AllByRecursion, Contains}
 use Rattle.cpa_model.specs.declared.facts.Elem.{Elem}
 use Rattle.cpa_model.specs.declared.states.State.{State}
@@ -16,8 +17,10 @@ use Rattle.cpa_iface.specs.declared.merging.MergeRule.{MergeRule}
 use Rattle.cpa_iface.specs.declared.merging.MergeRule.TheVariants.{Sep, Widen}
 use Rattle.cpa_iface.specs.declared.precisions.Precision.{Precision}
 use Rattle.cpa_iface.specs.declared.entries.Entry.{Entry}
-use Rattle.cpa_iface.specs.Meanings.{Meaning, Suggestion, IsWithinOn, IsShaped, AreShaped, IsPrecision}
-use Rattle.cpa_iface.specs.Pins.{pin_of, PinsStep, IsSettledBy, IsControlPin, TracksAll, MustBeExact}
+use Rattle.cpa_iface.specs.Meanings.{Meaning, Suggestion, IsWithinOn, IsShaped, AreShaped}
+use Rattle.cpa_iface.specs.Meanings.{IsPrecision}
+use Rattle.cpa_iface.specs.Pins.{pin_of, PinsStep, IsSettledBy, IsControlPin, TracksAll}
+use Rattle.cpa_iface.specs.Pins.{MustBeExact}
 
 -- the state lies in some element of the list
 abbrev pub SomeHolds : State → List Elem → Type 0

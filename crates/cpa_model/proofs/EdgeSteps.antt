@@ -11,7 +11,8 @@ use Rattle.cpa_model.specs.declared.states.State.{State}
 use Rattle.cpa_model.specs.Programs.{point_count}
 use Rattle.cpa_model.specs.States.{IsState, initial_at, initial_of}
 use Rattle.cpa_model.specs.Steps.{Moves, Step, StepsStore}
-use Rattle.cpa_model.specs.Automata.{edge_of, IsAutomatonOf, IsStateOf, initial_state, StepsAlong, EdgeStep}
+use Rattle.cpa_model.specs.Automata.{edge_of, IsAutomatonOf, IsStateOf, initial_state, StepsAlong}
+use Rattle.cpa_model.specs.Automata.{EdgeStep}
 
 -- the automaton starts at main's body
 pub start_is : (P : Program) (cfa : Cfa) → IsAutomatonOf P cfa

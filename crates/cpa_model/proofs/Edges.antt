@@ -1,5 +1,7 @@
 -- The edges of an automaton: how many there are, and where those of a point stand.
-use Rattle.std.proofs.Common.{◌≡◌, ℕ, zero, suc, ◌+◌, ◌-◌, ◌*◌, ◌^◌, ◌<◌, ◌≤◌, ◌↔◌, List, [], ◌∷◌, length, get_or, Some, slice_get, true, false, refl, sym, ap, subst, ⊎_elim, lit<, lit≤, arith}
+use Rattle.std.proofs.Common.{◌≡◌, ℕ, zero, suc, ◌+◌, ◌-◌, ◌*◌, ◌^◌, ◌<◌, ◌≤◌, ◌↔◌, List, [], ◌∷◌}
+use Rattle.std.proofs.Common.{length, get_or, Some, slice_get, true, false, refl, sym, ap, subst}
+use Rattle.std.proofs.Common.{⊎_elim, lit<, lit≤, arith}
 use Rattle.std.specs.List.{AllByRecursion, Contains}
 use Rattle.std.specs.List.Sorted.{IsNonDecreasingBy}
 use Rattle.std.proofs.lemmas.Option.{slice_get_within, get_or_from_slice_get}

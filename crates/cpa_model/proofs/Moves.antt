@@ -1,5 +1,6 @@
 -- Steps lead from states to states.
-use Rattle.std.proofs.Common.{◌≡◌, ℕ, ◌+◌, ◌<◌, List, [], ◌∷◌, ℤ, Some, length, slice_get, slice_index, ⊎_elim, refl, sym, ap, subst, arith}
+use Rattle.std.proofs.Common.{◌≡◌, ℕ, ◌+◌, ◌<◌, List, [], ◌∷◌, ℤ, Some, length, slice_get}
+use Rattle.std.proofs.Common.{slice_index, ⊎_elim, refl, sym, ap, subst, arith}
 use Rattle.std.specs.Bool.{⊤}
 use Rattle.std.specs.List.{AllByRecursion}
 use Rattle.std.proofs.lemmas.Option.{slice_get_within, slice_get-get_or}
@@ -12,11 +13,14 @@ use Rattle.cpa_expr.specs.Shape.{type_of, AreCells}
 use Rattle.cpa_expr.specs.Cells.{AreValues}
 use Rattle.cpa_model.specs.Expressions.{types_of, IsExpr}
 use Rattle.cpa_model.specs.Programs.{IsStmt, IsWellFormed, parts_of, point_count}
-use Rattle.cpa_model.specs.Steps.{Moves, MovesAt, at_statement, at_exit, StepsStack, StepsStore, StepsKeepStates, BeginsInState}
+use Rattle.cpa_model.specs.Steps.{Moves, MovesAt, at_statement, at_exit, StepsStack, StepsStore}
+use Rattle.cpa_model.specs.Steps.{StepsKeepStates, BeginsInState}
 use Rattle.cpa_model.specs.lemmas.Lists.{AllByRecursion-push, AllByRecursion-front}
-use Rattle.cpa_model.proofs.Stores.{AreValues-set, AreValues-start, by_type, by_types, expr_in_range}
+use Rattle.cpa_model.proofs.Stores.{AreValues-set, AreValues-start, by_type, by_types}
+use Rattle.cpa_model.proofs.Stores.{expr_in_range}
 use Rattle.cpa_model.specs.lemmas.Parts.{part_of_place}
-use Rattle.cpa_model.specs.lemmas.Trees.{part_above, body_inside, next_inside, function_inside, some_function}
+use Rattle.cpa_model.specs.lemmas.Trees.{part_above, body_inside, next_inside, function_inside}
+use Rattle.cpa_model.specs.lemmas.Trees.{some_function}
 
 -- a part of a statement is a point
 part_inside : (P : Program) → IsWellFormed P → (b k c : ℕ) (s : Stmt) → IsStmt P b s

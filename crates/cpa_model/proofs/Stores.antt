@@ -1,5 +1,6 @@
 -- Stores keep a value in range for each cell.
-use Rattle.std.proofs.Common.{◌≡◌, ℕ, zero, suc, ℤ, List, [], ◌∷◌, Some, IfSome, IsSomeAnd, slice_get, slice_set, map, subst, sym}
+use Rattle.std.proofs.Common.{◌≡◌, ℕ, zero, suc, ℤ, List, [], ◌∷◌, Some, IfSome, IsSomeAnd}
+use Rattle.std.proofs.Common.{slice_get, slice_set, map, subst, sym}
 use Rattle.std.specs.List.{AllByRecursion}
 use Rattle.cpa_ints.specs.declared.integers.IntType.{IntType}
 use Rattle.cpa_ints.specs.Integers.{IsInRange}

@@ -4,7 +4,8 @@ ghost use Rattle.std.specs.Prelude.{◌≡◌, ◌++◌, ◌∷◌, List, ℕ, O
 ghost use Rattle.std.specs.List.{flat_map};
 ghost use Rattle.std.specs.String.{string_bytes};
 ghost use Rattle.cpa_expr.specs.Spelling.{expr_text};
-ghost use Rattle.cpa_model.specs.Spelling.{list_text, fact_text, elem_text, assign_text, stmt_text, act_text, edge_text};
+ghost use Rattle.cpa_model.specs.Spelling.{list_text, fact_text, elem_text, assign_text, stmt_text};
+ghost use Rattle.cpa_model.specs.Spelling.{act_text, edge_text};
 
 use crate::automaton::{Act, Edge};
 use crate::facts::{Elem, Fact};

@@ -1,12 +1,16 @@
 -- Elements added to a reached set.
-use Rattle.std.proofs.Common.{◌≡◌, ℕ, ◌+◌, List, [], ◌∷◌, ◌++◌, length, get_or, Some, slice_get, ◌⊎◌, refl, sym, ap, ◌∙◌, subst, inl, inr, ⊎_elim, append_assoc, arith}
+use Rattle.std.proofs.Common.{◌≡◌, ℕ, ◌+◌, List, [], ◌∷◌, ◌++◌, length, get_or, Some, slice_get}
+use Rattle.std.proofs.Common.{◌⊎◌, refl, sym, ap, ◌∙◌, subst, inl, inr, ⊎_elim, append_assoc, arith}
 use Rattle.std.specs.List.{All, Contains}
-use Rattle.std.proofs.lemmas.List.Elements.{All-nil, All-cons, All-append, All-weaker, All-contains, Contains-append_left, Contains-append_right, Contains-push_cases, Contains-get_or}
+use Rattle.std.proofs.lemmas.List.Elements.{All-nil, All-cons, All-append, All-weaker, All-contains}
+use Rattle.std.proofs.lemmas.List.Elements.{Contains-append_left, Contains-append_right}
+use Rattle.std.proofs.lemmas.List.Elements.{Contains-push_cases, Contains-get_or}
 use Rattle.cpa_model.specs.declared.facts.Elem.{Elem}
 use Rattle.cpa_model.specs.declared.automaton.Cfa.{Cfa}
 use Rattle.cpa_iface.specs.Pins.{pin}
 use Rattle.cpa_top.specs.declared.explore.reached.Reached.{Reached}
-use Rattle.cpa_top.specs.Reached.{AreTied, KeepsNumbers, GrewBy, AreAdded, IsReached, IsWalkedPin, IsPinBelow, LeadsInto, LeadsOn}
+use Rattle.cpa_top.specs.Reached.{AreTied, KeepsNumbers, GrewBy, AreAdded, IsReached, IsWalkedPin}
+use Rattle.cpa_top.specs.Reached.{IsPinBelow, LeadsInto, LeadsOn}
 use Rattle.cpa_top.proofs.PointPlaces.{at_front, place_of, in_list}
 
 pub numbers_same : (xs : List Elem) → KeepsNumbers xs xs

@@ -1,5 +1,6 @@
 -- The core of a tree is a well-formed program of as many points as the tree counts.
-use Rattle.std.proofs.Common.{◌≡◌, ℕ, zero, suc, ◌+◌, ◌≤◌, List, [], ◌∷◌, length, replicate, Some, slice_get, option_map, refl, sym, ap, ◌∙◌, subst, arith}
+use Rattle.std.proofs.Common.{◌≡◌, ℕ, zero, suc, ◌+◌, ◌≤◌, List, [], ◌∷◌, length, replicate, Some}
+use Rattle.std.proofs.Common.{slice_get, option_map, refl, sym, ap, ◌∙◌, subst, arith}
 use Rattle.std.specs.List.{AllByRecursion}
 use Rattle.std.proofs.lemmas.List.{length-replicate, get_or-replicate}
 use Rattle.std.proofs.lemmas.Option.{same_Some, slice_get-get_or, slice_get-map}
@@ -9,7 +10,8 @@ use Rattle.first_form.specs.FirstForm.{unit_points}
 use Rattle.cpa_model.specs.declared.program.Cell.{Cell}
 use Rattle.cpa_model.specs.declared.program.Stmt.{Stmt}
 use Rattle.cpa_ints.specs.Integers.{IsInRange}
-use Rattle.cpa_model.specs.Programs.{point_count, parts_of, IsStmt, Tiles, IsNumbered, IsSound, IsWellFormed}
+use Rattle.cpa_model.specs.Programs.{point_count, parts_of, IsStmt, Tiles, IsNumbered, IsSound}
+use Rattle.cpa_model.specs.Programs.{IsWellFormed}
 use Rattle.cpa_top.specs.Core.{block, main_core, int_cell, core_of}
 use Rattle.cpa_top.proofs.Segments.{EachFrom-at, stands_in_itself}
 use Rattle.cpa_top.proofs.CoreSizes.{counted_unit, counted_cells}

@@ -1,5 +1,6 @@
 -- The statements of a core are numbered in the order of the tree.
-use Rattle.std.proofs.Common.{◌≡◌, ℕ, suc, ◌+◌, List, [], ◌∷◌, ◌++◌, length, None, Some, slice_get, refl, sym, ap, ◌∙◌, subst, length-append, add-zero, arith}
+use Rattle.std.proofs.Common.{◌≡◌, ℕ, suc, ◌+◌, List, [], ◌∷◌, ◌++◌, length, None, Some, slice_get}
+use Rattle.std.proofs.Common.{refl, sym, ap, ◌∙◌, subst, length-append, add-zero, arith}
 use Rattle.std.specs.List.{AllByRecursion}
 use Rattle.first_form.specs.declared.tree.Expression.{Expression}
 use Rattle.first_form.specs.declared.tree.Statement.{Statement}
@@ -9,9 +10,13 @@ use Rattle.cpa_model.specs.declared.program.Stmt.{Stmt}
 use Rattle.cpa_model.specs.declared.program.Stmt.TheVariants as stmt
 use Rattle.cpa_model.specs.Programs.{parts_of, Tiles}
 use Rattle.cpa_model.specs.lemmas.Parts.{firsts_items}
-use Rattle.cpa_top.specs.Core.{Core, CoreList, no_core, single, input, followed, block, of_blocks, choice, test_core, test_value, tested, while_body, while_core, result_zero, core_of_statement, core_of_items, main_block}
-use Rattle.cpa_top.proofs.CoreVariants.{core-Block, core-Empty, core-If, core-While, core-ReachError, core-Abort, core-Return}
-use Rattle.cpa_top.proofs.Segments.{StandsAt, EachFrom, StandsAt-left, StandsAt-right, EachFrom-append}
+use Rattle.cpa_top.specs.Core.{Core, CoreList, no_core, single, input, followed, block, of_blocks}
+use Rattle.cpa_top.specs.Core.{choice, test_core, test_value, tested, while_body, while_core}
+use Rattle.cpa_top.specs.Core.{result_zero, core_of_statement, core_of_items, main_block}
+use Rattle.cpa_top.proofs.CoreVariants.{core-Block, core-Empty, core-If, core-While}
+use Rattle.cpa_top.proofs.CoreVariants.{core-ReachError, core-Abort, core-Return}
+use Rattle.cpa_top.proofs.Segments.{StandsAt, EachFrom, StandsAt-left, StandsAt-right}
+use Rattle.cpa_top.proofs.Segments.{EachFrom-append}
 
 -- the trees of the statement's parts stand one after another behind it, up to its own end
 abbrev pub HasParts : List ℕ → ℕ → Stmt → Type 0

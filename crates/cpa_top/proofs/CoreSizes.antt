@@ -1,5 +1,6 @@
 -- How many core statements a statement stands for, and how many cells it takes.
-use Rattle.std.proofs.Common.{◌≡◌, ℕ, ◌+◌, ◌≤◌, List, [], ◌∷◌, ◌++◌, map, length, sum, None, Some, refl, sym, ap, ◌∙◌, subst, length-append, arith}
+use Rattle.std.proofs.Common.{◌≡◌, ℕ, ◌+◌, ◌≤◌, List, [], ◌∷◌, ◌++◌, map, length, sum, None, Some}
+use Rattle.std.proofs.Common.{refl, sym, ap, ◌∙◌, subst, length-append, arith}
 use Rattle.std.proofs.lemmas.List.Sums.{sum_by-cons}
 use Rattle.std.specs.List.{AllByRecursion}
 use Rattle.cpa_model.specs.declared.program.TheConstants.{MAX_POINTS}
@@ -13,10 +14,14 @@ use Rattle.first_form.specs.lemmas.TreeLemmas.{point_count-Block, point_count-Em
 use Rattle.cpa_expr.specs.declared.tree.Expr.{Expr}
 use Rattle.cpa_model.specs.declared.program.Stmt.{Stmt}
 use Rattle.cpa_model.specs.declared.program.Stmt.TheVariants as stmt
-use Rattle.cpa_top.specs.Core.{Core, CoreList, no_core, single, input, followed, block, of_blocks, choice, test_core, test_value, tested, if_core, while_body, while_core, result_zero, core_of_statement, core_of_items, main_block, main_core}
+use Rattle.cpa_top.specs.Core.{Core, CoreList, no_core, single, input, followed, block, of_blocks}
+use Rattle.cpa_top.specs.Core.{choice, test_core, test_value, tested, if_core, while_body}
+use Rattle.cpa_top.specs.Core.{while_core, result_zero, core_of_statement, core_of_items}
+use Rattle.cpa_top.specs.Core.{main_block, main_core}
 use Rattle.cpa_top.specs.declared.core_program.Builder.{Builder}
 use Rattle.cpa_top.specs.CoreSteps.{list_at, Fits, Adds}
-use Rattle.cpa_top.proofs.CoreVariants.{core-Block, core-Empty, core-If, core-While, core-ReachError, core-Abort, core-Return}
+use Rattle.cpa_top.proofs.CoreVariants.{core-Block, core-Empty, core-If, core-While}
+use Rattle.cpa_top.proofs.CoreVariants.{core-ReachError, core-Abort, core-Return}
 
 -- wherever it stands, the core has this many statements, and takes at most as many cells
 pub record Sized (core : Core) (points : ℕ) : Type 0 where

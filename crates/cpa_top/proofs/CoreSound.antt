@@ -1,5 +1,6 @@
 -- The statements of a core name what is there, and each break stands in a loop.
-use Rattle.std.proofs.Common.{◌≡◌, ℕ, ◌+◌, ◌<◌, ◌≤◌, pos, List, [], ◌∷◌, ◌++◌, length, None, Some, slice_get, Bool, true, false, refl, sym, subst, arith, rules}
+use Rattle.std.proofs.Common.{◌≡◌, ℕ, ◌+◌, ◌<◌, ◌≤◌, pos, List, [], ◌∷◌, ◌++◌, length, None, Some}
+use Rattle.std.proofs.Common.{slice_get, Bool, true, false, refl, sym, subst, arith, rules}
 use Rattle.std.proofs.lemmas.List.Elements.{Contains-append_left, Contains-append_right}
 use Rattle.std.specs.List.{AllByRecursion, Contains}
 use Rattle.first_form.specs.declared.tree.Expression.{Expression}
@@ -16,12 +17,17 @@ use Rattle.cpa_model.specs.declared.program.Stmt.TheVariants as stmt
 use Rattle.cpa_model.specs.declared.program.Program.{Program}
 use Rattle.cpa_ints.specs.Integers.{IsInRange}
 use Rattle.cpa_model.specs.Expressions.{types_of, IsExpr}
-use Rattle.cpa_model.specs.Programs.{parts_of, is_loop, IsStmt, InLoop, loop_nearest, loop_further, IsSound}
+use Rattle.cpa_model.specs.Programs.{parts_of, is_loop, IsStmt, InLoop, loop_nearest, loop_further}
+use Rattle.cpa_model.specs.Programs.{IsSound}
 use Rattle.cpa_model.specs.lemmas.Lists.{in_list}
 use Rattle.cpa_model.specs.lemmas.Parts.{part_of_parts, firsts_items}
-use Rattle.cpa_top.specs.Core.{Core, CoreList, no_core, single, input, followed, block, of_blocks, choice, loop, tested, if_core, while_body, while_core, result_zero, return_core, core_of_statement, core_of_items, main_block}
-use Rattle.cpa_top.proofs.CoreVariants.{core-Block, core-Empty, core-If, core-While, core-ReachError, core-Abort, core-Return}
-use Rattle.cpa_top.proofs.Segments.{StandsAt, EachFrom, StandsAt-left, StandsAt-right, EachFrom-append}
+use Rattle.cpa_top.specs.Core.{Core, CoreList, no_core, single, input, followed, block, of_blocks}
+use Rattle.cpa_top.specs.Core.{choice, loop, tested, if_core, while_body, while_core, result_zero}
+use Rattle.cpa_top.specs.Core.{return_core, core_of_statement, core_of_items, main_block}
+use Rattle.cpa_top.proofs.CoreVariants.{core-Block, core-Empty, core-If, core-While}
+use Rattle.cpa_top.proofs.CoreVariants.{core-ReachError, core-Abort, core-Return}
+use Rattle.cpa_top.proofs.Segments.{StandsAt, EachFrom, StandsAt-left, StandsAt-right}
+use Rattle.cpa_top.proofs.Segments.{EachFrom-append}
 
 -- the program has cells, and each is an int
 pub record HasCells (P : Program) : Type 0 where

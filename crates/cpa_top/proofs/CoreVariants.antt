@@ -1,12 +1,18 @@
 -- The core of each variant of a statement.
-use Rattle.std.proofs.Common.{◌≡◌, ℕ, suc, ◌+◌, ◌<◌, List, ◌∷◌, length, get_or, drop, drop-cons, add-one, Option, None, Some, ap, sym, ◌∙◌}
+use Rattle.std.proofs.Common.{◌≡◌, ℕ, suc, ◌+◌, ◌<◌, List, ◌∷◌, length, get_or, drop, drop-cons}
+use Rattle.std.proofs.Common.{add-one, Option, None, Some, ap, sym, ◌∙◌}
 use Rattle.first_form.specs.declared.tree.Expression.{Expression}
 use Rattle.first_form.specs.declared.tree.Statement.{Statement}
 use Rattle.first_form.specs.declared.tree.Statement.TheOpen.{Statement-F}
 use Rattle.first_form.specs.declared.tree.Statement.TheFolds.{fold-roll-Statement}
-use Rattle.first_form.specs.declared.tree.Statement.TheVariants.{Block, Empty, If, While, ReachError, Abort, Return, rolls-Block, rolls-Empty, rolls-If, rolls-While, rolls-ReachError, rolls-Abort, rolls-Return}
+use Rattle.first_form.specs.declared.tree.Statement.TheVariants.{Block, Empty, If, While}
+use Rattle.first_form.specs.declared.tree.Statement.TheVariants.{ReachError, Abort, Return}
+use Rattle.first_form.specs.declared.tree.Statement.TheVariants.{rolls-Block, rolls-Empty, rolls-If}
+use Rattle.first_form.specs.declared.tree.Statement.TheVariants.{rolls-While, rolls-ReachError}
+use Rattle.first_form.specs.declared.tree.Statement.TheVariants.{rolls-Abort, rolls-Return}
 use Rattle.cpa_model.specs.declared.program.Stmt.TheVariants as stmt
-use Rattle.cpa_top.specs.Core.{Core, no_core, single, followed, block, if_core, while_core, return_core, core_step, core_of_statement, core_of_items}
+use Rattle.cpa_top.specs.Core.{Core, no_core, single, followed, block, if_core, while_core}
+use Rattle.cpa_top.specs.Core.{return_core, core_step, core_of_statement, core_of_items}
 use Rattle.cpa_top.specs.CoreSteps.{core_of_else}
 
 pub core-Block : (items : List Statement)

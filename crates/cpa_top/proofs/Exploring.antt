@@ -1,5 +1,7 @@
 -- How far an exploration has come, and what it comes to.
-use Rattle.std.proofs.Common.{◌≡◌, ℕ, ◌+◌, ◌<◌, ◌≤◌, List, [], ◌∷◌, map, length, get_or, Some, slice_get, Bool, true, false, ◌||◌, eqb, eqb-true, ne_eqb, ◌⊎◌, refl, sym, ap, ◌∙◌, subst, inl, inr, ⊎_elim, arith}
+use Rattle.std.proofs.Common.{◌≡◌, ℕ, ◌+◌, ◌<◌, ◌≤◌, List, [], ◌∷◌, map, length, get_or, Some}
+use Rattle.std.proofs.Common.{slice_get, Bool, true, false, ◌||◌, eqb, eqb-true, ne_eqb, ◌⊎◌, refl}
+use Rattle.std.proofs.Common.{sym, ap, ◌∙◌, subst, inl, inr, ⊎_elim, arith}
 use Rattle.std.specs.List.{All, Contains, list_any}
 use Rattle.std.proofs.lemmas.Bool.{cases_lt}
 use Rattle.std.proofs.lemmas.List.{get_or-map, length-map}
@@ -16,7 +18,8 @@ use Rattle.cpa_iface.specs.Pins.{pin}
 use Rattle.cpa_top.specs.declared.explore.reached.Reached.{Reached}
 use Rattle.cpa_top.specs.declared.explore.Explored.TheVariants.{Safe}
 use Rattle.cpa_top.specs.Explored.{walked_start, IsExplored}
-use Rattle.cpa_top.specs.Reached.{KeepsNumbers, AreTied, AreAdded, IsExpanded, IsErrorFree, IsReached, IsWalkedPin}
+use Rattle.cpa_top.specs.Reached.{KeepsNumbers, AreTied, AreAdded, IsExpanded, IsErrorFree}
+use Rattle.cpa_top.specs.Reached.{IsReached, IsWalkedPin}
 use Rattle.cpa_top.proofs.PointPlaces.{place_of}
 use Rattle.cpa_top.proofs.Added.{kept_contained, reached_after}
 use Rattle.cpa_top.proofs.Expanding.{leads_kept, still_within}

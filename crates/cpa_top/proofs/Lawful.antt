@@ -4,7 +4,9 @@ use Rattle.std.specs.Prelude.{Option, Some, None, IfSome}
 use Rattle.cpa_top.specs.declared.answers.Answer.{Answer}
 use Rattle.cpa_top.specs.declared.answers.Answer.TheVariants as answer
 use Rattle.c_lexer.specs.declared.lexer.TheConstants.{MAX_TEXT}
-use Rattle.cpa_top.specs.Run.{Call, IsVerify, IsOneExact, Wrote, IsSafeAnswer, IsUsage, IsUnbuilt, IsReadFault, IsTooLong, IsShortOfMemory, IsAnswerText, IsWriteFault, Refuses, IsStatus}
+use Rattle.cpa_top.specs.Run.{Call, IsVerify, IsOneExact, Wrote, IsSafeAnswer, IsUsage, IsUnbuilt}
+use Rattle.cpa_top.specs.Run.{IsReadFault, IsTooLong, IsShortOfMemory, IsAnswerText, IsWriteFault}
+use Rattle.cpa_top.specs.Run.{Refuses, IsStatus}
 use Rattle.cpa_top.specs.Answered.{status_of, text_of, IsDelivered, IsJudged, IsVerified, IsLawful}
 
 -- a judged text is a verified file, where its bytes are those told

@@ -1,5 +1,6 @@
 -- The entries of a report.
-use Rattle.std.proofs.Common.{◌≡◌, ℕ, zero, suc, ◌+◌, List, [], ◌∷◌, ◌++◌, length, map, refl, sym, ap, ◌∙◌, arith, add-zero}
+use Rattle.std.proofs.Common.{◌≡◌, ℕ, zero, suc, ◌+◌, List, [], ◌∷◌, ◌++◌, length, map, refl, sym}
+use Rattle.std.proofs.Common.{ap, ◌∙◌, arith, add-zero}
 use Rattle.std.specs.Prelude.{slice_get, Some}
 use Rattle.cpa_model.specs.declared.facts.Elem.{Elem}
 use Rattle.cpa_iface.specs.Pins.{pin}

@@ -1,12 +1,14 @@
 -- The table of a reached set names its entries.
-use Rattle.std.proofs.Common.{◌≡◌, ℕ, ◌<◌, List, [], ◌∷◌, ◌++◌, length, set, Option, Some, None, slice_get, sym, ap, ◌∙◌, subst, ⊎_elim}
+use Rattle.std.proofs.Common.{◌≡◌, ℕ, ◌<◌, List, [], ◌∷◌, ◌++◌, length, set, Option, Some, None}
+use Rattle.std.proofs.Common.{slice_get, sym, ap, ◌∙◌, subst, ⊎_elim}
 use Rattle.std.specs.List.{Contains}
 use Rattle.std.proofs.lemmas.Option.{slice_get_within}
 use Rattle.std.proofs.lemmas.Bool.{cases_eq}
 use Rattle.cpa_model.specs.declared.facts.Elem.{Elem}
 use Rattle.cpa_iface.specs.Pins.{pin}
 use Rattle.cpa_top.specs.Reached.{AreTied}
-use Rattle.cpa_top.proofs.PointPlaces.{at_front, at_push, at_last, at_set_same, at_set_other, in_list}
+use Rattle.cpa_top.proofs.PointPlaces.{at_front, at_push, at_last, at_set_same, at_set_other}
+use Rattle.cpa_top.proofs.PointPlaces.{in_list}
 
 -- the pins of two points differ
 pub same_point : (p q : ℕ) → pin p ≡ pin q → p ≡ q

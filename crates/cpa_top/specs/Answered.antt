@@ -5,7 +5,8 @@ use Rattle.cpa_top.specs.declared.answers.Answer.{Answer}
 use Rattle.cpa_top.specs.declared.answers.Answer.TheVariants as answer
 use Rattle.cpa_outside.specs.Outside.{Rose, grown, GrewByPrefix}
 use Rattle.c_lexer.specs.declared.lexer.TheConstants.{MAX_TEXT}
-use Rattle.cpa_top.specs.Run.{Call, usage_text, IsSafeText, IsUnbuiltText, IsSafeAnswer, IsUsage, IsUnbuilt, IsReadFault, IsTooLong, IsShortOfMemory}
+use Rattle.cpa_top.specs.Run.{Call, usage_text, IsSafeText, IsUnbuiltText, IsSafeAnswer, IsUsage}
+use Rattle.cpa_top.specs.Run.{IsUnbuilt, IsReadFault, IsTooLong, IsShortOfMemory}
 
 abbrev pub status_of : Answer → ℕ
 status_of (answer.Safe report) = 0

@@ -1,5 +1,6 @@
 -- How a builder of core statements grows (this project's own).
-use Rattle.std.specs.Prelude.{◌≡◌, ℕ, ◌+◌, ◌≤◌, List, [], ◌∷◌, ◌++◌, length, slice_set, Option, None, Some}
+use Rattle.std.specs.Prelude.{◌≡◌, ℕ, ◌+◌, ◌≤◌, List, [], ◌∷◌, ◌++◌, length, slice_set, Option}
+use Rattle.std.specs.Prelude.{None, Some}
 use Rattle.cpa_model.specs.declared.program.TheConstants.{MAX_CELLS, MAX_POINTS}
 use Rattle.first_form.specs.declared.tree.Statement.{Statement}
 use Rattle.cpa_model.specs.declared.program.Stmt.{Stmt}

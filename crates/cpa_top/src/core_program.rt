@@ -1,8 +1,12 @@
 //! The core of the first form: from a tree to a program of core statements.
-ghost use Rattle.std.specs.Prelude.{◌≡◌, ℕ, ◌+◌, ◌<◌, ◌≤◌, [], ◌∷◌, ◌++◌, length, replicate, IfOk, OnOk};
+ghost use Rattle.std.specs.Prelude.{◌≡◌, ℕ, ◌+◌, ◌<◌, ◌≤◌, [], ◌∷◌, ◌++◌, length, replicate, IfOk};
+ghost use Rattle.std.specs.Prelude.{OnOk};
 ghost use Rattle.first_form.specs.FirstForm.{unit_points};
 ghost use Rattle.cpa_model.specs.declared.program.Stmt.TheVariants as stmt;
-ghost use Rattle.cpa_top.specs.Core.{no_core, single, input, followed, block, choice, test_core, test_value, if_core, while_body, while_core, result_zero, return_core, core_of_statement, core_of_items, main_block, int_cell, core_of};
+ghost use Rattle.cpa_top.specs.Core.{no_core, single, input, followed, block, choice, test_core};
+ghost use Rattle.cpa_top.specs.Core.{test_value, if_core, while_body, while_core, result_zero};
+ghost use Rattle.cpa_top.specs.Core.{return_core, core_of_statement, core_of_items, main_block};
+ghost use Rattle.cpa_top.specs.Core.{int_cell, core_of};
 ghost use Rattle.cpa_top.specs.CoreSteps.{Fits, Adds, AddsBlock, Grown, Replaced, core_of_else};
 
 use c_lexer::MAX_TEXT;

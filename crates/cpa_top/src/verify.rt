@@ -1,6 +1,7 @@
 //! The job of the command `verify`: from the words and the inputs to an answer with its cause, by
 //! `IsLawful`; shown in `proofs/Judged.antt` and `proofs/Lawful.antt`.
-ghost use Rattle.std.specs.Prelude.{◌≡◌, ◌^◌, ◌≤◌, length, map, IfOk, OnErr, IfSome, IfNone, IsTrue, ◌↔◌, [], ◌∷◌, List, ℕ, Option};
+ghost use Rattle.std.specs.Prelude.{◌≡◌, ◌^◌, ◌≤◌, length, map, IfOk, OnErr, IfSome, IfNone};
+ghost use Rattle.std.specs.Prelude.{IsTrue, ◌↔◌, [], ◌∷◌, List, ℕ, Option};
 ghost use Rattle.std.specs.String.{string_bytes};
 ghost use Rattle.cpa_model.specs.Programs.{IsWellFormed};
 ghost use Rattle.cpa_model.specs.Automata.{IsAutomaton};

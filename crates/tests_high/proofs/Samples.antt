@@ -1,7 +1,8 @@
 -- A program whose statements are all given is well formed where each of them is, by tables that say
 -- where the tree of a statement ends, in which function it stands, and how deep the calls of a
 -- function go.
-use Rattle.std.proofs.Common.{◌≡◌, ℕ, zero, suc, ◌+◌, ◌<◌, ◌≤◌, List, [], ◌∷◌, length, Some, sym, ap, ◌∙◌, subst, arith}
+use Rattle.std.proofs.Common.{◌≡◌, ℕ, zero, suc, ◌+◌, ◌<◌, ◌≤◌, List, [], ◌∷◌, length, Some, sym}
+use Rattle.std.proofs.Common.{ap, ◌∙◌, subst, arith}
 use Rattle.std.specs.List.{AllByRecursion, slice_get}
 use Rattle.std.proofs.lemmas.List.Elements.{All-from_recursion, All-contains}
 use Rattle.std.proofs.lemmas.Option.{none-some, same_Some}
@@ -10,7 +11,9 @@ use Rattle.cpa_model.specs.declared.program.Stmt.TheVariants as stmt
 use Rattle.cpa_model.specs.declared.program.Program.{Program}
 use Rattle.cpa_model.specs.declared.program.TheConstants.{MAX_CELLS, MAX_POINTS}
 use Rattle.cpa_ints.specs.Integers.{IsInRange}
-use Rattle.cpa_model.specs.Programs.{IsStmt, IsBody, IsPart, IsNumbered, IsWellFormed, IsSound, InFunction, function_body, function_part, Reaches, reaches_call, reaches_through, Tiles, parts_of, point_count}
+use Rattle.cpa_model.specs.Programs.{IsStmt, IsBody, IsPart, IsNumbered, IsWellFormed, IsSound}
+use Rattle.cpa_model.specs.Programs.{InFunction, function_body, function_part, Reaches}
+use Rattle.cpa_model.specs.Programs.{reaches_call, reaches_through, Tiles, parts_of, point_count}
 use Rattle.cpa_model.specs.TreeLaws.{TreeLaws}
 
 -- each item of the list is as Q says of its number, the first one having the number i

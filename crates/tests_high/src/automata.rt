@@ -95,7 +95,8 @@ fn two_loops(alloc: Global) -> Result<Vec<Stmt>, AllocError>
     ensures { IfOk result (λ stmts. stmts.items ≡
         Stmt.Block (1 ∷ []) ∷ Stmt.Leave ∷ Stmt.Block (3 ∷ 12 ∷ []) ∷ Stmt.Loop 4 11
         ∷ Stmt.Loop 5 10 ∷ Stmt.If (scalar_read IntType.I32 0) 6 7 ∷ Stmt.Break
-        ∷ Stmt.Block (8 ∷ 9 ∷ []) ∷ Stmt.Call 0 ∷ Stmt.Input 0 ∷ Stmt.Block [] ∷ Stmt.Call 0 ∷ Stmt.Stop ∷ []) }
+        ∷ Stmt.Block (8 ∷ 9 ∷ []) ∷ Stmt.Call 0 ∷ Stmt.Input 0 ∷ Stmt.Block [] ∷ Stmt.Call 0
+        ∷ Stmt.Stop ∷ []) }
 {
     let called = block(alloc, &[1])?;
     let main = block(alloc, &[3, 12])?;

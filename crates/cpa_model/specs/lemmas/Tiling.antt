@@ -1,5 +1,6 @@
 -- Lists of numbers whose trees stand one after another: where the parts begin and end.
-use Rattle.std.proofs.Common.{◌≡◌, ℕ, zero, suc, ◌<◌, ◌≤◌, List, [], ◌∷◌, Option, Some, slice_get, sym, ◌∙◌, ap, subst, refl, arith, ⊎_elim}
+use Rattle.std.proofs.Common.{◌≡◌, ℕ, zero, suc, ◌<◌, ◌≤◌, List, [], ◌∷◌, Option, Some, slice_get}
+use Rattle.std.proofs.Common.{sym, ◌∙◌, ap, subst, refl, arith, ⊎_elim}
 use Rattle.std.proofs.lemmas.Option.{none-some, same_Some}
 use Rattle.std.proofs.lemmas.Bool.{cases_lt}
 use Rattle.cpa_model.specs.Programs.{Tiles}

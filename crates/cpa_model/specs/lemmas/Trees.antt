@@ -1,5 +1,7 @@
 -- Numbered programs: each statement has one origin, a body or one statement before it.
-use Rattle.std.proofs.Common.{◌≡◌, ℕ, zero, suc, ◌+◌, ◌<◌, ◌≤◌, ◌↔◌, Option, Some, None, IfSome, IsSome, length, slice_get, get_or, ◌⊎◌, true, sym, ◌∙◌, ap, subst, inl, inr, refl, arith, ⊎_elim}
+use Rattle.std.proofs.Common.{◌≡◌, ℕ, zero, suc, ◌+◌, ◌<◌, ◌≤◌, ◌↔◌, Option, Some, None, IfSome}
+use Rattle.std.proofs.Common.{IsSome, length, slice_get, get_or, ◌⊎◌, true, sym, ◌∙◌, ap, subst}
+use Rattle.std.proofs.Common.{inl, inr, refl, arith, ⊎_elim}
 use Rattle.std.proofs.lemmas.Option.{none-some, same_Some, slice_get_within, slice_get-get_or}
 use Rattle.std.proofs.lemmas.Bool.{false≢true, cases_eq, cases_order}
 use Rattle.cpa_model.specs.declared.program.Stmt.{Stmt}
@@ -7,10 +9,14 @@ use Rattle.cpa_model.specs.declared.program.Stmt.TheVariants as stmt
 use Rattle.cpa_model.specs.declared.program.Program.{Program}
 use Rattle.cpa_model.specs.declared.program.Successor.{Successor}
 use Rattle.cpa_model.specs.declared.program.Successor.TheVariants.{GoesTo, AfterWhole}
-use Rattle.cpa_model.specs.Programs.{IsStmt, IsBody, IsPart, IsNumbered, Tiles, after_part, parts_of, exit_of, point_count, Next, next_body, next_within, next_whole, is_loop, InLoop, loop_nearest, loop_further, InFunction, function_body, function_part}
+use Rattle.cpa_model.specs.Programs.{IsStmt, IsBody, IsPart, IsNumbered, Tiles, after_part}
+use Rattle.cpa_model.specs.Programs.{parts_of, exit_of, point_count, Next, next_body, next_within}
+use Rattle.cpa_model.specs.Programs.{next_whole, is_loop, InLoop, loop_nearest, loop_further}
+use Rattle.cpa_model.specs.Programs.{InFunction, function_body, function_part}
 use Rattle.cpa_model.specs.Successors.{IsPartAt}
 use Rattle.cpa_model.specs.TreeLaws.{TreeLaws}
-use Rattle.cpa_model.specs.lemmas.Tiling.{Grows, one_value, part_within, parts_apart, part_ends, one_place, Covering, covering, Tiles-grow}
+use Rattle.cpa_model.specs.lemmas.Tiling.{Grows, one_value, part_within, parts_apart, part_ends}
+use Rattle.cpa_model.specs.lemmas.Tiling.{one_place, Covering, covering, Tiles-grow}
 use Rattle.cpa_model.specs.lemmas.Parts.{part_of_place, place_of_part, successor_of_part}
 pub use Rattle.cpa_model.specs.lemmas.Parts.{part_of_parts, parts_of_part}
 use Rattle.cpa_model.specs.lemmas.Parts.{parts_are}

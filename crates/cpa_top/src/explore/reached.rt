@@ -1,5 +1,6 @@
 //! The reached set: the entries, and which of them stands at a point.
-ghost use Rattle.std.specs.Prelude.{◌≡◌, ℕ, ◌<◌, [], ◌∷◌, ◌++◌, Some, None, IsTrue, false, length, slice_get, IfOk, OnOk};
+ghost use Rattle.std.specs.Prelude.{◌≡◌, ℕ, ◌<◌, [], ◌∷◌, ◌++◌, Some, None, IsTrue, false, length};
+ghost use Rattle.std.specs.Prelude.{slice_get, IfOk, OnOk};
 ghost use Rattle.std.specs.List.{All, Contains};
 ghost use Rattle.cpa_iface.specs.Pins.{pin};
 ghost use Rattle.cpa_top.specs.Reached.{IsPinBelow, AreTied, AreAdded, GrewBy};

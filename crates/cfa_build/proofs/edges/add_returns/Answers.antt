@@ -2,7 +2,8 @@ use Rattle.std.proofs.Common.{length, map, ◌∙◌}
 use Rattle.std.proofs.lemmas.Result.{on_ok_weaker}
 use Rattle.cpa_model.specs.Programs.{exit_of}
 use Rattle.cfa_build.specs.Edges.{AreNumbersBelow, IsCallOf, return_edge}
-use Rattle.cfa_build.proofs.Exits.{more_edges, no_more_edges, from_main, from_exit, sites_of, sites_inside}
+use Rattle.cfa_build.proofs.Exits.{more_edges, no_more_edges, from_main, from_exit, sites_of}
+use Rattle.cfa_build.proofs.Exits.{sites_inside}
 use Rattle.cfa_build.proofs.edges.add_returns.Goals as goal
 
 pub returns-then-f-program : goal.returns-then-f-program

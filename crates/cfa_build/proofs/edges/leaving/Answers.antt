@@ -6,7 +6,9 @@ use Rattle.cfa_build.specs.Edges.{edges_in, AreEdgesFrom}
 use Rattle.cpa_model.specs.declared.program.Stmt.TheVariants as stmt
 use Rattle.cpa_model.specs.Programs.{IsStmt}
 use Rattle.cfa_build.specs.Places.{IsPlace}
-use Rattle.cfa_build.proofs.Statements.{place_in_table, from_any_block, from_if, from_loop, from_assign, from_input, from_call, from_goto, from_break, from_continue, from_leave}
+use Rattle.cfa_build.proofs.Statements.{place_in_table, from_any_block, from_if, from_loop}
+use Rattle.cfa_build.proofs.Statements.{from_assign, from_input, from_call, from_goto, from_break}
+use Rattle.cfa_build.proofs.Statements.{from_continue, from_leave}
 use Rattle.cfa_build.proofs.edges.leaving.Goals as goal
 
 pub body-requires : goal.body-requires

@@ -3,7 +3,8 @@ use Rattle.cpa_model.specs.declared.program.Successor.TheVariants.{AfterWhole}
 use Rattle.cpa_model.specs.Programs.{Next, exit_of, next_body, next_within, next_whole}
 use Rattle.cpa_model.specs.Successors.{IsPartAt}
 use Rattle.std.proofs.lemmas.Option.{IfSome_then}
-use Rattle.cpa_model.specs.lemmas.Trees.{one_next, next_found, next_needs, next_of_whole, part_above}
+use Rattle.cpa_model.specs.lemmas.Trees.{one_next, next_found, next_needs, next_of_whole}
+use Rattle.cpa_model.specs.lemmas.Trees.{part_above}
 use Rattle.cpa_model.proofs.next.+next_point.Goals as goal
 
 -- after a body control goes to the exit

@@ -1,4 +1,5 @@
-use Rattle.std.proofs.Common.{◌≡◌, ◌<◌, ◌≤◌, Some, None, length, slice_get, sym, subst, below_more, refl, arith, ◌∙◌}
+use Rattle.std.proofs.Common.{◌≡◌, ◌<◌, ◌≤◌, Some, None, length, slice_get, sym, subst, below_more}
+use Rattle.std.proofs.Common.{refl, arith, ◌∙◌}
 use Rattle.cpa_model.specs.Programs.{IsStmt, after_part}
 use Rattle.std.proofs.lemmas.Option.{slice_get_read, slice_get_within}
 use Rattle.cpa_model.specs.lemmas.Trees.{no_part}

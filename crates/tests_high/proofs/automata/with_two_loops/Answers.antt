@@ -1,4 +1,5 @@
-use Rattle.std.proofs.Common.{◌≡◌, ℕ, pos, List, [], ◌∷◌, get_or, refl, sym, ap, ◌∙◌, subst, rules, lit<, lit≤}
+use Rattle.std.proofs.Common.{◌≡◌, ℕ, pos, List, [], ◌∷◌, get_or, refl, sym, ap, ◌∙◌, subst, rules}
+use Rattle.std.proofs.Common.{lit<, lit≤}
 use Rattle.std.proofs.lemmas.Result.{IfOk-weaker}
 use Rattle.cpa_ints.specs.declared.integers.IntType.TheVariants as ty
 use Rattle.cpa_expr.specs.declared.tree.Expr.{Expr}

@@ -1,7 +1,10 @@
 use Rattle.std.proofs.Common.{◌≡◌, [], drop, rules}
 use Rattle.std.proofs.lemmas.List.{drop_all}
 use Rattle.first_form.specs.declared.tree.Statement.{the_lemmas}
-use Rattle.cpa_top.proofs.CoreBuild.{adds_nothing, adds_followed, adds_block, adds_blocks, adds_tested, fits_first, fits_then, fits_block_put, fits_block_inside, fits_blocks_put, fits_blocks_first, fits_blocks_second, fits_test, fits_after_test}
+use Rattle.cpa_top.proofs.CoreBuild.{adds_nothing, adds_followed, adds_block, adds_blocks}
+use Rattle.cpa_top.proofs.CoreBuild.{adds_tested, fits_first, fits_then, fits_block_put}
+use Rattle.cpa_top.proofs.CoreBuild.{fits_block_inside, fits_blocks_put, fits_blocks_first}
+use Rattle.cpa_top.proofs.CoreBuild.{fits_blocks_second, fits_test, fits_after_test}
 use Rattle.cpa_top.proofs.CoreVariants.{core-If, core-Empty, next_item}
 use Rattle.cpa_top.proofs.core_program.Builder.+statements.Goals as goal
 

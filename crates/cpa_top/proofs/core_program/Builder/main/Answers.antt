@@ -1,4 +1,5 @@
-use Rattle.cpa_top.proofs.CoreBuild.{adds_followed, adds_block, fits_first, fits_then, fits_block_put, fits_block_inside}
+use Rattle.cpa_top.proofs.CoreBuild.{adds_followed, adds_block, fits_first, fits_then}
+use Rattle.cpa_top.proofs.CoreBuild.{fits_block_put, fits_block_inside}
 use Rattle.cpa_top.proofs.core_program.Builder.main.Goals as goal
 
 pub put-requires : goal.put-requires

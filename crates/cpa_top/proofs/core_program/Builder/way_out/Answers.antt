@@ -1,4 +1,5 @@
-use Rattle.cpa_top.proofs.CoreBuild.{fits_blocks_put, fits_blocks_first, fits_blocks_second, adds_blocks}
+use Rattle.cpa_top.proofs.CoreBuild.{fits_blocks_put, fits_blocks_first, fits_blocks_second}
+use Rattle.cpa_top.proofs.CoreBuild.{adds_blocks}
 use Rattle.cpa_top.proofs.core_program.Builder.way_out.Goals as goal
 
 pub put-requires : goal.put-requires
