@@ -1,0 +1,6 @@
+mod Readers
+mod Steadies
+mod Arms
+mod Productions
+mod Assigned
+mod Tight
