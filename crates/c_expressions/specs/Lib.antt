@@ -1,2 +1,1 @@
-pub mod Stand
 pub mod Lists

@@ -10,7 +10,7 @@ ghost use Rattle.c_expressions.specs.Lists.{more_arguments};
 
 use crate::nested::{inner_assignment, inner_comma};
 use crate::parts::{list_of, list_of_skipped};
-use crate::words::round_brackets;
+use c_words::round_brackets;
 use c_symbols::{Source, Symbol, Terminal};
 use c_tree::{Expression, Suffix};
 use cpa_ints::Seq;

@@ -9,7 +9,6 @@ mod nested;
 mod parts;
 mod postfix;
 mod unary;
-mod words;
 
-pub use assignments::{assignment, comma, conditional};
-pub use nested::{inner_assignment, inner_comma, inner_conditional, no_level};
+pub use assignments::comma;
+pub use nested::{begins_expression, inner_assignment, inner_comma, inner_conditional};

@@ -27,12 +27,20 @@ fn begins(symbol: Symbol) -> bool
     )
 }
 
+/// Whether an expression may begin with the token at this place.
+pub fn begins_expression(source: &Source, at: usize) -> bool
+    requires { at < length source.now }
+    ensures { result ≡ begins_expression (leaf_at source.now at) }
+{
+    begins(source.symbol(at))
+}
+
 /// The error at the first token of an expression for which no level is left.
-pub fn no_level(source: &Source, at: usize) -> ReadError
+fn no_level(source: &Source, at: usize) -> ReadError
     requires { at < length source.now }
     ensures { result ≡ no_level (begins_expression (leaf_at source.now at)) at }
 {
-    if begins(source.symbol(at)) {
+    if begins_expression(source, at) {
         ReadError::TooDeep { at }
     } else {
         ReadError::Unexpected { at }

@@ -8,7 +8,7 @@ ghost use Rattle.c_tree.specs.Reading.{Gives, HasRoom};
 use crate::arguments::suffixes;
 use crate::nested::inner_comma;
 use crate::parts::{character, names_assert, number, suffixed};
-use crate::words::name;
+use c_words::name;
 use c_symbols::{Source, Symbol, Terminal};
 use c_tree::Expression;
 use cpa_ints::Boxed;

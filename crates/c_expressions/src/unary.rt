@@ -10,7 +10,7 @@ use crate::arguments::suffixes;
 use crate::nested::{inner_cast, inner_comma, inner_unary};
 use crate::parts::{names_assert, suffixed};
 use crate::postfix::postfix;
-use crate::words::type_name;
+use c_words::type_name;
 use c_symbols::{BinaryOperator, Source, Symbol, Terminal};
 use c_tree::{Expression, TypeName, UnaryOperator};
 use cpa_ints::Boxed;
