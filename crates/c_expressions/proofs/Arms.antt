@@ -1,8 +1,9 @@
 -- What each token calls for.
-use Rattle.std.specs.Prelude.{◌≡◌, ℕ, suc, ◌+◌, ◌==◌, Bool, true, false, cond, List, Option, None, Some, refl}
+use Rattle.std.specs.Prelude.{◌≡◌, ℕ, ℤ, suc, ◌+◌, ◌==◌, Bool, true, false, cond, List, Option, None, Some, refl}
 use Rattle.std.proofs.Common.{sym, ◌∙◌, ap, subst, arith}
 use Rattle.grammar_forms.specs.Forms.{World, Form, Nothing, One, Skip, Node, Pair, Then, Before, Deeper, Choice}
 use Rattle.grammar_forms.specs.Reading.{Reads, Begins, NoneThrough}
+use Rattle.cpa_ints.specs.declared.integers.IntType.{IntType}
 use Rattle.c_symbols.specs.declared.words.Terminal.TheVariants as terminal
 use Rattle.c_symbols.specs.declared.operators.AssignmentOperator.{AssignmentOperator}
 use Rattle.c_symbols.specs.declared.operators.BinaryOperator.{BinaryOperator}
@@ -78,19 +79,19 @@ unfolding group_at
 arm_bracket G (symbol.TypeWord word) e = impossible (sym e)
 arm_bracket G _ e = same_form
 
-some_is : {T : Type 0} {P : T → Type 0} {a b : T} → Some a ≡ Some b → P a → P b
-some_is {P = P} e x = let f : a ≡ b = cc in subst P f x
+some_is : {T : Type 0} (P : T → Type 0) {a b : T} → Some a ≡ Some b → P a → P b
+some_is P {a} {b} e x = let f : a ≡ b = cc in subst P f x
 
 no_some : {T : Type 0} {P : Type 0} {b : T} → None ≡ Some b → P
 no_some {b = b} e = absurd (let clash : None ≡ Some b = e in cc)
 
 pub arm_sign : (G : Grammar) (s : Symbol) (op : UnaryOperator) → sign_of s ≡ Some op → Same (unary_at G s) (sign op G)
 unfolding unary_at
-arm_sign G (symbol.Binary binary.Add) op e = some_is {P = λ o. Same (unary_at G (symbol.Binary binary.Add)) (sign o G)} e same_form
-arm_sign G (symbol.Binary binary.Subtract) op e = some_is {P = λ o. Same (unary_at G (symbol.Binary binary.Subtract)) (sign o G)} e same_form
-arm_sign G (symbol.Terminal terminal.Tilde) op e = some_is {P = λ o. Same (unary_at G (symbol.Terminal terminal.Tilde)) (sign o G)} e same_form
+arm_sign G (symbol.Binary binary.Add) op e = some_is (λ o. Same (unary_at G (symbol.Binary binary.Add)) (sign o G)) e same_form
+arm_sign G (symbol.Binary binary.Subtract) op e = some_is (λ o. Same (unary_at G (symbol.Binary binary.Subtract)) (sign o G)) e same_form
+arm_sign G (symbol.Terminal terminal.Tilde) op e = some_is (λ o. Same (unary_at G (symbol.Terminal terminal.Tilde)) (sign o G)) e same_form
 arm_sign G (symbol.Terminal terminal.Exclamation) op e =
-    some_is {P = λ o. Same (unary_at G (symbol.Terminal terminal.Exclamation)) (sign o G)} e same_form
+    some_is (λ o. Same (unary_at G (symbol.Terminal terminal.Exclamation)) (sign o G)) e same_form
 arm_sign G _ op e = no_some e
 
 pub arm_postfix : (G : Grammar) (s : Symbol) → sign_of s ≡ None → steps s ≡ false → Same (unary_at G s) (postfix G)
@@ -103,7 +104,7 @@ arm_postfix G (symbol.Step operator) e f = impossible (sym f)
 arm_postfix G _ e f = same_form
 
 chosen_some : (b : Bool) (o op : BinaryOperator) → cond b (Some o) None ≡ Some op → (symbol.Binary o ≡ symbol.Binary op) × (b ≡ true)
-chosen_some true o op e = (some_is {P = λ x. symbol.Binary o ≡ symbol.Binary x} e refl, refl)
+chosen_some true o op e = (some_is (λ x. symbol.Binary o ≡ symbol.Binary x) e refl, refl)
 chosen_some false o op e = no_some e
 
 chosen_none : (b : Bool) (o : BinaryOperator) → cond b (Some o) None ≡ None → b ≡ false
@@ -152,6 +153,14 @@ arm_no_primary G symbol.Name e f = impossible (sym f)
 arm_no_primary G (symbol.Number ty value) e f = impossible (sym f)
 arm_no_primary G (symbol.Character value) e f = impossible (sym f)
 arm_no_primary G _ e f = same_form
+
+-- a symbol that is no name and no constant
+pub not_alone : (s : Symbol) → (s ≡ symbol.Name → ⊥) → ((ty : IntType) (value : ℤ) → s ≡ symbol.Number ty value → ⊥) →
+    ((value : ℤ) → s ≡ symbol.Character value → ⊥) → stands_alone s ≡ false
+not_alone symbol.Name f g h = absurd (f refl)
+not_alone (symbol.Number ty value) f g h = absurd (g ty value refl)
+not_alone (symbol.Character value) f g h = absurd (h value refl)
+not_alone _ f g h = refl
 
 -- a symbol that is no step
 pub no_step : (s : Symbol) → ((op : StepOperator) → s ≡ symbol.Step op → ⊥) → steps s ≡ false

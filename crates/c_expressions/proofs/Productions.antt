@@ -13,19 +13,21 @@ use Rattle.c_symbols.specs.declared.operators.BinaryOperator.{BinaryOperator}
 use Rattle.c_symbols.specs.declared.symbol.Symbol.{Symbol}
 use Rattle.c_symbols.specs.declared.symbol.Symbol.TheVariants as symbol
 use Rattle.c_symbols.specs.Symbols.{Leaf, symbol_of}
-use Rattle.c_symbols.specs.Sources.{leaf_at, is, is_terminal, Takes}
+use Rattle.c_symbols.specs.Sources.{is}
 use Rattle.c_tree.specs.declared.expression.Expression.{Expression}
 use Rattle.c_tree.specs.declared.expression.Expression.TheVariants as expression
 use Rattle.c_tree.specs.declared.expression.Suffix.{Suffix}
 use Rattle.c_tree.specs.declared.expression.Suffix.TheVariants as suffix
 use Rattle.c_tree.specs.declared.expression.TypeName.{TypeName}
 use Rattle.c_tree.specs.declared.expression.UnaryOperator.{UnaryOperator}
+use Rattle.c_tree.specs.declared.TheConstants.{MAX_LEVEL}
 use Rattle.c_tree.specs.Parts.{is_not, is_operator, types, steps, names_assert, loosest}
 use Rattle.c_tree.specs.Grammar.{grammar}
 use Rattle.c_tree.specs.Expressions.{comma, comma_of, assignment, assignment_of, assigns_to, right_side_at, conditional, conditional_of, chain, chain_of, operand_at, operand, cast, cast_at, group_at, unary, unary_at, sign, postfix, suffixed, suffixes, primary, primary_at, arguments, assignments, list_of, suffix_at, any_suffix, type_name, in_front, skipped_call, opens_skipped, round_brackets}
 use Rattle.c_expressions.specs.Lists.{more_items, more_arguments, operands, group, sign_of, operator_of}
-use Rattle.c_expressions.proofs.Readers.{reads_closed, none_made, tail, reads_tail, goes_not_empty}
-use Rattle.c_expressions.proofs.Steadies.{steady_deeper_comma, steady_deeper_assignment, steady_assignment, steady_conditional, steady_chain, steady_primary, steady_deeper_type_name, steady_closed_comma, steady_closed_type_name}
+use Rattle.c_tree.specs.Levels.{steady_deeper_comma}
+use Rattle.c_expressions.proofs.Readers.{none_made, tail, reads_tail, goes_not_empty}
+use Rattle.c_expressions.proofs.Steadies.{steady_assignment, steady_conditional, steady_chain, steady_primary, steady_deeper_type_name, steady_closed_comma, steady_closed_type_name}
 use Rattle.c_expressions.proofs.Arms.{reads_arm, none_arm, arm_group, arm_unary, arm_cast, arm_bracket, arm_sign, arm_postfix}
 
 comma_made : (leaf : Leaf) (u : Expression) (rest items : List Expression) → items ≡ u ∷ rest → (rest ≡ [] → ⊥) →
@@ -38,123 +40,116 @@ chain_made : (leaf : Leaf) (u : Expression) (us : List (BinaryOperator × Expres
 chain_made leaf u [] some = absurd (some refl)
 chain_made leaf u (v ∷ vs) some = refl
 
-module _ {leaves : List Leaf} {left p : ℕ} where
-  abbrev pub R : {T : Type 0} → (ℕ → Form Leaf T) → ℕ → T → ℕ → Type 0
-  R A m u q = Reads A (leaf_at leaves) (length leaves) left m u q
-
-  abbrev pub N : {T : Type 0} → (ℕ → Form Leaf T) → ℕ → ℕ → Type 0
-  N A m i = NoneThrough A (leaf_at leaves) (length leaves) left m i
-
-  pub comma_none : {i : ℕ} → N (λ n. assignment (grammar n)) p i → N (λ n. comma (grammar n)) p i
+module _ {at : ℕ → Leaf} {size left p : ℕ} where
+  pub comma_none : {i : ℕ} → NoneThrough (λ n. assignment (grammar n)) at size left p i → NoneThrough (λ n. comma (grammar n)) at size left p i
   unfolding comma
   comma_none g = none_node _ (none_first _ g)
 
-  pub comma_alone : {u : Expression} {m : ℕ} → R (λ n. assignment (grammar n)) p u m → is terminal.Comma (leaf_at leaves m) ≡ false →
-      R (λ n. comma (grammar n)) p u m
+  pub comma_alone : {u : Expression} {m : ℕ} → Reads (λ n. assignment (grammar n)) at size left p u m → is terminal.Comma (at m) ≡ false →
+      Reads (λ n. comma (grammar n)) at size left p u m
   unfolding comma
   comma_alone r stops = reads_node comma_of refl (reads_pair r (reads_end (λ n. Skip (assignment (grammar n))) (is terminal.Comma) stops r.within))
 
-  pub comma_rest_none : {u : Expression} {m i : ℕ} → R (λ n. assignment (grammar n)) p u m → N (λ n. more_items u (grammar n)) m i →
-      N (λ n. comma (grammar n)) p i
+  pub comma_rest_none : {u : Expression} {m i : ℕ} → Reads (λ n. assignment (grammar n)) at size left p u m → NoneThrough (λ n. more_items u (grammar n)) at size left m i →
+      NoneThrough (λ n. comma (grammar n)) at size left p i
   unfolding comma
   comma_rest_none {u} r g = none_node _ (none_second steady_assignment r (none_made (λ leaf rest. u ∷ rest) g))
 
-  pub comma_many : {u : Expression} {m : ℕ} {items : List Expression} {q : ℕ} → R (λ n. assignment (grammar n)) p u m →
-      is terminal.Comma (leaf_at leaves m) ≡ true → R (λ n. more_items u (grammar n)) m items q →
-      R (λ n. comma (grammar n)) p (expression.Comma items (leaf_at leaves p).place) q
+  pub comma_many : {u : Expression} {m : ℕ} {items : List Expression} {q : ℕ} → Reads (λ n. assignment (grammar n)) at size left p u m →
+      is terminal.Comma (at m) ≡ true → Reads (λ n. more_items u (grammar n)) at size left m items q →
+      Reads (λ n. comma (grammar n)) at size left p (expression.Comma items (at p).place) q
   unfolding comma
   comma_many {u} {m} {items} {q} r goes s =
       let t = reads_tail {first = u} s in
       let some = λ (e : tail items ≡ []). goes_not_empty (is terminal.Comma)
-      {A = λ n. Skip (assignment (grammar n))} {at = leaf_at leaves} {size = length leaves} {left = left} {p = m} {q = q} goes
-      (subst (λ rest. R (λ n. Many (is terminal.Comma) (Skip (assignment (grammar n)))) m rest q) e t.1) in
-      reads_node comma_of (comma_made (leaf_at leaves p) u (tail items) items t.0 some) (reads_pair r t.1)
+      (λ n. Skip (assignment (grammar n))) {at = at} {size = size} {left = left} {p = m} {q = q} goes
+      (subst (λ rest. Reads (λ n. Many (is terminal.Comma) (Skip (assignment (grammar n)))) at size left m rest q) e t.1) in
+      reads_node comma_of (comma_made (at p) u (tail items) items t.0 some) (reads_pair r t.1)
 
-  pub chain_none : (k : ℕ) {i : ℕ} → N (λ n. chain k (grammar n)) p i → N (λ n. chain (suc k) (grammar n)) p i
+  pub chain_none : (k : ℕ) {i : ℕ} → NoneThrough (λ n. chain k (grammar n)) at size left p i → NoneThrough (λ n. chain (suc k) (grammar n)) at size left p i
   unfolding chain
   chain_none k g = none_node _ (none_first _ g)
 
-  pub chain_rest_none : (k : ℕ) {u : Expression} {m i : ℕ} → R (λ n. chain k (grammar n)) p u m → N (λ n. operands k (grammar n)) m i →
-      N (λ n. chain (suc k) (grammar n)) p i
+  pub chain_rest_none : (k : ℕ) {u : Expression} {m i : ℕ} → Reads (λ n. chain k (grammar n)) at size left p u m → NoneThrough (λ n. operands k (grammar n)) at size left m i →
+      NoneThrough (λ n. chain (suc k) (grammar n)) at size left p i
   unfolding chain
   chain_rest_none k r g = none_node _ (none_second (steady_chain k) r g)
 
-  pub chain_alone : (k : ℕ) {u : Expression} {m : ℕ} {us : List (BinaryOperator × Expression)} {q : ℕ} → R (λ n. chain k (grammar n)) p u m →
-      R (λ n. operands k (grammar n)) m us q → us ≡ [] → R (λ n. chain (suc k) (grammar n)) p u q
+  pub chain_alone : (k : ℕ) {u : Expression} {m : ℕ} {us : List (BinaryOperator × Expression)} {q : ℕ} → Reads (λ n. chain k (grammar n)) at size left p u m →
+      Reads (λ n. operands k (grammar n)) at size left m us q → us ≡ [] → Reads (λ n. chain (suc k) (grammar n)) at size left p u q
   unfolding chain
-  chain_alone k {u} r s e = reads_node chain_of (ap (λ list. chain_of (leaf_at leaves p) (u, list)) (sym e)) (reads_pair r s)
+  chain_alone k {u} r s e = reads_node chain_of (ap (λ list. chain_of (at p) (u, list)) (sym e)) (reads_pair r s)
 
-  pub chain_many : (k : ℕ) {u : Expression} {m : ℕ} {us : List (BinaryOperator × Expression)} {q : ℕ} → R (λ n. chain k (grammar n)) p u m →
-      R (λ n. operands k (grammar n)) m us q → us ≢ [] → R (λ n. chain (suc k) (grammar n)) p (expression.Chain u us (leaf_at leaves p).place) q
+  pub chain_many : (k : ℕ) {u : Expression} {m : ℕ} {us : List (BinaryOperator × Expression)} {q : ℕ} → Reads (λ n. chain k (grammar n)) at size left p u m →
+      Reads (λ n. operands k (grammar n)) at size left m us q → us ≢ [] → Reads (λ n. chain (suc k) (grammar n)) at size left p (expression.Chain u us (at p).place) q
   unfolding chain
-  chain_many k {u} {us = us} r s some = reads_node chain_of (chain_made (leaf_at leaves p) u us some) (reads_pair r s)
+  chain_many k {u} {us = us} r s some = reads_node chain_of (chain_made (at p) u us some) (reads_pair r s)
 
-  pub operand_none : (k : ℕ) {m i : ℕ} {op : BinaryOperator} → symbol_of (leaf_at leaves m) ≡ symbol.Binary op →
-      N (λ n. chain k (grammar n)) (m + 1) i → N (λ n. operand (chain k (grammar n))) m i
+  pub operand_none : (k : ℕ) {m i : ℕ} {op : BinaryOperator} → symbol_of (at m) ≡ symbol.Binary op →
+      NoneThrough (λ n. chain k (grammar n)) at size left (m + 1) i → NoneThrough (λ n. operand (chain k (grammar n))) at size left m i
   unfolding operand_at
   operand_none k e g = none_choice symbol_of (λ n. operand_at (chain k (grammar n))) e (none_node _ (none_skip g))
 
-  pub operand_read : (k : ℕ) {m : ℕ} {op : BinaryOperator} {u : Expression} {q : ℕ} → symbol_of (leaf_at leaves m) ≡ symbol.Binary op →
-      R (λ n. chain k (grammar n)) (m + 1) u q → R (λ n. operand (chain k (grammar n))) m (op, u) q
+  pub operand_read : (k : ℕ) {m : ℕ} {op : BinaryOperator} {u : Expression} {q : ℕ} → symbol_of (at m) ≡ symbol.Binary op →
+      Reads (λ n. chain k (grammar n)) at size left (m + 1) u q → Reads (λ n. operand (chain k (grammar n))) at size left m (op, u) q
   unfolding operand_at
   operand_read k {op = op} e r = reads_choice symbol_of (λ n. operand_at (chain k (grammar n))) e (reads_node (λ leaf right. (op, right)) refl (reads_skip r))
 
-  pub conditional_none : {i : ℕ} → N (λ n. chain loosest (grammar n)) p i → N (λ n. conditional (grammar n)) p i
+  pub conditional_none : {i : ℕ} → NoneThrough (λ n. chain loosest (grammar n)) at size left p i → NoneThrough (λ n. conditional (grammar n)) at size left p i
   unfolding conditional
   conditional_none g = none_node _ (none_first _ g)
 
-  pub conditional_alone : {u : Expression} {m : ℕ} → R (λ n. chain loosest (grammar n)) p u m → is terminal.Question (leaf_at leaves m) ≡ false →
-      R (λ n. conditional (grammar n)) p u m
+  pub conditional_alone : {u : Expression} {m : ℕ} → Reads (λ n. chain loosest (grammar n)) at size left p u m → is terminal.Question (at m) ≡ false →
+      Reads (λ n. conditional (grammar n)) at size left p u m
   unfolding conditional
   conditional_alone r stops = reads_node conditional_of refl (reads_pair r (reads_no
       (λ n. Skip (Pair (Before (Deeper ((grammar n).comma)) (is terminal.Colon)) (Deeper ((grammar n).conditional)))) (is terminal.Question) stops r.within))
 
-  module _ {u : Expression} {m : ℕ} (r : R (λ n. chain loosest (grammar n)) p u m) (goes : is terminal.Question (leaf_at leaves m) ≡ true) where
-    pub conditional_none_yes : {i : ℕ} → N (λ n. Deeper ((grammar n).comma)) (m + 1) i → N (λ n. conditional (grammar n)) p i
+  module _ {u : Expression} {m : ℕ} (r : Reads (λ n. chain loosest (grammar n)) at size left p u m) (goes : is terminal.Question (at m) ≡ true) where
+    pub conditional_none_yes : {i : ℕ} → NoneThrough (λ n. Deeper ((grammar n).comma)) at size left (m + 1) i → NoneThrough (λ n. conditional (grammar n)) at size left p i
     unfolding conditional
     conditional_none_yes g =
         none_node _ (none_second (steady_chain loosest) r (none_perhaps (is terminal.Question) goes (none_skip (none_first _ (none_before _ g)))))
 
-    pub conditional_no_colon : {v : Expression} {k : ℕ} → R (λ n. Deeper ((grammar n).comma)) (m + 1) v k → is terminal.Colon (leaf_at leaves k) ≡ false →
-        N (λ n. conditional (grammar n)) p k
+    pub conditional_no_colon : {v : Expression} {k : ℕ} → Reads (λ n. Deeper ((grammar n).comma)) at size left (m + 1) v k → is terminal.Colon (at k) ≡ false →
+        NoneThrough (λ n. conditional (grammar n)) at size left p k
     unfolding conditional
     conditional_no_colon s fails = none_node _ (none_second (steady_chain loosest) r
         (none_perhaps (is terminal.Question) goes (none_skip (none_first _ (none_before_here _ steady_deeper_comma s fails)))))
 
-    pub conditional_none_no : {v : Expression} {k j i : ℕ} → R (λ n. Deeper ((grammar n).comma)) (m + 1) v k → Takes leaves k terminal.Colon j →
-        N (λ n. Deeper ((grammar n).conditional)) j i → N (λ n. conditional (grammar n)) p i
+    pub conditional_none_no : {v : Expression} {j i : ℕ} → Reads (λ n. Before (Deeper ((grammar n).comma)) (is terminal.Colon)) at size left (m + 1) v j →
+        NoneThrough (λ n. Deeper ((grammar n).conditional)) at size left j i → NoneThrough (λ n. conditional (grammar n)) at size left p i
     unfolding conditional
-    conditional_none_no s takes g = none_node _ (none_second (steady_chain loosest) r
-        (none_perhaps (is terminal.Question) goes (none_skip (none_second (steady_closed_comma terminal.Colon) (reads_closed s takes) g))))
+    conditional_none_no s g = none_node _ (none_second (steady_chain loosest) r
+        (none_perhaps (is terminal.Question) goes (none_skip (none_second (steady_closed_comma terminal.Colon) s g))))
 
-    pub conditional_whole : {v : Expression} {k j : ℕ} {x : Expression} {q : ℕ} → R (λ n. Deeper ((grammar n).comma)) (m + 1) v k →
-        Takes leaves k terminal.Colon j → R (λ n. Deeper ((grammar n).conditional)) j x q →
-        R (λ n. conditional (grammar n)) p (expression.Conditional u v x (leaf_at leaves p).place) q
+    pub conditional_whole : {v : Expression} {j : ℕ} {x : Expression} {q : ℕ} → Reads (λ n. Before (Deeper ((grammar n).comma)) (is terminal.Colon)) at size left (m + 1) v j → Reads (λ n. Deeper ((grammar n).conditional)) at size left j x q →
+        Reads (λ n. conditional (grammar n)) at size left p (expression.Conditional u v x (at p).place) q
     unfolding conditional
-    conditional_whole s takes t = reads_node conditional_of refl (reads_pair r
-        (reads_one_more (is terminal.Question) goes (reads_skip (reads_pair (reads_closed s takes) t))))
+    conditional_whole s t = reads_node conditional_of refl (reads_pair r
+        (reads_one_more (is terminal.Question) goes (reads_skip (reads_pair s t))))
 
-  pub assignment_none : {i : ℕ} → N (λ n. conditional (grammar n)) p i → N (λ n. assignment (grammar n)) p i
+  pub assignment_none : {i : ℕ} → NoneThrough (λ n. conditional (grammar n)) at size left p i → NoneThrough (λ n. assignment (grammar n)) at size left p i
   unfolding assignment
   assignment_none g = none_node _ (none_then_first _ g)
 
-  pub assignment_alone : {u : Expression} {m : ℕ} → R (λ n. conditional (grammar n)) p u m → assigns_to u (leaf_at leaves m) ≡ false →
-      R (λ n. assignment (grammar n)) p u m
+  pub assignment_alone : {u : Expression} {m : ℕ} → Reads (λ n. conditional (grammar n)) at size left p u m → assigns_to u (at m) ≡ false →
+      Reads (λ n. assignment (grammar n)) at size left p u m
   unfolding assignment
   assignment_alone {u} r stops = reads_node assignment_of refl
       (reads_then (λ n left. Perhaps (assigns_to left) (Choice symbol_of (right_side_at (grammar n)))) r
       (reads_no (λ n. Choice symbol_of (right_side_at (grammar n))) (assigns_to u) stops r.within))
 
-  module _ {u : Expression} {m : ℕ} {op : AssignmentOperator} (r : R (λ n. conditional (grammar n)) p u m)
-      (goes : assigns_to u (leaf_at leaves m) ≡ true) (e : symbol_of (leaf_at leaves m) ≡ symbol.Assign op) where
-    pub assignment_none_right : {i : ℕ} → N (λ n. Deeper ((grammar n).assignment)) (m + 1) i → N (λ n. assignment (grammar n)) p i
+  module _ {u : Expression} {m : ℕ} {op : AssignmentOperator} (r : Reads (λ n. conditional (grammar n)) at size left p u m)
+      (goes : assigns_to u (at m) ≡ true) (e : symbol_of (at m) ≡ symbol.Assign op) where
+    pub assignment_none_right : {i : ℕ} → NoneThrough (λ n. Deeper ((grammar n).assignment)) at size left (m + 1) i → NoneThrough (λ n. assignment (grammar n)) at size left p i
     unfolding assignment right_side_at
     assignment_none_right g = none_node _ (none_then (λ n left. Perhaps (assigns_to left) (Choice symbol_of (right_side_at (grammar n))))
         steady_conditional r (none_perhaps (assigns_to u) goes
         (none_choice symbol_of (λ n. right_side_at (grammar n)) e (none_node _ (none_skip g)))))
 
-    pub assignment_whole : {v : Expression} {q : ℕ} → R (λ n. Deeper ((grammar n).assignment)) (m + 1) v q →
-        R (λ n. assignment (grammar n)) p (expression.Assignment u op v (leaf_at leaves p).place) q
+    pub assignment_whole : {v : Expression} {q : ℕ} → Reads (λ n. Deeper ((grammar n).assignment)) at size left (m + 1) v q →
+        Reads (λ n. assignment (grammar n)) at size left p (expression.Assignment u op v (at p).place) q
     unfolding assignment right_side_at
     assignment_whole s = reads_node assignment_of refl
         (reads_then (λ n left. Perhaps (assigns_to left) (Choice symbol_of (right_side_at (grammar n)))) r
@@ -162,15 +157,12 @@ module _ {leaves : List Leaf} {left p : ℕ} where
         (reads_choice symbol_of (λ n. right_side_at (grammar n)) e (reads_node (λ leaf right. (op, right)) refl (reads_skip s)))))
 
 -- the chain of a number, where the number is known
-pub at_rank_zero : {leaves : List Leaf} {left p rank : ℕ} {answer : Result (Expression × ℕ) ReadError} → rank ≡ 0 →
-    Answers 200 (λ n. cast (grammar n)) (leaf_at leaves) (length leaves) left p answer →
-    Answers 200 (λ n. chain rank (grammar n)) (leaf_at leaves) (length leaves) left p answer
-unfolding chain
-at_rank_zero {leaves} {left} {p} {rank} {answer} e a =
-    subst (λ k. Answers 200 (λ n. chain k (grammar n)) (leaf_at leaves) (length leaves) left p answer) (sym e) a
+module _ (at : ℕ → Leaf) (size left p : ℕ) {rank : ℕ} (answer : Result (Expression × ℕ) ReadError) where
+  pub at_rank_zero : rank ≡ 0 → Answers MAX_LEVEL (λ n. cast (grammar n)) at size left p answer →
+      Answers MAX_LEVEL (λ n. chain rank (grammar n)) at size left p answer
+  unfolding chain
+  at_rank_zero e a = subst (λ k. Answers MAX_LEVEL (λ n. chain k (grammar n)) at size left p answer) (sym e) a
 
-pub at_rank : {leaves : List Leaf} {left p rank k : ℕ} {answer : Result (Expression × ℕ) ReadError} → rank ≡ suc k →
-    Answers 200 (λ n. chain (suc k) (grammar n)) (leaf_at leaves) (length leaves) left p answer →
-    Answers 200 (λ n. chain rank (grammar n)) (leaf_at leaves) (length leaves) left p answer
-at_rank {leaves} {left} {p} {answer = answer} e a =
-    subst (λ j. Answers 200 (λ n. chain j (grammar n)) (leaf_at leaves) (length leaves) left p answer) (sym e) a
+  pub at_rank : {k : ℕ} → rank ≡ suc k → Answers MAX_LEVEL (λ n. chain (suc k) (grammar n)) at size left p answer →
+      Answers MAX_LEVEL (λ n. chain rank (grammar n)) at size left p answer
+  at_rank e a = subst (λ k. Answers MAX_LEVEL (λ n. chain k (grammar n)) at size left p answer) (sym e) a

@@ -1,59 +1,30 @@
 -- From answers on the parts to an answer on the whole.
-use Rattle.std.specs.Prelude.{◌≡◌, ℕ, ◌+◌, ◌-◌, ◌<◌, ◌≤◌, Bool, true, false, cond, List, [], ◌∷◌, ◌++◌, length, Result, Ok, Err, IsErrAnd, refl}
+use Rattle.std.specs.Prelude.{◌≡◌, ℕ, ◌+◌, ◌<◌, ◌≤◌, Bool, true, false, List, [], ◌∷◌, ◌++◌, length, Result, IsErrAnd, refl}
 use Rattle.std.proofs.Common.{sym, ◌∙◌, ap, subst, arith}
 use Rattle.grammar_forms.specs.declared.fault.ReadError.{ReadError}
-use Rattle.grammar_forms.specs.declared.fault.ReadError.TheVariants.{Unexpected, TooDeep, OutOfMemory}
-use Rattle.grammar_forms.specs.Forms.{World, Form, Node, Pair, Before, Deeper, Many, greedy_text}
+use Rattle.grammar_forms.specs.Forms.{World, Form, Node, Pair, Before, Many, greedy_text}
 use Rattle.grammar_forms.specs.Steady.{Steady, cons_path, from_place, ends_or_goes}
-use Rattle.grammar_forms.specs.Reading.{Reads, Begins, NoneThrough, Faults, Answers}
-use Rattle.grammar_forms.specs.Found.{IsAbove, reads_before, reads_deeper, reads_deeper_flat, reads_node, reads_pair, reads_one}
-use Rattle.grammar_forms.specs.NotFound.{only, none_before_here, none_deeper, none_deeper_flat, none_too_deep}
-use Rattle.grammar_forms.specs.Exits.{at_exit}
+use Rattle.grammar_forms.specs.Reading.{Reads, Begins, NoneThrough, Answers}
+use Rattle.grammar_forms.specs.Found.{reads_before_by, reads_node, reads_pair}
+use Rattle.grammar_forms.specs.NotFound.{only}
+use Rattle.grammar_forms.specs.Exits.{at_fault}
 use Rattle.grammar_forms.specs.Loops.{SoFar}
 use Rattle.c_symbols.specs.declared.words.Terminal.{Terminal}
 use Rattle.c_symbols.specs.Symbols.{Leaf}
-use Rattle.c_symbols.specs.Sources.{leaf_at, is, Takes, Lacks, GoesOn}
-use Rattle.c_tree.specs.Reading.{no_level}
+use Rattle.c_symbols.specs.Sources.{leaf_at, is, Takes, Lacks}
 
-module _ {Token T : Type 0} (limit : ℕ) {A : ℕ → Form Token T} {B : ℕ → Form Token T} {at : ℕ → Token} {size k r left p : ℕ} where
-  -- the answer on a part is the answer on the whole
-  pub answers_with : (answer : Result (T × ℕ) ReadError) →
-      ((u : T) (q : ℕ) → Reads A at size k r u q → Reads B at size left p u q) →
-      ((i : ℕ) → NoneThrough A at size k r i → NoneThrough B at size left p i) →
-      Answers limit A at size k r answer → Answers limit B at size left p answer
-  answers_with (Ok read) f g a = f read.0 read.1 a
-  answers_with (Err (Unexpected i)) f g a = g i a
-  answers_with (Err (TooDeep i)) f g a = (g i a.0, a.1)
-  answers_with (Err OutOfMemory) f g a = tt
-
--- an answer with one level less is an answer on the part one level deeper
-pub answers_deeper : {Token T : Type 0} (limit : ℕ) {A B : ℕ → Form Token T} {at : ℕ → Token} {size left p : ℕ} → IsAbove B A → 0 < left →
-    (answer : Result (T × ℕ) ReadError) → Answers limit A at size (left - 1) p answer → Answers limit (λ n. Deeper (B n)) at size left p answer
-answers_deeper limit {A} {B} {at} {size} {left} {p} above allowed answer a =
-    answers_with limit answer (λ u q r. reads_deeper above left allowed r) (λ i g. none_deeper above g) a
-
--- with no level left there is no part one level deeper
-pub answers_no_level : {Token T : Type 0} (limit : ℕ) (B : ℕ → Form Token T) {at : ℕ → Token} {size left p : ℕ} →
-    left ≡ 0 → p < size → limit ≤ p → (begins : Bool) → Answers limit (λ n. Deeper (B n)) at size left p (Err (no_level begins p))
-answers_no_level limit B used fits deep true = (none_too_deep B used fits, deep)
-answers_no_level limit B used fits deep false = none_too_deep B used fits
-
-module _ {T : Type 0} {A : ℕ → Form Leaf T} {leaves : List Leaf} {left p m q : ℕ} {u : T} {t : Terminal} where
-  -- a part, and the terminal behind it
-  pub reads_closed : Reads A (leaf_at leaves) (length leaves) left p u m → Takes leaves m t q →
-      Reads (λ n. Before (A n) (is t)) (leaf_at leaves) (length leaves) left p u q
-  reads_closed r takes =
-      subst (λ k. Reads (λ n. Before (A n) (is t)) (leaf_at leaves) (length leaves) left p u k) (sym takes.behind_it)
-      (reads_before (is t) r takes.passes (omega (arith, takes.behind_it, takes.within)))
+-- a part, and the terminal behind it
+pub reads_closed : {T : Type 0} {A : ℕ → Form Leaf T} {leaves : List Leaf} {left p m q : ℕ} {u : T} {t : Terminal} →
+    Reads A (leaf_at leaves) (length leaves) left p u m → Takes leaves m t q →
+    Reads (λ n. Before (A n) (is t)) (leaf_at leaves) (length leaves) left p u q
+reads_closed {t = t} r takes = reads_before_by (is t) r takes.passes takes.behind_it takes.within
 
 -- the terminal that is to stand there is not there
-pub at_lack : {T : Type 0} (limit : ℕ) {B : ℕ → Form Leaf T} {leaves : List Leaf} {left p m : ℕ} {t : Terminal} (e : ReadError) (answer : Result (T × ℕ) ReadError) →
-    IsErrAnd answer (λ given. given ≡ e) → Lacks leaves m t e →
+pub at_lack : {T : Type 0} (limit : ℕ) {B : ℕ → Form Leaf T} {leaves : List Leaf} {left p m : ℕ} {t : Terminal} (e : ReadError)
+    (answer : Result (T × ℕ) ReadError) → IsErrAnd answer (λ given. given ≡ e) → Lacks leaves m t e →
     (is t (leaf_at leaves m) ≡ false → NoneThrough B (leaf_at leaves) (length leaves) left p m) →
     Answers limit B (leaf_at leaves) (length leaves) left p answer
-at_lack limit e (Ok read) given lacks none = absurd given
-at_lack limit {B} {leaves} {left} {p} e (Err x) given lacks none =
-    subst (λ y. Answers limit B (leaf_at leaves) (length leaves) left p (Err y)) (sym (given ∙ lacks.named)) (none lacks.fails)
+at_lack limit e answer given lacks none = at_fault limit e answer given lacks.named (none lacks.fails)
 
 -- what is made of the one reading of a part has no reading where the part has none, and the other way round
 module _ {Token S T : Type 0} (f : Token → S → T) {A : ℕ → Form Token S} {at : ℕ → Token} {size left p : ℕ} where
@@ -113,19 +84,12 @@ behind_first go first B fits = record {
 }
 
 -- a list that goes on is not empty
-pub goes_not_empty : {Token T : Type 0} (go : Token → Bool) {A : ℕ → Form Token T} {at : ℕ → Token} {size left p q : ℕ} →
+pub goes_not_empty : {Token T : Type 0} (go : Token → Bool) (A : ℕ → Form Token T) {at : ℕ → Token} {size left p q : ℕ} →
     go (at p) ≡ true → Reads (λ n. Many go (A n)) at size left p [] q → ⊥
 unfolding Many
-goes_not_empty go goes r = ends_or_goes ((r.reading 0).stops refl) goes
+goes_not_empty go A goes r = ends_or_goes ((r.reading 0).stops refl) goes
 
 -- the same with equal items
 pub at_items : {Token T : Type 0} {W : ℕ → Form Token (List T)} {go : Token → Bool} {A : ℕ → Form Token T} {at : ℕ → Token} {size left p : ℕ}
     {us vs : List T} {m : ℕ} → SoFar W go A at size left p us m → vs ≡ us → SoFar W go A at size left p vs m
 at_items {W = W} {go} {A} {at} {size} {left} {p} {m = m} s e = subst (λ items. SoFar W go A at size left p items m) (sym e) s
-
--- an error of a reader that keeps no part is one of the whole
-pub at_skip_exit : {S T : Type 0} (limit : ℕ) {A : ℕ → Form Leaf S} {B : ℕ → Form Leaf T} {leaves : List Leaf} {k r left p : ℕ} (e : ReadError)
-    (answer : Result (T × ℕ) ReadError) → IsErrAnd answer (λ given. given ≡ e) → Faults limit A (leaf_at leaves) (length leaves) k r e →
-    ((i : ℕ) → NoneThrough A (leaf_at leaves) (length leaves) k r i → NoneThrough B (leaf_at leaves) (length leaves) left p i) →
-    Answers limit B (leaf_at leaves) (length leaves) left p answer
-at_skip_exit limit e answer given f none = at_exit limit e answer given f none

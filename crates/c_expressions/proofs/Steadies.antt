@@ -10,12 +10,6 @@ use Rattle.c_tree.specs.Grammar.{grammar}
 use Rattle.c_tree.specs.OneReading.{good_primary_at, good_suffixes, good_suffix_at, good_type_name, good_assignment, good_arguments, good_conditional, good_chain, good_operand, good_skipped_call}
 use Rattle.c_tree.specs.OneReadingOfText.{good_grammar}
 
-pub steady_deeper_comma : Steady (λ n. Deeper ((grammar n).comma))
-steady_deeper_comma = record { good = λ n m. good_deeper ((good_grammar n m).comma) }
-
-pub steady_deeper_assignment : Steady (λ n. Deeper ((grammar n).assignment))
-steady_deeper_assignment = record { good = λ n m. good_deeper ((good_grammar n m).assignment) }
-
 pub steady_skip_assignment : Steady (λ n. Skip (Deeper ((grammar n).assignment)))
 steady_skip_assignment = record { good = λ n m. good_skip (good_deeper ((good_grammar n m).assignment)) }
 
