@@ -66,34 +66,35 @@ module _ {at : ℕ → Leaf} {size left p : ℕ} where
       (subst (λ rest. Reads (λ n. Many (is terminal.Comma) (Skip (assignment (grammar n)))) at size left m rest q) e t.1) in
       reads_node comma_of (comma_made (at p) u (tail items) items t.0 some) (reads_pair r t.1)
 
-  pub chain_none : (k : ℕ) {i : ℕ} → NoneThrough (λ n. chain k (grammar n)) at size left p i → NoneThrough (λ n. chain (suc k) (grammar n)) at size left p i
-  unfolding chain
-  chain_none k g = none_node _ (none_first _ g)
+  -- a chain that is not the tightest
+  module _ {rank : ℕ} (k : ℕ) (e : rank ≡ suc k) where
+    pub chain_none : {i : ℕ} → NoneThrough (λ n. chain k (grammar n)) at size left p i →
+        NoneThrough (λ n. chain rank (grammar n)) at size left p i
+    unfolding chain
+    chain_none {i} g = subst (λ j. NoneThrough (λ n. chain j (grammar n)) at size left p i) (sym e)
+        (none_node {A = λ n. Pair (chain k (grammar n)) (operands k (grammar n))} chain_of (none_first _ g))
 
-  pub chain_rest_none : (k : ℕ) {u : Expression} {m i : ℕ} → Reads (λ n. chain k (grammar n)) at size left p u m → NoneThrough (λ n. operands k (grammar n)) at size left m i →
-      NoneThrough (λ n. chain (suc k) (grammar n)) at size left p i
-  unfolding chain
-  chain_rest_none k r g = none_node _ (none_second (steady_chain k) r g)
+    pub chain_rest_none : {u : Expression} {m i : ℕ} → Reads (λ n. chain k (grammar n)) at size left p u m →
+        NoneThrough (λ n. operands k (grammar n)) at size left m i → NoneThrough (λ n. chain rank (grammar n)) at size left p i
+    unfolding chain
+    chain_rest_none {i = i} r g = subst (λ j. NoneThrough (λ n. chain j (grammar n)) at size left p i) (sym e)
+        (none_node {A = λ n. Pair (chain k (grammar n)) (operands k (grammar n))} chain_of (none_second (steady_chain k) r g))
 
-  pub chain_alone : (k : ℕ) {u : Expression} {m : ℕ} {us : List (BinaryOperator × Expression)} {q : ℕ} → Reads (λ n. chain k (grammar n)) at size left p u m →
-      Reads (λ n. operands k (grammar n)) at size left m us q → us ≡ [] → Reads (λ n. chain (suc k) (grammar n)) at size left p u q
-  unfolding chain
-  chain_alone k {u} r s e = reads_node chain_of (ap (λ list. chain_of (at p) (u, list)) (sym e)) (reads_pair r s)
+    pub chain_alone : {u : Expression} {m : ℕ} {us : List (BinaryOperator × Expression)} {q : ℕ} →
+        Reads (λ n. chain k (grammar n)) at size left p u m → Reads (λ n. operands k (grammar n)) at size left m us q → us ≡ [] →
+        Reads (λ n. chain rank (grammar n)) at size left p u q
+    unfolding chain
+    chain_alone {u} {q = q} r s none = subst (λ j. Reads (λ n. chain j (grammar n)) at size left p u q) (sym e)
+        (reads_node {A = λ n. Pair (chain k (grammar n)) (operands k (grammar n))} chain_of
+        (ap (λ list. chain_of (at p) (u, list)) (sym none)) (reads_pair r s))
 
-  pub chain_many : (k : ℕ) {u : Expression} {m : ℕ} {us : List (BinaryOperator × Expression)} {q : ℕ} → Reads (λ n. chain k (grammar n)) at size left p u m →
-      Reads (λ n. operands k (grammar n)) at size left m us q → us ≢ [] → Reads (λ n. chain (suc k) (grammar n)) at size left p (expression.Chain u us (at p).place) q
-  unfolding chain
-  chain_many k {u} {us = us} r s some = reads_node chain_of (chain_made (at p) u us some) (reads_pair r s)
-
-  pub operand_none : (k : ℕ) {m i : ℕ} {op : BinaryOperator} → symbol_of (at m) ≡ symbol.Binary op →
-      NoneThrough (λ n. chain k (grammar n)) at size left (m + 1) i → NoneThrough (λ n. operand (chain k (grammar n))) at size left m i
-  unfolding operand_at
-  operand_none k e g = none_choice symbol_of (λ n. operand_at (chain k (grammar n))) e (none_node _ (none_skip g))
-
-  pub operand_read : (k : ℕ) {m : ℕ} {op : BinaryOperator} {u : Expression} {q : ℕ} → symbol_of (at m) ≡ symbol.Binary op →
-      Reads (λ n. chain k (grammar n)) at size left (m + 1) u q → Reads (λ n. operand (chain k (grammar n))) at size left m (op, u) q
-  unfolding operand_at
-  operand_read k {op = op} e r = reads_choice symbol_of (λ n. operand_at (chain k (grammar n))) e (reads_node (λ leaf right. (op, right)) refl (reads_skip r))
+    pub chain_many : {u : Expression} {m : ℕ} {us : List (BinaryOperator × Expression)} {q : ℕ} →
+        Reads (λ n. chain k (grammar n)) at size left p u m → Reads (λ n. operands k (grammar n)) at size left m us q → us ≢ [] →
+        Reads (λ n. chain rank (grammar n)) at size left p (expression.Chain u us (at p).place) q
+    unfolding chain
+    chain_many {u} {us = us} {q = q} r s some =
+        subst (λ j. Reads (λ n. chain j (grammar n)) at size left p (expression.Chain u us (at p).place) q) (sym e)
+        (reads_node {A = λ n. Pair (chain k (grammar n)) (operands k (grammar n))} chain_of (chain_made (at p) u us some) (reads_pair r s))
 
   pub conditional_none : {i : ℕ} → NoneThrough (λ n. chain loosest (grammar n)) at size left p i → NoneThrough (λ n. conditional (grammar n)) at size left p i
   unfolding conditional
@@ -156,13 +157,20 @@ module _ {at : ℕ → Leaf} {size left p : ℕ} where
         (reads_one_more (assigns_to u) goes
         (reads_choice symbol_of (λ n. right_side_at (grammar n)) e (reads_node (λ leaf right. (op, right)) refl (reads_skip s)))))
 
--- the chain of a number, where the number is known
-module _ (at : ℕ → Leaf) (size left p : ℕ) {rank : ℕ} (answer : Result (Expression × ℕ) ReadError) where
-  pub at_rank_zero : rank ≡ 0 → Answers MAX_LEVEL (λ n. cast (grammar n)) at size left p answer →
-      Answers MAX_LEVEL (λ n. chain rank (grammar n)) at size left p answer
-  unfolding chain
-  at_rank_zero e a = subst (λ k. Answers MAX_LEVEL (λ n. chain k (grammar n)) at size left p answer) (sym e) a
+-- an operand of a chain, behind its operator
+module _ {at : ℕ → Leaf} {size left m : ℕ} where
+  pub operand_none : (k : ℕ) {i : ℕ} {op : BinaryOperator} → symbol_of (at m) ≡ symbol.Binary op →
+      NoneThrough (λ n. chain k (grammar n)) at size left (m + 1) i → NoneThrough (λ n. operand (chain k (grammar n))) at size left m i
+  unfolding operand_at
+  operand_none k e g = none_choice symbol_of (λ n. operand_at (chain k (grammar n))) e (none_node _ (none_skip g))
 
-  pub at_rank : {k : ℕ} → rank ≡ suc k → Answers MAX_LEVEL (λ n. chain (suc k) (grammar n)) at size left p answer →
-      Answers MAX_LEVEL (λ n. chain rank (grammar n)) at size left p answer
-  at_rank e a = subst (λ k. Answers MAX_LEVEL (λ n. chain k (grammar n)) at size left p answer) (sym e) a
+  pub operand_read : (k : ℕ) {op : BinaryOperator} {u : Expression} {q : ℕ} → symbol_of (at m) ≡ symbol.Binary op →
+      Reads (λ n. chain k (grammar n)) at size left (m + 1) u q → Reads (λ n. operand (chain k (grammar n))) at size left m (op, u) q
+  unfolding operand_at
+  operand_read k {op = op} e r = reads_choice symbol_of (λ n. operand_at (chain k (grammar n))) e (reads_node (λ leaf right. (op, right)) refl (reads_skip r))
+
+-- the tightest chain is a cast
+pub tightest : (at : ℕ → Leaf) (size left p : ℕ) {rank : ℕ} (answer : Result (Expression × ℕ) ReadError) → rank ≡ 0 →
+    Answers MAX_LEVEL (λ n. cast (grammar n)) at size left p answer → Answers MAX_LEVEL (λ n. chain rank (grammar n)) at size left p answer
+unfolding chain
+tightest at size left p answer e a = subst (λ k. Answers MAX_LEVEL (λ n. chain k (grammar n)) at size left p answer) (sym e) a

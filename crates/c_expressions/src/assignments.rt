@@ -1,6 +1,6 @@
 //! Readers of conditionals, assignments and comma expressions (C11 6.5.15 to 6.5.17).
-ghost use Rattle.std.specs.Prelude.{◌≡◌, ◌<◌, length};
-ghost use Rattle.c_symbols.specs.Sources.{leaf_at};
+ghost use Rattle.std.specs.Prelude.{◌≡◌, ◌<◌, length, IfSome};
+ghost use Rattle.c_symbols.specs.Sources.{leaf_at, GoesOn};
 ghost use Rattle.c_tree.specs.Expressions.{conditional, assignment, comma};
 ghost use Rattle.c_tree.specs.Reading.{Gives, HasRoom};
 ghost use Rattle.c_expressions.specs.Lists.{more_items, FindsOperator};
@@ -54,7 +54,8 @@ pub fn conditional(
 /// The operator of an assignment to this expression that stands here, if one does.
 fn operator_behind(target: &Expression, source: &Source, at: usize) -> Option<AssignmentOperator>
     requires { at < length source.now }
-    ensures { FindsOperator target.now (leaf_at source.now at) result }
+    ensures found { FindsOperator target.now (leaf_at source.now at) result }
+    ensures more { IfSome result (λ operator. GoesOn source.now at) }
 {
     match source.symbol(at) {
         Symbol::Assign(operator) if is_unary(target) => Some(operator),

@@ -16,4 +16,4 @@ returns-in-Step c = λ left. rw c.place-place.ensures
 pub returns-in_default : goal.returns-in_default
 returns-in_default c = λ left. none_arm symbol_of (λ n. suffix_at (grammar n))
     (λ n. arm_no_suffix (grammar n) (symbol_of (leaf_at c.args.source.now c.args.at)) c.requires.no_index c.requires.no_call
-    (no_step _ (λ op e. c.in_default.not-Step op (c.in_default.ensures.value ∙ e)))) (none_nothing c.requires.within)
+    (no_step _ (λ op e. c.in_default.not-Step op (c.symbol.ensures.value ∙ e)))) (none_nothing c.requires.within)
