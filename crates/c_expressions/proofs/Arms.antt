@@ -1,8 +1,8 @@
 -- What each token calls for.
-use Rattle.std.specs.Prelude.{◌≡◌, ℕ, ℤ, suc, ◌+◌, ◌==◌, Bool, true, false, cond, List, Option, None, Some, refl}
+use Rattle.std.specs.Prelude.{◌≡◌, ℕ, ℤ, suc, ◌+◌, ◌==◌, Bool, true, false, cond, Option, None, Some, refl}
 use Rattle.std.proofs.Common.{sym, ◌∙◌, ap, subst, arith}
-use Rattle.grammar_forms.specs.Forms.{World, Form, Nothing, One, Skip, Node, Pair, Then, Before, Deeper, Choice}
-use Rattle.grammar_forms.specs.Reading.{Reads, Begins, NoneThrough}
+use Rattle.grammar_forms.specs.Forms.{World, Form, Nothing, Skip, Node, Pair, Then, Before, Deeper, Choice}
+use Rattle.grammar_forms.specs.Reading.{Reads, NoneThrough}
 use Rattle.cpa_ints.specs.declared.integers.IntType.{IntType}
 use Rattle.c_symbols.specs.declared.words.Terminal.TheVariants as terminal
 use Rattle.c_symbols.specs.declared.operators.AssignmentOperator.{AssignmentOperator}
@@ -17,7 +17,7 @@ use Rattle.c_tree.specs.declared.expression.Expression.{Expression}
 use Rattle.c_tree.specs.declared.expression.UnaryOperator.{UnaryOperator}
 use Rattle.c_tree.specs.Parts.{types, steps, binds, looseness, names_assert, is_operator}
 use Rattle.c_tree.specs.Nested.{Grammar}
-use Rattle.c_tree.specs.Expressions.{Group, cast_group, bracket_group, group_of, group_at, cast_at, unary, unary_at, sign, postfix, suffixes, type_name, operand_at, suffix_at, primary_at, assigns_to}
+use Rattle.c_tree.specs.Expressions.{Group, cast_group, bracket_group, group_of, group_at, cast_at, unary, unary_at, sign, postfix, suffixes, type_name, suffix_at, primary_at, assigns_to}
 use Rattle.c_expressions.specs.Lists.{sign_of, operator_of, FindsOperator}
 
 -- two forms read the same

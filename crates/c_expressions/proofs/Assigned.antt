@@ -1,5 +1,4 @@
 -- The arguments of a call have one reading, at each two depths.
-use Rattle.std.specs.Prelude.{ℕ}
 use Rattle.grammar_forms.specs.Forms.{Node, Perhaps}
 use Rattle.grammar_forms.specs.Steady.{Steady, good_node, good_perhaps}
 use Rattle.c_symbols.specs.declared.words.Terminal.TheVariants as terminal

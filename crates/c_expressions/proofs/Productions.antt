@@ -1,34 +1,27 @@
 -- Readings of each production from readings of its parts, and none where a part has none.
-use Rattle.std.specs.Prelude.{◌≡◌, ◌≢◌, ℕ, suc, ◌+◌, ◌<◌, Bool, true, false, ◌&&◌, List, [], ◌∷◌, length, Option, None, Some, Result, refl}
-use Rattle.std.proofs.Common.{sym, ◌∙◌, ap, subst, arith}
-use Rattle.grammar_forms.specs.Forms.{Form, Nothing, One, Skip, Before, Pair, Then, Node, Deeper, Choice, Many, Perhaps, Nearest, listed}
+use Rattle.std.specs.Prelude.{◌≡◌, ◌≢◌, ℕ, suc, ◌+◌, true, false, List, [], ◌∷◌, Result, refl}
+use Rattle.std.proofs.Common.{sym, ap, subst}
+use Rattle.grammar_forms.specs.Forms.{Skip, Before, Pair, Deeper, Choice, Many, Perhaps}
 use Rattle.grammar_forms.specs.declared.fault.ReadError.{ReadError}
 use Rattle.grammar_forms.specs.Reading.{Reads, NoneThrough, Answers}
-use Rattle.grammar_forms.specs.Found.{reads_one, reads_node, reads_pair, reads_then, reads_skip, reads_choice, reads_no, reads_one_more, reads_nearest, reads_nearest_no, reads_end}
-use Rattle.grammar_forms.specs.NotFound.{none_node, none_first, none_second, none_then, none_then_first, none_skip, none_choice, none_perhaps, none_before, none_before_here, none_nothing}
-use Rattle.c_symbols.specs.declared.words.Terminal.{Terminal}
+use Rattle.grammar_forms.specs.Found.{reads_node, reads_pair, reads_then, reads_skip, reads_choice, reads_no, reads_one_more, reads_end}
+use Rattle.grammar_forms.specs.NotFound.{none_node, none_first, none_second, none_then, none_then_first, none_skip, none_choice, none_perhaps, none_before, none_before_here}
 use Rattle.c_symbols.specs.declared.words.Terminal.TheVariants as terminal
 use Rattle.c_symbols.specs.declared.operators.AssignmentOperator.{AssignmentOperator}
 use Rattle.c_symbols.specs.declared.operators.BinaryOperator.{BinaryOperator}
-use Rattle.c_symbols.specs.declared.symbol.Symbol.{Symbol}
 use Rattle.c_symbols.specs.declared.symbol.Symbol.TheVariants as symbol
 use Rattle.c_symbols.specs.Symbols.{Leaf, symbol_of}
 use Rattle.c_symbols.specs.Sources.{is}
 use Rattle.c_tree.specs.declared.expression.Expression.{Expression}
 use Rattle.c_tree.specs.declared.expression.Expression.TheVariants as expression
-use Rattle.c_tree.specs.declared.expression.Suffix.{Suffix}
-use Rattle.c_tree.specs.declared.expression.Suffix.TheVariants as suffix
-use Rattle.c_tree.specs.declared.expression.TypeName.{TypeName}
-use Rattle.c_tree.specs.declared.expression.UnaryOperator.{UnaryOperator}
 use Rattle.c_tree.specs.declared.TheConstants.{MAX_LEVEL}
-use Rattle.c_tree.specs.Parts.{is_not, is_operator, types, steps, names_assert, loosest}
+use Rattle.c_tree.specs.Parts.{loosest}
 use Rattle.c_tree.specs.Grammar.{grammar}
-use Rattle.c_tree.specs.Expressions.{comma, comma_of, assignment, assignment_of, assigns_to, right_side_at, conditional, conditional_of, chain, chain_of, operand_at, operand, cast, cast_at, group_at, unary, unary_at, sign, postfix, suffixed, suffixes, primary, primary_at, arguments, assignments, list_of, suffix_at, any_suffix, type_name, in_front, skipped_call, opens_skipped, round_brackets}
-use Rattle.c_expressions.specs.Lists.{more_items, more_arguments, operands, group, sign_of, operator_of}
+use Rattle.c_tree.specs.Expressions.{comma, comma_of, assignment, assignment_of, assigns_to, right_side_at, conditional, conditional_of, chain, chain_of, operand_at, operand, cast}
+use Rattle.c_expressions.specs.Lists.{more_items, operands}
 use Rattle.c_tree.specs.Levels.{steady_deeper_comma}
 use Rattle.c_expressions.proofs.Readers.{none_made, tail, reads_tail, goes_not_empty}
-use Rattle.c_expressions.proofs.Steadies.{steady_assignment, steady_conditional, steady_chain, steady_primary, steady_deeper_type_name, steady_closed_comma, steady_closed_type_name}
-use Rattle.c_expressions.proofs.Arms.{reads_arm, none_arm, arm_group, arm_unary, arm_cast, arm_bracket, arm_sign, arm_postfix}
+use Rattle.c_expressions.proofs.Steadies.{steady_assignment, steady_conditional, steady_chain, steady_closed_comma}
 
 comma_made : (leaf : Leaf) (u : Expression) (rest items : List Expression) → items ≡ u ∷ rest → (rest ≡ [] → ⊥) →
     expression.Comma items leaf.place ≡ comma_of leaf (u, rest)

@@ -1,10 +1,10 @@
 -- From answers on the parts to an answer on the whole.
-use Rattle.std.specs.Prelude.{◌≡◌, ℕ, ◌+◌, ◌<◌, ◌≤◌, Bool, true, false, List, [], ◌∷◌, ◌++◌, length, Result, IsErrAnd, refl}
+use Rattle.std.specs.Prelude.{◌≡◌, ℕ, ◌<◌, Bool, true, false, List, [], ◌∷◌, ◌++◌, length, Result, IsErrAnd, refl}
 use Rattle.std.proofs.Common.{sym, ◌∙◌, ap, subst, arith}
 use Rattle.grammar_forms.specs.declared.fault.ReadError.{ReadError}
-use Rattle.grammar_forms.specs.Forms.{World, Form, Node, Pair, Before, Many, greedy_text}
+use Rattle.grammar_forms.specs.Forms.{Form, Node, Pair, Before, Many, greedy_text}
 use Rattle.grammar_forms.specs.Steady.{Steady, cons_path, from_place, ends_or_goes}
-use Rattle.grammar_forms.specs.Reading.{Reads, Begins, NoneThrough, Answers}
+use Rattle.grammar_forms.specs.Reading.{Reads, NoneThrough, Answers}
 use Rattle.grammar_forms.specs.Found.{reads_before_by, reads_node, reads_pair}
 use Rattle.grammar_forms.specs.NotFound.{only}
 use Rattle.grammar_forms.specs.Exits.{at_fault}

@@ -1,13 +1,13 @@
 -- Each form of expressions has one reading, at each two depths.
 use Rattle.std.specs.Prelude.{ℕ, Bool}
-use Rattle.grammar_forms.specs.Forms.{Skip, Pair, Before, Deeper, Choice, Perhaps, Nearest, Many}
-use Rattle.grammar_forms.specs.Steady.{Steady, good_deeper, good_skip, good_choice, good_before, good_nearest, good_pair, good_many}
+use Rattle.grammar_forms.specs.Forms.{Skip, Before, Deeper, Nearest}
+use Rattle.grammar_forms.specs.Steady.{Steady, good_deeper, good_skip, good_choice, good_before, good_nearest}
 use Rattle.c_symbols.specs.declared.words.Terminal.{Terminal}
 use Rattle.c_symbols.specs.Symbols.{symbol_of}
 use Rattle.c_symbols.specs.Sources.{is}
-use Rattle.c_tree.specs.Expressions.{primary, suffixes, any_suffix, type_name, assignment, arguments, conditional, chain, operand, skipped_call, opens_skipped}
+use Rattle.c_tree.specs.Expressions.{primary, any_suffix, type_name, assignment, conditional, chain, operand, skipped_call, opens_skipped}
 use Rattle.c_tree.specs.Grammar.{grammar}
-use Rattle.c_tree.specs.OneReading.{good_primary_at, good_suffixes, good_suffix_at, good_type_name, good_assignment, good_arguments, good_conditional, good_chain, good_operand, good_skipped_call}
+use Rattle.c_tree.specs.OneReading.{good_primary_at, good_suffix_at, good_type_name, good_assignment, good_conditional, good_chain, good_operand, good_skipped_call}
 use Rattle.c_tree.specs.OneReadingOfText.{good_grammar}
 
 pub steady_skip_assignment : Steady (λ n. Skip (Deeper ((grammar n).assignment)))

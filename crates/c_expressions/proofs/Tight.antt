@@ -1,15 +1,13 @@
 -- The same of the tighter productions: primary, postfix, unary and cast.
-use Rattle.std.specs.Prelude.{◌≡◌, ◌≢◌, ℕ, suc, ◌+◌, ◌<◌, Bool, true, false, not, ◌&&◌, List, [], ◌∷◌, ◌++◌, length, Option, None, Some, refl}
-use Rattle.std.proofs.Common.{sym, ◌∙◌, ap, subst, arith}
-use Rattle.grammar_forms.specs.Forms.{Form, Nothing, One, Skip, Before, Pair, Then, Node, Deeper, Choice, Many, Perhaps, Nearest, listed}
-use Rattle.grammar_forms.specs.Steady.{Good, good_deeper, good_node, good_one, good_skip, good_before}
+use Rattle.std.specs.Prelude.{◌≡◌, ℕ, ◌+◌, ◌<◌, Bool, true, false, not, List, [], ◌∷◌, ◌++◌, Option, None, Some, refl}
+use Rattle.std.proofs.Common.{ap}
+use Rattle.grammar_forms.specs.Forms.{Before, Pair, Node, Deeper, Many, Nearest, listed}
+use Rattle.grammar_forms.specs.Steady.{Good, good_deeper, good_before}
 use Rattle.grammar_forms.specs.Reading.{Reads, NoneThrough}
 use Rattle.grammar_forms.specs.Found.{reads_one, reads_node, reads_pair, reads_then, reads_skip, reads_choice, reads_no, reads_one_more, reads_nearest, reads_nearest_no, reads_before, reads_before_by}
-use Rattle.grammar_forms.specs.NotFound.{none_node, none_first, none_second, none_then, none_then_first, none_skip, none_choice, none_perhaps, none_nearest, none_before, none_before_here, none_nothing}
+use Rattle.grammar_forms.specs.NotFound.{none_node, none_first, none_second, none_then, none_then_first, none_skip, none_choice, none_perhaps, none_nearest, none_before, none_before_here}
 use Rattle.grammar_forms.specs.Loops.{SoFar, Strict, strict_choice, strict_node, strict_skip, strict_one}
-use Rattle.c_symbols.specs.declared.words.Terminal.{Terminal}
 use Rattle.c_symbols.specs.declared.words.Terminal.TheVariants as terminal
-use Rattle.c_symbols.specs.declared.words.TypeWord.{TypeWord}
 use Rattle.c_symbols.specs.declared.operators.StepOperator.{StepOperator}
 use Rattle.c_symbols.specs.declared.symbol.Symbol.{Symbol}
 use Rattle.c_symbols.specs.declared.symbol.Symbol.TheVariants as symbol

@@ -10,9 +10,9 @@ ghost use Rattle.c_expressions.specs.Lists.{more_arguments};
 
 use crate::nested::{inner_assignment, inner_comma};
 use crate::parts::{list_of, list_of_skipped};
-use c_words::round_brackets;
 use c_symbols::{Source, Symbol, Terminal};
 use c_tree::{Expression, Suffix};
+use c_words::round_brackets;
 use cpa_ints::Seq;
 use grammar_forms::ReadError;
 use std::alloc::Global;

@@ -1,5 +1,5 @@
-use Rattle.std.specs.Prelude.{◌≡◌, ℕ, suc, ◌+◌, ◌-◌, ◌<◌, ◌≤◌, Bool, true, false, List, [], ◌∷◌, length, None, Some, refl}
-use Rattle.std.proofs.Common.{sym, ◌∙◌, ap, subst, arith}
+use Rattle.std.specs.Prelude.{◌≡◌, suc, ◌-◌, true, false, refl}
+use Rattle.std.proofs.Common.{sym, ◌∙◌, arith}
 use Rattle.grammar_forms.specs.Forms.{Skip, Deeper}
 use Rattle.grammar_forms.specs.Found.{reads_skip}
 use Rattle.grammar_forms.specs.NotFound.{none_skip}
@@ -9,9 +9,9 @@ use Rattle.c_symbols.specs.declared.words.Terminal.TheVariants as terminal
 use Rattle.c_symbols.specs.Symbols.{symbol_of}
 use Rattle.c_symbols.specs.Sources.{leaf_at, is}
 use Rattle.c_tree.specs.declared.TheConstants.{MAX_LEVEL}
-use Rattle.c_tree.specs.Parts.{begins_expression, begins_suffix, is_operator}
+use Rattle.c_tree.specs.Parts.{begins_expression, is_operator}
 use Rattle.c_tree.specs.Grammar.{grammar}
-use Rattle.c_tree.specs.Expressions.{assignment, chain, operand, any_suffix}
+use Rattle.c_tree.specs.Expressions.{assignment, chain, operand}
 use Rattle.c_tree.specs.Levels.{comma_above, assignment_above, conditional_above, cast_above, unary_above, answers_no_level}
 use Rattle.c_expressions.proofs.Readers.{at_lack, reads_closed, at_items, behind_first}
 use Rattle.c_expressions.proofs.Steadies.{steady_skip_item, steady_skip_assignment, steady_operand, steady_suffix}

@@ -1,5 +1,5 @@
 -- Each call goes on at a level less, or at the same level to a part of a tighter form.
-use Rattle.std.specs.Prelude.{ℕ, suc, ◌-◌, length}
+use Rattle.std.specs.Prelude.{suc, ◌-◌, length}
 use Rattle.std.proofs.Common.{◌+◌, ◌*◌}
 use Rattle.grammar_forms.specs.Forms.{Skip, Deeper}
 use Rattle.grammar_forms.specs.Loops.{SoFar}

@@ -1,4 +1,3 @@
-use Rattle.std.specs.Prelude.{refl}
 use Rattle.std.proofs.Common.{sym, ◌∙◌}
 use Rattle.grammar_forms.specs.NotFound.{none_nothing}
 use Rattle.c_symbols.specs.Symbols.{symbol_of}

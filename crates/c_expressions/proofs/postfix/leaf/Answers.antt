@@ -1,4 +1,3 @@
-use Rattle.std.specs.Prelude.{refl}
 use Rattle.std.proofs.Common.{sym, ◌∙◌, ap, rules}
 use Rattle.grammar_forms.specs.Found.{reads_choice, reads_node, reads_one}
 use Rattle.grammar_forms.specs.NotFound.{none_nothing}
