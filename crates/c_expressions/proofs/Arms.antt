@@ -1,4 +1,4 @@
--- What each token calls for.
+-- Which form each token calls for, and what the tests of tokens find.
 use Rattle.std.specs.Prelude.{◌≡◌, ℕ, ℤ, suc, ◌+◌, ◌==◌, Bool, true, false, cond, Option, None, Some, refl}
 use Rattle.std.proofs.Common.{sym, ◌∙◌, ap, subst, arith}
 use Rattle.grammar_forms.specs.Forms.{World, Form, Nothing, Skip, Node, Pair, Then, Before, Deeper, Choice}
@@ -18,7 +18,7 @@ use Rattle.c_tree.specs.declared.expression.UnaryOperator.{UnaryOperator}
 use Rattle.c_tree.specs.Parts.{types, steps, binds, looseness, names_assert, is_operator}
 use Rattle.c_tree.specs.Nested.{Grammar}
 use Rattle.c_tree.specs.Expressions.{Group, cast_group, bracket_group, group_of, group_at, cast_at, unary, unary_at, sign, postfix, suffixes, type_name, suffix_at, primary_at, assigns_to}
-use Rattle.c_expressions.specs.Lists.{sign_of, operator_of, FindsOperator}
+use Rattle.c_expressions.specs.Steps.{sign_of, operator_of, FindsOperator}
 
 -- two forms read the same
 pub record Same {Token T : Type 0} (A B : Form Token T) : Type 0 where

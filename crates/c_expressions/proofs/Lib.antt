@@ -2,5 +2,4 @@ mod Readers
 mod Steadies
 mod Arms
 mod Productions
-mod Assigned
 mod Tight

@@ -1,4 +1,4 @@
--- Readings of each production from readings of its parts, and none where a part has none.
+-- Readings of chains, conditionals, assignments and commas from readings of their parts, and none where a part has none.
 use Rattle.std.specs.Prelude.{◌≡◌, ◌≢◌, ℕ, suc, ◌+◌, true, false, List, [], ◌∷◌, Result, refl}
 use Rattle.std.proofs.Common.{sym, ap, subst}
 use Rattle.grammar_forms.specs.Forms.{Skip, Before, Pair, Deeper, Choice, Many, Perhaps}
@@ -18,7 +18,7 @@ use Rattle.c_tree.specs.declared.TheConstants.{MAX_LEVEL}
 use Rattle.c_tree.specs.Parts.{loosest}
 use Rattle.c_tree.specs.Grammar.{grammar}
 use Rattle.c_tree.specs.Expressions.{comma, comma_of, assignment, assignment_of, assigns_to, right_side_at, conditional, conditional_of, chain, chain_of, operand_at, operand, cast}
-use Rattle.c_expressions.specs.Lists.{more_items, operands}
+use Rattle.c_expressions.specs.Steps.{more_items, operands}
 use Rattle.c_tree.specs.Levels.{steady_deeper_comma}
 use Rattle.c_expressions.proofs.Readers.{none_made, tail, reads_tail, goes_not_empty}
 use Rattle.c_expressions.proofs.Steadies.{steady_assignment, steady_conditional, steady_chain, steady_closed_comma}

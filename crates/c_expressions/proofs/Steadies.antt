@@ -1,13 +1,15 @@
--- Each form of expressions has one reading, at each two depths.
+-- Each form of expressions has one reading at a place, at each two depths: what errors behind a part rest on.
 use Rattle.std.specs.Prelude.{ℕ, Bool}
-use Rattle.grammar_forms.specs.Forms.{Skip, Before, Deeper, Nearest}
-use Rattle.grammar_forms.specs.Steady.{Steady, good_deeper, good_skip, good_choice, good_before, good_nearest}
+use Rattle.grammar_forms.specs.Forms.{Skip, Before, Node, Deeper, Perhaps, Nearest}
+use Rattle.grammar_forms.specs.Steady.{Steady, good_node, good_deeper, good_skip, good_choice, good_before, good_perhaps, good_nearest}
 use Rattle.c_symbols.specs.declared.words.Terminal.{Terminal}
+use Rattle.c_symbols.specs.declared.words.Terminal.TheVariants as terminal
 use Rattle.c_symbols.specs.Symbols.{symbol_of}
 use Rattle.c_symbols.specs.Sources.{is}
-use Rattle.c_tree.specs.Expressions.{primary, any_suffix, type_name, assignment, conditional, chain, operand, skipped_call, opens_skipped}
+use Rattle.c_tree.specs.Parts.{is_not}
+use Rattle.c_tree.specs.Expressions.{assignments, list_of, primary, any_suffix, type_name, assignment, conditional, chain, operand, skipped_call, opens_skipped}
 use Rattle.c_tree.specs.Grammar.{grammar}
-use Rattle.c_tree.specs.OneReading.{good_primary_at, good_suffix_at, good_type_name, good_assignment, good_conditional, good_chain, good_operand, good_skipped_call}
+use Rattle.c_tree.specs.OneReading.{good_assignments, good_primary_at, good_suffix_at, good_type_name, good_assignment, good_conditional, good_chain, good_operand, good_skipped_call}
 use Rattle.c_tree.specs.OneReadingOfText.{good_grammar}
 
 pub steady_skip_assignment : Steady (λ n. Skip (Deeper ((grammar n).assignment)))
@@ -46,3 +48,9 @@ steady_closed_comma t = record { good = λ n m. good_before (good_deeper ((good_
 
 pub steady_closed_type_name : (t : Terminal) → Steady (λ n. Before (Deeper type_name) (is t))
 steady_closed_type_name t = record { good = λ n m. good_before (good_deeper good_type_name) (is t) }
+
+-- the arguments of a call, or none
+pub steady_assignments : Steady (λ n. Node list_of (Perhaps (is_not terminal.RightParen) (assignments (grammar n))))
+steady_assignments = record {
+  good = λ n m. good_node list_of (good_perhaps (is_not terminal.RightParen) (good_assignments (grammar n) (grammar m) (good_grammar n m)));
+}

@@ -1,4 +1,4 @@
--- The same of the tighter productions: primary, postfix, unary and cast.
+-- Readings of primaries, suffixes, unaries and casts from readings of their parts, and none where a part has none.
 use Rattle.std.specs.Prelude.{◌≡◌, ℕ, ◌+◌, ◌<◌, Bool, true, false, not, List, [], ◌∷◌, ◌++◌, Option, None, Some, refl}
 use Rattle.std.proofs.Common.{ap}
 use Rattle.grammar_forms.specs.Forms.{Before, Pair, Node, Deeper, Many, Nearest, listed}
@@ -25,12 +25,11 @@ use Rattle.c_tree.specs.Grammar.{grammar}
 use Rattle.c_tree.specs.Expressions.{cast, cast_at, cast_group, bracket_group, group_of, group_at, unary, unary_at, unary_of, sign, postfix, suffixed, suffixes, primary, primary_at, arguments, assignments, list_of, suffix_at, any_suffix, type_name, in_front, skipped_call, opens_skipped, round_brackets}
 use Rattle.c_tree.specs.OneReading.{good_arguments}
 use Rattle.c_tree.specs.OneReadingOfText.{good_grammar}
-use Rattle.c_expressions.specs.Lists.{more_arguments, group, sign_of, option_list}
+use Rattle.c_expressions.specs.Steps.{more_arguments, group, sign_of, option_list}
 use Rattle.c_tree.specs.Levels.{steady_deeper_comma, steady_deeper_assignment}
 use Rattle.c_expressions.proofs.Readers.{none_made, reads_tail, behind_part, at_items}
-use Rattle.c_expressions.proofs.Steadies.{steady_primary, steady_deeper_type_name, steady_closed_comma, steady_closed_type_name, steady_skipped}
+use Rattle.c_expressions.proofs.Steadies.{steady_assignments, steady_primary, steady_deeper_type_name, steady_closed_comma, steady_closed_type_name, steady_skipped}
 use Rattle.c_expressions.proofs.Arms.{reads_arm, none_arm, arm_group, arm_unary, arm_cast, arm_bracket, arm_sign, arm_postfix}
-use Rattle.c_expressions.proofs.Assigned.{steady_assignments}
 
 in_front_is : (skipped : Option Suffix) (leaf : Leaf) (us : List Suffix) → in_front leaf (skipped, us) ≡ option_list skipped ++ us
 in_front_is None leaf us = refl

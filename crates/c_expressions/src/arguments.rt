@@ -1,4 +1,5 @@
-//! Readers of the arguments of a call, and of suffixes (C11 6.5.2).
+//! Readers of the arguments of a call, and of suffixes (C11 6.5.2): `arguments` and `suffixes` of
+//! `Expressions.antt` of `c_tree`. Proved in `proofs/Tight.antt`.
 ghost use Rattle.std.specs.Prelude.{◌≡◌, ◌<◌, ℕ, length, false, IsTrue};
 ghost use Rattle.c_symbols.specs.declared.words.Terminal.TheVariants.{LeftBracket, LeftParen};
 ghost use Rattle.c_symbols.specs.Sources.{leaf_at, is, GoesOn};
@@ -6,7 +7,8 @@ ghost use Rattle.grammar_forms.specs.Forms.{Nearest};
 ghost use Rattle.c_tree.specs.Parts.{begins_suffix};
 ghost use Rattle.c_tree.specs.Expressions.{arguments, any_suffix, suffixes, skipped_call, opens_skipped};
 ghost use Rattle.c_tree.specs.Reading.{Gives, HasRoom, HasRoomBelow};
-ghost use Rattle.c_expressions.specs.Lists.{more_arguments};
+ghost use Rattle.c_words.specs.Answers.{Finds};
+ghost use Rattle.c_expressions.specs.Steps.{more_arguments};
 
 use crate::nested::{inner_assignment, inner_comma};
 use crate::parts::{list_of, list_of_skipped};
@@ -120,7 +122,7 @@ fn skipped_call(
     asserts: bool,
 ) -> Result<(Option<Suffix>, usize), ReadError>
     requires { at < length source.now }
-    ensures { (left : ℕ) → Gives (λ G. Nearest (opens_skipped asserts) skipped_call) source.now left at result }
+    ensures { Finds (Nearest (opens_skipped asserts) skipped_call) source.now at result }
 {
     if !opens_skipped(source, at, asserts) {
         return Ok((None, at));
@@ -141,7 +143,7 @@ fn opens_skipped(source: &Source, at: usize, asserts: bool) -> bool
 
 /// The suffixes behind a base. Where the base names `__assert_fail`, the arguments of its call are skipped.
 #[cycle(expression)]
-pub fn suffixes(
+pub(crate) fn suffixes(
     alloc: Global,
     source: &Source,
     at: usize,

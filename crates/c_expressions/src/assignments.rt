@@ -1,9 +1,10 @@
-//! Readers of conditionals, assignments and comma expressions (C11 6.5.15 to 6.5.17).
+//! Readers of conditionals, assignments and comma expressions (C11 6.5.15 to 6.5.17): the forms of
+//! these names in `Expressions.antt` of `c_tree`. Proved in `proofs/Productions.antt`.
 ghost use Rattle.std.specs.Prelude.{◌≡◌, ◌<◌, length, IfSome};
 ghost use Rattle.c_symbols.specs.Sources.{leaf_at, GoesOn};
 ghost use Rattle.c_tree.specs.Expressions.{conditional, assignment, comma};
 ghost use Rattle.c_tree.specs.Reading.{Gives, HasRoom};
-ghost use Rattle.c_expressions.specs.Lists.{more_items, FindsOperator};
+ghost use Rattle.c_expressions.specs.Steps.{more_items, FindsOperator};
 
 use crate::chains::chain;
 use crate::nested::{inner_assignment, inner_comma, inner_conditional};
@@ -19,7 +20,7 @@ const LOOSEST: u32 = 10;
 
 /// The conditional expression that begins here.
 #[cycle(expression)]
-pub fn conditional(
+pub(crate) fn conditional(
     alloc: Global,
     source: &Source,
     at: usize,
@@ -65,7 +66,7 @@ fn operator_behind(target: &Expression, source: &Source, at: usize) -> Option<As
 
 /// The assignment expression that begins here.
 #[cycle(expression)]
-pub fn assignment(
+pub(crate) fn assignment(
     alloc: Global,
     source: &Source,
     at: usize,

@@ -1,9 +1,10 @@
-//! Readers of chains of operators of one precedence (C11 6.5.5 to 6.5.14).
+//! Readers of chains of operators of one precedence (C11 6.5.5 to 6.5.14): `chain` of
+//! `Expressions.antt` of `c_tree`. Proved in `proofs/Productions.antt`.
 ghost use Rattle.std.specs.Prelude.{◌≡◌, ◌<◌, ◌≤◌, length};
 ghost use Rattle.c_tree.specs.Parts.{looseness, loosest};
 ghost use Rattle.c_tree.specs.Expressions.{chain};
 ghost use Rattle.c_tree.specs.Reading.{Gives, HasRoom};
-ghost use Rattle.c_expressions.specs.Lists.{operands, operator_of};
+ghost use Rattle.c_expressions.specs.Steps.{operands, operator_of};
 
 use crate::unary::cast;
 use c_symbols::{BinaryOperator, Source, Symbol};
@@ -69,7 +70,7 @@ fn operands(
 
 /// The chain of operators of this looseness at most that begins here.
 #[cycle(expression)]
-pub fn chain(
+pub(crate) fn chain(
     alloc: Global,
     source: &Source,
     at: usize,

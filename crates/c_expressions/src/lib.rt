@@ -1,4 +1,5 @@
-//! Readers of expressions (C11 6.5). Each gives what its form of `c_tree` is.
+//! Readers of expressions (C11 6.5): one descent over the tokens, one function a production. Each
+//! meets the form of its name in `c_tree`.
 
 #![tactic(auto)]
 

@@ -1,4 +1,5 @@
-//! Parts of expressions one level deeper: where no level is left, the first token of the part is named.
+//! Readers of expressions one level deeper: `Deeper` of the forms in `Nested.antt` of `c_tree`.
+//! Proved by `answers_deeper` and `answers_no_level` of the crates below.
 ghost use Rattle.std.specs.Prelude.{◌≡◌, ◌<◌, length};
 ghost use Rattle.c_symbols.specs.Symbols.{symbol_of};
 ghost use Rattle.c_symbols.specs.Sources.{leaf_at};
@@ -103,7 +104,7 @@ pub fn inner_conditional(
 
 /// A cast one level deeper.
 #[cycle(expression)]
-pub fn inner_cast(
+pub(crate) fn inner_cast(
     alloc: Global,
     source: &Source,
     at: usize,
@@ -121,7 +122,7 @@ pub fn inner_cast(
 
 /// A unary one level deeper.
 #[cycle(expression)]
-pub fn inner_unary(
+pub(crate) fn inner_unary(
     alloc: Global,
     source: &Source,
     at: usize,

@@ -1,10 +1,11 @@
-//! Parts of expressions that are made, and tests of them.
+//! Expressions that are made of their parts, as `Expressions.antt` of `c_tree` says, and tests of
+//! expressions, which are those of `Parts.antt` there. Proved by the checker alone.
 ghost use Rattle.std.specs.Prelude.{◌≡◌, IfOk, IfErr, [], ◌∷◌};
 ghost use Rattle.grammar_forms.specs.declared.fault.ReadError.TheVariants.{OutOfMemory};
 ghost use Rattle.c_tree.specs.declared.expression.Expression.TheVariants as expression;
 ghost use Rattle.c_tree.specs.Parts.{names_assert, is_unary};
 ghost use Rattle.c_tree.specs.Expressions.{suffixed};
-ghost use Rattle.c_expressions.specs.Lists.{option_list};
+ghost use Rattle.c_expressions.specs.Steps.{option_list};
 
 use c_tree::{Expression, Suffix};
 use cpa_ints::{Boxed, IntType, Seq};
@@ -12,21 +13,21 @@ use grammar_forms::ReadError;
 use std::alloc::Global;
 
 /// An integer constant.
-pub fn number(ty: IntType, value: i128, place: u32) -> Expression
+pub(crate) fn number(ty: IntType, value: i128, place: u32) -> Expression
     ensures { result ≡ expression.Number ty value place }
 {
     Expression::Number { ty, value, place }
 }
 
 /// A character constant.
-pub fn character(value: i128, place: u32) -> Expression
+pub(crate) fn character(value: i128, place: u32) -> Expression
     ensures { result ≡ expression.Character value place }
 {
     Expression::Character { value, place }
 }
 
 /// Whether the expression is the name `__assert_fail`, in brackets or not.
-pub fn names_assert(expression: &Expression) -> bool
+pub(crate) fn names_assert(expression: &Expression) -> bool
     ensures { result ≡ names_assert expression.now }
 {
     match expression {
@@ -37,7 +38,7 @@ pub fn names_assert(expression: &Expression) -> bool
 }
 
 /// Whether the expression is a unary one (C11 6.5.3).
-pub fn is_unary(expression: &Expression) -> bool
+pub(crate) fn is_unary(expression: &Expression) -> bool
     ensures { result ≡ is_unary expression.now }
 {
     !matches!(
@@ -51,7 +52,7 @@ pub fn is_unary(expression: &Expression) -> bool
 }
 
 /// The list of this one expression.
-pub fn list_of(alloc: Global, first: Expression) -> Result<Seq<Expression>, ReadError>
+pub(crate) fn list_of(alloc: Global, first: Expression) -> Result<Seq<Expression>, ReadError>
     ensures listed { IfOk result (λ list. list ≡ first ∷ []) }
     ensures memory { IfErr result (λ error. error ≡ OutOfMemory) }
 {
@@ -61,7 +62,7 @@ pub fn list_of(alloc: Global, first: Expression) -> Result<Seq<Expression>, Read
 }
 
 /// The list of the skipped call, if there is one.
-pub fn list_of_skipped(alloc: Global, skipped: Option<Suffix>) -> Result<Seq<Suffix>, ReadError>
+pub(crate) fn list_of_skipped(alloc: Global, skipped: Option<Suffix>) -> Result<Seq<Suffix>, ReadError>
     ensures listed { IfOk result (λ list. list ≡ option_list skipped) }
     ensures memory { IfErr result (λ error. error ≡ OutOfMemory) }
 {
@@ -73,7 +74,7 @@ pub fn list_of_skipped(alloc: Global, skipped: Option<Suffix>) -> Result<Seq<Suf
 }
 
 /// A base with the suffixes behind it, or the base alone where there are none.
-pub fn suffixed(
+pub(crate) fn suffixed(
     alloc: Global,
     place: u32,
     base: Expression,

@@ -1,4 +1,5 @@
-//! Readers of primary and postfix expressions (C11 6.5.1 and 6.5.2).
+//! Readers of primary and postfix expressions (C11 6.5.1 and 6.5.2): `primary` and `postfix` of
+//! `Expressions.antt` of `c_tree`. Proved in `proofs/Tight.antt`.
 ghost use Rattle.std.specs.Prelude.{◌≡◌, ◌<◌, ℕ, length, false};
 ghost use Rattle.c_symbols.specs.declared.words.Terminal.TheVariants.{LeftParen};
 ghost use Rattle.c_symbols.specs.Sources.{leaf_at, is};
@@ -54,7 +55,7 @@ fn primary(
 
 /// The postfix expression that begins here.
 #[cycle(expression)]
-pub fn postfix(
+pub(crate) fn postfix(
     alloc: Global,
     source: &Source,
     at: usize,

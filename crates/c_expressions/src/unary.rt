@@ -1,10 +1,11 @@
-//! Readers of unary expressions and casts (C11 6.5.3 and 6.5.4).
+//! Readers of unary expressions and casts (C11 6.5.3 and 6.5.4): `unary` and `cast` of
+//! `Expressions.antt` of `c_tree`. Proved in `proofs/Tight.antt`.
 ghost use Rattle.std.specs.Prelude.{◌≡◌, ◌<◌, length};
 ghost use Rattle.c_symbols.specs.Sources.{leaf_at, GoesOn};
 ghost use Rattle.c_tree.specs.Parts.{is_type_word};
 ghost use Rattle.c_tree.specs.Expressions.{unary, cast};
 ghost use Rattle.c_tree.specs.Reading.{Gives, HasRoom, HasRoomBelow};
-ghost use Rattle.c_expressions.specs.Lists.{sign_of, group, deeper_type_name};
+ghost use Rattle.c_expressions.specs.Steps.{sign_of, group, deeper_type_name};
 
 use crate::arguments::suffixes;
 use crate::nested::{inner_cast, inner_comma, inner_unary};
@@ -40,7 +41,7 @@ fn is_type_word(source: &Source, at: usize) -> bool
 
 /// The unary expression that begins here.
 #[cycle(expression)]
-pub fn unary(
+pub(crate) fn unary(
     alloc: Global,
     source: &Source,
     at: usize,
@@ -130,7 +131,7 @@ fn group(
 
 /// The cast or unary expression that begins here.
 #[cycle(expression)]
-pub fn cast(
+pub(crate) fn cast(
     alloc: Global,
     source: &Source,
     at: usize,

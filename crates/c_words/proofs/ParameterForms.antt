@@ -1,12 +1,12 @@
 -- The forms of parameters have one reading; parameters that are read one by one.
 use Rattle.std.specs.Prelude.{◌≡◌, ℕ, ◌+◌, Bool, true, false, cond, ◌&&◌, List, [], ◌∷◌, ◌++◌, length, Option, None, Some}
 use Rattle.std.proofs.Common.{sym, subst, refl}
-use Rattle.grammar_forms.specs.Forms.{Form, One, Skip, Before, Pair, Deeper, Many, Perhaps}
+use Rattle.grammar_forms.specs.Forms.{Form, One, Skip, Before, Pair, Deeper, Perhaps}
 use Rattle.grammar_forms.specs.Steady.{Steady, good_one, good_skip, good_before, good_deeper, good_perhaps}
 use Rattle.grammar_forms.specs.Reading.{Reads, NoneThrough}
 use Rattle.grammar_forms.specs.Found.{reads_skip}
 use Rattle.grammar_forms.specs.NotFound.{none_node, none_first}
-use Rattle.grammar_forms.specs.Loops.{SoFar, first_part, one_more, no_more, no_part}
+use Rattle.grammar_forms.specs.Loops.{SoFar, first_part, one_more}
 use Rattle.c_symbols.specs.declared.words.Terminal.TheVariants as terminal
 use Rattle.c_symbols.specs.Symbols.{Leaf, symbol_of}
 use Rattle.c_symbols.specs.Sources.{leaf_at, is}

@@ -8,7 +8,7 @@ use Rattle.c_symbols.specs.Sources.{leaf_at, is}
 use Rattle.c_tree.specs.Parts.{begins_suffix, is_operator}
 use Rattle.c_tree.specs.Grammar.{grammar}
 use Rattle.c_tree.specs.Expressions.{assignment, chain, operand, any_suffix, suffixes}
-use Rattle.c_expressions.specs.Lists.{more_items, more_arguments, operands}
+use Rattle.c_expressions.specs.Steps.{more_items, more_arguments, operands}
 use Rattle.c_expressions.proofs.+expression.Given as goal
 
 abbrev pub decreases-postfix::primary : goal.decreases-postfix::primary

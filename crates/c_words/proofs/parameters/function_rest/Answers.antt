@@ -1,5 +1,4 @@
 -- A bracket, parameters or none, the bracket that closes, attributes.
-use Rattle.std.proofs.Common.{sym}
 use Rattle.grammar_forms.specs.Found.{reads_node, reads_skip, reads_pair, reads_before_by}
 use Rattle.grammar_forms.specs.NotFound.{none_node, none_skip, none_first, none_second, none_before, none_before_here}
 use Rattle.grammar_forms.specs.Exits.{at_exit, at_fault}

@@ -1,5 +1,6 @@
--- Parts of the grammar of expressions that have readers of their own.
-use Rattle.std.specs.Prelude.{◌≡◌, ℕ, suc, ◌==◌, cond, true, false, MatchOption, List, [], ◌∷◌, Option, None, Some}
+-- What single private functions read or compute. No public clause speaks of it.
+use Rattle.std.specs.Prelude.{◌≡◌, ℕ, suc, ◌==◌, cond, true, false, MatchOption, List, [], ◌∷◌}
+use Rattle.std.specs.Prelude.{Option, None, Some}
 use Rattle.grammar_forms.specs.Forms.{Form, Skip, Node, Deeper, Choice, Many}
 use Rattle.c_symbols.specs.declared.words.Terminal.TheVariants as terminal
 use Rattle.c_symbols.specs.declared.operators.AssignmentOperator.{AssignmentOperator}
@@ -15,7 +16,8 @@ use Rattle.c_tree.specs.declared.expression.UnaryOperator.{UnaryOperator}
 use Rattle.c_tree.specs.declared.expression.UnaryOperator.TheVariants as unary_operator
 use Rattle.c_tree.specs.Parts.{is_operator, looseness}
 use Rattle.c_tree.specs.Nested.{Grammar}
-use Rattle.c_tree.specs.Expressions.{assignment, chain, operand, group_of, group_at, type_name, assigns_to}
+use Rattle.c_tree.specs.Expressions.{assignment, chain, operand, group_of, group_at, type_name}
+use Rattle.c_tree.specs.Expressions.{assigns_to}
 
 -- the first item, which is read already, in front of those behind it
 abbrev pub after : {Token T : Type 0} → T → Token → List T → List T
