@@ -62,7 +62,10 @@ pub(crate) fn list_of(alloc: Global, first: Expression) -> Result<Seq<Expression
 }
 
 /// The list of the skipped call, if there is one.
-pub(crate) fn list_of_skipped(alloc: Global, skipped: Option<Suffix>) -> Result<Seq<Suffix>, ReadError>
+pub(crate) fn list_of_skipped(
+    alloc: Global,
+    skipped: Option<Suffix>,
+) -> Result<Seq<Suffix>, ReadError>
     ensures listed { IfOk result (λ list. list ≡ option_list skipped) }
     ensures memory { IfErr result (λ error. error ≡ OutOfMemory) }
 {
