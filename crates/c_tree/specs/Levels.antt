@@ -1,9 +1,16 @@
--- Lemmas: the nested forms at a depth are the grammar's own forms at the depth below.
+-- Lemmas: the nested forms at a depth are the grammar's own forms at the depth below; parts one level deeper.
+use Rattle.std.specs.Prelude.{◌≡◌, ℕ, ◌<◌, ◌≤◌, Bool, true, false, Err}
+use Rattle.grammar_forms.specs.Forms.{Form, Deeper}
+use Rattle.grammar_forms.specs.Steady.{Steady, good_deeper}
+use Rattle.grammar_forms.specs.Reading.{Answers}
 use Rattle.grammar_forms.specs.Found.{IsAbove}
+use Rattle.grammar_forms.specs.NotFound.{none_too_deep}
 use Rattle.c_tree.specs.Expressions.{comma, assignment, conditional, cast, unary}
 use Rattle.c_tree.specs.Declarations.{list, declaration}
 use Rattle.c_tree.specs.Statements.{statement, item}
 use Rattle.c_tree.specs.Grammar.{grammar}
+use Rattle.c_tree.specs.OneReadingOfText.{good_grammar}
+use Rattle.c_tree.specs.Reading.{no_level}
 
 pub comma_above : IsAbove (λ n. (grammar n).comma) (λ n. comma (grammar n))
 unfolding grammar
@@ -40,3 +47,18 @@ statement_above = record { base = λ r. r.never; unrolls = λ n r. r; rolls = λ
 pub item_above : IsAbove (λ n. (grammar n).item) (λ n. item (grammar n))
 unfolding grammar
 item_above = record { base = λ r. r.never; unrolls = λ n r. r; rolls = λ n r. r }
+
+pub steady_deeper_comma : Steady (λ n. Deeper ((grammar n).comma))
+steady_deeper_comma = record { good = λ n m. good_deeper ((good_grammar n m).comma) }
+
+pub steady_deeper_assignment : Steady (λ n. Deeper ((grammar n).assignment))
+steady_deeper_assignment = record { good = λ n m. good_deeper ((good_grammar n m).assignment) }
+
+pub steady_deeper_conditional : Steady (λ n. Deeper ((grammar n).conditional))
+steady_deeper_conditional = record { good = λ n m. good_deeper ((good_grammar n m).conditional) }
+
+-- with no level left there is no part one level deeper
+pub answers_no_level : {Token T : Type 0} (limit : ℕ) (B : ℕ → Form Token T) (at : ℕ → Token) {size left p : ℕ} →
+    left ≡ 0 → p < size → limit ≤ p → (begins : Bool) → Answers limit (λ n. Deeper (B n)) at size left p (Err (no_level begins p))
+answers_no_level limit B at used fits deep true = (none_too_deep B used fits, deep)
+answers_no_level limit B at used fits deep false = none_too_deep B used fits

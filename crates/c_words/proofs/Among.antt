@@ -1,6 +1,6 @@
 -- Tokens in brackets, place by place.
-use Rattle.std.specs.Prelude.{◌≡◌, ◌≢◌, ℕ, ◌+◌, ◌<◌, Bool, true, false, cond, List, length}
-use Rattle.std.proofs.Common.{sym, ◌∙◌, ap, subst, arith, refl, lit<}
+use Rattle.std.specs.Prelude.{◌≡◌, ℕ, ◌+◌, ◌<◌, Bool, true, false, cond, List, length}
+use Rattle.std.proofs.Common.{sym, ◌∙◌, subst, arith, lit<}
 use denote.Enum.Bare.{same_true}
 use Rattle.c_words.proofs.TypeParts.{false_from}
 use Rattle.grammar_forms.specs.Forms.{Balanced}

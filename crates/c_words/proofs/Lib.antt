@@ -1,4 +1,3 @@
-pub mod Places
 pub mod TypeParts
 pub mod Among
 pub mod Skipped

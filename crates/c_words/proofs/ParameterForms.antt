@@ -1,15 +1,12 @@
 -- The forms of parameters have one reading; parameters that are read one by one.
-use Rattle.std.specs.Prelude.{◌≡◌, ℕ, ◌+◌, ◌-◌, ◌<◌, Bool, true, false, cond, ◌&&◌, List, [], ◌∷◌, ◌++◌, length, Option, None, Some, Result}
+use Rattle.std.specs.Prelude.{◌≡◌, ℕ, ◌+◌, Bool, true, false, cond, ◌&&◌, List, [], ◌∷◌, ◌++◌, length, Option, None, Some}
 use Rattle.std.proofs.Common.{sym, subst, refl}
-use Rattle.std.proofs.lemmas.Result.{MatchResult-weaker}
-use Rattle.grammar_forms.specs.declared.fault.ReadError.{ReadError}
-use Rattle.grammar_forms.specs.Forms.{Form, One, Skip, Before, Pair, Deeper, Many, Perhaps}
+use Rattle.grammar_forms.specs.Forms.{Form, One, Skip, Before, Pair, Deeper, Perhaps}
 use Rattle.grammar_forms.specs.Steady.{Steady, good_one, good_skip, good_before, good_deeper, good_perhaps}
-use Rattle.grammar_forms.specs.Reading.{Reads, NoneThrough, Answers}
-use Rattle.grammar_forms.specs.Found.{reads_skip, reads_deeper_flat}
-use Rattle.grammar_forms.specs.NotFound.{none_node, none_skip, none_first, none_deeper_flat}
-use Rattle.grammar_forms.specs.Loops.{SoFar, first_part, one_more, no_more, no_part}
-use Rattle.grammar_forms.specs.Exits.{faults}
+use Rattle.grammar_forms.specs.Reading.{Reads, NoneThrough}
+use Rattle.grammar_forms.specs.Found.{reads_skip}
+use Rattle.grammar_forms.specs.NotFound.{none_node, none_first}
+use Rattle.grammar_forms.specs.Loops.{SoFar, first_part, one_more}
 use Rattle.c_symbols.specs.declared.words.Terminal.TheVariants as terminal
 use Rattle.c_symbols.specs.Symbols.{Leaf, symbol_of}
 use Rattle.c_symbols.specs.Sources.{leaf_at, is}
@@ -56,12 +53,6 @@ pub pointer_by : (leaves : List Leaf) (left p q : ℕ) (u : Option (Unit {0})) (
     Reads (λ n. any_pointer a) (leaf_at leaves) (length leaves) left p u q →
     Reads (λ n. any_pointer b) (leaf_at leaves) (length leaves) left p u q
 pointer_by leaves left p q u a b e r = subst (λ t. Reads (λ n. any_pointer t) (leaf_at leaves) (length leaves) left p u q) e r
-
--- the same answer one level deeper
-pub deeper_answer : {T : Type 0} (limit : ℕ) (A : Form Leaf T) (at : ℕ → Leaf) (size p left : ℕ) (answer : Result (T × ℕ) ReadError) →
-    0 < left → Answers limit (λ n. A) at size (left - 1) p answer → Answers limit (λ n. Deeper A) at size left p answer
-deeper_answer limit A at size p left answer some h =
-    MatchResult-weaker answer h (λ read r. reads_deeper_flat left some r) (λ e f. faults limit e f (λ i g. none_deeper_flat g))
 
 -- parameters are read from p up to here
 pub record AreParameters (leaves : List Leaf) (left p : ℕ) (items : List Parameter) (here : ℕ) : Type 0 where

@@ -1,8 +1,7 @@
 -- Attributes that are read one by one.
 use Rattle.std.specs.Prelude.{◌≡◌, ℕ, ◌<◌, true, List, [], ◌∷◌, ◌++◌, length}
-use Rattle.std.proofs.Common.{refl}
 use Rattle.grammar_forms.specs.Forms.{Many}
-use Rattle.grammar_forms.specs.Steady.{Good, Steady, good_behind, good_before}
+use Rattle.grammar_forms.specs.Steady.{Steady, good_behind, good_before}
 use Rattle.grammar_forms.specs.Reading.{Reads}
 use Rattle.grammar_forms.specs.Loops.{SoFar, Strict, no_parts, one_more, strict_skip}
 use Rattle.c_symbols.specs.declared.words.Terminal.TheVariants as terminal

@@ -1,12 +1,12 @@
 -- Specifiers that are read one by one.
-use Rattle.std.specs.Prelude.{◌≡◌, ℕ, ◌+◌, ◌<◌, Bool, true, false, ◌==◌, List, [], ◌∷◌, ◌++◌, length, Option, None, Some}
+use Rattle.std.specs.Prelude.{◌≡◌, ℕ, ◌+◌, ◌<◌, Bool, true, false, ◌==◌, List, [], ◌∷◌, ◌++◌, length, None, Some}
 use Rattle.std.proofs.Common.{sym, ◌∙◌, ap, subst, refl, arith, append_assoc}
 use Rattle.std.proofs.lemmas.List.Elements.{filter_map-append}
 use Rattle.grammar_forms.specs.declared.fault.ReadError.{ReadError}
 use Rattle.grammar_forms.specs.declared.fault.ReadError.TheVariants.{Unexpected, TooDeep, OutOfMemory}
 use Rattle.grammar_forms.specs.Forms.{World, Form, Choice, Many}
 use Rattle.grammar_forms.specs.Steady.{Steady, good_many, good_choice}
-use Rattle.grammar_forms.specs.Reading.{Reads, Begins, NoneThrough, Faults}
+use Rattle.grammar_forms.specs.Reading.{Reads, NoneThrough, Faults}
 use Rattle.grammar_forms.specs.Found.{reads_node, reads_one, reads_choice, reads_shaped}
 use Rattle.grammar_forms.specs.NotFound.{none_node, none_shaped_here}
 use Rattle.grammar_forms.specs.Loops.{SoFar, no_parts, one_more, no_more, no_such_part}

@@ -48,6 +48,19 @@ module _ {Token : Type 0} {at : ℕ → Token} {size left : ℕ} where
     within = fits;
   }
 
+  -- the same from a place that is known to be the one behind the token
+  pub reads_behind_by : {T : Type 0} {A : ℕ → Form Token T} {p m : ℕ} {u : T} {q : ℕ} (test : Token → Bool) →
+      test (at p) ≡ true → m ≡ p + 1 → Reads A at size left m u q → Reads (λ n. Behind test (A n)) at size left p u q
+  reads_behind_by {A = A} {u = u} {q = q} test passes e r =
+      reads_behind test passes (subst (λ k. Reads A at size left k u q) e r)
+
+  pub reads_before_by : {T : Type 0} {A : ℕ → Form Token T} {p m q : ℕ} {u : T} (test : Token → Bool) →
+      Reads A at size left p u m → test (at m) ≡ true → q ≡ m + 1 → q < size →
+      Reads (λ n. Before (A n) test) at size left p u q
+  reads_before_by {A = A} {p = p} {u = u} test r passes e fits =
+      subst (λ k. Reads (λ n. Before (A n) test) at size left p u k) (sym e)
+      (reads_before test r passes (subst (λ k. k < size) e fits))
+
   pub reads_pair : {S T : Type 0} {A : ℕ → Form Token S} {B : ℕ → Form Token T} {p m q : ℕ} {u : S} {v : T} →
       Reads A at size left p u m → Reads B at size left m v q → Reads (λ n. Pair (A n) (B n)) at size left p (u, v) q
   reads_pair {m = m} r s = record {

@@ -38,6 +38,11 @@ module _ {Token : Type 0} {at : ℕ → Token} {size left : ℕ} where
       NoneThrough A at size left (p + 1) i → NoneThrough (λ n. Behind test (A n)) at size left p i
   none_behind test g = record { onward = omega (arith, g.onward); within = g.within; none = λ n v b u q r. g.none n v b u q r.rest }
 
+  -- the same from a place that is known to be the one behind the token
+  pub none_behind_by : {T : Type 0} {A : ℕ → Form Token T} {p m i : ℕ} (test : Token → Bool) → m ≡ p + 1 →
+      NoneThrough A at size left m i → NoneThrough (λ n. Behind test (A n)) at size left p i
+  none_behind_by {A = A} {i = i} test e g = none_behind test (subst (λ k. NoneThrough A at size left k i) e g)
+
   pub none_behind_here : {T : Type 0} (A : ℕ → Form Token T) {p : ℕ} (test : Token → Bool) →
       test (at p) ≡ false → p < size → NoneThrough (λ n. Behind test (A n)) at size left p p
   none_behind_here A {p} test fails fits = record {

@@ -1,16 +1,14 @@
 -- The tokens of an attribute, one behind the other.
 use Rattle.std.proofs.Common.{sym, subst}
 use Rattle.std.proofs.lemmas.Result.{MatchResult-weaker}
-use Rattle.grammar_forms.specs.Forms.{Behind, Before}
 use Rattle.grammar_forms.specs.Reading.{Faults}
-use Rattle.grammar_forms.specs.Found.{reads_skip}
-use Rattle.grammar_forms.specs.NotFound.{none_skip, none_behind_here, none_before, none_before_here}
+use Rattle.grammar_forms.specs.Found.{reads_skip, reads_behind_by, reads_before_by}
+use Rattle.grammar_forms.specs.NotFound.{none_skip, none_behind_by, none_behind_here, none_before, none_before_here}
+use Rattle.grammar_forms.specs.Exits.{skip_exit, skip_fault}
 use Rattle.c_symbols.specs.declared.words.Terminal.TheVariants as terminal
 use Rattle.c_symbols.specs.Sources.{leaf_at, is}
 use Rattle.c_tree.specs.declared.TheConstants.{MAX_LEVEL}
-use Rattle.c_tree.specs.Expressions.{round_brackets}
 use Rattle.c_tree.specs.Declarations.{attribute}
-use Rattle.c_words.proofs.Places.{reads_behind_by, reads_before_by, none_behind_by, skip_exit, skip_fault}
 use Rattle.c_words.proofs.Skipped.{steady_round_brackets}
 use Rattle.c_words.proofs.brackets.attribute.Goals as goal
 

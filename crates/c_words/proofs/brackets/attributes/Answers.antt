@@ -3,9 +3,9 @@ use Rattle.std.proofs.Common.{sym, refl, arith}
 use Rattle.grammar_forms.specs.Found.{reads_node}
 use Rattle.grammar_forms.specs.NotFound.{none_node}
 use Rattle.grammar_forms.specs.Loops.{no_more, no_part}
+use Rattle.grammar_forms.specs.Exits.{skip_exit}
 use Rattle.c_tree.specs.declared.TheConstants.{MAX_LEVEL}
 use Rattle.c_tree.specs.Declarations.{attributes}
-use Rattle.c_words.proofs.Places.{skip_exit}
 use Rattle.c_words.proofs.Skipped.{strict_attribute, skipped_more}
 use Rattle.c_words.proofs.brackets.attributes.Goals as goal
 

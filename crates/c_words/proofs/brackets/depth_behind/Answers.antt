@@ -1,5 +1,5 @@
 -- A bracket that closes does not open.
-use Rattle.std.proofs.Common.{◌≡◌, ℕ, ◌+◌, ◌-◌, cond, sym, ap, arith}
+use Rattle.std.proofs.Common.{◌≡◌, ℕ, cond, sym, ap, arith}
 use Rattle.c_symbols.specs.Sources.{leaf_at, is}
 use Rattle.c_words.proofs.Among.{apart}
 use Rattle.c_words.proofs.brackets.depth_behind.Goals as goal

@@ -1,6 +1,5 @@
 -- A bracket, parameters or none, the bracket that closes, attributes.
-use Rattle.std.proofs.Common.{sym}
-use Rattle.grammar_forms.specs.Found.{reads_node, reads_skip, reads_pair}
+use Rattle.grammar_forms.specs.Found.{reads_node, reads_skip, reads_pair, reads_before_by}
 use Rattle.grammar_forms.specs.NotFound.{none_node, none_skip, none_first, none_second, none_before, none_before_here}
 use Rattle.grammar_forms.specs.Exits.{at_exit, at_fault}
 use Rattle.c_symbols.specs.declared.words.Terminal.TheVariants.{RightParen}
@@ -8,7 +7,6 @@ use Rattle.c_symbols.specs.Sources.{is}
 use Rattle.c_tree.specs.declared.TheConstants.{MAX_LEVEL}
 use Rattle.c_tree.specs.Declarations.{attributes}
 use Rattle.c_tree.specs.Items.{function_rest}
-use Rattle.c_words.proofs.Places.{reads_before_by}
 use Rattle.c_words.proofs.ParameterForms.{steady_optional, steady_closed}
 use Rattle.c_words.proofs.parameters.function_rest.Goals as goal
 

@@ -1,11 +1,8 @@
 -- Specifiers, then a pointer where one may stand, then a name where one stands.
-use Rattle.std.proofs.Common.{◌≡◌, sym, ◌∙◌, ap, subst, refl, length}
-use Rattle.grammar_forms.specs.Forms.{One, Perhaps}
-use Rattle.grammar_forms.specs.Reading.{Reads}
+use Rattle.std.proofs.Common.{◌∙◌, ap}
 use Rattle.grammar_forms.specs.Found.{reads_node, reads_then, reads_pair}
 use Rattle.grammar_forms.specs.NotFound.{none_node, none_then, none_then_first, none_second}
 use Rattle.grammar_forms.specs.Exits.{at_exit}
-use Rattle.c_symbols.specs.Sources.{leaf_at}
 use Rattle.c_tree.specs.declared.TheConstants.{MAX_LEVEL}
 use Rattle.c_tree.specs.Parts.{have_char}
 use Rattle.c_tree.specs.Items.{parameter}

@@ -1,7 +1,6 @@
 -- One word more, or no more; a word with which there is no type is the fault, and so is what stands where no word does.
-use Rattle.std.proofs.Common.{◌≡◌, ℕ, ◌==◌, length, vec_len, sym, ◌∙◌, ap, arith, true, false}
+use Rattle.std.proofs.Common.{◌≡◌, ◌==◌, length, vec_len, sym, ◌∙◌, ap, arith}
 use Rattle.grammar_forms.specs.Exits.{at_exit}
-use Rattle.c_symbols.specs.Sources.{leaf_at}
 use Rattle.c_tree.specs.declared.TheConstants.{MAX_LEVEL}
 use Rattle.c_tree.specs.Parts.{types}
 use Rattle.c_words.proofs.TypeNames.{type_words_more, type_words_refused, type_words_none, type_words_found, no_type_word}

@@ -1,8 +1,7 @@
 -- One word more, or no more; a word with which there is no type is the fault, and so is what stands behind words
 -- without one.
-use Rattle.std.proofs.Common.{◌≡◌, ℕ, ◌==◌, ◌++◌, [], ◌∷◌, length, vec_len, sym, ◌∙◌, ap, arith, true, false, Some, None}
+use Rattle.std.proofs.Common.{◌≡◌, ◌==◌, ◌++◌, [], ◌∷◌, length, vec_len, sym, ◌∙◌, ap, arith, Some, None}
 use Rattle.grammar_forms.specs.Exits.{at_exit}
-use Rattle.c_symbols.specs.Sources.{leaf_at}
 use Rattle.c_tree.specs.declared.TheConstants.{MAX_LEVEL}
 use Rattle.c_words.specs.Storage.{goes}
 use Rattle.c_words.specs.Steps.{kind_of}

@@ -1,0 +1,5 @@
+mod Readers
+mod Steadies
+mod Arms
+mod Productions
+mod Tight
