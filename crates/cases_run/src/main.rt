@@ -1,5 +1,5 @@
 //! Runs the whole program on the rows of `stdin`, each a call on the one file `p.c` in memory, and
-//! prints each row's status and what the call wrote. README.md says how the wanted answers were made.
+//! prints each row's name, status and text. README.md says how the wanted answers were made.
 #![tactic(auto)]
 
 mod row;
@@ -15,6 +15,7 @@ use std::thread::Threads;
 /// The most bytes that an answer may have.
 const ROOM: usize = 1_000_000;
 
+/// The one file `p.c`.
 fn file(alloc: Global, text: Vec<u8>) -> Result<MemoryInputs, AllocError> {
     let mut files = Vec::new(alloc);
     files.push((String::from_str(alloc, "p.c")?, text))?;
@@ -38,10 +39,10 @@ fn answer<R: Threads + Sync>(
 fn main(rt: HostRuntime) -> io::Result<()> {
     let alloc = rt.alloc();
     let mut out = BufWriter::new(alloc, io::writer(&rt))?;
-    for (number, line) in BufReader::new(alloc, rt.reader())?.lines(alloc).enumerate() {
-        let row = Row::parse(alloc, line?.as_str())?;
+    for line in BufReader::new(alloc, rt.reader())?.lines(alloc) {
+        let (name, row) = Row::parse(alloc, line?.as_str())?;
         let (status, sink) = answer(&rt, alloc, row)?;
-        writeln!(out, "row {number}: status {status}")?;
+        writeln!(out, "{name}: status {status}")?;
         out.write_all(sink.written())?;
     }
     out.flush()

@@ -1,7 +1,6 @@
 pub mod Exits
 pub mod Growth
 pub mod Known
-pub mod Samples
 pub mod Statements
 pub mod Tables
 pub mod Whole

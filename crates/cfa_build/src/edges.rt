@@ -2,15 +2,18 @@
 //! moves, by `AreEdgesFrom`. That the edges of a statement are its moves is shown in
 //! `proofs/Statements.antt`.
 
-ghost use Rattle.std.specs.Prelude.{◌≡◌, ◌+◌, ◌<◌, ◌++◌, ◌∷◌, [], ℕ, List, Some, true, false, length, map, slice_get, option_to_list, IfSome, IfOk, OnOk};
+ghost use Rattle.std.specs.Prelude.{◌≡◌, ◌+◌, ◌<◌, ◌++◌, ◌∷◌, [], ℕ, List, Some, true, false};
+ghost use Rattle.std.specs.Prelude.{length, map, slice_get, option_to_list, IfSome, IfOk, OnOk};
 ghost use Rattle.std.specs.List.{All};
 ghost use Rattle.cpa_model.specs.declared.automaton.Act.TheVariants as acts;
 ghost use Rattle.cpa_model.specs.declared.program.Stmt.TheVariants as stmts;
 ghost use Rattle.cpa_model.specs.Automata.{edge_of};
-ghost use Rattle.cpa_model.specs.Programs.{IsWellFormed, IsStmt, Next, InLoop, exit_of, point_count};
+ghost use Rattle.cpa_model.specs.Programs.{IsWellFormed, IsStmt, Next, InLoop, exit_of};
+ghost use Rattle.cpa_model.specs.Programs.{point_count};
 ghost use Rattle.cpa_model.specs.TreeLaws.{TreeLaws};
 ghost use Rattle.cfa_build.specs.Places.{IsPlace, ArePlaces};
-ghost use Rattle.cfa_build.specs.Edges.{AreSitesBelow, AreEdgesBelow, AreEdgesFrom, edges_in, return_edge};
+ghost use Rattle.cfa_build.specs.Edges.{AreSitesBelow, AreEdgesBelow, AreEdgesFrom, edges_in};
+ghost use Rattle.cfa_build.specs.Edges.{return_edge};
 
 use crate::places::{Place, place_of};
 use cpa_expr::{Expr, copy};
@@ -274,10 +277,10 @@ pub(crate) fn edges(
     ensures { IfOk result (AreEdgesBelow program.now (point_count program.now)) }
 {
     let mut edges = Seq::new(alloc);
-    for n in 0..program.stmts.as_slice().len() {
+    for n in 0..program.stmts.len() {
         add_leaving(alloc, program, places, n as u32, &mut edges)?;
     }
-    for f in 0..program.bodies.as_slice().len() {
+    for f in 0..program.bodies.len() {
         add_returns(program, places, sites, f as u32, &mut edges)?;
     }
     Ok(edges)

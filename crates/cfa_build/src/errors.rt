@@ -38,7 +38,7 @@ pub(crate) fn errors(alloc: Global, program: &Program) -> Result<Seq<u32>, Alloc
     ensures { IfOk result (AreNumbersBelow (IsError program.now) (length program.now.stmts)) }
 {
     let mut errors = Seq::new(alloc);
-    for n in 0..program.stmts.as_slice().len() {
+    for n in 0..program.stmts.len() {
         add_error(program, n as u32, &mut errors)?;
     }
     Ok(errors)

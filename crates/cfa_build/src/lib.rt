@@ -6,7 +6,5 @@ mod edges;
 mod errors;
 mod places;
 mod sites;
-#[cfg(test)]
-mod tests;
 
 pub use automaton::build;

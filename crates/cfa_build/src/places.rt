@@ -107,7 +107,7 @@ pub(crate) fn places(alloc: Global, program: &Program) -> Result<Vec<Place>, All
         inner_loop: None,
         function: 0,
     };
-    let count = program.stmts.as_slice().len();
+    let count = program.stmts.len();
     let mut places = vec![in alloc; unknown; count]?;
     place_bodies(program, &mut places);
     for n in 0..count {

@@ -49,7 +49,7 @@ pub(crate) fn call_sites(alloc: Global, program: &Program) -> Result<Vec<Seq<u32
         (λ sites. AreSitesBelow program.now (length program.now.stmts) sites.items) }
 {
     let mut sites = no_sites(alloc, program)?;
-    for n in 0..program.stmts.as_slice().len() {
+    for n in 0..program.stmts.len() {
         add_site(program, n as u32, &mut sites)?;
     }
     Ok(sites)

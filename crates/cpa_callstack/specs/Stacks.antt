@@ -1,5 +1,6 @@
 -- The analysis of call stacks (this project's own).
-use Rattle.std.specs.Prelude.{ℕ, ◌==◌, Bool, true, List, [], ◌∷◌, ◌++◌, Option, None, Some, option_map, codes, if◌then◌else◌}
+use Rattle.std.specs.Prelude.{ℕ, ◌==◌, Bool, true, List, [], ◌∷◌, ◌++◌, Option, None, Some}
+use Rattle.std.specs.Prelude.{option_map, codes, if◌then◌else◌}
 use Rattle.std.specs.List.{list_all}
 use Rattle.cpa_model.specs.declared.facts.Fact.{Fact}
 use Rattle.cpa_model.specs.declared.facts.Fact.TheVariants.{Stack}
@@ -49,11 +50,12 @@ abbrev pub elem_of : Option (List ℕ) → List Elem
 elem_of None = []
 elem_of (Some sites) = with_stack sites ∷ []
 
--- of the stack on which all facts agree, what the act makes of it; nothing where two facts name two stacks; the
--- element without facts where none names a stack
+-- of the stack on which all facts agree, what the act makes of it; nothing where two facts name two
+-- stacks; the element without facts where none names a stack
 abbrev pub stacks_after : Act → List Fact → Option (List ℕ) → List Elem
 stacks_after act facts None = any_stack ∷ []
-stacks_after act facts (Some sites) = if list_all (names_stack sites) facts then elem_of (stack_after act sites) else []
+stacks_after act facts (Some sites) =
+    if list_all (names_stack sites) facts then elem_of (stack_after act sites) else []
 
 -- what the edge makes of the element
 abbrev pub next_stacks : Elem → Edge → List Elem

@@ -5,27 +5,21 @@ ghost use Rattle.std.specs.Prelude.{◌≡◌, ◌<◌, [], length, slice_get, I
 ghost use Rattle.cpa_model.specs.declared.automaton.Edge.{Edge as AnEdge};
 ghost use Rattle.cpa_model.specs.Automata.{IsAutomaton};
 ghost use Rattle.cpa_iface.specs.Common.{merged_facts, no_precision};
-ghost use Rattle.cpa_iface.specs.Laws.{
-  InitialLaws,
-  FirstPrecisionLaws,
-  TransferLaws,
-  StrengthenLaws,
-  MergeLaws,
-  AdjustLaws,
-  RefineLaws,
-};
+ghost use Rattle.cpa_iface.specs.Laws.{InitialLaws, FirstPrecisionLaws, TransferLaws};
+ghost use Rattle.cpa_iface.specs.Laws.{StrengthenLaws, MergeLaws, AdjustLaws, RefineLaws};
 ghost use Rattle.cpa_iface.specs.Meanings.{IsShaped, IsPrecision};
 ghost use Rattle.cpa_callstack.specs.Stacks.{callstack, with_stack, next_stacks};
 
 use crate::stacks::{next_stacks, with_stack};
 use cpa_iface::{
-    Analysis, Entry, MergeRule, Part, Precision, Settings, copy_precision, edges_are_sound,
-    empty_precision, merge_facts,
+    Analysis, Entry, MergeRule, Part, Precision, Settings, empty_precision, merge_facts,
+    unadjusted, unrefined, unstrengthened,
 };
-use cpa_model::{Cfa, Edge, Elem, Path, copy_elem, has_facts};
+use cpa_model::{Cfa, Elem, Path, edges_are_sound, has_facts};
 use std::alloc::{AllocError, Global};
 
-/// The analysis of call stacks: an element says which stack a state has, from the bottom to the top.
+/// The analysis of call stacks: an element says which stack a state has, from the bottom to the
+/// top.
 #[derive(Debug, Drop)]
 pub struct Callstack;
 
@@ -83,7 +77,7 @@ impl Analysis for Callstack {
             slice_get cfa.now.edges edge ≡ Some g → es.items ≡ next_stacks elem.now g) }
     {
         edges_are_sound();
-        next_stacks(alloc, elem, edge_at(cfa, edge))
+        next_stacks(alloc, elem, cfa.edge(edge))
     }
 
     fn strengthen(
@@ -99,7 +93,7 @@ impl Analysis for Callstack {
             StrengthenLaws callstack _cfa.now own.now _others.now _precision.now e) }
         ensures given { IfOk result (λ e. e ≡ Some own.now) }
     {
-        Ok(Some(copy_elem(alloc, own)?))
+        unstrengthened(alloc, own)
     }
 
     fn merge(
@@ -139,7 +133,7 @@ impl Analysis for Callstack {
             pair.0 pair.1) }
         ensures given { IfOk result (λ pair. (pair.0 ≡ elem.now) × (pair.1 ≡ precision.now)) }
     {
-        Ok((copy_elem(alloc, elem)?, copy_precision(alloc, precision)?))
+        unadjusted(alloc, elem, precision)
     }
 
     fn refine(
@@ -154,13 +148,6 @@ impl Analysis for Callstack {
             RefineLaws callstack _cfa.now _path.now precision.now p) }
         ensures given { IfOk result (λ p. p ≡ precision.now) }
     {
-        copy_precision(alloc, precision)
+        unrefined(alloc, precision)
     }
-}
-
-fn edge_at(cfa: &Cfa, edge: u32) -> &Edge
-    requires { edge < length cfa.now.edges }
-    ensures { slice_get cfa.now.edges edge ≡ Some result.now }
-{
-    &cfa.edges.as_slice()[edge as usize]
 }

@@ -1,19 +1,12 @@
 //! What an edge makes of an element, by `specs/Stacks.antt`.
 
-ghost use Rattle.std.specs.Prelude.{◌≡◌, ◌++◌, ◌∷◌, [], IfOk, IfSome, IfNone, MatchOption, option_map};
+ghost use Rattle.std.specs.Prelude.{◌≡◌, ◌++◌, ◌∷◌, [], IfOk, IfSome, IfNone, MatchOption};
+ghost use Rattle.std.specs.Prelude.{option_map};
 ghost use Rattle.std.specs.List.{list_all};
 ghost use Rattle.cpa_model.specs.Standing.{same_sites};
-ghost use Rattle.cpa_callstack.specs.Stacks.{
-  with_stack,
-  any_stack,
-  first_stack,
-  names_stack,
-  popped,
-  stack_after,
-  elem_of,
-  stacks_after,
-  next_stacks,
-};
+ghost use Rattle.cpa_callstack.specs.Stacks.{with_stack, any_stack, first_stack, names_stack};
+ghost use Rattle.cpa_callstack.specs.Stacks.{popped, stack_after, elem_of, stacks_after};
+ghost use Rattle.cpa_callstack.specs.Stacks.{next_stacks};
 
 use cpa_model::{Act, Edge, Elem, Fact, Seq};
 use std::alloc::{AllocError, Global};

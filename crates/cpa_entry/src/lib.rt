@@ -1,5 +1,6 @@
-//! The start of the program: the words of the command line, and the analyses and the outside that the top call is
-//! handed. It stands apart from `main`, so that a second program can show how a refusal ends.
+//! The start of the program: the words of the command line, and the analyses and the outside that
+//! the top call is handed. It stands apart from `main`, so that a second program can show how a
+//! refusal ends.
 #![tactic(auto)]
 
 use cpa_iface::{Analysis, Location};
@@ -38,7 +39,8 @@ fn refuse_memory<R: Print>(out: &mut StdoutSink<R>) -> ExitCode {
     }
 }
 
-/// Does what the command line asks, over the files of the system and its standard output, and gives the status.
+/// Does what the command line asks, over the files of the system and its standard output, and gives
+/// the status.
 pub fn start<R: Threads + Sync + Env + Files + Print + AllocGlobal>(rt: &R) -> ExitCode {
     let alloc = rt.alloc();
     let mut inputs = FileInputs::new(rt);

@@ -1,5 +1,6 @@
 -- The cells whose values decide whether a path has a run (this project's own).
-use Rattle.std.specs.Prelude.{ℕ, nat_lt, Bool, true, false, ◌&&◌, ◌||◌, List, [], ◌∷◌, length, slice_get, Option, None, Some}
+use Rattle.std.specs.Prelude.{ℕ, nat_lt, Bool, true, false, ◌&&◌, ◌||◌, List, [], ◌∷◌, length}
+use Rattle.std.specs.Prelude.{slice_get, Option, None, Some}
 use Rattle.std.specs.List.{filter, list_any, range_with_len}
 use Rattle.cpa_expr.specs.declared.tree.BinOp.{BinOp}
 use Rattle.cpa_expr.specs.declared.tree.BinOp.TheVariants as op
@@ -36,13 +37,14 @@ stops_step node = stops_here node || list_any (λ stops. stops) (parts node)
 abbrev pub may_stop : Expr → Bool
 may_stop = fold-Expr Bool stops_step
 
--- the write counts: it is to a cell that is needed after it, or to an array, or its index or value may trap
+-- the write counts: it is to a cell that is needed after it, or to an array, or its index or value
+-- may trap
 abbrev pub counts : ℕ → ℕ → Expr → Expr → (ℕ → Bool) → Bool
 counts base len index value after =
     list_any after (range_with_len base len) || nat_lt 1 len || may_stop index || may_stop value
 
--- The cells that an act adds to those that are needed after it: those that a test may read, and those that the index
--- and the value of a write that counts may read.
+-- The cells that an act adds to those that are needed after it: those that a test may read, and
+-- those that the index and the value of a write that counts may read.
 abbrev pub adds : Act → (ℕ → Bool) → ℕ → Bool
 adds (Assume test holds) after cell = may_read test cell
 adds (Assign base len index value) after cell =
@@ -54,7 +56,8 @@ abbrev pub edge_adds : Cfa → Option Edge → (ℕ → Bool) → ℕ → Bool
 edge_adds cfa None after cell = false
 edge_adds cfa (Some edge) after cell = nat_lt cell (length cfa.cells) && adds edge.act after cell
 
--- The cell is needed along these edges. The edges are taken from the last to the first, and no cell is taken out.
+-- The cell is needed along these edges. The edges are taken from the last to the first, and no cell
+-- is taken out.
 abbrev pub is_needed : Cfa → List ℕ → ℕ → Bool
 is_needed cfa [] cell = false
 is_needed cfa (edge ∷ edges) cell =

@@ -1,6 +1,7 @@
 //! A set of cells as a mark for each cell of an automaton.
 
-ghost use Rattle.std.specs.Prelude.{◌≡◌, ◌+◌, ◌<◌, ◌≤◌, ◌||◌, ◌&&◌, ◌^◌, ℕ, nat_lt, length, [], ◌∷◌, ◌++◌, if◌then◌else◌, IfOk, OnOk};
+ghost use Rattle.std.specs.Prelude.{◌≡◌, ◌+◌, ◌<◌, ◌≤◌, ◌||◌, ◌&&◌, ◌^◌, ℕ, nat_lt, length, []};
+ghost use Rattle.std.specs.Prelude.{◌∷◌, ◌++◌, if◌then◌else◌, IfOk, OnOk};
 ghost use Rattle.std.specs.List.{filter, list_any, range_with_len};
 ghost use Rattle.cpa_expr.specs.declared.tree.Expr.{out-Expr};
 ghost use Rattle.cpa_expr.specs.Cells.{is_within, reads_here, may_read};
@@ -15,7 +16,8 @@ use std::alloc::{AllocError, Global};
 fn mark_cells(marks: &mut [bool], base: u32, len: u32)
     ensures length { length marks.new ≡ length marks.old }
     ensures marks { (cell : ℕ) → is_marked marks.new cell
-        ≡ (is_marked marks.old cell || (is_within base len cell && nat_lt cell (length marks.old))) }
+        ≡ (is_marked marks.old cell
+        || (is_within base len cell && nat_lt cell (length marks.old))) }
 {
     let first = (base as usize).min(marks.len());
     let end = (base as usize + len as usize).min(marks.len());
@@ -37,7 +39,8 @@ pub(crate) fn mark_reads(marks: &mut [bool], e: &Expr)
 fn mark_node(marks: &mut [bool], e: &Expr)
     ensures length { length marks.new ≡ length marks.old }
     ensures marks { (cell : ℕ) → is_marked marks.new cell
-        ≡ (is_marked marks.old cell || (reads_here cell (out-Expr e.now) && nat_lt cell (length marks.old))) }
+        ≡ (is_marked marks.old cell
+        || (reads_here cell (out-Expr e.now) && nat_lt cell (length marks.old))) }
 {
     if let Expr::Read { base, len, .. } = e {
         mark_cells(marks, *base, *len);
@@ -49,7 +52,8 @@ fn mark_node(marks: &mut [bool], e: &Expr)
 fn mark_parts(marks: &mut [bool], e: &Expr)
     ensures length { length marks.new ≡ length marks.old }
     ensures marks { (cell : ℕ) → is_marked marks.new cell
-        ≡ (is_marked marks.old cell || (list_any (λ part. may_read part cell) (parts (out-Expr e.now))
+        ≡ (is_marked marks.old cell
+        || (list_any (λ part. may_read part cell) (parts (out-Expr e.now))
         && nat_lt cell (length marks.old))) }
 {
     match parts_of(e) {
@@ -86,7 +90,8 @@ fn is_marked(marks: &[bool], cell: usize) -> bool
 /// The marked cells, ascending.
 pub(crate) fn marked(alloc: Global, marks: &[bool]) -> Result<Seq<u32>, AllocError>
     requires { length marks.now < 2 ^ 32 }
-    ensures { IfOk result (λ cells. cells ≡ filter (is_marked marks.now) (range_with_len 0 (length marks.now))) }
+    ensures { IfOk result (λ cells. cells
+        ≡ filter (is_marked marks.now) (range_with_len 0 (length marks.now))) }
 {
     let mut cells = Seq::new(alloc);
     for cell in 0..marks.len() {

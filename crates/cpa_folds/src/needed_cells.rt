@@ -1,6 +1,7 @@
 //! The cells that are needed along a path, by `specs/Needed.antt`.
 
-ghost use Rattle.std.specs.Prelude.{◌≡◌, ◌<◌, ◌||◌, ◌&&◌, ◌^◌, ℕ, false, Some, nat_lt, length, slice_get, IfOk};
+ghost use Rattle.std.specs.Prelude.{◌≡◌, ◌<◌, ◌||◌, ◌&&◌, ◌^◌, ℕ, false, Some, nat_lt, length};
+ghost use Rattle.std.specs.Prelude.{slice_get, IfOk};
 ghost use Rattle.std.specs.List.{AllByRecursion};
 ghost use Rattle.cpa_model.specs.Automata.{IsAutomaton};
 ghost use Rattle.cpa_folds.specs.Needed.{counts, adds, is_needed, needed};
@@ -13,8 +14,8 @@ use std::alloc::{AllocError, Global};
 
 /// The cells of the automaton that are needed along the path, ascending: those that its tests may
 /// read, and from the last edge to the first those that decide what is written to such a cell, or
-/// whether a write traps. An analysis that tracks them has what it takes to see that the path has no
-/// run, as far as values of cells show it.
+/// whether a write traps. An analysis that tracks them has what it takes to see that the path has
+/// no run, as far as values of cells show it.
 ///
 /// It takes time in the sizes of the expressions along the path and the arrays that they name.
 pub fn needed(alloc: Global, cfa: &Cfa, path: &Path) -> Result<Seq<u32>, AllocError>
@@ -38,23 +39,17 @@ fn mark_needed(marks: &mut [bool], cfa: &Cfa, edges: &[u32])
     let mut place = edges.len();
     while 0 < place {
         place -= 1;
-        let edge = edge_at(cfa, edges[place]);
+        let edge = cfa.edge(edges[place]);
         add(marks, &edge.act);
     }
-}
-
-fn edge_at(cfa: &Cfa, edge: u32) -> &Edge
-    requires { edge < length cfa.now.edges }
-    ensures { slice_get cfa.now.edges edge ≡ Some result.now }
-{
-    &cfa.edges.as_slice()[edge as usize]
 }
 
 /// Marks the cells that the act adds to those that are marked.
 fn add(marks: &mut [bool], act: &Act)
     ensures length { length marks.new ≡ length marks.old }
     ensures marks { (cell : ℕ) → is_marked marks.new cell
-        ≡ (is_marked marks.old cell || (nat_lt cell (length marks.old) && adds act.now (is_marked marks.old) cell)) }
+        ≡ (is_marked marks.old cell
+        || (nat_lt cell (length marks.old) && adds act.now (is_marked marks.old) cell)) }
 {
     match act {
         Act::Assume { test, .. } => mark_reads(marks, test),

@@ -1,2 +1,1 @@
-pub mod EdgesSound
 pub mod LocationLaws

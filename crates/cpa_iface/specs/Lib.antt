@@ -1,4 +1,3 @@
-pub mod Acts
 pub mod Meanings
 pub mod Pins
 pub mod Laws

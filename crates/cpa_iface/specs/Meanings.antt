@@ -1,5 +1,5 @@
--- What an analysis means, whatever state its object is in (CAV 2007, section 2; ASE 2008; height, rank and suggestion
--- are this project's own).
+-- What an analysis means, whatever state its object is in (CAV 2007, section 2; ASE 2008; height,
+-- rank and suggestion are this project's own).
 use Rattle.std.specs.Prelude.{ℕ, ◌<◌, List, length, Option, IsTrue, Bool}
 use Rattle.std.specs.List.{AllByRecursion}
 use Rattle.cpa_expr.specs.declared.tree.Expr.{Expr}
@@ -23,8 +23,9 @@ pub record Suggestion : Type 0 where
   pub cells : List ℕ
   pub preds : List Expr
 
--- The six meanings of an analysis. Its cover is what `covered_by` answers, and its suggestion is there where it tells
--- it. The cover law: a true cover is inclusion, and each element covers itself.
+-- The six meanings of an analysis. Its cover is what `covered_by` answers, and its suggestion is
+-- there where it tells it. The cover law: a true cover is inclusion, and each element covers
+-- itself.
 pub record Meaning : Type 0 where
   pub name : List ℕ
   pub part : Part

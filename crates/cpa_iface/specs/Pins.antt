@@ -1,4 +1,5 @@
--- Pins, the elements that give a part of a state whole, and the steps of a part by itself (this project's own).
+-- Pins, the elements that give a part of a state whole, and the steps of a part by itself (this
+-- project's own).
 use Rattle.std.specs.Prelude.{◌≡◌, ℕ, ◌+◌, ◌<◌, ℤ, List, [], ◌∷◌, length, ⊤, ◌⊎◌}
 use Rattle.std.specs.List.{Contains}
 use Rattle.cpa_model.specs.declared.facts.Fact.{Fact}
@@ -56,15 +57,17 @@ pub record TracksAll (cfa : Cfa) (p : Precision) : Type 0 where
   pub cells : (cell : ℕ) → cell < length cfa.cells → Contains p.tracked cell
   pub no_limit : p.limit ≡ 0
 
--- An analysis of this part has to be exact at the precision: of the point and of the stack at each one, of the store
--- where all cells are tracked.
+-- An analysis of this part has to be exact at the precision: of the point and of the stack at each
+-- one, of the store where all cells are tracked.
 abbrev pub MustBeExact : Part → Cfa → Precision → Type 0
 MustBeExact part.Nothing cfa p = ⊥
 MustBeExact part.Point cfa p = ⊤
 MustBeExact part.Stack cfa p = ⊤
 MustBeExact part.Store cfa p = TracksAll cfa p
 
--- The elements are the pin of the part to which the step along the edge leads, or none where there is no step.
-pub record PinsStep (which : Part) (cfa : Cfa) (g : Edge) (s : State) (es : List Elem) : Type 0 where
+-- The elements are the pin of the part to which the step along the edge leads, or none where there
+-- is no step.
+pub record PinsStep (which : Part) (cfa : Cfa) (g : Edge) (s : State)
+    (es : List Elem) : Type 0 where
   pub step : (t : State) → StepsPart which cfa g s t → es ≡ pin_of which t ∷ []
   pub stuck : ((t : State) → StepsPart which cfa g s t → ⊥) → es ≡ []

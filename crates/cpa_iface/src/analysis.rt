@@ -3,8 +3,10 @@
 ghost use Rattle.std.specs.Prelude.{◌≡◌, ◌<◌, length, IfOk};
 ghost use Rattle.std.specs.List.{AllByRecursion};
 ghost use Rattle.cpa_model.specs.Automata.{IsAutomaton};
-ghost use Rattle.cpa_iface.specs.Meanings.{Meaning, IsShaped, AreShaped, IsPrecision, IsPathOf, HasPlace};
-ghost use Rattle.cpa_iface.specs.Laws.{InitialLaws, FirstPrecisionLaws, TransferLaws, StrengthenLaws, MergeLaws, AdjustLaws, RefineLaws};
+ghost use Rattle.cpa_iface.specs.Meanings.{Meaning, IsShaped, AreShaped, IsPrecision, IsPathOf};
+ghost use Rattle.cpa_iface.specs.Meanings.{HasPlace};
+ghost use Rattle.cpa_iface.specs.Laws.{InitialLaws, FirstPrecisionLaws, TransferLaws};
+ghost use Rattle.cpa_iface.specs.Laws.{StrengthenLaws, MergeLaws, AdjustLaws, RefineLaws};
 
 use crate::entries::Entry;
 use crate::merging::MergeRule;

@@ -3,14 +3,14 @@
 
 mod analysis;
 mod entries;
-mod laws;
 mod location;
 mod merging;
 mod precisions;
+mod unchanged;
 
 pub use analysis::{Analysis, Part, Settings};
 pub use entries::{Entry, Refined, Turn};
-pub use laws::edges_are_sound;
 pub use location::Location;
 pub use merging::{MergeRule, Order, Pick, merge_facts};
 pub use precisions::{Precision, copy_precision, empty_precision};
+pub use unchanged::{unadjusted, unrefined, unstrengthened};

@@ -1,28 +1,22 @@
 //! The analysis of locations, the smallest one. Each call gives what `specs/Locations.antt` says of
-//! it, and keeps the laws; that it does is proved over these definitions.
+//! it, and keeps the laws, which is shown in `proofs/LocationLaws.antt`.
 
 ghost use Rattle.std.specs.Prelude.{◌≡◌, ◌<◌, [], ◌∷◌, length, slice_get, IfOk, if◌then◌else◌};
 ghost use Rattle.cpa_model.specs.declared.automaton.Edge.{Edge as AnEdge};
 ghost use Rattle.cpa_model.specs.Automata.{IsAutomaton};
 ghost use Rattle.cpa_iface.specs.Meanings.{IsShaped, IsPrecision};
 ghost use Rattle.cpa_iface.specs.Common.{merged_facts, no_precision};
-ghost use Rattle.cpa_iface.specs.Laws.{
-  InitialLaws,
-  FirstPrecisionLaws,
-  TransferLaws,
-  StrengthenLaws,
-  MergeLaws,
-  AdjustLaws,
-  RefineLaws,
-};
+ghost use Rattle.cpa_iface.specs.Laws.{InitialLaws, FirstPrecisionLaws, TransferLaws};
+ghost use Rattle.cpa_iface.specs.Laws.{StrengthenLaws, MergeLaws, AdjustLaws, RefineLaws};
 ghost use Rattle.cpa_iface.specs.Locations.{location, names_point, may_stand_at, next_points};
 ghost use Rattle.cpa_iface.specs.Pins.{pin};
 
 use crate::analysis::{Analysis, Part, Settings};
 use crate::entries::Entry;
 use crate::merging::{MergeRule, merge_facts};
-use crate::precisions::{Precision, copy_precision, empty_precision};
-use cpa_model::{Cfa, Edge, Elem, Fact, Path, Seq, automata_are_small, copy_elem, has_facts};
+use crate::precisions::{Precision, empty_precision};
+use crate::unchanged::{unadjusted, unrefined, unstrengthened};
+use cpa_model::{Cfa, Edge, Elem, Fact, Path, Seq, automata_are_small, has_facts};
 use std::alloc::{AllocError, Global};
 
 /// The smallest analysis: it keeps the point of a state, and is exact on it.
@@ -83,7 +77,7 @@ impl Analysis for Location {
         ensures given { IfOk result (λ es. (g : AnEdge) →
             slice_get cfa.now.edges edge ≡ Some g → es.items ≡ next_points elem.now g) }
     {
-        next_points(alloc, elem, edge_at(cfa, edge))
+        next_points(alloc, elem, cfa.edge(edge))
     }
 
     fn strengthen(
@@ -99,7 +93,7 @@ impl Analysis for Location {
             StrengthenLaws location _cfa.now own.now _others.now _precision.now e) }
         ensures given { IfOk result (λ e. e ≡ Some own.now) }
     {
-        Ok(Some(copy_elem(alloc, own)?))
+        unstrengthened(alloc, own)
     }
 
     fn merge(
@@ -139,7 +133,7 @@ impl Analysis for Location {
             pair.0 pair.1) }
         ensures given { IfOk result (λ pair. (pair.0 ≡ elem.now) × (pair.1 ≡ precision.now)) }
     {
-        Ok((copy_elem(alloc, elem)?, copy_precision(alloc, precision)?))
+        unadjusted(alloc, elem, precision)
     }
 
     fn refine(
@@ -154,15 +148,8 @@ impl Analysis for Location {
             RefineLaws location _cfa.now _path.now precision.now p) }
         ensures given { IfOk result (λ p. p ≡ precision.now) }
     {
-        copy_precision(alloc, precision)
+        unrefined(alloc, precision)
     }
-}
-
-fn edge_at(cfa: &Cfa, edge: u32) -> &Edge
-    requires { edge < length cfa.now.edges }
-    ensures { slice_get cfa.now.edges edge ≡ Some result.now }
-{
-    &cfa.edges.as_slice()[edge as usize]
 }
 
 /// The point to which the edge leads, where the element may stand at the one that it leaves.
@@ -189,12 +176,10 @@ fn pin(alloc: Global, point: u32) -> Result<Elem, AllocError>
 fn may_stand_at(elem: &Elem, point: u32) -> bool
     ensures { result ≡ may_stand_at elem.now point }
 {
-    elem.facts
-        .as_slice()
-        .iter()
-        .all(|fact| names_point(fact, point))
+    elem.facts.iter().all(|fact| names_point(fact, point))
 }
 
+/// Whether the fact does not name another point.
 fn names_point(fact: &Fact, point: u32) -> bool
     ensures { result ≡ names_point point fact.now }
 {

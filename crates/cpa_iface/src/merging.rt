@@ -56,15 +56,16 @@ fn common_facts(alloc: Global, new: &Elem, old: &Elem) -> Result<Elem, AllocErro
 {
     let mut facts = Seq::new(alloc);
     for fact in old.facts.as_slice() {
-        if stands_in(fact, new.facts.as_slice()) {
+        if stands_in(fact, new) {
             facts.push(copy_fact(alloc, fact)?)?;
         }
     }
     Ok(Elem { facts })
 }
 
-fn stands_in(fact: &Fact, facts: &[Fact]) -> bool
-    ensures { result ≡ stands_in facts.now fact.now }
+/// Whether one of the element's facts is this one.
+fn stands_in(fact: &Fact, elem: &Elem) -> bool
+    ensures { result ≡ stands_in elem.now.facts fact.now }
 {
-    facts.iter().any(|own| same_fact(own, fact))
+    elem.facts.iter().any(|own| same_fact(own, fact))
 }

@@ -1,5 +1,7 @@
 -- The edges of an automaton: how many there are, and where those of a point stand.
-use Rattle.std.proofs.Common.{◌≡◌, ℕ, zero, suc, ◌+◌, ◌-◌, ◌*◌, ◌^◌, ◌<◌, ◌≤◌, ◌↔◌, List, [], ◌∷◌, length, get_or, Some, slice_get, true, false, refl, sym, ap, subst, ⊎_elim, lit<, lit≤, arith}
+use Rattle.std.proofs.Common.{◌≡◌, ℕ, zero, suc, ◌+◌, ◌-◌, ◌*◌, ◌^◌, ◌<◌, ◌≤◌, ◌↔◌, List, [], ◌∷◌}
+use Rattle.std.proofs.Common.{length, get_or, Some, slice_get, true, false, refl, sym, ap, subst}
+use Rattle.std.proofs.Common.{⊎_elim, lit<, lit≤, arith}
 use Rattle.std.specs.List.{AllByRecursion, Contains}
 use Rattle.std.specs.List.Sorted.{IsNonDecreasingBy}
 use Rattle.std.proofs.lemmas.Option.{slice_get_within, get_or_from_slice_get}
@@ -22,7 +24,8 @@ use Rattle.cpa_model.specs.lemmas.Trees.{body_inside}
 rank_is : (a b : Act) → a ≡ b → rank_of b < 65535 → rank_of a < 65535
 rank_is a b e h = subst (λ (x : Act). rank_of x < 65535) (sym e) h
 
-rank_at : (P : Program) (n : ℕ) (s : Stmt) (a : Act) (m : ℕ) → n < 65535 → MovesAt P n s a m → rank_of a < 65535
+rank_at : (P : Program) (n : ℕ) (s : Stmt) (a : Act) (m : ℕ) → n < 65535 → MovesAt P n s a m
+    → rank_of a < 65535
 rank_at P n (stmt.Block []) a m h moves = rank_is a act.Skip moves.0 (lit< tt)
 rank_at P n (stmt.Block (item ∷ items)) a m h moves = rank_is a act.Skip moves.0 (lit< tt)
 rank_at P n (stmt.If test first second) a m h moves =
@@ -31,7 +34,8 @@ rank_at P n (stmt.If test first second) a m h moves =
     (λ no. rank_is a (act.Assume test false) no.0 (lit< tt))
     moves
 rank_at P n (stmt.Loop body step) a m h moves = rank_is a act.Skip moves.0 (lit< tt)
-rank_at P n (stmt.Assign base len index value) a m h moves = rank_is a (act.Assign base len index value) moves.0 (lit< tt)
+rank_at P n (stmt.Assign base len index value) a m h moves =
+    rank_is a (act.Assign base len index value) moves.0 (lit< tt)
 rank_at P n (stmt.Input cell) a m h moves = rank_is a (act.Input cell) moves.0 (lit< tt)
 rank_at P n (stmt.Call function) a m h moves = rank_is a (act.Call n) moves.0 (lit< tt)
 rank_at P n (stmt.Goto to) a m h moves = rank_is a act.Skip moves.0 (lit< tt)
@@ -41,7 +45,8 @@ rank_at P n stmt.Leave a m h moves = rank_is a act.Skip moves.0 (lit< tt)
 rank_at P n stmt.Stop a m h moves = absurd moves
 rank_at P n stmt.Error a m h moves = absurd moves
 
-rank_small : (P : Program) → IsWellFormed P → (p : ℕ) (a : Act) (q : ℕ) → Moves P p a q → rank_of a < 65535
+rank_small : (P : Program) → IsWellFormed P → (p : ℕ) (a : Act) (q : ℕ) → Moves P p a q
+    → rank_of a < 65535
 rank_small P W p a q (at_statement s is moves) =
     let inside = slice_get_within P.stmts p s is in
     rank_at P p s a q (omega (arith, inside, W.main, W.few_points)) moves
@@ -62,16 +67,25 @@ place_rises a b h small =
     let less : rank_of a.act < 65535 = small.1 in
     ⊎_elim (λ from. omega arith) (λ rank. omega (arith, rank.0, rank.1)) h
 
-places_rise : (a : Edge) (edges : List Edge) → AllByRecursion (Precedes a) edges → IsSmall a → AllByRecursion (λ edge. place_of_edge a + 1 ≤ place_of_edge edge) edges
+places_rise : (a : Edge) (edges : List Edge) → AllByRecursion (Precedes a) edges → IsSmall a
+    → AllByRecursion (λ edge. place_of_edge a + 1 ≤ place_of_edge edge) edges
 places_rise a [] h small = tt
-places_rise a (edge ∷ edges) h small = (let rises = place_rises a edge h.0 small in omega (arith, rises), places_rise a edges h.1 small)
+places_rise a (edge ∷ edges) h small = (
+  let rises = place_rises a edge h.0 small in
+      omega (arith, rises),
+  places_rise a edges h.1 small,
+)
 
 -- places rise along the edges, so there are no more edges than places
-few_from : (edges : List Edge) (low : ℕ) → low ≤ 65536 * 65535 → AreOrdered edges → AllByRecursion IsSmall edges → AllByRecursion (λ edge. low ≤ place_of_edge edge) edges → low + length edges ≤ 65536 * 65535
+few_from : (edges : List Edge) (low : ℕ) → low ≤ 65536 * 65535 → AreOrdered edges
+    → AllByRecursion IsSmall edges → AllByRecursion (λ edge. low ≤ place_of_edge edge) edges
+    → low + length edges ≤ 65536 * 65535
 few_from [] low h ordered small above = omega arith
 few_from (edge ∷ edges) low h ordered small above =
     let s : IsSmall edge = small.0 in
-    let rest = few_from edges (place_of_edge edge + 1) (omega (arith, s.0, s.1)) ordered.1 small.1 (places_rise edge edges ordered.0 s) in
+    let rest =
+    few_from edges (place_of_edge edge + 1) (omega (arith, s.0, s.1)) ordered.1 small.1
+    (places_rise edge edges ordered.0 s) in
     omega (arith, rest, above.0)
 
 all_from_zero : (edges : List Edge) → AllByRecursion (λ edge. 0 ≤ place_of_edge edge) edges
@@ -79,20 +93,28 @@ all_from_zero [] = tt
 all_from_zero (edge ∷ edges) = (omega arith, all_from_zero edges)
 
 -- an edge of an automaton has a small place
-all_small : (cfa : Cfa) → IsAutomaton cfa → (edges : List Edge) → ((edge : Edge) → Contains edges edge → Contains cfa.edges edge)
-    → AllByRecursion (λ edge. (edge.from < cfa.points) × (edge.to < cfa.points)) edges → AllByRecursion IsSmall edges
+all_small : (cfa : Cfa) → IsAutomaton cfa → (edges : List Edge)
+    → ((edge : Edge) → Contains edges edge → Contains cfa.edges edge)
+    → AllByRecursion (λ edge. (edge.from < cfa.points) × (edge.to < cfa.points)) edges
+    → AllByRecursion IsSmall edges
 all_small cfa a [] within inside = tt
 all_small cfa a (edge ∷ edges) within inside =
     let P = a.program in
     let at = within edge (in_list (edge ∷ edges) 0 edge refl) in (
-      (omega (arith, inside.0.0, a.automaton.points, a.well_formed.few_points), rank_small P a.well_formed edge.from edge.act edge.to (a.automaton.moves edge at)),
-      all_small cfa a edges (λ e h. within e (let k = place_of edges e h in in_list (edge ∷ edges) (suc k.0) e k.1)) inside.1,
+      (
+        omega (arith, inside.0.0, a.automaton.points, a.well_formed.few_points),
+        rank_small P a.well_formed edge.from edge.act edge.to (a.automaton.moves edge at),
+      ),
+      all_small cfa a edges (λ e h. within e
+          (let k = place_of edges e h in in_list (edge ∷ edges) (suc k.0) e k.1)) inside.1,
     )
 
 -- the number of each edge is a u32, and so is how many there are
 pub few_edges : (cfa : Cfa) → IsAutomaton cfa → length cfa.edges < 2 ^ 32
 few_edges cfa a =
-    let few = few_from cfa.edges 0 (lit≤ tt) a.automaton.ordered (all_small cfa a cfa.edges (λ e h. h) a.automaton.inside) (all_from_zero cfa.edges) in
+    let few =
+    few_from cfa.edges 0 (lit≤ tt) a.automaton.ordered
+    (all_small cfa a cfa.edges (λ e h. h) a.automaton.inside) (all_from_zero cfa.edges) in
     omega (arith, few)
 
 -- an automaton starts at one of its points
@@ -103,7 +125,8 @@ start_inside cfa a =
     omega (arith, inside, a.automaton.points)
 
 -- and its errors are points of it
-all_errors : (cfa : Cfa) → IsAutomaton cfa → (errors : List ℕ) → ((p : ℕ) → Contains errors p → Contains cfa.errors p)
+all_errors : (cfa : Cfa) → IsAutomaton cfa → (errors : List ℕ)
+    → ((p : ℕ) → Contains errors p → Contains cfa.errors p)
     → AllByRecursion (λ p. p < cfa.points) errors
 all_errors cfa a [] within = tt
 all_errors cfa a (p ∷ errors) within =
@@ -111,7 +134,8 @@ all_errors cfa a (p ∷ errors) within =
     let error = a.automaton.only_errors p (within p (in_list (p ∷ errors) 0 p refl)) in
     let inside = slice_get_within P.stmts p stmt.Error error in (
       omega (arith, inside, a.automaton.points),
-      all_errors cfa a errors (λ q h. within q (let k = place_of errors q h in in_list (p ∷ errors) (suc k.0) q k.1)),
+      all_errors cfa a errors (λ q h. within q
+          (let k = place_of errors q h in in_list (p ∷ errors) (suc k.0) q k.1)),
     )
 
 pub errors_inside : (cfa : Cfa) → IsAutomaton cfa → AllByRecursion (λ p. p < cfa.points) cfa.errors
@@ -121,13 +145,16 @@ le_from_precedes : (a b : Edge) → Precedes a b → a.from ≤ b.from
 le_from_precedes a b h = ⊎_elim (λ from. omega arith) (λ rank. omega (arith, rank.0)) h
 
 -- the edges stand by the points that they leave
-pub edges_by_from : (edges : List Edge) → AreOrdered edges → IsNonDecreasingBy (λ (e : Edge). e.from) edges
+pub edges_by_from : (edges : List Edge) → AreOrdered edges
+    → IsNonDecreasingBy (λ (e : Edge). e.from) edges
 edges_by_from [] ordered i j d le less = absurd (omega arith)
 edges_by_from (edge ∷ edges) ordered zero zero d le less = omega arith
 edges_by_from (edge ∷ edges) ordered zero (suc j) d le less =
-    le_from_precedes edge (get_or edges j d) (All-from_recursion (Precedes edge) edges ordered.0 j d (omega arith))
+    le_from_precedes edge (get_or edges j d)
+    (All-from_recursion (Precedes edge) edges ordered.0 j d (omega arith))
 edges_by_from (edge ∷ edges) ordered (suc i) zero d le less = absurd (omega arith)
-edges_by_from (edge ∷ edges) ordered (suc i) (suc j) d le less = edges_by_from edges ordered.1 i j d (omega arith) (omega arith)
+edges_by_from (edge ∷ edges) ordered (suc i) (suc j) d le less =
+    edges_by_from edges ordered.1 i j d (omega arith) (omega arith)
 
 -- The tests on two places, first and last, by which the edges of a point are found.
 abbrev IsBefore : List Edge → ℕ → ℕ → Type 0
@@ -194,7 +221,8 @@ stands_between edges point first last le before from upto after k edge at =
             (cases_lt k first),
         ⊎_elim
             (λ less. omega (arith, less))
-            (λ more. let high = after k edge more inside in absurd (omega (arith, high, is, leaves)))
+            (λ more. let high = after k edge more inside in
+            absurd (omega (arith, high, is, leaves)))
             (cases_lt k last),
       ),
     )

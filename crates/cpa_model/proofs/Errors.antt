@@ -1,5 +1,6 @@
 -- What a binary search finds among the points of errors.
-use Rattle.std.proofs.Common.{◌≡◌, ℕ, zero, suc, ◌<◌, ◌≤◌, List, [], ◌∷◌, length, get_or, Result, Ok, Err, true, refl, ◌∙◌, ⊎_elim, arith}
+use Rattle.std.proofs.Common.{◌≡◌, ℕ, zero, suc, ◌<◌, ◌≤◌, List, [], ◌∷◌, length, get_or, Result}
+use Rattle.std.proofs.Common.{Ok, Err, true, refl, ◌∙◌, ⊎_elim, arith}
 use Rattle.std.specs.List.{Contains}
 use Rattle.std.specs.List.Sorted.{IsBinarySearchResult}
 use Rattle.std.specs.Ordering.{nat_cmp}
@@ -10,24 +11,32 @@ use Rattle.std.proofs.lemmas.List.Elements.{All-from_recursion}
 use Rattle.std.proofs.lemmas.List.Sorted.{searched}
 use Rattle.cpa_model.specs.Automata.{AreAscending}
 
-ascending_by_place : (ns : List ℕ) → AreAscending ns → (i j : ℕ) → i ≤ j → j < length ns → get_or ns i 0 ≤ get_or ns j 0
+ascending_by_place : (ns : List ℕ) → AreAscending ns → (i j : ℕ) → i ≤ j → j < length ns
+    → get_or ns i 0 ≤ get_or ns j 0
 ascending_by_place [] up i j le less = absurd (omega arith)
 ascending_by_place (n ∷ ns) up zero zero le less = omega arith
 ascending_by_place (n ∷ ns) up zero (suc j) le less =
     let above = All-from_recursion (λ (m : ℕ). n < m) ns up.0 j 0 (omega arith) in
     omega (arith, above)
 ascending_by_place (n ∷ ns) up (suc i) zero le less = absurd (omega arith)
-ascending_by_place (n ∷ ns) up (suc i) (suc j) le less = ascending_by_place ns up.1 i j (omega arith) (omega arith)
+ascending_by_place (n ∷ ns) up (suc i) (suc j) le less =
+    ascending_by_place ns up.1 i j (omega arith) (omega arith)
 
-pub found_exactly : (ns : List ℕ) (n : ℕ) (r : Result ℕ ℕ) → AreAscending ns → IsBinarySearchResult (λ m. nat_cmp m n) ns r → (is_ok r ≡ true → Contains ns n) × (Contains ns n → is_ok r ≡ true)
+pub found_exactly : (ns : List ℕ) (n : ℕ) (r : Result ℕ ℕ) → AreAscending ns
+    → IsBinarySearchResult (λ m. nat_cmp m n) ns r
+    → (is_ok r ≡ true → Contains ns n) × (Contains ns n → is_ok r ≡ true)
 found_exactly ns n (Ok i) up h =
-    let at : (i < length ns) × (get_or ns i 0 ≡ n) = searched ns n (Ok i) h (ascending_by_place ns up) in
+    let at : (i < length ns) × (get_or ns i 0 ≡ n) =
+    searched ns n (Ok i) h (ascending_by_place ns up) in
     (λ _. (i, at.0, get_or_default ns i n 0 at.0 ∙ at.1), λ _. refl)
 found_exactly ns n (Err i) up h =
-    let gap : (i ≤ length ns) × ((k : ℕ) → k < i → get_or ns k 0 < n) × ((k : ℕ) → i ≤ k → k < length ns → n < get_or ns k 0) = searched ns n (Err i) h (ascending_by_place ns up) in (
+    let gap : (i ≤ length ns) × ((k : ℕ) → k < i → get_or ns k 0 < n)
+    × ((k : ℕ) → i ≤ k → k < length ns → n < get_or ns k 0) =
+    searched ns n (Err i) h (ascending_by_place ns up) in (
       λ wrong. absurd (cc),
       λ in_list.
-          let at : get_or ns in_list.0 0 ≡ n = get_or_default ns in_list.0 0 n in_list.1 ∙ in_list.2 in
+          let at : get_or ns in_list.0 0 ≡ n =
+          get_or_default ns in_list.0 0 n in_list.1 ∙ in_list.2 in
           ⊎_elim
           (λ less. let low = gap.1 in_list.0 less in absurd (omega (arith, low, at)))
           (λ more. let high = gap.2 in_list.0 more in_list.1 in absurd (omega (arith, high, at)))

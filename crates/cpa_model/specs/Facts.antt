@@ -1,5 +1,5 @@
--- What facts, elements and entries say of a state (the abstract elements of CAV 2007, section 2, as lists
--- of facts: this project's own), and which are shaped for an automaton.
+-- What facts, elements and entries say of a state (the abstract elements of CAV 2007, section 2, as
+-- lists of facts: this project's own), and which are shaped for an automaton.
 use Rattle.std.specs.Prelude.{◌≡◌, ℕ, ◌<◌, ℤ, ◌≤ℤ◌, List, Some, slice_get, IsSomeAnd}
 use Rattle.std.specs.List.{AllByRecursion, Contains}
 use Rattle.cpa_model.specs.declared.program.Cell.{Cell}

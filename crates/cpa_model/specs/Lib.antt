@@ -6,6 +6,7 @@ pub mod States
 pub mod Steps
 pub mod Facts
 pub mod Automata
+pub mod Acts
 pub mod Covers
 pub mod Standing
 pub mod StandingLaws

@@ -6,7 +6,8 @@ use Rattle.cpa_model.specs.declared.program.Stmt.{Stmt}
 use Rattle.cpa_model.specs.declared.program.Stmt.TheVariants as stmt
 use Rattle.cpa_model.specs.declared.program.Program.{Program}
 use Rattle.cpa_model.specs.declared.program.Successor.{Successor}
-use Rattle.cpa_model.specs.Programs.{IsStmt, IsBody, IsPart, parts_of, after_part, point_count, Next, InLoop, InFunction}
+use Rattle.cpa_model.specs.Programs.{IsStmt, IsBody, IsPart, parts_of, after_part, point_count}
+use Rattle.cpa_model.specs.Programs.{Next, InLoop, InFunction}
 
 -- a statement is a body or a part of a statement before it
 abbrev pub HasOrigin : Program → ℕ → Type 0

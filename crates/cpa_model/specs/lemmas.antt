@@ -4,3 +4,4 @@ pub mod Lists
 pub mod Parts
 pub mod Tiling
 pub mod Trees
+pub mod EdgesSound

@@ -1,5 +1,7 @@
 //! Control-flow automata, as data. Which one is a program's is `IsAutomatonOf` of
 //! `specs/Automata.antt`.
+ghost use Rattle.std.specs.Prelude.{◌≡◌, ◌<◌, Some, length, slice_get};
+
 use crate::program::Cell;
 use cpa_expr::Expr;
 use cpa_ints::Seq;
@@ -53,6 +55,16 @@ pub struct Cfa {
     pub edges: Seq<Edge>,
     /// The length of the program text in bytes.
     pub text_len: u32,
+}
+
+impl Cfa {
+    /// The edge of this number.
+    pub fn edge(&self, number: u32) -> &Edge
+        requires { number < length self.now.edges }
+        ensures { slice_get self.now.edges number ≡ Some result.now }
+    {
+        &self.edges.as_slice()[number as usize]
+    }
 }
 
 /// Numbers of edges, one after another.

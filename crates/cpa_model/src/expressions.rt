@@ -16,7 +16,8 @@ pub fn has_truth(expr: &Expr, holds: bool, store: &Store) -> bool
     }
 }
 
-/// Whether the expression is well typed over the cells, and of a height of at most `MAX_HEIGHT` of `cpa_expr`.
+/// Whether the expression is well typed over the cells, and of a height of at most `MAX_HEIGHT` of
+/// `cpa_expr`.
 pub fn is_expr(expr: &Expr, cells: &[Cell]) -> bool
     ensures { IsTrue result ↔ IsExpr cells.now expr.now }
 {

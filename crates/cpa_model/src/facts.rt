@@ -1,5 +1,5 @@
-//! Facts on states, and elements made of them: whether one holds of a state, and whether it is shaped
-//! for an automaton, by `specs/Facts.antt`.
+//! Facts on states, and elements made of them: whether one holds of a state, and whether it is
+//! shaped for an automaton, by `specs/Facts.antt`.
 ghost use Rattle.std.specs.Prelude.{◌≡◌, ◌<◌, ◌↔◌, IsTrue};
 ghost use Rattle.std.specs.List.{AllByRecursion};
 ghost use Rattle.cpa_model.specs.Facts.{FactHolds, Holds, IsElem, IsFact, IsValueOf};
@@ -45,10 +45,10 @@ pub fn holds(elem: &Elem, state: &State) -> bool
 fn fact_holds(fact: &Fact, state: &State) -> bool
     ensures { IsTrue result ↔ FactHolds state.now fact.now }
 {
-    let values = state.store.values.as_slice();
+    let values = &state.store.values;
     match fact {
         Fact::At { point } => state.point == *point,
-        Fact::Stack { sites } => state.stack.as_slice() == sites.as_slice(),
+        Fact::Stack { sites } => state.stack == *sites,
         Fact::Equals { cell, value } => values.get(*cell as usize) == Some(value),
         Fact::Within { cell, lo, hi } => match values.get(*cell as usize) {
             Some(value) => *lo <= *value && *value <= *hi,

@@ -1,14 +1,16 @@
 //! Laws on programs, steps, automata and covers: functions with an empty body, whose contract is
-//! the law. They are shown in `proofs/`: `Trees.antt`, `Moves.antt`, `EdgeSteps.antt`, `Edges.antt`
-//! and `CoverLemmas.antt`.
-ghost use Rattle.std.specs.Prelude.{◌≡◌, ℕ, ◌^◌, ◌<◌, ◌↔◌, List, length};
+//! the law. They are shown in `specs/lemmas/` (`Trees.antt`, `EdgesSound.antt`) and in `proofs/`
+//! (`Moves.antt`, `EdgeSteps.antt`, `Edges.antt`, `CoverLemmas.antt`).
+ghost use Rattle.std.specs.Prelude.{◌≡◌, ℕ, ◌^◌, ◌<◌, ◌↔◌, List, Some, length, slice_get};
 ghost use Rattle.std.specs.List.{AllByRecursion};
 ghost use Rattle.cpa_model.specs.declared.automaton.Act.{Act};
 ghost use Rattle.cpa_model.specs.declared.automaton.Cfa.{Cfa};
+ghost use Rattle.cpa_model.specs.declared.automaton.Edge.{Edge};
 ghost use Rattle.cpa_model.specs.declared.facts.Elem.{Elem};
 ghost use Rattle.cpa_model.specs.declared.program.Program.{Program};
 ghost use Rattle.cpa_model.specs.declared.program.Stmt.{Stmt};
 ghost use Rattle.cpa_model.specs.declared.states.State.{State};
+ghost use Rattle.cpa_model.specs.Acts.{IsEdgeOf};
 ghost use Rattle.cpa_model.specs.Automata.{EdgeStep, IsAutomaton, IsAutomatonOf, initial_state};
 ghost use Rattle.cpa_model.specs.Covers.{CoversAutomaton, IsCover, IsSafe};
 ghost use Rattle.cpa_model.specs.Programs.{IsNumbered, IsWellFormed, parts_of, point_count};
@@ -47,6 +49,13 @@ pub fn edges_are_steps()
         → initial_state cfa ≡ initial_of P }
     ensures steps { (P : Program) (cfa : Cfa) (s t : State) → IsAutomatonOf P cfa
         → Step P s t ↔ EdgeStep cfa s t }
+{}
+
+/// A law: an edge of an automaton names points, call sites and cells that are there, and its
+/// expressions are well typed over the cells.
+pub fn edges_are_sound()
+    ensures { (cfa : Cfa) (n : ℕ) (edge : Edge) → IsAutomaton cfa
+        → slice_get cfa.edges n ≡ Some edge → IsEdgeOf cfa edge }
 {}
 
 /// A law: the numbers of an automaton's edges and points are within `u32`, and what it names is

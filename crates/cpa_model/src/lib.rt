@@ -12,8 +12,6 @@ mod program;
 mod spelling;
 mod standing;
 mod states;
-#[cfg(test)]
-mod tests;
 
 pub use automaton::{Act, Cfa, Edge, Path};
 pub use copying::{copy_elem, copy_fact};
@@ -23,8 +21,8 @@ pub use expressions::{has_truth, is_expr};
 pub use facts::{Elem, Fact, holds, is_elem};
 pub use graph::{is_error, leaving};
 pub use laws::{
-    automata_are_small, covers_are_safe, edges_are_steps, initial_is_state, moves_stay_inside,
-    statements_are_trees, steps_keep_states,
+    automata_are_small, covers_are_safe, edges_are_sound, edges_are_steps, initial_is_state,
+    moves_stay_inside, statements_are_trees, steps_keep_states,
 };
 pub use next::next_point;
 pub use program::{Cell, MAX_CELLS, MAX_POINTS, Program, Stmt, Successor};

@@ -1,7 +1,9 @@
 //! Where control goes after a statement, found in the statement tree by `Next`. That there is
-//! exactly one such point is shown in `proofs/Trees.antt`.
-ghost use Rattle.std.specs.Prelude.{◌≡◌, ℕ, ◌^◌, ◌<◌, ◌≤◌, ◌↔◌, Some, length, IfSome, IfNone, IsSome};
-ghost use Rattle.cpa_model.specs.Programs.{IsBody, IsNumbered, IsPart, Next, point_count, first_of, after_item, after_part};
+//! exactly one such point is shown in `specs/lemmas/Trees.antt`.
+ghost use Rattle.std.specs.Prelude.{◌≡◌, ℕ, ◌^◌, ◌<◌, ◌≤◌, ◌↔◌, Some, length, IfSome, IfNone};
+ghost use Rattle.std.specs.Prelude.{IsSome};
+ghost use Rattle.cpa_model.specs.Programs.{IsBody, IsNumbered, IsPart, Next, point_count, first_of};
+ghost use Rattle.cpa_model.specs.Programs.{after_item, after_part};
 ghost use Rattle.cpa_model.specs.Successors.{IsPartAt};
 
 use crate::program::{MAX_POINTS, Program, Stmt, Successor};

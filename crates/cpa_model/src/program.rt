@@ -124,7 +124,7 @@ impl Program {
         requires inside { function < length self.now.bodies }
         ensures { result ≡ exit_of self.now function }
     {
-        self.stmts.as_slice().len() as u32 + function
+        self.stmts.len() as u32 + function
     }
 
     /// How many points of control there are: a point for each statement, and an exit for each
@@ -133,6 +133,6 @@ impl Program {
         requires { point_count self.now ≤ MAX_POINTS }
         ensures { result ≡ point_count self.now }
     {
-        (self.stmts.as_slice().len() + self.bodies.as_slice().len()) as u32
+        (self.stmts.len() + self.bodies.len()) as u32
     }
 }

@@ -4,7 +4,8 @@ ghost use Rattle.std.specs.Prelude.{◌≡◌, ◌++◌, ◌∷◌, List, ℕ, O
 ghost use Rattle.std.specs.List.{flat_map};
 ghost use Rattle.std.specs.String.{string_bytes};
 ghost use Rattle.cpa_expr.specs.Spelling.{expr_text};
-ghost use Rattle.cpa_model.specs.Spelling.{list_text, fact_text, elem_text, assign_text, stmt_text, act_text, edge_text};
+ghost use Rattle.cpa_model.specs.Spelling.{list_text, fact_text, elem_text, assign_text, stmt_text};
+ghost use Rattle.cpa_model.specs.Spelling.{act_text, edge_text};
 
 use crate::automaton::{Act, Edge};
 use crate::facts::{Elem, Fact};
@@ -16,7 +17,8 @@ use std::alloc::AllocError;
 pub trait Spell {
     ghost spelled: { Self → List ℕ };
 
-    /// Adds the spelling at the end. Where memory ends, some of it may stand there.
+    /// Adds the spelling at the end. Nothing is said of the text after an error, which comes for
+    /// want of memory alone.
     fn spell(&self, out: &mut String) -> Result<(), AllocError>
         ensures { OnOk result (string_bytes out.new ≡ string_bytes out.old ++ spelled self.now) };
 }
@@ -158,7 +160,8 @@ fn push_assignment(
     push_expr(out, value)
 }
 
-/// Adds the items between square brackets, with commas between them.
+/// Adds the items between square brackets, with commas between them. Nothing is said of the text
+/// after an error, which comes for want of memory alone.
 pub fn push_list<T: Spell>(out: &mut String, items: &[T]) -> Result<(), AllocError>
     ensures { OnOk result
         (string_bytes out.new ≡ string_bytes out.old ++ list_text T.spelled items.now) }

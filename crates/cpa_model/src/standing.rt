@@ -9,6 +9,7 @@ ghost use Rattle.cpa_model.specs.Standing.{same_sites, same_fact, has_facts};
 
 use crate::facts::{Elem, Fact};
 use cpa_expr::same_expr;
+use cpa_ints::Seq;
 
 /// Whether each fact of `other` stands in `elem`: then each state of `elem` is one of `other`.
 pub fn has_facts(elem: &Elem, other: &Elem) -> bool
@@ -21,17 +22,14 @@ pub fn has_facts(elem: &Elem, other: &Elem) -> bool
 fn all_stand(elem: &Elem, other: &Elem) -> bool
     ensures { result ≡ has_facts elem.now other.now }
 {
-    other
-        .facts
-        .as_slice()
-        .iter()
-        .all(|fact| has_fact(elem.facts.as_slice(), fact))
+    other.facts.iter().all(|fact| has_fact(elem, fact))
 }
 
-fn has_fact(facts: &[Fact], fact: &Fact) -> bool
-    ensures { result ≡ list_any (λ g. same_fact g fact.now) facts.now }
+/// Whether one of the element's facts is this one.
+fn has_fact(elem: &Elem, fact: &Fact) -> bool
+    ensures { result ≡ list_any (λ g. same_fact g fact.now) elem.now.facts }
 {
-    facts.iter().any(|own| is_same(own, fact))
+    elem.facts.iter().any(|own| is_same(own, fact))
 }
 
 /// Whether two facts are the same. It compares expressions as trees, and not by their values.
@@ -47,9 +45,7 @@ fn is_same(a: &Fact, b: &Fact) -> bool
 {
     match (a, b) {
         (Fact::At { point }, Fact::At { point: other }) => point == other,
-        (Fact::Stack { sites }, Fact::Stack { sites: others }) => {
-            same_sites(sites.as_slice(), others.as_slice())
-        }
+        (Fact::Stack { sites }, Fact::Stack { sites: others }) => { same_sites(sites, others) }
         (
             Fact::Equals { cell, value },
             Fact::Equals {
@@ -76,7 +72,7 @@ fn is_same(a: &Fact, b: &Fact) -> bool
     }
 }
 
-fn same_sites(a: &[u32], b: &[u32]) -> bool
+fn same_sites(a: &Seq<u32>, b: &Seq<u32>) -> bool
     ensures { result ≡ same_sites a.now b.now }
 {
     a == b

@@ -4,8 +4,9 @@ use Rattle.std.specs.String.{string_bytes}
 use Rattle.cpa_top.specs.declared.answers.Answer.{Answer}
 use Rattle.cpa_top.specs.declared.answers.Answer.TheVariants as answer
 use Rattle.cpa_outside.specs.Outside.{Rose, grown, GrewByPrefix}
-use Rattle.cpa_top.specs.declared.verify.TheConstants.{PROGRAM_LIMIT}
-use Rattle.cpa_top.specs.Run.{Call, usage_text, IsSafeText, IsUnbuiltText, IsSafeAnswer, IsUsage, IsUnbuilt, IsReadFault, IsTooLong, IsShortOfMemory}
+use Rattle.c_lexer.specs.declared.lexer.TheConstants.{MAX_TEXT}
+use Rattle.cpa_top.specs.Run.{Call, usage_text, IsSafeText, IsUnbuiltText, IsSafeAnswer, IsUsage}
+use Rattle.cpa_top.specs.Run.{IsUnbuilt, IsReadFault, IsTooLong, IsShortOfMemory}
 
 abbrev pub status_of : Answer → ℕ
 status_of (answer.Safe report) = 0
@@ -51,9 +52,9 @@ IsJudged bytes answer.OutOfMemory = Unit {0}
 -- before and after
 abbrev pub IsVerified : Option (List ℕ) → ℕ → ℕ → Answer → Type 0
 IsVerified told before after (answer.Safe report) =
-    IfSome told (λ bytes. (length bytes ≤ PROGRAM_LIMIT) × IsSafeText bytes (string_bytes report))
+    IfSome told (λ bytes. (length bytes ≤ MAX_TEXT) × IsSafeText bytes (string_bytes report))
 IsVerified told before after answer.Usage = ⊥
 IsVerified told before after answer.Unbuilt = IfSome told IsUnbuiltText
 IsVerified told before after answer.ReadFailed = Rose before after
-IsVerified told before after answer.TooLong = IfSome told (λ bytes. PROGRAM_LIMIT < length bytes)
+IsVerified told before after answer.TooLong = IfSome told (λ bytes. MAX_TEXT < length bytes)
 IsVerified told before after answer.OutOfMemory = Unit {0}

@@ -1,10 +1,11 @@
 -- How a builder of core statements grows (this project's own).
-use Rattle.std.specs.Prelude.{◌≡◌, ℕ, ◌+◌, ◌≤◌, List, [], ◌∷◌, ◌++◌, length, slice_set, Option, None, Some}
+use Rattle.std.specs.Prelude.{◌≡◌, ℕ, ◌+◌, ◌≤◌, List, [], ◌∷◌, ◌++◌, length, slice_set, Option}
+use Rattle.std.specs.Prelude.{None, Some}
 use Rattle.cpa_model.specs.declared.program.TheConstants.{MAX_CELLS, MAX_POINTS}
 use Rattle.first_form.specs.declared.tree.Statement.{Statement}
 use Rattle.cpa_model.specs.declared.program.Stmt.{Stmt}
 use Rattle.cpa_top.specs.declared.core_program.Builder.{Builder}
-use Rattle.cpa_top.specs.Core.{Core, CoreList, no_core, core_of_statement}
+use Rattle.cpa_top.specs.Core.{Core, CoreList, block, no_core, core_of_statement}
 
 -- the list that a core stands for in the builder's place
 abbrev pub list_at : Core → Builder → CoreList
@@ -16,10 +17,15 @@ pub record Fits (before : Builder) (core : Core) : Type 0 where
   pub cells : before.cells + (list_at core before).cells ≤ MAX_CELLS
 
 -- the builder has grown by a core, and a list by the numbers of its items
-pub record Adds (before : Builder) (had : List ℕ) (core : Core) (after : Builder) (has : List ℕ) : Type 0 where
+pub record Adds (before : Builder) (had : List ℕ) (core : Core) (after : Builder) (has : List ℕ)
+    : Type 0 where
   pub stmts : after.stmts.items ≡ before.stmts.items ++ (list_at core before).stmts
   pub items : has ≡ had ++ (list_at core before).items
   pub cells : after.cells ≡ before.cells + (list_at core before).cells
+
+-- the builder has grown by a block of a core, which has this number
+abbrev pub AddsBlock : Builder → Core → Builder → ℕ → Type 0
+AddsBlock before core after number = Adds before [] (block core) after (number ∷ [])
 
 -- the builder has grown by one statement, of the next number
 pub record Grown (before : Builder) (stmt : Stmt) (after : Builder) (number : ℕ) : Type 0 where

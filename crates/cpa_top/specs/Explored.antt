@@ -10,12 +10,14 @@ use Rattle.cpa_top.specs.declared.explore.Explored.TheVariants.{Safe, ErrorReach
 -- a chain of the automaton's edges leads from its start to the point
 pub data IsWalkedTo : Cfa → ℕ → Type 0 where
   walked_start : {cfa : Cfa} {p : ℕ} → p ≡ cfa.start → IsWalkedTo cfa p
-  walked_on : {cfa : Cfa} {p : ℕ} (edge : Edge) → Contains cfa.edges edge → edge.to ≡ p → IsWalkedTo cfa edge.from → IsWalkedTo cfa p
+  walked_on : {cfa : Cfa} {p : ℕ} (edge : Edge) → Contains cfa.edges edge → edge.to ≡ p
+      → IsWalkedTo cfa edge.from → IsWalkedTo cfa p
 
 -- the points hold the start, are closed under the edges, and hold no error
 pub record IsClosed (cfa : Cfa) (points : List ℕ) : Type 0 where
   pub start : Contains points cfa.start
-  pub edges : (edge : Edge) → Contains cfa.edges edge → Contains points edge.from → Contains points edge.to
+  pub edges : (edge : Edge) → Contains cfa.edges edge → Contains points edge.from
+      → Contains points edge.to
   pub safe : (p : ℕ) → Contains points p → Contains cfa.errors p → ⊥
 
 -- either the pins of a closed set of points, or a chain of edges to an error

@@ -1,4 +1,3 @@
-pub mod Blind
 pub mod Answered
 pub mod Core
 pub mod CoreSteps

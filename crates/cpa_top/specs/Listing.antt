@@ -8,7 +8,8 @@ use Rattle.cpa_top.specs.declared.report.Report.{Report}
 -- the elements as entries of one element each, numbered from first on
 abbrev pub listed_from : ℕ → List Elem → List Listed
 listed_from first [] = []
-listed_from first (e ∷ es) = (record { number = first; elems = e ∷ [] }) ∷ listed_from (first + 1) es
+listed_from first (e ∷ es) =
+    (record { number = first; elems = e ∷ [] }) ∷ listed_from (first + 1) es
 
 -- the counts are the automaton's, and the entries are these elements
 pub record IsReportOf (cfa : Cfa) (elems : List Elem) (r : Report) : Type 0 where

@@ -1,6 +1,7 @@
 -- The reached set of an exploration by an analysis that is exact on the point (CAV 2007, section
 -- 2).
-use Rattle.std.specs.Prelude.{◌≡◌, ℕ, ◌<◌, List, [], ◌∷◌, ◌++◌, Option, Some, length, slice_get, ◌⊎◌}
+use Rattle.std.specs.Prelude.{◌≡◌, ℕ, ◌<◌, List, [], ◌∷◌, ◌++◌, Option, Some, length, slice_get}
+use Rattle.std.specs.Prelude.{◌⊎◌}
 use Rattle.std.specs.List.{All, Contains}
 use Rattle.cpa_model.specs.declared.facts.Elem.{Elem}
 use Rattle.cpa_model.specs.declared.automaton.Edge.{Edge}
@@ -49,7 +50,9 @@ pub record AreAdded (elems : List Elem) (before now : Reached) : Type 0 where
 -- where the element is the pin of the point that the edge of this number leaves, the pin of the
 -- point to which the edge leads is in the list
 abbrev pub LeadsInto : Cfa → ℕ → Elem → List Elem → Type 0
-LeadsInto cfa k e es = (edge : Edge) → slice_get cfa.edges k ≡ Some edge → e ≡ pin edge.from → Contains es (pin edge.to)
+LeadsInto cfa k e es =
+    (edge : Edge) → slice_get cfa.edges k ≡ Some edge → e ≡ pin edge.from
+    → Contains es (pin edge.to)
 
 -- the edge of that number leads from the entry of this number into the entries
 pub record LeadsOn (cfa : Cfa) (entries : List Elem) (number k : ℕ) : Type 0 where
@@ -61,4 +64,5 @@ IsExpanded cfa entries number = (k : ℕ) → LeadsOn cfa entries number k
 
 -- the entry of this number is the pin of no point of the errors
 abbrev pub IsErrorFree : Cfa → List Elem → ℕ → Type 0
-IsErrorFree cfa entries number = (p : ℕ) → slice_get entries number ≡ Some (pin p) → Contains cfa.errors p → ⊥
+IsErrorFree cfa entries number =
+    (p : ℕ) → slice_get entries number ≡ Some (pin p) → Contains cfa.errors p → ⊥

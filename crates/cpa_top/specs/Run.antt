@@ -1,5 +1,6 @@
 -- What a call of the program may answer, and why (this project's own).
-use Rattle.std.specs.Prelude.{◌≡◌, ℕ, ◌<◌, ◌≤◌, List, [], ◌∷◌, ◌++◌, length, map, Option, Some, IfSome, ◌⊎◌, codes, slice_get}
+use Rattle.std.specs.Prelude.{◌≡◌, ℕ, ◌<◌, ◌≤◌, List, [], ◌∷◌, ◌++◌, length, map, Option, Some}
+use Rattle.std.specs.Prelude.{IfSome, ◌⊎◌, codes, slice_get}
 use Rattle.std.specs.List.{Contains}
 use Rattle.cpa_model.specs.declared.program.Program.{Program}
 use Rattle.cpa_model.specs.declared.automaton.Cfa.{Cfa}
@@ -11,7 +12,7 @@ use Rattle.first_form.specs.declared.tree.Unit.{Unit as Tree}
 use Rattle.first_form.specs.FirstForm.{IsFirstForm}
 use Rattle.cpa_top.specs.declared.report.Listed.{Listed}
 use Rattle.cpa_top.specs.declared.report.Report.{Report}
-use Rattle.cpa_top.specs.declared.verify.TheConstants.{PROGRAM_LIMIT}
+use Rattle.c_lexer.specs.declared.lexer.TheConstants.{MAX_TEXT}
 use Rattle.cpa_top.specs.Reports.{report_text}
 use Rattle.cpa_model.specs.Covers.{IsCover, IsSafe}
 use Rattle.cpa_top.specs.Led.{LeadsToError}
@@ -81,7 +82,7 @@ pub record IsSafeText (bytes text : List ℕ) : Type 0 where
 abbrev pub IsSafeAnswer : Call → List ℕ → Type 0
 IsSafeAnswer call text =
     (name : List ℕ) × IsVerify call.words name × IsOneExact call.analyses
-    × IfSome (call.bytes_of name) (λ bytes. (length bytes ≤ PROGRAM_LIMIT) × IsSafeText bytes text)
+    × IfSome (call.bytes_of name) (λ bytes. (length bytes ≤ MAX_TEXT) × IsSafeText bytes text)
 
 -- Status 3: the words are no command.
 abbrev pub IsUsage : Call → List ℕ → Type 0
@@ -90,7 +91,7 @@ IsUsage call text = ((name : List ℕ) → IsVerify call.words name → ⊥) × 
 -- the text is no program of the first form, or edges lead to an error
 abbrev pub IsUnbuiltText : List ℕ → Type 0
 IsUnbuiltText bytes =
-    (length bytes ≤ PROGRAM_LIMIT)
+    (length bytes ≤ MAX_TEXT)
     × (((P : Program) → IsProgram bytes P → ⊥)
     ⊎ ((P : Program) × IsProgram bytes P × LeadsToError P))
 
@@ -113,7 +114,7 @@ IsReadFault call text =
 abbrev pub IsTooLong : Call → List ℕ → Type 0
 IsTooLong call text =
     (name : List ℕ) × IsVerify call.words name × IsOneExact call.analyses
-    × IfSome (call.bytes_of name) (λ bytes. PROGRAM_LIMIT < length bytes)
+    × IfSome (call.bytes_of name) (λ bytes. MAX_TEXT < length bytes)
     × (text ≡ codes "refused long program\n")
 
 -- Status 10: memory ran out.

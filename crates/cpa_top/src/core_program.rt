@@ -1,11 +1,15 @@
 //! The core of the first form: from a tree to a program of core statements.
-ghost use Rattle.std.specs.Prelude.{◌≡◌, ℕ, ◌+◌, ◌<◌, ◌≤◌, [], ◌∷◌, ◌++◌, length, replicate, IfOk, OnOk};
+ghost use Rattle.std.specs.Prelude.{◌≡◌, ℕ, ◌+◌, ◌<◌, ◌≤◌, [], ◌∷◌, ◌++◌, length, replicate, IfOk};
+ghost use Rattle.std.specs.Prelude.{OnOk};
 ghost use Rattle.first_form.specs.FirstForm.{unit_points};
 ghost use Rattle.cpa_model.specs.declared.program.Stmt.TheVariants as stmt;
-ghost use Rattle.cpa_top.specs.Core.{no_core, single, input, followed, block, choice, test_core, test_value, if_core, while_body, while_core, result_zero, return_core, core_of_statement, core_of_items, main_block, int_cell, core_of};
-ghost use Rattle.cpa_top.specs.CoreSteps.{Fits, Adds, Grown, Replaced, core_of_else};
+ghost use Rattle.cpa_top.specs.Core.{no_core, single, input, followed, block, choice, test_core};
+ghost use Rattle.cpa_top.specs.Core.{test_value, if_core, while_body, while_core, result_zero};
+ghost use Rattle.cpa_top.specs.Core.{return_core, core_of_statement, core_of_items, main_block};
+ghost use Rattle.cpa_top.specs.Core.{int_cell, core_of};
+ghost use Rattle.cpa_top.specs.CoreSteps.{Fits, Adds, AddsBlock, Grown, Replaced, core_of_else};
 
-use crate::verify::PROGRAM_LIMIT;
+use c_lexer::MAX_TEXT;
 use cpa_expr::read_scalar;
 use cpa_ints::Boxed;
 use cpa_model::{Cell, Expr, IntType, MAX_POINTS, Program, Seq, Stmt};
@@ -94,7 +98,7 @@ impl Builder {
     /// Adds an empty block.
     fn empty_block(&mut self, alloc: Global) -> Result<u32, AllocError>
         requires { Fits self.old (block no_core) }
-        ensures { IfOk result (λ number. Adds self.old [] (block no_core) self.new (number ∷ [])) }
+        ensures { IfOk result (AddsBlock self.old no_core self.new) }
     {
         self.put(Stmt::Block {
             items: Seq::new(alloc),
@@ -104,7 +108,7 @@ impl Builder {
     /// Adds a block of a break.
     fn break_block(&mut self, alloc: Global) -> Result<u32, AllocError>
         requires { Fits self.old (block (single stmt.Break)) }
-        ensures { IfOk result (λ number. Adds self.old [] (block (single stmt.Break)) self.new (number ∷ [])) }
+        ensures { IfOk result (AddsBlock self.old (single stmt.Break) self.new) }
     {
         let number = self.put(Stmt::Stop)?;
         let mut items = Seq::new(alloc);
@@ -116,7 +120,8 @@ impl Builder {
     /// Adds the way out of a loop to a list: a break where the test is zero.
     fn way_out(&mut self, alloc: Global, items: &mut Seq<u32>, test: Expr) -> Result<(), AllocError>
         requires { Fits self.old (choice test no_core (single stmt.Break)) }
-        ensures { OnOk result (Adds self.old items.old (choice test no_core (single stmt.Break)) self.new items.new) }
+        ensures { OnOk result (Adds self.old items.old (choice test no_core (single stmt.Break))
+            self.new items.new) }
     {
         let number = self.put(Stmt::Stop)?;
         let yes = self.empty_block(alloc)?;
@@ -135,7 +140,8 @@ impl Builder {
         statement: &Statement,
     ) -> Result<(), AllocError>
         requires { Fits self.old (core_of_statement statement.now) }
-        ensures { OnOk result (Adds self.old items.old (core_of_statement statement.now) self.new items.new) }
+        ensures { OnOk result (Adds self.old items.old (core_of_statement statement.now)
+            self.new items.new) }
     {
         match statement {
             Statement::Block { items: parts } => {
@@ -176,7 +182,8 @@ impl Builder {
         statements: &[Statement],
     ) -> Result<(), AllocError>
         requires { Fits self.old (core_of_items statements.now) }
-        ensures { OnOk result (Adds self.old items.old (core_of_items statements.now) self.new items.new) }
+        ensures { OnOk result (Adds self.old items.old (core_of_items statements.now)
+            self.new items.new) }
     {
         for statement in statements {
             self.statement(alloc, items, statement)?;
@@ -188,7 +195,7 @@ impl Builder {
     #[cycle(statements)]
     fn block(&mut self, alloc: Global, statements: &[Statement]) -> Result<u32, AllocError>
         requires { Fits self.old (block (core_of_items statements.now)) }
-        ensures { IfOk result (λ number. Adds self.old [] (block (core_of_items statements.now)) self.new (number ∷ [])) }
+        ensures { IfOk result (AddsBlock self.old (core_of_items statements.now) self.new) }
     {
         let number = self.put(Stmt::Stop)?;
         let mut items = Seq::new(alloc);
@@ -201,7 +208,7 @@ impl Builder {
     #[cycle(statements)]
     fn branch(&mut self, alloc: Global, statement: &Statement) -> Result<u32, AllocError>
         requires { Fits self.old (block (core_of_statement statement.now)) }
-        ensures { IfOk result (λ number. Adds self.old [] (block (core_of_statement statement.now)) self.new (number ∷ [])) }
+        ensures { IfOk result (AddsBlock self.old (core_of_statement statement.now) self.new) }
     {
         let number = self.put(Stmt::Stop)?;
         let mut items = Seq::new(alloc);
@@ -218,7 +225,7 @@ impl Builder {
         other: &Option<Boxed<Statement>>,
     ) -> Result<u32, AllocError>
         requires { Fits self.old (block (core_of_else other.now)) }
-        ensures { IfOk result (λ number. Adds self.old [] (block (core_of_else other.now)) self.new (number ∷ [])) }
+        ensures { IfOk result (AddsBlock self.old (core_of_else other.now) self.new) }
     {
         match other {
             Some(other) => self.branch(alloc, other.get()),
@@ -236,7 +243,9 @@ impl Builder {
         body: &Statement,
     ) -> Result<(), AllocError>
         requires { Fits self.old (while_core test (core_of_statement body.now)) }
-        ensures { OnOk result (Adds self.old items.old (while_core test (core_of_statement body.now)) self.new items.new) }
+        ensures { OnOk result
+            (Adds self.old items.old (while_core test (core_of_statement body.now))
+            self.new items.new) }
     {
         let number = self.put(Stmt::Stop)?;
         let body = self.loop_body(alloc, test, body)?;
@@ -249,7 +258,8 @@ impl Builder {
     /// Adds main's block.
     fn main(&mut self, alloc: Global, statements: &[Statement]) -> Result<u32, AllocError>
         requires { Fits self.old (main_block statements.now) }
-        ensures { IfOk result (λ number. Adds self.old [] (main_block statements.now) self.new (number ∷ [])) }
+        ensures { IfOk result (λ number.
+            Adds self.old [] (main_block statements.now) self.new (number ∷ [])) }
     {
         let number = self.put(Stmt::Stop)?;
         let mut items = Seq::new(alloc);
@@ -268,7 +278,8 @@ impl Builder {
         body: &Statement,
     ) -> Result<u32, AllocError>
         requires { Fits self.old (block (while_body test (core_of_statement body.now))) }
-        ensures { IfOk result (λ number. Adds self.old [] (block (while_body test (core_of_statement body.now))) self.new (number ∷ [])) }
+        ensures { IfOk result
+            (AddsBlock self.old (while_body test (core_of_statement body.now)) self.new) }
     {
         let number = self.put(Stmt::Stop)?;
         let mut items = Seq::new(alloc);
@@ -281,8 +292,8 @@ impl Builder {
 }
 
 /// The program that a tree stands for.
-pub(crate) fn core(alloc: Global, unit: &Unit) -> Result<Program, AllocError>
-    requires small { unit.now.length ≤ PROGRAM_LIMIT }
+pub fn core(alloc: Global, unit: &Unit) -> Result<Program, AllocError>
+    requires small { unit.now.length ≤ MAX_TEXT }
     requires points { unit_points unit.now ≤ MAX_POINTS }
     ensures { IfOk result (λ program. program ≡ core_of unit.now) }
 {
@@ -335,6 +346,3 @@ fn result_is_zero() -> Stmt
         value: constant(0),
     }
 }
-
-#[cfg(test)]
-mod tests;

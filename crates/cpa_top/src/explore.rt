@@ -124,7 +124,7 @@ pub(crate) fn explore(
     let precision = first_precision(alloc, cfa, settings, analysis)?;
     let mut reached = begin(alloc, cfa, analysis)?;
     let mut next = 0;
-    while next < reached.entries.as_slice().len() {
+    while next < reached.entries.len() {
         if stands_at_error(cfa, &reached, next) {
             return Ok(Explored::ErrorReached);
         }

@@ -8,6 +8,6 @@ mod report;
 mod top;
 mod verify;
 
+pub use core_program::core;
 pub use report::{Listed, Report};
 pub use top::run;
-pub use verify::PROGRAM_LIMIT;

@@ -38,6 +38,3 @@ pub fn run<R: Threads + Sync, I: Inputs, K: Sink>(
     let answer = answer(alloc, words.as_slice(), analyses, inputs);
     deliver(&answer, out)
 }
-
-#[cfg(test)]
-mod tests;

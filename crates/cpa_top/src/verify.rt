@@ -1,6 +1,7 @@
 //! The job of the command `verify`: from the words and the inputs to an answer with its cause, by
 //! `IsLawful`; shown in `proofs/Judged.antt` and `proofs/Lawful.antt`.
-ghost use Rattle.std.specs.Prelude.{◌≡◌, ◌^◌, ◌≤◌, length, map, IfOk, OnErr, IfSome, IfNone, IsTrue, ◌↔◌, [], ◌∷◌, List, ℕ, Option};
+ghost use Rattle.std.specs.Prelude.{◌≡◌, ◌^◌, ◌≤◌, length, map, IfOk, OnErr, IfSome, IfNone};
+ghost use Rattle.std.specs.Prelude.{IsTrue, ◌↔◌, [], ◌∷◌, List, ℕ, Option};
 ghost use Rattle.std.specs.String.{string_bytes};
 ghost use Rattle.cpa_model.specs.Programs.{IsWellFormed};
 ghost use Rattle.cpa_model.specs.Automata.{IsAutomaton};
@@ -13,15 +14,13 @@ use crate::answers::Answer;
 use crate::core_program::core;
 use crate::explore::{Explored, explore};
 use crate::report::{Listed, Report, print};
+use c_lexer::MAX_TEXT;
 use cfa_build::build;
 use cpa_iface::{Analysis, Part, Settings};
 use cpa_model::{Cfa, Elem, Seq, covers_are_safe};
 use cpa_outside::{Inputs, ReadFault};
 use first_form::{FirstError, first_form};
 use std::alloc::{AllocError, Global};
-
-/// The most bytes that a program text may have.
-pub const PROGRAM_LIMIT: usize = 1_048_576;
 
 /// What an analysis is told where there is no configuration.
 const SETTINGS: Settings = Settings {
@@ -61,7 +60,7 @@ fn verify<I: Inputs>(
     ensures { IsVerified (I.bytes_of inputs.old name.now) (I.faults_of inputs.old name.now)
         (I.faults_of inputs.new name.now) result }
 {
-    match inputs.read(alloc, name, PROGRAM_LIMIT) {
+    match inputs.read(alloc, name, MAX_TEXT) {
         Ok(text) => judge(alloc, text.as_slice(), analysis),
         Err(ReadFault::Failed) => Answer::ReadFailed,
         Err(ReadFault::TooLong) => Answer::TooLong,
@@ -107,7 +106,7 @@ fn is_exact_on_point(analysis: &Box<dyn Analysis + Send>) -> bool
 
 /// What the job comes to on the text of a program.
 fn judge(alloc: Global, text: &[u8], analysis: &mut Box<dyn Analysis + Send>) -> Answer
-    requires short { length text.now ≤ PROGRAM_LIMIT }
+    requires short { length text.now ≤ MAX_TEXT }
     requires exact { (meaning analysis.old).part ≡ Part.Point }
     ensures { IsJudged text.now result }
 {
@@ -122,7 +121,7 @@ fn decide(
     text: &[u8],
     analysis: &mut Box<dyn Analysis + Send>,
 ) -> Result<Answer, AllocError>
-    requires short { length text.now ≤ PROGRAM_LIMIT }
+    requires short { length text.now ≤ MAX_TEXT }
     requires exact { (meaning analysis.old).part ≡ Part.Point }
     ensures { IfOk result (λ answer. IsJudged text.now answer) }
 {

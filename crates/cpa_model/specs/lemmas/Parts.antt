@@ -1,5 +1,7 @@
 -- The parts of a statement are what control goes on from by `after_part`.
-use Rattle.std.proofs.Common.{◌≡◌, ℕ, zero, suc, ◌↔◌, List, [], ◌∷◌, Option, Some, None, slice_get, ◌⊎◌, Bool, true, false, cond, eqb, sym, ◌∙◌, ap, subst, inl, inr, refl, ⊎_elim, eqb-true, eq-eqb, ne_eqb}
+use Rattle.std.proofs.Common.{◌≡◌, ℕ, zero, suc, ◌↔◌, List, [], ◌∷◌, Option, Some, None, slice_get}
+use Rattle.std.proofs.Common.{◌⊎◌, Bool, true, false, cond, eqb, sym, ◌∙◌, ap, subst, inl, inr}
+use Rattle.std.proofs.Common.{refl, ⊎_elim, eqb-true, eq-eqb, ne_eqb}
 use Rattle.std.specs.List.{Contains}
 use Rattle.std.proofs.lemmas.Option.{none-some, same_Some}
 use Rattle.std.proofs.lemmas.Bool.{cases_eq, cond-true, cond-false}
@@ -7,7 +9,8 @@ use Rattle.cpa_model.specs.declared.program.Stmt.{Stmt}
 use Rattle.cpa_model.specs.declared.program.Stmt.TheVariants as stmt
 use Rattle.cpa_model.specs.declared.program.Successor.{Successor}
 use Rattle.cpa_model.specs.declared.program.Successor.TheVariants.{GoesTo, AfterWhole}
-use Rattle.cpa_model.specs.Programs.{first_of, after_items, after_item, after_parts, after_part, firsts, look_up, parts_of}
+use Rattle.cpa_model.specs.Programs.{first_of, after_items, after_item, after_parts, after_part}
+use Rattle.cpa_model.specs.Programs.{firsts, look_up, parts_of}
 use Rattle.cpa_model.specs.lemmas.Lists.{place_of, in_list}
 
 -- the parts of a statement do not depend on its number

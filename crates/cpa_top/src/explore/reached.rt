@@ -1,5 +1,6 @@
 //! The reached set: the entries, and which of them stands at a point.
-ghost use Rattle.std.specs.Prelude.{◌≡◌, ℕ, ◌<◌, [], ◌∷◌, ◌++◌, Some, None, IsTrue, false, length, slice_get, IfOk, OnOk};
+ghost use Rattle.std.specs.Prelude.{◌≡◌, ℕ, ◌<◌, [], ◌∷◌, ◌++◌, Some, None, IsTrue, false, length};
+ghost use Rattle.std.specs.Prelude.{slice_get, IfOk, OnOk};
 ghost use Rattle.std.specs.List.{All, Contains};
 ghost use Rattle.cpa_iface.specs.Pins.{pin};
 ghost use Rattle.cpa_top.specs.Reached.{IsPinBelow, AreTied, AreAdded, GrewBy};
@@ -48,7 +49,8 @@ impl Reached {
         requires tied { AreTied self.old.entries self.old.entry_at.items }
         requires pinned { IsPinBelow (length self.old.entry_at.items) elem }
         ensures tied { OnOk result (AreTied self.new.entries self.new.entry_at.items) }
-        ensures size { OnOk result (length self.new.entry_at.items ≡ length self.old.entry_at.items) }
+        ensures size { OnOk result
+            (length self.new.entry_at.items ≡ length self.old.entry_at.items) }
         ensures grown { OnOk result (GrewBy elem self.old.entries self.new.entries) }
         ensures held { OnOk result (Contains self.new.entries elem) }
     {
@@ -103,10 +105,11 @@ impl Reached {
         requires pinned { elem ≡ pin point }
         requires free { slice_get self.old.entry_at.items point ≡ Some None }
         ensures tied { OnOk result (AreTied self.new.entries self.new.entry_at.items) }
-        ensures size { OnOk result (length self.new.entry_at.items ≡ length self.old.entry_at.items) }
+        ensures size { OnOk result
+            (length self.new.entry_at.items ≡ length self.old.entry_at.items) }
         ensures pushed { OnOk result (self.new.entries ≡ self.old.entries ++ elem ∷ []) }
     {
-        let number = self.entries.as_slice().len();
+        let number = self.entries.len();
         self.entries.push(elem)?;
         self.entry_at[point as usize] = Some(number);
         Ok(())

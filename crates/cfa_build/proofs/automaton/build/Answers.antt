@@ -15,6 +15,7 @@ pub returns : goal.returns
 returns c =
     let P = c.args.program.now in
     let cells = c.from_vec.ensures ∙ c.in_ok-cells.ensures.items ∙ c.as_slice.ensures in
-    let inside : StaysInside P = λ p a q move. c.moves_stay_inside.ensures P p a q c.requires move in
+    let inside : StaysInside P =
+    λ p a q move. c.moves_stay_inside.ensures P p a q c.requires move in
     automaton_is P inside _ cells c.point_count.ensures c.body.ensures refl
     c.in_ok-edges.ensures c.in_ok-errors.ensures

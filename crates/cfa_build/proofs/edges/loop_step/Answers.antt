@@ -7,7 +7,8 @@ use Rattle.cfa_build.proofs.edges.loop_step.Goals as goal
 pub step_of-requires : goal.step_of-requires
 step_of-requires c =
     let P = c.args.program.now in
-    c.requires.trees.loop_inside c.in-Some.l c.args.n (loop_of_place P c.args.n c.in-Some.l c.args.place c.requires.place c.in-Some.is)
+    c.requires.trees.loop_inside c.in-Some.l c.args.n
+    (loop_of_place P c.args.n c.in-Some.l c.args.place c.requires.place c.in-Some.is)
 
 pub returns-in-Some-clause-all : goal.returns-in-Some-clause-all
 returns-in-Some-clause-all c = λ l body m other is.

@@ -5,4 +5,6 @@ use Rattle.cfa_build.specs.Places.{IsPlace}
 use Rattle.cfa_build.proofs.places.place_bodies.Given as goal
 
 abbrev pub invariant-loop-f : goal.invariant-loop-f
-invariant-loop-f l = (g n : ℕ) → g < l.f → IsBody l.program g n → IsSomeAnd (slice_get l.places n) (IsPlace l.program n)
+invariant-loop-f l =
+    (g n : ℕ) → g < l.f → IsBody l.program g n
+    → IsSomeAnd (slice_get l.places n) (IsPlace l.program n)

@@ -8,7 +8,11 @@ place_items-requires c =
     rw c.as_slice.ensures items
 
 pub returns-in-If : goal.returns-in-If
-returns-in-If c = rw c.in-If.is (if_placed c.args.n c.in-If.test c.in-If.yes c.in-If.no c.args.whole c.args.places.now (rw c.in-If.is at c.requires))
+returns-in-If c =
+    rw c.in-If.is (if_placed c.args.n c.in-If.test c.in-If.yes c.in-If.no c.args.whole
+    c.args.places.now (rw c.in-If.is at c.requires))
 
 pub returns-in-Loop : goal.returns-in-Loop
-returns-in-Loop c = rw c.in-Loop.is (loop_placed c.args.n c.in-Loop.body c.in-Loop.step c.args.whole c.args.places.now (rw c.in-Loop.is at c.requires))
+returns-in-Loop c =
+    rw c.in-Loop.is (loop_placed c.args.n c.in-Loop.body c.in-Loop.step c.args.whole
+    c.args.places.now (rw c.in-Loop.is at c.requires))

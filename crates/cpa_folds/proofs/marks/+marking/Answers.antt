@@ -4,5 +4,6 @@ use Rattle.cpa_folds.proofs.marks.+marking.Goals as goal
 
 pub mark_reads-returns-clause-marks : goal.mark_reads-returns-clause-marks
 mark_reads-returns-clause-marks t c = λ cell.
-    node_and_parts c.args.e.now c.args.marks.now c.mark_node.new.marks c.mark_parts.new.marks cell c.mark_node.ensures.length
+    node_and_parts c.args.e.now c.args.marks.now c.mark_node.new.marks c.mark_parts.new.marks cell
+    c.mark_node.ensures.length
     (c.mark_node.ensures.marks cell) (c.mark_parts.ensures.marks cell)

@@ -18,8 +18,10 @@ loop-place-preserved c =
       long = c.add.ensures.length ∙ c.loop-place.invariant.long;
       within = omega arith;
       needed = λ cell.
-          one_more_place cfa c.edge_at-edge.result.now c.args.edges.now place (place - 1) _ (is_marked marks) cell _ next inside refl
-          c.edge_at-edge.ensures c.loop-place.invariant.needed
+          one_more_place cfa c.edge-edge.result.now c.args.edges.now place (place - 1) _
+          (is_marked marks) cell _ next inside refl
+          c.edge-edge.ensures c.loop-place.invariant.needed
           (c.add.ensures.marks cell
-          ∙ ap (λ n. is_marked marks cell || (nat_lt cell n && adds c.edge_at-edge.result.now.act (is_marked marks) cell)) long);
+          ∙ ap (λ n. is_marked marks cell
+          || (nat_lt cell n && adds c.edge-edge.result.now.act (is_marked marks) cell)) long);
     }

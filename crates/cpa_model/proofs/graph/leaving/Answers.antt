@@ -1,7 +1,8 @@
 -- The edges stand by the points that they leave, so two places part them.
 use Rattle.std.proofs.Common.{◌≤◌, List, length, ap, arith}
 use Rattle.cpa_model.specs.declared.automaton.Edge.{Edge}
-use Rattle.cpa_model.proofs.Edges.{few_edges, edges_by_from, first_to_last, stands_before, stands_between}
+use Rattle.cpa_model.proofs.Edges.{few_edges, edges_by_from, first_to_last, stands_before}
+use Rattle.cpa_model.proofs.Edges.{stands_between}
 use Rattle.cpa_model.proofs.graph.leaving.Goals as goal
 
 pub first_from-first-requires : goal.first_from-first-requires
@@ -18,7 +19,8 @@ overflow_sub-result c =
     let before = rw c.as_slice-edges.ensures at c.first_from-first.ensures.before in
     let after = rw c.as_slice-edges.ensures at c.first_after-last.ensures.after in
     let bound = rw c.as_slice-edges.ensures at c.first_from-first.ensures.bound in
-    first_to_last edges c.args.point c.first_from-first.result c.first_after-last.result bound before after
+    first_to_last edges c.args.point c.first_from-first.result
+    c.first_after-last.result bound before after
 
 pub overflow_cast-result : goal.overflow_cast-result
 overflow_cast-result c =
@@ -41,7 +43,9 @@ returns-clause-within c =
     let before = rw c.as_slice-edges.ensures at c.first_from-first.ensures.before in
     let after = rw c.as_slice-edges.ensures at c.first_after-last.ensures.after in
     let bound = rw c.as_slice-edges.ensures at c.first_from-first.ensures.bound in
-    let le = first_to_last edges c.args.point c.first_from-first.result c.first_after-last.result bound before after in
+    let le =
+    first_to_last edges c.args.point c.first_from-first.result
+    c.first_after-last.result bound before after in
     let high = c.first_after-last.ensures.bound in
     omega (arith, same, le, high)
 
@@ -58,6 +62,7 @@ returns-clause-leave c =
     let after = rw c.as_slice-edges.ensures at c.first_after-last.ensures.after in
     let bound = rw c.as_slice-edges.ensures at c.first_from-first.ensures.bound in
     stands_between edges c.args.point c.first_from-first.result c.first_after-last.result
-    (first_to_last edges c.args.point c.first_from-first.result c.first_after-last.result bound before after)
+    (first_to_last edges c.args.point c.first_from-first.result
+    c.first_after-last.result bound before after)
     before (rw c.as_slice-edges.ensures at c.first_from-first.ensures.from)
     (rw c.as_slice-edges.ensures at c.first_after-last.ensures.upto) after

@@ -7,4 +7,5 @@ use Rattle.cpa_model.proofs.spelling.push_rest.Given as goal
 abbrev pub invariant-loop-item : goal.invariant-loop-item
 invariant-loop-item g l =
     string_bytes l.out
-    ≡ string_bytes l.initial.out ++ flat_map (λ x. 44 ∷ g.T.Spell.spelled x) (take l.item-index l.items)
+    ≡ string_bytes l.initial.out ++ flat_map (λ x. 44 ∷ g.T.Spell.spelled x)
+    (take l.item-index l.items)

@@ -12,7 +12,8 @@ returns-clause-laws c =
     let cfa = c.args.cfa.now in
     let e = c.args.elem.now in
     let p = c.args._precision.now in
-    let sound = c.edges_are_sound.ensures cfa c.args.edge _ c.requires.automaton c.edge_at.ensures in
+    let sound = c.edges_are_sound.ensures cfa c.args.edge _ c.requires.automaton c.edge.ensures in
     IfOk-weaker _ _ _ (λ (es : Vec _ Global) is.
-    subst (TransferLaws callstack cfa c.args.edge e p) (sym is) (next_stacks-laws cfa c.args.edge e p _ sound c.requires.elem c.edge_at.ensures))
+    subst (TransferLaws callstack cfa c.args.edge e p) (sym is)
+    (next_stacks-laws cfa c.args.edge e p _ sound c.requires.elem c.edge.ensures))
     c.next_stacks.ensures

@@ -9,4 +9,5 @@ use Rattle.cpa_iface.proofs.location.LocationAnalysis.initial.Goals as goal
 pub returns-clause-laws : goal.returns-clause-laws
 returns-clause-laws c =
     let cfa = c.args.cfa.now in
-    IfOk-weaker _ _ _ (λ (e : Elem) is. subst (InitialLaws location cfa) (sym is) (pin-laws cfa (c.automata_are_small.ensures.start cfa c.requires))) c.pin.ensures
+    IfOk-weaker _ _ _ (λ (e : Elem) is. subst (InitialLaws location cfa) (sym is)
+    (pin-laws cfa (c.automata_are_small.ensures.start cfa c.requires))) c.pin.ensures

@@ -14,5 +14,6 @@ returns-clause-laws c =
     let e = c.args.elem.now in
     let p = c.args._precision.now in
     IfOk-weaker _ _ _ (λ (es : Vec Elem Global) is.
-    subst (TransferLaws location cfa c.args.edge e p) (sym is) (next_points-laws cfa c.args.edge e p _ c.requires.automaton c.edge_at.ensures))
+    subst (TransferLaws location cfa c.args.edge e p) (sym is)
+    (next_points-laws cfa c.args.edge e p _ c.requires.automaton c.edge.ensures))
     c.next_points.ensures

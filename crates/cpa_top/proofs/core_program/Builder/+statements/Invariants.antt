@@ -8,6 +8,7 @@ use Rattle.cpa_top.proofs.core_program.Builder.+statements.Given as goal
 abbrev pub invariant-statements-loop-statement : goal.invariant-statements-loop-statement
 invariant-statements-loop-statement l = record {
   fits : Fits l.self (core_of_items (drop l.statement-index l.statements));
-  adds : (after : Builder) (has : List ℕ) → Adds l.self l.items (core_of_items (drop l.statement-index l.statements)) after has
+  adds : (after : Builder) (has : List ℕ)
+      → Adds l.self l.items (core_of_items (drop l.statement-index l.statements)) after has
       → Adds l.initial.self l.initial.items (core_of_items l.statements) after has;
 }

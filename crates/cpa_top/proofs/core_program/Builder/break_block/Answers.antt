@@ -8,4 +8,6 @@ pub single-requires : goal.single-requires
 single-requires c = fits_block_inside _ _ _ _ _ c.requires c.in_ok-number.ensures
 
 pub returns : goal.returns
-returns c = adds_block _ _ _ _ _ _ _ _ c.in_ok-number.ensures (rw c.new-items.ensures at c.in_ok-single.ensures) c.replace.ensures
+returns c =
+    adds_block _ _ _ _ _ _ _ _ c.in_ok-number.ensures
+    (rw c.new-items.ensures at c.in_ok-single.ensures) c.replace.ensures

@@ -6,4 +6,5 @@ use Rattle.cpa_top.proofs.explore.asked.initial.Goals as goal
 
 pub returns-clause-pinned : goal.returns-clause-pinned
 returns-clause-pinned g c =
-    IfOk-weaker _ _ _ (λ (e : Elem) laws. pinned_first _ c.args.cfa.now e c.requires.exact laws) c.ask_initial.ensures.laws
+    IfOk-weaker _ _ _ (λ (e : Elem) laws. pinned_first _ c.args.cfa.now e c.requires.exact laws)
+    c.ask_initial.ensures.laws

@@ -8,7 +8,8 @@ use Rattle.cpa_top.proofs.Pinning.{laws_target, walked_shaped}
 use Rattle.cpa_top.proofs.explore.asked.successors.Goals as goal
 
 pub ask_transfer-requires-clause-entry : goal.ask_transfer-requires-clause-entry
-ask_transfer-requires-clause-entry g c = walked_shaped c.args.cfa.now c.args.entry.now c.requires.entry
+ask_transfer-requires-clause-entry g c =
+    walked_shaped c.args.cfa.now c.args.entry.now c.requires.entry
 
 pub returns-clause-walked : goal.returns-clause-walked
 returns-clause-walked g c =
@@ -17,7 +18,8 @@ returns-clause-walked g c =
     let initial = c.initial_is_state.ensures a.program a.well_formed in
     IfOk-weaker _ _ _ (λ (es : Vec Elem Global) laws.
     targets_walked cfa c.args.edge c.args.entry.now es.items a c.requires.edge c.requires.entry
-    (laws_target _ cfa c.args.edge c.args.entry.now c.args.precision.now es.items c.requires.exact a initial c.requires.entry laws))
+    (laws_target _ cfa c.args.edge c.args.entry.now c.args.precision.now es.items c.requires.exact a
+    initial c.requires.entry laws))
     c.ask_transfer.ensures.laws
 
 pub returns-clause-leads : goal.returns-clause-leads
@@ -27,5 +29,6 @@ returns-clause-leads g c =
     let initial = c.initial_is_state.ensures a.program a.well_formed in
     IfOk-weaker _ _ _ (λ (es : Vec Elem Global) laws.
     targets_held cfa c.args.edge c.args.entry.now es.items
-    (laws_target _ cfa c.args.edge c.args.entry.now c.args.precision.now es.items c.requires.exact a initial c.requires.entry laws))
+    (laws_target _ cfa c.args.edge c.args.entry.now c.args.precision.now es.items c.requires.exact a
+    initial c.requires.entry laws))
     c.ask_transfer.ensures.laws

@@ -2,12 +2,11 @@
 ghost use Rattle.std.specs.Prelude.{◌≡◌, ◌≤◌, [], ◌∷◌, pos, IfOk};
 ghost use Rattle.cpa_model.specs.Programs.{IsNumbered, point_count};
 
-use crate::program::MAX_POINTS;
-use crate::{
-    Cell, Cfa, Elem, Expr, Fact, IntType, Program, Seq, Spell, State, Stmt, Store, copy_elem,
-    has_facts, holds, is_elem, next_point,
-};
 use cpa_expr::read_scalar;
+use cpa_model::{
+    Cell, Cfa, Elem, Expr, Fact, IntType, MAX_POINTS, Program, Seq, Spell, State, Stmt, Store,
+    copy_elem, has_facts, holds, is_elem, next_point,
+};
 use std::alloc::{AllocError, Global};
 use std::test::Fail;
 

@@ -3,8 +3,8 @@ use Rattle.std.proofs.lemmas.Result.{IfOk-weaker}
 use Rattle.cpa_model.specs.declared.facts.Elem.{Elem}
 use Rattle.cpa_iface.specs.Laws.{MergeLaws}
 use Rattle.cpa_iface.specs.CommonLaws.{merged_facts-laws}
-use Rattle.cpa_top.specs.Blind.{blind}
-use Rattle.cpa_top.proofs.top.tests.BlindAnalysis.merge.Goals as goal
+use Rattle.tests_high.specs.Blind.{blind}
+use Rattle.tests_high.proofs.calls.BlindAnalysis.merge.Goals as goal
 
 pub returns-clause-laws : goal.returns-clause-laws
 returns-clause-laws c =
@@ -14,5 +14,6 @@ returns-clause-laws c =
     let p = c.args._precision.now in
     IfOk-weaker _ _ _ (λ (e : Elem) is.
     subst (MergeLaws blind cfa c.args.rule new old p) (sym is)
-    (merged_facts-laws blind cfa c.args.rule new old p (record { cover = refl; rank = refl }) c.requires.old))
+    (merged_facts-laws blind cfa c.args.rule new old p
+    (record { cover = refl; rank = refl }) c.requires.old))
     c.merge_facts.ensures

@@ -1,9 +1,9 @@
 //! The cores of three texts, as another implementation of the rules gives them.
 ghost use Rattle.std.specs.Prelude.{◌≤◌, length};
 
-use super::core;
-use crate::verify::PROGRAM_LIMIT;
+use c_lexer::MAX_TEXT;
 use cpa_model::{Program, Spell, Stmt};
+use cpa_top::core;
 use first_form::{FirstError, first_form};
 use std::alloc::{AllocError, Global};
 use std::test::Fail;
@@ -16,7 +16,7 @@ fn spelled(alloc: Global, stmt: &Stmt) -> Result<String, AllocError> {
 }
 
 fn core_of_text(alloc: Global, text: &[u8]) -> Result<Program, FirstError>
-    requires { length text.now ≤ PROGRAM_LIMIT }
+    requires { length text.now ≤ MAX_TEXT }
 {
     let tree = first_form(alloc, text)?;
     Ok(core(alloc, &tree)?)
@@ -89,19 +89,15 @@ fn texts_have_their_cores(rt: HostRuntime) -> Result<(), Fail> {
             ][..],
         ),
     ] {
-        assert!(rt; text.len() <= 1_048_576);
+        assert!(rt; text.len() <= MAX_TEXT);
         let program = core_of_text(alloc, text.as_bytes())?;
+        assert_eq!(rt; program.cells.len(), cells, "the cells of {text}");
         assert_eq!(rt;
-            program.cells.as_slice().len(),
-            cells,
-            "the cells of {text}"
-        );
-        assert_eq!(rt;
-            program.stmts.as_slice().len(),
+            program.stmts.len(),
             stmts.len(),
             "the statements of {text}"
         );
-        for (stmt, want) in program.stmts.as_slice().iter().zip(stmts) {
+        for (stmt, want) in program.stmts.iter().zip(stmts) {
             assert_eq!(rt; spelled(alloc, stmt)?.as_str(), *want, "in {text}");
         }
         assert_eq!(rt; program.text_len as usize, text.len());

@@ -1,4 +1,4 @@
--- What the edges of an automaton name.
+-- What the edges of an automaton name (this project's own).
 use Rattle.std.specs.Prelude.{◌<◌, ◌≤◌, length, ⊤}
 use Rattle.cpa_expr.specs.Shape.{type_of, AreCells}
 use Rattle.cpa_model.specs.declared.automaton.Act.{Act}
@@ -11,7 +11,8 @@ use Rattle.cpa_model.specs.Expressions.{types_of, IsExpr}
 abbrev pub IsActOf : Cfa → Act → Type 0
 IsActOf cfa act.Skip = ⊤
 IsActOf cfa (act.Assign base len index value) =
-    (1 ≤ len) × IsExpr cfa.cells index × IsExpr cfa.cells value × AreCells (types_of cfa.cells) base len (type_of value)
+    (1 ≤ len) × IsExpr cfa.cells index × IsExpr cfa.cells value
+    × AreCells (types_of cfa.cells) base len (type_of value)
 IsActOf cfa (act.Assume test holds) = IsExpr cfa.cells test
 IsActOf cfa (act.Input cell) = cell < length cfa.cells
 IsActOf cfa (act.Call site) = site < cfa.points

@@ -1,18 +1,19 @@
 //! Whole calls over files and a sink in memory that fail, and over other lists than the one
 //! analysis. The answers of texts and words are rows of the crate `cases_run`.
 ghost use Rattle.std.specs.Prelude.{◌≡◌};
-ghost use Rattle.cpa_top.specs.Blind.{no_facts};
+ghost use Rattle.tests_high.specs.Blind.{no_facts};
 
-use super::*;
 use cpa_iface::{
-    Entry, Location, MergeRule, Part, Precision, Settings, copy_precision, empty_precision,
-    merge_facts,
+    Analysis, Entry, Location, MergeRule, Part, Precision, Settings, empty_precision, merge_facts,
+    unadjusted, unrefined, unstrengthened,
 };
-use cpa_model::{Cfa, Elem, Path, Seq, copy_elem, has_facts};
-use cpa_outside::{MemoryInputs, MemorySink};
-use std::alloc::AllocError;
+use cpa_model::{Cfa, Elem, Path, Seq, has_facts};
+use cpa_outside::{Inputs, MemoryInputs, MemorySink, Sink};
+use cpa_top::run;
+use std::alloc::{AllocError, Global};
 use std::process::Abort;
 use std::test::Fail;
+use std::thread::Threads;
 
 const RETURNS: &str = "int main(void){return 0;}";
 
@@ -21,7 +22,7 @@ const RETURNS: &str = "int main(void){return 0;}";
 struct Blind;
 
 impl Analysis for Blind {
-    ghost use Rattle.cpa_top.specs.Blind.{blind};
+    ghost use Rattle.tests_high.specs.Blind.{blind};
 
     ghost meaning = { λ _. blind };
 
@@ -67,7 +68,7 @@ impl Analysis for Blind {
         _others: &[Elem],
         _precision: &Precision,
     ) -> Result<Option<Elem>, AllocError> {
-        Ok(Some(copy_elem(alloc, own)?))
+        unstrengthened(alloc, own)
     }
 
     fn merge(
@@ -95,7 +96,7 @@ impl Analysis for Blind {
         _reached: &[Entry],
         _place: u32,
     ) -> Result<(Elem, Precision), AllocError> {
-        Ok((copy_elem(alloc, elem)?, copy_precision(alloc, precision)?))
+        unadjusted(alloc, elem, precision)
     }
 
     fn refine(
@@ -105,7 +106,7 @@ impl Analysis for Blind {
         _path: &Path,
         precision: &Precision,
     ) -> Result<Precision, AllocError> {
-        copy_precision(alloc, precision)
+        unrefined(alloc, precision)
     }
 }
 

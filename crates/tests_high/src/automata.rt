@@ -3,7 +3,7 @@ ghost use Rattle.std.specs.Prelude.{◌≡◌, [], ◌∷◌, pos, IfOk};
 ghost use Rattle.cpa_expr.specs.Cells.{scalar_read};
 ghost use Rattle.cpa_model.specs.Programs.{IsWellFormed};
 
-use crate::build;
+use cfa_build::build;
 use cpa_expr::read_scalar;
 use cpa_model::{Cell, Edge, Expr, IntType, Program, Seq, Spell, Stmt, statements_are_trees};
 use std::alloc::{AllocError, Global};
@@ -33,8 +33,13 @@ fn program(
     main: u32,
     stmts: Vec<Stmt>,
 ) -> Result<Program, AllocError>
-    ensures { IfOk result (λ P. P
-        ≡ record { cells = FIRST_CELL ∷ []; bodies = bodies.now; main = main; stmts = stmts.items; text_len = 7 }) }
+    ensures { IfOk result (λ P. P ≡ record {
+      cells = FIRST_CELL ∷ [];
+      bodies = bodies.now;
+      main = main;
+      stmts = stmts.items;
+      text_len = 7;
+    }) }
 {
     Ok(Program {
         cells: Seq::from_vec(vec![in alloc; FIRST_CELL]?),
@@ -49,9 +54,10 @@ fn program(
 fn one_loop(alloc: Global) -> Result<Vec<Stmt>, AllocError>
     ensures { IfOk result (λ stmts. stmts.items ≡
         Stmt.Block (1 ∷ 2 ∷ 3 ∷ 11 ∷ 12 ∷ []) ∷ Stmt.Input 0 ∷ Stmt.Call 1 ∷ Stmt.Loop 4 10
-        ∷ Stmt.Block (5 ∷ 8 ∷ 9 ∷ []) ∷ Stmt.If (scalar_read IntType.I32 0) 6 7 ∷ Stmt.Break ∷ Stmt.Continue
-        ∷ Stmt.Call 1 ∷ Stmt.Goto 1 ∷ Stmt.Assign 0 1 (Expr.Const IntType.I32 (pos 0)) (Expr.Const IntType.I32 (pos 0)) ∷ Stmt.Error ∷ Stmt.Error
-        ∷ Stmt.Block [] ∷ []) }
+        ∷ Stmt.Block (5 ∷ 8 ∷ 9 ∷ []) ∷ Stmt.If (scalar_read IntType.I32 0) 6 7 ∷ Stmt.Break
+        ∷ Stmt.Continue ∷ Stmt.Call 1 ∷ Stmt.Goto 1
+        ∷ Stmt.Assign 0 1 (Expr.Const IntType.I32 (pos 0)) (Expr.Const IntType.I32 (pos 0))
+        ∷ Stmt.Error ∷ Stmt.Error ∷ Stmt.Block [] ∷ []) }
 {
     let main = block(alloc, &[1, 2, 3, 11, 12])?;
     let body = block(alloc, &[5, 8, 9])?;
@@ -88,8 +94,9 @@ fn one_loop(alloc: Global) -> Result<Vec<Stmt>, AllocError>
 fn two_loops(alloc: Global) -> Result<Vec<Stmt>, AllocError>
     ensures { IfOk result (λ stmts. stmts.items ≡
         Stmt.Block (1 ∷ []) ∷ Stmt.Leave ∷ Stmt.Block (3 ∷ 12 ∷ []) ∷ Stmt.Loop 4 11
-        ∷ Stmt.Loop 5 10 ∷ Stmt.If (scalar_read IntType.I32 0) 6 7 ∷ Stmt.Break ∷ Stmt.Block (8 ∷ 9 ∷ []) ∷ Stmt.Call 0
-        ∷ Stmt.Input 0 ∷ Stmt.Block [] ∷ Stmt.Call 0 ∷ Stmt.Stop ∷ []) }
+        ∷ Stmt.Loop 5 10 ∷ Stmt.If (scalar_read IntType.I32 0) 6 7 ∷ Stmt.Break
+        ∷ Stmt.Block (8 ∷ 9 ∷ []) ∷ Stmt.Call 0 ∷ Stmt.Input 0 ∷ Stmt.Block [] ∷ Stmt.Call 0
+        ∷ Stmt.Stop ∷ []) }
 {
     let called = block(alloc, &[1])?;
     let main = block(alloc, &[3, 12])?;
@@ -159,13 +166,13 @@ fn gives_the_automaton_of_one_loop(rt: HostRuntime) -> Result<(), Fail> {
         "15 to 3: return 2",
         "15 to 9: return 8",
     ];
-    assert_eq!(rt; cfa.edges.as_slice().len(), edges.len());
-    for (edge, wanted) in cfa.edges.as_slice().iter().zip(&edges) {
+    assert_eq!(rt; cfa.edges.len(), edges.len());
+    for (edge, wanted) in cfa.edges.iter().zip(&edges) {
         assert_eq!(rt; text_of(alloc, edge)?.as_str(), *wanted);
     }
     assert_eq!(rt; cfa.errors.as_slice(), [11, 12].as_slice());
     assert_eq!(rt; (cfa.points, cfa.start, cfa.text_len), (16, 0, 7));
-    assert_eq!(rt; cfa.cells.as_slice().len(), 1);
+    assert_eq!(rt; cfa.cells.len(), 1);
     Ok(())
 }
 
@@ -190,11 +197,11 @@ fn gives_the_automaton_of_two_loops(rt: HostRuntime) -> Result<(), Fail> {
         "13 to 9: return 8",
         "13 to 3: return 11",
     ];
-    assert_eq!(rt; cfa.edges.as_slice().len(), edges.len());
-    for (edge, wanted) in cfa.edges.as_slice().iter().zip(&edges) {
+    assert_eq!(rt; cfa.edges.len(), edges.len());
+    for (edge, wanted) in cfa.edges.iter().zip(&edges) {
         assert_eq!(rt; text_of(alloc, edge)?.as_str(), *wanted);
     }
-    assert!(rt; cfa.errors.as_slice().is_empty());
+    assert!(rt; cfa.errors.is_empty());
     assert_eq!(rt; (cfa.points, cfa.start, cfa.text_len), (15, 2, 7));
     Ok(())
 }
