@@ -3,7 +3,7 @@
 use crate::fault::RowFault;
 use crate::operator_rows::push_value;
 use crate::reader::whole_expr;
-use crate::words::{next_cell, number_of_word, type_of_word, yes_or_no};
+use crate::words::{next_cell, number_of_word, push_number, push_word, type_of_word, yes_or_no};
 use cpa_expr::{
     Expr, Store, copy, height, is_expr, may_read, push_expr, replace_cell, same_expr, size,
     type_of, type_word, value,
@@ -11,28 +11,6 @@ use cpa_expr::{
 use cpa_ints::{IntType, Seq};
 use std::alloc::{AllocError, Global};
 use std::str::SplitWhitespace;
-
-/// A call on one expression.
-#[derive(Clone, Copy)]
-enum Call {
-    Value,
-    TypeOf,
-    IsExpr,
-    Size,
-    Height,
-    MayRead,
-    Copy,
-}
-
-const CALLS: [(&str, Call); 7] = [
-    ("value", Call::Value),
-    ("type_of", Call::TypeOf),
-    ("is_expr", Call::IsExpr),
-    ("size", Call::Size),
-    ("height", Call::Height),
-    ("may_read", Call::MayRead),
-    ("copy", Call::Copy),
-];
 
 /// The answer of a row on one expression, where the word names one: `value V .. : E`, where the
 /// cells have the values V, `type_of : E`, `is_expr T .. : E`, where they have the types T,
@@ -44,34 +22,29 @@ pub fn answer(
     words: &mut SplitWhitespace<'_>,
     text: &str,
 ) -> Result<bool, RowFault> {
-    let Some(call) = CALLS
-        .iter()
-        .find(|named| named.0 == word)
-        .map(|named| named.1)
-    else {
-        return Ok(false);
-    };
     let expr = whole_expr(alloc, text)?;
-    push_answer(alloc, out, words, call, &expr)?;
-    Ok(true)
+    push_answer(alloc, out, word, words, &expr)
 }
 
+/// The answer to a call on the expression, where the word names one.
 fn push_answer(
     alloc: Global,
     out: &mut String,
+    word: &str,
     words: &mut SplitWhitespace<'_>,
-    call: Call,
     expr: &Expr,
-) -> Result<(), RowFault> {
-    match call {
-        Call::Value => push_value_of(alloc, out, words, expr),
-        Call::TypeOf => push_type_of(out, expr),
-        Call::IsExpr => push_is_expr(alloc, out, words, expr),
-        Call::Size => push_size(out, expr),
-        Call::Height => push_height(out, expr),
-        Call::MayRead => push_may_read(out, words, expr),
-        Call::Copy => push_copy(alloc, out, expr),
+) -> Result<bool, RowFault> {
+    match word {
+        "value" => push_value_of(alloc, out, words, expr)?,
+        "type_of" => push_type_of(out, expr)?,
+        "is_expr" => push_is_expr(alloc, out, words, expr)?,
+        "size" => push_size(out, expr)?,
+        "height" => push_height(out, expr)?,
+        "may_read" => push_may_read(out, words, expr)?,
+        "copy" => push_copy(alloc, out, expr)?,
+        _ => return Ok(false),
     }
+    Ok(true)
 }
 
 fn push_value_of(
@@ -99,13 +72,11 @@ fn push_is_expr(
 }
 
 fn push_size(out: &mut String, expr: &Expr) -> Result<(), RowFault> {
-    let count = size(expr);
-    Ok(write!(out, " {count}")?)
+    Ok(push_number(out, i128::from(size(expr)))?)
 }
 
 fn push_height(out: &mut String, expr: &Expr) -> Result<(), RowFault> {
-    let count = height(expr);
-    Ok(write!(out, " {count}")?)
+    Ok(push_number(out, i128::from(height(expr)))?)
 }
 
 fn push_may_read(
@@ -183,10 +154,6 @@ fn next_types(alloc: Global, words: &mut SplitWhitespace<'_>) -> Result<Seq<IntT
         types.push(type_of_word(word).ok_or(RowFault::Unreadable)?)?;
     }
     Ok(types)
-}
-
-fn push_word(out: &mut String, word: &str) -> Result<(), AllocError> {
-    write!(out, " {word}")
 }
 
 fn push_spelled(out: &mut String, expr: &Expr) -> Result<(), AllocError> {

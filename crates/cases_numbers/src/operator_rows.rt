@@ -1,29 +1,13 @@
 //! Rows on operators: what `value` of `cpa_expr` answers where they are applied to constants.
 
 use crate::fault::RowFault;
-use crate::words::{BINARY, COMPARISONS, TYPES, UNARY, next_number, next_type};
+use crate::words::{
+    BINARY, COMPARISONS, TYPES, UNARY, next_number, next_type, push_number, push_word,
+};
 use cpa_expr::{BinOp, Expr, Store, value};
 use cpa_ints::{Boxed, IntType, Seq};
 use std::alloc::{AllocError, Global};
 use std::str::SplitWhitespace;
-
-/// A call that takes operands.
-#[derive(Clone, Copy)]
-enum Call {
-    Arithmetic,
-    Shifts,
-    Unary,
-    Comparisons,
-    Casts,
-}
-
-const CALLS: [(&str, Call); 5] = [
-    ("arithmetic", Call::Arithmetic),
-    ("shifts", Call::Shifts),
-    ("unary", Call::Unary),
-    ("comparisons", Call::Comparisons),
-    ("casts", Call::Casts),
-];
 
 /// The answer of a row on operators, where the word names one.
 pub fn answer(
@@ -32,19 +16,13 @@ pub fn answer(
     word: &str,
     words: &mut SplitWhitespace<'_>,
 ) -> Result<bool, RowFault> {
-    let Some(call) = CALLS
-        .iter()
-        .find(|named| named.0 == word)
-        .map(|named| named.1)
-    else {
-        return Ok(false);
-    };
-    match call {
-        Call::Arithmetic => arithmetic(alloc, out, words)?,
-        Call::Shifts => shifts(alloc, out, words)?,
-        Call::Unary => unary(alloc, out, words)?,
-        Call::Comparisons => comparisons(alloc, out, words)?,
-        Call::Casts => casts(alloc, out, words)?,
+    match word {
+        "arithmetic" => arithmetic(alloc, out, words)?,
+        "shifts" => shifts(alloc, out, words)?,
+        "unary" => unary(alloc, out, words)?,
+        "comparisons" => comparisons(alloc, out, words)?,
+        "casts" => casts(alloc, out, words)?,
+        _ => return Ok(false),
     }
     Ok(true)
 }
@@ -65,8 +43,8 @@ fn push_closed(alloc: Global, out: &mut String, expr: &Expr) -> Result<(), Alloc
 /// Appends a value: a number, or `trap`.
 pub fn push_value(out: &mut String, value: Option<i128>) -> Result<(), AllocError> {
     match value {
-        Some(number) => write!(out, " {number}"),
-        None => out.push_str(" trap"),
+        Some(number) => push_number(out, number),
+        None => push_word(out, "trap"),
     }
 }
 

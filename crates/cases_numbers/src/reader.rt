@@ -67,8 +67,10 @@ fn operator(word: &str) -> Option<Head> {
         Some(Head::Un(op))
     } else if let Some(op) = binary_of_word(word) {
         Some(Head::Bin(op))
+    } else if let Some(op) = comparison_of_word(word) {
+        Some(Head::Cmp(op))
     } else {
-        comparison_of_word(word).map(Head::Cmp)
+        None
     }
 }
 

@@ -3,6 +3,7 @@
 use crate::fault::RowFault;
 use cpa_expr::{BinOp, CmpOp, UnOp, bin_word, cmp_word, type_word, un_word};
 use cpa_ints::IntType;
+use std::alloc::AllocError;
 use std::str::SplitWhitespace;
 
 /// The types, in the order of a row's columns.
@@ -85,22 +86,53 @@ pub fn cell_of_word(word: &str) -> Result<u32, RowFault> {
 
 /// The type that a word names.
 pub fn type_of_word(word: &str) -> Option<IntType> {
-    TYPES.iter().copied().find(|ty| type_word(*ty) == word)
+    for ty in TYPES {
+        if type_word(ty) == word {
+            return Some(ty);
+        }
+    }
+    None
 }
 
 /// The unary operator that a word names.
 pub fn unary_of_word(word: &str) -> Option<UnOp> {
-    UNARY.iter().copied().find(|op| un_word(*op) == word)
+    for op in UNARY {
+        if un_word(op) == word {
+            return Some(op);
+        }
+    }
+    None
 }
 
 /// The binary operator that a word names.
 pub fn binary_of_word(word: &str) -> Option<BinOp> {
-    BINARY.iter().copied().find(|op| bin_word(*op) == word)
+    for op in BINARY {
+        if bin_word(op) == word {
+            return Some(op);
+        }
+    }
+    None
 }
 
 /// The comparison that a word names.
 pub fn comparison_of_word(word: &str) -> Option<CmpOp> {
-    COMPARISONS.iter().copied().find(|op| cmp_word(*op) == word)
+    for op in COMPARISONS {
+        if cmp_word(op) == word {
+            return Some(op);
+        }
+    }
+    None
+}
+
+/// Adds a word of the answer.
+pub fn push_word(out: &mut String, word: &str) -> Result<(), AllocError> {
+    out.push_str(" ")?;
+    out.push_str(word)
+}
+
+/// Adds a number of the answer.
+pub fn push_number(out: &mut String, number: i128) -> Result<(), AllocError> {
+    write!(out, " {number}")
 }
 
 /// The word of an answer to a question.

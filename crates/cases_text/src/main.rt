@@ -2,6 +2,7 @@
 //! safety alone; what the answers must be is `stdout`, which README.md says how it was made.
 #![tactic(auto)]
 
+mod forms;
 mod place;
 mod tokens;
 mod written;
@@ -10,11 +11,12 @@ use std::alloc::{AllocError, Global};
 use std::io;
 use std::io::{BufRead, BufReader};
 
-/// The answer to a row: a word for what is asked, and the text that it is asked of. A word alone asks
-/// it of the empty text.
+/// The answer to a row: a word for what is asked, and the text that it is asked of. A word alone
+/// asks it of the empty text.
 fn answer(alloc: Global, row: &str) -> Result<String, AllocError> {
     match row.split_once(' ').unwrap_or((row, "")) {
         ("tokens", text) => tokens::answer(alloc, text),
+        ("form", text) => forms::answer(alloc, text),
         _ => String::from_str(alloc, "no row"),
     }
 }

@@ -1,0 +1,3 @@
+pub mod Steadies
+pub mod Ahead
+pub mod Arms

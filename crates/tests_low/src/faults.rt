@@ -1,0 +1,17 @@
+//! How the faults of a text are shown.
+
+use c_lexer::{Rule, TextError, TextFault};
+use std::test::Fail;
+
+#[test]
+fn errors_are_shown(rt: HostRuntime) -> Result<(), Fail> {
+    let fault = TextError::Fault(TextFault {
+        rule: Rule::L3,
+        place: 22,
+    });
+    let shown = format!(in rt.alloc(); "{fault}")?;
+    assert_eq!(rt; shown.as_str(), "rule L3 is broken at byte 22");
+    let shown = format!(in rt.alloc(); "{}", TextError::OutOfMemory)?;
+    assert_eq!(rt; shown.as_str(), "out of memory");
+    Ok(())
+}
