@@ -1,0 +1,4 @@
+mod Closes
+mod GoesOn
+mod PlainExpressions
+mod PlainText
