@@ -1,5 +1,5 @@
--- The trees of a text by the grammar written plainly (C11 6.5, 6.7, 6.8, 6.9), without a rule on where
--- lists and options end.
+-- The trees of a text by the grammar written plainly (C11 6.5, 6.7, 6.8, 6.9), without a rule on
+-- where lists and options end.
 use Rattle.std.specs.Prelude.{◌≡◌, ℕ, ◌-◌, false, List, length}
 use Rattle.grammar_forms.specs.Forms.{World}
 use Rattle.c_lexer.specs.declared.token.Token.{Token}

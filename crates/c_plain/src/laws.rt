@@ -6,8 +6,8 @@ ghost use Rattle.c_tree.specs.declared.item.Unit.{Unit as UnitTree};
 ghost use Rattle.c_tree.specs.Grammar.{Tree};
 ghost use Rattle.c_plain.specs.Plain.{PlainTree};
 
-/// The grammar written plainly has the same trees: that a list or an option ends only where it cannot
-/// go on rules out no tree, and no tree needs it.
+/// The grammar written plainly has the same trees: that a list or an option ends only where it
+/// cannot go on rules out no tree, and no tree needs it.
 pub fn plain_trees_are_trees()
     ensures { (text : List ℕ) (tokens : List Token) (u : UnitTree) →
         PlainTree text tokens u ↔ Tree text tokens u }

@@ -1,5 +1,5 @@
-//! The grammar of C written plainly, `PlainTree` of `specs/Plain.antt`, has the trees of the grammar.
-//! Proved in `proofs/PlainText.antt`.
+//! The grammar of C written plainly, `PlainTree` of `specs/Plain.antt`, has the trees of `c_tree`'s
+//! grammar. Proved in `proofs/PlainText.antt`.
 #![tactic(auto)]
 
 mod laws;
