@@ -1,40 +1,35 @@
-//! All clauses of a search in one flat array of literals. Contracts see the list of the clauses.
+//! All clauses of a search. Contracts see the list of the clauses; the parts are a `Store`, whose
+//! clauses they are.
 
-ghost use Rattle.std.specs.Prelude.{◌≡◌, ◌<◌, ◌^◌, ℕ, List, [], ◌∷◌, ◌++◌, length, slice_index_or, OnOk};
+ghost use Rattle.std.specs.Prelude.{◌≡◌, ◌≢◌, ◌<◌, ◌^◌, ℕ, [], ◌∷◌, ◌++◌, length, slice_index_or};
+ghost use Rattle.std.specs.Prelude.{IfSome, IfNone, OnOk, OnErr};
 ghost use Rattle.std.specs.List.{AllByRecursion};
+ghost use Rattle.cpa_cnf.specs.Clauses.{IsClause};
 
+use crate::store::Store;
 use cpa_cnf::Clause;
 use std::alloc::{AllocError, Global};
 use std::marker::Model;
-
-/// Where the literals of a clause stand.
-#[derive(Clone, Copy, Debug)]
-pub(crate) struct Extent {
-    from: usize,
-    to: usize,
-}
 
 /// Clauses by number; literals as numbers, 2 * var and one more where negated. A clause that stands
 /// is never changed or taken out.
 #[derive(Debug, Drop)]
 pub struct Arena {
-    literals: Vec<u32>,
-    extents: Vec<Extent>,
+    store: Store,
 }
 
 impl Model for Arena {
-    ghost use Rattle.std.specs.Prelude.{List, ℕ, map, length};
+    ghost use Rattle.std.specs.Prelude.{List, ℕ};
     ghost use Rattle.std.specs.Coded.{coded_list, coded_ℕ};
-    ghost use Rattle.std.specs.List.{AllByRecursion};
-    ghost use Rattle.cpa_arena.specs.Extents.{piece, IsWithin};
+    ghost use Rattle.cpa_arena.specs.Extents.{clauses_of, IsStored};
 
     ghost Value = { List (List ℕ) };
 
     ghost coded = { coded_list (coded_list coded_ℕ) };
 
-    ghost view = { λ a. map (piece a.literals.items) a.extents.items };
+    ghost view = { λ a. clauses_of a.store.literals.items a.store.extents.items };
 
-    ghost invariant = { λ a. AllByRecursion (IsWithin (length a.literals.items)) a.extents.items };
+    ghost invariant = { λ a. IsStored a.store };
 }
 
 impl Arena {
@@ -43,8 +38,7 @@ impl Arena {
         ensures { result ≡ [] }
     {
         Arena {
-            literals: Vec::new(alloc),
-            extents: Vec::new(alloc),
+            store: Store::new(alloc),
         }
     }
 
@@ -52,7 +46,7 @@ impl Arena {
     pub fn len(&self) -> usize
         ensures { result ≡ length self.now }
     {
-        self.extents.len()
+        self.store.extents.len()
     }
 
     /// The literals of a clause.
@@ -60,21 +54,26 @@ impl Arena {
         requires { number < length self.now }
         ensures { result.now ≡ slice_index_or self.now number [] }
     {
-        let extent = self.extents[number as usize];
-        &self.literals[extent.from..extent.to]
+        self.store.clause(number)
     }
 
-    /// Adds a clause at the end.
+    /// Adds a clause at the end. Where memory runs out, or a clause would have a number or a place
+    /// that passes u32, the clauses stay as they are.
     pub fn push(&mut self, clause: &Clause) -> Result<(), AllocError>
         requires { AllByRecursion (λ l. l < 2 ^ 32) clause.now }
-        ensures { OnOk result (self.new ≡ self.old ++ clause.now ∷ []) }
+        ensures pushed { OnOk result (self.new ≡ self.old ++ clause.now ∷ []) }
+        ensures kept { OnErr result (self.new ≡ self.old) }
     {
-        let from = self.literals.len();
-        for literal in clause.literals() {
-            self.literals.push(literal.number() as u32)?;
-        }
-        let to = self.literals.len();
-        self.extents.push(Extent { from, to })?;
-        Ok(())
+        self.store.push(clause)
+    }
+
+    /// The number of a clause that is equal to this one, if one stands.
+    pub fn find(&self, clause: &Clause) -> Option<u32>
+        ensures some { IfSome result (λ k. k < length self.now) }
+        ensures equal { IfSome result (λ k. slice_index_or self.now k [] ≡ clause.now) }
+        ensures none { IfNone result ((k : ℕ) → k < length self.now
+            → slice_index_or self.now k [] ≢ clause.now) }
+    {
+        self.store.find(clause)
     }
 }

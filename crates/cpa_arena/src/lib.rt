@@ -1,6 +1,9 @@
-//! The clauses of a search in one flat array of literals, and the look-up of a clause among them.
+//! The clauses of a search in one flat array of literals, and the look-up of a clause among them by
+//! its hash.
 #![tactic(auto)]
 
 mod arena;
+mod index;
+mod store;
 
 pub use arena::Arena;

@@ -4,3 +4,4 @@ pub mod Resolution
 pub mod Lines
 pub mod Models
 pub mod Marking
+pub mod lemmas

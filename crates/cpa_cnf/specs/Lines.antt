@@ -1,5 +1,7 @@
--- Good lines and refutations (this project's own): each line is a chain of resolutions from a clause.
-use Rattle.std.specs.Prelude.{◌≡◌, ℕ, ◌<◌, ◌-◌, ◌*◌, List, [], ◌∷◌, ◌++◌, length, map, take, slice_get, slice_index_or, Some}
+-- Good lines and refutations (this project's own): each line is a chain of resolutions from a
+-- clause.
+use Rattle.std.specs.Prelude.{◌≡◌, ℕ, ◌<◌, ◌-◌, ◌*◌, List, [], ◌∷◌, ◌++◌, length, map, take}
+use Rattle.std.specs.Prelude.{slice_get, slice_index_or, Some}
 use Rattle.std.specs.List.{AllByRecursion}
 use Rattle.cpa_cnf.specs.declared.formula.Cnf.{Cnf}
 use Rattle.cpa_cnf.specs.declared.formula.Step.{Step}
@@ -14,11 +16,13 @@ AreBelow vars literals = AllByRecursion (λ l. l < 2 * vars) literals
 abbrev pub known : Cnf → List Line → List (List ℕ)
 known cnf log = cnf.clauses ++ map (λ line. line.clause) log
 
--- The chain of resolutions that begins with the clause a and takes these steps ends with the clause c.
+-- The chain of resolutions that begins with the clause a and takes these steps ends with the clause
+-- c.
 abbrev pub Gives : List (List ℕ) → List ℕ → List Step → List ℕ → Type 0
 Gives clauses a [] c = a ≡ c
 Gives clauses a (step ∷ steps) c =
-    (r : List ℕ) × IsResolvent a (slice_index_or clauses step.clause []) step.pivot r × Gives clauses r steps c
+    (r : List ℕ) × IsResolvent a (slice_index_or clauses step.clause []) step.pivot r
+    × Gives clauses r steps c
 
 -- The line's numbers name clauses, and its variables are below `vars`.
 pub record IsInRange (vars : ℕ) (clauses : List (List ℕ)) (line : Line) : Type 0 where
@@ -34,7 +38,8 @@ pub record IsGoodLine (vars : ℕ) (clauses : List (List ℕ)) (line : Line) : T
 
 -- line i is good over the formula and the lines before it
 abbrev pub IsGoodAt : Cnf → List Line → ℕ → Type 0
-IsGoodAt cnf log i = (line : Line) → slice_get log i ≡ Some line → IsGoodLine cnf.vars (known cnf (take i log)) line
+IsGoodAt cnf log i = (line : Line) → slice_get log i ≡ Some line
+    → IsGoodLine cnf.vars (known cnf (take i log)) line
 
 abbrev pub AreGood : Cnf → List Line → Type 0
 AreGood cnf log = (i : ℕ) → IsGoodAt cnf log i

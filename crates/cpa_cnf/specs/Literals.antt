@@ -1,4 +1,5 @@
--- Literals as numbers, as in MiniSat (Eén and Sörensson 2003): twice the variable, and one more where it is negated.
+-- Literals as numbers, as in MiniSat (Eén and Sörensson 2003): twice the variable, and one more
+-- where it is negated.
 use Rattle.std.specs.Prelude.{ℕ, ◌+◌, ◌-◌, ◌*◌, ◌%◌, Bool, true, false}
 
 abbrev pub literal_number : ℕ → Bool → ℕ

@@ -1,5 +1,6 @@
 -- Models of a formula: values of its variables that make a literal of each clause true.
-use Rattle.std.specs.Prelude.{◌≡◌, ℕ, ◌==◌, ◌/◌, ◌%◌, Bool, true, false, not, List, length, slice_index_or, if◌then◌else◌}
+use Rattle.std.specs.Prelude.{◌≡◌, ℕ, ◌==◌, ◌/◌, ◌%◌, Bool, true, false, not, List, length}
+use Rattle.std.specs.Prelude.{slice_index_or, if◌then◌else◌}
 use Rattle.std.specs.List.{AllByRecursion}
 use Rattle.cpa_cnf.specs.declared.formula.Cnf.{Cnf}
 use Rattle.cpa_cnf.specs.Clauses.{has}
@@ -7,7 +8,8 @@ use Rattle.cpa_cnf.specs.Clauses.{has}
 -- the literal's value; variables without a value count as false
 abbrev pub value_of_literal : List Bool → ℕ → Bool
 value_of_literal values l =
-    if l % 2 == 0 then slice_index_or values (l / 2) false else not (slice_index_or values (l / 2) false)
+    if l % 2 == 0 then slice_index_or values (l / 2) false else not
+    (slice_index_or values (l / 2) false)
 
 -- some literal of the clause is true
 abbrev pub Satisfies : List Bool → List ℕ → Type 0

@@ -1,14 +1,16 @@
 //! Whether a line is good: its chain is followed in a table of marks, which is cleared again by
 //! what was touched.
 
-ghost use Rattle.std.specs.Prelude.{◌≡◌, ◌↔◌, ◌⊎◌, ◌||◌, ◌&&◌, ◌*◌, ◌+◌, ◌<◌, ℕ, not, true, false, None, [], length, slice_index_or, take, IsTrue};
+ghost use Rattle.std.specs.Prelude.{◌≡◌, ◌↔◌, ◌⊎◌, ◌||◌, ◌&&◌, ◌*◌, ◌+◌, ◌<◌, ℕ, not, true, false};
+ghost use Rattle.std.specs.Prelude.{None, [], length, slice_index_or, take, IsTrue};
 ghost use Rattle.std.specs.Bool.{OnTrue, OnFalse};
 ghost use Rattle.std.specs.List.{AllByRecursion};
 ghost use Rattle.cpa_cnf.specs.Literals.{opposite};
 ghost use Rattle.cpa_cnf.specs.Clauses.{has, IsClause};
 ghost use Rattle.cpa_cnf.specs.Resolution.{clash_on, in_union_without};
 ghost use Rattle.cpa_cnf.specs.Lines.{AreBelow, known, IsInRange, IsGoodLine, IsGoodAt};
-ghost use Rattle.cpa_cnf.specs.Marking.{marked, IsBlank, IsBlankFor, HasBeyond, IsMarkedResolvent, is_touched, AreTouched, IsInRangeOf, Reaches, ReachesNone};
+ghost use Rattle.cpa_cnf.specs.Marking.{marked, IsBlank, IsBlankFor, HasBeyond, IsMarkedResolvent};
+ghost use Rattle.cpa_cnf.specs.Marking.{is_touched, AreTouched, IsInRangeOf, Reaches, ReachesNone};
 
 use crate::clause::Clause;
 use crate::formula::{Cnf, Line, Step};
@@ -49,9 +51,11 @@ fn clash(table: &[bool], clause: &Clause, pivot: u32) -> Option<Lit>
 fn mark_union(table: &mut [bool], clause: &Clause, literal: Lit) -> bool
     requires here { literal < length table.old }
     requires there { opposite literal < length table.old }
-    ensures union { OnTrue result ((l : ℕ) → marked table.new l ≡ in_union_without (marked table.old) (has clause.now) literal l) }
+    ensures union { OnTrue result ((l : ℕ)
+        → marked table.new l ≡ in_union_without (marked table.old) (has clause.now) literal l) }
     ensures beyond { OnFalse result (HasBeyond table.old clause.now) }
-    ensures only { (l : ℕ) → marked table.new l ≡ true → (marked table.old l || has clause.now l) ≡ true }
+    ensures only { (l : ℕ) → marked table.new l ≡ true
+        → (marked table.old l || has clause.now l) ≡ true }
 {
     let other = literal.opposite().number();
     let stays = table[other];
@@ -68,8 +72,10 @@ fn mark_union(table: &mut [bool], clause: &Clause, literal: Lit) -> bool
 fn take_step(table: &mut [bool], clause: &Clause, pivot: u32) -> bool
     requires { 2 * pivot + 1 < length table.old }
     ensures resolves { OnTrue result (IsMarkedResolvent table.old clause.now pivot table.new) }
-    ensures fails { OnFalse result ((clash_on (marked table.old) (has clause.now) pivot ≡ None) ⊎ HasBeyond table.old clause.now) }
-    ensures only { (l : ℕ) → marked table.new l ≡ true → (marked table.old l || has clause.now l) ≡ true }
+    ensures fails { OnFalse result ((clash_on (marked table.old) (has clause.now) pivot ≡ None)
+        ⊎ HasBeyond table.old clause.now) }
+    ensures only { (l : ℕ) → marked table.new l ≡ true
+        → (marked table.old l || has clause.now l) ≡ true }
 {
     match clash(table, clause, pivot) {
         Some(literal) => mark_union(table, clause, literal),
@@ -84,7 +90,8 @@ fn follow(cnf: &Cnf, earlier: &[Line], line: &Line, table: &mut [bool]) -> bool
     requires blank { IsBlankFor cnf.now.vars table.old }
     ensures reaches { OnTrue result (Reaches (known cnf.now earlier.now) line.now table.new) }
     ensures none { OnFalse result (ReachesNone cnf.now.vars (known cnf.now earlier.now) line.now) }
-    ensures touched { AreTouched (known cnf.now earlier.now) line.now.first line.now.steps table.new }
+    ensures touched { AreTouched (known cnf.now earlier.now) line.now.first line.now.steps
+        table.new }
 {
     if !mark(table, named(cnf, earlier, line.first).literals()) {
         return false;
@@ -100,7 +107,9 @@ fn follow(cnf: &Cnf, earlier: &[Line], line: &Line, table: &mut [bool]) -> bool
 /// Whether no literal of a clause that the chain names is marked.
 fn none_touched(cnf: &Cnf, earlier: &[Line], line: &Line, table: &[bool]) -> bool
     requires { IsInRange cnf.now.vars (known cnf.now earlier.now) line.now }
-    ensures { IsTrue result ↔ ((l : ℕ) → is_touched (known cnf.now earlier.now) line.now.first line.now.steps l ≡ true → marked table.now l ≡ false) }
+    ensures { IsTrue result ↔ ((l : ℕ)
+        → is_touched (known cnf.now earlier.now) line.now.first line.now.steps l ≡ true
+        → marked table.now l ≡ false) }
 {
     if !none_marked(table, named(cnf, earlier, line.first).literals()) {
         return false;
@@ -116,7 +125,9 @@ fn none_touched(cnf: &Cnf, earlier: &[Line], line: &Line, table: &[bool]) -> boo
 /// Takes the marks off the literals of the clauses that the chain names.
 fn clear_touched(cnf: &Cnf, earlier: &[Line], line: &Line, table: &mut [bool])
     requires { IsInRange cnf.now.vars (known cnf.now earlier.now) line.now }
-    ensures { (l : ℕ) → marked table.new l ≡ (marked table.old l && not (is_touched (known cnf.now earlier.now) line.now.first line.now.steps l)) }
+    ensures { (l : ℕ) → marked table.new l
+        ≡ (marked table.old l && not
+        (is_touched (known cnf.now earlier.now) line.now.first line.now.steps l)) }
 {
     clear(table, named(cnf, earlier, line.first).literals());
     for step in line.steps.as_slice() {
@@ -131,7 +142,6 @@ fn is_in_range(vars: u32, count: usize, line: &Line) -> bool
     (line.first as usize) < count
         && line
             .steps
-            .as_slice()
             .iter()
             .all(|step| (step.clause as usize) < count && step.pivot < vars)
         && line
@@ -144,10 +154,12 @@ fn is_in_range(vars: u32, count: usize, line: &Line) -> bool
 /// Whether the marked literals are those of the line's clause, whose marks it takes off.
 fn take_clause(cnf: &Cnf, earlier: &[Line], line: &Line, table: &mut [bool]) -> bool
     requires range { IsInRange cnf.now.vars (known cnf.now earlier.now) line.now }
-    requires touched { AreTouched (known cnf.now earlier.now) line.now.first line.now.steps table.old }
+    requires touched { AreTouched (known cnf.now earlier.now) line.now.first line.now.steps
+        table.old }
     ensures same { IsTrue result ↔ ((l : ℕ) → has line.now.clause l ≡ marked table.old l) }
     ensures sorted { IsClause line.now.clause }
-    ensures touched { AreTouched (known cnf.now earlier.now) line.now.first line.now.steps table.new }
+    ensures touched { AreTouched (known cnf.now earlier.now) line.now.first line.now.steps
+        table.new }
 {
     let is_reached = all_marked(table, line.clause.literals());
     clear(table, line.clause.literals());

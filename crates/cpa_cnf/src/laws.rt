@@ -2,7 +2,6 @@
 
 ghost use Rattle.std.specs.Prelude.{◌≡◌, ℕ, Bool, List};
 ghost use Rattle.cpa_cnf.specs.Clauses.{has, IsClause};
-ghost use Rattle.cpa_cnf.specs.Marking.{IsMarkedAs};
 ghost use Rattle.cpa_cnf.specs.declared.formula.Cnf.{Cnf};
 ghost use Rattle.cpa_cnf.specs.declared.formula.Line.{Line};
 ghost use Rattle.cpa_cnf.specs.Lines.{IsRefutation};
@@ -17,9 +16,4 @@ pub fn a_refuted_formula_has_no_model()
 /// Two clauses with the same literals are equal.
 pub fn a_clause_is_its_literals()
     ensures { (a b : List ℕ) → IsClause a → IsClause b → ((l : ℕ) → has a l ≡ has b l) → a ≡ b }
-{}
-
-/// The marked literals of a table are those of a clause.
-pub fn marked_literals_are_a_clause()
-    ensures { (table : List Bool) → (c : List ℕ) × IsMarkedAs table c }
 {}

@@ -13,12 +13,7 @@ mod resolution;
 pub use checking::check_line;
 pub use clause::Clause;
 pub use formula::{Cnf, Line, Step};
-pub use laws::{
-    a_clause_is_its_literals, a_refuted_formula_has_no_model, marked_literals_are_a_clause,
-};
+pub use laws::{a_clause_is_its_literals, a_refuted_formula_has_no_model};
 pub use literal::Lit;
 pub use marks::Marks;
 pub use resolution::resolve;
-
-#[cfg(test)]
-mod tests;

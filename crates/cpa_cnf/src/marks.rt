@@ -44,9 +44,11 @@ impl Marks {
 
 /// Marks the literals; false, with some of them marked, where one lies beyond the table.
 pub(crate) fn mark(table: &mut [bool], literals: &[Lit]) -> bool
-    ensures all { OnTrue result ((l : ℕ) → marked table.new l ≡ (marked table.old l || has literals.now l)) }
+    ensures all { OnTrue result ((l : ℕ)
+        → marked table.new l ≡ (marked table.old l || has literals.now l)) }
     ensures beyond { OnFalse result (HasBeyond table.old literals.now) }
-    ensures only { (l : ℕ) → marked table.new l ≡ true → (marked table.old l || has literals.now l) ≡ true }
+    ensures only { (l : ℕ) → marked table.new l ≡ true
+        → (marked table.old l || has literals.now l) ≡ true }
 {
     for literal in literals {
         let number = literal.number();

@@ -1,6 +1,7 @@
 //! The resolvent of two clauses, as `IsResolvent` defines it.
 
-ghost use Rattle.std.specs.Prelude.{◌≡◌, ◌↔◌, ◌==◌, ◌||◌, ◌&&◌, ℕ, not, None, IfOk, OnOk, IfSome, IsNone};
+ghost use Rattle.std.specs.Prelude.{◌≡◌, ◌↔◌, ◌==◌, ◌||◌, ◌&&◌, ℕ, not, None, IfOk, OnOk, IfSome};
+ghost use Rattle.std.specs.Prelude.{IsNone};
 ghost use Rattle.cpa_cnf.specs.Clauses.{has, IsClause};
 ghost use Rattle.cpa_cnf.specs.Resolution.{clash_literal, in_union_without, IsResolvent};
 
@@ -42,7 +43,8 @@ pub fn resolve(
 
 /// The literals of `a` but for `literal`, and those of `b` but for its opposite.
 fn union_without(alloc: Global, a: &Clause, b: &Clause, literal: Lit) -> Result<Clause, AllocError>
-    ensures union { IfOk result (λ c. (l : ℕ) → has c l ≡ in_union_without (has a.now) (has b.now) literal l) }
+    ensures union { IfOk result (λ c. (l : ℕ)
+        → has c l ≡ in_union_without (has a.now) (has b.now) literal l) }
     ensures sorted { IfOk result IsClause }
 {
     let mut left = Vec::new(alloc);
@@ -53,7 +55,8 @@ fn union_without(alloc: Global, a: &Clause, b: &Clause, literal: Lit) -> Result<
 
 /// Adds the literals but for `out`.
 fn push_others(left: &mut Vec<Lit>, literals: &[Lit], out: Lit) -> Result<(), AllocError>
-    ensures { OnOk result ((l : ℕ) → has left.new.items l ≡ (has left.old.items l || (has literals.now l && not (l == out)))) }
+    ensures { OnOk result ((l : ℕ) → has left.new.items l
+        ≡ (has left.old.items l || (has literals.now l && not (l == out)))) }
 {
     for literal in literals {
         if *literal != out {

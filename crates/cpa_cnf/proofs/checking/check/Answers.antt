@@ -8,6 +8,7 @@ returns-then-is_followed-clause-good c =
     let line = c.args.line.now in
     let reaches = c.if-is_followed.ensures.reaches in
     let taken = c.take_clause-is_same.ensures in (
-      λ yes. good_line c.args.cnf.now.vars cs line _ c.requires.range taken.sorted reaches (taken.same.0 yes),
+      λ yes. good_line c.args.cnf.now.vars cs line _ c.requires.range taken.sorted reaches
+          (taken.same.0 yes),
       λ good. taken.same.1 (same_marks c.args.cnf.now.vars cs line _ reaches good),
     )

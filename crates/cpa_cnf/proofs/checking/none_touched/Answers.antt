@@ -5,7 +5,7 @@ use Rattle.cpa_cnf.specs.declared.formula.Step.{Step}
 use Rattle.cpa_cnf.specs.Lines.{known}
 use Rattle.cpa_cnf.specs.Clauses.{has}
 use Rattle.cpa_cnf.specs.Marking.{is_touched}
-use Rattle.cpa_cnf.proofs.Members.{or_true_right}
+use Rattle.cpa_cnf.specs.lemmas.Members.{or_true_right}
 use Rattle.cpa_cnf.proofs.Following.{no_step, read_step, touched_more, touched_front}
 use Rattle.cpa_cnf.proofs.checking.none_touched.Goals as goal
 
@@ -22,5 +22,6 @@ returns-then-not-none_marked-2 c =
       λ each. c.if-not-none_marked-2.ensures.1
           (λ l h. each l (touched_front cs line.first _ line.steps l
           (touched_more cs line.first line.steps k s l read.0 read.1
-          ∙ or_true_right (is_touched cs line.first _ l) _ (sym (ap (λ (b : List ℕ). has b l) is) ∙ h)))),
+          ∙ or_true_right (is_touched cs line.first _ l) _ (sym (ap (λ (b : List ℕ). has b l) is)
+          ∙ h)))),
     )

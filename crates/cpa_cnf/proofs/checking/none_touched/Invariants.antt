@@ -5,4 +5,5 @@ use Rattle.cpa_cnf.proofs.checking.none_touched.Given as goal
 
 abbrev pub invariant-loop-step : goal.invariant-loop-step
 invariant-loop-step l =
-    (x : ℕ) → is_touched (known l.cnf l.earlier) l.line.first (take l.step-index l.step-items) x ≡ true → marked l.table x ≡ false
+    (x : ℕ) → is_touched (known l.cnf l.earlier) l.line.first (take l.step-index l.step-items) x
+    ≡ true → marked l.table x ≡ false

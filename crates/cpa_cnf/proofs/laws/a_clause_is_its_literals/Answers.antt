@@ -1,4 +1,4 @@
-use Rattle.cpa_cnf.proofs.Chains.{same_members}
+use Rattle.cpa_cnf.specs.lemmas.Chains.{same_members}
 use Rattle.cpa_cnf.proofs.laws.a_clause_is_its_literals.Goals as goal
 
 pub returns : goal.returns

@@ -1,5 +1,5 @@
 use Rattle.std.proofs.Common.{arith}
-use Rattle.cpa_cnf.proofs.Marking.{clears_next, clears_beyond}
+use Rattle.cpa_cnf.specs.lemmas.Marking.{clears_next, clears_beyond}
 use Rattle.cpa_cnf.proofs.marks.clear.Goals as goal
 use Rattle.cpa_cnf.proofs.marks.clear.Goals.{then-number-table, else-number-table}
 
@@ -13,8 +13,10 @@ loop-literal-preserved c x =
     elim c.if-number-table.branch [
       | then-number-table w ↦
           rw (w.table-is, c.number-number.ensures)
-          (clears_next old table xs i literal x c.loop-literal-test.true c.literal-item.is (omega arith) (c.loop-literal.invariant x))
+          (clears_next old table xs i literal x c.loop-literal-test.true c.literal-item.is
+          (omega arith) (c.loop-literal.invariant x))
       | else-number-table w ↦
           rw w.table-is
-          (clears_beyond old table xs i literal x c.loop-literal-test.true c.literal-item.is (omega arith) (c.loop-literal.invariant x))
+          (clears_beyond old table xs i literal x c.loop-literal-test.true c.literal-item.is
+          (omega arith) (c.loop-literal.invariant x))
     ]

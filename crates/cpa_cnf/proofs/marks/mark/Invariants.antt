@@ -5,4 +5,5 @@ use Rattle.cpa_cnf.proofs.marks.mark.Given as goal
 
 abbrev pub invariant-loop-literal : goal.invariant-loop-literal
 invariant-loop-literal l =
-    (x : ℕ) → marked l.table x ≡ (marked l.initial.table x || has (take l.literal-index l.literals) x)
+    (x : ℕ) → marked l.table x ≡ (marked l.initial.table x
+    || has (take l.literal-index l.literals) x)

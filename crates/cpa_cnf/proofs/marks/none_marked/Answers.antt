@@ -1,16 +1,18 @@
 use Rattle.std.proofs.Common.{◌≡◌, false, sym, ◌∙◌}
 use Rattle.std.proofs.lemmas.Bool.{true≢false, false≢true}
 use Rattle.cpa_cnf.specs.Marking.{marked}
-use Rattle.cpa_cnf.proofs.Members.{has-at, more}
+use Rattle.cpa_cnf.specs.lemmas.Members.{has-at, more}
 use Rattle.cpa_cnf.proofs.marks.none_marked.Goals as goal
 
 pub returns-then-is_marked : goal.returns-then-is_marked
 returns-then-is_marked c = (
   λ wrong. absurd (false≢true wrong),
-  λ each. absurd (true≢false (c.if-is_marked.ensures ∙ each c.literal-item.result (has-at _ _ _ c.loop-literal-test.true c.literal-item.is))),
+  λ each. absurd (true≢false (c.if-is_marked.ensures
+      ∙ each c.literal-item.result (has-at _ _ _ c.loop-literal-test.true c.literal-item.is))),
 )
 
 pub loop-literal-preserved : goal.loop-literal-preserved
 loop-literal-preserved c =
-    more (λ l. marked c.args.table.now l ≡ false) c.args.literals.now c.loop-literal.literal-index c.literal-item.result
+    more (λ l. marked c.args.table.now l ≡ false) c.args.literals.now c.loop-literal.literal-index
+    c.literal-item.result
     c.loop-literal-test.true c.literal-item.is c.loop-literal.invariant (sym c.if-is_marked.ensures)

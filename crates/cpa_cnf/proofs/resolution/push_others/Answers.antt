@@ -1,6 +1,6 @@
 use Rattle.std.proofs.Common.{sym}
 use Rattle.std.proofs.lemmas.Bool.{eqb-true, eqb-false, not-true, not-false}
-use Rattle.cpa_cnf.proofs.Members.{has-kept, has-left_out}
+use Rattle.cpa_cnf.specs.lemmas.Members.{has-kept, has-left_out}
 use Rattle.cpa_cnf.proofs.resolution.push_others.Goals as goal
 use Rattle.cpa_cnf.proofs.resolution.push_others.Goals.{then-ne+in_ok-push, else-ne}
 
@@ -15,8 +15,12 @@ loop-literal-preserved c x =
     elim c.if-ne.branch [
       | then-ne+in_ok-push w ↦
           rw (w.left-is, w.in_ok-push.ensures.items)
-          (has-kept old left xs i literal out x c.loop-literal-test.true c.literal-item.is (eqb-false literal out (not-true _ (sym w.if-ne.ensures))) (c.loop-literal.invariant x))
+          (has-kept old left xs i literal out x c.loop-literal-test.true c.literal-item.is
+          (eqb-false literal out (not-true _ (sym w.if-ne.ensures)))
+          (c.loop-literal.invariant x))
       | else-ne w ↦
           rw w.left-is
-          (has-left_out old left xs i literal out x c.loop-literal-test.true c.literal-item.is (eqb-true literal out (not-false _ (sym w.if-ne.ensures))) (c.loop-literal.invariant x))
+          (has-left_out old left xs i literal out x c.loop-literal-test.true c.literal-item.is
+          (eqb-true literal out (not-false _ (sym w.if-ne.ensures)))
+          (c.loop-literal.invariant x))
     ]

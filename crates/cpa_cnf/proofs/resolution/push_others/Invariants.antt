@@ -5,4 +5,5 @@ use Rattle.cpa_cnf.proofs.resolution.push_others.Given as goal
 
 abbrev pub invariant-loop-literal : goal.invariant-loop-literal
 invariant-loop-literal l =
-    (x : ℕ) → has l.left.items x ≡ (has l.initial.left.items x || (has (take l.literal-index l.literals) x && not (x == l.out)))
+    (x : ℕ) → has l.left.items x ≡ (has l.initial.left.items x
+    || (has (take l.literal-index l.literals) x && not (x == l.out)))

@@ -1,6 +1,6 @@
 use Rattle.std.proofs.Common.{ap, ◌∙◌}
 use Rattle.cpa_cnf.specs.Clauses.{has}
-use Rattle.cpa_cnf.proofs.Members.{any-has}
+use Rattle.cpa_cnf.specs.lemmas.Members.{any-has}
 use Rattle.cpa_cnf.proofs.clause.Clause.contains.Goals as goal
 
 pub returns : goal.returns

@@ -1,0 +1,88 @@
+//! Rows on clauses, resolvents and lines.
+
+use crate::fault::RowFault;
+use crate::formulas::{formula, line};
+use crate::words::{end_row, next_number, next_word, push_clause, variable_of_word, whole_clause};
+use cpa_cnf::{Cnf, Line, Marks, check_line, resolve};
+use std::alloc::Global;
+use std::str::{Split, SplitWhitespace};
+
+/// The next part of a row, which is to be there.
+pub fn next_part<'a>(parts: &mut Split<'a, char>) -> Result<&'a str, RowFault> {
+    parts.next().ok_or(RowFault::Unreadable)
+}
+
+/// The answer of a row on clauses; false where the word names none.
+pub fn answer(
+    alloc: Global,
+    out: &mut String,
+    word: &str,
+    words: &mut SplitWhitespace<'_>,
+    parts: &mut Split<'_, char>,
+) -> Result<bool, RowFault> {
+    if word == "clause" {
+        end_row(words)?;
+        sorted(alloc, out, next_part(parts)?)?;
+    } else if word == "resolve" {
+        resolvent(alloc, out, words, parts)?;
+    } else if word == "lines" {
+        lines(alloc, out, words, parts)?;
+    } else {
+        return Ok(false);
+    }
+    Ok(true)
+}
+
+/// `clause : LITERALS`: the clause of the literals.
+fn sorted(alloc: Global, out: &mut String, text: &str) -> Result<(), RowFault> {
+    push_clause(out, &whole_clause(alloc, text)?)
+}
+
+/// `resolve PIVOT : LITERALS : LITERALS`: the resolvent, or `none`.
+fn resolvent(
+    alloc: Global,
+    out: &mut String,
+    words: &mut SplitWhitespace<'_>,
+    parts: &mut Split<'_, char>,
+) -> Result<(), RowFault> {
+    let pivot = variable_of_word(next_word(words)?)?;
+    end_row(words)?;
+    let a = whole_clause(alloc, next_part(parts)?)?;
+    let b = whole_clause(alloc, next_part(parts)?)?;
+    match resolve(alloc, &a, &b, pivot)? {
+        Some(clause) => push_clause(out, &clause),
+        None => Ok(out.push_str(" none")?),
+    }
+}
+
+/// `lines VARS : FORMULA : LINE : LINE ..`: which of the lines are good, a sign each.
+fn lines(
+    alloc: Global,
+    out: &mut String,
+    words: &mut SplitWhitespace<'_>,
+    parts: &mut Split<'_, char>,
+) -> Result<(), RowFault> {
+    let vars = next_number(words)?;
+    end_row(words)?;
+    let cnf = formula(alloc, vars, next_part(parts)?)?;
+    let mut log = Vec::new(alloc);
+    for part in parts {
+        log.push(line(alloc, part)?)?;
+    }
+    out.push_str(" ")?;
+    push_signs(alloc, out, &cnf, &log)
+}
+
+/// A sign for each line, all checked with one table.
+fn push_signs(alloc: Global, out: &mut String, cnf: &Cnf, log: &[Line]) -> Result<(), RowFault> {
+    let mut marks = Marks::new(alloc, cnf.vars)?;
+    for i in 0..log.len().min(1000) {
+        let sign = if check_line(cnf, log, i as u32, &mut marks) {
+            "+"
+        } else {
+            "-"
+        };
+        out.push_str(sign)?;
+    }
+    Ok(())
+}

@@ -1,0 +1,21 @@
+//! A row: the word of its call and what the call takes, and behind colons clauses, formulas and
+//! lines.
+
+use crate::fault::RowFault;
+use crate::words::next_word;
+use crate::{clause_rows, search_rows};
+use std::alloc::Global;
+
+/// The answer of a row, its words each behind a space.
+pub fn answer(alloc: Global, row: &str) -> Result<String, RowFault> {
+    let mut out = String::new(alloc);
+    let mut parts = row.split(':');
+    let mut words = parts.next().unwrap_or("").split_whitespace();
+    let word = next_word(&mut words)?;
+    let known = clause_rows::answer(alloc, &mut out, word, &mut words, &mut parts)?
+        || search_rows::answer(alloc, &mut out, word, &mut words, &mut parts)?;
+    if !known || parts.next().is_some() {
+        return Err(RowFault::Unreadable);
+    }
+    Ok(out)
+}

@@ -1,0 +1,84 @@
+//! The words of a row: numbers, literals and clauses, as in DIMACS: the literals of variable v are
+//! v + 1 and -(v + 1), and a clause ends with 0.
+
+use crate::fault::RowFault;
+use cpa_cnf::{Clause, Lit};
+use std::alloc::Global;
+use std::str::SplitWhitespace;
+
+/// The next word, which is to be there.
+pub fn next_word<'a>(words: &mut SplitWhitespace<'a>) -> Result<&'a str, RowFault> {
+    words.next().ok_or(RowFault::Unreadable)
+}
+
+/// Nothing is left.
+pub fn end_row(words: &mut SplitWhitespace<'_>) -> Result<(), RowFault> {
+    if words.next().is_some() {
+        return Err(RowFault::Unreadable);
+    }
+    Ok(())
+}
+
+/// The next word as a number.
+pub fn next_number(words: &mut SplitWhitespace<'_>) -> Result<u32, RowFault> {
+    Ok(next_word(words)?.parse::<u32>()?)
+}
+
+/// The variable that a word names, counted from 1.
+pub fn variable_of_word(word: &str) -> Result<u32, RowFault> {
+    let number = word.parse::<u64>()?;
+    if number == 0 || number > 4294967296 {
+        return Err(RowFault::Unreadable);
+    }
+    Ok((number - 1) as u32)
+}
+
+/// The literal that a word spells.
+fn literal_of_word(word: &str) -> Result<Lit, RowFault> {
+    match word.strip_prefix("-") {
+        Some(rest) => Ok(Lit::new(variable_of_word(rest)?, true)),
+        None => Ok(Lit::new(variable_of_word(word)?, false)),
+    }
+}
+
+/// The clause of the words up to a 0 or the end; None where no word is left.
+pub fn next_clause(
+    alloc: Global,
+    words: &mut SplitWhitespace<'_>,
+) -> Result<Option<Clause>, RowFault> {
+    let mut literals = Vec::new(alloc);
+    let mut is_there = false;
+    for word in words {
+        is_there = true;
+        if word == "0" {
+            break;
+        }
+        literals.push(literal_of_word(word)?)?;
+    }
+    if !is_there {
+        return Ok(None);
+    }
+    Ok(Some(Clause::from_lits(literals)?))
+}
+
+/// The clause of a whole text.
+pub fn whole_clause(alloc: Global, text: &str) -> Result<Clause, RowFault> {
+    let mut literals = Vec::new(alloc);
+    for word in text.split_whitespace() {
+        literals.push(literal_of_word(word)?)?;
+    }
+    Ok(Clause::from_lits(literals)?)
+}
+
+/// Writes a clause, each literal behind a space; `empty` where it has none.
+pub fn push_clause(out: &mut String, clause: &Clause) -> Result<(), RowFault> {
+    if clause.is_empty() {
+        out.push_str(" empty")?;
+    }
+    for literal in clause.literals() {
+        let sign = if literal.is_negative() { " -" } else { " " };
+        let number = u64::from(literal.var()) + 1;
+        write!(out, "{sign}{number}")?;
+    }
+    Ok(())
+}

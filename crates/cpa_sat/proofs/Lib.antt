@@ -1,0 +1,5 @@
+pub mod Marks
+pub mod Conflicts
+pub mod Growth
+pub mod Counting
+pub mod Loading

@@ -1,0 +1,183 @@
+-- The beginning of a search, and what its end gives.
+use Rattle.std.proofs.Common.{◌≡◌, ◌≢◌, ℕ, zero, suc, ◌+◌, ◌-◌, ◌*◌, ◌^◌, ◌<◌, ◌≤◌, List, [], ◌∷◌}
+use Rattle.std.proofs.Common.{◌++◌, map, take, length, get_or, refl, sym, ap, ◌∙◌, subst, arith}
+use Rattle.std.proofs.Common.{Bool, Some}
+use Rattle.std.specs.Prelude.{slice_index_or}
+use Rattle.std.specs.List.{AllByRecursion, slice_get}
+use Rattle.std.proofs.lemmas.List.{take_more, take_all, append-nil, get_or_append_left}
+use Rattle.std.proofs.lemmas.List.{get_or_default, length-map, length-append}
+use Rattle.std.proofs.lemmas.List.Elements.{All-from_recursion, recursion_from_All}
+use Rattle.std.proofs.lemmas.Option.{slice_get_within}
+use Rattle.cpa_cnf.specs.declared.formula.Cnf.{Cnf}
+use Rattle.cpa_cnf.specs.declared.formula.Line.{Line}
+use Rattle.cpa_cnf.specs.Clauses.{IsClause}
+use Rattle.cpa_cnf.specs.Lines.{AreBelow, IsRefutation, known}
+use Rattle.cpa_cnf.specs.Models.{Satisfies, IsModel}
+use Rattle.cpa_cnf.specs.lemmas.Chains.{member_below}
+use Rattle.cpa_sat.specs.declared.engine.Search.{Search}
+use Rattle.cpa_trail.specs.Trails.{IsTrail, height}
+use Rattle.cpa_sat.specs.Analyses.{IsIdle}
+use Rattle.cpa_trail.specs.Findings.{AreSatisfied, AreValues}
+use Rattle.cpa_sat.specs.Outcomes.{IsRefutedWithin, IsSpent}
+use Rattle.cpa_sat.specs.States.{AreLoaded, IsState}
+use Rattle.cpa_sat.proofs.Growth.{at_number}
+use Rattle.cpa_trail.specs.lemmas.Values.{satisfied}
+use Rattle.cpa_sat.proofs.Counting.{few_lines}
+
+pub at_item : (P : List ℕ → Type 0) (xs : List (List ℕ)) (i : ℕ) (x : List ℕ) → AllByRecursion P xs
+    → i < length xs → x ≡ get_or xs i x → P x
+at_item P xs i x all below is = subst P (sym is) (All-from_recursion P xs all i x below)
+
+weaker : (n m : ℕ) (xs : List ℕ) → n ≤ m → AllByRecursion (λ l. l < n) xs
+    → AllByRecursion (λ l. l < m) xs
+weaker n m [] h all = tt
+weaker n m (x ∷ xs) h all = (up x n m all.0 h, weaker n m xs h all.1)
+  where
+    up : (a b c : ℕ) → a < b → b ≤ c → a < c
+    up a b c p q = omega arith
+
+pub small_literals : (vars : ℕ) (xs : List ℕ) → vars < 2 ^ 31 → AreBelow vars xs
+    → AllByRecursion (λ l. l < 4294967296) xs
+small_literals vars xs h all = weaker (2 * vars) 4294967296 xs (room vars h) all
+  where
+    room : (n : ℕ) → n < 2147483648 → 2 * n ≤ 4294967296
+    room n k = omega arith
+
+pub loaded_more : (cnf : Cnf) (i : ℕ) (arena more : List (List ℕ)) (clause : List ℕ)
+    → i < length cnf.clauses → clause ≡ get_or cnf.clauses i clause
+    → AreLoaded cnf i arena → more ≡ arena ++ clause ∷ [] → IsClause clause
+    → length more < 4294967295 → AreLoaded cnf (i + 1) more
+loaded_more cnf i arena more clause inside is l e sorted few =
+    let next : take (i + 1) cnf.clauses ≡ take i cnf.clauses ++ clause ∷ [] =
+    take_more cnf.clauses i clause inside
+    ∙ ap (λ (c : List ℕ). take i cnf.clauses ++ c ∷ []) (sym is) in
+    record {
+      clauses = e ∙ ap (λ (cs : List (List ℕ)). cs ++ clause ∷ []) l.clauses ∙ sym next;
+      sorted = λ k. subst (λ (cs : List (List ℕ)). IsClause (slice_index_or cs k [])) (sym next)
+          (at_number IsClause (take i cnf.clauses) clause l.sorted sorted k);
+      few = few;
+    }
+
+pub loaded_all : (cnf : Cnf) (i : ℕ) (arena : List (List ℕ)) → length cnf.clauses ≤ i
+    → AreLoaded cnf i arena → AreLoaded cnf (length cnf.clauses) arena
+loaded_all cnf i arena past l =
+    let same : take i cnf.clauses ≡ take (length cnf.clauses) cnf.clauses =
+    take_all i cnf.clauses past ∙ sym
+    (take_all (length cnf.clauses) cnf.clauses (same_le (length cnf.clauses))) in
+    record {
+      clauses = l.clauses ∙ same;
+      sorted = λ k. subst (λ (cs : List (List ℕ)). IsClause (slice_index_or cs k [])) same
+          (l.sorted k);
+      few = l.few;
+    }
+  where
+    same_le : (n : ℕ) → n ≤ n
+    same_le n = omega arith
+
+below_at : (vars : ℕ) (cs : List (List ℕ)) → AllByRecursion (AreBelow vars) cs → (k : ℕ)
+    → AreBelow vars (slice_index_or cs k [])
+below_at vars [] all k = tt
+below_at vars (c ∷ cs) all zero = all.0
+below_at vars (c ∷ cs) all (suc k) = below_at vars cs all.1 k
+
+pub started : (cnf : Cnf) (s : Search) → AreLoaded cnf (length cnf.clauses) s.arena
+    → AllByRecursion (AreBelow cnf.vars) cnf.clauses → IsTrail s.trail
+    → s.trail.vars ≡ cnf.vars → height s.trail ≡ 0 → IsIdle s.analysis → s.analysis.vars ≡ cnf.vars
+    → s.lines.items ≡ [] → IsState cnf s
+started cnf s l below trail vars empty idle analysis_vars none =
+    let whole : s.arena ≡ cnf.clauses = l.clauses
+    ∙ take_all (length cnf.clauses) cnf.clauses (same_le (length cnf.clauses)) in
+    record {
+      sound = record {
+        trail = trail;
+        clauses_are = record {
+          sorted = λ k. subst (λ (cs : List (List ℕ)). IsClause (slice_index_or cs k []))
+              (sym l.clauses) (l.sorted k);
+          below = λ k. subst (λ (cs : List (List ℕ)). AreBelow s.trail.vars
+              (slice_index_or cs k [])) (sym whole)
+              (subst (λ n. AreBelow n (slice_index_or cnf.clauses k [])) (sym vars)
+              (below_at cnf.vars cnf.clauses below k));
+        };
+        justified = λ i inside forced. absurd (nothing i (height s.trail) inside empty);
+      };
+      vars = vars;
+      analysis_vars = analysis_vars;
+      idle = idle;
+      clauses = whole ∙ sym (ap (λ (ls : List Line). known cnf ls) none ∙ append-nil cnf.clauses);
+      few = l.few;
+      good = λ i line at. absurd (nothing i (length s.lines.items)
+          (slice_get_within s.lines.items i line at) (ap (λ (ls : List Line). length ls) none));
+      fresh = λ i line at. absurd (nothing i (length s.lines.items)
+          (slice_get_within s.lines.items i line at) (ap (λ (ls : List Line). length ls) none));
+      filled = subst (λ (ls : List Line). AllByRecursion (λ (line : Line). line.clause ≢ []) ls)
+          (sym none) tt;
+    }
+  where
+    same_le : (n : ℕ) → n ≤ n
+    same_le n = omega arith
+
+    nothing : (i n : ℕ) → i < n → n ≡ 0 → ⊥
+    nothing i n h e = absurd (omega arith)
+
+pub model_of : (cnf : Cnf) (s : Search) (values : List Bool) → IsState cnf s
+    → AreSatisfied s.arena s.trail → AreValues s.trail s.trail.vars values → IsModel cnf values
+model_of cnf s values st sat v = record {
+  each_variable = v.long ∙ st.vars;
+  each_clause = recursion_from_All (Satisfies values) cnf.clauses (λ k d inside. clause k d inside);
+}
+  where
+    more : (a b c : ℕ) → a < b → a < b + c
+    more a b c h = omega arith
+
+    here : (k : ℕ) → k < length cnf.clauses → k < length s.arena
+    here k inside =
+        subst (λ n. k < n) (sym (ap (λ (cs : List (List ℕ)). length cs) st.clauses
+        ∙ length-append cnf.clauses (map (λ (line : Line). line.clause) s.lines.items)))
+        (more k (length cnf.clauses) (length (map (λ (line : Line). line.clause) s.lines.items))
+        inside)
+
+    is : (k : ℕ) (d : List ℕ) → k < length cnf.clauses
+        → slice_index_or s.arena k [] ≡ get_or cnf.clauses k d
+    is k d inside =
+        ap (λ (cs : List (List ℕ)). slice_index_or cs k []) st.clauses
+        ∙ get_or_append_left cnf.clauses (map (λ (line : Line). line.clause) s.lines.items) [] k
+        inside
+        ∙ get_or_default cnf.clauses k [] d inside
+
+    clause : (k : ℕ) (d : List ℕ) → k < length cnf.clauses
+        → Satisfies values (get_or cnf.clauses k d)
+    clause k d inside =
+        subst (λ (c : List ℕ). Satisfies values c) (is k d inside)
+        (satisfied s.trail values (slice_index_or s.arena k []) st.sound.trail v
+        (λ l h. member_below s.trail.vars (slice_index_or s.arena k []) l
+        (st.sound.clauses_are.below k) h) (sat k (here k inside)))
+
+pub refuted_within : (cnf : Cnf) (learnt : ℕ) (log : List Line) → IsRefutation cnf log
+    → length log ≤ learnt → IsRefutedWithin cnf learnt log
+refuted_within cnf learnt log r within = record {
+  refutes = r;
+  some = one (length log) (length (map (λ (line : Line). line.clause) log))
+      (length-map log (λ (line : Line). line.clause))
+      (slice_get_within _ (length log - 1) [] r.last);
+  within = within;
+}
+  where
+    one : (n m : ℕ) → m ≡ n → n - 1 < m → 1 ≤ n
+    one n m e h = omega arith
+
+pub spent_lines : (cnf : Cnf) (learnt : ℕ) (s : Search) → IsState cnf s
+    → length s.lines.items ≡ learnt → IsSpent cnf learnt s.lines.items
+spent_lines cnf learnt s st all = record {
+  all = all;
+  good = st.good;
+  filled = st.filled;
+  fresh = st.fresh;
+  few = subst (λ n. n < 4 ^ cnf.vars) all
+      (few_lines cnf s.lines.items
+      (λ k. subst (λ (cs : List (List ℕ)). IsClause (slice_index_or cs k [])) st.clauses
+      (st.sound.clauses_are.sorted k))
+      (λ k. subst (λ (cs : List (List ℕ)). AreBelow cnf.vars (slice_index_or cs k [])) st.clauses
+      (subst (λ n. AreBelow n (slice_index_or s.arena k [])) st.vars
+      (st.sound.clauses_are.below k)))
+      st.filled st.fresh);
+}

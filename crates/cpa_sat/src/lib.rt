@@ -1,0 +1,14 @@
+//! Clause search with resolution lines: conflict-driven clause learning, whose every learned clause
+//! comes with the chain of resolutions that gives it.
+#![tactic(auto)]
+
+mod analysis;
+mod conflict;
+mod engine;
+mod outcome;
+mod quality;
+mod redundancy;
+mod start;
+
+pub use outcome::Found;
+pub use start::search;

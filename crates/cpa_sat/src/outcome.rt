@@ -1,0 +1,14 @@
+//! What a search finds.
+
+use cpa_cnf::Line;
+
+/// The outcome of a search.
+#[derive(Debug, Drop)]
+pub enum Found {
+    /// A value for each variable.
+    Model(Vec<bool>),
+    /// The lines of a refutation.
+    Refuted(Vec<Line>),
+    /// All lines that were allowed, without a decision.
+    Spent(Vec<Line>),
+}

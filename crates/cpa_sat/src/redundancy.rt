@@ -1,0 +1,215 @@
+//! Which literals of a learned clause its others imply, through the clauses that forced them
+//! (Sörensson and Biere 2009), and how many levels it has (Audemard and Simon 2009). Nothing rests
+//! on either but speed.
+
+use crate::analysis::Analysis;
+use cpa_arena::Arena;
+use cpa_trail::{NONE, Trail};
+use std::alloc::{AllocError, Global};
+
+/// The most places that are looked at for one literal.
+const MOST: u32 = 10000;
+
+/// What is known of the places of a trail.
+#[derive(Debug, Drop)]
+pub(crate) struct Redundancy {
+    /// Whether the literal of a place is known to be implied.
+    implied: Vec<bool>,
+    /// The places that are known to be implied.
+    known: Vec<u32>,
+    pending: Vec<u32>,
+    /// By level, the number of the last analysis whose clause had a literal of it.
+    stamps: Vec<u32>,
+    stamp: u32,
+    /// In how many levels the literals of the last clause became false.
+    pub(crate) distance: u32,
+}
+
+impl Redundancy {
+    /// Nothing is known.
+    pub(crate) fn new(alloc: Global, vars: u32) -> Result<Redundancy, AllocError> {
+        Ok(Redundancy {
+            implied: vec![in alloc; false; vars as usize]?,
+            known: Vec::new(alloc),
+            pending: Vec::new(alloc),
+            stamps: vec![in alloc; 0; vars as usize + 1]?,
+            stamp: 0,
+            distance: 0,
+        })
+    }
+
+    /// Whether the literal of the place is known to be implied.
+    fn is_implied(&self, place: u32) -> bool {
+        self.is_implied_at(place as usize)
+    }
+
+    /// `is_implied` of a place as an index.
+    pub(crate) fn is_implied_at(&self, place: usize) -> bool {
+        self.implied.as_slice().get(place).copied().unwrap_or(false)
+    }
+
+    /// Forgets what is known, and counts the levels of the marked literals.
+    fn begin(&mut self, analysis: &Analysis, trail: &Trail) {
+        self.forget(0);
+        self.stamp = self.stamp.wrapping_add(1);
+        self.distance = 0;
+        for literal in &analysis.touched {
+            if analysis.is_marked(*literal)
+                && self.is_new(trail.level(trail.when_false(*literal)))
+            {
+                self.distance = self.distance.wrapping_add(1);
+            }
+        }
+    }
+
+    /// Takes a level; whether it was not taken yet.
+    fn is_new(&mut self, level: u32) -> bool {
+        let at = level as usize;
+        if at >= self.stamps.len() || self.stamps[at] == self.stamp {
+            return false;
+        }
+        self.stamps[at] = self.stamp;
+        true
+    }
+
+    /// Whether a marked literal has the level, or no decision stands before it.
+    fn has_level(&self, level: u32) -> bool {
+        level == 0 || self.stamps.as_slice().get(level as usize).copied() == Some(self.stamp)
+    }
+
+    /// Forgets the places that became known after so many others.
+    fn forget(&mut self, count: usize) {
+        for k in count..self.known.len() {
+            self.forget_one(k);
+        }
+        self.known.truncate(count);
+    }
+
+    /// Forgets what is known of the place that became known as number `k`.
+    fn forget_one(&mut self, k: usize) {
+        let place = self.known.as_slice().get(k).copied().unwrap_or(NONE) as usize;
+        if place < self.implied.len() {
+            self.implied[place] = false;
+        }
+    }
+
+    /// Takes a place as implied, to be looked at later.
+    fn assume(&mut self, place: u32) -> Result<(), AllocError> {
+        let at = place as usize;
+        if at < self.implied.len() {
+            self.implied[at] = true;
+            self.known.push(place)?;
+            self.pending.push(place)?;
+        }
+        Ok(())
+    }
+
+    /// Finds out which marked literals the others imply, but for the one of the place `kept`.
+    pub(crate) fn explore(
+        &mut self,
+        analysis: &Analysis,
+        arena: &Arena,
+        trail: &Trail,
+        kept: usize,
+    ) -> Result<(), AllocError> {
+        self.begin(analysis, trail);
+        for literal in &analysis.touched {
+            let place = trail.when_false(*literal);
+            if analysis.is_marked(*literal) && place as usize != kept {
+                self.look(analysis, arena, trail, place)?;
+            }
+        }
+        Ok(())
+    }
+
+    /// Finds out whether the other marked literals imply the literal of the place.
+    fn look(
+        &mut self,
+        analysis: &Analysis,
+        arena: &Arena,
+        trail: &Trail,
+        place: u32,
+    ) -> Result<(), AllocError> {
+        if trail.why(place) == NONE || self.is_implied(place) {
+            return Ok(());
+        }
+        let before = self.known.len();
+        self.pending.clear();
+        self.assume(place)?;
+        if !self.follow_all(analysis, arena, trail)? {
+            self.forget(before);
+        }
+        Ok(())
+    }
+
+    /// Follows the pending places; false where one is not implied, or they are too many.
+    fn follow_all(
+        &mut self,
+        analysis: &Analysis,
+        arena: &Arena,
+        trail: &Trail,
+    ) -> Result<bool, AllocError> {
+        for _ in 0..MOST {
+            match self.pending.pop() {
+                Some(place) => {
+                    if !self.follow(analysis, arena, trail, place)? {
+                        return Ok(false);
+                    }
+                }
+                None => return Ok(true),
+            }
+        }
+        Ok(false)
+    }
+
+    /// Assumes the literals of the clause that forced the one of the place; false where one of them
+    /// is not implied.
+    fn follow(
+        &mut self,
+        analysis: &Analysis,
+        arena: &Arena,
+        trail: &Trail,
+        place: u32,
+    ) -> Result<bool, AllocError> {
+        let number = trail.why(place);
+        if number as usize >= arena.len() {
+            return Ok(false);
+        }
+        for literal in arena.clause(number) {
+            if !self.step(analysis, trail, *literal)? {
+                return Ok(false);
+            }
+        }
+        Ok(true)
+    }
+
+    /// Assumes a literal of a reason, unless it is marked, known or true; false where it is not
+    /// implied.
+    fn step(
+        &mut self,
+        analysis: &Analysis,
+        trail: &Trail,
+        literal: u32,
+    ) -> Result<bool, AllocError> {
+        let place = trail.when_false(literal);
+        if place == NONE || analysis.is_marked(literal) || self.is_implied(place) {
+            return Ok(true);
+        }
+        if trail.why(place) == NONE || !self.has_level(trail.level(place)) {
+            return Ok(false);
+        }
+        self.assume(place)?;
+        Ok(true)
+    }
+
+    /// The least place that is known to be implied, and the one behind the greatest.
+    pub(crate) fn range(&self) -> (usize, usize) {
+        let mut low = usize::MAX;
+        let mut high = 0;
+        for place in &self.known {
+            low = low.min(*place as usize);
+            high = high.max(*place as usize + 1);
+        }
+        (low, high)
+    }
+}

@@ -1,0 +1,235 @@
+//! Which literal to decide next (VSIDS: Moskewicz et al. 2001; as in MiniSat), and when to restart
+//! (Luby, Sinclair and Zuckerman 1993). Nothing rests on either but speed.
+
+use crate::trail::NONE;
+use std::alloc::{AllocError, Global};
+
+/// The most steps from the root of a heap to a leaf.
+const DEPTH: u32 = 33;
+
+/// How much faster each bump is than the one before: 1 / 0.95.
+const GROWTH: f64 = 1.0526315789473684;
+
+/// The activity at which all are scaled down, and by what.
+const HIGH: f64 = 1e100;
+
+const SCALE: f64 = 1e-100;
+
+/// The variables in a heap by activity, and the sign that each had last.
+#[derive(Debug, Drop)]
+pub struct Order {
+    heap: Vec<u32>,
+    /// The place of each variable in the heap, NONE where it is not there.
+    slots: Vec<u32>,
+    activities: Vec<f64>,
+    negative: Vec<bool>,
+    step: f64,
+}
+
+impl Order {
+    /// All variables, none with any activity.
+    pub fn new(alloc: Global, vars: u32) -> Result<Order, AllocError> {
+        let mut heap = Vec::with_capacity(alloc, vars as usize)?;
+        let mut slots = Vec::with_capacity(alloc, vars as usize)?;
+        for var in 0..vars {
+            heap.push(var)?;
+            slots.push(var)?;
+        }
+        Ok(Order {
+            heap,
+            slots,
+            activities: vec![in alloc; 0.0; vars as usize]?,
+            negative: vec![in alloc; true; vars as usize]?,
+            step: 1.0,
+        })
+    }
+
+    fn activity(&self, var: u32) -> f64 {
+        self.activities
+            .as_slice()
+            .get(var as usize)
+            .copied()
+            .unwrap_or(0.0)
+    }
+
+    fn at(&self, slot: u32) -> u32 {
+        self.heap
+            .as_slice()
+            .get(slot as usize)
+            .copied()
+            .unwrap_or(NONE)
+    }
+
+    fn slot(&self, var: u32) -> u32 {
+        self.slots
+            .as_slice()
+            .get(var as usize)
+            .copied()
+            .unwrap_or(NONE)
+    }
+
+    /// Puts the variable at the place in the heap.
+    fn put(&mut self, slot: u32, var: u32) {
+        if (slot as usize) < self.heap.len() {
+            self.heap[slot as usize] = var;
+        }
+        if (var as usize) < self.slots.len() {
+            self.slots[var as usize] = slot;
+        }
+    }
+
+    /// Moves the variable at the place up to where it belongs.
+    fn rise(&mut self, slot: u32) {
+        let var = self.at(slot);
+        let mut here = slot;
+        for _ in 0..DEPTH {
+            if here == 0 {
+                break;
+            }
+            let parent = (here - 1) / 2;
+            let above = self.at(parent);
+            if self.activity(var) <= self.activity(above) {
+                break;
+            }
+            self.put(here, above);
+            here = parent;
+        }
+        self.put(here, var);
+    }
+
+    /// The child of the place with the greater activity, NONE where it has no child.
+    fn child(&self, slot: u32) -> u32 {
+        let left = u64::from(slot) * 2 + 1;
+        if left >= self.heap.len() as u64 || left >= 4294967294 {
+            return NONE;
+        }
+        let left = left as u32;
+        let right = left + 1;
+        let is_right = self.at(right) != NONE
+            && self.activity(self.at(right)) > self.activity(self.at(left));
+        if is_right { right } else { left }
+    }
+
+    /// Moves the variable at the place down to where it belongs.
+    fn sink(&mut self, slot: u32) {
+        let var = self.at(slot);
+        let mut here = slot;
+        for _ in 0..DEPTH {
+            let child = self.child(here);
+            if child == NONE {
+                break;
+            }
+            let below = self.at(child);
+            if self.activity(below) <= self.activity(var) {
+                break;
+            }
+            self.put(here, below);
+            here = child;
+        }
+        self.put(here, var);
+    }
+
+    /// Takes out the variable of the greatest activity, and gives its literal with the sign that it
+    /// had last.
+    pub fn pop(&mut self) -> Option<u32> {
+        let var = self.at(0);
+        let last = self.heap.pop()?;
+        if (var as usize) < self.slots.len() {
+            self.slots[var as usize] = NONE;
+        }
+        if !self.heap.is_empty() {
+            self.put(0, last);
+            self.sink(0);
+        }
+        let is_negative = self
+            .negative
+            .as_slice()
+            .get(var as usize)
+            .copied()
+            .unwrap_or(true);
+        if var < 2147483648 {
+            Some(var * 2 + u32::from(is_negative))
+        } else {
+            None
+        }
+    }
+
+    /// Keeps the sign of a literal that was true, and puts its variable back.
+    pub fn release(&mut self, literal: u32) -> Result<(), AllocError> {
+        let var = literal / 2;
+        if (var as usize) < self.negative.len() {
+            self.negative[var as usize] = literal % 2 == 1;
+        }
+        if self.slot(var) == NONE && self.heap.len() < 2147483648 {
+            let slot = self.heap.len() as u32;
+            self.heap.push(var)?;
+            self.put(slot, var);
+            self.rise(slot);
+        }
+        Ok(())
+    }
+
+    /// Raises a variable's activity.
+    pub fn bump(&mut self, var: u32) {
+        if (var as usize) < self.activities.len() {
+            self.activities[var as usize] = self.activity(var) + self.step;
+            if self.activity(var) > HIGH {
+                self.scale();
+            }
+        }
+        let slot = self.slot(var);
+        if slot != NONE {
+            self.rise(slot);
+        }
+    }
+
+    /// Makes later bumps count for more.
+    pub fn decay(&mut self) {
+        self.step *= GROWTH;
+    }
+
+    fn scale(&mut self) {
+        for activity in self.activities.iter_mut() {
+            *activity *= SCALE;
+        }
+        self.step *= SCALE;
+    }
+}
+
+/// The lengths between restarts: the Luby sequence in units of a hundred conflicts.
+#[derive(Debug, Drop)]
+pub struct Restarts {
+    /// The pair of Knuth's recurrence for the sequence.
+    u: u64,
+    v: u64,
+    left: u64,
+}
+
+/// The conflicts of one unit.
+const UNIT: u64 = 100;
+
+impl Restarts {
+    pub fn new() -> Restarts {
+        Restarts {
+            u: 1,
+            v: 1,
+            left: UNIT,
+        }
+    }
+
+    /// Counts a conflict, and says whether to restart.
+    pub fn is_due(&mut self) -> bool {
+        if self.left > 0 {
+            self.left -= 1;
+            return false;
+        }
+        if self.u & self.u.wrapping_neg() == self.v {
+            self.u = self.u.wrapping_add(1);
+            self.v = 1;
+        } else {
+            self.v = self.v.wrapping_mul(2);
+        }
+        self.left = self.v.saturating_mul(UNIT);
+        true
+    }
+}
