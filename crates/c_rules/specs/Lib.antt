@@ -1,0 +1,16 @@
+pub mod Types
+pub mod Known
+pub mod Names
+pub mod Parts
+pub mod Expressions
+pub mod ExpressionRules
+pub mod Constants
+pub mod Declarations
+pub mod Statements
+pub mod StatementRules
+pub mod Items
+pub mod Recursion
+pub mod TypedStatements
+pub mod Counts
+pub mod First
+pub mod Sound

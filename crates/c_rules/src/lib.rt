@@ -1,0 +1,36 @@
+//! What names stand for in a C text and which types its expressions have, the typed tree, and the
+//! rules of names and types that a text can break (C11 6.2.1, 6.5 to 6.9). The definitions are in
+//! `specs/`.
+#![tactic(auto)]
+
+mod first;
+mod kinds;
+mod known;
+mod meaning;
+mod parts;
+mod typed;
+mod uses;
+
+pub use first::{note, note_place};
+pub use kinds::{
+    as_kind, binary_type, cast_kind, ends_kind, kind_of_words, unary_type, value_kind,
+};
+pub use known::{KNOWN, KnownFunction, known_function};
+pub use meaning::{
+    Constant, Declared, Entry, Form, Function, Kind, Meaning, Object, ParameterType, Part, Role,
+};
+pub use parts::{cast_role, named_kind, with_value};
+pub use typed::{
+    Cell, Global, TypedDeclarator, TypedExpression, TypedForStart, TypedFunction, TypedInitializer,
+    TypedItem, TypedStatement, TypedSuffix, TypedUnit,
+};
+pub use uses::{note_given, note_named, note_paired, note_taken};
+
+/// How many elements an array has at most, this project's own limit.
+pub const MAX_ELEMENTS: u32 = 4096;
+
+/// How many cells a program has at most, this project's own limit.
+pub const MAX_CELLS: u32 = 65_536;
+
+/// How many points a program has at most, this project's own limit.
+pub const MAX_POINTS: u32 = 65_536;
