@@ -1,0 +1,146 @@
+-- What facts say of cells, and the facts of cells.
+use Rattle.std.proofs.Common.{◌≡◌, ℕ, ◌+◌, ◌^◌, ◌<◌, ℤ, Bool, true, false, List, [], ◌∷◌, ◌++◌}
+use Rattle.std.proofs.Common.{refl, sym, ap, ◌∙◌, arith, cond, take, get_or, length, map, add-one}
+use Rattle.std.specs.Prelude.{zero, suc, Option, None, Some, slice_get, ◌==◌}
+use Rattle.std.specs.List.{range_with_len, slice_index_or}
+use Rattle.std.proofs.lemmas.List.{same_lists, take_more, length-take-le}
+use Rattle.std.proofs.lemmas.Option.{get_or_from_slice_get}
+use Rattle.std.proofs.lemmas.List.FromFn.{length-map-range_with_len, get_or-map-range_with_len}
+use Rattle.cpa_model.specs.declared.facts.Fact.{Fact}
+use Rattle.cpa_model.specs.declared.facts.Fact.TheVariants.{At, Stack, Equals, Within, Truth}
+use Rattle.cpa_model.specs.declared.facts.Elem.{Elem}
+use Rattle.cpa_model.specs.declared.program.Cell.{Cell}
+use Rattle.cpa_iface.specs.Pins.{equals_from}
+use Rattle.cpa_model.specs.declared.automaton.Edge.{Edge}
+use Rattle.cpa_model.specs.declared.automaton.Cfa.{Cfa}
+use Rattle.cpa_model.specs.Automata.{IsAutomaton}
+use Rattle.cpa_iface.specs.declared.precisions.Precision.{Precision}
+use Rattle.cpa_folds.specs.Marks.{is_marked}
+use Rattle.cpa_value.specs.Acts.{after_act}
+use Rattle.cpa_value.specs.Transfer.{elems_of, next_values}
+use Rattle.cpa_value.specs.Cells.{first_value, first_known, known_cells, is_tracked, facts_from}
+
+-- the first value of facts with one behind them
+first_value-push : (fs : List Fact) (f : Fact) (cell : ℕ) → first_value (fs ++ f ∷ []) cell ≡ first_known (first_value fs cell) (first_value (f ∷ []) cell)
+first_value-push [] f cell = refl
+first_value-push (At p ∷ fs) f cell = first_value-push fs f cell
+first_value-push (Stack s ∷ fs) f cell = first_value-push fs f cell
+first_value-push (Equals own v ∷ fs) f cell = by (own == cell) (first_value-push fs f cell) where
+  by : (b : Bool) → first_value (fs ++ f ∷ []) cell ≡ first_known (first_value fs cell) (first_value (f ∷ []) cell)
+      → cond b (Some v) (first_value (fs ++ f ∷ []) cell) ≡ first_known (cond b (Some v) (first_value fs cell)) (first_value (f ∷ []) cell)
+  by true later = refl
+  by false later = later
+first_value-push (Within c lo hi ∷ fs) f cell = first_value-push fs f cell
+first_value-push (Truth e h ∷ fs) f cell = first_value-push fs f cell
+
+-- the list has the first value of each of its cells
+pub record Knows (n : ℕ) (facts : List Fact) (cells : List (Option ℤ)) : Type 0 where
+  pub long : length cells ≡ n
+  pub first : (cell : ℕ) → cell < n → slice_index_or cells cell None ≡ first_value facts cell
+
+-- so it is after one fact more
+pub knows_more : (n : ℕ) (facts : List Fact) (i : ℕ) (f : Fact) (cells new : List (Option ℤ)) → i < length facts → f ≡ get_or facts i f
+    → Knows n (take i facts) cells → length new ≡ length cells
+    → ((cell : ℕ) → cell < length cells → slice_index_or new cell None ≡ first_known (slice_index_or cells cell None) (first_value (f ∷ []) cell))
+    → Knows n (take (i + 1) facts) new
+knows_more n facts i f cells new inside at knows same values = record {
+  long = same ∙ knows.long;
+  first = λ cell less.
+      let inner : cell < length cells = let long = knows.long in omega arith in
+      values cell inner
+      ∙ (ap (λ o. first_known o (first_value (f ∷ []) cell)) (knows.first cell less)
+      ∙ (sym (first_value-push (take i facts) f cell)
+      ∙ ap (λ l. first_value l cell) (ap (λ x. take i facts ++ x ∷ []) at ∙ sym (take_more facts i f inside))));
+}
+
+-- such a list is that of the known cells
+pub knows_all : (n : ℕ) (facts : List Fact) (cells : List (Option ℤ)) → Knows n facts cells → cells ≡ known_cells n facts
+knows_all n facts cells knows =
+    let long = length-map-range_with_len (first_value facts) 0 n in
+    same_lists cells (known_cells n facts) (knows.long ∙ sym long) (λ k d inside.
+    let less : k < n = let same = knows.long in omega arith in
+    any_default cells k d inside ∙ (knows.first k less ∙ sym (get_or-map-range_with_len (first_value facts) 0 n k k d less (omega arith))))
+  where
+    any_default : (xs : List (Option ℤ)) (k : ℕ) (d : Option ℤ) → k < length xs → get_or xs k d ≡ get_or xs k None
+    any_default [] k d inside = absurd (omega arith)
+    any_default (x ∷ xs) zero d inside = refl
+    any_default (x ∷ xs) (suc k) d inside = any_default xs k d (omega arith)
+
+-- the facts of cells with one behind them
+pub facts_from-push : (tracked : ℕ → Bool) (n : ℕ) (cells : List (Option ℤ)) (value : Option ℤ) (last : ℕ) → n + length cells ≡ last
+    → facts_from tracked n (cells ++ value ∷ []) ≡ facts_from tracked n cells ++ facts_from (λ _. tracked last) last (value ∷ [])
+facts_from-push tracked n [] None last is = refl
+facts_from-push tracked n [] (Some v) last is = let here : n ≡ last = omega (arith, is) in ap (λ k. cond (tracked k) (Equals k v ∷ []) []) here
+facts_from-push tracked n (None ∷ cells) value last is = facts_from-push tracked (n + 1) cells value last (omega (arith, is))
+facts_from-push tracked n (Some v ∷ cells) value last is = by (tracked n) (facts_from-push tracked (n + 1) cells value last (omega (arith, is))) where
+  by : (b : Bool)
+      → facts_from tracked (n + 1) (cells ++ value ∷ []) ≡ facts_from tracked (n + 1) cells ++ facts_from (λ _. tracked last) last (value ∷ [])
+      → cond b (Equals n v ∷ facts_from tracked (n + 1) (cells ++ value ∷ [])) (facts_from tracked (n + 1) (cells ++ value ∷ []))
+      ≡ cond b (Equals n v ∷ facts_from tracked (n + 1) cells) (facts_from tracked (n + 1) cells) ++ facts_from (λ _. tracked last) last (value ∷ [])
+  by true later = ap (λ l. Equals n v ∷ l) later
+  by false later = later
+
+-- one cell more
+pub facts_from-more : (tracked : ℕ → Bool) (cells : List (Option ℤ)) (i : ℕ) (facts new : List Fact) → i < length cells
+    → facts ≡ facts_from tracked 0 (take i cells)
+    → new ≡ facts ++ facts_from (λ _. tracked i) i (get_or cells i None ∷ [])
+    → new ≡ facts_from tracked 0 (take (i + 1) cells)
+facts_from-more tracked cells i facts new inside was is =
+    let long : length (take i cells) ≡ i = length-take-le i cells (omega arith) in
+    is
+    ∙ (ap (λ l. l ++ facts_from (λ _. tracked i) i (get_or cells i None ∷ [])) was
+    ∙ (sym (facts_from-push tracked 0 (take i cells) (get_or cells i None) i (omega (arith, long)))
+    ∙ ap (facts_from tracked 0) (sym (take_more cells i None inside))))
+
+-- the cells of an automaton are few
+pub few_known : (cfa : Cfa) (facts : List Fact) (cells : List (Option ℤ)) → IsAutomaton cfa → cells ≡ known_cells (length cfa.cells) facts
+    → length cells < 2 ^ 32
+few_known cfa facts cells a are =
+    let few = a.well_formed.few_cells in
+    let same : length cfa.cells ≡ length a.program.cells = ap length a.automaton.cells in
+    let long : length cells ≡ length cfa.cells = ap length are ∙ length-map-range_with_len (first_value facts) 0 (length cfa.cells) in
+    omega (arith, few, same, long)
+
+-- marks that agree with the precision are as good as it is
+pub same_transfer : (cfa : Cfa) (p : Precision) (e : Elem) (g : Edge) (cells : List (Option ℤ)) (marks : List Bool) (es : List Elem)
+    → cells ≡ known_cells (length cfa.cells) e.facts → ((cell : ℕ) → is_marked marks cell ≡ is_tracked p cell)
+    → es ≡ elems_of (is_marked marks) (after_act (is_marked marks) g.act cells) → es ≡ next_values cfa p e g
+same_transfer cfa p e g cells marks es are same is =
+    let tests : is_marked marks ≡ is_tracked p = λ i cell. same cell i in
+    is
+    ∙ (ap (λ t. elems_of t (after_act t g.act cells)) tests
+    ∙ ap (λ l. elems_of (is_tracked p) (after_act (is_tracked p) g.act l)) are)
+
+-- the numbers from a on, with one more
+pub range_push : (a n j : ℕ) → a + n ≡ j → range_with_len a (suc n) ≡ range_with_len a n ++ j ∷ []
+range_push a zero j is = let here : a ≡ j = omega (arith, is) in ap (λ k. k ∷ []) here
+range_push a (suc n) j is = ap (λ l. a ∷ l) (range_push (a + 1) n j (omega (arith, is)))
+
+pub range_more : (n : ℕ) → range_with_len 0 (n + 1) ≡ range_with_len 0 n ++ n ∷ []
+range_more n = rw add-one (range_push 0 n n (omega arith))
+
+-- the facts of values with one behind them
+equals_from-push : (n : ℕ) (vs : List ℤ) (v : ℤ) (last : ℕ) → n + length vs ≡ last → equals_from n (vs ++ v ∷ []) ≡ equals_from n vs ++ Equals last v ∷ []
+equals_from-push n [] v last is = let here : n ≡ last = omega (arith, is) in ap (λ k. Equals k v ∷ []) here
+equals_from-push n (x ∷ vs) v last is = ap (λ l. Equals n x ∷ l) (equals_from-push (n + 1) vs v last (omega (arith, is)))
+
+map_push : (cs : List Cell) (c : Cell) → map (λ (x : Cell). x.start) (cs ++ c ∷ []) ≡ map (λ (x : Cell). x.start) cs ++ c.start ∷ []
+map_push [] c = refl
+map_push (x ∷ cs) c = ap (λ l. x.start ∷ l) (map_push cs c)
+
+map_length : (cs : List Cell) → length (map (λ (x : Cell). x.start) cs) ≡ length cs
+map_length [] = refl
+map_length (x ∷ cs) = ap suc (map_length cs)
+
+-- the starts with one more
+pub starts_more : (cs : List Cell) (i : ℕ) (c : Cell) (facts new : List Fact) → i < length cs → slice_get cs i ≡ Some c
+    → facts ≡ equals_from 0 (map (λ (x : Cell). x.start) (take i cs)) → new ≡ facts ++ Equals i c.start ∷ []
+    → new ≡ equals_from 0 (map (λ (x : Cell). x.start) (take (i + 1) cs))
+starts_more cs i c facts new inside found was is =
+    let at : c ≡ get_or cs i c = sym (get_or_from_slice_get cs i c c found) in
+    let before = map (λ (x : Cell). x.start) (take i cs) in
+    let long : length before ≡ i = map_length (take i cs) ∙ length-take-le i cs (omega arith) in
+    is
+    ∙ (ap (λ l. l ++ Equals i c.start ∷ []) was
+    ∙ (sym (equals_from-push 0 before c.start i (omega (arith, long)))
+    ∙ ap (equals_from 0) (sym (map_push (take i cs) c) ∙ ap (map (λ (x : Cell). x.start)) (ap (λ x. take i cs ++ x ∷ []) at ∙ sym (take_more cs i c inside)))))

@@ -1,0 +1,13 @@
+pub mod CellLemmas
+pub mod KnownLemmas
+pub mod RangeLemmas
+pub mod ScalarLemmas
+pub mod StoreLemmas
+pub mod LearnLemmas
+pub mod ActLemmas
+pub mod ExactLemmas
+pub mod TransferLemmas
+pub mod LimitLemmas
+pub mod StrengthenLemmas
+pub mod ValueLaws
+pub mod RefineLemmas

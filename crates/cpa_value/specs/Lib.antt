@@ -1,0 +1,7 @@
+pub mod KnownValues
+pub mod Cells
+pub mod Acts
+pub mod Transfer
+pub mod Values
+pub mod Strengthening
+pub mod Limits

@@ -1,0 +1,53 @@
+-- The analysis of values (this project's own).
+use Rattle.std.specs.Prelude.{not, List, [], ◌++◌, map, length, Some, codes, if◌then◌else◌}
+use Rattle.std.specs.List.{filter, range_with_len}
+use Rattle.cpa_model.specs.declared.program.Cell.{Cell}
+use Rattle.cpa_model.specs.declared.facts.Elem.{Elem}
+use Rattle.cpa_model.specs.declared.automaton.Cfa.{Cfa}
+use Rattle.cpa_model.specs.declared.automaton.Path.{Path}
+use Rattle.cpa_model.specs.Standing.{has_facts}
+use Rattle.cpa_model.specs.StandingLaws.{has_facts-within, has_facts-same}
+use Rattle.cpa_iface.specs.declared.analysis.Part.TheVariants as part
+use Rattle.cpa_iface.specs.declared.analysis.Settings.{Settings}
+use Rattle.cpa_iface.specs.declared.precisions.Precision.{Precision}
+use Rattle.cpa_iface.specs.Meanings.{Meaning}
+use Rattle.cpa_iface.specs.Common.{fact_count}
+use Rattle.cpa_iface.specs.Pins.{equals_from}
+use Rattle.cpa_folds.specs.Needed.{needed}
+use Rattle.cpa_value.specs.Cells.{is_tracked}
+
+-- each cell has its start
+abbrev pub starts_of : List Cell → Elem
+starts_of cells = record { facts = equals_from 0 (map (λ cell. cell.start) cells) }
+
+abbrev pub starts : Cfa → Elem
+starts cfa = starts_of cfa.cells
+
+-- all cells are tracked, or none, with the limit of the settings
+abbrev pub precision_of : Cfa → Settings → Precision
+precision_of cfa settings = record {
+  tracked = if settings.tracked_all then range_with_len 0 (length cfa.cells) else [];
+  limit = settings.limit;
+  preds = [];
+}
+
+-- the cells that are needed along the path are tracked, too
+abbrev pub refined : Cfa → Path → Precision → Precision
+refined cfa path p = record {
+  tracked = p.tracked ++ filter (λ cell. not (is_tracked p cell)) (needed cfa path);
+  limit = p.limit;
+  preds = p.preds;
+}
+
+-- It is exact on the store, covers by the letter, and suggests the cells that are needed.
+abbrev pub values : Meaning
+values = record {
+  name = codes "value";
+  part = part.Store;
+  cover = has_facts;
+  height = λ cfa p. length cfa.cells;
+  rank = fact_count;
+  suggestion = λ cfa path. Some (record { cells = needed cfa path; preds = [] });
+  within = has_facts-within;
+  same = has_facts-same;
+}

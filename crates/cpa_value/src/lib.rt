@@ -1,0 +1,16 @@
+//! The analysis of explicit values: it keeps the values of tracked cells. What each call gives
+//! stands in `specs/`; that it keeps the laws is proved over these definitions.
+#![tactic(auto)]
+
+mod acts;
+mod cells;
+mod known;
+mod limits;
+mod refining;
+mod strengthening;
+mod transfer;
+mod value;
+
+pub use acts::{Scalar, ScalarValue};
+pub use known::{Gap, known_value};
+pub use value::Value;

@@ -1,0 +1,208 @@
+//! The analysis: each call gives what `specs/` says of it, and keeps the laws, which is shown in
+//! `proofs/`.
+
+ghost use Rattle.std.specs.Prelude.{◌≡◌, ◌<◌, ◌^◌, Some, length, slice_get, IfOk};
+ghost use Rattle.std.specs.List.{AllByRecursion};
+ghost use Rattle.cpa_model.specs.declared.automaton.Edge.{Edge as AnEdge};
+ghost use Rattle.cpa_model.specs.Automata.{IsAutomaton};
+ghost use Rattle.cpa_iface.specs.Common.{merged_facts};
+ghost use Rattle.cpa_iface.specs.Laws.{
+  InitialLaws,
+  FirstPrecisionLaws,
+  TransferLaws,
+  StrengthenLaws,
+  MergeLaws,
+  AdjustLaws,
+  RefineLaws,
+};
+ghost use Rattle.cpa_iface.specs.Meanings.{HasPlace, IsShaped, AreShaped, IsPathOf, IsPrecision};
+ghost use Rattle.cpa_value.specs.Limits.{limited};
+ghost use Rattle.cpa_value.specs.Strengthening.{strengthened};
+ghost use Rattle.cpa_value.specs.Transfer.{next_values};
+ghost use Rattle.cpa_value.specs.Values.{values, starts, starts_of, precision_of, refined};
+
+use crate::limits::limited;
+use crate::refining::{precision_of, refined};
+use crate::strengthening::strengthened;
+use crate::transfer::next_values;
+use cpa_iface::{
+    Analysis, Entry, MergeRule, Part, Precision, Settings, copy_precision, merge_facts,
+};
+use cpa_ints::wrap_keeps_the_range;
+use cpa_model::{Cell, Cfa, Elem, Fact, Path, Seq, edges_are_sound, has_facts};
+use std::alloc::{AllocError, Global};
+
+/// The analysis of explicit values: an element says which values some cells have. It keeps those of
+/// tracked cells, as far as they are known, and of a cell no more different ones than the limit.
+#[derive(Debug, Drop)]
+pub struct Value;
+
+impl Value {
+    /// Takes no memory.
+    pub fn new() -> Value {
+        Value
+    }
+}
+
+impl Analysis for Value {
+    ghost meaning = { λ _. values };
+
+    fn name(&self) -> &str {
+        "value"
+    }
+
+    fn exact_on(&self) -> Part {
+        Part::Store
+    }
+
+    fn initial(&mut self, alloc: Global, cfa: &Cfa) -> Result<Elem, AllocError>
+        requires { IsAutomaton cfa.now }
+        ensures laws { IfOk result (λ e. InitialLaws values cfa.now e) }
+        ensures given { IfOk result (λ e. e ≡ starts cfa.now) }
+    {
+        starts(alloc, cfa.cells.as_slice())
+    }
+
+    fn first_precision(
+        &mut self,
+        alloc: Global,
+        cfa: &Cfa,
+        settings: &Settings,
+    ) -> Result<Precision, AllocError>
+        requires { IsAutomaton cfa.now }
+        ensures laws { IfOk result (λ p. FirstPrecisionLaws values cfa.now settings.now p) }
+        ensures given { IfOk result (λ p. p ≡ precision_of cfa.now settings.now) }
+    {
+        precision_of(alloc, cfa, settings)
+    }
+
+    fn transfer(
+        &mut self,
+        alloc: Global,
+        cfa: &Cfa,
+        edge: u32,
+        elem: &Elem,
+        precision: &Precision,
+    ) -> Result<Vec<Elem>, AllocError>
+        requires automaton { IsAutomaton cfa.now }
+        requires edge { edge < length cfa.now.edges }
+        requires elem { IsShaped cfa.now elem.now }
+        requires precision { IsPrecision cfa.now precision.now }
+        ensures laws { IfOk result (λ es.
+            TransferLaws values cfa.now edge elem.now precision.now es.items) }
+        ensures given { IfOk result (λ es. (g : AnEdge) → slice_get cfa.now.edges edge ≡ Some g
+            → es.items ≡ next_values cfa.now precision.now elem.now g) }
+    {
+        edges_are_sound();
+        wrap_keeps_the_range();
+        next_values(alloc, cfa, precision, elem, cfa.edge(edge))
+    }
+
+    fn strengthen(
+        &mut self,
+        alloc: Global,
+        cfa: &Cfa,
+        own: &Elem,
+        others: &[Elem],
+        precision: &Precision,
+    ) -> Result<Option<Elem>, AllocError>
+        requires automaton { IsAutomaton cfa.now }
+        requires own { IsShaped cfa.now own.now }
+        requires others { AreShaped cfa.now others.now }
+        requires precision { IsPrecision cfa.now precision.now }
+        ensures laws { IfOk result (λ e.
+            StrengthenLaws values cfa.now own.now others.now precision.now e) }
+        ensures given { IfOk result (λ e.
+            e ≡ strengthened (length cfa.now.cells) precision.now own.now others.now) }
+    {
+        strengthened(alloc, cfa, own, others, precision)
+    }
+
+    fn merge(
+        &mut self,
+        alloc: Global,
+        _cfa: &Cfa,
+        rule: MergeRule,
+        new: &Elem,
+        old: &Elem,
+        _precision: &Precision,
+    ) -> Result<Elem, AllocError>
+        requires { IsShaped _cfa.now old.now }
+        ensures laws { IfOk result (λ e.
+            MergeLaws values _cfa.now rule new.now old.now _precision.now e) }
+        ensures given { IfOk result (λ e. e ≡ merged_facts rule new.now old.now) }
+    {
+        merge_facts(alloc, rule, new, old)
+    }
+
+    fn covered_by(&self, elem: &Elem, other: &Elem) -> bool {
+        has_facts(elem, other)
+    }
+
+    fn adjust(
+        &mut self,
+        alloc: Global,
+        cfa: &Cfa,
+        elem: &Elem,
+        precision: &Precision,
+        reached: &[Entry],
+        place: u32,
+    ) -> Result<(Elem, Precision), AllocError>
+        requires elem { IsShaped cfa.now elem.now }
+        requires precision { IsPrecision cfa.now precision.now }
+        requires reached { AllByRecursion (HasPlace cfa.now place) reached.now }
+        ensures laws { IfOk result (λ pair.
+            AdjustLaws values cfa.now elem.now precision.now reached.now place pair.0 pair.1) }
+        ensures given { IfOk result (λ pair.
+            (pair.0 ≡ limited precision.now.limit elem.now reached.now place)
+            × (pair.1 ≡ precision.now)) }
+    {
+        let kept = limited(alloc, cfa, precision.limit, elem, reached, place)?;
+        Ok((kept, copy_precision(alloc, precision)?))
+    }
+
+    fn refine(
+        &mut self,
+        alloc: Global,
+        cfa: &Cfa,
+        path: &Path,
+        precision: &Precision,
+    ) -> Result<Precision, AllocError>
+        requires automaton { IsAutomaton cfa.now }
+        requires path { IsPathOf cfa.now path.now }
+        requires precision { IsPrecision cfa.now precision.now }
+        ensures laws { IfOk result (λ p. RefineLaws values cfa.now path.now precision.now p) }
+        ensures given { IfOk result (λ p. p ≡ refined cfa.now path.now precision.now) }
+    {
+        refined(alloc, cfa, path, precision)
+    }
+}
+
+/// Each cell has its start.
+fn starts(alloc: Global, cells: &[Cell]) -> Result<Elem, AllocError>
+    requires { length cells.now < 2 ^ 32 }
+    ensures { IfOk result (λ e. e ≡ starts_of cells.now) }
+{
+    let mut facts = Seq::new(alloc);
+    for place in 0..cells.len() {
+        facts.push(start_of(place as u32, cell_at(cells, place)))?;
+    }
+    Ok(Elem { facts })
+}
+
+fn cell_at(cells: &[Cell], place: usize) -> &Cell
+    requires { place < length cells.now }
+    ensures { slice_get cells.now place ≡ Some result.now }
+{
+    &cells[place]
+}
+
+/// That the cell has its start.
+fn start_of(number: u32, cell: &Cell) -> Fact
+    ensures { result ≡ Fact.Equals number cell.now.start }
+{
+    Fact::Equals {
+        cell: number,
+        value: cell.start,
+    }
+}
