@@ -1,0 +1,20 @@
+//! The configuration of a run, plain data. No contract stands here: the crates that read it say what
+//! they make of it.
+
+use cpa_iface::{Order, Pick, Settings};
+use cpa_ints::Seq;
+
+/// What a run is asked to do.
+#[derive(Debug, Drop)]
+pub struct Config {
+    /// The analyses that are used, by their places among the handed ones.
+    pub picks: Seq<Pick>,
+    /// Which waiting entry is taken.
+    pub order: Order,
+    /// How many entries a round may take.
+    pub turns: u64,
+    /// How many refinements may be made.
+    pub rounds: u32,
+    /// What each analysis is told.
+    pub settings: Settings,
+}
