@@ -1,0 +1,10 @@
+pub mod Keys
+pub mod Queue
+pub mod Tying
+pub mod Keeping
+pub mod Adding
+pub mod Replacing
+pub mod Renamed
+pub mod Climbing
+pub mod Pruned
+pub mod Views

@@ -1,0 +1,11 @@
+use Rattle.cpa_iface.specs.declared.entries.Entry.{Entry}
+use Rattle.cpa_reached.specs.Calls.{rests}
+use Rattle.cpa_reached.proofs.Keys.{written}
+use Rattle.cpa_reached.proofs.finding.rest.Goals as goal
+
+pub returns : goal.returns
+returns c =
+    let there = c.index_mut.result.now in
+    let at = rw c.deref.ensures.value at c.place-at.ensures.at in
+    written (λ (e : Entry). e.number) c.args.entries.now.items c.place-at.result c.args.number rests
+    there there c.requires.ascend at c.index_mut.ensures.value

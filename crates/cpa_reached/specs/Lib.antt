@@ -1,0 +1,10 @@
+pub mod Members
+pub mod Entries
+pub mod MemberLaws
+pub mod Calls
+pub mod Removal
+pub mod Paths
+pub mod Successors
+pub mod SuccessorLaws
+pub mod Kept
+pub mod Tables

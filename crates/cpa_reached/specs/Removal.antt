@@ -1,0 +1,37 @@
+-- What `remove_below` leaves (this project's own): descendants by parents, and the entries that
+-- wait again.
+use Rattle.std.specs.Prelude.{◌≡◌, ℕ, ◌==◌, Bool, true, not, ◌||◌, List, [], map, Some}
+use Rattle.std.specs.Prelude.{if◌then◌else◌}
+use Rattle.std.specs.List.{filter, list_any}
+use Rattle.cpa_iface.specs.declared.entries.Entry.{Entry}
+use Rattle.cpa_reached.specs.Members.{IsIn, is_in}
+
+-- The number is that of a strict descendant of the pivot, by parents.
+pub data IsBelow (xs : List Entry) (pivot : ℕ) : ℕ → Type 0 where
+  child : (n edge : ℕ) (e : Entry) → IsIn e xs → e.number ≡ n → e.parent ≡ Some (pivot, edge)
+      → IsBelow xs pivot n
+  further : (n p edge : ℕ) (e : Entry) → IsIn e xs → e.number ≡ n → e.parent ≡ Some (p, edge)
+      → IsBelow xs pivot p → IsBelow xs pivot n
+
+-- it is the pivot, or an entry that covered a successor of its own is gone
+abbrev pub is_opened : List ℕ → ℕ → Entry → Bool
+is_opened gone pivot e = (e.number == pivot) || list_any (λ n. is_in n gone) e.uses
+
+-- it uses nothing, and waits
+abbrev pub opened : Entry → Entry
+opened e = record e { uses = []; waiting = true }
+
+-- what is left of a kept entry
+abbrev pub left : List ℕ → ℕ → Entry → Entry
+left gone pivot e = if is_opened gone pivot e then opened e else e
+
+-- the entries of these numbers are gone
+abbrev pub without : List ℕ → List Entry → List Entry
+without gone xs = filter (λ e. not (is_in e.number gone)) xs
+
+-- exactly the strict descendants of the pivot are gone
+pub record RemovesBelow (pivot : ℕ) (old new : List Entry) : Type 0 where
+  pub gone : List ℕ
+  pub all : (n : ℕ) → IsBelow old pivot n → is_in n gone ≡ true
+  pub only : (n : ℕ) → is_in n gone ≡ true → IsBelow old pivot n
+  pub is : new ≡ map (left gone pivot) (without gone old)

@@ -1,0 +1,13 @@
+-- The parts of a reached set together. Nothing here is promised to a caller.
+use Rattle.std.specs.Prelude.{◌≡◌, ℕ, not, ◌==◌, List}
+use Rattle.std.specs.List.{filter}
+use Rattle.cpa_reached.specs.declared.table.Table.{Table}
+use Rattle.cpa_reached.specs.Entries.{IsNext}
+use Rattle.cpa_reached.specs.Kept.{IsKept}
+
+abbrev pub IsKeptTable : Table → Type 0
+IsKeptTable t = IsKept t.entries.items t.links.items t.waiting.items t.next
+
+-- this number is taken out of the waiting ones
+abbrev pub but : ℕ → List ℕ → List ℕ
+but n ns = filter (λ m. not (m == n)) ns

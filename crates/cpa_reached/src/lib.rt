@@ -1,0 +1,17 @@
+//! The reached set of an exploration: entries by number, which of them wait, and the journal of the
+//! turns. Each call does exactly what `specs/Calls.antt`, `specs/Removal.antt` and
+//! `specs/Paths.antt` say.
+#![tactic(auto)]
+
+mod finding;
+mod laws;
+mod links;
+mod pruning;
+mod reached;
+mod renaming;
+mod table;
+mod tracing;
+
+pub use laws::calls_keep_cover;
+pub use reached::Reached;
+pub use table::NUMBERS;

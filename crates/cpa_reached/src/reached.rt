@@ -1,0 +1,180 @@
+//! The reached set: its calls, each of which does exactly what a definition of `specs/` says. What
+//! is kept beside the entries stands in `specs/Kept.antt`, and in no contract here.
+
+ghost use Rattle.std.specs.Prelude.{◌≡◌, ℕ, [], ◌++◌, ◌∷◌, IfOk, OnOk, OnErr, IfSome, IfNone};
+ghost use Rattle.std.specs.Prelude.{OnSome};
+ghost use Rattle.cpa_reached.specs.Entries.{IsLive, IsNext, IsNumbered, waiting_numbers};
+ghost use Rattle.cpa_reached.specs.Calls.{begun, taken, added, replaced, used, refined, closed};
+ghost use Rattle.cpa_reached.specs.Calls.{restarted};
+ghost use Rattle.cpa_reached.specs.Removal.{RemovesBelow};
+ghost use Rattle.cpa_reached.specs.Paths.{IsPathTo};
+
+use crate::table::{self, Table};
+use crate::{pruning, tracing};
+use cpa_iface::{Entry, Order, Precision, Turn};
+use cpa_ints::Seq;
+use cpa_model::{Elem, Path};
+use std::alloc::{AllocError, Global};
+use std::marker::Model;
+
+/// Entries by number, in the order in which they came, and the journal of the turns (CAV 2007,
+/// section 2).
+#[derive(Drop)]
+pub struct Reached {
+    table: Table,
+    journal: Vec<Turn>,
+}
+
+impl Model for Reached {
+    ghost use Rattle.cpa_reached.specs.Entries.{ReachedSet};
+    ghost use Rattle.cpa_expr.specs.contracts.tree.Expr as e;
+    ghost use Rattle.std.specs.Coded.{codes};
+
+    ghost Value = { ReachedSet };
+
+    ghost coded = { Prim.hlevel (codes, e.the_row.coded) };
+
+    ghost use Rattle.cpa_reached.specs.Tables.{IsKeptTable};
+
+    ghost view = { λ r. record {
+      live = r.table.entries.items;
+      journal = r.journal.items;
+      next = r.table.next;
+    } };
+
+    ghost invariant = { λ r. IsKeptTable r.table };
+}
+
+impl Reached {
+    /// Entry 0 alone, which waits.
+    pub fn new(
+        alloc: Global,
+        elems: Vec<Elem>,
+        precisions: Vec<Precision>,
+    ) -> Result<Reached, AllocError>
+        ensures { IfOk result (λ r. r ≡ begun elems.items precisions.items) }
+    {
+        Ok(Reached {
+            table: table::begin(alloc, elems, precisions)?,
+            journal: Vec::new(alloc),
+        })
+    }
+
+    /// The waiting entry that is first in the order. It no longer waits. Takes no memory.
+    pub fn take_next(&mut self, order: Order) -> Option<u32>
+        ensures next { IfSome result (IsNext order self.old.live) }
+        ensures taken { IfSome result (λ n. self.new ≡ taken n self.old) }
+        ensures none { IfNone result (waiting_numbers self.old.live ≡ []) }
+        ensures same { IfNone result (self.new ≡ self.old) }
+    {
+        table::take_next(&mut self.table, order)
+    }
+
+    /// An entry that waits, with the next number. Its parent uses it.
+    pub fn add(
+        &mut self,
+        elems: Vec<Elem>,
+        precisions: Vec<Precision>,
+        parent: (u32, u32),
+    ) -> Result<u32, AllocError>
+        requires { IsLive self.old.live parent.0 }
+        ensures number { IfOk result (λ n. n ≡ self.old.next) }
+        ensures ok { OnOk result
+            (self.new ≡ added self.old elems.items precisions.items parent) }
+        ensures err { OnErr result (self.new ≡ self.old) }
+    {
+        table::add(&mut self.table, elems, precisions, parent)
+    }
+
+    /// An entry that waits, with the next number, in the place of an old one.
+    pub fn replace(&mut self, old: u32, elems: Vec<Elem>) -> Result<u32, AllocError>
+        requires { IsLive self.old.live old }
+        ensures number { IfOk result (λ n. n ≡ self.old.next) }
+        ensures ok { OnOk result (self.new ≡ replaced self.old old elems.items) }
+        ensures err { OnErr result (self.new ≡ self.old) }
+    {
+        table::replace(&mut self.table, old, elems)
+    }
+
+    /// Notes that an entry covers a successor of another one.
+    pub fn note_use(&mut self, entry: u32, by: u32) -> Result<(), AllocError>
+        requires entry { IsLive self.old.live entry }
+        requires by { IsLive self.old.live by }
+        ensures ok { OnOk result (self.new ≡ used self.old entry by) }
+        ensures err { OnErr result (self.new ≡ self.old) }
+    {
+        table::note_use(&mut self.table, entry, by)
+    }
+
+    /// What lies strictly below the pivot goes. The pivot, and each entry that used what goes,
+    /// waits and uses nothing.
+    pub fn remove_below(&mut self, pivot: u32) -> Result<(), AllocError>
+        requires { IsLive self.old.live pivot }
+        ensures live { OnOk result (RemovesBelow pivot self.old.live self.new.live) }
+        ensures journal { self.new.journal ≡ self.old.journal }
+        ensures next { self.new.next ≡ self.old.next }
+        ensures err { OnErr result (self.new ≡ self.old) }
+    {
+        pruning::remove_below(&mut self.table, pivot)
+    }
+
+    /// Other precisions for an entry. Takes no memory.
+    pub fn set_precisions(&mut self, entry: u32, precisions: Vec<Precision>)
+        requires { IsLive self.old.live entry }
+        ensures { self.new ≡ refined self.old entry precisions.items }
+    {
+        table::set_precisions(&mut self.table, entry, precisions);
+    }
+
+    /// One row more for the journal, whatever it says.
+    pub fn close_turn(&mut self, turn: Turn) -> Result<(), AllocError>
+        ensures ok { OnOk result (self.new ≡ closed self.old turn) }
+        ensures err { OnErr result (self.new ≡ self.old) }
+    {
+        self.journal.push(turn)?;
+        Ok(())
+    }
+
+    /// Empties the journal. Takes no memory.
+    pub fn start_round(&mut self)
+        ensures { self.new ≡ restarted self.old }
+    {
+        self.journal.clear();
+    }
+
+    /// The entries, in order of numbers. Takes no memory.
+    pub fn live(&self) -> &[Entry]
+        ensures live { result.now ≡ self.now.live }
+        ensures numbered { IsNumbered self.now }
+    {
+        self.table.entries.as_slice()
+    }
+
+    /// The rows of the journal since the round began. Takes no memory.
+    pub fn journal(&self) -> &[Turn]
+        ensures { result.now ≡ self.now.journal }
+    {
+        self.journal.as_slice()
+    }
+
+    /// The edges that lead to the entry from the one without parent.
+    pub fn path_to(&self, entry: u32) -> Result<Path, AllocError>
+        requires { IsLive self.now.live entry }
+        ensures { IfOk result (λ path. IsPathTo self.now.live entry path.edges) }
+    {
+        let table = &self.table;
+        let edges = tracing::path_to(&table.entries, &table.links, table.alloc, entry)?;
+        Ok(Path {
+            edges: Seq::from_vec(edges),
+        })
+    }
+
+    /// The entries, in order of numbers, and the journal. Takes no memory.
+    pub fn into_parts(self) -> (Vec<Entry>, Vec<Turn>)
+        ensures live { result.0.items ≡ self.live }
+        ensures journal { result.1.items ≡ self.journal }
+    {
+        let Reached { table, journal } = self;
+        (table::into_entries(table), journal)
+    }
+}
