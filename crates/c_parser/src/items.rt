@@ -1,0 +1,132 @@
+//! Readers of the items of a text (C11 6.9), which are `unit_item` and its parts of `Items.antt` of `c_tree`.
+ghost use Rattle.std.specs.Prelude.{◌≡◌, ◌<◌, length, false};
+ghost use Rattle.c_symbols.specs.declared.words.Terminal.TheVariants.{LeftParen, Semicolon};
+ghost use Rattle.c_symbols.specs.Sources.{leaf_at, is, GoesOn};
+ghost use Rattle.c_tree.specs.Parts.{is_end};
+ghost use Rattle.c_tree.specs.Items.{unit_item};
+ghost use Rattle.c_tree.specs.Reading.{Gives, HasRoom};
+ghost use Rattle.c_parser.specs.Forms.{item_named, item_behind, all_items};
+
+use crate::functions::function;
+use c_declarations::{declarator_behind, declarators_behind};
+use c_symbols::{Source, Symbol, Terminal};
+use c_tree::{Declaration, Item, Name, Specifiers};
+use c_words::{AllowedStorage, identifier, specifiers};
+use cpa_ints::Seq;
+use grammar_forms::ReadError;
+use std::alloc::Global;
+
+/// The objects of which the specifiers and the first name are read already: what stands behind them.
+fn objects(
+    alloc: Global,
+    source: &Source,
+    at: usize,
+    left: u32,
+    specifiers: Specifiers,
+    name: Name,
+) -> Result<(Item, usize), ReadError>
+    requires within { at < length source.now }
+    requires no_bracket { is LeftParen (leaf_at source.now at) ≡ false }
+    requires room { HasRoom left at }
+    ensures { Gives (item_named specifiers name) source.now left at result }
+{
+    let (first, mark) = declarator_behind(alloc, source, at, left, name)?;
+    let (declarators, closer) = declarators_behind(alloc, source, mark, left, first)?;
+    let behind = source.expect(closer, Terminal::Semicolon)?;
+    let declaration = Declaration {
+        specifiers,
+        declarators,
+    };
+    Ok((Item::Objects(declaration), behind))
+}
+
+/// The item of which the specifiers and the first name are read already.
+fn named(
+    alloc: Global,
+    source: &Source,
+    at: usize,
+    left: u32,
+    specifiers: Specifiers,
+    name: Name,
+) -> Result<(Item, usize), ReadError>
+    requires within { at < length source.now }
+    requires room { HasRoom left at }
+    ensures { Gives (item_named specifiers name) source.now left at result }
+{
+    if source.is(at, Terminal::LeftParen) {
+        function(alloc, source, at, left, specifiers, name)
+    } else {
+        objects(alloc, source, at, left, specifiers, name)
+    }
+}
+
+/// The item of which the specifiers are read already.
+fn declared(
+    alloc: Global,
+    source: &Source,
+    at: usize,
+    left: u32,
+    specifiers: Specifiers,
+) -> Result<(Item, usize), ReadError>
+    requires within { at < length source.now }
+    requires room { HasRoom left at }
+    ensures { Gives (item_behind specifiers) source.now left at result }
+{
+    if source.is(at, Terminal::Semicolon) {
+        let declaration = Declaration {
+            specifiers,
+            declarators: Seq::new(alloc),
+        };
+        return Ok((Item::Objects(declaration), at + 1));
+    }
+    let (name, next) = identifier(alloc, source, at)?;
+    named(alloc, source, next, left, specifiers, name)
+}
+
+/// The item that begins here.
+fn unit_item(
+    alloc: Global,
+    source: &Source,
+    at: usize,
+    left: u32,
+) -> Result<(Item, usize), ReadError>
+    requires within { at < length source.now }
+    requires room { HasRoom left at }
+    ensures { Gives unit_item source.now left at result }
+{
+    if source.is(at, Terminal::Semicolon) {
+        let place = source.place(at);
+        return Ok((Item::Empty { place }, at + 1));
+    }
+    let (specifiers, next) = specifiers(alloc, source, at, AllowedStorage::Any)?;
+    declared(alloc, source, next, left, specifiers)
+}
+
+/// Whether the text ends at this place.
+fn is_end(source: &Source, at: usize) -> bool
+    requires { at < length source.now }
+    ensures { result ≡ is_end (leaf_at source.now at) }
+{
+    matches!(source.symbol(at), Symbol::End)
+}
+
+/// The items from here to the end of the text.
+pub(crate) fn unit_items(
+    alloc: Global,
+    source: &Source,
+    at: usize,
+    left: u32,
+) -> Result<(Seq<Item>, usize), ReadError>
+    requires within { at < length source.now }
+    requires room { HasRoom left at }
+    ensures { Gives all_items source.now left at result }
+{
+    let mut items = Seq::new(alloc);
+    let mut here = at;
+    'list: while !is_end(source, here) {
+        let (item, behind) = unit_item(alloc, source, here, left)?;
+        items.push(item)?;
+        here = behind;
+    }
+    Ok((items, here))
+}

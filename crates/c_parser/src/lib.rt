@@ -1,0 +1,8 @@
+//! The reader of whole C texts: from the tokens of a text to its tree (C11 6.9), or to its fault.
+#![tactic(auto)]
+
+mod functions;
+mod items;
+mod texts;
+
+pub use texts::parse;

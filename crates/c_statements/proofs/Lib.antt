@@ -1,0 +1,5 @@
+pub mod Steadies
+pub mod Arms
+pub mod Ahead
+pub mod Heads
+pub mod Dispatch
