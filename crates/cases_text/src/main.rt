@@ -5,6 +5,7 @@
 mod forms;
 mod place;
 mod tokens;
+mod trees;
 mod written;
 
 use std::alloc::{AllocError, Global};
@@ -17,6 +18,7 @@ fn answer(alloc: Global, row: &str) -> Result<String, AllocError> {
     match row.split_once(' ').unwrap_or((row, "")) {
         ("tokens", text) => tokens::answer(alloc, text),
         ("form", text) => forms::answer(alloc, text),
+        ("tree", text) => trees::answer(alloc, text),
         _ => String::from_str(alloc, "no row"),
     }
 }
