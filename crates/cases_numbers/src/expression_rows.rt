@@ -1,14 +1,15 @@
 //! Rows on expressions, which stand behind colons: what the public calls of `cpa_expr` answer.
 
-use crate::fault::RowFault;
 use crate::operator_rows::push_value;
-use crate::reader::whole_expr;
-use crate::words::{next_cell, number_of_word, push_number, push_word, type_of_word, yes_or_no};
 use cpa_expr::{
     Expr, Store, copy, height, is_expr, may_read, push_expr, replace_cell, same_expr, size,
     type_of, type_word, value,
 };
 use cpa_ints::{IntType, Seq};
+use row_reader::{
+    RowFault, next_index, number_of_word, push_number, push_word, type_of_word, whole_expr,
+    yes_or_no,
+};
 use std::alloc::{AllocError, Global};
 use std::str::SplitWhitespace;
 
@@ -84,7 +85,7 @@ fn push_may_read(
     words: &mut SplitWhitespace<'_>,
     expr: &Expr,
 ) -> Result<(), RowFault> {
-    let cell = next_cell(words)?;
+    let cell = next_index(words)?;
     Ok(push_word(out, yes_or_no(may_read(expr, cell)))?)
 }
 
@@ -133,7 +134,7 @@ fn push_replaced(
     words: &mut SplitWhitespace<'_>,
     pair: &Pair,
 ) -> Result<(), RowFault> {
-    let cell = next_cell(words)?;
+    let cell = next_index(words)?;
     let replaced = replace_cell(alloc, &pair.first, cell, &pair.second)?;
     Ok(push_spelled(out, &replaced)?)
 }

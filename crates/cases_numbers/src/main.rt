@@ -3,14 +3,11 @@
 #![tactic(auto)]
 
 mod expression_rows;
-mod fault;
 mod number_rows;
 mod operator_rows;
-mod reader;
 mod row;
-mod words;
 
-use fault::RowFault;
+use row_reader::RowFault;
 use std::alloc::{AllocError, Global};
 use std::io;
 use std::io::{BufRead, BufReader};

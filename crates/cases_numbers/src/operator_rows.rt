@@ -1,11 +1,10 @@
 //! Rows on operators: what `value` of `cpa_expr` answers where they are applied to constants.
 
-use crate::fault::RowFault;
-use crate::words::{
-    BINARY, COMPARISONS, TYPES, UNARY, next_number, next_type, push_number, push_word,
-};
 use cpa_expr::{BinOp, Expr, Store, value};
 use cpa_ints::{Boxed, IntType, Seq};
+use row_reader::{
+    BINARY, COMPARISONS, RowFault, TYPES, UNARY, next_number, next_type, push_number, push_word,
+};
 use std::alloc::{AllocError, Global};
 use std::str::SplitWhitespace;
 

@@ -1,9 +1,8 @@
 //! A row: the word of its call, what the call takes, and behind colons the expressions that it is
 //! asked of.
 
-use crate::fault::RowFault;
-use crate::words::{end_row, next_word};
 use crate::{expression_rows, number_rows, operator_rows};
+use row_reader::{RowFault, end_row, next_word};
 use std::alloc::Global;
 
 /// The answer of a row, its words each behind a space.

@@ -1,4 +1,5 @@
-//! The words of a row: types, operators and numbers.
+//! The words of a row: types, operators and numbers. Nothing is proved of what is read but that
+//! reading is safe and ends.
 
 use crate::fault::RowFault;
 use cpa_expr::{BinOp, CmpOp, UnOp, bin_word, cmp_word, type_word, un_word};
@@ -64,9 +65,9 @@ pub fn next_number(words: &mut SplitWhitespace<'_>) -> Result<i128, RowFault> {
     number_of_word(next_word(words)?)
 }
 
-/// The next word as the number of a cell.
-pub fn next_cell(words: &mut SplitWhitespace<'_>) -> Result<u32, RowFault> {
-    cell_of_word(next_word(words)?)
+/// The next word as an index.
+pub fn next_index(words: &mut SplitWhitespace<'_>) -> Result<u32, RowFault> {
+    index_of_word(next_word(words)?)
 }
 
 /// The next word as a type.
@@ -79,8 +80,8 @@ pub fn number_of_word(word: &str) -> Result<i128, RowFault> {
     Ok(word.parse::<i128>()?)
 }
 
-/// The number of a cell, or the count of cells, that a word spells.
-pub fn cell_of_word(word: &str) -> Result<u32, RowFault> {
+/// The index that a word spells: the number of a cell, an edge or an entry, or how many there are.
+pub fn index_of_word(word: &str) -> Result<u32, RowFault> {
     Ok(word.parse::<u32>()?)
 }
 

@@ -1,4 +1,5 @@
-//! Why a row has no answer.
+//! Why a row has no answer: it says nothing that can be asked, or memory ran out. No definition
+//! stands behind it.
 
 use std::alloc::{AllocError, AllocFailed};
 use std::num::ParseIntError;

@@ -4,11 +4,12 @@
 
 use crate::fault::RowFault;
 use crate::words::{
-    binary_of_word, cell_of_word, comparison_of_word, number_of_word, type_of_word, unary_of_word,
+    binary_of_word, comparison_of_word, index_of_word, number_of_word, type_of_word, unary_of_word,
 };
 use cpa_expr::{BinOp, CmpOp, Expr, UnOp};
 use cpa_ints::{Boxed, IntType};
 use std::alloc::Global;
+use std::str::SplitWhitespace;
 
 /// A node, without its parts.
 enum Head {
@@ -26,8 +27,14 @@ enum Head {
 
 /// The expression that a text spells.
 pub fn whole_expr(alloc: Global, text: &str) -> Result<Expr, RowFault> {
+    let mut words = text.split_whitespace();
+    rest_expr(alloc, &mut words)
+}
+
+/// The expression that the words which are left spell.
+pub fn rest_expr(alloc: Global, left: &mut SplitWhitespace<'_>) -> Result<Expr, RowFault> {
     let mut words: Vec<&str> = Vec::new(alloc);
-    for word in text.split_whitespace() {
+    for word in left {
         words.push(word)?;
     }
     let mut pending = Pending {
@@ -123,8 +130,8 @@ impl<'a> Pending<'a> {
 
     fn read(&mut self) -> Result<Expr, RowFault> {
         let ty = self.ty()?;
-        let base = cell_of_word(self.word()?)?;
-        let len = cell_of_word(self.word()?)?;
+        let base = index_of_word(self.word()?)?;
+        let len = index_of_word(self.word()?)?;
         let index = self.part()?;
         Ok(Expr::Read {
             ty,
