@@ -1,5 +1,5 @@
--- A call that leads back joins two bodies of one rank (`level_circular`), and the first one in order
--- of places is at the least place (`least_found`).
+-- A call that leads back joins two bodies of one rank (`level_circular`), and the first one in
+-- order of places is at the least place (`least_found`).
 use Rattle.std.proofs.Common.{◌≡◌, ℕ, ◌+◌, ◌<◌, ◌≤◌, true, List, [], ◌∷◌, length}
 use Rattle.std.proofs.Common.{get_or, Some, None, refl, sym, ap, ◌∙◌, subst, ⊎_elim}
 use Rattle.std.proofs.Common.{arith}

@@ -73,7 +73,8 @@ mark_keeps call seen true less =
 mark_keeps call seen false less = record { kept = λ n was. was }
 
 mark_grows : (calls : List Call) (call : Call) (seen : List Bool) (fresh : Bool)
-    → Among call calls → fresh ≡ is_fresh call seen → Grows calls seen (marks_behind fresh call seen)
+    → Among call calls → fresh ≡ is_fresh call seen
+    → Grows calls seen (marks_behind fresh call seen)
 mark_grows calls call seen true stands is = record {
   only = λ start before. record {
     reached = λ n now. ⊎_elim
@@ -157,8 +158,8 @@ passed_more calls seen i call false false less at is passed = λ none k d below.
     (passes_by (is_marked seen call.caller) (is_marked seen call.callee) is)))
     (λ (other : k ≡ i → ⊥). passed none k d (omega arith)) (cases_eq k i)
 
-pub closed_all : (calls : List Call) (seen : List Bool) → PassedBelow false seen calls (length calls)
-    → IsClosed calls seen
+pub closed_all : (calls : List Call) (seen : List Bool)
+    → PassedBelow false seen calls (length calls) → IsClosed calls seen
 closed_all calls seen passed = record {
   passes = λ call stands. let found = among_contained call calls stands in
       subst (λ (one : Call). Passes seen one) found.2 (passed refl found.0 call found.1);
@@ -166,7 +167,8 @@ closed_all calls seen passed = record {
 
 -- What the calls so far did: marks are kept and on reached bodies alone, and where none was made,
 -- each call passes.
-pub record IsPassed (calls : List Call) (old seen : List Bool) (changed : Bool) (i : ℕ) : Type 0 where
+pub record IsPassed (calls : List Call) (old seen : List Bool) (changed : Bool) (i : ℕ)
+    : Type 0 where
   pub kept : Keeps old seen
   pub grown : Grows calls old seen
   pub passed : PassedBelow changed seen calls i
@@ -188,7 +190,8 @@ passed_step calls old seen new changed fresh i call so_far less at within is new
     subst (λ (marks : List Bool). IsPassed calls old marks (changed || fresh) (i + 1)) (sym new_is)
     (record {
       kept = keeps_more old seen call fresh so_far.kept within;
-      grown = grows_more calls old seen call fresh so_far.grown (among_item calls i call less at) is;
+      grown = grows_more calls old seen call fresh so_far.grown
+          (among_item calls i call less at) is;
       passed = passed_more calls seen i call changed fresh less at is so_far.passed;
       fewer = fewer_more old seen call changed fresh within is so_far.fewer;
     })
@@ -215,7 +218,8 @@ pub begun_reached : (calls : List Call) (bodies start : ℕ)
     → OnlyReached calls start (set (replicate bodies false) start true)
 begun_reached calls bodies start = record {
   reached = λ n now. ⊎_elim
-      (λ (same : n ≡ start). let there : Reaches calls start n = record { way = []; through = sym same } in
+      (λ (same : n ≡ start).
+      let there : Reaches calls start n = record { way = []; through = sym same } in
       there)
       (λ was. absurd (none_marked bodies n was)) (set_only (replicate bodies false) start n now);
 }
@@ -246,7 +250,8 @@ begun calls bodies start first items new now items_are first_is kept grown len n
 pub whole_marks : (new items : List Bool) (len : ℕ) → length new ≡ len → length items ≡ len
     → take len (new ++ drop (length new) items) ≡ new
 whole_marks new items len same items_same =
-    rw (drop_all (length new) items (omega arith), append-nil new, take_all len new (omega arith)) refl
+    rw (drop_all (length new) items (omega arith), append-nil new, take_all len new (omega arith))
+    refl
 
 -- one more number makes room for a call
 pub within_more : (calls : List Call) (bodies next i : ℕ) (call : Call) → i < length calls

@@ -1,5 +1,5 @@
-//! Which bodies a body reaches (`Reaches` of `specs/Recursion.antt` of `c_rules`): marks, put through
-//! one call after another until they are closed. Proved in proofs/Marks.
+//! Which bodies a body reaches (`Reaches` of `specs/Recursion.antt` of `c_rules`): marks, put
+//! through one call after another until they are closed. Proved in proofs/Marks.
 ghost use Rattle.std.specs.Prelude.{◌≡◌, ℕ, ◌+◌, ◌<◌, ◌≤◌, ◌↔◌, ◌&&◌, not, true, false};
 ghost use Rattle.std.specs.Prelude.{length, slice_set, replicate, IfOk, IsTrue, if◌then◌else◌};
 ghost use Rattle.std.specs.List.{All};

@@ -21,5 +21,6 @@ pub returns-clause-marked : goal.returns-clause-marked
 returns-clause-marked c = λ body. (
   c.loop-changed.invariant.only.reached body,
   marked_reached c.args.calls.now c.loop-changed.seen.items c.args.start
-      (c.loop-changed.invariant.closed c.loop-changed-test.false) c.loop-changed.invariant.start body,
+      (c.loop-changed.invariant.closed c.loop-changed-test.false) c.loop-changed.invariant.start
+      body,
 )
