@@ -1,16 +1,11 @@
 //! Rows on clauses, resolvents and lines.
 
-use crate::fault::RowFault;
 use crate::formulas::{formula, line};
-use crate::words::{end_row, next_number, next_word, push_clause, variable_of_word, whole_clause};
+use crate::words::{push_clause, variable_of_word, whole_clause};
 use cpa_cnf::{Cnf, Line, Marks, check_line, resolve};
+use row_reader::{RowFault, end_row, next_index, next_part, next_word};
 use std::alloc::Global;
 use std::str::{Split, SplitWhitespace};
-
-/// The next part of a row, which is to be there.
-pub fn next_part<'a>(parts: &mut Split<'a, char>) -> Result<&'a str, RowFault> {
-    parts.next().ok_or(RowFault::Unreadable)
-}
 
 /// The answer of a row on clauses; false where the word names none.
 pub fn answer(
@@ -62,7 +57,7 @@ fn lines(
     words: &mut SplitWhitespace<'_>,
     parts: &mut Split<'_, char>,
 ) -> Result<(), RowFault> {
-    let vars = next_number(words)?;
+    let vars = next_index(words)?;
     end_row(words)?;
     let cnf = formula(alloc, vars, next_part(parts)?)?;
     let mut log = Vec::new(alloc);

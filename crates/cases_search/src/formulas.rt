@@ -4,10 +4,10 @@ ghost use Rattle.std.specs.Prelude.{◌≡◌, IsTrue, IfOk};
 ghost use Rattle.std.specs.List.{AllByRecursion};
 ghost use Rattle.cpa_cnf.specs.Lines.{AreBelow};
 
-use crate::fault::RowFault;
-use crate::words::{next_clause, next_number, variable_of_word};
+use crate::words::{next_clause, variable_of_word};
 use cpa_cnf::{Clause, Cnf, Line, Step};
 use cpa_ints::Seq;
+use row_reader::{RowFault, next_index};
 use std::alloc::Global;
 use std::str::SplitWhitespace;
 
@@ -29,7 +29,7 @@ fn next_step(words: &mut SplitWhitespace<'_>) -> Result<Option<Step>, RowFault> 
     match words.next() {
         Some(word) => {
             let pivot = variable_of_word(word)?;
-            let clause = next_number(words)?;
+            let clause = next_index(words)?;
             Ok(Some(Step { pivot, clause }))
         }
         None => Ok(None),
@@ -40,7 +40,7 @@ fn next_step(words: &mut SplitWhitespace<'_>) -> Result<Option<Step>, RowFault> 
 pub fn line(alloc: Global, text: &str) -> Result<Line, RowFault> {
     let mut words = text.split_whitespace();
     let clause = next_clause(alloc, &mut words)?.ok_or(RowFault::Unreadable)?;
-    let first = next_number(&mut words)?;
+    let first = next_index(&mut words)?;
     let mut steps = Seq::new(alloc);
     for _ in 0..text.len() {
         match next_step(&mut words)? {

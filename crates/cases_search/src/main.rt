@@ -3,13 +3,12 @@
 #![tactic(auto)]
 
 mod clause_rows;
-mod fault;
 mod formulas;
 mod row;
 mod search_rows;
 mod words;
 
-use fault::RowFault;
+use row_reader::RowFault;
 use std::alloc::{AllocError, Global};
 use std::io;
 use std::io::{BufRead, BufReader};

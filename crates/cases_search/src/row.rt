@@ -1,9 +1,8 @@
 //! A row: the word of its call and what the call takes, and behind colons clauses, formulas and
 //! lines.
 
-use crate::fault::RowFault;
-use crate::words::next_word;
 use crate::{clause_rows, search_rows};
+use row_reader::{RowFault, next_word};
 use std::alloc::Global;
 
 /// The answer of a row, its words each behind a space.

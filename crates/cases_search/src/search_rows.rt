@@ -1,11 +1,10 @@
 //! Rows on searches: each outcome is looked at again, a model by evaluation, lines by `check_line`.
 
-use crate::clause_rows::next_part;
-use crate::fault::RowFault;
 use crate::formulas::{are_below, formula};
-use crate::words::{end_row, next_number, push_clause};
+use crate::words::push_clause;
 use cpa_cnf::{Clause, Cnf, Line, Marks, check_line};
 use cpa_sat::{Found, search};
+use row_reader::{RowFault, end_row, next_index, next_part};
 use std::alloc::Global;
 use std::str::{Split, SplitWhitespace};
 
@@ -37,8 +36,8 @@ fn query(
     words: &mut SplitWhitespace<'_>,
     parts: &mut Split<'_, char>,
 ) -> Result<(Cnf, u32), RowFault> {
-    let vars = next_number(words)?;
-    let learnt = next_number(words)?;
+    let vars = next_index(words)?;
+    let learnt = next_index(words)?;
     end_row(words)?;
     let cnf = formula(alloc, vars, next_part(parts)?)?;
     Ok((cnf, learnt))

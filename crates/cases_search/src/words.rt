@@ -1,28 +1,10 @@
-//! The words of a row: numbers, literals and clauses, as in DIMACS: the literals of variable v are
-//! v + 1 and -(v + 1), and a clause ends with 0.
+//! The words of a row: literals and clauses, as in DIMACS: the literals of variable v are v + 1 and
+//! -(v + 1), and a clause ends with 0.
 
-use crate::fault::RowFault;
 use cpa_cnf::{Clause, Lit};
+use row_reader::RowFault;
 use std::alloc::Global;
 use std::str::SplitWhitespace;
-
-/// The next word, which is to be there.
-pub fn next_word<'a>(words: &mut SplitWhitespace<'a>) -> Result<&'a str, RowFault> {
-    words.next().ok_or(RowFault::Unreadable)
-}
-
-/// Nothing is left.
-pub fn end_row(words: &mut SplitWhitespace<'_>) -> Result<(), RowFault> {
-    if words.next().is_some() {
-        return Err(RowFault::Unreadable);
-    }
-    Ok(())
-}
-
-/// The next word as a number.
-pub fn next_number(words: &mut SplitWhitespace<'_>) -> Result<u32, RowFault> {
-    Ok(next_word(words)?.parse::<u32>()?)
-}
 
 /// The variable that a word names, counted from 1.
 pub fn variable_of_word(word: &str) -> Result<u32, RowFault> {

@@ -1,0 +1,429 @@
+//! Calls of an analysis, whichever it is, and their answers as text. What a call asks of its
+//! arguments is tested before it.
+
+ghost use Rattle.std.specs.Prelude.{◌≡◌, ◌<◌, IsTrue, length};
+ghost use Rattle.std.specs.List.{AllByRecursion};
+ghost use Rattle.cpa_model.specs.Automata.{IsAutomaton};
+ghost use Rattle.cpa_model.specs.Expressions.{IsExpr};
+ghost use Rattle.cpa_iface.specs.Meanings.{AreShaped, HasPlace, IsPathOf, IsPrecision};
+
+use crate::questions::{Call, Question};
+use cpa_iface::{Analysis, Entry, MergeRule, Part, Precision, Settings, copy_precision};
+use cpa_model::{Cell, Cfa, Elem, Expr, Path, Seq, Spell, copy_elem, is_elem, is_expr, push_list};
+use row_reader::{RowFault, yes_or_no};
+use std::alloc::Global;
+
+/// What the analysis answers to both ways of calling it.
+#[derive(Drop)]
+struct Answers {
+    /// Through the bound of a type parameter.
+    plain: String,
+    /// Through a box.
+    boxed: String,
+}
+
+/// What the analysis answers, behind a space, and what it answers through the box, where that is
+/// something else.
+pub fn answer<A: Analysis>(
+    alloc: Global,
+    plain: &mut A,
+    boxed: &mut Box<dyn Analysis + Send>,
+    cfa: &Cfa,
+    precision: &Precision,
+    question: &Question,
+) -> Result<String, RowFault>
+    requires automaton { IsAutomaton cfa.now }
+    requires precision { IsPrecision cfa.now precision.now }
+{
+    let mut out = Answers {
+        plain: String::from_str(alloc, " ")?,
+        boxed: String::from_str(alloc, " ")?,
+    };
+    push_answers(alloc, &mut out, plain, boxed, cfa, precision, question)?;
+    let Answers { plain, boxed } = out;
+    if plain.as_str() == boxed.as_str() {
+        Ok(plain)
+    } else {
+        Ok(format!(in alloc; "{plain}, through the box{boxed}")?)
+    }
+}
+
+fn push_answers<A: Analysis>(
+    alloc: Global,
+    out: &mut Answers,
+    plain: &mut A,
+    boxed: &mut Box<dyn Analysis + Send>,
+    cfa: &Cfa,
+    precision: &Precision,
+    question: &Question,
+) -> Result<(), RowFault>
+    requires automaton { IsAutomaton cfa.now }
+    requires precision { IsPrecision cfa.now precision.now }
+{
+    let elems = question.elems.as_slice();
+    match &question.call {
+        Call::Means => push_meanings(out, plain, boxed),
+        Call::Initial => push_initial(alloc, out, plain, boxed, cfa),
+        Call::First { tracked_all, limit } => {
+            push_first(
+                alloc,
+                out,
+                plain,
+                boxed,
+                cfa,
+                &settings(*tracked_all, *limit),
+            )
+        }
+        Call::Transfer { edge } => {
+            push_transfer(alloc, out, plain, boxed, cfa, precision, *edge, elems)
+        }
+        Call::Strengthen => push_strengthen(alloc, out, plain, boxed, cfa, precision, elems),
+        Call::Merge { rule } => {
+            push_merge(alloc, out, plain, boxed, cfa, precision, *rule, elems)
+        }
+        Call::Covered => push_covered(out, plain, boxed, elems),
+        Call::Adjust => push_adjust(alloc, out, plain, boxed, cfa, precision, elems),
+        Call::Refine { edges } => {
+            push_refine(alloc, out, plain, boxed, cfa, precision, edges.as_slice())
+        }
+    }
+}
+
+fn settings(tracked_all: bool, limit: u32) -> Settings {
+    Settings {
+        tracked_all,
+        limit,
+        learnt: 20000,
+        gates: 4000000,
+    }
+}
+
+fn push_meanings<A: Analysis>(
+    out: &mut Answers,
+    plain: &mut A,
+    boxed: &mut Box<dyn Analysis + Send>,
+) -> Result<(), RowFault> {
+    push_meaning(&mut out.plain, plain.name(), plain.exact_on())?;
+    push_meaning(&mut out.boxed, boxed.name(), boxed.exact_on())
+}
+
+fn push_meaning(out: &mut String, name: &str, part: Part) -> Result<(), RowFault> {
+    let part = match part {
+        Part::Nothing => "nothing",
+        Part::Point => "the point",
+        Part::Stack => "the stack",
+        Part::Store => "the store",
+    };
+    write!(out, "{name}, exact on {part}")?;
+    Ok(())
+}
+
+fn push_initial<A: Analysis>(
+    alloc: Global,
+    out: &mut Answers,
+    plain: &mut A,
+    boxed: &mut Box<dyn Analysis + Send>,
+    cfa: &Cfa,
+) -> Result<(), RowFault>
+    requires { IsAutomaton cfa.now }
+{
+    plain.initial(alloc, cfa)?.spell(&mut out.plain)?;
+    boxed.initial(alloc, cfa)?.spell(&mut out.boxed)?;
+    Ok(())
+}
+
+fn push_first<A: Analysis>(
+    alloc: Global,
+    out: &mut Answers,
+    plain: &mut A,
+    boxed: &mut Box<dyn Analysis + Send>,
+    cfa: &Cfa,
+    settings: &Settings,
+) -> Result<(), RowFault>
+    requires { IsAutomaton cfa.now }
+{
+    push_precision(
+        &mut out.plain,
+        &plain.first_precision(alloc, cfa, settings)?,
+    )?;
+    push_precision(
+        &mut out.boxed,
+        &boxed.first_precision(alloc, cfa, settings)?,
+    )
+}
+
+fn push_transfer<A: Analysis>(
+    alloc: Global,
+    out: &mut Answers,
+    plain: &mut A,
+    boxed: &mut Box<dyn Analysis + Send>,
+    cfa: &Cfa,
+    precision: &Precision,
+    edge: u32,
+    elems: &[Elem],
+) -> Result<(), RowFault>
+    requires automaton { IsAutomaton cfa.now }
+    requires precision { IsPrecision cfa.now precision.now }
+{
+    match elems {
+        [elem] => {
+            if cfa.edges.len() <= edge as usize || !is_elem(elem, cfa) {
+                return Err(RowFault::Unreadable);
+            }
+            let next = plain.transfer(alloc, cfa, edge, elem, precision)?;
+            push_list(&mut out.plain, next.as_slice())?;
+            let next = boxed.transfer(alloc, cfa, edge, elem, precision)?;
+            push_list(&mut out.boxed, next.as_slice())?;
+            Ok(())
+        }
+        _ => Err(RowFault::Unreadable),
+    }
+}
+
+fn push_strengthen<A: Analysis>(
+    alloc: Global,
+    out: &mut Answers,
+    plain: &mut A,
+    boxed: &mut Box<dyn Analysis + Send>,
+    cfa: &Cfa,
+    precision: &Precision,
+    elems: &[Elem],
+) -> Result<(), RowFault>
+    requires automaton { IsAutomaton cfa.now }
+    requires precision { IsPrecision cfa.now precision.now }
+{
+    match elems {
+        [own, others @ ..] => {
+            if !is_elem(own, cfa) || !are_shaped(others, cfa) {
+                return Err(RowFault::Unreadable);
+            }
+            let stronger = plain.strengthen(alloc, cfa, own, others, precision)?;
+            push_perhaps(&mut out.plain, &stronger)?;
+            let stronger = boxed.strengthen(alloc, cfa, own, others, precision)?;
+            push_perhaps(&mut out.boxed, &stronger)
+        }
+        [] => Err(RowFault::Unreadable),
+    }
+}
+
+fn push_perhaps(out: &mut String, elem: &Option<Elem>) -> Result<(), RowFault> {
+    match elem {
+        Some(elem) => elem.spell(out)?,
+        None => out.push_str("none")?,
+    }
+    Ok(())
+}
+
+fn push_merge<A: Analysis>(
+    alloc: Global,
+    out: &mut Answers,
+    plain: &mut A,
+    boxed: &mut Box<dyn Analysis + Send>,
+    cfa: &Cfa,
+    precision: &Precision,
+    rule: MergeRule,
+    elems: &[Elem],
+) -> Result<(), RowFault>
+    requires automaton { IsAutomaton cfa.now }
+    requires precision { IsPrecision cfa.now precision.now }
+{
+    match elems {
+        [new, old] => {
+            if !is_elem(new, cfa) || !is_elem(old, cfa) {
+                return Err(RowFault::Unreadable);
+            }
+            plain
+                .merge(alloc, cfa, rule, new, old, precision)?
+                .spell(&mut out.plain)?;
+            boxed
+                .merge(alloc, cfa, rule, new, old, precision)?
+                .spell(&mut out.boxed)?;
+            Ok(())
+        }
+        _ => Err(RowFault::Unreadable),
+    }
+}
+
+fn push_covered<A: Analysis>(
+    out: &mut Answers,
+    plain: &mut A,
+    boxed: &mut Box<dyn Analysis + Send>,
+    elems: &[Elem],
+) -> Result<(), RowFault> {
+    match elems {
+        [elem, other] => {
+            out.plain
+                .push_str(yes_or_no(plain.covered_by(elem, other)))?;
+            out.boxed
+                .push_str(yes_or_no(boxed.covered_by(elem, other)))?;
+            Ok(())
+        }
+        _ => Err(RowFault::Unreadable),
+    }
+}
+
+fn push_adjust<A: Analysis>(
+    alloc: Global,
+    out: &mut Answers,
+    plain: &mut A,
+    boxed: &mut Box<dyn Analysis + Send>,
+    cfa: &Cfa,
+    precision: &Precision,
+    elems: &[Elem],
+) -> Result<(), RowFault>
+    requires automaton { IsAutomaton cfa.now }
+    requires precision { IsPrecision cfa.now precision.now }
+{
+    match elems {
+        [elem, others @ ..] => {
+            let reached = entries(alloc, precision, others)?;
+            if !is_elem(elem, cfa) || !have_place(reached.as_slice(), cfa) {
+                return Err(RowFault::Unreadable);
+            }
+            let after = plain.adjust(alloc, cfa, elem, precision, reached.as_slice(), 0)?;
+            push_adjusted(&mut out.plain, &after.0, &after.1)?;
+            let after = boxed.adjust(alloc, cfa, elem, precision, reached.as_slice(), 0)?;
+            push_adjusted(&mut out.boxed, &after.0, &after.1)
+        }
+        [] => Err(RowFault::Unreadable),
+    }
+}
+
+fn push_adjusted(out: &mut String, elem: &Elem, precision: &Precision) -> Result<(), RowFault> {
+    elem.spell(out)?;
+    out.push_str(", ")?;
+    push_precision(out, precision)
+}
+
+fn push_refine<A: Analysis>(
+    alloc: Global,
+    out: &mut Answers,
+    plain: &mut A,
+    boxed: &mut Box<dyn Analysis + Send>,
+    cfa: &Cfa,
+    precision: &Precision,
+    edges: &[u32],
+) -> Result<(), RowFault>
+    requires automaton { IsAutomaton cfa.now }
+    requires precision { IsPrecision cfa.now precision.now }
+{
+    let path = Path {
+        edges: Seq::from_vec(edges.to_vec(alloc)?),
+    };
+    if !is_path(&path, cfa) {
+        return Err(RowFault::Unreadable);
+    }
+    push_precision(&mut out.plain, &plain.refine(alloc, cfa, &path, precision)?)?;
+    push_precision(&mut out.boxed, &boxed.refine(alloc, cfa, &path, precision)?)
+}
+
+fn push_precision(out: &mut String, precision: &Precision) -> Result<(), RowFault> {
+    let limit = precision.limit;
+    write!(out, "limit {limit}, tracked ")?;
+    push_list(out, precision.tracked.as_slice())?;
+    out.push_str(", predicates ")?;
+    push_list(out, precision.preds.as_slice())?;
+    Ok(())
+}
+
+/// An entry for each element, with it and the precision at the place 0.
+fn entries(alloc: Global, precision: &Precision, elems: &[Elem]) -> Result<Vec<Entry>, RowFault> {
+    let mut entries = Vec::new(alloc);
+    for elem in elems {
+        entries.push(entry(alloc, precision, elem)?)?;
+    }
+    Ok(entries)
+}
+
+fn entry(alloc: Global, precision: &Precision, elem: &Elem) -> Result<Entry, RowFault> {
+    let mut elems = Seq::new(alloc);
+    elems.push(copy_elem(alloc, elem)?)?;
+    let mut precisions = Seq::new(alloc);
+    precisions.push(copy_precision(alloc, precision)?)?;
+    Ok(Entry {
+        number: 0,
+        elems,
+        precisions,
+        parent: None,
+        uses: Seq::new(alloc),
+        waiting: false,
+    })
+}
+
+/// Whether the precision fits the automaton.
+pub fn is_precision(precision: &Precision, cfa: &Cfa) -> bool
+    ensures { IsTrue result → IsPrecision cfa.now precision.now }
+{
+    are_below(precision.tracked.as_slice(), cfa.cells.len())
+        && are_exprs(precision.preds.as_slice(), cfa.cells.as_slice())
+}
+
+fn is_path(path: &Path, cfa: &Cfa) -> bool
+    ensures { IsTrue result → IsPathOf cfa.now path.now }
+{
+    are_below(path.edges.as_slice(), cfa.edges.len())
+}
+
+fn are_below(numbers: &[u32], limit: usize) -> bool
+    ensures { IsTrue result → AllByRecursion (λ number. number < limit) numbers.now }
+{
+    for number in numbers {
+        if limit <= *number as usize {
+            return false;
+        }
+    }
+    true
+}
+
+fn are_exprs(exprs: &[Expr], cells: &[Cell]) -> bool
+    ensures { IsTrue result → AllByRecursion (IsExpr cells.now) exprs.now }
+{
+    for expr in exprs {
+        if !is_expr(expr, cells) {
+            return false;
+        }
+    }
+    true
+}
+
+fn are_shaped(elems: &[Elem], cfa: &Cfa) -> bool
+    ensures { IsTrue result → AreShaped cfa.now elems.now }
+{
+    for elem in elems {
+        if !is_elem(elem, cfa) {
+            return false;
+        }
+    }
+    true
+}
+
+fn are_precisions(precisions: &[Precision], cfa: &Cfa) -> bool
+    ensures { IsTrue result → AllByRecursion (IsPrecision cfa.now) precisions.now }
+{
+    for precision in precisions {
+        if !is_precision(precision, cfa) {
+            return false;
+        }
+    }
+    true
+}
+
+fn have_place(entries: &[Entry], cfa: &Cfa) -> bool
+    ensures { IsTrue result → AllByRecursion (HasPlace cfa.now 0) entries.now }
+{
+    for entry in entries {
+        if !has_place(entry, cfa) {
+            return false;
+        }
+    }
+    true
+}
+
+fn has_place(entry: &Entry, cfa: &Cfa) -> bool
+    ensures { IsTrue result → HasPlace cfa.now 0 entry.now }
+{
+    are_shaped(entry.elems.as_slice(), cfa)
+        && are_precisions(entry.precisions.as_slice(), cfa)
+        && 0 < entry.elems.len()
+        && 0 < entry.precisions.len()
+}

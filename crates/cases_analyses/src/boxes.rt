@@ -1,0 +1,11 @@
+//! The analyses as `main` hands them on. Nothing is proved of what they answer here.
+
+use cpa_iface::Analysis;
+
+/// A box of each analysis, which lives as long as the program.
+#[derive(Drop)]
+pub struct Boxes {
+    pub location: Box<dyn Analysis + Send>,
+    pub callstack: Box<dyn Analysis + Send>,
+    pub value: Box<dyn Analysis + Send>,
+}

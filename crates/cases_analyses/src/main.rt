@@ -1,0 +1,35 @@
+//! Prints each row of the standard input with what an analysis answers to the call that it names,
+//! through the trait's bound and through a box. README.md says how the wanted answers were made.
+#![tactic(auto)]
+
+mod asking;
+mod boxes;
+mod elements;
+mod questions;
+mod rows;
+mod sample;
+mod table;
+
+use boxes::Boxes;
+use cpa_callstack::Callstack;
+use cpa_iface::Location;
+use cpa_value::Value;
+use std::io::{self, BufRead, BufReader, BufWriter, Write};
+use table::Table;
+
+fn main(rt: HostRuntime) -> io::Result<()> {
+    let alloc = rt.alloc();
+    let mut boxes = Boxes {
+        location: Box::new(alloc, Location::new())?,
+        callstack: Box::new(alloc, Callstack::new())?,
+        value: Box::new(alloc, Value::new())?,
+    };
+    let mut table = Table::new(alloc);
+    let mut out = BufWriter::new(alloc, io::writer(&rt))?;
+    for line in BufReader::new(alloc, rt.reader())?.lines(alloc) {
+        let line = line?;
+        let printed = rows::answered(alloc, &mut boxes, &mut table, line.as_str())?;
+        writeln!(out, "{printed}")?;
+    }
+    out.flush()
+}

@@ -1,0 +1,106 @@
+//! A row with its answer. Nothing is proved of a row but that its answer comes: what is right, the
+//! file `stdout` says.
+
+ghost use Rattle.cpa_model.specs.Automata.{IsAutomaton};
+ghost use Rattle.cpa_iface.specs.Meanings.{IsPrecision};
+
+use crate::asking::{answer, is_precision};
+use crate::boxes::Boxes;
+use crate::questions::{Called, Question, question_of};
+use crate::sample::automaton;
+use crate::table::Table;
+use cpa_callstack::Callstack;
+use cpa_iface::{Location, Precision};
+use cpa_model::Cfa;
+use cpa_value::Value;
+use row_reader::RowFault;
+use std::alloc::{AllocError, Global};
+
+/// A row with its answer. An empty line, a remark and a row that sets something stay as they are.
+pub fn answered(
+    alloc: Global,
+    boxes: &mut Boxes,
+    table: &mut Table,
+    line: &str,
+) -> Result<String, AllocError> {
+    let mut out = String::from_str(alloc, line)?;
+    if line.is_empty() || line.starts_with("#") {
+        return Ok(out);
+    }
+    match push_answer(alloc, boxes, table, line, &mut out) {
+        Ok(()) => Ok(out),
+        Err(RowFault::Unreadable) => {
+            out.push_str(" = unreadable")?;
+            Ok(out)
+        }
+        Err(RowFault::OutOfMemory) => Err(AllocError),
+    }
+}
+
+fn push_answer(
+    alloc: Global,
+    boxes: &mut Boxes,
+    table: &mut Table,
+    line: &str,
+    out: &mut String,
+) -> Result<(), RowFault> {
+    if !table.set(alloc, line)? {
+        let answer = asked(alloc, boxes, table, line)?;
+        write!(out, " ={answer}")?;
+    }
+    Ok(())
+}
+
+fn asked(alloc: Global, boxes: &mut Boxes, table: &Table, line: &str) -> Result<String, RowFault> {
+    let question = question_of(alloc, line)?;
+    let cfa = automaton(alloc, table)?;
+    if is_precision(&table.precision, &cfa) {
+        asked_of(alloc, boxes, &cfa, &table.precision, &question)
+    } else {
+        Err(RowFault::Unreadable)
+    }
+}
+
+fn asked_of(
+    alloc: Global,
+    boxes: &mut Boxes,
+    cfa: &Cfa,
+    precision: &Precision,
+    question: &Question,
+) -> Result<String, RowFault>
+    requires automaton { IsAutomaton cfa.now }
+    requires precision { IsPrecision cfa.now precision.now }
+{
+    match question.called {
+        Called::Location => {
+            answer(
+                alloc,
+                &mut Location::new(),
+                &mut boxes.location,
+                cfa,
+                precision,
+                question,
+            )
+        }
+        Called::Callstack => {
+            answer(
+                alloc,
+                &mut Callstack::new(),
+                &mut boxes.callstack,
+                cfa,
+                precision,
+                question,
+            )
+        }
+        Called::Value => {
+            answer(
+                alloc,
+                &mut Value::new(),
+                &mut boxes.value,
+                cfa,
+                precision,
+                question,
+            )
+        }
+    }
+}
