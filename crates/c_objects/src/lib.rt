@@ -1,0 +1,17 @@
+//! What a declarator declares, in a function and in file scope: its object, its length, its typed
+//! initializer and the rules that they break (`specs/Objects.antt`). Proved with `proofs/`.
+#![tactic(auto)]
+
+mod constants;
+mod initializers;
+mod lengths;
+mod noting;
+mod objects;
+mod parameters;
+mod specifiers;
+
+pub use initializers::{read_initializer, read_starts};
+pub use noting::{note_found, note_if};
+pub use objects::{read_local, read_object};
+pub use parameters::{note_void_parameter, parameter_object, parameter_type};
+pub use specifiers::{Qualified, read_specifiers};
