@@ -1,0 +1,6 @@
+mod Spells
+mod Spelt
+mod Equations
+mod SpeltExpressions
+mod SpeltText
+mod SpeltItems
