@@ -1,7 +1,7 @@
 //! The tree of a text of the first form, in short, as a line.
 
-use crate::written;
 use first_form::{Expression, FirstError, Statement, first_form};
+use row_texts::bytes_of;
 use std::alloc::{AllocError, Global};
 
 /// The letter of a test.
@@ -53,7 +53,7 @@ fn push_short(out: &mut String, statement: &Statement) -> Result<(), AllocError>
 
 /// The tree of a written text in short, main's block in braces, or `unbuilt`.
 pub(crate) fn answer(alloc: Global, row: &str) -> Result<String, AllocError> {
-    let Some(text) = written::bytes_of(alloc, row)? else {
+    let Some(text) = bytes_of(alloc, row)? else {
         return String::from_str(alloc, "no text");
     };
     match first_form(alloc, &text) {

