@@ -1,0 +1,4 @@
+pub mod Products
+pub mod Meanings
+pub mod lemmas
+pub mod Laws

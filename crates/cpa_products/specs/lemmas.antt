@@ -1,0 +1,2 @@
+-- Lemmas on the definitions, which the laws' proofs and crates above cite.
+pub mod ProductMeanings

@@ -1,0 +1,92 @@
+//! The product of two words, from the high bits of the second one down, as specs/Products defines
+//! it; what it means is proved in specs/lemmas/ProductMeanings.
+
+ghost use Rattle.std.specs.Prelude.{◌≡◌, ◌+◌, ◌++◌, ◌∷◌, [], length, replicate, IfOk, OnOk};
+ghost use Rattle.cpa_gates.specs.Nets.{built};
+ghost use Rattle.cpa_products.specs.Products.{masked_word, added_word, product};
+
+use cpa_cnf::Lit;
+use cpa_gates::{Net, never};
+use cpa_ints::Seq;
+use cpa_words::{and_word, sum_word};
+use std::alloc::{AllocError, Global};
+
+/// The literal so many times.
+fn repeated(alloc: Global, count: usize, literal: Lit) -> Result<Seq<Lit>, AllocError>
+    ensures word { IfOk result (λ w. w ≡ replicate count literal) }
+    ensures long { IfOk result (λ w. length w ≡ count) }
+{
+    let mut word = Seq::new(alloc);
+    'push: for _pushed in 0..count {
+        word.push(literal)?;
+    }
+    Ok(word)
+}
+
+/// The word where the literal is true, else nothing.
+#[tactic(auto, unfolding(crate::specs::Products::masked_word))]
+fn masked_word(alloc: Global, net: &mut Net, y: Lit, xs: &[Lit]) -> Result<Seq<Lit>, AllocError>
+    ensures built { IfOk result (λ w. built net.new w ≡ masked_word net.old y xs.now) }
+    ensures long { IfOk result (λ w. length w ≡ length xs.now) }
+{
+    let mask = repeated(alloc, xs.len(), y)?;
+    and_word(alloc, net, xs, mask.as_slice())
+}
+
+/// Adds the literals at the end.
+fn push_all(word: &mut Seq<Lit>, xs: &[Lit]) -> Result<(), AllocError>
+    ensures { OnOk result (word.new ≡ word.old ++ xs.now) }
+{
+    for x in xs {
+        word.push(*x)?;
+    }
+    Ok(())
+}
+
+/// A literal with a word behind it.
+fn joined(alloc: Global, low: Lit, rest: &[Lit]) -> Result<Seq<Lit>, AllocError>
+    ensures word { IfOk result (λ w. w ≡ low ∷ rest.now) }
+    ensures long { IfOk result (λ w. length w ≡ length rest.now + 1) }
+{
+    let mut word = Seq::new(alloc);
+    word.push(low)?;
+    push_all(&mut word, rest)?;
+    Ok(word)
+}
+
+/// The sum of a word and a word that stands one place higher.
+#[tactic(auto, unfolding(crate::specs::Products::added_word))]
+fn added_word(
+    alloc: Global,
+    net: &mut Net,
+    row: &[Lit],
+    above: &[Lit],
+) -> Result<Seq<Lit>, AllocError>
+    requires { length row.now ≡ length above.now + 1 }
+    ensures built { IfOk result (λ w. built net.new w ≡ added_word net.old row.now above.now) }
+    ensures long { IfOk result (λ w. length w ≡ length row.now) }
+{
+    match row {
+        [] => Ok(Seq::new(alloc)),
+        [low, rest @ ..] => {
+            let sum = sum_word(alloc, net, never(), rest, above)?;
+            joined(alloc, *low, sum.as_slice())
+        }
+    }
+}
+
+/// The product of two words of one length, modulo 2 to the power of the length.
+pub fn product(alloc: Global, net: &mut Net, xs: &[Lit], ys: &[Lit]) -> Result<Seq<Lit>, AllocError>
+    requires { length xs.now ≡ length ys.now }
+    ensures built { IfOk result (λ w. built net.new w ≡ product net.old xs.now ys.now) }
+    ensures long { IfOk result (λ w. length w ≡ length xs.now) }
+{
+    let mut above = Seq::new(alloc);
+    let mut place = ys.len();
+    while place > 0 {
+        place -= 1;
+        let row = masked_word(alloc, net, ys[place], &xs[..xs.len() - place])?;
+        above = added_word(alloc, net, row.as_slice(), above.as_slice())?;
+    }
+    Ok(above)
+}
