@@ -1,0 +1,11 @@
+pub mod Runs
+pub mod Parameters
+pub mod Sums
+pub mod Chains
+pub mod Lists
+pub mod Placed
+pub mod Suffixes
+pub mod Variants
+pub mod InOrder
+pub mod StatementForms
+pub mod Filled

@@ -1,0 +1,5 @@
+pub mod Exact
+pub mod Places
+pub mod Rows
+pub mod Items
+pub mod TextCells

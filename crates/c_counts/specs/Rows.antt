@@ -1,0 +1,77 @@
+-- Rows of the parts of a typed expression (`c_rules`, `specs/Counts.antt`), and rules that begin
+-- behind what is made already.
+use Rattle.std.specs.Prelude.{ℕ, ◌+◌, ◌-◌, ◌==◌, true, false, if◌then◌else◌, List, [], ◌∷◌}
+use Rattle.std.specs.Prelude.{map, take, length, Option}
+use Rattle.c_symbols.specs.declared.operators.BinaryOperator.{BinaryOperator}
+use Rattle.c_rules.specs.declared.meaning.Meaning.{Meaning}
+use Rattle.c_rules.specs.declared.typed.TypedExpression.{TypedExpression}
+use Rattle.c_rules.specs.declared.typed.TypedExpression.TheFolds.{fold-TypedSuffix}
+use Rattle.c_rules.specs.declared.typed.TypedExpression.TheOpen.{TypedExpression-F, TypedSuffix-F}
+use Rattle.c_rules.specs.declared.typed.TypedSuffix.{TypedSuffix}
+use Rattle.c_rules.specs.Counts.{Heads, Rows, ReadSuffix, rows_step, read_suffix, rows, suffixed}
+use Rattle.c_rules.specs.Counts.{Counted, Size, Rule, gives, then_by, chained, both, Target}
+use Rattle.c_rules.specs.Counts.{no_target, element_target, type_named, is_empty, held, comma_used}
+use Rattle.c_rules.specs.Counts.{comma_unused}
+
+-- a suffix with rows for each expression in it
+unfoldable pub suffix_of : Heads → TypedSuffix → ReadSuffix
+suffix_of heads = fold-TypedSuffix Rows ReadSuffix (rows_step heads) read_suffix
+
+-- a link of a chain
+abbrev pub link_rows : Heads → BinaryOperator × TypedExpression → BinaryOperator × Rows
+link_rows heads link = (link.0, rows heads link.1)
+
+-- an expression with these suffixes behind it
+abbrev pub suffixed_by : Heads → TypedExpression → List TypedSuffix → Rows
+suffixed_by heads base suffixes = suffixed heads (rows heads base) (map (suffix_of heads) suffixes)
+
+-- a value with the links behind it
+unfoldable pub linked_to : Heads → Counted → List (BinaryOperator × TypedExpression) →
+    Rule Counted
+linked_to heads left rest = chained (gives left) (map (link_rows heads) rest)
+
+-- what the first suffixes of a postfix expression make as a left side
+abbrev pub front_target : Heads → TypedExpression-F TypedExpression TypedSuffix → ℕ → Target
+front_target heads (TypedExpression-F.Postfix base suffixes place) count =
+    (suffixed_by heads base (take count suffixes)).target
+front_target heads _ count = no_target
+
+-- what a suffix makes as a left side, behind what has this name
+abbrev pub suffix_target : Option Meaning → ReadSuffix → Target
+suffix_target found (TypedSuffix-F.Index index kind place) =
+    element_target (type_named found) index.used
+suffix_target found _ = no_target
+
+-- how many suffixes a postfix expression has
+abbrev pub suffix_count : TypedExpression-F TypedExpression TypedSuffix → ℕ
+suffix_count (TypedExpression-F.Postfix base suffixes place) = length suffixes
+suffix_count _ = 0
+
+-- the value of an expression that is used
+abbrev pub used_by : Heads → TypedExpression → Rule Counted
+used_by heads e = (rows heads e).used
+
+-- items that are not used, behind what is counted already
+unfoldable pub unused_behind : Heads → Size → List TypedExpression → Rule Size
+unused_behind heads before items =
+    then_by (comma_unused (map (rows heads) items)) (λ size. gives (both before size))
+
+-- items of which the last is used
+unfoldable pub comma_behind : Heads → Size → List TypedExpression → Rule Counted
+comma_behind heads before items =
+    then_by (comma_used (map (rows heads) items)) (λ v. gives (record v {
+      size = both before v.size;
+    }))
+
+-- how many of these have statements
+abbrev pub full_count : List Counted → ℕ
+full_count [] = 0
+full_count (v ∷ vs) = elim (is_empty v) [ true ↦ full_count vs | false ↦ full_count vs + 1 ]
+
+-- how many of them stand behind the first
+abbrev pub left_behind : ℕ → Counted → ℕ
+left_behind n v = if is_empty v then n else n - 1
+
+-- a value, held where some behind it have statements
+abbrev pub held_where : ℕ → Counted → Rule Counted
+held_where n v = if n == 0 then gives v else held v

@@ -1,0 +1,18 @@
+//! What the core of a typed text takes: cells, points and heights, by the rules of `c_rules`,
+//! `specs/Counts.antt`; each function is a rule there.
+#![tactic(auto)]
+
+mod acts;
+mod calls;
+mod cells;
+mod expressions;
+mod functions;
+mod heads;
+mod names;
+mod places;
+mod size;
+mod statements;
+mod tally;
+mod value;
+
+pub use cells::{TextCells, counts};
