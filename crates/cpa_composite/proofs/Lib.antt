@@ -1,0 +1,10 @@
+pub mod Meant
+pub mod Placed
+pub mod Picking
+pub mod Growing
+pub mod Strengthening
+pub mod Covering
+pub mod Compared
+pub mod Lifted
+pub mod Following
+pub mod Chosen

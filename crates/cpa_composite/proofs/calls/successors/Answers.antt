@@ -1,0 +1,97 @@
+use Rattle.std.specs.declared.vec.Vec.{Vec}
+use Rattle.std.specs.declared.alloc.Global.{Global}
+use Rattle.std.proofs.Common.{◌≡◌, ℕ, List, map, length, sym, ap, ◌∙◌, subst}
+use Rattle.std.specs.List.{AllByRecursion}
+use Rattle.std.proofs.lemmas.List.{length-map}
+use Rattle.std.proofs.lemmas.Result.{IfOk-weaker}
+use Rattle.cpa_model.specs.declared.facts.Elem.{Elem}
+use Rattle.cpa_iface.specs.Meanings.{Meaning}
+use Rattle.cpa_composite.specs.Components.{picked, AreElems, ArePrecisions}
+use Rattle.cpa_composite.specs.Laws.{choices, EachStrengthened}
+use Rattle.cpa_composite.proofs.Picking.{picked_length, within_meanings}
+use Rattle.cpa_composite.proofs.Picking.{within_kept}
+use Rattle.cpa_composite.proofs.Covering.{lists_shaped, choices_shaped, successor_rows}
+use Rattle.cpa_composite.proofs.calls.successors.Goals as goal
+
+pub transfers-requires-clause-elems : goal.transfers-requires-clause-elems
+transfers-requires-clause-elems g c =
+    let meaning = g.A.Analysis.meaning in
+    let handed = c.args.handed.now.items in
+    let ms = map meaning handed in
+    let picks = c.args.picks.now in
+    let many = picked_length ms picks (within_meanings meaning handed picks c.requires.picks) in
+    subst (λ (n : ℕ). AreElems c.args.cfa.now n c.args.elems.now) many c.requires.elems
+
+pub transfers-requires-clause-precisions : goal.transfers-requires-clause-precisions
+transfers-requires-clause-precisions g c =
+    let meaning = g.A.Analysis.meaning in
+    let handed = c.args.handed.now.items in
+    let ms = map meaning handed in
+    let picks = c.args.picks.now in
+    let many = picked_length ms picks (within_meanings meaning handed picks c.requires.picks) in
+    subst (λ (n : ℕ). ArePrecisions c.args.cfa.now n c.args.precisions.now) many
+    c.requires.precisions
+
+pub strengthen_all-requires-clause-picks : goal.strengthen_all-requires-clause-picks
+strengthen_all-requires-clause-picks g c =
+    within_kept g.A.Analysis.meaning c.args.handed.now.items c.transfers.new.handed.items
+    c.args.picks.now c.transfers.ensures.kept c.requires.picks
+
+pub strengthen_all-requires-clause-choices : goal.strengthen_all-requires-clause-choices
+strengthen_all-requires-clause-choices g c =
+    let meaning = g.A.Analysis.meaning in
+    let handed = c.args.handed.now.items in
+    let ms = map meaning handed in
+    let picks = c.args.picks.now in
+    let many = picked_length ms picks (within_meanings meaning handed picks c.requires.picks) in
+    let cfa = c.args.cfa.now in
+    let items : Vec Elem Global → List Elem = λ l. l.items in
+    let lists : List (List Elem) = map items c.in_ok-lists.lists.items in
+    let size : length lists ≡ length picks =
+    length-map c.in_ok-lists.lists.items items ∙ c.in_ok-lists.ensures.size in
+    let chosen : map items c.deref-2.result.now ≡ choices lists =
+    ap (map items) c.deref-2.ensures.value
+    ∙ (c.in_ok-choices.ensures
+    ∙ ap (λ (l : List (Vec Elem Global)). choices (map items l)) c.deref.ensures.value) in
+    let shaped = choices_shaped cfa lists
+    (lists_shaped cfa c.args.edge (picked ms picks) c.args.elems.now c.args.precisions.now lists
+    c.requires.elems.size c.requires.precisions.size (size ∙ sym many)
+    c.in_ok-lists.ensures.each) in
+    subst (λ (l : List (List Elem)). AllByRecursion (AreElems cfa (length picks)) l) (sym chosen)
+    (subst (λ (n : ℕ). AllByRecursion (AreElems cfa n) (choices lists)) size shaped)
+
+pub strengthen_all-requires-clause-precisions : goal.strengthen_all-requires-clause-precisions
+strengthen_all-requires-clause-precisions g c =
+    let meaning = g.A.Analysis.meaning in
+    let handed = c.args.handed.now.items in
+    let ms = map meaning handed in
+    let picks = c.args.picks.now in
+    let many = picked_length ms picks (within_meanings meaning handed picks c.requires.picks) in
+    subst (λ (n : ℕ). ArePrecisions c.args.cfa.now n c.args.precisions.now) many
+    c.requires.precisions
+
+pub returns-clause-laws : goal.returns-clause-laws
+returns-clause-laws g c =
+    let meaning = g.A.Analysis.meaning in
+    let handed = c.args.handed.now.items in
+    let ms = map meaning handed in
+    let picks = c.args.picks.now in
+    let many = picked_length ms picks (within_meanings meaning handed picks c.requires.picks) in
+    let cfa = c.args.cfa.now in
+    let items : Vec Elem Global → List Elem = λ l. l.items in
+    let lists : List (List Elem) = map items c.in_ok-lists.lists.items in
+    let size : length lists ≡ length picks =
+    length-map c.in_ok-lists.lists.items items ∙ c.in_ok-lists.ensures.size in
+    let chosen : map items c.deref-2.result.now ≡ choices lists =
+    ap (map items) c.deref-2.ensures.value
+    ∙ (c.in_ok-choices.ensures
+    ∙ ap (λ (l : List (Vec Elem Global)). choices (map items l)) c.deref.ensures.value) in
+    let cs = picked ms picks in
+    let ps = c.args.precisions.now in
+    IfOk-weaker _ _ _ (λ (rows : Vec (Vec Elem Global) Global) made.
+    successor_rows cs cfa c.args.edge c.args.elems.now ps lists (map items rows.items)
+    c.requires.elems.size c.requires.precisions.size (size ∙ sym many) c.in_ok-lists.ensures.each
+    (subst (λ (l : List (List Elem)). EachStrengthened cfa cs ps l (map items rows.items)) chosen
+    (subst (λ (ns : List Meaning). EachStrengthened cfa (picked ns picks) ps
+    (map items c.deref-2.result.now) (map items rows.items)) c.transfers.ensures.kept made)))
+    c.strengthen_all.ensures.laws

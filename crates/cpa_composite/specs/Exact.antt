@@ -1,0 +1,26 @@
+-- How the rows of successors follow a part of a state on which a component is exact (this project's
+-- own).
+use Rattle.std.specs.Prelude.{◌≡◌, ℕ, List, [], slice_get, Some, ◌⊎◌}
+use Rattle.std.specs.List.{AllByRecursion}
+use Rattle.cpa_model.specs.declared.facts.Elem.{Elem}
+use Rattle.cpa_model.specs.declared.states.State.{State}
+use Rattle.cpa_model.specs.declared.automaton.Cfa.{Cfa}
+use Rattle.cpa_model.specs.declared.automaton.Edge.{Edge}
+use Rattle.cpa_iface.specs.declared.analysis.Part.{Part}
+use Rattle.cpa_iface.specs.declared.analysis.Part.TheVariants.{Point, Stack}
+use Rattle.cpa_iface.specs.Pins.{pin_of, StepsPart}
+
+-- the point or the stack
+abbrev pub IsControl : Part → Type 0
+IsControl which = (which ≡ Point) ⊎ (which ≡ Stack)
+
+-- each row has this element at this place
+abbrev pub HaveAt : ℕ → Elem → List (List Elem) → Type 0
+HaveAt i e rows = AllByRecursion (λ row. slice_get row i ≡ Some e) rows
+
+-- The rows have at this place the pin of the part after the step, and there are none where there is
+-- no step.
+pub record FollowPart (which : Part) (cfa : Cfa) (g : Edge) (s : State) (i : ℕ)
+    (rows : List (List Elem)) : Type 0 where
+  pub step : (t : State) → StepsPart which cfa g s t → HaveAt i (pin_of which t) rows
+  pub stuck : ((t : State) → StepsPart which cfa g s t → ⊥) → rows ≡ []
