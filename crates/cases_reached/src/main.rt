@@ -1,0 +1,24 @@
+//! Prints each row of the standard input with what the reached set that the rows before it made
+//! answers to the call that it names. README.md says how the wanted answers were made.
+#![tactic(auto)]
+
+mod answers;
+mod calls;
+mod printing;
+mod reading;
+mod rows;
+
+use cpa_reached::Reached;
+use std::io::{self, BufRead, BufReader, BufWriter, Write};
+
+fn main(rt: HostRuntime) -> io::Result<()> {
+    let alloc = rt.alloc();
+    let mut reached = Reached::new(alloc, Vec::new(alloc), Vec::new(alloc))?;
+    let mut out = BufWriter::new(alloc, io::writer(&rt))?;
+    for line in BufReader::new(alloc, rt.reader())?.lines(alloc) {
+        let line = line?;
+        let printed = rows::answered(alloc, &mut reached, line.as_str())?;
+        writeln!(out, "{printed}")?;
+    }
+    out.flush()
+}

@@ -1,0 +1,121 @@
+//! Entries, journals and paths as the rows spell them. Nothing is proved of a spelling but that it
+//! comes.
+
+use cpa_iface::{Entry, Precision, Turn};
+use cpa_model::{Path, push_list};
+use row_reader::{RowFault, push_word};
+use std::alloc::Global;
+
+/// Each entry, a comma between two.
+pub fn push_entries(out: &mut String, entries: &[Entry]) -> Result<(), RowFault> {
+    let mut is_first = true;
+    for entry in entries {
+        push_comma(out, is_first)?;
+        push_entry(out, entry)?;
+        is_first = false;
+    }
+    Ok(())
+}
+
+/// A comma, but before the first of several.
+fn push_comma(out: &mut String, is_first: bool) -> Result<(), RowFault> {
+    if !is_first {
+        out.push_str(",")?;
+    }
+    Ok(())
+}
+
+/// `NUMBER ELEMENTS limits LIMITS`, and then `from PARENT by EDGE`, `uses NUMBERS` and `waits`
+/// where it has a parent, where it uses an entry, and where it waits.
+fn push_entry(out: &mut String, entry: &Entry) -> Result<(), RowFault> {
+    let number = entry.number;
+    write!(out, " {number} ")?;
+    push_list(out, entry.elems.as_slice())?;
+    push_limits(out, entry.precisions.as_slice())?;
+    push_parent(out, entry.parent)?;
+    push_uses(out, entry.uses.as_slice())?;
+    if entry.waiting {
+        push_word(out, "waits")?;
+    }
+    Ok(())
+}
+
+fn push_limits(out: &mut String, precisions: &[Precision]) -> Result<(), RowFault> {
+    push_word(out, "limits")?;
+    for precision in precisions {
+        let limit = precision.limit;
+        write!(out, " {limit}")?;
+    }
+    Ok(())
+}
+
+fn push_parent(out: &mut String, parent: Option<(u32, u32)>) -> Result<(), RowFault> {
+    if let Some((number, edge)) = parent {
+        write!(out, " from {number} by {edge}")?;
+    }
+    Ok(())
+}
+
+fn push_uses(out: &mut String, uses: &[u32]) -> Result<(), RowFault> {
+    if !uses.is_empty() {
+        push_word(out, "uses")?;
+        push_numbers(out, uses)?;
+    }
+    Ok(())
+}
+
+/// The numbers, each behind a space.
+pub fn push_numbers(out: &mut String, numbers: &[u32]) -> Result<(), RowFault> {
+    for number in numbers {
+        write!(out, " {number}")?;
+    }
+    Ok(())
+}
+
+/// The numbers of the entries that wait; `none` where none does.
+pub fn push_waiting(alloc: Global, out: &mut String, entries: &[Entry]) -> Result<(), RowFault> {
+    let mut numbers = Vec::new(alloc);
+    for entry in entries {
+        if entry.waiting {
+            numbers.push(entry.number)?;
+        }
+    }
+    if numbers.is_empty() {
+        push_word(out, "none")?;
+    }
+    push_numbers(out, numbers.as_slice())
+}
+
+/// Each row of the journal, a comma between two; `none` where there is none.
+pub fn push_turns(out: &mut String, turns: &[Turn]) -> Result<(), RowFault> {
+    if turns.is_empty() {
+        push_word(out, "none")?;
+    }
+    let mut is_first = true;
+    for turn in turns {
+        push_comma(out, is_first)?;
+        push_turn(out, turn)?;
+        is_first = false;
+    }
+    Ok(())
+}
+
+/// `TAKEN added NUMBERS replaced OLD by NEW ..`
+fn push_turn(out: &mut String, turn: &Turn) -> Result<(), RowFault> {
+    let taken = turn.taken;
+    write!(out, " {taken} added")?;
+    push_numbers(out, turn.added.as_slice())?;
+    push_word(out, "replaced")?;
+    for (old, next) in turn.replaced.as_slice() {
+        write!(out, " {old} by {next}")?;
+    }
+    Ok(())
+}
+
+/// The edges, each behind a space; `here` where there is none.
+pub fn push_path(out: &mut String, path: &Path) -> Result<(), RowFault> {
+    if path.edges.is_empty() {
+        push_word(out, "here")?;
+    }
+    push_numbers(out, path.edges.as_slice())
+}
