@@ -2,27 +2,26 @@
 use Rattle.std.specs.Prelude.{◌≡◌, true, false}
 use Rattle.std.proofs.Common.{sym}
 use Rattle.grammar_forms.specs.Forms.{Nothing, One, Empty}
+use Rattle.grammar_forms.specs.Choices.{Same, same_form, impossible}
 use Rattle.c_symbols.specs.declared.words.Terminal.TheVariants as terminal
 use Rattle.c_symbols.specs.declared.symbol.Symbol.{Symbol}
 use Rattle.c_symbols.specs.declared.symbol.Symbol.TheVariants as symbol
 use Rattle.c_symbols.specs.Sources.{is_terminal}
 use Rattle.c_tree.specs.Declarations.{comma_or_end_at}
-use Rattle.c_declarations.specs.Readers.{Same, same_form}
-
-impossible : {P : Type 0} → false ≡ true → P
-impossible e = absurd (let clash : false ≡ true = e in cc)
 
 pub arm_comma : (s : Symbol) → is_terminal terminal.Comma s ≡ true → Same (comma_or_end_at s) One
 unfolding comma_or_end_at
 arm_comma (symbol.Terminal terminal.Comma) e = same_form
 arm_comma _ e = impossible e
 
-pub arm_end : (s : Symbol) → is_terminal terminal.RightBrace s ≡ true → Same (comma_or_end_at s) Empty
+pub arm_end : (s : Symbol) → is_terminal terminal.RightBrace s ≡ true →
+    Same (comma_or_end_at s) Empty
 unfolding comma_or_end_at
 arm_end (symbol.Terminal terminal.RightBrace) e = same_form
 arm_end _ e = impossible e
 
-pub arm_neither : (s : Symbol) → is_terminal terminal.Comma s ≡ false → is_terminal terminal.RightBrace s ≡ false →
+pub arm_neither : (s : Symbol) → is_terminal terminal.Comma s ≡ false →
+    is_terminal terminal.RightBrace s ≡ false →
     Same (comma_or_end_at s) Nothing
 unfolding comma_or_end_at
 arm_neither (symbol.Terminal terminal.Comma) e f = impossible (sym e)

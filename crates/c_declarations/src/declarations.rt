@@ -1,4 +1,5 @@
-//! The reader of declarations in a function, which are `declaration` of `Declarations.antt` of `c_tree`.
+//! The reader of declarations in a function, which are `declaration` of `Declarations.antt` of
+//! `c_tree`.
 ghost use Rattle.std.specs.Prelude.{◌<◌, length};
 ghost use Rattle.c_tree.specs.Declarations.{declaration};
 ghost use Rattle.c_tree.specs.Reading.{Gives, HasRoom, HasRoomBelow};

@@ -7,7 +7,8 @@ ghost use Rattle.c_symbols.specs.Sources.{is};
 ghost use Rattle.c_tree.specs.Parts.{is_initializing};
 ghost use Rattle.c_tree.specs.Declarations.{array, declarator, initializer_of};
 ghost use Rattle.c_tree.specs.Reading.{Gives, HasRoom, HasRoomBelow};
-ghost use Rattle.c_declarations.specs.Forms.{optional_length, declarator_behind, declarators_behind};
+ghost use Rattle.c_declarations.specs.Forms.{optional_length, declarator_behind};
+ghost use Rattle.c_declarations.specs.Forms.{declarators_behind};
 
 use crate::classes::is_initializing;
 use crate::initializers::initializer;
@@ -77,7 +78,8 @@ fn optional_initializer(
     Ok((Some(initializer), behind))
 }
 
-/// The declarator of which this name is read already: what stands behind it, in any function or none.
+/// The declarator of which this name is read already: what stands behind it, in any function or
+/// none.
 pub fn declarator_behind(
     alloc: Global,
     source: &Source,

@@ -1,5 +1,5 @@
-//! Readers of initializers, which are `initializer_of`, `list` and their parts of `Declarations.antt`
-//! of `c_tree`.
+//! Readers of initializers, which are `initializer_of`, `list` and their parts of
+//! `Declarations.antt` of `c_tree`.
 ghost use Rattle.std.specs.Prelude.{◌≡◌, ◌<◌, length};
 ghost use Rattle.grammar_forms.specs.Forms.{Choice, Many};
 ghost use Rattle.c_symbols.specs.declared.words.Terminal.TheVariants.{RightBrace};

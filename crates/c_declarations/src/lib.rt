@@ -1,5 +1,5 @@
-//! Readers of declarations of objects (C11 6.7). Each meets the form of its name in `Declarations.antt`
-//! of `c_tree`.
+//! Readers of declarations of objects (C11 6.7). Each meets the form of its name in
+//! `Declarations.antt` of `c_tree`.
 #![tactic(auto)]
 
 mod classes;

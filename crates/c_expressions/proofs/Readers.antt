@@ -1,5 +1,6 @@
 -- From answers on the parts to an answer on the whole.
-use Rattle.std.specs.Prelude.{◌≡◌, ℕ, ◌<◌, Bool, true, false, List, [], ◌∷◌, ◌++◌, length, Result, IsErrAnd, refl}
+use Rattle.std.specs.Prelude.{◌≡◌, ℕ, ◌<◌, Bool, true, false, List, [], ◌∷◌, ◌++◌, length, Result}
+use Rattle.std.specs.Prelude.{IsErrAnd, refl}
 use Rattle.std.proofs.Common.{sym, ◌∙◌, ap, subst, arith}
 use Rattle.grammar_forms.specs.declared.fault.ReadError.{ReadError}
 use Rattle.grammar_forms.specs.Forms.{Form, Node, Pair, Before, Many, greedy_text}
@@ -13,26 +14,17 @@ use Rattle.c_symbols.specs.declared.words.Terminal.{Terminal}
 use Rattle.c_symbols.specs.Symbols.{Leaf}
 use Rattle.c_symbols.specs.Sources.{leaf_at, is, Takes, Lacks}
 
--- a part, and the terminal behind it
-pub reads_closed : {T : Type 0} {A : ℕ → Form Leaf T} {leaves : List Leaf} {left p m q : ℕ} {u : T} {t : Terminal} →
-    Reads A (leaf_at leaves) (length leaves) left p u m → Takes leaves m t q →
-    Reads (λ n. Before (A n) (is t)) (leaf_at leaves) (length leaves) left p u q
-reads_closed {t = t} r takes = reads_before_by (is t) r takes.passes takes.behind_it takes.within
-
--- the terminal that is to stand there is not there
-pub at_lack : {T : Type 0} (limit : ℕ) {B : ℕ → Form Leaf T} {leaves : List Leaf} {left p m : ℕ} {t : Terminal} (e : ReadError)
-    (answer : Result (T × ℕ) ReadError) → IsErrAnd answer (λ given. given ≡ e) → Lacks leaves m t e →
-    (is t (leaf_at leaves m) ≡ false → NoneThrough B (leaf_at leaves) (length leaves) left p m) →
-    Answers limit B (leaf_at leaves) (length leaves) left p answer
-at_lack limit e answer given lacks none = at_fault limit e answer given lacks.named (none lacks.fails)
-
--- what is made of the one reading of a part has no reading where the part has none, and the other way round
-module _ {Token S T : Type 0} (f : Token → S → T) {A : ℕ → Form Token S} {at : ℕ → Token} {size left p : ℕ} where
-  pub none_made : {i : ℕ} → NoneThrough (λ n. Node f (A n)) at size left p i → NoneThrough A at size left p i
+-- what is made of the one reading of a part has no reading where the part has none, and the other
+-- way round
+module _ {Token S T : Type 0} (f : Token → S → T) {A : ℕ → Form Token S} {at : ℕ → Token}
+    {size left p : ℕ} where
+  pub none_made : {i : ℕ} → NoneThrough (λ n. Node f (A n)) at size left p i →
+      NoneThrough A at size left p i
   none_made g = record {
     onward = g.onward;
     within = g.within;
-    none = λ n v b u q r. g.none n v b (f (v.at p) u) q (record { parts = u; read = r; made = refl });
+    none = λ n v b u q r. g.none n v b (f (v.at p) u) q
+        (record { parts = u; read = r; made = refl });
   }
 
 -- the items behind the first
@@ -41,7 +33,8 @@ tail [] = []
 tail (u ∷ us) = us
 
 -- a list in front of which stands a first item
-pub reads_tail : {Token T : Type 0} {first : T} {A : ℕ → Form Token (List T)} {at : ℕ → Token} {size left p : ℕ} {us : List T} {q : ℕ} →
+pub reads_tail : {Token T : Type 0} {first : T} {A : ℕ → Form Token (List T)} {at : ℕ → Token}
+    {size left p : ℕ} {us : List T} {q : ℕ} →
     Reads (λ n. Node (λ leaf rest. first ∷ rest) (A n)) at size left p us q →
     (us ≡ first ∷ tail us) × Reads A at size left p (tail us) q
 reads_tail {first = first} {A} {at} {left = left} {p} {us} {q} r =
@@ -49,16 +42,19 @@ reads_tail {first = first} {A} {at} {left = left} {p} {us} {q} r =
       whole.made ∙ cons_path refl (sym (ap tail whole.made)),
       record {
         reading = λ edge. let x = r.reading edge in
-            subst (λ rest. A left (greedy_text at edge) left p rest q) (sym (ap tail x.made)) x.read;
+            subst (λ rest. A left (greedy_text at edge) left p rest q)
+            (sym (ap tail x.made)) x.read;
         onward = r.onward;
         within = r.within;
       },
     )
 
 -- a list behind a part, from which its first items come: behind the part
-pub behind_part : {Token S T : Type 0} (f : Token → S × List T → List T) (go : Token → Bool) {A : ℕ → Form Token S} (B : ℕ → Form Token T)
+pub behind_part : {Token S T : Type 0} (f : Token → S × List T → List T) (go : Token → Bool)
+    {A : ℕ → Form Token S} (B : ℕ → Form Token T)
     {at : ℕ → Token} {size left p m : ℕ} {a : S} {items : List T} →
-    ((leaf : Token) (us : List T) → f leaf (a, us) ≡ items ++ us) → Steady A → Reads A at size left p a m →
+    ((leaf : Token) (us : List T) → f leaf (a, us) ≡ items ++ us) → Steady A →
+    Reads A at size left p a m →
     SoFar (λ n. Node f (Pair (A n) (Many go (B n)))) go B at size left p items m
 behind_part f go {A} B {at} {size} {left} {p} {m} {a} {items} made steady r = record {
   reads = λ us q s. reads_node f (sym (made (at p) us)) (reads_pair r s);
@@ -73,23 +69,9 @@ behind_part f go {A} B {at} {size} {left} {p} {m} {a} {items} made steady r = re
   within = r.within;
 }
 
--- a list behind a first item that is read already, at its start
-pub behind_first : {Token T : Type 0} (go : Token → Bool) (first : T) (B : ℕ → Form Token T) {at : ℕ → Token} {size left p : ℕ} → p < size →
-    SoFar (λ n. Node (λ leaf rest. first ∷ rest) (Many go (B n))) go B at size left p (first ∷ []) p
-behind_first go first B fits = record {
-  reads = λ us q s. reads_node (λ leaf rest. first ∷ rest) refl s;
-  front = λ i n v below b ts q s. record { rest = s.parts; joined = s.made; more = s.read };
-  onward = omega arith;
-  within = fits;
-}
-
 -- a list that goes on is not empty
-pub goes_not_empty : {Token T : Type 0} (go : Token → Bool) (A : ℕ → Form Token T) {at : ℕ → Token} {size left p q : ℕ} →
+pub goes_not_empty : {Token T : Type 0} (go : Token → Bool) (A : ℕ → Form Token T) {at : ℕ → Token}
+    {size left p q : ℕ} →
     go (at p) ≡ true → Reads (λ n. Many go (A n)) at size left p [] q → ⊥
 unfolding Many
 goes_not_empty go A goes r = ends_or_goes ((r.reading 0).stops refl) goes
-
--- the same with equal items
-pub at_items : {Token T : Type 0} {W : ℕ → Form Token (List T)} {go : Token → Bool} {A : ℕ → Form Token T} {at : ℕ → Token} {size left p : ℕ}
-    {us vs : List T} {m : ℕ} → SoFar W go A at size left p us m → vs ≡ us → SoFar W go A at size left p vs m
-at_items {W = W} {go} {A} {at} {size} {left} {p} {m = m} s e = subst (λ items. SoFar W go A at size left p items m) (sym e) s

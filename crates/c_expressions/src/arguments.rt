@@ -5,7 +5,8 @@ ghost use Rattle.c_symbols.specs.declared.words.Terminal.TheVariants.{LeftBracke
 ghost use Rattle.c_symbols.specs.Sources.{leaf_at, is, GoesOn};
 ghost use Rattle.grammar_forms.specs.Forms.{Nearest};
 ghost use Rattle.c_tree.specs.Parts.{begins_suffix};
-ghost use Rattle.c_tree.specs.Expressions.{arguments, any_suffix, suffixes, skipped_call, opens_skipped};
+ghost use Rattle.c_tree.specs.Expressions.{arguments, any_suffix, suffixes, skipped_call};
+ghost use Rattle.c_tree.specs.Expressions.{opens_skipped};
 ghost use Rattle.c_tree.specs.Reading.{Gives, HasRoom, HasRoomBelow};
 ghost use Rattle.c_words.specs.Answers.{Finds};
 ghost use Rattle.c_expressions.specs.Steps.{more_arguments};
@@ -141,7 +142,8 @@ fn opens_skipped(source: &Source, at: usize, asserts: bool) -> bool
     asserts && source.is(at, Terminal::LeftParen)
 }
 
-/// The suffixes behind a base. Where the base names `__assert_fail`, the arguments of its call are skipped.
+/// The suffixes behind a base. Where the base names `__assert_fail`, the arguments of its call are
+/// skipped.
 #[cycle(expression)]
 pub(crate) fn suffixes(
     alloc: Global,

@@ -95,7 +95,8 @@ pub(crate) fn assignment(
     ))
 }
 
-/// The first expression of a comma list, which is read already, and those behind it, each behind a comma.
+/// The first expression of a comma list, which is read already, and those behind it, each behind a
+/// comma.
 #[cycle(expression)]
 fn more_items(
     alloc: Global,

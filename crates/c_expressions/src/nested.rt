@@ -4,7 +4,9 @@ ghost use Rattle.std.specs.Prelude.{◌≡◌, ◌<◌, length};
 ghost use Rattle.c_symbols.specs.Symbols.{symbol_of};
 ghost use Rattle.c_symbols.specs.Sources.{leaf_at};
 ghost use Rattle.c_tree.specs.Parts.{begins, begins_expression};
-ghost use Rattle.c_tree.specs.Reading.{Gives, HasRoomBelow, no_level, deeper_comma, deeper_assignment, deeper_conditional, deeper_cast, deeper_unary};
+ghost use Rattle.c_tree.specs.Reading.{Gives, HasRoomBelow, no_level, deeper_comma};
+ghost use Rattle.c_tree.specs.Reading.{deeper_assignment, deeper_conditional, deeper_cast};
+ghost use Rattle.c_tree.specs.Reading.{deeper_unary};
 
 use crate::assignments::{assignment, comma, conditional};
 use crate::unary::{cast, unary};

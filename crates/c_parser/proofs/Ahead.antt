@@ -2,7 +2,8 @@
 use Rattle.std.specs.Prelude.{ℕ, ◌<◌}
 use Rattle.grammar_forms.specs.Reading.{Reads}
 use Rattle.grammar_forms.specs.Steady.{good_choice}
-use Rattle.grammar_forms.specs.Loops.{Strict, strict_one, strict_such, strict_second, strict_node, strict_choice}
+use Rattle.grammar_forms.specs.Loops.{Strict, strict_one, strict_such, strict_second, strict_node}
+use Rattle.grammar_forms.specs.Loops.{strict_choice}
 use Rattle.c_symbols.specs.declared.words.Terminal.TheVariants as terminal
 use Rattle.c_symbols.specs.declared.symbol.Symbol.{Symbol}
 use Rattle.c_symbols.specs.declared.symbol.Symbol.TheVariants as symbol
@@ -21,17 +22,20 @@ module _ (G : Grammar) (g : GoodGrammar G G) where
   strict_declared_at : (s : Symbol) → Strict (declared_at G s)
   unfolding declared_at identifier
   strict_declared_at (symbol.Terminal terminal.Semicolon) = strict_node _ strict_one
-  strict_declared_at symbol.Name = strict_node _ (strict_then_first (strict_node _ (strict_such is_name))
+  strict_declared_at symbol.Name =
+      strict_node _ (strict_then_first (strict_node _ (strict_such is_name))
       (λ name. good_choice symbol_of (good_named_at G G g name)))
   strict_declared_at _ = record { ahead = λ r. absurd r.never }
 
   strict_unit_item_at : (s : Symbol) → Strict (unit_item_at G s)
   unfolding unit_item_at
   strict_unit_item_at (symbol.Terminal terminal.Semicolon) = strict_node _ strict_one
-  strict_unit_item_at _ = strict_node _ (strict_second (good_specifiers _) (strict_choice symbol_of strict_declared_at))
+  strict_unit_item_at _ =
+      strict_node _ (strict_second (good_specifiers _) (strict_choice symbol_of strict_declared_at))
 
 pub unit_item_ahead : {at : ℕ → Leaf} {size left p : ℕ} {u : Item} {q : ℕ} →
     Reads (λ n. unit_item (grammar n)) at size left p u q → p < q
 unfolding unit_item
 unit_item_ahead {left = left} r =
-    (strict_choice symbol_of (strict_unit_item_at (grammar left) (good_grammar left left))).ahead (r.reading 0)
+    (strict_choice symbol_of (strict_unit_item_at (grammar left) (good_grammar left left))).ahead
+    (r.reading 0)

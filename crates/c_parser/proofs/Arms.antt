@@ -2,6 +2,7 @@
 use Rattle.std.specs.Prelude.{◌≡◌, ℕ, Bool, true, false, not, ◌&&◌, Option, None, Some}
 use Rattle.std.proofs.Common.{sym}
 use Rattle.grammar_forms.specs.Forms.{World, Form, Nothing, One, Node, Pair, Then, Before, Choice}
+use Rattle.grammar_forms.specs.Choices.{Same, same_form, impossible}
 use Rattle.c_symbols.specs.declared.words.Terminal.TheVariants as terminal
 use Rattle.c_symbols.specs.declared.symbol.Symbol.{Symbol}
 use Rattle.c_symbols.specs.declared.symbol.Symbol.TheVariants as symbol
@@ -14,11 +15,9 @@ use Rattle.c_tree.specs.declared.item.Item.TheVariants as node
 use Rattle.c_tree.specs.Parts.{names, is_specifier}
 use Rattle.c_tree.specs.Nested.{Grammar}
 use Rattle.c_tree.specs.Declarations.{identifier, specifiers, declarator_rest, more_declarators}
-use Rattle.c_tree.specs.Items.{Named, function, objects, is_known, have_pointer, function_rest, body_of, function_end_at, named_at, declared_at, declared_of, unit_item_at}
-use Rattle.c_declarations.specs.Readers.{Same, same_form}
-
-impossible : {P : Type 0} → false ≡ true → P
-impossible e = absurd (let clash : false ≡ true = e in cc)
+use Rattle.c_tree.specs.Items.{Named, function, objects, is_known, have_pointer, function_rest}
+use Rattle.c_tree.specs.Items.{body_of, function_end_at, named_at, declared_at, declared_of}
+use Rattle.c_tree.specs.Items.{unit_item_at}
 
 -- the semicolon of a prototype
 abbrev pub prototype_form : Form Leaf (Option Body)
@@ -28,21 +27,25 @@ prototype_form = Node (λ leaf u. None) One
 abbrev pub body_form : Name → Grammar → Form Leaf (Option Body)
 body_form name G = Node (λ leaf made. Some made) (body_of G (is_known name))
 
-pub arm_prototype : (G : Grammar) (name : Name) (pointer : Bool) (s : Symbol) → is_terminal terminal.Semicolon s ≡ true →
+pub arm_prototype : (G : Grammar) (name : Name) (pointer : Bool) (s : Symbol) →
+    is_terminal terminal.Semicolon s ≡ true →
     Same (function_end_at G name pointer s) prototype_form
 unfolding function_end_at
 arm_prototype G name pointer (symbol.Terminal terminal.Semicolon) e = same_form
 arm_prototype G name pointer _ e = impossible e
 
-pub arm_body : (G : Grammar) (name : Name) (pointer : Bool) (s : Symbol) → (not pointer && is_terminal terminal.LeftBrace s) ≡ true →
+pub arm_body : (G : Grammar) (name : Name) (pointer : Bool) (s : Symbol) →
+    (not pointer && is_terminal terminal.LeftBrace s) ≡ true →
     Same (function_end_at G name pointer s) (body_form name G)
 unfolding function_end_at
 arm_body G name false (symbol.Terminal terminal.LeftBrace) e = same_form
 arm_body G name false _ e = impossible e
 arm_body G name true _ e = impossible e
 
-pub arm_no_end : (G : Grammar) (name : Name) (pointer : Bool) (s : Symbol) → is_terminal terminal.Semicolon s ≡ false →
-    (not pointer && is_terminal terminal.LeftBrace s) ≡ false → Same (function_end_at G name pointer s) Nothing
+pub arm_no_end : (G : Grammar) (name : Name) (pointer : Bool) (s : Symbol) →
+    is_terminal terminal.Semicolon s ≡ false →
+    (not pointer && is_terminal terminal.LeftBrace s) ≡ false →
+    Same (function_end_at G name pointer s) Nothing
 unfolding function_end_at
 arm_no_end G name false (symbol.Terminal terminal.Semicolon) e f = impossible (sym e)
 arm_no_end G name true (symbol.Terminal terminal.Semicolon) e f = impossible (sym e)
@@ -60,13 +63,15 @@ abbrev pub objects_form : Grammar → Form Leaf Named
 objects_form G = Node (λ leaf parts. objects parts.0 parts.1)
     (Before (Pair (declarator_rest G) (more_declarators G)) (is terminal.Semicolon))
 
-pub arm_function : (G : Grammar) (name : Name) (s : Symbol) → is_terminal terminal.LeftParen s ≡ true →
+pub arm_function : (G : Grammar) (name : Name) (s : Symbol) →
+    is_terminal terminal.LeftParen s ≡ true →
     Same (named_at G name s) (function_form name G)
 unfolding named_at
 arm_function G name (symbol.Terminal terminal.LeftParen) e = same_form
 arm_function G name _ e = impossible e
 
-pub arm_objects : (G : Grammar) (name : Name) (s : Symbol) → is_terminal terminal.LeftParen s ≡ false →
+pub arm_objects : (G : Grammar) (name : Name) (s : Symbol) →
+    is_terminal terminal.LeftParen s ≡ false →
     Same (named_at G name s) (objects_form G)
 unfolding named_at
 arm_objects G name (symbol.Terminal terminal.LeftParen) e = impossible (sym e)
@@ -74,13 +79,15 @@ arm_objects G name _ e = same_form
 
 -- behind specifiers: a name and what stands behind it
 abbrev pub named_form : Grammar → Form Leaf (Option (Name × Named))
-named_form G = Node (λ leaf parts. Some parts) (Then identifier (λ name. Choice symbol_of (named_at G name)))
+named_form G =
+    Node (λ leaf parts. Some parts) (Then identifier (λ name. Choice symbol_of (named_at G name)))
 
 -- nothing
 abbrev pub alone_form : Form Leaf (Option (Name × Named))
 alone_form = Node (λ leaf u. None) One
 
-pub arm_alone : (G : Grammar) (s : Symbol) → is_terminal terminal.Semicolon s ≡ true → Same (declared_at G s) alone_form
+pub arm_alone : (G : Grammar) (s : Symbol) → is_terminal terminal.Semicolon s ≡ true →
+    Same (declared_at G s) alone_form
 unfolding declared_at
 arm_alone G (symbol.Terminal terminal.Semicolon) e = same_form
 arm_alone G _ e = impossible e
@@ -95,7 +102,8 @@ pub record Leads {Token T : Type 0} (A B : Form Token T) : Type 0 where
   pub to : {w : World Token} {left p : ℕ} {u : T} {q : ℕ} → A w left p u q → B w left p u q
 
 -- what is declared behind specifiers, and not nothing, has a name
-pub only_named : (G : Grammar) (s : Symbol) → is_terminal terminal.Semicolon s ≡ false → Leads (declared_at G s) (named_form G)
+pub only_named : (G : Grammar) (s : Symbol) → is_terminal terminal.Semicolon s ≡ false →
+    Leads (declared_at G s) (named_form G)
 unfolding declared_at
 only_named G (symbol.Terminal terminal.Semicolon) e = impossible (sym e)
 only_named G symbol.Name e = record { to = λ r. r }
@@ -103,18 +111,21 @@ only_named G _ e = record { to = λ r. absurd r.never }
 
 -- an item: specifiers and what they declare
 abbrev pub declared_form : Grammar → Form Leaf Item
-declared_form G = Node (λ leaf parts. declared_of parts.0 parts.1) (Pair (specifiers is_specifier) (Choice symbol_of (declared_at G)))
+declared_form G = Node (λ leaf parts. declared_of parts.0 parts.1)
+    (Pair (specifiers is_specifier) (Choice symbol_of (declared_at G)))
 
 -- a semicolon
 abbrev pub empty_form : Form Leaf Item
 empty_form = Node (λ leaf u. node.Empty leaf.place) One
 
-pub arm_empty : (G : Grammar) (s : Symbol) → is_terminal terminal.Semicolon s ≡ true → Same (unit_item_at G s) empty_form
+pub arm_empty : (G : Grammar) (s : Symbol) → is_terminal terminal.Semicolon s ≡ true →
+    Same (unit_item_at G s) empty_form
 unfolding unit_item_at
 arm_empty G (symbol.Terminal terminal.Semicolon) e = same_form
 arm_empty G _ e = impossible e
 
-pub arm_declared : (G : Grammar) (s : Symbol) → is_terminal terminal.Semicolon s ≡ false → Same (unit_item_at G s) (declared_form G)
+pub arm_declared : (G : Grammar) (s : Symbol) → is_terminal terminal.Semicolon s ≡ false →
+    Same (unit_item_at G s) (declared_form G)
 unfolding unit_item_at
 arm_declared G (symbol.Terminal terminal.Semicolon) e = impossible (sym e)
 arm_declared G _ e = same_form

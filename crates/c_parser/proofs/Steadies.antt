@@ -5,7 +5,9 @@ use Rattle.c_tree.specs.Parts.{is_specifier}
 use Rattle.c_tree.specs.Declarations.{identifier, specifiers, declarator_rest, more_declarators}
 use Rattle.c_tree.specs.Items.{function_rest, unit_item}
 use Rattle.c_tree.specs.Grammar.{grammar}
-use Rattle.c_tree.specs.OneReadingOfText.{good_grammar, good_identifier, good_specifiers, good_function_rest, good_declarator_rest, good_more_declarators, good_unit_item}
+use Rattle.c_tree.specs.OneReadingOfText.{good_grammar, good_identifier, good_specifiers}
+use Rattle.c_tree.specs.OneReadingOfText.{good_function_rest, good_declarator_rest}
+use Rattle.c_tree.specs.OneReadingOfText.{good_more_declarators, good_unit_item}
 
 pub steady_identifier : Steady (λ n. identifier)
 steady_identifier = record { good = λ n m. good_identifier }
@@ -17,7 +19,8 @@ pub steady_function_rest : Steady (λ n. function_rest)
 steady_function_rest = record { good = λ n m. good_function_rest }
 
 pub steady_rest : Steady (λ n. declarator_rest (grammar n))
-steady_rest = record { good = λ n m. good_declarator_rest (grammar n) (grammar m) (good_grammar n m) }
+steady_rest =
+    record { good = λ n m. good_declarator_rest (grammar n) (grammar m) (good_grammar n m) }
 
 pub steady_both : Steady (λ n. Pair (declarator_rest (grammar n)) (more_declarators (grammar n)))
 steady_both = record {
@@ -26,4 +29,5 @@ steady_both = record {
 }
 
 pub steady_unit_item : Steady (λ n. unit_item (grammar n))
-steady_unit_item = record { good = λ n m. good_unit_item (grammar n) (grammar m) (good_grammar n m) }
+steady_unit_item =
+    record { good = λ n m. good_unit_item (grammar n) (grammar m) (good_grammar n m) }

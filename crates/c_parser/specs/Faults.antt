@@ -5,7 +5,8 @@ use Rattle.c_lexer.specs.declared.fault.Rule.TheVariants.{S2}
 use Rattle.c_lexer.specs.declared.fault.TextError.{TextError}
 use Rattle.c_lexer.specs.declared.fault.TextError.TheVariants as text_error
 use Rattle.grammar_forms.specs.declared.fault.ReadError.{ReadError}
-use Rattle.grammar_forms.specs.declared.fault.ReadError.TheVariants.{Unexpected, TooDeep, OutOfMemory}
+use Rattle.grammar_forms.specs.declared.fault.ReadError.TheVariants.{Unexpected, TooDeep}
+use Rattle.grammar_forms.specs.declared.fault.ReadError.TheVariants.{OutOfMemory}
 use Rattle.c_symbols.specs.Symbols.{Leaf}
 use Rattle.c_symbols.specs.Sources.{leaf_at}
 use Rattle.c_tree.specs.Faults.{IsTreeFault, rule_of}
@@ -24,6 +25,10 @@ IsWithin leaves OutOfMemory = Unit {0}
 -- the fault that names the token of the error, with the rule that it breaks
 abbrev pub fault_of : List Leaf → ReadError → TextError
 fault_of leaves (Unexpected at) =
-    text_error.Fault (record { rule = rule_of (leaf_at leaves at); place = (leaf_at leaves at).place })
-fault_of leaves (TooDeep at) = text_error.Fault (record { rule = S2; place = (leaf_at leaves at).place })
+    text_error.Fault (record {
+      rule = rule_of (leaf_at leaves at);
+      place = (leaf_at leaves at).place;
+    })
+fault_of leaves (TooDeep at) =
+    text_error.Fault (record { rule = S2; place = (leaf_at leaves at).place })
 fault_of leaves OutOfMemory = text_error.OutOfMemory

@@ -16,7 +16,8 @@ item_named front name G =
 
 -- the item with these specifiers, which are read already
 abbrev pub item_behind : Specifiers → Grammar → Form Leaf Item
-item_behind front G = Node (λ leaf found. declared_of front found) (Choice symbol_of (declared_at G))
+item_behind front G =
+    Node (λ leaf found. declared_of front found) (Choice symbol_of (declared_at G))
 
 -- {item} before the end of the text
 abbrev pub all_items : Grammar → Form Leaf (List Item)

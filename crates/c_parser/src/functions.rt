@@ -1,5 +1,5 @@
-//! Readers of functions behind their name, which are `function_end_at`, `body_of` and an arm of `named_at`
-//! of `Items.antt` of `c_tree`.
+//! Readers of functions behind their name, which are `function_end_at`, `body_of` and an arm of
+//! `named_at` of `Items.antt` of `c_tree`.
 ghost use Rattle.std.specs.Prelude.{◌≡◌, ◌<◌, length, true, Some, IsTrue, not, ◌&&◌};
 ghost use Rattle.std.specs.List.{list_any};
 ghost use Rattle.std.specs.Str.{bytes_eq};
@@ -7,7 +7,8 @@ ghost use Rattle.grammar_forms.specs.Forms.{Choice};
 ghost use Rattle.c_symbols.specs.declared.words.Terminal.TheVariants.{LeftBrace, LeftParen};
 ghost use Rattle.c_symbols.specs.Symbols.{symbol_of};
 ghost use Rattle.c_symbols.specs.Sources.{leaf_at, is, GoesOn};
-ghost use Rattle.c_tree.specs.Items.{is_known, have_pointer, body_of, function_end_at, declared_of, function};
+ghost use Rattle.c_tree.specs.Items.{is_known, have_pointer, body_of, function_end_at, declared_of};
+ghost use Rattle.c_tree.specs.Items.{function};
 ghost use Rattle.c_tree.specs.Reading.{Gives, HasRoom};
 ghost use Rattle.c_parser.specs.Forms.{item_named};
 

@@ -1,4 +1,5 @@
-//! Readers of the items of a text (C11 6.9), which are `unit_item` and its parts of `Items.antt` of `c_tree`.
+//! Readers of the items of a text (C11 6.9), which are `unit_item` and its parts of `Items.antt` of
+//! `c_tree`.
 ghost use Rattle.std.specs.Prelude.{◌≡◌, ◌<◌, length, false};
 ghost use Rattle.c_symbols.specs.declared.words.Terminal.TheVariants.{LeftParen, Semicolon};
 ghost use Rattle.c_symbols.specs.Sources.{leaf_at, is, GoesOn};
@@ -16,7 +17,8 @@ use cpa_ints::Seq;
 use grammar_forms::ReadError;
 use std::alloc::Global;
 
-/// The objects of which the specifiers and the first name are read already: what stands behind them.
+/// The objects of which the specifiers and the first name are read already: what stands behind
+/// them.
 fn objects(
     alloc: Global,
     source: &Source,

@@ -1,5 +1,5 @@
-//! The tree of a text, or its fault, which are `Tree` and `IsTreeFault` of `c_tree`; `proofs/Whole.antt`
-//! goes from its items to it.
+//! The tree of a text, or its fault, which are `Tree` and `IsTreeFault` of `c_tree`;
+//! `proofs/Whole.antt` goes from its items to it.
 ghost use Rattle.std.specs.Prelude.{◌≡◌, ◌<◌, length, IfOk, IfErr};
 ghost use Rattle.c_lexer.specs.Parts.{Tokens};
 ghost use Rattle.c_symbols.specs.Sources.{leaf_at};
@@ -9,8 +9,8 @@ ghost use Rattle.c_symbols.specs.Symbols.{symbol_of};
 ghost use Rattle.c_parser.specs.Faults.{IsRefused, IsWithin, fault_of};
 
 use crate::items::unit_items;
-use c_lexer::{Rule, TextError, TextFault, Token, tokens_end_once, tokens_lie_in_order};
-use c_symbols::{Source, Symbol};
+use c_lexer::{Rule, TextError, TextFault, Token};
+use c_symbols::{Source, Symbol, tokens_are_a_source};
 use c_tree::{MAX_LEVEL, Unit};
 use grammar_forms::ReadError;
 use std::alloc::Global;
@@ -49,14 +49,14 @@ fn fault_of(source: &Source, error: ReadError) -> TextError
 
 /// The tree of the text with these tokens.
 ///
-/// One descent, linear in the tokens; memory for the tree alone. The stack is bounded by `MAX_LEVEL`.
+/// One descent, linear in the tokens; memory for the tree alone. The stack is bounded by
+/// `MAX_LEVEL`.
 pub fn parse(alloc: Global, text: &[u8], tokens: &[Token]) -> Result<Unit, TextError>
     requires { Tokens text.now tokens.now }
     ensures tree { IfOk result (λ unit. Tree text.now tokens.now unit) }
     ensures fault { IfErr result (λ error. IsRefused text.now tokens.now error) }
 {
-    tokens_lie_in_order();
-    tokens_end_once();
+    tokens_are_a_source();
     let source = Source::new(text, tokens);
     match unit_items(alloc, &source, 0, MAX_LEVEL - 1) {
         Ok((items, end)) => {

@@ -1,7 +1,10 @@
--- Tokens with which a part of an expression goes on: that a token that closes or parts it is none of them.
-use Rattle.std.specs.Prelude.{◌≡◌, ℕ, suc, ◌≤◌, Bool, true, false, not, ◌==◌, ◌&&◌, ◌||◌, nat_le, refl}
+-- Tokens with which a part of an expression goes on: that a token that closes or parts it is none
+-- of them.
+use Rattle.std.specs.Prelude.{◌≡◌, ℕ, suc, ◌≤◌, Bool, true, false, not, ◌==◌, ◌&&◌, ◌||◌, nat_le}
+use Rattle.std.specs.Prelude.{refl}
 use Rattle.std.proofs.Common.{sym, ◌∙◌, ap, arith}
 use Rattle.std.proofs.lemmas.Bool.Decides.{nat_tests}
+use Rattle.grammar_forms.specs.Choices.{impossible}
 use denote.Enum.Bare.{same_true}
 use Rattle.c_symbols.specs.declared.words.Terminal.{Terminal}
 use Rattle.c_symbols.specs.declared.words.Terminal.TheVariants as terminal
@@ -13,11 +16,12 @@ use Rattle.c_symbols.specs.declared.symbol.Symbol.TheVariants as symbol
 use Rattle.c_symbols.specs.Symbols.{Leaf, symbol_of}
 use Rattle.c_symbols.specs.Sources.{is, is_terminal}
 use Rattle.c_tree.specs.declared.expression.Expression.{Expression}
-use Rattle.c_tree.specs.Parts.{is_not, names, points, steps, binds, looseness, assigns, is_unary, initializes, specifies, specifies_locally}
+use Rattle.c_tree.specs.Parts.{is_not, names, points, steps, binds, looseness, assigns, is_unary}
+use Rattle.c_tree.specs.Parts.{initializes, specifies, specifies_locally}
 use Rattle.c_tree.specs.Expressions.{assigns_to}
 
--- how loose an expression is at least that goes on with the symbol: a postfix 0, a chain its looseness, a conditional 11,
--- an assignment 12, a comma 13
+-- how loose an expression is at least that goes on with the symbol: a postfix 0, a chain its
+-- looseness, a conditional 11, an assignment 12, a comma 13
 abbrev pub rank : Symbol → ℕ
 rank (symbol.Terminal terminal.LeftBracket) = 0
 rank (symbol.Terminal terminal.LeftParen) = 0
@@ -54,15 +58,13 @@ lists_parameters s = parameters_go_on s || is_terminal terminal.Comma s
 abbrev pub lists_declarators : Symbol → Bool
 lists_declarators s = declares s || is_terminal terminal.Comma s
 
-impossible : {P : Type 0} → false ≡ true → P
-impossible e = absurd (let clash : false ≡ true = e in cc)
-
 pub terminal_is : (x : Terminal) (s : Symbol) → is_terminal x s ≡ true → s ≡ symbol.Terminal x
 terminal_is x (symbol.Terminal y) e = ap symbol.Terminal (same_true the_terminal.the_type tt y x e)
 terminal_is x _ e = impossible e
 
 -- a terminal that passes no test
-pub stops_at : (test : Symbol → Bool) (x : Terminal) → test (symbol.Terminal x) ≡ false → (t : Leaf) → is x t ≡ true → test (symbol_of t) ≡ false
+pub stops_at : (test : Symbol → Bool) (x : Terminal) → test (symbol.Terminal x) ≡ false →
+    (t : Leaf) → is x t ≡ true → test (symbol_of t) ≡ false
 stops_at test x h t e = ap test (terminal_is x (symbol_of t) e) ∙ h
 
 false_from : (b : Bool) → (b ≡ true → ⊥) → b ≡ false
@@ -70,7 +72,8 @@ false_from true h = absurd (h refl)
 false_from false h = refl
 
 -- a terminal that passes a test is not there where the test fails
-pub is_none_of : (test : Symbol → Bool) (x : Terminal) → test (symbol.Terminal x) ≡ true → (t : Leaf) → test (symbol_of t) ≡ false → is x t ≡ false
+pub is_none_of : (test : Symbol → Bool) (x : Terminal) → test (symbol.Terminal x) ≡ true →
+    (t : Leaf) → test (symbol_of t) ≡ false → is x t ≡ false
 is_none_of test x h t g = false_from (is x t)
     (λ e. let clash : false ≡ true = sym g ∙ (ap test (terminal_is x (symbol_of t) e) ∙ h) in cc)
 
@@ -82,7 +85,8 @@ not_false : (b : Bool) → not b ≡ false → b ≡ true
 not_false true e = refl
 not_false false e = impossible (sym e)
 
-pub closed_at : (test : Symbol → Bool) (x : Terminal) → test (symbol.Terminal x) ≡ false → (t : Leaf) → is_not x t ≡ false → test (symbol_of t) ≡ false
+pub closed_at : (test : Symbol → Bool) (x : Terminal) → test (symbol.Terminal x) ≡ false →
+    (t : Leaf) → is_not x t ≡ false → test (symbol_of t) ≡ false
 closed_at test x h t e = stops_at test x h t (not_false (is x t) e)
 
 looser : (n j k : ℕ) → j ≤ k → nat_le n k ≡ false → nat_le n j ≡ false
@@ -130,11 +134,15 @@ assigns_ends : (s : Symbol) → loose 12 s ≡ false → assigns s ≡ false
 assigns_ends (symbol.Assign operator) e = impossible (sym e)
 assigns_ends _ e = refl
 
-pub assignment_parts : (left : Expression) (t : Leaf) → assigns_to left t ≡ true → goes_on 11 t ≡ false
-assignment_parts left t e = assigns_parts (symbol_of t) (second_true (is_unary left) (assigns (symbol_of t)) e)
+pub assignment_parts : (left : Expression) (t : Leaf) → assigns_to left t ≡ true →
+    goes_on 11 t ≡ false
+assignment_parts left t e =
+    assigns_parts (symbol_of t) (second_true (is_unary left) (assigns (symbol_of t)) e)
 
-pub assignment_ends : (left : Expression) (t : Leaf) → goes_on 12 t ≡ false → assigns_to left t ≡ false
-assignment_ends left t e = second_false (is_unary left) (assigns (symbol_of t)) (assigns_ends (symbol_of t) e)
+pub assignment_ends : (left : Expression) (t : Leaf) → goes_on 12 t ≡ false →
+    assigns_to left t ≡ false
+assignment_ends left t e =
+    second_false (is_unary left) (assigns (symbol_of t)) (assigns_ends (symbol_of t) e)
 
 pub first_of_or : (a b : Bool) → (a || b) ≡ false → a ≡ false
 first_of_or true b e = impossible (sym e)

@@ -1,9 +1,17 @@
 -- Declarations, statements and items of the grammar written plainly are those of the grammar.
-use Rattle.std.specs.Prelude.{◌≡◌, ℕ, zero, suc, Bool, true, false, not, ◌||◌, is_some, Option, Some, refl}
+use Rattle.std.specs.Prelude.{◌≡◌, ℕ, zero, suc, Bool, true, false, not, ◌||◌, is_some, Option}
+use Rattle.std.specs.Prelude.{Some, refl}
 use Rattle.std.proofs.Common.{ap}
 use Rattle.grammar_forms.specs.Forms.{Form, Pair}
 use Rattle.c_plain.specs.Plain.{plain_text}
-use Rattle.c_plain.proofs.Closes.{Closes, Begins, no_token, closes_nothing, closes_one, closes_such, closes_empty, closes_balanced, closes_skip, closes_behind, closes_before, closes_pair, closes_then, closes_node, closes_shaped, closes_deeper, closes_choice, closes_more, closes_many, closes_perhaps, closes_nearest, starts_by, starts_such, starts_before, starts_pair, starts_node, starts_made, starts_both, starts_choice, starts_any, starts_many, starts_perhaps}
+use Rattle.c_plain.proofs.Closes.{Closes, Begins, no_token, closes_nothing, closes_one, closes_such}
+use Rattle.c_plain.proofs.Closes.{closes_empty, closes_balanced, closes_skip, closes_behind}
+use Rattle.c_plain.proofs.Closes.{closes_before, closes_pair, closes_then, closes_node}
+use Rattle.c_plain.proofs.Closes.{closes_shaped, closes_deeper, closes_choice, closes_more}
+use Rattle.c_plain.proofs.Closes.{closes_many, closes_perhaps, closes_nearest, starts_by}
+use Rattle.c_plain.proofs.Closes.{starts_such, starts_before, starts_pair, starts_node, starts_made}
+use Rattle.c_plain.proofs.Closes.{starts_both, starts_choice, starts_any, starts_many}
+use Rattle.c_plain.proofs.Closes.{starts_perhaps}
 use Rattle.c_symbols.specs.declared.words.Terminal.{Terminal}
 use Rattle.c_symbols.specs.declared.words.Terminal.TheVariants as terminal
 use Rattle.c_symbols.specs.declared.symbol.Symbol.{Symbol}
@@ -13,14 +21,28 @@ use Rattle.c_symbols.specs.Sources.{is, is_terminal}
 use Rattle.c_tree.specs.declared.name.Name.{Name}
 use Rattle.c_tree.specs.declared.statement.Statement.{Statement}
 use Rattle.c_tree.specs.declared.item.Body.{Body}
-use Rattle.c_tree.specs.Parts.{is_not, is_name, is_end, have_type, have_char, points, is_specifier, specifies, is_local_specifier, is_initializing, bare_name}
+use Rattle.c_tree.specs.Parts.{is_not, is_name, is_end, have_type, have_char, points, is_specifier}
+use Rattle.c_tree.specs.Parts.{specifies, is_local_specifier, is_initializing, bare_name}
 use Rattle.c_tree.specs.Nested.{Grammar}
-use Rattle.c_tree.specs.Declarations.{identifier, specifier_at, specifiers, attribute, attributes, comma_or_end_at, element, list, initializer_of, array, array_part, declarator_rest, declarator, more_declarators, declaration}
-use Rattle.c_tree.specs.Statements.{items, condition, optional, for_start, behind_comma_at, statement_at, statement, item_by, item}
-use Rattle.c_tree.specs.Items.{Named, is_known, have_pointer, parameter, parameter_list, function_rest, skipped_body, body_of, function_end_at, named_at, declared_at, unit_item_at, unit_item, unit_items}
+use Rattle.c_tree.specs.Declarations.{identifier, specifier_at, specifiers, attribute, attributes}
+use Rattle.c_tree.specs.Declarations.{comma_or_end_at, element, list, initializer_of, array}
+use Rattle.c_tree.specs.Declarations.{array_part, declarator_rest, declarator, more_declarators}
+use Rattle.c_tree.specs.Declarations.{declaration}
+use Rattle.c_tree.specs.Statements.{items, condition, optional, for_start, behind_comma_at}
+use Rattle.c_tree.specs.Statements.{statement_at, statement, item_by, item}
+use Rattle.c_tree.specs.Items.{Named, is_known, have_pointer, parameter, parameter_list}
+use Rattle.c_tree.specs.Items.{function_rest, skipped_body, body_of, function_end_at, named_at}
+use Rattle.c_tree.specs.Items.{declared_at, unit_item_at, unit_item, unit_items}
 use Rattle.c_tree.specs.Grammar.{grammar}
-use Rattle.c_plain.proofs.GoesOn.{loose, goes_on, declares, fronts, parameters_go_on, lists_parameters, lists_declarators, stops_at, open_at, closed_at, declares_loose, initializes_parts, initializes_ends, fronts_ends, name_is_no_specifier, name_is_no_word, name_is_no_pointer, pointer_is_no_word, second_false, second_true, first_of_or, second_of_or}
-use Rattle.c_plain.proofs.PlainExpressions.{ClosedGrammar, closes_round_brackets, closes_comma, closes_assignment, closes_conditional, closes_cast, closes_unary}
+use Rattle.c_plain.proofs.GoesOn.{loose, goes_on, declares, fronts, parameters_go_on}
+use Rattle.c_plain.proofs.GoesOn.{lists_parameters, lists_declarators, stops_at, open_at, closed_at}
+use Rattle.c_plain.proofs.GoesOn.{declares_loose, initializes_parts, initializes_ends, fronts_ends}
+use Rattle.c_plain.proofs.GoesOn.{name_is_no_specifier, name_is_no_word, name_is_no_pointer}
+use Rattle.c_plain.proofs.GoesOn.{pointer_is_no_word, second_false, second_true, first_of_or}
+use Rattle.c_plain.proofs.GoesOn.{second_of_or}
+use Rattle.c_plain.proofs.PlainExpressions.{ClosedGrammar, closes_round_brackets, closes_comma}
+use Rattle.c_plain.proofs.PlainExpressions.{closes_assignment, closes_conditional, closes_cast}
+use Rattle.c_plain.proofs.PlainExpressions.{closes_unary}
 
 closes_identifier : {more : Leaf → Bool} → Closes identifier more
 unfolding identifier
@@ -36,7 +58,8 @@ closes_specifier_at _ = closes_nothing
 closes_specifiers : (goes : Leaf → Bool) → Closes (specifiers goes) goes
 unfolding specifiers
 closes_specifiers goes = closes_node _ (closes_shaped have_type
-    (closes_many goes _ {inner = no_token} (closes_choice symbol_of closes_specifier_at) (λ t e. refl) (λ t e. refl) (λ t e. e)))
+    (closes_many goes _ {inner = no_token} (closes_choice symbol_of closes_specifier_at)
+    (λ t e. refl) (λ t e. refl) (λ t e. e)))
 
 closes_attribute : {more : Leaf → Bool} → Closes attribute more
 unfolding attribute
@@ -46,7 +69,8 @@ closes_attribute = closes_skip (closes_behind _ (closes_behind _
 closes_attributes : Closes attributes (is terminal.Attribute)
 unfolding attributes
 closes_attributes = closes_node _
-    (closes_many (is terminal.Attribute) _ {inner = no_token} closes_attribute (λ t e. refl) (λ t e. refl) (λ t e. e))
+    (closes_many (is terminal.Attribute) _ {inner = no_token} closes_attribute (λ t e. refl)
+    (λ t e. refl) (λ t e. e))
 
 closes_comma_or_end_at : {more : Leaf → Bool} (s : Symbol) → Closes (comma_or_end_at s) more
 unfolding comma_or_end_at
@@ -56,15 +80,20 @@ closes_comma_or_end_at _ = closes_nothing
 
 closes_parameter : Closes parameter (λ t. parameters_go_on (symbol_of t))
 unfolding parameter
-closes_parameter = closes_node _ (closes_then {inner = is_specifier} (closes_specifiers is_specifier)
+closes_parameter =
+    closes_node _ (closes_then {inner = is_specifier} (closes_specifiers is_specifier)
     (λ front. closes_pair {inner = λ t. points (symbol_of t)}
-    (closes_perhaps _ {inner = no_token} closes_one (λ t e. refl) (λ t e. second_false (have_char front.words) (points (symbol_of t)) e))
+    (closes_perhaps _ {inner = no_token} closes_one (λ t e. refl)
+    (λ t e. second_false (have_char front.words) (points (symbol_of t)) e))
     (closes_perhaps is_name {inner = no_token} closes_identifier (λ t e. refl)
-    (λ t e. second_of_or (points (symbol_of t)) (is_name t) (second_of_or (is_specifier t) (points (symbol_of t) || is_name t) e)))
+    (λ t e. second_of_or (points (symbol_of t)) (is_name t)
+    (second_of_or (is_specifier t) (points (symbol_of t) || is_name t) e)))
     (starts_perhaps is_name _ (λ t e. name_is_no_pointer (symbol_of t) e)
-    (λ t e. first_of_or (points (symbol_of t)) (is_name t) (second_of_or (is_specifier t) (points (symbol_of t) || is_name t) e))))
+    (λ t e. first_of_or (points (symbol_of t)) (is_name t)
+    (second_of_or (is_specifier t) (points (symbol_of t) || is_name t) e))))
     (λ front. starts_both {middle = is_specifier}
-    (starts_perhaps _ _ (λ t e. pointer_is_no_word (symbol_of t) (second_true (have_char front.words) (points (symbol_of t)) e)) (λ t e. e))
+    (starts_perhaps _ _ (λ t e. pointer_is_no_word (symbol_of t)
+    (second_true (have_char front.words) (points (symbol_of t)) e)) (λ t e. e))
     (starts_perhaps is_name _ (λ t e. name_is_no_word (symbol_of t) e)
     (λ t e. first_of_or (is_specifier t) (points (symbol_of t) || is_name t) e))))
 
@@ -72,17 +101,23 @@ closes_parameter_list : Closes parameter_list (λ t. lists_parameters (symbol_of
 unfolding parameter_list
 closes_parameter_list =
     let parts = stops_at parameters_go_on terminal.Comma refl in
-    let less = λ (t : Leaf) (e : lists_parameters (symbol_of t) ≡ false). first_of_or (parameters_go_on (symbol_of t)) (is terminal.Comma t) e in
-    closes_node _ (closes_pair {inner = λ t. parameters_go_on (symbol_of t)} (closes_deeper closes_parameter)
-    (closes_many (is terminal.Comma) _ {inner = λ t. parameters_go_on (symbol_of t)} (closes_skip (closes_deeper closes_parameter)) parts less
-    (λ t e. second_of_or (parameters_go_on (symbol_of t)) (is terminal.Comma t) e)) (starts_many (is terminal.Comma) _ parts less))
+    let less = λ (t : Leaf) (e : lists_parameters (symbol_of t) ≡ false). first_of_or
+    (parameters_go_on (symbol_of t)) (is terminal.Comma t) e in
+    closes_node _ (closes_pair {inner = λ t. parameters_go_on (symbol_of t)}
+    (closes_deeper closes_parameter)
+    (closes_many (is terminal.Comma) _ {inner = λ t. parameters_go_on (symbol_of t)}
+    (closes_skip (closes_deeper closes_parameter)) parts less
+    (λ t e. second_of_or (parameters_go_on (symbol_of t)) (is terminal.Comma t) e))
+    (starts_many (is terminal.Comma) _ parts less))
 
 closes_function_rest : Closes function_rest (is terminal.Attribute)
 unfolding function_rest
 closes_function_rest = closes_node _ (closes_skip (closes_pair {inner = no_token}
     (closes_before {inner = is_not terminal.RightParen}
-    (closes_perhaps (is_not terminal.RightParen) {inner = λ t. lists_parameters (symbol_of t)} closes_parameter_list
-    (closed_at lists_parameters terminal.RightParen refl) (λ t e. e)) _ (open_at terminal.RightParen)) closes_attributes starts_any))
+    (closes_perhaps (is_not terminal.RightParen) {inner =
+    λ t. lists_parameters (symbol_of t)} closes_parameter_list
+    (closed_at lists_parameters terminal.RightParen refl) (λ t e. e)) _
+    (open_at terminal.RightParen)) closes_attributes starts_any))
 
 closes_skipped_body : {more : Leaf → Bool} → Closes skipped_body more
 unfolding skipped_body
@@ -99,12 +134,14 @@ module _ (G : Grammar) (c : ClosedGrammar G) where
   closes_element : Closes (element G) no_token
   unfolding element
   closes_element = closes_node _ (closes_pair {inner = goes_on 12} (closes_deeper c.assignment)
-      (closes_choice symbol_of closes_comma_or_end_at) (starts_by (starts_choice symbol_of (loose 12) comma_or_end_first)))
+      (closes_choice symbol_of closes_comma_or_end_at)
+      (starts_by (starts_choice symbol_of (loose 12) comma_or_end_first)))
 
   closes_list : Closes (list G) no_token
   unfolding list
   closes_list = closes_node _ (closes_behind _ (closes_before {inner = is_not terminal.RightBrace}
-      (closes_many (is_not terminal.RightBrace) _ {inner = no_token} closes_element (λ t e. refl) (λ t e. refl) (λ t e. e))
+      (closes_many (is_not terminal.RightBrace) _ {inner = no_token} closes_element (λ t e. refl)
+      (λ t e. refl) (λ t e. e))
       _ (open_at terminal.RightBrace)))
 
   closes_initializer_of : (is_array : Bool) → Closes (initializer_of G is_array) (goes_on 12)
@@ -115,36 +152,48 @@ module _ (G : Grammar) (c : ClosedGrammar G) where
   closes_array : {more : Leaf → Bool} → Closes (array G) more
   unfolding array
   closes_array = closes_node _ (closes_skip (closes_before {inner = is_not terminal.RightBracket}
-      (closes_perhaps (is_not terminal.RightBracket) {inner = goes_on 11} (closes_deeper c.conditional)
-      (closed_at (loose 11) terminal.RightBracket refl) (λ t e. e)) _ (open_at terminal.RightBracket)))
+      (closes_perhaps (is_not terminal.RightBracket) {inner = goes_on 11}
+      (closes_deeper c.conditional)
+      (closed_at (loose 11) terminal.RightBracket refl) (λ t e. e)) _
+      (open_at terminal.RightBracket)))
 
   closes_array_part : Closes (array_part G) (λ t. fronts (symbol_of t))
   unfolding array_part attributes
   closes_array_part =
-      let less = λ (t : Leaf) (e : fronts (symbol_of t) ≡ false). first_of_or (is terminal.LeftBracket t) (is terminal.Attribute t) e in
+      let less = λ (t : Leaf) (e : fronts (symbol_of t) ≡ false). first_of_or
+      (is terminal.LeftBracket t) (is terminal.Attribute t) e in
       closes_pair {inner = is terminal.LeftBracket}
-      (closes_perhaps (is terminal.LeftBracket) {inner = no_token} closes_array (λ t e. refl) (λ t e. e))
-      (closes_more (λ t e. second_of_or (is terminal.LeftBracket t) (is terminal.Attribute t) e) closes_attributes)
-      (starts_made _ (starts_many (is terminal.Attribute) _ (stops_at (is_terminal terminal.LeftBracket) terminal.Attribute refl) less))
+      (closes_perhaps (is terminal.LeftBracket) {inner = no_token} closes_array (λ t e. refl)
+      (λ t e. e))
+      (closes_more (λ t e. second_of_or (is terminal.LeftBracket t) (is terminal.Attribute t) e)
+      closes_attributes)
+      (starts_made _ (starts_many (is terminal.Attribute) _
+      (stops_at (is_terminal terminal.LeftBracket) terminal.Attribute refl) less))
 
   closes_declarator_rest : Closes (declarator_rest G) (λ t. declares (symbol_of t))
   unfolding declarator_rest
-  closes_declarator_rest = closes_node _ (closes_then {inner = λ t. fronts (symbol_of t)} closes_array_part
-      (λ front. closes_perhaps is_initializing {inner = goes_on 12} (closes_skip (closes_initializer_of (is_some front.0)))
+  closes_declarator_rest =
+      closes_node _ (closes_then {inner = λ t. fronts (symbol_of t)} closes_array_part
+      (λ front. closes_perhaps is_initializing {inner = goes_on 12}
+      (closes_skip (closes_initializer_of (is_some front.0)))
       declares_loose (λ t e. initializes_ends (symbol_of t) e))
-      (λ front. starts_perhaps is_initializing _ (λ t e. initializes_parts (symbol_of t) e) (λ t e. fronts_ends (symbol_of t) e)))
+      (λ front. starts_perhaps is_initializing _ (λ t e. initializes_parts (symbol_of t) e)
+      (λ t e. fronts_ends (symbol_of t) e)))
 
   closes_declarator : Closes (declarator G) (λ t. declares (symbol_of t))
   unfolding declarator
-  closes_declarator = closes_node _ (closes_pair {inner = no_token} closes_identifier closes_declarator_rest starts_any)
+  closes_declarator = closes_node _ (closes_pair {inner =
+      no_token} closes_identifier closes_declarator_rest starts_any)
 
   declarator_first : Begins (declarator G) is_local_specifier
   unfolding declarator identifier
-  declarator_first = starts_node _ (starts_pair _ (starts_node _ (starts_such is_name (λ t e. name_is_no_specifier (symbol_of t) e))))
+  declarator_first = starts_node _ (starts_pair _ (starts_node _
+      (starts_such is_name (λ t e. name_is_no_specifier (symbol_of t) e))))
 
   closes_more_declarators : Closes (more_declarators G) (λ t. lists_declarators (symbol_of t))
   unfolding more_declarators
-  closes_more_declarators = closes_many (is terminal.Comma) _ {inner = λ t. declares (symbol_of t)} (closes_skip closes_declarator)
+  closes_more_declarators = closes_many (is terminal.Comma) _ {inner = λ t. declares (symbol_of t)}
+      (closes_skip closes_declarator)
       (stops_at declares terminal.Comma refl)
       (λ t e. first_of_or (declares (symbol_of t)) (is terminal.Comma t) e)
       (λ t e. second_of_or (declares (symbol_of t)) (is terminal.Comma t) e)
@@ -159,26 +208,32 @@ module _ (G : Grammar) (c : ClosedGrammar G) where
 
   closes_declaration : Closes (declaration G) no_token
   unfolding declaration
-  closes_declaration = closes_node _ (closes_pair {inner = is_local_specifier} (closes_specifiers is_local_specifier)
-      (closes_before {inner = λ t. lists_declarators (symbol_of t)} (closes_node _ (closes_declared closes_declarator)) _
+  closes_declaration =
+      closes_node _ (closes_pair {inner = is_local_specifier} (closes_specifiers is_local_specifier)
+      (closes_before {inner = λ t. lists_declarators (symbol_of t)}
+      (closes_node _ (closes_declared closes_declarator)) _
       (stops_at lists_declarators terminal.Semicolon refl))
       (starts_by (starts_before _ (starts_node _ (starts_pair _ declarator_first)))))
 
   closes_items : {more : Leaf → Bool} → Closes (items G) more
   unfolding items
   closes_items = closes_before {inner = is_not terminal.RightBrace}
-      (closes_many (is_not terminal.RightBrace) _ {inner = no_token} (closes_deeper c.item) (λ t e. refl) (λ t e. refl) (λ t e. e))
+      (closes_many (is_not terminal.RightBrace) _ {inner = no_token} (closes_deeper c.item)
+      (λ t e. refl) (λ t e. refl) (λ t e. e))
       _ (open_at terminal.RightBrace)
 
   closes_condition : {more : Leaf → Bool} → Closes (condition G) more
   unfolding condition
   closes_condition = closes_behind _
-      (closes_before {inner = goes_on 13} (closes_deeper c.comma) _ (stops_at (loose 13) terminal.RightParen refl))
+      (closes_before {inner = goes_on 13} (closes_deeper c.comma) _
+      (stops_at (loose 13) terminal.RightParen refl))
 
-  closes_optional : {more : Leaf → Bool} (closer : Terminal) → loose 13 (symbol.Terminal closer) ≡ false → Closes (optional closer G) more
+  closes_optional : {more : Leaf → Bool} (closer : Terminal) →
+      loose 13 (symbol.Terminal closer) ≡ false → Closes (optional closer G) more
   unfolding optional
   closes_optional closer apart = closes_before {inner = is_not closer}
-      (closes_perhaps (is_not closer) {inner = goes_on 13} (closes_deeper c.comma) (closed_at (loose 13) closer apart) (λ t e. e))
+      (closes_perhaps (is_not closer) {inner = goes_on 13} (closes_deeper c.comma)
+      (closed_at (loose 13) closer apart) (λ t e. e))
       _ (open_at closer)
 
   closes_for_start : (local : Bool) → Closes (for_start G local) no_token
@@ -186,13 +241,16 @@ module _ (G : Grammar) (c : ClosedGrammar G) where
   closes_for_start true = closes_node _ (closes_deeper c.declaration)
   closes_for_start false = closes_node _ (closes_optional terminal.Semicolon refl)
 
-  closes_behind_comma_at : (name : Option Name) (s : Symbol) → Closes (behind_comma_at G name s) no_token
+  closes_behind_comma_at : (name : Option Name) (s : Symbol) →
+      Closes (behind_comma_at G name s) no_token
   unfolding behind_comma_at
   closes_behind_comma_at name (symbol.Terminal terminal.Semicolon) = closes_node _ closes_one
-  closes_behind_comma_at (Some name) (symbol.Terminal terminal.Colon) = closes_node _ (closes_skip (closes_deeper c.statement))
+  closes_behind_comma_at (Some name) (symbol.Terminal terminal.Colon) =
+      closes_node _ (closes_skip (closes_deeper c.statement))
   closes_behind_comma_at _ _ = closes_nothing
 
-  behind_comma_first : (name : Option Name) (s : Symbol) (at : ℕ → Leaf) (edge left p : ℕ) (u : Option (Name × Statement)) (q : ℕ) →
+  behind_comma_first : (name : Option Name) (s : Symbol) (at : ℕ → Leaf) (edge left p : ℕ)
+      (u : Option (Name × Statement)) (q : ℕ) →
       behind_comma_at G name s (plain_text at edge) left p u q → loose 13 s ≡ false
   unfolding behind_comma_at
   behind_comma_first name (symbol.Terminal terminal.Semicolon) at edge left p u q r = refl
@@ -201,30 +259,40 @@ module _ (G : Grammar) (c : ClosedGrammar G) where
 
   closes_statement_at : (s : Symbol) → Closes (statement_at G s) no_token
   unfolding statement_at
-  closes_statement_at (symbol.Terminal terminal.LeftBrace) = closes_node _ (closes_skip closes_items)
+  closes_statement_at (symbol.Terminal terminal.LeftBrace) =
+      closes_node _ (closes_skip closes_items)
   closes_statement_at (symbol.Terminal terminal.Semicolon) = closes_node _ closes_one
-  closes_statement_at (symbol.Terminal terminal.If) = closes_node _ (closes_skip (closes_pair {inner = no_token} closes_condition
+  closes_statement_at (symbol.Terminal terminal.If) =
+      closes_node _ (closes_skip (closes_pair {inner = no_token} closes_condition
       (closes_pair {inner = no_token} (closes_deeper c.statement)
-      (closes_nearest _ {inner = no_token} (closes_skip (closes_deeper c.statement)) (λ t e. refl)) starts_any) starts_any))
+      (closes_nearest _ {inner = no_token} (closes_skip (closes_deeper c.statement)) (λ t e. refl))
+      starts_any) starts_any))
   closes_statement_at (symbol.Terminal terminal.While) = closes_node _ (closes_skip
       (closes_pair {inner = no_token} closes_condition (closes_deeper c.statement) starts_any))
-  closes_statement_at (symbol.Terminal terminal.Do) = closes_node _ (closes_skip (closes_pair {inner = no_token}
+  closes_statement_at (symbol.Terminal terminal.Do) =
+      closes_node _ (closes_skip (closes_pair {inner = no_token}
       (closes_before {inner = no_token} (closes_deeper c.statement) _ (λ t e. refl))
       (closes_before {inner = no_token} closes_condition _ (λ t e. refl)) starts_any))
-  closes_statement_at (symbol.Terminal terminal.For) = closes_node _ (closes_skip (closes_behind _ (closes_pair {inner = no_token}
+  closes_statement_at (symbol.Terminal terminal.For) =
+      closes_node _ (closes_skip (closes_behind _ (closes_pair {inner = no_token}
       (closes_choice is_local_specifier closes_for_start)
       (closes_pair {inner = no_token} (closes_optional terminal.Semicolon refl)
-      (closes_pair {inner = no_token} (closes_optional terminal.RightParen refl) (closes_deeper c.statement) starts_any) starts_any) starts_any)))
+      (closes_pair {inner = no_token} (closes_optional terminal.RightParen refl)
+      (closes_deeper c.statement) starts_any) starts_any) starts_any)))
   closes_statement_at (symbol.Terminal terminal.Goto) = closes_node _ (closes_skip
       (closes_before {inner = no_token} closes_identifier _ (λ t e. refl)))
   closes_statement_at (symbol.Terminal terminal.Break) = closes_node _ (closes_skip (closes_such _))
-  closes_statement_at (symbol.Terminal terminal.Continue) = closes_node _ (closes_skip (closes_such _))
-  closes_statement_at (symbol.Terminal terminal.Return) = closes_node _ (closes_skip (closes_before {inner = is_not terminal.Semicolon}
-      (closes_perhaps (is_not terminal.Semicolon) {inner = goes_on 13} (closes_comma G c) (closed_at (loose 13) terminal.Semicolon refl)
+  closes_statement_at (symbol.Terminal terminal.Continue) =
+      closes_node _ (closes_skip (closes_such _))
+  closes_statement_at (symbol.Terminal terminal.Return) =
+      closes_node _ (closes_skip (closes_before {inner = is_not terminal.Semicolon}
+      (closes_perhaps (is_not terminal.Semicolon) {inner = goes_on 13} (closes_comma G c)
+      (closed_at (loose 13) terminal.Semicolon refl)
       (λ t e. e)) _ (open_at terminal.Semicolon)))
   closes_statement_at _ = closes_node _ (closes_then {inner = goes_on 13} (closes_comma G c)
       (λ made. closes_choice symbol_of (closes_behind_comma_at (bare_name made)))
-      (λ made. starts_by (starts_choice symbol_of (loose 13) (behind_comma_first (bare_name made)))))
+      (λ made. starts_by (starts_choice symbol_of (loose 13)
+      (behind_comma_first (bare_name made)))))
 
   closes_statement : Closes (statement G) no_token
   unfolding statement
@@ -244,14 +312,19 @@ module _ (G : Grammar) (c : ClosedGrammar G) where
   closes_body_of true = closes_node _ (closes_skip closes_skipped_body)
   closes_body_of false = closes_node _ (closes_skip closes_items)
 
-  closes_function_end_at : (name : Name) (pointer : Bool) (s : Symbol) → Closes (function_end_at G name pointer s) no_token
+  closes_function_end_at : (name : Name) (pointer : Bool) (s : Symbol) →
+      Closes (function_end_at G name pointer s) no_token
   unfolding function_end_at
-  closes_function_end_at name pointer (symbol.Terminal terminal.Semicolon) = closes_node _ closes_one
-  closes_function_end_at name false (symbol.Terminal terminal.LeftBrace) = closes_node _ (closes_body_of (is_known name))
+  closes_function_end_at name pointer (symbol.Terminal terminal.Semicolon) =
+      closes_node _ closes_one
+  closes_function_end_at name false (symbol.Terminal terminal.LeftBrace) =
+      closes_node _ (closes_body_of (is_known name))
   closes_function_end_at name _ _ = closes_nothing
 
-  function_end_first : (name : Name) (pointer : Bool) (s : Symbol) (at : ℕ → Leaf) (edge left p : ℕ) (u : Option Body) (q : ℕ) →
-      function_end_at G name pointer s (plain_text at edge) left p u q → is_terminal terminal.Attribute s ≡ false
+  function_end_first : (name : Name) (pointer : Bool) (s : Symbol) (at : ℕ → Leaf) (edge left p : ℕ)
+      (u : Option Body) (q : ℕ) →
+      function_end_at G name pointer s (plain_text at edge) left p u q →
+      is_terminal terminal.Attribute s ≡ false
   unfolding function_end_at
   function_end_first name pointer (symbol.Terminal terminal.Semicolon) at edge left p u q r = refl
   function_end_first name false (symbol.Terminal terminal.LeftBrace) at edge left p u q r = refl
@@ -259,11 +332,15 @@ module _ (G : Grammar) (c : ClosedGrammar G) where
 
   closes_named_at : (name : Name) (s : Symbol) → Closes (named_at G name s) no_token
   unfolding named_at
-  closes_named_at name (symbol.Terminal terminal.LeftParen) = closes_node _ (closes_then {inner = is terminal.Attribute} closes_function_rest
+  closes_named_at name (symbol.Terminal terminal.LeftParen) =
+      closes_node _ (closes_then {inner = is terminal.Attribute} closes_function_rest
       (λ found. closes_choice symbol_of (closes_function_end_at name (have_pointer found)))
-      (λ found. starts_by (starts_choice symbol_of (is_terminal terminal.Attribute) (function_end_first name (have_pointer found)))))
-  closes_named_at name _ = closes_node _ (closes_before {inner = λ t. lists_declarators (symbol_of t)}
-      (closes_declared closes_declarator_rest) _ (stops_at lists_declarators terminal.Semicolon refl))
+      (λ found. starts_by (starts_choice symbol_of (is_terminal terminal.Attribute)
+      (function_end_first name (have_pointer found)))))
+  closes_named_at name _ =
+      closes_node _ (closes_before {inner = λ t. lists_declarators (symbol_of t)}
+      (closes_declared closes_declarator_rest) _ (stops_at lists_declarators
+      terminal.Semicolon refl))
 
   closes_declared_at : (s : Symbol) → Closes (declared_at G s) no_token
   unfolding declared_at
@@ -272,7 +349,8 @@ module _ (G : Grammar) (c : ClosedGrammar G) where
       (λ name. closes_choice symbol_of (closes_named_at name)) (λ name. starts_any))
   closes_declared_at _ = closes_nothing
 
-  declared_first : (s : Symbol) (at : ℕ → Leaf) (edge left p : ℕ) (u : Option (Name × Named)) (q : ℕ) →
+  declared_first : (s : Symbol) (at : ℕ → Leaf) (edge left p : ℕ)
+      (u : Option (Name × Named)) (q : ℕ) →
       declared_at G s (plain_text at edge) left p u q → specifies s ≡ false
   unfolding declared_at
   declared_first (symbol.Terminal terminal.Semicolon) at edge left p u q r = refl
@@ -282,8 +360,10 @@ module _ (G : Grammar) (c : ClosedGrammar G) where
   closes_unit_item_at : (s : Symbol) → Closes (unit_item_at G s) no_token
   unfolding unit_item_at
   closes_unit_item_at (symbol.Terminal terminal.Semicolon) = closes_node _ closes_one
-  closes_unit_item_at _ = closes_node _ (closes_pair {inner = is_specifier} (closes_specifiers is_specifier)
-      (closes_choice symbol_of closes_declared_at) (starts_by (starts_choice symbol_of specifies declared_first)))
+  closes_unit_item_at _ =
+      closes_node _ (closes_pair {inner = is_specifier} (closes_specifiers is_specifier)
+      (closes_choice symbol_of closes_declared_at)
+      (starts_by (starts_choice symbol_of specifies declared_first)))
 
   closes_unit_item : Closes (unit_item G) no_token
   unfolding unit_item
@@ -292,7 +372,8 @@ module _ (G : Grammar) (c : ClosedGrammar G) where
   pub closes_unit_items : Closes (unit_items G) no_token
   unfolding unit_items
   closes_unit_items = closes_before {inner = λ t. not (is_end t)}
-      (closes_many _ _ {inner = no_token} closes_unit_item (λ t e. refl) (λ t e. refl) (λ t e. e)) _ (λ t e. ap not e)
+      (closes_many _ _ {inner = no_token} closes_unit_item (λ t e. refl) (λ t e. refl) (λ t e. e)) _
+      (λ t e. ap not e)
 
 -- the grammar at each depth
 pub closed_grammar : (n : ℕ) → ClosedGrammar (grammar n)

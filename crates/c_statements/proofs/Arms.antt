@@ -2,6 +2,7 @@
 use Rattle.std.specs.Prelude.{◌≡◌, ℕ, true, false, Option, None, Some}
 use Rattle.std.proofs.Common.{sym, refl, ap}
 use Rattle.grammar_forms.specs.Forms.{Form, Nothing, One, Skip, Node, Deeper}
+use Rattle.grammar_forms.specs.Choices.{Same, same_form, impossible}
 use Rattle.c_symbols.specs.declared.words.Terminal.TheVariants as terminal
 use Rattle.c_symbols.specs.declared.symbol.Symbol.{Symbol}
 use Rattle.c_symbols.specs.declared.symbol.Symbol.TheVariants as symbol
@@ -13,15 +14,12 @@ use Rattle.c_tree.specs.declared.statement.Statement.{Statement}
 use Rattle.c_tree.specs.declared.statement.Statement.TheVariants as node
 use Rattle.c_tree.specs.Nested.{Grammar}
 use Rattle.c_tree.specs.Statements.{behind_comma_at, labeled_or_not, statement_at}
-use Rattle.c_declarations.specs.Readers.{Same, same_form}
 use Rattle.c_statements.specs.Kinds.{kind_of, opener}
 use Rattle.c_statements.specs.Forms.{begun}
 
-impossible : {P : Type 0} → false ≡ true → P
-impossible e = absurd (let clash : false ≡ true = e in cc)
-
 -- a statement is the one that its first token opens
-pub arm_kind : (G : Grammar) (s : Symbol) → Same (statement_at G s) (statement_at G (opener (kind_of s)))
+pub arm_kind : (G : Grammar) (s : Symbol) → Same (statement_at G s)
+    (statement_at G (opener (kind_of s)))
 unfolding statement_at
 arm_kind G (symbol.Terminal terminal.LeftBrace) = same_form
 arm_kind G (symbol.Terminal terminal.Semicolon) = same_form
@@ -49,18 +47,21 @@ unfolding behind_comma_at
 arm_label G name (symbol.Terminal terminal.Colon) e = same_form
 arm_label G name _ e = impossible e
 
-pub arm_no_label : (G : Grammar) (s : Symbol) → is_terminal terminal.Colon s ≡ true → Same (behind_comma_at G None s) Nothing
+pub arm_no_label : (G : Grammar) (s : Symbol) → is_terminal terminal.Colon s ≡ true →
+    Same (behind_comma_at G None s) Nothing
 unfolding behind_comma_at
 arm_no_label G (symbol.Terminal terminal.Colon) e = same_form
 arm_no_label G _ e = impossible e
 
-pub arm_semicolon : (G : Grammar) (name : Option Name) (s : Symbol) → is_terminal terminal.Semicolon s ≡ true →
+pub arm_semicolon : (G : Grammar) (name : Option Name) (s : Symbol) →
+    is_terminal terminal.Semicolon s ≡ true →
     Same (behind_comma_at G name s) end_form
 unfolding behind_comma_at
 arm_semicolon G name (symbol.Terminal terminal.Semicolon) e = same_form
 arm_semicolon G name _ e = impossible e
 
-pub arm_neither : (G : Grammar) (name : Option Name) (s : Symbol) → is_terminal terminal.Colon s ≡ false →
+pub arm_neither : (G : Grammar) (name : Option Name) (s : Symbol) →
+    is_terminal terminal.Colon s ≡ false →
     is_terminal terminal.Semicolon s ≡ false → Same (behind_comma_at G name s) Nothing
 unfolding behind_comma_at
 arm_neither G name (symbol.Terminal terminal.Semicolon) e f = impossible (sym f)
@@ -68,7 +69,8 @@ arm_neither G (Some name) (symbol.Terminal terminal.Colon) e f = impossible (sym
 arm_neither G _ _ e f = same_form
 
 -- what begins at the token is what begins at its place
-pub begun_is : (leaf : Leaf) (place : ℕ) → place ≡ leaf.place → (made : Expression) (end : Option (Name × Statement)) →
+pub begun_is : (leaf : Leaf) (place : ℕ) → place ≡ leaf.place →
+    (made : Expression) (end : Option (Name × Statement)) →
     labeled_or_not leaf (made, end) ≡ begun place made end
 begun_is leaf place e made None = ap (λ p. node.Expression (Some made) p) (sym e)
 begun_is leaf place e made (Some parts) = refl

@@ -6,11 +6,16 @@ use Rattle.grammar_forms.specs.Steady.{Steady, from_place}
 use Rattle.grammar_forms.specs.Reading.{Reads, NoneThrough}
 use Rattle.grammar_forms.specs.NotFound.{only}
 
-module _ {Token P Q R S : Type 0} {test : Token → Bool} {A : ℕ → Form Token P} {B : ℕ → Form Token Q} {C : ℕ → Form Token R}
+module _ {Token P Q R S : Type 0} {test : Token → Bool} {A : ℕ → Form Token P}
+    {B : ℕ → Form Token Q} {C : ℕ → Form Token R}
     {D : ℕ → Form Token S} {at : ℕ → Token} {size left p : ℕ} where
   pub reads_head : {a : P} {b : Q} {c : R} {d : S} {m q : ℕ} →
-      Reads (λ n. Behind test (Pair (A n) (Pair (B n) (C n)))) at size left p (a, (b, c)) m → Reads D at size left m d q →
-      Reads (λ n. Behind test (Pair (A n) (Pair (B n) (Pair (C n) (D n))))) at size left p (a, (b, (c, d))) q
+      Reads (λ n. Behind test (Pair (A n) (Pair (B n) (C n)))) at size left p (a, (b, c)) m →
+      Reads D at size left m d q →
+      Reads (λ n. Behind test (Pair (A n) (Pair (B n) (Pair (C n) (D n))))) at size left p (
+        a,
+        (b, (c, d)),
+      ) q
   reads_head {m = m} r s = record {
     reading = λ edge. let x = r.reading edge in
         record {
@@ -29,8 +34,10 @@ module _ {Token P Q R S : Type 0} {test : Token → Bool} {A : ℕ → Form Toke
     within = s.within;
   }
 
-  pub none_body : {h : P × (Q × R)} {m i : ℕ} → Steady (λ n. Behind test (Pair (A n) (Pair (B n) (C n)))) →
-      Reads (λ n. Behind test (Pair (A n) (Pair (B n) (C n)))) at size left p h m → NoneThrough D at size left m i →
+  pub none_body : {h : P × (Q × R)} {m i : ℕ} → Steady
+      (λ n. Behind test (Pair (A n) (Pair (B n) (C n)))) →
+      Reads (λ n. Behind test (Pair (A n) (Pair (B n) (C n)))) at size left p h m →
+      NoneThrough D at size left m i →
       NoneThrough (λ n. Behind test (Pair (A n) (Pair (B n) (Pair (C n) (D n))))) at size left p i
   none_body steady r g = record {
     onward = omega (arith, r.onward, g.onward);
@@ -51,9 +58,11 @@ module _ {Token P Q R S : Type 0} {test : Token → Bool} {A : ℕ → Form Toke
         g.none n v b u.1.1.1 q (from_place (D n) e.1 x.rest.second.second.second);
   }
 
-module _ {Token P Q R S : Type 0} {test : Token → Bool} {A : ℕ → Form Token P} {B : ℕ → Form Token Q} {C : ℕ → Form Token R}
+module _ {Token P Q R S : Type 0} {test : Token → Bool} {A : ℕ → Form Token P}
+    {B : ℕ → Form Token Q} {C : ℕ → Form Token R}
     (D : ℕ → Form Token S) {at : ℕ → Token} {size left p : ℕ} where
-  pub none_head : {i : ℕ} → NoneThrough (λ n. Behind test (Pair (A n) (Pair (B n) (C n)))) at size left p i →
+  pub none_head : {i : ℕ} → NoneThrough (λ n. Behind test (Pair (A n) (Pair (B n) (C n)))) at size
+      left p i →
       NoneThrough (λ n. Behind test (Pair (A n) (Pair (B n) (Pair (C n) (D n))))) at size left p i
   none_head g = record {
     onward = g.onward;

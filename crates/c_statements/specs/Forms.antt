@@ -1,6 +1,7 @@
 -- Parts of the grammar of statements that have readers of their own (C11 6.8).
 use Rattle.std.specs.Prelude.{ℕ, List, Option, None, Some}
-use Rattle.grammar_forms.specs.Forms.{Form, Skip, Behind, Pair, Node, Deeper, Choice, Many, Perhaps, Nearest}
+use Rattle.grammar_forms.specs.Forms.{Form, Skip, Behind, Pair, Node, Deeper, Choice, Many, Perhaps}
+use Rattle.grammar_forms.specs.Forms.{Nearest}
 use Rattle.c_symbols.specs.declared.words.Terminal.{Terminal}
 use Rattle.c_symbols.specs.declared.words.Terminal.TheVariants as terminal
 use Rattle.c_symbols.specs.declared.symbol.Symbol.TheVariants as symbol
@@ -46,7 +47,8 @@ test_and_step G = Pair (optional terminal.Semicolon G) (optional terminal.RightP
 -- "(" (declaration ; [comma] ";") [comma] ";" [comma] ")" of a for
 abbrev pub for_head : Grammar → Form Leaf (ForStart × (Option Expression × Option Expression))
 for_head G =
-    Behind (is terminal.LeftParen) (Pair (Choice is_local_specifier (for_start G)) (test_and_step G))
+    Behind (is terminal.LeftParen) (Pair (Choice is_local_specifier (for_start G))
+    (test_and_step G))
 
 -- [comma] before ";"
 abbrev pub optional_value : Grammar → Form Leaf (Option Expression)

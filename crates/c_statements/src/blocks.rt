@@ -1,11 +1,12 @@
-//! Readers of statements by their first token and of blocks, which are `statement`, `item` and `items`
-//! of `Statements.antt` of `c_tree`.
+//! Readers of statements by their first token and of blocks, which are `statement`, `item` and
+//! `items` of `Statements.antt` of `c_tree`.
 ghost use Rattle.std.specs.Prelude.{◌≡◌, ◌<◌, length};
 ghost use Rattle.c_symbols.specs.declared.words.Terminal.TheVariants.{LeftBrace, Semicolon};
 ghost use Rattle.c_symbols.specs.Sources.{GoesOn};
 ghost use Rattle.c_tree.specs.Statements.{items, item, statement};
 ghost use Rattle.c_tree.specs.Reading.{Gives, HasRoom, HasRoomBelow};
-ghost use Rattle.c_statements.specs.Forms.{block_items, deeper_item, deeper_statement, statement_with};
+ghost use Rattle.c_statements.specs.Forms.{block_items, deeper_item, deeper_statement};
+ghost use Rattle.c_statements.specs.Forms.{statement_with};
 
 use crate::jumps::{break_statement, continue_statement, goto, return_statement};
 use crate::kinds::{StatementKind, begins_item, begins_statement, kind_at};
@@ -153,7 +154,8 @@ fn block_items(
     Ok((items, here))
 }
 
-/// What stands in a block, with the brace that ends it, behind the one that opens it: each one level deeper.
+/// What stands in a block, with the brace that ends it, behind the one that opens it: each one
+/// level deeper.
 #[cycle(statement)]
 pub fn items(
     alloc: Global,

@@ -1,6 +1,7 @@
 //! Readers of jumps (C11 6.8.6), which are arms of `statement_at` of `Statements.antt` of `c_tree`.
 ghost use Rattle.std.specs.Prelude.{◌≡◌, ◌<◌, length};
-ghost use Rattle.c_symbols.specs.declared.words.Terminal.TheVariants.{Goto, Break, Continue, Return};
+ghost use Rattle.c_symbols.specs.declared.words.Terminal.TheVariants.{Goto, Break, Continue};
+ghost use Rattle.c_symbols.specs.declared.words.Terminal.TheVariants.{Return};
 ghost use Rattle.c_symbols.specs.Sources.{GoesOn};
 ghost use Rattle.c_tree.specs.Reading.{Gives, HasRoom};
 ghost use Rattle.c_statements.specs.Forms.{optional_value, statement_with};
@@ -56,7 +57,8 @@ pub(crate) fn continue_statement(
     Ok((Statement::Continue { place }, behind))
 }
 
-/// The value of a `return`, where its semicolon does not stand at once. It has the level of the whole.
+/// The value of a `return`, where its semicolon does not stand at once. It has the level of the
+/// whole.
 fn optional_value(
     alloc: Global,
     source: &Source,

@@ -55,7 +55,8 @@ fn kind_of(symbol: Symbol) -> StatementKind
     }
 }
 
-/// Which statement begins here, if one does; all but one with a token behind which the text goes on.
+/// Which statement begins here, if one does; all but one with a token behind which the text goes
+/// on.
 pub(crate) fn kind_at(source: &Source, at: usize) -> StatementKind
     requires { at < length source.now }
     ensures value { result ≡ kind_of (symbol_of (leaf_at source.now at)) }

@@ -1,5 +1,5 @@
-//! Readers of what begins with an expression: expression statements and labels (C11 6.8.3 and 6.8.1),
-//! which are the last arm of `statement_at` of `Statements.antt` of `c_tree`.
+//! Readers of what begins with an expression: expression statements and labels (C11 6.8.3 and
+//! 6.8.1), which are the last arm of `statement_at` of `Statements.antt` of `c_tree`.
 ghost use Rattle.std.specs.Prelude.{◌≡◌, ◌<◌, length, true};
 ghost use Rattle.c_symbols.specs.declared.words.Terminal.TheVariants.{Colon};
 ghost use Rattle.c_symbols.specs.Sources.{leaf_at, is, GoesOn};
@@ -15,8 +15,8 @@ use cpa_ints::Boxed;
 use grammar_forms::ReadError;
 use std::alloc::Global;
 
-/// The statement that this expression labels, behind the colon that stands here. An expression that is
-/// no bare name labels none.
+/// The statement that this expression labels, behind the colon that stands here. An expression that
+/// is no bare name labels none.
 #[cycle(statement)]
 fn labeled(
     alloc: Global,

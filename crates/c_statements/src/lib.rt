@@ -1,5 +1,5 @@
-//! Readers of statements and blocks (C11 6.8). Each meets the form of its name in `Statements.antt` of
-//! `c_tree`.
+//! Readers of statements and blocks (C11 6.8). Each meets the form of its name in `Statements.antt`
+//! of `c_tree`.
 #![tactic(auto)]
 
 mod blocks;

@@ -1,8 +1,10 @@
-//! Laws of words and marks: `WORDS` and `MARKS` lack none. Each function does nothing: its contract
-//! is the law.
+//! Laws of words and marks (`WORDS` and `MARKS` lack none) and of sources. Each function does
+//! nothing: its contract is the law.
 ghost use Rattle.std.specs.Prelude.{◌≡◌, ◌≢◌, ℕ, List, IsTrue};
 ghost use Rattle.c_lexer.specs.declared.token.TokenKind.TheVariants.{Word, Mark};
+ghost use Rattle.c_lexer.specs.declared.token.Token.{Token};
 ghost use Rattle.c_lexer.specs.Marks.{is_mark};
+ghost use Rattle.c_lexer.specs.Parts.{Tokens};
 ghost use Rattle.c_symbols.specs.declared.operators.AssignmentOperator.{AssignmentOperator};
 ghost use Rattle.c_symbols.specs.declared.operators.BinaryOperator.{BinaryOperator};
 ghost use Rattle.c_symbols.specs.declared.operators.StepOperator.{StepOperator};
@@ -14,6 +16,9 @@ ghost use Rattle.c_symbols.specs.declared.words.Terminal.{Terminal};
 ghost use Rattle.c_symbols.specs.declared.words.TypeWord.{TypeWord};
 ghost use Rattle.c_symbols.specs.declared.symbol.Symbol.TheVariants as symbol;
 ghost use Rattle.c_symbols.specs.Symbols.{spelling_of, symbol_spelled, kind_of_terminal};
+ghost use Rattle.c_symbols.specs.Sources.{IsSource};
+
+use c_lexer::{tokens_end_once, tokens_lie_in_order};
 
 /// A token that is spelled as a keyword stands for it: it is no name.
 pub fn keywords_stand_for_themselves()
@@ -49,3 +54,11 @@ pub fn marks_stand_for_themselves()
 pub fn marks_are_no_text()
     ensures { (bytes : List ℕ) → IsTrue (is_mark bytes) → symbol_spelled Mark bytes ≢ symbol.Text }
 {}
+
+/// The tokens of a text are a source: what `Source::new` asks for.
+pub fn tokens_are_a_source()
+    ensures { (text : List ℕ) (tokens : List Token) → Tokens text tokens → IsSource text tokens }
+{
+    tokens_lie_in_order();
+    tokens_end_once();
+}

@@ -10,7 +10,7 @@ mod words;
 
 pub use laws::{
     keywords_stand_for_themselves, marks_are_no_text, marks_stand_for_themselves,
-    terminals_stand_for_themselves,
+    terminals_stand_for_themselves, tokens_are_a_source,
 };
 pub use operators::{AssignmentOperator, BinaryOperator, StepOperator};
 pub use source::Source;

@@ -7,7 +7,8 @@ use Rattle.c_symbols.specs.Sources.{leaf_at}
 use Rattle.c_tree.specs.declared.item.Unit.{Unit as UnitTree}
 use Rattle.c_tree.specs.Grammar.{Tree, AgreesThrough}
 
-pub agrees : (text : List ℕ) (tokens : List Token) (u : UnitTree) → Tree text tokens u → (i : ℕ) → AgreesThrough text tokens i
+pub agrees : (text : List ℕ) (tokens : List Token) (u : UnitTree) → Tree text tokens u → (i : ℕ) →
+    AgreesThrough text tokens i
 agrees text tokens u t i = record {
   depth = 199;
   other = greedy_text (leaf_at (leaves text tokens)) i;

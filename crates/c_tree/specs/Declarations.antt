@@ -1,6 +1,7 @@
 -- The grammar of declarations (C11 6.7).
 use Rattle.std.specs.Prelude.{Bool, true, false, List, Option, is_some}
-use Rattle.grammar_forms.specs.Forms.{Form, Nothing, One, Such, Empty, Skip, Behind, Before, Pair, Then, Node, Shaped, Deeper, Choice, Many, Perhaps, listed}
+use Rattle.grammar_forms.specs.Forms.{Form, Nothing, One, Such, Empty, Skip, Behind, Before, Pair}
+use Rattle.grammar_forms.specs.Forms.{Then, Node, Shaped, Deeper, Choice, Many, Perhaps, listed}
 use Rattle.c_symbols.specs.declared.words.Terminal.TheVariants as terminal
 use Rattle.c_symbols.specs.declared.symbol.Symbol.{Symbol}
 use Rattle.c_symbols.specs.declared.symbol.Symbol.TheVariants as symbol
@@ -16,7 +17,8 @@ use Rattle.c_tree.specs.declared.declaration.Initializer.{Initializer}
 use Rattle.c_tree.specs.declared.declaration.Initializer.TheVariants as node
 use Rattle.c_tree.specs.declared.declaration.Declarator.{Declarator}
 use Rattle.c_tree.specs.declared.declaration.Declaration.{Declaration}
-use Rattle.c_tree.specs.Parts.{is_not, is_name, name_of, is_local_specifier, is_initializing, have_type}
+use Rattle.c_tree.specs.Parts.{is_not, is_name, name_of, is_local_specifier, is_initializing}
+use Rattle.c_tree.specs.Parts.{have_type}
 use Rattle.c_tree.specs.Nested.{Grammar}
 use Rattle.c_tree.specs.Expressions.{round_brackets}
 
@@ -26,19 +28,24 @@ identifier = Node name_of (Such is_name)
 
 -- a word of specifiers
 unfoldable pub specifier_at : Symbol → Form Leaf Specifier
-specifier_at (symbol.Storage word) = Node (λ leaf u. record { kind = kind.Storage word; place = leaf.place }) One
-specifier_at (symbol.Specifier word) = Node (λ leaf u. record { kind = kind.Other word; place = leaf.place }) One
-specifier_at (symbol.TypeWord word) = Node (λ leaf u. record { kind = kind.TypeWord word; place = leaf.place }) One
+specifier_at (symbol.Storage word) =
+    Node (λ leaf u. record { kind = kind.Storage word; place = leaf.place }) One
+specifier_at (symbol.Specifier word) =
+    Node (λ leaf u. record { kind = kind.Other word; place = leaf.place }) One
+specifier_at (symbol.TypeWord word) =
+    Node (λ leaf u. record { kind = kind.TypeWord word; place = leaf.place }) One
 specifier_at _ = Nothing
 
--- words of specifiers, among them those of one type; `goes` says which words may stand there (C11 6.7p1 and 6.7.2)
+-- words of specifiers, among them those of one type; `goes` says which words may stand there (C11
+-- 6.7p1 and 6.7.2)
 unfoldable pub specifiers : (Leaf → Bool) → Form Leaf Specifiers
 specifiers goes = Node (λ leaf words. record { words = words; place = leaf.place })
     (Shaped have_type (Many goes (Choice symbol_of specifier_at)))
 
 -- "__attribute__" "(" "(" tokens with balanced round brackets ")" ")", an extension of GNU C
 unfoldable pub attribute : Form Leaf (Unit {0})
-attribute = Skip (Behind (is terminal.LeftParen) (Behind (is terminal.LeftParen) (Before round_brackets (is terminal.RightParen))))
+attribute = Skip (Behind (is terminal.LeftParen) (Behind (is terminal.LeftParen)
+    (Before round_brackets (is terminal.RightParen))))
 
 -- {attribute}
 unfoldable pub attributes : Form Leaf (Unit {0})
@@ -52,12 +59,14 @@ comma_or_end_at _ = Nothing
 
 -- an expression of an initializer list, and the comma behind it, or the brace that ends the list
 unfoldable pub element : Grammar → Form Leaf Expression
-element G = Node (λ leaf parts. parts.0) (Pair (Deeper G.assignment) (Choice symbol_of comma_or_end_at))
+element G =
+    Node (λ leaf parts. parts.0) (Pair (Deeper G.assignment) (Choice symbol_of comma_or_end_at))
 
 -- "{" [assignment {"," assignment} [","]] "}" (C11 6.7.9; the empty list is of GNU C and C23)
 unfoldable pub list : Grammar → Form Leaf Initializer
 list G = Node (λ leaf items. node.List items leaf.place)
-    (Behind (is terminal.LeftBrace) (Before (Many (is_not terminal.RightBrace) (element G)) (is terminal.RightBrace)))
+    (Behind (is terminal.LeftBrace) (Before (Many (is_not terminal.RightBrace) (element G))
+    (is terminal.RightBrace)))
 
 -- of a scalar an assignment, of an array a list
 unfoldable pub initializer_of : Grammar → Bool → Form Leaf Initializer
@@ -67,7 +76,8 @@ initializer_of G true = Deeper G.list
 -- "[" [conditional] "]" (C11 6.7.6.2)
 unfoldable pub array : Grammar → Form Leaf Array
 array G = Node (λ leaf length. record { length = length; place = leaf.place })
-    (Skip (Before (Perhaps (is_not terminal.RightBracket) (Deeper G.conditional)) (is terminal.RightBracket)))
+    (Skip (Before (Perhaps (is_not terminal.RightBracket) (Deeper G.conditional))
+    (is terminal.RightBracket)))
 
 -- ["[" [conditional] "]"] {attribute}
 unfoldable pub array_part : Grammar → Form Leaf (Option Array × Unit {0})
@@ -81,11 +91,13 @@ pub record Rest : Type 0 where
 -- ["[" [conditional] "]"] {attribute} ["=" initializer]
 unfoldable pub declarator_rest : Grammar → Form Leaf Rest
 declarator_rest G = Node (λ leaf parts. record { array = parts.0.0; initializer = parts.1 })
-    (Then (array_part G) (λ front. Perhaps is_initializing (Skip (initializer_of G (is_some front.0)))))
+    (Then (array_part G) (λ front. Perhaps is_initializing
+    (Skip (initializer_of G (is_some front.0)))))
 
 -- a name and what stands behind it
 abbrev pub declarator_of : Name × Rest → Declarator
-declarator_of parts = record { name = parts.0; array = parts.1.array; initializer = parts.1.initializer }
+declarator_of parts =
+    record { name = parts.0; array = parts.1.array; initializer = parts.1.initializer }
 
 -- Word ["[" [conditional] "]"] {attribute} ["=" initializer] (C11 6.7.6 in part)
 unfoldable pub declarator : Grammar → Form Leaf Declarator
@@ -95,8 +107,8 @@ declarator G = Node (λ leaf parts. declarator_of parts) (Pair identifier (decla
 unfoldable pub more_declarators : Grammar → Form Leaf (List Declarator)
 more_declarators G = Many (is terminal.Comma) (Skip (declarator G))
 
--- specifiers declarator {"," declarator} ";" in a function: no storage class but register (C11 6.7, which lets the
--- declarators be absent: here they are not)
+-- specifiers declarator {"," declarator} ";" in a function: no storage class but register (C11 6.7,
+-- which lets the declarators be absent: here they are not)
 unfoldable pub declaration : Grammar → Form Leaf Declaration
 declaration G = Node (λ leaf parts. record { specifiers = parts.0; declarators = parts.1 })
     (Pair (specifiers is_local_specifier)

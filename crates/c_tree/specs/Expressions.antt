@@ -1,6 +1,7 @@
 -- The grammar of expressions (C11 6.5).
 use Rattle.std.specs.Prelude.{ℕ, zero, suc, Bool, ◌&&◌, List, [], ◌∷◌, Option, None, Some}
-use Rattle.grammar_forms.specs.Forms.{Form, Nothing, One, Skip, Before, Pair, Then, Node, Shaped, Deeper, Choice, Many, Perhaps, Nearest, Balanced, listed}
+use Rattle.grammar_forms.specs.Forms.{Form, Nothing, One, Skip, Before, Pair, Then, Node, Shaped}
+use Rattle.grammar_forms.specs.Forms.{Deeper, Choice, Many, Perhaps, Nearest, Balanced, listed}
 use Rattle.c_symbols.specs.declared.words.Terminal.TheVariants as terminal
 use Rattle.c_symbols.specs.declared.words.TypeWord.{TypeWord}
 use Rattle.c_symbols.specs.declared.operators.BinaryOperator.{BinaryOperator}
@@ -17,7 +18,8 @@ use Rattle.c_tree.specs.declared.expression.UnaryOperator.TheVariants as unary_o
 use Rattle.c_tree.specs.declared.expression.TypeName.{TypeName}
 use Rattle.c_tree.specs.declared.expression.Suffix.{Suffix}
 use Rattle.c_tree.specs.declared.expression.Suffix.TheVariants as suffix
-use Rattle.c_tree.specs.Parts.{is_not, name_of, is_operator, is_assignment, is_type_word, is_end, begins_suffix, is_unary, names_assert, is_type, loosest}
+use Rattle.c_tree.specs.Parts.{is_not, name_of, is_operator, is_assignment, is_type_word, is_end}
+use Rattle.c_tree.specs.Parts.{begins_suffix, is_unary, names_assert, is_type, loosest}
 use Rattle.c_tree.specs.Nested.{Grammar}
 
 -- no suffix, no postfix expression
@@ -57,7 +59,8 @@ pub data Group : Type 0 where
 
 abbrev pub group_of : Leaf → Group → Expression
 group_of leaf (cast_group to operand) = expression.Cast to operand leaf.place
-group_of leaf (bracket_group inner more) = suffixed leaf.place (expression.Bracketed inner leaf.place) more
+group_of leaf (bracket_group inner more) =
+    suffixed leaf.place (expression.Bracketed inner leaf.place) more
 
 -- an operator on one operand
 abbrev pub unary_of : UnaryOperator → Leaf → Expression → Expression
@@ -74,17 +77,21 @@ round_brackets = Balanced (is terminal.LeftParen) (is terminal.RightParen) is_en
 
 -- assignment {"," assignment}, each one level deeper
 unfoldable pub assignments : Grammar → Form Leaf (List Expression)
-assignments G = Node listed (Pair (Deeper G.assignment) (Many (is terminal.Comma) (Skip (Deeper G.assignment))))
+assignments G =
+    Node listed (Pair (Deeper G.assignment) (Many (is terminal.Comma) (Skip (Deeper G.assignment))))
 
 -- [assignment {"," assignment}] ")" (C11 6.5.2)
 unfoldable pub arguments : Grammar → Form Leaf (List Expression)
-arguments G = Before (Node list_of (Perhaps (is_not terminal.RightParen) (assignments G))) (is terminal.RightParen)
+arguments G = Before (Node list_of (Perhaps (is_not terminal.RightParen) (assignments G)))
+    (is terminal.RightParen)
 
 -- "[" comma "]" ; "(" arguments ; "++" ; "--" (C11 6.5.2)
 unfoldable pub suffix_at : Grammar → Symbol → Form Leaf Suffix
 suffix_at G (symbol.Terminal terminal.LeftBracket) =
-    Node (λ leaf index. suffix.Index index leaf.place) (Skip (Before (Deeper G.comma) (is terminal.RightBracket)))
-suffix_at G (symbol.Terminal terminal.LeftParen) = Node (λ leaf given. suffix.Call given leaf.place) (Skip (arguments G))
+    Node (λ leaf index. suffix.Index index leaf.place)
+    (Skip (Before (Deeper G.comma) (is terminal.RightBracket)))
+suffix_at G (symbol.Terminal terminal.LeftParen) =
+    Node (λ leaf given. suffix.Call given leaf.place) (Skip (arguments G))
 suffix_at G (symbol.Step operator) = Node (λ leaf u. suffix.Step operator leaf.place) One
 suffix_at G _ = Nothing
 
@@ -99,11 +106,12 @@ skipped_call = Node (λ leaf u. suffix.Skipped leaf.place) (Skip round_brackets)
 abbrev pub opens_skipped : Bool → Leaf → Bool
 opens_skipped asserts leaf = asserts && is terminal.LeftParen leaf
 
--- {suffix} behind a base. Where the base names __assert_fail, its call is skipped: here the look at the next token
--- is the grammar's own rule, since a plain call could stand there too
+-- {suffix} behind a base. Where the base names __assert_fail, its call is skipped: here the look at
+-- the next token is the grammar's own rule, since a plain call could stand there too
 unfoldable pub suffixes : Grammar → Bool → Form Leaf (List Suffix)
 suffixes G asserts =
-    Node in_front (Pair (Nearest (opens_skipped asserts) skipped_call) (Many begins_suffix (any_suffix G)))
+    Node in_front (Pair (Nearest (opens_skipped asserts) skipped_call)
+    (Many begins_suffix (any_suffix G)))
 
 -- Word ; Number ; Character ; "(" comma ")" (C11 6.5.1)
 unfoldable pub primary_at : Grammar → Symbol → Form Leaf Expression
@@ -111,7 +119,8 @@ primary_at G symbol.Name = Node (λ leaf u. expression.Name (name_of leaf u)) On
 primary_at G (symbol.Number ty value) = Node (λ leaf u. expression.Number ty value leaf.place) One
 primary_at G (symbol.Character value) = Node (λ leaf u. expression.Character value leaf.place) One
 primary_at G (symbol.Terminal terminal.LeftParen) =
-    Node (λ leaf inner. expression.Bracketed inner leaf.place) (Skip (Before (Deeper G.comma) (is terminal.RightParen)))
+    Node (λ leaf inner. expression.Bracketed inner leaf.place)
+    (Skip (Before (Deeper G.comma) (is terminal.RightParen)))
 primary_at G _ = Nothing
 
 abbrev pub primary : Grammar → Form Leaf Expression
@@ -119,7 +128,8 @@ primary G = Choice symbol_of (primary_at G)
 
 -- primary {suffix} (C11 6.5.2)
 unfoldable pub postfix : Grammar → Form Leaf Expression
-postfix G = Node (λ leaf parts. suffixed leaf.place parts.0 parts.1) (Then (primary G) (λ base. suffixes G (names_assert base)))
+postfix G = Node (λ leaf parts. suffixed leaf.place parts.0 parts.1)
+    (Then (primary G) (λ base. suffixes G (names_assert base)))
 
 -- + - ~ ! before a cast (C11 6.5.3)
 unfoldable pub sign : UnaryOperator → Grammar → Form Leaf Expression
@@ -127,7 +137,8 @@ sign operator G = Node (unary_of operator) (Skip (Deeper G.cast))
 
 -- ++ -- before a unary ; + - ~ ! before a cast ; postfix (C11 6.5.3)
 unfoldable pub unary_at : Grammar → Symbol → Form Leaf Expression
-unary_at G (symbol.Step operator) = Node (λ leaf operand. expression.PrefixStep operator operand leaf.place) (Skip (Deeper G.unary))
+unary_at G (symbol.Step operator) =
+    Node (λ leaf operand. expression.PrefixStep operator operand leaf.place) (Skip (Deeper G.unary))
 unary_at G (symbol.Binary binary.Add) = sign unary_operator.Plus G
 unary_at G (symbol.Binary binary.Subtract) = sign unary_operator.Minus G
 unary_at G (symbol.Terminal terminal.Tilde) = sign unary_operator.Complement G
@@ -150,14 +161,17 @@ type_name = Node (λ leaf words. record { words = words; place = leaf.place })
 -- behind "(": type words ")" cast ; comma ")" {suffix} (C11 6.5.4)
 unfoldable pub group_at : Grammar → Symbol → Form Leaf Group
 group_at G (symbol.TypeWord word) =
-    Node (λ leaf parts. cast_group parts.0 parts.1) (Pair (Before (Deeper type_name) (is terminal.RightParen)) (Deeper G.cast))
+    Node (λ leaf parts. cast_group parts.0 parts.1)
+    (Pair (Before (Deeper type_name) (is terminal.RightParen)) (Deeper G.cast))
 group_at G _ =
     Node (λ leaf parts. bracket_group parts.0 parts.1)
-    (Then (Before (Deeper G.comma) (is terminal.RightParen)) (λ inner. suffixes G (names_assert inner)))
+    (Then (Before (Deeper G.comma) (is terminal.RightParen))
+    (λ inner. suffixes G (names_assert inner)))
 
 -- "(" type words ")" cast ; unary (C11 6.5.4). What opens with "(" is looked at behind it
 unfoldable pub cast_at : Grammar → Symbol → Form Leaf Expression
-cast_at G (symbol.Terminal terminal.LeftParen) = Node group_of (Skip (Choice symbol_of (group_at G)))
+cast_at G (symbol.Terminal terminal.LeftParen) =
+    Node group_of (Skip (Choice symbol_of (group_at G)))
 cast_at G _ = unary G
 
 unfoldable pub cast : Grammar → Form Leaf Expression
@@ -171,19 +185,23 @@ operand_at A _ = Nothing
 abbrev pub operand : Form Leaf Expression → Form Leaf (BinaryOperator × Expression)
 operand A = Choice symbol_of (operand_at A)
 
--- operand {operator operand}: the chains from the tightest, 1, to the loosest, 10 (C11 6.5.5 to 6.5.14)
+-- operand {operator operand}: the chains from the tightest, 1, to the loosest, 10 (C11 6.5.5 to
+-- 6.5.14)
 unfoldable pub chain : ℕ → Grammar → Form Leaf Expression
 chain zero G = cast G
-chain (suc k) G = Node chain_of (Pair (chain k G) (Many (is_operator (suc k)) (operand (chain k G))))
+chain (suc k) G =
+    Node chain_of (Pair (chain k G) (Many (is_operator (suc k)) (operand (chain k G))))
 
 -- chain ["?" comma ":" conditional] (C11 6.5.15)
 unfoldable pub conditional : Grammar → Form Leaf Expression
 conditional G = Node conditional_of (Pair (chain loosest G)
-    (Perhaps (is terminal.Question) (Skip (Pair (Before (Deeper G.comma) (is terminal.Colon)) (Deeper G.conditional)))))
+    (Perhaps (is terminal.Question) (Skip (Pair (Before (Deeper G.comma) (is terminal.Colon))
+    (Deeper G.conditional)))))
 
 -- an operator of assignment and the right side behind it
 unfoldable pub right_side_at : Grammar → Symbol → Form Leaf (AssignmentOperator × Expression)
-right_side_at G (symbol.Assign operator) = Node (λ leaf right. (operator, right)) (Skip (Deeper G.assignment))
+right_side_at G (symbol.Assign operator) =
+    Node (λ leaf right. (operator, right)) (Skip (Deeper G.assignment))
 right_side_at G _ = Nothing
 
 abbrev pub right_side : Grammar → Form Leaf (AssignmentOperator × Expression)
@@ -193,7 +211,8 @@ right_side G = Choice symbol_of (right_side_at G)
 abbrev pub assigns_to : Expression → Leaf → Bool
 assigns_to left leaf = is_unary left && is_assignment leaf
 
--- conditional ; unary operator assignment (C11 6.5.16). A unary before an operator of assignment is its left side
+-- conditional ; unary operator assignment (C11 6.5.16). A unary before an operator of assignment is
+-- its left side
 unfoldable pub assignment : Grammar → Form Leaf Expression
 assignment G = Node assignment_of (Then (conditional G)
     (λ left. Perhaps (assigns_to left) (right_side G)))

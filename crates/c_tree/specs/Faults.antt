@@ -20,11 +20,13 @@ is_outside _ = false
 abbrev pub rule_of : Leaf → Rule
 rule_of leaf = cond (is_outside (symbol_of leaf)) S3 S1
 
--- the fault names a token through which no text agrees: S2 where a level is wanting, and then MAX_LEVEL tokens
--- stand before it at least; else S3 where the token is a word that the grammar leaves out; else S1
+-- the fault names a token through which no text agrees: S2 where a level is wanting, and then
+-- MAX_LEVEL tokens stand before it at least; else S3 where the token is a word that the grammar
+-- leaves out; else S1
 pub record IsTreeFault (text : List ℕ) (tokens : List Token) (fault : TextFault) : Type 0 where
   pub at : ℕ
   pub within : at < length tokens
   pub denied : AgreesThrough text tokens at → ⊥
   pub place : fault.place ≡ (leaf_at (leaves text tokens) at).place
-  pub rule : (fault.rule ≡ S2) × (MAX_LEVEL ≤ at) ⊎ (fault.rule ≡ rule_of (leaf_at (leaves text tokens) at))
+  pub rule : (fault.rule ≡ S2) × (MAX_LEVEL ≤ at) ⊎
+      (fault.rule ≡ rule_of (leaf_at (leaves text tokens) at))

@@ -39,17 +39,20 @@ grammar (suc n) = record {
   item = item (grammar n);
 }
 
--- u is a tree of the grammar whose leaves are the tokens, in which every part has a level of at most
--- MAX_LEVEL: an item's parts have level 1, so that one less stand below. It has the text's length. A reading is
--- asked for each edge: with this depth the limit holds at each of them, and so the text agrees through each token
+-- u is a tree of the grammar whose leaves are the tokens, in which every part has a level of at
+-- most MAX_LEVEL: an item's parts have level 1, so that one less stand below. It has the text's
+-- length. A reading is asked for each edge: with this depth the limit holds at each of them, and so
+-- the text agrees through each token
 pub record Tree (text : List ℕ) (tokens : List Token) (u : UnitTree) : Type 0 where
-  pub reading : (edge : ℕ) → unit_items (grammar (MAX_LEVEL - 1)) (greedy_text (leaf_at (leaves text tokens)) edge)
+  pub reading : (edge : ℕ) → unit_items (grammar (MAX_LEVEL - 1))
+      (greedy_text (leaf_at (leaves text tokens)) edge)
       (MAX_LEVEL - 1) 0 u.items (length tokens)
   pub length_is : u.length ≡ length text
 
--- some text that begins with these tokens up to i has a tree in which no part that begins at one of them has a level
--- above MAX_LEVEL. It is any row of tokens, also one that no list and no text has, so that "it does not agree" says
--- more; behind token i the limit is not looked at, and the depth alone bounds there
+-- some text that begins with these tokens up to i has a tree in which no part that begins at one of
+-- them has a level above MAX_LEVEL. It is any row of tokens, also one that no list and no text has,
+-- so that "it does not agree" says more; behind token i the limit is not looked at, and the depth
+-- alone bounds there
 pub record AgreesThrough (text : List ℕ) (tokens : List Token) (i : ℕ) : Type 0 where
   pub depth : ℕ
   pub other : World Leaf

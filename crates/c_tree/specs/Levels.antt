@@ -1,4 +1,5 @@
--- Lemmas: the nested forms at a depth are the grammar's own forms at the depth below; parts one level deeper.
+-- Lemmas: the nested forms at a depth are the grammar's own forms at the depth below; parts one
+-- level deeper.
 use Rattle.std.specs.Prelude.{◌≡◌, ℕ, ◌<◌, ◌≤◌, Bool, true, false, Err}
 use Rattle.grammar_forms.specs.Forms.{Form, Deeper}
 use Rattle.grammar_forms.specs.Steady.{Steady, good_deeper}
@@ -58,7 +59,9 @@ pub steady_deeper_conditional : Steady (λ n. Deeper ((grammar n).conditional))
 steady_deeper_conditional = record { good = λ n m. good_deeper ((good_grammar n m).conditional) }
 
 -- with no level left there is no part one level deeper
-pub answers_no_level : {Token T : Type 0} (limit : ℕ) (B : ℕ → Form Token T) (at : ℕ → Token) {size left p : ℕ} →
-    left ≡ 0 → p < size → limit ≤ p → (begins : Bool) → Answers limit (λ n. Deeper (B n)) at size left p (Err (no_level begins p))
+pub answers_no_level : {Token T : Type 0} (limit : ℕ) (B : ℕ → Form Token T) (at : ℕ → Token)
+    {size left p : ℕ} →
+    left ≡ 0 → p < size → limit ≤ p → (begins : Bool) →
+    Answers limit (λ n. Deeper (B n)) at size left p (Err (no_level begins p))
 answers_no_level limit B at used fits deep true = (none_too_deep B used fits, deep)
 answers_no_level limit B at used fits deep false = none_too_deep B used fits

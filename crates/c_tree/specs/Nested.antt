@@ -1,10 +1,11 @@
--- The forms of the parts that stand one level deeper than what they are a part of (`Deeper`), this project's own
--- rule. These are: what stands in round, square or curly brackets, between the brackets of a `for` too; a part behind a
--- prefix or a cast, the type of a cast, the parts behind `?` and `:`, the right side of an assignment, what stands
--- behind the `=` of an initializer; the parts of `if`, `while`, `do` and `for`, what stands behind `else` or a label.
--- The first operand of a chain or a conditional, the later operands of a chain, the left side of an assignment,
--- the later expressions of a comma list, a base before its suffixes and the value of a `return` have the level of
--- the whole. Tokens that are skipped have no level.
+-- The forms of the parts that stand one level deeper than what they are a part of (`Deeper`), this
+-- project's own rule. These are: what stands in round, square or curly brackets, between the
+-- brackets of a `for` too; a part behind a prefix or a cast, the type of a cast, the parts behind
+-- `?` and `:`, the right side of an assignment, what stands behind the `=` of an initializer; the
+-- parts of `if`, `while`, `do` and `for`, what stands behind `else` or a label. The first operand
+-- of a chain or a conditional, the later operands of a chain, the left side of an assignment, the
+-- later expressions of a comma list, a base before its suffixes and the value of a `return` have
+-- the level of the whole. Tokens that are skipped have no level.
 use Rattle.grammar_forms.specs.Forms.{Form}
 use Rattle.c_symbols.specs.Symbols.{Leaf}
 use Rattle.c_tree.specs.declared.expression.Expression.{Expression}

@@ -1,6 +1,10 @@
 -- Lemmas: the same of declarations, statements and items, and of the grammar at each two depths.
 use Rattle.std.specs.Prelude.{ℕ, zero, suc, Bool, true, false, is_some, Option, Some}
-use Rattle.grammar_forms.specs.Steady.{Good, good_nothing, good_one, good_such, good_empty, good_skip, good_behind, good_before, good_pair, good_then, good_node, good_shaped, good_deeper, good_choice, good_perhaps, good_nearest, good_many, good_balanced, good_against_nothing}
+use Rattle.grammar_forms.specs.Steady.{Good, good_nothing, good_one, good_such, good_empty}
+use Rattle.grammar_forms.specs.Steady.{good_skip, good_behind, good_before, good_pair, good_then}
+use Rattle.grammar_forms.specs.Steady.{good_node, good_shaped, good_deeper, good_choice}
+use Rattle.grammar_forms.specs.Steady.{good_perhaps, good_nearest, good_many, good_balanced}
+use Rattle.grammar_forms.specs.Steady.{good_against_nothing}
 use Rattle.c_symbols.specs.declared.words.Terminal.{Terminal}
 use Rattle.c_symbols.specs.declared.words.Terminal.TheVariants as terminal
 use Rattle.c_symbols.specs.declared.symbol.Symbol.{Symbol}
@@ -9,11 +13,18 @@ use Rattle.c_symbols.specs.Symbols.{Leaf, symbol_of}
 use Rattle.c_tree.specs.declared.name.Name.{Name}
 use Rattle.c_tree.specs.Parts.{bare_name, is_local_specifier}
 use Rattle.c_tree.specs.Nested.{Grammar}
-use Rattle.c_tree.specs.Declarations.{identifier, specifier_at, specifiers, attribute, attributes, comma_or_end_at, element, list, initializer_of, array, array_part, declarator_rest, declarator, more_declarators, declaration}
-use Rattle.c_tree.specs.Statements.{items, condition, optional, for_start, behind_comma_at, statement_at, statement, item_by, item}
-use Rattle.c_tree.specs.Items.{is_known, have_pointer, parameter, parameter_list, function_rest, skipped_body, body_of, function_end_at, named_at, declared_at, unit_item_at, unit_item, unit_items}
+use Rattle.c_tree.specs.Declarations.{identifier, specifier_at, specifiers, attribute, attributes}
+use Rattle.c_tree.specs.Declarations.{comma_or_end_at, element, list, initializer_of, array}
+use Rattle.c_tree.specs.Declarations.{array_part, declarator_rest, declarator, more_declarators}
+use Rattle.c_tree.specs.Declarations.{declaration}
+use Rattle.c_tree.specs.Statements.{items, condition, optional, for_start, behind_comma_at}
+use Rattle.c_tree.specs.Statements.{statement_at, statement, item_by, item}
+use Rattle.c_tree.specs.Items.{is_known, have_pointer, parameter, parameter_list, function_rest}
+use Rattle.c_tree.specs.Items.{skipped_body, body_of, function_end_at, named_at, declared_at}
+use Rattle.c_tree.specs.Items.{unit_item_at, unit_item, unit_items}
 use Rattle.c_tree.specs.Grammar.{grammar}
-use Rattle.c_tree.specs.OneReading.{GoodGrammar, good_round_brackets, good_comma, good_assignment, good_conditional, good_cast, good_unary}
+use Rattle.c_tree.specs.OneReading.{GoodGrammar, good_round_brackets, good_comma, good_assignment}
+use Rattle.c_tree.specs.OneReading.{good_conditional, good_cast, good_unary}
 
 pub good_identifier : Good identifier identifier
 unfolding identifier
@@ -28,7 +39,8 @@ good_specifier_at _ = good_nothing
 
 pub good_specifiers : (goes : Leaf → Bool) → Good (specifiers goes) (specifiers goes)
 unfolding specifiers
-good_specifiers goes = good_node _ (good_shaped _ (good_many goes (good_choice symbol_of good_specifier_at)))
+good_specifiers goes =
+    good_node _ (good_shaped _ (good_many goes (good_choice symbol_of good_specifier_at)))
 
 pub good_attribute : Good attribute attribute
 unfolding attribute
@@ -46,15 +58,18 @@ good_comma_or_end_at _ = good_nothing
 
 pub good_parameter : Good parameter parameter
 unfolding parameter
-good_parameter = good_node _ (good_then (good_specifiers _) (λ front. good_pair (good_perhaps _ good_one) (good_perhaps _ good_identifier)))
+good_parameter = good_node _ (good_then (good_specifiers _)
+    (λ front. good_pair (good_perhaps _ good_one) (good_perhaps _ good_identifier)))
 
 pub good_parameter_list : Good parameter_list parameter_list
 unfolding parameter_list
-good_parameter_list = good_node _ (good_pair (good_deeper good_parameter) (good_many _ (good_skip (good_deeper good_parameter))))
+good_parameter_list = good_node _ (good_pair (good_deeper good_parameter)
+    (good_many _ (good_skip (good_deeper good_parameter))))
 
 pub good_function_rest : Good function_rest function_rest
 unfolding function_rest
-good_function_rest = good_node _ (good_skip (good_pair (good_before (good_perhaps _ good_parameter_list) _) good_attributes))
+good_function_rest = good_node _ (good_skip (good_pair
+    (good_before (good_perhaps _ good_parameter_list) _) good_attributes))
 
 pub good_skipped_body : Good skipped_body skipped_body
 unfolding skipped_body
@@ -63,13 +78,15 @@ good_skipped_body = good_balanced _ _ _
 module _ (G H : Grammar) (g : GoodGrammar G H) where
   pub good_element : Good (element G) (element H)
   unfolding element
-  good_element = good_node _ (good_pair (good_deeper g.assignment) (good_choice symbol_of good_comma_or_end_at))
+  good_element = good_node _ (good_pair (good_deeper g.assignment)
+      (good_choice symbol_of good_comma_or_end_at))
 
   pub good_list : Good (list G) (list H)
   unfolding list
   good_list = good_node _ (good_behind _ (good_before (good_many _ good_element) _))
 
-  pub good_initializer_of : (is_array : Bool) → Good (initializer_of G is_array) (initializer_of H is_array)
+  pub good_initializer_of : (is_array : Bool) → Good (initializer_of G is_array)
+      (initializer_of H is_array)
   unfolding initializer_of
   good_initializer_of false = good_node _ (good_deeper g.assignment)
   good_initializer_of true = good_deeper g.list
@@ -84,7 +101,8 @@ module _ (G H : Grammar) (g : GoodGrammar G H) where
 
   pub good_declarator_rest : Good (declarator_rest G) (declarator_rest H)
   unfolding declarator_rest
-  good_declarator_rest = good_node _ (good_then good_array_part (λ front. good_perhaps _ (good_skip (good_initializer_of (is_some front.0)))))
+  good_declarator_rest = good_node _ (good_then good_array_part
+      (λ front. good_perhaps _ (good_skip (good_initializer_of (is_some front.0)))))
 
   pub good_declarator : Good (declarator G) (declarator H)
   unfolding declarator
@@ -116,10 +134,12 @@ module _ (G H : Grammar) (g : GoodGrammar G H) where
   good_for_start true = good_node _ (good_deeper g.declaration)
   good_for_start false = good_node _ (good_optional terminal.Semicolon)
 
-  pub good_behind_comma_at : (name : Option Name) (s : Symbol) → Good (behind_comma_at G name s) (behind_comma_at H name s)
+  pub good_behind_comma_at : (name : Option Name) (s : Symbol) →
+      Good (behind_comma_at G name s) (behind_comma_at H name s)
   unfolding behind_comma_at
   good_behind_comma_at name (symbol.Terminal terminal.Semicolon) = good_node _ good_one
-  good_behind_comma_at (Some name) (symbol.Terminal terminal.Colon) = good_node _ (good_skip (good_deeper g.statement))
+  good_behind_comma_at (Some name) (symbol.Terminal terminal.Colon) =
+      good_node _ (good_skip (good_deeper g.statement))
   good_behind_comma_at _ _ = good_nothing
 
   pub good_statement_at : (s : Symbol) → Good (statement_at G s) (statement_at H s)
@@ -128,17 +148,24 @@ module _ (G H : Grammar) (g : GoodGrammar G H) where
   good_statement_at (symbol.Terminal terminal.Semicolon) = good_node _ good_one
   good_statement_at (symbol.Terminal terminal.If) = good_node _ (good_skip (good_pair good_condition
       (good_pair (good_deeper g.statement) (good_nearest _ (good_skip (good_deeper g.statement))))))
-  good_statement_at (symbol.Terminal terminal.While) = good_node _ (good_skip (good_pair good_condition (good_deeper g.statement)))
+  good_statement_at (symbol.Terminal terminal.While) =
+      good_node _ (good_skip (good_pair good_condition (good_deeper g.statement)))
   good_statement_at (symbol.Terminal terminal.Do) =
-      good_node _ (good_skip (good_pair (good_before (good_deeper g.statement) _) (good_before good_condition _)))
-  good_statement_at (symbol.Terminal terminal.For) = good_node _ (good_skip (good_behind _ (good_pair
+      good_node _ (good_skip (good_pair (good_before (good_deeper g.statement) _)
+      (good_before good_condition _)))
+  good_statement_at (symbol.Terminal terminal.For) =
+      good_node _ (good_skip (good_behind _ (good_pair
       (good_choice is_local_specifier good_for_start)
-      (good_pair (good_optional terminal.Semicolon) (good_pair (good_optional terminal.RightParen) (good_deeper g.statement))))))
-  good_statement_at (symbol.Terminal terminal.Goto) = good_node _ (good_skip (good_before good_identifier _))
+      (good_pair (good_optional terminal.Semicolon) (good_pair (good_optional terminal.RightParen)
+      (good_deeper g.statement))))))
+  good_statement_at (symbol.Terminal terminal.Goto) =
+      good_node _ (good_skip (good_before good_identifier _))
   good_statement_at (symbol.Terminal terminal.Break) = good_node _ (good_skip (good_such _))
   good_statement_at (symbol.Terminal terminal.Continue) = good_node _ (good_skip (good_such _))
-  good_statement_at (symbol.Terminal terminal.Return) = good_node _ (good_skip (good_before (good_perhaps _ (good_comma G H g)) _))
-  good_statement_at _ = good_node _ (good_then (good_comma G H g) (λ made. good_choice symbol_of (good_behind_comma_at (bare_name made))))
+  good_statement_at (symbol.Terminal terminal.Return) =
+      good_node _ (good_skip (good_before (good_perhaps _ (good_comma G H g)) _))
+  good_statement_at _ = good_node _ (good_then (good_comma G H g)
+      (λ made. good_choice symbol_of (good_behind_comma_at (bare_name made))))
 
   pub good_statement : Good (statement G) (statement H)
   unfolding statement
@@ -158,28 +185,34 @@ module _ (G H : Grammar) (g : GoodGrammar G H) where
   good_body_of true = good_node _ (good_skip good_skipped_body)
   good_body_of false = good_node _ (good_skip good_items)
 
-  pub good_function_end_at : (name : Name) (pointer : Bool) (s : Symbol) → Good (function_end_at G name pointer s) (function_end_at H name pointer s)
+  pub good_function_end_at : (name : Name) (pointer : Bool) (s : Symbol) →
+      Good (function_end_at G name pointer s) (function_end_at H name pointer s)
   unfolding function_end_at
   good_function_end_at name pointer (symbol.Terminal terminal.Semicolon) = good_node _ good_one
-  good_function_end_at name false (symbol.Terminal terminal.LeftBrace) = good_node _ (good_body_of (is_known name))
+  good_function_end_at name false (symbol.Terminal terminal.LeftBrace) =
+      good_node _ (good_body_of (is_known name))
   good_function_end_at name _ _ = good_nothing
 
   pub good_named_at : (name : Name) (s : Symbol) → Good (named_at G name s) (named_at H name s)
   unfolding named_at
-  good_named_at name (symbol.Terminal terminal.LeftParen) = good_node _ (good_then good_function_rest
+  good_named_at name (symbol.Terminal terminal.LeftParen) =
+      good_node _ (good_then good_function_rest
       (λ found. good_choice symbol_of (good_function_end_at name (have_pointer found))))
-  good_named_at name _ = good_node _ (good_before (good_pair good_declarator_rest good_more_declarators) _)
+  good_named_at name _ =
+      good_node _ (good_before (good_pair good_declarator_rest good_more_declarators) _)
 
   pub good_declared_at : (s : Symbol) → Good (declared_at G s) (declared_at H s)
   unfolding declared_at
   good_declared_at (symbol.Terminal terminal.Semicolon) = good_node _ good_one
-  good_declared_at symbol.Name = good_node _ (good_then good_identifier (λ name. good_choice symbol_of (good_named_at name)))
+  good_declared_at symbol.Name =
+      good_node _ (good_then good_identifier (λ name. good_choice symbol_of (good_named_at name)))
   good_declared_at _ = good_nothing
 
   pub good_unit_item_at : (s : Symbol) → Good (unit_item_at G s) (unit_item_at H s)
   unfolding unit_item_at
   good_unit_item_at (symbol.Terminal terminal.Semicolon) = good_node _ good_one
-  good_unit_item_at _ = good_node _ (good_pair (good_specifiers _) (good_choice symbol_of good_declared_at))
+  good_unit_item_at _ =
+      good_node _ (good_pair (good_specifiers _) (good_choice symbol_of good_declared_at))
 
   pub good_unit_item : Good (unit_item G) (unit_item H)
   unfolding unit_item

@@ -1,5 +1,6 @@
 -- What the grammar asks of tokens and of trees, and what it makes of them.
-use Rattle.std.specs.Prelude.{ℕ, ◌+◌, ◌==◌, Bool, true, false, not, ◌&&◌, ◌||◌, nat_le, nat_lt, List, length, count_by, codes, Option, None, Some}
+use Rattle.std.specs.Prelude.{ℕ, ◌+◌, ◌==◌, Bool, true, false, not, ◌&&◌, ◌||◌, nat_le, nat_lt}
+use Rattle.std.specs.Prelude.{List, length, count_by, codes, Option, None, Some}
 use Rattle.std.specs.List.{filter_map}
 use Rattle.std.specs.Str.{bytes_eq}
 use denote.Enum.Bare.{sameb}
@@ -89,7 +90,8 @@ steps _ = false
 
 -- the token begins what stands behind the base of a postfix expression
 abbrev pub begins_suffix : Leaf → Bool
-begins_suffix leaf = is terminal.LeftBracket leaf || is terminal.LeftParen leaf || steps (symbol_of leaf)
+begins_suffix leaf =
+    is terminal.LeftBracket leaf || is terminal.LeftParen leaf || steps (symbol_of leaf)
 
 -- the symbol is a word of a type
 abbrev pub types : Symbol → Bool
@@ -170,15 +172,16 @@ has_no = at_most 0
 abbrev pub at_most_one_sign : List TypeWord → Bool
 at_most_one_sign words = nat_le (occurrences word.Signed words + occurrences word.Unsigned words) 1
 
--- none, or some, of the words of one of the integer types or of void, in any order (C11 6.7.2p2): no word but
--- void; none but _Bool; char with at most one sign; short, with or without int and a sign; int with at most one sign;
--- long once or twice, with or without int and a sign; a sign alone
+-- none, or some, of the words of one of the integer types or of void, in any order (C11 6.7.2p2):
+-- no word but void; none but _Bool; char with at most one sign; short, with or without int and a
+-- sign; int with at most one sign; long once or twice, with or without int and a sign; a sign alone
 abbrev pub is_part_of_type : List TypeWord → Bool
 is_part_of_type words =
     (length words == 1 || has_no word.Void words) && (length words == 1 || has_no word.Bool words)
     && at_most_one_sign words && at_most 1 word.Char words && at_most 1 word.Short words
     && at_most 1 word.Int words && at_most 2 word.Long words
-    && (has_no word.Char words || (has_no word.Short words && has_no word.Int words && has_no word.Long words))
+    && (has_no word.Char words
+    || (has_no word.Short words && has_no word.Int words && has_no word.Long words))
     && (has_no word.Short words || has_no word.Long words)
 
 -- the words of one of these types
@@ -187,7 +190,8 @@ is_type words = is_part_of_type words && not (length words == 0)
 
 -- the word of a type that a word of specifiers is
 abbrev pub type_word_of : Specifier → Option TypeWord
-type_word_of specifier = elim specifier.kind [ kind.Storage w ↦ None | kind.Other w ↦ None | kind.TypeWord w ↦ Some w ]
+type_word_of specifier =
+    elim specifier.kind [ kind.Storage w ↦ None | kind.Other w ↦ None | kind.TypeWord w ↦ Some w ]
 
 -- the words of types among specifiers
 abbrev pub type_words : List Specifier → List TypeWord

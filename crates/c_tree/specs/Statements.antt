@@ -1,6 +1,7 @@
 -- The grammar of statements (C11 6.8).
 use Rattle.std.specs.Prelude.{Bool, true, false, List, Option, None, Some}
-use Rattle.grammar_forms.specs.Forms.{Form, Nothing, One, Such, Skip, Behind, Before, Pair, Then, Node, Deeper, Choice, Many, Perhaps, Nearest}
+use Rattle.grammar_forms.specs.Forms.{Form, Nothing, One, Such, Skip, Behind, Before, Pair, Then}
+use Rattle.grammar_forms.specs.Forms.{Node, Deeper, Choice, Many, Perhaps, Nearest}
 use Rattle.c_symbols.specs.declared.words.Terminal.{Terminal}
 use Rattle.c_symbols.specs.declared.words.Terminal.TheVariants as terminal
 use Rattle.c_symbols.specs.declared.symbol.Symbol.{Symbol}
@@ -38,9 +39,11 @@ for_start G true = Node (λ leaf made. in_for.Declaration made) (Deeper G.declar
 for_start G false = Node (λ leaf made. in_for.Expression made) (optional terminal.Semicolon G)
 
 -- ";" behind an expression, or ":" and a statement behind a bare name (C11 6.8.1 and 6.8.3)
-unfoldable pub behind_comma_at : Grammar → Option Name → Symbol → Form Leaf (Option (Name × Statement))
+unfoldable pub behind_comma_at : Grammar → Option Name → Symbol →
+    Form Leaf (Option (Name × Statement))
 behind_comma_at G name (symbol.Terminal terminal.Semicolon) = Node (λ leaf u. None) One
-behind_comma_at G (Some name) (symbol.Terminal terminal.Colon) = Node (λ leaf body. Some (name, body)) (Skip (Deeper G.statement))
+behind_comma_at G (Some name) (symbol.Terminal terminal.Colon) =
+    Node (λ leaf body. Some (name, body)) (Skip (Deeper G.statement))
 behind_comma_at G _ _ = Nothing
 
 abbrev pub labeled_or_not : Leaf → Expression × Option (Name × Statement) → Statement
@@ -49,33 +52,46 @@ labeled_or_not leaf (made, Some parts) = node.Labeled parts.0 parts.1
 
 unfoldable pub statement_at : Grammar → Symbol → Form Leaf Statement
 -- "{" {item} "}" (C11 6.8.2)
-statement_at G (symbol.Terminal terminal.LeftBrace) = Node (λ leaf made. node.Block made leaf.place) (Skip (items G))
+statement_at G (symbol.Terminal terminal.LeftBrace) =
+    Node (λ leaf made. node.Block made leaf.place) (Skip (items G))
 -- ";" (C11 6.8.3)
-statement_at G (symbol.Terminal terminal.Semicolon) = Node (λ leaf u. node.Expression None leaf.place) One
+statement_at G (symbol.Terminal terminal.Semicolon) =
+    Node (λ leaf u. node.Expression None leaf.place) One
 -- "if" "(" comma ")" statement ["else" statement], the else of the nearest if (C11 6.8.4.1)
-statement_at G (symbol.Terminal terminal.If) = Node (λ leaf parts. node.If parts.0 parts.1.0 parts.1.1 leaf.place)
-    (Skip (Pair (condition G) (Pair (Deeper G.statement) (Nearest (is terminal.Else) (Skip (Deeper G.statement))))))
+statement_at G (symbol.Terminal terminal.If) =
+    Node (λ leaf parts. node.If parts.0 parts.1.0 parts.1.1 leaf.place)
+    (Skip (Pair (condition G) (Pair (Deeper G.statement)
+    (Nearest (is terminal.Else) (Skip (Deeper G.statement))))))
 -- "while" "(" comma ")" statement (C11 6.8.5.1)
-statement_at G (symbol.Terminal terminal.While) = Node (λ leaf parts. node.While parts.0 parts.1 leaf.place)
+statement_at G (symbol.Terminal terminal.While) =
+    Node (λ leaf parts. node.While parts.0 parts.1 leaf.place)
     (Skip (Pair (condition G) (Deeper G.statement)))
 -- "do" statement "while" "(" comma ")" ";" (C11 6.8.5.2)
-statement_at G (symbol.Terminal terminal.Do) = Node (λ leaf parts. node.Do parts.0 parts.1 leaf.place)
-    (Skip (Pair (Before (Deeper G.statement) (is terminal.While)) (Before (condition G) (is terminal.Semicolon))))
+statement_at G (symbol.Terminal terminal.Do) =
+    Node (λ leaf parts. node.Do parts.0 parts.1 leaf.place)
+    (Skip (Pair (Before (Deeper G.statement) (is terminal.While))
+    (Before (condition G) (is terminal.Semicolon))))
 -- "for" "(" (declaration ; [comma] ";") [comma] ";" [comma] ")" statement (C11 6.8.5.3)
-statement_at G (symbol.Terminal terminal.For) = Node (λ leaf parts. node.For parts.0 parts.1.0 parts.1.1.0 parts.1.1.1 leaf.place)
+statement_at G (symbol.Terminal terminal.For) =
+    Node (λ leaf parts. node.For parts.0 parts.1.0 parts.1.1.0 parts.1.1.1 leaf.place)
     (Skip (Behind (is terminal.LeftParen) (Pair (Choice is_local_specifier (for_start G))
-    (Pair (optional terminal.Semicolon G) (Pair (optional terminal.RightParen G) (Deeper G.statement))))))
+    (Pair (optional terminal.Semicolon G) (Pair (optional terminal.RightParen G)
+    (Deeper G.statement))))))
 -- "goto" Word ";" (C11 6.8.6.1)
 statement_at G (symbol.Terminal terminal.Goto) = Node (λ leaf label. node.Goto label leaf.place)
     (Skip (Before identifier (is terminal.Semicolon)))
 -- "break" ";" ; "continue" ";" (C11 6.8.6)
-statement_at G (symbol.Terminal terminal.Break) = Node (λ leaf u. node.Break leaf.place) (Skip (Such (is terminal.Semicolon)))
-statement_at G (symbol.Terminal terminal.Continue) = Node (λ leaf u. node.Continue leaf.place) (Skip (Such (is terminal.Semicolon)))
+statement_at G (symbol.Terminal terminal.Break) =
+    Node (λ leaf u. node.Break leaf.place) (Skip (Such (is terminal.Semicolon)))
+statement_at G (symbol.Terminal terminal.Continue) =
+    Node (λ leaf u. node.Continue leaf.place) (Skip (Such (is terminal.Semicolon)))
 -- "return" [comma] ";" (C11 6.8.6.4)
 statement_at G (symbol.Terminal terminal.Return) = Node (λ leaf value. node.Return value leaf.place)
     (Skip (Before (Perhaps (is_not terminal.Semicolon) (comma G)) (is terminal.Semicolon)))
--- comma ";" ; Word ":" statement (C11 6.8.3 and 6.8.1). A comma that is a bare name is read before what follows is seen
-statement_at G _ = Node labeled_or_not (Then (comma G) (λ made. Choice symbol_of (behind_comma_at G (bare_name made))))
+-- comma ";" ; Word ":" statement (C11 6.8.3 and 6.8.1). A comma that is a bare name is read before
+-- what follows is seen
+statement_at G _ = Node labeled_or_not (Then (comma G)
+    (λ made. Choice symbol_of (behind_comma_at G (bare_name made))))
 
 unfoldable pub statement : Grammar → Form Leaf Statement
 statement G = Choice symbol_of (statement_at G)

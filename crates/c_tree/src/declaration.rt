@@ -32,7 +32,8 @@ pub struct Array {
     pub place: u32,
 }
 
-/// What an object is initialized with: an expression where it is a scalar, a list where it is an array.
+/// What an object is initialized with: an expression where it is a scalar, a list where it is an
+/// array.
 #[derive(Debug, Drop)]
 pub enum Initializer {
     Scalar(Expression),

@@ -45,8 +45,8 @@ pub enum Expression {
         inner: Boxed<Expression>,
         place: u32,
     },
-    /// A base and the suffixes behind it, one at least, each applied to what stands before it. They are
-    /// a list, since no suffix adds a level: walks over the tree stay within `MAX_LEVEL`.
+    /// A base and the suffixes behind it, one at least, each applied to what stands before it. They
+    /// are a list, since no suffix adds a level: walks over the tree stay within `MAX_LEVEL`.
     Postfix {
         base: Boxed<Expression>,
         suffixes: Seq<Suffix>,
@@ -70,8 +70,8 @@ pub enum Expression {
         operand: Boxed<Expression>,
         place: u32,
     },
-    /// Two operands or more between operators of one precedence: the first, and each other behind its
-    /// operator. They belong together from the left.
+    /// Two operands or more between operators of one precedence: the first, and each other behind
+    /// its operator. They belong together from the left.
     Chain {
         first: Boxed<Expression>,
         rest: Seq<(BinaryOperator, Expression)>,
@@ -98,7 +98,8 @@ pub enum Expression {
     },
 }
 
-/// What stands behind the base of a postfix expression (C11 6.5.2). Its place is that of its first token.
+/// What stands behind the base of a postfix expression (C11 6.5.2). Its place is that of its first
+/// token.
 #[cycle(expression)]
 #[derive(Debug, Drop)]
 pub enum Suffix {
@@ -117,7 +118,8 @@ pub enum Suffix {
         operator: StepOperator,
         place: u32,
     },
-    /// `(tokens)` behind the name `__assert_fail`: any tokens with balanced round brackets, which are not kept.
+    /// `(tokens)` behind the name `__assert_fail`: any tokens with balanced round brackets, which
+    /// are not kept.
     Skipped {
         place: u32,
     },

@@ -37,7 +37,8 @@ pub enum Body {
     Skipped,
 }
 
-/// An item of a text. Its place is that of its first token, which is also the place of its specifiers.
+/// An item of a text. Its place is that of its first token, which is also the place of its
+/// specifiers.
 #[derive(Debug, Drop)]
 pub enum Item {
     /// A semicolon alone.

@@ -17,7 +17,8 @@ pub use laws::{no_tree_has_a_fault, one_tree, trees_agree_through_each_token};
 pub use name::Name;
 pub use statement::{BlockItem, ForStart, Statement};
 
-/// How deep the parts of a text may stand: this project's own limit, which bounds the stack of whatever
-/// walks a tree (C11 5.2.4.1 asks for 127 blocks and 63 brackets at least). The parts of an item stand at
-/// level 1. Which parts stand one level deeper than what they are a part of is said in `specs/Nested.antt`.
+/// How deep the parts of a text may stand: this project's own limit, which bounds the stack of
+/// whatever walks a tree (C11 5.2.4.1 asks for 127 blocks and 63 brackets at least). The parts of
+/// an item stand at level 1. Which parts stand one level deeper than what they are a part of is
+/// said in `specs/Nested.antt`.
 pub const MAX_LEVEL: u32 = 200;

@@ -1,8 +1,10 @@
 -- The forms of parameters have one reading; parameters that are read one by one.
-use Rattle.std.specs.Prelude.{◌≡◌, ℕ, ◌+◌, Bool, true, false, cond, ◌&&◌, List, [], ◌∷◌, ◌++◌, length, Option, None, Some}
+use Rattle.std.specs.Prelude.{◌≡◌, ℕ, ◌+◌, Bool, true, false, cond, ◌&&◌, List, [], ◌∷◌, ◌++◌}
+use Rattle.std.specs.Prelude.{length, Option, None, Some}
 use Rattle.std.proofs.Common.{sym, subst, refl}
 use Rattle.grammar_forms.specs.Forms.{Form, One, Skip, Before, Pair, Deeper, Perhaps}
-use Rattle.grammar_forms.specs.Steady.{Steady, good_one, good_skip, good_before, good_deeper, good_perhaps}
+use Rattle.grammar_forms.specs.Steady.{Steady, good_one, good_skip, good_before, good_deeper}
+use Rattle.grammar_forms.specs.Steady.{good_perhaps}
 use Rattle.grammar_forms.specs.Reading.{Reads, NoneThrough}
 use Rattle.grammar_forms.specs.Found.{reads_skip}
 use Rattle.grammar_forms.specs.NotFound.{none_node, none_first}
@@ -40,7 +42,8 @@ steady_next = record { good = λ n m. good_skip (good_deeper good_parameter) }
 pub steady_optional : Steady (λ n. Perhaps (is_not terminal.RightParen) parameter_list)
 steady_optional = record { good = λ n m. good_perhaps _ good_parameter_list }
 
-pub steady_closed : Steady (λ n. Before (Perhaps (is_not terminal.RightParen) parameter_list) (is terminal.RightParen))
+pub steady_closed : Steady (λ n. Before (Perhaps (is_not terminal.RightParen) parameter_list)
+    (is terminal.RightParen))
 steady_closed = record { good = λ n m. good_before (good_perhaps _ good_parameter_list) _ }
 
 -- what an option says of a pointer
@@ -52,30 +55,40 @@ pointer_is false = refl
 pub pointer_by : (leaves : List Leaf) (left p q : ℕ) (u : Option (Unit {0})) (a b : Bool) → a ≡ b →
     Reads (λ n. any_pointer a) (leaf_at leaves) (length leaves) left p u q →
     Reads (λ n. any_pointer b) (leaf_at leaves) (length leaves) left p u q
-pointer_by leaves left p q u a b e r = subst (λ t. Reads (λ n. any_pointer t) (leaf_at leaves) (length leaves) left p u q) e r
+pointer_by leaves left p q u a b e r =
+    subst (λ t. Reads (λ n. any_pointer t) (leaf_at leaves) (length leaves) left p u q) e r
 
 -- parameters are read from p up to here
-pub record AreParameters (leaves : List Leaf) (left p : ℕ) (items : List Parameter) (here : ℕ) : Type 0 where
-  pub so_far : SoFar (λ n. parameter_list) (is terminal.Comma) (λ n. Skip (Deeper parameter)) (leaf_at leaves) (length leaves) left p
+pub record AreParameters (leaves : List Leaf) (left p : ℕ) (items : List Parameter) (here : ℕ) :
+    Type 0 where
+  pub so_far : SoFar (λ n. parameter_list) (is terminal.Comma) (λ n. Skip (Deeper parameter))
+      (leaf_at leaves) (length leaves) left p
       items here
 
 module _ (leaves : List Leaf) (left p : ℕ) where
   pub parameters_first : (u : Parameter) (here : ℕ) (items : List Parameter) → items ≡ u ∷ [] →
-      Reads (λ n. Deeper parameter) (leaf_at leaves) (length leaves) left p u here → AreParameters leaves left p items here
+      Reads (λ n. Deeper parameter) (leaf_at leaves) (length leaves) left p u here →
+      AreParameters leaves left p items here
   unfolding parameter_list
   parameters_first u here items pushed r =
       subst (λ list. AreParameters leaves left p list here) (sym pushed)
-      (record { so_far = first_part (is terminal.Comma) (λ n. Skip (Deeper parameter)) steady_inner r })
+      (record {
+        so_far = first_part (is terminal.Comma)
+            (λ n. Skip (Deeper parameter)) steady_inner r;
+      })
 
-  pub parameters_more : (items : List Parameter) (here : ℕ) → AreParameters leaves left p items here →
-      (u : Parameter) (next : ℕ) (more : List Parameter) → more ≡ items ++ u ∷ [] → is terminal.Comma (leaf_at leaves here) ≡ true →
+  pub parameters_more : (items : List Parameter) (here : ℕ) →
+      AreParameters leaves left p items here →
+      (u : Parameter) (next : ℕ) (more : List Parameter) → more ≡ items ++ u ∷ [] →
+      is terminal.Comma (leaf_at leaves here) ≡ true →
       Reads (λ n. Deeper parameter) (leaf_at leaves) (length leaves) left (here + 1) u next →
       AreParameters leaves left p more next
   parameters_more items here s u next more pushed goes r =
       subst (λ list. AreParameters leaves left p list next) (sym pushed)
       (record { so_far = one_more s.so_far steady_next goes (reads_skip r) })
 
-  pub parameters_fail_first : (i : ℕ) → NoneThrough (λ n. Deeper parameter) (leaf_at leaves) (length leaves) left p i →
+  pub parameters_fail_first : (i : ℕ) → NoneThrough (λ n. Deeper parameter) (leaf_at leaves)
+      (length leaves) left p i →
       NoneThrough (λ n. parameter_list) (leaf_at leaves) (length leaves) left p i
   unfolding parameter_list
   parameters_fail_first i g = none_node _ (none_first _ g)

@@ -21,13 +21,15 @@ steady_attribute = record { good = λ n m. good_attribute }
 -- an attribute takes a token at least
 pub strict_attribute : Strict attribute
 unfolding attribute
-strict_attribute = strict_skip (good_behind (is terminal.LeftParen) (good_behind (is terminal.LeftParen)
+strict_attribute =
+    strict_skip (good_behind (is terminal.LeftParen) (good_behind (is terminal.LeftParen)
     (good_before good_round_brackets (is terminal.RightParen))))
 
 -- attributes are read from p up to here
 pub record AreSkipped (leaves : List Leaf) (p here : ℕ) : Type 0 where
   pub parts : List (Unit {0})
-  pub so_far : (left : ℕ) → SoFar (λ n. Many (is terminal.Attribute) attribute) (is terminal.Attribute) (λ n. attribute)
+  pub so_far : (left : ℕ) → SoFar (λ n. Many (is terminal.Attribute) attribute)
+      (is terminal.Attribute) (λ n. attribute)
       (leaf_at leaves) (length leaves) left p parts here
   pub within : here < length leaves
 
@@ -40,7 +42,8 @@ skipped_first leaves p fits = record {
 
 pub skipped_more : (leaves : List Leaf) (p here next : ℕ) → AreSkipped leaves p here →
     is terminal.Attribute (leaf_at leaves here) ≡ true →
-    ((left : ℕ) → Reads (λ n. attribute) (leaf_at leaves) (length leaves) left here tt next) → AreSkipped leaves p next
+    ((left : ℕ) → Reads (λ n. attribute) (leaf_at leaves) (length leaves) left here tt next) →
+    AreSkipped leaves p next
 skipped_more leaves p here next s goes r = record {
   parts = s.parts ++ tt ∷ [];
   so_far = λ left. one_more (s.so_far left) steady_attribute goes (r left);

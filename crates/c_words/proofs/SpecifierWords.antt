@@ -1,9 +1,11 @@
 -- Specifiers that are read one by one.
-use Rattle.std.specs.Prelude.{◌≡◌, ℕ, ◌+◌, ◌<◌, Bool, true, false, ◌==◌, List, [], ◌∷◌, ◌++◌, length, None, Some}
+use Rattle.std.specs.Prelude.{◌≡◌, ℕ, ◌+◌, ◌<◌, Bool, true, false, ◌==◌, List, [], ◌∷◌, ◌++◌}
+use Rattle.std.specs.Prelude.{length, None, Some}
 use Rattle.std.proofs.Common.{sym, ◌∙◌, ap, subst, refl, arith, append_assoc}
 use Rattle.std.proofs.lemmas.List.Elements.{filter_map-append}
 use Rattle.grammar_forms.specs.declared.fault.ReadError.{ReadError}
-use Rattle.grammar_forms.specs.declared.fault.ReadError.TheVariants.{Unexpected, TooDeep, OutOfMemory}
+use Rattle.grammar_forms.specs.declared.fault.ReadError.TheVariants.{Unexpected, TooDeep}
+use Rattle.grammar_forms.specs.declared.fault.ReadError.TheVariants.{OutOfMemory}
 use Rattle.grammar_forms.specs.Forms.{World, Form, Choice, Many}
 use Rattle.grammar_forms.specs.Steady.{Steady, good_many, good_choice}
 use Rattle.grammar_forms.specs.Reading.{Reads, NoneThrough, Faults}
@@ -38,37 +40,52 @@ steady_list : (test : Leaf → Bool) → Steady (λ n. Many test any_specifier)
 steady_list test = record { good = λ n m. good_many test (good_choice symbol_of good_specifier_at) }
 
 -- the words are read from p up to here, and these words of types among them are some of one type
-pub record AreSpecifiers (allowed : AllowedStorage) (leaves : List Leaf) (p : ℕ) (words : List Specifier)
+pub record AreSpecifiers (allowed : AllowedStorage) (leaves : List Leaf) (p : ℕ)
+    (words : List Specifier)
     (types : List TypeWord) (here : ℕ) : Type 0 where
-  pub so_far : (left : ℕ) → SoFar (λ n. Many (goes_in allowed) any_specifier) (goes_in allowed) (λ n. any_specifier)
+  pub so_far : (left : ℕ) → SoFar (λ n. Many (goes_in allowed) any_specifier) (goes_in allowed)
+      (λ n. any_specifier)
       (leaf_at leaves) (length leaves) left p words here
   pub kinds : types ≡ type_words words
   pub part : is_part_of_type types ≡ true
   pub within : here < length leaves
 
 -- the specifier that a symbol is
-reads_kind : {at : ℕ → Leaf} {size left p : ℕ} (s : Symbol) (k : SpecifierKind) → kind_of s ≡ Some k → p + 1 < size →
+reads_kind : {at : ℕ → Leaf} {size left p : ℕ} (s : Symbol) (k : SpecifierKind) →
+    kind_of s ≡ Some k → p + 1 < size →
     Reads (λ n. specifier_at s) at size left p (record { kind = k; place = (at p).place }) (p + 1)
 unfolding specifier_at
 reads_kind {at} {p = p} (symbol.Storage w) k e fits =
-    reads_node _ (let same : k ≡ kind.Storage w = cc in ap (λ t. record { kind = t; place = (at p).place }) same) (reads_one fits)
+    reads_node _ (let same : k ≡ kind.Storage w = cc in ap (λ t. record {
+      kind = t;
+      place = (at p).place;
+    }) same) (reads_one fits)
 reads_kind {at} {p = p} (symbol.Specifier w) k e fits =
-    reads_node _ (let same : k ≡ kind.Other w = cc in ap (λ t. record { kind = t; place = (at p).place }) same) (reads_one fits)
+    reads_node _ (let same : k ≡ kind.Other w = cc in ap (λ t. record {
+      kind = t;
+      place = (at p).place;
+    }) same) (reads_one fits)
 reads_kind {at} {p = p} (symbol.TypeWord w) k e fits =
-    reads_node _ (let same : k ≡ kind.TypeWord w = cc in ap (λ t. record { kind = t; place = (at p).place }) same) (reads_one fits)
+    reads_node _ (let same : k ≡ kind.TypeWord w =
+    cc in ap (λ t. record { kind = t; place = (at p).place }) same) (reads_one fits)
 reads_kind _ k e fits = let clash : None ≡ Some k = e in absurd (cc)
 
 -- what is read of a symbol is of its kind
-kind_read : (v : World Leaf) (left p : ℕ) (u : Specifier) (q : ℕ) (s : Symbol) (k : SpecifierKind) → kind_of s ≡ Some k →
+kind_read : (v : World Leaf) (left p : ℕ) (u : Specifier) (q : ℕ) (s : Symbol) (k : SpecifierKind) →
+    kind_of s ≡ Some k →
     specifier_at s v left p u q → u.kind ≡ k
 unfolding specifier_at
-kind_read v left p u q (symbol.Storage w) k e r = ap (λ t. t.kind) r.made ∙ (let same : kind.Storage w ≡ k = cc in same)
-kind_read v left p u q (symbol.Specifier w) k e r = ap (λ t. t.kind) r.made ∙ (let same : kind.Other w ≡ k = cc in same)
-kind_read v left p u q (symbol.TypeWord w) k e r = ap (λ t. t.kind) r.made ∙ (let same : kind.TypeWord w ≡ k = cc in same)
+kind_read v left p u q (symbol.Storage w) k e r =
+    ap (λ t. t.kind) r.made ∙ (let same : kind.Storage w ≡ k = cc in same)
+kind_read v left p u q (symbol.Specifier w) k e r =
+    ap (λ t. t.kind) r.made ∙ (let same : kind.Other w ≡ k = cc in same)
+kind_read v left p u q (symbol.TypeWord w) k e r =
+    ap (λ t. t.kind) r.made ∙ (let same : kind.TypeWord w ≡ k = cc in same)
 kind_read v left p u q _ k e r = let clash : None ≡ Some k = e in absurd (cc)
 
 -- the words of types in one specifier
-types_in : (k : SpecifierKind) (place : ℕ) → type_words (record { kind = k; place = place } ∷ []) ≡ words_in k
+types_in : (k : SpecifierKind) (place : ℕ) → type_words (record { kind = k; place = place } ∷
+    []) ≡ words_in k
 types_in (kind.Storage w) place = refl
 types_in (kind.Other w) place = refl
 types_in (kind.TypeWord w) place = refl
@@ -78,7 +95,8 @@ types_behind : (words : List Specifier) (u : Specifier) (us : List Specifier) �
 types_behind words u us =
     filter_map-append type_word_of words (u ∷ us)
     ∙ (ap (λ t. type_words words ++ t)
-    (filter_map-append type_word_of (u ∷ []) us ∙ ap (λ t. t ++ type_words us) (types_in u.kind u.place))
+    (filter_map-append type_word_of (u ∷ []) us ∙ ap (λ t. t ++ type_words us)
+    (types_in u.kind u.place))
     ∙ sym (append_assoc (type_words words) (words_in u.kind) (type_words us)))
 
 module _ (allowed : AllowedStorage) (leaves : List Leaf) (p : ℕ) where
@@ -90,33 +108,45 @@ module _ (allowed : AllowedStorage) (leaves : List Leaf) (p : ℕ) where
     within = fits;
   }
 
-  module _ (words : List Specifier) (types : List TypeWord) (here : ℕ) (s : AreSpecifiers allowed leaves p words types here) where
+  module _ (words : List Specifier) (types : List TypeWord) (here : ℕ)
+      (s : AreSpecifiers allowed leaves p words types here) where
     pub specifiers_more : (k : SpecifierKind) (more : List Specifier) (after : List TypeWord) →
-        goes allowed (symbol_of (leaf_at leaves here)) ≡ true → kind_of (symbol_of (leaf_at leaves here)) ≡ Some k →
-        here + 1 < length leaves → more ≡ words ++ record { kind = k; place = (leaf_at leaves here).place } ∷ [] →
+        goes allowed (symbol_of (leaf_at leaves here)) ≡ true →
+        kind_of (symbol_of (leaf_at leaves here)) ≡ Some k →
+        here + 1 < length leaves → more ≡ words ++ record {
+          kind = k;
+          place = (leaf_at leaves here).place;
+        } ∷ [] →
         AreGrown types k after → AreSpecifiers allowed leaves p more after (here + 1)
     specifiers_more k more after goes_on is_kind fits pushed g =
         subst (λ list. AreSpecifiers allowed leaves p list after (here + 1)) (sym pushed)
         (record {
           so_far = λ left. one_more (s.so_far left) steady_specifier goes_on
-              (reads_choice symbol_of (λ n. specifier_at) refl (reads_kind (symbol_of (leaf_at leaves here)) k is_kind fits));
+              (reads_choice symbol_of (λ n. specifier_at) refl
+              (reads_kind (symbol_of (leaf_at leaves here)) k is_kind fits));
           kinds = g.all
               ∙ (ap (λ t. t ++ words_in k) s.kinds
-              ∙ sym (filter_map-append type_word_of words (record { kind = k; place = (leaf_at leaves here).place } ∷ [])
+              ∙ sym (filter_map-append type_word_of words
+              (record { kind = k; place = (leaf_at leaves here).place } ∷ [])
               ∙ ap (λ t. type_words words ++ t) (types_in k (leaf_at leaves here).place)));
           part = g.part;
           within = fits;
         })
 
-    pub specifiers_refused : (left : ℕ) (k : SpecifierKind) → goes allowed (symbol_of (leaf_at leaves here)) ≡ true →
-        kind_of (symbol_of (leaf_at leaves here)) ≡ Some k → (e : ReadError) → IsRefused types k here e →
-        Faults MAX_LEVEL (λ n. specifiers (goes_in allowed)) (leaf_at leaves) (length leaves) left p e
+    pub specifiers_refused : (left : ℕ) (k : SpecifierKind) →
+        goes allowed (symbol_of (leaf_at leaves here)) ≡ true →
+        kind_of (symbol_of (leaf_at leaves here)) ≡ Some k → (e : ReadError) →
+        IsRefused types k here e →
+        Faults MAX_LEVEL (λ n. specifiers (goes_in allowed)) (leaf_at leaves)
+        (length leaves) left p e
     unfolding specifiers
     specifiers_refused left k goes_on is_kind (Unexpected i) h =
-        subst (λ j. NoneThrough (λ n. specifiers (goes_in allowed)) (leaf_at leaves) (length leaves) left p j) (sym h.0)
+        subst (λ j. NoneThrough (λ n. specifiers (goes_in allowed)) (leaf_at leaves)
+        (length leaves) left p j) (sym h.0)
         (none_node _ (no_such_part (s.so_far left) have_type goes_on
         (λ n v b u j r us.
-        let same = kind_read v left here u j (symbol_of (v.at here)) k (ap (λ t. kind_of (symbol_of t)) (b.tokens here (omega arith)) ∙ is_kind)
+        let same = kind_read v left here u j (symbol_of (v.at here)) k
+        (ap (λ t. kind_of (symbol_of t)) (b.tokens here (omega arith)) ∙ is_kind)
         r.chosen in
         ap is_type (types_behind words u us
         ∙ (ap (λ t. (type_words words ++ words_in t) ++ type_words us) same
@@ -125,17 +155,21 @@ module _ (allowed : AllowedStorage) (leaves : List Leaf) (p : ℕ) where
     specifiers_refused left k goes_on is_kind (TooDeep i) h = absurd h
     specifiers_refused left k goes_on is_kind OutOfMemory h = tt
 
-    pub specifiers_none : (left : ℕ) → goes allowed (symbol_of (leaf_at leaves here)) ≡ false → (length types == 0) ≡ true →
+    pub specifiers_none : (left : ℕ) → goes allowed (symbol_of (leaf_at leaves here)) ≡ false →
+        (length types == 0) ≡ true →
         NoneThrough (λ n. specifiers (goes_in allowed)) (leaf_at leaves) (length leaves) left p here
     unfolding specifiers
     specifiers_none left stops none =
-        none_node _ (none_shaped_here have_type (steady_list (goes_in allowed)) (no_more (s.so_far left) stops)
+        none_node _ (none_shaped_here have_type (steady_list (goes_in allowed))
+        (no_more (s.so_far left) stops)
         (ap is_type (sym s.kinds) ∙ no_words types none))
 
-    pub specifiers_found : (left : ℕ) (u : Specifiers) → u ≡ record { words = words; place = (leaf_at leaves p).place } →
+    pub specifiers_found : (left : ℕ) (u : Specifiers) →
+        u ≡ record { words = words; place = (leaf_at leaves p).place } →
         goes allowed (symbol_of (leaf_at leaves here)) ≡ false → (length types == 0) ≡ false →
         Reads (λ n. specifiers (goes_in allowed)) (leaf_at leaves) (length leaves) left p u here
     unfolding specifiers
     specifiers_found left u made stops some =
-        reads_node _ made (reads_shaped have_type (ap is_type (sym s.kinds) ∙ is_type_of types s.part some)
+        reads_node _ made (reads_shaped have_type (ap is_type (sym s.kinds) ∙
+        is_type_of types s.part some)
         (no_more (s.so_far left) stops))

@@ -1,5 +1,5 @@
--- What the readers of parts that have no level promise, this project's own: the same with however many
--- levels left.
+-- What the readers of parts that have no level promise, this project's own: the same with however
+-- many levels left.
 use Rattle.std.specs.Prelude.{ℕ, List, length, Result, MatchResult}
 use Rattle.grammar_forms.specs.declared.fault.ReadError.{ReadError}
 use Rattle.grammar_forms.specs.Forms.{Form}

@@ -14,8 +14,8 @@ use crate::classes::is_end;
 use c_symbols::{Source, Terminal};
 use grammar_forms::ReadError;
 
-/// How many brackets are open behind the token at this place, where `depth` are open before it; None
-/// where it closes and none is open.
+/// How many brackets are open behind the token at this place, where `depth` are open before it;
+/// None where it closes and none is open.
 fn depth_behind(
     source: &Source,
     at: usize,

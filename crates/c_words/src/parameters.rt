@@ -181,8 +181,8 @@ fn parameters_of(listed: Option<Seq<Parameter>>) -> Parameters
     }
 }
 
-/// What stands behind a function's name: its parameters in brackets, and attributes. The token here is
-/// the bracket that opens, as the caller has seen. Parameters stand one level deeper.
+/// What stands behind a function's name: its parameters in brackets, and attributes. The token here
+/// is the bracket that opens, as the caller has seen. Parameters stand one level deeper.
 pub fn function_rest(
     alloc: Global,
     source: &Source,

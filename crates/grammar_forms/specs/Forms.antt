@@ -1,6 +1,7 @@
--- Grammars as relations between the places of a text: the forms of EBNF (ISO/IEC 14977), and this project's own that
--- look at the next token. A place is the number of a token.
-use Rattle.std.specs.Prelude.{◌≡◌, ℕ, ◌+◌, ◌-◌, ◌<◌, ◌≤◌, Bool, true, false, cond, zero, suc, List, [], ◌∷◌, Option, None, Some}
+-- Grammars as relations between the places of a text: the forms of EBNF (ISO/IEC 14977), and this
+-- project's own that look at the next token. A place is the number of a token.
+use Rattle.std.specs.Prelude.{◌≡◌, ℕ, ◌+◌, ◌-◌, ◌<◌, ◌≤◌, Bool, true, false, cond, zero, suc, List}
+use Rattle.std.specs.Prelude.{[], ◌∷◌, Option, None, Some}
 
 -- a text to be read: the token at each place; up to which place the limit on levels is looked at;
 -- and whether a list or an option ends only where it cannot go on
@@ -13,7 +14,8 @@ pub record World (Token : Type 0) : Type 0 where
 abbrev pub greedy_text : {Token : Type 0} → (ℕ → Token) → ℕ → World Token
 greedy_text at edge = record { at = at; edge = edge; greedy = true }
 
--- what can be read: in a text, with so many levels left, from a place, a part, up to the place behind it
+-- what can be read: in a text, with so many levels left, from a place, a part, up to the place
+-- behind it
 abbrev pub Form : Type 0 → Type 0 → Type 1
 Form Token Part = World Token → ℕ → ℕ → Part → ℕ → Type 0
 
@@ -26,16 +28,19 @@ pub record One {Token : Type 0} (w : World Token) (left p : ℕ) (u : Unit {0}) 
   pub behind : q ≡ p + 1
 
 -- one token that passes the test
-pub record Such {Token : Type 0} (test : Token → Bool) (w : World Token) (left p : ℕ) (u : Unit {0}) (q : ℕ) : Type 0 where
+pub record Such {Token : Type 0} (test : Token → Bool) (w : World Token) (left p : ℕ) (u : Unit {0})
+    (q : ℕ) : Type 0 where
   pub passes : test (w.at p) ≡ true
   pub behind : q ≡ p + 1
 
 -- no token
-pub record Empty {Token : Type 0} (w : World Token) (left p : ℕ) (u : Unit {0}) (q : ℕ) : Type 0 where
+pub record Empty {Token : Type 0} (w : World Token) (left p : ℕ) (u : Unit {0}) (q : ℕ) :
+    Type 0 where
   pub behind : q ≡ p
 
 -- any one token, then a part
-pub record Skip {Token T : Type 0} (A : Form Token T) (w : World Token) (left p : ℕ) (u : T) (q : ℕ) : Type 0 where
+pub record Skip {Token T : Type 0} (A : Form Token T) (w : World Token) (left p : ℕ) (u : T)
+    (q : ℕ) : Type 0 where
   pub rest : A w left (p + 1) u q
 
 -- a token that passes the test, then a part
@@ -80,7 +85,8 @@ pub record Shaped {Token T : Type 0} (test : T → Bool) (A : Form Token T)
   pub passes : test u ≡ true
 
 -- a part one level deeper: where the limit is looked at, a level must be left
-pub record Deeper {Token T : Type 0} (A : Form Token T) (w : World Token) (left p : ℕ) (u : T) (q : ℕ) : Type 0 where
+pub record Deeper {Token T : Type 0} (A : Form Token T) (w : World Token) (left p : ℕ) (u : T)
+    (q : ℕ) : Type 0 where
   pub allowed : p ≤ w.edge → 0 < left
   pub read : A w (left - 1) p u q
 
@@ -121,7 +127,8 @@ pub record Stops {Token : Type 0} (go : Token → Bool) (w : World Token) (p q :
   pub stops : go (w.at p) ≡ false
   pub behind : q ≡ p
 
--- the same, but in no text does it end where it could go on: the look at the next token is the grammar's own rule
+-- the same, but in no text does it end where it could go on: the look at the next token is the
+-- grammar's own rule
 unfoldable pub Nearest : {Token T : Type 0} → (Token → Bool) → Form Token T → Form Token (Option T)
 Nearest go A w left p None q = Stops go w p q
 Nearest go A w left p (Some u) q = Goes go A (λ m. q ≡ m) w left p u

@@ -6,3 +6,4 @@ pub mod NotFound
 pub mod Loops
 pub mod Brackets
 pub mod Exits
+pub mod Choices

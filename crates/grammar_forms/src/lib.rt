@@ -1,4 +1,5 @@
-//! Grammars as relations between the places of a text, and what a reader of such a grammar promises.
+//! Grammars as relations between the places of a text, and what a reader of such a grammar
+//! promises.
 #![tactic(auto)]
 
 mod fault;

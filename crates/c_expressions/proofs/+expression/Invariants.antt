@@ -72,25 +72,32 @@ abbrev pub decreases-chains::operands : goal.decreases-chains::operands
 decreases-chains::operands l = 100 * l.left + (11 + 2 * l.tighter)
 
 abbrev pub invariant-assignments::more_items-list : goal.invariant-assignments::more_items-list
-invariant-assignments::more_items-list l = SoFar (λ n. more_items l.fn.first (grammar n)) (is terminal.Comma) (λ n. Skip (assignment (grammar n))) (leaf_at l.source) (length l.source) l.left l.at l.items l.here
+invariant-assignments::more_items-list l = SoFar (λ n. more_items l.fn.first (grammar n))
+    (is terminal.Comma) (λ n. Skip (assignment (grammar n))) (leaf_at l.source)
+    (length l.source) l.left l.at l.items l.here
 
 abbrev pub decreases-assignments::more_items-list : goal.decreases-assignments::more_items-list
 decreases-assignments::more_items-list l = length l.source - l.here
 
 abbrev pub invariant-arguments::more_arguments-list : goal.invariant-arguments::more_arguments-list
-invariant-arguments::more_arguments-list l = SoFar (λ n. more_arguments l.fn.first (grammar n)) (is terminal.Comma) (λ n. Skip (Deeper ((grammar n).assignment))) (leaf_at l.source) (length l.source) l.left l.at l.arguments l.here
+invariant-arguments::more_arguments-list l = SoFar (λ n. more_arguments l.fn.first (grammar n))
+    (is terminal.Comma) (λ n. Skip (Deeper ((grammar n).assignment))) (leaf_at l.source)
+    (length l.source) l.left l.at l.arguments l.here
 
 abbrev pub decreases-arguments::more_arguments-list : goal.decreases-arguments::more_arguments-list
 decreases-arguments::more_arguments-list l = length l.source - l.here
 
 abbrev pub invariant-chains::operands-list : goal.invariant-chains::operands-list
-invariant-chains::operands-list l = SoFar (λ n. operands l.tighter (grammar n)) (is_operator (suc l.tighter)) (λ n. operand (chain l.tighter (grammar n))) (leaf_at l.source) (length l.source) l.left l.at l.operands l.here
+invariant-chains::operands-list l = SoFar (λ n. operands l.tighter (grammar n))
+    (is_operator (suc l.tighter)) (λ n. operand (chain l.tighter (grammar n))) (leaf_at l.source)
+    (length l.source) l.left l.at l.operands l.here
 
 abbrev pub decreases-chains::operands-list : goal.decreases-chains::operands-list
 decreases-chains::operands-list l = length l.source - l.here
 
 abbrev pub invariant-arguments::suffixes-list : goal.invariant-arguments::suffixes-list
-invariant-arguments::suffixes-list l = SoFar (λ n. suffixes (grammar n) l.asserts) begins_suffix (λ n. any_suffix (grammar n)) (leaf_at l.source) (length l.source) l.left l.at l.suffixes l.here
+invariant-arguments::suffixes-list l = SoFar (λ n. suffixes (grammar n) l.asserts) begins_suffix
+    (λ n. any_suffix (grammar n)) (leaf_at l.source) (length l.source) l.left l.at l.suffixes l.here
 
 abbrev pub decreases-arguments::suffixes-list : goal.decreases-arguments::suffixes-list
 decreases-arguments::suffixes-list l = length l.source - l.here

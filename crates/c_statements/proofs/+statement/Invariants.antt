@@ -58,7 +58,8 @@ abbrev pub decreases-blocks::item : goal.decreases-blocks::item
 decreases-blocks::item l = 10 * l.left + 5
 
 abbrev pub invariant-blocks::block_items-list : goal.invariant-blocks::block_items-list
-invariant-blocks::block_items-list l = SoFar (λ n. block_items (grammar n)) (is_not RightBrace) (λ n. Deeper ((grammar n).item))
+invariant-blocks::block_items-list l =
+    SoFar (λ n. block_items (grammar n)) (is_not RightBrace) (λ n. Deeper ((grammar n).item))
     (leaf_at l.source) (length l.source) l.left l.at l.items l.here
 
 abbrev pub decreases-blocks::block_items-list : goal.decreases-blocks::block_items-list

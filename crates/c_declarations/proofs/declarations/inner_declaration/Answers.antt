@@ -9,10 +9,12 @@ use Rattle.c_declarations.proofs.declarations.inner_declaration.Goals as goal
 
 pub returns-then-left-eq0 : goal.returns-then-left-eq0
 returns-then-left-eq0 c = rw c.no_level.ensures
-    (answers_no_level MAX_LEVEL (λ n. (grammar n).declaration) (leaf_at c.args.source.now) c.if-left-eq0.true c.requires.within
+    (answers_no_level MAX_LEVEL (λ n. (grammar n).declaration)
+    (leaf_at c.args.source.now) c.if-left-eq0.true c.requires.within
     (omega (arith, c.requires.room, c.if-left-eq0.true)) c.begins_declaration.result)
 
 pub returns : goal.returns
 returns c =
-    answers_deeper MAX_LEVEL (leaf_at c.args.source.now) (length c.args.source.now) c.args.at declaration_above
+    answers_deeper MAX_LEVEL (leaf_at c.args.source.now)
+    (length c.args.source.now) c.args.at declaration_above
     (omega (arith, c.if-left-eq0.false)) c.declaration.result c.declaration.ensures

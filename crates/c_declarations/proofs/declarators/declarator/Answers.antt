@@ -20,9 +20,11 @@ unfolding declarator
 returns c =
     let name = c.in_ok-name.ensures c.args.left in
     answers_with MAX_LEVEL c.declarator_behind.result
-    (λ u q r. reads_onto (λ leaf parts. declarator_of parts) (λ leaf rest. declarator_of (c.in_ok-name.name, rest))
+    (λ u q r. reads_onto (λ leaf parts. declarator_of parts)
+    (λ leaf rest. declarator_of (c.in_ok-name.name, rest))
     (λ n. declarator_rest (grammar n)) (λ rest. refl) name r)
-    (λ i g. none_onto (λ leaf parts. declarator_of parts) (λ leaf rest. declarator_of (c.in_ok-name.name, rest))
+    (λ i g. none_onto (λ leaf parts. declarator_of parts)
+    (λ leaf rest. declarator_of (c.in_ok-name.name, rest))
     (λ n. declarator_rest (grammar n)) steady_identifier name g)
     c.declarator_behind.ensures
 
@@ -30,4 +32,5 @@ pub declarator_behind-requires-clause-within : goal.declarator_behind-requires-c
 declarator_behind-requires-clause-within c = (c.in_ok-name.ensures 0).within
 
 pub declarator_behind-requires-clause-room : goal.declarator_behind-requires-clause-room
-declarator_behind-requires-clause-room c = omega (arith, c.requires.room, (c.in_ok-name.ensures 0).onward)
+declarator_behind-requires-clause-room c =
+    omega (arith, c.requires.room, (c.in_ok-name.ensures 0).onward)

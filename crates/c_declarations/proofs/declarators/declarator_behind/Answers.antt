@@ -2,7 +2,8 @@
 use Rattle.std.proofs.Common.{refl, arith, is_some}
 use Rattle.grammar_forms.specs.Forms.{Skip, Perhaps}
 use Rattle.grammar_forms.specs.Found.{reads_node, reads_pair, reads_then}
-use Rattle.grammar_forms.specs.NotFound.{none_node, none_then_first, none_then, none_first, none_second}
+use Rattle.grammar_forms.specs.NotFound.{none_node, none_then_first, none_then, none_first}
+use Rattle.grammar_forms.specs.NotFound.{none_second}
 use Rattle.grammar_forms.specs.Exits.{at_exit}
 use Rattle.c_tree.specs.declared.TheConstants.{MAX_LEVEL}
 use Rattle.c_tree.specs.Grammar.{grammar}
@@ -15,22 +16,26 @@ pub returns-in_err-array : goal.returns-in_err-array
 unfolding declarator_rest array_part
 returns-in_err-array c =
     at_exit MAX_LEVEL _ _ c.from_residual.ensures.1 c.in_err-array.ensures
-    (λ i g. none_node _ (none_node _ (none_then_first (λ n front. Perhaps is_initializing (Skip (initializer_of (grammar n) (is_some front.0))))
+    (λ i g. none_node _ (none_node _ (none_then_first
+    (λ n front. Perhaps is_initializing (Skip (initializer_of (grammar n) (is_some front.0))))
     (none_first (λ n. attributes) g))))
 
 pub returns-in_err-mark : goal.returns-in_err-mark
 unfolding declarator_rest array_part
 returns-in_err-mark c =
     at_exit MAX_LEVEL _ _ c.from_residual-in_err-mark.ensures.1 (c.in_err-mark.ensures c.args.left)
-    (λ i g. none_node _ (none_node _ (none_then_first (λ n front. Perhaps is_initializing (Skip (initializer_of (grammar n) (is_some front.0))))
+    (λ i g. none_node _ (none_node _ (none_then_first
+    (λ n front. Perhaps is_initializing (Skip (initializer_of (grammar n) (is_some front.0))))
     (none_second steady_array c.in_ok-array.ensures g))))
 
 pub returns-in_err-initializer : goal.returns-in_err-initializer
 unfolding declarator_rest array_part
 returns-in_err-initializer c =
     let front = reads_pair c.in_ok-array.ensures (c.in_ok-mark.ensures c.args.left) in
-    at_exit MAX_LEVEL _ _ c.from_residual-in_err-initializer.ensures.1 (rw c.is_some-is_array.ensures at c.in_err-initializer.ensures)
-    (λ i g. none_node _ (none_node _ (none_then (λ n front. Perhaps is_initializing (Skip (initializer_of (grammar n) (is_some front.0))))
+    at_exit MAX_LEVEL _ _ c.from_residual-in_err-initializer.ensures.1
+    (rw c.is_some-is_array.ensures at c.in_err-initializer.ensures)
+    (λ i g. none_node _ (none_node _ (none_then (λ n front. Perhaps is_initializing
+    (Skip (initializer_of (grammar n) (is_some front.0))))
     steady_array_part front g)))
 
 pub returns : goal.returns
@@ -38,7 +43,8 @@ unfolding declarator_rest array_part
 returns c =
     let front = reads_pair c.in_ok-array.ensures (c.in_ok-mark.ensures c.args.left) in
     reads_node _ refl (reads_node _ refl
-    (reads_then (λ n front. Perhaps is_initializing (Skip (initializer_of (grammar n) (is_some front.0)))) front
+    (reads_then (λ n front. Perhaps is_initializing
+    (Skip (initializer_of (grammar n) (is_some front.0)))) front
     (rw c.is_some-is_array.ensures at c.in_ok-initializer.ensures)))
 
 pub optional_initializer-requires-clause-within : goal.optional_initializer-requires-clause-within

@@ -10,7 +10,8 @@ use Rattle.c_declarations.specs.Forms.{declarators_behind}
 use Rattle.c_declarations.proofs.declarators.declarators_behind.Given as goal
 
 abbrev pub invariant-list : goal.invariant-list
-invariant-list l = SoFar (λ n. declarators_behind l.fn.first (grammar n)) (is Comma) (λ n. Skip (declarator (grammar n)))
+invariant-list l = SoFar (λ n. declarators_behind l.fn.first (grammar n)) (is Comma)
+    (λ n. Skip (declarator (grammar n)))
     (leaf_at l.source) (length l.source) l.left l.at l.declarators l.here
 
 abbrev pub decreases-list : goal.decreases-list

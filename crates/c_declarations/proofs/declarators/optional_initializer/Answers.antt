@@ -12,7 +12,8 @@ use Rattle.c_declarations.proofs.declarators.optional_initializer.Goals as goal
 
 pub returns-then-not-is_initializing : goal.returns-then-not-is_initializing
 returns-then-not-is_initializing c =
-    reads_no (λ n. Skip (initializer_of (grammar n) c.args.is_array)) is_initializing (sym c.if-not-is_initializing.ensures.value)
+    reads_no (λ n. Skip (initializer_of (grammar n) c.args.is_array)) is_initializing
+    (sym c.if-not-is_initializing.ensures.value)
     c.requires.within
 
 pub returns-in_err-initializer : goal.returns-in_err-initializer
@@ -22,4 +23,5 @@ returns-in_err-initializer c =
 
 pub returns : goal.returns
 returns c =
-    reads_one_more is_initializing (sym c.if-not-is_initializing.ensures.value) (reads_skip c.in_ok-initializer.ensures)
+    reads_one_more is_initializing (sym c.if-not-is_initializing.ensures.value)
+    (reads_skip c.in_ok-initializer.ensures)

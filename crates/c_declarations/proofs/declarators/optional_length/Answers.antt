@@ -12,7 +12,8 @@ use Rattle.c_declarations.proofs.declarators.optional_length.Goals as goal
 
 pub returns-then-is : goal.returns-then-is
 returns-then-is c =
-    reads_no (λ n. Deeper ((grammar n).conditional)) (is_not RightBracket) (ap not (sym c.if-is.ensures.value)) c.requires.within
+    reads_no (λ n. Deeper ((grammar n).conditional)) (is_not RightBracket)
+    (ap not (sym c.if-is.ensures.value)) c.requires.within
 
 pub returns-in_err-length : goal.returns-in_err-length
 returns-in_err-length c =
@@ -20,4 +21,5 @@ returns-in_err-length c =
     (λ i g. none_perhaps (is_not RightBracket) (ap not (sym c.if-is.ensures.value)) g)
 
 pub returns : goal.returns
-returns c = reads_one_more (is_not RightBracket) (ap not (sym c.if-is.ensures.value)) c.in_ok-length.ensures
+returns c =
+    reads_one_more (is_not RightBracket) (ap not (sym c.if-is.ensures.value)) c.in_ok-length.ensures

@@ -19,9 +19,11 @@ returns-in_err-value c =
 pub returns-in_err-behind : goal.returns-in_err-behind
 unfolding element
 returns-in_err-behind c =
-    at_exit MAX_LEVEL _ _ c.from_residual-in_err-behind.ensures.1 (c.in_err-behind.ensures c.args.left)
+    at_exit MAX_LEVEL _ _ c.from_residual-in_err-behind.ensures.1
+    (c.in_err-behind.ensures c.args.left)
     (λ i g. none_node _ (none_second steady_value c.in_ok-value.ensures g))
 
 pub returns : goal.returns
 unfolding element
-returns c = reads_node _ refl (reads_pair c.in_ok-value.ensures (c.in_ok-behind.ensures c.args.left))
+returns c =
+    reads_node _ refl (reads_pair c.in_ok-value.ensures (c.in_ok-behind.ensures c.args.left))

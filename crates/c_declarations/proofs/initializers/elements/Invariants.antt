@@ -10,7 +10,8 @@ use Rattle.c_declarations.specs.Forms.{elements}
 use Rattle.c_declarations.proofs.initializers.elements.Given as goal
 
 abbrev pub invariant-list : goal.invariant-list
-invariant-list l = SoFar (λ n. elements (grammar n)) (is_not RightBrace) (λ n. element (grammar n)) (leaf_at l.source) (length l.source)
+invariant-list l = SoFar (λ n. elements (grammar n)) (is_not RightBrace) (λ n. element (grammar n))
+    (leaf_at l.source) (length l.source)
     l.left l.at l.items l.here
 
 abbrev pub decreases-list : goal.decreases-list

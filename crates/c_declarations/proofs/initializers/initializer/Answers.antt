@@ -11,13 +11,15 @@ use Rattle.c_declarations.proofs.initializers.initializer.Goals as goal
 pub returns-then-is_array : goal.returns-then-is_array
 unfolding initializer_of
 returns-then-is_array c =
-    subst (λ b. Gives (λ G. initializer_of G b) c.args.source.now c.args.left c.args.at c.inner_list.result) (sym c.if-is_array.true)
+    subst (λ b. Gives (λ G. initializer_of G b) c.args.source.now c.args.left c.args.at
+    c.inner_list.result) (sym c.if-is_array.true)
     c.inner_list.ensures
 
 pub returns-in_err-value : goal.returns-in_err-value
 unfolding initializer_of
 returns-in_err-value c =
-    subst (λ b. Gives (λ G. initializer_of G b) c.args.source.now c.args.left c.args.at c.from_residual.result) (sym c.if-is_array.false)
+    subst (λ b. Gives (λ G. initializer_of G b) c.args.source.now c.args.left c.args.at
+    c.from_residual.result) (sym c.if-is_array.false)
     (at_exit MAX_LEVEL _ _ c.from_residual.ensures.1 c.in_err-value.ensures (λ i g. none_node _ g))
 
 pub returns : goal.returns

@@ -6,5 +6,6 @@ use Rattle.c_parser.proofs.functions.any_pointer.Goals as goal
 
 pub returns : goal.returns
 returns c =
-    any_from_yields_List (λ parameter. parameter.is_pointer) _ _ c.any.result c.any.ensures.ran (YieldsList-from_slice c.args.listed.now cc)
+    any_from_yields_List (λ parameter. parameter.is_pointer) _ _ c.any.result c.any.ensures.ran
+    (YieldsList-from_slice c.args.listed.now cc)
     (λ x b q k. search (rules, tests))

@@ -7,7 +7,8 @@ use Rattle.c_parser.proofs.items.declared.Goals as goal
 
 pub returns-then-is : goal.returns-then-is
 returns-then-is c = rw c.new.ensures
-    (reads_bare _ _ _ c.args.specifiers (sym c.if-is.ensures.value) (c.if-is.ensures.more refl).within)
+    (reads_bare _ _ _ c.args.specifiers (sym c.if-is.ensures.value)
+    (c.if-is.ensures.more refl).within)
 
 pub returns-in_err-name : goal.returns-in_err-name
 returns-in_err-name c =
@@ -19,7 +20,8 @@ returns c =
     let name = c.in_ok-name.ensures c.args.left in
     answers_with MAX_LEVEL c.named.result
     (λ u q r. reads_named _ _ _ c.args.specifiers c.in_ok-name.name c.in_ok-name.next name r)
-    (λ i g. none_named _ _ _ c.args.specifiers c.in_ok-name.name c.in_ok-name.next name (sym c.if-is.ensures.value) g)
+    (λ i g. none_named _ _ _ c.args.specifiers c.in_ok-name.name c.in_ok-name.next name
+    (sym c.if-is.ensures.value) g)
     c.named.ensures
 
 pub named-requires-clause-within : goal.named-requires-clause-within

@@ -4,12 +4,13 @@ use Rattle.grammar_forms.specs.Forms.{Choice}
 use Rattle.grammar_forms.specs.Found.{reads_node, reads_one}
 use Rattle.grammar_forms.specs.NotFound.{none_node, none_first}
 use Rattle.grammar_forms.specs.Exits.{at_exit, answers_with}
+use Rattle.grammar_forms.specs.Choices.{reads_arm, none_arm}
 use Rattle.c_symbols.specs.Symbols.{symbol_of}
 use Rattle.c_symbols.specs.Sources.{leaf_at}
 use Rattle.c_tree.specs.declared.TheConstants.{MAX_LEVEL}
 use Rattle.c_tree.specs.Grammar.{grammar}
 use Rattle.c_tree.specs.Items.{declared_at, declared_of, unit_item_at, unit_item}
-use Rattle.c_declarations.specs.Readers.{reads_arm, none_arm, reads_onto, none_onto}
+use Rattle.c_declarations.specs.Readers.{reads_onto, none_onto}
 use Rattle.c_parser.proofs.Steadies.{steady_specifiers}
 use Rattle.c_parser.proofs.Arms.{arm_empty, arm_declared}
 use Rattle.c_parser.proofs.items.unit_item.Goals as goal
@@ -18,7 +19,8 @@ pub returns-then-is : goal.returns-then-is
 unfolding unit_item
 returns-then-is c = rw c.place-place.ensures
     (reads_arm symbol_of (λ n. unit_item_at (grammar n))
-    (λ n. arm_empty (grammar n) (symbol_of (leaf_at c.args.source.now c.args.at)) (sym c.if-is.ensures.value))
+    (λ n. arm_empty (grammar n) (symbol_of (leaf_at c.args.source.now c.args.at))
+    (sym c.if-is.ensures.value))
     (reads_node _ refl (reads_one (c.if-is.ensures.more refl).within)))
 
 pub returns-in_err-specifiers : goal.returns-in_err-specifiers
@@ -26,7 +28,8 @@ unfolding unit_item
 returns-in_err-specifiers c =
     at_exit MAX_LEVEL _ _ c.from_residual.ensures.1 (c.in_err-specifiers.ensures c.args.left)
     (λ i g. none_arm symbol_of (λ n. unit_item_at (grammar n))
-    (λ n. arm_declared (grammar n) (symbol_of (leaf_at c.args.source.now c.args.at)) (sym c.if-is.ensures.value))
+    (λ n. arm_declared (grammar n) (symbol_of (leaf_at c.args.source.now c.args.at))
+    (sym c.if-is.ensures.value))
     (none_node _ (none_first (λ n. Choice symbol_of (declared_at (grammar n))) g)))
 
 pub returns : goal.returns
@@ -35,12 +38,16 @@ returns c =
     let front = c.in_ok-specifiers.ensures c.args.left in
     answers_with MAX_LEVEL c.declared.result
     (λ u q r. reads_arm symbol_of (λ n. unit_item_at (grammar n))
-    (λ n. arm_declared (grammar n) (symbol_of (leaf_at c.args.source.now c.args.at)) (sym c.if-is.ensures.value))
-    (reads_onto (λ leaf parts. declared_of parts.0 parts.1) (λ leaf found. declared_of c.in_ok-specifiers.specifiers found)
+    (λ n. arm_declared (grammar n) (symbol_of (leaf_at c.args.source.now c.args.at))
+    (sym c.if-is.ensures.value))
+    (reads_onto (λ leaf parts. declared_of parts.0 parts.1)
+    (λ leaf found. declared_of c.in_ok-specifiers.specifiers found)
     (λ n. Choice symbol_of (declared_at (grammar n))) (λ found. refl) front r))
     (λ i g. none_arm symbol_of (λ n. unit_item_at (grammar n))
-    (λ n. arm_declared (grammar n) (symbol_of (leaf_at c.args.source.now c.args.at)) (sym c.if-is.ensures.value))
-    (none_onto (λ leaf parts. declared_of parts.0 parts.1) (λ leaf found. declared_of c.in_ok-specifiers.specifiers found)
+    (λ n. arm_declared (grammar n) (symbol_of (leaf_at c.args.source.now c.args.at))
+    (sym c.if-is.ensures.value))
+    (none_onto (λ leaf parts. declared_of parts.0 parts.1)
+    (λ leaf found. declared_of c.in_ok-specifiers.specifiers found)
     (λ n. Choice symbol_of (declared_at (grammar n))) steady_specifiers front g))
     c.declared.ensures
 
@@ -48,4 +55,5 @@ pub declared-requires-clause-within : goal.declared-requires-clause-within
 declared-requires-clause-within c = (c.in_ok-specifiers.ensures 0).within
 
 pub declared-requires-clause-room : goal.declared-requires-clause-room
-declared-requires-clause-room c = omega (arith, c.requires.room, (c.in_ok-specifiers.ensures 0).onward)
+declared-requires-clause-room c =
+    omega (arith, c.requires.room, (c.in_ok-specifiers.ensures 0).onward)

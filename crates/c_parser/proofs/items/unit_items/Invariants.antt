@@ -9,7 +9,8 @@ use Rattle.c_parser.specs.Forms.{all_items}
 use Rattle.c_parser.proofs.items.unit_items.Given as goal
 
 abbrev pub invariant-list : goal.invariant-list
-invariant-list l = SoFar (λ n. all_items (grammar n)) (λ leaf. not (is_end leaf)) (λ n. unit_item (grammar n)) (leaf_at l.source)
+invariant-list l = SoFar (λ n. all_items (grammar n)) (λ leaf. not (is_end leaf))
+    (λ n. unit_item (grammar n)) (leaf_at l.source)
     (length l.source) l.left l.at l.items l.here
 
 abbrev pub decreases-list : goal.decreases-list

@@ -7,6 +7,10 @@ use Rattle.c_plain.proofs.laws.plain_trees_are_trees.Goals as goal
 pub returns : goal.returns
 returns c = λ text tokens u.
     let closes = closes_unit_items (grammar 199) (closed_grammar 199) in (
-      λ t. record { reading = λ edge. closes.to_greedy (t.reading edge) refl; length_is = t.length_is },
+      λ t. record {
+        reading = λ edge. closes.to_greedy (t.reading edge) refl;
+        length_is =
+            t.length_is;
+      },
       λ t. record { reading = λ edge. closes.to_plain (t.reading edge); length_is = t.length_is },
     )

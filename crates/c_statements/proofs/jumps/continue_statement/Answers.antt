@@ -6,7 +6,7 @@ use Rattle.c_symbols.specs.declared.words.Terminal.TheVariants.{Semicolon}
 use Rattle.c_symbols.specs.Sources.{is}
 use Rattle.c_tree.specs.declared.TheConstants.{MAX_LEVEL}
 use Rattle.c_tree.specs.Statements.{statement_at}
-use Rattle.c_declarations.specs.Readers.{at_lack}
+use Rattle.c_tree.specs.Terminals.{at_lack}
 use Rattle.c_statements.proofs.Dispatch.{reads_taken}
 use Rattle.c_statements.proofs.jumps.continue_statement.Goals as goal
 
@@ -18,4 +18,5 @@ returns-in_err-behind c =
 
 pub returns : goal.returns
 unfolding statement_at
-returns c = rw c.place-place.ensures (reads_node _ refl (reads_skip (reads_taken _ _ _ c.in_ok-behind.ensures)))
+returns c = rw c.place-place.ensures (reads_node _ refl
+    (reads_skip (reads_taken _ _ _ c.in_ok-behind.ensures)))

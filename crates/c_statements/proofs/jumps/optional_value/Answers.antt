@@ -11,7 +11,8 @@ use Rattle.c_tree.specs.Expressions.{comma}
 use Rattle.c_statements.proofs.jumps.optional_value.Goals as goal
 
 pub returns-then-is : goal.returns-then-is
-returns-then-is c = reads_no (λ n. comma (grammar n)) (is_not Semicolon) (ap not (sym c.if-is.ensures.value)) c.requires.within
+returns-then-is c = reads_no (λ n. comma (grammar n)) (is_not Semicolon)
+    (ap not (sym c.if-is.ensures.value)) c.requires.within
 
 pub returns-in_err-value : goal.returns-in_err-value
 returns-in_err-value c =
@@ -19,4 +20,5 @@ returns-in_err-value c =
     (λ i g. none_perhaps (is_not Semicolon) (ap not (sym c.if-is.ensures.value)) g)
 
 pub returns : goal.returns
-returns c = reads_one_more (is_not Semicolon) (ap not (sym c.if-is.ensures.value)) c.in_ok-value.ensures
+returns c =
+    reads_one_more (is_not Semicolon) (ap not (sym c.if-is.ensures.value)) c.in_ok-value.ensures

@@ -7,7 +7,7 @@ use Rattle.c_symbols.specs.declared.words.Terminal.TheVariants.{Semicolon}
 use Rattle.c_symbols.specs.Sources.{is}
 use Rattle.c_tree.specs.declared.TheConstants.{MAX_LEVEL}
 use Rattle.c_tree.specs.Statements.{statement_at}
-use Rattle.c_declarations.specs.Readers.{reads_closed, at_lack}
+use Rattle.c_tree.specs.Terminals.{reads_closed, at_lack}
 use Rattle.c_statements.proofs.Steadies.{steady_optional_value}
 use Rattle.c_statements.proofs.jumps.return_statement.Goals as goal
 
@@ -21,8 +21,10 @@ pub returns-in_err-behind : goal.returns-in_err-behind
 unfolding statement_at
 returns-in_err-behind c =
     at_lack MAX_LEVEL _ _ c.from_residual-in_err-behind.ensures.1 c.in_err-behind.ensures
-    (λ fails. none_node _ (none_skip (none_before_here (is Semicolon) steady_optional_value c.in_ok-value.ensures fails)))
+    (λ fails. none_node _ (none_skip (none_before_here
+    (is Semicolon) steady_optional_value c.in_ok-value.ensures fails)))
 
 pub returns : goal.returns
 unfolding statement_at
-returns c = rw c.place-place.ensures (reads_node _ refl (reads_skip (reads_closed c.in_ok-value.ensures c.in_ok-behind.ensures)))
+returns c = rw c.place-place.ensures (reads_node _ refl
+    (reads_skip (reads_closed c.in_ok-value.ensures c.in_ok-behind.ensures)))

@@ -5,4 +5,5 @@ use Rattle.c_statements.proofs.kinds.kind_at.Goals as goal
 
 pub returns-clause-more : goal.returns-clause-more
 returns-clause-more c = λ opens. c.symbol.ensures.more
-    (λ e. let clash : false ≡ true = sym (ap (λ s. has_opener (kind_of s)) e) ∙ (ap has_opener (sym c.kind_of.ensures) ∙ opens) in cc)
+    (λ e. let clash : false ≡ true = sym (ap (λ s. has_opener (kind_of s)) e) ∙
+    (ap has_opener (sym c.kind_of.ensures) ∙ opens) in cc)

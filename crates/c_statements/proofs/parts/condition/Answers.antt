@@ -7,7 +7,7 @@ use Rattle.c_symbols.specs.Sources.{is}
 use Rattle.c_tree.specs.declared.TheConstants.{MAX_LEVEL}
 use Rattle.c_tree.specs.Grammar.{grammar}
 use Rattle.c_tree.specs.Statements.{condition}
-use Rattle.c_declarations.specs.Readers.{reads_opened, reads_closed, none_opened, at_lack}
+use Rattle.c_tree.specs.Terminals.{reads_opened, reads_closed, none_opened, at_lack}
 use Rattle.c_statements.proofs.Steadies.{steady_test}
 use Rattle.c_statements.proofs.parts.condition.Goals as goal
 
@@ -15,7 +15,8 @@ pub returns-in_err-start : goal.returns-in_err-start
 unfolding condition
 returns-in_err-start c =
     at_lack MAX_LEVEL _ _ c.from_residual.ensures.1 c.in_err-start.ensures
-    (λ fails. none_behind_here (λ n. Before (Deeper ((grammar n).comma)) (is RightParen)) (is LeftParen) fails c.requires.within)
+    (λ fails. none_behind_here (λ n. Before (Deeper ((grammar n).comma)) (is RightParen))
+    (is LeftParen) fails c.requires.within)
 
 pub returns-in_err-test : goal.returns-in_err-test
 unfolding condition
@@ -27,8 +28,10 @@ pub returns-in_err-behind : goal.returns-in_err-behind
 unfolding condition
 returns-in_err-behind c =
     at_lack MAX_LEVEL _ _ c.from_residual-in_err-behind.ensures.1 c.in_err-behind.ensures
-    (λ fails. none_opened c.in_ok-start.ensures (none_before_here (is RightParen) steady_test c.in_ok-test.ensures fails))
+    (λ fails. none_opened c.in_ok-start.ensures (none_before_here
+    (is RightParen) steady_test c.in_ok-test.ensures fails))
 
 pub returns : goal.returns
 unfolding condition
-returns c = reads_opened c.in_ok-start.ensures (reads_closed c.in_ok-test.ensures c.in_ok-behind.ensures)
+returns c =
+    reads_opened c.in_ok-start.ensures (reads_closed c.in_ok-test.ensures c.in_ok-behind.ensures)

@@ -9,7 +9,7 @@ use Rattle.c_tree.specs.declared.TheConstants.{MAX_LEVEL}
 use Rattle.c_tree.specs.Grammar.{grammar}
 use Rattle.c_tree.specs.Parts.{is_local_specifier}
 use Rattle.c_tree.specs.Statements.{for_start}
-use Rattle.c_declarations.specs.Readers.{reads_opened, none_opened, at_lack}
+use Rattle.c_tree.specs.Terminals.{reads_opened, none_opened, at_lack}
 use Rattle.c_statements.specs.Forms.{test_and_step}
 use Rattle.c_statements.proofs.Steadies.{steady_start}
 use Rattle.c_statements.proofs.parts.for_head.Goals as goal
@@ -17,7 +17,8 @@ use Rattle.c_statements.proofs.parts.for_head.Goals as goal
 pub returns-in_err-opened : goal.returns-in_err-opened
 returns-in_err-opened c =
     at_lack MAX_LEVEL _ _ c.from_residual.ensures.1 c.in_err-opened.ensures
-    (λ fails. none_behind_here (λ n. Pair (Choice is_local_specifier (for_start (grammar n))) (test_and_step (grammar n)))
+    (λ fails. none_behind_here (λ n. Pair (Choice is_local_specifier (for_start (grammar n)))
+    (test_and_step (grammar n)))
     (is LeftParen) fails c.requires.within)
 
 pub returns-in_err-start : goal.returns-in_err-start
@@ -31,4 +32,5 @@ returns-in_err-ends c =
     (λ i g. none_opened c.in_ok-opened.ensures (none_second steady_start c.in_ok-start.ensures g))
 
 pub returns : goal.returns
-returns c = reads_opened c.in_ok-opened.ensures (reads_pair c.in_ok-start.ensures c.in_ok-ends.ensures)
+returns c =
+    reads_opened c.in_ok-opened.ensures (reads_pair c.in_ok-start.ensures c.in_ok-ends.ensures)

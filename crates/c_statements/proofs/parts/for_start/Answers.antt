@@ -13,22 +13,26 @@ pub returns-in_err-declaration : goal.returns-in_err-declaration
 unfolding for_start
 returns-in_err-declaration c =
     at_exit MAX_LEVEL _ _ c.from_residual.ensures.1 c.in_err-declaration.ensures
-    (λ i g. none_choice is_local_specifier (λ n. for_start (grammar n)) (sym c.if-begins_declaration.ensures) (none_node _ g))
+    (λ i g. none_choice is_local_specifier (λ n. for_start (grammar n))
+    (sym c.if-begins_declaration.ensures) (none_node _ g))
 
 pub returns-then-begins_declaration : goal.returns-then-begins_declaration
 unfolding for_start
 returns-then-begins_declaration c =
-    reads_choice is_local_specifier (λ n. for_start (grammar n)) (sym c.if-begins_declaration.ensures)
+    reads_choice is_local_specifier (λ n. for_start (grammar n))
+    (sym c.if-begins_declaration.ensures)
     (reads_node _ refl c.in_ok-declaration.ensures)
 
 pub returns-in_err-expression : goal.returns-in_err-expression
 unfolding for_start
 returns-in_err-expression c =
     at_exit MAX_LEVEL _ _ c.from_residual-in_err-expression.ensures.1 c.in_err-expression.ensures
-    (λ i g. none_choice is_local_specifier (λ n. for_start (grammar n)) (sym c.if-begins_declaration.ensures) (none_node _ g))
+    (λ i g. none_choice is_local_specifier (λ n. for_start (grammar n))
+    (sym c.if-begins_declaration.ensures) (none_node _ g))
 
 pub returns : goal.returns
 unfolding for_start
 returns c =
-    reads_choice is_local_specifier (λ n. for_start (grammar n)) (sym c.if-begins_declaration.ensures)
+    reads_choice is_local_specifier (λ n. for_start (grammar n))
+    (sym c.if-begins_declaration.ensures)
     (reads_node _ refl c.in_ok-expression.ensures)

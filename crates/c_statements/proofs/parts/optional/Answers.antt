@@ -4,20 +4,22 @@ use Rattle.grammar_forms.specs.Exits.{at_exit}
 use Rattle.c_symbols.specs.Sources.{is}
 use Rattle.c_tree.specs.declared.TheConstants.{MAX_LEVEL}
 use Rattle.c_tree.specs.Statements.{optional}
-use Rattle.c_declarations.specs.Readers.{reads_closed, at_lack}
+use Rattle.c_tree.specs.Terminals.{reads_closed, at_lack}
 use Rattle.c_statements.proofs.Steadies.{steady_optional_comma}
 use Rattle.c_statements.proofs.parts.optional.Goals as goal
 
 pub returns-in_err-expression : goal.returns-in_err-expression
 unfolding optional
 returns-in_err-expression c =
-    at_exit MAX_LEVEL _ _ c.from_residual.ensures.1 c.in_err-expression.ensures (λ i g. none_before (is c.args.closer) g)
+    at_exit MAX_LEVEL _ _ c.from_residual.ensures.1 c.in_err-expression.ensures
+    (λ i g. none_before (is c.args.closer) g)
 
 pub returns-in_err-behind : goal.returns-in_err-behind
 unfolding optional
 returns-in_err-behind c =
     at_lack MAX_LEVEL _ _ c.from_residual-in_err-behind.ensures.1 c.in_err-behind.ensures
-    (λ fails. none_before_here (is c.args.closer) (steady_optional_comma c.args.closer) c.in_ok-expression.ensures fails)
+    (λ fails. none_before_here (is c.args.closer) (steady_optional_comma c.args.closer)
+    c.in_ok-expression.ensures fails)
 
 pub returns : goal.returns
 unfolding optional

@@ -11,7 +11,8 @@ use Rattle.c_statements.proofs.parts.optional_comma.Goals as goal
 
 pub returns-then-is : goal.returns-then-is
 returns-then-is c =
-    reads_no (λ n. Deeper ((grammar n).comma)) (is_not c.args.closer) (ap not (sym c.if-is.ensures.value)) c.requires.within
+    reads_no (λ n. Deeper ((grammar n).comma)) (is_not c.args.closer)
+    (ap not (sym c.if-is.ensures.value)) c.requires.within
 
 pub returns-in_err-expression : goal.returns-in_err-expression
 returns-in_err-expression c =
@@ -19,4 +20,5 @@ returns-in_err-expression c =
     (λ i g. none_perhaps (is_not c.args.closer) (ap not (sym c.if-is.ensures.value)) g)
 
 pub returns : goal.returns
-returns c = reads_one_more (is_not c.args.closer) (ap not (sym c.if-is.ensures.value)) c.in_ok-expression.ensures
+returns c = reads_one_more (is_not c.args.closer) (ap not (sym c.if-is.ensures.value))
+    c.in_ok-expression.ensures

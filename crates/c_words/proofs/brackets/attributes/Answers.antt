@@ -11,18 +11,25 @@ use Rattle.c_words.proofs.brackets.attributes.Goals as goal
 
 pub loop-here-preserved : goal.loop-here-preserved
 loop-here-preserved c =
-    skipped_more _ _ _ _ c.loop-here.invariant (sym c.loop-here-test.ensures.value) c.in_ok-here.ensures
+    skipped_more _ _ _ _ c.loop-here.invariant (sym c.loop-here-test.ensures.value)
+    c.in_ok-here.ensures
 
 pub loop-here-smaller : goal.loop-here-smaller
 loop-here-smaller c =
-    omega (arith, strict_attribute.ahead ((c.in_ok-here.ensures 0).reading 0), c.loop-here.invariant.within)
+    omega (
+      arith,
+      strict_attribute.ahead ((c.in_ok-here.ensures 0).reading 0),
+      c.loop-here.invariant.within,
+    )
 
 pub returns-in_err-here : goal.returns-in_err-here
 unfolding attributes
 returns-in_err-here c = λ left.
     skip_exit MAX_LEVEL _ _ c.from_residual.ensures.1 (c.in_err-here.ensures left)
-    (λ i g. none_node _ (no_part (c.loop-here.invariant.so_far left) (sym c.loop-here-test.ensures.value) g))
+    (λ i g. none_node _ (no_part (c.loop-here.invariant.so_far left)
+    (sym c.loop-here-test.ensures.value) g))
 
 pub returns : goal.returns
 unfolding attributes
-returns c = λ left. reads_node _ refl (no_more (c.loop-here.invariant.so_far left) (sym c.loop-here-test.ensures.value))
+returns c = λ left. reads_node _ refl (no_more (c.loop-here.invariant.so_far left)
+    (sym c.loop-here-test.ensures.value))

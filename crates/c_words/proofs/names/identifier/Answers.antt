@@ -14,4 +14,5 @@ returns-in_ok-name c = λ left.
 
 pub returns-else-is_name : goal.returns-else-is_name
 unfolding identifier
-returns-else-is_name c = λ left. none_node name_of (none_such is_name (sym c.if-is_name.ensures.value) c.requires)
+returns-else-is_name c =
+    λ left. none_node name_of (none_such is_name (sym c.if-is_name.ensures.value) c.requires)

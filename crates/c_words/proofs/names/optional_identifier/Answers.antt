@@ -14,7 +14,9 @@ returns-in_err-name c = λ left.
     (λ i g. none_perhaps is_name (sym c.if-is_name.ensures.value) g)
 
 pub returns-in_ok-name : goal.returns-in_ok-name
-returns-in_ok-name c = λ left. reads_one_more is_name (sym c.if-is_name.ensures.value) (c.in_ok-name.ensures left)
+returns-in_ok-name c =
+    λ left. reads_one_more is_name (sym c.if-is_name.ensures.value) (c.in_ok-name.ensures left)
 
 pub returns-else-is_name : goal.returns-else-is_name
-returns-else-is_name c = λ left. reads_no (λ n. identifier) is_name (sym c.if-is_name.ensures.value) c.requires
+returns-else-is_name c =
+    λ left. reads_no (λ n. identifier) is_name (sym c.if-is_name.ensures.value) c.requires

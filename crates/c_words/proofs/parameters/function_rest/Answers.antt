@@ -1,6 +1,7 @@
 -- A bracket, parameters or none, the bracket that closes, attributes.
 use Rattle.grammar_forms.specs.Found.{reads_node, reads_skip, reads_pair, reads_before_by}
-use Rattle.grammar_forms.specs.NotFound.{none_node, none_skip, none_first, none_second, none_before, none_before_here}
+use Rattle.grammar_forms.specs.NotFound.{none_node, none_skip, none_first, none_second, none_before}
+use Rattle.grammar_forms.specs.NotFound.{none_before_here}
 use Rattle.grammar_forms.specs.Exits.{at_exit, at_fault}
 use Rattle.c_symbols.specs.declared.words.Terminal.TheVariants.{RightParen}
 use Rattle.c_symbols.specs.Sources.{is}
@@ -21,19 +22,24 @@ unfolding function_rest
 returns-in_err-next c =
     at_fault MAX_LEVEL _ _ c.from_residual-in_err-next.ensures.1 c.in_err-next.ensures.named
     (none_node _ (none_skip (none_first (λ n. attributes)
-    (none_before_here (is RightParen) steady_optional c.in_ok-listed.ensures c.in_err-next.ensures.fails))))
+    (none_before_here (is RightParen) steady_optional c.in_ok-listed.ensures
+    c.in_err-next.ensures.fails))))
 
 pub returns-in_err-behind : goal.returns-in_err-behind
 unfolding function_rest
 returns-in_err-behind c =
     let next = c.in_ok-next.ensures in
-    let closed = reads_before_by (is RightParen) c.in_ok-listed.ensures next.passes next.behind_it next.within in
-    at_exit MAX_LEVEL _ _ c.from_residual-in_err-behind.ensures.1 (c.in_err-behind.ensures c.args.left)
+    let closed = reads_before_by (is RightParen) c.in_ok-listed.ensures next.passes next.behind_it
+    next.within in
+    at_exit MAX_LEVEL _ _ c.from_residual-in_err-behind.ensures.1
+    (c.in_err-behind.ensures c.args.left)
     (λ i g. none_node _ (none_skip (none_second steady_closed closed g)))
 
 pub returns : goal.returns
 unfolding function_rest
 returns c =
     let next = c.in_ok-next.ensures in
-    let closed = reads_before_by (is RightParen) c.in_ok-listed.ensures next.passes next.behind_it next.within in
-    reads_node _ c.parameters_of.ensures (reads_skip (reads_pair closed (c.in_ok-behind.ensures c.args.left)))
+    let closed = reads_before_by (is RightParen) c.in_ok-listed.ensures next.passes next.behind_it
+    next.within in
+    reads_node _ c.parameters_of.ensures (reads_skip
+    (reads_pair closed (c.in_ok-behind.ensures c.args.left)))

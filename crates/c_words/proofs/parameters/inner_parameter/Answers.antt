@@ -6,4 +6,5 @@ use Rattle.c_tree.specs.declared.TheConstants.{MAX_LEVEL}
 use Rattle.c_words.proofs.parameters.inner_parameter.Goals as goal
 
 pub returns : goal.returns
-returns c = answers_deeper_flat MAX_LEVEL parameter _ _ _ (omega arith) c.parameter.result (c.parameter.ensures (c.args.left - 1))
+returns c = answers_deeper_flat MAX_LEVEL parameter _ _ _ (omega arith) c.parameter.result
+    (c.parameter.ensures (c.args.left - 1))

@@ -16,7 +16,8 @@ returns-in_err-listed c =
 
 pub returns-then-is : goal.returns-then-is
 returns-then-is c =
-    reads_no (λ n. parameter_list) (is_not RightParen) (ap not (sym c.if-is.ensures.value)) c.requires.within
+    reads_no (λ n. parameter_list) (is_not RightParen)
+    (ap not (sym c.if-is.ensures.value)) c.requires.within
 
 pub returns-in_ok-listed : goal.returns-in_ok-listed
 returns-in_ok-listed c =

@@ -4,7 +4,8 @@ use Rattle.std.proofs.lemmas.Bool.{and_from, and_left, and_right}
 use Rattle.grammar_forms.specs.Forms.{One}
 use Rattle.grammar_forms.specs.Found.{reads_no, reads_one, reads_one_more}
 use Rattle.c_words.proofs.parameters.pointer.Goals as goal
-use Rattle.c_words.proofs.parameters.pointer.Goals.{else-allowed-via-then-allowed+else-is_pointer, else-allowed-via-else-allowed}
+use Rattle.c_words.proofs.parameters.pointer.Goals.{else-allowed-via-then-allowed+else-is_pointer}
+use Rattle.c_words.proofs.parameters.pointer.Goals.{else-allowed-via-else-allowed}
 
 pub returns-then-is_pointer : goal.returns-then-is_pointer
 returns-then-is_pointer c = λ left.
@@ -14,6 +15,8 @@ returns-then-is_pointer c = λ left.
 pub returns-else-allowed : goal.returns-else-allowed
 returns-else-allowed c = λ left.
     elim c.else-allowed.branch [
-      | else-allowed-via-then-allowed+else-is_pointer w ↦ reads_no (λ n. One) _ (and_right _ _ (sym w.if-is_pointer.ensures.value)) c.requires
-      | else-allowed-via-else-allowed w ↦ reads_no (λ n. One) _ (and_left _ _ w.if-allowed.false) c.requires
+      | else-allowed-via-then-allowed+else-is_pointer w ↦ reads_no (λ n. One) _
+          (and_right _ _ (sym w.if-is_pointer.ensures.value)) c.requires
+      | else-allowed-via-else-allowed w ↦ reads_no (λ n. One) _
+          (and_left _ _ w.if-allowed.false) c.requires
     ]

@@ -1,4 +1,5 @@
--- The words are read up to here, and those of types are part of a type. The rest of the text gets shorter.
+-- The words are read up to here, and those of types are part of a type. The rest of the text gets
+-- shorter.
 use Rattle.std.proofs.Common.{◌-◌, length}
 use Rattle.c_words.proofs.SpecifierWords.{AreSpecifiers}
 use Rattle.c_words.proofs.words.specifiers.Given as goal

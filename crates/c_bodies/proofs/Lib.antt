@@ -1,0 +1,12 @@
+pub mod Walks
+pub mod Doing
+pub mod Scopes
+pub mod Declaring
+pub mod Lists
+pub mod Forms
+pub mod Same
+pub mod Receiving
+pub mod Whole
+pub mod Names
+pub mod Starting
+pub mod Function

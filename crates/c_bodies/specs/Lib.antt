@@ -1,0 +1,4 @@
+pub mod States
+pub mod Grown
+pub mod Views
+pub mod Bodies

@@ -1,0 +1,39 @@
+//! What a walk through statements is told and what it keeps (`specs/Views.antt`).
+use c_calls::Call;
+use c_lexer::TextFault;
+use c_names::{Firsts, Names, Survey};
+use c_rules::Kind;
+
+/// What holds in a whole function.
+#[derive(Drop)]
+pub(crate) struct Frame<'a> {
+    pub(crate) survey: &'a Survey,
+    /// The names of its labels, in order.
+    pub(crate) labels: &'a Firsts,
+    /// How many names stand in file scope before its parameters.
+    pub(crate) file: usize,
+    /// How many bodies stand before its own.
+    pub(crate) caller: u32,
+    pub(crate) result: Kind,
+}
+
+/// Where a statement stands in a function.
+#[derive(Clone, Copy)]
+pub(crate) struct Nest {
+    /// How many names stand outside its scope.
+    pub(crate) outer: usize,
+    pub(crate) in_loop: bool,
+}
+
+/// What is known and noted up to a place in a text.
+#[derive(Drop)]
+pub struct Walker {
+    /// The names in scope.
+    pub names: Names,
+    /// How many objects are declared.
+    pub objects: u32,
+    /// The first fault.
+    pub first: Option<TextFault>,
+    /// The calls in order.
+    pub calls: Vec<Call>,
+}
