@@ -4,8 +4,8 @@ use Rattle.cpa_cnf.specs.Lines.{AreBelow}
 use Rattle.cpa_gates.specs.declared.gate.Gate.{Gate}
 use Rattle.cpa_gates.specs.Nets.{vars, IsScoped}
 use Rattle.cpa_words.specs.Truths.{values, number}
+use Rattle.cpa_words.specs.Values.{MakesNumber}
 use Rattle.cpa_products.specs.Products.{product}
-use Rattle.cpa_products.specs.Meanings.{MakesNumber}
 use Rattle.cpa_products.specs.lemmas.ProductMeanings.{product_is}
 
 abbrev pub ProductsAreProducts : Type 0

@@ -1,4 +1,3 @@
 pub mod Products
-pub mod Meanings
 pub mod lemmas
 pub mod Laws

@@ -1,14 +1,14 @@
 //! The product of two words, from the high bits of the second one down, as specs/Products defines
 //! it; what it means is proved in specs/lemmas/ProductMeanings.
 
-ghost use Rattle.std.specs.Prelude.{◌≡◌, ◌+◌, ◌++◌, ◌∷◌, [], length, replicate, IfOk, OnOk};
+ghost use Rattle.std.specs.Prelude.{◌≡◌, ◌+◌, ◌∷◌, length, replicate, IfOk};
 ghost use Rattle.cpa_gates.specs.Nets.{built};
 ghost use Rattle.cpa_products.specs.Products.{masked_word, added_word, product};
 
 use cpa_cnf::Lit;
 use cpa_gates::{Net, never};
 use cpa_ints::Seq;
-use cpa_words::{and_word, sum_word};
+use cpa_words::{and_word, push_all, push_repeated, sum_word};
 use std::alloc::{AllocError, Global};
 
 /// The literal so many times.
@@ -17,9 +17,7 @@ fn repeated(alloc: Global, count: usize, literal: Lit) -> Result<Seq<Lit>, Alloc
     ensures long { IfOk result (λ w. length w ≡ count) }
 {
     let mut word = Seq::new(alloc);
-    'push: for _pushed in 0..count {
-        word.push(literal)?;
-    }
+    push_repeated(&mut word, count, literal)?;
     Ok(word)
 }
 
@@ -31,16 +29,6 @@ fn masked_word(alloc: Global, net: &mut Net, y: Lit, xs: &[Lit]) -> Result<Seq<L
 {
     let mask = repeated(alloc, xs.len(), y)?;
     and_word(alloc, net, xs, mask.as_slice())
-}
-
-/// Adds the literals at the end.
-fn push_all(word: &mut Seq<Lit>, xs: &[Lit]) -> Result<(), AllocError>
-    ensures { OnOk result (word.new ≡ word.old ++ xs.now) }
-{
-    for x in xs {
-        word.push(*x)?;
-    }
-    Ok(())
 }
 
 /// A literal with a word behind it.

@@ -4,5 +4,6 @@ pub mod Words
 pub mod Truths
 pub mod Types
 pub mod Meanings
+pub mod Values
 pub mod lemmas
 pub mod Laws

@@ -14,6 +14,7 @@ pub use laws::{
 pub use rows::Row;
 pub use walks::Walked;
 pub use words::{
-    and_word, cast_word, choose_word, constant_word, difference_word, equal, less, less_signed,
-    negated_word, opposites, or_word, some_bit, sum_word, xor_word,
+    and_word, cast_word, choose_word, constant_word, difference_word, equal, filling, less,
+    less_signed, negated_word, opposites, or_word, push_all, push_repeated, some_bit, sum_word,
+    xor_word,
 };

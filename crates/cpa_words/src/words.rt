@@ -18,7 +18,7 @@ use cpa_ints::{IntType, Seq};
 use std::alloc::{AllocError, Global};
 
 /// Adds the literals at the end.
-fn push_all(word: &mut Seq<Lit>, xs: &[Lit]) -> Result<(), AllocError>
+pub fn push_all(word: &mut Seq<Lit>, xs: &[Lit]) -> Result<(), AllocError>
     ensures { OnOk result (word.new ≡ word.old ++ xs.now) }
 {
     for x in xs {
@@ -38,7 +38,7 @@ fn push_opposites(word: &mut Seq<Lit>, xs: &[Lit]) -> Result<(), AllocError>
 }
 
 /// Adds the literal so many times.
-fn push_repeated(word: &mut Seq<Lit>, count: usize, literal: Lit) -> Result<(), AllocError>
+pub fn push_repeated(word: &mut Seq<Lit>, count: usize, literal: Lit) -> Result<(), AllocError>
     ensures { OnOk result (word.new ≡ word.old ++ replicate count literal) }
 {
     'push: for _pushed in 0..count {
@@ -244,7 +244,7 @@ fn resized_word(
 }
 
 /// By what a word of the type is filled: its top literal where the type has negative values.
-fn filling(ty: IntType, xs: &[Lit]) -> Lit
+pub fn filling(ty: IntType, xs: &[Lit]) -> Lit
     ensures { result ≡ filling ty xs.now }
 {
     if !ty.signed() || xs.is_empty() {

@@ -1,6 +1,6 @@
 -- A product of words stands for the product of their numbers: each row adds a bit of the second
 -- word times the first one, and what is left of the result is one place shorter.
-use Rattle.std.proofs.Common.{◌≡◌, ℕ, zero, suc, ◌+◌, ◌-◌, ◌*◌, ◌/◌, ◌%◌, ◌^◌, ◌<◌, Bool, true}
+use Rattle.std.proofs.Common.{◌≡◌, ℕ, suc, ◌+◌, ◌-◌, ◌*◌, ◌/◌, ◌%◌, ◌^◌, ◌<◌, Bool, true}
 use Rattle.std.proofs.Common.{false, ◌&&◌, List, [], ◌∷◌, length, take, replicate, refl, sym}
 use Rattle.std.proofs.Common.{ap}
 use Rattle.std.proofs.Common.{◌∙◌, arith}
@@ -18,11 +18,13 @@ use Rattle.cpa_words.specs.Words.{sum_word}
 use Rattle.cpa_words.specs.Truths.{bit, values, number, walked_bits}
 use Rattle.cpa_words.specs.Laws.{words_mean_their_operators, words_are_numbers, words_are_long}
 use Rattle.cpa_words.specs.Laws.{sums_are_sums}
+use Rattle.cpa_words.specs.Values.{MakesNumber}
 use Rattle.cpa_words.specs.lemmas.Columns.{still_below}
 use Rattle.cpa_words.specs.lemmas.WalkMeanings.{all_still_below}
 use Rattle.cpa_words.specs.lemmas.Numbers.{low_step}
+use Rattle.cpa_words.specs.lemmas.WordMeanings.{values_repeated, repeated_below, front_below}
+use Rattle.cpa_words.specs.lemmas.WordMeanings.{never_below}
 use Rattle.cpa_products.specs.Products.{masked_word, added_word, front, product}
-use Rattle.cpa_products.specs.Meanings.{MakesNumber}
 
 -- ---- one row: a word masked by a literal
 
@@ -45,14 +47,6 @@ masked_bits c false (x ∷ bs) =
     gone true n k e = omega arith
     gone false n k e = omega arith
 
-values_repeated : (m : ℕ → Bool) (k l : ℕ) → values m (replicate k l) ≡ replicate k (lit_value m l)
-values_repeated m zero l = refl
-values_repeated m (suc k) l = ap (λ bs. lit_value m l ∷ bs) (values_repeated m k l)
-
-repeated_below : (n k l : ℕ) → l < 2 * n → AreBelow n (replicate k l)
-repeated_below n zero l below = tt
-repeated_below n (suc k) l below = (below, repeated_below n k l below)
-
 masked_is : (s : List Gate) (y : ℕ) (xs : List ℕ) → IsScoped s → y < 2 * vars s
     → AreBelow (vars s) xs → MakesNumber s (masked_word s y xs) (length xs)
     (λ m. bit (lit_value m y) * number (values m xs))
@@ -74,9 +68,6 @@ masked_is s y xs scoped p q =
     }
 
 -- ---- a row and a word one place higher
-
-never_below : (s : List Gate) → 1 < 2 * vars s
-never_below s = omega arith
 
 added_is : (s : List Gate) (low : ℕ) (rest above : List ℕ) → IsScoped s
     → AreBelow (vars s) (low ∷ rest) → AreBelow (vars s) above → length rest ≡ length above
@@ -152,11 +143,6 @@ row_step p q b X x Y twice part =
     (sym (div-add-mod' X p) ∙ ap (λ z. X / p * p + z) (sym part)))
 
 -- ---- the product
-
-front_below : (n k : ℕ) (ls : List ℕ) → AreBelow n ls → AreBelow n (take k ls)
-front_below n zero ls below = tt
-front_below n (suc k) [] below = tt
-front_below n (suc k) (l ∷ ls) below = (below.0, front_below n k ls below.1)
 
 next_power : (n : ℕ) → 2 ^ suc n ≡ 2 * 2 ^ n
 next_power n = omega (arith, pow-suc 2 n)

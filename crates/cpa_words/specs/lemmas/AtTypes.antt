@@ -48,19 +48,26 @@ module _ (facts : BitFacts) where
       subst (λ n. Same (2 ^ width t) a (pos n)) (sym s.is)
       (Same-from (width t) a (pos (bits_of t a)) (facts.congruent t a))
 
-  -- a word whose number is congruent to a stands for what a wraps to
-  pub stand : (t : IntType) (a : ℤ) (bits : List Bool) (k : ℕ) → t ≢ Boolean
-      → length bits ≡ width t → number bits ≡ k % 2 ^ width t → Same (2 ^ width t) a (pos k)
-      → StandsFor t bits (wrapped t a)
-  stand t a bits k other long is same =
+  -- a word whose number is congruent to a stands for a
+  pub stand_for : (t : IntType) (a : ℤ) (bits : List Bool) (k : ℕ) → length bits ≡ width t
+      → number bits ≡ k % 2 ^ width t → Same (2 ^ width t) a (pos k) → StandsFor t bits a
+  stand_for t a bits k long is same =
       let p = 2 ^ width t in
       record {
         long = long;
         is = is ∙ facts.only t a (k % p) (mod-lt k (pow_pos (width t)))
             (Same-to (width t) a (pos (k % p))
-            (Same-trans p a (pos k) (pos (k % p)) same (reduced p k (pow_pos (width t)))))
-            ∙ sym (facts.of_wrapped t a other);
+            (Same-trans p a (pos k) (pos (k % p)) same (reduced p k (pow_pos (width t)))));
       }
+
+  -- and for what a wraps to
+  pub stand : (t : IntType) (a : ℤ) (bits : List Bool) (k : ℕ) → t ≢ Boolean
+      → length bits ≡ width t → number bits ≡ k % 2 ^ width t → Same (2 ^ width t) a (pos k)
+      → StandsFor t bits (wrapped t a)
+  stand t a bits k other long is same = record {
+    long = long;
+    is = (stand_for t a bits k long is same).is ∙ sym (facts.of_wrapped t a other);
+  }
 
   -- the same of a number that is the word's own
   pub stand_exact : (t : IntType) (a : ℤ) (bits : List Bool) (k : ℕ) → t ≢ Boolean

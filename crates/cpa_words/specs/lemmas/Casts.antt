@@ -64,6 +64,46 @@ negative : (a : ℤ) (n low h p f : ℕ) → n ≡ low + h * bit true → f ≡ 
     → p ≡ 2 * h → pos f ≡ a +ℤ pos h → (a +ℤ pos p) ≡ pos n
 negative a n low h p f whole flipped twice e = omega (arith, ints)
 
+-- a number is that of its bits, less 2 to the power of the width where it is negative
+pub by_sign : (facts : BitFacts) (t : IntType) (bs : List Bool) (a : ℤ) → IsInRange t a
+    → StandsFor t bs a → (a +ℤ pos (2 ^ width t * bit (filling_bit t bs))) ≡ pos (number bs)
+by_sign facts t bs a range stands = by (is_signed t) refl
+  where
+    none : (p n : ℕ) (a : ℤ) → pos n ≡ a → (a +ℤ pos (p * bit false)) ≡ pos n
+    none p n a e = omega (arith, ints)
+
+    some : (p n : ℕ) (a : ℤ) → (a +ℤ pos p) ≡ pos n → (a +ℤ pos (p * bit true)) ≡ pos n
+    some p n a e = omega (arith, ints)
+
+    zero_more : (a : ℤ) → (a +ℤ pos 0) ≡ a
+    zero_more a = omega (arith, ints)
+
+    by_top_bit : (b : Bool) → is_signed t ≡ true → slice_index_or bs (length bs - 1) false ≡ b
+        → (a +ℤ pos (2 ^ width t * bit b)) ≡ pos (number bs)
+    by_top_bit false e is =
+        let top = has_top (width t - 1) bs (stands.long ∙ width_positive t) in
+        let no : top.top ≡ false = sym top.at ∙ is in
+        let h = 2 ^ (width t - 1) in
+        none (2 ^ width t) (number bs) a (not_negative a (number bs) top.low h _
+        (top.whole ∙ ap (λ b. top.low + h * bit b) no)
+        (top.flipped ∙ ap (λ b. top.low + h * bit (not b)) no)
+        (moved facts t bs a e range stands))
+    by_top_bit true e is =
+        let top = has_top (width t - 1) bs (stands.long ∙ width_positive t) in
+        let yes_top : top.top ≡ true = sym top.at ∙ is in
+        let h = 2 ^ (width t - 1) in
+        some (2 ^ width t) (number bs) a (negative a (number bs) top.low h (2 ^ width t) _
+        (top.whole ∙ ap (λ b. top.low + h * bit b) yes_top)
+        (top.flipped ∙ ap (λ b. top.low + h * bit (not b)) yes_top)
+        (halves t) (moved facts t bs a e range stands))
+
+    by : (x : Bool) → is_signed t ≡ x
+        → (a +ℤ pos (2 ^ width t
+        * bit (if x then slice_index_or bs (length bs - 1) false else false))) ≡ pos (number bs)
+    by true e = by_top_bit (slice_index_or bs (length bs - 1) false) e refl
+    by false e =
+        none (2 ^ width t) (number bs) a (own facts t bs a e range stands ∙ zero_more a)
+
 module _ (facts : BitFacts) (s t : IntType) (bs : List Bool) (a : ℤ) (other : t ≢ Boolean)
     (range : IsInRange s a) (stands : StandsFor s bs a) where
   narrow : width t ≤ length bs → StandsFor t (take (width t) bs) (wrapped t a)
@@ -73,6 +113,11 @@ module _ (facts : BitFacts) (s t : IntType) (bs : List Bool) (a : ℤ) (other : 
       (Same-part (2 ^ width t) (2 ^ (width s - width t)) (2 ^ width s) a (pos (number bs))
       (power_split (width s) (width t) (subst (λ n. width t ≤ n) stands.long le))
       (near facts s bs a stands))
+
+  by_sign_at : (b : Bool) → filling_bit s bs ≡ b
+      → (a +ℤ pos (2 ^ width s * bit b)) ≡ pos (number bs)
+  by_sign_at b e =
+      ap (λ f. a +ℤ pos (2 ^ width s * bit f)) (sym e) ∙ by_sign facts s bs a range stands
 
   long : (b : Bool) → length bs < width t
       → length (bs ++ replicate (width t - length bs) b) ≡ width t
@@ -115,35 +160,19 @@ module _ (facts : BitFacts) (s t : IntType) (bs : List Bool) (a : ℤ) (other : 
       whole : (w n : ℕ) → n < w → 2 ^ w ≡ 2 ^ n * 2 ^ (w - n)
       whole w n h = ap (λ k. 2 ^ k) (back w n h) ∙ pow-add 2 n (w - n)
 
-  by_top : (b : Bool) → length bs < width t → is_signed s ≡ true
-      → slice_index_or bs (length bs - 1) false ≡ b
+  wide : length bs < width t → (b : Bool) → filling_bit s bs ≡ b
       → StandsFor t (bs ++ replicate (width t - length bs) b) (wrapped t a)
-  by_top false lt e is =
-      let top = has_top (width s - 1) bs (stands.long ∙ width_positive s) in
-      let no : top.top ≡ false = sym top.at ∙ is in
-      let h = 2 ^ (width s - 1) in
-      zeros lt (not_negative a (number bs) top.low h _
-      (top.whole ∙ ap (λ b. top.low + h * bit b) no)
-      (top.flipped ∙ ap (λ b. top.low + h * bit (not b)) no)
-      (moved facts s bs a e range stands))
-  by_top true lt e is =
-      let top = has_top (width s - 1) bs (stands.long ∙ width_positive s) in
-      let yes_top : top.top ≡ true = sym top.at ∙ is in
-      let h = 2 ^ (width s - 1) in
-      ones lt (negative a (number bs) top.low h (2 ^ length bs) _
-      (top.whole ∙ ap (λ b. top.low + h * bit b) yes_top)
-      (top.flipped ∙ ap (λ b. top.low + h * bit (not b)) yes_top)
-      (ap (λ n. 2 ^ n) stands.long ∙ halves s)
-      (moved facts s bs a e range stands))
-
-  wide : length bs < width t → (x : Bool) → is_signed s ≡ x
-      → StandsFor t (bs ++ replicate (width t - length bs)
-      (if x then slice_index_or bs (length bs - 1) false else false)) (wrapped t a)
-  wide lt true e = by_top (slice_index_or bs (length bs - 1) false) lt e refl
-  wide lt false e = zeros lt (own facts s bs a e range stands ∙ nothing_more a)
+  wide lt false e =
+      zeros lt (less_none (2 ^ width s) (number bs) a (by_sign_at false e))
     where
-      nothing_more : (a : ℤ) → (a +ℤ pos 0) ≡ a
-      nothing_more a = omega (arith, ints)
+      less_none : (p n : ℕ) (a : ℤ) → (a +ℤ pos (p * bit false)) ≡ pos n → pos n ≡ a
+      less_none p n a h = omega (arith, ints)
+  wide lt true e =
+      ones lt (ap (λ n. a +ℤ pos (2 ^ n)) stands.long
+      ∙ once (2 ^ width s) (number bs) a (by_sign_at true e))
+    where
+      once : (p n : ℕ) (a : ℤ) → (a +ℤ pos (p * bit true)) ≡ pos n → (a +ℤ pos p) ≡ pos n
+      once p n a h = omega (arith, ints)
 
   resized : StandsFor t (resized_bits (width t) (filling_bit s bs) bs) (wrapped t a)
   resized =
@@ -151,7 +180,7 @@ module _ (facts : BitFacts) (s t : IntType) (bs : List Bool) (a : ℤ) (other : 
       (bs ++ replicate (width t - length bs) (filling_bit s bs))
       (λ cs. StandsFor t cs (wrapped t a))
       (λ e. narrow (leb-true (width t) (length bs) e))
-      (λ e. wide (leb-false (width t) (length bs) e) (is_signed s) refl)
+      (λ e. wide (leb-false (width t) (length bs) e) (filling_bit s bs) refl)
 
 -- to Bool: 0 where the number is 0, else 1
 zero_bits : bits_of Boolean (wrapped Boolean (pos 0)) ≡ 0

@@ -32,14 +32,14 @@ pub opposites_below : (n : ℕ) (ls : List ℕ) → AreBelow n ls → AreBelow n
 opposites_below n [] below = tt
 opposites_below n (l ∷ ls) below = (opposite_below n l below.0, opposites_below n ls below.1)
 
-repeated_below : (n k l : ℕ) → l < 2 * n → AreBelow n (replicate k l)
+pub repeated_below : (n k l : ℕ) → l < 2 * n → AreBelow n (replicate k l)
 repeated_below n zero l below = tt
 repeated_below n (suc k) l below = (below, repeated_below n k l below)
 
-never_below : (s : List Gate) → 1 < 2 * vars s
+pub never_below : (s : List Gate) → 1 < 2 * vars s
 never_below s = omega arith
 
-always_below : (s : List Gate) → 0 < 2 * vars s
+pub always_below : (s : List Gate) → 0 < 2 * vars s
 always_below s = omega arith
 
 pub values_opposites : (m : ℕ → Bool) (ls : List ℕ)
@@ -66,17 +66,17 @@ values_top m ls =
     ∙ ap (λ n. take (n - 1) (values m ls) ++ map not (drop (n - 1) (values m ls)))
     (sym (length-map ls (lit_value m)))
 
-front_below : (n k : ℕ) (ls : List ℕ) → AreBelow n ls → AreBelow n (take k ls)
+pub front_below : (n k : ℕ) (ls : List ℕ) → AreBelow n ls → AreBelow n (take k ls)
 front_below n zero ls below = tt
 front_below n (suc k) [] below = tt
 front_below n (suc k) (l ∷ ls) below = (below.0, front_below n k ls below.1)
 
-back_below : (n k : ℕ) (ls : List ℕ) → AreBelow n ls → AreBelow n (drop k ls)
+pub back_below : (n k : ℕ) (ls : List ℕ) → AreBelow n ls → AreBelow n (drop k ls)
 back_below n zero ls below = below
 back_below n (suc k) [] below = tt
 back_below n (suc k) (l ∷ ls) below = back_below n k ls below.1
 
-joined_below : (n : ℕ) (ls ks : List ℕ) → AreBelow n ls → AreBelow n ks → AreBelow n (ls ++ ks)
+pub joined_below : (n : ℕ) (ls ks : List ℕ) → AreBelow n ls → AreBelow n ks → AreBelow n (ls ++ ks)
 joined_below n [] ks p q = q
 joined_below n (l ∷ ls) ks p q = (p.0, joined_below n ls ks p.1 q)
 
@@ -264,7 +264,7 @@ value_at m [] i = refl
 value_at m (x ∷ xs) zero = refl
 value_at m (x ∷ xs) (suc i) = value_at m xs i
 
-values_filling : (net : List Gate) (m : ℕ → Bool) (t : IntType) (xs : List ℕ) → Holds m net
+pub values_filling : (net : List Gate) (m : ℕ → Bool) (t : IntType) (xs : List ℕ) → Holds m net
     → lit_value m (filling t xs) ≡ filling_bit t (values m xs)
 values_filling net m t xs holds = by (is_signed t)
   where
@@ -282,7 +282,7 @@ item_below n i [] one below = one
 item_below n zero (x ∷ xs) one below = below.0
 item_below n (suc i) (x ∷ xs) one below = item_below n i xs one below.1
 
-filling_below : (n : ℕ) (t : IntType) (xs : List ℕ) → 1 < 2 * n → AreBelow n xs
+pub filling_below : (n : ℕ) (t : IntType) (xs : List ℕ) → 1 < 2 * n → AreBelow n xs
     → filling t xs < 2 * n
 filling_below n t xs one below = by (is_signed t)
   where
