@@ -6,10 +6,7 @@ use Rattle.std.proofs.Common.{inl, inr}
 use Rattle.std.specs.List.{slice_get}
 use Rattle.std.proofs.lemmas.Bool.{and_parts, and_cases, or_parts, both_ways}
 use Rattle.std.proofs.lemmas.Option.{same_Some}
-use Rattle.cpa_model.specs.declared.facts.Fact.{Fact}
 use Rattle.cpa_model.specs.declared.facts.Elem.{Elem}
-use Rattle.cpa_model.specs.Standing.{same_fact}
-use Rattle.cpa_model.specs.StandingLaws.{same_fact-means, same_fact-self}
 use Rattle.cpa_iface.specs.declared.merging.Pick.{Pick}
 use Rattle.cpa_iface.specs.declared.merging.MergeRule.{MergeRule}
 use Rattle.cpa_iface.specs.declared.merging.MergeRule.TheVariants.{Sep, Join, Widen}
@@ -18,25 +15,11 @@ use Rattle.cpa_iface.specs.Meanings.{Meaning}
 use Rattle.cpa_composite.specs.Components.{Component, picked, picked_before, ArePlaces}
 use Rattle.cpa_composite.specs.Components.{IsPicked}
 use Rattle.cpa_composite.specs.Covers.{all_cover}
-use Rattle.cpa_composite.specs.Comparisons.{keeps_apart, same_facts, same_elem, same_row, agree}
+use Rattle.cpa_composite.specs.Comparisons.{keeps_apart, same_elem, same_row, agree}
 use Rattle.cpa_composite.specs.Laws.{AgreeOnSep, is_longer, some_longer}
+use Rattle.cpa_composite.specs.RankLaws.{elem_means, elem_self}
 use Rattle.cpa_composite.proofs.Placed.{there_is}
 use Rattle.cpa_composite.proofs.Picking.{picked_at, picked_later}
-
-facts_mean : (fs gs : List Fact) → same_facts fs gs ≡ true → fs ≡ gs
-facts_mean [] [] h = refl
-facts_mean [] (g ∷ gs) h = absurd (cc)
-facts_mean (f ∷ fs) [] h = absurd (cc)
-facts_mean (f ∷ fs) (g ∷ gs) h =
-    let p = and_parts (same_fact f g) (same_facts fs gs) h in
-    let a = same_fact-means f g p.0 in let b = facts_mean fs gs p.1 in cc
-
-facts_self : (fs : List Fact) → same_facts fs fs ≡ true
-facts_self [] = refl
-facts_self (f ∷ fs) = ap (λ (b : Bool). b && same_facts fs fs) (same_fact-self f) ∙ facts_self fs
-
-elem_means : (e f : Elem) → same_elem e f ≡ true → e ≡ f
-elem_means e f h = ap (λ (fs : List Fact). record { facts = fs }) (facts_mean e.facts f.facts h)
 
 -- rows that are the same to the letter are equal
 pub row_means : (es fs : List Elem) → same_row es fs ≡ true → es ≡ fs
@@ -50,7 +33,7 @@ row_means (e ∷ es) (f ∷ fs) h =
 row_self : (es : List Elem) → same_row es es ≡ true
 row_self [] = refl
 row_self (e ∷ es) =
-    ap (λ (b : Bool). b && same_row es es) (facts_self e.facts) ∙ row_self es
+    ap (λ (b : Bool). b && same_row es es) (elem_self e) ∙ row_self es
 
 -- and others are not
 pub row_differs : (es fs : List Elem) → same_row es fs ≡ false → es ≡ fs → ⊥
@@ -97,7 +80,7 @@ agree_fails ms (p ∷ picks) within (d ∷ new) (g ∷ old) h all =
           (ap (λ (o : Option Meaning). slice_get (picked_before o p.rule (picked ms picks)) 0)
           there.1) refl refl apart.0 in
           both_ways (same_elem d g) apart.1
-          (subst (λ (f : Elem). same_elem d f ≡ true) same (facts_self d.facts))
+          (subst (λ (f : Elem). same_elem d f ≡ true) same (elem_self d))
       | inr wrong ↦
           agree_fails ms picks within.1 new old wrong (λ i c e f at a b sep.
           all (suc i) c e f (picked_later ms p picks within.0 i ∙ at) a b sep)

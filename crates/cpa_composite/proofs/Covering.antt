@@ -1,9 +1,9 @@
 -- Every successor of a state of a row lies in some row: it lies in some element of each list, so in
 -- some choice, which strengthening keeps.
-use Rattle.std.proofs.Common.{zero, suc}
+use Rattle.std.proofs.Common.{suc}
 use Rattle.std.proofs.Common.{◌≡◌, ℕ, ◌+◌, List, [], ◌∷◌, ◌++◌, length, map, Option, Some, None}
 use Rattle.std.proofs.Common.{IsSomeAnd, refl, sym, ap, ◌∙◌, subst, inl, inr, arith}
-use Rattle.std.specs.Prelude.{◌⊎◌, ⊤}
+use Rattle.std.specs.Prelude.{⊤}
 use Rattle.std.specs.List.{slice_get, AllByRecursion, flat_map}
 use Rattle.std.proofs.lemmas.List.{length-append}
 use Rattle.std.proofs.lemmas.Option.{same_Some}
@@ -17,7 +17,7 @@ use Rattle.cpa_model.specs.Automata.{IsStateOf, StepsAlong}
 use Rattle.cpa_iface.specs.declared.precisions.Precision.{Precision}
 use Rattle.cpa_iface.specs.Laws.{SomeHolds}
 use Rattle.cpa_iface.specs.Meanings.{IsShaped, AreShaped}
-use Rattle.cpa_composite.specs.Components.{Component, AreElems, ArePrecisions, StandsAt}
+use Rattle.cpa_composite.specs.Components.{Component, AreElems}
 use Rattle.cpa_composite.specs.Laws.{EachTransfer, choices, Strengthens, EachStrengthened}
 use Rattle.cpa_composite.specs.Laws.{SuccessorRows}
 use Rattle.cpa_composite.proofs.Placed.{all_both}

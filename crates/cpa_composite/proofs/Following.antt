@@ -1,10 +1,9 @@
 -- Rows of successors follow an exact pin of the point or of the stack: each choice has it, and
 -- strengthening keeps it.
 use Rattle.std.proofs.Common.{zero, suc}
-use Rattle.std.proofs.Common.{◌≡◌, ◌≢◌, ℕ, ◌+◌, ◌<◌, List, [], ◌∷◌, ◌++◌, length, map, Option, Some}
+use Rattle.std.proofs.Common.{◌≡◌, ℕ, ◌+◌, List, [], ◌∷◌, ◌++◌, length, map, Some}
 use Rattle.std.proofs.Common.{None, refl, sym, ap, ◌∙◌, subst, inl, inr, arith}
-use Rattle.std.specs.Prelude.{◌⊎◌, ⊤}
-use Rattle.std.specs.List.{slice_get, AllByRecursion, flat_map}
+use Rattle.std.specs.List.{slice_get, flat_map}
 use Rattle.std.proofs.lemmas.List.{length-append}
 use Rattle.std.proofs.lemmas.Option.{same_Some, slice_get_within}
 use Rattle.cpa_model.specs.declared.facts.Elem.{Elem}
@@ -13,9 +12,9 @@ use Rattle.cpa_model.specs.declared.automaton.Cfa.{Cfa}
 use Rattle.cpa_model.specs.declared.automaton.Edge.{Edge}
 use Rattle.cpa_model.specs.Automata.{IsStateOf}
 use Rattle.cpa_iface.specs.declared.analysis.Part.{Part}
-use Rattle.cpa_iface.specs.declared.analysis.Part.TheVariants.{Nothing, Point, Stack, Store}
+use Rattle.cpa_iface.specs.declared.analysis.Part.TheVariants.{Point, Stack, Store}
 use Rattle.cpa_iface.specs.declared.precisions.Precision.{Precision}
-use Rattle.cpa_iface.specs.Laws.{StrengthenLaws, IsOwnOrNone}
+use Rattle.cpa_iface.specs.Laws.{IsOwnOrNone}
 use Rattle.cpa_iface.specs.Pins.{pin_of, PinsStep, IsSettledBy, MustBeExact}
 use Rattle.cpa_composite.specs.Components.{Component, StandsAt}
 use Rattle.cpa_composite.specs.Exact.{IsControl, HaveAt, FollowPart}
@@ -31,7 +30,7 @@ settled : (which : Part) (g : Edge) → IsControl which → IsSettledBy which g.
 settled which g (inl is) = subst (λ (w : Part). IsSettledBy w g.act) (sym is) tt
 settled which g (inr is) = subst (λ (w : Part). IsSettledBy w g.act) (sym is) tt
 
-not_store : (which : Part) → IsControl which → which ≡ Store → ⊥
+pub not_store : (which : Part) → IsControl which → which ≡ Store → ⊥
 not_store which (inl is) store = let wrong : Point ≡ Store = sym is ∙ store in cc
 not_store which (inr is) store = let wrong : Stack ≡ Store = sym is ∙ store in cc
 
@@ -73,7 +72,7 @@ none_before : (list : List Elem)
 none_before [] = refl
 none_before (e ∷ list) = none_before list
 
-choices_none : (lists : List (List Elem)) (i : ℕ) → slice_get lists i ≡ Some [] → choices lists ≡ []
+pub choices_none : (lists : List (List Elem)) (i : ℕ) → slice_get lists i ≡ Some [] → choices lists ≡ []
 choices_none [] i at = absurd (cc)
 choices_none (list ∷ lists) zero at =
     ap (flat_map (λ (e : Elem). map (λ (row : List Elem). e ∷ row) (choices lists)))
@@ -147,7 +146,7 @@ rows_have cfa cs ps (choice ∷ chosen) rows (inr h) i c x is control have =
     )
 
 -- of no choice comes no row
-none_of : (cfa : Cfa) (cs : List Component) (ps : List Precision) (chosen rows : List (List Elem))
+pub none_of : (cfa : Cfa) (cs : List Component) (ps : List Precision) (chosen rows : List (List Elem))
     → chosen ≡ [] → EachStrengthened cfa cs ps chosen rows → rows ≡ []
 none_of cfa cs ps [] rows empty made = made
 none_of cfa cs ps (choice ∷ chosen) rows empty made = absurd (cc)

@@ -8,3 +8,4 @@ pub mod Compared
 pub mod Lifted
 pub mod Following
 pub mod Chosen
+pub mod Pinned

@@ -1,29 +1,27 @@
 -- The laws of each component lifted to rows.
-use Rattle.std.proofs.Common.{◌≡◌, ◌≢◌, ℕ, ◌<◌, ◌≤◌, Bool, true, false, List, [], ◌∷◌, ◌++◌, length}
-use Rattle.std.proofs.Common.{Option, Some, None, IfSome, IfNone, refl, sym, ap, ◌∙◌, subst, arith}
-use Rattle.std.specs.Prelude.{nat_lt, ◌&&◌}
+use Rattle.std.proofs.Common.{◌≡◌, ◌≢◌, ℕ, ◌<◌, ◌≤◌, true, false, List, [], ◌∷◌, ◌++◌, length}
+use Rattle.std.proofs.Common.{Option, Some, None, IfNone, sym, ap, ◌∙◌, subst, arith}
+use Rattle.std.specs.Prelude.{nat_lt}
 use Rattle.std.specs.List.{slice_get, AllByRecursion, Contains}
 use Rattle.std.proofs.lemmas.Bool.{and_parts, or_parts, ltb-false}
 use Rattle.std.proofs.lemmas.List.{length-append}
-use Rattle.std.proofs.lemmas.Option.{same_Some, slice_get_within, IfSome_then}
+use Rattle.std.proofs.lemmas.Option.{slice_get_within, IfSome_then}
 use Rattle.cpa_expr.specs.declared.tree.Expr.{Expr}
 use Rattle.cpa_model.specs.declared.facts.Elem.{Elem}
-use Rattle.cpa_model.specs.declared.states.State.{State}
 use Rattle.cpa_model.specs.declared.automaton.Cfa.{Cfa}
 use Rattle.cpa_model.specs.declared.automaton.Path.{Path}
-use Rattle.cpa_model.specs.Facts.{Holds, LiesIn}
-use Rattle.cpa_model.specs.Automata.{IsStateOf, initial_state}
+use Rattle.cpa_model.specs.Facts.{Holds}
+use Rattle.cpa_model.specs.Automata.{initial_state}
 use Rattle.cpa_iface.specs.declared.analysis.Settings.{Settings}
 use Rattle.cpa_iface.specs.declared.entries.Entry.{Entry}
-use Rattle.cpa_iface.specs.declared.merging.MergeRule.TheVariants.{Widen}
 use Rattle.cpa_iface.specs.declared.precisions.Precision.{Precision}
-use Rattle.cpa_iface.specs.Laws.{Extends, MergeLaws, AppendsSuggested}
+use Rattle.cpa_iface.specs.Laws.{Extends, MergeLaws}
 use Rattle.cpa_iface.specs.Meanings.{IsShaped, IsPrecision, Suggestion, HasPlace}
-use Rattle.cpa_composite.specs.Components.{Component, StandsAt, AreElems, ArePrecisions, IsEntryOf}
+use Rattle.cpa_composite.specs.Components.{Component, StandsAt, IsEntryOf}
 use Rattle.cpa_composite.specs.Covers.{all_cover, IsWithinRow}
 use Rattle.cpa_composite.specs.Laws.{EachInitial, EachMerged, EachAdjusted, EachRefined}
 use Rattle.cpa_composite.specs.Laws.{InitialRow, MergedRow, AdjustedRow, RefinedRow, AgreeOnSep}
-use Rattle.cpa_composite.specs.Laws.{WidenCovers, SuggestionsStand, Keeps, is_longer, some_longer}
+use Rattle.cpa_composite.specs.Laws.{WidenCovers, SuggestionsStand, some_longer}
 use Rattle.cpa_composite.proofs.Placed.{there_is, at_each, each_at, no_more}
 use Rattle.cpa_composite.proofs.Picking.{stands_there, stands_for}
 use Rattle.cpa_composite.proofs.Compared.{none_longer}

@@ -1,5 +1,5 @@
 -- The law of a call of an analysis is that of the component that its pick makes.
-use Rattle.std.proofs.Common.{◌≡◌, ◌<◌, List, length, map, get_or, Some, refl, sym, ap, ◌∙◌}
+use Rattle.std.proofs.Common.{◌≡◌, ◌<◌, List, length, map, get_or, refl, sym, ap, ◌∙◌}
 use Rattle.std.specs.Option.{option_map}
 use Rattle.std.proofs.lemmas.Option.{same_Some, slice_get-map, slice_get_read}
 use Rattle.cpa_iface.specs.declared.merging.Pick.{Pick}

@@ -2,15 +2,14 @@
 use Rattle.std.proofs.Common.{zero, suc}
 use Rattle.std.proofs.Common.{◌≡◌, ℕ, ◌+◌, ◌<◌, ◌≤◌, Bool, true, false, List, [], ◌∷◌, ◌++◌, length}
 use Rattle.std.proofs.Common.{Option, Some, None, drop, refl, sym, ap, ◌∙◌, subst, inl, inr, arith}
-use Rattle.std.specs.List.{slice_get, AllByRecursion}
+use Rattle.std.specs.List.{slice_get}
 use Rattle.std.proofs.lemmas.List.{length-append}
 use Rattle.cpa_model.specs.declared.facts.Elem.{Elem}
 use Rattle.cpa_model.specs.declared.automaton.Cfa.{Cfa}
 use Rattle.cpa_iface.specs.declared.merging.Pick.{Pick}
 use Rattle.cpa_iface.specs.declared.precisions.Precision.{Precision}
-use Rattle.cpa_iface.specs.Laws.{StrengthenLaws}
 use Rattle.cpa_iface.specs.Meanings.{Meaning, IsShaped, AreShaped}
-use Rattle.cpa_composite.specs.Components.{Component, picked, IsPicked, ArePlaces}
+use Rattle.cpa_composite.specs.Components.{Component, picked, IsPicked}
 use Rattle.cpa_composite.specs.Laws.{Strengthens, EachStrengthened}
 use Rattle.cpa_composite.specs.Steps.{Strengthened, StrengthensAt}
 use Rattle.cpa_composite.proofs.Placed.{there_is, left_at, all_both, all_front, all_behind}

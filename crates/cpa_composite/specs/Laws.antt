@@ -1,8 +1,8 @@
 -- The laws of an interface of analyses, lifted to rows of elements: one record a call of a
 -- composite (CAV 2007, section 4, and ASE 2008; the refinement, exactness and widening laws are
 -- this project's own). A row holds of a state where each item does.
-use Rattle.std.specs.Prelude.{◌≡◌, ◌≢◌, ℕ, ◌<◌, IsTrue, List, [], ◌∷◌, ◌++◌, length, map, slice_get}
-use Rattle.std.specs.Prelude.{Option, Some, None, IfSome, ⊤, ◌⊎◌, Bool, false, ◌||◌, nat_lt}
+use Rattle.std.specs.Prelude.{◌≡◌, ◌≢◌, ℕ, IsTrue, List, [], ◌∷◌, ◌++◌, length, map, slice_get}
+use Rattle.std.specs.Prelude.{Option, Some, None, IfSome, ◌⊎◌, Bool, false, ◌||◌, nat_lt}
 use Rattle.std.specs.List.{AllByRecursion, Contains, flat_map}
 use Rattle.cpa_model.specs.declared.facts.Elem.{Elem}
 use Rattle.cpa_model.specs.declared.states.State.{State}

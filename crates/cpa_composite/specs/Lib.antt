@@ -6,3 +6,5 @@ pub mod Comparisons
 pub mod Laws
 pub mod Steps
 pub mod Exact
+pub mod Ranks
+pub mod RankLaws

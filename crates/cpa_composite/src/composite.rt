@@ -32,7 +32,8 @@ impl<A: Analysis> Composite<A> {
     /// Uses the picked ones, in the order of the picks. Takes no memory.
     pub fn new(handed: Vec<A>, picks: Vec<Pick>) -> Composite<A>
         requires { ArePlaces (length handed.items) picks.items }
-        ensures { components result ≡ picked (map A.meaning handed.items) picks.items }
+        ensures made { components result ≡ picked (map A.meaning handed.items) picks.items }
+        ensures size { length (components result) ≡ length picks.items }
     {
         Composite { handed, picks }
     }

@@ -13,4 +13,4 @@ mod rows;
 
 pub use composite::Composite;
 pub use handed::Handed;
-pub use laws::control_is_followed;
+pub use laws::{control_is_followed, merging_ends, pins_are_followed};

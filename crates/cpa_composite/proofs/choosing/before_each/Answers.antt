@@ -1,6 +1,6 @@
 use Rattle.std.specs.declared.vec.Vec.{Vec}
 use Rattle.std.specs.declared.alloc.Global.{Global}
-use Rattle.std.proofs.Common.{◌≡◌, List, ◌∷◌, map, length, refl}
+use Rattle.std.proofs.Common.{List, ◌∷◌, map, length, refl}
 use Rattle.std.proofs.lemmas.Option.{slice_get_read}
 use Rattle.cpa_model.specs.declared.facts.Elem.{Elem}
 use Rattle.cpa_composite.proofs.Chosen.{firsts_more}

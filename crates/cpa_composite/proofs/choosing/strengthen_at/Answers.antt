@@ -1,4 +1,4 @@
-use Rattle.std.proofs.Common.{◌≡◌, List, ◌∷◌, ◌++◌, Option, Some, None, ap, ◌∙◌, subst}
+use Rattle.std.proofs.Common.{List, ◌++◌, Option, ap, ◌∙◌, subst}
 use Rattle.std.specs.List.{insert}
 use Rattle.cpa_model.specs.declared.facts.Elem.{Elem}
 use Rattle.cpa_iface.specs.Laws.{StrengthenLaws}

@@ -1,4 +1,4 @@
-use Rattle.std.proofs.Common.{◌≡◌, Bool, true, false, map, drop, refl, sym, ◌∙◌}
+use Rattle.std.proofs.Common.{true, false, map, drop, refl, sym, ◌∙◌}
 use Rattle.cpa_composite.specs.Components.{picked}
 use Rattle.cpa_composite.specs.Covers.{all_cover}
 use Rattle.cpa_composite.proofs.Picking.{within_meanings}
