@@ -1,0 +1,4 @@
+pub mod Moves
+pub mod Shifts
+pub mod lemmas
+pub mod Laws
