@@ -154,15 +154,16 @@ counts globals functions =
 abbrev pub main_name : List ℕ
 main_name = codes "main"
 
--- the typed text of these parts
-abbrev pub typed_parts : Text → List Global → List TypedFunction → TypedUnit
-typed_parts text globals functions = record {
+-- the typed text of this length and of these parts
+abbrev pub typed_parts : Text → ℕ → List Global → List TypedFunction → TypedUnit
+typed_parts text bytes globals functions = record {
   globals = globals;
   functions = functions;
   cells = started (counts globals functions).cells (flat_map filled globals);
   first_cells = first_cells (heads_of functions) functions (object_types (map
       (λ global. global.object) globals));
   main = unwrap_or (body_of text main_name) 0;
+  length = bytes;
 }
 
 abbrev pub unit_globals : UnitTree → List Global
@@ -174,7 +175,8 @@ unit_functions unit = functions_of (text_of unit.items) unit.items nothing_befor
 
 -- the typed tree of a text
 unfoldable pub typed_unit : UnitTree → TypedUnit
-typed_unit unit = typed_parts (text_of unit.items) (unit_globals unit) (unit_functions unit)
+typed_unit unit =
+    typed_parts (text_of unit.items) unit.length (unit_globals unit) (unit_functions unit)
 
 -- no parameters
 abbrev pub has_no_parameters : Parameters → Bool

@@ -211,4 +211,6 @@ pub struct TypedUnit {
     pub first_cells: Seq<u32>,
     /// The number of `main` among the functions.
     pub main: u32,
+    /// The length of the text in bytes.
+    pub length: u32,
 }
