@@ -2,6 +2,10 @@
 use Rattle.c_parser.proofs.Whole.{whole, refused}
 use Rattle.c_parser.proofs.texts.parse.Goals as goal
 
+pub new-source-requires : goal.new-source-requires
+new-source-requires c =
+    c.tokens_are_a_source.ensures c.args.text.now c.args.tokens.now c.requires
+
 pub returns-in-Ok-clause-tree : goal.returns-in-Ok-clause-tree
 returns-in-Ok-clause-tree c =
     whole c.args.text.now c.args.tokens.now (c.tokens_are_a_source.ensures _ _ c.requires)
