@@ -1,5 +1,5 @@
--- What a declarator makes of a state (`declarator_state`), and that its object is in scope behind it
--- (`tied_declared`).
+-- What a declarator makes of a state (`declarator_state`), and that its object is in scope behind
+-- it (`tied_declared`).
 use Rattle.std.proofs.Common.{◌≡◌, ℕ, ◌+◌, ◌<◌, ◌≤◌, Bool, List, [], ◌∷◌, ◌++◌, length, map, drop}
 use Rattle.std.proofs.Common.{take, length-append, Option, Some, refl, sym, ap, ◌∙◌, subst, arith, append_assoc, append-nil}
 use Rattle.std.specs.List.{flat_map, filter_map, cons_option, AllByRecursion}
@@ -63,7 +63,8 @@ listed_none {Y} f around (item ∷ items) same =
     ∙ listed_none f around items same
 
 -- the faults of a declarator, that of its name apart
-declares_faults : (text : Text) (around : Around) (specifiers : Specifiers) (declarator : Declarator)
+declares_faults : (text : Text) (around : Around) (specifiers : Specifiers)
+    (declarator : Declarator)
     → act_faults text around (declares specifiers declarator)
     ≡ broken rule.N2 (at_if (is_declared_among (drop around.outer around.names)
     declarator.name.bytes) declarator.name.place)
@@ -140,7 +141,8 @@ pub tied_declared : (frame : Frame) (old new : Walker) (jumps after : Found) (en
     → after.first ≡ jumps.first → IsTied frame new after
 tied_declared frame old new jumps after entry number tied names is objects current next first =
     let base = base_of frame.file old.names in
-    let more : Extends old.names (old.names ++ entry ∷ []) = record { rest = entry ∷ []; is = refl } in
+    let more : Extends old.names (old.names ++ entry ∷ []) =
+    record { rest = entry ∷ []; is = refl } in
     let same_base = base_extends frame.file old.names (old.names ++ entry ∷ []) tied.within more in
     subst (λ (all : List Entry). IsTied frame (record new { names = all }) after) (sym names)
     (record {
@@ -206,7 +208,8 @@ pub is_declared : (frame : Frame) (nest : Nest) (old new : Walker) (jumps after 
     old.objects declarator kind flag
     → after ≡ entered old.objects jumps
     → IsDeclared frame nest old new jumps after specifiers declarator typed
-is_declared frame nest old new jumps after specifiers declarator typed kind flag tied kind_is flag_is
+is_declared frame nest old new jumps after specifiers declarator typed kind flag tied kind_is
+    flag_is
     typed_is names_is objects_is first_is calls_is after_is =
     let text = frame.survey.now in
     let to_kind = kind_of specifiers in
@@ -231,7 +234,8 @@ is_declared frame nest old new jumps after specifiers declarator typed kind flag
       typed_is = typed_is ∙ by_specifiers
           (λ k b. local_by text old.names old.objects k b declarator) kind to_kind flag to_flag
           kind_is flag_is;
-      state = declarator_state text frame.caller specifiers declarator (state_of frame nest old jumps)
+      state = declarator_state text frame.caller specifiers declarator (state_of frame nest old
+          jumps)
           (state_of frame nest new after)
           (names_behind text old.names old.objects to_kind to_flag declarator) refl
           (ap (λ (all : List Entry). record (around_of frame nest new) { names = all }) names

@@ -1,4 +1,5 @@
--- Each act that declares nothing, by what is noted at it: `done_evaluates`, `done_leaves`, and so on.
+-- Each act that declares nothing, by what is noted at it: `done_evaluates`, `done_leaves`, and so
+-- on.
 use Rattle.std.proofs.Common.{◌≡◌, ◌+◌, ℕ, Bool, true, false, not, ◌||◌, option_map, List, [], ◌∷◌, ◌++◌, map, length, take, Option}
 use Rattle.std.proofs.Common.{Some, None, refl, sym, ap, ◌∙◌, subst, append-nil, append_assoc}
 use Rattle.std.specs.List.{flat_map, filter_map, list_any, AllByRecursion}
@@ -66,7 +67,8 @@ pub done_returns : (text : Text) (caller place : ℕ) (with_value : Bool) (old n
     → new.calls ≡ old.calls → new.labels ≡ old.labels → new.gotos ≡ old.gotos
     → new ≡ done text caller (returns place with_value) old
 done_returns text caller place with_value old new around first calls labels gotos =
-    let faults = broken rule.N16 (at_if (agree with_value (is_void_kind old.around.result)) place) in
+    let faults =
+    broken rule.N16 (at_if (agree with_value (is_void_kind old.around.result)) place) in
     done_by text caller (returns place with_value) old new around
     (first ∙ one_rule old.first faults) (calls ∙ sym (append-nil old.calls))
     (labels ∙ sym (append-nil old.labels)) (gotos ∙ sym (append-nil old.gotos))

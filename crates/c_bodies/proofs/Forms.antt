@@ -102,7 +102,8 @@ module _ (text : Text) where
       opened (tree.If test first None place) (Statement-F.If test first None place)
       (tree.rolls-If test first None place)
   of_If test first (Some second) place =
-      opened (tree.If test first (Some second) place) (Statement-F.If test first (Some second) place)
+      opened (tree.If test first (Some second) place) (Statement-F.If test first (Some second)
+      place)
       (tree.rolls-If test first (Some second) place)
 
   pub of_While : (test : Expression) (body : Statement) (place : ℕ) →

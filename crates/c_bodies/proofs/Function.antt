@@ -43,8 +43,9 @@ around_with names outer objects in_loop result labels = record {
   labels = labels;
 }
 
-pub begins_is : {between : Found} (frame : Frame) (nest : Nest) {mid : Walker} (walker : Walker) (specifiers : Specifiers)
-    (items : List BlockItem) → IsTied frame mid between → nest.outer ≡ length walker.names → nest.in_loop ≡ false
+pub begins_is : {between : Found} (frame : Frame) (nest : Nest) {mid : Walker} (walker : Walker)
+    (specifiers : Specifiers) (items : List BlockItem) → IsTied frame mid between
+    → nest.outer ≡ length walker.names → nest.in_loop ≡ false
     → frame.result ≡ kind_of specifiers
     → frame.labels.now ≡ map name_bytes (flat_map labels_of items)
     → around_of frame nest walker ≡ begins walker.names walker.objects specifiers items
@@ -68,7 +69,8 @@ pub record IsRead (text : Text) (caller : ℕ) (specifiers : Specifiers) (all : 
 
 pub is_read : (frame : Frame) (nest : Nest) (old mid last : Walker) (start between found : Found)
     (specifiers : Specifiers) (all : Parameters) (items : List BlockItem) (ps : List Parameter)
-    (noted : Option TextFault) → IsTied frame mid between → ps ≡ listed all → start ≡ nothing_found old.objects
+    (noted : Option TextFault) → IsTied frame mid between → ps ≡ listed all
+    → start ≡ nothing_found old.objects
     → around_of frame nest old ≡ begins old.names old.objects specifiers items
     → state_of frame nest mid between ≡ walked frame.survey.now frame.caller
     (in_order (map receiving ps)) (state_of frame nest old start)
@@ -79,7 +81,8 @@ pub is_read : (frame : Frame) (nest : Nest) (old mid last : Walker) (start betwe
     ++ broken rule.N9 (entering_gotos (state_of frame nest last found).labels
     (state_of frame nest last found).gotos))
     → IsRead frame.survey.now frame.caller specifiers all items old last noted
-is_read frame nest old mid last start between found specifiers all items ps noted tied ps_are start_is
+is_read frame nest old mid last start between found specifiers all items ps noted tied ps_are
+    start_is
     around_is first second noted_is =
     let text = frame.survey.now in
     let before = state_of frame nest old start in
@@ -89,8 +92,10 @@ is_read frame nest old mid last start between found specifiers all items ps note
     ≡ walked text frame.caller (in_order (map receiving qs)) before) ps_are first) second in
     let behind = is_behind text frame.caller (body_walk text all items) before
     (state_of frame nest last found) whole in
-    let labels : before.labels ≡ [] = ap (λ (j : Found). (state_of frame nest old j).labels) start_is in
-    let gotos : before.gotos ≡ [] = ap (λ (j : Found). (state_of frame nest old j).gotos) start_is in
+    let labels : before.labels ≡ [] =
+    ap (λ (j : Found). (state_of frame nest old j).labels) start_is in
+    let gotos : before.gotos ≡ [] =
+    ap (λ (j : Found). (state_of frame nest old j).gotos) start_is in
     record {
       objects = ap (λ (a : Around). a.objects) behind.around
           ∙ ap (λ (a : Around). ((body_walk text all items).behind a).objects) around_is;
@@ -99,7 +104,8 @@ is_read frame nest old mid last start between found specifiers all items ps note
           ∙ ap (λ (a : Around). first_with old.first (body_faults text
           ((body_walk text all items).sites a))) around_is;
       calls = behind.calls ∙ ap (λ (a : Around). old.calls.items
-          ++ flat_map (site_calls text frame.caller) ((body_walk text all items).sites a)) around_is;
+          ++ flat_map (site_calls text frame.caller) ((body_walk text all items).sites a))
+          around_is;
     }
 
 abbrev pub function_of : Kind → List Object → List TypedItem → TypedFunction

@@ -65,7 +65,8 @@ declarators_step text specifiers items i item typed new one around next whole le
     let more = drop (i + 1) items in
     ap (λ (all : List TypedDeclarator). all ++ typed_declarators text specifiers more next) new_is
     ∙ append_assoc typed (one ∷ []) (typed_declarators text specifiers more next)
-    ∙ ap (λ (d : TypedDeclarator). typed ++ (d ∷ typed_declarators text specifiers more next)) one_is
+    ∙ ap (λ (d : TypedDeclarator). typed ++ (d ∷ typed_declarators text specifiers more next))
+    one_is
     ∙ ap (λ (a : Around). typed ++ (typed_declarator text specifiers item around
     ∷ typed_declarators text specifiers more a)) next_is
     ∙ sym (ap (λ (rest : List Declarator). typed ++ typed_declarators text specifiers rest around)

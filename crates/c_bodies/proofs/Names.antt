@@ -94,7 +94,8 @@ pub none_Expression : (held : List (List ℕ)) (expression : Option Expression) 
     → held ++ map name_bytes (labels_in (tree.Expression expression place)) ≡ held
 none_Expression held expression place =
     ap (λ (names : List Name). held ++ map name_bytes names)
-    (opened (tree.Expression expression place) (Statement-F.Expression expression place) (tree.rolls-Expression expression place))
+    (opened (tree.Expression expression place) (Statement-F.Expression expression place)
+    (tree.rolls-Expression expression place))
     ∙ append-nil held
 
 pub none_Goto : (held : List (List ℕ)) (label : Name) (place : ℕ)
@@ -122,5 +123,6 @@ pub none_Return : (held : List (List ℕ)) (value : Option Expression) (place : 
     → held ++ map name_bytes (labels_in (tree.Return value place)) ≡ held
 none_Return held value place =
     ap (λ (names : List Name). held ++ map name_bytes names)
-    (opened (tree.Return value place) (Statement-F.Return value place) (tree.rolls-Return value place))
+    (opened (tree.Return value place) (Statement-F.Return value place)
+    (tree.rolls-Return value place))
     ∙ append-nil held

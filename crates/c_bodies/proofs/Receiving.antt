@@ -1,5 +1,5 @@
--- What a parameter makes of a state, with a name (`named_state`) or without one (`unnamed_state`), and
--- a walk through parameters, one further (`objects_step`).
+-- What a parameter makes of a state, with a name (`named_state`) or without one (`unnamed_state`),
+-- and a walk through parameters, one further (`objects_step`).
 use Rattle.std.proofs.Common.{◌≡◌, ℕ, ◌+◌, ◌<◌, ◌≤◌, List, [], ◌∷◌, ◌++◌, length, get_or, map, drop}
 use Rattle.std.proofs.Common.{Option, Some, None, refl, sym, ap, ◌∙◌, subst, arith, append_assoc}
 use Rattle.std.proofs.Common.{append-nil}
@@ -112,7 +112,8 @@ is_named frame nest old new jumps after parameter name object tied object_is som
           (ap (λ (f : Found). f.current) after_object) (ap (λ (f : Found). f.next) after_object)
           (ap (λ (f : Found). f.first) after_object);
       extends = more;
-      state = receiving_state frame.survey.now frame.caller parameter (state_of frame nest old jumps)
+      state = receiving_state frame.survey.now frame.caller parameter (state_of frame nest old
+          jumps)
           (state_of frame nest next after)
           (at_if (is_declared_among (drop nest.outer old.names) name.bytes) name.place)
           (old.names ++ entry ∷ [])
@@ -129,9 +130,11 @@ is_named frame nest old new jumps after parameter name object tied object_is som
           (ap (λ (all : List Entry). record (around_of frame nest next) { names = all }) names_are)
           first calls
           (ap (λ (base : List ℕ). map (with_base base) after.labels) same_base
-          ∙ ap (λ (f : Found). map (with_base (base_of frame.file old.names)) f.labels) after_object)
+          ∙ ap (λ (f : Found). map (with_base (base_of frame.file old.names)) f.labels)
+          after_object)
           (ap (λ (base : List ℕ). map (with_base base) after.gotos) same_base
-          ∙ ap (λ (f : Found). map (with_base (base_of frame.file old.names)) f.gotos) after_object);
+          ∙ ap (λ (f : Found). map (with_base (base_of frame.file old.names)) f.gotos)
+          after_object);
     }
 
 pub objects_step : (parameters : List Parameter) (i : ℕ) (parameter : Parameter)

@@ -16,7 +16,8 @@ pub tied_start : (frame : Frame) (walker : Walker) → frame.file ≡ length wal
 tied_start frame walker is numbered =
     let all : base_of frame.file walker.names ≡ filter_map object_number walker.names =
     ap (λ (names : List Entry). filter_map object_number names)
-    (ap (λ (n : ℕ). take n walker.names) is ∙ take_all (length walker.names) walker.names (omega arith)) in
+    (ap (λ (n : ℕ). take n walker.names) is ∙ take_all (length walker.names) walker.names
+    (omega arith)) in
     record {
       within = omega (arith, is);
       tied = sym (append-nil (base_of frame.file walker.names) ∙ all);

@@ -52,7 +52,8 @@ noted_around : (text : Text) (caller : ℕ) (xs : List Site) (around : Around) (
 unfolding noted
 noted_around text caller xs around state = refl
 
-pub walked_still : (text : Text) (caller : ℕ) (state : State) → walked text caller still state ≡ state
+pub walked_still : (text : Text) (caller : ℕ) (state : State) → walked text caller still state
+    ≡ state
 walked_still text caller state = noted_none text caller state
 
 pub walked_followed : (text : Text) (caller : ℕ) (first second : Walk) (state : State)

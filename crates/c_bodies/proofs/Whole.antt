@@ -1,5 +1,5 @@
--- A body as one walk (`whole_walk`): its faults with those of its labels and gotos (`whole_first`), its
--- calls (`whole_calls`) and what is known behind it (`whole_around`).
+-- A body as one walk (`whole_walk`): its faults with those of its labels and gotos (`whole_first`),
+-- its calls (`whole_calls`) and what is known behind it (`whole_around`).
 use Rattle.std.proofs.Common.{◌≡◌, ℕ, ◌<◌, List, [], ◌∷◌, ◌++◌, length, map, Option, refl, sym, ap}
 use Rattle.std.proofs.Common.{◌∙◌, subst}
 use Rattle.std.specs.List.{flat_map, AllByRecursion}

@@ -1,5 +1,5 @@
-//! The acts of statements that declare nothing: expressions, labels and what leaves (`act_faults` of
-//! `specs/StatementRules.antt` of `c_rules`). Proved in proofs/Doing.
+//! The acts of statements that declare nothing: expressions, labels and what leaves
+//! (`act_faults` of `specs/StatementRules.antt` of `c_rules`). Proved with `proofs/Doing`.
 ghost use Rattle.std.specs.Prelude.{◌≡◌, not, IfOk, OnOk, is_some, option_map};
 ghost use Rattle.std.specs.List.{list_any};
 ghost use Rattle.std.specs.Str.{bytes_eq};
@@ -14,8 +14,7 @@ ghost use Rattle.c_bodies.specs.declared.walker.Nest.{Nest as Nesting};
 ghost use Rattle.c_bodies.specs.States.{done, walked};
 ghost use Rattle.c_bodies.specs.Views.{state_of, IsTied};
 
-use crate::Walker;
-use crate::walker::{Frame, Nest};
+use crate::walker::{Frame, Nest, Walker};
 use c_jumps::Jumps;
 use c_lexer::Rule;
 use c_objects::note_if;

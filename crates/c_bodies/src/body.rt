@@ -1,16 +1,15 @@
-//! The body of a function (`specs/Bodies.antt`): its parameters, its statements, and then the faults
-//! of its labels. Proved with `proofs/Whole`.
+//! The body of a function (`specs/Bodies.antt`): its parameters, its statements, and then the
+//! faults of its labels. Proved with `proofs/Whole` and `proofs/Function`.
 ghost use Rattle.std.specs.Prelude.{◌≡◌, ◌++◌, OnOk, IfOk};
 ghost use Rattle.std.specs.List.{flat_map};
 ghost use Rattle.c_rules.specs.First.{first_with};
 ghost use Rattle.c_rules.specs.Items.{body_faults, site_calls, listed};
 ghost use Rattle.c_bodies.specs.Bodies.{acts_of, objects_behind, typed_body, AreNumbered};
 
-use crate::Walker;
 use crate::labels::labels_in_items;
 use crate::parameters::walk_parameters;
 use crate::statements::walk_items;
-use crate::walker::{Frame, Nest};
+use crate::walker::{Frame, Nest, Walker};
 use c_calls::Call;
 use c_jumps::Jumps;
 use c_lexer::TextFault;
@@ -76,8 +75,7 @@ fn walk_function(
         in_loop: false,
     };
     let mut jumps = Jumps::new(alloc, walker.objects)?;
-    let parameters =
-        walk_parameters(alloc, &frame, walker, &mut jumps, nest, listed(parameters))?;
+    let parameters = walk_parameters(alloc, &frame, walker, &mut jumps, nest, listed(parameters))?;
     let items = walk_items(alloc, &frame, walker, &mut jumps, nest, items)?;
     jumps.note(alloc, &mut walker.first)?;
     walker.names.keep(file);

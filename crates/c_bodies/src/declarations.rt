@@ -1,5 +1,5 @@
-//! Declarations in a function (`declaration_walk` of `specs/Statements.antt` of `c_rules`). Proved in
-//! proofs/Declaring.
+//! Declarations in a function (`declaration_walk` of `specs/Statements.antt` of `c_rules`). Proved
+//! with `proofs/Declaring`.
 ghost use Rattle.std.specs.Prelude.{◌≡◌, ◌+◌, IfOk, OnOk};
 ghost use Rattle.c_rules.specs.Statements.{declarator_walk, declaration_walk};
 ghost use Rattle.c_rules.specs.TypedStatements.{typed_declarator, typed_declarators};
@@ -7,8 +7,7 @@ ghost use Rattle.c_rules.specs.Declarations.{kind_of, has_const};
 ghost use Rattle.c_bodies.specs.States.{walked};
 ghost use Rattle.c_bodies.specs.Views.{state_of, around_of, IsTied, Extends};
 
-use crate::Walker;
-use crate::walker::{Frame, Nest};
+use crate::walker::{Frame, Nest, Walker};
 use c_jumps::Jumps;
 use c_lexer::Rule;
 use c_objects::{Qualified, note_if, read_local, read_specifiers};

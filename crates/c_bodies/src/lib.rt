@@ -11,4 +11,3 @@ mod statements;
 mod walker;
 
 pub use body::{ReadBody, read_body};
-pub use walker::Walker;

@@ -11,9 +11,8 @@ ghost use Rattle.c_jumps.specs.Found.{entered};
 ghost use Rattle.c_bodies.specs.States.{walked};
 ghost use Rattle.c_bodies.specs.Views.{state_of, with_objects, IsTied, Extends};
 
-use crate::Walker;
 use crate::declarations::with_object;
-use crate::walker::{Frame, Nest};
+use crate::walker::{Frame, Nest, Walker};
 use c_jumps::Jumps;
 use c_lexer::Rule;
 use c_objects::{note_if, parameter_object};

@@ -14,10 +14,9 @@ ghost use Rattle.c_bodies.specs.Grown.{grown_of, grown_walk, grown_typed, walk_o
 ghost use Rattle.c_bodies.specs.States.{walked};
 ghost use Rattle.c_bodies.specs.Views.{state_of, around_of, IsTied, Extends};
 
-use crate::Walker;
 use crate::acts::{evaluate, evaluate_optional, finish, jump, leave, mark};
 use crate::declarations::walk_declaration;
-use crate::walker::{Frame, Nest};
+use crate::walker::{Frame, Nest, Walker};
 use c_jumps::Jumps;
 use c_rules::{Role, TypedExpression, TypedForStart, TypedItem, TypedStatement};
 use c_tree::{BlockItem, Expression, ForStart, Name, Statement};

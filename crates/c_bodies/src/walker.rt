@@ -27,13 +27,13 @@ pub(crate) struct Nest {
 
 /// What is known and noted up to a place in a text.
 #[derive(Drop)]
-pub struct Walker {
+pub(crate) struct Walker {
     /// The names in scope.
-    pub names: Names,
+    pub(crate) names: Names,
     /// How many objects are declared.
-    pub objects: u32,
+    pub(crate) objects: u32,
     /// The first fault.
-    pub first: Option<TextFault>,
+    pub(crate) first: Option<TextFault>,
     /// The calls in order.
-    pub calls: Vec<Call>,
+    pub(crate) calls: Vec<Call>,
 }

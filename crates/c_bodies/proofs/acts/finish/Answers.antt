@@ -17,7 +17,8 @@ returns-clause-state c = λ nest found.
     let text = frame.survey.now in
     let value = c.args.value.now in
     let before = state_of frame nest c.args.walker.now found in
-    let noted = state_of frame nest (record c.args.walker.now { first = c.note_if.new.first }) found in
+    let noted =
+    state_of frame nest (record c.args.walker.now { first = c.note_if.new.first }) found in
     two_walks text frame.caller (doing (returns c.args.place (is_some value)))
     (evaluating Valued value) before noted _
     (done_returns text frame.caller c.args.place (is_some value) before noted refl

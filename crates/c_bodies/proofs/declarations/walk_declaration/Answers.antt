@@ -25,7 +25,8 @@ loop-declarator-preserved c =
           c.declarator-item.result c.loop-declarator.typed.items c.push.new.self.items
           c.in_ok-one.one (around_of frame c.args.nest held) (around_of frame c.args.nest walker) _
           (omega arith) c.declarator-item.is c.in_ok-push.ensures.items c.in_ok-one.ensures.typed
-          (around_walked text frame.caller (declarator_walk text specifiers c.declarator-item.result)
+          (around_walked text frame.caller (declarator_walk text specifiers
+          c.declarator-item.result)
           state next c.in_ok-one.ensures.state)
           c.loop-declarator.invariant.typed;
       state = item_state text frame.caller (declarator_walk text specifiers) items

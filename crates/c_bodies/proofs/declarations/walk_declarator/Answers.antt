@@ -30,7 +30,8 @@ returns-clause-tied c =
     }) c.args.jumps.now c.enter.new.self c.args.specifiers.now declarator c.in_ok-typed.typed
     c.args.qualified.kind c.args.qualified.is_const c.requires.tied c.requires.kind
     c.requires.is_const c.in_ok-typed.ensures.typed c.in_ok-typed.ensures.names
-    c.in_ok-walker.ensures first_is c.in_ok-typed.ensures.calls c.in_ok-enter.ensures.entered).tied_new
+    c.in_ok-walker.ensures first_is c.in_ok-typed.ensures.calls
+    c.in_ok-enter.ensures.entered).tied_new
 
 pub returns-clause-extends : goal.returns-clause-extends
 returns-clause-extends c =
@@ -54,7 +55,8 @@ returns-clause-extends c =
     }) c.args.jumps.now c.enter.new.self c.args.specifiers.now declarator c.in_ok-typed.typed
     c.args.qualified.kind c.args.qualified.is_const c.requires.tied c.requires.kind
     c.requires.is_const c.in_ok-typed.ensures.typed c.in_ok-typed.ensures.names
-    c.in_ok-walker.ensures first_is c.in_ok-typed.ensures.calls c.in_ok-enter.ensures.entered).extends
+    c.in_ok-walker.ensures first_is c.in_ok-typed.ensures.calls
+    c.in_ok-enter.ensures.entered).extends
 
 pub returns-clause-typed : goal.returns-clause-typed
 returns-clause-typed c =
@@ -78,7 +80,8 @@ returns-clause-typed c =
     }) c.args.jumps.now c.enter.new.self c.args.specifiers.now declarator c.in_ok-typed.typed
     c.args.qualified.kind c.args.qualified.is_const c.requires.tied c.requires.kind
     c.requires.is_const c.in_ok-typed.ensures.typed c.in_ok-typed.ensures.names
-    c.in_ok-walker.ensures first_is c.in_ok-typed.ensures.calls c.in_ok-enter.ensures.entered).typed_is
+    c.in_ok-walker.ensures first_is c.in_ok-typed.ensures.calls
+    c.in_ok-enter.ensures.entered).typed_is
 
 pub returns-clause-state : goal.returns-clause-state
 returns-clause-state c =

@@ -31,7 +31,8 @@ pub push_labels-returns-in-For : goal.push_labels-returns-in-For
 push_labels-returns-in-For t c =
     rw (c.in-For.is, in_For) (rw c.get-in-For.ensures at c.push_labels-in-For.ensures)
 
-pub push_labels-returns-in_ok-push_optional-in-If : goal.push_labels-returns-in_ok-push_optional-in-If
+pub push_labels-returns-in_ok-push_optional-in-If :
+    goal.push_labels-returns-in_ok-push_optional-in-If
 push_labels-returns-in_ok-push_optional-in-If t c =
     rw (c.in-If.is, in_If)
     (c.in_ok-push_optional-in-If.ensures

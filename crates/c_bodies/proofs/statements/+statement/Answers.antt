@@ -68,18 +68,25 @@ pub walk_labeled-returns-clause-state : goal.walk_labeled-returns-clause-state
 walk_labeled-returns-clause-state t c =
     let frame = c.args.frame.now in
     let text = frame.survey.now in
-    two_walks text frame.caller (doing (marks c.args.label.now)) (grown_of text c.args.body.now).walk
+    two_walks text frame.caller (doing (marks c.args.label.now)) (grown_of text
+    c.args.body.now).walk
     (state_of frame c.args.nest c.args.walker.now c.args.jumps.now)
     (state_of frame c.args.nest c.args.walker.now c.mark.new.jumps) _
     (c.in_ok-mark.ensures.state c.args.nest) c.in_ok-body.ensures.state
 
-pub walk_item-returns-in_ok-typed-in-Declaration-clause-typed : goal.walk_item-returns-in_ok-typed-in-Declaration-clause-typed
+pub walk_item-returns-in_ok-typed-in-Declaration-clause-typed :
+    goal.walk_item-returns-in_ok-typed-in-Declaration-clause-typed
 walk_item-returns-in_ok-typed-in-Declaration-clause-typed t c =
-    rw (c.in-Declaration.is, of_Declaration c.args.frame.now.survey.now c.in-Declaration.declaration)
+    rw (
+      c.in-Declaration.is,
+      of_Declaration c.args.frame.now.survey.now
+          c.in-Declaration.declaration,
+    )
     (ap (λ (all : List TypedDeclarator). typed_item.Declaration all)
     c.in_ok-typed-in-Declaration.ensures.typed)
 
-pub walk_item-returns-in_ok-typed-in-Statement-clause-typed : goal.walk_item-returns-in_ok-typed-in-Statement-clause-typed
+pub walk_item-returns-in_ok-typed-in-Statement-clause-typed :
+    goal.walk_item-returns-in_ok-typed-in-Statement-clause-typed
 walk_item-returns-in_ok-typed-in-Statement-clause-typed t c =
     rw (c.in-Statement.is, of_Statement c.args.frame.now.survey.now c.in-Statement.statement)
     (ap (λ (one : TypedStatement). typed_item.Statement one)
@@ -262,7 +269,8 @@ walk_optional-returns-in-None-clause-state t c =
     (sym (walked_still frame.survey.now frame.caller
     (state_of frame c.args.nest c.args.walker.now c.args.jumps.now)))
 
-pub walk_item-returns-in_ok-typed-in-Declaration-clause-state : goal.walk_item-returns-in_ok-typed-in-Declaration-clause-state
+pub walk_item-returns-in_ok-typed-in-Declaration-clause-state :
+    goal.walk_item-returns-in_ok-typed-in-Declaration-clause-state
 walk_item-returns-in_ok-typed-in-Declaration-clause-state t c =
     let frame = c.args.frame.now in
     let text = frame.survey.now in
@@ -272,7 +280,8 @@ walk_item-returns-in_ok-typed-in-Declaration-clause-state t c =
     (sym (ap (λ (i : BlockItem). grown_walk text i) c.in-Declaration.is
     ∙ ap (λ (g : Grown TypedItem). g.walk) (of_Declaration text c.in-Declaration.declaration)))
 
-pub walk_item-returns-in_ok-typed-in-Statement-clause-state : goal.walk_item-returns-in_ok-typed-in-Statement-clause-state
+pub walk_item-returns-in_ok-typed-in-Statement-clause-state :
+    goal.walk_item-returns-in_ok-typed-in-Statement-clause-state
 walk_item-returns-in_ok-typed-in-Statement-clause-state t c =
     let frame = c.args.frame.now in
     let text = frame.survey.now in
@@ -322,33 +331,47 @@ walk_statement-returns-in-For-clause-state t c =
     rw (c.in-For.is, of_For)
     (rw c.get-in-For.ensures at c.walk_for.ensures.state)
 
-pub walk_statement-returns-in-Labeled-clause-typed : goal.walk_statement-returns-in-Labeled-clause-typed
+pub walk_statement-returns-in-Labeled-clause-typed :
+    goal.walk_statement-returns-in-Labeled-clause-typed
 walk_statement-returns-in-Labeled-clause-typed t c =
-    rw (c.in-Labeled.is, of_Labeled c.args.frame.now.survey.now c.in-Labeled.label c.in-Labeled.body)
+    rw (
+      c.in-Labeled.is,
+      of_Labeled c.args.frame.now.survey.now c.in-Labeled.label
+          c.in-Labeled.body,
+    )
     (rw c.get-in-Labeled.ensures at c.walk_labeled.ensures.typed)
 
-pub walk_statement-returns-in-Labeled-clause-state : goal.walk_statement-returns-in-Labeled-clause-state
+pub walk_statement-returns-in-Labeled-clause-state :
+    goal.walk_statement-returns-in-Labeled-clause-state
 walk_statement-returns-in-Labeled-clause-state t c =
-    rw (c.in-Labeled.is, of_Labeled c.args.frame.now.survey.now c.in-Labeled.label c.in-Labeled.body)
+    rw (
+      c.in-Labeled.is,
+      of_Labeled c.args.frame.now.survey.now c.in-Labeled.label
+          c.in-Labeled.body,
+    )
     (rw c.get-in-Labeled.ensures at c.walk_labeled.ensures.state)
 
-pub walk_statement-returns-in_ok-expression-in-Expression-clause-typed : goal.walk_statement-returns-in_ok-expression-in-Expression-clause-typed
+pub walk_statement-returns-in_ok-expression-in-Expression-clause-typed :
+    goal.walk_statement-returns-in_ok-expression-in-Expression-clause-typed
 walk_statement-returns-in_ok-expression-in-Expression-clause-typed t c =
     rw (c.in-Expression.is, of_Expression)
     (ap (λ (e : Option TypedExpression). typed_tree.Expression e)
     c.in_ok-expression-in-Expression.ensures.typed)
 
-pub walk_statement-returns-in_ok-expression-in-Expression-clause-state : goal.walk_statement-returns-in_ok-expression-in-Expression-clause-state
+pub walk_statement-returns-in_ok-expression-in-Expression-clause-state :
+    goal.walk_statement-returns-in_ok-expression-in-Expression-clause-state
 walk_statement-returns-in_ok-expression-in-Expression-clause-state t c =
     rw (c.in-Expression.is, of_Expression)
     (c.in_ok-expression-in-Expression.ensures.state c.args.nest c.args.jumps.now)
 
-pub walk_statement-returns-in_ok-jump-in-Goto-clause-typed : goal.walk_statement-returns-in_ok-jump-in-Goto-clause-typed
+pub walk_statement-returns-in_ok-jump-in-Goto-clause-typed :
+    goal.walk_statement-returns-in_ok-jump-in-Goto-clause-typed
 walk_statement-returns-in_ok-jump-in-Goto-clause-typed t c =
     rw (c.in-Goto.is, of_Goto)
     (ap (λ (n : ℕ). typed_tree.Goto n) c.label_number.ensures)
 
-pub walk_statement-returns-in_ok-jump-in-Goto-clause-state : goal.walk_statement-returns-in_ok-jump-in-Goto-clause-state
+pub walk_statement-returns-in_ok-jump-in-Goto-clause-state :
+    goal.walk_statement-returns-in_ok-jump-in-Goto-clause-state
 walk_statement-returns-in_ok-jump-in-Goto-clause-state t c =
     rw (c.in-Goto.is, of_Goto)
     (c.in_ok-jump-in-Goto.ensures.state c.args.nest)
@@ -359,22 +382,28 @@ walk_statement-returns-in-Break-clause-typed t c =
 
 pub walk_statement-returns-in-Break-clause-state : goal.walk_statement-returns-in-Break-clause-state
 walk_statement-returns-in-Break-clause-state t c =
-    rw (c.in-Break.is, of_Break c.args.frame.now.survey.now c.in-Break.place) (c.leave.ensures.state c.args.jumps.now)
+    rw (c.in-Break.is, of_Break c.args.frame.now.survey.now c.in-Break.place) (c.leave.ensures.state
+    c.args.jumps.now)
 
-pub walk_statement-returns-in-Continue-clause-typed : goal.walk_statement-returns-in-Continue-clause-typed
+pub walk_statement-returns-in-Continue-clause-typed :
+    goal.walk_statement-returns-in-Continue-clause-typed
 walk_statement-returns-in-Continue-clause-typed t c =
     rw (c.in-Continue.is, of_Continue c.args.frame.now.survey.now c.in-Continue.place) refl
 
-pub walk_statement-returns-in-Continue-clause-state : goal.walk_statement-returns-in-Continue-clause-state
+pub walk_statement-returns-in-Continue-clause-state :
+    goal.walk_statement-returns-in-Continue-clause-state
 walk_statement-returns-in-Continue-clause-state t c =
-    rw (c.in-Continue.is, of_Continue c.args.frame.now.survey.now c.in-Continue.place) (c.leave-in-Continue.ensures.state c.args.jumps.now)
+    rw (c.in-Continue.is, of_Continue c.args.frame.now.survey.now c.in-Continue.place)
+    (c.leave-in-Continue.ensures.state c.args.jumps.now)
 
-pub walk_statement-returns-in_ok-value-in-Return-clause-typed : goal.walk_statement-returns-in_ok-value-in-Return-clause-typed
+pub walk_statement-returns-in_ok-value-in-Return-clause-typed :
+    goal.walk_statement-returns-in_ok-value-in-Return-clause-typed
 walk_statement-returns-in_ok-value-in-Return-clause-typed t c =
     rw (c.in-Return.is, of_Return c.args.frame.now.survey.now c.in-Return.value c.in-Return.place)
     (ap (λ (e : Option TypedExpression). typed_tree.Return e) c.in_ok-value-in-Return.ensures.typed)
 
-pub walk_statement-returns-in_ok-value-in-Return-clause-state : goal.walk_statement-returns-in_ok-value-in-Return-clause-state
+pub walk_statement-returns-in_ok-value-in-Return-clause-state :
+    goal.walk_statement-returns-in_ok-value-in-Return-clause-state
 walk_statement-returns-in_ok-value-in-Return-clause-state t c =
     rw (c.in-Return.is, of_Return c.args.frame.now.survey.now c.in-Return.value c.in-Return.place)
     (c.in_ok-value-in-Return.ensures.state c.args.nest c.args.jumps.now)
@@ -409,7 +438,8 @@ walk_tested-returns-clause-yes t c =
     ∙ ap (λ (n : ℕ). record (around_of frame c.args.nest old) { objects = n })
     c.in_ok-test.ensures.objects)
 
-pub walk_statement-returns-in_ok-no-in-If-clause-state : goal.walk_statement-returns-in_ok-no-in-If-clause-state
+pub walk_statement-returns-in_ok-no-in-If-clause-state :
+    goal.walk_statement-returns-in_ok-no-in-If-clause-state
 walk_statement-returns-in_ok-no-in-If-clause-state t c =
     let frame = c.args.frame.now in
     let text = frame.survey.now in
@@ -427,7 +457,8 @@ walk_statement-returns-in_ok-no-in-If-clause-state t c =
     ∙ regrouped text frame.caller (doing (evaluates Valued c.in-If.test))
     (grown_of text c.in-If.yes).walk last zero_state)
 
-pub walk_statement-returns-in_ok-no-in-If-clause-typed : goal.walk_statement-returns-in_ok-no-in-If-clause-typed
+pub walk_statement-returns-in_ok-no-in-If-clause-typed :
+    goal.walk_statement-returns-in_ok-no-in-If-clause-typed
 walk_statement-returns-in_ok-no-in-If-clause-typed t c =
     let frame = c.args.frame.now in
     let text = frame.survey.now in
