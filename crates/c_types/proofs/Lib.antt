@@ -1,0 +1,9 @@
+pub mod Law
+pub mod Steps
+pub mod Entries
+pub mod Listed
+pub mod Typed
+pub mod Next
+pub mod Numbers
+pub mod ErasedExpressions
+pub mod ErasedStatements

@@ -1,0 +1,5 @@
+pub mod Firsts
+pub mod Blocks
+pub mod Outcomes
+pub mod Starts
+pub mod Erasing

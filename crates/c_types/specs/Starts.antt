@@ -1,0 +1,6 @@
+-- The names of what starts at some values, in order.
+use Rattle.std.specs.Prelude.{ℕ, List, map}
+use Rattle.c_rules.specs.Sound.{Start}
+
+abbrev pub start_names : List Start → List (List ℕ)
+start_names starts = map (λ start. start.name) starts
