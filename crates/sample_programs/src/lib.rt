@@ -4,8 +4,8 @@
 
 ghost use Rattle.sample_programs.specs.Samples.{TablesSuffice};
 
-/// A law: a program whose tables fit, whose cells' starts are in range and which is small enough, is
-/// well formed.
+/// A law: a program whose tables fit, whose cells' starts are in range and which is small enough,
+/// is well formed.
 pub fn tables_suffice()
     ensures { TablesSuffice }
 {}

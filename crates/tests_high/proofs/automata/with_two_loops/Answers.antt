@@ -14,7 +14,7 @@ use Rattle.cpa_model.specs.Expressions.{IsExpr}
 use Rattle.cpa_model.specs.TreeLaws.{TreeLaws}
 use Rattle.cpa_model.specs.declared.program.Successor.TheVariants.{GoesTo, AfterWhole}
 use Rattle.cpa_model.specs.Programs.{IsNumbered, IsWellFormed, loop_nearest, loop_further}
-use Rattle.tests_high.proofs.Samples.{Tables, well_formed_by}
+use Rattle.sample_programs.specs.Samples.{Tables, well_formed_by}
 use Rattle.tests_high.proofs.automata.with_two_loops.Goals as goal
 
 -- the program of the test, and what its tables say
