@@ -21,13 +21,17 @@ use Rattle.cpa_value.specs.Transfer.{elems_of, next_values}
 use Rattle.cpa_value.specs.Cells.{first_value, first_known, known_cells, is_tracked, facts_from}
 
 -- the first value of facts with one behind them
-first_value-push : (fs : List Fact) (f : Fact) (cell : ℕ) → first_value (fs ++ f ∷ []) cell ≡ first_known (first_value fs cell) (first_value (f ∷ []) cell)
+first_value-push : (fs : List Fact) (f : Fact) (cell : ℕ)
+    → first_value (fs ++ f ∷ []) cell
+    ≡ first_known (first_value fs cell) (first_value (f ∷ []) cell)
 first_value-push [] f cell = refl
 first_value-push (At p ∷ fs) f cell = first_value-push fs f cell
 first_value-push (Stack s ∷ fs) f cell = first_value-push fs f cell
 first_value-push (Equals own v ∷ fs) f cell = by (own == cell) (first_value-push fs f cell) where
-  by : (b : Bool) → first_value (fs ++ f ∷ []) cell ≡ first_known (first_value fs cell) (first_value (f ∷ []) cell)
-      → cond b (Some v) (first_value (fs ++ f ∷ []) cell) ≡ first_known (cond b (Some v) (first_value fs cell)) (first_value (f ∷ []) cell)
+  by : (b : Bool) → first_value (fs ++ f ∷ []) cell
+      ≡ first_known (first_value fs cell) (first_value (f ∷ []) cell)
+      → cond b (Some v) (first_value (fs ++ f ∷ []) cell)
+      ≡ first_known (cond b (Some v) (first_value fs cell)) (first_value (f ∷ []) cell)
   by true later = refl
   by false later = later
 first_value-push (Within c lo hi ∷ fs) f cell = first_value-push fs f cell
@@ -39,9 +43,12 @@ pub record Knows (n : ℕ) (facts : List Fact) (cells : List (Option ℤ)) : Typ
   pub first : (cell : ℕ) → cell < n → slice_index_or cells cell None ≡ first_value facts cell
 
 -- so it is after one fact more
-pub knows_more : (n : ℕ) (facts : List Fact) (i : ℕ) (f : Fact) (cells new : List (Option ℤ)) → i < length facts → f ≡ get_or facts i f
+pub knows_more : (n : ℕ) (facts : List Fact) (i : ℕ) (f : Fact) (cells new : List (Option ℤ))
+    → i < length facts → f ≡ get_or facts i f
     → Knows n (take i facts) cells → length new ≡ length cells
-    → ((cell : ℕ) → cell < length cells → slice_index_or new cell None ≡ first_known (slice_index_or cells cell None) (first_value (f ∷ []) cell))
+    → ((cell : ℕ) → cell < length cells
+    → slice_index_or new cell None ≡ first_known (slice_index_or cells cell None)
+    (first_value (f ∷ []) cell))
     → Knows n (take (i + 1) facts) new
 knows_more n facts i f cells new inside at knows same values = record {
   long = same ∙ knows.long;
@@ -50,38 +57,52 @@ knows_more n facts i f cells new inside at knows same values = record {
       values cell inner
       ∙ (ap (λ o. first_known o (first_value (f ∷ []) cell)) (knows.first cell less)
       ∙ (sym (first_value-push (take i facts) f cell)
-      ∙ ap (λ l. first_value l cell) (ap (λ x. take i facts ++ x ∷ []) at ∙ sym (take_more facts i f inside))));
+      ∙ ap (λ l. first_value l cell) (ap (λ x. take i facts ++ x ∷ []) at
+      ∙ sym (take_more facts i f inside))));
 }
 
 -- such a list is that of the known cells
-pub knows_all : (n : ℕ) (facts : List Fact) (cells : List (Option ℤ)) → Knows n facts cells → cells ≡ known_cells n facts
+pub knows_all : (n : ℕ) (facts : List Fact) (cells : List (Option ℤ)) → Knows n facts cells
+    → cells ≡ known_cells n facts
 knows_all n facts cells knows =
     let long = length-map-range_with_len (first_value facts) 0 n in
     same_lists cells (known_cells n facts) (knows.long ∙ sym long) (λ k d inside.
     let less : k < n = let same = knows.long in omega arith in
-    any_default cells k d inside ∙ (knows.first k less ∙ sym (get_or-map-range_with_len (first_value facts) 0 n k k d less (omega arith))))
+    any_default cells k d inside ∙ (knows.first k less
+    ∙ sym (get_or-map-range_with_len (first_value facts) 0 n k k d less (omega arith))))
   where
-    any_default : (xs : List (Option ℤ)) (k : ℕ) (d : Option ℤ) → k < length xs → get_or xs k d ≡ get_or xs k None
+    any_default : (xs : List (Option ℤ)) (k : ℕ) (d : Option ℤ) → k < length xs
+        → get_or xs k d ≡ get_or xs k None
     any_default [] k d inside = absurd (omega arith)
     any_default (x ∷ xs) zero d inside = refl
     any_default (x ∷ xs) (suc k) d inside = any_default xs k d (omega arith)
 
 -- the facts of cells with one behind them
-pub facts_from-push : (tracked : ℕ → Bool) (n : ℕ) (cells : List (Option ℤ)) (value : Option ℤ) (last : ℕ) → n + length cells ≡ last
-    → facts_from tracked n (cells ++ value ∷ []) ≡ facts_from tracked n cells ++ facts_from (λ _. tracked last) last (value ∷ [])
+pub facts_from-push : (tracked : ℕ → Bool) (n : ℕ) (cells : List (Option ℤ)) (value : Option ℤ)
+    (last : ℕ) → n + length cells ≡ last
+    → facts_from tracked n (cells ++ value ∷ [])
+    ≡ facts_from tracked n cells ++ facts_from (λ _. tracked last) last (value ∷ [])
 facts_from-push tracked n [] None last is = refl
-facts_from-push tracked n [] (Some v) last is = let here : n ≡ last = omega (arith, is) in ap (λ k. cond (tracked k) (Equals k v ∷ []) []) here
-facts_from-push tracked n (None ∷ cells) value last is = facts_from-push tracked (n + 1) cells value last (omega (arith, is))
-facts_from-push tracked n (Some v ∷ cells) value last is = by (tracked n) (facts_from-push tracked (n + 1) cells value last (omega (arith, is))) where
-  by : (b : Bool)
-      → facts_from tracked (n + 1) (cells ++ value ∷ []) ≡ facts_from tracked (n + 1) cells ++ facts_from (λ _. tracked last) last (value ∷ [])
-      → cond b (Equals n v ∷ facts_from tracked (n + 1) (cells ++ value ∷ [])) (facts_from tracked (n + 1) (cells ++ value ∷ []))
-      ≡ cond b (Equals n v ∷ facts_from tracked (n + 1) cells) (facts_from tracked (n + 1) cells) ++ facts_from (λ _. tracked last) last (value ∷ [])
-  by true later = ap (λ l. Equals n v ∷ l) later
-  by false later = later
+facts_from-push tracked n [] (Some v) last is = let here : n ≡ last = omega (arith, is) in
+    ap (λ k. cond (tracked k) (Equals k v ∷ []) []) here
+facts_from-push tracked n (None ∷ cells) value last is =
+    facts_from-push tracked (n + 1) cells value last (omega (arith, is))
+facts_from-push tracked n (Some v ∷ cells) value last is =
+    by (tracked n) (facts_from-push tracked (n + 1) cells value last (omega (arith, is))) where
+      by : (b : Bool)
+          → facts_from tracked (n + 1) (cells ++ value ∷ [])
+          ≡ facts_from tracked (n + 1) cells ++ facts_from (λ _. tracked last) last (value ∷ [])
+          → cond b (Equals n v ∷ facts_from tracked (n + 1) (cells ++ value ∷ []))
+          (facts_from tracked (n + 1) (cells ++ value ∷ []))
+          ≡ cond b (Equals n v ∷ facts_from tracked (n + 1) cells)
+          (facts_from tracked (n + 1) cells)
+          ++ facts_from (λ _. tracked last) last (value ∷ [])
+      by true later = ap (λ l. Equals n v ∷ l) later
+      by false later = later
 
 -- one cell more
-pub facts_from-more : (tracked : ℕ → Bool) (cells : List (Option ℤ)) (i : ℕ) (facts new : List Fact) → i < length cells
+pub facts_from-more : (tracked : ℕ → Bool) (cells : List (Option ℤ)) (i : ℕ) (facts new : List Fact)
+    → i < length cells
     → facts ≡ facts_from tracked 0 (take i cells)
     → new ≡ facts ++ facts_from (λ _. tracked i) i (get_or cells i None ∷ [])
     → new ≡ facts_from tracked 0 (take (i + 1) cells)
@@ -93,18 +114,23 @@ facts_from-more tracked cells i facts new inside was is =
     ∙ ap (facts_from tracked 0) (sym (take_more cells i None inside))))
 
 -- the cells of an automaton are few
-pub few_known : (cfa : Cfa) (facts : List Fact) (cells : List (Option ℤ)) → IsAutomaton cfa → cells ≡ known_cells (length cfa.cells) facts
+pub few_known : (cfa : Cfa) (facts : List Fact) (cells : List (Option ℤ)) → IsAutomaton cfa
+    → cells ≡ known_cells (length cfa.cells) facts
     → length cells < 2 ^ 32
 few_known cfa facts cells a are =
     let few = a.well_formed.few_cells in
     let same : length cfa.cells ≡ length a.program.cells = ap length a.automaton.cells in
-    let long : length cells ≡ length cfa.cells = ap length are ∙ length-map-range_with_len (first_value facts) 0 (length cfa.cells) in
+    let long : length cells ≡ length cfa.cells = ap length are
+    ∙ length-map-range_with_len (first_value facts) 0 (length cfa.cells) in
     omega (arith, few, same, long)
 
 -- marks that agree with the precision are as good as it is
-pub same_transfer : (cfa : Cfa) (p : Precision) (e : Elem) (g : Edge) (cells : List (Option ℤ)) (marks : List Bool) (es : List Elem)
-    → cells ≡ known_cells (length cfa.cells) e.facts → ((cell : ℕ) → is_marked marks cell ≡ is_tracked p cell)
-    → es ≡ elems_of (is_marked marks) (after_act (is_marked marks) g.act cells) → es ≡ next_values cfa p e g
+pub same_transfer : (cfa : Cfa) (p : Precision) (e : Elem) (g : Edge) (cells : List (Option ℤ))
+    (marks : List Bool) (es : List Elem)
+    → cells ≡ known_cells (length cfa.cells) e.facts
+    → ((cell : ℕ) → is_marked marks cell ≡ is_tracked p cell)
+    → es ≡ elems_of (is_marked marks) (after_act (is_marked marks) g.act cells)
+    → es ≡ next_values cfa p e g
 same_transfer cfa p e g cells marks es are same is =
     let tests : is_marked marks ≡ is_tracked p = λ i cell. same cell i in
     is
@@ -120,11 +146,15 @@ pub range_more : (n : ℕ) → range_with_len 0 (n + 1) ≡ range_with_len 0 n +
 range_more n = rw add-one (range_push 0 n n (omega arith))
 
 -- the facts of values with one behind them
-equals_from-push : (n : ℕ) (vs : List ℤ) (v : ℤ) (last : ℕ) → n + length vs ≡ last → equals_from n (vs ++ v ∷ []) ≡ equals_from n vs ++ Equals last v ∷ []
-equals_from-push n [] v last is = let here : n ≡ last = omega (arith, is) in ap (λ k. Equals k v ∷ []) here
-equals_from-push n (x ∷ vs) v last is = ap (λ l. Equals n x ∷ l) (equals_from-push (n + 1) vs v last (omega (arith, is)))
+equals_from-push : (n : ℕ) (vs : List ℤ) (v : ℤ) (last : ℕ) → n + length vs ≡ last
+    → equals_from n (vs ++ v ∷ []) ≡ equals_from n vs ++ Equals last v ∷ []
+equals_from-push n [] v last is = let here : n ≡ last = omega (arith, is) in
+    ap (λ k. Equals k v ∷ []) here
+equals_from-push n (x ∷ vs) v last is =
+    ap (λ l. Equals n x ∷ l) (equals_from-push (n + 1) vs v last (omega (arith, is)))
 
-map_push : (cs : List Cell) (c : Cell) → map (λ (x : Cell). x.start) (cs ++ c ∷ []) ≡ map (λ (x : Cell). x.start) cs ++ c.start ∷ []
+map_push : (cs : List Cell) (c : Cell)
+    → map (λ (x : Cell). x.start) (cs ++ c ∷ []) ≡ map (λ (x : Cell). x.start) cs ++ c.start ∷ []
 map_push [] c = refl
 map_push (x ∷ cs) c = ap (λ l. x.start ∷ l) (map_push cs c)
 
@@ -133,8 +163,10 @@ map_length [] = refl
 map_length (x ∷ cs) = ap suc (map_length cs)
 
 -- the starts with one more
-pub starts_more : (cs : List Cell) (i : ℕ) (c : Cell) (facts new : List Fact) → i < length cs → slice_get cs i ≡ Some c
-    → facts ≡ equals_from 0 (map (λ (x : Cell). x.start) (take i cs)) → new ≡ facts ++ Equals i c.start ∷ []
+pub starts_more : (cs : List Cell) (i : ℕ) (c : Cell) (facts new : List Fact) → i < length cs
+    → slice_get cs i ≡ Some c
+    → facts ≡ equals_from 0 (map (λ (x : Cell). x.start) (take i cs))
+    → new ≡ facts ++ Equals i c.start ∷ []
     → new ≡ equals_from 0 (map (λ (x : Cell). x.start) (take (i + 1) cs))
 starts_more cs i c facts new inside found was is =
     let at : c ≡ get_or cs i c = sym (get_or_from_slice_get cs i c c found) in
@@ -143,4 +175,6 @@ starts_more cs i c facts new inside found was is =
     is
     ∙ (ap (λ l. l ++ Equals i c.start ∷ []) was
     ∙ (sym (equals_from-push 0 before c.start i (omega (arith, long)))
-    ∙ ap (equals_from 0) (sym (map_push (take i cs) c) ∙ ap (map (λ (x : Cell). x.start)) (ap (λ x. take i cs ++ x ∷ []) at ∙ sym (take_more cs i c inside)))))
+    ∙ ap (equals_from 0) (sym (map_push (take i cs) c)
+    ∙ ap (map (λ (x : Cell). x.start))
+    (ap (λ x. take i cs ++ x ∷ []) at ∙ sym (take_more cs i c inside)))))

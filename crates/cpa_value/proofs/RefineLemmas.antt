@@ -17,30 +17,43 @@ use Rattle.cpa_value.specs.Cells.{is_tracked}
 use Rattle.cpa_value.specs.Values.{values, refined}
 use Rattle.cpa_value.proofs.TransferLemmas.{tracks}
 
-kept_numbers : (P : ℕ → Type 0) (test : ℕ → Bool) (ns : List ℕ) → AllByRecursion P ns → AllByRecursion P (filter test ns)
+kept_numbers : (P : ℕ → Type 0) (test : ℕ → Bool) (ns : List ℕ) → AllByRecursion P ns
+    → AllByRecursion P (filter test ns)
 kept_numbers P test [] all = tt
 kept_numbers P test (n ∷ ns) all =
-    cond_both (test n) (n ∷ filter test ns) (filter test ns) (AllByRecursion P) (λ _. (all.0, kept_numbers P test ns all.1)) (λ _. kept_numbers P test ns all.1)
+    cond_both (test n) (n ∷ filter test ns) (filter test ns) (AllByRecursion P)
+    (λ _. (all.0, kept_numbers P test ns all.1)) (λ _. kept_numbers P test ns all.1)
 
 kept_distinct : (test : ℕ → Bool) (ns : List ℕ) → AreDistinct ns → AreDistinct (filter test ns)
 kept_distinct test [] all = tt
 kept_distinct test (n ∷ ns) all =
     cond_both (test n) (n ∷ filter test ns) (filter test ns) AreDistinct
-    (λ _. (kept_numbers (λ m. n ≢ m) test ns all.0, kept_distinct test ns all.1)) (λ _. kept_distinct test ns all.1)
+    (λ _. (kept_numbers (λ m. n ≢ m) test ns all.0, kept_distinct test ns all.1))
+    (λ _. kept_distinct test ns all.1)
 
-range_from : (P : ℕ → Type 0) (a n : ℕ) → ((i : ℕ) → a ≤ i → i < a + n → P i) → AllByRecursion P (range_with_len a n)
+range_from : (P : ℕ → Type 0) (a n : ℕ) → ((i : ℕ) → a ≤ i → i < a + n → P i)
+    → AllByRecursion P (range_with_len a n)
 range_from P a zero each = tt
-range_from P a (suc n) each = (each a (omega arith) (omega arith), range_from P (a + 1) n (λ i least less. each i (omega (arith, least)) (omega (arith, less))))
+range_from P a (suc n) each = (
+  each a (omega arith) (omega arith),
+  range_from P (a + 1) n (λ i least less. each i (omega (arith, least)) (omega (arith, less))),
+)
 
 range_distinct : (a n : ℕ) → AreDistinct (range_with_len a n)
 range_distinct a zero = tt
-range_distinct a (suc n) = (range_from (λ m. a ≢ m) (a + 1) n (λ i least less same. absurd (omega (arith, least, same))), range_distinct (a + 1) n)
+range_distinct a (suc n) = (
+  range_from (λ m. a ≢ m) (a + 1) n
+      (λ i least less same. absurd (omega (arith, least, same))),
+  range_distinct (a + 1) n,
+)
 
-both_lists : (P : ℕ → Type 0) (xs ys : List ℕ) → AllByRecursion P xs → AllByRecursion P ys → AllByRecursion P (xs ++ ys)
+both_lists : (P : ℕ → Type 0) (xs ys : List ℕ) → AllByRecursion P xs → AllByRecursion P ys
+    → AllByRecursion P (xs ++ ys)
 both_lists P [] ys first second = second
 both_lists P (x ∷ xs) ys first second = (first.0, both_lists P xs ys first.1 second)
 
-weaker : (P Q : ℕ → Type 0) (ns : List ℕ) → ((n : ℕ) → P n → Q n) → AllByRecursion P ns → AllByRecursion Q ns
+weaker : (P Q : ℕ → Type 0) (ns : List ℕ) → ((n : ℕ) → P n → Q n) → AllByRecursion P ns
+    → AllByRecursion Q ns
 weaker P Q [] f all = tt
 weaker P Q (n ∷ ns) f all = (f n all.0, weaker P Q ns f all.1)
 
@@ -49,35 +62,48 @@ later x y ys at = (suc at.0, (let less = at.1 in omega (arith, less)), at.2)
 
 own_items : (ns : List ℕ) → AllByRecursion (Contains ns) ns
 own_items [] = tt
-own_items (n ∷ ns) = ((zero, omega arith, refl), weaker (Contains ns) (Contains (n ∷ ns)) ns (λ x at. later x n ns at) (own_items ns))
+own_items (n ∷ ns) = (
+  (zero, omega arith, refl),
+  weaker (Contains ns) (Contains (n ∷ ns)) ns (λ x at. later x n ns at) (own_items ns),
+)
 
 -- a number that is found is contained
 found_in : (ns : List ℕ) (n : ℕ) → list_any (λ own. own == n) ns ≡ true → Contains ns n
 found_in [] n h = absurd (cc)
 found_in (m ∷ ns) n h = by (m == n) refl h (found_in ns n) where
-  by : (b : Bool) → (m == n) ≡ b → (b || list_any (λ own. own == n) ns) ≡ true → (list_any (λ own. own == n) ns ≡ true → Contains ns n) → Contains (m ∷ ns) n
+  by : (b : Bool) → (m == n) ≡ b → (b || list_any (λ own. own == n) ns) ≡ true
+      → (list_any (λ own. own == n) ns ≡ true → Contains ns n) → Contains (m ∷ ns) n
   by true same h rest = (zero, omega arith, (Decides-eqb m n).0 same)
   by false other h rest = later n m ns (rest h)
 
 passing : (test : ℕ → Bool) (ns : List ℕ) → AllByRecursion (λ n. test n ≡ true) (filter test ns)
 passing test [] = tt
 passing test (n ∷ ns) =
-    cond_both (test n) (n ∷ filter test ns) (filter test ns) (AllByRecursion (λ m. test m ≡ true)) (λ passes. (passes, passing test ns)) (λ _. passing test ns)
+    cond_both (test n) (n ∷ filter test ns) (filter test ns) (AllByRecursion (λ m. test m ≡ true))
+    (λ passes. (passes, passing test ns)) (λ _. passing test ns)
 
-both_facts : (P Q : ℕ → Type 0) (ns : List ℕ) → AllByRecursion P ns → AllByRecursion Q ns → AllByRecursion (λ n. P n × Q n) ns
+both_facts : (P Q : ℕ → Type 0) (ns : List ℕ) → AllByRecursion P ns → AllByRecursion Q ns
+    → AllByRecursion (λ n. P n × Q n) ns
 both_facts P Q [] first second = tt
 both_facts P Q (n ∷ ns) first second = ((first.0, second.0), both_facts P Q ns first.1 second.1)
 
 -- those that are missing are kept, each once
-whole_items : (old items : List ℕ) → AllByRecursion (Contains (old ++ filter (λ n. not (list_any (λ own. own == n) old)) items)) items
+whole_items : (old items : List ℕ) → AllByRecursion
+    (Contains (old ++ filter (λ n. not (list_any (λ own. own == n) old)) items)) items
 whole_items old [] = tt
 whole_items old (n ∷ items) =
-    cond_both (not (list_any (λ own. own == n) old)) (n ∷ filter test items) (filter test items) (λ l. AllByRecursion (Contains (old ++ l)) (n ∷ items))
+    cond_both (not (list_any (λ own. own == n) old)) (n ∷ filter test items) (filter test items)
+    (λ l. AllByRecursion (Contains (old ++ l)) (n ∷ items))
     (λ _. (
       Contains-append_right old (n ∷ filter test items) n (zero, omega arith, refl),
-      weaker (Contains (old ++ filter test items)) (Contains (old ++ (n ∷ filter test items))) items (λ x at. wider x at) (whole_items old items),
+      weaker (Contains (old ++ filter test items)) (Contains (old ++ (n ∷ filter test items))) items
+          (λ x at. wider x at) (whole_items old items),
     ))
-    (λ there. (Contains-append_left old (filter test items) n (found_in old n (not_not (list_any (λ own. own == n) old) there)), whole_items old items)) where
+    (λ there. (
+      Contains-append_left old (filter test items) n
+          (found_in old n (not_not (list_any (λ own. own == n) old) there)),
+      whole_items old items,
+    )) where
       test : ℕ → Bool
       test m = not (list_any (λ own. own == m) old)
 
@@ -85,44 +111,58 @@ whole_items old (n ∷ items) =
       not_not true h = refl
       not_not false h = absurd (cc)
 
-      wider : (x : ℕ) → Contains (old ++ filter (λ m. not (list_any (λ own. own == m) old)) items) x → Contains (old ++ (n ∷ filter (λ m. not (list_any (λ own. own == m) old)) items)) x
+      wider : (x : ℕ) → Contains (old ++ filter (λ m. not (list_any (λ own. own == m) old)) items) x
+          → Contains (old ++ (n ∷ filter (λ m. not (list_any (λ own. own == m) old)) items)) x
       wider x at =
-          elim (Contains-append_cases old (filter (λ m. not (list_any (λ own. own == m) old)) items) x at) [
-            | inl first ↦ Contains-append_left old (n ∷ filter (λ m. not (list_any (λ own. own == m) old)) items) x first
+          elim (Contains-append_cases old
+          (filter (λ m. not (list_any (λ own. own == m) old)) items) x at) [
+            | inl first ↦ Contains-append_left old
+                (n ∷ filter (λ m. not (list_any (λ own. own == m) old)) items) x first
             | inr second ↦
-                Contains-append_right old (n ∷ filter (λ m. not (list_any (λ own. own == m) old)) items) x
+                Contains-append_right old (n ∷ filter
+                (λ m. not (list_any (λ own. own == m) old)) items) x
                 (later x n (filter (λ m. not (list_any (λ own. own == m) old)) items) second)
           ]
 
-pub appends_missing : (old items : List ℕ) → AreDistinct items → AppendsMissing items old (old ++ filter (λ n. not (list_any (λ own. own == n) old)) items)
+pub appends_missing : (old items : List ℕ) → AreDistinct items
+    → AppendsMissing items old (old ++ filter (λ n. not (list_any (λ own. own == n) old)) items)
 appends_missing old items distinct = record {
   more = filter (λ n. not (list_any (λ own. own == n) old)) items;
   is = refl;
   whole = whole_items old items;
-  only = both_facts (Contains items) (λ x. Contains old x → ⊥) (filter (λ n. not (list_any (λ own. own == n) old)) items)
-      (kept_numbers (Contains items) (λ n. not (list_any (λ own. own == n) old)) items (own_items items))
-      (weaker (λ n. not (list_any (λ own. own == n) old) ≡ true) (λ x. Contains old x → ⊥) (filter (λ n. not (list_any (λ own. own == n) old)) items)
+  only = both_facts (Contains items) (λ x. Contains old x → ⊥)
+      (filter (λ n. not (list_any (λ own. own == n) old)) items)
+      (kept_numbers (Contains items) (λ n. not (list_any (λ own. own == n) old)) items
+      (own_items items))
+      (weaker (λ n. not (list_any (λ own. own == n) old) ≡ true) (λ x. Contains old x → ⊥)
+      (filter (λ n. not (list_any (λ own. own == n) old)) items)
       (λ n passes at. absurd (cc (tracks old n at.0 at.1 at.2, passes)))
       (passing (λ n. not (list_any (λ own. own == n) old)) items));
   once = kept_distinct (λ n. not (list_any (λ own. own == n) old)) items distinct;
 }
 
 needed_distinct : (cfa : Cfa) (path : Path) → AreDistinct (needed cfa path)
-needed_distinct cfa path = kept_distinct (is_needed cfa path.edges) (range_with_len 0 (length cfa.cells)) (range_distinct 0 (length cfa.cells))
+needed_distinct cfa path = kept_distinct (is_needed cfa path.edges)
+    (range_with_len 0 (length cfa.cells)) (range_distinct 0 (length cfa.cells))
 
-needed_inside : (cfa : Cfa) (path : Path) → AllByRecursion (λ cell. cell < length cfa.cells) (needed cfa path)
+needed_inside : (cfa : Cfa) (path : Path)
+    → AllByRecursion (λ cell. cell < length cfa.cells) (needed cfa path)
 needed_inside cfa path =
-    kept_numbers (λ cell. cell < length cfa.cells) (is_needed cfa path.edges) (range_with_len 0 (length cfa.cells))
-    (range_from (λ cell. cell < length cfa.cells) 0 (length cfa.cells) (λ i least less. omega (arith, less)))
+    kept_numbers (λ cell. cell < length cfa.cells) (is_needed cfa path.edges)
+    (range_with_len 0 (length cfa.cells))
+    (range_from (λ cell. cell < length cfa.cells) 0 (length cfa.cells)
+    (λ i least less. omega (arith, less)))
 
 -- the laws of refinement
-pub refined-laws : (cfa : Cfa) (path : Path) (p : Precision) → IsPrecision cfa p → RefineLaws values cfa path p (refined cfa path p)
+pub refined-laws : (cfa : Cfa) (path : Path) (p : Precision) → IsPrecision cfa p
+    → RefineLaws values cfa path p (refined cfa path p)
 refined-laws cfa path p precision =
     let more = filter (λ cell. not (is_tracked p cell)) (needed cfa path) in
     record {
       shaped = record {
         tracked = both_lists (λ cell. cell < length cfa.cells) p.tracked more precision.tracked
-            (kept_numbers (λ cell. cell < length cfa.cells) (λ cell. not (is_tracked p cell)) (needed cfa path) (needed_inside cfa path));
+            (kept_numbers (λ cell. cell < length cfa.cells) (λ cell. not (is_tracked p cell))
+            (needed cfa path) (needed_inside cfa path));
         preds = precision.preds;
       };
       limit = refl;

@@ -8,15 +8,20 @@ use Rattle.cpa_folds.specs.Marks.{is_marked}
 use Rattle.cpa_value.specs.Cells.{known_cells, is_tracked, elem_of}
 use Rattle.cpa_value.specs.Strengthening.{has_point, met_elems, strengthened}
 
-pub strengthened_is : (n : ℕ) (p : Precision) (own : Elem) (others : List Elem) (cells : List (Option ℤ)) (asked given : List Bool) (e : Option Elem)
-    → ((cell : ℕ) → is_marked asked cell ≡ is_tracked p cell) → ((cell : ℕ) → is_marked given cell ≡ is_tracked p cell)
+pub strengthened_is : (n : ℕ) (p : Precision) (own : Elem) (others : List Elem)
+    (cells : List (Option ℤ)) (asked given : List Bool) (e : Option Elem)
+    → ((cell : ℕ) → is_marked asked cell ≡ is_tracked p cell)
+    → ((cell : ℕ) → is_marked given cell ≡ is_tracked p cell)
     → list_any (has_point (is_marked asked)) others ≡ true → cells ≡ known_cells n own.facts
-    → e ≡ option_map (elem_of (λ _. true)) (met_elems (is_marked given) others cells) → e ≡ strengthened n p own others
+    → e ≡ option_map (elem_of (λ _. true)) (met_elems (is_marked given) others cells)
+    → e ≡ strengthened n p own others
 strengthened_is n p own others cells asked given e first second some are is =
     let one : is_marked asked ≡ is_tracked p = λ i cell. first cell i in
     let two : is_marked given ≡ is_tracked p = λ i cell. second cell i in
-    let there : list_any (has_point (is_tracked p)) others ≡ true = ap (λ t. list_any (has_point t) others) (sym one) ∙ some in
-    let whole = option_map (elem_of (λ _. true)) (met_elems (is_tracked p) others (known_cells n own.facts)) in
+    let there : list_any (has_point (is_tracked p)) others ≡ true =
+    ap (λ t. list_any (has_point t) others) (sym one) ∙ some in
+    let whole = option_map (elem_of (λ _. true))
+    (met_elems (is_tracked p) others (known_cells n own.facts)) in
     is
     ∙ (ap (λ t. option_map (elem_of (λ _. true)) (met_elems t others cells)) two
     ∙ (ap (λ l. option_map (elem_of (λ _. true)) (met_elems (is_tracked p) others l)) are

@@ -6,4 +6,5 @@ use Rattle.cpa_folds.specs.Marks.{is_marked}
 use Rattle.cpa_value.proofs.cells.mark_all.Given as goal
 
 abbrev pub invariant-loop-cell : goal.invariant-loop-cell
-invariant-loop-cell l = (cell : ℕ) → is_marked l.marks cell ≡ list_any (λ own. own == cell) (take l.cell-index l.cells)
+invariant-loop-cell l = (cell : ℕ) → is_marked l.marks cell
+    ≡ list_any (λ own. own == cell) (take l.cell-index l.cells)

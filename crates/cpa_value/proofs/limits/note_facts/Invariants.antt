@@ -5,4 +5,5 @@ use Rattle.cpa_value.specs.Limits.{seen_in}
 use Rattle.cpa_value.proofs.limits.note_facts.Given as goal
 
 abbrev pub invariant-loop-fact : goal.invariant-loop-fact
-invariant-loop-fact l = Notes (λ cell. seen_in cell l.facts) (λ cell. seen_in cell (drop l.fact-index l.facts)) l.fn.values l.values
+invariant-loop-fact l = Notes (λ cell. seen_in cell l.facts)
+    (λ cell. seen_in cell (drop l.fact-index l.facts)) l.fn.values l.values

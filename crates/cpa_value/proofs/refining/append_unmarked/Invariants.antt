@@ -6,4 +6,5 @@ use Rattle.cpa_folds.specs.Marks.{is_marked}
 use Rattle.cpa_value.proofs.refining.append_unmarked.Given as goal
 
 abbrev pub invariant-loop-cell : goal.invariant-loop-cell
-invariant-loop-cell l = l.list ≡ l.fn.list ++ filter (λ cell. not (is_marked l.marks cell)) (take l.cell-index l.cells)
+invariant-loop-cell l = l.list ≡ l.fn.list
+    ++ filter (λ cell. not (is_marked l.marks cell)) (take l.cell-index l.cells)

@@ -5,4 +5,5 @@ use Rattle.cpa_value.specs.Strengthening.{met_elems}
 use Rattle.cpa_value.proofs.strengthening.meet_elems.Given as goal
 
 abbrev pub invariant-loop-other : goal.invariant-loop-other
-invariant-loop-other l = met_elems (is_marked l.tracked) l.others l.fn.cells ≡ met_elems (is_marked l.tracked) (drop l.other-index l.others) l.cells
+invariant-loop-other l = met_elems (is_marked l.tracked) l.others l.fn.cells
+    ≡ met_elems (is_marked l.tracked) (drop l.other-index l.others) l.cells

@@ -5,4 +5,5 @@ use Rattle.cpa_value.specs.Strengthening.{met_facts}
 use Rattle.cpa_value.proofs.strengthening.meet_facts.Given as goal
 
 abbrev pub invariant-loop-fact : goal.invariant-loop-fact
-invariant-loop-fact l = met_facts (is_marked l.tracked) l.facts l.fn.cells ≡ met_facts (is_marked l.tracked) (drop l.fact-index l.facts) l.cells
+invariant-loop-fact l = met_facts (is_marked l.tracked) l.facts l.fn.cells
+    ≡ met_facts (is_marked l.tracked) (drop l.fact-index l.facts) l.cells

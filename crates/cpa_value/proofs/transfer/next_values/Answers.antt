@@ -14,7 +14,8 @@ after-requires c =
     let cfa = c.args.cfa.now in
     let facts = c.args.elem.now.facts in
     let are = c.deref_mut.ensures.value ∙ (c.in_ok-cells.ensures
-    ∙ (ap (λ n. known_cells n c.as_slice.result.now) c.len-count.ensures ∙ ap (known_cells (length cfa.cells)) c.as_slice.ensures)) in
+    ∙ (ap (λ n. known_cells n c.as_slice.result.now) c.len-count.ensures
+    ∙ ap (known_cells (length cfa.cells)) c.as_slice.ensures)) in
     few_known cfa facts c.deref_mut.result.now c.requires.automaton are
 
 pub returns : goal.returns
@@ -22,8 +23,11 @@ returns c =
     let cfa = c.args.cfa.now in
     let facts = c.args.elem.now.facts in
     let are = c.deref_mut.ensures.value ∙ (c.in_ok-cells.ensures
-    ∙ (ap (λ n. known_cells n c.as_slice.result.now) c.len-count.ensures ∙ ap (known_cells (length cfa.cells)) c.as_slice.ensures)) in
-    let same = λ (cell : ℕ). ap (λ m. is_marked m cell) c.deref.ensures.value ∙ c.in_ok-tracked.ensures cell in
+    ∙ (ap (λ n. known_cells n c.as_slice.result.now) c.len-count.ensures
+    ∙ ap (known_cells (length cfa.cells)) c.as_slice.ensures)) in
+    let same = λ (cell : ℕ). ap (λ m. is_marked m cell) c.deref.ensures.value
+    ∙ c.in_ok-tracked.ensures cell in
     IfOk-weaker _ _ _ (λ (es : Vec Elem Global) is.
-    same_transfer cfa c.args.precision.now c.args.elem.now c.args.edge.now c.deref_mut.result.now c.deref.result.now es.items are same is)
+    same_transfer cfa c.args.precision.now c.args.elem.now c.args.edge.now c.deref_mut.result.now
+    c.deref.result.now es.items are same is)
     c.after.ensures

@@ -10,4 +10,5 @@ pub returns-clause-laws : goal.returns-clause-laws
 returns-clause-laws c =
     let cfa = c.args.cfa.now in
     let settings = c.args.settings.now in
-    IfOk-weaker _ _ _ (λ (p : Precision) is. subst (FirstPrecisionLaws values cfa settings) (sym is) (precision_of-laws cfa settings)) c.precision_of.ensures
+    IfOk-weaker _ _ _ (λ (p : Precision) is. subst (FirstPrecisionLaws values cfa settings) (sym is)
+    (precision_of-laws cfa settings)) c.precision_of.ensures

@@ -9,4 +9,5 @@ use Rattle.cpa_value.proofs.value.ValueAnalysis.initial.Goals as goal
 pub returns-clause-laws : goal.returns-clause-laws
 returns-clause-laws c =
     let cfa = c.args.cfa.now in
-    IfOk-weaker _ _ _ (λ (e : Elem) is. subst (InitialLaws values cfa) (sym (is ∙ ap starts_of c.as_slice.ensures)) (starts-laws cfa c.requires)) c.starts.ensures
+    IfOk-weaker _ _ _ (λ (e : Elem) is. subst (InitialLaws values cfa)
+    (sym (is ∙ ap starts_of c.as_slice.ensures)) (starts-laws cfa c.requires)) c.starts.ensures

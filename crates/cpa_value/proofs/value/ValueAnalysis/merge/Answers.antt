@@ -14,5 +14,6 @@ returns-clause-laws c =
     let p = c.args._precision.now in
     IfOk-weaker _ _ _ (λ (e : Elem) is.
     subst (MergeLaws values cfa c.args.rule new old p) (sym is)
-    (merged_facts-laws values cfa c.args.rule new old p (record { cover = refl; rank = refl }) c.requires))
+    (merged_facts-laws values cfa c.args.rule new old p
+    (record { cover = refl; rank = refl }) c.requires))
     c.merge_facts.ensures

@@ -11,4 +11,5 @@ returns-clause-laws c =
     let cfa = c.args.cfa.now in
     let path = c.args.path.now in
     let p = c.args.precision.now in
-    IfOk-weaker _ _ _ (λ (q : Precision) is. subst (RefineLaws values cfa path p) (sym is) (refined-laws cfa path p c.requires.precision)) c.refined.ensures
+    IfOk-weaker _ _ _ (λ (q : Precision) is. subst (RefineLaws values cfa path p) (sym is)
+    (refined-laws cfa path p c.requires.precision)) c.refined.ensures

@@ -14,5 +14,6 @@ returns-clause-laws c =
     let others = c.args.others.now in
     let p = c.args.precision.now in
     IfOk-weaker _ _ _ (λ (e : Option Elem) is.
-    subst (StrengthenLaws values cfa own others p) (sym is) (strengthened-laws cfa own others p c.requires.own c.requires.others))
+    subst (StrengthenLaws values cfa own others p) (sym is)
+    (strengthened-laws cfa own others p c.requires.own c.requires.others))
     c.strengthened.ensures

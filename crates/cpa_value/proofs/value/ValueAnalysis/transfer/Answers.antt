@@ -16,5 +16,6 @@ returns-clause-laws c =
     let sound = c.edges_are_sound.ensures cfa c.args.edge _ c.requires.automaton c.edge.ensures in
     IfOk-weaker _ _ _ (λ (es : Vec Elem Global) is.
     subst (TransferLaws values cfa c.args.edge e p) (sym is)
-    (next_values-laws c.wrap_keeps_the_range.ensures.stays cfa c.args.edge e p _ c.requires.automaton sound c.requires.elem c.edge.ensures))
+    (next_values-laws c.wrap_keeps_the_range.ensures.stays cfa c.args.edge e p _
+    c.requires.automaton sound c.requires.elem c.edge.ensures))
     c.next_values.ensures
