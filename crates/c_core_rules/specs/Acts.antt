@@ -1,0 +1,118 @@
+-- The rules on values and their statements (C11 6.5, operands from left to right, this project's
+-- profile). S is the list of statements before a value v; t is a fresh cell.
+use Rattle.std.specs.Prelude.{◌+◌, Bool, true, false, ◌&&◌, if◌then◌else◌, List, [], ◌∷◌, ◌++◌, map}
+use Rattle.cpa_ints.specs.declared.integers.IntType.{IntType}
+use Rattle.cpa_ints.specs.declared.integers.IntType.TheVariants as ty
+use Rattle.cpa_ints.specs.Conversions.{common_type}
+use Rattle.cpa_expr.specs.declared.tree.Expr.{Expr}
+use Rattle.cpa_expr.specs.declared.tree.Expr.TheVariants.{And, Or}
+use Rattle.cpa_expr.specs.Shape.{type_of}
+use Rattle.c_symbols.specs.declared.operators.BinaryOperator.{BinaryOperator}
+use Rattle.c_symbols.specs.declared.operators.BinaryOperator.TheVariants as binary
+use Rattle.c_tree.specs.declared.expression.UnaryOperator.{UnaryOperator}
+use Rattle.c_core_rules.specs.declared.tree.Valued.{Valued}
+use Rattle.c_core_rules.specs.Values.{conv, operator_value, signed_value, chosen_value, truth_of}
+use Rattle.c_core_rules.specs.Values.{int, scalar, is_constant}
+use Rattle.c_core_rules.specs.Trees.{Trees, choice, set, valued}
+use Rattle.c_core_rules.specs.Cells.{Rule, gives, then_by, fresh}
+
+abbrev pub is_nil : {A : Type 0} → List A → Bool
+is_nil [] = true
+is_nil (x ∷ xs) = false
+
+-- no statement stands before the value
+abbrev pub is_pure : Valued → Bool
+is_pure v = is_nil v.statements
+
+-- S, t := v, and then t
+abbrev pub held : Valued → Rule Valued
+held v =
+    then_by (fresh (type_of v.value)) (λ t.
+    gives (valued (v.statements ++ set t v.value ∷ []) (scalar t)))
+
+-- of two operands the first is held where the second has statements
+abbrev pub held_before : Valued → Valued → Rule Valued
+held_before v later = if is_pure later then gives v else held v
+
+-- some of these have statements
+abbrev pub have_statements : List Valued → Bool
+have_statements [] = false
+have_statements (v ∷ vs) = elim (is_pure v) [ true ↦ have_statements vs | false ↦ true ]
+
+-- of any number of operands each is held that has statements behind it
+abbrev pub hold_all : List Valued → Rule (List Valued)
+hold_all [] = gives []
+hold_all (v ∷ vs) =
+    then_by (if have_statements vs then held v else gives v) (λ first.
+    then_by (hold_all vs) (λ rest. gives (first ∷ rest)))
+
+-- the statements of operands, and their values
+abbrev pub statements_of : List Valued → Trees
+statements_of [] = []
+statements_of (v ∷ vs) = v.statements ++ statements_of vs
+
+abbrev pub values_of : List Valued → List Expr
+values_of vs = map (λ v. v.value) vs
+
+-- `left operator right` behind the statements of both
+abbrev pub operated : BinaryOperator → Valued → Valued → Valued
+operated operator left right =
+    valued (left.statements ++ right.statements) (operator_value operator left.value right.value)
+
+-- && (6.5.13p4): S1, if (v1) { S2, t := !!v2 } else { t := 0 }; pure where S2 is empty
+abbrev pub both_hold : Valued → Valued → Rule Valued
+both_hold left right =
+    if is_pure right then gives (valued left.statements (And left.value right.value))
+    else then_by (fresh ty.I32) (λ t.
+    gives (valued (left.statements ++ choice left.value
+    (right.statements ++ set t (truth_of right.value) ∷ [])
+    (set t (int 0) ∷ []) ∷ []) (scalar t)))
+
+-- || (6.5.14p4): S1, if (v1) { t := 1 } else { S2, t := !!v2 }; pure where S2 is empty
+abbrev pub one_holds : Valued → Valued → Rule Valued
+one_holds left right =
+    if is_pure right then gives (valued left.statements (Or left.value right.value))
+    else then_by (fresh ty.I32) (λ t.
+    gives (valued (left.statements ++ choice left.value (set t (int 1) ∷ [])
+    (right.statements ++ set t (truth_of right.value) ∷ []) ∷ []) (scalar t)))
+
+-- a link of a chain
+abbrev pub linked : BinaryOperator → Valued → Valued → Rule Valued
+linked binary.LogicalAnd left right = both_hold left right
+linked binary.LogicalOr left right = one_holds left right
+linked operator left right =
+    then_by (held_before left right) (λ first. gives (operated operator first right))
+
+-- + - ~ !
+abbrev pub signed : UnaryOperator → Valued → Valued
+signed operator v = valued v.statements (signed_value operator v.value)
+
+-- (t) v (6.5.4)
+abbrev pub cast_to : IntType → Valued → Valued
+cast_to t v = valued v.statements (conv v.value t)
+
+-- S1, if (v1) { S2, t := v2 } else { S3, t := v3 }, both converted to the type of t
+abbrev pub chosen_by : IntType → Valued → Valued → Valued → Rule Valued
+chosen_by common test first second =
+    then_by (fresh common) (λ t.
+    gives (valued (test.statements ++ choice test.value
+    (first.statements ++ set t first.value ∷ [])
+    (second.statements ++ set t second.value ∷ []) ∷ []) (scalar t)))
+
+-- test ? first : second (6.5.15p4 and p5): pure where S2 and S3 are empty
+abbrev pub chosen : Valued → Valued → Valued → Rule Valued
+chosen test first second =
+    if is_pure first && is_pure second
+    then gives (valued test.statements (chosen_value test.value first.value second.value))
+    else chosen_by (common_type (type_of first.value) (type_of second.value)) test first second
+
+-- a value that is not used is evaluated all the same: S, and t := v where v is no constant
+-- (6.8.3p2; this project's profile, so that what traps in it does)
+abbrev pub dropped_value : Valued → Rule Trees
+dropped_value v =
+    if is_constant v.value then gives v.statements
+    else then_by (held v) (λ kept. gives kept.statements)
+
+-- an index that is no constant is held, so that it is evaluated once
+abbrev pub fixed : Valued → Rule Valued
+fixed index = if is_constant index.value then gives index else held index
