@@ -1,25 +1,15 @@
 //! The product of two words, from the high bits of the second one down, as specs/Products defines
 //! it; what it means is proved in specs/lemmas/ProductMeanings.
 
-ghost use Rattle.std.specs.Prelude.{◌≡◌, ◌+◌, ◌∷◌, length, replicate, IfOk};
+ghost use Rattle.std.specs.Prelude.{◌≡◌, ◌+◌, length, IfOk};
 ghost use Rattle.cpa_gates.specs.Nets.{built};
 ghost use Rattle.cpa_products.specs.Products.{masked_word, added_word, product};
 
 use cpa_cnf::Lit;
 use cpa_gates::{Net, never};
 use cpa_ints::Seq;
-use cpa_words::{and_word, push_all, push_repeated, sum_word};
+use cpa_words::{and_word, joined, repeated, sum_word};
 use std::alloc::{AllocError, Global};
-
-/// The literal so many times.
-fn repeated(alloc: Global, count: usize, literal: Lit) -> Result<Seq<Lit>, AllocError>
-    ensures word { IfOk result (λ w. w ≡ replicate count literal) }
-    ensures long { IfOk result (λ w. length w ≡ count) }
-{
-    let mut word = Seq::new(alloc);
-    push_repeated(&mut word, count, literal)?;
-    Ok(word)
-}
 
 /// The word where the literal is true, else nothing.
 #[tactic(auto, unfolding(crate::specs::Products::masked_word))]
@@ -29,17 +19,6 @@ fn masked_word(alloc: Global, net: &mut Net, y: Lit, xs: &[Lit]) -> Result<Seq<L
 {
     let mask = repeated(alloc, xs.len(), y)?;
     and_word(alloc, net, xs, mask.as_slice())
-}
-
-/// A literal with a word behind it.
-fn joined(alloc: Global, low: Lit, rest: &[Lit]) -> Result<Seq<Lit>, AllocError>
-    ensures word { IfOk result (λ w. w ≡ low ∷ rest.now) }
-    ensures long { IfOk result (λ w. length w ≡ length rest.now + 1) }
-{
-    let mut word = Seq::new(alloc);
-    word.push(low)?;
-    push_all(&mut word, rest)?;
-    Ok(word)
 }
 
 /// The sum of a word and a word that stands one place higher.

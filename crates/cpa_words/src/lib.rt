@@ -12,9 +12,9 @@ pub use laws::{
     words_are_numbers, words_mean_their_operators, words_wrap_at_types,
 };
 pub use rows::Row;
-pub use walks::Walked;
+pub use walks::{Walked, walk};
 pub use words::{
-    and_word, cast_word, choose_word, constant_word, difference_word, equal, filling, less,
-    less_signed, negated_word, opposites, or_word, push_all, push_repeated, some_bit, sum_word,
-    xor_word,
+    and_word, cast_word, choose_word, constant_word, difference_word, equal, filling, joined, less,
+    less_signed, negated_word, opposites, or_word, push_all, push_repeated, repeated, some_bit,
+    sum_word, xor_word,
 };

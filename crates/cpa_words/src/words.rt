@@ -1,7 +1,8 @@
 //! The operators of specs/Words. What they mean is said by the laws (laws.rt). Where memory runs
 //! out, more gates may stand than before.
 
-ghost use Rattle.std.specs.Prelude.{◌≡◌, ◌++◌, ◌<◌, ◌∷◌, ◌^◌, [], length, map, replicate, IfOk};
+ghost use Rattle.std.specs.Prelude.{◌≡◌, ◌+◌, ◌++◌, ◌<◌, ◌∷◌, ◌^◌, []};
+ghost use Rattle.std.specs.Prelude.{length, map, replicate, IfOk};
 ghost use Rattle.std.specs.Prelude.{OnOk};
 ghost use Rattle.cpa_cnf.specs.Literals.{opposite};
 ghost use Rattle.cpa_gates.specs.Nets.{built};
@@ -47,6 +48,27 @@ pub fn push_repeated(word: &mut Seq<Lit>, count: usize, literal: Lit) -> Result<
     Ok(())
 }
 
+/// The literal so many times.
+pub fn repeated(alloc: Global, count: usize, literal: Lit) -> Result<Seq<Lit>, AllocError>
+    ensures word { IfOk result (λ w. w ≡ replicate count literal) }
+    ensures long { IfOk result (λ w. length w ≡ count) }
+{
+    let mut word = Seq::new(alloc);
+    push_repeated(&mut word, count, literal)?;
+    Ok(word)
+}
+
+/// A literal with a word above it.
+pub fn joined(alloc: Global, low: Lit, rest: &[Lit]) -> Result<Seq<Lit>, AllocError>
+    ensures word { IfOk result (λ w. w ≡ low ∷ rest.now) }
+    ensures long { IfOk result (λ w. length w ≡ length rest.now + 1) }
+{
+    let mut word = Seq::new(alloc);
+    word.push(low)?;
+    push_all(&mut word, rest)?;
+    Ok(word)
+}
+
 /// Each literal's opposite.
 pub fn opposites(alloc: Global, xs: &[Lit]) -> Result<Seq<Lit>, AllocError>
     ensures word { IfOk result (λ w. w ≡ opposites xs.now) }
@@ -62,9 +84,7 @@ fn falses(alloc: Global, xs: &[Lit]) -> Result<Seq<Lit>, AllocError>
     ensures word { IfOk result (λ w. w ≡ falses xs.now) }
     ensures long { IfOk result (λ w. length w ≡ length xs.now) }
 {
-    let mut word = Seq::new(alloc);
-    push_repeated(&mut word, xs.len(), never())?;
-    Ok(word)
+    repeated(alloc, xs.len(), never())
 }
 
 /// The word with its top literal flipped.
