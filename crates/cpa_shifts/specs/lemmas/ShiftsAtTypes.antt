@@ -5,7 +5,7 @@ use Rattle.std.proofs.Common.{true, false, not, List, length, map, take, drop, i
 use Rattle.std.proofs.Common.{refl, sym, ap, subst, ◌∙◌, arith, ℤ, pos, negsuc, neg_ℤ, ◌+ℤ◌, ◌*ℤ◌}
 use Rattle.std.proofs.Common.{◌≤ℤ◌}
 use Rattle.std.proofs.Common.{Some, None, option_map}
-use Rattle.std.specs.Prelude.{◌==◌, slice_index_or, if◌then◌else◌}
+use Rattle.std.specs.Prelude.{◌==◌, if◌then◌else◌}
 use Rattle.std.specs.Option.{is_some}
 use Rattle.std.specs.Int.{int_div_euclid}
 use Rattle.std.proofs.Math.Nat.{mod-eq_of_lt, div-eq_of_lt, lt-div-mul-add, mul_comm}
@@ -24,7 +24,7 @@ use Rattle.cpa_words.specs.Types.{StandsFor, BitFacts, filling_bit}
 use Rattle.cpa_words.specs.Laws.{words_are_numbers}
 use Rattle.cpa_words.specs.lemmas.AtTypes.{near, stand, stand_for}
 use Rattle.cpa_words.specs.lemmas.Orders.{halves, signed_range}
-use Rattle.cpa_words.specs.lemmas.Casts.{by_sign}
+use Rattle.cpa_words.specs.lemmas.Casts.{by_sign, signed_where}
 use Rattle.cpa_shifts.specs.declared.moves.Direction.TheVariants as toward
 use Rattle.cpa_shifts.specs.Moves.{moved}
 use Rattle.cpa_shifts.specs.Shifts.{amount_bits}
@@ -65,14 +65,6 @@ wide ty.I32 e = omega arith
 wide ty.U32 e = absurd (cc)
 wide ty.I64 e = omega arith
 wide ty.U64 e = absurd (cc)
-
-signed_where : (t : IntType) (bs : List Bool) → filling_bit t bs ≡ true → is_signed t ≡ true
-signed_where t bs e = by (is_signed t) e
-  where
-    by : (b : Bool) → (if b then slice_index_or bs (length bs - 1) false else false) ≡ true
-        → b ≡ true
-    by true e = refl
-    by false e = e
 
 -- an amount is the number of its word and lies below the width, or it is none
 abbrev pub AmountCase : IntType → ℤ → ℕ → Type 0

@@ -104,6 +104,15 @@ by_sign facts t bs a range stands = by (is_signed t) refl
     by false e =
         none (2 ^ width t) (number bs) a (own facts t bs a e range stands ∙ zero_more a)
 
+-- a sign stands only in front of a type with negative values
+pub signed_where : (t : IntType) (bs : List Bool) → filling_bit t bs ≡ true → is_signed t ≡ true
+signed_where t bs e = by (is_signed t) e
+  where
+    by : (b : Bool) → (if b then slice_index_or bs (length bs - 1) false else false) ≡ true
+        → b ≡ true
+    by true e = refl
+    by false e = e
+
 module _ (facts : BitFacts) (s t : IntType) (bs : List Bool) (a : ℤ) (other : t ≢ Boolean)
     (range : IsInRange s a) (stands : StandsFor s bs a) where
   narrow : width t ≤ length bs → StandsFor t (take (width t) bs) (wrapped t a)
