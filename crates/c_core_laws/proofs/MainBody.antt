@@ -1,0 +1,172 @@
+-- The main of a sound text is one of its bodies.
+use Rattle.std.proofs.Common.{◌≡◌, ℕ, suc, ◌+◌, ◌<◌, Bool, true, false, ◌&&◌, ◌||◌, List, []}
+use Rattle.std.proofs.Common.{◌∷◌, ◌++◌, map, length, Option, Some, refl, ap, sym, ◌∙◌}
+use Rattle.std.proofs.Common.{arith, inl, inr, if◌then◌else◌}
+use Rattle.std.specs.Prelude.{unwrap_or, option_map}
+use Rattle.std.specs.List.{filter_map, list_any}
+use Rattle.std.specs.Str.{bytes_eq}
+use Rattle.std.specs.Cmp.Lexicographic.{bytes_decides}
+use Rattle.std.proofs.lemmas.List.{length-map}
+use Rattle.cpa_model.specs.declared.program.Program.{Program}
+use Rattle.c_lexer.specs.declared.fault.Rule.TheVariants as rule
+use Rattle.c_lexer.specs.declared.fault.TextFault.{TextFault}
+use Rattle.c_tree.specs.declared.item.Body.TheVariants as body
+use Rattle.c_tree.specs.declared.item.Item.{Item}
+use Rattle.c_tree.specs.declared.item.Item.TheVariants as item
+use Rattle.c_tree.specs.declared.item.Unit.{Unit as UnitTree}
+use Rattle.cpa_ints.specs.declared.integers.IntType.TheVariants as ty
+use Rattle.c_rules.specs.declared.meaning.Kind.TheVariants.{Value}
+use Rattle.c_rules.specs.declared.typed.TypedUnit.{TypedUnit}
+use Rattle.c_rules.specs.Names.{Text, place_of, body_of}
+use Rattle.c_rules.specs.Declarations.{kind_of}
+use Rattle.c_rules.specs.Items.{Before, text_of, body_name, item_behind, same_kind, items_faults}
+use Rattle.c_rules.specs.Items.{nothing_before}
+use Rattle.c_rules.specs.Recursion.{Among}
+use Rattle.c_rules.specs.Sound.{Sound, typed_unit, functions_of, main_name, is_main}
+use Rattle.c_rules.specs.Sound.{unit_faults, has_no_parameters}
+use Rattle.c_core_rules.specs.declared.tree.CoreTree.{CoreTree}
+use Rattle.c_core_rules.specs.Cells.{Taken, nothing_taken}
+use Rattle.c_core_rules.specs.Cells as core
+use Rattle.c_core_rules.specs.Statements.{function_rule, receiving_globals}
+use Rattle.c_core_rules.specs.Programs.{IsCore, text_core, frames_of, statements}
+use Rattle.c_core_laws.proofs.ProgramCounted.{numbers_length}
+
+-- there is a body for each function
+
+each_length : {S : Type 0} (rules : List (core.Rule S)) (taken : Taken) →
+    length (core.each rules taken).made ≡ length rules
+each_length [] taken = refl
+each_length (rule ∷ rules) taken = ap suc (each_length rules (rule taken).taken)
+
+trees_many : (unit : TypedUnit) → length (text_core unit).made ≡ length unit.functions
+unfolding text_core
+trees_many unit =
+    let rules = map (function_rule (frames_of unit.first_cells unit.functions)) unit.functions in
+    each_length rules (receiving_globals unit.globals nothing_taken).taken
+    ∙ length-map unit.functions (function_rule (frames_of unit.first_cells unit.functions))
+
+bodies_are : (unit : TypedUnit) (P : Program) → IsCore unit P →
+    length P.bodies ≡ length unit.functions
+bodies_are unit P is =
+    let trees = (text_core unit).made in
+    let sizes = map (λ (tree : CoreTree). length (statements tree)) trees in
+    ap (λ (bodies : List ℕ). length bodies) is.bodies
+    ∙ numbers_length 0 sizes
+    ∙ length-map trees (λ (tree : CoreTree). length (statements tree))
+    ∙ trees_many unit
+
+-- and a function for each body of the text
+functions_many : (text : Text) (items : List Item) (before : Before) →
+    length (functions_of text items before) ≡ length (filter_map body_name items)
+functions_many text [] before = refl
+functions_many text (item.Empty place ∷ more) before =
+    functions_many text more (item_behind text (item.Empty place) before)
+functions_many text (item.Objects declaration ∷ more) before =
+    functions_many text more (item_behind text (item.Objects declaration) before)
+functions_many text (item.Prototype specifiers declarator ∷ more) before =
+    functions_many text more (item_behind text (item.Prototype specifiers declarator) before)
+functions_many text (item.Function specifiers declarator body.Skipped ∷ more) before =
+    functions_many text more
+    (item_behind text (item.Function specifiers declarator body.Skipped) before)
+functions_many text (item.Function specifiers declarator (body.Block items place) ∷ more) before =
+    ap suc (functions_many text more
+    (item_behind text (item.Function specifiers declarator (body.Block items place)) before))
+
+-- a name that is found
+
+abbrev Found : List (List ℕ) → Option ℕ → Type 0
+Found names place = (k : ℕ) × (place ≡ Some k) × (k < length names)
+
+found_more : (x : List ℕ) (names : List (List ℕ)) (place : Option ℕ) → Found names place →
+    Found (x ∷ names) (option_map (λ n. n + 1) place)
+found_more x names place f =
+    (f.0 + 1, ap (option_map (λ n. n + 1)) f.1, omega (arith, f.2))
+
+found_by : (b : Bool) (x : List ℕ) (names : List (List ℕ)) (place : Option ℕ) (rest : Bool) →
+    (b || rest) ≡ true → (rest ≡ true → Found names place) →
+    Found (x ∷ names) (elim b [ true ↦ Some 0 | false ↦ option_map (λ n. n + 1) place ])
+found_by true x names place rest h more = (0, refl, omega arith)
+found_by false x names place rest h more = found_more x names place (more h)
+
+found : (test : List ℕ → Bool) (names : List (List ℕ)) → list_any test names ≡ true →
+    Found names (place_of test names)
+found test [] h = absurd (cc)
+found test (x ∷ names) h =
+    found_by (test x) x names (place_of test names) (list_any test names) h
+    (λ more. found test names more)
+
+-- a main is a body of that name
+
+or_true : (b : Bool) → (b || true) ≡ true
+or_true true = refl
+or_true false = refl
+
+either_way : (a r b s : Bool) → (a ≡ true → b ≡ true) → (r ≡ true → s ≡ true) →
+    (a || r) ≡ true → (b || s) ≡ true
+either_way true r b s f g h = ap (λ x. x || s) (f refl)
+either_way false r b s f g h = ap (λ x. b || x) (g h) ∙ or_true b
+
+first_of_three : (a b c : Bool) → (a && b && c) ≡ true → a ≡ true
+first_of_three true b c h = refl
+first_of_three false b c h = absurd (cc)
+
+other_way : (a b : List ℕ) → bytes_eq a b ≡ true → bytes_eq b a ≡ true
+other_way a b h = (bytes_decides b a).1 (sym ((bytes_decides a b).0 h))
+
+none_here : (r : Bool) → (false || r) ≡ true → r ≡ true
+none_here r h = h
+
+main_named : (items : List Item) → list_any is_main items ≡ true →
+    list_any (bytes_eq main_name) (filter_map body_name items) ≡ true
+main_named [] h = absurd (cc)
+main_named (item.Empty place ∷ more) h = main_named more h
+main_named (item.Objects declaration ∷ more) h = main_named more h
+main_named (item.Prototype specifiers declarator ∷ more) h = main_named more h
+main_named (item.Function specifiers declarator body.Skipped ∷ more) h = main_named more h
+main_named (item.Function specifiers declarator (body.Block items place) ∷ more) h =
+    let name = declarator.name.bytes in
+    let a = bytes_eq name main_name in
+    let b = same_kind (kind_of specifiers) (Value ty.I32) in
+    let c = has_no_parameters declarator.parameters in
+    either_way (a && b && c) (list_any is_main more) (bytes_eq main_name name)
+    (list_any (bytes_eq main_name) (filter_map body_name more))
+    (λ is. other_way name main_name (first_of_three a b c is)) (λ rest. main_named more rest) h
+
+-- N11
+
+among_last : (fault : TextFault) (faults : List TextFault) → Among fault (faults ++ fault ∷ [])
+among_last fault [] = inl refl
+among_last fault (one ∷ faults) = inr (among_last fault faults)
+
+no_fault : (b : Bool) (fault : TextFault) (faults : List TextFault) →
+    ((other : TextFault) → Among other (faults ++ (if b then [] else fault ∷ [])) → ⊥) → b ≡ true
+no_fault true fault faults none = refl
+no_fault false fault faults none = absurd (none fault (among_last fault faults))
+
+has_main : (tree : UnitTree) → Sound tree → list_any is_main tree.items ≡ true
+unfolding unit_faults
+has_main tree sound =
+    no_fault (list_any is_main tree.items) (record { rule = rule.N11; place = tree.length })
+    (items_faults (text_of tree.items) tree.items nothing_before)
+    (λ other among. sound other (inl (inl among)))
+
+unit_main : (tree : UnitTree) (k : ℕ) → body_of (text_of tree.items) main_name ≡ Some k →
+    (typed_unit tree).main ≡ k
+unfolding typed_unit
+unit_main tree k is = ap (λ o. unwrap_or o 0) is
+
+unit_bodies : (tree : UnitTree) →
+    length (typed_unit tree).functions ≡ length (filter_map body_name tree.items)
+unfolding typed_unit
+unit_bodies tree = functions_many (text_of tree.items) tree.items nothing_before
+
+pub main_body : (tree : UnitTree) (P : Program) → Sound tree → IsCore (typed_unit tree) P →
+    P.main < length P.bodies
+main_body tree P sound is =
+    let names = filter_map body_name tree.items in
+    let f : Found names (place_of (bytes_eq main_name) names) =
+    found (bytes_eq main_name) names (main_named tree.items (has_main tree sound)) in
+    let here : P.main ≡ f.0 = is.main ∙ unit_main tree f.0 f.1 in
+    let many : length P.bodies ≡ length names =
+    bodies_are (typed_unit tree) P is ∙ unit_bodies tree in
+    omega (arith, f.2)

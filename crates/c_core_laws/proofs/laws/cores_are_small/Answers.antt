@@ -1,0 +1,6 @@
+-- N13 is not broken, and counts what the core takes.
+use Rattle.c_core_laws.proofs.Small.{core_small}
+use Rattle.c_core_laws.proofs.laws.cores_are_small.Goals as goal
+
+pub returns : goal.returns
+returns c = core_small

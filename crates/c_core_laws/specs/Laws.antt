@@ -1,0 +1,41 @@
+-- The laws of the core of a typed text.
+use Rattle.std.specs.Prelude.{◌≡◌, ℕ, ◌<◌, List, length}
+use Rattle.cpa_model.specs.declared.program.Program.{Program}
+use Rattle.c_tree.specs.declared.item.Unit.{Unit as UnitTree}
+use Rattle.cpa_model.specs.Programs.{IsNumbered}
+use Rattle.c_rules.specs.declared.typed.TypedUnit.{TypedUnit}
+use Rattle.c_rules.specs.declared.typed.Global.{Global}
+use Rattle.c_rules.specs.declared.typed.TypedFunction.{TypedFunction}
+use Rattle.c_rules.specs.Names.{Text}
+use Rattle.c_rules.specs.Sound.{counts, typed_parts, typed_unit, Sound}
+use Rattle.c_core_rules.specs.Programs.{IsCore}
+use Rattle.c_core_laws.specs.Sizes.{IsCounted, IsSmall}
+use Rattle.c_core_laws.specs.Numbers.{ArePromoted, unit_types}
+use Rattle.c_core_laws.specs.Starts.{IsLaidOut}
+
+abbrev pub OneCore : Type 0
+OneCore = (unit : TypedUnit) (P Q : Program) → IsCore unit P → IsCore unit Q → P ≡ Q
+
+abbrev pub CoresAreCounted : Type 0
+CoresAreCounted =
+    (unit : TypedUnit) (P : Program) → ArePromoted (unit_types unit) → IsCore unit P
+    → IsCounted P (counts unit.globals unit.functions)
+
+abbrev pub TextsAreLaidOut : Type 0
+TextsAreLaidOut =
+    (text : Text) (bytes : ℕ) (globals : List Global) (functions : List TypedFunction)
+    → ArePromoted (unit_types (typed_parts text bytes globals functions))
+    → IsLaidOut (typed_parts text bytes globals functions)
+
+abbrev pub CoresAreNumbered : Type 0
+CoresAreNumbered = (unit : TypedUnit) (P : Program) → IsCore unit P → IsNumbered P
+
+abbrev pub CoresAreSmall : Type 0
+CoresAreSmall =
+    (tree : UnitTree) (P : Program) → Sound tree → ArePromoted (unit_types (typed_unit tree))
+    → IsCore (typed_unit tree) P → IsSmall P
+
+abbrev pub CoresHaveAMain : Type 0
+CoresHaveAMain =
+    (tree : UnitTree) (P : Program) → Sound tree → IsCore (typed_unit tree) P
+    → P.main < length P.bodies

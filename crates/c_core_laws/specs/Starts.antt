@@ -1,0 +1,26 @@
+-- Where the cells of a text's objects and functions begin, and what they start at.
+use Rattle.std.specs.Prelude.{◌≡◌, ℕ, List, [], ◌∷◌, length, map}
+use Rattle.cpa_model.specs.declared.program.Cell.{Cell}
+use Rattle.c_rules.specs.declared.typed.Cell.{Cell as TypedCell}
+use Rattle.c_rules.specs.declared.typed.TypedFunction.{TypedFunction}
+use Rattle.c_rules.specs.declared.typed.TypedUnit.{TypedUnit}
+use Rattle.c_core_rules.specs.Cells.{Taken, nothing_taken}
+use Rattle.c_core_rules.specs.Expressions.{Frames}
+use Rattle.c_core_rules.specs.Statements.{function_rule, receiving_globals}
+use Rattle.c_core_rules.specs.Programs.{frames_of, text_core}
+
+-- how many cells are taken before the rules of each function
+abbrev pub begins : Frames → List TypedFunction → Taken → List ℕ
+begins frames [] taken = []
+begins frames (function ∷ functions) taken =
+    length taken.cells ∷ begins frames functions (function_rule frames function taken).taken
+
+-- a cell of a typed text as one of a program
+abbrev pub program_cell : TypedCell → Cell
+program_cell cell = record { ty = cell.ty; start = cell.start }
+
+-- the typed text says which cells its core has, and where those of its functions begin
+pub record IsLaidOut (unit : TypedUnit) : Type 0 where
+  pub cells : map program_cell unit.cells ≡ (text_core unit).taken.cells
+  pub first_cells : unit.first_cells ≡ begins (frames_of unit.first_cells unit.functions)
+      unit.functions (receiving_globals unit.globals nothing_taken).taken

@@ -1,0 +1,36 @@
+//! Laws on the core of a typed text: functions with an empty body, whose contract is the law.
+ghost use Rattle.c_core_laws.specs.Laws.{CoresAreCounted, CoresAreNumbered, CoresAreSmall, OneCore};
+ghost use Rattle.c_core_laws.specs.Laws.{CoresHaveAMain, TextsAreLaidOut};
+
+/// A typed text has one core.
+pub fn there_is_one_core()
+    ensures { OneCore }
+{}
+
+/// The types of its cells, how many points it has, and the height of its highest expression are
+/// those that N13 speaks of.
+pub fn cores_are_counted()
+    ensures { CoresAreCounted }
+{}
+
+/// The typed text of a text says which cells the core has, what they start at, and where the cells
+/// of each function begin.
+pub fn texts_are_laid_out()
+    ensures { TextsAreLaidOut }
+{}
+
+/// Its statements are numbered in the order of the trees: each before its parts, the parts one
+/// behind the other, all inside the numbers of its function.
+pub fn cores_are_numbered()
+    ensures { CoresAreNumbered }
+{}
+
+/// Of a sound text it has no more cells and points than a program has, and no higher expression.
+pub fn cores_are_small()
+    ensures { CoresAreSmall }
+{}
+
+/// Of a sound text its main is one of its bodies.
+pub fn cores_have_a_main()
+    ensures { CoresHaveAMain }
+{}

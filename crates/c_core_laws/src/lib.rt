@@ -1,0 +1,10 @@
+//! Laws of the core of a typed text, `c_core_rules`: there is one, and its cells, points and heights
+//! are those that the rules on numbers count. Proved in `proofs/`.
+#![tactic(auto)]
+
+mod laws;
+
+pub use laws::{
+    cores_are_counted, cores_are_numbered, cores_are_small, cores_have_a_main, texts_are_laid_out,
+    there_is_one_core,
+};
