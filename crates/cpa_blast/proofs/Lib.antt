@@ -1,1 +1,3 @@
 pub mod WeightParts
+pub mod Turns
+pub mod Blasted

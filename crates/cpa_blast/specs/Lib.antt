@@ -1,1 +1,4 @@
 pub mod Weights
+pub mod Formulas
+pub mod lemmas
+pub mod Laws

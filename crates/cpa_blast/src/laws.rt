@@ -1,0 +1,26 @@
+//! Laws of formulas, stated in specs/Laws. Each function does nothing: its contract is the law.
+
+ghost use Rattle.cpa_blast.specs.Laws.{FormulasAreBelow, FormulasAreQueries};
+
+use cpa_circuits::circuits_have_values;
+use cpa_ints::{bits_are_the_congruent_number, bits_keep_the_number};
+
+/// Each model of a query's formula gives a model of the query on the bits of its cells, and each
+/// model of the query extends to one of the formula that gives it. A clause names a bit of a cell
+/// only where some wanted expression may read the cell.
+pub fn formulas_are_queries()
+    ensures { FormulasAreQueries }
+{
+    bits_are_the_congruent_number();
+    bits_keep_the_number();
+    circuits_have_values();
+}
+
+/// Every literal's variable is one of the formula, and so is every bit of a cell.
+pub fn formulas_are_below()
+    ensures { FormulasAreBelow }
+{
+    bits_are_the_congruent_number();
+    bits_keep_the_number();
+    circuits_have_values();
+}
