@@ -22,7 +22,10 @@ pub mod LaidOut
 pub mod Shapes
 pub mod ShapedRows
 pub mod ShapedExpressions
-pub mod ShapedText
+pub mod Jumping
+pub mod JumpsKept
 pub mod Numbered
 pub mod Small
 pub mod MainBody
+pub mod StartsFit
+pub mod StartsInRange

@@ -18,9 +18,10 @@ use Rattle.c_core_rules.specs.Trees.{Trees}
 use Rattle.c_core_rules.specs.Programs.{Placed, joined, node_statements, statements, numbers_from}
 use Rattle.c_core_rules.specs.Programs.{stmt_of, labels_from, numbered, numbered_bodies, IsCore}
 use Rattle.c_core_rules.specs.Programs.{text_core}
-use Rattle.c_core_laws.proofs.Shapes.{HasParts, PlacedFits, AllShaped, parts_are, joined_fit}
+use Rattle.c_core_laws.proofs.Shapes.{HasParts, PlacedFits, parts_are, joined_fit}
 use Rattle.c_core_laws.proofs.ProgramCounted.{numbers_length}
-use Rattle.c_core_laws.proofs.ShapedText.{text_shaped}
+use Rattle.c_core_laws.proofs.JumpsKept.{text_keeps}
+use Rattle.c_core_laws.proofs.Jumping.{Anything, AllAny, anything}
 
 -- places of a list that is two lists
 
@@ -362,7 +363,7 @@ lengths_are : (trees : Trees) →
 lengths_are [] = refl
 lengths_are (t ∷ trees) = ap (λ ns. length (statements t) ∷ ns) (lengths_are trees)
 
-module _ (trees : Trees) (shaped : AllShaped trees) where
+module _ (trees : Trees) (shaped : AllAny trees) where
   abbrev whole : List Placed
   whole = joined (map statements trees)
 
@@ -396,7 +397,8 @@ module _ (trees : Trees) (shaped : AllShaped trees) where
       let one : s ≡ stmt_of labels p.head numbers =
       subst (λ k. StmtOf labels k p s) (none_first n) found.1.2 in
       let fits : HasParts p.head (length p.sizes) =
-      all_at PlacedFits whole n p (joined_fit trees shaped) place in
+      (all_at (PlacedFits Anything) whole n p (joined_fit Anything anything trees shaped)
+      place).0 in
       let has : HasParts p.head (length numbers) =
       subst (HasParts p.head) (sym (numbers_length (n + 1) p.sizes)) fits in
       let parts : parts_of s ≡ numbers = ap parts_of one ∙ parts_are labels p.head numbers has in
@@ -409,7 +411,7 @@ module _ (trees : Trees) (shaped : AllShaped trees) where
 pub core_numbered : (unit : TypedUnit) (P : Program) → IsCore unit P → IsNumbered P
 core_numbered unit P is =
     let trees = (text_core unit).made in
-    let shaped = text_shaped unit in
+    let shaped = (text_keeps unit).shaped in
     let many : length P.stmts ≡ length (joined (map statements trees)) =
     ap (λ (all : List Stmt). length all) is.stmts ∙ bodies_length 0 trees in
     record {

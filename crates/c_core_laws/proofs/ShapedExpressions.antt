@@ -17,7 +17,8 @@ use Rattle.c_core_rules.specs.Cells as core
 use Rattle.c_core_rules.specs.Acts as acts
 use Rattle.c_core_rules.specs.Expressions as rows
 use Rattle.c_core_laws.proofs.CoreLayers.{core_suffix, open_core, open_core_suffix}
-use Rattle.c_core_laws.proofs.Shapes.{Good, makes, makes_then}
+use Rattle.c_core_laws.proofs.Shapes.{makes, makes_then}
+use Rattle.c_core_laws.proofs.ShapedRows.{Good}
 use Rattle.c_core_laws.proofs.ShapedRows.{MakesRows, SuffixMakes, name_makes, plain_makes}
 use Rattle.c_core_laws.proofs.ShapedRows.{act_makes}
 use Rattle.c_core_laws.proofs.ShapedRows.{suffixed_makes, incrementing_makes, only_makes}

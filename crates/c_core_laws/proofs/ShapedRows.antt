@@ -38,12 +38,49 @@ use Rattle.c_core_rules.specs.Acts as acts
 use Rattle.c_core_rules.specs.Places as places
 use Rattle.c_core_rules.specs.Expressions as rows
 use Rattle.c_core_rules.specs.Expressions.{scalar_target, element_target, no_target}
-use Rattle.c_core_laws.proofs.Shapes.{AllShaped, Good, Makes, makes, makes_then}
-use Rattle.c_core_laws.proofs.Shapes.{makes_either}
+use Rattle.c_core_rules.specs.declared.tree.CoreTree.{CoreTree}
+use Rattle.c_core_rules.specs.declared.tree.Head.{Head}
+use Rattle.c_core_laws.proofs.Shapes.{HasParts, IsPlain, Makes, makes, makes_then, makes_either}
 use Rattle.c_core_laws.proofs.Shapes.{makes_freshly, makes_at, makes_each, EachMakes, none_makes}
-use Rattle.c_core_laws.proofs.Shapes.{more_make, makes_ordered, set_shaped, write_shaped}
-use Rattle.c_core_laws.proofs.Shapes.{leaf_shaped}
-use Rattle.c_core_laws.proofs.Shapes.{choice_shaped, append_shaped, push_shaped}
+use Rattle.c_core_laws.proofs.Shapes.{more_make}
+use Rattle.c_core_laws.proofs.Shapes as shapes
+
+-- plain trees: the heads are plain
+
+own : (h : Head) → IsPlain h → IsPlain h
+own h is = is
+
+abbrev pub Shaped : CoreTree → Type 0
+Shaped t = shapes.Shaped IsPlain t
+
+abbrev pub AllShaped : Trees → Type 0
+AllShaped trees = AllByRecursion Shaped trees
+
+abbrev pub Good : Valued → Type 0
+Good v = AllShaped v.statements
+
+pub leaf_shaped : (h : Head) → HasParts h 0 → IsPlain h → Shaped (leaf h)
+leaf_shaped = shapes.leaf_shaped IsPlain own
+
+pub set_shaped : (place : Location) (v : Expr) → Shaped (set place v)
+set_shaped = shapes.set_shaped IsPlain own
+
+write_shaped : (place : Location) (index v : Expr) → Shaped (write place index v)
+write_shaped = shapes.write_shaped IsPlain own
+
+choice_shaped : (test : Expr) (first second : Trees) → AllShaped first → AllShaped second →
+    Shaped (choice test first second)
+choice_shaped = shapes.choice_shaped IsPlain own
+
+pub append_shaped : (xs ys : Trees) → AllShaped xs → AllShaped ys → AllShaped (xs ++ ys)
+append_shaped = shapes.append_shaped IsPlain own
+
+pub push_shaped : (xs : Trees) (t : CoreTree) → AllShaped xs → Shaped t → AllShaped (xs ++ t ∷ [])
+push_shaped = shapes.push_shaped IsPlain own
+
+pub makes_ordered : {rules : List (core.Rule Trees)} → EachMakes AllShaped rules →
+    Makes AllShaped (core.in_order rules)
+makes_ordered h = shapes.makes_ordered AllShaped tt append_shaped h
 
 -- acts
 
@@ -349,7 +386,7 @@ called_makes frames function h =
     (rows.passed where_to (acts.values_of operands) ++ leaf (head.Call body) ∷ [])
     (all_statements operands so)
     (push_shaped (rows.passed where_to (acts.values_of operands)) (leaf (head.Call body))
-    (passed_shaped where_to (acts.values_of operands)) (leaf_shaped (head.Call body) refl)))))
+    (passed_shaped where_to (acts.values_of operands)) (leaf_shaped (head.Call body) refl tt)))))
 
 each_used_makes : (rs : List rows.Rows) → AllByRecursion MakesRows rs →
     EachMakes Good (map (λ row. row.used) rs)
@@ -364,10 +401,11 @@ valueless_makes h =
 taken_in_makes : (function : KnownFunction) → Makes Good (rows.taken_in function)
 taken_in_makes function =
     makes_freshly Good (object_type (known_result function))
-    (λ t. valued (input t.base ∷ []) (scalar t)) (λ t. (leaf_shaped (head.Input t.base) refl, tt))
+    (λ t. valued (input t.base ∷ []) (scalar t))
+    (λ t. (leaf_shaped (head.Input t.base) refl tt, tt))
 
 stop_makes : Makes AllShaped (core.gives (leaf head.Stop ∷ []))
-stop_makes = makes AllShaped (leaf head.Stop ∷ []) (leaf_shaped head.Stop refl, tt)
+stop_makes = makes AllShaped (leaf head.Stop ∷ []) (leaf_shaped head.Stop refl tt, tt)
 
 first_makes : (rs : List rows.Rows) → AllByRecursion MakesRows rs →
     Makes AllShaped (rows.first_unused rs)
@@ -377,13 +415,13 @@ first_makes (r ∷ rs) h = h.0.unused
 known_unused_makes : (function : KnownFunction) (rs : List rows.Rows) →
     AllByRecursion MakesRows rs → Makes AllShaped (rows.known_unused function rs)
 known_unused_makes known.ReachError rs h =
-    makes AllShaped (leaf head.Error ∷ []) (leaf_shaped head.Error refl, tt)
+    makes AllShaped (leaf head.Error ∷ []) (leaf_shaped head.Error refl tt, tt)
 known_unused_makes known.Abort rs h = stop_makes
 known_unused_makes known.AssertFail rs h = stop_makes
 known_unused_makes known.Exit rs h =
     makes_then (λ before. core.gives (before ++ leaf head.Stop ∷ [])) (first_makes rs h)
     (λ before is. makes AllShaped (before ++ leaf head.Stop ∷ [])
-    (push_shaped before (leaf head.Stop) is (leaf_shaped head.Stop refl)))
+    (push_shaped before (leaf head.Stop) is (leaf_shaped head.Stop refl tt)))
 known_unused_makes known.InputBool rs h = only_makes (taken_in_makes known.InputBool)
 known_unused_makes known.InputChar rs h = only_makes (taken_in_makes known.InputChar)
 known_unused_makes known.InputUnsignedChar rs h = only_makes

@@ -14,7 +14,6 @@ use Rattle.c_core_rules.specs.declared.tree.CoreTree.TheFolds.{fold-roll-CoreTre
 use Rattle.c_core_rules.specs.declared.tree.Head.{Head}
 use Rattle.c_core_rules.specs.declared.tree.Head.TheVariants as head
 use Rattle.c_core_rules.specs.declared.tree.Location.{Location}
-use Rattle.c_core_rules.specs.declared.tree.Valued.{Valued}
 use Rattle.c_core_rules.specs.Values.{cell_at, conv, first_index}
 use Rattle.c_core_rules.specs.Trees.{Trees, leaf, block, choice, repeated, write, set}
 use Rattle.c_core_rules.specs.Cells.{Taken}
@@ -57,26 +56,26 @@ parts_are labels head.Leave numbers has = no_part numbers has
 parts_are labels head.Stop numbers has = no_part numbers has
 parts_are labels head.Error numbers has = no_part numbers has
 
-abbrev pub PlacedFits : Placed → Type 0
-PlacedFits p = HasParts p.head (length p.sizes)
+-- a head that is no label, no loop and no jump
+abbrev pub IsPlain : Head → Type 0
+IsPlain head.Labeled = ⊥
+IsPlain head.Loop = ⊥
+IsPlain (head.Goto label) = ⊥
+IsPlain head.Break = ⊥
+IsPlain head.Continue = ⊥
+IsPlain head.Leave = ⊥
+IsPlain _ = Unit {0}
 
--- each statement of a tree has the parts of its head
-pub record Shaped (t : CoreTree) : Type 0 where
-  pub all : AllByRecursion PlacedFits (statements t)
+-- so many parts, and a head of this kind
+abbrev pub PlacedFits : (Head → Type 0) → Placed → Type 0
+PlacedFits H p = HasParts p.head (length p.sizes) × H p.head
 
-abbrev pub AllShaped : Trees → Type 0
-AllShaped trees = AllByRecursion Shaped trees
+-- each statement of a tree has the parts of its head, which is of this kind
+pub record Shaped (H : Head → Type 0) (t : CoreTree) : Type 0 where
+  pub all : AllByRecursion (PlacedFits H) (statements t)
 
-fits_append : (a b : List Placed) → AllByRecursion PlacedFits a → AllByRecursion PlacedFits b →
-    AllByRecursion PlacedFits (a ++ b)
-fits_append [] b h k = k
-fits_append (p ∷ a) b h k = (h.0, fits_append a b h.1 k)
-
-pub joined_fit : (trees : Trees) → AllShaped trees →
-    AllByRecursion PlacedFits (joined (map statements trees))
-joined_fit [] h = tt
-joined_fit (t ∷ trees) h =
-    fits_append (statements t) (joined (map statements trees)) h.0.all (joined_fit trees h.1)
+abbrev pub AllShaped : (Head → Type 0) → Trees → Type 0
+AllShaped H trees = AllByRecursion (Shaped H) trees
 
 pub node_placed : (h : Head) (parts : Trees) →
     statements (Node h parts)
@@ -86,57 +85,69 @@ node_placed h parts =
     ap statements (sym (rolls-Node h parts))
     ∙ fold-roll-CoreTree (List Placed) node_statements (CoreTree-F.Node h parts)
 
-pub shaped_node : (h : Head) (parts : Trees) → HasParts h (length parts) → AllShaped parts →
-    Shaped (Node h parts)
-shaped_node h parts has all =
-    let sizes : List ℕ = map length (map statements parts) in
-    let many : length sizes ≡ length parts =
-    length-map (map statements parts) (λ (placed : List Placed). length placed)
-    ∙ length-map parts statements in
-    record {
-      all = subst (AllByRecursion PlacedFits) (sym (node_placed h parts))
-          (subst (HasParts h) (sym many) has, joined_fit parts all);
-    }
+module _ (H : Head → Type 0) (plain : (h : Head) → IsPlain h → H h) where
+  fits_append : (a b : List Placed) → AllByRecursion (PlacedFits H) a →
+      AllByRecursion (PlacedFits H) b → AllByRecursion (PlacedFits H) (a ++ b)
+  fits_append [] b h k = k
+  fits_append (p ∷ a) b h k = (h.0, fits_append a b h.1 k)
 
-pub leaf_shaped : (h : Head) → HasParts h 0 → Shaped (leaf h)
-leaf_shaped h has = shaped_node h [] has tt
+  pub joined_fit : (trees : Trees) → AllShaped H trees →
+      AllByRecursion (PlacedFits H) (joined (map statements trees))
+  joined_fit [] h = tt
+  joined_fit (t ∷ trees) h =
+      fits_append (statements t) (joined (map statements trees)) h.0.all (joined_fit trees h.1)
 
-pub set_shaped : (place : Location) (v : Expr) → Shaped (set place v)
-set_shaped place v =
-    leaf_shaped (head.Assign place.base place.len first_index (conv v place.ty)) refl
+  pub shaped_node : (h : Head) (parts : Trees) → HasParts h (length parts) → H h →
+      AllShaped H parts → Shaped H (Node h parts)
+  shaped_node h parts has is all =
+      let sizes : List ℕ = map length (map statements parts) in
+      let many : length sizes ≡ length parts =
+      length-map (map statements parts) (λ (placed : List Placed). length placed)
+      ∙ length-map parts statements in
+      record {
+        all = subst (AllByRecursion (PlacedFits H)) (sym (node_placed h parts))
+            ((subst (HasParts h) (sym many) has, is), joined_fit parts all);
+      }
 
-pub write_shaped : (place : Location) (index v : Expr) → Shaped (write place index v)
-write_shaped place index v =
-    leaf_shaped (head.Assign place.base place.len index (conv v place.ty)) refl
+  pub leaf_shaped : (h : Head) → HasParts h 0 → H h → Shaped H (leaf h)
+  leaf_shaped h has is = shaped_node h [] has is tt
 
-pub block_shaped : (items : Trees) → AllShaped items → Shaped (block items)
-block_shaped items all = shaped_node head.Block items tt all
+  pub set_shaped : (place : Location) (v : Expr) → Shaped H (set place v)
+  set_shaped place v =
+      let h = head.Assign place.base place.len first_index (conv v place.ty) in
+      leaf_shaped h refl (plain h tt)
 
-pub choice_shaped : (test : Expr) (first second : Trees) → AllShaped first → AllShaped second →
-    Shaped (choice test first second)
-choice_shaped test first second a b =
-    shaped_node (head.If test) (block first ∷ block second ∷ []) refl
-    (block_shaped first a, (block_shaped second b, tt))
+  pub write_shaped : (place : Location) (index v : Expr) → Shaped H (write place index v)
+  write_shaped place index v =
+      let h = head.Assign place.base place.len index (conv v place.ty) in
+      leaf_shaped h refl (plain h tt)
 
-pub repeated_shaped : (body step : Trees) → AllShaped body → AllShaped step →
-    Shaped (repeated body step)
-repeated_shaped body step a b =
-    shaped_node head.Loop (block body ∷ block step ∷ []) refl
-    (block_shaped body a, (block_shaped step b, tt))
+  pub block_shaped : (items : Trees) → AllShaped H items → Shaped H (block items)
+  block_shaped items all = shaped_node head.Block items tt (plain head.Block tt) all
 
-pub append_shaped : (xs ys : Trees) → AllShaped xs → AllShaped ys → AllShaped (xs ++ ys)
-append_shaped [] ys a b = b
-append_shaped (t ∷ xs) ys a b = (a.0, append_shaped xs ys a.1 b)
+  pub choice_shaped : (test : Expr) (first second : Trees) → AllShaped H first →
+      AllShaped H second → Shaped H (choice test first second)
+  choice_shaped test first second a b =
+      shaped_node (head.If test) (block first ∷ block second ∷ []) refl (plain (head.If test) tt)
+      (block_shaped first a, (block_shaped second b, tt))
 
-pub push_shaped : (xs : Trees) (t : CoreTree) → AllShaped xs → Shaped t → AllShaped (xs ++ t ∷ [])
-push_shaped xs t a b = append_shaped xs (t ∷ []) a (b, tt)
+  pub repeated_shaped : (body step : Trees) → H head.Loop → AllShaped H body →
+      AllShaped H step → Shaped H (repeated body step)
+  repeated_shaped body step is a b =
+      shaped_node head.Loop (block body ∷ block step ∷ []) refl is
+      (block_shaped body a, (block_shaped step b, tt))
+
+  pub append_shaped : (xs ys : Trees) → AllShaped H xs → AllShaped H ys → AllShaped H (xs ++ ys)
+  append_shaped [] ys a b = b
+  append_shaped (t ∷ xs) ys a b = (a.0, append_shaped xs ys a.1 b)
+
+  pub push_shaped : (xs : Trees) (t : CoreTree) → AllShaped H xs → Shaped H t →
+      AllShaped H (xs ++ t ∷ [])
+  push_shaped xs t a b = append_shaped xs (t ∷ []) a (b, tt)
 
 -- what a rule makes, whatever is taken before it
 pub record Makes {S : Type 0} (P : S → Type 0) (rule : core.Rule S) : Type 0 where
   pub at : (taken : Taken) → P (rule taken).made
-
-abbrev pub Good : Valued → Type 0
-Good v = AllShaped v.statements
 
 pub makes : {S : Type 0} (P : S → Type 0) (x : S) → P x → Makes P (core.gives x)
 makes P x h = record { at = λ taken. h }
@@ -176,11 +187,12 @@ makes_each P (more_make {rule = rule} {rules = rules} h more) =
     (λ x is. makes_then (λ rest. core.gives (x ∷ rest)) (makes_each P more)
     (λ xs are. makes (AllByRecursion P) (x ∷ xs) (is, are)))
 
-pub makes_ordered : {rules : List (core.Rule Trees)} → EachMakes AllShaped rules →
-    Makes AllShaped (core.in_order rules)
-makes_ordered none_makes = makes AllShaped [] tt
-makes_ordered (more_make {rule = rule} {rules = rules} h more) =
-    makes_then (λ before. core.then_by (core.in_order rules) (λ behind. core.gives
-    (before ++ behind)))
-    h (λ x is. makes_then (λ behind. core.gives (x ++ behind)) (makes_ordered more)
-    (λ xs are. makes AllShaped (x ++ xs) (append_shaped x xs is are)))
+pub makes_ordered : (P : Trees → Type 0) → P [] →
+    ((xs ys : Trees) → P xs → P ys → P (xs ++ ys)) → {rules : List (core.Rule Trees)} →
+    EachMakes P rules → Makes P (core.in_order rules)
+makes_ordered P none behind none_makes = makes P [] none
+makes_ordered P none behind (more_make {rule = rule} {rules = rules} h more) =
+    makes_then (λ before. core.then_by (core.in_order rules)
+    (λ after. core.gives (before ++ after)))
+    h (λ x is. makes_then (λ after. core.gives (x ++ after)) (makes_ordered P none behind more)
+    (λ xs are. makes P (x ++ xs) (behind x xs is are)))

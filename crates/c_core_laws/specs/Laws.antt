@@ -1,5 +1,7 @@
 -- The laws of the core of a typed text.
-use Rattle.std.specs.Prelude.{◌≡◌, ℕ, ◌<◌, List, length}
+use Rattle.std.specs.Prelude.{◌≡◌, ℕ, ◌<◌, List, length, map}
+use Rattle.std.specs.List.{AllByRecursion}
+use Rattle.cpa_ints.specs.Integers.{IsInRange}
 use Rattle.cpa_model.specs.declared.program.Program.{Program}
 use Rattle.c_tree.specs.declared.item.Unit.{Unit as UnitTree}
 use Rattle.cpa_model.specs.Programs.{IsNumbered}
@@ -8,7 +10,8 @@ use Rattle.c_rules.specs.declared.typed.Global.{Global}
 use Rattle.c_rules.specs.declared.typed.TypedFunction.{TypedFunction}
 use Rattle.c_rules.specs.Names.{Text}
 use Rattle.c_rules.specs.Sound.{counts, typed_parts, typed_unit, Sound}
-use Rattle.c_core_rules.specs.Programs.{IsCore}
+use Rattle.c_core_rules.specs.Programs.{IsCore, text_core}
+use Rattle.c_core_laws.specs.Jumps.{tree_jumps, function_jumps}
 use Rattle.c_core_laws.specs.Sizes.{IsCounted, IsSmall}
 use Rattle.c_core_laws.specs.Numbers.{ArePromoted, unit_types}
 use Rattle.c_core_laws.specs.Starts.{IsLaidOut}
@@ -39,3 +42,12 @@ abbrev pub CoresHaveAMain : Type 0
 CoresHaveAMain =
     (tree : UnitTree) (P : Program) → Sound tree → IsCore (typed_unit tree) P
     → P.main < length P.bodies
+
+abbrev pub CellsStartInRange : Type 0
+CellsStartInRange =
+    (tree : UnitTree) (P : Program) → Sound tree → ArePromoted (unit_types (typed_unit tree))
+    → IsCore (typed_unit tree) P → AllByRecursion (λ cell. IsInRange cell.ty cell.start) P.cells
+
+abbrev pub JumpsAreKept : Type 0
+JumpsAreKept =
+    (unit : TypedUnit) → map tree_jumps (text_core unit).made ≡ map function_jumps unit.functions

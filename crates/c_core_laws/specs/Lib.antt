@@ -1,4 +1,5 @@
 pub mod Sizes
 pub mod Numbers
 pub mod Starts
+pub mod Jumps
 pub mod Laws

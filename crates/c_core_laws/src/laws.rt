@@ -1,6 +1,7 @@
 //! Laws on the core of a typed text: functions with an empty body, whose contract is the law.
 ghost use Rattle.c_core_laws.specs.Laws.{CoresAreCounted, CoresAreNumbered, CoresAreSmall, OneCore};
-ghost use Rattle.c_core_laws.specs.Laws.{CoresHaveAMain, TextsAreLaidOut};
+ghost use Rattle.c_core_laws.specs.Laws.{CellsStartInRange, CoresHaveAMain, JumpsAreKept};
+ghost use Rattle.c_core_laws.specs.Laws.{TextsAreLaidOut};
 
 /// A typed text has one core.
 pub fn there_is_one_core()
@@ -33,4 +34,14 @@ pub fn cores_are_small()
 /// Of a sound text its main is one of its bodies.
 pub fn cores_have_a_main()
     ensures { CoresHaveAMain }
+{}
+
+/// Of a sound text each cell starts at a value of its type.
+pub fn cells_start_in_range()
+    ensures { CellsStartInRange }
+{}
+
+/// The tree of each function has the labels and the jumps of the typed function.
+pub fn jumps_are_kept()
+    ensures { JumpsAreKept }
 {}

@@ -5,6 +5,6 @@
 mod laws;
 
 pub use laws::{
-    cores_are_counted, cores_are_numbered, cores_are_small, cores_have_a_main, texts_are_laid_out,
-    there_is_one_core,
+    cells_start_in_range, cores_are_counted, cores_are_numbered, cores_are_small,
+    cores_have_a_main, jumps_are_kept, texts_are_laid_out, there_is_one_core,
 };

@@ -1,0 +1,465 @@
+-- Every statement, and every text, makes trees whose nodes have the parts of their heads, with the
+-- labels and jumps of the typed text.
+use Rattle.std.proofs.Common.{◌≡◌, ℕ, zero, suc, ◌+◌, ◌-◌, List, [], ◌∷◌, ◌++◌, map, length, Option}
+use Rattle.std.proofs.Common.{None, Some, refl, sym, subst, pos}
+use Rattle.cpa_ints.specs.declared.integers.IntType.{IntType}
+use Rattle.cpa_expr.specs.declared.tree.Expr.TheVariants.{Const}
+use Rattle.c_rules.specs.declared.meaning.Kind.{Kind}
+use Rattle.c_rules.specs.declared.meaning.Kind.TheVariants.{Void, Value}
+use Rattle.c_rules.specs.declared.meaning.Object.{Object}
+use Rattle.c_rules.specs.declared.typed.TypedExpression.{TypedExpression}
+use Rattle.c_rules.specs.declared.typed.TypedInitializer.{TypedInitializer}
+use Rattle.c_rules.specs.declared.typed.TypedInitializer.TheVariants as initializer
+use Rattle.c_rules.specs.declared.typed.TypedDeclarator.{TypedDeclarator}
+use Rattle.c_rules.specs.declared.typed.TypedForStart.{TypedForStart}
+use Rattle.c_rules.specs.declared.typed.TypedForStart.TheVariants as start
+use Rattle.c_rules.specs.declared.typed.TypedItem.{TypedItem, roll-TypedItem}
+use Rattle.c_rules.specs.declared.typed.TypedItem.TheOpen.{TypedItem-F, TypedStatement-F}
+use Rattle.c_rules.specs.declared.typed.TypedItem.TheFolds.{map-TypedItem, map-TypedStatement}
+use Rattle.c_rules.specs.declared.typed.TypedItem.TheFolds.{ind-TypedItem}
+use Rattle.c_rules.specs.declared.typed.TypedStatement.{TypedStatement, roll-TypedStatement}
+use Rattle.c_rules.specs.declared.typed.TypedFunction.{TypedFunction}
+use Rattle.c_rules.specs.declared.typed.TypedUnit.{TypedUnit}
+use Rattle.c_rules.specs.declared.typed.Global.{Global}
+use Rattle.c_rules.specs.Types.{object_type}
+use Rattle.c_rules.specs.Counts.{cells_of}
+use Rattle.c_core_rules.specs.declared.tree.CoreTree.{CoreTree}
+use Rattle.c_core_rules.specs.declared.tree.CoreTree.TheVariants.{Node}
+use Rattle.c_core_rules.specs.declared.tree.Head.{Head}
+use Rattle.c_core_rules.specs.declared.tree.Head.TheVariants as head
+use Rattle.c_core_rules.specs.declared.tree.Location.{Location}
+use Rattle.c_core_rules.specs.Values.{cell_at}
+use Rattle.c_core_rules.specs.Trees.{Trees, leaf, block, choice, repeated, set}
+use Rattle.c_core_rules.specs.Cells.{nothing_taken}
+use Rattle.c_core_rules.specs.Cells as core
+use Rattle.c_core_rules.specs.Expressions as rows
+use Rattle.c_core_rules.specs.Statements as statement
+use Rattle.c_core_rules.specs.Programs.{text_core, frames_of}
+use Rattle.c_rules.specs.declared.typed.TypedItem.TheFolds.{fold-TypedStatement}
+use Rattle.c_rules.specs.declared.typed.TypedItem.TheFolds.{fold-roll-TypedItem}
+use Rattle.c_rules.specs.declared.typed.TypedItem.TheFolds.{fold-roll-TypedStatement}
+use Rattle.std.proofs.Common.{Bool, true, false, ap, ◌∙◌, arith}
+use Rattle.std.proofs.lemmas.List.{append-nil}
+use Rattle.c_core_laws.specs.Jumps.{Jumps, no_jumps, then_jumps, all_jumps, labelled, in_loop, goto}
+use Rattle.c_core_laws.specs.Jumps.{leaving, statement_jumps, item_layer_jumps}
+use Rattle.c_core_laws.specs.Jumps.{item_jumps, function_jumps, tree_jumps}
+use Rattle.c_core_laws.proofs.CoreItems.{core_statement, open_core_item, open_core_statement}
+use Rattle.c_core_laws.proofs.Shapes.{Makes, makes, makes_then, makes_freshly, makes_at}
+use Rattle.c_core_laws.proofs.Shapes.{EachMakes, none_makes, more_make}
+use Rattle.c_core_laws.proofs.ShapedRows.{AllShaped, set_shaped}
+use Rattle.c_core_laws.proofs.ShapedRows.{leaf_shaped, append_shaped, push_shaped, makes_ordered}
+use Rattle.c_core_laws.proofs.ShapedExpressions.{expression_makes}
+use Rattle.c_core_laws.proofs.ItemsCounted.{for_tree}
+use Rattle.c_core_laws.proofs.TextCounted.{function_from}
+use Rattle.c_core_laws.proofs.Jumping.{Has, TreeHas, has_none, has_plain, has_append, has_one}
+use Rattle.c_core_laws.proofs.Jumping.{plain_then, leaf_has, block_has, choice_has, loop_has}
+use Rattle.c_core_laws.proofs.Jumping.{node_has}
+use Rattle.c_core_laws.proofs.Jumping.{jumps_is, AllAny}
+
+-- anything
+abbrev Any : {S : Type 0} → S → Type 0
+Any x = Unit {0}
+
+any_makes : {S : Type 0} (rule : core.Rule S) → Makes Any rule
+any_makes rule = record { at = λ taken. tt }
+
+makes_weaker : {S : Type 0} {P Q : S → Type 0} {rule : core.Rule S} → ((x : S) → P x → Q x) →
+    Makes P rule → Makes Q rule
+makes_weaker {rule = rule} f h = record { at = λ taken. f (rule taken).made (h.at taken) }
+
+quietly : {rule : core.Rule Trees} → Makes AllShaped rule → Makes (Has no_jumps) rule
+quietly h = makes_weaker has_plain h
+
+inputs_shaped : (first n : ℕ) → AllShaped (statement.inputs first n)
+inputs_shaped first zero = tt
+inputs_shaped first (suc n) = (leaf_shaped (head.Input first) refl tt, inputs_shaped (first + 1) n)
+
+zeros_shaped : (t : IntType) (first n : ℕ) → AllShaped (statement.zeros t first n)
+zeros_shaped t first zero = tt
+zeros_shaped t first (suc n) =
+    (set_shaped (cell_at t first) (Const t (pos 0)), zeros_shaped t (first + 1) n)
+
+resulting_makes : (kind : Kind) → Makes AllShaped (statement.resulting kind)
+resulting_makes Void = makes AllShaped [] tt
+resulting_makes (Value t) =
+    makes_freshly AllShaped t (λ place. set place (Const t (pos 0)) ∷ [])
+    (λ place. (set_shaped place (Const t (pos 0)), tt))
+
+-- some jumps, but no label and no goto
+pub record Loose (trees : Trees) : Type 0 where
+  pub loose : Bool
+  pub has : Has (record { labels = 0; gotos = []; loose = loose }) trees
+
+break_has : Has leaving (leaf head.Break ∷ [])
+break_has = has_one leaving (leaf head.Break) (leaf_has head.Break refl)
+
+no_label : (n : ℕ) → 0 + n ≡ n
+no_label n = omega arith
+
+label_none : (n : ℕ) → n + 0 ≡ n
+label_none n = omega arith
+
+-- what a loop has where it is left by a break
+front_loop : (a : Jumps) (loose : Bool) →
+    in_loop (then_jumps (then_jumps (record { labels = 0; gotos = []; loose = loose }) a) no_jumps)
+    ≡ in_loop a
+front_loop a loose =
+    jumps_is (in_loop (then_jumps (then_jumps (record { labels = 0; gotos = []; loose = loose }) a)
+    no_jumps)) (in_loop a) (label_none (0 + a.labels) ∙ no_label a.labels) (append-nil a.gotos) refl
+
+behind_loop : (a : Jumps) (loose : Bool) →
+    in_loop (then_jumps a (record { labels = 0; gotos = []; loose = loose })) ≡ in_loop a
+behind_loop a loose =
+    jumps_is (in_loop (then_jumps a (record { labels = 0; gotos = []; loose = loose }))) (in_loop a)
+    (label_none a.labels) (append-nil a.gotos) refl
+
+at_jumps : (a b : Jumps) (trees : Trees) → a ≡ b → Has a trees → Has b trees
+at_jumps a b trees is h = subst (λ (c : Jumps). Has c trees) is h
+
+front_has : (a : Jumps) (front inside behind : Trees) → Loose front → Has a inside →
+    Has no_jumps behind → Has (in_loop a) (repeated (front ++ inside) behind ∷ [])
+front_has a front inside behind f h k =
+    let b : Jumps = record { labels = 0; gotos = []; loose = f.loose } in
+    at_jumps (in_loop (then_jumps (then_jumps b a) no_jumps)) (in_loop a)
+    (repeated (front ++ inside) behind ∷ []) (front_loop a f.loose)
+    (has_one (in_loop (then_jumps (then_jumps b a) no_jumps)) (repeated (front ++ inside) behind)
+    (loop_has (then_jumps b a) no_jumps (front ++ inside) behind
+    (has_append b a front inside f.has h) k))
+
+behind_has : (a : Jumps) (inside behind : Trees) → Has a inside → Loose behind →
+    Has (in_loop a) (repeated inside behind ∷ [])
+behind_has a inside behind h f =
+    let b : Jumps = record { labels = 0; gotos = []; loose = f.loose } in
+    at_jumps (in_loop (then_jumps a b)) (in_loop a) (repeated inside behind ∷ [])
+    (behind_loop a f.loose)
+    (has_one (in_loop (then_jumps a b)) (repeated inside behind)
+    (loop_has a b inside behind h f.has))
+
+-- rules in order
+pub data EachHas : List (core.Rule Trees) → List Jumps → Type 0 where
+  none_has : EachHas [] []
+  more_has : {rule : core.Rule Trees} {a : Jumps} {rules : List (core.Rule Trees)}
+      {all : List Jumps} → Makes (Has a) rule → EachHas rules all
+      → EachHas (rule ∷ rules) (a ∷ all)
+
+ordered_has : {rules : List (core.Rule Trees)} {all : List Jumps} → EachHas rules all →
+    Makes (Has (all_jumps all)) (core.in_order rules)
+ordered_has none_has = makes (Has no_jumps) [] has_none
+ordered_has (more_has {rule = rule} {a = a} {rules = rules} {all = all} h more) =
+    makes_then (λ before. core.then_by (core.in_order rules)
+    (λ behind. core.gives (before ++ behind)))
+    h (λ x is. makes_then (λ behind. core.gives (x ++ behind)) (ordered_has more)
+    (λ xs are. makes (Has (then_jumps a (all_jumps all))) (x ++ xs)
+    (has_append a (all_jumps all) x xs is are)))
+
+one_makes : (a : Jumps) (h : Head) → TreeHas a (leaf h) → Makes (Has a) (core.gives (leaf h ∷ []))
+one_makes a h has = makes (Has a) (leaf h ∷ []) (has_one a (leaf h) has)
+
+as_one_makes : (a b : Jumps) (make : Trees → CoreTree) {r : core.Rule Trees} →
+    ((trees : Trees) → Has a trees → TreeHas b (make trees)) → Makes (Has a) r →
+    Makes (Has b) (statement.as_one make r)
+as_one_makes a b make made h =
+    makes_then (λ inside. core.gives (make inside ∷ [])) h
+    (λ inside is. makes (Has b) (make inside ∷ []) (has_one b (make inside) (made inside is)))
+
+module _ (frames : rows.Frames) where
+  unused_makes : (e : Option TypedExpression) → Makes AllShaped (statement.some_unused frames e)
+  unused_makes None = makes AllShaped [] tt
+  unused_makes (Some e) = (expression_makes frames e).unused
+
+  initialized_makes : (place : Location) (e : TypedExpression) →
+      Makes AllShaped (statement.initialized frames place e)
+  initialized_makes place e =
+      makes_then (λ v. core.gives (v.statements ++ set place v.value ∷ []))
+      (expression_makes frames e).used
+      (λ v is. makes AllShaped (v.statements ++ set place v.value ∷ [])
+      (push_shaped v.statements (set place v.value) is (set_shaped place v.value)))
+
+  each_initialized : (t : IntType) (first : ℕ) (items : List TypedExpression) →
+      EachMakes AllShaped (statement.initialized_each frames t first items)
+  each_initialized t first [] = none_makes
+  each_initialized t first (item ∷ items) =
+      more_make (initialized_makes (cell_at t first) item) (each_initialized t (first + 1) items)
+
+  initializing_makes : (object : Object) (given : Option TypedInitializer) (first : ℕ) →
+      Makes AllShaped (statement.initializing frames object given first)
+  initializing_makes object None first =
+      makes AllShaped (statement.inputs first (cells_of object))
+      (inputs_shaped first (cells_of object))
+  initializing_makes object (Some (initializer.Scalar value)) first =
+      initialized_makes (cell_at object.ty first) value
+  initializing_makes object (Some (initializer.List items)) first =
+      let behind = statement.zeros object.ty (first + length items)
+      (cells_of object - length items) in
+      makes_then (λ before. core.gives (before ++ behind))
+      (makes_ordered (each_initialized object.ty first items))
+      (λ before is. makes AllShaped (before ++ behind) (append_shaped before behind is
+      (zeros_shaped object.ty (first + length items) (cells_of object - length items))))
+
+  declared_makes : (declarator : TypedDeclarator) →
+      Makes AllShaped (statement.declared frames declarator)
+  declared_makes declarator =
+      makes_then (statement.initializing frames declarator.object declarator.initializer)
+      (any_makes (core.taking declarator.object []))
+      (λ first is. initializing_makes declarator.object declarator.initializer first)
+
+  each_declared : (declarators : List TypedDeclarator) →
+      EachMakes AllShaped (map (statement.declared frames) declarators)
+  each_declared [] = none_makes
+  each_declared (declarator ∷ declarators) =
+      more_make (declared_makes declarator) (each_declared declarators)
+
+  started_makes : (first : TypedForStart) → Makes AllShaped (statement.started frames first)
+  started_makes (start.Declaration declarators) = makes_ordered (each_declared declarators)
+  started_makes (start.Expression expression) = unused_makes expression
+
+  left_makes : (test : Option TypedExpression) → Makes Loose (statement.left_unless frames test)
+  left_makes None = makes Loose [] (record { loose = false; has = has_none })
+  left_makes (Some test) =
+      makes_then (λ v. core.gives (statement.leaving v)) (expression_makes frames test).used
+      (λ v is. makes Loose (statement.leaving v) (record {
+        loose = true;
+        has = plain_then leaving v.statements (choice v.value [] (leaf head.Break ∷ []) ∷ []) is
+            (has_one leaving (choice v.value [] (leaf head.Break ∷ []))
+            (choice_has no_jumps leaving v.value [] (leaf head.Break ∷ []) has_none break_has));
+      }))
+
+  returned_makes : (place : Location) (value : Option TypedExpression) →
+      Makes (Has no_jumps) (statement.returned frames place value)
+  returned_makes place None = one_makes no_jumps head.Leave (leaf_has head.Leave refl)
+  returned_makes place (Some value) =
+      makes_then (λ before. core.gives (before ++ leaf head.Leave ∷ []))
+      (initialized_makes place value)
+      (λ before is. makes (Has no_jumps) (before ++ leaf head.Leave ∷ [])
+      (plain_then no_jumps before (leaf head.Leave ∷ []) is
+      (has_one no_jumps (leaf head.Leave) (leaf_has head.Leave refl))))
+
+  if_makes : (test : TypedExpression) (p q : Jumps) {a b : core.Rule Trees} → Makes (Has p) a →
+      Makes (Has q) b →
+      Makes (Has (then_jumps p q)) (core.then_by (rows.rows frames test).used
+      (λ v. core.then_by a (λ x. core.then_by b (λ y.
+      core.gives (v.statements ++ choice v.value x y ∷ [])))))
+  if_makes test p q {a = a} {b = b} first second =
+      makes_then (λ v. core.then_by a (λ x. core.then_by b (λ y.
+      core.gives (v.statements ++ choice v.value x y ∷ [])))) (expression_makes frames test).used
+      (λ v is. makes_then (λ x. core.then_by b (λ y.
+      core.gives (v.statements ++ choice v.value x y ∷ []))) first
+      (λ x so. makes_then (λ y. core.gives (v.statements ++ choice v.value x y ∷ [])) second
+      (λ y also. makes (Has (then_jumps p q)) (v.statements ++ choice v.value x y ∷ [])
+      (plain_then (then_jumps p q) v.statements (choice v.value x y ∷ []) is
+      (has_one (then_jumps p q) (choice v.value x y) (choice_has p q v.value x y so also))))))
+
+while_makes : (p : Jumps) {a b : core.Rule Trees} → Makes Loose a → Makes (Has p) b →
+    Makes (Has (in_loop p)) (core.then_by a (λ front. core.then_by b (λ inside.
+    core.gives (repeated (front ++ inside) [] ∷ []))))
+while_makes p {b = b} test body =
+    makes_then (λ front. core.then_by b (λ inside.
+    core.gives (repeated (front ++ inside) [] ∷ []))) test
+    (λ front is. makes_then (λ inside. core.gives (repeated (front ++ inside) [] ∷ [])) body
+    (λ inside so. makes (Has (in_loop p)) (repeated (front ++ inside) [] ∷ [])
+    (front_has p front inside [] is so has_none)))
+
+do_makes : (p : Jumps) {a b : core.Rule Trees} → Makes (Has p) a → Makes Loose b →
+    Makes (Has (in_loop p)) (core.then_by a (λ inside. core.then_by b (λ behind.
+    core.gives (repeated inside behind ∷ []))))
+do_makes p {b = b} body test =
+    makes_then (λ inside. core.then_by b (λ behind. core.gives (repeated inside behind ∷ []))) body
+    (λ inside is. makes_then (λ behind. core.gives (repeated inside behind ∷ [])) test
+    (λ behind so. makes (Has (in_loop p)) (repeated inside behind ∷ [])
+    (behind_has p inside behind is so)))
+
+for_makes : (a : Jumps) {p q r s : core.Rule Trees} → Makes AllShaped p → Makes Loose q →
+    Makes (Has a) r → Makes AllShaped s →
+    Makes (Has (in_loop a)) (core.then_by p (λ before. core.then_by q (λ front.
+    core.then_by r (λ inside. core.then_by s (λ behind.
+    core.gives (for_tree before front inside behind ∷ []))))))
+for_makes a {q = q} {r = r} {s = s} first test body step =
+    makes_then (λ before. core.then_by q (λ front. core.then_by r (λ inside. core.then_by s
+    (λ behind. core.gives (for_tree before front inside behind ∷ []))))) first
+    (λ before f. makes_then (λ front. core.then_by r (λ inside. core.then_by s
+    (λ behind. core.gives (for_tree before front inside behind ∷ [])))) test
+    (λ front t. makes_then (λ inside. core.then_by s
+    (λ behind. core.gives (for_tree before front inside behind ∷ []))) body
+    (λ inside h. makes_then (λ behind. core.gives (for_tree before front inside behind ∷ [])) step
+    (λ behind k. makes (Has (in_loop a)) (for_tree before front inside behind ∷ [])
+    (has_one (in_loop a) (for_tree before front inside behind)
+    (block_has (in_loop a) (before ++ repeated (front ++ inside) behind ∷ [])
+    (plain_then (in_loop a) before (repeated (front ++ inside) behind ∷ []) f
+    (front_has a front inside behind t h (has_plain behind k)))))))))
+
+abbrev jumps_in : TypedStatement → Jumps
+jumps_in = fold-TypedStatement Jumps Jumps item_layer_jumps statement_jumps
+
+open_item_jumps : (x : TypedItem-F TypedItem TypedStatement) →
+    item_jumps (roll-TypedItem x)
+    ≡ item_layer_jumps (map-TypedItem TypedItem TypedStatement Jumps Jumps item_jumps jumps_in x)
+unfolding item_jumps
+open_item_jumps x = fold-roll-TypedItem Jumps Jumps item_layer_jumps statement_jumps x
+
+open_jumps : (x : TypedStatement-F TypedItem TypedStatement) →
+    jumps_in (roll-TypedStatement x)
+    ≡ statement_jumps (map-TypedStatement TypedItem TypedStatement Jumps Jumps item_jumps
+    jumps_in x)
+unfolding item_jumps
+open_jumps x = fold-roll-TypedStatement Jumps Jumps item_layer_jumps statement_jumps x
+
+module _ (frames : rows.Frames) (place : Location) where
+  abbrev pub ItemKeeps : TypedItem → Type 0
+  ItemKeeps item = Makes (Has (item_jumps item)) (statement.item_rule frames place item)
+
+  abbrev StatementKeeps : TypedStatement → Type 0
+  StatementKeeps s = Makes (Has (jumps_in s)) (core_statement frames place s)
+
+  abbrev HeldItem : Type 0
+  HeldItem = (item : TypedItem) × ItemKeeps item
+
+  abbrev HeldStatement : Type 0
+  HeldStatement = (s : TypedStatement) × StatementKeeps s
+
+  abbrev bare_item : TypedItem-F HeldItem HeldStatement → TypedItem-F TypedItem TypedStatement
+  bare_item y = map-TypedItem HeldItem HeldStatement TypedItem TypedStatement (λ e. e.0)
+      (λ e. e.0) y
+
+  abbrev bare : TypedStatement-F HeldItem HeldStatement → TypedStatement-F TypedItem TypedStatement
+  bare y = map-TypedStatement HeldItem HeldStatement TypedItem TypedStatement (λ e. e.0)
+      (λ e. e.0) y
+
+  abbrev core_item_layer : TypedItem-F HeldItem HeldStatement → core.Rule Trees
+  core_item_layer y = statement.item_step frames (map-TypedItem TypedItem TypedStatement
+      (core.Rule Trees) (core.Rule Trees) (statement.item_rule frames place)
+      (core_statement frames place) (bare_item y))
+
+  abbrev core_layer : TypedStatement-F HeldItem HeldStatement → core.Rule Trees
+  core_layer y = statement.statement_step frames place (map-TypedStatement TypedItem
+      TypedStatement (core.Rule Trees) (core.Rule Trees) (statement.item_rule frames place)
+      (core_statement frames place) (bare y))
+
+  abbrev jumps_layer : TypedStatement-F HeldItem HeldStatement → Jumps
+  jumps_layer y = statement_jumps (map-TypedStatement TypedItem TypedStatement Jumps Jumps
+      item_jumps jumps_in (bare y))
+
+  abbrev jumps_item_layer : TypedItem-F HeldItem HeldStatement → Jumps
+  jumps_item_layer y = item_layer_jumps (map-TypedItem TypedItem TypedStatement Jumps Jumps
+      item_jumps jumps_in (bare_item y))
+
+  each_item : (held : List HeldItem) →
+      EachHas (map (statement.item_rule frames place) (map (λ e. e.0) held))
+      (map item_jumps (map (λ e. e.0) held))
+  each_item [] = none_has
+  each_item (item ∷ held) = more_has item.1 (each_item held)
+
+  layer : (y : TypedStatement-F HeldItem HeldStatement) → Makes (Has (jumps_layer y)) (core_layer y)
+  layer (TypedStatement-F.Block items) =
+      let all = all_jumps (map item_jumps (map (λ (e : HeldItem). e.0) items)) in
+      as_one_makes all all block (block_has all) (ordered_has (each_item items))
+  layer (TypedStatement-F.Expression expression) = quietly (unused_makes frames expression)
+  layer (TypedStatement-F.If test first None) =
+      if_makes frames test (jumps_in first.0) no_jumps first.1 (makes (Has no_jumps) [] has_none)
+  layer (TypedStatement-F.If test first (Some second)) =
+      if_makes frames test (jumps_in first.0) (jumps_in second.0) first.1 second.1
+  layer (TypedStatement-F.While test body) =
+      while_makes (jumps_in body.0) (left_makes frames (Some test)) body.1
+  layer (TypedStatement-F.Do body test) =
+      do_makes (jumps_in body.0) body.1 (left_makes frames (Some test))
+  layer (TypedStatement-F.For first test step body) =
+      for_makes (jumps_in body.0) (started_makes frames first) (left_makes frames test) body.1
+      (unused_makes frames step)
+  layer (TypedStatement-F.Goto label) =
+      one_makes (goto label) (head.Goto label) (leaf_has (head.Goto label) refl)
+  layer TypedStatement-F.Break = one_makes leaving head.Break (leaf_has head.Break refl)
+  layer TypedStatement-F.Continue = one_makes leaving head.Continue (leaf_has head.Continue refl)
+  layer (TypedStatement-F.Return value) = returned_makes frames place value
+  layer (TypedStatement-F.Labeled label body) =
+      as_one_makes (jumps_in body.0) (labelled (jumps_in body.0)) (Node head.Labeled)
+      (λ trees h. node_has head.Labeled trees (jumps_in body.0) tt h) body.1
+
+  item_layer : (y : TypedItem-F HeldItem HeldStatement) →
+      Makes (Has (jumps_item_layer y)) (core_item_layer y)
+  item_layer (TypedItem-F.Declaration declarators) =
+      quietly (makes_ordered (each_declared frames declarators))
+  item_layer (TypedItem-F.Statement body) = body.1
+
+  at_statement : (y : TypedStatement-F HeldItem HeldStatement)
+      (x : TypedStatement-F TypedItem TypedStatement) → bare y ≡ x →
+      StatementKeeps (roll-TypedStatement x)
+  at_statement y x is =
+      subst (λ (z : TypedStatement-F TypedItem TypedStatement).
+      StatementKeeps (roll-TypedStatement z)) is
+      (subst (λ (r : core.Rule Trees). Makes (Has (jumps_in (roll-TypedStatement (bare y)))) r)
+      (sym (open_core_statement frames place (bare y)))
+      (subst (λ (a : Jumps). Makes (Has a) (core_layer y)) (sym (open_jumps (bare y))) (layer y)))
+
+  at_item : (y : TypedItem-F HeldItem HeldStatement)
+      (x : TypedItem-F TypedItem TypedStatement) → bare_item y ≡ x →
+      ItemKeeps (roll-TypedItem x)
+  at_item y x is =
+      subst (λ (z : TypedItem-F TypedItem TypedStatement). ItemKeeps (roll-TypedItem z)) is
+      (subst (λ (r : core.Rule Trees). Makes (Has (item_jumps (roll-TypedItem (bare_item y)))) r)
+      (sym (open_core_item frames place (bare_item y)))
+      (subst (λ (a : Jumps). Makes (Has a) (core_item_layer y))
+      (sym (open_item_jumps (bare_item y))) (item_layer y)))
+
+  pub item_keeps : (item : TypedItem) → ItemKeeps item
+  item_keeps =
+      ind-TypedItem ItemKeeps StatementKeeps (λ x y is. at_item y x is)
+      (λ x y is. at_statement y x is)
+
+  pub items_keep : (items : List TypedItem) →
+      EachHas (map (statement.item_rule frames place) items) (map item_jumps items)
+  items_keep [] = none_has
+  items_keep (item ∷ items) = more_has (item_keeps item) (items_keep items)
+
+from_makes : (frames : rows.Frames) (function : TypedFunction) (first : ℕ) →
+    Makes (TreeHas (function_jumps function)) (function_from frames function first)
+from_makes frames function first =
+    let place = cell_at (object_type function.result) first in
+    let items = core.in_order (map (statement.item_rule frames place) function.items) in
+    let all = function_jumps function in
+    makes_then (λ before. core.then_by (statement.receiving function.parameters) (λ u.
+    core.then_by items (λ inside. core.gives (block (before ++ inside)))))
+    (resulting_makes function.result)
+    (λ before is. makes_then (λ u. core.then_by items
+    (λ inside. core.gives (block (before ++ inside))))
+    (any_makes (statement.receiving function.parameters))
+    (λ u any. makes_then (λ inside. core.gives (block (before ++ inside)))
+    (ordered_has (items_keep frames place function.items))
+    (λ inside so. makes (TreeHas all) (block (before ++ inside))
+    (block_has all (before ++ inside) (plain_then all before inside is so)))))
+
+function_makes : (frames : rows.Frames) (function : TypedFunction) →
+    Makes (TreeHas (function_jumps function)) (statement.function_rule frames function)
+function_makes frames function =
+    makes_at (λ taken. function_from frames function (length taken.cells))
+    (λ taken. from_makes frames function (length taken.cells))
+
+-- a tree for each function, with its jumps
+pub record Keep (functions : List TypedFunction) (trees : Trees) : Type 0 where
+  pub shaped : AllAny trees
+  pub are : map tree_jumps trees ≡ map function_jumps functions
+
+functions_make : (frames : rows.Frames) (functions : List TypedFunction) →
+    Makes (Keep functions) (core.each (map (statement.function_rule frames) functions))
+functions_make frames [] = makes (Keep []) [] (record { shaped = tt; are = refl })
+functions_make frames (function ∷ functions) =
+    makes_then (λ first. core.then_by (core.each (map (statement.function_rule frames) functions))
+    (λ rest. core.gives (first ∷ rest))) (function_makes frames function)
+    (λ x is. makes_then (λ rest. core.gives (x ∷ rest)) (functions_make frames functions)
+    (λ xs are. makes (Keep (function ∷ functions)) (x ∷ xs) (record {
+      shaped = (is.shaped, are.shaped);
+      are = ap (λ (a : Jumps). a ∷ map tree_jumps xs) is.are
+          ∙ ap (λ (all : List Jumps). function_jumps function ∷ all) are.are;
+    })))
+
+pub text_makes : (frames : rows.Frames) (globals : List Global) (functions : List TypedFunction) →
+    Makes (Keep functions) (statement.text_rule frames globals functions)
+text_makes frames globals functions =
+    makes_then (λ u. core.each (map (statement.function_rule frames) functions))
+    (any_makes (statement.receiving_globals globals))
+    (λ u is. functions_make frames functions)
+
+-- the trees of a typed text
+pub text_keeps : (unit : TypedUnit) → Keep unit.functions (text_core unit).made
+unfolding text_core
+text_keeps unit =
+    (text_makes (frames_of unit.first_cells unit.functions) unit.globals unit.functions).at
+    nothing_taken

@@ -1,0 +1,519 @@
+-- What the objects of file scope of a sound text start at lies in the ranges of their types.
+use Rattle.std.proofs.Common.{◌≡◌, ℕ, ◌+◌, Bool, true, false, ◌&&◌, ◌||◌, not, List, []}
+use Rattle.std.proofs.Common.{◌∷◌, ◌++◌, map, length, Option, None, Some, refl, ap}
+use Rattle.std.proofs.Common.{sym, ◌∙◌, subst, inl, inr, ℤ, pos}
+use Rattle.std.specs.Prelude.{unwrap_or, option_map, is_some, find, cond}
+use Rattle.std.specs.List.{AllByRecursion, flat_map}
+use Rattle.std.specs.Str.{bytes_eq}
+use Rattle.std.specs.Cmp.Lexicographic.{bytes_decides}
+use Rattle.cpa_ints.specs.declared.integers.IntType.{IntType}
+use Rattle.cpa_ints.specs.Integers.{IsInRange}
+use Rattle.cpa_ints.specs.Wrapping.{wrapped}
+use Rattle.cpa_ints.specs.lemmas.Arithmetic.{wrapped_in_range}
+use Rattle.cpa_expr.specs.Equality.{same_type}
+use Rattle.c_lexer.specs.declared.fault.Rule.TheVariants as rule
+use Rattle.c_lexer.specs.declared.fault.TextFault.{TextFault}
+use Rattle.c_tree.specs.declared.expression.Expression.{Expression}
+use Rattle.c_tree.specs.declared.declaration.Specifiers.{Specifiers}
+use Rattle.c_tree.specs.declared.declaration.Declarator.{Declarator}
+use Rattle.c_tree.specs.declared.declaration.Initializer.{Initializer}
+use Rattle.c_tree.specs.declared.item.FunctionDeclarator.{FunctionDeclarator}
+use Rattle.c_tree.specs.declared.item.Body.{Body}
+use Rattle.c_tree.specs.declared.item.Body.TheVariants as body
+use Rattle.c_tree.specs.declared.item.Item.{Item}
+use Rattle.c_tree.specs.declared.item.Item.TheVariants as item
+use Rattle.c_tree.specs.declared.item.Unit.{Unit as UnitTree}
+use Rattle.c_rules.specs.declared.meaning.Object.{Object}
+use Rattle.c_rules.specs.declared.meaning.Declared.{Declared}
+use Rattle.c_rules.specs.declared.meaning.Declared.TheVariants as declared
+use Rattle.c_rules.specs.declared.meaning.Entry.{Entry}
+use Rattle.c_rules.specs.declared.typed.Global.{Global}
+use Rattle.c_rules.specs.Names.{Text, declared_as, or_else}
+use Rattle.c_rules.specs.ExpressionRules.{broken, at_if, uses_faults}
+use Rattle.c_rules.specs.Declarations.{kind_of, items_of, constant_number, length_faults}
+use Rattle.c_rules.specs.Declarations.{length_uses}
+use Rattle.c_rules.specs.Declarations.{void_object, void_parameter}
+use Rattle.c_rules.specs.Items.{Before, text_of, one_type, merged_object, redeclares_object}
+use Rattle.c_rules.specs.Items.{global_of}
+use Rattle.c_rules.specs.Items.{global_behind, redeclared_object, start_faults, global_faults}
+use Rattle.c_rules.specs.Items.{globals_behind, globals_faults, merged_function}
+use Rattle.c_rules.specs.Items.{redeclares_function}
+use Rattle.c_rules.specs.Items.{redeclared_function, function_behind, head_faults, parameter_types}
+use Rattle.c_rules.specs.Items.{body_sites, body_faults, body_behind, item_behind, item_faults}
+use Rattle.c_rules.specs.Items.{items_faults, nothing_before, listed, same_length}
+use Rattle.c_rules.specs.Recursion.{Among}
+use Rattle.c_rules.specs.Sound.{Sound, Start, start_of, starts_in, item_starts, starts_of}
+use Rattle.c_rules.specs.Sound.{items_behind, object_names, object_in, start_values, global_named}
+use Rattle.c_rules.specs.Sound.{unit_globals, unit_faults, without_main}
+use Rattle.c_core_laws.proofs.Heights.{type_same}
+
+-- none of these faults
+abbrev NoFaults : List TextFault → Type 0
+NoFaults faults = (fault : TextFault) → Among fault faults → ⊥
+
+among_left : (fault : TextFault) (a b : List TextFault) → Among fault a → Among fault (a ++ b)
+among_left fault [] b among = absurd among
+among_left fault (one ∷ a) b (inl is) = inl is
+among_left fault (one ∷ a) b (inr more) = inr (among_left fault a b more)
+
+among_right : (fault : TextFault) (a b : List TextFault) → Among fault b → Among fault (a ++ b)
+among_right fault [] b among = among
+among_right fault (one ∷ a) b among = inr (among_right fault a b among)
+
+none_left : (a b : List TextFault) → NoFaults (a ++ b) → NoFaults a
+none_left a b none fault among = none fault (among_left fault a b among)
+
+none_right : (a b : List TextFault) → NoFaults (a ++ b) → NoFaults b
+none_right a b none fault among = none fault (among_right fault a b among)
+
+first_of_five : (a b c d e : List TextFault) → NoFaults (a ++ b ++ c ++ d ++ e) → NoFaults a
+first_of_five a b c d e none =
+    none_left a b (none_left (a ++ b) c (none_left (a ++ b ++ c) d
+    (none_left (a ++ b ++ c ++ d) e none)))
+
+no_redeclared : (b : Bool) (place : ℕ) → NoFaults (broken rule.N2 (at_if b place)) → b ≡ false
+no_redeclared true place none =
+    absurd (none (record { rule = rule.N2; place = place }) (inl refl))
+no_redeclared false place none = refl
+
+-- what a name is declared as where one more declaration stands
+
+entry_as : Entry → List ℕ → Option Declared
+entry_as entry name = elim (bytes_eq entry.name name) [ true ↦ Some entry.declared | false ↦ None ]
+
+as_named : (entry : Entry) (name : List ℕ) → bytes_eq entry.name name ≡ true →
+    entry_as entry name ≡ Some entry.declared
+unfolding entry_as
+as_named entry name is =
+    ap (λ (b : Bool). elim b as (λ c. Option Declared) [
+      | true ↦ Some entry.declared
+      | false ↦ None
+    ]) is
+
+as_other : (entry : Entry) (name : List ℕ) → bytes_eq entry.name name ≡ false →
+    entry_as entry name ≡ None
+unfolding entry_as
+as_other entry name is =
+    ap (λ (b : Bool). elim b as (λ c. Option Declared) [
+      | true ↦ Some entry.declared
+      | false ↦ None
+    ]) is
+
+push_named : (names : List Entry) (entry : Entry) (name : List ℕ) →
+    bytes_eq entry.name name ≡ true →
+    declared_as (names ++ entry ∷ []) name ≡ Some entry.declared
+unfolding entry_as
+push_named [] entry name is = as_named entry name is
+push_named (x ∷ names) entry name is =
+    ap (λ o. or_else o (entry_as x name)) (push_named names entry name is)
+
+push_other : (names : List Entry) (entry : Entry) (name : List ℕ) →
+    bytes_eq entry.name name ≡ false →
+    declared_as (names ++ entry ∷ []) name ≡ declared_as names name
+unfolding entry_as
+push_other [] entry name is = as_other entry name is
+push_other (x ∷ names) entry name is =
+    ap (λ o. or_else o (entry_as x name)) (push_other names entry name is)
+
+-- the name is declared as an object of this type
+record IsObject (t : IntType) (name : List ℕ) (names : List Entry) : Type 0 where
+  object : Object
+  initialized : Bool
+  is : declared_as names name ≡ Some (declared.Object object initialized)
+  type : object.ty ≡ t
+
+record MergedType (t : IntType) (made : Declared) : Type 0 where
+  object : Object
+  initialized : Bool
+  is : made ≡ declared.Object object initialized
+  type : object.ty ≡ t
+
+both_hold : (a b : Bool) → (a && b) ≡ true → a ≡ true
+both_hold true b h = refl
+both_hold false b h = absurd (cc)
+
+merged_by : (b : Bool) (old fresh : Object) (initialized initializes : Bool) →
+    (b ≡ true → old.ty ≡ fresh.ty) →
+    MergedType fresh.ty (elim b [
+      | true ↦ declared.Object (record old { is_const = old.is_const || fresh.is_const })
+          (initialized || initializes)
+      | false ↦ declared.Object fresh initializes
+    ])
+merged_by true old fresh initialized initializes same = record {
+  object = record old { is_const = old.is_const || fresh.is_const };
+  initialized = initialized || initializes;
+  is = refl;
+  type = same refl;
+}
+merged_by false old fresh initialized initializes same =
+    record { object = fresh; initialized = initializes; is = refl; type = refl }
+
+merged_type : (before : Option Declared) (fresh : Object) (initializes : Bool) →
+    MergedType fresh.ty (merged_object before fresh initializes)
+merged_type None fresh initializes =
+    record { object = fresh; initialized = initializes; is = refl; type = refl }
+merged_type (Some (declared.Object old initialized)) fresh initializes =
+    merged_by (one_type old fresh) old fresh initialized initializes
+    (λ one. type_same old.ty fresh.ty
+    (both_hold (same_type old.ty fresh.ty) (same_length old.length fresh.length) one))
+merged_type (Some (declared.Function result parameters defined)) fresh initializes =
+    record { object = fresh; initialized = initializes; is = refl; type = refl }
+
+first_false : (a b : Bool) → (not a || b) ≡ false → a ≡ true
+first_false true b h = refl
+first_false false b h = absurd (cc)
+
+-- an object that is declared again has its type still
+again_type : (old fresh : Object) (initialized initializes : Bool) →
+    redeclares_object (Some (declared.Object old initialized)) fresh initializes ≡ false →
+    MergedType old.ty (merged_object (Some (declared.Object old initialized)) fresh initializes)
+again_type old fresh initialized initializes h =
+    let one : one_type old fresh ≡ true =
+    first_false (one_type old fresh) (initialized && initializes) h in
+    let same : old.ty ≡ fresh.ty = type_same old.ty fresh.ty
+    (both_hold (same_type old.ty fresh.ty) (same_length old.length fresh.length) one) in
+    let m = merged_type (Some (declared.Object old initialized)) fresh initializes in
+    record {
+      object = m.object;
+      initialized = m.initialized;
+      is = m.is;
+      type = m.type ∙ sym same;
+    }
+
+-- a declarator of file scope declares an object of its type
+declares : (text : Text) (before : Before) (specifiers : Specifiers) (declarator : Declarator) →
+    IsObject (global_of text before specifiers declarator).ty declarator.name.bytes
+    (global_behind text specifiers declarator before).names
+declares text before specifiers declarator =
+    let name = declarator.name.bytes in
+    let fresh = global_of text before specifiers declarator in
+    let made = merged_object (declared_as before.names name) fresh
+    (is_some declarator.initializer) in
+    let m : MergedType fresh.ty made =
+    merged_type (declared_as before.names name) fresh (is_some declarator.initializer) in
+    record {
+      object = m.object;
+      initialized = m.initialized;
+      is = push_named before.names (record { name = name; declared = made }) name
+          ((bytes_decides name name).1 refl) ∙ ap (λ d. Some d) m.is;
+      type = m.type;
+    }
+
+-- and leaves an object that is declared already of its type
+
+kept_by : (b : Bool) (text : Text) (before : Before) (specifiers : Specifiers)
+    (declarator : Declarator) (t : IntType) (name : List ℕ) →
+    bytes_eq declarator.name.bytes name ≡ b →
+    NoFaults (global_faults text before specifiers declarator) → IsObject t name before.names →
+    IsObject t name (global_behind text specifiers declarator before).names
+kept_by false text before specifiers declarator t name other none h =
+    let made = merged_object (declared_as before.names declarator.name.bytes)
+    (global_of text before specifiers declarator) (is_some declarator.initializer) in
+    record {
+      object = h.object;
+      initialized = h.initialized;
+      is = push_other before.names (record { name = declarator.name.bytes; declared = made }) name
+          other ∙ h.is;
+      type = h.type;
+    }
+kept_by true text before specifiers declarator t name same none h =
+    let fresh = global_of text before specifiers declarator in
+    let own = declarator.name.bytes in
+    let starts = is_some declarator.initializer in
+    let one : own ≡ name = (bytes_decides own name).0 same in
+    let now : declared_as before.names own ≡ Some (declared.Object h.object h.initialized) =
+    ap (declared_as before.names) one ∙ h.is in
+    let n2 = broken rule.N2 (redeclared_object text before specifiers declarator) in
+    let free : redeclares_object (declared_as before.names own) fresh starts ≡ false =
+    no_redeclared (redeclares_object (declared_as before.names own) fresh starts)
+    declarator.name.place (first_of_five n2
+    (broken rule.N5 (void_object (kind_of specifiers) declarator))
+    (broken rule.N12 (length_faults text before.names declarator))
+    (uses_faults (length_uses text before.names declarator))
+    (flat_map (start_faults text (global_behind text specifiers declarator before).names)
+    (items_of declarator.initializer)) none) in
+    let m : MergedType h.object.ty (merged_object
+    (Some (declared.Object h.object h.initialized)) fresh starts) =
+    again_type h.object fresh h.initialized starts
+    (ap (λ d. redeclares_object d fresh starts) (sym now) ∙ free) in
+    let made = merged_object (declared_as before.names own) fresh starts in
+    record {
+      object = m.object;
+      initialized = m.initialized;
+      is = push_named before.names (record { name = own; declared = made }) name same
+          ∙ ap (λ d. Some (merged_object d fresh starts)) now
+          ∙ ap (λ d. Some d) m.is;
+      type = m.type ∙ h.type;
+    }
+
+kept : (text : Text) (before : Before) (specifiers : Specifiers) (declarator : Declarator)
+    (t : IntType) (name : List ℕ) → NoFaults (global_faults text before specifiers declarator) →
+    IsObject t name before.names →
+    IsObject t name (global_behind text specifiers declarator before).names
+kept text before specifiers declarator t name none h =
+    kept_by (bytes_eq declarator.name.bytes name) text before specifiers declarator t name refl
+    none h
+
+all_kept : (text : Text) (specifiers : Specifiers) (declarators : List Declarator)
+    (before : Before) (t : IntType) (name : List ℕ) →
+    NoFaults (globals_faults text specifiers declarators before) →
+    IsObject t name before.names →
+    IsObject t name (globals_behind text specifiers declarators before).names
+all_kept text specifiers [] before t name none h = h
+all_kept text specifiers (declarator ∷ more) before t name none h =
+    let behind = global_behind text specifiers declarator before in
+    let first = global_faults text before specifiers declarator in
+    let rest = globals_faults text specifiers more behind in
+    all_kept text specifiers more behind t name (none_right first rest none)
+    (kept text before specifiers declarator t name (none_left first rest none) h)
+
+-- so does a function
+
+function_by : (b : Bool) (before : Before) (defines : Bool) (specifiers : Specifiers)
+    (declarator : FunctionDeclarator) (t : IntType) (name : List ℕ) →
+    bytes_eq declarator.name.bytes name ≡ b →
+    NoFaults (head_faults before defines specifiers declarator) → IsObject t name before.names →
+    IsObject t name (function_behind defines specifiers declarator before).names
+function_by false before defines specifiers declarator t name other none h =
+    let made = merged_function (declared_as before.names declarator.name.bytes)
+    (kind_of specifiers) (parameter_types defines declarator.parameters) defines in
+    record {
+      object = h.object;
+      initialized = h.initialized;
+      is = push_other before.names (record { name = declarator.name.bytes; declared = made }) name
+          other ∙ h.is;
+      type = h.type;
+    }
+function_by true before defines specifiers declarator t name same none h =
+    let own = declarator.name.bytes in
+    let kind = kind_of specifiers in
+    let types = parameter_types defines declarator.parameters in
+    let one : own ≡ name = (bytes_decides own name).0 same in
+    let now : declared_as before.names own ≡ Some (declared.Object h.object h.initialized) =
+    ap (declared_as before.names) one ∙ h.is in
+    let n2 = broken rule.N2 (redeclared_function before defines specifiers declarator) in
+    let more = broken rule.N5 (flat_map void_parameter (listed declarator.parameters)) in
+    let free : redeclares_function (declared_as before.names own) kind types defines ≡ false =
+    no_redeclared (redeclares_function (declared_as before.names own) kind types defines)
+    declarator.name.place (none_left n2 more none) in
+    let taken : redeclares_function (declared_as before.names own) kind types defines ≡ true =
+    ap (λ d. redeclares_function d kind types defines) now in
+    absurd (cc)
+
+function_kept : (before : Before) (defines : Bool) (specifiers : Specifiers)
+    (declarator : FunctionDeclarator) (t : IntType) (name : List ℕ) →
+    NoFaults (head_faults before defines specifiers declarator) → IsObject t name before.names →
+    IsObject t name (function_behind defines specifiers declarator before).names
+function_kept before defines specifiers declarator t name none h =
+    function_by (bytes_eq declarator.name.bytes name) before defines specifiers declarator t name
+    refl none h
+
+body_kept : (text : Text) (specifiers : Specifiers) (declarator : FunctionDeclarator)
+    (made : Body) (before : Before) (t : IntType) (name : List ℕ) →
+    IsObject t name before.names →
+    IsObject t name (body_behind text specifiers declarator made before).names
+body_kept text specifiers declarator body.Skipped before t name h = h
+body_kept text specifiers declarator (body.Block items place) before t name h = h
+
+item_kept : (text : Text) (one : Item) (before : Before) (t : IntType) (name : List ℕ) →
+    NoFaults (item_faults text one before) → IsObject t name before.names →
+    IsObject t name (item_behind text one before).names
+item_kept text (item.Empty place) before t name none h = h
+item_kept text (item.Objects declaration) before t name none h =
+    all_kept text declaration.specifiers declaration.declarators before t name none h
+item_kept text (item.Prototype specifiers declarator) before t name none h =
+    function_kept before false specifiers declarator t name none h
+item_kept text (item.Function specifiers declarator made) before t name none h =
+    body_kept text specifiers declarator made (function_behind true specifiers declarator before) t
+    name
+    (function_kept before true specifiers declarator t name
+    (none_left (head_faults before true specifiers declarator)
+    (body_faults text (body_sites text before specifiers declarator made)) none) h)
+
+items_kept : (text : Text) (items : List Item) (before : Before) (t : IntType) (name : List ℕ) →
+    NoFaults (items_faults text items before) → IsObject t name before.names →
+    IsObject t name (items_behind text items before).names
+items_kept text [] before t name none h = h
+items_kept text (one ∷ more) before t name none h =
+    let behind = item_behind text one before in
+    let first = item_faults text one before in
+    let rest = items_faults text more behind in
+    items_kept text more behind t name (none_right first rest none)
+    (item_kept text one before t name (none_left first rest none) h)
+
+-- the values of initializers
+
+record Fits (names : List Entry) (s : Start) : Type 0 where
+  type : IntType
+  object : IsObject type s.name names
+  values : AllByRecursion (IsInRange type) s.values
+
+all_wrapped : (t : IntType) (value : Expression → ℤ) (items : List Expression) →
+    AllByRecursion (IsInRange t) (map (λ one. wrapped t (value one)) items)
+all_wrapped t value [] = tt
+all_wrapped t value (one ∷ items) = (wrapped_in_range t (value one), all_wrapped t value items)
+
+one_start : (o : Option Initializer) (names : List Entry) (s : Start) → Fits names s →
+    AllByRecursion (Fits names) (elim o as (λ x. List Start) [ None ↦ [] | Some given ↦ s ∷ [] ])
+one_start None names s h = tt
+one_start (Some given) names s h = (h, tt)
+
+append_fits : (names : List Entry) (a b : List Start) → AllByRecursion (Fits names) a →
+    AllByRecursion (Fits names) b → AllByRecursion (Fits names) (a ++ b)
+append_fits names [] b h k = k
+append_fits names (s ∷ a) b h k = (h.0, append_fits names a b h.1 k)
+
+declarator_fits : (text : Text) (before : Before) (specifiers : Specifiers)
+    (declarator : Declarator) →
+    AllByRecursion (Fits (global_behind text specifiers declarator before).names)
+    (start_of text before specifiers declarator)
+declarator_fits text before specifiers declarator =
+    let names = (global_behind text specifiers declarator before).names in
+    let t = (global_of text before specifiers declarator).ty in
+    let value = λ (one : Expression).
+    unwrap_or (constant_number text names one) (pos 0) in
+    one_start declarator.initializer names (record {
+      name = declarator.name.bytes;
+      values = map (λ one. wrapped t (value one)) (items_of declarator.initializer);
+    }) (record {
+      type = t;
+      object = declares text before specifiers declarator;
+      values = all_wrapped t value (items_of declarator.initializer);
+    })
+
+more_names : (text : Text) (specifiers : Specifiers) (declarators : List Declarator)
+    (before : Before) → NoFaults (globals_faults text specifiers declarators before) →
+    (starts : List Start) → AllByRecursion (Fits before.names) starts →
+    AllByRecursion (Fits (globals_behind text specifiers declarators before).names) starts
+more_names text specifiers declarators before none [] h = tt
+more_names text specifiers declarators before none (s ∷ starts) h = (
+  record {
+    type = h.0.type;
+    object = all_kept text specifiers declarators before h.0.type s.name none h.0.object;
+    values = h.0.values;
+  },
+  more_names text specifiers declarators before none starts h.1,
+)
+
+declarators_fit : (text : Text) (specifiers : Specifiers) (declarators : List Declarator)
+    (before : Before) → NoFaults (globals_faults text specifiers declarators before) →
+    AllByRecursion (Fits (globals_behind text specifiers declarators before).names)
+    (starts_in text specifiers declarators before)
+declarators_fit text specifiers [] before none = tt
+declarators_fit text specifiers (declarator ∷ more) before none =
+    let behind = global_behind text specifiers declarator before in
+    let rest = globals_faults text specifiers more behind in
+    let others = none_right (global_faults text before specifiers declarator) rest none in
+    append_fits (globals_behind text specifiers more behind).names
+    (start_of text before specifiers declarator) (starts_in text specifiers more behind)
+    (more_names text specifiers more behind others (start_of text before specifiers declarator)
+    (declarator_fits text before specifiers declarator))
+    (declarators_fit text specifiers more behind others)
+
+item_fits : (text : Text) (one : Item) (before : Before) →
+    NoFaults (item_faults text one before) →
+    AllByRecursion (Fits (item_behind text one before).names) (item_starts text one before)
+item_fits text (item.Empty place) before none = tt
+item_fits text (item.Objects declaration) before none =
+    declarators_fit text declaration.specifiers declaration.declarators before none
+item_fits text (item.Prototype specifiers declarator) before none = tt
+item_fits text (item.Function specifiers declarator made) before none = tt
+
+later_names : (text : Text) (items : List Item) (before : Before) →
+    NoFaults (items_faults text items before) → (starts : List Start) →
+    AllByRecursion (Fits before.names) starts →
+    AllByRecursion (Fits (items_behind text items before).names) starts
+later_names text items before none [] h = tt
+later_names text items before none (s ∷ starts) h = (
+  record {
+    type = h.0.type;
+    object = items_kept text items before h.0.type s.name none h.0.object;
+    values = h.0.values;
+  },
+  later_names text items before none starts h.1,
+)
+
+items_fit : (text : Text) (items : List Item) (before : Before) →
+    NoFaults (items_faults text items before) →
+    AllByRecursion (Fits (items_behind text items before).names) (starts_of text items before)
+items_fit text [] before none = tt
+items_fit text (one ∷ more) before none =
+    let behind = item_behind text one before in
+    let rest = items_faults text more behind in
+    let others = none_right (item_faults text one before) rest none in
+    append_fits (items_behind text more behind).names (item_starts text one before)
+    (starts_of text more behind)
+    (later_names text more behind others (item_starts text one before)
+    (item_fits text one before (none_left (item_faults text one before) rest none)))
+    (items_fit text more behind others)
+
+-- what an object starts at
+
+abbrev pub InRange : Global → Type 0
+InRange global = AllByRecursion (IsInRange global.object.ty) global.starts
+
+abbrev FoundFits : List Entry → List ℕ → Option Start → Type 0
+FoundFits names name o =
+    (object : Object) (initialized : Bool)
+    → declared_as names name ≡ Some (declared.Object object initialized)
+    → AllByRecursion (IsInRange object.ty) (unwrap_or (option_map (λ (s : Start). s.values) o) [])
+
+same_object : (a b : Object) (i j : Bool) →
+    Some (declared.Object a i) ≡ Some (declared.Object b j) → a ≡ b
+same_object a b i j is = cc
+
+found_by : (b : Bool) (names : List Entry) (name : List ℕ) (s : Start) (rest : Option Start) →
+    bytes_eq s.name name ≡ b → Fits names s → FoundFits names name rest →
+    FoundFits names name (cond b (Some s) rest)
+found_by true names name s rest same fits more = λ object initialized is.
+    let one : s.name ≡ name = (bytes_decides s.name name).0 same in
+    let objects : object ≡ fits.object.object =
+    same_object object fits.object.object initialized fits.object.initialized
+    (sym is ∙ ap (declared_as names) (sym one) ∙ fits.object.is) in
+    subst (λ t. AllByRecursion (IsInRange t) s.values)
+    (sym (ap (λ (o : Object). o.ty) objects ∙ fits.object.type)) fits.values
+found_by false names name s rest other fits more = more
+
+found_fits : (names : List Entry) (name : List ℕ) (starts : List Start) →
+    AllByRecursion (Fits names) starts →
+    FoundFits names name (find (λ s. bytes_eq s.name name) starts)
+found_fits names name [] h = λ object initialized is. tt
+found_fits names name (s ∷ starts) h =
+    found_by (bytes_eq s.name name) names name s (find (λ one. bytes_eq one.name name) starts) refl
+    h.0 (found_fits names name starts h.1)
+
+named_fits : (names : List Entry) (starts : List Start) (name : List ℕ) (o : Option Declared) →
+    declared_as names name ≡ o → AllByRecursion (Fits names) starts →
+    AllByRecursion InRange
+    (map (λ object. record { object = object; starts = start_values starts name }) (object_in o))
+named_fits names starts name None is h = tt
+named_fits names starts name (Some (declared.Function result parameters defined)) is h = tt
+named_fits names starts name (Some (declared.Object object initialized)) is h =
+    (found_fits names name starts h object initialized is, tt)
+
+append_globals : (a b : List Global) → AllByRecursion InRange a → AllByRecursion InRange b →
+    AllByRecursion InRange (a ++ b)
+append_globals [] b h k = k
+append_globals (g ∷ a) b h k = (h.0, append_globals a b h.1 k)
+
+all_named : (names : List Entry) (starts : List Start) (all : List (List ℕ)) →
+    AllByRecursion (Fits names) starts →
+    AllByRecursion InRange (flat_map (global_named names starts) all)
+all_named names starts [] h = tt
+all_named names starts (name ∷ all) h =
+    append_globals (global_named names starts name) (flat_map (global_named names starts) all)
+    (named_fits names starts name (declared_as names name) refl h) (all_named names starts all h)
+
+no_fault : (tree : UnitTree) → Sound tree →
+    NoFaults (items_faults (text_of tree.items) tree.items nothing_before)
+unfolding unit_faults
+no_fault tree sound fault among =
+    sound fault (inl (inl (among_left fault
+    (items_faults (text_of tree.items) tree.items nothing_before) (without_main tree) among)))
+
+pub globals_fit : (tree : UnitTree) → Sound tree → AllByRecursion InRange (unit_globals tree)
+globals_fit tree sound =
+    let text = text_of tree.items in
+    let names = (items_behind text tree.items nothing_before).names in
+    all_named names (starts_of text tree.items nothing_before) (object_names [] names)
+    (items_fit text tree.items nothing_before (no_fault tree sound))

@@ -1,0 +1,90 @@
+-- The labels and jumps of core statements, and of the statements of a typed text (C11 6.8.1 and
+-- 6.8.6).
+use Rattle.std.specs.Prelude.{ℕ, ◌+◌, Bool, true, false, ◌||◌, List, [], ◌∷◌, ◌++◌, map, Option}
+use Rattle.std.specs.Prelude.{None, Some}
+use Rattle.c_rules.specs.declared.typed.TypedItem.{TypedItem}
+use Rattle.c_rules.specs.declared.typed.TypedItem.TheOpen.{TypedItem-F, TypedStatement-F}
+use Rattle.c_rules.specs.declared.typed.TypedItem.TheFolds.{fold-TypedItem}
+use Rattle.c_rules.specs.declared.typed.TypedFunction.{TypedFunction}
+use Rattle.c_core_rules.specs.declared.tree.CoreTree.{CoreTree}
+use Rattle.c_core_rules.specs.declared.tree.CoreTree.TheOpen.{CoreTree-F}
+use Rattle.c_core_rules.specs.declared.tree.CoreTree.TheFolds.{fold-CoreTree}
+use Rattle.c_core_rules.specs.declared.tree.Head.{Head}
+use Rattle.c_core_rules.specs.declared.tree.Head.TheVariants as head
+
+-- how many labelled statements, which labels gotos name, in order, and whether a break or a
+-- continue stands in none of the loops
+pub record Jumps : Type 0 where
+  pub labels : ℕ
+  pub gotos : List ℕ
+  pub loose : Bool
+
+abbrev pub no_jumps : Jumps
+no_jumps = record { labels = 0; gotos = []; loose = false }
+
+abbrev pub then_jumps : Jumps → Jumps → Jumps
+then_jumps a b = record {
+  labels = a.labels + b.labels;
+  gotos = a.gotos ++ b.gotos;
+  loose = a.loose || b.loose;
+}
+
+abbrev pub all_jumps : List Jumps → Jumps
+all_jumps [] = no_jumps
+all_jumps (jumps ∷ more) = then_jumps jumps (all_jumps more)
+
+abbrev pub labelled : Jumps → Jumps
+labelled inside = record inside { labels = inside.labels + 1 }
+
+abbrev pub in_loop : Jumps → Jumps
+in_loop inside = record inside { loose = false }
+
+abbrev pub goto : ℕ → Jumps
+goto label = record { labels = 0; gotos = label ∷ []; loose = false }
+
+abbrev pub leaving : Jumps
+leaving = record { labels = 0; gotos = []; loose = true }
+
+abbrev pub head_jumps : Head → Jumps → Jumps
+head_jumps head.Labeled inside = labelled inside
+head_jumps head.Loop inside = in_loop inside
+head_jumps (head.Goto label) inside = goto label
+head_jumps head.Break inside = leaving
+head_jumps head.Continue inside = leaving
+head_jumps _ inside = inside
+
+abbrev pub node_jumps : CoreTree-F Jumps → Jumps
+node_jumps (CoreTree-F.Node h parts) = head_jumps h (all_jumps parts)
+
+-- those of a tree of core statements
+unfoldable pub tree_jumps : CoreTree → Jumps
+tree_jumps = fold-CoreTree Jumps node_jumps
+
+abbrev pub perhaps_jumps : Option Jumps → Jumps
+perhaps_jumps None = no_jumps
+perhaps_jumps (Some jumps) = jumps
+
+abbrev pub statement_jumps : TypedStatement-F Jumps Jumps → Jumps
+statement_jumps (TypedStatement-F.Block items) = all_jumps items
+statement_jumps (TypedStatement-F.Expression expression) = no_jumps
+statement_jumps (TypedStatement-F.If test first second) =
+    then_jumps first (perhaps_jumps second)
+statement_jumps (TypedStatement-F.While test body) = in_loop body
+statement_jumps (TypedStatement-F.Do body test) = in_loop body
+statement_jumps (TypedStatement-F.For first test step body) = in_loop body
+statement_jumps (TypedStatement-F.Goto label) = goto label
+statement_jumps TypedStatement-F.Break = leaving
+statement_jumps TypedStatement-F.Continue = leaving
+statement_jumps (TypedStatement-F.Return value) = no_jumps
+statement_jumps (TypedStatement-F.Labeled label body) = labelled body
+
+abbrev pub item_layer_jumps : TypedItem-F Jumps Jumps → Jumps
+item_layer_jumps (TypedItem-F.Declaration declarators) = no_jumps
+item_layer_jumps (TypedItem-F.Statement statement) = statement
+
+-- those of an item of a block
+unfoldable pub item_jumps : TypedItem → Jumps
+item_jumps = fold-TypedItem Jumps Jumps item_layer_jumps statement_jumps
+
+abbrev pub function_jumps : TypedFunction → Jumps
+function_jumps function = all_jumps (map item_jumps function.items)
