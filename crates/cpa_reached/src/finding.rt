@@ -36,6 +36,16 @@ pub(crate) fn place(entries: &[Entry], number: u32) -> usize
     first_from(entries, number)
 }
 
+/// The entry of this number, which is there.
+pub(crate) fn entry(entries: &[Entry], number: u32) -> &Entry
+    requires ascend { Ascend (numbers entries.now) }
+    requires live { IsLive entries.now number }
+    ensures is_in { IsIn result.now entries.now }
+    ensures number { result.now.number ≡ number }
+{
+    &entries[place(entries, number)]
+}
+
 /// Whether the entry at this place is there, and has the number.
 fn is_at(entries: &[Entry], place: usize, number: u32) -> bool
     ensures { IsTrue result ↔ (slice_get (numbers entries.now) place ≡ Some number) }

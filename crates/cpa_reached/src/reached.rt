@@ -4,13 +4,14 @@
 ghost use Rattle.std.specs.Prelude.{◌≡◌, ℕ, [], ◌++◌, ◌∷◌, IfOk, OnOk, OnErr, IfSome, IfNone};
 ghost use Rattle.std.specs.Prelude.{OnSome};
 ghost use Rattle.cpa_reached.specs.Entries.{IsLive, IsNext, IsNumbered, waiting_numbers};
+ghost use Rattle.cpa_reached.specs.Members.{IsIn};
 ghost use Rattle.cpa_reached.specs.Calls.{begun, taken, added, replaced, used, refined, closed};
 ghost use Rattle.cpa_reached.specs.Calls.{restarted};
 ghost use Rattle.cpa_reached.specs.Removal.{RemovesBelow};
 ghost use Rattle.cpa_reached.specs.Paths.{IsPathTo};
 
 use crate::table::{self, Table};
-use crate::{pruning, tracing};
+use crate::{finding, pruning, tracing};
 use cpa_iface::{Entry, Order, Precision, Turn};
 use cpa_ints::Seq;
 use cpa_model::{Elem, Path};
@@ -148,6 +149,16 @@ impl Reached {
         ensures numbered { IsNumbered self.now }
     {
         self.table.entries.as_slice()
+    }
+
+    /// The entry of this number. Takes no memory.
+    pub fn entry(&self, number: u32) -> &Entry
+        requires { IsLive self.now.live number }
+        ensures is_in { IsIn result.now self.now.live }
+        ensures number { result.now.number ≡ number }
+        ensures numbered { IsNumbered self.now }
+    {
+        finding::entry(&self.table.entries, number)
     }
 
     /// The rows of the journal since the round began. Takes no memory.
