@@ -1,0 +1,13 @@
+pub mod Leaving
+pub mod Lists
+pub mod Effects
+pub mod Chains
+pub mod Progress
+pub mod Waiting
+pub mod Placing
+pub mod Shapes
+pub mod Turning
+pub mod Keeping
+pub mod Settled
+pub mod Expanded
+pub mod Beginning

@@ -1,0 +1,43 @@
+use Rattle.std.proofs.Common.{◌<◌, List, length, sym, ap, subst}
+use Rattle.cpa_iface.specs.declared.entries.Entry.{Entry}
+use Rattle.cpa_composite.specs.Composites.{components}
+use Rattle.cpa_engine.specs.Stages.{stage}
+use Rattle.cpa_engine.proofs.Chains.{leads_nowhere}
+use Rattle.cpa_engine.proofs.Settled.{placed_in, live_in_place, merged_leads, replaced_size}
+use Rattle.cpa_engine.proofs.settling.merge_at.Goals as goal
+
+pub replace-requires : goal.replace-requires
+replace-requires g c =
+    let x = c.index-live-place.result in
+    live_in_place c.args.reached.now.live x
+    (placed_in c.args.reached.now.live c.live.result.now c.args.place x c.live.ensures.live
+    c.requires.place c.index-live-place.is)
+
+pub returns-in_ok-note_replaced-in-Some-clause-leads :
+    goal.returns-in_ok-note_replaced-in-Some-clause-leads
+returns-in_ok-note_replaced-in-Some-clause-leads g c =
+    let x = c.index-live-place.result in
+    merged_leads c.args.cfa.now (components c.args.composite.now) c.args.reached.now
+    c.replace.new.self c.args.work.now c.note_replaced.new.self x c.args.successor.now
+    c.as_slice-old.result.now c.args.precisions.now c.in_ok-merged.field-0 c.in-Some.merged
+    c.in_ok-next-in-Some.next
+    (placed_in c.args.reached.now.live c.live.result.now c.args.place x c.live.ensures.live
+    c.requires.place c.index-live-place.is)
+    c.as_slice-old.ensures c.in-Some.is c.in_ok-merged.ensures.some
+    c.in_ok-next-in-Some.ensures.number c.in_ok-next-in-Some.ensures.ok
+    c.in_ok-note_replaced-in-Some.ensures
+
+pub returns-in_ok-note_replaced-in-Some-clause-size :
+    goal.returns-in_ok-note_replaced-in-Some-clause-size
+returns-in_ok-note_replaced-in-Some-clause-size g c =
+    let x = c.index-live-place.result in
+    replaced_size c.args.reached.now c.replace.new.self x c.in-Some.merged.items
+    c.live.ensures.numbered
+    (placed_in c.args.reached.now.live c.live.result.now c.args.place x c.live.ensures.live
+    c.requires.place c.index-live-place.is)
+    c.in_ok-next-in-Some.ensures.ok
+
+pub returns-in-None-clause-leads : goal.returns-in-None-clause-leads
+returns-in-None-clause-leads g c =
+    leads_nowhere c.args.cfa.now (components c.args.composite.now)
+    (stage c.args.reached.now c.args.work.now)

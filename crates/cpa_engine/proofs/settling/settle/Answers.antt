@@ -1,0 +1,45 @@
+use Rattle.std.proofs.Common.{◌∙◌}
+use Rattle.std.proofs.lemmas.Result.{on_ok_weaker}
+use Rattle.cpa_composite.specs.Composites.{components}
+use Rattle.cpa_engine.specs.Stages.{Stage, stage, Leads}
+use Rattle.cpa_engine.proofs.Chains.{leads_then, leads_under}
+use Rattle.cpa_engine.proofs.Progress.{current_along}
+use Rattle.cpa_engine.proofs.Shapes.{entries_on}
+use Rattle.cpa_engine.proofs.settling.settle.Goals as goal
+
+pub cover_or_add-requires-clause-entries : goal.cover_or_add-requires-clause-entries
+cover_or_add-requires-clause-entries g c =
+    let cfa = c.args.cfa.now in
+    let cs = components c.args.composite.now in
+    let a : Stage = stage c.args.reached.now c.args.work.now in
+    let b : Stage = stage c.compare.new.reached c.compare.new.work in
+    entries_on cfa cs (components c.compare.new.composite) a b
+    (c.compare.ensures.kept ∙ c.adjust.ensures.kept)
+    (leads_under cfa (components c.adjust.new.self) cs a b c.adjust.ensures.kept
+    c.in_ok-compare.ensures.leads) c.requires.entries
+
+pub cover_or_add-requires-clause-current : goal.cover_or_add-requires-clause-current
+cover_or_add-requires-clause-current g c =
+    let cfa = c.args.cfa.now in
+    let cs = components c.args.composite.now in
+    let a : Stage = stage c.args.reached.now c.args.work.now in
+    let b : Stage = stage c.compare.new.reached c.compare.new.work in
+    current_along cfa cs a b
+    (leads_under cfa (components c.adjust.new.self) cs a b c.adjust.ensures.kept
+    c.in_ok-compare.ensures.leads) c.requires.ordered c.requires.current
+
+pub returns-clause-leads : goal.returns-clause-leads
+returns-clause-leads g c =
+    let cfa = c.args.cfa.now in
+    let cs = components c.args.composite.now in
+    let ds = components c.compare.new.composite in
+    let a : Stage = stage c.args.reached.now c.args.work.now in
+    let b : Stage = stage c.compare.new.reached c.compare.new.work in
+    let m : Stage = stage c.cover_or_add.new.reached c.cover_or_add.new.work in
+    let first = leads_under cfa (components c.adjust.new.self) cs a b c.adjust.ensures.kept
+    c.in_ok-compare.ensures.leads in
+    on_ok_weaker _
+    (λ (more : Leads cfa ds b m).
+    leads_then cfa cs a b m first
+    (leads_under cfa ds cs b m (c.compare.ensures.kept ∙ c.adjust.ensures.kept) more))
+    c.cover_or_add.ensures.leads

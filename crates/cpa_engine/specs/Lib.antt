@@ -1,0 +1,4 @@
+pub mod Points
+pub mod Turns
+pub mod Journals
+pub mod Stages

@@ -1,0 +1,51 @@
+//! One turn of the algorithm (CAV 2007, section 2, the body of the loop). That it is `IsTurn` is
+//! shown in `proofs/`, from what its steps are.
+
+ghost use Rattle.std.specs.Prelude.{◌≡◌, ℕ, [], false, List, length, IsTrue, IfOk, OnOk};
+ghost use Rattle.cpa_model.specs.Automata.{IsAutomaton};
+ghost use Rattle.cpa_composite.specs.Composites.{components};
+ghost use Rattle.cpa_reached.specs.Entries.{waiting_numbers};
+ghost use Rattle.cpa_reached.specs.Successors.{CoversSuccessors};
+ghost use Rattle.cpa_engine.specs.Journals.{IsJournalOf};
+ghost use Rattle.cpa_engine.specs.Turns.{AreEntries, Turned};
+
+use crate::taking::expand_taken;
+use cpa_composite::Composite;
+use cpa_iface::{Analysis, Order};
+use cpa_model::{Cfa, edges_are_steps, initial_is_state};
+use cpa_reached::Reached;
+use std::alloc::{AllocError, Global};
+
+/// One turn on the entry that is next in the order, which is closed in the journal. False where
+/// nothing waits. After want of memory the reached set is only to be dropped.
+pub fn turn<A: Analysis>(
+    alloc: Global,
+    cfa: &Cfa,
+    composite: &mut Composite<A>,
+    reached: &mut Reached,
+    order: Order,
+) -> Result<bool, AllocError>
+    requires automaton { IsAutomaton cfa.now }
+    requires entries { AreEntries cfa.now (length (components composite.old)) reached.old.live }
+    ensures turned { IfOk result (λ goes. IsTrue goes →
+        Turned cfa.now (components composite.old) order reached.old reached.new) }
+    ensures done { IfOk result (λ goes. goes ≡ false →
+        (waiting_numbers reached.old.live ≡ []) × (reached.new ≡ reached.old)) }
+    ensures entries { OnOk result
+        (AreEntries cfa.now (length (components composite.old)) reached.new.live) }
+    ensures covers { CoversSuccessors cfa.now reached.old.live
+        → OnOk result (CoversSuccessors cfa.now reached.new.live) }
+    ensures journal { (began : List ℕ) → IsJournalOf began reached.old
+        → OnOk result (IsJournalOf began reached.new) }
+    ensures kept { components composite.new ≡ components composite.old }
+{
+    initial_is_state();
+    edges_are_steps();
+    match reached.take_next(order) {
+        Some(number) => {
+            expand_taken(alloc, cfa, composite, reached, number)?;
+            Ok(true)
+        }
+        None => Ok(false),
+    }
+}
