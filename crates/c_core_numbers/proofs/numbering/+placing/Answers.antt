@@ -1,0 +1,26 @@
+-- The statements of trees, one behind the other.
+use Rattle.std.proofs.Common.{◌∙◌}
+use Rattle.std.specs.Vec.Iter.{into_iter_items}
+use Rattle.c_core_numbers.proofs.NumberedRows.{placed_kept, less_left, root_placed}
+use Rattle.c_core_numbers.proofs.numbering.+placing.Goals as goal
+
+pub place_row-loop-tree-preserved : goal.place_row-loop-tree-preserved
+place_row-loop-tree-preserved t c =
+    let at = c.loop-tree in
+    let kept = placed_kept c.args.labels.now _ _ _ _ (into_iter_items at.tree-iterator)
+    (into_iter_items c.next.new.self) c.in-Some.tree _ _ _ c.in-Some.ensures.steps.0
+    c.in_ok-place.ensures.stmts c.in_ok-place.ensures.number c.in_ok-push.ensures.items
+    at.invariant.numbers at.invariant.stmts in
+    record {
+      few = less_left (into_iter_items at.tree-iterator) (into_iter_items c.next.new.self)
+          c.in-Some.tree _ c.in-Some.ensures.steps.0 at.invariant.few;
+      numbers = kept.0;
+      stmts = kept.1;
+    }
+
+pub place_node-returns-clause-stmts : goal.place_node-returns-clause-stmts
+place_node-returns-clause-stmts t c =
+    c.write_root.ensures
+    ∙ root_placed c.args.stmts.now.items c.hold_root.new.stmts.items c.place_row.new.stmts.items
+    c.args.labels.now c.args.head c.args.parts.items _ _ _ c.in_ok-number.ensures.number
+    c.in_ok-number.ensures.stmts c.in_ok-numbers.ensures.stmts c.in_ok-numbers.ensures.numbers

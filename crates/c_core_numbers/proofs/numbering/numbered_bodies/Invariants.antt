@@ -1,0 +1,16 @@
+-- The statements and bodies so far, and those of the functions that are left.
+use Rattle.std.proofs.Common.{◌≡◌, ◌++◌, length}
+use Rattle.std.specs.Vec.Iter.{into_iter_items}
+use Rattle.c_core_rules.specs.Programs.{numbers_from, numbered_bodies}
+use Rattle.c_core_numbers.specs.Rows.{sizes_of}
+use Rattle.c_core_numbers.proofs.numbering.numbered_bodies.Given as goal
+
+abbrev pub invariant-loop-tree : goal.invariant-loop-tree
+invariant-loop-tree l = record {
+  bodies : l.bodies.items
+      ++ numbers_from (length l.stmts.items) (sizes_of (into_iter_items l.tree-iterator))
+      ≡ numbers_from 0 (sizes_of l.fn.trees.items);
+  stmts : l.stmts.items
+      ++ numbered_bodies (length l.stmts.items) (into_iter_items l.tree-iterator)
+      ≡ numbered_bodies 0 l.fn.trees.items;
+}
