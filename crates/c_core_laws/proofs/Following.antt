@@ -1,6 +1,6 @@
 -- A rule that follows a count: what it makes is counted, whatever is taken before it.
 
-use Rattle.std.proofs.Common.{◌≡◌, ℕ, ◌+◌, max, true, false, List, []}
+use Rattle.std.proofs.Common.{◌≡◌, ℕ, max, true, false, List, []}
 use Rattle.std.proofs.Common.{◌++◌, map, ap, sym, ◌∙◌, append_assoc, pos}
 use Rattle.std.proofs.lemmas.List.{map-append, append-nil}
 use Rattle.cpa_ints.specs.declared.integers.IntType.{IntType}

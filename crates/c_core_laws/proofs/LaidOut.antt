@@ -1,5 +1,5 @@
 -- The cells of a typed text are those of its core.
-use Rattle.std.proofs.Common.{◌≡◌, ℕ, ◌+◌, List, [], ◌∷◌, ◌++◌, map, take}
+use Rattle.std.proofs.Common.{◌≡◌, ℕ, List, [], ◌∷◌, ◌++◌, map, take}
 use Rattle.std.proofs.Common.{replicate, ℤ, pos, refl, ap, sym, ◌∙◌, append_assoc, subst}
 use Rattle.std.specs.List.{flat_map}
 use Rattle.std.proofs.lemmas.List.{map-append, append-nil}

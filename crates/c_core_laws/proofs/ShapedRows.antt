@@ -1,5 +1,5 @@
 -- The rules of expressions make trees whose nodes have the parts of their heads.
-use Rattle.std.proofs.Common.{◌+◌, Bool, true, if◌then◌else◌, ◌&&◌, List, [], ◌∷◌}
+use Rattle.std.proofs.Common.{Bool, true, if◌then◌else◌, ◌&&◌, List, [], ◌∷◌}
 use Rattle.std.proofs.Common.{◌++◌, map, Option, None, Some, refl}
 use Rattle.std.specs.List.{AllByRecursion}
 use Rattle.std.specs.Prelude.{is_some, unwrap_or}

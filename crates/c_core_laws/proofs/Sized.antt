@@ -1,5 +1,5 @@
 -- How large trees are, by how they are put together.
-use Rattle.std.proofs.Common.{◌≡◌, ◌+◌, ◌≤◌, max, [], ◌∷◌, ◌++◌}
+use Rattle.std.proofs.Common.{◌≡◌, ◌≤◌, max, [], ◌∷◌, ◌++◌}
 use Rattle.std.proofs.Common.{◌==◌, refl, ap, sym, ◌∙◌, arith}
 use Rattle.std.proofs.lemmas.Bool.{ne_eqb}
 use Rattle.cpa_expr.specs.declared.tree.Expr.{Expr}

@@ -1,6 +1,6 @@
 -- What the objects of file scope of a sound text start at lies in the ranges of their types.
-use Rattle.std.proofs.Common.{◌≡◌, ℕ, ◌+◌, Bool, true, false, ◌&&◌, ◌||◌, not, List, []}
-use Rattle.std.proofs.Common.{◌∷◌, ◌++◌, map, length, Option, None, Some, refl, ap}
+use Rattle.std.proofs.Common.{◌≡◌, ℕ, Bool, true, false, ◌&&◌, ◌||◌, not, List, []}
+use Rattle.std.proofs.Common.{◌∷◌, ◌++◌, map, Option, None, Some, refl, ap}
 use Rattle.std.proofs.Common.{sym, ◌∙◌, subst, inl, inr, ℤ, pos}
 use Rattle.std.specs.Prelude.{unwrap_or, option_map, is_some, find, cond}
 use Rattle.std.specs.List.{AllByRecursion, flat_map}
