@@ -86,5 +86,6 @@ tables t sound = record {
 pub well_formed : (t : Table) → IsSoundTable t → ((P : Program) → IsNumbered P → TreeLaws P)
     → IsWellFormed (program_of t.cells (stmts_of t))
 well_formed t sound law =
-    well_formed_by (program_of t.cells (stmts_of t)) ends own level (tables t sound) (law (program_of t.cells (stmts_of t)))
+    well_formed_by (program_of t.cells (stmts_of t)) ends own level (tables t sound)
+    (law (program_of t.cells (stmts_of t)))
     sound.cells.1 sound.cells.0 (lit≤ tt) (lit< tt)

@@ -10,7 +10,9 @@ use Rattle.cases_analyses.proofs.sample.sound_program.Goals as goal
 pub returns : goal.returns
 returns c =
     let t = c.args.table.now in
-    IfOk-weaker c.program.result (λ (P : Program). P ≡ program_of t.cells c.in_ok-stmts.field-0.items) IsWellFormed
-    (λ (P : Program) is. subst IsWellFormed (sym (is ∙ ap (program_of t.cells) c.in_ok-stmts.ensures))
+    IfOk-weaker c.program.result
+    (λ (P : Program). P ≡ program_of t.cells c.in_ok-stmts.field-0.items) IsWellFormed
+    (λ (P : Program) is. subst IsWellFormed
+    (sym (is ∙ ap (program_of t.cells) c.in_ok-stmts.ensures))
     (well_formed t c.requires c.statements_are_trees.ensures.trees))
     c.program.ensures
