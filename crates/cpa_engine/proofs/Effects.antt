@@ -280,7 +280,7 @@ none_above n m (x ∷ xs) le above =
     let no : eqb x.number n ≡ false = ne_eqb x.number n (λ e. omega (arith, le, less, e)) in
     rw no (none_above n m xs le above.1)
 
-those_one : (xs : List Entry) (old : Entry) → Ascend (numbers xs) → IsIn old xs
+pub those_one : (xs : List Entry) (old : Entry) → Ascend (numbers xs) → IsIn old xs
     → those old.number xs ≡ old ∷ []
 those_one [] old up there = absurd there
 those_one (x ∷ xs) old up (inl same) =

@@ -11,3 +11,5 @@ pub mod Keeping
 pub mod Settled
 pub mod Expanded
 pub mod Beginning
+pub mod Comparing
+pub mod Owning

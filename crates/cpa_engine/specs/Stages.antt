@@ -18,6 +18,7 @@ use Rattle.cpa_reached.specs.Entries.{ReachedSet, IsLive, numbers}
 use Rattle.cpa_reached.specs.Calls.{added, replaced, used, closed, rename}
 use Rattle.cpa_reached.specs.Successors.{LiesInNamed}
 use Rattle.cpa_engine.specs.declared.work.Work.{Work}
+use Rattle.cpa_engine.specs.Keys.{WidenBesideKeys, CoversKey, rows_of}
 use Rattle.cpa_engine.specs.Turns.{LiesInEntry}
 
 -- Numbers ascend, and are used up.
@@ -63,6 +64,7 @@ pub record AddsRow (cfa : Cfa) (cs : List Component) (a b : Stage) : Type 0 wher
   pub are_precisions : ArePrecisions cfa (length cs) precisions
   pub is_edge : edge < length cfa.edges
   pub uncovered : (e : Entry) → IsIn e a.reached.live → all_cover cs elems e.elems ≡ false
+  pub compared : WidenBesideKeys cs → AllByRecursion (CoversKey cs elems) (rows_of a.reached.live)
   pub is : b ≡ stage (added a.reached elems precisions (a.work.current, edge))
       (with_added a.reached.next a.work)
 
@@ -73,6 +75,9 @@ pub record ReplacesEntry (cfa : Cfa) (cs : List Component) (a b : Stage) : Type 
   pub successor : List Elem
   pub precisions : List Precision
   pub elems : List Elem
+  pub are_successor : AreElems cfa (length cs) successor
+  pub are_old : AreElems cfa (length cs) entry.elems
+  pub are_precisions : ArePrecisions cfa (length cs) precisions
   pub merged : MergedRow cs cfa successor entry.elems precisions elems
   pub is : b ≡ stage (replaced a.reached entry.number elems)
       (with_replaced entry.number a.reached.next a.work)

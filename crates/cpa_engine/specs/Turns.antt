@@ -2,25 +2,23 @@
 -- the body of the loop; numbers, uses and rows of a journal are this project's own). No transfer
 -- and
 -- no merge is named, and of the stop operator only its outcome.
-use Rattle.std.specs.Prelude.{◌≡◌, ◌≢◌, ℕ, ◌<◌, Bool, true, false, ◌&&◌, List, [], ◌∷◌, ◌++◌, map}
-use Rattle.std.specs.Prelude.{length, IfSome, if◌then◌else◌, ◌⊎◌}
+use Rattle.std.specs.Prelude.{◌≡◌, ◌≢◌, ℕ, ◌<◌, true, false, List, [], ◌∷◌, ◌++◌, map}
+use Rattle.std.specs.Prelude.{length, IfSome, ◌⊎◌}
 use Rattle.std.specs.List.{AllByRecursion}
 use Rattle.cpa_model.specs.declared.automaton.Cfa.{Cfa}
 use Rattle.cpa_model.specs.declared.facts.Elem.{Elem}
 use Rattle.cpa_model.specs.declared.states.State.{State}
 use Rattle.cpa_model.specs.Automata.{IsStateOf, EdgeStep}
 use Rattle.cpa_model.specs.Facts.{LiesIn}
-use Rattle.cpa_iface.specs.declared.analysis.Part.{Part}
-use Rattle.cpa_iface.specs.declared.analysis.Part.TheVariants as part
 use Rattle.cpa_iface.specs.declared.entries.Entry.{Entry}
 use Rattle.cpa_iface.specs.declared.entries.Turn.{Turn}
 use Rattle.cpa_iface.specs.declared.merging.Order.{Order}
 use Rattle.cpa_iface.specs.Laws.{AreDistinct}
-use Rattle.cpa_composite.specs.Comparisons.{keeps_apart}
 use Rattle.cpa_composite.specs.Components.{Component, IsEntryOf}
 use Rattle.cpa_composite.specs.Covers.{all_cover}
 use Rattle.cpa_reached.specs.Members.{IsIn}
 use Rattle.cpa_reached.specs.Entries.{ReachedSet, IsLive, IsNext}
+use Rattle.cpa_engine.specs.Keys.{key_of}
 
 -- the edge by which the entry came is one of the automaton
 abbrev pub HasEdge : Cfa → Entry → Type 0
@@ -75,20 +73,6 @@ pub record IsTaken (old new : List Entry) (n : ℕ) : Type 0 where
   pub number : entry.number ≡ n
   pub waited : entry.waiting ≡ true
   pub rests : (e : Entry) → IsIn e new → e.number ≡ n → e.waiting ≡ false
-
-abbrev pub is_control : Part → Bool
-is_control part.Nothing = false
-is_control part.Point = true
-is_control part.Stack = true
-is_control part.Store = false
-
--- the elements by which entries are told apart: those of the analyses that are exact on the point
--- or on the stack and keep their elements apart
-abbrev pub key_of : List Component → List Elem → List Elem
-key_of [] es = []
-key_of (c ∷ cs) [] = []
-key_of (c ∷ cs) (e ∷ es) =
-    if is_control c.meaning.part && keeps_apart c.rule then e ∷ key_of cs es else key_of cs es
 
 -- What the turn of a row makes of the entries.
 pub record IsTurn (cfa : Cfa) (cs : List Component) (old new : List Entry) (row : Turn) : Type 0

@@ -7,6 +7,7 @@ ghost use Rattle.cpa_composite.specs.Composites.{components};
 ghost use Rattle.cpa_reached.specs.Entries.{waiting_numbers};
 ghost use Rattle.cpa_reached.specs.Successors.{CoversSuccessors};
 ghost use Rattle.cpa_engine.specs.Journals.{IsJournalOf};
+ghost use Rattle.cpa_engine.specs.Keys.{WidenBesideKeys, HaveOwnKeys};
 ghost use Rattle.cpa_engine.specs.Turns.{AreEntries, Turned};
 
 use crate::taking::expand_taken;
@@ -37,6 +38,9 @@ pub fn turn<A: Analysis>(
         → OnOk result (CoversSuccessors cfa.now reached.new.live) }
     ensures journal { (began : List ℕ) → IsJournalOf began reached.old
         → OnOk result (IsJournalOf began reached.new) }
+    ensures keys { WidenBesideKeys (components composite.old)
+        → HaveOwnKeys (components composite.old) reached.old.live
+        → OnOk result (HaveOwnKeys (components composite.old) reached.new.live) }
     ensures kept { components composite.new ≡ components composite.old }
 {
     initial_is_state();

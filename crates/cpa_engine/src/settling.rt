@@ -11,6 +11,7 @@ ghost use Rattle.cpa_model.specs.Facts.{LiesIn};
 ghost use Rattle.cpa_composite.specs.Components.{AreElems, ArePrecisions};
 ghost use Rattle.cpa_composite.specs.Composites.{components};
 ghost use Rattle.cpa_composite.specs.Covers.{all_cover};
+ghost use Rattle.cpa_engine.specs.Keys.{WidenBesideKeys, CoversKey, rows_of, MergesAt};
 ghost use Rattle.cpa_engine.specs.Stages.{stage, IsOrdered, Leads, IsPlaced, HasCurrent};
 ghost use Rattle.cpa_engine.specs.Turns.{AreEntries};
 
@@ -43,6 +44,9 @@ fn merge_at<A: Analysis>(
         (stage reached.old work.old) (stage reached.new work.new)) }
     ensures size { OnOk result (length reached.new.live ≡ length reached.old.live) }
     ensures next { IfOk result (λ next. next ≤ place + 1) }
+    ensures compared { WidenBesideKeys (components composite.old) → IfOk result (λ next.
+        MergesAt (CoversKey (components composite.old) successor.now) (rows_of reached.old.live)
+        (rows_of reached.new.live) place next) }
     ensures kept { components composite.new ≡ components composite.old }
 {
     let entry = &reached.live()[place];
@@ -75,6 +79,8 @@ fn compare<A: Analysis>(
         precisions.now }
     ensures leads { OnOk result (Leads cfa.now (components composite.old)
         (stage reached.old work.old) (stage reached.new work.new)) }
+    ensures compared { WidenBesideKeys (components composite.old) → OnOk result (AllByRecursion
+        (CoversKey (components composite.old) successor.now) (rows_of reached.new.live)) }
     ensures kept { components composite.new ≡ components composite.old }
 {
     let mut place = 0;
@@ -88,7 +94,11 @@ fn compare<A: Analysis>(
 }
 
 /// The number of the first entry that covers the elements.
-fn covering<A: Analysis>(composite: &Composite<A>, entries: &[Entry], elems: &[Elem]) -> Option<u32>
+fn covering<A: Analysis>(
+    composite: &Composite<A>,
+    entries: &[Entry],
+    elems: &[Elem],
+) -> Option<u32>
     ensures { result ≡ option_map (λ e. e.number)
         (find (λ e. all_cover (components composite.now) elems.now e.elems) entries.now) }
 {
@@ -116,6 +126,8 @@ fn cover_or_add<A: Analysis>(
     requires successor { AreElems cfa.now (length (components composite.now)) successor.items }
     requires precisions { ArePrecisions cfa.now (length (components composite.now))
         precisions.items }
+    requires compared { WidenBesideKeys (components composite.now) → AllByRecursion
+        (CoversKey (components composite.now) successor.items) (rows_of reached.old.live) }
     ensures leads { OnOk result (Leads cfa.now (components composite.now)
         (stage reached.old work.old) (stage reached.new work.new)) }
     ensures placed { (t : State) → LiesIn t successor.items
@@ -189,9 +201,7 @@ pub(crate) fn settle_all<A: Analysis>(
     ensures kept { components composite.new ≡ components composite.old }
 {
     for successor in successors {
-        settle(
-            alloc, cfa, composite, reached, work, edge, successor, precisions,
-        )?;
+        settle(alloc, cfa, composite, reached, work, edge, successor, precisions)?;
     }
     Ok(())
 }

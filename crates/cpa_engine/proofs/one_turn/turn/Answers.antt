@@ -7,6 +7,7 @@ use Rattle.cpa_engine.specs.Stages.{Expands}
 use Rattle.cpa_engine.specs.Turns.{AreEntries}
 use Rattle.cpa_engine.proofs.Beginning.{begins_in_state, taken_live}
 use Rattle.cpa_engine.proofs.Keeping.{turned_journal}
+use Rattle.cpa_engine.proofs.Owning.{turned_keys}
 use Rattle.cpa_engine.proofs.Shapes.{taken_entries}
 use Rattle.cpa_engine.proofs.Turning.{turned, turned_covers, turned_entries}
 use Rattle.cpa_engine.proofs.one_turn.turn.Goals as goal
@@ -61,3 +62,12 @@ returns-in_ok-expand_taken-in-Some-clause-journal g c = λ began of.
     (subst (λ (r : ReachedSet). Expands c.args.cfa.now (components c.args.composite.now)
     c.in-Some.number r c.expand_taken.new.reached) c.in-Some.ensures.taken
     c.in_ok-expand_taken-in-Some.ensures.expands) of
+
+pub returns-in_ok-expand_taken-in-Some-clause-keys :
+    goal.returns-in_ok-expand_taken-in-Some-clause-keys
+returns-in_ok-expand_taken-in-Some-clause-keys g c = λ all own.
+    turned_keys c.args.cfa.now (components c.args.composite.now) c.args.reached.now
+    c.in-Some.number c.expand_taken.new.reached all
+    (subst (λ (r : ReachedSet). Expands c.args.cfa.now (components c.args.composite.now)
+    c.in-Some.number r c.expand_taken.new.reached) c.in-Some.ensures.taken
+    c.in_ok-expand_taken-in-Some.ensures.expands) own

@@ -50,6 +50,7 @@ returns-in_ok-number-in-None-clause-leads g c =
     c.in_ok-number-in-None.number c.requires.successor c.requires.precisions c.requires.edge
     (none_in cs c.args.successor.items c.deref.result.now c.args.reached.now.live c.live.result.now
     c.covering.result c.deref.ensures.value c.live.ensures.live c.covering.ensures c.in-None.is)
+    c.requires.compared
     c.in_ok-number-in-None.ensures.number c.in_ok-number-in-None.ensures.ok is)
     c.note_added.ensures
 

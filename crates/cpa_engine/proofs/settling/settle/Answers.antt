@@ -1,9 +1,11 @@
-use Rattle.std.proofs.Common.{◌∙◌}
+use Rattle.std.proofs.Common.{sym, ◌∙◌}
 use Rattle.std.proofs.lemmas.Result.{on_ok_weaker}
 use Rattle.cpa_composite.specs.Composites.{components}
+use Rattle.cpa_engine.specs.Keys.{rows_of}
 use Rattle.cpa_engine.specs.Stages.{Stage, stage, Leads}
 use Rattle.cpa_engine.proofs.Chains.{leads_then, leads_under}
 use Rattle.cpa_engine.proofs.Progress.{current_along}
+use Rattle.cpa_engine.proofs.Settled.{compared_under}
 use Rattle.cpa_engine.proofs.Shapes.{entries_on}
 use Rattle.cpa_engine.proofs.settling.settle.Goals as goal
 
@@ -43,3 +45,9 @@ returns-clause-leads g c =
     leads_then cfa cs a b m first
     (leads_under cfa ds cs b m (c.compare.ensures.kept ∙ c.adjust.ensures.kept) more))
     c.cover_or_add.ensures.leads
+
+pub cover_or_add-requires-clause-compared : goal.cover_or_add-requires-clause-compared
+cover_or_add-requires-clause-compared g c =
+    compared_under (components c.adjust.new.self) (components c.compare.new.composite)
+    c.deref.result.now c.in_ok-elems.elems.items (rows_of c.compare.new.reached.live)
+    (sym c.compare.ensures.kept) c.deref.ensures.value c.in_ok-compare.ensures.compared

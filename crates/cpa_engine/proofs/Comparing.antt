@@ -1,0 +1,230 @@
+-- Where all that do not tell entries apart widen, each live row with the key of the successor
+-- covers
+-- it when all were compared (`compared_all`).
+use Rattle.std.proofs.Common.{◌≡◌, ◌≢◌, ℕ, zero, suc, ◌+◌, ◌<◌, ◌≤◌, Bool, true, false, ◌&&◌, cond}
+use Rattle.std.proofs.Common.{List}
+use Rattle.std.proofs.Common.{[], ◌∷◌, ◌++◌, map, length, Option, Some, None, refl, sym, ap, ◌∙◌}
+use Rattle.std.proofs.Common.{subst}
+use Rattle.std.proofs.Common.{inl, inr, ⊎_elim, arith}
+use Rattle.std.specs.Prelude.{◌⊎◌, IsTrue}
+use Rattle.std.specs.List.{slice_get, AllByRecursion, remove}
+use Rattle.std.proofs.lemmas.Bool.{cond_both, cases_Bool, both_ways, and_parts}
+use Rattle.std.proofs.lemmas.Option.{same_Some}
+use Rattle.cpa_model.specs.declared.automaton.Cfa.{Cfa}
+use Rattle.cpa_model.specs.declared.facts.Elem.{Elem}
+use Rattle.cpa_iface.specs.declared.entries.Entry.{Entry}
+use Rattle.cpa_iface.specs.declared.merging.MergeRule.{MergeRule}
+use Rattle.cpa_iface.specs.declared.merging.MergeRule.TheVariants.{Sep, Join, Widen}
+use Rattle.cpa_iface.specs.declared.precisions.Precision.{Precision}
+use Rattle.cpa_composite.specs.Comparisons.{keeps_apart}
+use Rattle.cpa_composite.specs.Components.{Component, StandsAt}
+use Rattle.cpa_composite.specs.Covers.{all_cover}
+use Rattle.cpa_composite.specs.Laws.{AgreeOnSep, WidenCovers, MergedRow, EachMerged}
+use Rattle.cpa_composite.specs.Ranks.{JoinNone}
+use Rattle.cpa_composite.specs.RankLaws.{stays_covers, merged_covers}
+use Rattle.cpa_engine.specs.Keys.{is_key, key_of, WidenBesideKeys, CoversKey, rows_of, MergesAt}
+use Rattle.cpa_engine.specs.Keys.{Compared}
+
+-- none of them joins
+apart : (rule : MergeRule) → keeps_apart rule ≡ true → rule ≡ Sep
+apart Sep is = refl
+apart Join is = absurd (cc)
+apart Widen is = absurd (cc)
+
+one_joins_not : (c : Component) → (is_key c ≡ true) ⊎ (c.rule ≡ Widen) → c.rule ≢ Join
+one_joins_not c (inl key) join =
+    let sep = apart c.rule (and_parts _ (keeps_apart c.rule) key).1 in
+    absurd (let wrong : Sep ≡ Join = sym sep ∙ join in cc)
+one_joins_not c (inr widen) join = absurd (let wrong : Widen ≡ Join = sym widen ∙ join in cc)
+
+none_joins : (cs : List Component) → WidenBesideKeys cs → JoinNone cs
+none_joins [] all = tt
+none_joins (c ∷ cs) all = (one_joins_not c all.0, none_joins cs all.1)
+
+-- rows of the same key agree where elements are kept apart
+sep_is_key : (c : Component) → (is_key c ≡ true) ⊎ (c.rule ≡ Widen) → c.rule ≡ Sep → is_key c ≡ true
+sep_is_key c (inl key) sep = key
+sep_is_key c (inr widen) sep = absurd (let wrong : Widen ≡ Sep = sym widen ∙ sep in cc)
+
+heads : {X : Type 0} (x y : X) (xs ys : List X) → x ∷ xs ≡ y ∷ ys → (x ≡ y) × (xs ≡ ys)
+heads x y xs ys same = (cc, cc)
+
+agree_by_key : (cs : List Component) (new old : List Elem) → WidenBesideKeys cs
+    → key_of cs old ≡ key_of cs new → AgreeOnSep cs new old
+agree_by_key [] new old all same i c e f at at_e at_f sep = absurd (cc)
+agree_by_key (d ∷ cs) [] old all same i c e f at at_e at_f sep = absurd (cc)
+agree_by_key (d ∷ cs) (x ∷ new) [] all same i c e f at at_e at_f sep = absurd (cc)
+agree_by_key (d ∷ cs) (x ∷ new) (y ∷ old) all same zero c e f at at_e at_f sep =
+    let is_d : d ≡ c = same_Some d c at in
+    let key : is_key d ≡ true =
+    sep_is_key d all.0 (ap (λ (b : Component). b.rule) is_d ∙ sep) in
+    let both : y ∷ key_of cs old ≡ x ∷ key_of cs new =
+    subst (λ (b : Bool). cond b (y ∷ key_of cs old) (key_of cs old)
+    ≡ cond b (x ∷ key_of cs new) (key_of cs new)) key same in
+    sym (same_Some x e at_e) ∙ (sym (heads y x (key_of cs old) (key_of cs new) both).0
+    ∙ same_Some y f at_f)
+agree_by_key (d ∷ cs) (x ∷ new) (y ∷ old) all same (suc i) c e f at at_e at_f sep =
+    let later : key_of cs old ≡ key_of cs new =
+    ⊎_elim
+    (λ key. (heads y x (key_of cs old) (key_of cs new)
+    (subst (λ (b : Bool). cond b (y ∷ key_of cs old) (key_of cs old)
+    ≡ cond b (x ∷ key_of cs new) (key_of cs new)) key same)).1)
+    (λ other. subst (λ (b : Bool). cond b (y ∷ key_of cs old) (key_of cs old)
+    ≡ cond b (x ∷ key_of cs new) (key_of cs new)) other same)
+    (cases_Bool (is_key d)) in
+    agree_by_key cs new old all.1 later i c e f at at_e at_f sep
+
+-- a row that stays covers the successor
+pub stays_good : (cs : List Component) (successor row : List Elem) → WidenBesideKeys cs
+    → (AgreeOnSep cs successor row → WidenCovers cs successor row) → CoversKey cs successor row
+stays_good cs successor row all none same =
+    let agree = agree_by_key cs successor row all same in
+    stays_covers cs successor row (none_joins cs all) agree (none agree)
+
+-- and so does one that takes its place
+pub merged_good : (cfa : Cfa) (cs : List Component) (successor old : List Elem)
+    (ps : List Precision) (merged : List Elem) → WidenBesideKeys cs
+    → length successor ≡ length cs → length old ≡ length cs → length ps ≡ length cs
+    → MergedRow cs cfa successor old ps merged → CoversKey cs successor merged
+merged_good cfa cs successor old ps merged all a b d row same =
+    merged_covers cfa cs successor old ps merged a b d row.elems.size (none_joins cs all) row.agree
+    row.each
+
+-- a merged row has the key of the old one
+pub merged_key : (cfa : Cfa) (cs : List Component) (successor old : List Elem)
+    (ps : List Precision) (merged : List Elem) → length successor ≡ length cs
+    → length old ≡ length cs → length ps ≡ length cs → length merged ≡ length cs
+    → EachMerged cfa cs successor old ps merged → key_of cs merged ≡ key_of cs old
+merged_key cfa [] es fs ps gs a b d size each = refl
+merged_key cfa (c ∷ cs) [] fs ps gs a b d size each = absurd (omega arith)
+merged_key cfa (c ∷ cs) (e ∷ es) [] ps gs a b d size each = absurd (omega arith)
+merged_key cfa (c ∷ cs) (e ∷ es) (f ∷ fs) [] gs a b d size each = absurd (omega arith)
+merged_key cfa (c ∷ cs) (e ∷ es) (f ∷ fs) (p ∷ ps) [] a b d size each = absurd (omega arith)
+merged_key cfa (c ∷ cs) (e ∷ es) (f ∷ fs) (p ∷ ps) (g ∷ gs) a b d size each =
+    let later : key_of cs gs ≡ key_of cs fs =
+    merged_key cfa cs es fs ps gs (omega arith) (omega arith) (omega arith) (omega arith)
+    (λ i x y q u v stands at_u at_v. each (suc i) x y q u v
+    (record { component = stands.component; elem = stands.elem; precision = stands.precision })
+    at_u at_v) in
+    ⊎_elim
+    (λ key.
+    let sep = apart c.rule (and_parts _ (keeps_apart c.rule) key).1 in
+    let first : g ≡ f =
+    (each 0 c e p f g (record { component = refl; elem = refl; precision = refl }) refl refl).sep
+    sep in
+    rw key (ap (λ (x : Elem). x ∷ key_of cs gs) first ∙ ap (λ (l : List Elem). f ∷ l) later))
+    (λ other. rw other later)
+    (cases_Bool (is_key c))
+
+-- rows in three parts
+take_first : {X : Type 0} (front : List X) (x : X) (rest : List X)
+    → slice_get (front ++ x ∷ rest) (length front) ≡ Some x
+take_first [] x rest = refl
+take_first (y ∷ front) x rest = take_first front x rest
+
+gone_first : {X : Type 0} (front : List X) (x : X) (rest : List X)
+    → remove (front ++ x ∷ rest) (length front) ≡ front ++ rest
+gone_first [] x rest = refl
+gone_first {X} (y ∷ front) x rest = ap (λ (l : List X). y ∷ l) (gone_first front x rest)
+
+shifted : {X : Type 0} (front : List X) (x : X) (rest : List X)
+    → front ++ x ∷ rest ≡ (front ++ x ∷ []) ++ rest
+shifted [] x rest = refl
+shifted {X} (y ∷ front) x rest = ap (λ (l : List X). y ∷ l) (shifted front x rest)
+
+grouped : {X : Type 0} (xs ys zs : List X) → (xs ++ ys) ++ zs ≡ xs ++ (ys ++ zs)
+grouped [] ys zs = refl
+grouped {X} (x ∷ xs) ys zs = ap (λ (l : List X). x ∷ l) (grouped xs ys zs)
+
+size_push : {X : Type 0} (xs : List X) (x : X) → length (xs ++ x ∷ []) ≡ length xs + 1
+size_push [] x = omega arith
+size_push (y ∷ xs) x = let h = size_push xs x in omega (arith, h)
+
+all_push : (P : List Elem → Type 0) (xs : List (List Elem)) (x : List Elem) → AllByRecursion P xs
+    → P x → AllByRecursion P (xs ++ x ∷ [])
+all_push P [] x all p = (p, tt)
+all_push P (y ∷ xs) x all p = (all.0, all_push P xs x all.1 p)
+
+all_both : (P : List Elem → Type 0) (xs ys : List (List Elem)) → AllByRecursion P xs
+    → AllByRecursion P ys → AllByRecursion P (xs ++ ys)
+all_both P [] ys a b = b
+all_both P (x ∷ xs) ys a b = (a.0, all_both P xs ys a.1 b)
+
+pub compared_first : (good : List Elem → Type 0) (rows : List (List Elem))
+    → Compared good rows 0 (length rows)
+compared_first good rows = record {
+  front = [];
+  todo = rows;
+  behind = [];
+  is = no_more rows;
+  size = refl;
+  count = refl;
+  good_front = tt;
+  good_behind = tt;
+}
+  where
+    no_more : (xs : List (List Elem)) → xs ≡ xs ++ []
+    no_more [] = refl
+    no_more (x ∷ xs) = ap (λ (l : List (List Elem)). x ∷ l) (no_more xs)
+
+step_with : (good : List Elem → Type 0) (old new : List (List Elem)) (place next left : ℕ)
+    (front todo behind : List (List Elem)) → old ≡ front ++ (todo ++ behind)
+    → length front ≡ place → length todo ≡ left + 1 → AllByRecursion good front
+    → AllByRecursion good behind → MergesAt good old new place next → Compared good new next left
+step_with good old new place next left front [] behind is size count good_front good_behind merges =
+    absurd (omega (arith, count))
+step_with good old new place next left front (x ∷ todo) behind is size count good_front good_behind
+    merges =
+    let there : slice_get old place ≡ Some x =
+    ap (λ (l : List (List Elem)). slice_get l place) is
+    ∙ (ap (λ (n : ℕ). slice_get (front ++ x ∷ (todo ++ behind)) n) (sym size)
+    ∙ take_first front x (todo ++ behind)) in
+    ⊎_elim
+    (λ (stay : (next ≡ place + 1) × (new ≡ old)
+    × ((row : List Elem) → slice_get old place ≡ Some row → good row)).
+    record {
+      front = front ++ x ∷ [];
+      todo = todo;
+      behind = behind;
+      is = stay.1 ∙ (is ∙ shifted front x (todo ++ behind));
+      size = let long = size_push front x in let to = stay.0 in omega (arith, long, size, to);
+      count = omega (arith, count);
+      good_front = all_push good front x good_front (stay.2 x there);
+      good_behind = good_behind;
+    })
+    (λ (gone : (next ≡ place) × (row : List Elem) × (new ≡ remove old place ++ row ∷ []) × good row).
+    let left_is : remove old place ≡ front ++ (todo ++ behind) =
+    ap (λ (l : List (List Elem)). remove l place) is
+    ∙ (ap (λ (n : ℕ). remove (front ++ x ∷ (todo ++ behind)) n) (sym size)
+    ∙ gone_first front x (todo ++ behind)) in
+    record {
+      front = front;
+      todo = todo;
+      behind = behind ++ gone.1 ∷ [];
+      is = gone.2 ∙ (ap (λ (l : List (List Elem)). l ++ gone.1 ∷ []) left_is
+          ∙ (grouped front (todo ++ behind) (gone.1 ∷ [])
+          ∙ ap (λ (l : List (List Elem)). front ++ l) (grouped todo behind (gone.1 ∷ []))));
+      size = size ∙ sym gone.0;
+      count = omega (arith, count);
+      good_front = good_front;
+      good_behind = all_push good behind gone.1 good_behind gone.3;
+    })
+    merges.step
+
+pub compared_step : (good : List Elem → Type 0) (old new : List (List Elem))
+    (place next left : ℕ) → Compared good old place (left + 1) → MergesAt good old new place next
+    → Compared good new next left
+compared_step good old new place next left c merges =
+    step_with good old new place next left c.front c.todo c.behind c.is c.size c.count c.good_front
+    c.good_behind merges
+
+pub compared_all : (good : List Elem → Type 0) (rows : List (List Elem)) (place : ℕ)
+    → Compared good rows place 0 → AllByRecursion good rows
+compared_all good rows place c =
+    last c.todo c.count c.is
+  where
+    last : (todo : List (List Elem)) → length todo ≡ 0
+        → rows ≡ c.front ++ (todo ++ c.behind) → AllByRecursion good rows
+    last [] none is = subst (AllByRecursion good) (sym is)
+        (all_both good c.front c.behind c.good_front c.good_behind)
+    last (x ∷ todo) none is = absurd (omega (arith, none))

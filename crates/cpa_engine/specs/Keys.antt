@@ -1,0 +1,68 @@
+-- Keys: the elements by which entries are told apart, and entries that have a key of their own
+-- (this
+-- project's own).
+use Rattle.std.specs.Prelude.{◌≡◌, ℕ, Bool, true, false, ◌&&◌, List, [], ◌∷◌, ◌++◌, map, length}
+use Rattle.std.specs.Prelude.{if◌then◌else◌, ◌⊎◌, IsTrue, ◌+◌, slice_get, Some}
+use Rattle.std.specs.List.{AllByRecursion, remove}
+use Rattle.cpa_model.specs.declared.facts.Elem.{Elem}
+use Rattle.cpa_iface.specs.declared.analysis.Part.{Part}
+use Rattle.cpa_iface.specs.declared.analysis.Part.TheVariants as part
+use Rattle.cpa_iface.specs.declared.entries.Entry.{Entry}
+use Rattle.cpa_iface.specs.declared.merging.MergeRule.TheVariants.{Widen}
+use Rattle.cpa_composite.specs.Comparisons.{keeps_apart}
+use Rattle.cpa_composite.specs.Components.{Component}
+use Rattle.cpa_composite.specs.Covers.{all_cover}
+use Rattle.cpa_reached.specs.Members.{IsIn}
+
+abbrev pub is_control : Part → Bool
+is_control part.Nothing = false
+is_control part.Point = true
+is_control part.Stack = true
+is_control part.Store = false
+
+-- it is exact on the point or on the stack, and keeps its elements apart
+abbrev pub is_key : Component → Bool
+is_key c = is_control c.meaning.part && keeps_apart c.rule
+
+-- the elements of those
+abbrev pub key_of : List Component → List Elem → List Elem
+key_of [] es = []
+key_of (c ∷ cs) [] = []
+key_of (c ∷ cs) (e ∷ es) = if is_key c then e ∷ key_of cs es else key_of cs es
+
+-- all others widen
+abbrev pub WidenBesideKeys : List Component → Type 0
+WidenBesideKeys cs = AllByRecursion (λ c. (is_key c ≡ true) ⊎ (c.rule ≡ Widen)) cs
+
+-- no two entries have the same key
+abbrev pub HaveOwnKeys : List Component → List Entry → Type 0
+HaveOwnKeys cs xs = (e f : Entry) → IsIn e xs → IsIn f xs
+    → key_of cs e.elems ≡ key_of cs f.elems → e.number ≡ f.number
+
+-- where it has the key of the successor, the row covers it
+abbrev pub CoversKey : List Component → List Elem → List Elem → Type 0
+CoversKey cs successor row =
+    key_of cs row ≡ key_of cs successor → IsTrue (all_cover cs successor row)
+
+abbrev pub rows_of : List Entry → List (List Elem)
+rows_of xs = map (λ e. e.elems) xs
+
+-- One comparison: the row at a place stays, and covers; or it is gone, and the last one covers.
+pub record MergesAt (good : List Elem → Type 0) (old new : List (List Elem)) (place next : ℕ)
+    : Type 0 where
+  pub step :
+      ((next ≡ place + 1) × (new ≡ old)
+      × ((row : List Elem) → slice_get old place ≡ Some row → good row))
+      ⊎ ((next ≡ place) × (row : List Elem) × (new ≡ remove old place ++ row ∷ []) × good row)
+
+-- The rows before a place, and those behind the ones that are left, cover.
+pub record Compared (good : List Elem → Type 0) (rows : List (List Elem)) (place left : ℕ) : Type 0
+  where
+    pub front : List (List Elem)
+    pub todo : List (List Elem)
+    pub behind : List (List Elem)
+    pub is : rows ≡ front ++ (todo ++ behind)
+    pub size : length front ≡ place
+    pub count : length todo ≡ left
+    pub good_front : AllByRecursion good front
+    pub good_behind : AllByRecursion good behind
