@@ -192,7 +192,8 @@ step_with good old new place next left front (x ∷ todo) behind is size count g
       good_front = all_push good front x good_front (stay.2 x there);
       good_behind = good_behind;
     })
-    (λ (gone : (next ≡ place) × (row : List Elem) × (new ≡ remove old place ++ row ∷ []) × good row).
+    (λ (gone : (next ≡ place) × (row : List Elem) × (new ≡ remove old place ++ row ∷ [])
+    × good row).
     let left_is : remove old place ≡ front ++ (todo ++ behind) =
     ap (λ (l : List (List Elem)). remove l place) is
     ∙ (ap (λ (n : ℕ). remove (front ++ x ∷ (todo ++ behind)) n) (sym size)

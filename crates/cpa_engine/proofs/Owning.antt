@@ -75,7 +75,7 @@ adds_own cfa cs a next es new number is_es compared uncovered own e f in_e in_f 
     (λ last. ⊎_elim (λ is. inr is) (λ none. absurd none) last)
     (in_append (map g xs) (new ∷ []) y there) in
     let differ : (y z : Entry) → Keyed cs xs y → new ≡ z → key_of cs y.elems ≡ key_of cs z.elems
-        → ⊥ =
+    → ⊥ =
     λ y z old is_new keys.
     other_key cs es xs old.entry compared old.is_in (uncovered old.entry old.is_in)
     (sym old.key ∙ (keys ∙ ap (key_of cs) (ap (λ (w : Entry). w.elems) (sym is_new) ∙ is_es))) in
@@ -100,23 +100,27 @@ replaces_own cs next xs old es one in_old key own e f in_e in_f same =
     let keep : Entry → Bool = λ x. not (eqb x.number o) in
     let take : Entry → Bool = λ x. eqb x.number o in
     let split : (y : Entry)
-        → IsIn y (map (renamed o next) (others o xs) ++ map (replacing next es) (those o xs))
-        → (Keyed cs xs y × (y.number ≢ o)) ⊎ ((y.number ≡ next) × (y.elems ≡ es)) =
+    → IsIn y (map (renamed o next) (others o xs) ++ map (replacing next es) (those o xs))
+    → (Keyed cs xs y × (y.number ≢ o)) ⊎ ((y.number ≡ next) × (y.elems ≡ es)) =
     λ y there. ⊎_elim
     (λ kept. let from = in_map (renamed o next) (others o xs) y kept in
     let was = in_filter keep xs from.0 from.1 in
     let number : y.number ≡ from.0.number = ap (λ (z : Entry). z.number) from.2 in
-    inl (record {
-      entry = from.0;
-      is_in = was.0;
-      number = number;
-      key = ap (λ (z : Entry). key_of cs z.elems) from.2;
-    }, λ is. both_ways (keep from.0) (ap not (eq-eqb from.0.number o (sym number ∙ is))) was.1))
+    inl (
+      record {
+        entry = from.0;
+        is_in = was.0;
+        number = number;
+        key = ap (λ (z : Entry). key_of cs z.elems) from.2;
+      },
+      λ is. both_ways (keep from.0) (ap not (eq-eqb from.0.number o (sym number ∙ is))) was.1,
+    ))
     (λ last. let from = in_map (replacing next es) (those o xs) y last in
     inr (ap (λ (z : Entry). z.number) from.2, ap (λ (z : Entry). z.elems) from.2))
-    (in_append (map (renamed o next) (others o xs)) (map (replacing next es) (those o xs)) y there) in
+    (in_append (map (renamed o next) (others o xs)) (map (replacing next es) (those o xs)) y
+    there) in
     let differ : (y z : Entry) → Keyed cs xs y × (y.number ≢ o)
-        → (z.number ≡ next) × (z.elems ≡ es) → key_of cs y.elems ≡ key_of cs z.elems → ⊥ =
+    → (z.number ≡ next) × (z.elems ≡ es) → key_of cs y.elems ≡ key_of cs z.elems → ⊥ =
     λ y z kept new keys.
     kept.1 (kept.0.number
     ∙ own kept.0.entry old kept.0.is_in in_old

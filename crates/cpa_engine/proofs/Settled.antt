@@ -76,7 +76,7 @@ pub replaced_size : (r new : ReachedSet) (old : Entry) (es : List Elem) → IsNu
     → IsIn old r.live → new ≡ replaced r old.number es → length new.live ≡ length r.live
 replaced_size r new old es numbered there is =
     let size : length (replaced r old.number es).live
-        ≡ length (numbers (others old.number r.live) ++ r.next ∷ []) =
+    ≡ length (numbers (others old.number r.live) ++ r.next ∷ []) =
     sym (length-map (replaced r old.number es).live (λ (e : Entry). e.number))
     ∙ ap length (replaced_numbers r.next r.live old es numbered.ascend there) in
     let both = length-append (numbers (others old.number r.live)) (r.next ∷ []) in
@@ -120,7 +120,8 @@ pub record Covering (cs : List Component) (es : List Elem) (xs : List Entry) (n 
   pub covers : all_cover cs es entry.elems ≡ true
 
 pub found : (cs : List Component) (es : List Elem) (xs : List Entry) (n : ℕ)
-    → option_map (λ (e : Entry). e.number) (find (λ (e : Entry). all_cover cs es e.elems) xs) ≡ Some n
+    → option_map (λ (e : Entry). e.number) (find (λ (e : Entry). all_cover cs es e.elems) xs)
+    ≡ Some n
     → Covering cs es xs n
 found cs es [] n is = absurd (cc)
 found cs es (x ∷ xs) n is =
@@ -307,11 +308,15 @@ pub merges_none : (cs : List Component) (xs ys : List Entry) (i next : ℕ) (x :
     → IfNone o (AgreeOnSep cs successor old → WidenCovers cs successor old) → next ≡ i + 1
     → MergesAt (CoversKey cs successor) (rows_of xs) (rows_of xs) i next
 merges_none cs xs ys i next x successor old o all same less is is_old none covers to = record {
-  step = inl (to, refl, λ row at.
-      subst (CoversKey cs successor) (is_old ∙ sym (row_at xs ys i x row same less is at))
-      (stays_good cs successor old all
-      (subst (λ (p : Option (Vec Elem Global)).
-      IfNone p (AgreeOnSep cs successor old → WidenCovers cs successor old)) none covers)));
+  step = inl (
+    to,
+    refl,
+    λ row at.
+        subst (CoversKey cs successor) (is_old ∙ sym (row_at xs ys i x row same less is at))
+        (stays_good cs successor old all
+        (subst (λ (p : Option (Vec Elem Global)).
+        IfNone p (AgreeOnSep cs successor old → WidenCovers cs successor old)) none covers)),
+  );
 }
 
 pub merges_some : (cfa : Cfa) (cs : List Component) (r new : ReachedSet) (ys : List Entry)
@@ -325,12 +330,15 @@ pub merges_some : (cfa : Cfa) (cs : List Component) (r new : ReachedSet) (ys : L
     → MergesAt (CoversKey cs successor) (rows_of r.live) (rows_of new.live) i next
 merges_some cfa cs r new ys i next x successor old ps o merged all numbered same less is some a b d
     row made to = record {
-  step = inr (to, merged.items,
-      rows_replaced r new ys i x merged.items numbered same less is made,
-      merged_good cfa cs successor old ps merged.items all a.size b.size d.size
-      (subst (λ (p : Option (Vec Elem Global)).
-      IfSome p (λ m. MergedRow cs cfa successor old ps m.items)) some row));
-}
+      step = inr (
+        to,
+        merged.items,
+        rows_replaced r new ys i x merged.items numbered same less is made,
+        merged_good cfa cs successor old ps merged.items all a.size b.size d.size
+            (subst (λ (p : Option (Vec Elem Global)).
+            IfSome p (λ m. MergedRow cs cfa successor old ps m.items)) some row),
+      );
+    }
 
 pub rows_count : (xs : List Entry) → length (rows_of xs) ≡ length xs
 rows_count xs = length-map xs (λ (e : Entry). e.elems)

@@ -94,11 +94,7 @@ fn compare<A: Analysis>(
 }
 
 /// The number of the first entry that covers the elements.
-fn covering<A: Analysis>(
-    composite: &Composite<A>,
-    entries: &[Entry],
-    elems: &[Elem],
-) -> Option<u32>
+fn covering<A: Analysis>(composite: &Composite<A>, entries: &[Entry], elems: &[Elem]) -> Option<u32>
     ensures { result ≡ option_map (λ e. e.number)
         (find (λ e. all_cover (components composite.now) elems.now e.elems) entries.now) }
 {
@@ -201,7 +197,9 @@ pub(crate) fn settle_all<A: Analysis>(
     ensures kept { components composite.new ≡ components composite.old }
 {
     for successor in successors {
-        settle(alloc, cfa, composite, reached, work, edge, successor, precisions)?;
+        settle(
+            alloc, cfa, composite, reached, work, edge, successor, precisions,
+        )?;
     }
     Ok(())
 }
