@@ -1,0 +1,17 @@
+//! The rules of the core that take no tree of the text: values, statements, fresh cells, operands,
+//! places. The definitions are those of `c_core_rules`.
+#![tactic(auto)]
+
+mod acts;
+mod cells;
+mod operands;
+mod places;
+mod trees;
+mod values;
+
+pub use acts::{cast_to, chosen, dropped_value, linked, signed};
+pub use cells::{Cells, cells_of};
+pub use operands::{divided, hold_all};
+pub use places::{changed, fixed_if, incremented, operator_of, stepped};
+pub use trees::{block, choice, input, joined, leaf, list_of, pure, repeated, set, with};
+pub use values::{cell_at, constant, element, int, scalar};
