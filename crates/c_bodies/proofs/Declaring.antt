@@ -1,7 +1,7 @@
 -- What a declarator makes of a state (`declarator_state`), and that its object is in scope behind
 -- it (`tied_declared`).
-use Rattle.std.proofs.Common.{◌≡◌, ℕ, ◌+◌, ◌<◌, ◌≤◌, Bool, List, [], ◌∷◌, ◌++◌, length, map, drop}
-use Rattle.std.proofs.Common.{take, length-append, Option, Some, refl, sym, ap, ◌∙◌, subst, arith, append_assoc, append-nil}
+use Rattle.std.proofs.Common.{◌≡◌, ℕ, ◌+◌, ◌<◌, Bool, List, [], ◌∷◌, ◌++◌, map, drop}
+use Rattle.std.proofs.Common.{length-append, Option, Some, refl, sym, ap, ◌∙◌, subst, arith, append_assoc, append-nil}
 use Rattle.std.specs.List.{flat_map, filter_map, cons_option, AllByRecursion}
 use Rattle.std.proofs.lemmas.List.Elements.{filter_map-append}
 use Rattle.c_lexer.specs.declared.fault.Rule.TheVariants as rule
@@ -19,12 +19,12 @@ use Rattle.c_rules.specs.ExpressionRules.{broken, at_if, uses_faults}
 use Rattle.c_rules.specs.Expressions.{reading, used}
 use Rattle.c_rules.specs.Declarations.{kind_of, items_of, length_uses, length_faults, void_object}
 use Rattle.c_rules.specs.Declarations.{is_declared_among, local_entry, object_of, has_const}
-use Rattle.c_rules.specs.Statements.{Around, Act, Site, evaluates, declares, declarator_walk}
+use Rattle.c_rules.specs.Statements.{Around, Site, evaluates, declares, declarator_walk}
 use Rattle.c_rules.specs.Statements.{declaring_behind}
 use Rattle.c_rules.specs.StatementRules.{Jump, act_faults, site_faults, label_at, goto_at}
 use Rattle.c_rules.specs.StatementRules.{object_number}
 use Rattle.c_rules.specs.TypedStatements.{typed_declarator}
-use Rattle.c_rules.specs.Items.{Call, use_calls, site_calls}
+use Rattle.c_rules.specs.Items.{Call, site_calls}
 use Rattle.c_typing.specs.Read.{role_faults, role_calls, uses_calls, calls_are}
 use Rattle.c_objects.specs.Objects.{object_faults, items_faults, items_calls}
 use Rattle.c_objects.specs.Objects.{names_behind, local_by}

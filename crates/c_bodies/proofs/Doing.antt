@@ -1,33 +1,27 @@
 -- Each act that declares nothing, by what is noted at it: `done_evaluates`, `done_leaves`, and so
 -- on.
-use Rattle.std.proofs.Common.{◌≡◌, ◌+◌, ℕ, Bool, true, false, not, ◌||◌, option_map, List, [], ◌∷◌, ◌++◌, map, length, take, Option}
-use Rattle.std.proofs.Common.{Some, None, refl, sym, ap, ◌∙◌, subst, append-nil, append_assoc}
-use Rattle.std.specs.List.{flat_map, filter_map, list_any, AllByRecursion}
+use Rattle.std.proofs.Common.{◌≡◌, ◌+◌, ℕ, Bool, true, false, not, ◌||◌, option_map, List, [], ◌∷◌, ◌++◌, map, Option}
+use Rattle.std.proofs.Common.{Some, None, refl, sym, ap, ◌∙◌, append-nil}
+use Rattle.std.specs.List.{filter_map, list_any}
 use Rattle.std.specs.Str.{bytes_eq}
 use Rattle.std.proofs.lemmas.List.{map-append}
-use Rattle.c_lexer.specs.declared.fault.Rule.{Rule}
 use Rattle.c_lexer.specs.declared.fault.Rule.TheVariants as rule
 use Rattle.c_lexer.specs.declared.fault.TextFault.{TextFault}
 use Rattle.c_tree.specs.declared.expression.Expression.{Expression}
 use Rattle.c_tree.specs.declared.name.Name.{Name}
 use Rattle.c_rules.specs.declared.meaning.Role.{Role}
-use Rattle.c_rules.specs.declared.meaning.Entry.{Entry}
 use Rattle.c_rules.specs.Names.{Text, place_of}
 use Rattle.c_rules.specs.First.{first_with}
 use Rattle.c_rules.specs.Expressions.{reading, used}
-use Rattle.c_rules.specs.ExpressionRules.{broken, at_if, uses_faults}
+use Rattle.c_rules.specs.ExpressionRules.{broken, at_if}
 use Rattle.c_rules.specs.Declarations.{is_void_kind}
-use Rattle.c_rules.specs.Statements.{Around, Act, evaluates, jumps, marks, leaves, returns}
+use Rattle.c_rules.specs.Statements.{Around, evaluates, jumps, marks, leaves, returns}
 use Rattle.c_rules.specs.StatementRules.{Jump, agree, object_number, jump_at}
-use Rattle.c_rules.specs.Items.{Call, use_calls}
-use Rattle.c_typing.specs.Read.{role_faults, role_calls, uses_calls, calls_are}
-use Rattle.c_jumps.specs.Found.{Found, with_base, labeled, jumping}
-use Rattle.c_bodies.specs.declared.walker.Frame.{Frame}
-use Rattle.c_bodies.specs.declared.walker.Nest.{Nest}
-use Rattle.c_bodies.specs.declared.walker.Walker.{Walker}
+use Rattle.c_rules.specs.Items.{Call}
+use Rattle.c_typing.specs.Read.{role_faults, role_calls, calls_are}
+use Rattle.c_jumps.specs.Found.{with_base}
 use Rattle.c_bodies.specs.States.{State, done}
-use Rattle.c_bodies.specs.Views.{base_of, around_of, state_of, IsTied}
-use Rattle.c_bodies.proofs.Walks.{same_state, done_by}
+use Rattle.c_bodies.proofs.Walks.{done_by}
 
 -- an expression is evaluated
 pub done_evaluates : (text : Text) (caller : ℕ) (role : Role) (expression : Expression)

@@ -1,5 +1,5 @@
 -- A function's body read by one walk (`is_read`, `typed_is`), where it begins (`begins_is`).
-use Rattle.std.proofs.Common.{◌≡◌, ℕ, Bool, false, List, [], ◌++◌, length, map, Option, refl, sym, ap}
+use Rattle.std.proofs.Common.{◌≡◌, ℕ, Bool, false, List, [], ◌++◌, length, map, Option, sym, ap}
 use Rattle.std.proofs.Common.{◌∙◌, subst}
 use Rattle.std.specs.List.{flat_map}
 use Rattle.c_lexer.specs.declared.fault.Rule.TheVariants as rule
@@ -18,7 +18,7 @@ use Rattle.c_rules.specs.First.{first_with}
 use Rattle.c_rules.specs.ExpressionRules.{broken}
 use Rattle.c_rules.specs.Names.{Text}
 use Rattle.c_rules.specs.Statements.{Around, in_order, receiving, labels_of}
-use Rattle.c_rules.specs.StatementRules.{Jump, repeated_labels, entering_gotos}
+use Rattle.c_rules.specs.StatementRules.{repeated_labels, entering_gotos}
 use Rattle.c_rules.specs.Items.{body_walk, listed, site_calls, body_faults}
 use Rattle.c_rules.specs.TypedStatements.{grown, typed_in_order, parameter_objects}
 use Rattle.c_jumps.specs.Found.{Found, nothing_found}
@@ -27,11 +27,11 @@ use Rattle.c_bodies.specs.declared.walker.Nest.{Nest}
 use Rattle.c_bodies.specs.declared.walker.Walker.{Walker}
 use Rattle.c_bodies.specs.Bodies.{begins, acts_of, objects_behind, typed_body}
 use Rattle.c_bodies.specs.Grown.{grown_walk, name_bytes}
-use Rattle.c_bodies.specs.States.{State, walked}
+use Rattle.c_bodies.specs.States.{walked}
 use Rattle.c_bodies.specs.Views.{state_of, around_of, IsTied}
 use Rattle.c_bodies.specs.Bodies.{AreNumbered}
 use Rattle.c_bodies.proofs.Starting.{tied_start}
-use Rattle.c_bodies.proofs.Whole.{whole_walk, IsBehind, is_behind, whole_first}
+use Rattle.c_bodies.proofs.Whole.{whole_walk, is_behind, whole_first}
 
 abbrev pub around_with : List Entry → ℕ → ℕ → Bool → Kind → List (List ℕ) → Around
 around_with names outer objects in_loop result labels = record {

@@ -1,7 +1,7 @@
 -- What a parameter makes of a state, with a name (`named_state`) or without one (`unnamed_state`),
 -- and a walk through parameters, one further (`objects_step`).
-use Rattle.std.proofs.Common.{◌≡◌, ℕ, ◌+◌, ◌<◌, ◌≤◌, List, [], ◌∷◌, ◌++◌, length, get_or, map, drop}
-use Rattle.std.proofs.Common.{Option, Some, None, refl, sym, ap, ◌∙◌, subst, arith, append_assoc}
+use Rattle.std.proofs.Common.{◌≡◌, ℕ, ◌+◌, ◌<◌, List, [], ◌∷◌, ◌++◌, length, get_or, map, drop}
+use Rattle.std.proofs.Common.{Option, Some, None, refl, sym, ap, ◌∙◌, arith, append_assoc}
 use Rattle.std.proofs.Common.{append-nil}
 use Rattle.c_lexer.specs.declared.fault.Rule.TheVariants as rule
 use Rattle.c_lexer.specs.declared.fault.TextFault.{TextFault}
@@ -13,10 +13,9 @@ use Rattle.c_rules.specs.Names.{Text}
 use Rattle.c_rules.specs.First.{first_with}
 use Rattle.c_rules.specs.ExpressionRules.{broken, at_if}
 use Rattle.c_rules.specs.Declarations.{is_declared_among, local_entry, parameter_object}
-use Rattle.c_rules.specs.Statements.{Around, receives, receiving, receiving_behind}
-use Rattle.c_rules.specs.StatementRules.{Jump, declared_twice}
+use Rattle.c_rules.specs.Statements.{receives, receiving, receiving_behind}
+use Rattle.c_rules.specs.StatementRules.{declared_twice}
 use Rattle.c_rules.specs.TypedStatements.{parameter_objects}
-use Rattle.c_rules.specs.Items.{Call}
 use Rattle.c_jumps.specs.Found.{Found, entered, with_base}
 use Rattle.c_bodies.specs.declared.walker.Frame.{Frame}
 use Rattle.c_bodies.specs.declared.walker.Nest.{Nest}

@@ -1,10 +1,10 @@
 -- An item of a block has one walk, by both of its definitions (`same_walk`).
-use Rattle.std.proofs.Common.{◌≡◌, ℕ, List, [], ◌∷◌, map, Option, Some, None, refl, sym, ap, ◌∙◌}
+use Rattle.std.proofs.Common.{◌≡◌, List, [], ◌∷◌, map, Some, None, refl, sym, ap, ◌∙◌}
 use Rattle.std.proofs.Common.{subst}
 use Rattle.c_tree.specs.declared.statement.Statement.{Statement, roll-Statement}
 use Rattle.c_tree.specs.declared.statement.BlockItem.{BlockItem, roll-BlockItem}
 use Rattle.c_tree.specs.declared.statement.BlockItem.TheOpen.{BlockItem-F, Statement-F}
-use Rattle.c_tree.specs.declared.statement.BlockItem.TheFolds.{fold-BlockItem, fold-Statement}
+use Rattle.c_tree.specs.declared.statement.BlockItem.TheFolds.{fold-Statement}
 use Rattle.c_tree.specs.declared.statement.BlockItem.TheFolds.{fold-roll-BlockItem}
 use Rattle.c_tree.specs.declared.statement.BlockItem.TheFolds.{fold-roll-Statement}
 use Rattle.c_tree.specs.declared.statement.BlockItem.TheFolds.{map-BlockItem, map-Statement}

@@ -1,21 +1,20 @@
 -- What a scope or a loop makes of a state (`scoped_state`, `looped_state`), and that the objects of
 -- the names stay those that are told (`tied_scoped`).
-use Rattle.std.proofs.Common.{◌≡◌, ℕ, ◌+◌, ◌<◌, ◌≤◌, Bool, true, List, [], ◌∷◌, ◌++◌, length, take}
-use Rattle.std.proofs.Common.{drop, map, Option, refl, sym, ap, ◌∙◌, subst, arith, append_assoc}
-use Rattle.std.proofs.Common.{length-append}
-use Rattle.std.specs.List.{flat_map, filter_map, AllByRecursion}
+use Rattle.std.proofs.Common.{◌≡◌, ℕ, ◌<◌, ◌≤◌, true, List, [], ◌∷◌, ◌++◌, length, take}
+use Rattle.std.proofs.Common.{map, refl, sym, ap, ◌∙◌, subst, arith, append_assoc}
+use Rattle.std.specs.List.{filter_map, AllByRecursion}
 use Rattle.std.proofs.lemmas.List.{take-append-le}
 use Rattle.std.proofs.lemmas.List.Elements.{filter_map-append}
 use Rattle.std.proofs.Math.Seq.{take-append_seam}
 use Rattle.c_rules.specs.declared.meaning.Entry.{Entry}
 use Rattle.c_rules.specs.Names.{Text}
-use Rattle.c_rules.specs.Statements.{Around, Walk, followed, scoped, looped, left_by, inner, loop}
+use Rattle.c_rules.specs.Statements.{Walk, followed, scoped, looped, loop}
 use Rattle.c_rules.specs.StatementRules.{Jump, object_number}
-use Rattle.c_jumps.specs.Found.{Found, with_base, left_to}
+use Rattle.c_jumps.specs.Found.{Found, with_base}
 use Rattle.c_bodies.specs.declared.walker.Frame.{Frame}
 use Rattle.c_bodies.specs.declared.walker.Nest.{Nest}
 use Rattle.c_bodies.specs.declared.walker.Walker.{Walker}
-use Rattle.c_bodies.specs.States.{State, noted, walked, done, in_scope, in_loop, back_in}
+use Rattle.c_bodies.specs.States.{State, noted, walked, in_scope, in_loop, back_in}
 use Rattle.c_bodies.specs.Views.{base_of, around_of, state_of, IsTied, Extends}
 use Rattle.c_bodies.proofs.Walks.{walked_followed, same_state}
 

@@ -1,8 +1,8 @@
 -- A body as one walk (`whole_walk`): its faults with those of its labels and gotos (`whole_first`),
 -- its calls (`whole_calls`) and what is known behind it (`whole_around`).
-use Rattle.std.proofs.Common.{◌≡◌, ℕ, ◌<◌, List, [], ◌∷◌, ◌++◌, length, map, Option, refl, sym, ap}
-use Rattle.std.proofs.Common.{◌∙◌, subst}
-use Rattle.std.specs.List.{flat_map, AllByRecursion}
+use Rattle.std.proofs.Common.{◌≡◌, ℕ, List, [], ◌∷◌, ◌++◌, map, Option, refl, sym, ap}
+use Rattle.std.proofs.Common.{◌∙◌}
+use Rattle.std.specs.List.{flat_map}
 use Rattle.c_lexer.specs.declared.fault.Rule.TheVariants as rule
 use Rattle.c_lexer.specs.declared.fault.TextFault.{TextFault}
 use Rattle.c_tree.specs.declared.item.Parameters.{Parameters}
@@ -10,11 +10,10 @@ use Rattle.c_tree.specs.declared.statement.BlockItem.{BlockItem}
 use Rattle.c_rules.specs.Names.{Text}
 use Rattle.c_rules.specs.First.{first_with, first_append}
 use Rattle.c_rules.specs.ExpressionRules.{broken}
-use Rattle.c_rules.specs.Statements.{Around, Site, Walk, walk_of, in_order, receiving}
+use Rattle.c_rules.specs.Statements.{Walk, walk_of, in_order, receiving}
 use Rattle.c_rules.specs.StatementRules.{Jump, site_faults, label_at, goto_at, repeated_labels}
 use Rattle.c_rules.specs.StatementRules.{entering_gotos}
-use Rattle.c_rules.specs.Items.{Call, body_walk, listed, site_calls, body_faults}
-use Rattle.c_jumps.specs.Found.{Found, with_base}
+use Rattle.c_rules.specs.Items.{body_walk, listed, site_calls, body_faults}
 use Rattle.c_bodies.specs.States.{State, noted, walked}
 use Rattle.c_bodies.specs.Grown.{grown_walk}
 use Rattle.c_bodies.proofs.Scopes.{two_walks}

@@ -1,6 +1,6 @@
 -- What is known, noted and gathered at a place of a function, and what acts there make of it (C11
 -- 6.2.1 and 6.8). No rule is in it.
-use Rattle.std.specs.Prelude.{◌≡◌, ℕ, List, [], ◌∷◌, ◌++◌, Option, refl}
+use Rattle.std.specs.Prelude.{ℕ, List, [], ◌∷◌, ◌++◌, Option}
 use Rattle.std.specs.List.{flat_map}
 use Rattle.c_lexer.specs.declared.fault.TextFault.{TextFault}
 use Rattle.c_rules.specs.Names.{Text}

@@ -2,7 +2,6 @@
 -- and the pure value behind them, where the value is used; D, its statements, where it is not.
 use Rattle.std.specs.Prelude.{ℕ, ◌+◌, slice_get, Bool, true, false, if◌then◌else◌, List, []}
 use Rattle.std.specs.Prelude.{◌∷◌, ◌++◌, map, Option, None, Some, unwrap_or, is_some}
-use Rattle.cpa_ints.specs.declared.integers.IntType.{IntType}
 use Rattle.cpa_ints.specs.declared.integers.IntType.TheVariants as ty
 use Rattle.cpa_expr.specs.declared.tree.Expr.{Expr}
 use Rattle.cpa_expr.specs.declared.tree.Expr.TheVariants.{Const}

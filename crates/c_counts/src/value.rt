@@ -123,11 +123,7 @@ pub(crate) fn signed(operator: UnaryOperator, v: Counted) -> Result<Counted, All
     let ty = promote(v.ty);
     match operator {
         UnaryOperator::Not => Ok(counted(v.size, IntType::I32, raised(v.height, 1)?)),
-        UnaryOperator::Plus => Ok(Counted {
-            ty,
-            height: conv(v, ty)?,
-            ..v
-        }),
+        UnaryOperator::Plus => cast_to(ty, v),
         UnaryOperator::Minus | UnaryOperator::Complement => {
             Ok(counted(v.size, ty, raised(conv(v, ty)?, 1)?))
         }

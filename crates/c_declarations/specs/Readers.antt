@@ -1,21 +1,13 @@
 -- Lemmas: what is made of a first part that is read already, and what takes a token.
-use Rattle.std.specs.Prelude.{◌≡◌, ℕ, ◌-◌, ◌<◌, Bool, true, false, List, [], ◌∷◌, length, Result}
-use Rattle.std.specs.Prelude.{Ok, Err, IsErrAnd, refl}
-use Rattle.std.proofs.Common.{sym, ◌∙◌, ap, subst, arith}
-use denote.Enum.Bare.{same_true}
-use Rattle.grammar_forms.specs.declared.fault.ReadError.{ReadError}
-use Rattle.grammar_forms.specs.Forms.{World, Form, Node, Pair, Then, Behind, Before, Choice, Many}
+use Rattle.std.specs.Prelude.{◌≡◌, ℕ, []}
+use Rattle.std.specs.Prelude.{refl}
+use Rattle.std.proofs.Common.{sym, ◌∙◌, subst, arith}
+use Rattle.grammar_forms.specs.Forms.{Form, Node, Pair, Then}
 use Rattle.grammar_forms.specs.Steady.{Good, Steady, from_place}
-use Rattle.grammar_forms.specs.Reading.{Reads, NoneThrough, Answers}
-use Rattle.grammar_forms.specs.Found.{reads_behind_by, reads_before_by, reads_node}
-use Rattle.grammar_forms.specs.NotFound.{only, none_behind_by}
-use Rattle.grammar_forms.specs.Loops.{SoFar, Strict}
-use Rattle.c_symbols.specs.declared.words.Terminal.{Terminal}
-use Rattle.c_symbols.specs.contracts.words.Terminal as terminal_type
-use Rattle.c_symbols.specs.declared.symbol.Symbol.{Symbol}
-use Rattle.c_symbols.specs.declared.symbol.Symbol.TheVariants as symbol
-use Rattle.c_symbols.specs.Symbols.{Leaf}
-use Rattle.c_symbols.specs.Sources.{leaf_at, is, is_terminal, Takes, Lacks}
+use Rattle.grammar_forms.specs.Reading.{Reads, NoneThrough}
+use Rattle.grammar_forms.specs.NotFound.{only}
+use Rattle.grammar_forms.specs.Loops.{Strict}
+use Rattle.c_symbols.specs.Sources.{is}
 
 -- what is made of a first part that is read already and of a second: of both
 module _ {Token R S T : Type 0} (f : Token → R × S → T) {A : ℕ → Form Token R} {at : ℕ → Token}

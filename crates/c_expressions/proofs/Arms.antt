@@ -1,10 +1,9 @@
 -- Which form each token calls for, and what the tests of tokens find.
 use Rattle.std.specs.Prelude.{◌≡◌, ℕ, ℤ, suc, ◌+◌, ◌==◌, Bool, true, false, cond, Option, None}
 use Rattle.std.specs.Prelude.{Some, refl}
-use Rattle.std.proofs.Common.{sym, ◌∙◌, ap, subst, arith}
-use Rattle.grammar_forms.specs.Forms.{World, Form, Nothing, Skip, Node, Pair, Then, Before, Deeper}
+use Rattle.std.proofs.Common.{sym, ◌∙◌, subst, arith}
+use Rattle.grammar_forms.specs.Forms.{Form, Nothing, Skip, Node, Pair, Then, Before, Deeper}
 use Rattle.grammar_forms.specs.Forms.{Choice}
-use Rattle.grammar_forms.specs.Reading.{Reads, NoneThrough}
 use Rattle.grammar_forms.specs.Choices.{Same, same_form, impossible}
 use Rattle.cpa_ints.specs.declared.integers.IntType.{IntType}
 use Rattle.c_symbols.specs.declared.words.Terminal.TheVariants as terminal

@@ -1,18 +1,14 @@
 -- From answers on the parts to an answer on the whole.
-use Rattle.std.specs.Prelude.{◌≡◌, ℕ, ◌<◌, Bool, true, false, List, [], ◌∷◌, ◌++◌, length, Result}
-use Rattle.std.specs.Prelude.{IsErrAnd, refl}
-use Rattle.std.proofs.Common.{sym, ◌∙◌, ap, subst, arith}
-use Rattle.grammar_forms.specs.declared.fault.ReadError.{ReadError}
-use Rattle.grammar_forms.specs.Forms.{Form, Node, Pair, Before, Many, greedy_text}
+use Rattle.std.specs.Prelude.{◌≡◌, ℕ, Bool, true, List, [], ◌∷◌, ◌++◌}
+use Rattle.std.specs.Prelude.{refl}
+use Rattle.std.proofs.Common.{sym, ◌∙◌, ap, subst}
+use Rattle.grammar_forms.specs.Forms.{Form, Node, Pair, Many, greedy_text}
 use Rattle.grammar_forms.specs.Steady.{Steady, cons_path, from_place, ends_or_goes}
-use Rattle.grammar_forms.specs.Reading.{Reads, NoneThrough, Answers}
-use Rattle.grammar_forms.specs.Found.{reads_before_by, reads_node, reads_pair}
+use Rattle.grammar_forms.specs.Reading.{Reads, NoneThrough}
+use Rattle.grammar_forms.specs.Found.{reads_node, reads_pair}
 use Rattle.grammar_forms.specs.NotFound.{only}
-use Rattle.grammar_forms.specs.Exits.{at_fault}
 use Rattle.grammar_forms.specs.Loops.{SoFar}
-use Rattle.c_symbols.specs.declared.words.Terminal.{Terminal}
-use Rattle.c_symbols.specs.Symbols.{Leaf}
-use Rattle.c_symbols.specs.Sources.{leaf_at, is, Takes, Lacks}
+use Rattle.c_symbols.specs.Sources.{is}
 
 -- what is made of the one reading of a part has no reading where the part has none, and the other
 -- way round

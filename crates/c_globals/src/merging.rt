@@ -178,7 +178,8 @@ pub(crate) fn merged_function(
     fresh: Option<Seq<ParameterType>>,
     defines: bool,
 ) -> Result<Declared, AllocError>
-    ensures { IfOk result (λ r. r ≡ merged_function (option_copied declared.entry) kind fresh defines) }
+    ensures { IfOk result (λ r. r
+        ≡ merged_function (option_copied declared.entry) kind fresh defines) }
 {
     match declared {
         Some(

@@ -1,5 +1,5 @@
-//! The declarations in order, with the number of the earlier one of each name and the latest of each
-//! found by hash. What the parts keep is `IsTied` of `specs/Tables.antt`, proved in `proofs/Lasts`.
+//! The declarations in order, with the number of the earlier one of each name and the latest of
+//! each found by hash. What the parts keep is `IsTied` of `specs/Tables.antt`, proved in `proofs/Lasts`.
 
 ghost use Rattle.std.specs.Prelude.{◌≡◌, ◌↔◌, ◌+◌, ◌-◌, ◌<◌, ◌≤◌, [], ◌++◌, ◌∷◌, length};
 ghost use Rattle.std.specs.Prelude.{take, drop, IsTrue, Some, OnOk, OnErr, option_map, vec_len, vec_capacity};
@@ -58,7 +58,9 @@ fn reserve(table: &mut Table) -> Result<(), AllocError>
     ensures earlier { table.new.earlier.items ≡ table.old.earlier.items }
     ensures latest { table.new.latest ≡ table.old.latest }
     ensures room { OnOk result (vec_len table.new.entries < vec_capacity table.new.entries) }
-    ensures earlier_room { OnOk result (vec_len table.new.earlier < vec_capacity table.new.earlier) }
+    ensures earlier_room {
+        OnOk result (vec_len table.new.earlier < vec_capacity table.new.earlier)
+    }
 {
     table.entries.reserve(1)?;
     table.earlier.reserve(1)

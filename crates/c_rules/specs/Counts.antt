@@ -183,19 +183,6 @@ linked binary.LogicalOr left right = logical left right
 linked operator left right =
     then_by (held_before left right) (λ first. gives (operated operator first right))
 
--- + - ~ !
-abbrev pub signed : UnaryOperator → Counted → Counted
-signed unary.Not v = counted v.size ty.I32 (v.height + 1)
-signed unary.Plus v =
-    record v {
-      type = promoted v.type;
-      height = conv v
-          (promoted v.type);
-      is_constant = v.is_constant;
-    }
-signed unary.Minus v = counted v.size (promoted v.type) (conv v (promoted v.type) + 1)
-signed unary.Complement v = counted v.size (promoted v.type) (conv v (promoted v.type) + 1)
-
 -- a value converted to a type is a constant where it is one and has the type
 abbrev pub is_kept : Counted → IntType → Bool
 is_kept v wanted = if same_type v.type wanted then v.is_constant else false
@@ -203,6 +190,13 @@ is_kept v wanted = if same_type v.type wanted then v.is_constant else false
 abbrev pub cast_to : IntType → Counted → Counted
 cast_to wanted v =
     record { size = v.size; type = wanted; height = conv v wanted; is_constant = is_kept v wanted }
+
+-- + - ~ !
+abbrev pub signed : UnaryOperator → Counted → Counted
+signed unary.Not v = counted v.size ty.I32 (v.height + 1)
+signed unary.Plus v = cast_to (promoted v.type) v
+signed unary.Minus v = counted v.size (promoted v.type) (conv v (promoted v.type) + 1)
+signed unary.Complement v = counted v.size (promoted v.type) (conv v (promoted v.type) + 1)
 
 -- a fresh t, S1, if (v1) { S2, t := v2 } else { S3, t := v3 }
 abbrev pub chosen_by : IntType → Counted → Counted → Counted → Rule Counted

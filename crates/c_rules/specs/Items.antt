@@ -98,8 +98,9 @@ one_type old fresh = same_type old.ty fresh.ty && same_length old.length fresh.l
 abbrev pub merged_object : Option Declared → Object → Bool → Declared
 merged_object (Some (declared.Object old initialized)) fresh initializes =
     elim (one_type old fresh) [
-      | true ↦ declared.Object (record old { is_const = old.is_const || fresh.is_const }) (initialized
-          || initializes)
+      | true ↦
+          declared.Object (record old { is_const = old.is_const || fresh.is_const })
+          (initialized || initializes)
       | false ↦ declared.Object fresh initializes
     ]
 merged_object _ fresh initializes = declared.Object fresh initializes

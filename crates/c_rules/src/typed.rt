@@ -1,5 +1,5 @@
 //! The typed tree: the tree of a text with a type on each expression, and each name bound to what
-//! it stands for. `specs/Typed.antt` says which one is a text's.
+//! it stands for. `typed_unit` of `specs/Sound.antt` says which one is a text's.
 use crate::{Kind, Meaning, Object};
 use c_symbols::{AssignmentOperator, BinaryOperator, StepOperator};
 use c_tree::UnaryOperator;

@@ -173,7 +173,8 @@ fn judged_spent(
     Ok("spent")
 }
 
-/// Whether no line is empty, and each has a clause that neither the formula nor an earlier line has.
+/// Whether no line is empty, and each has a clause that neither the formula nor an earlier line
+/// has.
 fn are_new(cnf: &Cnf, lines: &[Line]) -> bool {
     for i in 0..lines.len() {
         let clause = &lines[i].clause;
@@ -221,8 +222,8 @@ fn push_sizes(out: &mut String, outcome: &str, lines: &[Line]) -> Result<(), Row
     Ok(())
 }
 
-/// `trace VARS LEARNT : FORMULA`: the model as literals, or each line behind a bar, as its clause, 0,
-/// its first clause, and its steps.
+/// `trace VARS LEARNT : FORMULA`: the model as literals, or each line behind a bar, as its clause,
+/// 0, its first clause, and its steps.
 fn trace(
     alloc: Global,
     out: &mut String,

@@ -14,10 +14,8 @@ abbrev pub clause_hash : List ℕ → ℕ
 clause_hash literals = hash_from 0 literals
 
 -- Chains by bucket over the numbers below `count`, whose hashes are h, in m buckets. A link is a
--- number and one, or 0
--- at the end. Each number is below the head of its bucket and, if a greater number has the same
--- bucket, below that
--- one's link; links stay in their bucket and lead down.
+-- number and one, or 0 at the end. Each number is below the head of its bucket and, if a greater
+-- number has the same bucket, below that one's link; links stay in their bucket and lead down.
 pub record IsIndexed (h : ℕ → ℕ) (count m : ℕ) (heads nexts : List ℕ) : Type 0 where
   pub buckets : length heads ≡ m
   pub room : length nexts ≡ m

@@ -4,7 +4,6 @@
 ghost use Rattle.std.specs.Prelude.{◌≡◌, ◌≢◌, ◌<◌, ◌^◌, ℕ, [], ◌∷◌, ◌++◌, length, slice_index_or};
 ghost use Rattle.std.specs.Prelude.{IfSome, IfNone, OnOk, OnErr};
 ghost use Rattle.std.specs.List.{AllByRecursion};
-ghost use Rattle.cpa_cnf.specs.Clauses.{IsClause};
 
 use crate::store::Store;
 use cpa_cnf::Clause;

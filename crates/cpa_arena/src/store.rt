@@ -1,11 +1,10 @@
 //! The literals of all clauses in one flat array, with the extent and the hash of each clause, and
-//! an
-//! index by hash. What the parts keep is `IsStored`, proved in proofs/Stores.
+//! an index by hash. What the parts keep is `IsStored`, proved in proofs/Stores.
 
 ghost use Rattle.std.specs.Prelude.{◌≡◌, ◌+◌, ◌≢◌, ◌↔◌, ◌<◌, ◌*◌, ◌^◌, ◌++◌, ◌∷◌, ℕ, [], length};
-ghost use Rattle.std.specs.Prelude.{map, slice_index_or, IsTrue, IfSome, IfNone, IfOk, OnOk, OnErr};
+ghost use Rattle.std.specs.Prelude.{slice_index_or, IsTrue, IfSome, IfNone, IfOk, OnOk, OnErr};
 ghost use Rattle.std.specs.List.{AllByRecursion};
-ghost use Rattle.cpa_arena.specs.Extents.{piece, hash_at, IsFiled, IsKept, IsRoomy, IsStored};
+ghost use Rattle.cpa_arena.specs.Extents.{hash_at, IsFiled, IsKept, IsRoomy, IsStored};
 ghost use Rattle.cpa_arena.specs.Extents.{clauses_of, hashes_of};
 ghost use Rattle.cpa_arena.specs.Hashes.{clause_hash, IsIndexed};
 

@@ -1,9 +1,8 @@
 -- The initial state is one of the automaton, and an entry that was taken is there.
-use Rattle.std.proofs.Common.{◌≡◌, ℕ, List, sym, ap, ◌∙◌, subst}
+use Rattle.std.proofs.Common.{◌≡◌, ℕ, List, sym, ◌∙◌, subst}
 use Rattle.cpa_model.specs.declared.automaton.Cfa.{Cfa}
 use Rattle.cpa_model.specs.declared.program.Cell.{Cell}
 use Rattle.cpa_model.specs.declared.program.Program.{Program}
-use Rattle.cpa_model.specs.declared.states.State.{State}
 use Rattle.cpa_model.specs.Automata.{IsAutomaton, IsAutomatonOf, IsStateOf, initial_state}
 use Rattle.cpa_model.specs.Programs.{IsWellFormed, point_count}
 use Rattle.cpa_model.specs.States.{IsState, initial_of}

@@ -1,28 +1,26 @@
 -- Where all that do not tell entries apart widen, each live row with the key of the successor
 -- covers
 -- it when all were compared (`compared_all`).
-use Rattle.std.proofs.Common.{◌≡◌, ◌≢◌, ℕ, zero, suc, ◌+◌, ◌<◌, ◌≤◌, Bool, true, false, ◌&&◌, cond}
+use Rattle.std.proofs.Common.{◌≡◌, ◌≢◌, ℕ, zero, suc, ◌+◌, Bool, true, cond}
 use Rattle.std.proofs.Common.{List}
-use Rattle.std.proofs.Common.{[], ◌∷◌, ◌++◌, map, length, Option, Some, None, refl, sym, ap, ◌∙◌}
+use Rattle.std.proofs.Common.{[], ◌∷◌, ◌++◌, length, Some, refl, sym, ap, ◌∙◌}
 use Rattle.std.proofs.Common.{subst}
 use Rattle.std.proofs.Common.{inl, inr, ⊎_elim, arith}
-use Rattle.std.specs.Prelude.{◌⊎◌, IsTrue}
+use Rattle.std.specs.Prelude.{◌⊎◌}
 use Rattle.std.specs.List.{slice_get, AllByRecursion, remove}
-use Rattle.std.proofs.lemmas.Bool.{cond_both, cases_Bool, both_ways, and_parts}
+use Rattle.std.proofs.lemmas.Bool.{cases_Bool, and_parts}
 use Rattle.std.proofs.lemmas.Option.{same_Some}
 use Rattle.cpa_model.specs.declared.automaton.Cfa.{Cfa}
 use Rattle.cpa_model.specs.declared.facts.Elem.{Elem}
-use Rattle.cpa_iface.specs.declared.entries.Entry.{Entry}
 use Rattle.cpa_iface.specs.declared.merging.MergeRule.{MergeRule}
 use Rattle.cpa_iface.specs.declared.merging.MergeRule.TheVariants.{Sep, Join, Widen}
 use Rattle.cpa_iface.specs.declared.precisions.Precision.{Precision}
 use Rattle.cpa_composite.specs.Comparisons.{keeps_apart}
-use Rattle.cpa_composite.specs.Components.{Component, StandsAt}
-use Rattle.cpa_composite.specs.Covers.{all_cover}
+use Rattle.cpa_composite.specs.Components.{Component}
 use Rattle.cpa_composite.specs.Laws.{AgreeOnSep, WidenCovers, MergedRow, EachMerged}
 use Rattle.cpa_composite.specs.Ranks.{JoinNone}
 use Rattle.cpa_composite.specs.RankLaws.{stays_covers, merged_covers}
-use Rattle.cpa_engine.specs.Keys.{is_key, key_of, WidenBesideKeys, CoversKey, rows_of, MergesAt}
+use Rattle.cpa_engine.specs.Keys.{is_key, key_of, WidenBesideKeys, CoversKey, MergesAt}
 use Rattle.cpa_engine.specs.Keys.{Compared}
 
 -- none of them joins

@@ -1,11 +1,11 @@
 -- What one step of a turn makes of the entries and of the row (`effect`).
 use Rattle.std.proofs.Common.{◌≡◌, ◌≢◌, ℕ, ◌+◌, ◌<◌, ◌≤◌, Bool, true, false, not, eqb, cond, List}
 use Rattle.std.proofs.Common.{[]}
-use Rattle.std.proofs.Common.{◌∷◌, ◌++◌, map, Option, Some, None, refl, sym, ap, ◌∙◌, subst, inl}
+use Rattle.std.proofs.Common.{◌∷◌, ◌++◌, map, Some, refl, sym, ap, ◌∙◌, subst, inl}
 use Rattle.std.proofs.Common.{inr}
 use Rattle.std.proofs.Common.{⊎_elim, arith}
 use Rattle.std.specs.Prelude.{◌⊎◌}
-use Rattle.std.specs.List.{filter, AllByRecursion}
+use Rattle.std.specs.List.{AllByRecursion}
 use Rattle.std.proofs.lemmas.Bool.{cond_both, cases_Bool, both_ways, eqb-true, eq-eqb, ne_eqb}
 use Rattle.cpa_model.specs.declared.automaton.Cfa.{Cfa}
 use Rattle.cpa_model.specs.declared.facts.Elem.{Elem}
@@ -13,7 +13,6 @@ use Rattle.cpa_model.specs.declared.states.State.{State}
 use Rattle.cpa_model.specs.Automata.{IsStateOf}
 use Rattle.cpa_model.specs.Facts.{LiesIn}
 use Rattle.cpa_iface.specs.declared.entries.Entry.{Entry}
-use Rattle.cpa_iface.specs.declared.entries.Turn.{Turn}
 use Rattle.cpa_iface.specs.declared.precisions.Precision.{Precision}
 use Rattle.cpa_composite.specs.Components.{Component}
 use Rattle.cpa_composite.specs.Covers.{all_cover}
@@ -23,14 +22,13 @@ use Rattle.cpa_reached.specs.MemberLaws.{in_filter, filter_in, one_entry, number
 use Rattle.cpa_reached.specs.MemberLaws.{ascend_push, ascend_kept, all_kept, entry_in, in_all}
 use Rattle.cpa_reached.specs.MemberLaws.{numbers_map, all_weaker}
 use Rattle.cpa_reached.specs.Entries.{ReachedSet, IsLive, numbers}
-use Rattle.cpa_reached.specs.Calls.{at_number, gains, fresh, rename, rename_parent, renamed}
-use Rattle.cpa_reached.specs.Calls.{replacing, others, those, added_entries, replaced_entries, used}
+use Rattle.cpa_reached.specs.Calls.{gains, fresh, rename, renamed}
+use Rattle.cpa_reached.specs.Calls.{replacing, others, those, replaced_entries, used}
 use Rattle.cpa_reached.specs.Calls.{added, replaced}
 use Rattle.cpa_engine.specs.Turns.{IsNamed, firsts, seconds}
-use Rattle.cpa_engine.specs.declared.work.Work.{Work}
-use Rattle.cpa_engine.specs.Stages.{Stage, stage, with_added, with_replaced, NotesUse, AddsRow}
-use Rattle.cpa_engine.specs.Stages.{ReplacesEntry, Does, IsOrdered}
-use Rattle.cpa_engine.proofs.Lists.{in_push, in_front, last_in, map_push, in_map_of}
+use Rattle.cpa_engine.specs.Stages.{Stage, stage, with_added, with_replaced}
+use Rattle.cpa_engine.specs.Stages.{Does, IsOrdered}
+use Rattle.cpa_engine.proofs.Lists.{in_push, in_front, last_in, in_map_of}
 
 pub below_next : (r : ReachedSet) (e : Entry) → IsOrdered r → IsIn e r.live → e.number < r.next
 below_next r e ordered there =

@@ -1,5 +1,5 @@
 -- That a turn keeps the journal of its reached set (`turned_journal`).
-use Rattle.std.proofs.Common.{◌≡◌, ℕ, ◌+◌, ◌<◌, ◌≤◌, true, false, List, [], ◌∷◌, ◌++◌, map, refl}
+use Rattle.std.proofs.Common.{◌≡◌, ℕ, ◌≤◌, List, [], ◌∷◌, ◌++◌, refl}
 use Rattle.std.proofs.Common.{sym, ap}
 use Rattle.std.proofs.Common.{◌∙◌, subst, inl, inr, ⊎_elim, arith}
 use Rattle.std.specs.Prelude.{◌⊎◌}
@@ -7,20 +7,19 @@ use Rattle.std.specs.List.{flat_map}
 use Rattle.std.proofs.lemmas.Bool.{both_ways}
 use Rattle.std.proofs.lemmas.Grind.{flat_map-append}
 use Rattle.cpa_model.specs.declared.automaton.Cfa.{Cfa}
-use Rattle.cpa_iface.specs.declared.entries.Entry.{Entry}
 use Rattle.cpa_iface.specs.declared.entries.Turn.{Turn}
 use Rattle.cpa_iface.specs.declared.merging.Order.{Order}
 use Rattle.cpa_composite.specs.Components.{Component}
 use Rattle.cpa_reached.specs.Members.{IsIn}
-use Rattle.cpa_reached.specs.Entries.{ReachedSet, IsLive, IsNext}
+use Rattle.cpa_reached.specs.Entries.{ReachedSet, IsNext}
 use Rattle.cpa_reached.specs.Calls.{taken, closed}
 use Rattle.cpa_engine.specs.Turns.{IsNamed, firsts, seconds}
 use Rattle.cpa_engine.specs.Journals.{brought, numbers_of, all_brought, all_taken, all_replaced}
-use Rattle.cpa_engine.specs.Journals.{all_numbers, AreBelow, MayFollow, MayCome, IsJournalOf}
+use Rattle.cpa_engine.specs.Journals.{all_numbers, MayFollow, MayCome, IsJournalOf}
 use Rattle.cpa_engine.specs.Stages.{Stage, Expands}
-use Rattle.cpa_engine.proofs.Lists.{in_both, in_front, in_back, in_push, in_map_of, map_push}
+use Rattle.cpa_engine.proofs.Lists.{in_both, in_front, in_back, in_push, map_push}
 use Rattle.cpa_engine.proofs.Effects.{HasAlike}
-use Rattle.cpa_engine.proofs.Progress.{SoFar, CameIn}
+use Rattle.cpa_engine.proofs.Progress.{CameIn}
 use Rattle.cpa_engine.proofs.Turning.{Ended, ended, waits_there, alike_was, old_below}
 
 -- rows with one more

@@ -1,10 +1,10 @@
 -- Where all that do not tell entries apart widen, entries keep keys of their own (`turned_keys`).
-use Rattle.std.proofs.Common.{◌≡◌, ◌≢◌, ℕ, ◌<◌, Bool, true, false, not, eqb, cond, List, [], ◌∷◌}
+use Rattle.std.proofs.Common.{◌≡◌, ◌≢◌, ℕ, Bool, false, not, eqb, cond, List, [], ◌∷◌}
 use Rattle.std.proofs.Common.{◌++◌}
-use Rattle.std.proofs.Common.{map, Some, refl, sym, ap, ◌∙◌, subst, inl, inr, ⊎_elim, arith}
+use Rattle.std.proofs.Common.{map, Some, refl, sym, ap, ◌∙◌, subst, inl, inr, ⊎_elim}
 use Rattle.std.specs.Prelude.{◌⊎◌}
 use Rattle.std.specs.List.{AllByRecursion}
-use Rattle.std.proofs.lemmas.Bool.{cond_both, both_ways, eqb-true, eq-eqb}
+use Rattle.std.proofs.lemmas.Bool.{cond_both, both_ways, eq-eqb}
 use Rattle.cpa_model.specs.declared.automaton.Cfa.{Cfa}
 use Rattle.cpa_model.specs.declared.facts.Elem.{Elem}
 use Rattle.cpa_iface.specs.declared.entries.Entry.{Entry}
@@ -15,8 +15,8 @@ use Rattle.cpa_reached.specs.MemberLaws.{in_map, in_append, in_filter, one_entry
 use Rattle.cpa_reached.specs.Entries.{ReachedSet}
 use Rattle.cpa_reached.specs.Calls.{gains, fresh, renamed, replacing, others, those, taken, rests}
 use Rattle.cpa_engine.specs.Keys.{key_of, WidenBesideKeys, HaveOwnKeys, CoversKey, rows_of}
-use Rattle.cpa_engine.specs.Stages.{Stage, stage, begun, IsOrdered, NotesUse, AddsRow}
-use Rattle.cpa_engine.specs.Stages.{ReplacesEntry, Does, Expands}
+use Rattle.cpa_engine.specs.Stages.{Stage, stage, begun, IsOrdered}
+use Rattle.cpa_engine.specs.Stages.{Does, Expands}
 use Rattle.cpa_engine.proofs.Chains.{kept_along}
 use Rattle.cpa_engine.proofs.Comparing.{merged_key}
 use Rattle.cpa_engine.proofs.Effects.{effect, gains_mildly}

@@ -1,7 +1,7 @@
 -- A state that is placed stays placed along a turn (`placed_along`).
-use Rattle.std.proofs.Common.{◌≡◌, ◌≢◌, ℕ, ◌<◌, Bool, true, false, not, eqb, cond, List, [], ◌∷◌}
+use Rattle.std.proofs.Common.{◌≡◌, ◌≢◌, ℕ, Bool, true, not, eqb, cond, List, [], ◌∷◌}
 use Rattle.std.proofs.Common.{◌++◌}
-use Rattle.std.proofs.Common.{map, Some, refl, sym, ap, ◌∙◌, subst, inl, inr, ⊎_elim, arith}
+use Rattle.std.proofs.Common.{map, Some, refl, sym, ap, ◌∙◌, subst, inl, inr, ⊎_elim}
 use Rattle.std.specs.Prelude.{◌⊎◌}
 use Rattle.std.proofs.lemmas.Bool.{cond_both, cases_Bool, both_ways, eqb-true, eq-eqb}
 use Rattle.cpa_model.specs.declared.automaton.Cfa.{Cfa}
@@ -14,18 +14,18 @@ use Rattle.cpa_iface.specs.declared.precisions.Precision.{Precision}
 use Rattle.cpa_composite.specs.Components.{Component}
 use Rattle.cpa_reached.specs.Members.{IsIn}
 use Rattle.cpa_reached.specs.MemberLaws.{map_in, append_front, append_back, filter_in, one_entry}
-use Rattle.cpa_reached.specs.Entries.{ReachedSet, IsLive}
+use Rattle.cpa_reached.specs.Entries.{IsLive}
 use Rattle.cpa_reached.specs.Calls.{gains, fresh, rename, renamed, replacing, others, those}
 use Rattle.cpa_reached.specs.Calls.{used, added, replaced}
 use Rattle.cpa_reached.specs.Successors.{LiesInNamed}
 use Rattle.cpa_engine.specs.Turns.{LiesInEntry}
-use Rattle.cpa_engine.specs.Stages.{Stage, stage, with_added, NotesUse, AddsRow, ReplacesEntry}
+use Rattle.cpa_engine.specs.Stages.{Stage, stage, with_added}
 use Rattle.cpa_engine.specs.Stages.{Does}
 use Rattle.cpa_engine.specs.Stages.{Leads, IsServed, IsPlaced}
 use Rattle.cpa_engine.proofs.Lists.{in_front, last_in, in_map_of}
 use Rattle.cpa_engine.specs.Stages.{IsOrdered}
 use Rattle.cpa_engine.proofs.Effects.{Effect, effect, GoesOnIn, GivesWay, rename_cases}
-use Rattle.cpa_engine.proofs.Effects.{mild_forth, gains_mildly, Alike}
+use Rattle.cpa_engine.proofs.Effects.{mild_forth, gains_mildly}
 use Rattle.cpa_engine.proofs.Chains.{kept_along}
 
 -- it lies in an entry still

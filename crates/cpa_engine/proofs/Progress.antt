@@ -1,16 +1,11 @@
 -- The turn so far: what holds of each stage, whatever the entries were when the turn began
 -- (`so_far_along`).
-use Rattle.std.proofs.Common.{◌≡◌, ◌≢◌, ℕ, ◌+◌, ◌<◌, ◌≤◌, Bool, true, false, List, [], ◌∷◌, ◌++◌}
-use Rattle.std.proofs.Common.{map}
-use Rattle.std.proofs.Common.{refl, sym, ap, ◌∙◌, subst, inl, inr, ⊎_elim, arith}
+use Rattle.std.proofs.Common.{◌≡◌, ℕ, ◌<◌, ◌≤◌, true, false, List, [], ◌∷◌, ◌++◌}
+use Rattle.std.proofs.Common.{refl, sym, ◌∙◌, subst, inl, inr, ⊎_elim, arith}
 use Rattle.std.specs.Prelude.{◌⊎◌}
-use Rattle.std.specs.List.{AllByRecursion}
 use Rattle.cpa_model.specs.declared.automaton.Cfa.{Cfa}
-use Rattle.cpa_model.specs.declared.states.State.{State}
-use Rattle.cpa_model.specs.Automata.{IsStateOf}
 use Rattle.cpa_model.specs.Facts.{LiesIn}
 use Rattle.cpa_iface.specs.declared.entries.Entry.{Entry}
-use Rattle.cpa_iface.specs.declared.entries.Turn.{Turn}
 use Rattle.cpa_iface.specs.Laws.{AreDistinct}
 use Rattle.cpa_composite.specs.Components.{Component}
 use Rattle.cpa_composite.specs.Covers.{all_cover}
@@ -19,9 +14,9 @@ use Rattle.cpa_reached.specs.Entries.{ReachedSet, IsLive}
 use Rattle.cpa_engine.specs.Turns.{IsNamed, IsFollowedBy, at_once, later, firsts, seconds}
 use Rattle.cpa_engine.specs.Turns.{IsReplaced}
 use Rattle.cpa_engine.specs.Stages.{Stage, Does, Leads}
-use Rattle.cpa_engine.proofs.Lists.{in_push, in_front, map_push, in_map_of, of_map, distinct_push}
+use Rattle.cpa_engine.proofs.Lists.{map_push, in_map_of, of_map, distinct_push}
 use Rattle.cpa_engine.specs.Stages.{IsOrdered}
-use Rattle.cpa_engine.proofs.Effects.{Alike, alike_then, HasAlike, GoesOnIn, IsNew}
+use Rattle.cpa_engine.proofs.Effects.{alike_then, HasAlike, GoesOnIn, IsNew}
 use Rattle.cpa_engine.proofs.Effects.{GivesWay, IsJustAdded, IsJustPaired, Effect, effect}
 use Rattle.cpa_engine.proofs.Effects.{below_next}
 use Rattle.cpa_engine.proofs.Chains.{kept_along}

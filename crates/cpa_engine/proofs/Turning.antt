@@ -1,9 +1,9 @@
 -- That a turn which goes from stage to stage is a turn (`turned`), and keeps covered successors
 -- (`turned_covers`).
-use Rattle.std.proofs.Common.{◌≡◌, ◌≢◌, ℕ, ◌+◌, ◌<◌, ◌≤◌, Bool, true, false, eqb, cond, List, []}
+use Rattle.std.proofs.Common.{◌≡◌, ◌≢◌, ℕ, ◌<◌, true, false, eqb, cond, List, []}
 use Rattle.std.proofs.Common.{◌∷◌}
 use Rattle.std.proofs.Common.{length}
-use Rattle.std.proofs.Common.{◌++◌, map, refl, sym, ap, ◌∙◌, subst, inl, inr, ⊎_elim, arith}
+use Rattle.std.proofs.Common.{◌++◌, refl, sym, ap, ◌∙◌, subst, inl, inr, ⊎_elim, arith}
 use Rattle.std.specs.Prelude.{◌⊎◌}
 use Rattle.std.specs.List.{filter, AllByRecursion}
 use Rattle.std.proofs.lemmas.Bool.{cond_both, both_ways, eq-eqb, ne_eqb}
@@ -22,7 +22,7 @@ use Rattle.cpa_reached.specs.Calls.{at_number, rests, taken, closed}
 use Rattle.cpa_reached.specs.Successors.{LiesInNamed, CoversSuccessors}
 use Rattle.cpa_engine.specs.Turns.{AreEntries}
 use Rattle.cpa_engine.specs.Turns.{IsTurn, Turned, IsTaken, Stays, IsReplaced, IsFollowedBy}
-use Rattle.cpa_engine.specs.Stages.{Stage, stage, begun, Does, Leads, IsPlaced, Expands}
+use Rattle.cpa_engine.specs.Stages.{Stage, stage, begun, Leads, IsPlaced, Expands}
 use Rattle.cpa_engine.proofs.Lists.{of_map}
 use Rattle.cpa_engine.specs.Stages.{IsOrdered}
 use Rattle.cpa_engine.proofs.Effects.{HasAlike, GoesOnIn, same_alike, effect, below_next}

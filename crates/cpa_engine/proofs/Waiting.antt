@@ -1,14 +1,12 @@
 -- Covered successors along a turn: they stay covered where the entry that stands for the taken one
 -- is
 -- seen as waiting still (`covers_along`). So the laws of the calls are those of the steps.
-use Rattle.std.proofs.Common.{◌≡◌, ◌≢◌, ℕ, ◌+◌, ◌<◌, Bool, true, false, not, eqb, cond, List, []}
+use Rattle.std.proofs.Common.{◌≡◌, ◌≢◌, ℕ, ◌<◌, Bool, true, false, not, eqb, cond, List, []}
 use Rattle.std.proofs.Common.{◌∷◌}
-use Rattle.std.proofs.Common.{◌++◌, map, Option, Some, None, refl, sym, ap, ◌∙◌, subst, inl, inr}
+use Rattle.std.proofs.Common.{◌++◌, map, Some, refl, sym, ap, ◌∙◌, subst, inl, inr}
 use Rattle.std.proofs.Common.{⊎_elim, arith}
-use Rattle.std.specs.Prelude.{◌⊎◌}
-use Rattle.std.specs.List.{filter, AllByRecursion}
+use Rattle.std.specs.List.{filter}
 use Rattle.std.proofs.lemmas.Bool.{cond_both, cases_Bool, both_ways, eqb-true, eq-eqb, ne_eqb}
-use Rattle.std.proofs.lemmas.Bool.{not-true}
 use Rattle.std.proofs.lemmas.List.{map-append}
 use Rattle.cpa_model.specs.declared.automaton.Cfa.{Cfa}
 use Rattle.cpa_model.specs.declared.facts.Elem.{Elem}
@@ -20,13 +18,13 @@ use Rattle.cpa_iface.specs.declared.precisions.Precision.{Precision}
 use Rattle.cpa_composite.specs.Components.{Component}
 use Rattle.cpa_reached.specs.Members.{IsIn}
 use Rattle.cpa_reached.specs.MemberLaws.{in_map, map_in, in_filter, one_entry}
-use Rattle.cpa_reached.specs.Entries.{ReachedSet, IsLive, numbers}
+use Rattle.cpa_reached.specs.Entries.{ReachedSet, numbers}
 use Rattle.cpa_reached.specs.Calls.{at_number, gains, fresh, rename, renamed, replacing, others}
 use Rattle.cpa_reached.specs.Calls.{those}
 use Rattle.cpa_reached.specs.Calls.{added_entries, replaced_entries, rests}
 use Rattle.cpa_reached.specs.Successors.{LiesInNamed, CoversSuccessors, HoldOfAll}
 use Rattle.cpa_reached.specs.SuccessorLaws.{used-covers, added-covers, replaced-covers}
-use Rattle.cpa_engine.specs.Stages.{Stage, NotesUse, AddsRow, ReplacesEntry, Does, Leads}
+use Rattle.cpa_engine.specs.Stages.{Stage, Does, Leads}
 use Rattle.cpa_engine.specs.Stages.{IsOrdered}
 use Rattle.cpa_engine.proofs.Effects.{effect, below_next, rename_cases}
 use Rattle.cpa_engine.proofs.Chains.{kept_along}

@@ -1,6 +1,6 @@
 -- The journal of a round: which rows may come one after another (this project's own).
 use Rattle.std.specs.Prelude.{◌≡◌, ℕ, ◌<◌, true, List, [], ◌∷◌, ◌++◌, map, ⊤, ◌⊎◌}
-use Rattle.std.specs.List.{AllByRecursion, flat_map}
+use Rattle.std.specs.List.{flat_map}
 use Rattle.cpa_iface.specs.declared.entries.Entry.{Entry}
 use Rattle.cpa_iface.specs.declared.entries.Turn.{Turn}
 use Rattle.cpa_reached.specs.Members.{IsIn}

@@ -8,7 +8,6 @@ use Rattle.cpa_model.specs.declared.states.State.{State}
 use Rattle.cpa_model.specs.Automata.{EdgeStep}
 use Rattle.cpa_model.specs.Facts.{LiesIn}
 use Rattle.cpa_iface.specs.declared.entries.Entry.{Entry}
-use Rattle.cpa_iface.specs.declared.entries.Turn.{Turn}
 use Rattle.cpa_iface.specs.declared.precisions.Precision.{Precision}
 use Rattle.cpa_composite.specs.Components.{Component, AreElems, ArePrecisions}
 use Rattle.cpa_composite.specs.Covers.{all_cover}

@@ -1,12 +1,10 @@
 -- One turn of the algorithm, as a relation of the entries before and after it (CAV 2007, section 2:
 -- the body of the loop; numbers, uses and rows of a journal are this project's own). No transfer
--- and
--- no merge is named, and of the stop operator only its outcome.
+-- and no merge is named, and of the stop operator only its outcome.
 use Rattle.std.specs.Prelude.{◌≡◌, ◌≢◌, ℕ, ◌<◌, true, false, List, [], ◌∷◌, ◌++◌, map}
 use Rattle.std.specs.Prelude.{length, IfSome, ◌⊎◌}
 use Rattle.std.specs.List.{AllByRecursion}
 use Rattle.cpa_model.specs.declared.automaton.Cfa.{Cfa}
-use Rattle.cpa_model.specs.declared.facts.Elem.{Elem}
 use Rattle.cpa_model.specs.declared.states.State.{State}
 use Rattle.cpa_model.specs.Automata.{IsStateOf, EdgeStep}
 use Rattle.cpa_model.specs.Facts.{LiesIn}

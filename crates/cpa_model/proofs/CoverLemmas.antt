@@ -1,11 +1,11 @@
 -- A cover of the automaton of a program is a cover of the program, and a covered program is safe.
-use Rattle.std.proofs.Common.{◌≡◌, List, [], ◌∷◌, ◌++◌, ◌↔◌, sym, subst, ⊎_elim}
+use Rattle.std.proofs.Common.{List, [], ◌∷◌, ◌++◌, ◌↔◌, sym, subst, ⊎_elim}
 use Rattle.cpa_model.specs.declared.facts.Elem.{Elem}
 use Rattle.cpa_model.specs.declared.states.State.{State}
 use Rattle.cpa_model.specs.declared.automaton.Cfa.{Cfa}
 use Rattle.cpa_model.specs.declared.program.Program.{Program}
 use Rattle.cpa_model.specs.Programs.{IsWellFormed, point_count}
-use Rattle.cpa_model.specs.States.{IsState, initial_of}
+use Rattle.cpa_model.specs.States.{IsState}
 use Rattle.cpa_model.specs.Steps.{Step, IsChain, IsExecution, CallsError}
 use Rattle.cpa_model.specs.Automata.{IsAutomatonOf}
 use Rattle.cpa_model.specs.Covers.{LiesInSome, IsCover, CoversAutomaton, IsSafe}

@@ -1,6 +1,6 @@
 -- Covers: lists of entries in which every reachable state lies, and none at a call of reach_error
 -- (CAV 2007, section 2: soundness of a reached set).
-use Rattle.std.specs.Prelude.{◌≡◌, List, [], ◌∷◌, ◌⊎◌}
+use Rattle.std.specs.Prelude.{List, [], ◌∷◌, ◌⊎◌}
 use Rattle.std.specs.List.{Contains}
 use Rattle.cpa_model.specs.declared.facts.Elem.{Elem}
 use Rattle.cpa_model.specs.declared.states.State.{State}

@@ -1,3 +1,4 @@
+-- What a sink holds after one more write.
 use lib.Seq.{take-add}
 use Rattle.std.proofs.Common.{◌≡◌, ℕ, ◌+◌, ◌≤◌, List, ◌++◌, length, take, drop, Option, Some, None}
 use Rattle.std.proofs.Common.{refl, ap, append_assoc, ◌-◌, arith}

@@ -1,3 +1,4 @@
+-- Where a file of a name stands among those in memory.
 use Rattle.std.proofs.Common.{◌≡◌, ℕ, ◌<◌, ◌≤◌, ◌≢◌, Bool, true, List, [], ◌∷◌, length, get_or}
 use Rattle.std.proofs.Common.{Option, Some, None, IsSome, IfErr, IsErrOf, IsTrue, is_none, Result}
 use Rattle.std.proofs.Common.{◌||◌, ◌↔◌, false, String, Vec, string_bytes, sym, ap, ◌∙◌, refl, inl}

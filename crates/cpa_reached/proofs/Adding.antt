@@ -1,20 +1,19 @@
 -- That `add` keeps what holds of the parts (`kept_added`), and that a first entry does
 -- (`kept_begun`).
-use Rattle.std.proofs.Common.{◌≡◌, ℕ, ◌+◌, ◌<◌, ◌≤◌, ◌^◌, Bool, true, false, eqb, cond, ◌&&◌, ◌||◌}
-use Rattle.std.proofs.Common.{List, [], ◌∷◌, ◌++◌, map, Option, Some, None, refl, sym, ap, ◌∙◌}
-use Rattle.std.proofs.Common.{subst, inl, inr, ⊎_elim, arith}
-use Rattle.std.specs.List.{AllByRecursion}
+use Rattle.std.proofs.Common.{◌≡◌, ℕ, ◌+◌, ◌<◌, ◌^◌, true, false, eqb, cond, ◌&&◌, ◌||◌}
+use Rattle.std.proofs.Common.{List, [], ◌∷◌, ◌++◌, Some, None, refl, ap, ◌∙◌}
+use Rattle.std.proofs.Common.{subst, inl, inr, arith}
 use Rattle.std.proofs.lemmas.Bool.{eq-eqb, ne_eqb, and_from}
 use Rattle.std.proofs.lemmas.List.{map-append}
 use Rattle.cpa_model.specs.declared.facts.Elem.{Elem}
 use Rattle.cpa_iface.specs.declared.precisions.Precision.{Precision}
 use Rattle.cpa_iface.specs.declared.entries.Entry.{Entry}
 use Rattle.cpa_reached.specs.declared.links.Link.{Link}
-use Rattle.cpa_reached.specs.Members.{IsIn, is_in, Ascend}
+use Rattle.cpa_reached.specs.Members.{IsIn}
 use Rattle.cpa_reached.specs.Entries.{numbers, IsLive}
 use Rattle.cpa_reached.specs.Calls.{at_number, gains, fresh, added_entries}
 use Rattle.cpa_reached.specs.MemberLaws.{or_left, in_all, live_in}
-use Rattle.cpa_reached.specs.Kept.{IsTied, IsTree, IsKept, link_numbers, at_link, lists, link}
+use Rattle.cpa_reached.specs.Kept.{IsTied, IsKept, link}
 use Rattle.cpa_reached.specs.Kept.{depth_of, is_named_by}
 use Rattle.cpa_reached.proofs.Tying.{named_back}
 use Rattle.cpa_reached.proofs.Keeping.{kept_gain, kept_fresh}

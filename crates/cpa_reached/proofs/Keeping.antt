@@ -1,31 +1,26 @@
 -- That each call keeps what holds of the parts of a reached set (`IsKept`).
-use Rattle.std.proofs.Common.{◌≡◌, ◌≢◌, ℕ, zero, suc, ◌+◌, ◌<◌, ◌≤◌, ◌^◌, Bool, true, false, eqb}
-use Rattle.std.proofs.Common.{cond, not, ◌&&◌, ◌||◌, List, [], ◌∷◌, ◌++◌, map, Option, Some, None}
-use Rattle.std.proofs.Common.{refl, sym, ap, ◌∙◌, subst, inl, inr, ◌⊎◌, ⊎_elim, arith}
-use Rattle.std.specs.List.{AllByRecursion, filter, list_any}
+use Rattle.std.proofs.Common.{◌≡◌, ℕ, ◌+◌, ◌<◌, ◌≤◌, ◌^◌, Bool, true, false, eqb}
+use Rattle.std.proofs.Common.{cond, List, [], ◌∷◌, ◌++◌, map, Some}
+use Rattle.std.proofs.Common.{refl, sym, ap, ◌∙◌, subst, inl, inr, ⊎_elim, arith}
+use Rattle.std.specs.List.{AllByRecursion, filter}
 use Rattle.std.proofs.lemmas.Option.{same_Some}
-use Rattle.std.proofs.lemmas.Bool.{eq-eqb, ne_eqb, eqb-true, eqb-false, or_cases, and_parts}
-use Rattle.std.proofs.lemmas.Bool.{and_from, cond_both, cases_eq, cases_Bool, both_ways, not-true}
+use Rattle.std.proofs.lemmas.Bool.{eq-eqb, eqb-true}
+use Rattle.std.proofs.lemmas.Bool.{cond_both, cases_Bool}
 use Rattle.cpa_model.specs.declared.facts.Elem.{Elem}
 use Rattle.cpa_iface.specs.declared.precisions.Precision.{Precision}
 use Rattle.cpa_iface.specs.declared.entries.Entry.{Entry}
 use Rattle.cpa_reached.specs.declared.links.Link.{Link}
 use Rattle.cpa_reached.specs.Members.{IsIn, is_in, Ascend}
 use Rattle.cpa_reached.specs.Entries.{numbers, IsLive, waiting_numbers}
-use Rattle.cpa_reached.specs.Calls.{at_number, rests, gains, with_precisions, fresh, rename}
-use Rattle.cpa_reached.specs.Calls.{rename_parent, renamed, replacing, others, those, added_entries}
-use Rattle.cpa_reached.specs.Calls.{replaced_entries}
-use Rattle.cpa_reached.specs.Kept.{IsTied, IsTree, IsKept, link_numbers, at_link, lists, link}
-use Rattle.cpa_reached.specs.Kept.{depth_of, is_named_by, other_links, those_links, renumbered}
-use Rattle.cpa_reached.specs.Kept.{renamed_among}
+use Rattle.cpa_reached.specs.Calls.{at_number, rests, gains, with_precisions, fresh}
+use Rattle.cpa_reached.specs.Kept.{IsTied, IsKept, link_numbers, at_link, lists, link}
+use Rattle.cpa_reached.specs.Kept.{depth_of, is_named_by}
 use Rattle.cpa_reached.specs.Tables.{but}
 use Rattle.cpa_reached.specs.MemberLaws.{in_all, entry_in, live_in, in_live, above_absent}
 use Rattle.cpa_reached.specs.MemberLaws.{numbers_map, in_map, in_append, numbers_append, all_push}
 use Rattle.cpa_reached.specs.MemberLaws.{all_weaker, ascend_push}
 use Rattle.cpa_reached.proofs.Tying.{tied_along, tied_more, named_there, depth_lists, numbers_lists}
-use Rattle.cpa_reached.proofs.Tying.{named_lists, now_named, depth_front, depth_back, named_front}
-use Rattle.cpa_reached.proofs.Tying.{named_back, depth_kept, named_kept, depth_renumbered}
-use Rattle.cpa_reached.proofs.Tying.{named_renumbered}
+use Rattle.cpa_reached.proofs.Tying.{named_lists, depth_front, depth_back, named_front}
 
 pub link_numbers_append : (xs ys : List Link)
     → link_numbers (xs ++ ys) ≡ link_numbers xs ++ link_numbers ys

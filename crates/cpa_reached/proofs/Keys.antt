@@ -1,17 +1,17 @@
 -- What stands in an ascending list at the place of a number, and what a write there does
 -- (`written`).
-use Rattle.std.proofs.Common.{◌≡◌, ℕ, zero, suc, ◌+◌, ◌<◌, ◌≤◌, Bool, true, false, eqb, cond, not}
-use Rattle.std.proofs.Common.{◌||◌, List, [], ◌∷◌, ◌++◌, length, get_or, map, Some, None, slice_get}
-use Rattle.std.proofs.Common.{refl, sym, ap, ◌∙◌, subst, inl, inr, ◌⊎◌, ⊎_elim, arith}
+use Rattle.std.proofs.Common.{◌≡◌, ℕ, zero, suc, ◌<◌, ◌≤◌, true, false, eqb, not}
+use Rattle.std.proofs.Common.{List, [], ◌∷◌, length, get_or, map, Some, slice_get}
+use Rattle.std.proofs.Common.{refl, sym, ap, subst, inl, inr, ⊎_elim, arith}
 use Rattle.std.proofs.Math.ListN.{set}
 use Rattle.std.specs.List.{AllByRecursion}
-use Rattle.std.proofs.lemmas.Bool.{eq-eqb, ne_eqb, eqb-true, or_cases, cases_Bool}
+use Rattle.std.proofs.lemmas.Bool.{eq-eqb, ne_eqb, eqb-true, or_cases}
 use Rattle.std.proofs.lemmas.Option.{same_Some}
 use Rattle.cpa_iface.specs.declared.entries.Entry.{Entry}
 use Rattle.cpa_reached.specs.declared.links.Link.{Link}
 use Rattle.cpa_reached.specs.Members.{IsIn, is_in, Ascend}
-use Rattle.cpa_reached.specs.Entries.{numbers, IsLive}
-use Rattle.cpa_reached.specs.MemberLaws.{or_left, or_right, in_all, entry_in, live_in}
+use Rattle.cpa_reached.specs.Entries.{numbers}
+use Rattle.cpa_reached.specs.MemberLaws.{in_all, entry_in}
 use Rattle.cpa_reached.specs.Kept.{at_key, link_numbers, depth_of}
 
 pub at_all : (P : ℕ → Type 0) (ns : List ℕ) (i n : ℕ) → AllByRecursion P ns

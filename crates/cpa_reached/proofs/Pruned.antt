@@ -1,8 +1,8 @@
 -- That `remove_below` keeps what holds of the parts (`kept_removed`), and what is gathered of the
 -- numbers that go.
 use Rattle.std.proofs.Common.{◌≡◌, ℕ, zero, suc, ◌+◌, ◌<◌, ◌≤◌, Bool, true, false, eqb, cond, not}
-use Rattle.std.proofs.Common.{◌&&◌, ◌||◌, List, [], ◌∷◌, ◌++◌, map, take, drop, length, get_or}
-use Rattle.std.proofs.Common.{add-one, append-nil, Option, Some, None, refl, sym, ap, ◌∙◌, subst}
+use Rattle.std.proofs.Common.{List, [], ◌∷◌, ◌++◌, map, take, drop, length, get_or}
+use Rattle.std.proofs.Common.{add-one, append-nil, Some, refl, sym, ap, ◌∙◌, subst}
 use Rattle.std.proofs.Common.{inl, inr, ◌⊎◌, ⊎_elim, arith}
 use Rattle.std.specs.List.{AllByRecursion, filter, list_any}
 use Rattle.std.proofs.lemmas.List.Elements.{filter_more}
@@ -10,15 +10,15 @@ use Rattle.std.proofs.lemmas.Bool.{eqb-true, or_cases, cond_both, cases_Bool, bo
 use Rattle.cpa_iface.specs.declared.entries.Entry.{Entry}
 use Rattle.cpa_reached.specs.declared.links.Link.{Link}
 use Rattle.cpa_reached.specs.Members.{IsIn, is_in, Ascend}
-use Rattle.cpa_reached.specs.Entries.{numbers, IsLive, waiting_numbers}
+use Rattle.cpa_reached.specs.Entries.{numbers, waiting_numbers}
 use Rattle.cpa_reached.specs.Removal.{IsBelow, child, further, is_opened, opened, left, without}
 use Rattle.cpa_reached.specs.MemberLaws.{or_left, or_right, in_all, entry_in, numbers_map}
-use Rattle.cpa_reached.specs.MemberLaws.{numbers_append, in_map, in_filter, all_push, all_weaker}
+use Rattle.cpa_reached.specs.MemberLaws.{numbers_append, in_map, in_filter, all_push}
 use Rattle.cpa_reached.specs.MemberLaws.{ascend_push, all_kept, ascend_kept, in_push, in_last}
-use Rattle.cpa_reached.specs.SuccessorLaws.{left_number, left_parent, none_gone, or_false}
-use Rattle.cpa_reached.specs.Kept.{IsTied, IsTree, IsKept, link_numbers, depth_of, is_named_by}
+use Rattle.cpa_reached.specs.SuccessorLaws.{left_number, none_gone, or_false}
+use Rattle.cpa_reached.specs.Kept.{IsTied, IsKept, depth_of}
 use Rattle.cpa_reached.specs.Kept.{without_links, waits_after}
-use Rattle.cpa_reached.proofs.Tying.{named_there, depth_kept, named_kept}
+use Rattle.cpa_reached.proofs.Tying.{depth_kept, named_kept}
 use Rattle.cpa_reached.proofs.Keeping.{links_kept, entries_kept}
 
 stays : (gone : List ℕ) (k : ℕ) → is_in k gone ≡ false → (l : Link) → l.number ≡ k

@@ -1,20 +1,18 @@
 -- Ascending numbers: what is taken at either end of them comes first in that order, and a number is
 -- found by halving.
-use Rattle.std.proofs.Common.{◌≡◌, ℕ, zero, suc, ◌+◌, ◌<◌, ◌≤◌, Bool, true, false, eqb, cond, not}
-use Rattle.std.proofs.Common.{◌||◌, List, [], ◌∷◌, ◌++◌, length, get_or, Option, Some, None, Result}
-use Rattle.std.proofs.Common.{Ok, Err, refl, sym, ap, ◌∙◌, subst, inl, inr, ⊎_elim, arith}
-use Rattle.std.specs.List.{AllByRecursion, filter}
+use Rattle.std.proofs.Common.{◌≡◌, ℕ, zero, suc, ◌<◌, ◌≤◌, true, false, eqb}
+use Rattle.std.proofs.Common.{List, [], ◌∷◌, ◌++◌, length, get_or, Option, Some, None, Result}
+use Rattle.std.proofs.Common.{Ok, Err, refl, sym, ap, subst, inl, inr, ⊎_elim, arith}
+use Rattle.std.specs.List.{AllByRecursion}
 use Rattle.std.specs.List.Sorted.{IsBinarySearchResult}
 use Rattle.std.specs.Option.{option_to_list, IfSome}
 use Rattle.std.specs.Ordering.{nat_cmp}
 use Rattle.std.specs.Result.{is_ok}
 use Rattle.std.proofs.lemmas.Bool.{eq-eqb, ne_eqb, eqb-true, or_cases, cases_Bool, cases_lt}
-use Rattle.std.proofs.lemmas.Bool.{both_ways}
 use Rattle.std.proofs.lemmas.List.Sorted.{searched}
 use Rattle.cpa_reached.specs.Members.{IsIn, is_in, Ascend}
 use Rattle.cpa_reached.specs.Tables.{but}
-use Rattle.cpa_reached.specs.MemberLaws.{or_left, or_right, in_all, all_weaker}
-use Rattle.cpa_reached.proofs.Keys.{at_all}
+use Rattle.cpa_reached.specs.MemberLaws.{or_left, or_right, all_weaker}
 
 but_above : (n : ℕ) (ns : List ℕ) → AllByRecursion (λ m. n < m) ns → but n ns ≡ ns
 but_above n [] above = refl

@@ -1,23 +1,23 @@
 -- What `replace` makes of the entries, step by step: one gives way (`gave_way`), and those that
 -- named it are renamed (`renamed_all`).
-use Rattle.std.proofs.Common.{◌≡◌, ℕ, zero, suc, ◌+◌, ◌<◌, ◌≤◌, Bool, true, false, eqb, cond, not}
-use Rattle.std.proofs.Common.{◌&&◌, ◌||◌, List, [], ◌∷◌, ◌++◌, map, take, drop, length, get_or}
+use Rattle.std.proofs.Common.{◌≡◌, ℕ, zero, suc, ◌<◌, true, false, eqb, cond, not}
+use Rattle.std.proofs.Common.{◌&&◌, ◌||◌, List, [], ◌∷◌, ◌++◌, map, take, drop, get_or}
 use Rattle.std.proofs.Common.{slice_get, Option, Some, None, refl, sym, ap, ◌∙◌, subst, inl, inr}
-use Rattle.std.proofs.Common.{◌⊎◌, ⊎_elim, arith}
-use Rattle.std.specs.List.{AllByRecursion, filter, list_any, remove}
+use Rattle.std.proofs.Common.{⊎_elim, arith}
+use Rattle.std.specs.List.{AllByRecursion, filter, remove}
 use Rattle.std.proofs.lemmas.Option.{same_Some}
-use Rattle.std.proofs.lemmas.Bool.{eq-eqb, ne_eqb, eqb-true, eqb-false, or_cases, and_parts}
-use Rattle.std.proofs.lemmas.Bool.{and_from, cond_both, cases_Bool, cases_eq, both_ways, not-true}
+use Rattle.std.proofs.lemmas.Bool.{eq-eqb, ne_eqb, eqb-true, or_cases, and_parts}
+use Rattle.std.proofs.lemmas.Bool.{cond_both, cases_Bool, cases_eq, both_ways}
 use Rattle.std.proofs.lemmas.List.{map-append}
 use Rattle.cpa_model.specs.declared.facts.Elem.{Elem}
 use Rattle.cpa_iface.specs.declared.entries.Entry.{Entry}
 use Rattle.cpa_reached.specs.declared.links.Link.{Link}
 use Rattle.cpa_reached.specs.Members.{IsIn, is_in, Ascend}
-use Rattle.cpa_reached.specs.Entries.{numbers, IsLive}
+use Rattle.cpa_reached.specs.Entries.{numbers}
 use Rattle.cpa_reached.specs.Calls.{at_number, rename, rename_parent, renamed, replacing, others}
 use Rattle.cpa_reached.specs.Calls.{those, replaced_entries}
-use Rattle.cpa_reached.specs.MemberLaws.{or_left, or_right, in_all, entry_in, live_in, in_push}
-use Rattle.cpa_reached.specs.MemberLaws.{member_in, in_map, in_filter}
+use Rattle.cpa_reached.specs.MemberLaws.{or_left, in_push}
+use Rattle.cpa_reached.specs.MemberLaws.{in_map, in_filter}
 use Rattle.cpa_reached.specs.Kept.{IsTied, IsTree, link_numbers, is_named_by, renamed_among}
 use Rattle.cpa_reached.proofs.Keys.{at_all}
 use Rattle.cpa_reached.proofs.Replacing.{other_parent}

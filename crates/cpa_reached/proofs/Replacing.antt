@@ -1,11 +1,11 @@
 -- That `replace` keeps what holds of the parts (`kept_replaced`), and what it makes of the entries
 -- step by step.
-use Rattle.std.proofs.Common.{◌≡◌, ◌≢◌, ℕ, zero, suc, ◌+◌, ◌<◌, ◌≤◌, ◌^◌, Bool, true, false, eqb}
-use Rattle.std.proofs.Common.{cond, not, ◌&&◌, ◌||◌, List, [], ◌∷◌, ◌++◌, map, Option, Some, None}
-use Rattle.std.proofs.Common.{refl, sym, ap, ◌∙◌, subst, inl, inr, ◌⊎◌, ⊎_elim, arith}
-use Rattle.std.specs.List.{AllByRecursion, filter, list_any}
-use Rattle.std.proofs.lemmas.Option.{same_Some, some_pair_parts}
-use Rattle.std.proofs.lemmas.Bool.{eq-eqb, ne_eqb, eqb-true, eqb-false, or_cases, and_parts}
+use Rattle.std.proofs.Common.{◌≡◌, ℕ, ◌+◌, ◌<◌, ◌≤◌, ◌^◌, Bool, true, false, eqb}
+use Rattle.std.proofs.Common.{cond, not, List, [], ◌∷◌, ◌++◌, map, Option, Some, None}
+use Rattle.std.proofs.Common.{refl, sym, ap, ◌∙◌, subst, inl, inr, ⊎_elim, arith}
+use Rattle.std.specs.List.{AllByRecursion, filter}
+use Rattle.std.proofs.lemmas.Option.{some_pair_parts}
+use Rattle.std.proofs.lemmas.Bool.{eq-eqb, ne_eqb, eqb-true, or_cases}
 use Rattle.std.proofs.lemmas.Bool.{cond_both, cases_Bool, both_ways, not-true}
 use Rattle.cpa_model.specs.declared.facts.Elem.{Elem}
 use Rattle.cpa_iface.specs.declared.entries.Entry.{Entry}
@@ -14,7 +14,7 @@ use Rattle.cpa_reached.specs.Members.{IsIn, is_in, Ascend}
 use Rattle.cpa_reached.specs.Entries.{numbers, IsLive, waiting_numbers}
 use Rattle.cpa_reached.specs.Calls.{rename, rename_parent, renamed, replacing, others, those}
 use Rattle.cpa_reached.specs.Calls.{replaced_entries}
-use Rattle.cpa_reached.specs.Kept.{IsTied, IsTree, IsKept, link_numbers, depth_of, is_named_by}
+use Rattle.cpa_reached.specs.Kept.{IsTied, IsKept, link_numbers, depth_of, is_named_by}
 use Rattle.cpa_reached.specs.Kept.{other_links, those_links, renumbered}
 use Rattle.cpa_reached.specs.Tables.{but}
 use Rattle.cpa_reached.specs.MemberLaws.{or_left, or_right, in_all, entry_in, live_in, above_absent}

@@ -1,17 +1,15 @@
 -- That what is kept beside the entries goes on tying them (`IsTied`), whatever a call does to the
 -- links.
-use Rattle.std.proofs.Common.{◌≡◌, ◌≢◌, ℕ, zero, suc, ◌+◌, ◌<◌, ◌≤◌, Bool, true, false, eqb, cond}
-use Rattle.std.proofs.Common.{not, ◌&&◌, ◌||◌, List, [], ◌∷◌, ◌++◌, map, Option, Some, None, refl}
-use Rattle.std.proofs.Common.{sym, ap, ◌∙◌, subst, inl, inr, ◌⊎◌, ⊎_elim, arith}
-use Rattle.std.specs.List.{AllByRecursion, filter, list_any}
+use Rattle.std.proofs.Common.{◌≡◌, ℕ, ◌+◌, ◌≤◌, Bool, true, false, eqb, cond}
+use Rattle.std.proofs.Common.{◌&&◌, ◌||◌, List, [], ◌∷◌, ◌++◌, map, Option, Some, refl}
+use Rattle.std.proofs.Common.{sym, ap, ◌∙◌, subst, inl, inr, ⊎_elim}
+use Rattle.std.specs.List.{filter}
 use Rattle.std.proofs.lemmas.Bool.{eq-eqb, ne_eqb, eqb-true, or_cases, and_parts, and_from}
-use Rattle.std.proofs.lemmas.Bool.{cond_both, cases_eq, cases_Bool, false≢true, both_ways}
-use Rattle.cpa_iface.specs.declared.entries.Entry.{Entry}
+use Rattle.std.proofs.lemmas.Bool.{cond_both, cases_Bool, both_ways}
 use Rattle.cpa_reached.specs.declared.links.Link.{Link}
-use Rattle.cpa_reached.specs.Members.{IsIn, is_in, Ascend}
-use Rattle.cpa_reached.specs.Calls.{rename, rename_parent}
-use Rattle.cpa_reached.specs.Kept.{IsTied, link_numbers, at_link, lists, link, depth_of}
-use Rattle.cpa_reached.specs.Kept.{is_named_by, other_links, those_links, renumbered, without_links}
+use Rattle.cpa_reached.specs.Members.{IsIn, is_in}
+use Rattle.cpa_reached.specs.Kept.{IsTied, link_numbers, at_link, lists, depth_of}
+use Rattle.cpa_reached.specs.Kept.{is_named_by, those_links, renumbered}
 use Rattle.cpa_reached.specs.MemberLaws.{or_left, or_right, in_push, in_last}
 
 -- How the links may change, so that they go on tying an entry that stays as it is.

@@ -1,15 +1,15 @@
 -- What contracts see of a reached set, from what is known of its parts: that it is numbered, and
 -- what a call makes of it.
-use Rattle.std.proofs.Common.{◌≡◌, ℕ, ◌+◌, ◌<◌, Bool, true, List, [], ◌∷◌, Option, Some, None}
-use Rattle.std.proofs.Common.{Result, Ok, Err, refl, sym, ap, ◌∙◌, subst}
+use Rattle.std.proofs.Common.{◌≡◌, ℕ, true, List, []}
+use Rattle.std.proofs.Common.{Result, Ok, Err, ap, ◌∙◌, subst}
 use Rattle.std.specs.Result.{OnOk, OnErr}
 use Rattle.cpa_iface.specs.declared.entries.Entry.{Entry}
 use Rattle.cpa_iface.specs.declared.entries.Turn.{Turn}
 use Rattle.cpa_reached.specs.declared.links.Link.{Link}
-use Rattle.cpa_reached.specs.Members.{IsIn, is_in}
+use Rattle.cpa_reached.specs.Members.{is_in}
 use Rattle.cpa_reached.specs.Entries.{ReachedSet, IsLive, IsNumbered}
 use Rattle.cpa_reached.specs.MemberLaws.{in_live}
-use Rattle.cpa_reached.specs.Kept.{IsTied, IsKept, is_named_by}
+use Rattle.cpa_reached.specs.Kept.{IsKept, is_named_by}
 use Rattle.cpa_reached.proofs.Tying.{named_there}
 
 abbrev pub seen : List Entry → List Turn → ℕ → ReachedSet

@@ -1,6 +1,6 @@
 -- What each call makes of a reached set, as a function of what was there before (CAV 2007, section
 -- 2; numbers, uses and the journal are this project's own).
-use Rattle.std.specs.Prelude.{ℕ, ◌+◌, ◌==◌, Bool, true, false, not, List, [], ◌∷◌, ◌++◌, map}
+use Rattle.std.specs.Prelude.{ℕ, ◌+◌, ◌==◌, true, false, not, List, [], ◌∷◌, ◌++◌, map}
 use Rattle.std.specs.Prelude.{Option, Some, None, if◌then◌else◌}
 use Rattle.std.specs.List.{filter}
 use Rattle.cpa_model.specs.declared.facts.Elem.{Elem}

@@ -1,6 +1,6 @@
 -- A reached set as plain data (CAV 2007, section 2: reached and waitlist; precisions are those of
 -- ASE 2008; numbers, uses and the journal are this project's own).
-use Rattle.std.specs.Prelude.{◌≡◌, ℕ, ◌<◌, ◌≤◌, ◌^◌, ◌==◌, Bool, true, List, map, Some, cond}
+use Rattle.std.specs.Prelude.{◌≡◌, ℕ, ◌<◌, ◌≤◌, ◌^◌, List, map, Some}
 use Rattle.std.specs.List.{AllByRecursion, filter}
 use Rattle.cpa_iface.specs.declared.entries.Entry.{Entry}
 use Rattle.cpa_iface.specs.declared.entries.Turn.{Turn}

@@ -1,10 +1,10 @@
 -- Members of lists and entries by their numbers: that a number has one entry (`one_entry`), and
 -- what a change of each entry, a filter and a push leave. Lemmas for the crates above.
-use Rattle.std.specs.Prelude.{◌≡◌, ℕ, zero, suc, ◌+◌, ◌<◌, ◌≤◌, Bool, true, false, cond, not, ◌||◌}
+use Rattle.std.specs.Prelude.{◌≡◌, ℕ, ◌<◌, Bool, true, false, ◌||◌}
 use Rattle.std.specs.Prelude.{List, [], ◌∷◌, ◌++◌, map, refl, ◌⊎◌}
 use Rattle.std.proofs.Common.{eqb, sym, ap, ◌∙◌, subst, inl, inr, ⊎_elim, arith}
 use Rattle.std.specs.List.{AllByRecursion, filter}
-use Rattle.std.proofs.lemmas.Bool.{eq-eqb, ne_eqb, eqb-true, or_cases, cond_both, both_ways}
+use Rattle.std.proofs.lemmas.Bool.{eq-eqb, ne_eqb, eqb-true, or_cases, cond_both}
 use Rattle.cpa_iface.specs.declared.entries.Entry.{Entry}
 use Rattle.cpa_reached.specs.Members.{IsIn, is_in, Ascend}
 use Rattle.cpa_reached.specs.Entries.{numbers, IsLive}

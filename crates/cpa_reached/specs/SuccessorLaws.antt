@@ -1,27 +1,27 @@
 -- That the calls keep covered successors, one lemma a call. They are the proofs of a law, and for
 -- crates above.
-use Rattle.std.specs.Prelude.{◌≡◌, ℕ, ◌+◌, Bool, true, false, not, cond, ◌||◌, List, [], ◌∷◌, ◌++◌}
-use Rattle.std.specs.Prelude.{map, Option, Some, None, refl, ◌⊎◌}
+use Rattle.std.specs.Prelude.{◌≡◌, ℕ, Bool, true, false, not, cond, ◌||◌, List, [], ◌∷◌, ◌++◌}
+use Rattle.std.specs.Prelude.{map, Some, None, refl}
 use Rattle.std.proofs.Common.{eqb, sym, ap, ◌∙◌, subst, inl, inr, ⊎_elim}
-use Rattle.std.specs.List.{filter, list_any}
-use Rattle.std.proofs.lemmas.Bool.{eq-eqb, ne_eqb, eqb-true, eqb-false, cond_both, cases_Bool}
-use Rattle.std.proofs.lemmas.Bool.{both_ways, not-true}
+use Rattle.std.specs.List.{list_any}
+use Rattle.std.proofs.lemmas.Bool.{eqb-true, cond_both, cases_Bool}
+use Rattle.std.proofs.lemmas.Bool.{both_ways}
 use Rattle.cpa_model.specs.declared.automaton.Cfa.{Cfa}
 use Rattle.cpa_model.specs.declared.facts.Elem.{Elem}
 use Rattle.cpa_model.specs.declared.states.State.{State}
 use Rattle.cpa_model.specs.Facts.{LiesIn}
-use Rattle.cpa_model.specs.Automata.{IsStateOf, initial_state, EdgeStep}
+use Rattle.cpa_model.specs.Automata.{IsStateOf, initial_state}
 use Rattle.cpa_iface.specs.declared.precisions.Precision.{Precision}
 use Rattle.cpa_iface.specs.declared.entries.Entry.{Entry}
 use Rattle.cpa_reached.specs.Members.{IsIn, is_in, Ascend}
 use Rattle.cpa_reached.specs.Entries.{numbers}
-use Rattle.cpa_reached.specs.Calls.{at_number, gains, with_precisions, fresh, rename, rename_parent}
+use Rattle.cpa_reached.specs.Calls.{at_number, gains, with_precisions, fresh, rename}
 use Rattle.cpa_reached.specs.Calls.{renamed, replacing, others, those, added_entries}
 use Rattle.cpa_reached.specs.Calls.{replaced_entries}
 use Rattle.cpa_reached.specs.Removal.{IsBelow, child, further, is_opened, opened, left, without}
 use Rattle.cpa_reached.specs.Removal.{RemovesBelow}
-use Rattle.cpa_reached.specs.Successors.{LiesInNamed, HasStart, CoversSuccessors, HoldOfAll}
-use Rattle.cpa_reached.specs.MemberLaws.{or_left, or_right, entry_in, one_entry, member_in, in_map}
+use Rattle.cpa_reached.specs.Successors.{CoversSuccessors, HoldOfAll}
+use Rattle.cpa_reached.specs.MemberLaws.{one_entry, in_map}
 use Rattle.cpa_reached.specs.MemberLaws.{map_in, in_append, append_front, append_back, in_filter}
 use Rattle.cpa_reached.specs.MemberLaws.{filter_in}
 

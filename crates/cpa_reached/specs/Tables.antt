@@ -1,8 +1,7 @@
 -- The parts of a reached set together. Nothing here is promised to a caller.
-use Rattle.std.specs.Prelude.{◌≡◌, ℕ, not, ◌==◌, List}
+use Rattle.std.specs.Prelude.{ℕ, not, ◌==◌, List}
 use Rattle.std.specs.List.{filter}
 use Rattle.cpa_reached.specs.declared.table.Table.{Table}
-use Rattle.cpa_reached.specs.Entries.{IsNext}
 use Rattle.cpa_reached.specs.Kept.{IsKept}
 
 abbrev pub IsKeptTable : Table → Type 0

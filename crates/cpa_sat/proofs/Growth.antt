@@ -1,13 +1,13 @@
 -- One more line: what was sound, good and new stays so.
-use Rattle.std.proofs.Common.{◌≡◌, ◌≢◌, ℕ, zero, suc, ◌+◌, ◌-◌, ◌*◌, ◌^◌, ◌<◌, ◌≤◌, Bool, true}
+use Rattle.std.proofs.Common.{◌≡◌, ◌≢◌, ℕ, ◌+◌, ◌-◌, ◌*◌, ◌^◌, ◌<◌, ◌≤◌}
 use Rattle.std.proofs.Common.{false, List, [], ◌∷◌, ◌++◌, ◌⊎◌, inl, inr, map, take, length, get_or}
 use Rattle.std.proofs.Common.{refl, sym, ap, ◌∙◌, subst, arith, Option, Some, None}
 use Rattle.std.specs.Prelude.{slice_index_or, MatchOption}
 use Rattle.std.proofs.Math.Nat.{add-mul}
 use Rattle.std.specs.List.{AllByRecursion, slice_get}
-use Rattle.std.proofs.lemmas.Bool.{cases_eq, cases_lt, cases_order}
+use Rattle.std.proofs.lemmas.Bool.{cases_eq, cases_lt}
 use Rattle.std.proofs.lemmas.List.{get_or_append_left, get_or_push, get_or_past, length_push}
-use Rattle.std.proofs.lemmas.List.{take-append-le, take_all, take_at, map-append, append_assoc}
+use Rattle.std.proofs.lemmas.List.{take-append-le, take_at, map-append, append_assoc}
 use Rattle.std.proofs.lemmas.List.{length-map}
 use Rattle.std.proofs.lemmas.Option.{slice_get-get_or, slice_get_within, get_or_from_slice_get}
 use Rattle.cpa_cnf.specs.declared.formula.Cnf.{Cnf}
@@ -17,7 +17,7 @@ use Rattle.cpa_cnf.specs.Clauses.{has, IsClause}
 use Rattle.cpa_cnf.specs.Marking.{marked}
 use Rattle.cpa_cnf.specs.Lines.{AreBelow, AreGood, IsGoodLine, known}
 use Rattle.cpa_trail.specs.declared.trail.Trail.{Trail}
-use Rattle.cpa_trail.specs.Trails.{IsReasonFor, IsJustified, lit_at, reason_at, AreClauses}
+use Rattle.cpa_trail.specs.Trails.{IsReasonFor, lit_at, reason_at}
 use Rattle.cpa_sat.specs.Analyses.{IsConcluded, IsIdle}
 use Rattle.cpa_trail.specs.Progress.{Asserts, IsRisen, IsSound, progress}
 use Rattle.cpa_sat.specs.Fresh.{AreNew}

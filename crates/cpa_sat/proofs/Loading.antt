@@ -1,9 +1,9 @@
 -- The beginning of a search, and what its end gives.
 use Rattle.std.proofs.Common.{◌≡◌, ◌≢◌, ℕ, zero, suc, ◌+◌, ◌-◌, ◌*◌, ◌^◌, ◌<◌, ◌≤◌, List, [], ◌∷◌}
-use Rattle.std.proofs.Common.{◌++◌, map, take, length, get_or, refl, sym, ap, ◌∙◌, subst, arith}
-use Rattle.std.proofs.Common.{Bool, Some}
+use Rattle.std.proofs.Common.{◌++◌, map, take, length, get_or, sym, ap, ◌∙◌, subst, arith}
+use Rattle.std.proofs.Common.{Bool}
 use Rattle.std.specs.Prelude.{slice_index_or}
-use Rattle.std.specs.List.{AllByRecursion, slice_get}
+use Rattle.std.specs.List.{AllByRecursion}
 use Rattle.std.proofs.lemmas.List.{take_more, take_all, append-nil, get_or_append_left}
 use Rattle.std.proofs.lemmas.List.{get_or_default, length-map, length-append}
 use Rattle.std.proofs.lemmas.List.Elements.{All-from_recursion, recursion_from_All}

@@ -4,9 +4,9 @@ use Rattle.std.specs.Prelude.{slice_index_or, Option, Some, None}
 use Rattle.std.specs.List.{AllByRecursion}
 use Rattle.cpa_cnf.specs.declared.formula.Step.{Step}
 use Rattle.cpa_cnf.specs.Literals.{opposite}
-use Rattle.cpa_cnf.specs.Clauses.{has, IsClause}
+use Rattle.cpa_cnf.specs.Clauses.{has}
 use Rattle.cpa_cnf.specs.Resolution.{in_union_without}
-use Rattle.cpa_cnf.specs.Lines.{AreBelow, Gives}
+use Rattle.cpa_cnf.specs.Lines.{Gives}
 use Rattle.cpa_cnf.specs.Marking.{marked, IsBlank, IsMarkedAs}
 use Rattle.cpa_sat.specs.declared.analysis.Analysis.{Analysis}
 use Rattle.cpa_trail.specs.declared.assertion.Jump.{Jump}
@@ -39,8 +39,7 @@ abbrev pub AreFalseBefore : Analysis → Trail → ℕ → Type 0
 AreFalseBefore a t place = (l : ℕ) → marked a.marks.items l ≡ true → place_of t (opposite l) < place
 
 -- Once the trail is cut at the decision `cut`, the clause of the marked literals forces the
--- opposite of the literal
--- at the place `at`: its others are false before the cut.
+-- opposite of the literal at the place `at`: its others are false before the cut.
 pub record IsAsserting (a : Analysis) (t : Trail) (jump : Jump) : Type 0 where
   pub inside : jump.at < height t
   pub above : jump.cut ≤ jump.at

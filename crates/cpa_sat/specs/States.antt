@@ -1,6 +1,6 @@
 -- The state of a search.
 use Rattle.std.specs.Prelude.{◌≡◌, ◌≢◌, ℕ, ◌<◌, ◌≤◌, ◌-◌, ◌+◌, ◌*◌, ◌^◌, List, [], length, take}
-use Rattle.std.specs.Prelude.{slice_get, slice_index_or, Some, MatchOption}
+use Rattle.std.specs.Prelude.{slice_index_or, MatchOption}
 use Rattle.std.specs.List.{AllByRecursion}
 use Rattle.cpa_cnf.specs.declared.formula.Cnf.{Cnf}
 use Rattle.cpa_cnf.specs.declared.formula.Line.{Line}

@@ -5,7 +5,6 @@ ghost use Rattle.std.specs.Prelude.{◌≡◌, ◌<◌, ◌||◌, ◌&&◌, ◌=
 ghost use Rattle.std.specs.Prelude.{length, slice_index_or, OnOk, IfOk};
 ghost use Rattle.cpa_cnf.specs.Literals.{opposite};
 ghost use Rattle.cpa_cnf.specs.Clauses.{has, IsClause};
-ghost use Rattle.cpa_cnf.specs.Resolution.{in_union_without};
 ghost use Rattle.cpa_cnf.specs.Lines.{AreBelow, IsGoodLine};
 ghost use Rattle.cpa_cnf.specs.Marking.{marked, IsBlank};
 ghost use Rattle.cpa_trail.specs.Trails.{IsTrail, AreClauses};

@@ -1,12 +1,10 @@
 //! From a clause that is false to the clause that is learned: the first unique implication point
 //! (Moskewicz et al. 2001; Eén and Sörensson 2003), with the chain that gives it.
 
-ghost use Rattle.std.specs.Prelude.{◌≡◌, ◌≢◌, ◌<◌, ◌≤◌, ◌+◌, ◌*◌, ℕ, true, false, [], length};
+ghost use Rattle.std.specs.Prelude.{◌≡◌, ◌≢◌, ◌<◌, ◌≤◌, ◌+◌, ◌*◌, ℕ, true, [], length};
 ghost use Rattle.std.specs.Prelude.{slice_index_or, OnOk, IfOk, IfSome, IfNone, IsTrue};
-ghost use Rattle.std.specs.Prelude.{MatchOption};
 ghost use Rattle.cpa_cnf.specs.Literals.{opposite};
-ghost use Rattle.cpa_cnf.specs.Clauses.{has};
-ghost use Rattle.cpa_cnf.specs.Marking.{marked, IsBlank};
+ghost use Rattle.cpa_cnf.specs.Marking.{marked};
 ghost use Rattle.cpa_trail.specs.Trails.{IsFalse, IsTrail, IsJustified, height, lit_at, reason_at};
 ghost use Rattle.cpa_trail.specs.Trails.{place_of, AreClauses};
 ghost use Rattle.cpa_sat.specs.Analyses.{AreFalseBefore, AreNoted, AreOthersBefore, GivesWay};
@@ -102,8 +100,7 @@ fn find_cut(analysis: &Analysis, trail: &Trail, at: usize) -> Option<usize>
 }
 
 /// The cut at which to stop at the place, if the chain may stop there: it must at a decision, and
-/// it
-/// may where one marked literal alone seems to have become false since.
+/// it may where one marked literal alone seems to have become false since.
 fn choose_cut(analysis: &Analysis, trail: &Trail, at: usize) -> Option<usize>
     requires trail { IsTrail trail.now }
     requires vars { trail.now.vars ≡ analysis.now.vars }

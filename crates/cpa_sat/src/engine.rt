@@ -1,15 +1,12 @@
 //! The search: propagate, decide, learn from a clause that is false, jump back.
 
-ghost use Rattle.std.specs.Prelude.{◌≡◌, ◌≢◌, ◌<◌, ◌≤◌, ◌+◌, ◌-◌, ◌*◌, ◌^◌, ℕ, List, [], ◌∷◌, ◌++◌};
+ghost use Rattle.std.specs.Prelude.{◌≡◌, ◌≢◌, ◌<◌, ◌≤◌, ◌+◌, ◌-◌, ◌*◌, ◌^◌, ℕ, [], ◌∷◌, ◌++◌};
 ghost use Rattle.std.specs.Prelude.{length, slice_index_or, OnOk, IfOk, IfSome, IfNone};
-ghost use Rattle.std.specs.Prelude.{MatchOption};
-ghost use Rattle.std.specs.List.{AllByRecursion};
-ghost use Rattle.cpa_cnf.specs.Clauses.{has, IsClause};
-ghost use Rattle.cpa_cnf.specs.Lines.{AreBelow, AreGood, IsGoodLine, IsRefutation, known};
+ghost use Rattle.cpa_cnf.specs.Clauses.{IsClause};
+ghost use Rattle.cpa_cnf.specs.Lines.{IsGoodLine};
 ghost use Rattle.cpa_trail.specs.declared.trail.TheConstants.{NONE};
-ghost use Rattle.cpa_trail.specs.Trails.{IsFalse, IsTrail, height, place_of, AreClauses};
-ghost use Rattle.cpa_sat.specs.Analyses.{IsIdle};
-ghost use Rattle.cpa_trail.specs.Findings.{AreSatisfied, IsOpen};
+ghost use Rattle.cpa_trail.specs.Trails.{IsFalse, IsTrail, height};
+ghost use Rattle.cpa_trail.specs.Findings.{IsOpen};
 ghost use Rattle.cpa_trail.specs.Progress.{Asserts, IsRisen, IsSound, progress};
 ghost use Rattle.cpa_trail.specs.Propagations.{IsPropagated};
 ghost use Rattle.cpa_sat.specs.States.{IsAsBut, IsAsButAnalysis, IsBegun, IsEnded, IsLearned};

@@ -1,6 +1,5 @@
 //! Which learned clauses stay watched: those whose literals became false in few levels (Audemard
-//! and
-//! Simon 2009). Nothing rests on it but speed.
+//! and Simon 2009). Nothing rests on it but speed.
 
 use std::alloc::{AllocError, Global};
 
@@ -83,8 +82,8 @@ impl Quality {
         }
     }
 
-    /// Drops about half of the watched learned clauses, those of more levels first, and of the least
-    /// distance that is dropped the older ones.
+    /// Drops about half of the watched learned clauses, those of more levels first, and of the
+    /// least distance that is dropped the older ones.
     pub(crate) fn choose(&mut self) {
         self.fresh = 0;
         self.limit = self.limit.saturating_add(MORE);

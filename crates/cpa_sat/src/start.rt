@@ -1,6 +1,6 @@
 //! From a formula to a search, and from the end of the search to what it found.
 
-ghost use Rattle.std.specs.Prelude.{◌≡◌, ◌<◌, ◌≤◌, ◌^◌, ℕ, [], ◌∷◌, ◌++◌, length, IfOk, OnOk};
+ghost use Rattle.std.specs.Prelude.{◌≡◌, ◌<◌, ◌≤◌, ◌^◌, [], ◌∷◌, ◌++◌, length, IfOk, OnOk};
 ghost use Rattle.std.specs.List.{AllByRecursion};
 ghost use Rattle.cpa_cnf.specs.Clauses.{IsClause};
 ghost use Rattle.cpa_cnf.specs.Lines.{AreBelow, IsRefutation};
@@ -139,9 +139,8 @@ fn conclude(search: &mut Search, cnf: &Cnf, learnt: u32, end: End) -> Result<Fou
 
 /// Searches for a model of the formula, or a refutation of at most `learnt` lines. Where neither is
 /// found within `learnt` lines, it gives these: they are good, not empty, differ from each other
-/// and
-/// from the formula's clauses. So it decides where `learnt` is at least 4^vars. Want of memory is
-/// also answered where the formula has 2^31 variables, or 2^32 - 2 clauses would stand.
+/// and from the formula's clauses. So it decides where `learnt` is at least 4^vars. Want of memory
+/// is also answered where the formula has 2^31 variables, or 2^32 - 2 clauses would stand.
 pub fn search(alloc: Global, cnf: &Cnf, learnt: u32) -> Result<Found, AllocError>
     requires { AllByRecursion (AreBelow cnf.now.vars) cnf.now.clauses }
     ensures { IfOk result (IsFound cnf.now learnt) }

@@ -1,6 +1,5 @@
 -- The measure of a search (this project's own): the trail as a number in base 3, the first place
--- the most
--- significant, 1 at a decision and 2 at a literal that was forced.
+-- the most significant, 1 at a decision and 2 at a literal that was forced.
 use Rattle.std.specs.Prelude.{◌≡◌, ◌≢◌, ℕ, zero, suc, ◌==◌, ◌+◌, ◌*◌, ◌^◌, ◌<◌, ◌≤◌, true, List, []}
 use Rattle.std.specs.Prelude.{◌∷◌, if◌then◌else◌}
 use Rattle.cpa_cnf.specs.Literals.{opposite}

@@ -22,8 +22,7 @@ abbrev pub place_of : Trail → ℕ → ℕ
 place_of t l = slice_index t.places.items l
 
 -- Each literal on the trail stands at its place, each place names its literal, and no literal and
--- its opposite are
--- both true.
+-- its opposite are both true.
 pub record IsTrail (t : Trail) : Type 0 where
   pub small : t.vars < 2 ^ 31
   pub long : length t.places.items ≡ 2 * t.vars

@@ -1,6 +1,5 @@
 -- Lemmas on the definitions, which proofs of this crate and of those above cite. No definition that
--- a
--- contract cites stands here.
+-- a contract cites stands here.
 pub mod Measure
 pub mod TrailSteps
 pub mod Sound

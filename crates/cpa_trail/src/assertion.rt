@@ -1,9 +1,9 @@
 //! What goes on the trail: decisions, forced literals, and jumps back; each raises the measure.
 
-ghost use Rattle.std.specs.Prelude.{◌≡◌, ◌≢◌, ◌<◌, ◌*◌, ◌^◌, ℕ, [], length, slice_index_or, OnOk};
+ghost use Rattle.std.specs.Prelude.{◌≡◌, ◌<◌, ◌*◌, [], length, slice_index_or, OnOk};
 ghost use Rattle.cpa_cnf.specs.Literals.{opposite};
 ghost use Rattle.cpa_trail.specs.declared.trail.TheConstants.{NONE};
-ghost use Rattle.cpa_trail.specs.Trails.{IsTrail, lit_at, place_of};
+ghost use Rattle.cpa_trail.specs.Trails.{place_of};
 ghost use Rattle.cpa_trail.specs.Propagations.{IsForced};
 ghost use Rattle.cpa_trail.specs.Progress.{Asserts, IsSound, progress};
 

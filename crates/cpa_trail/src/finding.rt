@@ -1,13 +1,11 @@
 //! The last look at all clauses, and the values of a model.
 
-ghost use Rattle.std.specs.Prelude.{◌≡◌, ◌≢◌, ◌↔◌, ◌<◌, ◌*◌, ◌/◌, ℕ, true, [], length};
-ghost use Rattle.std.specs.Prelude.{slice_index_or, IsTrue, IfOk, IfSome, IfNone, MatchOption};
+ghost use Rattle.std.specs.Prelude.{◌↔◌, ◌<◌, ◌*◌, ◌/◌, true, length};
+ghost use Rattle.std.specs.Prelude.{IsTrue, IfOk, IfSome, IfNone};
 ghost use Rattle.std.specs.Bool.{OnFalse};
-ghost use Rattle.cpa_cnf.specs.Literals.{opposite};
-ghost use Rattle.cpa_cnf.specs.Clauses.{has};
 ghost use Rattle.cpa_cnf.specs.Lines.{AreBelow};
 ghost use Rattle.cpa_trail.specs.declared.trail.TheConstants.{NONE};
-ghost use Rattle.cpa_trail.specs.Trails.{IsFalse, IsTrail, place_of};
+ghost use Rattle.cpa_trail.specs.Trails.{IsFalse, IsTrail};
 ghost use Rattle.cpa_trail.specs.Progress.{IsSound};
 ghost use Rattle.cpa_trail.specs.Findings.{AreSatisfied, AreValues, HasNoTrue, IsOpen};
 ghost use Rattle.cpa_trail.specs.Findings.{IsSatisfiedIn, IsUnsatisfied};
@@ -66,7 +64,7 @@ pub fn open_literal(trail: &Trail, clause: &[u32]) -> Option<u32>
 /// Whether the literal is in range and has no value.
 pub fn is_open(trail: &Trail, literal: u32) -> bool
     requires { IsTrail trail.now }
-    ensures { IsTrue result → IsOpen trail.now literal }
+    ensures { IsTrue result ↔ IsOpen trail.now literal }
 {
     literal / 2 < trail.vars && !is_true(trail, literal) && !is_false(trail, literal)
 }

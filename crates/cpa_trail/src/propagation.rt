@@ -1,13 +1,13 @@
 //! Unit propagation: a clause whose literals are false but for one forces that one.
 
-ghost use Rattle.std.specs.Prelude.{◌≡◌, ◌≢◌, ◌↔◌, ◌<◌, ◌*◌, ◌/◌, ℕ, true, [], length};
-ghost use Rattle.std.specs.Prelude.{slice_index_or, IsTrue, OnOk, IfOk, IfSome, IfNone};
+ghost use Rattle.std.specs.Prelude.{◌≡◌, ◌≢◌, ◌↔◌, ◌<◌, ◌*◌, ◌/◌, length};
+ghost use Rattle.std.specs.Prelude.{IsTrue, OnOk, IfOk, IfNone};
 ghost use Rattle.std.specs.Bool.{OnFalse};
 ghost use Rattle.cpa_cnf.specs.Literals.{opposite};
 ghost use Rattle.cpa_cnf.specs.Clauses.{has};
 ghost use Rattle.cpa_cnf.specs.Lines.{AreBelow};
 ghost use Rattle.cpa_trail.specs.declared.trail.TheConstants.{NONE};
-ghost use Rattle.cpa_trail.specs.Trails.{IsFalse, IsTrail, place_of};
+ghost use Rattle.cpa_trail.specs.Trails.{IsTrail, place_of};
 ghost use Rattle.cpa_trail.specs.Propagations.{IsFalseBut, IsSeen, IsVisited, IsAwake};
 ghost use Rattle.cpa_trail.specs.Propagations.{IsPropagated};
 ghost use Rattle.cpa_trail.specs.Progress.{IsRisen, IsSound};

@@ -1,11 +1,10 @@
 //! The trail: the literals that are true, in the order in which they came, each with the clause
-//! that
-//! forced it, and for each literal its place there.
+//! that forced it, and for each literal its place there.
 
-ghost use Rattle.std.specs.Prelude.{◌≡◌, ◌≢◌, ◌<◌, ◌≤◌, ◌+◌, ◌-◌, ◌*◌, ◌++◌, ◌∷◌, ◌^◌, ℕ, [], List};
-ghost use Rattle.std.specs.Prelude.{length, take, slice_index, slice_set, OnOk, IfOk};
+ghost use Rattle.std.specs.Prelude.{◌≡◌, ◌<◌, ◌≤◌, ◌+◌, ◌-◌, ◌*◌, ◌++◌, ◌∷◌, ◌^◌, []};
+ghost use Rattle.std.specs.Prelude.{take, slice_set, OnOk, IfOk};
 ghost use Rattle.cpa_cnf.specs.Literals.{opposite};
-ghost use Rattle.cpa_trail.specs.Trails.{IsTrail, IsJustified, IsReasonFor, lit_at, reason_at};
+ghost use Rattle.cpa_trail.specs.Trails.{IsTrail, lit_at, reason_at};
 ghost use Rattle.cpa_trail.specs.Trails.{place_of, height};
 
 use std::alloc::{AllocError, Global};

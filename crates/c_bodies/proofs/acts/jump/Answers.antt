@@ -1,9 +1,9 @@
-use Rattle.std.proofs.Common.{Bool, refl, sym, ap, ◌∙◌, subst, map}
+use Rattle.std.proofs.Common.{Bool, refl, ap, ◌∙◌, map}
 use Rattle.c_lexer.specs.declared.fault.Rule.TheVariants as rule
 use Rattle.c_rules.specs.First.{first_with}
 use Rattle.c_rules.specs.ExpressionRules.{broken, at_if}
 use Rattle.c_jumps.specs.Found.{Found, with_base}
-use Rattle.c_bodies.specs.Views.{state_of, around_of, base_of, IsTied}
+use Rattle.c_bodies.specs.Views.{state_of, around_of, base_of}
 use Rattle.c_bodies.proofs.Doing.{done_jumps, based_more}
 use Rattle.c_bodies.proofs.Scopes.{tied_same, tied_found}
 use Rattle.c_bodies.proofs.acts.jump.Goals as goal

@@ -1,4 +1,4 @@
-use Rattle.std.proofs.Common.{◌≡◌, ℕ, Bool, List, drop, refl, ap, ◌∙◌}
+use Rattle.std.proofs.Common.{ℕ, Bool, List, drop, ap, ◌∙◌}
 use Rattle.c_lexer.specs.declared.fault.Rule.TheVariants as rule
 use Rattle.c_lexer.specs.declared.fault.TextFault.{TextFault}
 use Rattle.std.proofs.Common.{Option}

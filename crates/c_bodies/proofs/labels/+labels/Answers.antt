@@ -1,7 +1,6 @@
-use Rattle.std.proofs.Common.{◌≡◌, ℕ, List, ◌++◌, [], ◌∷◌, map, refl, sym, ap, ◌∙◌, append-nil}
+use Rattle.std.proofs.Common.{ℕ, List, ◌++◌, [], ◌∷◌, map, sym, ap, ◌∙◌, append-nil}
 use Rattle.std.proofs.Common.{append_assoc, option_map, unwrap_or}
 use Rattle.std.proofs.lemmas.List.{map-append}
-use Rattle.c_tree.specs.declared.name.Name.{Name}
 use Rattle.c_bodies.specs.Grown.{labels_in, name_bytes}
 use Rattle.c_bodies.proofs.Names.{in_Block, in_If, in_While, in_Do, in_For, in_Labeled}
 use Rattle.c_bodies.proofs.Names.{of_Declaration, of_Statement}

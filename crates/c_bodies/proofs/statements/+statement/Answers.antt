@@ -1,4 +1,4 @@
-use Rattle.std.proofs.Common.{◌≡◌, ℕ, ◌+◌, List, map, take, length, Option, None, option_map, refl}
+use Rattle.std.proofs.Common.{◌≡◌, ℕ, List, map, take, Option, option_map, refl}
 use Rattle.std.proofs.Common.{sym, ap, ◌∙◌, subst, arith, rules}
 use Rattle.std.proofs.lemmas.Grind.{common_steps}
 use Rattle.c_tree.specs.declared.statement.BlockItem.{BlockItem}
@@ -12,8 +12,8 @@ use Rattle.c_rules.specs.declared.typed.TypedItem.TheVariants as typed_item
 use Rattle.c_rules.specs.declared.typed.TypedDeclarator.{TypedDeclarator}
 use Rattle.c_rules.specs.declared.typed.TypedStatement.{TypedStatement}
 use Rattle.c_rules.specs.Statements.{Around, Walk, followed, doing, evaluating, evaluates, marks}
-use Rattle.c_rules.specs.Statements.{looped, scoped, in_order, start_walk, still, inner, loop, perhaps}
-use Rattle.c_rules.specs.TypedStatements.{Grown, grown, typed_for_start, typed_optional}
+use Rattle.c_rules.specs.Statements.{looped, scoped, in_order, start_walk, loop, perhaps}
+use Rattle.c_rules.specs.TypedStatements.{Grown, typed_for_start, typed_optional}
 use Rattle.c_typing.specs.Read.{typed_of}
 use Rattle.c_jumps.specs.Found.{Found}
 use Rattle.c_bodies.specs.declared.walker.Nest.{Nest}

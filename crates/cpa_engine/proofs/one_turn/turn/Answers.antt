@@ -1,5 +1,4 @@
-use Rattle.std.proofs.Common.{List, length, sym, ap, ◌∙◌, subst}
-use Rattle.cpa_model.specs.Automata.{IsStateOf, initial_state}
+use Rattle.std.proofs.Common.{length, sym, subst}
 use Rattle.cpa_composite.specs.Composites.{components}
 use Rattle.cpa_reached.specs.Entries.{ReachedSet, IsLive}
 use Rattle.cpa_reached.specs.Calls.{taken}

@@ -1,5 +1,4 @@
-use Rattle.std.proofs.Common.{◌+◌, ◌<◌, List, length, refl, sym, ap, subst}
-use Rattle.cpa_iface.specs.declared.entries.Entry.{Entry}
+use Rattle.std.proofs.Common.{◌+◌, refl}
 use Rattle.cpa_composite.specs.Composites.{components}
 use Rattle.cpa_engine.specs.Stages.{stage}
 use Rattle.cpa_engine.proofs.Chains.{leads_nowhere}

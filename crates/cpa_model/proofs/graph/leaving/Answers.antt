@@ -1,5 +1,5 @@
 -- The edges stand by the points that they leave, so two places part them.
-use Rattle.std.proofs.Common.{◌≤◌, List, length, ap, arith}
+use Rattle.std.proofs.Common.{List, length, ap, arith}
 use Rattle.cpa_model.specs.declared.automaton.Edge.{Edge}
 use Rattle.cpa_model.proofs.Edges.{few_edges, edges_by_from, first_to_last, stands_before}
 use Rattle.cpa_model.proofs.Edges.{stands_between}

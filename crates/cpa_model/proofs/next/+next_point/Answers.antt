@@ -1,6 +1,6 @@
-use Rattle.std.proofs.Common.{ℕ, ◌+◌, Some, IfSome, length, sym, ap, subst, arith, ◌∙◌}
+use Rattle.std.proofs.Common.{ℕ, Some, IfSome, sym, ap, subst, arith, ◌∙◌}
 use Rattle.cpa_model.specs.declared.program.Successor.TheVariants.{AfterWhole}
-use Rattle.cpa_model.specs.Programs.{Next, exit_of, next_body, next_within, next_whole}
+use Rattle.cpa_model.specs.Programs.{Next, next_body, next_within, next_whole}
 use Rattle.cpa_model.specs.Successors.{IsPartAt}
 use Rattle.std.proofs.lemmas.Option.{IfSome_then}
 use Rattle.cpa_model.specs.lemmas.Trees.{one_next, next_found, next_needs, next_of_whole}

@@ -1,5 +1,5 @@
-use Rattle.std.proofs.Common.{◌≡◌, false, slice_get, Some, ⊎_elim}
-use Rattle.std.proofs.lemmas.Bool.{cases_Bool, both_ways, iff_false}
+use Rattle.std.proofs.Common.{false, ⊎_elim}
+use Rattle.std.proofs.lemmas.Bool.{cases_Bool, iff_false}
 use Rattle.cpa_reached.specs.Members.{is_in}
 use Rattle.cpa_reached.specs.Entries.{numbers}
 use Rattle.cpa_reached.proofs.Keys.{places_rise, found_at}

@@ -1,7 +1,6 @@
-use Rattle.std.proofs.Common.{◌≡◌, ℕ, ◌+◌, ◌<◌, ◌≤◌, ◌^◌, sym, ◌∙◌, subst, arith}
+use Rattle.std.proofs.Common.{◌≡◌, ◌+◌, ◌<◌, ◌≤◌, ◌^◌, sym, ◌∙◌, arith}
 use Rattle.cpa_reached.specs.Entries.{IsLive}
 use Rattle.cpa_reached.specs.Kept.{depth_of}
-use Rattle.cpa_reached.specs.Members.{is_in}
 use Rattle.cpa_reached.proofs.Adding.{kept_added}
 use Rattle.cpa_reached.proofs.Climbing.{depth_read}
 use Rattle.cpa_reached.proofs.Keeping.{shallow_above}

@@ -1,7 +1,7 @@
 use Rattle.std.proofs.Common.{◌≡◌, ℕ, true, Some, slice_get, List, subst, sym}
 use Rattle.std.proofs.lemmas.Result.{on_ok_weaker, on_err_weaker}
 use Rattle.cpa_reached.specs.Members.{is_in}
-use Rattle.cpa_reached.specs.Kept.{at_link, lists, link_numbers}
+use Rattle.cpa_reached.specs.Kept.{at_link, lists}
 use Rattle.cpa_reached.specs.MemberLaws.{live_in}
 use Rattle.cpa_reached.proofs.Keeping.{kept_lists}
 use Rattle.cpa_reached.proofs.Tying.{now_named}

@@ -1,8 +1,6 @@
-use Rattle.std.proofs.Common.{◌≡◌, ℕ, ◌+◌, List, [], ◌∷◌, ◌++◌, subst, sym, arith}
+use Rattle.std.proofs.Common.{[], arith}
 use Rattle.std.proofs.lemmas.List.{reverse-reverse}
-use Rattle.cpa_reached.specs.Kept.{depth_of}
-use Rattle.cpa_reached.specs.Paths.{LeadsBack}
-use Rattle.cpa_reached.proofs.Climbing.{depth_read, traces_more, traced}
+use Rattle.cpa_reached.proofs.Climbing.{traces_more, traced}
 use Rattle.cpa_reached.proofs.tracing.path_to.Goals as goal
 
 pub up-preserved : goal.up-preserved

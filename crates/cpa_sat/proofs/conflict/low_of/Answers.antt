@@ -1,4 +1,4 @@
-use Rattle.std.proofs.Common.{◌≡◌, ◌≢◌, ◌<◌, ◌≤◌, ℕ, max, true, get_or, arith}
+use Rattle.std.proofs.Common.{◌≡◌, ◌≢◌, ◌<◌, ◌≤◌, ℕ, true, get_or, arith}
 use Rattle.std.proofs.lemmas.List.{get_or_default}
 use Rattle.cpa_cnf.specs.Literals.{opposite}
 use Rattle.cpa_cnf.specs.Marking.{marked}

@@ -1,4 +1,4 @@
-use Rattle.std.proofs.Common.{◌<◌, ℕ, ◌⊎◌, inl, inr, refl, arith}
+use Rattle.std.proofs.Common.{◌<◌, ℕ, inl, inr, refl, arith}
 use Rattle.cpa_sat.proofs.Conflicts.{still_asserting}
 use Rattle.cpa_sat.proofs.conflict.reduce_at.Goals as goal
 

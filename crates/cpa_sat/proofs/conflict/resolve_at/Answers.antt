@@ -1,4 +1,4 @@
-use Rattle.std.proofs.Common.{◌≡◌, ◌<◌, ℕ, length, get_or, ap, sym, ◌∙◌, subst}
+use Rattle.std.proofs.Common.{◌<◌, length, ap, sym, ◌∙◌, subst}
 use Rattle.std.specs.Prelude.{slice_index_or, []}
 use Rattle.std.proofs.lemmas.List.{get_or_read}
 use Rattle.cpa_cnf.specs.Literals.{opposite}

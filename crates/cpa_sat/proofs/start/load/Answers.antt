@@ -1,4 +1,4 @@
-use Rattle.std.proofs.Common.{◌≡◌, ◌<◌, ◌≤◌, List, ℕ, length, get_or, sym, ap, ◌∙◌, subst, arith}
+use Rattle.std.proofs.Common.{◌≡◌, ◌<◌, ◌≤◌, List, ℕ, length, get_or, subst, arith}
 use Rattle.cpa_cnf.specs.Lines.{AreBelow}
 use Rattle.cpa_sat.proofs.Loading.{at_item, small_literals, loaded_more, loaded_all}
 use Rattle.cpa_sat.proofs.start.load.Goals as goal

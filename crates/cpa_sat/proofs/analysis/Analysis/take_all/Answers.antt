@@ -1,4 +1,4 @@
-use Rattle.std.proofs.Common.{◌≡◌, ◌<◌, length, get_or, sym, ◌∙◌, subst, List, ℕ, arith}
+use Rattle.std.proofs.Common.{◌≡◌, ◌<◌, length, get_or, ◌∙◌, subst, List, ℕ, arith}
 use Rattle.cpa_sat.proofs.Marks.{taken_next, left_next}
 use Rattle.cpa_sat.proofs.analysis.Analysis.take_all.Goals as goal
 

@@ -1,4 +1,3 @@
-use Rattle.std.proofs.Common.{◌∙◌, sym}
 use Rattle.cpa_sat.proofs.Growth.{state_after, rank_keeps}
 use Rattle.cpa_sat.proofs.engine.Search.settle.Goals as goal
 

@@ -1,0 +1,169 @@
+-- The rules of each form of statement, by its parts (`opened`).
+use Rattle.std.proofs.Common.{◌≡◌, ℕ, List, [], ◌∷◌, ◌++◌, map, Option, None, Some, ap, sym, ◌∙◌}
+use Rattle.c_rules.specs.declared.typed.TypedDeclarator.{TypedDeclarator}
+use Rattle.c_rules.specs.declared.typed.TypedExpression.{TypedExpression}
+use Rattle.c_rules.specs.declared.typed.TypedForStart.{TypedForStart}
+use Rattle.c_rules.specs.declared.typed.TypedItem.{TypedItem, roll-TypedItem}
+use Rattle.c_rules.specs.declared.typed.TypedItem.TheVariants as item
+use Rattle.c_rules.specs.declared.typed.TypedItem.TheOpen.{TypedItem-F, TypedStatement-F}
+use Rattle.c_rules.specs.declared.typed.TypedItem.TheFolds.{fold-TypedItem, fold-TypedStatement}
+use Rattle.c_rules.specs.declared.typed.TypedItem.TheFolds.{map-TypedItem, map-TypedStatement}
+use Rattle.c_rules.specs.declared.typed.TypedItem.TheFolds.{fold-roll-TypedItem}
+use Rattle.c_rules.specs.declared.typed.TypedItem.TheFolds.{fold-roll-TypedStatement}
+use Rattle.c_rules.specs.declared.typed.TypedStatement.{TypedStatement, roll-TypedStatement}
+use Rattle.c_rules.specs.declared.typed.TypedStatement.TheVariants as tree
+use Rattle.c_core_rules.specs.declared.tree.CoreTree.TheVariants.{Node}
+use Rattle.c_core_rules.specs.declared.tree.Head.TheVariants as head
+use Rattle.c_core_rules.specs.declared.tree.Location.{Location}
+use Rattle.c_core_rules.specs.Trees.{Trees, leaf, block, choice, repeated}
+use Rattle.c_core_rules.specs.Cells.{Taken, Rule, gives, then_by, in_order}
+use Rattle.c_core_rules.specs.Expressions.{Frames, rows}
+use Rattle.c_core_rules.specs.Statements.{some_unused, started, left_unless, returned, declaration}
+use Rattle.c_core_rules.specs.Statements.{as_one, item_rule, item_step, statement_step}
+use Rattle.c_core_trees.specs.Items.{statement_rule, left, otherwise}
+
+opened : (frames : Frames) (result : Location) (s : TypedStatement)
+    (x : TypedStatement-F TypedItem TypedStatement) → roll-TypedStatement x ≡ s →
+    statement_rule frames result s ≡ statement_step frames result
+    (map-TypedStatement TypedItem TypedStatement (Rule Trees) (Rule Trees) (item_rule frames result)
+    (statement_rule frames result) x)
+unfolding statement_rule item_rule
+opened frames result s x is =
+    ap (fold-TypedStatement (Rule Trees) (Rule Trees) (item_step frames) (statement_step frames result))
+    (sym is)
+    ∙ fold-roll-TypedStatement (Rule Trees) (Rule Trees) (item_step frames)
+    (statement_step frames result) x
+
+opened_item : (frames : Frames) (result : Location) (i : TypedItem)
+    (x : TypedItem-F TypedItem TypedStatement) → roll-TypedItem x ≡ i →
+    item_rule frames result i ≡ item_step frames
+    (map-TypedItem TypedItem TypedStatement (Rule Trees) (Rule Trees) (item_rule frames result)
+    (statement_rule frames result) x)
+unfolding statement_rule item_rule
+opened_item frames result i x is =
+    ap (fold-TypedItem (Rule Trees) (Rule Trees) (item_step frames) (statement_step frames result))
+    (sym is)
+    ∙ fold-roll-TypedItem (Rule Trees) (Rule Trees) (item_step frames)
+    (statement_step frames result) x
+
+pub item_Declaration : (frames : Frames) (result : Location) (declarators : List TypedDeclarator)
+    (taken : Taken) →
+    item_rule frames result (item.Declaration declarators) taken
+    ≡ declaration frames declarators taken
+item_Declaration frames result declarators taken =
+    ap (λ (r : Rule Trees). r taken)
+    (opened_item frames result (item.Declaration declarators) (TypedItem-F.Declaration declarators)
+    (item.rolls-Declaration declarators))
+
+pub item_Statement : (frames : Frames) (result : Location) (s : TypedStatement)
+    (taken : Taken) →
+    item_rule frames result (item.Statement s) taken ≡ statement_rule frames result s taken
+item_Statement frames result s taken =
+    ap (λ (r : Rule Trees). r taken)
+    (opened_item frames result (item.Statement s) (TypedItem-F.Statement s)
+    (item.rolls-Statement s))
+
+pub statement_Block : (frames : Frames) (result : Location) (items : List TypedItem)
+    (taken : Taken) →
+    statement_rule frames result (tree.Block items) taken
+    ≡ as_one block (in_order (map (item_rule frames result) items)) taken
+statement_Block frames result items taken =
+    ap (λ (r : Rule Trees). r taken)
+    (opened frames result (tree.Block items) (TypedStatement-F.Block items) (tree.rolls-Block items))
+
+pub statement_Expression : (frames : Frames) (result : Location)
+    (expression : Option TypedExpression) (taken : Taken) →
+    statement_rule frames result (tree.Expression expression) taken
+    ≡ some_unused frames expression taken
+statement_Expression frames result expression taken =
+    ap (λ (r : Rule Trees). r taken)
+    (opened frames result (tree.Expression expression) (TypedStatement-F.Expression expression)
+    (tree.rolls-Expression expression))
+
+pub statement_If : (frames : Frames) (result : Location) (test : TypedExpression)
+    (first : TypedStatement) (second : Option TypedStatement) (taken : Taken) →
+    statement_rule frames result (tree.If test first second) taken
+    ≡ then_by (rows frames test).used (λ v. then_by (statement_rule frames result first) (λ a.
+    then_by (otherwise frames result second) (λ b.
+    gives (v.statements ++ choice v.value a b ∷ [])))) taken
+statement_If frames result test first None taken =
+    ap (λ (r : Rule Trees). r taken)
+    (opened frames result (tree.If test first None) (TypedStatement-F.If test first None)
+    (tree.rolls-If test first None))
+statement_If frames result test first (Some other) taken =
+    ap (λ (r : Rule Trees). r taken)
+    (opened frames result (tree.If test first (Some other)) (TypedStatement-F.If test first
+    (Some other))
+    (tree.rolls-If test first (Some other)))
+
+pub statement_While : (frames : Frames) (result : Location) (test : TypedExpression)
+    (body : TypedStatement) (taken : Taken) →
+    statement_rule frames result (tree.While test body) taken
+    ≡ then_by (left frames test) (λ head. then_by (statement_rule frames result body) (λ inside.
+    gives (repeated (head ++ inside) [] ∷ []))) taken
+statement_While frames result test body taken =
+    ap (λ (r : Rule Trees). r taken)
+    (opened frames result (tree.While test body) (TypedStatement-F.While test body)
+    (tree.rolls-While test body))
+
+pub statement_Do : (frames : Frames) (result : Location) (body : TypedStatement)
+    (test : TypedExpression) (taken : Taken) →
+    statement_rule frames result (tree.Do body test) taken
+    ≡ then_by (statement_rule frames result body) (λ inside. then_by (left frames test)
+    (λ behind. gives (repeated inside behind ∷ []))) taken
+statement_Do frames result body test taken =
+    ap (λ (r : Rule Trees). r taken)
+    (opened frames result (tree.Do body test) (TypedStatement-F.Do body test)
+    (tree.rolls-Do body test))
+
+pub statement_For : (frames : Frames) (result : Location) (first : TypedForStart)
+    (test : Option TypedExpression) (step : Option TypedExpression) (body : TypedStatement)
+    (taken : Taken) →
+    statement_rule frames result (tree.For first test step body) taken
+    ≡ then_by (started frames first) (λ before. then_by (left_unless frames test) (λ head.
+    then_by (statement_rule frames result body) (λ inside. then_by (some_unused frames step)
+    (λ behind.
+    gives (block (before ++ repeated (head ++ inside) behind ∷ []) ∷ []))))) taken
+statement_For frames result first test step body taken =
+    ap (λ (r : Rule Trees). r taken)
+    (opened frames result (tree.For first test step body)
+    (TypedStatement-F.For first test step body) (tree.rolls-For first test step body))
+
+pub statement_Goto : (frames : Frames) (result : Location) (label : ℕ) (taken : Taken) →
+    statement_rule frames result (tree.Goto label) taken
+    ≡ record { taken = taken; made = leaf (head.Goto label) ∷ [] }
+statement_Goto frames result label taken =
+    ap (λ (r : Rule Trees). r taken)
+    (opened frames result (tree.Goto label) (TypedStatement-F.Goto label) (tree.rolls-Goto label))
+
+pub statement_Break : (frames : Frames) (result : Location) (taken : Taken) →
+    statement_rule frames result tree.Break taken
+    ≡ record { taken = taken; made = leaf head.Break ∷ [] }
+statement_Break frames result taken =
+    ap (λ (r : Rule Trees). r taken)
+    (opened frames result tree.Break TypedStatement-F.Break tree.rolls-Break)
+
+pub statement_Continue : (frames : Frames) (result : Location) (taken : Taken) →
+    statement_rule frames result tree.Continue taken
+    ≡ record { taken = taken; made = leaf head.Continue ∷ [] }
+statement_Continue frames result taken =
+    ap (λ (r : Rule Trees). r taken)
+    (opened frames result tree.Continue TypedStatement-F.Continue tree.rolls-Continue)
+
+pub statement_Return : (frames : Frames) (result : Location) (value : Option TypedExpression)
+    (taken : Taken) →
+    statement_rule frames result (tree.Return value) taken
+    ≡ returned frames result value taken
+statement_Return frames result value taken =
+    ap (λ (r : Rule Trees). r taken)
+    (opened frames result (tree.Return value) (TypedStatement-F.Return value)
+    (tree.rolls-Return value))
+
+pub statement_Labeled : (frames : Frames) (result : Location) (label : ℕ) (body : TypedStatement)
+    (taken : Taken) →
+    statement_rule frames result (tree.Labeled label body) taken
+    ≡ as_one (Node head.Labeled) (statement_rule frames result body) taken
+statement_Labeled frames result label body taken =
+    ap (λ (r : Rule Trees). r taken)
+    (opened frames result (tree.Labeled label body) (TypedStatement-F.Labeled label body)
+    (tree.rolls-Labeled label body))

@@ -1,0 +1,13 @@
+-- What is left of a list makes what the whole makes.
+use Rattle.std.proofs.Common.{◌≡◌, drop, map}
+use Rattle.c_core_rules.specs.Cells.{in_order}
+use Rattle.c_core_rules.specs.Statements.{declared}
+use Rattle.c_core_values.specs.Found.{so_far}
+use Rattle.c_core_trees.specs.Rows.{in_behind}
+use Rattle.c_core_trees.proofs.statements.declaration.Given as goal
+
+abbrev pub invariant-loop-declarator : goal.invariant-loop-declarator
+invariant-loop-declarator l =
+    in_behind l.before (map (declared l.frames) (drop l.declarator-index l.declarators))
+    (so_far l.cells)
+    ≡ in_order (map (declared l.frames) l.declarators) (so_far l.fn.cells)

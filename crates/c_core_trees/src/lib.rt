@@ -1,0 +1,12 @@
+//! The trees of core statements that a typed text becomes. The rules are those of `c_core_rules`,
+//! one function for each.
+#![tactic(auto)]
+
+mod calls;
+mod expressions;
+mod frames;
+mod functions;
+mod names;
+mod statements;
+
+pub use functions::{TextTrees, text_trees};

@@ -1,0 +1,416 @@
+//! The core of statements (`statement_step` of `c_core_rules`, `specs/Statements.antt`), part by
+//! part. Proved with the lemmas of `proofs/StatementForms.antt` and `proofs/InOrder.antt`.
+ghost use Rattle.std.specs.Prelude.{◌≡◌, ◌+◌, ◌++◌, ◌∷◌, [], map, OnOk, IfOk};
+ghost use Rattle.c_core_rules.specs.Cells.{in_order};
+ghost use Rattle.c_core_rules.specs.Statements.{some_unused, initialized, inputs, zeros};
+ghost use Rattle.c_core_rules.specs.Statements.{initialized_each, initializing, declared};
+ghost use Rattle.c_core_rules.specs.Statements.{declaration, started, leaving, left_unless};
+ghost use Rattle.c_core_rules.specs.Statements.{returned, item_rule};
+ghost use Rattle.c_core_rules.specs.Trees.{set, block, repeated};
+ghost use Rattle.c_core_rules.specs.declared.tree.CoreTree.TheVariants.{Node};
+ghost use Rattle.c_core_rules.specs.declared.tree.Head.TheVariants as head;
+ghost use Rattle.c_core_values.specs.Found.{so_far};
+ghost use Rattle.c_core_trees.specs.Items.{statement_rule, left};
+
+use crate::expressions::{chosen_unused, unused, used};
+use crate::frames::Frames;
+use c_core_rules::{CoreTree, Head, Location, Valued};
+use c_core_values::{
+    Cells, block, cell_at, cells_of, constant, input, joined, leaf, list_of, repeated, set, with,
+};
+use c_rules::{
+    Object, TypedDeclarator, TypedExpression, TypedForStart, TypedInitializer, TypedItem,
+    TypedStatement,
+};
+use cpa_ints::{IntType, Seq};
+use std::alloc::{AllocError, Global};
+
+/// An expression that may be left out, its value not used.
+fn some_unused(
+    cells: &mut Cells,
+    frames: &Frames,
+    e: &Option<TypedExpression>,
+) -> Result<Seq<CoreTree>, AllocError>
+    ensures taken { OnOk result (so_far cells.new
+        ≡ (some_unused frames.now e.now (so_far cells.old)).taken) }
+    ensures made { IfOk result (λ trees. trees
+        ≡ (some_unused frames.now e.now (so_far cells.old)).made) }
+{
+    match e {
+        None => Ok(Seq::new(frames.alloc())),
+        Some(e) => unused(cells, frames, e),
+    }
+}
+
+/// A write of a value to a cell behind its statements.
+fn stored(alloc: Global, place: Location, v: Valued) -> Result<Seq<CoreTree>, AllocError>
+    ensures { IfOk result (λ trees. trees ≡ v.statements ++ set place v.value ∷ []) }
+{
+    let written = set(alloc, place, v.value)?;
+    with(v.statements, written)
+}
+
+/// A write of an expression to a cell.
+fn initialized(
+    cells: &mut Cells,
+    frames: &Frames,
+    place: Location,
+    value: &TypedExpression,
+) -> Result<Seq<CoreTree>, AllocError>
+    ensures taken { OnOk result (so_far cells.new
+        ≡ (initialized frames.now place value.now (so_far cells.old)).taken) }
+    ensures made { IfOk result (λ trees. trees
+        ≡ (initialized frames.now place value.now (so_far cells.old)).made) }
+{
+    let v = used(cells, frames, value)?;
+    stored(frames.alloc(), place, v)
+}
+
+/// The cell behind so many others.
+pub(crate) fn cell_behind(first: u32, count: u128) -> Result<u32, AllocError>
+    ensures { IfOk result (λ cell. cell ≡ first + count) }
+{
+    let cell = u128::from(first).checked_add(count).ok_or(AllocError)?;
+    u32::try_from(cell).ok().ok_or(AllocError)
+}
+
+/// An input of each of so many cells from one on.
+#[tactic(auto, using(crate::proofs::Runs::input_more, crate::proofs::Runs::input_none))]
+fn inputs(alloc: Global, first: u32, count: u128) -> Result<Seq<CoreTree>, AllocError>
+    ensures { IfOk result (λ trees. trees ≡ inputs first count) }
+{
+    let mut trees = Seq::new(alloc);
+    for place in 0..count {
+        let cell = cell_behind(first, place)?;
+        trees.push(input(alloc, cell))?;
+    }
+    Ok(trees)
+}
+
+/// A write of 0 to each of so many cells from one on.
+#[tactic(auto, using(crate::proofs::Runs::zero_more, crate::proofs::Runs::zero_none))]
+fn zeros(alloc: Global, ty: IntType, first: u32, count: u128) -> Result<Seq<CoreTree>, AllocError>
+    ensures { IfOk result (λ trees. trees ≡ zeros ty first count) }
+{
+    let mut trees = Seq::new(alloc);
+    for place in 0..count {
+        let cell = cell_behind(first, place)?;
+        trees.push(set(alloc, cell_at(ty, cell), constant(ty, 0))?)?;
+    }
+    Ok(trees)
+}
+
+/// An expression for each cell from one on.
+#[tactic(auto, using(crate::proofs::InOrder::in_first))]
+fn initialized_each(
+    cells: &mut Cells,
+    frames: &Frames,
+    ty: IntType,
+    first: u32,
+    values: &[TypedExpression],
+) -> Result<Seq<CoreTree>, AllocError>
+    ensures taken { OnOk result (so_far cells.new
+        ≡ (in_order (initialized_each frames.now ty first values.now) (so_far cells.old)).taken) }
+    ensures made { IfOk result (λ trees. trees
+        ≡ (in_order (initialized_each frames.now ty first values.now) (so_far cells.old)).made) }
+{
+    let mut before = Seq::new(frames.alloc());
+    let mut cell = first;
+    for value in values {
+        let trees = initialized(cells, frames, cell_at(ty, cell), value)?;
+        before = joined(before, trees)?;
+        cell = cell_behind(cell, 1)?;
+    }
+    Ok(before)
+}
+
+/// What an object starts with whose cells begin here.
+fn initializing(
+    cells: &mut Cells,
+    frames: &Frames,
+    object: Object,
+    initializer: &Option<TypedInitializer>,
+    first: u32,
+) -> Result<Seq<CoreTree>, AllocError>
+    ensures taken { OnOk result (so_far cells.new
+        ≡ (initializing frames.now object initializer.now first (so_far cells.old)).taken) }
+    ensures made { IfOk result (λ trees. trees
+        ≡ (initializing frames.now object initializer.now first (so_far cells.old)).made) }
+{
+    match initializer {
+        None => inputs(frames.alloc(), first, cells_of(object)),
+        Some(TypedInitializer::Scalar(value)) => {
+            initialized(cells, frames, cell_at(object.ty, first), value)
+        }
+        Some(TypedInitializer::List(items)) => {
+            let before = initialized_each(cells, frames, object.ty, first, items.as_slice())?;
+            let count = items.len() as u128;
+            let behind = cell_behind(first, count)?;
+            let left = cells_of(object).saturating_sub(count);
+            let zeros = zeros(frames.alloc(), object.ty, behind, left)?;
+            joined(before, zeros)
+        }
+    }
+}
+
+/// An object that is declared.
+fn declared(
+    cells: &mut Cells,
+    frames: &Frames,
+    declarator: &TypedDeclarator,
+) -> Result<Seq<CoreTree>, AllocError>
+    ensures taken { OnOk result (so_far cells.new
+        ≡ (declared frames.now declarator.now (so_far cells.old)).taken) }
+    ensures made { IfOk result (λ trees. trees
+        ≡ (declared frames.now declarator.now (so_far cells.old)).made) }
+{
+    let object = declarator.object;
+    let first = cells.take(object, &[])?;
+    initializing(cells, frames, object, &declarator.initializer, first)
+}
+
+/// A declaration.
+#[tactic(auto, using(crate::proofs::InOrder::in_first))]
+fn declaration(
+    cells: &mut Cells,
+    frames: &Frames,
+    declarators: &[TypedDeclarator],
+) -> Result<Seq<CoreTree>, AllocError>
+    ensures taken { OnOk result (so_far cells.new
+        ≡ (declaration frames.now declarators.now (so_far cells.old)).taken) }
+    ensures made { IfOk result (λ trees. trees
+        ≡ (declaration frames.now declarators.now (so_far cells.old)).made) }
+{
+    let mut before = Seq::new(frames.alloc());
+    for declarator in declarators {
+        let trees = declared(cells, frames, declarator)?;
+        before = joined(before, trees)?;
+    }
+    Ok(before)
+}
+
+/// The first part of a `for`.
+fn started(
+    cells: &mut Cells,
+    frames: &Frames,
+    start: &TypedForStart,
+) -> Result<Seq<CoreTree>, AllocError>
+    ensures taken { OnOk result (so_far cells.new
+        ≡ (started frames.now start.now (so_far cells.old)).taken) }
+    ensures made { IfOk result (λ trees. trees
+        ≡ (started frames.now start.now (so_far cells.old)).made) }
+{
+    match start {
+        TypedForStart::Declaration(declarators) => {
+            declaration(cells, frames, declarators.as_slice())
+        }
+        TypedForStart::Expression(e) => some_unused(cells, frames, e),
+    }
+}
+
+/// The way out of a loop where a test does not hold.
+fn leaving(alloc: Global, test: Valued) -> Result<Seq<CoreTree>, AllocError>
+    ensures { IfOk result (λ trees. trees ≡ leaving test) }
+{
+    let nothing = Seq::new(alloc);
+    let end = list_of(alloc, leaf(alloc, Head::Break))?;
+    chosen_unused(alloc, test, nothing, end)
+}
+
+/// The same of an expression.
+fn left(
+    cells: &mut Cells,
+    frames: &Frames,
+    test: &TypedExpression,
+) -> Result<Seq<CoreTree>, AllocError>
+    ensures taken { OnOk result (so_far cells.new
+        ≡ (left frames.now test.now (so_far cells.old)).taken) }
+    ensures made { IfOk result (λ trees. trees
+        ≡ (left frames.now test.now (so_far cells.old)).made) }
+{
+    let v = used(cells, frames, test)?;
+    leaving(frames.alloc(), v)
+}
+
+/// The same of a test that may be left out.
+fn left_unless(
+    cells: &mut Cells,
+    frames: &Frames,
+    test: &Option<TypedExpression>,
+) -> Result<Seq<CoreTree>, AllocError>
+    ensures taken { OnOk result (so_far cells.new
+        ≡ (left_unless frames.now test.now (so_far cells.old)).taken) }
+    ensures made { IfOk result (λ trees. trees
+        ≡ (left_unless frames.now test.now (so_far cells.old)).made) }
+{
+    match test {
+        None => Ok(Seq::new(frames.alloc())),
+        Some(test) => left(cells, frames, test),
+    }
+}
+
+/// A loop, as a list.
+fn looped(
+    alloc: Global,
+    body: Seq<CoreTree>,
+    step: Seq<CoreTree>,
+) -> Result<Seq<CoreTree>, AllocError>
+    ensures { IfOk result (λ trees. trees ≡ repeated body step ∷ []) }
+{
+    let tree = repeated(alloc, body, step)?;
+    list_of(alloc, tree)
+}
+
+/// A `for`, as a list.
+fn counted_loop(
+    alloc: Global,
+    before: Seq<CoreTree>,
+    body: Seq<CoreTree>,
+    step: Seq<CoreTree>,
+) -> Result<Seq<CoreTree>, AllocError>
+    ensures { IfOk result (λ trees. trees ≡ block (before ++ repeated body step ∷ []) ∷ []) }
+{
+    let turns = repeated(alloc, body, step)?;
+    let inside = with(before, turns)?;
+    list_of(alloc, block(inside))
+}
+
+/// A return.
+fn returned(
+    cells: &mut Cells,
+    frames: &Frames,
+    place: Location,
+    value: &Option<TypedExpression>,
+) -> Result<Seq<CoreTree>, AllocError>
+    ensures taken { OnOk result (so_far cells.new
+        ≡ (returned frames.now place value.now (so_far cells.old)).taken) }
+    ensures made { IfOk result (λ trees. trees
+        ≡ (returned frames.now place value.now (so_far cells.old)).made) }
+{
+    let leave = leaf(frames.alloc(), Head::Leave);
+    match value {
+        None => list_of(frames.alloc(), leave),
+        Some(value) => {
+            let before = initialized(cells, frames, place, value)?;
+            with(before, leave)
+        }
+    }
+}
+
+/// A statement of a function with its result in this place.
+#[cycle(statement)]
+#[tactic(auto, using(crate::proofs::StatementForms::statement_Block, crate::proofs::StatementForms::statement_Expression, crate::proofs::StatementForms::statement_If, crate::proofs::StatementForms::statement_While, crate::proofs::StatementForms::statement_Do, crate::proofs::StatementForms::statement_For, crate::proofs::StatementForms::statement_Goto, crate::proofs::StatementForms::statement_Break, crate::proofs::StatementForms::statement_Continue, crate::proofs::StatementForms::statement_Return, crate::proofs::StatementForms::statement_Labeled))]
+fn statement(
+    cells: &mut Cells,
+    frames: &Frames,
+    place: Location,
+    s: &TypedStatement,
+) -> Result<Seq<CoreTree>, AllocError>
+    ensures taken { OnOk result (so_far cells.new
+        ≡ (statement_rule frames.now place s.now (so_far cells.old)).taken) }
+    ensures made { IfOk result (λ trees. trees
+        ≡ (statement_rule frames.now place s.now (so_far cells.old)).made) }
+{
+    let alloc = frames.alloc();
+    match s {
+        TypedStatement::Block { items } => {
+            let inside = in_order(cells, frames, place, items.as_slice())?;
+            list_of(alloc, block(inside))
+        }
+        TypedStatement::Expression { expression } => some_unused(cells, frames, expression),
+        TypedStatement::If { test, yes, no } => {
+            let v = used(cells, frames, test)?;
+            let first = statement(cells, frames, place, yes.get())?;
+            match no {
+                None => chosen_unused(alloc, v, first, Seq::new(alloc)),
+                Some(no) => {
+                    let second = statement(cells, frames, place, no.get())?;
+                    chosen_unused(alloc, v, first, second)
+                }
+            }
+        }
+        TypedStatement::While { test, body } => {
+            let head = left(cells, frames, test)?;
+            let inside = statement(cells, frames, place, body.get())?;
+            looped(alloc, joined(head, inside)?, Seq::new(alloc))
+        }
+        TypedStatement::Do { body, test } => {
+            let inside = statement(cells, frames, place, body.get())?;
+            let behind = left(cells, frames, test)?;
+            looped(alloc, inside, behind)
+        }
+        TypedStatement::For {
+            start,
+            test,
+            step,
+            body,
+        } => {
+            let before = started(cells, frames, start)?;
+            let head = left_unless(cells, frames, test)?;
+            let inside = statement(cells, frames, place, body.get())?;
+            let behind = some_unused(cells, frames, step)?;
+            counted_loop(alloc, before, joined(head, inside)?, behind)
+        }
+        TypedStatement::Goto { label } => list_of(alloc, leaf(alloc, Head::Goto { label: *label })),
+        TypedStatement::Break => list_of(alloc, leaf(alloc, Head::Break)),
+        TypedStatement::Continue => list_of(alloc, leaf(alloc, Head::Continue)),
+        TypedStatement::Return { value } => returned(cells, frames, place, value),
+        TypedStatement::Labeled { body, .. } => {
+            let inside = statement(cells, frames, place, body.get())?;
+            labeled(alloc, inside)
+        }
+    }
+}
+
+/// The statement of a label, as a list.
+fn labeled(alloc: Global, inside: Seq<CoreTree>) -> Result<Seq<CoreTree>, AllocError>
+    ensures { IfOk result (λ trees. trees ≡ Node head.Labeled inside ∷ []) }
+{
+    let tree = CoreTree::Node {
+        head: Head::Labeled,
+        parts: inside,
+    };
+    list_of(alloc, tree)
+}
+
+/// Items of a block, in order.
+#[cycle(statement)]
+#[tactic(auto, using(crate::proofs::InOrder::in_first))]
+pub(crate) fn in_order(
+    cells: &mut Cells,
+    frames: &Frames,
+    place: Location,
+    items: &[TypedItem],
+) -> Result<Seq<CoreTree>, AllocError>
+    ensures taken { OnOk result (so_far cells.new
+        ≡ (in_order (map (item_rule frames.now place) items.now) (so_far cells.old)).taken) }
+    ensures made { IfOk result (λ trees. trees
+        ≡ (in_order (map (item_rule frames.now place) items.now) (so_far cells.old)).made) }
+{
+    let mut before = Seq::new(frames.alloc());
+    for item in items {
+        let trees = item_trees(cells, frames, place, item)?;
+        before = joined(before, trees)?;
+    }
+    Ok(before)
+}
+
+/// An item of a block.
+#[cycle(statement)]
+#[tactic(auto, using(crate::proofs::StatementForms::item_Declaration, crate::proofs::StatementForms::item_Statement))]
+fn item_trees(
+    cells: &mut Cells,
+    frames: &Frames,
+    place: Location,
+    item: &TypedItem,
+) -> Result<Seq<CoreTree>, AllocError>
+    ensures taken { OnOk result (so_far cells.new
+        ≡ (item_rule frames.now place item.now (so_far cells.old)).taken) }
+    ensures made { IfOk result (λ trees. trees
+        ≡ (item_rule frames.now place item.now (so_far cells.old)).made) }
+{
+    match item {
+        TypedItem::Declaration(declarators) => declaration(cells, frames, declarators.as_slice()),
+        TypedItem::Statement(s) => statement(cells, frames, place, s),
+    }
+}
