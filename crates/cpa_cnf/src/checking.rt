@@ -190,7 +190,7 @@ pub fn check_line(cnf: &Cnf, log: &[Line], i: u32, marks: &mut Marks) -> bool
 {
     let i = i as usize;
     let line = &log[i];
-    if !is_in_range(cnf.vars, cnf.clauses.len() + i, line) {
+    if !is_in_range(cnf.vars, cnf.clauses.as_slice().len() + i, line) {
         return false;
     }
     check(cnf, &log[..i], line, &mut marks.table)
