@@ -33,13 +33,12 @@ use Rattle.c_core_laws.proofs.Heights.{truth_type, truth_height, int_type_is, in
 use Rattle.c_core_laws.proofs.Heights.{same_self, type_same}
 use Rattle.c_core_laws.proofs.Heights.{constant_and, constant_or, constant_not, constant_un}
 use Rattle.c_core_laws.proofs.Heights.{constant_cond}
-use Rattle.c_core_laws.proofs.Following.{Follows, of_values, of_trees, Settled, unsettled, seen}
+use Rattle.c_core_laws.proofs.Following.{Follows, of_values, of_trees, seen}
 use Rattle.c_core_laws.proofs.Following.{trees_size, tree_size, given}
 use Rattle.c_core_laws.proofs.Sized.{behind_sized, set_sized, choice_sized, nil_points}
 use Rattle.c_core_laws.proofs.Sized.{joined_sized}
 use Rattle.c_core_laws.proofs.Sized.{only_sized}
 use Rattle.c_core_laws.proofs.Rules.{seen_is, followed, either, recounted, freshly, of_lists}
-use Rattle.c_core_laws.proofs.Rules.{AllHold}
 
 -- a scalar that is read behind statements
 pub scalar_seen : (statements : Trees) (place : Location) (size : Size) →
@@ -50,11 +49,6 @@ scalar_seen statements place size is =
     (element_type place first_index)
     (element_height place first_index ∙ ap counts.of_element first_height)
     (constant_element place first_index)
-
-pub scalar_settled : (statements : Trees) (place : Location) →
-    Settled (valued statements (scalar place))
-scalar_settled statements place =
-    unsettled (valued statements (scalar place)) (constant_element place first_index)
 
 tall_positive : (v : Expr) (t : IntType) → max 1 (tall v t) ≡ tall v t
 tall_positive v t = omega (arith, height_positive (conv v t), conv_height v t)
@@ -80,19 +74,17 @@ held_follows v =
     (cell_at (type_of v.value) n) (both (trees_size v.statements) (one (height v.value)))
     (behind_sized v.statements (set (cell_at (type_of v.value) n) v.value) (one (height v.value))
     (set_own (cell_at (type_of v.value) n) v.value refl)))
-    (λ n. scalar_settled (v.statements ++ set (cell_at (type_of v.value) n) v.value ∷ [])
-    (cell_at (type_of v.value) n))
 
-pub kept_follows : (v : Valued) → Settled v → Follows of_values (core.gives v) (counts.gives
+pub kept_follows : (v : Valued) → Follows of_values (core.gives v) (counts.gives
     (seen v))
-kept_follows v settled = given of_values v (seen v) refl settled
+kept_follows v = given of_values v (seen v) refl
 
-pub held_before_follows : (v later : Valued) → Settled v →
+pub held_before_follows : (v later : Valued) →
     Follows of_values (acts.held_before v later) (counts.held_before (seen v) (seen later))
-held_before_follows v later settled =
+held_before_follows v later =
     either (acts.is_pure later) (counts.is_empty (seen later)) (core.gives v) (acts.held v)
     (counts.gives (seen v)) (counts.held (seen v)) (nil_points later.statements)
-    (kept_follows v settled) (held_follows v)
+    (kept_follows v) (held_follows v)
 
 abbrev some_more : Bool → Bool → Bool
 some_more b more = elim b [ true ↦ more | false ↦ true ]
@@ -103,18 +95,18 @@ have_same (v ∷ vs) =
     ap (λ b. some_more b (acts.have_statements vs)) (nil_points v.statements)
     ∙ ap (some_more (counts.is_empty (seen v))) (have_same vs)
 
-pub hold_all_follows : (vs : List Valued) → AllHold Settled vs →
+pub hold_all_follows : (vs : List Valued) →
     Follows (of_lists of_values) (acts.hold_all vs) (counts.hold_all (map seen vs))
-hold_all_follows [] all = given (of_lists of_values) [] [] refl tt
-hold_all_follows (v ∷ vs) all =
+hold_all_follows [] = given (of_lists of_values) [] [] refl
+hold_all_follows (v ∷ vs) =
     followed (λ first. core.then_by (acts.hold_all vs) (λ rest. core.gives (first ∷ rest)))
     (λ first. counts.then_by (counts.hold_all (map seen vs)) (λ rest. counts.gives (first ∷ rest)))
     (either (acts.have_statements vs) (counts.have_statements (map seen vs)) (acts.held v)
     (core.gives v) (counts.held (seen v)) (counts.gives (seen v)) (have_same vs) (held_follows v)
-    (kept_follows v all.0))
-    (λ x is. followed (λ rest. core.gives (x ∷ rest)) (λ rest. counts.gives (seen x ∷ rest))
-    (hold_all_follows vs all.1)
-    (λ xs are. given (of_lists of_values) (x ∷ xs) (seen x ∷ map seen xs) refl (is, are)))
+    (kept_follows v))
+    (λ x. followed (λ rest. core.gives (x ∷ rest)) (λ rest. counts.gives (seen x ∷ rest))
+    (hold_all_follows vs)
+    (λ xs. given (of_lists of_values) (x ∷ xs) (seen x ∷ map seen xs) refl))
 
 pub operated_seen : (operator : BinaryOperator) (left right : Valued) →
     seen (acts.operated operator left right) ≡ counts.operated operator (seen left) (seen right)
@@ -123,12 +115,6 @@ operated_seen operator left right =
     (joined_sized left.statements right.statements)
     (operator_type operator left.value right.value)
     (operator_height operator left.value right.value)
-    (operator_constant operator left.value right.value)
-
-pub operated_settled : (operator : BinaryOperator) (left right : Valued) →
-    Settled (acts.operated operator left right)
-operated_settled operator left right =
-    unsettled (acts.operated operator left right)
     (operator_constant operator left.value right.value)
 
 -- t := !!v, and t := n, for a t of type int
@@ -167,8 +153,7 @@ both_hold_follows left right =
     (given of_values pair simple
     (seen_is pair simple refl (type_at_variants.conjunction left.value right.value)
     (height_at_variants.conjunction left.value right.value ∙ omega arith)
-    (constant_and left.value right.value))
-    (unsettled pair (constant_and left.value right.value)))
+    (constant_and left.value right.value)))
     (freshly of_values ty.I32 made (counts.scalar whole ty.I32)
     (λ n. scalar_seen (made (cell_at ty.I32 n)).statements (cell_at ty.I32 n) whole
     (chosen_sized left.statements left.value
@@ -176,8 +161,7 @@ both_hold_follows left right =
     (set (cell_at ty.I32 n) (int 0) ∷ []) s (one counts.of_constant)
     (behind_sized right.statements (set (cell_at ty.I32 n) (truth_of right.value))
     (one (height right.value + 2)) (truth_set n right.value))
-    (only_sized (set (cell_at ty.I32 n) (int 0)) ∙ int_set n 0)))
-    (λ n. scalar_settled (made (cell_at ty.I32 n)).statements (cell_at ty.I32 n)))
+    (only_sized (set (cell_at ty.I32 n) (int 0)) ∙ int_set n 0))))
 
 swapped : (h : ℕ) (a b : Size) → counts.choice h a b ≡ counts.choice h b a
 swapped h a b = ap (both (one h)) (both_comm (counts.block a) (counts.block b))
@@ -200,8 +184,7 @@ one_holds_follows left right =
     (given of_values pair simple
     (seen_is pair simple refl (type_at_variants.disjunction left.value right.value)
     (height_at_variants.disjunction left.value right.value ∙ omega arith)
-    (constant_or left.value right.value))
-    (unsettled pair (constant_or left.value right.value)))
+    (constant_or left.value right.value)))
     (freshly of_values ty.I32 made (counts.scalar whole ty.I32)
     (λ n. scalar_seen (made (cell_at ty.I32 n)).statements (cell_at ty.I32 n) whole
     (chosen_sized left.statements left.value (set (cell_at ty.I32 n) (int 1) ∷ [])
@@ -211,52 +194,48 @@ one_holds_follows left right =
     (behind_sized right.statements (set (cell_at ty.I32 n) (truth_of right.value))
     (one (height right.value + 2)) (truth_set n right.value))
     ∙ ap (both (trees_size left.statements)) (swapped (height left.value)
-    (one counts.of_constant) s)))
-    (λ n. scalar_settled (made (cell_at ty.I32 n)).statements (cell_at ty.I32 n)))
+    (one counts.of_constant) s))))
 
-operands_follow : (operator : BinaryOperator) (left right : Valued) → Settled left →
+operands_follow : (operator : BinaryOperator) (left right : Valued) → 
     Follows of_values
     (core.then_by (acts.held_before left right) (λ first. core.gives
     (acts.operated operator first right)))
     (counts.then_by (counts.held_before (seen left) (seen right))
     (λ first. counts.gives (counts.operated operator first (seen right))))
-operands_follow operator left right settled =
+operands_follow operator left right =
     followed (λ first. core.gives (acts.operated operator first right))
     (λ first. counts.gives (counts.operated operator first (seen right)))
-    (held_before_follows left right settled)
-    (λ v is. given of_values (acts.operated operator v right)
-    (counts.operated operator (seen v) (seen right)) (operated_seen operator v right)
-    (operated_settled operator v right))
+    (held_before_follows left right)
+    (λ v. given of_values (acts.operated operator v right)
+    (counts.operated operator (seen v) (seen right)) (operated_seen operator v right))
 
-pub linked_follows : (operator : BinaryOperator) (left right : Valued) → Settled left →
+pub linked_follows : (operator : BinaryOperator) (left right : Valued) → 
     Follows of_values (acts.linked operator left right)
     (counts.linked operator (seen left) (seen right))
-linked_follows binary.LogicalAnd left right settled = both_hold_follows left right
-linked_follows binary.LogicalOr left right settled = one_holds_follows left right
-linked_follows binary.BitOr left right settled = operands_follow binary.BitOr left right settled
-linked_follows binary.BitXor left right settled = operands_follow binary.BitXor left right settled
-linked_follows binary.BitAnd left right settled = operands_follow binary.BitAnd left right settled
-linked_follows binary.Equal left right settled = operands_follow binary.Equal left right settled
-linked_follows binary.NotEqual left right settled =
-    operands_follow binary.NotEqual left right settled
-linked_follows binary.Less left right settled = operands_follow binary.Less left right settled
-linked_follows binary.Greater left right settled = operands_follow binary.Greater left right settled
-linked_follows binary.LessEqual left right settled =
-    operands_follow binary.LessEqual left right settled
-linked_follows binary.GreaterEqual left right settled =
-    operands_follow binary.GreaterEqual left right settled
-linked_follows binary.ShiftLeft left right settled =
-    operands_follow binary.ShiftLeft left right settled
-linked_follows binary.ShiftRight left right settled =
-    operands_follow binary.ShiftRight left right settled
-linked_follows binary.Add left right settled = operands_follow binary.Add left right settled
-linked_follows binary.Subtract left right settled =
-    operands_follow binary.Subtract left right settled
-linked_follows binary.Multiply left right settled =
-    operands_follow binary.Multiply left right settled
-linked_follows binary.Divide left right settled = operands_follow binary.Divide left right settled
-linked_follows binary.Remainder left right settled =
-    operands_follow binary.Remainder left right settled
+linked_follows binary.LogicalAnd left right = both_hold_follows left right
+linked_follows binary.LogicalOr left right = one_holds_follows left right
+linked_follows binary.BitOr left right = operands_follow binary.BitOr left right
+linked_follows binary.BitXor left right = operands_follow binary.BitXor left right
+linked_follows binary.BitAnd left right = operands_follow binary.BitAnd left right
+linked_follows binary.Equal left right = operands_follow binary.Equal left right
+linked_follows binary.NotEqual left right = operands_follow binary.NotEqual left right
+linked_follows binary.Less left right = operands_follow binary.Less left right
+linked_follows binary.Greater left right = operands_follow binary.Greater left right
+linked_follows binary.LessEqual left right = operands_follow binary.LessEqual left right
+linked_follows binary.GreaterEqual left right = operands_follow binary.GreaterEqual left right
+linked_follows binary.ShiftLeft left right = operands_follow binary.ShiftLeft left right
+linked_follows binary.ShiftRight left right = operands_follow binary.ShiftRight left right
+linked_follows binary.Add left right = operands_follow binary.Add left right
+linked_follows binary.Subtract left right = operands_follow binary.Subtract left right
+linked_follows binary.Multiply left right = operands_follow binary.Multiply left right
+linked_follows binary.Divide left right = operands_follow binary.Divide left right
+linked_follows binary.Remainder left right = operands_follow binary.Remainder left right
+
+-- a value converted to a type
+pub cast_seen : (t : IntType) (v : Valued) → seen (acts.cast_to t v) ≡ counts.cast_to t (seen v)
+cast_seen t v =
+    seen_is (acts.cast_to t v) (counts.cast_to t (seen v)) refl (conv_type v.value t)
+    (conv_height v.value t) (conv_constant v.value t)
 
 -- + - ~ !
 un_seen : (o : UnOp) (v : Valued) →
@@ -272,66 +251,23 @@ un_seen o v =
     ∙ omega arith)
     (constant_un o p (promote v.value))
 
-both_false : (b : Bool) → (if b then false else false) ≡ false
-both_false true = refl
-both_false false = refl
-
--- a constant that is promoted is one still
-promoted_constant : (b : Bool) (e : Expr) (t : IntType) → is_constant e ≡ b →
-    (is_constant e ≡ true → t ≡ type_of e) →
-    (if same_type (type_of e) t then b else false) ≡ b
-promoted_constant true e t is settled =
-    ap (λ u. if same_type (type_of e) u then true else false) (settled is)
-    ∙ ap (λ c. if c then true else false) (same_self (type_of e))
-promoted_constant false e t is settled = both_false (same_type (type_of e) t)
-
-pub signed_follows : (operator : UnaryOperator) (v : Valued) → Settled v →
+pub signed_follows : (operator : UnaryOperator) (v : Valued) →
     Follows of_values (core.gives (acts.signed operator v))
     (counts.gives (counts.signed operator (seen v)))
-signed_follows unary.Plus v settled =
-    let p = promoted (type_of v.value) in
-    let made = valued v.statements (promote v.value) in
-    let kept : is_constant (promote v.value) ≡ is_constant v.value =
-    conv_constant v.value p ∙ promoted_constant (is_constant v.value) v.value p refl settled in
-    given of_values made (counts.signed unary.Plus (seen v))
-    (seen_is made (counts.signed unary.Plus (seen v)) refl (conv_type v.value p)
-    (conv_height v.value p) kept)
-    (λ so. let old : p ≡ type_of v.value = settled (sym kept ∙ so) in
-    ap promoted (conv_type v.value p) ∙ ap promoted old ∙ sym (conv_type v.value p))
-signed_follows unary.Minus v settled =
+signed_follows unary.Plus v =
+    given of_values (acts.signed unary.Plus v) (counts.signed unary.Plus (seen v))
+    (cast_seen (promoted (type_of v.value)) v)
+signed_follows unary.Minus v =
     given of_values (acts.signed unary.Minus v) (counts.signed unary.Minus (seen v))
     (un_seen un.Neg v)
-    (unsettled (acts.signed unary.Minus v)
-    (constant_un un.Neg (promoted (type_of v.value)) (promote v.value)))
-signed_follows unary.Complement v settled =
+signed_follows unary.Complement v =
     given of_values (acts.signed unary.Complement v) (counts.signed unary.Complement (seen v))
     (un_seen un.Flip v)
-    (unsettled (acts.signed unary.Complement v)
-    (constant_un un.Flip (promoted (type_of v.value)) (promote v.value)))
-signed_follows unary.Not v settled =
+signed_follows unary.Not v =
     given of_values (acts.signed unary.Not v) (counts.signed unary.Not (seen v))
     (seen_is (acts.signed unary.Not v) (counts.signed unary.Not (seen v)) refl
     (type_at_variants.negation v.value) (height_at_variants.negation v.value ∙ omega arith)
     (constant_not v.value))
-    (unsettled (acts.signed unary.Not v) (constant_not v.value))
-
--- a value converted to a type
-pub cast_seen : (t : IntType) (v : Valued) → seen (acts.cast_to t v) ≡ counts.cast_to t (seen v)
-cast_seen t v =
-    seen_is (acts.cast_to t v) (counts.cast_to t (seen v)) refl (conv_type v.value t)
-    (conv_height v.value t) (conv_constant v.value t)
-
-cast_kept : (b : Bool) (e : Expr) (t : IntType) → same_type (type_of e) t ≡ b →
-    (if b then is_constant e else false) ≡ true → (is_constant e ≡ true) × (type_of e ≡ t)
-cast_kept true e t is so = (so, type_same (type_of e) t is)
-cast_kept false e t is so = absurd (cc)
-
-pub cast_settled : (t : IntType) (v : Valued) → Settled v → Settled (acts.cast_to t v)
-cast_settled t v settled so =
-    let old : (is_constant v.value ≡ true) × (type_of v.value ≡ t) =
-    cast_kept (same_type (type_of v.value) t) v.value t refl (sym (conv_constant v.value t) ∙ so) in
-    ap promoted (conv_type v.value t ∙ sym old.1) ∙ settled old.0 ∙ old.1
-    ∙ sym (conv_type v.value t)
 
 -- test ? first : second
 chosen_by_follows : (t : IntType) (test first second : Valued) →
@@ -353,7 +289,6 @@ chosen_by_follows t test first second =
     (set_tall (cell_at t n) first.value))
     (behind_sized second.statements (set (cell_at t n) second.value) (one (tall second.value t))
     (set_tall (cell_at t n) second.value))))
-    (λ n. scalar_settled (made (cell_at t n)).statements (cell_at t n))
 
 chosen_seen : (test first second : Valued) (t : IntType) →
     seen (valued test.statements
@@ -397,8 +332,7 @@ chosen_follows test first second =
     (acts.chosen_by t test first second) (counts.gives simple) far
     (ap (λ d. d && acts.is_pure second) (nil_points first.statements)
     ∙ ap (λ d. b && d) (nil_points second.statements))
-    (given of_values pair simple (chosen_seen test first second t)
-    (unsettled pair (constant_cond t test.value (conv first.value t) (conv second.value t))))
+    (given of_values pair simple (chosen_seen test first second t))
     (chosen_by_follows t test first second))
 
 -- a value that is not used
@@ -411,15 +345,15 @@ dropped_follows v =
     either (is_constant v.value) (is_constant v.value) (core.gives v.statements)
     (core.then_by (acts.held v) (λ kept. core.gives kept.statements))
     (counts.gives (trees_size v.statements)) (counts.fresh t whole) refl
-    (given of_trees v.statements (trees_size v.statements) refl tt)
+    (given of_trees v.statements (trees_size v.statements) refl)
     (freshly of_trees t made whole
     (λ n. behind_sized v.statements (set (cell_at t n) v.value) (one (height v.value))
-    (set_own (cell_at t n) v.value refl)) (λ n. tt))
+    (set_own (cell_at t n) v.value refl)))
 
 -- an index that is fixed
-pub fixed_follows : (index : Valued) → Settled index →
+pub fixed_follows : (index : Valued) →
     Follows of_values (acts.fixed index) (counts.fixed (seen index))
-fixed_follows index settled =
+fixed_follows index =
     either (is_constant index.value) (is_constant index.value) (core.gives index) (acts.held index)
-    (counts.gives (seen index)) (counts.held (seen index)) refl (kept_follows index settled)
+    (counts.gives (seen index)) (counts.held (seen index)) refl (kept_follows index)
     (held_follows index)

@@ -12,31 +12,30 @@ use Rattle.c_rules.specs.Sound as sound
 use Rattle.c_core_rules.specs.declared.tree.CoreTree.{CoreTree}
 use Rattle.c_core_rules.specs.Cells.{nothing_taken}
 use Rattle.c_core_rules.specs.Programs.{IsCore, frames_of, text_core, statements, numbered_bodies}
-use Rattle.c_core_laws.specs.Numbers.{ArePromoted, unit_types}
 use Rattle.c_core_laws.specs.Sizes.{IsCounted, stmt_height}
 use Rattle.c_core_laws.proofs.Following.{counted_by}
 use Rattle.c_core_laws.proofs.TextCounted.{text_at, heads_same, of_texts}
 use Rattle.c_core_laws.proofs.ProgramCounted.{bodies_sized, numbers_length}
 
-pub text_counted : (unit : TypedUnit) → ArePromoted (unit_types unit) →
+pub text_counted : (unit : TypedUnit) →
     counted_by of_texts (text_core unit) ≡ sound.counts unit.globals unit.functions
 unfolding text_core
-text_counted unit h =
+text_counted unit =
     let frames = frames_of unit.first_cells unit.functions in
     let objects = map (λ (global : Global). global.object) unit.globals in
-    text_at frames unit.globals unit.functions h nothing_taken
+    text_at frames unit.globals unit.functions nothing_taken
     ∙ ap (λ (heads : Heads). text_rule heads objects unit.functions [])
     (heads_same unit.first_cells unit.functions)
 
 no_more : (n : ℕ) → n ≡ max n 0
 no_more n = omega arith
 
-pub core_counted : (unit : TypedUnit) (P : Program) → ArePromoted (unit_types unit) →
+pub core_counted : (unit : TypedUnit) (P : Program) →
     IsCore unit P → IsCounted P (sound.counts unit.globals unit.functions)
-core_counted unit P h is =
+core_counted unit P is =
     let trees = (text_core unit).made in
     let stmts = numbered_bodies 0 trees in
-    let e = text_counted unit h in
+    let e = text_counted unit in
     let sizes = map (λ (tree : CoreTree). length (statements tree)) trees in
     record {
       cells = ap (map (λ (cell : Cell). cell.ty)) is.cells ∙ ap (λ (m : Made Size). m.cells) e;

@@ -14,16 +14,12 @@ use Rattle.c_core_rules.specs.Trees.{Trees}
 use Rattle.c_core_rules.specs.Cells as core
 use Rattle.c_core_rules.specs.Acts as acts
 use Rattle.c_core_rules.specs.Expressions as rows
-use Rattle.c_core_laws.specs.Numbers.{Types, number_types, expression_types, suffix_types}
-use Rattle.c_core_laws.specs.Numbers.{all_types}
-use Rattle.c_core_laws.specs.Numbers.{ArePromoted}
 use Rattle.c_core_laws.proofs.Following.{Follows, of_trees}
 use Rattle.c_core_laws.proofs.Rules.{followed, either}
 use Rattle.c_core_laws.proofs.ActsCounted.{signed_follows}
 use Rattle.c_core_laws.proofs.PlacesCounted.{incrementing_follows, assigning_follows}
 use Rattle.c_core_laws.proofs.CoreLayers.{core_suffix, open_core, open_core_suffix}
 use Rattle.c_core_laws.proofs.CountLayers.{count_suffix, open_count, open_count_suffix}
-use Rattle.c_core_laws.proofs.TypesLayers.{types_in, open_types, open_suffix_types}
 use Rattle.c_core_laws.proofs.RowsCounted.{FollowsRows, EachRows, no_rows, more_rows, frame_heads}
 use Rattle.c_core_laws.proofs.RowsCounted.{FollowsSuffix, same_index, same_call, same_step}
 use Rattle.c_core_laws.proofs.RowsCounted.{same_skipped, EachSuffix, no_suffix, more_suffixes}
@@ -33,25 +29,13 @@ use Rattle.c_core_laws.proofs.RowsCounted.{comma_unused_follows, conditional_fol
 use Rattle.c_core_laws.proofs.RowsCounted.{number_follows, name_follows, plain_follows, act_follows}
 use Rattle.c_core_laws.proofs.RowsCounted.{only_follows, dropped_rule}
 
--- what holds of each of two lists behind each other
-pub left_promoted : (a b : Types) → ArePromoted (a ++ b) → ArePromoted a
-left_promoted [] b h = tt
-left_promoted (t ∷ a) b h = (h.0, left_promoted a b h.1)
-
-pub right_promoted : (a b : Types) → ArePromoted (a ++ b) → ArePromoted b
-right_promoted [] b h = h
-right_promoted (t ∷ a) b h = right_promoted a b h.1
-
 module _ (frames : rows.Frames) where
   abbrev pub IsCounted : TypedExpression → Type 0
-  IsCounted e =
-      ArePromoted (number_types e)
-      → FollowsRows (rows.rows frames e) (counts.rows (frame_heads frames) e)
+  IsCounted e = FollowsRows (rows.rows frames e) (counts.rows (frame_heads frames) e)
 
   abbrev SuffixIsCounted : TypedSuffix → Type 0
   SuffixIsCounted s =
-      ArePromoted (types_in s) → FollowsSuffix (core_suffix frames s) (count_suffix
-      (frame_heads frames) s)
+      FollowsSuffix (core_suffix frames s) (count_suffix (frame_heads frames) s)
 
   abbrev Held : Type 0
   Held = (e : TypedExpression) × IsCounted e
@@ -77,10 +61,6 @@ module _ (frames : rows.Frames) where
       (count_suffix (frame_heads frames))
       (bare y))
 
-  abbrev types_layer : TypedExpression-F Held HeldSuffix → Types
-  types_layer y = expression_types (map-TypedExpression TypedExpression TypedSuffix Types Types
-      number_types types_in (bare y))
-
   abbrev core_suffix_layer : TypedSuffix-F Held HeldSuffix → rows.ReadSuffix
   core_suffix_layer y = rows.read_suffix (map-TypedSuffix TypedExpression TypedSuffix rows.Rows
       rows.ReadSuffix (rows.rows frames) (core_suffix frames) (bare_suffix y))
@@ -91,30 +71,18 @@ module _ (frames : rows.Frames) where
       (frame_heads frames))
       (bare_suffix y))
 
-  abbrev suffix_types_layer : TypedSuffix-F Held HeldSuffix → Types
-  suffix_types_layer y = suffix_types (map-TypedSuffix TypedExpression TypedSuffix Types Types
-      number_types types_in (bare_suffix y))
-
   -- lists of parts
-  each_row : (held : List Held) → ArePromoted (all_types (map number_types (map (λ e. e.0) held))) →
+  each_row : (held : List Held) →
       EachRows (map (rows.rows frames) (map (λ e. e.0) held))
       (map (counts.rows (frame_heads frames)) (map (λ e. e.0) held))
-  each_row [] h = no_rows
-  each_row (e ∷ held) h =
-      let own = number_types e.0 in
-      let others = all_types (map number_types (map (λ (f : Held). f.0) held)) in
-      more_rows (e.1 (left_promoted own others h)) (each_row held (right_promoted own others h))
+  each_row [] = no_rows
+  each_row (e ∷ held) = more_rows e.1 (each_row held)
 
-  each_suffix : (held : List HeldSuffix) → ArePromoted (all_types (map types_in (map
-      (λ s. s.0) held))) →
+  each_suffix : (held : List HeldSuffix) →
       EachSuffix (map (core_suffix frames) (map (λ s. s.0) held)) (map (count_suffix
       (frame_heads frames)) (map (λ s. s.0) held))
-  each_suffix [] h = no_suffix
-  each_suffix (s ∷ held) h =
-      let own = types_in s.0 in
-      let others = all_types (map types_in (map (λ (f : HeldSuffix). f.0) held)) in
-      more_suffixes (s.1 (left_promoted own others h)) (each_suffix held
-      (right_promoted own others h))
+  each_suffix [] = no_suffix
+  each_suffix (s ∷ held) = more_suffixes s.1 (each_suffix held)
 
   abbrev Link : Type 0
   Link = BinaryOperator × Held
@@ -122,61 +90,41 @@ module _ (frames : rows.Frames) where
   abbrev bare_links : List Link → List (BinaryOperator × TypedExpression)
   bare_links = map (λ (link : Link). (link.0, link.1.0))
 
-  abbrev links_types : List (BinaryOperator × TypedExpression) → List Types
-  links_types links =
-      map (λ (link : BinaryOperator × Types). link.1)
-      (map (λ (link : BinaryOperator × TypedExpression). (link.0, number_types link.1)) links)
-
-  each_link : (held : List Link) → ArePromoted (all_types (links_types (bare_links held))) →
+  each_link : (held : List Link) →
       EachLink (map (λ (link : BinaryOperator × TypedExpression). (link.0, rows.rows frames link.1))
       (bare_links held))
       (map (λ (link : BinaryOperator × TypedExpression).
       (link.0, counts.rows (frame_heads frames) link.1)) (bare_links held))
-  each_link [] h = no_link
-  each_link (link ∷ held) h =
-      let own = number_types link.1.0 in
-      let others = all_types (links_types (bare_links held)) in
-      more_links link.0 (link.1.1 (left_promoted own others h))
-      (each_link held (right_promoted own others h))
+  each_link [] = no_link
+  each_link (link ∷ held) = more_links link.0 link.1.1 (each_link held)
 
   void_or : (void : Bool) (r s : core.Rule Trees) (c d : counts.Rule counts.Size) →
       Follows of_trees r c → Follows of_trees s d →
       Follows of_trees (if void then r else s) (if void then c else d)
   void_or void r s c d h k = either void void r s c d refl h k
 
-  layer : (y : TypedExpression-F Held HeldSuffix) → ArePromoted (types_layer y) →
-      FollowsRows (core_layer y) (count_layer y)
-  layer (TypedExpression-F.Name found place) h = name_follows found
-  layer (TypedExpression-F.Number t n place) h = number_follows t n h.0
-  layer (TypedExpression-F.Character n place) h = number_follows ty.I32 n refl
-  layer (TypedExpression-F.Bracketed inside place) h = inside.1 h
-  layer (TypedExpression-F.Postfix base suffixes place) h =
-      let own = number_types base.0 in
-      let others = all_types (map types_in (map (λ (f : HeldSuffix). f.0) suffixes)) in
-      suffixed_follows frames (each_suffix suffixes (right_promoted own others h))
-      (base.1 (left_promoted own others h))
-  layer (TypedExpression-F.PrefixStep operator operand kind place) h =
-      let inside = operand.1 h in
+  layer : (y : TypedExpression-F Held HeldSuffix) → FollowsRows (core_layer y) (count_layer y)
+  layer (TypedExpression-F.Name found place) = name_follows found
+  layer (TypedExpression-F.Number t n place) = number_follows t n
+  layer (TypedExpression-F.Character n place) = number_follows ty.I32 n
+  layer (TypedExpression-F.Bracketed inside place) = inside.1
+  layer (TypedExpression-F.Postfix base suffixes place) =
+      suffixed_follows frames (each_suffix suffixes) base.1
+  layer (TypedExpression-F.PrefixStep operator operand kind place) =
+      let inside = operand.1 in
       act_follows (incrementing_follows operator inside.target)
       (only_follows (incrementing_follows operator inside.target))
-  layer (TypedExpression-F.Unary operator operand kind place) h =
+  layer (TypedExpression-F.Unary operator operand kind place) =
       plain_follows (followed (λ v. core.gives (acts.signed operator v))
-      (λ v. counts.gives (counts.signed operator v)) (operand.1 h).used
-      (λ v settled. signed_follows operator v settled))
-  layer (TypedExpression-F.Cast operand kind place) h = cast_follows kind (operand.1 h)
-  layer (TypedExpression-F.Chain first rest kind place) h =
-      let own = number_types first.0 in
-      let others = all_types (links_types (bare_links rest)) in
-      plain_follows (chained_follows (each_link rest (right_promoted own others h))
-      (first.1 (left_promoted own others h)).used)
-  layer (TypedExpression-F.Conditional test first second kind place) h =
-      let a = number_types test.0 in
-      let b = number_types first.0 in
-      let c = number_types second.0 in
-      let more = right_promoted a (b ++ c) h in
-      let r = test.1 (left_promoted a (b ++ c) h) in
-      let s = first.1 (left_promoted b c more) in
-      let t = second.1 (right_promoted b c more) in
+      (λ v. counts.gives (counts.signed operator v)) operand.1.used
+      (λ v. signed_follows operator v))
+  layer (TypedExpression-F.Cast operand kind place) = cast_follows kind operand.1
+  layer (TypedExpression-F.Chain first rest kind place) =
+      plain_follows (chained_follows (each_link rest) first.1.used)
+  layer (TypedExpression-F.Conditional test first second kind place) =
+      let r = test.1 in
+      let s = first.1 in
+      let t = second.1 in
       act_follows (conditional_follows r s t)
       (void_or (counts.is_void kind)
       (rows.void_choice (rows.rows frames test.0) (rows.rows frames first.0)
@@ -190,25 +138,23 @@ module _ (frames : rows.Frames) where
       (λ w. counts.then_by (counts.rows (frame_heads frames) second.0).used
       (λ x. counts.chosen v w x)))))
       (void_follows r s t) (dropped_rule (conditional_follows r s t)))
-  layer (TypedExpression-F.Assignment left operator right kind place) h =
-      let a = number_types left.0 in
-      let b = number_types right.0 in
-      let l = left.1 (left_promoted a b h) in
-      let r = right.1 (right_promoted a b h) in
+  layer (TypedExpression-F.Assignment left operator right kind place) =
+      let l = left.1 in
+      let r = right.1 in
       let core_right = (rows.rows frames right.0).used in
       let count_right = (counts.rows (frame_heads frames) right.0).used in
       act_follows (assigning_follows true operator core_right count_right l.target r.used)
       (only_follows (assigning_follows false operator core_right count_right l.target r.used))
-  layer (TypedExpression-F.Comma items kind place) h =
-      act_follows (comma_used_follows (each_row items h)) (comma_unused_follows (each_row items h))
+  layer (TypedExpression-F.Comma items kind place) =
+      act_follows (comma_used_follows (each_row items)) (comma_unused_follows (each_row items))
 
-  suffix_layer : (y : TypedSuffix-F Held HeldSuffix) → ArePromoted (suffix_types_layer y) →
+  suffix_layer : (y : TypedSuffix-F Held HeldSuffix) →
       FollowsSuffix (core_suffix_layer y) (count_suffix_layer y)
-  suffix_layer (TypedSuffix-F.Index index kind place) h = same_index kind place (index.1 h)
-  suffix_layer (TypedSuffix-F.Call arguments kind place) h =
-      same_call kind place (each_row arguments h)
-  suffix_layer (TypedSuffix-F.Step operator kind place) h = same_step operator kind place
-  suffix_layer (TypedSuffix-F.Skipped kind place) h = same_skipped kind place
+  suffix_layer (TypedSuffix-F.Index index kind place) = same_index kind place index.1
+  suffix_layer (TypedSuffix-F.Call arguments kind place) =
+      same_call kind place (each_row arguments)
+  suffix_layer (TypedSuffix-F.Step operator kind place) = same_step operator kind place
+  suffix_layer (TypedSuffix-F.Skipped kind place) = same_skipped kind place
 
   at_expression : (y : TypedExpression-F Held HeldSuffix)
       (x : TypedExpression-F TypedExpression TypedSuffix) → bare y ≡ x →
@@ -216,12 +162,12 @@ module _ (frames : rows.Frames) where
   at_expression y x is =
       subst (λ (z : TypedExpression-F TypedExpression TypedSuffix).
       IsCounted (roll-TypedExpression z)) is
-      (λ h. subst (λ (r : rows.Rows).
+      (subst (λ (r : rows.Rows).
       FollowsRows r (counts.rows (frame_heads frames) (roll-TypedExpression (bare y))))
       (sym (open_core frames (bare y)))
       (subst (λ (c : counts.Rows). FollowsRows (core_layer y) c) (sym (open_count
       (frame_heads frames) (bare y)))
-      (layer y (subst ArePromoted (open_types (bare y)) h))))
+      (layer y)))
 
   at_suffix : (y : TypedSuffix-F Held HeldSuffix)
       (x : TypedSuffix-F TypedExpression TypedSuffix) → bare_suffix y ≡ x →
@@ -229,12 +175,12 @@ module _ (frames : rows.Frames) where
   at_suffix y x is =
       subst (λ (z : TypedSuffix-F TypedExpression TypedSuffix).
       SuffixIsCounted (roll-TypedSuffix z)) is
-      (λ h. subst (λ (r : rows.ReadSuffix).
+      (subst (λ (r : rows.ReadSuffix).
       FollowsSuffix r (count_suffix (frame_heads frames) (roll-TypedSuffix (bare_suffix y))))
       (sym (open_core_suffix frames (bare_suffix y)))
       (subst (λ (c : counts.ReadSuffix). FollowsSuffix (core_suffix_layer y) c)
       (sym (open_count_suffix (frame_heads frames) (bare_suffix y)))
-      (suffix_layer y (subst ArePromoted (open_suffix_types (bare_suffix y)) h))))
+      (suffix_layer y)))
 
   pub expression_follows : (e : TypedExpression) → IsCounted e
   expression_follows =

@@ -1,10 +1,9 @@
 -- A rule that follows a count: what it makes is counted, whatever is taken before it.
 
-use Rattle.std.proofs.Common.{◌≡◌, ℕ, max, true, false, List, []}
+use Rattle.std.proofs.Common.{◌≡◌, ℕ, max, List, []}
 use Rattle.std.proofs.Common.{◌++◌, map, ap, sym, ◌∙◌, append_assoc, pos}
 use Rattle.std.proofs.lemmas.List.{map-append, append-nil}
 use Rattle.cpa_ints.specs.declared.integers.IntType.{IntType}
-use Rattle.cpa_ints.specs.Conversions.{promoted}
 use Rattle.cpa_expr.specs.Shape.{type_of, height}
 use Rattle.c_core_rules.specs.declared.tree.CoreTree.{CoreTree}
 use Rattle.c_core_rules.specs.declared.tree.CoreTree.TheOpen.{CoreTree-F}
@@ -47,10 +46,9 @@ seen v = record {
   is_constant = is_constant v.value;
 }
 
--- how what a rule makes is counted, and what holds of it
-pub record View (S T : Type 0) : Type 1 where
+-- how what a rule makes is counted
+pub record View (S T : Type 0) : Type 0 where
   pub count : S → T
-  pub holds : S → Type 0
 
 abbrev pub counted_by : {S T : Type 0} → View S T → core.Made S → counts.Made T
 counted_by view m = record { cells = types m.taken; made = view.count m.made }
@@ -81,26 +79,17 @@ extended a b c x y = record {
 pub record Follows {S T : Type 0} (view : View S T) (rule : core.Rule S) (count : counts.Rule T)
     : Type 0 where
   pub at : (taken : Taken) → counted_by view (rule taken) ≡ count (types taken)
-  pub holds : (taken : Taken) → view.holds (rule taken).made
   pub extends : (taken : Taken) → Extends taken.cells (rule taken).taken.cells
 
--- a constant has a type that promotion keeps
-abbrev pub Settled : Valued → Type 0
-Settled v = is_constant v.value ≡ true → promoted (type_of v.value) ≡ type_of v.value
-
-pub unsettled : (v : Valued) → is_constant v.value ≡ false → Settled v
-unsettled v is so = absurd (cc)
-
 abbrev pub of_values : View Valued Counted
-of_values = record { count = seen; holds = Settled }
+of_values = record { count = seen }
 
 abbrev pub of_trees : View Trees Size
-of_trees = record { count = trees_size; holds = λ trees. Unit {0} }
+of_trees = record { count = trees_size }
 
-pub given : {S T : Type 0} (view : View S T) (x : S) (y : T) → view.count x ≡ y → view.holds x →
+pub given : {S T : Type 0} (view : View S T) (x : S) (y : T) → view.count x ≡ y →
     Follows view (core.gives x) (counts.gives y)
-given view x y is holds = record {
+given view x y is = record {
   at = λ taken. ap (λ z. record { cells = types taken; made = z }) is;
-  holds = λ taken. holds;
   extends = λ taken. nothing_more taken.cells;
 }

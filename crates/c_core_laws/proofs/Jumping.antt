@@ -17,7 +17,8 @@ use Rattle.c_core_rules.specs.Programs.{Placed, joined, node_statements, stateme
 use Rattle.c_core_laws.specs.Jumps.{Jumps, no_jumps, then_jumps, all_jumps, in_loop}
 use Rattle.c_core_laws.specs.Jumps.{head_jumps, node_jumps, tree_jumps}
 use Rattle.c_core_laws.specs.Jumps as jumps
-use Rattle.c_core_laws.proofs.Shapes.{HasParts, IsPlain, PlacedFits, Shaped, AllShaped}
+use Rattle.c_core_laws.proofs.Shapes.{HasParts, IsPlain, PlacedFits, Shaped, AllShaped, node_of}
+use Rattle.c_core_laws.proofs.Shapes.{open_statements}
 use Rattle.c_core_laws.proofs.Shapes as shapes
 
 pub jumps_is : (a b : Jumps) → a.labels ≡ b.labels → a.gotos ≡ b.gotos → a.loose ≡ b.loose → a ≡ b
@@ -140,13 +141,7 @@ layer (CoreTree-F.Node h held) plain =
     plain_head h (all_jumps (map tree_jumps (map (λ (t : Held). t.0) held))) plain.0.1
     ∙ all_quiet held plain.1
 
-open_statements : (x : CoreTree-F CoreTree) →
-    statements (roll-CoreTree x)
-    ≡ node_statements (map-CoreTree CoreTree (List Placed) statements x)
-unfolding statements
-open_statements x = fold-roll-CoreTree (List Placed) node_statements x
-
-open_jumps : (x : CoreTree-F CoreTree) →
+pub open_jumps : (x : CoreTree-F CoreTree) →
     tree_jumps (roll-CoreTree x) ≡ node_jumps (map-CoreTree CoreTree Jumps tree_jumps x)
 unfolding tree_jumps
 open_jumps x = fold-roll-CoreTree Jumps node_jumps x

@@ -287,16 +287,16 @@ for_makes a {q = q} {r = r} {s = s} first test body step =
     (plain_then (in_loop a) before (repeated (front ++ inside) behind ∷ []) f
     (front_has a front inside behind t h (has_plain behind k)))))))))
 
-abbrev jumps_in : TypedStatement → Jumps
+abbrev pub jumps_in : TypedStatement → Jumps
 jumps_in = fold-TypedStatement Jumps Jumps item_layer_jumps statement_jumps
 
-open_item_jumps : (x : TypedItem-F TypedItem TypedStatement) →
+pub open_item_jumps : (x : TypedItem-F TypedItem TypedStatement) →
     item_jumps (roll-TypedItem x)
     ≡ item_layer_jumps (map-TypedItem TypedItem TypedStatement Jumps Jumps item_jumps jumps_in x)
 unfolding item_jumps
 open_item_jumps x = fold-roll-TypedItem Jumps Jumps item_layer_jumps statement_jumps x
 
-open_jumps : (x : TypedStatement-F TypedItem TypedStatement) →
+pub open_jumps : (x : TypedStatement-F TypedItem TypedStatement) →
     jumps_in (roll-TypedStatement x)
     ≡ statement_jumps (map-TypedStatement TypedItem TypedStatement Jumps Jumps item_jumps
     jumps_in x)

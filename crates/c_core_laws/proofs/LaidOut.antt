@@ -17,7 +17,6 @@ use Rattle.c_core_rules.specs.Cells.{Taken, cell, cells_with, nothing_taken}
 use Rattle.c_core_rules.specs.Statements.{receiving_globals, function_rule}
 use Rattle.c_core_rules.specs.Cells.{each, taking}
 use Rattle.c_core_rules.specs.Programs.{text_core, frames_of}
-use Rattle.c_core_laws.specs.Numbers.{ArePromoted, unit_types}
 use Rattle.c_core_laws.specs.Starts.{program_cell, begins, IsLaidOut}
 use Rattle.c_core_laws.proofs.Following.{types, Extends, zero_cell}
 use Rattle.c_core_laws.proofs.TextCounted.{functions_follow, globals_types, begins_follow}
@@ -77,24 +76,24 @@ unfolding text_core
 open_text unit = refl
 
 -- what the functions take behind the objects of file scope
-pub core_extends : (unit : TypedUnit) → ArePromoted (unit_types unit) →
+pub core_extends : (unit : TypedUnit) →
     Extends (receiving_globals unit.globals nothing_taken).taken.cells (text_core unit).taken.cells
-core_extends unit h =
+core_extends unit =
     let front = (receiving_globals unit.globals nothing_taken).taken in
     subst (λ (t : Taken). Extends front.cells t.cells) (sym (open_text unit))
-    ((functions_follow (frames_of unit.first_cells unit.functions) unit.functions h).extends front)
+    ((functions_follow (frames_of unit.first_cells unit.functions) unit.functions).extends front)
 
-pub cells_laid_out : (unit : TypedUnit) → ArePromoted (unit_types unit) →
+pub cells_laid_out : (unit : TypedUnit) →
     map program_cell (started (sound.counts unit.globals unit.functions).cells
     (flat_map filled unit.globals))
     ≡ (text_core unit).taken.cells
-cells_laid_out unit h =
+cells_laid_out unit =
     let front = (receiving_globals unit.globals nothing_taken).taken in
-    let behind = core_extends unit h in
+    let behind = core_extends unit in
     let whole = behind.is in
     let all_types : (sound.counts unit.globals unit.functions).cells
     ≡ map (λ (c : Cell). c.ty) front.cells ++ behind.more =
-    sym (ap (λ (m : Made Size). m.cells) (text_counted unit h))
+    sym (ap (λ (m : Made Size). m.cells) (text_counted unit))
     ∙ ap (map (λ (c : Cell). c.ty)) whole
     ∙ map-append (λ (c : Cell). c.ty) front.cells (map zero_cell behind.more)
     ∙ ap (λ ts. map (λ (c : Cell). c.ty) front.cells ++ ts) (zero_types behind.more) in
@@ -105,12 +104,12 @@ cells_laid_out unit h =
     values
     ∙ cells_started front.cells behind.more ∙ sym whole
 
-pub firsts_laid_out : (unit : TypedUnit) → ArePromoted (unit_types unit) →
+pub firsts_laid_out : (unit : TypedUnit) →
     first_cells (heads_of unit.functions) unit.functions
     (object_types (map (λ global. global.object) unit.globals))
     ≡ begins (frames_of unit.first_cells unit.functions) unit.functions
     (receiving_globals unit.globals nothing_taken).taken
-firsts_laid_out unit h =
+firsts_laid_out unit =
     let frames = frames_of unit.first_cells unit.functions in
     let front = (receiving_globals unit.globals nothing_taken).taken in
     let objects = map (λ (global : Global). global.object) unit.globals in
@@ -118,12 +117,11 @@ firsts_laid_out unit h =
     (sym (globals_types unit.globals nothing_taken ∙ received objects []))
     ∙ ap (λ (heads : Heads). first_cells heads unit.functions (types front))
     (sym (heads_same unit.first_cells unit.functions))
-    ∙ begins_follow frames unit.functions h front
+    ∙ begins_follow frames unit.functions front
 
 pub laid_out : (text : Text) (bytes : ℕ) (globals : List Global)
     (functions : List TypedFunction) →
-    ArePromoted (unit_types (typed_parts text bytes globals functions)) →
     IsLaidOut (typed_parts text bytes globals functions)
-laid_out text bytes globals functions h =
+laid_out text bytes globals functions =
     let unit = typed_parts text bytes globals functions in
-    record { cells = cells_laid_out unit h; first_cells = firsts_laid_out unit h }
+    record { cells = cells_laid_out unit; first_cells = firsts_laid_out unit }

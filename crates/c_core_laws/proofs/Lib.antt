@@ -8,12 +8,10 @@ pub mod PlacesCounted
 pub mod RowsCounted
 pub mod CoreLayers
 pub mod CountLayers
-pub mod TypesLayers
 pub mod ExpressionsCounted
 pub mod StatementsCounted
 pub mod CoreItems
 pub mod CountItems
-pub mod TypesItems
 pub mod ItemsCounted
 pub mod TextCounted
 pub mod ProgramCounted
@@ -25,7 +23,14 @@ pub mod ShapedExpressions
 pub mod Jumping
 pub mod JumpsKept
 pub mod Numbered
+pub mod ProgramTrees
+pub mod Loops
+pub mod Gotos
 pub mod Small
 pub mod MainBody
 pub mod StartsFit
+pub mod SameWalk
+pub mod JumpsTyped
+pub mod FunctionsJump
+pub mod JumpsSound
 pub mod StartsInRange

@@ -45,7 +45,7 @@ trees_many unit =
     each_length rules (receiving_globals unit.globals nothing_taken).taken
     ∙ length-map unit.functions (function_rule (frames_of unit.first_cells unit.functions))
 
-bodies_are : (unit : TypedUnit) (P : Program) → IsCore unit P →
+pub bodies_are : (unit : TypedUnit) (P : Program) → IsCore unit P →
     length P.bodies ≡ length unit.functions
 bodies_are unit P is =
     let trees = (text_core unit).made in
@@ -74,7 +74,7 @@ functions_many text (item.Function specifiers declarator (body.Block items place
 
 -- a name that is found
 
-abbrev Found : List (List ℕ) → Option ℕ → Type 0
+abbrev pub Found : List (List ℕ) → Option ℕ → Type 0
 Found names place = (k : ℕ) × (place ≡ Some k) × (k < length names)
 
 found_more : (x : List ℕ) (names : List (List ℕ)) (place : Option ℕ) → Found names place →
@@ -88,7 +88,7 @@ found_by : (b : Bool) (x : List ℕ) (names : List (List ℕ)) (place : Option �
 found_by true x names place rest h more = (0, refl, omega arith)
 found_by false x names place rest h more = found_more x names place (more h)
 
-found : (test : List ℕ → Bool) (names : List (List ℕ)) → list_any test names ≡ true →
+pub found : (test : List ℕ → Bool) (names : List (List ℕ)) → list_any test names ≡ true →
     Found names (place_of test names)
 found test [] h = absurd (cc)
 found test (x ∷ names) h =

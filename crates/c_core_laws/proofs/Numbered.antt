@@ -18,32 +18,33 @@ use Rattle.c_core_rules.specs.Trees.{Trees}
 use Rattle.c_core_rules.specs.Programs.{Placed, joined, node_statements, statements, numbers_from}
 use Rattle.c_core_rules.specs.Programs.{stmt_of, labels_from, numbered, numbered_bodies, IsCore}
 use Rattle.c_core_rules.specs.Programs.{text_core}
-use Rattle.c_core_laws.proofs.Shapes.{HasParts, PlacedFits, parts_are, joined_fit}
+use Rattle.c_core_laws.proofs.Shapes.{HasParts, PlacedFits, parts_are, joined_fit, node_of}
+use Rattle.c_core_laws.proofs.Shapes.{open_statements}
 use Rattle.c_core_laws.proofs.ProgramCounted.{numbers_length}
 use Rattle.c_core_laws.proofs.JumpsKept.{text_keeps}
 use Rattle.c_core_laws.proofs.Jumping.{Anything, AllAny, anything}
 
 -- places of a list that is two lists
 
-get_left : {X : Type 0} (a b : List X) (i : ℕ) (x : X) → slice_get a i ≡ Some x →
+pub get_left : {X : Type 0} (a b : List X) (i : ℕ) (x : X) → slice_get a i ≡ Some x →
     slice_get (a ++ b) i ≡ Some x
 get_left [] b i x e = absurd (none-some x e)
 get_left (y ∷ a) b zero x e = e
 get_left (y ∷ a) b (suc i) x e = get_left a b i x e
 
-none_first : (i : ℕ) → 0 + i ≡ i
+pub none_first : (i : ℕ) → 0 + i ≡ i
 none_first i = omega arith
 
 suc_first : (n i : ℕ) → suc n + i ≡ suc (n + i)
 suc_first n i = omega arith
 
-get_right : {X : Type 0} (a b : List X) (i : ℕ) →
+pub get_right : {X : Type 0} (a b : List X) (i : ℕ) →
     slice_get (a ++ b) (length a + i) ≡ slice_get b i
 get_right [] b i = ap (slice_get b) (none_first i)
 get_right (y ∷ a) b i =
     ap (slice_get (y ∷ (a ++ b))) (suc_first (length a) i) ∙ get_right a b i
 
-abbrev Behind : {X : Type 0} → List X → List X → ℕ → X → Type 0
+abbrev pub Behind : {X : Type 0} → List X → List X → ℕ → X → Type 0
 Behind a b i x = (j : ℕ) × (i ≡ length a + j) × (slice_get b j ≡ Some x)
 
 behind_more : {X : Type 0} (y : X) (a b : List X) (i : ℕ) (x : X) →
@@ -52,13 +53,13 @@ behind_more : {X : Type 0} (y : X) (a b : List X) (i : ℕ) (x : X) →
 behind_more y a b i x (inl e) = inl e
 behind_more y a b i x (inr r) = inr (r.0, ap suc r.1 ∙ sym (suc_first (length a) r.0), r.2)
 
-get_split : {X : Type 0} (a b : List X) (i : ℕ) (x : X) → slice_get (a ++ b) i ≡ Some x →
+pub get_split : {X : Type 0} (a b : List X) (i : ℕ) (x : X) → slice_get (a ++ b) i ≡ Some x →
     (slice_get a i ≡ Some x) ⊎ Behind a b i x
 get_split [] b i x e = inr (i, sym (none_first i), e)
 get_split (y ∷ a) b zero x e = inl e
 get_split (y ∷ a) b (suc i) x e = behind_more y a b i x (get_split a b i x e)
 
-all_at : {X : Type 0} (P : X → Type 0) (xs : List X) (i : ℕ) (x : X) → AllByRecursion P xs →
+pub all_at : {X : Type 0} (P : X → Type 0) (xs : List X) (i : ℕ) (x : X) → AllByRecursion P xs →
     slice_get xs i ≡ Some x → P x
 all_at P [] i x all e = absurd (none-some x e)
 all_at P (y ∷ xs) zero x all e = subst P (same_Some y x e) all.0
@@ -95,7 +96,7 @@ located_right ends first a b l = record {
       (l.at (length a + i) p (get_right a b i ∙ e));
 }
 
-one_further : (first i : ℕ) → first + suc i ≡ (first + 1) + i
+pub one_further : (first i : ℕ) → first + suc i ≡ (first + 1) + i
 one_further first i = omega arith
 
 located_tail : (ends : List ℕ) (first : ℕ) (q : Placed) (more : List Placed) →
@@ -105,7 +106,7 @@ located_tail ends first q more l = record {
       subst (λ k. slice_get ends k ≡ Some (end_at k p)) (one_further first i) (l.at (suc i) p e);
 }
 
-nothing_further : (first : ℕ) → first + 0 ≡ first
+pub nothing_further : (first : ℕ) → first + 0 ≡ first
 nothing_further first = omega arith
 
 ends_located : (first : ℕ) (placed : List Placed) (i : ℕ) (p : Placed) →
@@ -129,7 +130,7 @@ record Stands (ends : List ℕ) (t : CoreTree) : Type 0 where
   nodes : (first : ℕ) → Located ends first (statements t) → (i : ℕ) (p : Placed) →
       slice_get (statements t) i ≡ Some p → TilesAt ends (first + i) p
 
-abbrev lengths : Trees → List ℕ
+abbrev pub lengths : Trees → List ℕ
 lengths trees = map length (map statements trees)
 
 forest_tiles : (ends : List ℕ) (trees : Trees) → AllByRecursion (Stands ends) trees →
@@ -170,13 +171,10 @@ forest_nodes ends (t ∷ trees) all first l i p e =
     (located_right ends first own others l) j p at)
     (get_split own others i p e)
 
-joined_length : (lists : List (List Placed)) → length (joined lists) ≡ total (map length lists)
+pub joined_length : (lists : List (List Placed)) → length (joined lists) ≡ total (map length lists)
 joined_length [] = refl
 joined_length (xs ∷ lists) =
     length-append xs (joined lists) ∙ ap (λ n. length xs + n) (joined_length lists)
-
-abbrev node_of : CoreTree-F CoreTree → List Placed
-node_of x = node_statements (map-CoreTree CoreTree (List Placed) statements x)
 
 suc_behind : (first n : ℕ) → (first + 1) + n ≡ first + suc n
 suc_behind first n = omega arith
@@ -230,10 +228,6 @@ module _ (ends : List ℕ) where
   abbrev bare : CoreTree-F Held → CoreTree-F CoreTree
   bare y = map-CoreTree Held CoreTree (λ t. t.0) y
 
-  open_statements : (x : CoreTree-F CoreTree) → statements (roll-CoreTree x) ≡ node_of x
-  unfolding statements
-  open_statements x = fold-roll-CoreTree (List Placed) node_statements x
-
   layer_root : (y : CoreTree-F Held) (first : ℕ) → Located ends first (node_of (bare y)) →
       slice_get ends first ≡ Some (first + length (node_of (bare y)))
   layer_root (CoreTree-F.Node h held) first l =
@@ -269,14 +263,14 @@ module _ (ends : List ℕ) where
 
 -- the statements of a program, by their trees
 
-abbrev StmtOf : List ℕ → ℕ → Placed → Stmt → Type 0
+abbrev pub StmtOf : List ℕ → ℕ → Placed → Stmt → Type 0
 StmtOf labels n p s = s ≡ stmt_of labels p.head (numbers_from (n + 1) p.sizes)
 
-abbrev IsPlaced : List ℕ → ℕ → List Placed → ℕ → Stmt → Type 0
+abbrev pub IsPlaced : List ℕ → ℕ → List Placed → ℕ → Stmt → Type 0
 IsPlaced labels n placed i s =
     (p : Placed) × (slice_get placed i ≡ Some p) × StmtOf labels (n + i) p s
 
-numbered_at : (labels : List ℕ) (n : ℕ) (placed : List Placed) (i : ℕ) (s : Stmt) →
+pub numbered_at : (labels : List ℕ) (n : ℕ) (placed : List Placed) (i : ℕ) (s : Stmt) →
     slice_get (numbered labels n placed) i ≡ Some s → IsPlaced labels n placed i s
 numbered_at labels n [] i s e = absurd (none-some s e)
 numbered_at labels n (p ∷ placed) zero s e =
@@ -290,7 +284,7 @@ numbered_at labels n (p ∷ placed) (suc i) s e =
     let r : IsPlaced labels (n + 1) placed i s = numbered_at labels (n + 1) placed i s e in
     (r.0, r.1, subst (λ k. StmtOf labels k r.0 s) (sym (one_further n i)) r.2)
 
-numbered_length : (labels : List ℕ) (n : ℕ) (placed : List Placed) →
+pub numbered_length : (labels : List ℕ) (n : ℕ) (placed : List Placed) →
     length (numbered labels n placed) ≡ length placed
 numbered_length labels n [] = refl
 numbered_length labels n (p ∷ placed) = ap suc (numbered_length labels (n + 1) placed)
@@ -343,7 +337,7 @@ stmt_at n (t ∷ trees) i s e =
     found_in n t trees i s (λ j at. stmt_at (n + length own) trees j s at)
     (get_split (numbered (labels_from n own) n own) (numbered_bodies (n + length own) trees) i s e)
 
-bodies_length : (n : ℕ) (trees : Trees) →
+pub bodies_length : (n : ℕ) (trees : Trees) →
     length (numbered_bodies n trees) ≡ length (joined (map statements trees))
 bodies_length n [] = refl
 bodies_length n (t ∷ trees) =
@@ -358,7 +352,7 @@ ends_length : (n : ℕ) (placed : List Placed) → length (ends_from n placed) �
 ends_length n [] = refl
 ends_length n (p ∷ placed) = ap suc (ends_length (n + 1) placed)
 
-lengths_are : (trees : Trees) →
+pub lengths_are : (trees : Trees) →
     lengths trees ≡ map (λ tree. length (statements tree)) trees
 lengths_are [] = refl
 lengths_are (t ∷ trees) = ap (λ ns. length (statements t) ∷ ns) (lengths_are trees)

@@ -4,7 +4,6 @@ use Rattle.std.proofs.Common.{◌++◌, Option, None, Some, refl, ap, sym, ◌�
 use Rattle.std.specs.Prelude.{is_some}
 use Rattle.cpa_ints.specs.declared.integers.IntType.{IntType}
 use Rattle.cpa_ints.specs.declared.integers.IntType.TheVariants as ty
-use Rattle.cpa_ints.specs.Conversions.{promoted}
 use Rattle.cpa_expr.specs.declared.tree.Expr.{Expr}
 use Rattle.cpa_expr.specs.Shape.{type_of, height}
 use Rattle.c_symbols.specs.declared.operators.BinaryOperator.{BinaryOperator}
@@ -33,7 +32,7 @@ use Rattle.c_core_laws.proofs.Sums.{size_is, both_assoc, empty_both}
 use Rattle.c_core_laws.proofs.Heights.{first_height, element_height, element_type}
 use Rattle.c_core_laws.proofs.Heights.{constant_element, tall, int_type_is, int_height}
 use Rattle.c_core_laws.proofs.Heights.{constant_const}
-use Rattle.c_core_laws.proofs.Following.{Follows, View, of_values, Settled, unsettled}
+use Rattle.c_core_laws.proofs.Following.{Follows, View, of_values}
 use Rattle.c_core_laws.proofs.Following.{seen}
 use Rattle.c_core_laws.proofs.Following.{trees_size, given}
 use Rattle.c_core_laws.proofs.Sized.{behind_sized, write_sized, joined_sized, none_sized}
@@ -41,7 +40,6 @@ use Rattle.c_core_laws.proofs.Rules.{seen_is, followed, recounted, freshly}
 use Rattle.c_core_laws.proofs.ActsCounted.{operated_seen}
 use Rattle.c_core_laws.proofs.ActsCounted.{fixed_follows}
 use Rattle.c_core_laws.proofs.ActsCounted.{held_before_follows, set_own, scalar_seen}
-use Rattle.c_core_laws.proofs.ActsCounted.{scalar_settled}
 
 -- what a name stands for has its type
 pub location_type : (taken : Taken) (found : Option Meaning) →
@@ -60,11 +58,6 @@ element_seen statements place index t is =
     seen_is (valued statements (element place index))
     (counts.counted (trees_size statements) t (counts.of_element (height index))) refl
     (element_type place index ∙ is) (element_height place index) (constant_element place index)
-
-pub element_settled : (statements : Trees) (place : Location) (index : Expr) →
-    Settled (valued statements (element place index))
-element_settled statements place index =
-    unsettled (valued statements (element place index)) (constant_element place index)
 
 -- a write, and then the place
 pub written_seen : (place : Location) (t : IntType) (index v : Valued) → place.ty ≡ t →
@@ -87,11 +80,6 @@ written_seen place t index v is =
     (counts.counted (both a (counts.write (height index.value) t (seen v))) t
     (counts.of_element (height index.value))) size (element_type place index.value ∙ is)
     (element_height place index.value) (constant_element place index.value)
-
-pub written_settled : (place : Location) (index v : Valued) →
-    Settled (places.written place index v)
-written_settled place index v =
-    unsettled (places.written place index v) (constant_element place index.value)
 
 set_scalar_seen : (place : Location) (t : IntType) (v : Valued) → place.ty ≡ t →
     seen (places.set_scalar place v) ≡ counts.set_scalar t (seen v)
@@ -128,7 +116,6 @@ stays place t first v is =
     ∙ ap (λ s. counts.counted (both (both (trees_size first.statements) (trees_size v.statements))
     (both s (one (max (height first.value) (tall v.value t))))) t
     (counts.of_element (height first.value))) none_sized)
-    (written_settled place index (pure v.value))
 
 -- where a fresh cell takes its place
 moves : (place : Location) (t : IntType) (first v : Valued) → place.ty ≡ t →
@@ -164,8 +151,6 @@ moves place t first v is =
     ∙ ap (λ s. counts.counted (both s (counts.write 2 t (seen (pure v.value)))) t 3) (sized n)
     ∙ ap (λ s. counts.counted (both (both (both f (one h)) g)
     (both s (one (max 2 (tall v.value t))))) t 3) none_sized)
-    (λ n. written_settled place (valued (before (cell_at u n)) (scalar (cell_at u n)))
-    (pure v.value))
 
 -- what stands behind the operands of a[i] = v
 abbrev element_behind : Bool → IntType → Counted → Counted → counts.Rule Counted
@@ -196,15 +181,15 @@ element_follows true place t first v is = element_by (is_constant first.value) p
 element_follows false place t first v is = stays place t first v is
 
 set_element_follows : (keeps : Bool) (place : Location) (t : IntType) (index v : Valued) →
-    place.ty ≡ t → Settled index →
+    place.ty ≡ t →
     Follows of_values (places.set_element keeps place index v)
     (counts.then_by (counts.held_before (seen index) (seen v)) (element_behind keeps t (seen v)))
-set_element_follows keeps place t index v is settled =
+set_element_follows keeps place t index v is =
     followed (λ first. core.then_by (places.fixed_if keeps
     (valued (first.statements ++ v.statements) first.value))
     (λ kept. core.gives (places.written place kept (pure v.value))))
-    (element_behind keeps t (seen v)) (held_before_follows index v settled)
-    (λ first so. element_follows keeps place t first v is)
+    (element_behind keeps t (seen v)) (held_before_follows index v)
+    (λ first. element_follows keeps place t first v is)
 
 -- l operator= v
 updated_at_follows : (operator : BinaryOperator) (place : Location) (t : IntType)
@@ -225,15 +210,13 @@ updated_at_follows operator place t index v is =
     then_count
     (recounted (counts.held_before (seen (pure (element place index.value))) (seen v))
     (counts.held_before old (seen v)) (ap (λ o. counts.held_before o (seen v)) same)
-    (held_before_follows (pure (element place index.value)) v
-    (element_settled [] place index.value)))
-    (λ o so. given of_values (places.written place index (acts.operated operator o v))
+    (held_before_follows (pure (element place index.value)) v))
+    (λ o. given of_values (places.written place index (acts.operated operator o v))
     (counts.counted (both (trees_size index.statements)
     (counts.write h t (counts.operated operator (seen o) (seen v)))) t (counts.of_element h))
     (written_seen place t index (acts.operated operator o v) is
     ∙ ap (λ w. counts.counted (both (trees_size index.statements) (counts.write h t w)) t
-    (counts.of_element h)) (operated_seen operator o v))
-    (written_settled place index (acts.operated operator o v)))
+    (counts.of_element h)) (operated_seen operator o v)))
 
 -- of a scalar
 updated_scalar : (operator : BinaryOperator) (place : Location) (t : IntType) (v : Valued) →
@@ -256,12 +239,9 @@ int_seen n =
     seen_is (pure (int n)) (counts.constant ty.I32) none_sized (int_type_is n) (int_height n)
     (constant_const ty.I32 (pos n))
 
-pub int_settled : (n : ℕ) → Settled (pure (int n))
-int_settled n so = ap promoted (int_type_is n) ∙ sym (int_type_is n)
-
 pub int_follows : (n : ℕ) →
     Follows of_values (core.gives (pure (int n))) (counts.gives (counts.constant ty.I32))
-int_follows n = given of_values (pure (int n)) (counts.constant ty.I32) (int_seen n) (int_settled n)
+int_follows n = given of_values (pure (int n)) (counts.constant ty.I32) (int_seen n)
 
 -- a rule that depends on what is taken
 pub at_each : {S T : Type 0} {view : View S T} (rules : Taken → core.Rule S)
@@ -269,7 +249,6 @@ pub at_each : {S T : Type 0} {view : View S T} (rules : Taken → core.Rule S)
     Follows view (λ taken. rules taken taken) count
 at_each rules count h = record {
   at = λ taken. (h taken).at taken;
-  holds = λ taken. (h taken).holds taken;
   extends = λ taken. (h taken).extends taken;
 }
 
@@ -312,10 +291,9 @@ assigned_follows keeps None right count (same_scalar found) h =
     (counts.then_by count (λ v. counts.gives (counts.set_scalar t v)))
     (λ taken. followed (λ v. core.gives (places.set_scalar (scalar_at found taken) v))
     (λ v. counts.gives (counts.set_scalar t v)) h
-    (λ v so. given of_values (places.set_scalar (scalar_at found taken) v)
+    (λ v. given of_values (places.set_scalar (scalar_at found taken) v)
     (counts.set_scalar t (seen v))
-    (set_scalar_seen (scalar_at found taken) t v (location_type taken found))
-    (written_settled (scalar_at found taken) (pure first_index) v)))
+    (set_scalar_seen (scalar_at found taken) t v (location_type taken found))))
 assigned_follows keeps None right count (same_element found {index = index} {count =
     places_count} i) h =
     let t = type_named found in
@@ -323,14 +301,14 @@ assigned_follows keeps None right count (same_element found {index = index} {cou
     (λ v. places.set_element keeps (location_in taken found) i v) taken)
     (λ i. counts.then_by count
     (λ v. counts.then_by (counts.held_before i v) (element_behind keeps t v))) i
-    (λ i so. at_each (λ taken. core.then_by right
+    (λ i. at_each (λ taken. core.then_by right
     (λ v. places.set_element keeps (location_in taken found) i v))
     (counts.then_by count
     (λ v. counts.then_by (counts.held_before (seen i) v) (element_behind keeps t v)))
     (λ taken. followed (λ v. places.set_element keeps (location_in taken found) i v)
     (λ v. counts.then_by (counts.held_before (seen i) v) (element_behind keeps t v)) h
-    (λ v is. set_element_follows keeps (location_in taken found) t i v
-    (location_type taken found) so)))
+    (λ v. set_element_follows keeps (location_in taken found) t i v
+    (location_type taken found))))
 assigned_follows keeps None right count same_none h = h
 assigned_follows keeps (Some operator) right count (same_scalar found) h =
     let t = type_named found in
@@ -341,7 +319,7 @@ assigned_follows keeps (Some operator) right count (same_scalar found) h =
     (λ taken. followed
     (λ v. places.updated_at operator (scalar_at found taken) (pure first_index) v)
     (λ v. counts.updated operator t counts.of_constant counts.of_scalar empty v) h
-    (λ v so. updated_scalar operator (scalar_at found taken) t v (location_type taken found)))
+    (λ v. updated_scalar operator (scalar_at found taken) t v (location_type taken found)))
 assigned_follows keeps (Some operator) right count (same_element found {index = index} {count =
     places_count} i) h =
     let t = type_named found in
@@ -351,13 +329,13 @@ assigned_follows keeps (Some operator) right count (same_element found {index = 
     (λ v. places.updated_at operator (location_in taken found) kept v) taken in
     followed (λ i. core.then_by (acts.fixed i) fixing)
     (λ i. counts.then_by (counts.fixed i) behind) i
-    (λ i so. followed fixing behind (fixed_follows i so)
-    (λ kept is. at_each (λ taken. core.then_by right
+    (λ i. followed fixing behind (fixed_follows i)
+    (λ kept. at_each (λ taken. core.then_by right
     (λ v. places.updated_at operator (location_in taken found) kept v)) (behind (seen kept))
     (λ taken. followed (λ v. places.updated_at operator (location_in taken found) kept v)
     (λ v. counts.updated operator t (height kept.value) (counts.of_element (height kept.value))
     (trees_size kept.statements) v) h
-    (λ v held. updated_at_follows operator (location_in taken found) t kept v
+    (λ v. updated_at_follows operator (location_in taken found) t kept v
     (location_type taken found)))))
 assigned_follows keeps (Some operator) right count same_none h = h
 
@@ -445,8 +423,7 @@ stepped_by operator place t index is =
     recounted (counts.fresh u (counts.scalar size u)) (counts.fresh t (counts.scalar size t))
     (ap (λ w. counts.fresh w (counts.scalar size w)) (element_type place index.value ∙ is))
     (freshly of_values u made (counts.scalar size u)
-    (λ n. scalar_seen (front (cell_at u n) ++ new.statements) (cell_at u n) size (sized n))
-    (λ n. scalar_settled (front (cell_at u n) ++ new.statements) (cell_at u n)))
+    (λ n. scalar_seen (front (cell_at u n) ++ new.statements) (cell_at u n) size (sized n)))
 
 stepped_at_follows : (operator : StepOperator) (place : Location) (t : IntType)
     (index : Valued) → place.ty ≡ t →
@@ -478,8 +455,8 @@ stepping_follows operator (same_element found {index = index} {count = count} i)
     counts.stepped_from t kept.height (counts.of_element kept.height) kept.size in
     followed (λ i. core.then_by (acts.fixed i) fixing)
     (λ i. counts.then_by (counts.fixed i) behind) i
-    (λ i so. followed fixing behind (fixed_follows i so)
-    (λ kept is. at_each (λ taken. places.stepped_at operator (location_in taken found) kept)
+    (λ i. followed fixing behind (fixed_follows i)
+    (λ kept. at_each (λ taken. places.stepped_at operator (location_in taken found) kept)
     (behind (seen kept))
     (λ taken. stepped_at_follows operator (location_in taken found) t kept
     (location_type taken found))))

@@ -16,6 +16,7 @@ use Rattle.c_core_rules.specs.Programs.{Placed, joined, node_statements, stateme
 use Rattle.c_core_rules.specs.Programs.{stmt_of, labels_from, numbered, numbered_bodies}
 use Rattle.c_core_laws.specs.Sizes.{stmt_height}
 use Rattle.c_core_laws.proofs.Sums.{size_is, both_assoc, empty_both}
+use Rattle.c_core_laws.proofs.Shapes.{open_statements}
 use Rattle.c_core_laws.proofs.Following.{head_height, node_size, tree_size}
 use Rattle.c_core_laws.proofs.TextCounted.{text_size, function_size}
 
@@ -66,12 +67,6 @@ layer (CoreTree-F.Node h parts) =
     ap (both (one (head_height h)))
     (placed_joined (map statements (map (λ (t : Held). t.0) parts))
     ∙ ap joined_sizes (each_sized parts))
-
-open_statements : (x : CoreTree-F CoreTree) →
-    statements (roll-CoreTree x)
-    ≡ node_statements (map-CoreTree CoreTree (List Placed) statements x)
-unfolding statements
-open_statements x = fold-roll-CoreTree (List Placed) node_statements x
 
 open_size : (x : CoreTree-F CoreTree) →
     tree_size (roll-CoreTree x) ≡ node_size (map-CoreTree CoreTree Size tree_size x)

@@ -7,7 +7,6 @@ use Rattle.std.specs.Prelude.{unwrap_or}
 use Rattle.std.proofs.lemmas.Bool.{ne_eqb}
 use Rattle.cpa_ints.specs.declared.integers.IntType.{IntType}
 use Rattle.cpa_ints.specs.declared.integers.IntType.TheVariants as ty
-use Rattle.cpa_ints.specs.Conversions.{promoted}
 use Rattle.cpa_expr.specs.declared.tree.Expr.TheVariants.{Const}
 use Rattle.cpa_expr.specs.Shape.{height}
 use Rattle.cpa_expr.specs.Laws.{type_at_variants, height_at_variants}
@@ -34,17 +33,17 @@ use Rattle.c_core_rules.specs.Expressions as rows
 use Rattle.c_rules.specs.Counts.{Size, Counted, empty, both, one, type_named}
 use Rattle.c_rules.specs.Counts as counts
 use Rattle.c_core_laws.proofs.Heights.{constant_const, tall}
-use Rattle.c_core_laws.proofs.Following.{Follows, of_values, of_trees, Settled, seen}
+use Rattle.c_core_laws.proofs.Following.{Follows, of_values, of_trees, seen}
 use Rattle.c_core_laws.proofs.Following.{trees_size, given}
 use Rattle.c_core_laws.proofs.Sized.{behind_sized, joined_sized, none_sized, more_sized, only_sized}
 use Rattle.c_core_laws.proofs.Sized.{leaf_sized, choice_sized}
 use Rattle.c_core_laws.proofs.Rules.{seen_is, followed, freshly}
 use Rattle.c_core_laws.proofs.Rules.{EachFollows, no_rule, one_more, each_followed}
-use Rattle.c_core_laws.proofs.ActsCounted.{scalar_seen, scalar_settled, set_tall, hold_all_follows}
+use Rattle.c_core_laws.proofs.ActsCounted.{scalar_seen, set_tall, hold_all_follows}
 use Rattle.c_core_laws.proofs.ActsCounted.{linked_follows, chosen_follows, dropped_follows}
-use Rattle.c_core_laws.proofs.ActsCounted.{cast_seen, cast_settled}
+use Rattle.c_core_laws.proofs.ActsCounted.{cast_seen}
 use Rattle.c_core_laws.proofs.PlacesCounted.{SameTarget, same_scalar, same_element, same_none}
-use Rattle.c_core_laws.proofs.PlacesCounted.{location_type, element_seen, element_settled, at_each}
+use Rattle.c_core_laws.proofs.PlacesCounted.{location_type, element_seen, at_each}
 use Rattle.c_core_laws.proofs.PlacesCounted.{int_follows}
 use Rattle.c_core_laws.proofs.PlacesCounted.{incrementing_follows, stepping_follows}
 
@@ -63,24 +62,24 @@ pub data EachRows : List rows.Rows → List counts.Rows → Type 0 where
 abbrev pub frame_heads : rows.Frames → counts.Heads
 frame_heads frames = map (λ frame. map (λ place. place.ty) frame.parameters) frames
 
-pub value_given : (v : Valued) (c : Counted) → seen v ≡ c → Settled v →
+pub value_given : (v : Valued) (c : Counted) → seen v ≡ c →
     Follows of_values (core.gives v) (counts.gives c)
-value_given v c is settled = given of_values v c is settled
+value_given v c is = given of_values v c is
 
 pub trees_given : (trees : Trees) (s : Size) → trees_size trees ≡ s →
     Follows of_trees (core.gives trees) (counts.gives s)
-trees_given trees s is = given of_trees trees s is tt
+trees_given trees s is = given of_trees trees s is
 
 pub dropped_rule : {r : core.Rule Valued} {c : counts.Rule Counted} → Follows of_values r c →
     Follows of_trees (rows.dropped r) (counts.dropped c)
 dropped_rule h =
-    followed acts.dropped_value counts.dropped_value h (λ v settled. dropped_follows v)
+    followed acts.dropped_value counts.dropped_value h (λ v. dropped_follows v)
 
 pub only_follows : {r : core.Rule Valued} {c : counts.Rule Counted} → Follows of_values r c →
     Follows of_trees (rows.only_statements r) (counts.only_size c)
 only_follows h =
     followed (λ v. core.gives v.statements) (λ v. counts.gives v.size) h
-    (λ v settled. trees_given v.statements (trees_size v.statements) refl)
+    (λ v. trees_given v.statements (trees_size v.statements) refl)
 
 pub valueless_follows : {r : core.Rule Trees} {c : counts.Rule Size} → Follows of_trees r c →
     Follows of_values (rows.valueless r)
@@ -88,10 +87,9 @@ pub valueless_follows : {r : core.Rule Trees} {c : counts.Rule Size} → Follows
 valueless_follows h =
     followed (λ before. core.gives (valued before rows.no_value))
     (λ before. counts.gives (counts.scalar before ty.I32)) h
-    (λ before u. value_given (valued before rows.no_value)
+    (λ before. value_given (valued before rows.no_value)
     (counts.scalar (trees_size before) ty.I32)
-    (scalar_seen before (cell_at ty.I32 0) (trees_size before) refl)
-    (scalar_settled before (cell_at ty.I32 0)))
+    (scalar_seen before (cell_at ty.I32 0) (trees_size before) refl))
 
 -- an expression that is no left side and no name
 pub plain_follows : {r : core.Rule Valued} {c : counts.Rule Counted} → Follows of_values r c →
@@ -119,8 +117,7 @@ name_used_follows found =
     (λ taken. let place = cell_at (location_in taken found).ty (location_in taken found).base in
     value_given (pure (scalar place)) (counts.scalar empty (type_named found))
     (scalar_seen [] place empty none_sized
-    ∙ ap (counts.scalar empty) (location_type taken found))
-    (scalar_settled [] place))
+    ∙ ap (counts.scalar empty) (location_type taken found)))
 
 pub name_follows : (found : Option Meaning) →
     FollowsRows (rows.name_rows found) (counts.name_rows found)
@@ -139,13 +136,12 @@ element_used_follows found h =
     followed (λ i taken. core.gives
     (valued i.statements (element (location_in taken found) i.value)) taken)
     (λ i. counts.gives (counts.counted i.size t (counts.of_element i.height))) h
-    (λ i settled. at_each (λ taken. core.gives
+    (λ i. at_each (λ taken. core.gives
     (valued i.statements (element (location_in taken found) i.value)))
     (counts.gives (counts.counted (trees_size i.statements) t (counts.of_element (height i.value))))
     (λ taken. value_given (valued i.statements (element (location_in taken found) i.value))
     (counts.counted (trees_size i.statements) t (counts.of_element (height i.value)))
-    (element_seen i.statements (location_in taken found) i.value t (location_type taken found))
-    (element_settled i.statements (location_in taken found) i.value)))
+    (element_seen i.statements (location_in taken found) i.value t (location_type taken found))))
 
 pub element_follows : (found : Option Meaning) {index : core.Rule Valued}
     {count : counts.Rule Counted} → Follows of_values index count →
@@ -227,15 +223,14 @@ called_follows frames function h =
     (λ operands. core.gives (rows.called_with frames function operands)))
     (λ vs. counts.then_by (counts.hold_all vs) (λ operands. counts.gives (counted operands)))
     (each_followed of_values h)
-    (λ vs are. followed (λ operands. core.gives (rows.called_with frames function operands))
-    (λ operands. counts.gives (counted operands)) (hold_all_follows vs are)
-    (λ operands held. value_given (rows.called_with frames function operands)
+    (λ vs. followed (λ operands. core.gives (rows.called_with frames function operands))
+    (λ operands. counts.gives (counted operands)) (hold_all_follows vs)
+    (λ operands. value_given (rows.called_with frames function operands)
     (counted (map seen operands))
     (scalar_seen (rows.called_with frames function operands).statements result
     (both (counts.sizes (map seen operands))
     (both (counts.passed (counts.head_of heads function) (map seen operands)) (one 0)))
-    (call_sized operands places body (counts.head_of heads function) (sym (head_is frames body))))
-    (scalar_settled (rows.called_with frames function operands).statements result)))
+    (call_sized operands places body (counts.head_of heads function) (sym (head_is frames body))))))
 
 pub each_used : {rs : List rows.Rows} {cs : List counts.Rows} → EachRows rs cs →
     EachFollows of_values (map (λ row. row.used) rs) (map (λ row. row.used) cs)
@@ -255,7 +250,6 @@ input_follows t =
     freshly of_values t (λ place. valued (input place.base ∷ []) (scalar place))
     (counts.scalar (one 0) t)
     (λ n. scalar_seen (input n ∷ []) (cell_at t n) (one 0) (input_sized n))
-    (λ n. scalar_settled (input n ∷ []) (cell_at t n))
 
 input_unused : (t : IntType) →
     Follows of_trees
@@ -263,7 +257,7 @@ input_unused : (t : IntType) →
     (λ place. core.gives (valued (input place.base ∷ []) (scalar place)))))
     (counts.fresh t (one 0))
 input_unused t =
-    freshly of_trees t (λ place. input place.base ∷ []) (one 0) (λ n. input_sized n) (λ n. tt)
+    freshly of_trees t (λ place. input place.base ∷ []) (one 0) (λ n. input_sized n)
 
 first_follows : {rs : List rows.Rows} {cs : List counts.Rows} → EachRows rs cs →
     Follows of_trees (rows.first_unused rs) (counts.first_unused cs)
@@ -284,7 +278,7 @@ exit_follows : {rs : List rows.Rows} {cs : List counts.Rows} → EachRows rs cs 
 exit_follows all =
     followed (λ before. core.gives (before ++ leaf head.Stop ∷ []))
     (λ before. counts.gives (both before (one 0))) (first_follows all)
-    (λ before u. trees_given (before ++ leaf head.Stop ∷ []) (both (trees_size before) (one 0))
+    (λ before. trees_given (before ++ leaf head.Stop ∷ []) (both (trees_size before) (one 0))
     (behind_sized before (leaf head.Stop) (one 0) (leaf_sized head.Stop)))
 
 known_unused_follows : (function : KnownFunction) {rs : List rows.Rows} {cs : List counts.Rows} →
@@ -404,20 +398,20 @@ chained_follows no_link h = h
 chained_follows (more_links operator {r = r} {c = c} right more) h =
     chained_follows more (followed (λ v. core.then_by r.used (λ w. acts.linked operator v w))
     (λ v. counts.then_by c.used (λ w. counts.linked operator v w)) h
-    (λ v settled. followed (λ w. acts.linked operator v w)
+    (λ v. followed (λ w. acts.linked operator v w)
     (λ w. counts.linked operator (seen v) w) right.used
-    (λ w is. linked_follows operator v w settled)))
+    (λ w. linked_follows operator v w)))
 
 -- commas
 
 -- a value behind other statements
-behind_seen : (before : Trees) (v : Valued) → Settled v →
+behind_seen : (before : Trees) (v : Valued) →
     Follows of_values (core.gives (valued (before ++ v.statements) v.value))
     (counts.gives (record (seen v) { size = both (trees_size before) (trees_size v.statements) }))
-behind_seen before v settled =
+behind_seen before v =
     value_given (valued (before ++ v.statements) v.value)
     (record (seen v) { size = both (trees_size before) (trees_size v.statements) })
-    (ap (λ s. record (seen v) { size = s }) (joined_sized before v.statements)) settled
+    (ap (λ s. record (seen v) { size = s }) (joined_sized before v.statements))
 
 pub comma_used_follows : {rs : List rows.Rows} {cs : List counts.Rows} → EachRows rs cs →
     Follows of_values (rows.comma_used rs) (counts.comma_used cs)
@@ -428,9 +422,9 @@ comma_used_follows (more_rows h (more_rows {r = r} {c = c} {rs = rs} {cs = cs} k
     (λ v. core.gives (valued (before ++ v.statements) v.value)))
     (λ before. counts.then_by (counts.comma_used (c ∷ cs))
     (λ v. counts.gives (record v { size = both before v.size }))) h.unused
-    (λ before u. followed (λ v. core.gives (valued (before ++ v.statements) v.value))
+    (λ before. followed (λ v. core.gives (valued (before ++ v.statements) v.value))
     (λ v. counts.gives (record v { size = both (trees_size before) v.size }))
-    (comma_used_follows (more_rows k more)) (λ v settled. behind_seen before v settled))
+    (comma_used_follows (more_rows k more)) (λ v. behind_seen before v))
 
 pub comma_unused_follows : {rs : List rows.Rows} {cs : List counts.Rows} → EachRows rs cs →
     Follows of_trees (rows.comma_unused rs) (counts.comma_unused cs)
@@ -440,9 +434,9 @@ comma_unused_follows (more_rows {rs = rs} {cs = cs} h more) =
     (λ behind. core.gives (before ++ behind)))
     (λ before. counts.then_by (counts.comma_unused cs)
     (λ behind. counts.gives (both before behind))) h.unused
-    (λ before u. followed (λ behind. core.gives (before ++ behind))
+    (λ before. followed (λ behind. core.gives (before ++ behind))
     (λ behind. counts.gives (both (trees_size before) behind)) (comma_unused_follows more)
-    (λ behind w. trees_given (before ++ behind) (both (trees_size before) (trees_size behind))
+    (λ behind. trees_given (before ++ behind) (both (trees_size before) (trees_size behind))
     (joined_sized before behind)))
 
 -- conditionals
@@ -454,15 +448,15 @@ void_follows {s = s} {t = t} {d = d} {e = e} test first second =
     core.gives (v.statements ++ choice v.value a b ∷ []))))
     (λ v. counts.then_by d.unused (λ a. counts.then_by e.unused (λ b.
     counts.gives (both v.size (counts.choice v.height a b))))) test.used
-    (λ v settled. followed (λ a. core.then_by t.unused (λ b.
+    (λ v. followed (λ a. core.then_by t.unused (λ b.
     core.gives (v.statements ++ choice v.value a b ∷ [])))
     (λ a. counts.then_by e.unused (λ b.
     counts.gives (both (trees_size v.statements) (counts.choice (height v.value) a b))))
     first.unused
-    (λ a u. followed (λ b. core.gives (v.statements ++ choice v.value a b ∷ []))
+    (λ a. followed (λ b. core.gives (v.statements ++ choice v.value a b ∷ []))
     (λ b. counts.gives (both (trees_size v.statements)
     (counts.choice (height v.value) (trees_size a) b))) second.unused
-    (λ b w. trees_given (v.statements ++ choice v.value a b ∷ [])
+    (λ b. trees_given (v.statements ++ choice v.value a b ∷ [])
     (both (trees_size v.statements) (counts.choice (height v.value) (trees_size a) (trees_size b)))
     (behind_sized v.statements (choice v.value a b)
     (counts.choice (height v.value) (trees_size a) (trees_size b))
@@ -476,10 +470,10 @@ pub conditional_follows : {r s t : rows.Rows} {c d e : counts.Rows} → FollowsR
 conditional_follows {s = s} {t = t} {d = d} {e = e} test first second =
     followed (λ v. core.then_by s.used (λ a. core.then_by t.used (λ b. acts.chosen v a b)))
     (λ v. counts.then_by d.used (λ a. counts.then_by e.used (λ b. counts.chosen v a b))) test.used
-    (λ v settled. followed (λ a. core.then_by t.used (λ b. acts.chosen v a b))
+    (λ v. followed (λ a. core.then_by t.used (λ b. acts.chosen v a b))
     (λ a. counts.then_by e.used (λ b. counts.chosen (seen v) a b)) first.used
-    (λ a u. followed (λ b. acts.chosen v a b) (λ b. counts.chosen (seen v) (seen a) b) second.used
-    (λ b w. chosen_follows v a b)))
+    (λ a. followed (λ b. acts.chosen v a b) (λ b. counts.chosen (seen v) (seen a) b) second.used
+    (λ b. chosen_follows v a b)))
 
 -- casts
 cast_value_follows : (t : IntType) {r : core.Rule Valued} {c : counts.Rule Counted} →
@@ -488,8 +482,7 @@ cast_value_follows : (t : IntType) {r : core.Rule Valued} {c : counts.Rule Count
     (counts.then_by c (λ v. counts.gives (counts.cast_to t v)))
 cast_value_follows t h =
     followed (λ v. core.gives (acts.cast_to t v)) (λ v. counts.gives (counts.cast_to t v)) h
-    (λ v settled. value_given (acts.cast_to t v) (counts.cast_to t (seen v)) (cast_seen t v)
-    (cast_settled t v settled))
+    (λ v. value_given (acts.cast_to t v) (counts.cast_to t (seen v)) (cast_seen t v))
 
 pub cast_follows : (kind : Option Kind) {r : rows.Rows} {c : counts.Rows} → FollowsRows r c →
     FollowsRows (rows.cast_rows kind r) (counts.cast_rows kind c)
@@ -498,12 +491,10 @@ cast_follows (Some Void) h = act_follows (valueless_follows h.unused) h.unused
 cast_follows (Some (Value t)) h = plain_follows (cast_value_follows t h.used)
 
 -- a number
-pub number_follows : (t : IntType) (n : ℤ) → promoted t ≡ t →
+pub number_follows : (t : IntType) (n : ℤ) →
     FollowsRows (rows.plain (core.gives (pure (Const t n))))
     (counts.plain (counts.gives (counts.constant t)))
-number_follows t n kept =
+number_follows t n =
     plain_follows (value_given (pure (Const t n)) (counts.constant t)
     (seen_is (pure (Const t n)) (counts.constant t) none_sized (type_at_variants.constant t n)
-    (height_at_variants.constant t n) (constant_const t n))
-    (λ so. ap promoted (type_at_variants.constant t n) ∙ kept
-    ∙ sym (type_at_variants.constant t n)))
+    (height_at_variants.constant t n) (constant_const t n)))

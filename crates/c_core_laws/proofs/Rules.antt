@@ -49,17 +49,16 @@ seen_is v c s t h k =
 pub followed : {S T U V : Type 0} {view : View S T} {then_view : View U V} {first : core.Rule S}
     {count : counts.Rule T} (second : S → core.Rule U) (then_count : T → counts.Rule V) →
     Follows view first count →
-    ((x : S) → view.holds x → Follows then_view (second x) (then_count (view.count x))) →
+    ((x : S) → Follows then_view (second x) (then_count (view.count x))) →
     Follows then_view (core.then_by first second) (counts.then_by count then_count)
 followed {view = view} {first = first} second then_count a b = record {
   at = λ taken.
-      (b (first taken).made (a.holds taken)).at (first taken).taken
+      (b (first taken).made).at (first taken).taken
       ∙ ap (λ m. then_count m.made m.cells) (a.at taken);
-  holds = λ taken. (b (first taken).made (a.holds taken)).holds (first taken).taken;
   extends = λ taken.
       let m = first taken in
       extended taken.cells m.taken.cells (second m.made m.taken).taken.cells (a.extends taken)
-      ((b m.made (a.holds taken)).extends m.taken);
+      ((b m.made).extends m.taken);
 }
 
 either_by : {S T : Type 0} {view : View S T} (b : Bool) (r s : core.Rule S)
@@ -84,24 +83,18 @@ recounted {view = view} {rule = rule} c d is h = subst (λ u. Follows view rule 
 -- a fresh cell, and what is made with it
 pub freshly : {S T : Type 0} (view : View S T) (t : IntType) (make : Location → S) (c : T) →
     ((n : ℕ) → view.count (make (cell_at t n)) ≡ c) →
-    ((n : ℕ) → view.holds (make (cell_at t n))) →
     Follows view (core.then_by (core.fresh t) (λ place. core.gives (make place)))
     (counts.fresh t c)
-freshly view t make c is holds = record {
+freshly view t make c is = record {
   at = λ taken.
       ap (λ x. record { cells = x; made = view.count (make (cell_at t (length taken.cells))) })
       (map_push (λ (cell : Cell). cell.ty) taken.cells (core.cell t (pos 0)))
       ∙ ap (λ x. record { cells = types taken ++ t ∷ []; made = x }) (is (length taken.cells));
-  holds = λ taken. holds (length taken.cells);
   extends = λ taken. record { more = t ∷ []; is = refl };
 }
 
-abbrev pub AllHold : {S : Type 0} → (S → Type 0) → List S → Type 0
-AllHold P [] = Unit {0}
-AllHold P (x ∷ xs) = P x × AllHold P xs
-
 abbrev pub of_lists : {S T : Type 0} → View S T → View (List S) (List T)
-of_lists view = record { count = λ xs. map view.count xs; holds = AllHold view.holds }
+of_lists view = record { count = λ xs. map view.count xs }
 
 -- rules in order follow counts in order
 pub data EachFollows {S T : Type 0} (view : View S T)
@@ -114,25 +107,25 @@ pub data EachFollows {S T : Type 0} (view : View S T)
 pub each_followed : {S T : Type 0} (view : View S T) {rules : List (core.Rule S)}
     {all : List (counts.Rule T)} → EachFollows view rules all →
     Follows (of_lists view) (core.each rules) (counts.each all)
-each_followed view no_rule = given (of_lists view) [] [] refl tt
+each_followed view no_rule = given (of_lists view) [] [] refl
 each_followed view (one_more {rule = rule} {count = count} {rules = rules} {all = all} h more) =
     followed (λ first. core.then_by (core.each rules) (λ rest. core.gives (first ∷ rest)))
     (λ first. counts.then_by (counts.each all) (λ rest. counts.gives (first ∷ rest))) h
-    (λ x held. followed (λ rest. core.gives (x ∷ rest)) (λ rest. counts.gives (view.count x ∷ rest))
-    (each_followed view more) (λ xs are. given (of_lists view) (x ∷ xs)
-    (view.count x ∷ map view.count xs) refl (held, are)))
+    (λ x. followed (λ rest. core.gives (x ∷ rest)) (λ rest. counts.gives (view.count x ∷ rest))
+    (each_followed view more) (λ xs. given (of_lists view) (x ∷ xs)
+    (view.count x ∷ map view.count xs) refl))
 
 -- rules for lists of statements, in order
 pub ordered : {rules : List (core.Rule Trees)} {all : List (counts.Rule Size)} →
     EachFollows of_trees rules all →
     Follows of_trees (core.in_order rules) (counts.in_order all)
-ordered no_rule = given of_trees [] empty none_sized tt
+ordered no_rule = given of_trees [] empty none_sized
 ordered (one_more {rule = rule} {count = count} {rules = rules} {all = all} h more) =
     followed (λ before. core.then_by (core.in_order rules) (λ behind. core.gives
     (before ++ behind)))
     (λ before. counts.then_by (counts.in_order all)
     (λ behind. counts.gives (both before behind))) h
-    (λ x held. followed (λ behind. core.gives (x ++ behind))
+    (λ x. followed (λ behind. core.gives (x ++ behind))
     (λ behind. counts.gives (both (trees_size x) behind)) (ordered more)
-    (λ xs are. given of_trees (x ++ xs) (both (trees_size x) (trees_size xs))
-    (joined_sized x xs) tt))
+    (λ xs. given of_trees (x ++ xs) (both (trees_size x) (trees_size xs))
+    (joined_sized x xs)))

@@ -7,10 +7,10 @@ use Rattle.cpa_ints.specs.declared.integers.IntType.{IntType}
 use Rattle.cpa_expr.specs.declared.tree.Expr.{Expr}
 use Rattle.cpa_model.specs.Programs.{parts_of}
 use Rattle.cpa_model.specs.lemmas.Parts.{firsts_items}
-use Rattle.c_core_rules.specs.declared.tree.CoreTree.{CoreTree}
+use Rattle.c_core_rules.specs.declared.tree.CoreTree.{CoreTree, roll-CoreTree}
 use Rattle.c_core_rules.specs.declared.tree.CoreTree.TheOpen.{CoreTree-F}
 use Rattle.c_core_rules.specs.declared.tree.CoreTree.TheVariants.{Node, rolls-Node}
-use Rattle.c_core_rules.specs.declared.tree.CoreTree.TheFolds.{fold-roll-CoreTree}
+use Rattle.c_core_rules.specs.declared.tree.CoreTree.TheFolds.{fold-roll-CoreTree, map-CoreTree}
 use Rattle.c_core_rules.specs.declared.tree.Head.{Head}
 use Rattle.c_core_rules.specs.declared.tree.Head.TheVariants as head
 use Rattle.c_core_rules.specs.declared.tree.Location.{Location}
@@ -76,6 +76,14 @@ pub record Shaped (H : Head → Type 0) (t : CoreTree) : Type 0 where
 
 abbrev pub AllShaped : (Head → Type 0) → Trees → Type 0
 AllShaped H trees = AllByRecursion (Shaped H) trees
+
+-- the statements of a tree, opened at its node
+abbrev pub node_of : CoreTree-F CoreTree → List Placed
+node_of x = node_statements (map-CoreTree CoreTree (List Placed) statements x)
+
+pub open_statements : (x : CoreTree-F CoreTree) → statements (roll-CoreTree x) ≡ node_of x
+unfolding statements
+open_statements x = fold-roll-CoreTree (List Placed) node_statements x
 
 pub node_placed : (h : Head) (parts : Trees) →
     statements (Node h parts)

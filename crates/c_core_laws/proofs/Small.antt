@@ -18,7 +18,6 @@ use Rattle.c_rules.specs.Counts.{Size, Made}
 use Rattle.c_rules.specs.Sound.{Sound, counts, typed_unit, unit_globals, unit_functions}
 use Rattle.c_rules.specs.Sound.{is_too_large}
 use Rattle.c_core_rules.specs.Programs.{IsCore}
-use Rattle.c_core_laws.specs.Numbers.{ArePromoted, unit_types}
 use Rattle.c_core_laws.specs.Sizes.{IsCounted, IsSmall, stmt_height}
 use Rattle.c_core_laws.proofs.CoreCounted.{core_counted}
 
@@ -76,8 +75,8 @@ small P count is h =
     }
 
 pub core_small : (tree : UnitTree) (P : Program) → Sound tree →
-    ArePromoted (unit_types (typed_unit tree)) → IsCore (typed_unit tree) P → IsSmall P
-core_small tree P sound promoted is =
+    IsCore (typed_unit tree) P → IsSmall P
+core_small tree P sound is =
     small P (counts (typed_unit tree).globals (typed_unit tree).functions)
-    (core_counted (typed_unit tree) P promoted is)
+    (core_counted (typed_unit tree) P is)
     (ap is_too_large (unit_counts tree) ∙ fits tree sound)

@@ -11,6 +11,7 @@ use Rattle.cpa_ints.specs.Integers.{IsInRange}
 use Rattle.cpa_ints.specs.Wrapping.{wrapped}
 use Rattle.cpa_ints.specs.lemmas.Arithmetic.{wrapped_in_range}
 use Rattle.cpa_expr.specs.Equality.{same_type}
+use Rattle.c_lexer.specs.declared.fault.Rule.{Rule}
 use Rattle.c_lexer.specs.declared.fault.Rule.TheVariants as rule
 use Rattle.c_lexer.specs.declared.fault.TextFault.{TextFault}
 use Rattle.c_tree.specs.declared.expression.Expression.{Expression}
@@ -48,22 +49,22 @@ use Rattle.c_rules.specs.Sound.{unit_globals, unit_faults, without_main}
 use Rattle.c_core_laws.proofs.Heights.{type_same}
 
 -- none of these faults
-abbrev NoFaults : List TextFault → Type 0
+abbrev pub NoFaults : List TextFault → Type 0
 NoFaults faults = (fault : TextFault) → Among fault faults → ⊥
 
-among_left : (fault : TextFault) (a b : List TextFault) → Among fault a → Among fault (a ++ b)
+pub among_left : (fault : TextFault) (a b : List TextFault) → Among fault a → Among fault (a ++ b)
 among_left fault [] b among = absurd among
 among_left fault (one ∷ a) b (inl is) = inl is
 among_left fault (one ∷ a) b (inr more) = inr (among_left fault a b more)
 
-among_right : (fault : TextFault) (a b : List TextFault) → Among fault b → Among fault (a ++ b)
+pub among_right : (fault : TextFault) (a b : List TextFault) → Among fault b → Among fault (a ++ b)
 among_right fault [] b among = among
 among_right fault (one ∷ a) b among = inr (among_right fault a b among)
 
-none_left : (a b : List TextFault) → NoFaults (a ++ b) → NoFaults a
+pub none_left : (a b : List TextFault) → NoFaults (a ++ b) → NoFaults a
 none_left a b none fault among = none fault (among_left fault a b among)
 
-none_right : (a b : List TextFault) → NoFaults (a ++ b) → NoFaults b
+pub none_right : (a b : List TextFault) → NoFaults (a ++ b) → NoFaults b
 none_right a b none fault among = none fault (among_right fault a b among)
 
 first_of_five : (a b c d e : List TextFault) → NoFaults (a ++ b ++ c ++ d ++ e) → NoFaults a
@@ -71,10 +72,11 @@ first_of_five a b c d e none =
     none_left a b (none_left (a ++ b) c (none_left (a ++ b ++ c) d
     (none_left (a ++ b ++ c ++ d) e none)))
 
-no_redeclared : (b : Bool) (place : ℕ) → NoFaults (broken rule.N2 (at_if b place)) → b ≡ false
-no_redeclared true place none =
-    absurd (none (record { rule = rule.N2; place = place }) (inl refl))
-no_redeclared false place none = refl
+-- a rule that is not broken
+pub not_broken : (r : Rule) (b : Bool) (place : ℕ) → NoFaults (broken r (at_if b place)) →
+    b ≡ false
+not_broken r true place none = absurd (none (record { rule = r; place = place }) (inl refl))
+not_broken r false place none = refl
 
 -- what a name is declared as where one more declaration stands
 
@@ -99,7 +101,7 @@ as_other entry name is =
       | false ↦ None
     ]) is
 
-push_named : (names : List Entry) (entry : Entry) (name : List ℕ) →
+pub push_named : (names : List Entry) (entry : Entry) (name : List ℕ) →
     bytes_eq entry.name name ≡ true →
     declared_as (names ++ entry ∷ []) name ≡ Some entry.declared
 unfolding entry_as
@@ -107,7 +109,7 @@ push_named [] entry name is = as_named entry name is
 push_named (x ∷ names) entry name is =
     ap (λ o. or_else o (entry_as x name)) (push_named names entry name is)
 
-push_other : (names : List Entry) (entry : Entry) (name : List ℕ) →
+pub push_other : (names : List Entry) (entry : Entry) (name : List ℕ) →
     bytes_eq entry.name name ≡ false →
     declared_as (names ++ entry ∷ []) name ≡ declared_as names name
 unfolding entry_as
@@ -225,7 +227,7 @@ kept_by true text before specifiers declarator t name same none h =
     ap (declared_as before.names) one ∙ h.is in
     let n2 = broken rule.N2 (redeclared_object text before specifiers declarator) in
     let free : redeclares_object (declared_as before.names own) fresh starts ≡ false =
-    no_redeclared (redeclares_object (declared_as before.names own) fresh starts)
+    not_broken rule.N2 (redeclares_object (declared_as before.names own) fresh starts)
     declarator.name.place (first_of_five n2
     (broken rule.N5 (void_object (kind_of specifiers) declarator))
     (broken rule.N12 (length_faults text before.names declarator))
@@ -294,7 +296,7 @@ function_by true before defines specifiers declarator t name same none h =
     let n2 = broken rule.N2 (redeclared_function before defines specifiers declarator) in
     let more = broken rule.N5 (flat_map void_parameter (listed declarator.parameters)) in
     let free : redeclares_function (declared_as before.names own) kind types defines ≡ false =
-    no_redeclared (redeclares_function (declared_as before.names own) kind types defines)
+    not_broken rule.N2 (redeclares_function (declared_as before.names own) kind types defines)
     declarator.name.place (none_left n2 more none) in
     let taken : redeclares_function (declared_as before.names own) kind types defines ≡ true =
     ap (λ d. redeclares_function d kind types defines) now in
@@ -504,7 +506,7 @@ all_named names starts (name ∷ all) h =
     append_globals (global_named names starts name) (flat_map (global_named names starts) all)
     (named_fits names starts name (declared_as names name) refl h) (all_named names starts all h)
 
-no_fault : (tree : UnitTree) → Sound tree →
+pub no_fault : (tree : UnitTree) → Sound tree →
     NoFaults (items_faults (text_of tree.items) tree.items nothing_before)
 unfolding unit_faults
 no_fault tree sound fault among =

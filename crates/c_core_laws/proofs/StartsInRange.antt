@@ -16,7 +16,6 @@ use Rattle.c_rules.specs.Sound.{Sound, typed_unit, unit_globals}
 use Rattle.c_core_rules.specs.Cells.{Taken, cell, cells_with, taking, nothing_taken}
 use Rattle.c_core_rules.specs.Statements.{receiving_globals}
 use Rattle.c_core_rules.specs.Programs.{IsCore, text_core}
-use Rattle.c_core_laws.specs.Numbers.{ArePromoted, unit_types}
 use Rattle.c_core_laws.proofs.Following.{zero_cell}
 use Rattle.c_core_laws.proofs.LaidOut.{core_extends}
 use Rattle.c_core_laws.proofs.StartsFit.{InRange, globals_fit}
@@ -72,11 +71,11 @@ zero_cells : (more : List IntType) → AllInRange (map zero_cell more)
 zero_cells [] = tt
 zero_cells (t ∷ more) = (zero_in_range t, zero_cells more)
 
-unit_in_range : (unit : TypedUnit) → ArePromoted (unit_types unit) →
+unit_in_range : (unit : TypedUnit) →
     AllByRecursion InRange unit.globals → AllInRange (text_core unit).taken.cells
-unit_in_range unit promoted h =
+unit_in_range unit h =
     let front = (receiving_globals unit.globals nothing_taken).taken in
-    let behind = core_extends unit promoted in
+    let behind = core_extends unit in
     subst AllInRange (sym behind.is)
     (cells_append front.cells (map zero_cell behind.more)
     (globals_in_range unit.globals nothing_taken h tt) (zero_cells behind.more))
@@ -86,9 +85,9 @@ unfolding typed_unit
 typed_globals tree = refl
 
 pub cells_in_range : (tree : UnitTree) (P : Program) → Sound tree →
-    ArePromoted (unit_types (typed_unit tree)) → IsCore (typed_unit tree) P →
+    IsCore (typed_unit tree) P →
     AllByRecursion (λ (c : Cell). IsInRange c.ty c.start) P.cells
-cells_in_range tree P sound promoted is =
+cells_in_range tree P sound is =
     subst AllInRange (sym is.cells)
-    (unit_in_range (typed_unit tree) promoted
+    (unit_in_range (typed_unit tree)
     (subst (AllByRecursion InRange) (sym (typed_globals tree)) (globals_fit tree sound)))

@@ -28,8 +28,6 @@ use Rattle.c_core_rules.specs.Cells.{Taken, cells_with}
 use Rattle.c_core_rules.specs.Cells as core
 use Rattle.c_core_rules.specs.Expressions as rows
 use Rattle.c_core_rules.specs.Statements as statement
-use Rattle.c_core_laws.specs.Numbers.{number_types, all_types, ArePromoted, optional_types}
-use Rattle.c_core_laws.specs.Numbers.{initializer_types, declarators_types, start_types}
 use Rattle.c_core_laws.proofs.Sums.{size_is}
 use Rattle.c_core_laws.proofs.Following.{Follows, View, of_trees, trees_size, tree_size}
 use Rattle.c_core_laws.proofs.Following.{types, given, seen, zero_cell}
@@ -38,11 +36,11 @@ use Rattle.c_core_laws.proofs.Sized.{leaf_sized, choice_sized, set_sized}
 use Rattle.c_core_laws.proofs.Rules.{followed, freshly, ordered, EachFollows, no_rule, one_more}
 use Rattle.c_core_laws.proofs.ActsCounted.{set_own}
 use Rattle.c_core_laws.proofs.RowsCounted.{frame_heads, trees_given}
-use Rattle.c_core_laws.proofs.ExpressionsCounted.{expression_follows, left_promoted, right_promoted}
+use Rattle.c_core_laws.proofs.ExpressionsCounted.{expression_follows}
 
 -- what has nothing to count
 abbrev pub of_any : (S : Type 0) → View S (Unit {0})
-of_any S = record { count = λ x. tt; holds = λ x. Unit {0} }
+of_any S = record { count = λ x. tt }
 
 -- objects take cells of their types
 
@@ -89,7 +87,6 @@ pub taking_follows : (object : Object) →
     Follows (of_any ℕ) (core.taking object []) (counts.taking object)
 taking_follows object = record {
   at = λ taken. ap (λ ts. record { cells = ts; made = tt }) (taking_types object [] taken);
-  holds = λ taken. tt;
   extends = λ taken. record {
     more = replicate (cells_of object) object.ty;
     is = ap (λ cells. taken.cells ++ cells)
@@ -139,122 +136,109 @@ pub resulting_follows : (kind : Kind) →
 resulting_follows Void = trees_given [] empty none_sized
 resulting_follows (Value t) =
     freshly of_trees t (λ place. set place (Const t (pos 0)) ∷ []) (one counts.of_constant)
-    (λ n. only_sized (set (cell_at t n) (Const t (pos 0))) ∙ zero_set (cell_at t n)) (λ n. tt)
+    (λ n. only_sized (set (cell_at t n) (Const t (pos 0))) ∙ zero_set (cell_at t n))
 
 pub receiving_follows : (objects : List Object) →
     Follows (of_any (Unit {0})) (statement.receiving objects) (counts.receiving objects)
-receiving_follows [] = given (of_any (Unit {0})) tt tt refl tt
+receiving_follows [] = given (of_any (Unit {0})) tt tt refl
 receiving_follows (object ∷ objects) =
     followed (λ first. statement.receiving objects) (λ u. counts.receiving objects)
-    (taking_follows object) (λ first u. receiving_follows objects)
+    (taking_follows object) (λ first. receiving_follows objects)
 
 module _ (frames : rows.Frames) where
   abbrev heads : counts.Heads
   heads = frame_heads frames
 
-  pub unused_follows : (e : Option TypedExpression) → ArePromoted (optional_types e) →
+  pub unused_follows : (e : Option TypedExpression) →
       Follows of_trees (statement.some_unused frames e) (counts.some_unused heads e)
-  unused_follows None h = trees_given [] empty none_sized
-  unused_follows (Some e) h = (expression_follows frames e h).unused
+  unused_follows None = trees_given [] empty none_sized
+  unused_follows (Some e) = (expression_follows frames e).unused
 
   pub initialized_follows : (place : Location) (e : TypedExpression) →
-      ArePromoted (number_types e) →
       Follows of_trees (statement.initialized frames place e) (counts.initialized heads place.ty e)
-  initialized_follows place e h =
+  initialized_follows place e =
       followed (λ v. core.gives (v.statements ++ set place v.value ∷ []))
       (λ v. counts.gives (counts.write counts.of_constant place.ty v))
-      (expression_follows frames e h).used
-      (λ v settled. trees_given (v.statements ++ set place v.value ∷ [])
+      (expression_follows frames e).used
+      (λ v. trees_given (v.statements ++ set place v.value ∷ [])
       (counts.write counts.of_constant place.ty (seen v))
       (behind_sized v.statements (set place v.value)
       (one (max 1 (counts.converted_height (type_of v.value) (height v.value) place.ty)))
       (set_sized place v.value)))
 
   each_initialized : (t : IntType) (first : ℕ) (items : List TypedExpression) →
-      ArePromoted (all_types (map number_types items)) →
       EachFollows of_trees (statement.initialized_each frames t first items)
       (map (counts.initialized heads t) items)
-  each_initialized t first [] h = no_rule
-  each_initialized t first (item ∷ items) h =
-      let own = number_types item in
-      let others = all_types (map number_types items) in
-      one_more (initialized_follows (cell_at t first) item (left_promoted own others h))
-      (each_initialized t (first + 1) items (right_promoted own others h))
+  each_initialized t first [] = no_rule
+  each_initialized t first (item ∷ items) =
+      one_more (initialized_follows (cell_at t first) item) (each_initialized t (first + 1) items)
 
   initializing_follows : (object : Object) (given_one : Option TypedInitializer) (first : ℕ) →
-      ArePromoted (initializer_types given_one) →
       Follows of_trees (statement.initializing frames object given_one first)
       (counts.initializing heads object given_one)
-  initializing_follows object None first h =
+  initializing_follows object None first =
       trees_given (statement.inputs first (cells_of object)) (counts.times (cells_of object) 0)
       (inputs_sized first (cells_of object))
-  initializing_follows object (Some (initializer.Scalar value)) first h =
-      initialized_follows (cell_at object.ty first) value h
-  initializing_follows object (Some (initializer.List items)) first h =
+  initializing_follows object (Some (initializer.Scalar value)) first =
+      initialized_follows (cell_at object.ty first) value
+  initializing_follows object (Some (initializer.List items)) first =
       let n = cells_of object - length items in
       let behind = statement.zeros object.ty (first + length items) n in
       followed (λ before. core.gives (before ++ behind))
       (λ before. counts.gives (both before (counts.times n counts.of_constant)))
-      (ordered (each_initialized object.ty first items h))
-      (λ before u. trees_given (before ++ behind)
+      (ordered (each_initialized object.ty first items))
+      (λ before. trees_given (before ++ behind)
       (both (trees_size before) (counts.times n counts.of_constant))
       (joined_sized before behind
       ∙ ap (both (trees_size before)) (zeros_sized object.ty (first + length items) n)))
 
   declared_follows : (declarator : TypedDeclarator) →
-      ArePromoted (initializer_types declarator.initializer) →
       Follows of_trees (statement.declared frames declarator) (counts.declared heads declarator)
-  declared_follows declarator h =
+  declared_follows declarator =
       followed (statement.initializing frames declarator.object declarator.initializer)
       (λ u. counts.initializing heads declarator.object declarator.initializer)
       (taking_follows declarator.object)
-      (λ first u. initializing_follows declarator.object declarator.initializer first h)
+      (λ first. initializing_follows declarator.object declarator.initializer first)
 
   each_declared : (declarators : List TypedDeclarator) →
-      ArePromoted (declarators_types declarators) →
       EachFollows of_trees (map (statement.declared frames) declarators)
       (map (counts.declared heads) declarators)
-  each_declared [] h = no_rule
-  each_declared (declarator ∷ declarators) h =
-      let own = initializer_types declarator.initializer in
-      let others = declarators_types declarators in
-      one_more (declared_follows declarator (left_promoted own others h))
-      (each_declared declarators (right_promoted own others h))
+  each_declared [] = no_rule
+  each_declared (declarator ∷ declarators) =
+      one_more (declared_follows declarator) (each_declared declarators)
 
   pub declaration_follows : (declarators : List TypedDeclarator) →
-      ArePromoted (declarators_types declarators) →
       Follows of_trees (statement.declaration frames declarators)
       (counts.declaration heads declarators)
-  declaration_follows declarators h = ordered (each_declared declarators h)
+  declaration_follows declarators = ordered (each_declared declarators)
 
-  pub started_follows : (first : TypedForStart) → ArePromoted (start_types first) →
+  pub started_follows : (first : TypedForStart) →
       Follows of_trees (statement.started frames first) (counts.started heads first)
-  started_follows (start.Declaration declarators) h = declaration_follows declarators h
-  started_follows (start.Expression expression) h = unused_follows expression h
+  started_follows (start.Declaration declarators) = declaration_follows declarators
+  started_follows (start.Expression expression) = unused_follows expression
 
   break_sized : trees_size (leaf head.Break ∷ []) ≡ one 0
   break_sized = only_sized (leaf head.Break) ∙ leaf_sized head.Break
 
-  pub left_follows : (test : Option TypedExpression) → ArePromoted (optional_types test) →
+  pub left_follows : (test : Option TypedExpression) →
       Follows of_trees (statement.left_unless frames test) (counts.left_unless heads test)
-  left_follows None h = trees_given [] empty none_sized
-  left_follows (Some test) h =
+  left_follows None = trees_given [] empty none_sized
+  left_follows (Some test) =
       followed (λ v. core.gives (statement.leaving v)) (λ v. counts.gives (counts.leaving v))
-      (expression_follows frames test h).used
-      (λ v settled. trees_given (statement.leaving v) (counts.leaving (seen v))
+      (expression_follows frames test).used
+      (λ v. trees_given (statement.leaving v) (counts.leaving (seen v))
       (behind_sized v.statements (choice v.value [] (leaf head.Break ∷ []))
       (counts.choice (height v.value) empty (one 0))
       (choice_sized v.value [] (leaf head.Break ∷ []) empty (one 0) none_sized break_sized)))
 
   pub returned_follows : (place : Location) (value : Option TypedExpression) →
-      ArePromoted (optional_types value) →
       Follows of_trees (statement.returned frames place value)
       (counts.returned heads place.ty value)
-  returned_follows place None h =
+  returned_follows place None =
       trees_given (leaf head.Leave ∷ []) (one 0)
       (only_sized (leaf head.Leave) ∙ leaf_sized head.Leave)
-  returned_follows place (Some value) h =
+  returned_follows place (Some value) =
       followed (λ before. core.gives (before ++ leaf head.Leave ∷ []))
-      (λ before. counts.gives (both before (one 0))) (initialized_follows place value h)
-      (λ before u. trees_given (before ++ leaf head.Leave ∷ []) (both (trees_size before) (one 0))
+      (λ before. counts.gives (both before (one 0))) (initialized_follows place value)
+      (λ before. trees_given (before ++ leaf head.Leave ∷ []) (both (trees_size before) (one 0))
       (behind_sized before (leaf head.Leave) (one 0) (leaf_sized head.Leave)))

@@ -24,7 +24,6 @@ use Rattle.c_core_rules.specs.Expressions.{cells_from, behind_result}
 use Rattle.c_core_rules.specs.Statements as statement
 use Rattle.c_core_rules.specs.Programs.{frames_of}
 use Rattle.c_core_laws.specs.Starts.{begins}
-use Rattle.c_core_laws.specs.Numbers.{all_types, ArePromoted, item_types, function_types}
 use Rattle.c_core_laws.proofs.Following.{Follows, View, of_trees, trees_size, tree_size, given}
 use Rattle.c_core_laws.proofs.Following.{types}
 use Rattle.c_core_laws.proofs.Following.{counted_by}
@@ -32,7 +31,6 @@ use Rattle.c_core_laws.proofs.Sized.{joined_sized, block_sized}
 use Rattle.c_core_laws.proofs.Rules.{followed, ordered, EachFollows, no_rule, one_more}
 use Rattle.c_core_laws.proofs.PlacesCounted.{at_each}
 use Rattle.c_core_laws.proofs.RowsCounted.{frame_heads}
-use Rattle.c_core_laws.proofs.ExpressionsCounted.{left_promoted, right_promoted}
 use Rattle.c_core_laws.proofs.StatementsCounted.{taking_types, resulting_follows}
 use Rattle.c_core_laws.proofs.StatementsCounted.{receiving_follows}
 use Rattle.c_core_laws.proofs.ItemsCounted.{item_follows}
@@ -42,13 +40,13 @@ abbrev pub function_size : CoreTree → Size
 function_size tree = both (tree_size tree) (one 0)
 
 abbrev pub of_functions : View CoreTree Size
-of_functions = record { count = function_size; holds = λ tree. Unit {0} }
+of_functions = record { count = function_size }
 
 unfoldable pub text_size : Trees → Size
 text_size trees = joined_sizes (map function_size trees)
 
 abbrev pub of_texts : View Trees Size
-of_texts = record { count = text_size; holds = λ trees. Unit {0} }
+of_texts = record { count = text_size }
 
 text_none : text_size [] ≡ empty
 unfolding text_size
@@ -63,14 +61,14 @@ text_more tree trees = refl
 functions_ordered : {rules : List (core.Rule CoreTree)} {all : List (counts.Rule Size)} →
     EachFollows of_functions rules all →
     Follows of_texts (core.each rules) (counts.in_order all)
-functions_ordered no_rule = given of_texts [] empty text_none tt
+functions_ordered no_rule = given of_texts [] empty text_none
 functions_ordered (one_more {rule = rule} {count = count} {rules = rules} {all = all} h more) =
     followed (λ first. core.then_by (core.each rules) (λ rest. core.gives (first ∷ rest)))
     (λ before. counts.then_by (counts.in_order all)
     (λ behind. counts.gives (both before behind))) h
-    (λ x u. followed (λ rest. core.gives (x ∷ rest))
+    (λ x. followed (λ rest. core.gives (x ∷ rest))
     (λ behind. counts.gives (both (function_size x) behind)) (functions_ordered more)
-    (λ xs w. given of_texts (x ∷ xs) (both (function_size x) (text_size xs)) (text_more x xs) tt))
+    (λ xs. given of_texts (x ∷ xs) (both (function_size x) (text_size xs)) (text_more x xs)))
 
 -- objects of file scope take their cells
 pub globals_types : (globals : List Global) (taken : Taken) →
@@ -85,15 +83,11 @@ globals_types (global ∷ globals) taken =
 
 module _ (frames : rows.Frames) where
   each_item : (place : Location) (items : List TypedItem) →
-      ArePromoted (all_types (map item_types items)) →
       EachFollows of_trees (map (statement.item_rule frames place) items)
       (map (counts.item_rule (frame_heads frames) place.ty) items)
-  each_item place [] h = no_rule
-  each_item place (item ∷ items) h =
-      let own = item_types item in
-      let others = all_types (map item_types items) in
-      one_more (item_follows frames place item (left_promoted own others h))
-      (each_item place items (right_promoted own others h))
+  each_item place [] = no_rule
+  each_item place (item ∷ items) =
+      one_more (item_follows frames place item) (each_item place items)
 
   -- a function whose cells begin at a number
   abbrev pub function_from : TypedFunction → ℕ → core.Rule CoreTree
@@ -104,10 +98,10 @@ module _ (frames : rows.Frames) where
       (cell_at (object_type function.result) first)) function.items)) (λ inside.
       core.gives (block (before ++ inside)))))
 
-  from_follows : (function : TypedFunction) (first : ℕ) → ArePromoted (function_types function) →
+  from_follows : (function : TypedFunction) (first : ℕ) →
       Follows of_functions (function_from function first)
       (counts.function_rule (frame_heads frames) function)
-  from_follows function first h =
+  from_follows function first =
       let heads = frame_heads frames in
       let t = object_type function.result in
       let core_items = core.in_order (map (statement.item_rule frames
@@ -119,64 +113,55 @@ module _ (frames : rows.Frames) where
       counts.then_by count_items (λ inside.
       counts.gives (both (counts.block (both before inside)) (one 0)))))
       (resulting_follows function.result)
-      (λ before u. followed
+      (λ before. followed
       (λ u. core.then_by core_items (λ inside. core.gives (block (before ++ inside))))
       (λ u. counts.then_by count_items (λ inside.
       counts.gives (both (counts.block (both (trees_size before) inside)) (one 0))))
       (receiving_follows function.parameters)
-      (λ w x. followed (λ inside. core.gives (block (before ++ inside)))
+      (λ w. followed (λ inside. core.gives (block (before ++ inside)))
       (λ inside. counts.gives (both (counts.block (both (trees_size before) inside)) (one 0)))
-      (ordered (each_item (cell_at t first) function.items h))
-      (λ inside y. given of_functions (block (before ++ inside))
+      (ordered (each_item (cell_at t first) function.items))
+      (λ inside. given of_functions (block (before ++ inside))
       (both (counts.block (both (trees_size before) (trees_size inside))) (one 0))
       (ap (λ s. both s (one 0)) (block_sized (before ++ inside))
-      ∙ ap (λ s. both (counts.block s) (one 0)) (joined_sized before inside)) tt)))
+      ∙ ap (λ s. both (counts.block s) (one 0)) (joined_sized before inside)))))
 
-  function_follows : (function : TypedFunction) → ArePromoted (function_types function) →
+  function_follows : (function : TypedFunction) →
       Follows of_functions (statement.function_rule frames function)
       (counts.function_rule (frame_heads frames) function)
-  function_follows function h =
+  function_follows function =
       at_each (λ taken. function_from function (length taken.cells))
       (counts.function_rule (frame_heads frames) function)
-      (λ taken. from_follows function (length taken.cells) h)
+      (λ taken. from_follows function (length taken.cells))
 
   each_function : (functions : List TypedFunction) →
-      ArePromoted (all_types (map function_types functions)) →
       EachFollows of_functions (map (statement.function_rule frames) functions)
       (map (counts.function_rule (frame_heads frames)) functions)
-  each_function [] h = no_rule
-  each_function (function ∷ functions) h =
-      let own = function_types function in
-      let others = all_types (map function_types functions) in
-      one_more (function_follows function (left_promoted own others h))
-      (each_function functions (right_promoted own others h))
+  each_function [] = no_rule
+  each_function (function ∷ functions) =
+      one_more (function_follows function) (each_function functions)
 
   pub functions_follow : (functions : List TypedFunction) →
-      ArePromoted (all_types (map function_types functions)) →
       Follows of_texts (core.each (map (statement.function_rule frames) functions))
       (counts.in_order (map (counts.function_rule (frame_heads frames)) functions))
-  functions_follow functions h = functions_ordered (each_function functions h)
+  functions_follow functions = functions_ordered (each_function functions)
 
-  pub text_at : (globals : List Global) (functions : List TypedFunction) →
-      ArePromoted (all_types (map function_types functions)) → (taken : Taken) →
+  pub text_at : (globals : List Global) (functions : List TypedFunction) → (taken : Taken) →
       counted_by of_texts (statement.text_rule frames globals functions taken)
       ≡ counts.text_rule (frame_heads frames) (map (λ global. global.object) globals) functions
       (types taken)
-  text_at globals functions h taken =
-      (functions_follow functions h).at (statement.receiving_globals globals taken).taken
+  text_at globals functions taken =
+      (functions_follow functions).at (statement.receiving_globals globals taken).taken
       ∙ ap (counts.in_order (map (counts.function_rule (frame_heads frames)) functions))
       (globals_types globals taken)
 
   -- where the rules of functions begin
-  pub begins_follow : (functions : List TypedFunction) →
-      ArePromoted (all_types (map function_types functions)) → (taken : Taken) →
+  pub begins_follow : (functions : List TypedFunction) → (taken : Taken) →
       sound.first_cells (frame_heads frames) functions (types taken) ≡ begins frames functions taken
-  begins_follow [] h taken = refl
-  begins_follow (function ∷ functions) h taken =
-      let own = function_types function in
-      let others = all_types (map function_types functions) in
+  begins_follow [] taken = refl
+  begins_follow (function ∷ functions) taken =
       let next = (statement.function_rule frames function taken).taken in
-      let f = function_follows function (left_promoted own others h) in
+      let f = function_follows function in
       ap (λ n. n ∷ sound.first_cells (frame_heads frames) functions
       (counts.function_rule (frame_heads frames) function (types taken)).cells)
       (length-map taken.cells (λ (cell : Cell). cell.ty))
@@ -184,7 +169,7 @@ module _ (frames : rows.Frames) where
       (frame_heads frames) functions ts)
       (sym (ap (λ (m : counts.Made Size). m.cells) (f.at taken)))
       ∙ ap (λ ns. length taken.cells ∷ ns)
-      (begins_follow functions (right_promoted own others h) next)
+      (begins_follow functions next)
 
 -- the types of the parameters are those of the counts
 

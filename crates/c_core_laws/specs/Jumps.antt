@@ -1,7 +1,7 @@
--- The labels and jumps of core statements, and of the statements of a typed text (C11 6.8.1 and
--- 6.8.6).
+-- The labels and jumps of core statements, and of the statements of a typed text, and jumps that lead
+-- where they may (C11 6.8.1 and 6.8.6).
 use Rattle.std.specs.Prelude.{ℕ, ◌+◌, Bool, true, false, ◌||◌, List, [], ◌∷◌, ◌++◌, map, Option}
-use Rattle.std.specs.Prelude.{None, Some}
+use Rattle.std.specs.Prelude.{None, Some, ⊤}
 use Rattle.c_rules.specs.declared.typed.TypedItem.{TypedItem}
 use Rattle.c_rules.specs.declared.typed.TypedItem.TheOpen.{TypedItem-F, TypedStatement-F}
 use Rattle.c_rules.specs.declared.typed.TypedItem.TheFolds.{fold-TypedItem}
@@ -11,6 +11,10 @@ use Rattle.c_core_rules.specs.declared.tree.CoreTree.TheOpen.{CoreTree-F}
 use Rattle.c_core_rules.specs.declared.tree.CoreTree.TheFolds.{fold-CoreTree}
 use Rattle.c_core_rules.specs.declared.tree.Head.{Head}
 use Rattle.c_core_rules.specs.declared.tree.Head.TheVariants as head
+use Rattle.cpa_model.specs.declared.program.Stmt.{Stmt}
+use Rattle.cpa_model.specs.declared.program.Stmt.TheVariants as stmt
+use Rattle.cpa_model.specs.declared.program.Program.{Program}
+use Rattle.cpa_model.specs.Programs.{IsSound}
 
 -- how many labelled statements, which labels gotos name, in order, and whether a break or a
 -- continue stands in none of the loops
@@ -88,3 +92,10 @@ item_jumps = fold-TypedItem Jumps Jumps item_layer_jumps statement_jumps
 
 abbrev pub function_jumps : TypedFunction → Jumps
 function_jumps function = all_jumps (map item_jumps function.items)
+
+-- a goto stays in its function, and a break or a continue stands in a loop
+abbrev pub JumpIsSound : Program → ℕ → Stmt → Type 0
+JumpIsSound P n (stmt.Goto to) = IsSound P n (stmt.Goto to)
+JumpIsSound P n stmt.Break = IsSound P n stmt.Break
+JumpIsSound P n stmt.Continue = IsSound P n stmt.Continue
+JumpIsSound P n _ = ⊤

@@ -3,31 +3,30 @@ use Rattle.std.specs.Prelude.{◌≡◌, ℕ, ◌<◌, List, length, map}
 use Rattle.std.specs.List.{AllByRecursion}
 use Rattle.cpa_ints.specs.Integers.{IsInRange}
 use Rattle.cpa_model.specs.declared.program.Program.{Program}
+use Rattle.cpa_model.specs.declared.program.Stmt.{Stmt}
 use Rattle.c_tree.specs.declared.item.Unit.{Unit as UnitTree}
-use Rattle.cpa_model.specs.Programs.{IsNumbered}
+use Rattle.cpa_model.specs.Programs.{IsStmt, IsNumbered}
 use Rattle.c_rules.specs.declared.typed.TypedUnit.{TypedUnit}
 use Rattle.c_rules.specs.declared.typed.Global.{Global}
 use Rattle.c_rules.specs.declared.typed.TypedFunction.{TypedFunction}
 use Rattle.c_rules.specs.Names.{Text}
 use Rattle.c_rules.specs.Sound.{counts, typed_parts, typed_unit, Sound}
 use Rattle.c_core_rules.specs.Programs.{IsCore, text_core}
-use Rattle.c_core_laws.specs.Jumps.{tree_jumps, function_jumps}
+use Rattle.c_core_laws.specs.Jumps.{tree_jumps, function_jumps, JumpIsSound}
 use Rattle.c_core_laws.specs.Sizes.{IsCounted, IsSmall}
-use Rattle.c_core_laws.specs.Numbers.{ArePromoted, unit_types}
 use Rattle.c_core_laws.specs.Starts.{IsLaidOut}
+use Rattle.c_core_laws.specs.Standing.{IsOfTree}
 
 abbrev pub OneCore : Type 0
 OneCore = (unit : TypedUnit) (P Q : Program) → IsCore unit P → IsCore unit Q → P ≡ Q
 
 abbrev pub CoresAreCounted : Type 0
 CoresAreCounted =
-    (unit : TypedUnit) (P : Program) → ArePromoted (unit_types unit) → IsCore unit P
-    → IsCounted P (counts unit.globals unit.functions)
+    (unit : TypedUnit) (P : Program) → IsCore unit P → IsCounted P (counts unit.globals unit.functions)
 
 abbrev pub TextsAreLaidOut : Type 0
 TextsAreLaidOut =
     (text : Text) (bytes : ℕ) (globals : List Global) (functions : List TypedFunction)
-    → ArePromoted (unit_types (typed_parts text bytes globals functions))
     → IsLaidOut (typed_parts text bytes globals functions)
 
 abbrev pub CoresAreNumbered : Type 0
@@ -35,8 +34,8 @@ CoresAreNumbered = (unit : TypedUnit) (P : Program) → IsCore unit P → IsNumb
 
 abbrev pub CoresAreSmall : Type 0
 CoresAreSmall =
-    (tree : UnitTree) (P : Program) → Sound tree → ArePromoted (unit_types (typed_unit tree))
-    → IsCore (typed_unit tree) P → IsSmall P
+    (tree : UnitTree) (P : Program) → Sound tree → IsCore (typed_unit tree) P
+    → IsSmall P
 
 abbrev pub CoresHaveAMain : Type 0
 CoresHaveAMain =
@@ -45,9 +44,19 @@ CoresHaveAMain =
 
 abbrev pub CellsStartInRange : Type 0
 CellsStartInRange =
-    (tree : UnitTree) (P : Program) → Sound tree → ArePromoted (unit_types (typed_unit tree))
-    → IsCore (typed_unit tree) P → AllByRecursion (λ cell. IsInRange cell.ty cell.start) P.cells
+    (tree : UnitTree) (P : Program) → Sound tree → IsCore (typed_unit tree) P
+    → AllByRecursion (λ cell. IsInRange cell.ty cell.start) P.cells
 
 abbrev pub JumpsAreKept : Type 0
 JumpsAreKept =
     (unit : TypedUnit) → map tree_jumps (text_core unit).made ≡ map function_jumps unit.functions
+
+abbrev pub StatementsAreOfTrees : Type 0
+StatementsAreOfTrees =
+    (unit : TypedUnit) (P : Program) → IsCore unit P → (n : ℕ) (s : Stmt) → IsStmt P n s
+    → IsOfTree unit P n s
+
+abbrev pub JumpsAreSound : Type 0
+JumpsAreSound =
+    (tree : UnitTree) (P : Program) → Sound tree → IsCore (typed_unit tree) P → (n : ℕ) (s : Stmt)
+    → IsStmt P n s → JumpIsSound P n s

@@ -1,5 +1,5 @@
 pub mod Sizes
-pub mod Numbers
 pub mod Starts
 pub mod Jumps
+pub mod Standing
 pub mod Laws

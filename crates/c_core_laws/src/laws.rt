@@ -1,7 +1,7 @@
 //! Laws on the core of a typed text: functions with an empty body, whose contract is the law.
 ghost use Rattle.c_core_laws.specs.Laws.{CoresAreCounted, CoresAreNumbered, CoresAreSmall, OneCore};
 ghost use Rattle.c_core_laws.specs.Laws.{CellsStartInRange, CoresHaveAMain, JumpsAreKept};
-ghost use Rattle.c_core_laws.specs.Laws.{TextsAreLaidOut};
+ghost use Rattle.c_core_laws.specs.Laws.{TextsAreLaidOut, JumpsAreSound, StatementsAreOfTrees};
 
 /// A typed text has one core.
 pub fn there_is_one_core()
@@ -44,4 +44,14 @@ pub fn cells_start_in_range()
 /// The tree of each function has the labels and the jumps of the typed function.
 pub fn jumps_are_kept()
     ensures { JumpsAreKept }
+{}
+
+/// Each statement is one of the tree of the function in which it stands.
+pub fn statements_are_of_trees()
+    ensures { StatementsAreOfTrees }
+{}
+
+/// Of a sound text each goto stays in its function, and each break and continue stands in a loop.
+pub fn jumps_are_sound()
+    ensures { JumpsAreSound }
 {}
