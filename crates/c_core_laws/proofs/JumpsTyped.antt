@@ -50,7 +50,7 @@ use Rattle.c_core_laws.proofs.MainBody.{Found, found}
 use Rattle.c_core_laws.proofs.StartsFit.{NoFaults, none_left, not_broken}
 use Rattle.c_core_laws.proofs.SameWalk.{grown_of, open_grown_item, open_grown_statement}
 
-abbrev AllBelow : ℕ → List ℕ → Type 0
+abbrev pub AllBelow : ℕ → List ℕ → Type 0
 AllBelow n labels = AllByRecursion (λ l. l < n) labels
 
 below_append : (n : ℕ) (a b : List ℕ) → AllBelow n a → AllBelow n b → AllBelow n (a ++ b)
@@ -71,11 +71,11 @@ clean_right text (site ∷ a) b h = clean_right text a b h.1
 
 -- jumps of a part of a function with so many labels, in a loop or not, and with so many labels of
 -- its own
-record Fits (text : Text) (sites : List Site) (looping : Bool) (names own : ℕ) (a : Jumps) : Type 0
+pub record Fits (text : Text) (sites : List Site) (looping : Bool) (names own : ℕ) (a : Jumps) : Type 0
     where
-  marked : a.labels ≡ own
-  bound : Clean text sites → looping ≡ false → a.loose ≡ false
-  named : Clean text sites → AllBelow names a.gotos
+  pub marked : a.labels ≡ own
+  pub bound : Clean text sites → looping ≡ false → a.loose ≡ false
+  pub named : Clean text sites → AllBelow names a.gotos
 
 -- what the forms of a statement have
 
@@ -147,7 +147,7 @@ of_statement s =
     ap item_jumps (sym (typed_item.rolls-Statement s)) ∙ open_item_jumps (TypedItem-F.Statement s)
 
 module _ (text : Text) where
-  abbrev FitsAt : Around → List Site → ℕ → Jumps → Type 0
+  abbrev pub FitsAt : Around → List Site → ℕ → Jumps → Type 0
   FitsAt around sites own a = Fits text sites around.in_loop (length around.labels) own a
 
   fits_none : (sites : List Site) (looping : Bool) (names : ℕ) →
@@ -227,8 +227,10 @@ module _ (text : Text) where
     bound = λ clean out. refl;
     named = λ clean.
         let has = list_any (bytes_eq name.bytes) around.labels in
+        let n6 = broken rule.N6 (at_if (not has) name.place) in
         (named_of around name (not_false has (not_broken rule.N6 (not has) name.place
-        (none_left (broken rule.N6 (at_if (not has) name.place)) [] clean.0))), tt);
+        (none_left n6 [] (none_left (n6 ++ []) [] (none_left (n6 ++ [] ++ []) []
+        (none_left (n6 ++ [] ++ [] ++ []) [] clean.0)))))), tt);
   }
 
   both_false : (b : Bool) → not b ≡ false → b ≡ false → ⊥
@@ -240,20 +242,21 @@ module _ (text : Text) where
   fits_leaving around place = record {
     marked = refl;
     bound = λ clean out.
+        let n8 = broken rule.N8 (at_if (not around.in_loop) place) in
         absurd (both_false around.in_loop (not_broken rule.N8 (not around.in_loop) place
-        (none_left (broken rule.N8 (at_if (not around.in_loop) place)) [] clean.0)) out);
+        (none_left n8 [] (none_left (n8 ++ []) [] (none_left (n8 ++ [] ++ []) [] clean.0)))) out);
     named = λ clean. tt;
   }
 
   -- what is known behind a part: in a loop or not as before it, and of the same labels
-  record Keeps (walk : Walk) : Type 0 where
-    looping : (around : Around) → (walk.behind around).in_loop ≡ around.in_loop
-    names : (around : Around) → (walk.behind around).labels ≡ around.labels
+  pub record Keeps (walk : Walk) : Type 0 where
+    pub looping : (around : Around) → (walk.behind around).in_loop ≡ around.in_loop
+    pub names : (around : Around) → (walk.behind around).labels ≡ around.labels
 
-  keeps_still : Keeps still
+  pub keeps_still : Keeps still
   keeps_still = record { looping = λ around. refl; names = λ around. refl }
 
-  keeps_then : (a b : Walk) → Keeps a → Keeps b → Keeps (followed a b)
+  pub keeps_then : (a b : Walk) → Keeps a → Keeps b → Keeps (followed a b)
   keeps_then a b h k = record {
     looping = λ around. k.looping (a.behind around) ∙ h.looping around;
     names = λ around. k.names (a.behind around) ∙ h.names around;
@@ -289,8 +292,8 @@ module _ (text : Text) where
   -- a part with its typed tree
   pub record Jumped {T : Type 0} (jumps_of : T → Jumps) (part : Grown T) (labels : List Name)
       : Type 0 where
-    keeps : Keeps part.walk
-    at : (around : Around) →
+    pub keeps : Keeps part.walk
+    pub at : (around : Around) →
         FitsAt around (part.walk.sites around) (length labels) (jumps_of (part.typed around))
 
   labels_in : Statement → List Name
@@ -328,13 +331,13 @@ module _ (text : Text) where
   bare y = map-Statement HeldItem HeldStatement BlockItem Statement (λ e. e.0) (λ e. e.0) y
 
   -- items in order
-  abbrev grown_items : List BlockItem → List (Grown TypedItem)
+  abbrev pub grown_items : List BlockItem → List (Grown TypedItem)
   grown_items items = map (grown text) items
 
-  abbrev items_walk : List BlockItem → Walk
+  abbrev pub items_walk : List BlockItem → Walk
   items_walk items = in_order (map walk_in (grown_items items))
 
-  abbrev items_typed : List BlockItem → Around → List TypedItem
+  abbrev pub items_typed : List BlockItem → Around → List TypedItem
   items_typed items around = typed_in_order (grown_items items) around
 
   items_keep : (items : List BlockItem) → AllByRecursion ItemJumps items →
@@ -664,6 +667,6 @@ module _ (text : Text) where
       ind-BlockItem ItemJumps StatementJumps (λ x y is. at_item y x is)
       (λ x y is. at_statement y x is)
 
-  all_jumped : (items : List BlockItem) → AllByRecursion ItemJumps items
+  pub all_jumped : (items : List BlockItem) → AllByRecursion ItemJumps items
   all_jumped [] = tt
   all_jumped (item ∷ items) = (item_jumped item, all_jumped items)
