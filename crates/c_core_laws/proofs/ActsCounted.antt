@@ -9,7 +9,6 @@ use Rattle.cpa_expr.specs.declared.tree.Expr.TheVariants as expr
 use Rattle.cpa_expr.specs.declared.tree.UnOp.{UnOp}
 use Rattle.cpa_expr.specs.declared.tree.UnOp.TheVariants as un
 use Rattle.cpa_expr.specs.Shape.{type_of, height}
-use Rattle.cpa_expr.specs.Equality.{same_type}
 use Rattle.cpa_expr.specs.Laws.{type_at_variants, height_at_variants}
 use Rattle.c_symbols.specs.declared.operators.BinaryOperator.{BinaryOperator}
 use Rattle.c_symbols.specs.declared.operators.BinaryOperator.TheVariants as binary
@@ -30,7 +29,7 @@ use Rattle.c_core_laws.proofs.Heights.{height_positive, first_height, element_he
 use Rattle.c_core_laws.proofs.Heights.{constant_element, conv_height, conv_type, conv_constant}
 use Rattle.c_core_laws.proofs.Heights.{operator_type, operator_height, operator_constant, tall}
 use Rattle.c_core_laws.proofs.Heights.{truth_type, truth_height, int_type_is, int_height}
-use Rattle.c_core_laws.proofs.Heights.{same_self, type_same}
+use Rattle.c_core_laws.proofs.Heights.{same_self}
 use Rattle.c_core_laws.proofs.Heights.{constant_and, constant_or, constant_not, constant_un}
 use Rattle.c_core_laws.proofs.Heights.{constant_cond}
 use Rattle.c_core_laws.proofs.Following.{Follows, of_values, of_trees, seen}
@@ -196,7 +195,7 @@ one_holds_follows left right =
     ∙ ap (both (trees_size left.statements)) (swapped (height left.value)
     (one counts.of_constant) s))))
 
-operands_follow : (operator : BinaryOperator) (left right : Valued) → 
+operands_follow : (operator : BinaryOperator) (left right : Valued) →
     Follows of_values
     (core.then_by (acts.held_before left right) (λ first. core.gives
     (acts.operated operator first right)))
@@ -209,7 +208,7 @@ operands_follow operator left right =
     (λ v. given of_values (acts.operated operator v right)
     (counts.operated operator (seen v) (seen right)) (operated_seen operator v right))
 
-pub linked_follows : (operator : BinaryOperator) (left right : Valued) → 
+pub linked_follows : (operator : BinaryOperator) (left right : Valued) →
     Follows of_values (acts.linked operator left right)
     (counts.linked operator (seen left) (seen right))
 linked_follows binary.LogicalAnd left right = both_hold_follows left right

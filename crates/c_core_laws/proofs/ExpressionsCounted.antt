@@ -1,5 +1,5 @@
 -- Every expression follows its count.
-use Rattle.std.proofs.Common.{◌≡◌, List, [], ◌∷◌, ◌++◌, map, refl, sym}
+use Rattle.std.proofs.Common.{◌≡◌, List, [], ◌∷◌, map, refl, sym}
 use Rattle.std.proofs.Common.{subst, Bool, true, false, if◌then◌else◌}
 use Rattle.cpa_ints.specs.declared.integers.IntType.TheVariants as ty
 use Rattle.c_symbols.specs.declared.operators.BinaryOperator.{BinaryOperator}

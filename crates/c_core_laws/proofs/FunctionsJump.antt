@@ -1,5 +1,6 @@
 -- Each function of a sound text has the labels that its gotos name, and no loose break or continue.
-use Rattle.std.proofs.Common.{◌≡◌, ℕ, ◌<◌, true, false, List, [], ◌∷◌, ◌++◌, map, length, refl, ap, sym}
+use Rattle.std.proofs.Common.{◌≡◌, ℕ, ◌<◌, true, false, List, [], ◌∷◌, ◌++◌, map, length, refl}
+use Rattle.std.proofs.Common.{ap, sym}
 use Rattle.std.proofs.Common.{◌∙◌, subst}
 use Rattle.std.specs.List.{AllByRecursion, flat_map}
 use Rattle.std.proofs.lemmas.List.{length-map}
@@ -12,12 +13,11 @@ use Rattle.c_tree.specs.declared.item.Body.TheVariants as body
 use Rattle.c_tree.specs.declared.item.Item.{Item}
 use Rattle.c_tree.specs.declared.item.Item.TheVariants as item
 use Rattle.c_tree.specs.declared.item.Unit.{Unit as UnitTree}
-use Rattle.c_rules.specs.declared.typed.TypedItem.{TypedItem}
 use Rattle.c_rules.specs.declared.typed.TypedFunction.{TypedFunction}
 use Rattle.c_rules.specs.Names.{Text}
-use Rattle.c_rules.specs.Statements.{Around, Site, Walk, walk_of, in_order, receiving, labels_of}
+use Rattle.c_rules.specs.Statements.{Site, Walk, walk_of, in_order, receiving, labels_of}
 use Rattle.c_rules.specs.StatementRules.{site_faults, jump_faults}
-use Rattle.c_rules.specs.TypedStatements.{Grown, grown, walk_in, typed_function}
+use Rattle.c_rules.specs.TypedStatements.{grown, walk_in, typed_function}
 use Rattle.c_rules.specs.Items.{Before, text_of, listed, around_body, function_behind, body_sites}
 use Rattle.c_rules.specs.Items.{head_faults, item_behind, item_faults, items_faults, nothing_before}
 use Rattle.c_rules.specs.Sound.{Sound, typed_unit, functions_of, unit_functions}
@@ -35,9 +35,10 @@ clean_of : (text : Text) (sites : List Site) → NoFaults (flat_map (site_faults
     Clean text sites
 clean_of text [] none = tt
 clean_of text (site ∷ sites) none =
-    let rest = flat_map (site_faults text) sites in
-    (none_left (site_faults text site) rest none,
-    clean_of text sites (none_right (site_faults text site) rest none))
+    let rest = flat_map (site_faults text) sites in (
+      none_left (site_faults text site) rest none,
+      clean_of text sites (none_right (site_faults text site) rest none),
+    )
 
 walks_same : (text : Text) (items : List BlockItem) →
     map walk_in (map (grown text) items) ≡ map (walk_of text) items

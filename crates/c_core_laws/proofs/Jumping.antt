@@ -16,8 +16,7 @@ use Rattle.c_core_rules.specs.Trees.{Trees, leaf, block, choice, repeated}
 use Rattle.c_core_rules.specs.Programs.{Placed, joined, node_statements, statements}
 use Rattle.c_core_laws.specs.Jumps.{Jumps, no_jumps, then_jumps, all_jumps, in_loop}
 use Rattle.c_core_laws.specs.Jumps.{head_jumps, node_jumps, tree_jumps}
-use Rattle.c_core_laws.specs.Jumps as jumps
-use Rattle.c_core_laws.proofs.Shapes.{HasParts, IsPlain, PlacedFits, Shaped, AllShaped, node_of}
+use Rattle.c_core_laws.proofs.Shapes.{HasParts, IsPlain, PlacedFits, Shaped, AllShaped}
 use Rattle.c_core_laws.proofs.Shapes.{open_statements}
 use Rattle.c_core_laws.proofs.Shapes as shapes
 

@@ -6,7 +6,7 @@ use Rattle.std.specs.List.{AllByRecursion}
 use Rattle.std.proofs.lemmas.Option.{same_Some, slice_get-get_or}
 use Rattle.cpa_model.specs.declared.program.Stmt.{Stmt}
 use Rattle.cpa_model.specs.declared.program.Program.{Program}
-use Rattle.cpa_model.specs.Programs.{IsStmt, IsBody, IsPart, InFunction, function_body}
+use Rattle.cpa_model.specs.Programs.{IsStmt, IsBody, InFunction, function_body}
 use Rattle.cpa_model.specs.Programs.{function_part}
 use Rattle.cpa_model.specs.lemmas.Trees.{one_function, in_function_inside}
 use Rattle.c_tree.specs.declared.item.Unit.{Unit as UnitTree}
@@ -17,7 +17,7 @@ use Rattle.c_core_rules.specs.declared.tree.Head.{Head}
 use Rattle.c_core_rules.specs.declared.tree.Head.TheVariants as head
 use Rattle.c_core_rules.specs.Programs.{Placed, statements, stmt_of, part, labels_from, IsCore}
 use Rattle.c_core_rules.specs.Programs.{text_core, numbers_from}
-use Rattle.c_core_laws.specs.Jumps.{Jumps, tree_jumps, JumpIsSound}
+use Rattle.c_core_laws.specs.Jumps.{tree_jumps, JumpIsSound}
 use Rattle.c_core_laws.specs.Standing.{IsOfTree}
 use Rattle.c_core_laws.proofs.Shapes.{Shaped}
 use Rattle.c_core_laws.proofs.Jumping.{Anything}

@@ -1,12 +1,12 @@
 -- The jumps of the typed functions of a sound text: each goto names a label of its function, and no
 -- break or continue stands outside the loops (N6 and N8).
-use Rattle.std.proofs.Common.{◌≡◌, ℕ, suc, ◌+◌, ◌<◌, Bool, true, false, not, ◌||◌, List, [], ◌∷◌, ◌++◌}
-use Rattle.std.proofs.Common.{map, length, Option, None, Some, refl, ap, sym, ◌∙◌, subst, arith, inl}
+use Rattle.std.proofs.Common.{◌≡◌, ℕ, suc, ◌+◌, ◌<◌, Bool, true, false, not, ◌||◌, List, []}
+use Rattle.std.proofs.Common.{◌∷◌, ◌++◌}
+use Rattle.std.proofs.Common.{map, length, Option, None, Some, refl, ap, sym, ◌∙◌, subst, arith}
 use Rattle.std.proofs.Common.{length-append}
 use Rattle.std.specs.Prelude.{unwrap_or, is_some}
 use Rattle.std.specs.List.{AllByRecursion, flat_map, list_any}
 use Rattle.std.specs.Str.{bytes_eq}
-use Rattle.std.proofs.lemmas.List.{length-map}
 use Rattle.c_lexer.specs.declared.fault.Rule.TheVariants as rule
 use Rattle.c_tree.specs.declared.name.Name.{Name}
 use Rattle.c_tree.specs.declared.expression.Expression.{Expression}
@@ -32,8 +32,8 @@ use Rattle.c_rules.specs.declared.typed.TypedItem.TheOpen.{TypedItem-F, TypedSta
 use Rattle.c_rules.specs.declared.typed.TypedStatement.{TypedStatement}
 use Rattle.c_rules.specs.declared.typed.TypedStatement.TheVariants as tree
 use Rattle.c_rules.specs.Names.{Text, place_of}
-use Rattle.c_rules.specs.Statements.{Around, Site, Act, Walk, walk_of, still, doing, followed, in_order}
-use Rattle.c_rules.specs.Statements.{scoped, looped, inner, loop, evaluating, perhaps, start_walk}
+use Rattle.c_rules.specs.Statements.{Around, Site, Act, Walk, still, doing, followed, in_order}
+use Rattle.c_rules.specs.Statements.{looped, inner, loop, evaluating, start_walk}
 use Rattle.c_rules.specs.Statements.{declaration_walk, declarator_walk, labels_of, labels_item}
 use Rattle.c_rules.specs.Statements.{labels_step, evaluates, jumps, leaves, marks, returns}
 use Rattle.c_rules.specs.StatementRules.{site_faults}
@@ -71,11 +71,12 @@ clean_right text (site ∷ a) b h = clean_right text a b h.1
 
 -- jumps of a part of a function with so many labels, in a loop or not, and with so many labels of
 -- its own
-pub record Fits (text : Text) (sites : List Site) (looping : Bool) (names own : ℕ) (a : Jumps) : Type 0
-    where
-  pub marked : a.labels ≡ own
-  pub bound : Clean text sites → looping ≡ false → a.loose ≡ false
-  pub named : Clean text sites → AllBelow names a.gotos
+pub record Fits (text : Text) (sites : List Site) (looping : Bool) (names own : ℕ) (a : Jumps)
+    : Type 0
+  where
+    pub marked : a.labels ≡ own
+    pub bound : Clean text sites → looping ≡ false → a.loose ≡ false
+    pub named : Clean text sites → AllBelow names a.gotos
 
 -- what the forms of a statement have
 
@@ -227,10 +228,12 @@ module _ (text : Text) where
     bound = λ clean out. refl;
     named = λ clean.
         let has = list_any (bytes_eq name.bytes) around.labels in
-        let n6 = broken rule.N6 (at_if (not has) name.place) in
-        (named_of around name (not_false has (not_broken rule.N6 (not has) name.place
-        (none_left n6 [] (none_left (n6 ++ []) [] (none_left (n6 ++ [] ++ []) []
-        (none_left (n6 ++ [] ++ [] ++ []) [] clean.0)))))), tt);
+        let n6 = broken rule.N6 (at_if (not has) name.place) in (
+          named_of around name (not_false has (not_broken rule.N6 (not has) name.place
+              (none_left n6 [] (none_left (n6 ++ []) [] (none_left (n6 ++ [] ++ []) []
+              (none_left (n6 ++ [] ++ [] ++ []) [] clean.0)))))),
+          tt,
+        );
   }
 
   both_false : (b : Bool) → not b ≡ false → b ≡ false → ⊥
@@ -308,7 +311,8 @@ module _ (text : Text) where
 
   open_labels : (x : Statement-F BlockItem Statement) →
       labels_in (roll-Statement x)
-      ≡ labels_step (map-Statement BlockItem Statement (List Name) (List Name) labels_of labels_in x)
+      ≡ labels_step (map-Statement BlockItem Statement (List Name) (List Name) labels_of
+      labels_in x)
   unfolding labels_of labels_in
   open_labels x = fold-roll-Statement (List Name) (List Name) labels_item labels_step x
 

@@ -6,9 +6,8 @@ use Rattle.std.proofs.Common.{inl, inr}
 use Rattle.std.specs.Prelude.{◌⊎◌}
 use Rattle.std.specs.List.{AllByRecursion}
 use Rattle.std.proofs.lemmas.Option.{none-some, same_Some, slice_get_within}
-use Rattle.cpa_model.specs.declared.program.Stmt.{Stmt}
 use Rattle.cpa_model.specs.declared.program.Program.{Program}
-use Rattle.cpa_model.specs.Programs.{IsStmt, IsPart, InLoop, loop_nearest, loop_further, is_loop}
+use Rattle.cpa_model.specs.Programs.{IsStmt, InLoop, loop_nearest, loop_further, is_loop}
 use Rattle.c_core_rules.specs.declared.tree.CoreTree.{CoreTree, roll-CoreTree}
 use Rattle.c_core_rules.specs.declared.tree.CoreTree.TheOpen.{CoreTree-F}
 use Rattle.c_core_rules.specs.declared.tree.CoreTree.TheFolds.{map-CoreTree, ind-CoreTree}
@@ -112,7 +111,8 @@ module _ (P : Program) (labels : List ℕ) where
   further first h sizes has plain is inside k c at =
       let part = part_at labels first h sizes has k c at in (
         inside.0,
-        loop_further first (stmt_of labels h (numbers_from (first + 1) sizes)) part.0 is plain part.1
+        loop_further first (stmt_of labels h (numbers_from (first + 1) sizes)) part.0 is plain
+            part.1
             inside.1,
       )
 

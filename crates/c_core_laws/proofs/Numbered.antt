@@ -13,9 +13,8 @@ use Rattle.c_rules.specs.declared.typed.TypedUnit.{TypedUnit}
 use Rattle.c_core_rules.specs.declared.tree.CoreTree.{CoreTree, roll-CoreTree}
 use Rattle.c_core_rules.specs.declared.tree.CoreTree.TheOpen.{CoreTree-F}
 use Rattle.c_core_rules.specs.declared.tree.CoreTree.TheFolds.{map-CoreTree, ind-CoreTree}
-use Rattle.c_core_rules.specs.declared.tree.CoreTree.TheFolds.{fold-roll-CoreTree}
 use Rattle.c_core_rules.specs.Trees.{Trees}
-use Rattle.c_core_rules.specs.Programs.{Placed, joined, node_statements, statements, numbers_from}
+use Rattle.c_core_rules.specs.Programs.{Placed, joined, statements, numbers_from}
 use Rattle.c_core_rules.specs.Programs.{stmt_of, labels_from, numbered, numbered_bodies, IsCore}
 use Rattle.c_core_rules.specs.Programs.{text_core}
 use Rattle.c_core_laws.proofs.Shapes.{HasParts, PlacedFits, parts_are, joined_fit, node_of}

@@ -1,6 +1,6 @@
 -- Assignments follow the counts.
 use Rattle.std.proofs.Common.{◌≡◌, ℕ, max, Bool, true, false, if◌then◌else◌, [], ◌∷◌}
-use Rattle.std.proofs.Common.{◌++◌, Option, None, Some, refl, ap, sym, ◌∙◌, arith, pos}
+use Rattle.std.proofs.Common.{◌++◌, Option, None, Some, refl, ap, ◌∙◌, arith, pos}
 use Rattle.std.specs.Prelude.{is_some}
 use Rattle.cpa_ints.specs.declared.integers.IntType.{IntType}
 use Rattle.cpa_ints.specs.declared.integers.IntType.TheVariants as ty

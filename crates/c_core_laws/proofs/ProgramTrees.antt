@@ -1,13 +1,13 @@
 -- Where the trees of functions stand in a program, and what spreads from a statement to its parts.
 use Rattle.std.proofs.Common.{◌≡◌, ℕ, zero, suc, ◌+◌, List, [], ◌∷◌, ◌++◌, map, length}
-use Rattle.std.proofs.Common.{Some, slice_get, refl, ap, sym, ◌∙◌, subst, arith, add_assoc, inl, inr}
+use Rattle.std.proofs.Common.{Some, slice_get, refl, ap, sym, ◌∙◌, subst, add_assoc, inl, inr}
 use Rattle.std.specs.Prelude.{◌⊎◌}
 use Rattle.std.specs.List.{AllByRecursion}
 use Rattle.std.proofs.lemmas.Option.{none-some, same_Some}
 use Rattle.cpa_model.specs.declared.program.Stmt.{Stmt}
 use Rattle.cpa_model.specs.declared.program.Successor.{Successor}
 use Rattle.cpa_model.specs.declared.program.Program.{Program}
-use Rattle.cpa_model.specs.Programs.{IsStmt, IsBody, IsPart, parts_of, after_part}
+use Rattle.cpa_model.specs.Programs.{IsStmt, IsBody, IsPart, after_part}
 use Rattle.cpa_model.specs.lemmas.Parts.{part_of_place}
 use Rattle.c_rules.specs.declared.typed.TypedUnit.{TypedUnit}
 use Rattle.c_core_rules.specs.declared.tree.CoreTree.{CoreTree, roll-CoreTree}
@@ -22,13 +22,13 @@ use Rattle.c_core_laws.proofs.ProgramCounted.{numbers_length}
 use Rattle.c_core_laws.proofs.Jumping.{Anything}
 use Rattle.c_core_laws.proofs.Numbered.{get_left, get_right, get_split, Behind, none_first}
 use Rattle.c_core_laws.proofs.Numbered.{one_further, nothing_further, lengths, lengths_are}
-use Rattle.c_core_laws.proofs.Numbered.{IsPlaced, StmtOf, numbered_at, numbered_length}
+use Rattle.c_core_laws.proofs.Numbered.{IsPlaced, numbered_at, numbered_length}
 
 -- these statements stand in the program from a number on, in a function with these labels
 pub record PlacedAt (P : Program) (labels : List ℕ) (first : ℕ) (placed : List Placed) : Type 0
-    where
-  pub at : (i : ℕ) (p : Placed) → slice_get placed i ≡ Some p →
-      IsStmt P (first + i) (stmt_of labels p.head (numbers_from ((first + i) + 1) p.sizes))
+  where
+    pub at : (i : ℕ) (p : Placed) → slice_get placed i ≡ Some p →
+        IsStmt P (first + i) (stmt_of labels p.head (numbers_from ((first + i) + 1) p.sizes))
 
 pub placed_left : (P : Program) (labels : List ℕ) (first : ℕ) (a b : List Placed) →
     PlacedAt P labels first (a ++ b) → PlacedAt P labels first a
@@ -117,7 +117,8 @@ module _ (P : Program) (labels : List ℕ) (Q : ℕ → Type 0)
       (λ k c found. roots (suc k) c found) j p at)
       (get_split own others i p e)
 
-  node_spreads : (first : ℕ) (h : Head) (trees : Trees) → AllByRecursion (Spreads P labels Q) trees →
+  node_spreads : (first : ℕ) (h : Head) (trees : Trees) →
+      AllByRecursion (Spreads P labels Q) trees →
       PlacedAt P labels first (record { head = h; sizes = lengths trees }
       ∷ joined (map statements trees)) →
       AllFit (record { head = h; sizes = lengths trees } ∷ joined (map statements trees)) →

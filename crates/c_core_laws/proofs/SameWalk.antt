@@ -22,7 +22,8 @@ module _ (text : Text) where
   -- a statement, as `grown` of an item
   unfoldable pub grown_of : Statement → Grown TypedStatement
   grown_of =
-      fold-Statement (Grown TypedItem) (Grown TypedStatement) (grown_item text) (grown_statement text)
+      fold-Statement (Grown TypedItem) (Grown TypedStatement) (grown_item text)
+      (grown_statement text)
 
   -- the walk of a statement, as `walk_of` of an item
   unfoldable pub part_walk : Statement → Walk

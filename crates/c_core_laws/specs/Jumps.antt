@@ -1,5 +1,5 @@
--- The labels and jumps of core statements, and of the statements of a typed text, and jumps that lead
--- where they may (C11 6.8.1 and 6.8.6).
+-- The labels and jumps of core statements, and of the statements of a typed text, and jumps that
+-- lead where they may (C11 6.8.1 and 6.8.6).
 use Rattle.std.specs.Prelude.{ℕ, ◌+◌, Bool, true, false, ◌||◌, List, [], ◌∷◌, ◌++◌, map, Option}
 use Rattle.std.specs.Prelude.{None, Some, ⊤}
 use Rattle.c_rules.specs.declared.typed.TypedItem.{TypedItem}

@@ -22,7 +22,8 @@ OneCore = (unit : TypedUnit) (P Q : Program) → IsCore unit P → IsCore unit Q
 
 abbrev pub CoresAreCounted : Type 0
 CoresAreCounted =
-    (unit : TypedUnit) (P : Program) → IsCore unit P → IsCounted P (counts unit.globals unit.functions)
+    (unit : TypedUnit) (P : Program) → IsCore unit P
+    → IsCounted P (counts unit.globals unit.functions)
 
 abbrev pub TextsAreLaidOut : Type 0
 TextsAreLaidOut =
