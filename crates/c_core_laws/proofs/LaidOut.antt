@@ -68,7 +68,7 @@ received (object ∷ objects) cells =
     received objects (cells ++ replicate (cells_of object) object.ty)
     ∙ append_assoc cells (replicate (cells_of object) object.ty) (object_types objects)
 
-open_text : (unit : TypedUnit) →
+pub open_text : (unit : TypedUnit) →
     (text_core unit).taken
     ≡ (each (map (function_rule (frames_of unit.first_cells unit.functions)) unit.functions)
     (receiving_globals unit.globals nothing_taken).taken).taken

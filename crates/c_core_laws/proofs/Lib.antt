@@ -26,6 +26,7 @@ pub mod Numbered
 pub mod ProgramTrees
 pub mod Loops
 pub mod Gotos
+pub mod FramesThere
 pub mod Small
 pub mod MainBody
 pub mod StartsFit

@@ -82,7 +82,7 @@ globals_types (global ∷ globals) taken =
     (taking_types global.object global.starts taken)
 
 module _ (frames : rows.Frames) where
-  each_item : (place : Location) (items : List TypedItem) →
+  pub each_item : (place : Location) (items : List TypedItem) →
       EachFollows of_trees (map (statement.item_rule frames place) items)
       (map (counts.item_rule (frame_heads frames) place.ty) items)
   each_item place [] = no_rule

@@ -1,20 +1,22 @@
 -- The laws of the core of a typed text.
-use Rattle.std.specs.Prelude.{◌≡◌, ℕ, ◌<◌, List, length, map}
+use Rattle.std.specs.Prelude.{◌≡◌, ℕ, ◌<◌, List, length, map, Some, slice_get}
 use Rattle.std.specs.List.{AllByRecursion}
 use Rattle.cpa_ints.specs.Integers.{IsInRange}
 use Rattle.cpa_model.specs.declared.program.Program.{Program}
 use Rattle.cpa_model.specs.declared.program.Stmt.{Stmt}
 use Rattle.c_tree.specs.declared.item.Unit.{Unit as UnitTree}
+use Rattle.cpa_model.specs.Expressions.{types_of}
 use Rattle.cpa_model.specs.Programs.{IsStmt, IsNumbered}
 use Rattle.c_rules.specs.declared.typed.TypedUnit.{TypedUnit}
 use Rattle.c_rules.specs.declared.typed.Global.{Global}
 use Rattle.c_rules.specs.declared.typed.TypedFunction.{TypedFunction}
 use Rattle.c_rules.specs.Names.{Text}
 use Rattle.c_rules.specs.Sound.{counts, typed_parts, typed_unit, Sound}
-use Rattle.c_core_rules.specs.Programs.{IsCore, text_core}
+use Rattle.c_core_rules.specs.Expressions.{frame_at}
+use Rattle.c_core_rules.specs.Programs.{IsCore, frames_of, text_core}
 use Rattle.c_core_laws.specs.Jumps.{tree_jumps, function_jumps, JumpIsSound}
 use Rattle.c_core_laws.specs.Sizes.{IsCounted, IsSmall}
-use Rattle.c_core_laws.specs.Starts.{IsLaidOut}
+use Rattle.c_core_laws.specs.Starts.{IsLaidOut, FrameStands}
 use Rattle.c_core_laws.specs.Standing.{IsOfTree}
 
 abbrev pub OneCore : Type 0
@@ -29,6 +31,14 @@ abbrev pub TextsAreLaidOut : Type 0
 TextsAreLaidOut =
     (text : Text) (bytes : ℕ) (globals : List Global) (functions : List TypedFunction)
     → IsLaidOut (typed_parts text bytes globals functions)
+
+abbrev pub FramesAreThere : Type 0
+FramesAreThere =
+    (text : Text) (bytes : ℕ) (globals : List Global) (functions : List TypedFunction) (k : ℕ)
+    (function : TypedFunction) → slice_get functions k ≡ Some function
+    → FrameStands (types_of (text_core (typed_parts text bytes globals functions)).taken.cells)
+    (frame_at (frames_of (typed_parts text bytes globals functions).first_cells functions) k)
+    function
 
 abbrev pub CoresAreNumbered : Type 0
 CoresAreNumbered = (unit : TypedUnit) (P : Program) → IsCore unit P → IsNumbered P

@@ -1,11 +1,15 @@
 -- Where the cells of a text's objects and functions begin, and what they start at.
-use Rattle.std.specs.Prelude.{◌≡◌, ℕ, List, [], ◌∷◌, length, map}
+use Rattle.std.specs.Prelude.{◌≡◌, ℕ, List, [], ◌∷◌, length, map, None, Some, slice_get}
+use Rattle.std.specs.List.{AllByRecursion}
+use Rattle.cpa_ints.specs.declared.integers.IntType.{IntType}
 use Rattle.cpa_model.specs.declared.program.Cell.{Cell}
+use Rattle.c_rules.specs.declared.meaning.Kind.TheVariants.{Value}
+use Rattle.c_rules.specs.declared.meaning.Object.{Object}
 use Rattle.c_rules.specs.declared.typed.Cell.{Cell as TypedCell}
 use Rattle.c_rules.specs.declared.typed.TypedFunction.{TypedFunction}
 use Rattle.c_rules.specs.declared.typed.TypedUnit.{TypedUnit}
 use Rattle.c_core_rules.specs.Cells.{Taken, nothing_taken}
-use Rattle.c_core_rules.specs.Expressions.{Frames}
+use Rattle.c_core_rules.specs.Expressions.{Frame, Frames}
 use Rattle.c_core_rules.specs.Statements.{function_rule, receiving_globals}
 use Rattle.c_core_rules.specs.Programs.{frames_of, text_core}
 
@@ -24,3 +28,15 @@ pub record IsLaidOut (unit : TypedUnit) : Type 0 where
   pub cells : map program_cell unit.cells ≡ (text_core unit).taken.cells
   pub first_cells : unit.first_cells ≡ begins (frames_of unit.first_cells unit.functions)
       unit.functions (receiving_globals unit.globals nothing_taken).taken
+
+-- none of them is an array, as no parameter is
+abbrev pub AreScalars : List Object → Type 0
+AreScalars objects = AllByRecursion (λ object. object.length ≡ None) objects
+
+-- among cells of these types are that of the result of a function and those of its parameters
+pub record FrameStands (types : List IntType) (frame : Frame) (function : TypedFunction) : Type 0
+  where
+    pub result : (t : IntType) → function.result ≡ Value t
+        → slice_get types frame.result_cell.base ≡ Some t
+    pub parameters : AreScalars function.parameters
+        → AllByRecursion (λ place. slice_get types place.base ≡ Some place.ty) frame.parameters

@@ -1,7 +1,7 @@
 //! Laws on the core of a typed text: functions with an empty body, whose contract is the law.
 ghost use Rattle.c_core_laws.specs.Laws.{CoresAreCounted, CoresAreNumbered, CoresAreSmall, OneCore};
 ghost use Rattle.c_core_laws.specs.Laws.{CellsStartInRange, CoresHaveAMain, JumpsAreKept};
-ghost use Rattle.c_core_laws.specs.Laws.{TextsAreLaidOut, JumpsAreSound, StatementsAreOfTrees};
+ghost use Rattle.c_core_laws.specs.Laws.{FramesAreThere, TextsAreLaidOut, JumpsAreSound, StatementsAreOfTrees};
 
 /// A typed text has one core.
 pub fn there_is_one_core()
@@ -54,4 +54,9 @@ pub fn statements_are_of_trees()
 /// Of a sound text each goto stays in its function, and each break and continue stands in a loop.
 pub fn jumps_are_sound()
     ensures { JumpsAreSound }
+{}
+
+/// The cells of the result and of the parameters of each function are there.
+pub fn frames_are_there()
+    ensures { FramesAreThere }
 {}
