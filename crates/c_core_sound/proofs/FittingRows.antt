@@ -1,0 +1,381 @@
+-- The rules of expressions make well typed trees and values, where the names in them stand for what
+-- is there.
+use Rattle.std.proofs.Common.{◌≡◌, ℕ, ◌≤◌, Bool, true, List, [], ◌∷◌, ◌++◌}
+use Rattle.std.proofs.Common.{Option, Some, ap, sym, subst}
+use Rattle.std.specs.List.{AllByRecursion}
+use Rattle.std.specs.Prelude.{is_some, unwrap_or}
+use Rattle.cpa_ints.specs.declared.integers.IntType.{IntType}
+use Rattle.cpa_expr.specs.declared.tree.Expr.{Expr}
+use Rattle.cpa_expr.specs.Shape.{AreCells, IsTyped}
+use Rattle.c_symbols.specs.declared.operators.BinaryOperator.{BinaryOperator}
+use Rattle.c_symbols.specs.declared.operators.AssignmentOperator.{AssignmentOperator}
+use Rattle.c_symbols.specs.declared.operators.StepOperator.{StepOperator}
+use Rattle.c_tree.specs.declared.expression.UnaryOperator.{UnaryOperator}
+use Rattle.c_rules.specs.declared.known.KnownFunction.{KnownFunction}
+use Rattle.c_rules.specs.declared.known.KnownFunction.TheVariants as known
+use Rattle.c_rules.specs.declared.meaning.Kind.{Kind}
+use Rattle.c_rules.specs.declared.meaning.Kind.TheVariants.{Void, Value}
+use Rattle.c_rules.specs.declared.meaning.Object.{Object}
+use Rattle.c_rules.specs.declared.meaning.Function.{Function}
+use Rattle.c_rules.specs.declared.meaning.Meaning.TheVariants as meaning
+use Rattle.c_rules.specs.Types.{object_type}
+use Rattle.c_rules.specs.Known.{known_result}
+use Rattle.c_rules.specs.Counts.{cells_of, operator_of}
+use Rattle.c_core_rules.specs.declared.tree.Head.TheVariants as head
+use Rattle.c_core_rules.specs.declared.tree.Location.{Location}
+use Rattle.c_core_rules.specs.declared.tree.Place.TheVariants as place
+use Rattle.c_core_rules.specs.declared.tree.Valued.{Valued}
+use Rattle.c_core_rules.specs.Values.{scalar, element, int, cell_at}
+use Rattle.c_core_rules.specs.Trees.{Trees, leaf, choice, valued, pure, input}
+use Rattle.c_core_rules.specs.Cells.{Taken, location_in}
+use Rattle.c_core_rules.specs.Cells as core
+use Rattle.c_core_rules.specs.Acts as acts
+use Rattle.c_core_rules.specs.Places as places
+use Rattle.c_core_rules.specs.Expressions as rows
+use Rattle.c_core_rules.specs.Expressions.{scalar_target, element_target}
+use Rattle.c_core_sound.proofs.TypedValues.{PlaceFits, first_fits, scalar_typed, element_typed}
+use Rattle.c_core_sound.proofs.TypedValues.{conv_typed, one_typed, signed_typed, cell_below}
+use Rattle.c_core_sound.proofs.Fitting.{Ground, World, TreesFit, append_fits, push_fits, leaf_fits}
+use Rattle.c_core_sound.proofs.Fitting.{choice_fits, set_fits, Fits, fits_gives, fits_then}
+use Rattle.c_core_sound.proofs.Fitting.{fits_weaker, fits_freshly, fits_at, EachFits}
+use Rattle.c_core_sound.proofs.Fitting.{fits_each}
+use Rattle.c_core_sound.proofs.FittingActs.{Good, AllGood, good, hold_all_fits, all_statements}
+use Rattle.c_core_sound.proofs.FittingActs.{all_values, linked_fits, chosen_fits, dropped_fits}
+use Rattle.c_core_sound.proofs.FittingActs.{fixed_if_fits, FitPlace, changed_fits, stepped_fits}
+
+-- an object begins at a cell, and its cells are there
+pub record Begins (cells : List IntType) (object : Object) (starts : ℕ → Option ℕ) : Type 0 where
+  pub some : 1 ≤ cells_of object
+  pub base : ℕ
+  pub is : starts object.number ≡ Some base
+  pub there : AreCells cells base (cells_of object) object.ty
+
+-- wherever what is known is so
+pub record ObjectFits (W : World) (object : Object) : Type 0 where
+  pub begins : (starts : ℕ → Option ℕ) → W.knows starts → Begins W.ground.cells object starts
+
+-- a function may be called here: its parameters are there, and its result is, where it has one
+pub record FunctionFits (G : Ground) (frames : rows.Frames) (function : Function) : Type 0 where
+  pub lands : G.lands (unwrap_or function.body 0)
+  pub parameters : AllByRecursion (PlaceFits G.cells)
+      (rows.frame_at frames (unwrap_or function.body 0)).parameters
+  pub result : (t : IntType) → function.result ≡ Value t → PlaceFits G.cells (cell_at t
+      (rows.frame_at frames (unwrap_or function.body 0)).result_cell.base)
+
+-- wherever what is known is so
+pub record MayCall (W : World) (frames : rows.Frames) (function : Function) : Type 0 where
+  pub fits : (starts : ℕ → Option ℕ) → W.knows starts → FunctionFits W.ground frames function
+
+-- what is assigned to is there
+pub data TargetFits (W : World) : rows.Target → Type 0 where
+  fit_scalar : (object : Object) → ObjectFits W object
+      → TargetFits W (scalar_target (Some (meaning.Object object)))
+  fit_element : (object : Object) {index : core.Rule Valued} → ObjectFits W object
+      → Fits W (Unit {0}) (Good W) index
+      → TargetFits W (element_target (Some (meaning.Object object)) index)
+
+module _ (W : World) where
+  abbrev pub GoodRule : core.Rule Valued → Type 0
+  GoodRule rule = Fits W (Unit {0}) (Good W) rule
+
+  abbrev pub TreesRule : core.Rule Trees → Type 0
+  TreesRule rule = Fits W (Unit {0}) (TreesFit W.ground) rule
+
+  -- where an object is
+  pub located_fits : (object : Object) → ObjectFits W object → (taken : Taken) →
+      W.knows taken.starts → PlaceFits W.ground.cells (location_in taken
+      (Some (meaning.Object object)))
+  located_fits object h taken k =
+      let b = h.begins taken.starts k in record {
+        some = b.some;
+        there = subst (λ n. AreCells W.ground.cells n (cells_of object) object.ty)
+            (sym (ap (λ (o : Option ℕ). unwrap_or o 0) b.is)) b.there;
+      }
+
+  scalar_at : (object : Object) → ObjectFits W object → (taken : Taken) →
+      W.knows taken.starts →
+      PlaceFits W.ground.cells (cell_at object.ty
+      (location_in taken (Some (meaning.Object object))).base)
+  scalar_at object h taken k =
+      first_fits W.ground.cells (location_in taken (Some (meaning.Object object)))
+      (located_fits object h taken k)
+
+  pub dropped_rule : {r : core.Rule Valued} → GoodRule r → TreesRule (rows.dropped r)
+  dropped_rule h =
+      fits_then W acts.dropped_value h (λ v. fits_weaker W (λ g. g.1) (dropped_fits W v))
+
+  pub only_fits : {r : core.Rule Valued} → GoodRule r → TreesRule (rows.only_statements r)
+  only_fits h =
+      fits_then W (λ v. core.gives v.statements) h
+      (λ v. fits_gives W (TreesFit W.ground) v.statements (λ g. g.1.statements))
+
+  -- names and elements
+  pub name_fits : (object : Object) → ObjectFits W object →
+      GoodRule (rows.name_used (Some (meaning.Object object)))
+  name_fits object h =
+      let found = Some (meaning.Object object) in
+      fits_at W (λ taken. core.gives (pure (scalar (cell_at object.ty
+      (location_in taken found).base))))
+      (λ taken. fits_gives W (Good W) (pure (scalar (cell_at object.ty
+      (location_in taken found).base)))
+      (λ g. good W [] (scalar (cell_at object.ty (location_in taken found).base)) tt
+      (scalar_typed W.ground.cells (cell_at object.ty (location_in taken found).base)
+      (scalar_at object h taken g.1))))
+
+  pub element_fits : (object : Object) → ObjectFits W object → {index : core.Rule Valued} →
+      GoodRule index → GoodRule (rows.element_used (Some (meaning.Object object)) index)
+  element_fits object h i =
+      let found = Some (meaning.Object object) in
+      fits_then W (λ i taken. core.gives
+      (valued i.statements (element (location_in taken found) i.value)) taken) i
+      (λ i. fits_at W (λ taken. core.gives
+      (valued i.statements (element (location_in taken found) i.value)))
+      (λ taken. fits_gives W (Good W)
+      (valued i.statements (element (location_in taken found) i.value))
+      (λ g. good W i.statements (element (location_in taken found) i.value) g.0.1.statements
+      (element_typed W.ground.cells (location_in taken found) i.value
+      (located_fits object h taken g.1)
+      g.0.1.value))))
+
+  -- assignments
+  placed_fits : (fixes : Bool) {target : rows.Target} → TargetFits W target →
+      Fits W (Unit {0}) (FitPlace W) (rows.placed fixes target)
+  placed_fits fixes (fit_scalar object h) =
+      let found = Some (meaning.Object object) in
+      fits_at W (λ taken. core.gives (place.Scalar (cell_at object.ty
+      (location_in taken found).base)))
+      (λ taken. fits_gives W (FitPlace W) (place.Scalar (cell_at object.ty
+      (location_in taken found).base)) (λ g. scalar_at object h taken g.1))
+  placed_fits fixes (fit_element object h i) =
+      let found = Some (meaning.Object object) in
+      fits_then W (λ i. core.then_by (places.fixed_if fixes i) (λ kept. core.then_by
+      (core.located found) (λ location. core.gives (place.Element location kept)))) i
+      (λ i. fits_then W (λ kept. core.then_by (core.located found)
+      (λ location. core.gives (place.Element location kept)))
+      (fits_weaker W (λ g. g.1) (fixed_if_fits W fixes i))
+      (λ kept. fits_at W (λ taken. core.gives (place.Element (location_in taken found) kept))
+      (λ taken. fits_gives W (FitPlace W) (place.Element (location_in taken found) kept)
+      (λ g. (located_fits object h taken g.1, g.0.1)))))
+
+  pub assigning_fits : (keeps : Bool) (operator : AssignmentOperator) {target : rows.Target}
+      {right : core.Rule Valued} → TargetFits W target → GoodRule right →
+      GoodRule (rows.assigning keeps operator target right)
+  assigning_fits keeps operator {right = right} target h =
+      fits_then W (λ where_to. core.then_by right
+      (λ v. places.changed keeps (operator_of operator) where_to v))
+      (placed_fits (is_some (operator_of operator)) target)
+      (λ where_to. fits_then W (λ v. places.changed keeps (operator_of operator) where_to v)
+      (fits_weaker W (λ g. tt) h)
+      (λ v. fits_weaker W (λ g. (g.0.1, g.1)) (changed_fits W keeps (operator_of operator) where_to
+      v)))
+
+  pub incrementing_fits : (operator : StepOperator) {target : rows.Target} → TargetFits W target →
+      GoodRule (rows.incrementing operator target)
+  incrementing_fits operator target =
+      fits_then W (places.incremented operator) (placed_fits true target)
+      (λ where_to. fits_weaker W (λ g. (g.1, good W [] (int 1) tt (one_typed W.ground.cells)))
+      (changed_fits W true (Some (places.step_operator operator)) where_to (pure (int 1))))
+
+  pub stepping_fits : (operator : StepOperator) {target : rows.Target} → TargetFits W target →
+      GoodRule (rows.stepping operator target)
+  stepping_fits operator target =
+      fits_then W (places.stepped operator) (placed_fits true target)
+      (λ where_to. fits_weaker W (λ g. g.1) (stepped_fits W operator where_to))
+
+  -- calls
+  passed_fit : (where_to : List Location) (values : List Expr) →
+      AllByRecursion (PlaceFits W.ground.cells) where_to → AllByRecursion (IsTyped W.ground.cells)
+      values →
+      TreesFit W.ground (rows.passed where_to values)
+  passed_fit [] values h k = tt
+  passed_fit (p ∷ where_to) [] h k = tt
+  passed_fit (p ∷ where_to) (v ∷ values) h k =
+      (set_fits W.ground p v h.0 k.0, passed_fit where_to values h.1 k.1)
+
+  call_trees : (frames : rows.Frames) (function : Function) → FunctionFits W.ground frames function
+      →
+      (operands : List Valued) → AllGood W operands →
+      TreesFit W.ground (rows.called_with frames function operands).statements
+  call_trees frames function f operands h =
+      let body = unwrap_or function.body 0 in
+      let writes = rows.passed (rows.frame_at frames body).parameters (acts.values_of operands) in
+      append_fits W.ground (acts.statements_of operands) (writes ++ leaf (head.Call body) ∷ [])
+      (all_statements W operands h)
+      (push_fits W.ground writes (leaf (head.Call body))
+      (passed_fit (rows.frame_at frames body).parameters (acts.values_of operands) f.parameters
+      (all_values W operands h)) (leaf_fits W.ground (head.Call body) f.lands))
+
+  -- of a call that has a value
+  called_good : (frames : rows.Frames) (function : Function) → FunctionFits W.ground frames function
+      →
+      (t : IntType) → function.result ≡ Value t → (operands : List Valued) → AllGood W operands →
+      Good W (rows.called_with frames function operands)
+  called_good frames function f t is operands h = record {
+    statements = call_trees frames function f operands h;
+    value =
+        let base = (rows.frame_at frames (unwrap_or function.body 0)).result_cell.base in
+        scalar_typed W.ground.cells (cell_at (object_type function.result) base)
+        (subst (λ (kind : Kind). PlaceFits W.ground.cells (cell_at (object_type kind) base))
+        (sym is)
+        (f.result t is));
+  }
+
+  pub called_fits : (frames : rows.Frames) (function : Function) → MayCall W frames function →
+      (t : IntType) → function.result ≡ Value t → {rules : List (core.Rule Valued)} →
+      EachFits W (Unit {0}) (Good W) rules → GoodRule (rows.called frames function rules)
+  called_fits frames function f t is all =
+      fits_then W (λ vs. core.then_by (acts.hold_all vs)
+      (λ operands. core.gives (rows.called_with frames function operands)))
+      (fits_each W (Unit {0}) (Good W) all)
+      (λ vs. fits_then W (λ operands. core.gives (rows.called_with frames function operands))
+      (fits_weaker W (λ g. g.1) (hold_all_fits W vs))
+      (λ operands. fits_at W (λ taken. core.gives (rows.called_with frames function operands))
+      (λ taken. fits_gives W (Good W) (rows.called_with frames function operands)
+      (λ g. called_good frames function (f.fits taken.starts g.1) t is operands g.0.1))))
+
+  pub called_unused_fits : (frames : rows.Frames) (function : Function) →
+      MayCall W frames function → {rules : List (core.Rule Valued)} →
+      EachFits W (Unit {0}) (Good W) rules →
+      TreesRule (rows.only_statements (rows.called frames function rules))
+  called_unused_fits frames function f all =
+      let made = λ (v : Valued). TreesFit W.ground v.statements in
+      fits_then W (λ v. core.gives v.statements)
+      (fits_then W (λ vs. core.then_by (acts.hold_all vs)
+      (λ operands. core.gives (rows.called_with frames function operands)))
+      (fits_each W (Unit {0}) (Good W) all)
+      (λ vs. fits_then W (λ operands. core.gives (rows.called_with frames function operands))
+      (fits_weaker W (λ g. g.1) (hold_all_fits W vs))
+      (λ operands. fits_at W (λ taken. core.gives (rows.called_with frames function operands))
+      (λ taken. fits_gives W made (rows.called_with frames function operands)
+      (λ g. call_trees frames function (f.fits taken.starts g.1) operands g.0.1)))))
+      (λ v. fits_gives W (TreesFit W.ground) v.statements (λ g. g.1))
+
+  taken_in_fits : (function : KnownFunction) → GoodRule (rows.taken_in function)
+  taken_in_fits function =
+      fits_freshly W (Good W) (object_type (known_result function))
+      (λ t. valued (input t.base ∷ []) (scalar t))
+      (λ t g p is. good W (input t.base ∷ []) (scalar t)
+      (leaf_fits W.ground (head.Input t.base) (cell_below W.ground.cells t p), tt)
+      (scalar_typed W.ground.cells t p))
+
+  stop_fits : TreesRule (core.gives (leaf head.Stop ∷ []))
+  stop_fits = fits_gives W (TreesFit W.ground) (leaf head.Stop ∷ [])
+      (λ g. (leaf_fits W.ground head.Stop tt, tt))
+
+  exit_fits : {before : core.Rule Trees} → TreesRule before →
+      TreesRule (core.then_by before (λ trees. core.gives (trees ++ leaf head.Stop ∷ [])))
+  exit_fits h =
+      fits_then W (λ trees. core.gives (trees ++ leaf head.Stop ∷ [])) h
+      (λ trees. fits_gives W (TreesFit W.ground) (trees ++ leaf head.Stop ∷ [])
+      (λ g. push_fits W.ground trees (leaf head.Stop) g.1 (leaf_fits W.ground head.Stop tt)))
+
+  first_fits_of : (rs : List rows.Rows) → AllByRecursion (λ (r : rows.Rows). TreesRule r.unused) rs
+      →
+      TreesRule (rows.first_unused rs)
+  first_fits_of [] h = fits_gives W (TreesFit W.ground) [] (λ g. tt)
+  first_fits_of (r ∷ rs) h = h.0
+
+  pub known_unused_fits : (function : KnownFunction) (rs : List rows.Rows) →
+      AllByRecursion (λ (r : rows.Rows). TreesRule r.unused) rs →
+      TreesRule (rows.known_unused function rs)
+  known_unused_fits known.ReachError rs h =
+      fits_gives W (TreesFit W.ground) (leaf head.Error ∷ [])
+      (λ g. (leaf_fits W.ground head.Error tt, tt))
+  known_unused_fits known.Abort rs h = stop_fits
+  known_unused_fits known.AssertFail rs h = stop_fits
+  known_unused_fits known.Exit rs h = exit_fits (first_fits_of rs h)
+  known_unused_fits known.InputBool rs h = only_fits (taken_in_fits known.InputBool)
+  known_unused_fits known.InputChar rs h = only_fits (taken_in_fits known.InputChar)
+  known_unused_fits known.InputUnsignedChar rs h =
+      only_fits (taken_in_fits known.InputUnsignedChar)
+  known_unused_fits known.InputShort rs h = only_fits (taken_in_fits known.InputShort)
+  known_unused_fits known.InputUnsignedShort rs h =
+      only_fits (taken_in_fits known.InputUnsignedShort)
+  known_unused_fits known.InputInt rs h = only_fits (taken_in_fits known.InputInt)
+  known_unused_fits known.InputUnsigned rs h = only_fits (taken_in_fits known.InputUnsigned)
+  known_unused_fits known.InputLong rs h = only_fits (taken_in_fits known.InputLong)
+  known_unused_fits known.InputUnsignedLong rs h =
+      only_fits (taken_in_fits known.InputUnsignedLong)
+  known_unused_fits known.InputLongLong rs h = only_fits (taken_in_fits known.InputLongLong)
+  known_unused_fits known.InputUnsignedLongLong rs h =
+      only_fits (taken_in_fits known.InputUnsignedLongLong)
+
+  -- of a known function that has a value
+  known_by : (kind : Kind) (function : KnownFunction) (rs : List rows.Rows) (t : IntType) →
+      kind ≡ Value t →
+      GoodRule (elim kind [
+        | Void ↦ rows.valueless (rows.known_unused function rs)
+        | Value u ↦ rows.taken_in function
+      ])
+  known_by Void function rs t is = absurd (cc)
+  known_by (Value u) function rs t is = taken_in_fits function
+
+  pub known_used_fits : (function : KnownFunction) (rs : List rows.Rows) (t : IntType) →
+      known_result function ≡ Value t → GoodRule (rows.known_used function rs)
+  known_used_fits function rs t is = known_by (known_result function) function rs t is
+
+  -- chains, commas, conditionals
+  pub linking_fits : (operator : BinaryOperator) {left right : core.Rule Valued} → GoodRule left →
+      GoodRule right →
+      GoodRule (core.then_by left (λ v. core.then_by right (λ w. acts.linked operator v w)))
+  linking_fits operator {right = right} h k =
+      fits_then W (λ v. core.then_by right (λ w. acts.linked operator v w)) h
+      (λ v. fits_then W (λ w. acts.linked operator v w) (fits_weaker W (λ g. tt) k)
+      (λ w. fits_weaker W (λ g. (g.0.1, g.1)) (linked_fits W operator v w)))
+
+  pub behind_fits : {before : core.Rule Trees} {last : core.Rule Valued} → TreesRule before →
+      GoodRule last →
+      GoodRule (core.then_by before (λ trees. core.then_by last (λ v.
+      core.gives (valued (trees ++ v.statements) v.value))))
+  behind_fits {last = last} h k =
+      fits_then W (λ trees. core.then_by last (λ v.
+      core.gives (valued (trees ++ v.statements) v.value))) h
+      (λ trees. fits_then W (λ v. core.gives (valued (trees ++ v.statements) v.value))
+      (fits_weaker W (λ g. tt) k)
+      (λ v. fits_gives W (Good W) (valued (trees ++ v.statements) v.value)
+      (λ g. good W (trees ++ v.statements) v.value
+      (append_fits W.ground trees v.statements g.0.1 g.1.statements) g.1.value)))
+
+  pub void_choice_fits : {test : core.Rule Valued} {first second : core.Rule Trees} →
+      GoodRule test → TreesRule first → TreesRule second →
+      TreesRule (core.then_by test (λ v. core.then_by first (λ a. core.then_by second (λ b.
+      core.gives (v.statements ++ choice v.value a b ∷ [])))))
+  void_choice_fits {first = first} {second = second} h k l =
+      fits_then W (λ v. core.then_by first (λ a. core.then_by second (λ b.
+      core.gives (v.statements ++ choice v.value a b ∷ [])))) h
+      (λ v. fits_then W (λ a. core.then_by second (λ b.
+      core.gives (v.statements ++ choice v.value a b ∷ []))) (fits_weaker W (λ g. tt) k)
+      (λ a. fits_then W (λ b. core.gives (v.statements ++ choice v.value a b ∷ []))
+      (fits_weaker W (λ g. tt) l)
+      (λ b. fits_gives W (TreesFit W.ground) (v.statements ++ choice v.value a b ∷ [])
+      (λ g. push_fits W.ground v.statements (choice v.value a b) g.0.0.1.statements
+      (choice_fits W.ground v.value a b g.0.0.1.value g.0.1 g.1)))))
+
+  pub conditional_fits : {test first second : core.Rule Valued} → GoodRule test → GoodRule first →
+      GoodRule second →
+      GoodRule (core.then_by test (λ v. core.then_by first (λ a. core.then_by second (λ b.
+      acts.chosen v a b))))
+  conditional_fits {first = first} {second = second} h k l =
+      fits_then W (λ v. core.then_by first (λ a. core.then_by second (λ b. acts.chosen v a b))) h
+      (λ v. fits_then W (λ a. core.then_by second (λ b. acts.chosen v a b))
+      (fits_weaker W (λ g. tt) k)
+      (λ a. fits_then W (λ b. acts.chosen v a b) (fits_weaker W (λ g. tt) l)
+      (λ b. fits_weaker W (λ g. (g.0.0.1, g.0.1, g.1)) (chosen_fits W v a b))))
+
+  pub cast_fits : (t : IntType) {r : core.Rule Valued} → GoodRule r →
+      GoodRule (core.then_by r (λ v. core.gives (acts.cast_to t v)))
+  cast_fits t h =
+      fits_then W (λ v. core.gives (acts.cast_to t v)) h
+      (λ v. fits_gives W (Good W) (acts.cast_to t v) (λ g. record {
+        statements = g.1.statements;
+        value = conv_typed W.ground.cells v.value t g.1.value;
+      }))
+
+  pub signed_fits : (operator : UnaryOperator) {r : core.Rule Valued} → GoodRule r →
+      GoodRule (core.then_by r (λ v. core.gives (acts.signed operator v)))
+  signed_fits operator h =
+      fits_then W (λ v. core.gives (acts.signed operator v)) h
+      (λ v. fits_gives W (Good W) (acts.signed operator v) (λ g. record {
+        statements = g.1.statements;
+        value = signed_typed W.ground.cells operator v.value g.1.value;
+      }))

@@ -1,0 +1,454 @@
+-- The core of a sound text is well formed (`core_sound`).
+use Rattle.std.proofs.Common.{◌≡◌, ℕ, zero, suc, ◌+◌, ◌<◌, ◌≤◌, max, Bool, true, false, List, []}
+use Rattle.std.proofs.Common.{◌∷◌}
+use Rattle.std.proofs.Common.{◌++◌, map, length, Option, None, Some, refl, ap, sym, ◌∙◌, subst}
+use Rattle.std.proofs.Common.{arith}
+use Rattle.std.proofs.Common.{slice_get, inl, inr}
+use Rattle.std.specs.List.{AllByRecursion, flat_map}
+use Rattle.std.proofs.lemmas.Option.{none-some, same_Some, slice_get_within}
+use Rattle.std.proofs.lemmas.List.{append-nil, length-map}
+use Rattle.cpa_ints.specs.declared.integers.IntType.{IntType}
+use Rattle.cpa_expr.specs.declared.shape.TheConstants.{MAX_HEIGHT}
+use Rattle.cpa_expr.specs.Shape.{height, IsTyped}
+use Rattle.cpa_expr.specs.Shape as shape
+use Rattle.cpa_model.specs.declared.program.Cell.{Cell}
+use Rattle.cpa_model.specs.declared.program.Stmt.{Stmt}
+use Rattle.cpa_model.specs.declared.program.Stmt.TheVariants as stmt
+use Rattle.cpa_model.specs.declared.program.Program.{Program}
+use Rattle.cpa_model.specs.Expressions.{types_of}
+use Rattle.cpa_model.specs.Programs.{IsStmt, IsSound, InFunction, Reaches, reaches_call}
+use Rattle.cpa_model.specs.Programs.{reaches_through, IsNumbered, IsWellFormed}
+use Rattle.cpa_model.specs.lemmas.Trees.{one_function}
+use Rattle.c_lexer.specs.declared.fault.Rule.TheVariants as rule
+use Rattle.c_tree.specs.declared.statement.BlockItem.{BlockItem}
+use Rattle.c_tree.specs.declared.item.Body.TheVariants as body
+use Rattle.c_tree.specs.declared.item.Item.{Item}
+use Rattle.c_tree.specs.declared.item.Item.TheVariants as item
+use Rattle.c_tree.specs.declared.item.Unit.{Unit as UnitTree}
+use Rattle.c_rules.specs.declared.meaning.Kind.{Kind}
+use Rattle.c_rules.specs.declared.meaning.Object.{Object}
+use Rattle.c_rules.specs.declared.meaning.ParameterType.{ParameterType}
+use Rattle.c_rules.specs.declared.meaning.Declared.TheVariants as declared
+use Rattle.c_rules.specs.declared.meaning.Entry.{Entry}
+use Rattle.c_rules.specs.declared.typed.TypedFunction.{TypedFunction}
+use Rattle.c_rules.specs.declared.typed.TypedUnit.{TypedUnit}
+use Rattle.c_rules.specs.Names.{Text, body_of, declared_as}
+use Rattle.c_rules.specs.Declarations.{kind_of}
+use Rattle.c_rules.specs.StatementRules.{jump_faults, site_faults}
+use Rattle.c_rules.specs.Statements.{walk_of}
+use Rattle.c_rules.specs.TypedStatements.{grown}
+use Rattle.c_rules.specs.Items.{Before, Call, text_of, items_faults, items_calls, nothing_before}
+use Rattle.c_rules.specs.Items.{body_sites, globals_faults, head_faults, item_behind, item_faults}
+use Rattle.c_rules.specs.Items.{listed}
+use Rattle.c_rules.specs.Recursion.{Among, Calls, Through}
+use Rattle.c_rules.specs.Recursion as recursion
+use Rattle.c_rules.specs.Sound.{Sound, typed_unit, typed_parts, unit_globals, unit_functions}
+use Rattle.c_rules.specs.Sound.{unit_faults, unit_calls, without_main, items_behind, starts_of}
+use Rattle.c_core_rules.specs.declared.tree.CoreTree.{CoreTree}
+use Rattle.c_core_rules.specs.declared.tree.Head.{Head}
+use Rattle.c_core_rules.specs.declared.tree.Head.TheVariants as head
+use Rattle.c_core_rules.specs.Trees.{Trees}
+use Rattle.c_core_rules.specs.Cells.{Rule, Taken, Made, each, nothing_taken}
+use Rattle.c_core_rules.specs.Expressions.{Frame, Frames, frame_at}
+use Rattle.c_core_rules.specs.Statements.{function_rule, receiving_globals}
+use Rattle.c_core_rules.specs.Programs.{IsCore, Placed, statements, stmt_of, text_core, frames_of}
+use Rattle.c_core_rules.specs.Programs.{numbers_from}
+use Rattle.c_core_laws.specs.Sizes.{stmt_height}
+use Rattle.c_core_laws.specs.Starts.{FrameStands}
+use Rattle.c_core_laws.specs.Standing.{IsOfTree}
+use Rattle.c_core_laws.specs.Jumps.{JumpIsSound}
+use Rattle.c_core_laws.specs.Laws.{FramesAreThere, StatementsAreOfTrees, CoresAreNumbered}
+use Rattle.c_core_laws.specs.Laws.{CoresAreSmall, JumpsAreSound, CoresHaveAMain, CellsStartInRange}
+use Rattle.c_core_sound.specs.Whole.{IsWhole, all_whole, whole_block_item, whole_declarator}
+use Rattle.c_core_sound.specs.Whole.{whole_item}
+use Rattle.c_core_sound.proofs.TypedValues.{cell_fits}
+use Rattle.c_core_sound.proofs.Fitting.{Ground, HeadFits, TreeFits, Within, within_before}
+use Rattle.c_core_sound.proofs.ReadParts.{NoFaults, none_left, none_right}
+use Rattle.c_core_sound.proofs.ReadExpressions.{and_left, and_right}
+use Rattle.c_core_sound.proofs.RunFunctions.{function_rises}
+use Rattle.c_core_sound.proofs.SameWalk.{same_walk}
+use Rattle.c_core_sound.proofs.FileNames.{FileScope, Stay, function_scope}
+use Rattle.c_core_sound.proofs.Globals.{globals_begin}
+use Rattle.c_core_sound.proofs.RunText.{Callee, Fit, among_left, body_around, globals_scope, ground}
+use Rattle.c_core_sound.proofs.RunText.{later_scope, text_runs}
+use Rattle.c_core_sound.proofs.Bodies.{FoundBody, Single, found_body, frames_single, places_fit}
+use Rattle.c_core_sound.proofs.Bodies.{single_at}
+
+-- statements by the heads of their trees
+
+all_at : {X : Type 0} (P : X → Type 0) (xs : List X) (i : ℕ) (x : X) → AllByRecursion P xs →
+    slice_get xs i ≡ Some x → P x
+all_at P [] i x all e = absurd (none-some x e)
+all_at P (y ∷ xs) zero x all e = subst P (same_Some y x e) all.0
+all_at P (y ∷ xs) (suc i) x all e = all_at P xs i x all.1 e
+
+no_further : (n : ℕ) → n ≡ n + 0
+no_further n = omega arith
+
+one_further : (n m : ℕ) → (n + 1) + m ≡ n + suc m
+one_further n m = omega arith
+
+none_first : (n : ℕ) → 0 + n ≡ n
+none_first n = omega arith
+
+lower_left : (a b n : ℕ) → max a b ≤ n → a ≤ n
+lower_left a b n h = omega (arith, h)
+
+lower_right : (a b n : ℕ) → max a b ≤ n → b ≤ n
+lower_right a b n h = omega (arith, h)
+
+-- what calls what
+
+through_both : (calls : List Call) (a : ℕ) (way : List ℕ) (b : ℕ) (rest : List ℕ) (c : ℕ) →
+    Through calls a way b → Through calls b rest c → Through calls a (way ++ rest) c
+through_both calls a [] b rest c h k = subst (λ n. Through calls n rest c) (sym h) k
+through_both calls a (next ∷ way) b rest c h k =
+    (h.0, through_both calls next way b rest c h.1 k)
+
+reaches_of : (P : Program) (calls : List Call) →
+    ((a n b : ℕ) → InFunction P a n → IsStmt P n (stmt.Call b) → Calls calls a b) → (a b : ℕ) →
+    Reaches P a b → recursion.Reaches calls a b
+reaches_of P calls called a b (reaches_call n inside is) =
+    record { way = b ∷ []; through = (called a n b inside is, refl) }
+reaches_of P calls called a b (reaches_through {g = g} x y) =
+    let r = reaches_of P calls called a g x in
+    let s = reaches_of P calls called g b y in
+    record {
+      way = r.way ++ s.way;
+      through = through_both calls a r.way g s.way b r.through s.through;
+    }
+
+call_head : (labels : List ℕ) (h : Head) (parts : List ℕ) (f : ℕ) →
+    stmt.Call f ≡ stmt_of labels h parts → h ≡ head.Call f
+call_head labels head.Block parts f is = absurd (cc)
+call_head labels head.Labeled parts f is = absurd (cc)
+call_head labels (head.If test) parts f is = absurd (cc)
+call_head labels head.Loop parts f is = absurd (cc)
+call_head labels (head.Assign base len index value) parts f is = absurd (cc)
+call_head labels (head.Input cell) parts f is = absurd (cc)
+call_head labels (head.Call function) parts f is = cc
+call_head labels (head.Goto label) parts f is = absurd (cc)
+call_head labels head.Break parts f is = absurd (cc)
+call_head labels head.Continue parts f is = absurd (cc)
+call_head labels head.Leave parts f is = absurd (cc)
+call_head labels head.Stop parts f is = absurd (cc)
+call_head labels head.Error parts f is = absurd (cc)
+
+by_head : (P : Program) (G : Ground) (n : ℕ) (labels : List ℕ) (h : Head) (parts : List ℕ) →
+    G.cells ≡ types_of P.cells → HeadFits G h → stmt_height (stmt_of labels h parts) ≤ MAX_HEIGHT →
+    JumpIsSound P n (stmt_of labels h parts) →
+    ((f : ℕ) → G.lands f → IsSound P n (stmt.Call f)) → IsSound P n (stmt_of labels h parts)
+by_head P G n labels head.Block parts cells fits high jump call = tt
+by_head P G n labels head.Labeled parts cells fits high jump call = tt
+by_head P G n labels (head.If test) parts cells fits high jump call =
+    record { typed = subst (λ ts. IsTyped ts test) cells fits; height = high }
+by_head P G n labels head.Loop parts cells fits high jump call = tt
+by_head P G n labels (head.Assign base len index value) parts cells fits high jump call = (
+  fits.0,
+  record {
+    typed = subst (λ ts. IsTyped ts index) cells fits.1;
+    height = lower_left (height index) (height value) MAX_HEIGHT high;
+  },
+  record {
+    typed = subst (λ ts. IsTyped ts value) cells fits.2;
+    height = lower_right (height index) (height value) MAX_HEIGHT high;
+  },
+  subst (λ ts. shape.AreCells ts base len (shape.type_of value)) cells fits.3,
+)
+by_head P G n labels (head.Input cell) parts cells fits high jump call =
+    subst (λ m. cell < m) (ap (λ (ts : List IntType). length ts) cells
+    ∙ length-map P.cells (λ (c : Cell). c.ty)) fits
+by_head P G n labels (head.Call function) parts cells fits high jump call = call function fits
+by_head P G n labels (head.Goto label) parts cells fits high jump call = jump
+by_head P G n labels head.Break parts cells fits high jump call = jump
+by_head P G n labels head.Continue parts cells fits high jump call = jump
+by_head P G n labels head.Leave parts cells fits high jump call = tt
+by_head P G n labels head.Stop parts cells fits high jump call = tt
+by_head P G n labels head.Error parts cells fits high jump call = tt
+
+-- the body that a name of file scope stands for
+
+same_function : (r s : Kind) (ps qs : Option (List ParameterType)) (d e : Bool) →
+    Some (declared.Function r ps d) ≡ Some (declared.Function s qs e) → r ≡ s
+same_function r s ps qs d e is = cc
+
+callee : (all : List IntType) (frames : Frames) (bodies : ℕ) (functions : List TypedFunction)
+    (last : List Entry) (name : List ℕ) (result : Kind) (ps : Option (List ParameterType))
+    (d : Bool) → declared_as last name ≡ Some (declared.Function result ps d) → (body : ℕ) →
+    length functions ≡ bodies → FoundBody functions last name body →
+    ((function : TypedFunction) → slice_get functions body ≡ Some function →
+    FrameStands all (frame_at frames body) function) →
+    AllByRecursion (λ (frame : Frame). AllByRecursion Single frame.parameters) frames →
+    Callee all frames bodies result body
+callee all frames bodies functions last name result ps d is body many found stands single =
+    let f = found.function in
+    let same : result ≡ f.result =
+    same_function result f.result ps found.named.parameters d found.named.defined
+    (sym is ∙ found.named.is) in
+    let there = stands f found.at in
+    record {
+      inside = subst (λ n. body < n) many (slice_get_within functions body f found.at);
+      parameters = places_fit all (frame_at frames body).parameters (single_at frames body single)
+          (there.parameters found.scalars);
+      returns = λ t so.
+          cell_fits all t (frame_at frames body).result_cell.base
+          (there.result t (sym same ∙ so));
+    }
+
+-- a sound text, opened
+
+no_fault : (tree : UnitTree) → Sound tree →
+    NoFaults (items_faults (text_of tree.items) tree.items nothing_before)
+unfolding unit_faults
+no_fault tree sound fault among =
+    sound fault (inl (inl (among_left fault
+    (items_faults (text_of tree.items) tree.items nothing_before) (without_main tree) among)))
+
+calls_are : (tree : UnitTree) →
+    unit_calls tree ≡ items_calls (text_of tree.items) tree.items nothing_before
+unfolding unit_calls
+calls_are tree = refl
+
+parts_are : (tree : UnitTree) →
+    typed_unit tree
+    ≡ typed_parts (text_of tree.items) tree.length (unit_globals tree) (unit_functions tree)
+unfolding typed_unit
+parts_are tree = refl
+
+open_made : (unit : TypedUnit) →
+    text_core unit
+    ≡ each (map (function_rule (frames_of unit.first_cells unit.functions)) unit.functions)
+    (receiving_globals unit.globals nothing_taken).taken
+unfolding text_core
+open_made unit = refl
+
+module _ (walks : (text : Text) (one : BlockItem) → (grown text one).walk ≡ walk_of text one) where
+  -- file scope, to the end of the text
+  items_scope : (text : Text) (items : List Item) (before : Before) →
+      NoFaults (items_faults text items before) → all_whole (map whole_item items) ≡ true →
+      FileScope before.names before.objects →
+      FileScope (items_behind text items before).names (items_behind text items before).objects
+  items_scope text [] before none whole f = f
+  items_scope text (item.Empty place ∷ more) before none whole f =
+      items_scope text more before none whole f
+  items_scope text (item.Objects declaration ∷ more) before none whole f =
+      let next = item_behind text (item.Objects declaration) before in
+      let own = globals_faults text declaration.specifiers declaration.declarators before in
+      let rest = items_faults text more next in
+      let whole_one = all_whole (map whole_declarator declaration.declarators) in
+      let others = all_whole (map whole_item more) in
+      items_scope text more next (none_right own rest none) (and_right whole_one others whole)
+      (globals_scope text declaration.specifiers declaration.declarators before
+      (and_left whole_one others whole) (none_left own rest none) f)
+  items_scope text (item.Prototype specifiers declarator ∷ more) before none whole f =
+      let one = item.Prototype specifiers declarator in
+      let next = item_behind text one before in
+      let own = item_faults text one before in
+      let rest = items_faults text more next in
+      items_scope text more next (none_right own rest none) whole
+      (function_scope before false specifiers declarator (none_left own rest none) f)
+  items_scope text (item.Function specifiers declarator body.Skipped ∷ more) before none whole f =
+      let one = item.Function specifiers declarator body.Skipped in
+      let next = item_behind text one before in
+      let own = item_faults text one before in
+      let rest = items_faults text more next in
+      items_scope text more next (none_right own rest none) whole
+      (function_scope before true specifiers declarator
+      (none_left (head_faults before true specifiers declarator) [] (none_left own rest none)) f)
+  items_scope text (item.Function specifiers declarator (body.Block items place) ∷ more) before none
+      whole f =
+      let one = item.Function specifiers declarator (body.Block items place) in
+      let next = item_behind text one before in
+      let own = item_faults text one before in
+      let rest = items_faults text more next in
+      let head = head_faults before true specifiers declarator in
+      let sites = body_sites text before specifiers declarator (body.Block items place) in
+      let none_head = none_left head (flat_map (site_faults text) sites ++ jump_faults sites)
+      (none_left own rest none) in
+      let G = ground [] [] 0 [] text (λ n. None) [] before.bodies in
+      let around = body_around [] [] 0 [] text (λ n. None) [] before specifiers declarator items in
+      items_scope text more next (none_right own rest none)
+      (and_right (all_whole (map whole_block_item items)) (all_whole (map whole_item more)) whole)
+      (later_scope [] [] 0 [] text (λ n. None) [] (walks text) before specifiers declarator items
+      place (function_rises G [] text before.bodies (kind_of specifiers) around
+      (listed declarator.parameters) items)
+      (function_scope before true specifiers declarator none_head f))
+
+  -- the trees of the functions
+  trees_fit : FramesAreThere → (tree : UnitTree) → IsWhole tree → Sound tree →
+      let unit = typed_parts (text_of tree.items) tree.length (unit_globals tree)
+      (unit_functions tree) in
+      Fit (types_of (text_core unit).taken.cells) (unit_calls tree) (length (unit_functions tree))
+      (frames_of unit.first_cells unit.functions) (text_of tree.items)
+      (receiving_globals (unit_globals tree) nothing_taken).taken.starts
+      (items_behind (text_of tree.items) tree.items nothing_before).names 0 (text_core unit).made
+  trees_fit frames_there tree whole sound =
+      let text = text_of tree.items in
+      let globals = unit_globals tree in
+      let functions = unit_functions tree in
+      let unit = typed_parts text tree.length globals functions in
+      let frames = frames_of unit.first_cells functions in
+      let front = (receiving_globals globals nothing_taken).taken in
+      let all = types_of (text_core unit).taken.cells in
+      let last = (items_behind text tree.items nothing_before).names in
+      let bodies = length functions in
+      let none = no_fault tree sound in
+      let scope0 : FileScope [] 0 = record {
+        some = λ name d is. absurd (cc);
+        below = record { at = λ name d is. absurd (cc) };
+        one = λ name other d e x y n u w. absurd (cc);
+      } in
+      let scope = items_scope text tree.items nothing_before none whole scope0 in
+      let stand = λ (name : List ℕ) (result : Kind) (ps : Option (List ParameterType)) (d : Bool)
+      (is : declared_as last name ≡ Some (declared.Function result ps d)) (body : ℕ)
+      (has : body_of text name ≡ Some body).
+      callee all frames bodies functions last name result ps d is body refl
+      (found_body text tree.items nothing_before none name body has)
+      (λ function at. frames_there text tree.length globals functions body function at)
+      (frames_single unit.first_cells functions) in
+      let r = text_runs all (unit_calls tree) bodies frames text front.starts last (walks text)
+      stand
+      tree.items nothing_before none whole
+      (λ c here. subst (Among c) (sym (calls_are tree)) here) scope0 refl in
+      let opened = open_made unit in
+      let within : Within all (each (map (function_rule frames) functions) front).taken = record {
+        more = [];
+        is = ap (λ (m : Made Trees). types_of m.taken.cells) opened ∙ sym (append-nil _);
+      } in
+      let begin = λ (name : List ℕ) (object : Object) (i : Bool)
+      (is : declared_as last name ≡ Some (declared.Object object i)).
+      globals_begin (ground all (unit_calls tree) bodies frames text front.starts last 0) last
+      (items_behind text tree.items nothing_before).objects (starts_of text tree.items
+      nothing_before) scope name object i is
+      (within_before all front (each (map (function_rule frames) functions) front).taken
+      (r.extends front) within) in
+      let stay : Stay front.starts [] 0 front.starts = record {
+        same = λ name d is n u. absurd (cc);
+        above = λ n le. refl;
+      } in
+      subst (λ (m : Made Trees). Fit all (unit_calls tree) bodies frames text front.starts last 0
+      m.made) (sym opened) (r.at front begin stay within)
+
+  -- what stands at a place of the trees
+  fit_at : (all : List IntType) (calls : List Call) (bodies : ℕ) (frames : Frames) (text : Text)
+      (first : ℕ → Option ℕ) (last : List Entry) (j : ℕ) (trees : Trees) (k : ℕ) (t : CoreTree) →
+      Fit all calls bodies frames text first last j trees → slice_get trees k ≡ Some t →
+      TreeFits (ground all calls bodies frames text first last (j + k)) t
+  fit_at all calls bodies frames text first last j [] k t fit at = absurd (none-some t at)
+  fit_at all calls bodies frames text first last j (u ∷ trees) zero t fit at =
+      let g = ground all calls bodies frames text first last in
+      subst (λ n. TreeFits (g n) t) (no_further j)
+      (subst (TreeFits (g j)) (same_Some u t at) fit.0)
+  fit_at all calls bodies frames text first last j (u ∷ trees) (suc k) t fit at =
+      let g = ground all calls bodies frames text first last in
+      subst (λ n. TreeFits (g n) t) (one_further j k)
+      (fit_at all calls bodies frames text first last (j + 1) trees k t fit.1 at)
+
+  -- a call leads back to no caller
+  call_sound : (tree : UnitTree) (P : Program) → Sound tree → IsNumbered P → (bodies : ℕ) →
+      bodies ≡ length P.bodies →
+      ((a n b : ℕ) → InFunction P a n → IsStmt P n (stmt.Call b) → Calls (unit_calls tree) a b) →
+      (k n f : ℕ) → InFunction P k n → Calls (unit_calls tree) k f × (f < bodies) →
+      IsSound P n (stmt.Call f)
+  call_sound tree P sound N bodies many called k n f inside lands =
+      let calls = unit_calls tree in
+      let never : recursion.Reaches calls f k → ⊥ =
+      λ back. sound (record { rule = rule.N10; place = lands.0.0 }) (inl (inr (record {
+        rule = refl;
+        back = record {
+          call = record { caller = k; callee = f; place = lands.0.0 };
+          stands = lands.0.1;
+          there = refl;
+          back = back;
+        };
+      }))) in (
+        subst (λ m. f < m) many lands.1,
+        λ g here.
+            let same : g ≡ k = one_function P N g k n here inside in (
+              λ is. never (record { way = []; through = is ∙ same }),
+              λ reaches. never (subst (recursion.Reaches calls f) same
+                  (reaches_of P calls called f g reaches)),
+            ),
+      )
+
+  abbrev bodies_count : TypedUnit → Program → Type 0
+  bodies_count unit P = length unit.functions ≡ length P.bodies
+
+  sound_at : FramesAreThere → StatementsAreOfTrees → CoresAreNumbered → CoresAreSmall →
+      JumpsAreSound → (tree : UnitTree) (P : Program) → IsWhole tree → Sound tree →
+      IsCore (typed_unit tree) P → bodies_count (typed_unit tree) P → (n : ℕ) (s : Stmt) →
+      IsStmt P n s → IsSound P n s
+  sound_at frames_there of_trees numbered small jumps tree P whole sound is many n s at =
+      let text = text_of tree.items in
+      let unit = typed_parts text tree.length (unit_globals tree) (unit_functions tree) in
+      let core : IsCore unit P = subst (λ (u : TypedUnit). IsCore u P) (parts_are tree) is in
+      let frames = frames_of unit.first_cells unit.functions in
+      let all = types_of (text_core unit).taken.cells in
+      let calls = unit_calls tree in
+      let bodies = length (unit_functions tree) in
+      let starts = (receiving_globals (unit_globals tree) nothing_taken).taken.starts in
+      let last = (items_behind text tree.items nothing_before).names in
+      let fit = trees_fit frames_there tree whole sound in
+      let N = numbered unit P core in
+      let g = ground all calls bodies frames text starts last in
+      let fits_of : (m : ℕ) (t : Stmt) (r : IsOfTree unit P m t) →
+      HeadFits (g r.function) r.placed.head =
+      λ m t r. subst (λ k. HeadFits (g k) r.placed.head) (none_first r.function)
+      (all_at (λ (p : Placed). HeadFits (g (0 + r.function)) p.head) (statements r.tree) r.index
+      r.placed (fit_at all calls bodies frames text starts last 0 (text_core unit).made r.function
+      r.tree fit r.is_tree).all r.among) in
+      let called : (a m b : ℕ) → InFunction P a m → IsStmt P m (stmt.Call b) → Calls calls a b =
+      λ a m b inside here.
+      let r = of_trees unit P core m (stmt.Call b) here in
+      let h = call_head r.labels r.placed.head r.parts b r.is in
+      subst (λ k. Calls calls k b) (one_function P N r.function a m r.inside inside)
+      ((subst (HeadFits (g r.function)) h (fits_of m (stmt.Call b) r)).0) in
+      let r = of_trees unit P core n s at in
+      let cells : all ≡ types_of P.cells = ap types_of (sym core.cells) in
+      let tall : stmt_height s ≤ MAX_HEIGHT =
+      all_at (λ (t : Stmt). stmt_height t ≤ MAX_HEIGHT) P.stmts n s
+      (small tree P sound is).heights at in
+      subst (IsSound P n) (sym r.is) (by_head P (g r.function) n r.labels r.placed.head r.parts
+      cells
+      (fits_of n s r) (subst (λ (t : Stmt). stmt_height t ≤ MAX_HEIGHT) r.is tall)
+      (subst (JumpIsSound P n) r.is (jumps tree P sound is n s at))
+      (λ f lands. call_sound tree P sound N bodies
+      (ap (λ (u : TypedUnit). length u.functions) (sym (parts_are tree)) ∙ many) called r.function n
+      f r.inside lands))
+
+-- there is a body for each function
+
+numbers_length : (n : ℕ) (sizes : List ℕ) → length (numbers_from n sizes) ≡ length sizes
+numbers_length n [] = refl
+numbers_length n (size ∷ sizes) = ap suc (numbers_length (n + size) sizes)
+
+each_length : {S : Type 0} (rules : List (Rule S)) (taken : Taken) →
+    length (each rules taken).made ≡ length rules
+each_length [] taken = refl
+each_length (rule ∷ rules) taken = ap suc (each_length rules (rule taken).taken)
+
+bodies_are : (unit : TypedUnit) (P : Program) → IsCore unit P →
+    length P.bodies ≡ length unit.functions
+bodies_are unit P is =
+    let rules = map (function_rule (frames_of unit.first_cells unit.functions)) unit.functions in
+    let trees = (text_core unit).made in
+    let sizes = map (λ (tree : CoreTree). length (statements tree)) trees in
+    ap (λ (bodies : List ℕ). length bodies) is.bodies
+    ∙ numbers_length 0 sizes
+    ∙ length-map trees (λ (tree : CoreTree). length (statements tree))
+    ∙ ap (λ (m : Made Trees). length m.made) (open_made unit)
+    ∙ each_length rules (receiving_globals unit.globals nothing_taken).taken
+    ∙ length-map unit.functions (function_rule (frames_of unit.first_cells unit.functions))
+
+pub well_formed : FramesAreThere → StatementsAreOfTrees → CoresAreNumbered → CoresAreSmall →
+    JumpsAreSound → CoresHaveAMain → CellsStartInRange → (tree : UnitTree) (P : Program) →
+    IsWhole tree → Sound tree → IsCore (typed_unit tree) P → IsWellFormed P
+well_formed frames_there of_trees numbered small jumps main starts tree P whole sound is = record {
+  numbered = numbered (typed_unit tree) P is;
+  sound = sound_at same_walk frames_there of_trees numbered small jumps tree P whole sound is
+      (sym (bodies_are (typed_unit tree) P is));
+  starts = starts tree P sound is;
+  few_cells = (small tree P sound is).cells;
+  few_points = (small tree P sound is).points;
+  main = main tree P sound is;
+}
