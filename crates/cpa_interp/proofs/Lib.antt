@@ -1,0 +1,4 @@
+pub mod Leaving
+pub mod Picking
+pub mod Turning
+pub mod Arriving

@@ -1,0 +1,3 @@
+pub mod Replays
+pub mod Turns
+pub mod lemmas
