@@ -18,7 +18,7 @@ use Rattle.c_core_laws.proofs.Following.{Follows, of_trees}
 use Rattle.c_core_laws.proofs.Rules.{followed, either}
 use Rattle.c_core_laws.proofs.ActsCounted.{signed_follows}
 use Rattle.c_core_laws.proofs.PlacesCounted.{incrementing_follows, assigning_follows}
-use Rattle.c_core_laws.proofs.CoreLayers.{core_suffix, open_core, open_core_suffix}
+use Rattle.c_core_laws.specs.lemmas.CoreLayers.{core_suffix, open_core, open_core_suffix}
 use Rattle.c_core_laws.proofs.CountLayers.{count_suffix, open_count, open_count_suffix}
 use Rattle.c_core_laws.proofs.RowsCounted.{FollowsRows, EachRows, no_rows, more_rows, frame_heads}
 use Rattle.c_core_laws.proofs.RowsCounted.{FollowsSuffix, same_index, same_call, same_step}

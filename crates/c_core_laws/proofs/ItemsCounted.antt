@@ -27,7 +27,7 @@ use Rattle.c_core_laws.proofs.RowsCounted.{frame_heads, trees_given}
 use Rattle.c_core_laws.proofs.ExpressionsCounted.{expression_follows}
 use Rattle.c_core_laws.proofs.StatementsCounted.{unused_follows, declaration_follows}
 use Rattle.c_core_laws.proofs.StatementsCounted.{started_follows, left_follows, returned_follows}
-use Rattle.c_core_laws.proofs.CoreItems.{core_statement, open_core_item, open_core_statement}
+use Rattle.c_core_laws.specs.lemmas.CoreItems.{core_statement, open_core_item, open_core_statement}
 use Rattle.c_core_laws.proofs.CountItems.{count_statement, open_count_item, open_count_statement}
 
 -- one statement

@@ -43,7 +43,7 @@ use Rattle.std.proofs.lemmas.List.{append-nil}
 use Rattle.c_core_laws.specs.Jumps.{Jumps, no_jumps, then_jumps, all_jumps, labelled, in_loop, goto}
 use Rattle.c_core_laws.specs.Jumps.{leaving, statement_jumps, item_layer_jumps}
 use Rattle.c_core_laws.specs.Jumps.{item_jumps, function_jumps, tree_jumps}
-use Rattle.c_core_laws.proofs.CoreItems.{core_statement, open_core_item, open_core_statement}
+use Rattle.c_core_laws.specs.lemmas.CoreItems.{core_statement, open_core_item, open_core_statement}
 use Rattle.c_core_laws.proofs.Shapes.{Makes, makes, makes_then, makes_freshly, makes_at}
 use Rattle.c_core_laws.proofs.Shapes.{EachMakes, none_makes, more_make}
 use Rattle.c_core_laws.proofs.ShapedRows.{AllShaped, set_shaped}

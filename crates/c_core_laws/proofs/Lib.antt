@@ -6,11 +6,9 @@ pub mod Rules
 pub mod ActsCounted
 pub mod PlacesCounted
 pub mod RowsCounted
-pub mod CoreLayers
 pub mod CountLayers
 pub mod ExpressionsCounted
 pub mod StatementsCounted
-pub mod CoreItems
 pub mod CountItems
 pub mod ItemsCounted
 pub mod TextCounted
@@ -30,7 +28,6 @@ pub mod FramesThere
 pub mod Small
 pub mod MainBody
 pub mod StartsFit
-pub mod SameWalk
 pub mod JumpsTyped
 pub mod FunctionsJump
 pub mod JumpsSound

@@ -16,7 +16,7 @@ use Rattle.c_core_rules.specs.Trees.{pure}
 use Rattle.c_core_rules.specs.Cells as core
 use Rattle.c_core_rules.specs.Acts as acts
 use Rattle.c_core_rules.specs.Expressions as rows
-use Rattle.c_core_laws.proofs.CoreLayers.{core_suffix, open_core, open_core_suffix}
+use Rattle.c_core_laws.specs.lemmas.CoreLayers.{core_suffix, open_core, open_core_suffix}
 use Rattle.c_core_laws.proofs.Shapes.{makes, makes_then}
 use Rattle.c_core_laws.proofs.ShapedRows.{Good}
 use Rattle.c_core_laws.proofs.ShapedRows.{MakesRows, SuffixMakes, name_makes, plain_makes}

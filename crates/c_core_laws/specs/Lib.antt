@@ -3,3 +3,4 @@ pub mod Starts
 pub mod Jumps
 pub mod Standing
 pub mod Laws
+pub mod lemmas

@@ -21,6 +21,5 @@ pub mod Bodies
 pub mod WholeForms
 pub mod WholeParts
 pub mod WholeTexts
-pub mod SameWalk
 pub mod TextWhole
 pub mod SoundCore

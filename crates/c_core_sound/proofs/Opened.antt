@@ -4,17 +4,12 @@ use Rattle.c_symbols.specs.declared.operators.StepOperator.{StepOperator}
 use Rattle.c_rules.specs.declared.meaning.Kind.{Kind}
 use Rattle.c_rules.specs.declared.typed.TypedExpression.{TypedExpression, roll-TypedExpression}
 use Rattle.c_rules.specs.declared.typed.TypedExpression.TheOpen.{TypedExpression-F, TypedSuffix-F}
-use Rattle.c_rules.specs.declared.typed.TypedExpression.TheFolds.{fold-TypedSuffix}
 use Rattle.c_rules.specs.declared.typed.TypedExpression.TheFolds.{map-TypedExpression}
 use Rattle.c_rules.specs.declared.typed.TypedExpression.TheFolds.{map-TypedSuffix}
-use Rattle.c_rules.specs.declared.typed.TypedExpression.TheFolds.{fold-roll-TypedExpression}
-use Rattle.c_rules.specs.declared.typed.TypedExpression.TheFolds.{fold-roll-TypedSuffix}
 use Rattle.c_rules.specs.declared.typed.TypedSuffix.{TypedSuffix, roll-TypedSuffix}
 use Rattle.c_rules.specs.declared.typed.TypedSuffix.TheVariants as behind
 use Rattle.c_core_rules.specs.Expressions.{Frames, Rows, ReadSuffix, rows, rows_step, read_suffix}
-
-abbrev pub core_suffix : Frames → TypedSuffix → ReadSuffix
-core_suffix frames = fold-TypedSuffix Rows ReadSuffix (rows_step frames) read_suffix
+use Rattle.c_core_laws.specs.lemmas.CoreLayers.{core_suffix, open_core, open_core_suffix}
 
 -- an expression that is made of this layer
 pub opened : (frames : Frames) (e : TypedExpression)
@@ -22,20 +17,14 @@ pub opened : (frames : Frames) (e : TypedExpression)
     rows frames e
     ≡ rows_step frames (map-TypedExpression TypedExpression TypedSuffix Rows ReadSuffix
     (rows frames) (core_suffix frames) x)
-unfolding rows
-opened frames e x is =
-    ap (rows frames) (sym is)
-    ∙ fold-roll-TypedExpression Rows ReadSuffix (rows_step frames) read_suffix x
+opened frames e x is = ap (rows frames) (sym is) ∙ open_core frames x
 
 opened_suffix : (frames : Frames) (s : TypedSuffix)
     (x : TypedSuffix-F TypedExpression TypedSuffix) → roll-TypedSuffix x ≡ s →
     core_suffix frames s
     ≡ read_suffix (map-TypedSuffix TypedExpression TypedSuffix Rows ReadSuffix (rows frames)
     (core_suffix frames) x)
-unfolding rows
-opened_suffix frames s x is =
-    ap (core_suffix frames) (sym is)
-    ∙ fold-roll-TypedSuffix Rows ReadSuffix (rows_step frames) read_suffix x
+opened_suffix frames s x is = ap (core_suffix frames) (sym is) ∙ open_core_suffix frames x
 
 pub open_index : (frames : Frames) (index : TypedExpression) (kind : Option Kind) (place : ℕ) →
     core_suffix frames (behind.Index index kind place)

@@ -38,7 +38,8 @@ use Rattle.c_core_sound.proofs.FittingRows.{fit_element, GoodRule, TreesRule, dr
 use Rattle.c_core_sound.proofs.FittingRows.{only_fits, name_fits, element_fits, called_fits}
 use Rattle.c_core_sound.proofs.FittingRows.{called_unused_fits, known_unused_fits, known_used_fits}
 use Rattle.c_core_sound.proofs.FittingRows.{stepping_fits, incrementing_fits}
-use Rattle.c_core_sound.proofs.Opened.{core_suffix, open_index, open_call, open_step, open_skipped}
+use Rattle.c_core_laws.specs.lemmas.CoreLayers.{core_suffix}
+use Rattle.c_core_sound.proofs.Opened.{open_index, open_call, open_step, open_skipped}
 use Rattle.c_core_sound.proofs.ReadParts.{NoFaults, not_broken, unbroken, UseFits, UsesFit}
 use Rattle.c_core_sound.proofs.ReadParts.{uses_left}
 use Rattle.c_core_sound.proofs.ReadParts.{uses_right, MeaningFits, FormFits, IsName, of_function}

@@ -43,6 +43,8 @@ use Rattle.c_core_rules.specs.Trees.{Trees, leaf, block, choice, repeated}
 use Rattle.c_core_rules.specs.Cells as core
 use Rattle.c_core_rules.specs.Expressions as rows
 use Rattle.c_core_rules.specs.Statements as statement
+use Rattle.c_core_laws.specs.lemmas.CoreItems.{core_statement}
+use Rattle.c_core_laws.specs.lemmas.SameWalk.{grown_of, open_grown_item, open_grown_statement}
 use Rattle.c_core_sound.specs.Whole.{is_whole, all_whole, whole_optional, whole_start}
 use Rattle.c_core_sound.specs.Whole.{whole_statement}
 use Rattle.c_core_sound.specs.Whole.{whole_item_layer, whole_block_item}
@@ -61,8 +63,7 @@ use Rattle.c_core_sound.proofs.Sites.{SiteFits, SitesFit, sites_left, sites_righ
 use Rattle.c_core_sound.proofs.Sites.{trees_rule}
 use Rattle.c_core_sound.proofs.RunDeclarations.{Ready, initialized_fits, declaration_runs}
 use Rattle.c_core_sound.proofs.RunDeclarations.{declarators_ready, declarators_rise}
-use Rattle.c_core_sound.proofs.OpenedItems.{core_statement, opened, opened_item, grown_of}
-use Rattle.c_core_sound.proofs.OpenedItems.{open_grown_item, open_grown_statement}
+use Rattle.c_core_sound.proofs.OpenedItems.{opened, opened_item}
 
 pub no_more : (n : ℕ) → n ≤ n
 no_more n = omega arith

@@ -9,7 +9,6 @@ use Rattle.c_tree.specs.declared.declaration.Specifiers.{Specifiers}
 use Rattle.c_tree.specs.declared.declaration.Declarator.{Declarator}
 use Rattle.c_tree.specs.declared.statement.BlockItem.{BlockItem}
 use Rattle.c_tree.specs.declared.item.FunctionDeclarator.{FunctionDeclarator}
-use Rattle.c_tree.specs.declared.item.Body.{Body}
 use Rattle.c_tree.specs.declared.item.Body.TheVariants as body
 use Rattle.c_tree.specs.declared.item.Item.{Item}
 use Rattle.c_tree.specs.declared.item.Item.TheVariants as item
@@ -34,7 +33,7 @@ use Rattle.c_rules.specs.StatementRules.{site_faults, act_uses, jump_faults}
 use Rattle.c_rules.specs.TypedStatements.{grown, walk_in, typed_function}
 use Rattle.c_rules.specs.Items.{Before, Call, listed, around_body, function_behind, global_behind}
 use Rattle.c_rules.specs.Items.{globals_behind, globals_faults, global_faults, head_faults}
-use Rattle.c_rules.specs.Items.{body_sites, body_faults, body_behind, item_behind, item_faults}
+use Rattle.c_rules.specs.Items.{body_sites, body_faults, item_behind, item_faults}
 use Rattle.c_rules.specs.Items.{items_faults}
 use Rattle.c_rules.specs.Items.{item_calls, items_calls, site_calls, use_calls, called_body}
 use Rattle.c_rules.specs.Recursion.{Among, Calls}

@@ -57,6 +57,7 @@ use Rattle.c_core_laws.specs.Sizes.{stmt_height}
 use Rattle.c_core_laws.specs.Starts.{FrameStands}
 use Rattle.c_core_laws.specs.Standing.{IsOfTree}
 use Rattle.c_core_laws.specs.Jumps.{JumpIsSound}
+use Rattle.c_core_laws.specs.lemmas.SameWalk.{same_walk}
 use Rattle.c_core_laws.specs.Laws.{FramesAreThere, StatementsAreOfTrees, CoresAreNumbered}
 use Rattle.c_core_laws.specs.Laws.{CoresAreSmall, JumpsAreSound, CoresHaveAMain, CellsStartInRange}
 use Rattle.c_core_sound.specs.Whole.{IsWhole, all_whole, whole_block_item, whole_declarator}
@@ -66,7 +67,6 @@ use Rattle.c_core_sound.proofs.Fitting.{Ground, HeadFits, TreeFits, Within, with
 use Rattle.c_core_sound.proofs.ReadParts.{NoFaults, none_left, none_right}
 use Rattle.c_core_sound.proofs.ReadExpressions.{and_left, and_right}
 use Rattle.c_core_sound.proofs.RunFunctions.{function_rises}
-use Rattle.c_core_sound.proofs.SameWalk.{same_walk}
 use Rattle.c_core_sound.proofs.FileNames.{FileScope, Stay, function_scope}
 use Rattle.c_core_sound.proofs.Globals.{globals_begin}
 use Rattle.c_core_sound.proofs.RunText.{Callee, Fit, among_left, body_around, globals_scope, ground}

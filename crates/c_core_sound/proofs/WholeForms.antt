@@ -2,7 +2,7 @@
 use Rattle.std.proofs.Common.{◌≡◌, ℕ, Bool, true, ◌&&◌, List, [], ◌∷◌, map, Option, None, Some}
 use Rattle.std.proofs.Common.{refl, sym, subst}
 use Rattle.grammar_forms.specs.Forms.{World, Form, Nothing, Skip, Behind, Before, Pair, Then}
-use Rattle.grammar_forms.specs.Forms.{Node, Shaped, Deeper, Choice, Many, Perhaps, Nearest}
+use Rattle.grammar_forms.specs.Forms.{Node, Deeper, Choice, Many, Perhaps, Nearest}
 use Rattle.c_symbols.specs.Symbols.{Leaf}
 use Rattle.c_core_sound.specs.Whole.{all_whole}
 
