@@ -47,7 +47,7 @@ use Rattle.c_core_laws.specs.Jumps.{item_jumps}
 use Rattle.c_core_laws.specs.Jumps as jumping
 use Rattle.c_core_laws.proofs.JumpsKept.{jumps_in, open_jumps, open_item_jumps}
 use Rattle.c_core_laws.proofs.MainBody.{Found, found}
-use Rattle.c_core_laws.proofs.StartsFit.{NoFaults, none_left, not_broken}
+use Rattle.c_core_laws.specs.lemmas.Faults.{NoFaults, none_left, not_broken}
 use Rattle.c_core_laws.specs.lemmas.SameWalk.{grown_of, open_grown_item, open_grown_statement}
 
 abbrev pub AllBelow : ℕ → List ℕ → Type 0

@@ -1,7 +1,7 @@
 -- What the objects of file scope of a sound text start at lies in the ranges of their types.
 use Rattle.std.proofs.Common.{◌≡◌, ℕ, Bool, true, false, ◌&&◌, ◌||◌, not, List, []}
 use Rattle.std.proofs.Common.{◌∷◌, ◌++◌, map, Option, None, Some, refl, ap}
-use Rattle.std.proofs.Common.{sym, ◌∙◌, subst, inl, inr, ℤ, pos}
+use Rattle.std.proofs.Common.{sym, ◌∙◌, subst, inl, ℤ, pos}
 use Rattle.std.specs.Prelude.{unwrap_or, option_map, is_some, find, cond}
 use Rattle.std.specs.List.{AllByRecursion, flat_map}
 use Rattle.std.specs.Str.{bytes_eq}
@@ -11,7 +11,6 @@ use Rattle.cpa_ints.specs.Integers.{IsInRange}
 use Rattle.cpa_ints.specs.Wrapping.{wrapped}
 use Rattle.cpa_ints.specs.lemmas.Arithmetic.{wrapped_in_range}
 use Rattle.cpa_expr.specs.Equality.{same_type}
-use Rattle.c_lexer.specs.declared.fault.Rule.{Rule}
 use Rattle.c_lexer.specs.declared.fault.Rule.TheVariants as rule
 use Rattle.c_lexer.specs.declared.fault.TextFault.{TextFault}
 use Rattle.c_tree.specs.declared.expression.Expression.{Expression}
@@ -29,8 +28,8 @@ use Rattle.c_rules.specs.declared.meaning.Declared.{Declared}
 use Rattle.c_rules.specs.declared.meaning.Declared.TheVariants as declared
 use Rattle.c_rules.specs.declared.meaning.Entry.{Entry}
 use Rattle.c_rules.specs.declared.typed.Global.{Global}
-use Rattle.c_rules.specs.Names.{Text, declared_as, or_else}
-use Rattle.c_rules.specs.ExpressionRules.{broken, at_if, uses_faults}
+use Rattle.c_rules.specs.Names.{Text, declared_as}
+use Rattle.c_rules.specs.ExpressionRules.{broken, uses_faults}
 use Rattle.c_rules.specs.Declarations.{kind_of, items_of, constant_number, length_faults}
 use Rattle.c_rules.specs.Declarations.{length_uses}
 use Rattle.c_rules.specs.Declarations.{void_object, void_parameter}
@@ -42,80 +41,18 @@ use Rattle.c_rules.specs.Items.{redeclares_function}
 use Rattle.c_rules.specs.Items.{redeclared_function, function_behind, head_faults, parameter_types}
 use Rattle.c_rules.specs.Items.{body_sites, body_faults, body_behind, item_behind, item_faults}
 use Rattle.c_rules.specs.Items.{items_faults, nothing_before, listed, same_length}
-use Rattle.c_rules.specs.Recursion.{Among}
 use Rattle.c_rules.specs.Sound.{Sound, Start, start_of, starts_in, item_starts, starts_of}
 use Rattle.c_rules.specs.Sound.{items_behind, object_names, object_in, start_values, global_named}
 use Rattle.c_rules.specs.Sound.{unit_globals, unit_faults, without_main}
+use Rattle.c_core_laws.specs.lemmas.Faults.{NoFaults, among_left, none_left, none_right}
+use Rattle.c_core_laws.specs.lemmas.Faults.{not_broken}
+use Rattle.c_core_laws.specs.lemmas.Entries.{push_named, push_other}
 use Rattle.c_core_laws.proofs.Heights.{type_same}
-
--- none of these faults
-abbrev pub NoFaults : List TextFault → Type 0
-NoFaults faults = (fault : TextFault) → Among fault faults → ⊥
-
-pub among_left : (fault : TextFault) (a b : List TextFault) → Among fault a → Among fault (a ++ b)
-among_left fault [] b among = absurd among
-among_left fault (one ∷ a) b (inl is) = inl is
-among_left fault (one ∷ a) b (inr more) = inr (among_left fault a b more)
-
-pub among_right : (fault : TextFault) (a b : List TextFault) → Among fault b → Among fault (a ++ b)
-among_right fault [] b among = among
-among_right fault (one ∷ a) b among = inr (among_right fault a b among)
-
-pub none_left : (a b : List TextFault) → NoFaults (a ++ b) → NoFaults a
-none_left a b none fault among = none fault (among_left fault a b among)
-
-pub none_right : (a b : List TextFault) → NoFaults (a ++ b) → NoFaults b
-none_right a b none fault among = none fault (among_right fault a b among)
 
 first_of_five : (a b c d e : List TextFault) → NoFaults (a ++ b ++ c ++ d ++ e) → NoFaults a
 first_of_five a b c d e none =
     none_left a b (none_left (a ++ b) c (none_left (a ++ b ++ c) d
     (none_left (a ++ b ++ c ++ d) e none)))
-
--- a rule that is not broken
-pub not_broken : (r : Rule) (b : Bool) (place : ℕ) → NoFaults (broken r (at_if b place)) →
-    b ≡ false
-not_broken r true place none = absurd (none (record { rule = r; place = place }) (inl refl))
-not_broken r false place none = refl
-
--- what a name is declared as where one more declaration stands
-
-entry_as : Entry → List ℕ → Option Declared
-entry_as entry name = elim (bytes_eq entry.name name) [ true ↦ Some entry.declared | false ↦ None ]
-
-as_named : (entry : Entry) (name : List ℕ) → bytes_eq entry.name name ≡ true →
-    entry_as entry name ≡ Some entry.declared
-unfolding entry_as
-as_named entry name is =
-    ap (λ (b : Bool). elim b as (λ c. Option Declared) [
-      | true ↦ Some entry.declared
-      | false ↦ None
-    ]) is
-
-as_other : (entry : Entry) (name : List ℕ) → bytes_eq entry.name name ≡ false →
-    entry_as entry name ≡ None
-unfolding entry_as
-as_other entry name is =
-    ap (λ (b : Bool). elim b as (λ c. Option Declared) [
-      | true ↦ Some entry.declared
-      | false ↦ None
-    ]) is
-
-pub push_named : (names : List Entry) (entry : Entry) (name : List ℕ) →
-    bytes_eq entry.name name ≡ true →
-    declared_as (names ++ entry ∷ []) name ≡ Some entry.declared
-unfolding entry_as
-push_named [] entry name is = as_named entry name is
-push_named (x ∷ names) entry name is =
-    ap (λ o. or_else o (entry_as x name)) (push_named names entry name is)
-
-pub push_other : (names : List Entry) (entry : Entry) (name : List ℕ) →
-    bytes_eq entry.name name ≡ false →
-    declared_as (names ++ entry ∷ []) name ≡ declared_as names name
-unfolding entry_as
-push_other [] entry name is = as_other entry name is
-push_other (x ∷ names) entry name is =
-    ap (λ o. or_else o (entry_as x name)) (push_other names entry name is)
 
 -- the name is declared as an object of this type
 record IsObject (t : IntType) (name : List ℕ) (names : List Entry) : Type 0 where

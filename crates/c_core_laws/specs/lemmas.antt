@@ -3,3 +3,5 @@
 pub mod SameWalk
 pub mod CoreLayers
 pub mod CoreItems
+pub mod Faults
+pub mod Entries

@@ -32,10 +32,10 @@ use Rattle.c_core_rules.specs.Values.{cell_at}
 use Rattle.c_core_rules.specs.Expressions.{Frame, Frames, frame_at, cells_from, behind_result}
 use Rattle.c_core_rules.specs.Programs.{frames_of}
 use Rattle.c_core_laws.specs.Starts.{AreScalars}
+use Rattle.c_core_laws.specs.lemmas.Faults.{NoFaults, none_left, none_right}
 use Rattle.c_core_sound.proofs.TypedValues.{PlaceFits, cell_fits}
 use Rattle.c_core_sound.proofs.FileNames.{Lasts, Alike, IsFunction, declares_function}
 use Rattle.c_core_sound.proofs.RunText.{items_last}
-use Rattle.c_core_sound.proofs.ReadParts.{NoFaults, none_left, none_right}
 
 -- a function is one still among later names
 

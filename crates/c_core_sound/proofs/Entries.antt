@@ -1,49 +1,12 @@
 -- What a name is declared as where one more declaration stands.
-use Rattle.std.proofs.Common.{◌≡◌, ℕ, Bool, true, false, List, [], ◌∷◌, ◌++◌, Option, None, Some}
-use Rattle.std.proofs.Common.{ap}
+use Rattle.std.proofs.Common.{◌≡◌, ℕ, Bool, true, false, List, [], ◌∷◌, ◌++◌, Some}
 use Rattle.std.proofs.Common.{sym, ◌∙◌, refl, subst}
 use Rattle.std.proofs.lemmas.Option.{same_Some}
 use Rattle.std.specs.Str.{bytes_eq}
 use Rattle.c_rules.specs.declared.meaning.Declared.{Declared}
 use Rattle.c_rules.specs.declared.meaning.Entry.{Entry}
-use Rattle.c_rules.specs.Names.{declared_as, or_else}
-
-entry_as : Entry → List ℕ → Option Declared
-entry_as entry name = elim (bytes_eq entry.name name) [ true ↦ Some entry.declared | false ↦ None ]
-
-as_named : (entry : Entry) (name : List ℕ) → bytes_eq entry.name name ≡ true →
-    entry_as entry name ≡ Some entry.declared
-unfolding entry_as
-as_named entry name is =
-    ap (λ (b : Bool). elim b as (λ c. Option Declared) [
-      | true ↦ Some entry.declared
-      | false ↦ None
-    ]) is
-
-as_other : (entry : Entry) (name : List ℕ) → bytes_eq entry.name name ≡ false →
-    entry_as entry name ≡ None
-unfolding entry_as
-as_other entry name is =
-    ap (λ (b : Bool). elim b as (λ c. Option Declared) [
-      | true ↦ Some entry.declared
-      | false ↦ None
-    ]) is
-
-pub push_named : (names : List Entry) (entry : Entry) (name : List ℕ) →
-    bytes_eq entry.name name ≡ true →
-    declared_as (names ++ entry ∷ []) name ≡ Some entry.declared
-unfolding entry_as
-push_named [] entry name is = as_named entry name is
-push_named (x ∷ names) entry name is =
-    ap (λ o. or_else o (entry_as x name)) (push_named names entry name is)
-
-pub push_other : (names : List Entry) (entry : Entry) (name : List ℕ) →
-    bytes_eq entry.name name ≡ false →
-    declared_as (names ++ entry ∷ []) name ≡ declared_as names name
-unfolding entry_as
-push_other [] entry name is = as_other entry name is
-push_other (x ∷ names) entry name is =
-    ap (λ o. or_else o (entry_as x name)) (push_other names entry name is)
+use Rattle.c_rules.specs.Names.{declared_as}
+use Rattle.c_core_laws.specs.lemmas.Entries.{push_named, push_other}
 
 by_test : (P : List ℕ → Declared → Type 0) (names : List Entry) (entry : Entry) →
     ((name : List ℕ) (d : Declared) → declared_as names name ≡ Some d → P name d) →

@@ -29,11 +29,12 @@ use Rattle.c_rules.specs.Items.{global_of, global_behind, redeclared_object, sta
 use Rattle.c_rules.specs.Items.{global_faults, same_kind, merged_function, redeclares_function}
 use Rattle.c_rules.specs.Items.{parameter_types, redeclared_function, function_behind, head_faults}
 use Rattle.c_rules.specs.Items.{listed, agreeing_parameters}
+use Rattle.c_core_laws.specs.lemmas.Faults.{NoFaults, none_left, none_right, not_broken}
+use Rattle.c_core_laws.specs.lemmas.Entries.{push_named, push_other}
 use Rattle.c_core_sound.specs.Whole.{whole_length}
 use Rattle.c_core_sound.proofs.TypedValues.{type_same}
-use Rattle.c_core_sound.proofs.ReadParts.{NoFaults, none_left, none_right, not_broken}
 use Rattle.c_core_sound.proofs.Lengths.{enough}
-use Rattle.c_core_sound.proofs.Entries.{push_named, push_other, pushed_by}
+use Rattle.c_core_sound.proofs.Entries.{pushed_by}
 use Rattle.c_core_sound.proofs.Running.{DeclaredBelow, Below, below_push, below_higher}
 
 -- two declarations of one thing: the same object but for const, or functions of one result

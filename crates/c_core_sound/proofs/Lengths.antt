@@ -27,9 +27,10 @@ use Rattle.c_rules.specs.Declarations.{items_of, constant_number, inconstant, le
 use Rattle.c_rules.specs.Declarations.{is_longer, given_length_faults, length_faults, length_uses}
 use Rattle.c_rules.specs.Items.{Call, use_calls}
 use Rattle.c_rules.specs.declared.TheConstants.{MAX_ELEMENTS}
+use Rattle.c_core_laws.specs.lemmas.Faults.{NoFaults, none_left, none_right, not_broken}
 use Rattle.c_core_sound.specs.Whole.{is_whole, whole_optional, whole_length}
 use Rattle.c_core_sound.proofs.Fitting.{World}
-use Rattle.c_core_sound.proofs.ReadParts.{NoFaults, none_left, none_right, not_broken, UsesFit}
+use Rattle.c_core_sound.proofs.ReadParts.{UsesFit}
 use Rattle.c_core_sound.proofs.ReadParts.{MeaningFits, broken_left, broken_right}
 use Rattle.c_core_sound.proofs.ReadForms.{used_reads}
 use Rattle.c_core_sound.proofs.ReadExpressions.{expression_reads, in_order_of}

@@ -43,6 +43,7 @@ use Rattle.c_core_rules.specs.Trees.{pure}
 use Rattle.c_core_rules.specs.Cells as core
 use Rattle.c_core_rules.specs.Acts as acts
 use Rattle.c_core_rules.specs.Expressions as rows
+use Rattle.c_core_laws.specs.lemmas.Faults.{NoFaults}
 use Rattle.c_core_sound.specs.Whole.{some_item, has_value, all_whole, whole_expression}
 use Rattle.c_core_sound.specs.Whole.{whole_suffix, is_whole}
 use Rattle.c_core_sound.proofs.TypedValues.{const_typed}
@@ -55,7 +56,7 @@ use Rattle.c_core_sound.proofs.FittingRows.{cast_fits, signed_fits, assigning_fi
 use Rattle.c_core_sound.proofs.FittingRows.{incrementing_fits}
 use Rattle.c_core_sound.proofs.Opened.{opened}
 use Rattle.c_core_sound.proofs.ReadParts.{UsesFit, uses_left, uses_right, MeaningFits, HasKind}
-use Rattle.c_core_sound.proofs.ReadParts.{unbroken, is_evaluated, NoFaults}
+use Rattle.c_core_sound.proofs.ReadParts.{unbroken, is_evaluated}
 use Rattle.c_core_sound.proofs.ReadForms.{ReadsAs, plain_reads, act_reads, name_reads}
 use Rattle.c_core_sound.proofs.ReadForms.{with_value_is, ArgumentReads, ReadsWhere, used_reads}
 use Rattle.c_core_sound.proofs.ReadForms.{SuffixReads, changed_reads, suffixed_reads}

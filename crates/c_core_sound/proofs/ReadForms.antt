@@ -31,6 +31,7 @@ use Rattle.c_core_rules.specs.declared.tree.CoreTree.{CoreTree}
 use Rattle.c_core_rules.specs.declared.tree.Valued.{Valued as CoreValued}
 use Rattle.c_core_rules.specs.Cells as core
 use Rattle.c_core_rules.specs.Expressions as rows
+use Rattle.c_core_laws.specs.lemmas.Faults.{NoFaults, not_broken}
 use Rattle.c_core_sound.proofs.Fitting.{World, EachFits, none_fits, more_fit}
 use Rattle.c_core_sound.proofs.FittingActs.{Good}
 use Rattle.c_core_sound.proofs.FittingRows.{ObjectFits, MayCall, TargetFits, fit_scalar}
@@ -40,7 +41,7 @@ use Rattle.c_core_sound.proofs.FittingRows.{called_unused_fits, known_unused_fit
 use Rattle.c_core_sound.proofs.FittingRows.{stepping_fits, incrementing_fits}
 use Rattle.c_core_laws.specs.lemmas.CoreLayers.{core_suffix}
 use Rattle.c_core_sound.proofs.Opened.{open_index, open_call, open_step, open_skipped}
-use Rattle.c_core_sound.proofs.ReadParts.{NoFaults, not_broken, unbroken, UseFits, UsesFit}
+use Rattle.c_core_sound.proofs.ReadParts.{unbroken, UseFits, UsesFit}
 use Rattle.c_core_sound.proofs.ReadParts.{uses_left}
 use Rattle.c_core_sound.proofs.ReadParts.{uses_right, MeaningFits, FormFits, IsName, of_function}
 use Rattle.c_core_sound.proofs.ReadParts.{of_array, HasKind, Reads, no_two, broken_left, at_place}

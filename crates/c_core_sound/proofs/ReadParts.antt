@@ -9,7 +9,6 @@ use Rattle.std.proofs.lemmas.List.{map-append}
 use Rattle.cpa_ints.specs.declared.integers.IntType.{IntType}
 use Rattle.c_lexer.specs.declared.fault.Rule.{Rule}
 use Rattle.c_lexer.specs.declared.fault.Rule.TheVariants as rule
-use Rattle.c_lexer.specs.declared.fault.TextFault.{TextFault}
 use Rattle.c_rules.specs.declared.meaning.Kind.{Kind}
 use Rattle.c_rules.specs.declared.meaning.Kind.TheVariants.{Void, Value}
 use Rattle.c_rules.specs.declared.meaning.Object.{Object}
@@ -23,40 +22,15 @@ use Rattle.c_rules.specs.declared.meaning.Role.{Role}
 use Rattle.c_rules.specs.declared.meaning.Role.TheVariants.{Valued, Evaluated, Changed}
 use Rattle.c_rules.specs.Parts.{is_changeable}
 use Rattle.c_rules.specs.Expressions.{Use, taken}
-use Rattle.c_rules.specs.ExpressionRules.{broken, at_if, use_faults, names_function, names_array}
+use Rattle.c_rules.specs.ExpressionRules.{broken, use_faults, names_function, names_array}
 use Rattle.c_rules.specs.ExpressionRules.{undeclared, misused_function, miscounted, misused_type}
 use Rattle.c_rules.specs.ExpressionRules.{called_without_body, not_changeable, misused_array}
 use Rattle.c_rules.specs.ExpressionRules.{void_value, has_own_fault, is_void}
 use Rattle.c_rules.specs.Items.{Call, use_calls}
-use Rattle.c_rules.specs.Recursion.{Among}
 use Rattle.c_core_rules.specs.Expressions as rows
+use Rattle.c_core_laws.specs.lemmas.Faults.{NoFaults, none_left, none_right, not_broken}
 use Rattle.c_core_sound.proofs.Fitting.{World}
 use Rattle.c_core_sound.proofs.FittingRows.{ObjectFits, MayCall, TargetFits, GoodRule, TreesRule}
-
--- none of these faults
-abbrev pub NoFaults : List TextFault → Type 0
-NoFaults faults = (fault : TextFault) → Among fault faults → ⊥
-
-among_left : (fault : TextFault) (a b : List TextFault) → Among fault a → Among fault (a ++ b)
-among_left fault [] b among = absurd among
-among_left fault (one ∷ a) b (inl is) = inl is
-among_left fault (one ∷ a) b (inr more) = inr (among_left fault a b more)
-
-among_right : (fault : TextFault) (a b : List TextFault) → Among fault b → Among fault (a ++ b)
-among_right fault [] b among = among
-among_right fault (one ∷ a) b among = inr (among_right fault a b among)
-
-pub none_left : (a b : List TextFault) → NoFaults (a ++ b) → NoFaults a
-none_left a b none fault among = none fault (among_left fault a b among)
-
-pub none_right : (a b : List TextFault) → NoFaults (a ++ b) → NoFaults b
-none_right a b none fault among = none fault (among_right fault a b among)
-
--- a rule that is not broken
-pub not_broken : (r : Rule) (b : Bool) (place : ℕ) → NoFaults (broken r (at_if b place)) →
-    b ≡ false
-not_broken r true place none = absurd (none (record { rule = r; place = place }) (inl refl))
-not_broken r false place none = refl
 
 -- what a use breaks, rule by rule
 pub record Unbroken (one : Use) : Type 0 where

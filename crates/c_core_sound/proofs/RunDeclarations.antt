@@ -41,6 +41,7 @@ use Rattle.c_core_rules.specs.Cells.{Taken, cells_with, begun}
 use Rattle.c_core_rules.specs.Cells as core
 use Rattle.c_core_rules.specs.Expressions as rows
 use Rattle.c_core_rules.specs.Statements as statement
+use Rattle.c_core_laws.specs.lemmas.Faults.{NoFaults, none_left, none_right}
 use Rattle.c_core_sound.specs.Whole.{is_whole, all_whole, whole_length, whole_declarator}
 use Rattle.c_core_sound.proofs.TypedValues.{PlaceFits, cell_fits, cell_below, zero_typed}
 use Rattle.c_core_sound.proofs.Fitting.{Ground, TreesFit, append_fits, push_fits, leaf_fits}
@@ -48,7 +49,6 @@ use Rattle.c_core_sound.proofs.Fitting.{set_fits}
 use Rattle.c_core_sound.proofs.Fitting.{Extends, Within, Fits, fits_gives, fits_then, fits_weaker}
 use Rattle.c_core_sound.proofs.Fitting.{EachFits, none_fits, more_fit, fits_ordered}
 use Rattle.c_core_sound.proofs.FittingRows.{Begins, GoodRule}
-use Rattle.c_core_sound.proofs.ReadParts.{NoFaults, none_left, none_right}
 use Rattle.c_core_sound.proofs.ReadExpressions.{and_left, and_right}
 use Rattle.c_core_sound.proofs.Lengths.{Enough, items_count, enough}
 use Rattle.c_core_sound.proofs.Running.{known_push, below_push, world, Below, below_higher}

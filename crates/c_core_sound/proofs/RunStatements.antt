@@ -45,6 +45,7 @@ use Rattle.c_core_rules.specs.Expressions as rows
 use Rattle.c_core_rules.specs.Statements as statement
 use Rattle.c_core_laws.specs.lemmas.CoreItems.{core_statement}
 use Rattle.c_core_laws.specs.lemmas.SameWalk.{grown_of, open_grown_item, open_grown_statement}
+use Rattle.c_core_laws.specs.lemmas.Faults.{none_left, not_broken}
 use Rattle.c_core_sound.specs.Whole.{is_whole, all_whole, whole_optional, whole_start}
 use Rattle.c_core_sound.specs.Whole.{whole_statement}
 use Rattle.c_core_sound.specs.Whole.{whole_item_layer, whole_block_item}
@@ -55,7 +56,6 @@ use Rattle.c_core_sound.proofs.Fitting.{block_fits, choice_fits, repeated_fits, 
 use Rattle.c_core_sound.proofs.Fitting.{fits_gives, fits_then, fits_weaker}
 use Rattle.c_core_sound.proofs.FittingActs.{Good}
 use Rattle.c_core_sound.proofs.FittingRows.{GoodRule, TreesRule}
-use Rattle.c_core_sound.proofs.ReadParts.{none_left, not_broken}
 use Rattle.c_core_sound.proofs.ReadExpressions.{and_left, and_right}
 use Rattle.c_core_sound.proofs.Running.{world, Runs, runs_gives, runs_weaker, runs_then}
 use Rattle.c_core_sound.proofs.Running.{runs_fits, runs_scoped, runs_inner, runs_loop, below_higher}

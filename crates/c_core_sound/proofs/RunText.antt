@@ -45,6 +45,8 @@ use Rattle.c_core_rules.specs.Cells.{Taken}
 use Rattle.c_core_rules.specs.Cells as core
 use Rattle.c_core_rules.specs.Expressions as rows
 use Rattle.c_core_rules.specs.Statements as statement
+use Rattle.c_core_laws.specs.lemmas.Faults.{NoFaults, among_left, among_right, none_left}
+use Rattle.c_core_laws.specs.lemmas.Faults.{none_right}
 use Rattle.c_core_sound.specs.Whole.{all_whole, whole_block_item, whole_declarator, whole_item}
 use Rattle.c_core_sound.specs.Whole.{whole_length, is_whole}
 use Rattle.c_core_sound.proofs.TypedValues.{PlaceFits}
@@ -52,7 +54,6 @@ use Rattle.c_core_sound.proofs.Fitting.{Ground, TreeFits, Extends, Within, exten
 use Rattle.c_core_sound.proofs.Fitting.{extends_both}
 use Rattle.c_core_sound.proofs.Fitting.{within_before}
 use Rattle.c_core_sound.proofs.FittingRows.{Begins, FunctionFits}
-use Rattle.c_core_sound.proofs.ReadParts.{NoFaults, none_left, none_right}
 use Rattle.c_core_sound.proofs.ReadExpressions.{and_left, and_right}
 use Rattle.c_core_sound.proofs.Running.{DeclaredBegins, DeclaredBelow, below_higher, Known, Runs}
 use Rattle.c_core_sound.proofs.Sites.{SitesFit, sites_right, FunctionsFit, DeclaredFits}
@@ -160,15 +161,6 @@ use_caller caller (given (Bare at found) handed) c among = called_caller caller 
 use_caller caller (given (Element found) handed) c among = absurd among
 use_caller caller (given Plain handed) c among = absurd among
 use_caller caller (paired first second) c among = absurd among
-
-pub among_left : {T : Type 0} (x : T) (a b : List T) → Among x a → Among x (a ++ b)
-among_left x [] b among = absurd among
-among_left x (y ∷ a) b (inl is) = inl is
-among_left x (y ∷ a) b (inr more) = inr (among_left x a b more)
-
-among_right : {T : Type 0} (x : T) (a b : List T) → Among x b → Among x (a ++ b)
-among_right x [] b among = among
-among_right x (y ∷ a) b among = inr (among_right x a b among)
 
 among_further : {T : Type 0} (x y : T) (a b : List T) → Among x a ⊎ Among x b →
     Among x (y ∷ a) ⊎ Among x b

@@ -20,10 +20,11 @@ use Rattle.c_rules.specs.StatementRules.{site_faults}
 use Rattle.c_rules.specs.Items.{Call, use_calls, site_calls}
 use Rattle.c_rules.specs.TypedStatements.{typed_expression}
 use Rattle.c_core_rules.specs.Expressions as rows
+use Rattle.c_core_laws.specs.lemmas.Faults.{NoFaults, none_left, none_right}
 use Rattle.c_core_sound.specs.Whole.{is_whole}
 use Rattle.c_core_sound.proofs.Fitting.{Ground}
 use Rattle.c_core_sound.proofs.FittingRows.{FunctionFits, GoodRule, TreesRule}
-use Rattle.c_core_sound.proofs.ReadParts.{NoFaults, none_left, none_right, UsesFit, MeaningFits}
+use Rattle.c_core_sound.proofs.ReadParts.{UsesFit, MeaningFits}
 use Rattle.c_core_sound.proofs.ReadForms.{used_reads}
 use Rattle.c_core_sound.proofs.ReadExpressions.{expression_reads, evaluated_reads}
 use Rattle.c_core_sound.proofs.Running.{world}

@@ -60,16 +60,16 @@ use Rattle.c_core_laws.specs.Jumps.{JumpIsSound}
 use Rattle.c_core_laws.specs.lemmas.SameWalk.{same_walk}
 use Rattle.c_core_laws.specs.Laws.{FramesAreThere, StatementsAreOfTrees, CoresAreNumbered}
 use Rattle.c_core_laws.specs.Laws.{CoresAreSmall, JumpsAreSound, CoresHaveAMain, CellsStartInRange}
+use Rattle.c_core_laws.specs.lemmas.Faults.{NoFaults, none_left, none_right, among_left}
 use Rattle.c_core_sound.specs.Whole.{IsWhole, all_whole, whole_block_item, whole_declarator}
 use Rattle.c_core_sound.specs.Whole.{whole_item}
 use Rattle.c_core_sound.proofs.TypedValues.{cell_fits}
 use Rattle.c_core_sound.proofs.Fitting.{Ground, HeadFits, TreeFits, Within, within_before}
-use Rattle.c_core_sound.proofs.ReadParts.{NoFaults, none_left, none_right}
 use Rattle.c_core_sound.proofs.ReadExpressions.{and_left, and_right}
 use Rattle.c_core_sound.proofs.RunFunctions.{function_rises}
 use Rattle.c_core_sound.proofs.FileNames.{FileScope, Stay, function_scope}
 use Rattle.c_core_sound.proofs.Globals.{globals_begin}
-use Rattle.c_core_sound.proofs.RunText.{Callee, Fit, among_left, body_around, globals_scope, ground}
+use Rattle.c_core_sound.proofs.RunText.{Callee, Fit, body_around, globals_scope, ground}
 use Rattle.c_core_sound.proofs.RunText.{later_scope, text_runs}
 use Rattle.c_core_sound.proofs.Bodies.{FoundBody, Single, found_body, frames_single, places_fit}
 use Rattle.c_core_sound.proofs.Bodies.{single_at}

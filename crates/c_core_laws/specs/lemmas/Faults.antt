@@ -1,0 +1,31 @@
+-- What stands among faults that are put together, and rules that are not broken.
+use Rattle.std.proofs.Common.{◌≡◌, ℕ, Bool, true, false, List, [], ◌∷◌, ◌++◌, refl, inl, inr}
+use Rattle.c_lexer.specs.declared.fault.Rule.{Rule}
+use Rattle.c_lexer.specs.declared.fault.TextFault.{TextFault}
+use Rattle.c_rules.specs.ExpressionRules.{broken, at_if}
+use Rattle.c_rules.specs.Recursion.{Among}
+
+-- none of these faults
+abbrev pub NoFaults : List TextFault → Type 0
+NoFaults faults = (fault : TextFault) → Among fault faults → ⊥
+
+pub among_left : {T : Type 0} (x : T) (a b : List T) → Among x a → Among x (a ++ b)
+among_left x [] b among = absurd among
+among_left x (y ∷ a) b (inl is) = inl is
+among_left x (y ∷ a) b (inr more) = inr (among_left x a b more)
+
+pub among_right : {T : Type 0} (x : T) (a b : List T) → Among x b → Among x (a ++ b)
+among_right x [] b among = among
+among_right x (y ∷ a) b among = inr (among_right x a b among)
+
+pub none_left : (a b : List TextFault) → NoFaults (a ++ b) → NoFaults a
+none_left a b none fault among = none fault (among_left fault a b among)
+
+pub none_right : (a b : List TextFault) → NoFaults (a ++ b) → NoFaults b
+none_right a b none fault among = none fault (among_right fault a b among)
+
+-- a rule that is not broken
+pub not_broken : (r : Rule) (b : Bool) (place : ℕ) → NoFaults (broken r (at_if b place)) →
+    b ≡ false
+not_broken r true place none = absurd (none (record { rule = r; place = place }) (inl refl))
+not_broken r false place none = refl
