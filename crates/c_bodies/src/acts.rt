@@ -4,7 +4,8 @@ ghost use Rattle.std.specs.Prelude.{◌≡◌, not, IfOk, OnOk, is_some, option_
 ghost use Rattle.std.specs.List.{list_any};
 ghost use Rattle.std.specs.Str.{bytes_eq};
 ghost use Rattle.c_rules.specs.declared.meaning.Role.TheVariants.{Valued};
-ghost use Rattle.c_rules.specs.Statements.{evaluates, jumps as goes_to, marks, leaves, returns, evaluating};
+ghost use Rattle.c_rules.specs.Statements.{evaluates, jumps as goes_to, marks, leaves, returns};
+ghost use Rattle.c_rules.specs.Statements.{evaluating};
 ghost use Rattle.c_rules.specs.Statements.{followed, doing};
 ghost use Rattle.c_rules.specs.Declarations.{is_void_kind};
 ghost use Rattle.c_rules.specs.StatementRules.{agree};

@@ -1,6 +1,6 @@
 //! Statements: their typed trees, and what their acts make of the state (`grown_of` of
 //! `specs/Grown.antt`). Proved in proofs/Forms, by one lemma for each form.
-ghost use Rattle.std.specs.Prelude.{◌≡◌, List, map, length, IfOk, OnOk, option_map, unwrap_or};
+ghost use Rattle.std.specs.Prelude.{◌≡◌, map, IfOk, OnOk, option_map, unwrap_or};
 ghost use Rattle.std.specs.Str.{bytes_eq};
 ghost use Rattle.c_tree.specs.declared.statement.BlockItem.TheOpen.{Statement-F};
 ghost use Rattle.c_rules.specs.Names.{place_of};

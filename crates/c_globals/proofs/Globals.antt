@@ -1,6 +1,6 @@
 -- Declarators in order: with the type and const of their specifiers, what is known behind them,
--- their faults and their starts are those of the definitions (`behind_is`, `faults_is`, `starts_is`).
-use Rattle.std.proofs.Common.{◌≡◌, ℕ, List, [], ◌∷◌, ◌++◌, Option, refl, sym, ap, ◌∙◌}
+-- their faults and their starts are by the definitions (`behind_is`, `faults_is`, `starts_is`).
+use Rattle.std.proofs.Common.{◌≡◌, List, [], ◌∷◌, ◌++◌, Option, refl, sym, ap, ◌∙◌}
 use Rattle.std.proofs.lemmas.List.{append_assoc}
 use Rattle.c_lexer.specs.declared.fault.TextFault.{TextFault}
 use Rattle.c_tree.specs.declared.declaration.Declarator.{Declarator}
@@ -10,7 +10,8 @@ use Rattle.std.specs.Prelude.{Bool}
 use Rattle.c_rules.specs.Names.{Text}
 use Rattle.c_rules.specs.First.{first_with, first_append}
 use Rattle.c_rules.specs.Declarations.{kind_of, has_const}
-use Rattle.c_rules.specs.Items.{Before, global_behind, globals_behind, global_faults, globals_faults}
+use Rattle.c_rules.specs.Items.{Before, global_behind, globals_behind, global_faults}
+use Rattle.c_rules.specs.Items.{globals_faults}
 use Rattle.c_rules.specs.Sound.{Start, start_of, starts_in}
 use Rattle.c_globals.specs.Globals.{behind_by, faults_by, start_by, all_behind_by, all_faults_by}
 use Rattle.c_globals.specs.Globals.{all_starts_by}

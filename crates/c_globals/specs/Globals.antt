@@ -1,6 +1,6 @@
 -- What a declarator in file scope declares and which rules it breaks, where the type and const of
 -- its specifiers are known (the definitions are those of c_rules).
-use Rattle.std.specs.Prelude.{ℕ, ◌+◌, ℤ, Bool, List, [], ◌∷◌, ◌++◌, map, Option, None, Some, is_some}
+use Rattle.std.specs.Prelude.{ℕ, ◌+◌, ℤ, Bool, List, [], ◌∷◌, ◌++◌, map, None, Some, is_some}
 use Rattle.std.specs.List.{flat_map}
 use Rattle.c_lexer.specs.declared.fault.Rule.TheVariants as rule
 use Rattle.c_lexer.specs.declared.fault.TextFault.{TextFault}

@@ -1,19 +1,43 @@
 //! Declarations of functions (`function_behind` and `head_faults` of `specs/Items.antt` of
 //! `c_rules`). Proved with `first_append` of `c_rules`.
-ghost use Rattle.std.specs.Prelude.{◌≡◌, OnOk};
+ghost use Rattle.std.specs.Prelude.{◌≡◌, [], ◌∷◌, ◌++◌, OnOk};
 ghost use Rattle.c_rules.specs.First.{first_with};
-ghost use Rattle.c_rules.specs.Items.{function_behind, head_faults};
+ghost use Rattle.c_rules.specs.Names.{declared_as};
+ghost use Rattle.c_rules.specs.Items.{merged_function, function_behind, head_faults};
 ghost use Rattle.c_globals.specs.Scopes.{before_of};
 
 use crate::Scope;
-use crate::merging::{merged_function, redeclares_function};
+use crate::merging::{is_said, merged_function, redeclares_function};
 use crate::parameters::{listed, note_void_parameters, parameter_types};
 use c_lexer::{Rule, TextFault};
+use c_names::Names;
 use c_objects::{note_if, read_specifiers};
-use c_rules::Entry;
+use c_rules::{Entry, Kind, ParameterType};
 use c_tree::{FunctionDeclarator, Specifiers};
 use cpa_ints::Seq;
 use std::alloc::{AllocError, Global};
+
+/// Declares the name of a function. Where that says nothing new, it shares what is known of it.
+fn declare_name(
+    alloc: Global,
+    names: &mut Names,
+    name: &[u8],
+    kind: Kind,
+    types: Option<Seq<ParameterType>>,
+    defines: bool,
+) -> Result<(), AllocError>
+    ensures { OnOk result (names.new ≡ names.old ++ record {
+      name = name.now;
+      declared = merged_function (declared_as names.old name.now) kind types defines;
+    } ∷ []) }
+{
+    if is_said(names.declared(name), &types, defines) {
+        return names.declare_again(alloc, name);
+    }
+    let declared = merged_function(alloc, names.declared(name), kind, types, defines)?;
+    let name = Seq::from_vec(name.to_vec(alloc)?);
+    names.declare(alloc, Entry { name, declared })
+}
 
 /// Declares a function, by a prototype or by a definition: holds the first fault of its head.
 #[tactic(auto, using(c_rules::specs::First::first_append))]
@@ -34,9 +58,7 @@ pub fn declare_function(
     let types = parameter_types(alloc, defines, &declarator.parameters)?;
     let name = declarator.name.bytes.as_slice();
     let is_taken = redeclares_function(scope.names.declared(name), kind, &types, defines);
-    let declared = merged_function(alloc, scope.names.declared(name), kind, types, defines)?;
     note_if(first, Rule::N2, is_taken, declarator.name.place);
     note_void_parameters(alloc, listed(&declarator.parameters), first)?;
-    let name = Seq::from_vec(name.to_vec(alloc)?);
-    scope.names.declare(alloc, Entry { name, declared })
+    declare_name(alloc, &mut scope.names, name, kind, types, defines)
 }

@@ -1,9 +1,10 @@
 //! What a name is declared as by one declaration more, and whether that is allowed
 //! (`specs/Items.antt` of `c_rules`). Proved by the checker alone.
-ghost use Rattle.std.specs.Prelude.{◌≡◌, ◌&&◌, IfOk};
+ghost use Rattle.std.specs.Prelude.{◌≡◌, ◌&&◌, Some, IsTrue, IfOk};
 ghost use Rattle.std.specs.Option.{option_copied};
 ghost use Rattle.c_rules.specs.Items.{same_length, one_type, merged_object, redeclares_object};
 ghost use Rattle.cpa_expr.specs.Equality.{same_type};
+ghost use Rattle.c_rules.specs.declared.meaning.Kind.{Kind as KindOfResult};
 ghost use Rattle.c_rules.specs.Items.{same_kind, same_flag, same_parameters, agreeing_parameters};
 ghost use Rattle.c_rules.specs.Items.{merged_function, redeclares_function};
 ghost use Rattle.c_rules.specs.Names.{or_else};
@@ -167,6 +168,27 @@ fn first_parameters(
     match old {
         Some(types) => Ok(Some(Seq::from_vec(types.as_slice().to_vec(alloc)?))),
         None => Ok(fresh),
+    }
+}
+
+/// Whether a declaration says nothing of a function that an earlier one does not say.
+pub(crate) fn is_said(
+    declared: Option<&Declared>,
+    fresh: &Option<Seq<ParameterType>>,
+    defines: bool,
+) -> bool
+    ensures { (kind : KindOfResult) → IsTrue result → option_copied declared.entry
+        ≡ Some (merged_function (option_copied declared.entry) kind fresh.now defines) }
+{
+    match declared {
+        Some(
+            Declared::Function {
+                parameters,
+                is_defined,
+                ..
+            },
+        ) => (parameters.is_some() || fresh.is_none()) && (*is_defined || !defines),
+        _ => false,
     }
 }
 

@@ -1,11 +1,10 @@
-//! Declarations of objects in file scope (`globals_behind` and `globals_faults` of
-//! `specs/Items.antt`, `starts_in` of `specs/Sound.antt` of `c_rules`). Proved with `proofs/Globals`.
+//! Declarations of objects in file scope (`globals_behind`, `globals_faults`, `starts_in` of
+//! `specs/Items.antt` and `specs/Sound.antt` of `c_rules`). Proved with `proofs/Globals`.
 ghost use Rattle.std.specs.Prelude.{◌≡◌, ◌++◌, OnOk};
 ghost use Rattle.c_rules.specs.First.{first_with};
 ghost use Rattle.c_rules.specs.Items.{globals_behind, globals_faults};
 ghost use Rattle.c_rules.specs.Sound.{starts_in};
 ghost use Rattle.c_rules.specs.ExpressionRules.{broken};
-ghost use Rattle.c_rules.specs.Declarations.{kind_of, has_const};
 ghost use Rattle.c_lexer.specs.declared.fault.Rule.TheVariants as rule;
 ghost use Rattle.c_globals.specs.Scopes.{before_of};
 ghost use Rattle.c_globals.specs.Globals.{declared_by, taken_by, start_with, behind_by, faults_by};

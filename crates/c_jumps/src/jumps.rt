@@ -1,7 +1,8 @@
 //! The labels and gotos of a function, gathered as its statements are walked. Contracts see `Found`
 //! of `specs/Found.antt`; what the parts keep is `AreFound`, proved in proofs/Trees and Views.
 
-ghost use Rattle.std.specs.Prelude.{◌≡◌, ◌<◌, ◌≤◌, ℕ, List, [], ◌++◌, length, map, IfOk, OnOk, OnErr};
+ghost use Rattle.std.specs.Prelude.{◌≡◌, ◌<◌, ◌≤◌, ℕ, List, [], ◌++◌, length, map, IfOk, OnOk};
+ghost use Rattle.std.specs.Prelude.{OnErr};
 ghost use Rattle.std.specs.List.{AllByRecursion};
 ghost use Rattle.c_lexer.specs.declared.fault.Rule.TheVariants as rule;
 ghost use Rattle.c_rules.specs.First.{first_with};

@@ -3,7 +3,7 @@
 
 ghost use Rattle.std.specs.Prelude.{◌≡◌, ◌⊎◌, ℕ, ◌+◌, ◌<◌, ◌≤◌, List, [], ◌∷◌, ◌++◌, length, take};
 ghost use Rattle.std.specs.Prelude.{not, IfOk, OnOk, OnErr};
-ghost use Rattle.std.specs.List.{AllByRecursion, list_any};
+ghost use Rattle.std.specs.List.{AllByRecursion};
 ghost use Rattle.c_jumps.specs.Trees.{way_at, node_at, HaveNodes, IsTree, enters_way};
 
 use std::alloc::{AllocError, Global};

@@ -1,10 +1,13 @@
 -- A table keeps what it keeps with one declaration more (`more_tied`) and one less (`less_tied`),
--- and its look-ups are those of the list (`declared_last`, `declared_behind`).
-use Rattle.std.specs.Prelude.{◌≡◌, ℕ, zero, suc, ◌<◌, Bool, true, false, cond, ◌||◌, List, [], ◌∷◌, ◌++◌}
+-- and its look-ups are those of the list (`declared_last`, `declared_behind`); the last declaration
+-- of a name is what the name is declared as once more (`again_is`).
+use Rattle.std.specs.Prelude.{◌≡◌, ℕ, zero, suc, ◌<◌, Bool, true, false, cond, ◌||◌, List, [], ◌∷◌}
+use Rattle.std.specs.Prelude.{◌++◌}
 use Rattle.std.specs.Prelude.{length, drop, get_or, Option, None, Some, option_map, IfSome, IsSome}
 use Rattle.std.proofs.Common.{refl, sym, subst, ap, ◌∙◌, arith, leb}
 use Rattle.std.specs.List.{AllByRecursion}
 use Rattle.std.specs.Cmp.Lexicographic.{bytes_decides}
+use Rattle.std.specs.Option.{option_to_list}
 use Rattle.std.specs.Str.{bytes_eq}
 use Rattle.std.proofs.lemmas.Cmp.{nat_list_eq_equiv}
 use Rattle.std.proofs.lemmas.Bool.{cases_Bool, cond-true, cond-false}
@@ -15,6 +18,7 @@ use Rattle.c_rules.specs.Names.{or_else, declared_as}
 use Rattle.c_rules.specs.Declarations.{is_declared_among}
 use Rattle.c_names.specs.declared.table.Table.{Table}
 use Rattle.c_names.specs.Found.{number_of}
+use Rattle.c_names.specs.Again.{entry_of, said_again}
 use Rattle.c_names.specs.Tables.{last_of, earlier_in, IsCounted, IsTied}
 use Rattle.std.proofs.Math.Dec.{leb-zero, leb-suc-suc, leb-suc-zero}
 use mathlib.Core.Logic.{⊎_elim}
@@ -189,3 +193,49 @@ pub declared_none : (es : List Entry) (q : List ℕ) → last_of es q ≡ None �
 declared_none [] q h = refl
 declared_none (e ∷ es) q h =
     declared_last e (e ∷ es) q ∙ ap (option_map (λ n. (get_or (e ∷ es) n e).declared)) h
+
+-- the last declaration of a name has the name
+named_step : (e d : Entry) (es : List Entry) (q : List ℕ) (b : Bool) (held : Option ℕ) →
+    bytes_eq e.name q ≡ b → IfSome held (λ n. (get_or es n d).name ≡ q) →
+    IfSome (or_else (option_map (λ n. suc n) held) (cond b (Some 0) None))
+    (λ n. (get_or (e ∷ es) n d).name ≡ q)
+named_step e d es q b (Some n) is h = h
+named_step e d es q true None is h = (bytes_decides e.name q).0 is
+named_step e d es q false None is h = tt
+
+last_named : (d : Entry) (es : List Entry) (q : List ℕ) →
+    IfSome (last_of es q) (λ n. (get_or es n d).name ≡ q)
+last_named d [] q = tt
+last_named d (e ∷ es) q =
+    named_step e d es q (bytes_eq e.name q) (last_of es q) refl (last_named d es q)
+
+pub declared_at : (es : List Entry) (q : List ℕ) (n : ℕ) (x : Entry) → Some n ≡ last_of es q →
+    x ≡ get_or es n x → declared_as es q ≡ Some x.declared
+declared_at es q n x found is =
+    declared_last x es q ∙ ap (option_map (λ n. (get_or es n x).declared)) (sym found)
+    ∙ ap (λ (e : Entry). Some e.declared) (sym is)
+
+-- so it is what the name is declared as once more
+pub again_is : (es : List Entry) (q : List ℕ) (n : ℕ) (x : Entry) → Some n ≡ last_of es q →
+    x ≡ get_or es n x → said_again es q ≡ x ∷ []
+again_is es q n x found is =
+    let named : (get_or es n x).name ≡ q =
+    subst (λ (held : Option ℕ). IfSome held (λ n. (get_or es n x).name ≡ q)) (sym found)
+    (last_named x es q) in
+    ap (λ (known : Option Declared). option_to_list (option_map (entry_of q) known))
+    (declared_at es q n x found is)
+    ∙ ap (λ (name : List ℕ). entry_of name x.declared ∷ [])
+    (sym (ap (λ (e : Entry). e.name) is ∙ named))
+
+pub counted_at : (es : List Entry) (q : List ℕ) (n : ℕ) (x : Entry) → Some n ≡ last_of es q →
+    x ≡ get_or es n x → AllByRecursion (λ entry. IsCounted entry.declared) es →
+    IsCounted x.declared
+counted_at es q n x found is counted =
+    subst (λ (held : Option Declared). IfSome held IsCounted) (declared_at es q n x found is)
+    (declared_counted es q counted)
+
+pub again_none : (es : List Entry) (q : List ℕ) → last_of es q ≡ None →
+    es ≡ es ++ said_again es q
+again_none es q h =
+    sym (ap (λ (known : Option Declared). es ++ option_to_list (option_map (entry_of q) known))
+    (declared_none es q h) ∙ append-nil es)

@@ -5,9 +5,10 @@ ghost use Rattle.std.specs.Prelude.{◌≡◌, [], ◌++◌, ◌∷◌, length, 
 ghost use Rattle.std.specs.Option.{option_copied};
 ghost use Rattle.c_rules.specs.Names.{declared_as, meaning_of};
 ghost use Rattle.c_rules.specs.Declarations.{is_declared_among};
+ghost use Rattle.c_names.specs.Again.{said_again};
 
-use crate::Survey;
 use crate::table::{self, Table};
+use crate::{Declaration, Survey};
 use c_rules::{Declared, Entry, Function, Meaning, known_function};
 use std::alloc::{AllocError, Global};
 use std::marker::Model;
@@ -52,7 +53,7 @@ impl Names {
     }
 
     /// The declarations in order.
-    pub fn entries(&self) -> &[Entry]
+    pub fn declarations(&self) -> &[Declaration]
         ensures { result.now ≡ self.now }
     {
         self.table.entries.as_slice()
@@ -65,6 +66,15 @@ impl Names {
         ensures kept { OnErr result (self.new ≡ self.old) }
     {
         table::declare(&mut self.table, alloc, entry)
+    }
+
+    /// Declares a name once more, as its last declaration has it, by a share in what that one says.
+    /// A name that is not declared stays so.
+    pub fn declare_again(&mut self, alloc: Global, name: &[u8]) -> Result<(), AllocError>
+        ensures declared { OnOk result (self.new ≡ self.old ++ said_again self.old name.now) }
+        ensures kept { OnErr result (self.new ≡ self.old) }
+    {
+        table::declare_again(&mut self.table, alloc, name)
     }
 
     /// Forgets all but the first `count` declarations, as at the end of a scope.

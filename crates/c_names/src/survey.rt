@@ -1,12 +1,13 @@
 //! What a whole text says of its functions: `Text` of `specs/Names.antt` of `c_rules`, which
 //! `text_of` takes from the items. What the parts keep is `IsSurveyed`, proved in `proofs/Places`.
 
-ghost use Rattle.std.specs.Prelude.{◌≡◌, ◌↔◌, ◌<◌, ◌≤◌, ◌^◌, List, [], ◌++◌, ◌∷◌, true, false};
-ghost use Rattle.std.specs.Prelude.{Bool, length, IfOk, OnOk, option_map};
+ghost use Rattle.std.specs.Prelude.{◌≡◌, ◌<◌, [], ◌++◌, ◌∷◌, true, false};
+ghost use Rattle.std.specs.Prelude.{length, IfOk, OnOk, option_map};
 ghost use Rattle.std.specs.List.{filter_map};
 ghost use Rattle.std.specs.Option.{option_to_list};
 ghost use Rattle.c_rules.specs.Names.{body_of, arity_of};
-ghost use Rattle.c_rules.specs.Items.{given_parameters, body_name, named_arity, item_arity, text_of};
+ghost use Rattle.c_rules.specs.Items.{given_parameters, body_name, named_arity, item_arity};
+ghost use Rattle.c_rules.specs.Items.{text_of};
 ghost use Rattle.c_names.specs.Tables.{IsSurveyed};
 
 use crate::Firsts;

@@ -1,15 +1,17 @@
 //! The declarations in order, with the number of the earlier one of each name and the latest of
-//! each found by hash. What the parts keep is `IsTied` of `specs/Tables.antt`, proved in `proofs/Lasts`.
+//! each found by hash. They keep `IsTied` of `specs/Tables.antt`, proved in `proofs/Lasts`.
 
-ghost use Rattle.std.specs.Prelude.{◌≡◌, ◌↔◌, ◌+◌, ◌-◌, ◌<◌, ◌≤◌, [], ◌++◌, ◌∷◌, length};
-ghost use Rattle.std.specs.Prelude.{take, drop, IsTrue, Some, OnOk, OnErr, option_map, vec_len, vec_capacity};
+ghost use Rattle.std.specs.Prelude.{◌≡◌, ◌↔◌, ◌+◌, ◌-◌, ◌<◌, [], ◌++◌, ◌∷◌, length};
+ghost use Rattle.std.specs.Prelude.{take, drop, IsTrue, Some, OnOk, OnErr, option_map, vec_len};
+ghost use Rattle.std.specs.Prelude.{vec_capacity};
 ghost use Rattle.std.specs.Option.{option_copied};
 ghost use Rattle.c_rules.specs.Names.{declared_as, function_of, meaning_by, meaning_of};
 ghost use Rattle.c_rules.specs.Declarations.{is_declared_among};
+ghost use Rattle.c_names.specs.Again.{said_again};
 ghost use Rattle.c_names.specs.Tables.{IsCounted, AreCounted, IsTied};
 
-use crate::Survey;
 use crate::numbers::{Numbers, number_of, put_back, set};
+use crate::{Declaration, Survey};
 use c_rules::{
     Declared, Entry, Function, Kind, KnownFunction, Meaning, ParameterType, known_function,
 };
@@ -20,7 +22,7 @@ use std::collections::HashMap;
 /// The parts of a table of names.
 #[derive(Drop)]
 pub(crate) struct Table {
-    pub(crate) entries: Vec<Entry>,
+    pub(crate) entries: Vec<Declaration>,
     /// For each declaration the number of the one before it that has its name.
     pub(crate) earlier: Vec<Option<u32>>,
     /// The number of the last declaration of each name.
@@ -58,12 +60,31 @@ fn reserve(table: &mut Table) -> Result<(), AllocError>
     ensures earlier { table.new.earlier.items ≡ table.old.earlier.items }
     ensures latest { table.new.latest ≡ table.old.latest }
     ensures room { OnOk result (vec_len table.new.entries < vec_capacity table.new.entries) }
-    ensures earlier_room {
-        OnOk result (vec_len table.new.earlier < vec_capacity table.new.earlier)
-    }
+    ensures earlier_room { OnOk result (vec_len table.new.earlier < vec_capacity table.new.earlier) }
 {
     table.entries.reserve(1)?;
     table.earlier.reserve(1)
+}
+
+/// Adds a declaration at the end.
+fn push(table: &mut Table, alloc: Global, declaration: Declaration) -> Result<(), AllocError>
+    requires tied { IsTied table.old }
+    requires counted { IsCounted declaration.declared }
+    ensures tied { IsTied table.new }
+    ensures ok { OnOk result (table.new.entries.items ≡ table.old.entries.items ++ declaration ∷ []) }
+    ensures err { OnErr result (table.new.entries.items ≡ table.old.entries.items) }
+{
+    let number = table.entries.len();
+    if number > 4294967295 {
+        return Err(AllocError);
+    }
+    reserve(table)?;
+    let name = declaration.entry().name.as_slice();
+    let earlier = number_of(&table.latest, name);
+    set(alloc, &mut table.latest, name, number as u32)?;
+    table.earlier.push_reserved(earlier);
+    table.entries.push_reserved(declaration);
+    Ok(())
 }
 
 /// Adds a declaration. Where memory runs out the declarations stay as they were.
@@ -73,21 +94,28 @@ pub(crate) fn declare(table: &mut Table, alloc: Global, entry: Entry) -> Result<
     ensures ok { OnOk result (table.new.entries.items ≡ table.old.entries.items ++ entry ∷ []) }
     ensures err { OnErr result (table.new.entries.items ≡ table.old.entries.items) }
 {
-    let number = table.entries.len();
-    if number > 4294967295 || !is_counted(&entry.declared) {
+    if !is_counted(&entry.declared) {
         return Err(AllocError);
     }
-    reserve(table)?;
-    let earlier = number_of(&table.latest, entry.name.as_slice());
-    set(
-        alloc,
-        &mut table.latest,
-        entry.name.as_slice(),
-        number as u32,
-    )?;
-    table.earlier.push_reserved(earlier);
-    table.entries.push_reserved(entry);
-    Ok(())
+    let declaration = Declaration::new(alloc, entry)?;
+    push(table, alloc, declaration)
+}
+
+/// Adds the last declaration of a name once more.
+pub(crate) fn declare_again(table: &mut Table, alloc: Global, name: &[u8]) -> Result<(), AllocError>
+    requires { IsTied table.old }
+    ensures tied { IsTied table.new }
+    ensures ok { OnOk result (table.new.entries.items
+        ≡ table.old.entries.items ++ said_again table.old.entries.items name.now) }
+    ensures err { OnErr result (table.new.entries.items ≡ table.old.entries.items) }
+{
+    match number_of(&table.latest, name) {
+        Some(number) => {
+            let declaration = table.entries[number as usize].repeated()?;
+            push(table, alloc, declaration)
+        }
+        None => Ok(()),
+    }
 }
 
 /// Forgets the last declaration.
@@ -97,9 +125,10 @@ fn forget_last(table: &mut Table)
     ensures entries { table.new.entries.items
         ≡ take (length table.old.entries.items - 1) table.old.entries.items }
 {
-    if let Some(entry) = table.entries.pop() {
+    if let Some(declaration) = table.entries.pop() {
         if let Some(earlier) = table.earlier.pop() {
-            put_back(&mut table.latest, entry.name.as_slice(), earlier);
+            let name = declaration.entry().name.as_slice();
+            put_back(&mut table.latest, name, earlier);
         }
     }
 }
@@ -121,7 +150,7 @@ pub(crate) fn declared<'a>(table: &'a Table, name: &[u8]) -> Option<&'a Declared
     ensures { option_copied result ≡ declared_as table.now.entries.items name.now }
 {
     match number_of(&table.latest, name) {
-        Some(number) => Some(&table.entries[number as usize].declared),
+        Some(number) => Some(&table.entries[number as usize].entry().declared),
         None => None,
     }
 }

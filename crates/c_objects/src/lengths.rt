@@ -1,10 +1,10 @@
 //! The length of a declared object (`length_of` and `length_faults` of `c_rules`,
 //! `specs/Declarations.antt`); its expression is read once. Proved with `proofs/Fitting.antt`.
-ghost use Rattle.std.specs.Prelude.{◌≡◌, ◌++◌, ℤ, pos, None, length, IfOk, OnOk, unwrap_or};
+ghost use Rattle.std.specs.Prelude.{◌≡◌, ◌++◌, pos, None, length, IfOk, OnOk, unwrap_or};
 ghost use Rattle.c_lexer.specs.declared.fault.Rule.TheVariants as rule;
 ghost use Rattle.c_rules.specs.declared.meaning.Role.TheVariants.{Valued};
 ghost use Rattle.c_rules.specs.First.{first_with};
-ghost use Rattle.c_rules.specs.ExpressionRules.{broken, at_if, uses_faults};
+ghost use Rattle.c_rules.specs.ExpressionRules.{broken, uses_faults};
 ghost use Rattle.c_rules.specs.Declarations.{items_of, is_length, is_longer, constant_number};
 ghost use Rattle.c_rules.specs.Declarations.{given_length_faults, length_of, length_faults};
 ghost use Rattle.c_rules.specs.Declarations.{length_uses};

@@ -1,5 +1,5 @@
 -- Without its types, the typed tree of an expression is the expression (`erased_reading`).
-use Rattle.std.proofs.Common.{◌≡◌, ℕ, List, [], ◌∷◌, map, refl, sym, subst, ap, ◌∙◌}
+use Rattle.std.proofs.Common.{◌≡◌, List, [], ◌∷◌, map, refl, sym, subst, ap, ◌∙◌}
 use Rattle.c_symbols.specs.declared.operators.BinaryOperator.{BinaryOperator}
 use Rattle.c_tree.specs.declared.expression.Expression.{Expression, roll-Expression}
 use Rattle.c_tree.specs.declared.expression.Expression.TheOpen.{Expression-F, Suffix-F}
@@ -22,8 +22,8 @@ use Rattle.c_rules.specs.declared.typed.TypedSuffix.TheVariants as behind
 use Rattle.c_rules.specs.Names.{Text}
 use Rattle.c_rules.specs.Expressions.{Reading, ReadSuffix, reading, reading_step, read_suffix}
 use Rattle.c_rules.specs.Expressions.{suffix_typed, suffix_part, suffixed, trees_of}
-use Rattle.c_types.specs.Erasing.{unnamed, untold, expression_form, suffix_form, erase_expression}
-use Rattle.c_types.specs.Erasing.{erase_suffix, erased_expression, erased_suffix, nameless}
+use Rattle.c_types.specs.Erasing.{untold, erase_expression}
+use Rattle.c_types.specs.Erasing.{erase_suffix, erased_expression, erased_suffix}
 use Rattle.c_types.specs.Erasing.{bare_step, bare_behind, bare_expression, bare_suffix}
 
 -- one layer without its types
@@ -138,9 +138,8 @@ module _ (text : Text) (names : List Entry) where
       ≡ map bare_suffix (map first_behind held)
   suffixes_erased base [] = refl
   suffixes_erased base (s ∷ held) =
-      ap (λ (x : Suffix). x ∷ map erased_suffix
-      (suffixed (suffix_part base (read_behind s.0)) (map read_behind (map first_behind held))).typed)
-      (s.1 base)
+      ap (λ (x : Suffix). x ∷ map erased_suffix (suffixed (suffix_part base (read_behind s.0))
+      (map read_behind (map first_behind held))).typed) (s.1 base)
       ∙ ap (λ (xs : List Suffix). bare_suffix s.0 ∷ xs)
       (suffixes_erased (suffix_part base (read_behind s.0)) held)
 
@@ -166,7 +165,8 @@ module _ (text : Text) (names : List Entry) where
       (typed.rolls-Bracketed (typed_tree inner.0) place)
       ∙ ap (λ (e : Expression). roll-Expression (Expression-F.Bracketed e place)) inner.1
   layer (Expression-F.Postfix base held place) =
-      let all = suffixed (reading text names base.0).part (map read_behind (map first_behind held)) in
+      let all = suffixed (reading text names base.0).part
+      (map read_behind (map first_behind held)) in
       erased_layer _ (TypedExpression-F.Postfix (typed_tree base.0) all.typed place)
       (typed.rolls-Postfix (typed_tree base.0) all.typed place)
       ∙ ap (λ (e : Expression). roll-Expression (Expression-F.Postfix e

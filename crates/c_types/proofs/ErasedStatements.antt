@@ -1,5 +1,6 @@
 -- Without its types, the typed tree of a text has the functions of the text (`unit_erased`).
-use Rattle.std.proofs.Common.{◌≡◌, ℕ, suc, ◌+◌, true, List, [], ◌∷◌, ◌++◌, length, map, Option, None, Some}
+use Rattle.std.proofs.Common.{◌≡◌, ℕ, suc, ◌+◌, true, List, [], ◌∷◌, length, map, Option, None}
+use Rattle.std.proofs.Common.{Some}
 use Rattle.std.proofs.Common.{option_map, refl, sym, subst, ap, ◌∙◌}
 use Rattle.c_tree.specs.declared.expression.Expression.{Expression}
 use Rattle.c_tree.specs.declared.declaration.Array.{Array}
@@ -24,9 +25,6 @@ use Rattle.c_tree.specs.declared.item.Item.{Item}
 use Rattle.c_tree.specs.declared.item.Item.TheVariants as item
 use Rattle.c_tree.specs.declared.item.Unit.{Unit as UnitTree}
 use Rattle.c_rules.specs.declared.meaning.Entry.{Entry}
-use Rattle.c_rules.specs.declared.typed.TypedDeclarator.{TypedDeclarator}
-use Rattle.c_rules.specs.declared.typed.TypedForStart.{TypedForStart}
-use Rattle.c_rules.specs.declared.typed.TypedFunction.{TypedFunction}
 use Rattle.c_rules.specs.declared.typed.TypedItem.{TypedItem, roll-TypedItem}
 use Rattle.c_rules.specs.declared.typed.TypedItem.TheOpen.{TypedItem-F, TypedStatement-F}
 use Rattle.c_rules.specs.declared.typed.TypedItem.TheVariants as typed_item
@@ -44,18 +42,18 @@ use Rattle.c_rules.specs.Items.{Before, text_of, nothing_before, listed, item_be
 use Rattle.c_rules.specs.Items.{function_behind}
 use Rattle.c_rules.specs.TypedStatements.{Grown, grown, grown_item, grown_statement}
 use Rattle.c_rules.specs.TypedStatements.{typed_expression, typed_optional, typed_in_order}
-use Rattle.c_rules.specs.TypedStatements.{typed_declarator, typed_declarators, typed_for_start}
+use Rattle.c_rules.specs.TypedStatements.{typed_declarators, typed_for_start}
 use Rattle.c_rules.specs.TypedStatements.{typed_statement, typed_block_item, parameter_objects}
 use Rattle.c_rules.specs.TypedStatements.{typed_function}
-use Rattle.c_rules.specs.Sound.{functions_of, typed_unit, unit_functions}
+use Rattle.c_rules.specs.Sound.{functions_of, typed_unit}
 use Rattle.c_bodies.specs.Grown.{grown_of}
 use Rattle.c_types.specs.Erasing.{unnamed, unspecified, unmeasured, erased_expression}
 use Rattle.c_types.specs.Erasing.{bare_expression, erased_initializer, bare_initializer}
-use Rattle.c_types.specs.Erasing.{erased_declarator, bare_declarator, erased_declaration}
-use Rattle.c_types.specs.Erasing.{bare_declaration, erased_start, bare_start, erase_statement}
+use Rattle.c_types.specs.Erasing.{erased_declarator, bare_declarator}
+use Rattle.c_types.specs.Erasing.{erased_start, bare_start, erase_statement}
 use Rattle.c_types.specs.Erasing.{erase_item, erased_statement, erased_item, bare_statement_step}
 use Rattle.c_types.specs.Erasing.{bare_item_step, bare_statement, bare_item, BareFunction}
-use Rattle.c_types.specs.Erasing.{erased_function, bare_function, erased_functions, bare_functions}
+use Rattle.c_types.specs.Erasing.{erased_function, erased_functions, bare_functions}
 use Rattle.c_types.proofs.ErasedExpressions.{erased_reading}
 
 -- one layer without its types
@@ -101,7 +99,8 @@ expressions_erased : (text : Text) (names : List Entry) (all : List Expression)
 expressions_erased text names [] = refl
 expressions_erased text names (one ∷ all) =
     ap (λ (e : Expression). e ∷ map erased_expression
-    (map (λ (one : Expression). (reading text names one).typed) all)) (erased_reading text names one)
+    (map (λ (one : Expression). (reading text names one).typed) all))
+    (erased_reading text names one)
     ∙ ap (λ (es : List Expression). bare_expression one ∷ es) (expressions_erased text names all)
 
 initializer_erased : (text : Text) (names : List Entry) (given : Option Initializer)
@@ -111,7 +110,8 @@ initializer_erased text names None = refl
 initializer_erased text names (Some (initializer.Scalar value)) =
     ap (λ (e : Expression). Some (initializer.Scalar e)) (erased_reading text names value)
 initializer_erased text names (Some (initializer.List items place)) =
-    ap (λ (es : List Expression). Some (initializer.List es 0)) (expressions_erased text names items)
+    ap (λ (es : List Expression). Some (initializer.List es 0))
+    (expressions_erased text names items)
 
 abbrev declarator_of : Option Array → Option Initializer → Declarator
 declarator_of array given = record { name = unnamed 0; array = array; initializer = given }

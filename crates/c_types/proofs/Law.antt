@@ -1,10 +1,10 @@
 -- The first fault of a list, and of a list and a least place of another rule, is found
 -- (`finds_list`, `finds_joined`), and then what is answered is what `IsChecked` asks for
 -- (`fault_checked`, `large_checked`, `sound_checked`).
-use Rattle.std.proofs.Common.{◌≡◌, ◌⊎◌, ℕ, ◌<◌, ◌≤◌, Bool, true, false, nat_lt, List, [], ◌∷◌, ◌++◌, suc}
+use Rattle.std.proofs.Common.{◌≡◌, ◌⊎◌, ℕ, ◌<◌, ◌≤◌, Bool, true, false, nat_lt, List, [], ◌∷◌, ◌++◌}
+use Rattle.std.proofs.Common.{suc}
 use Rattle.std.proofs.Common.{Option, None, Some, refl, sym, subst, ap, ◌∙◌, arith}
 use Rattle.std.specs.Prelude.{if◌then◌else◌}
-use Rattle.std.proofs.lemmas.Bool.{cases_Bool}
 use Rattle.std.proofs.lemmas.Bool.Decides.{leb_tells}
 use Rattle.c_lexer.specs.Rules.{rule_number}
 use Rattle.c_lexer.specs.declared.fault.Rule.TheVariants as rule
@@ -15,7 +15,7 @@ use Rattle.c_rules.specs.First.{comes_before, first_of_two, first_with, first_ap
 use Rattle.c_rules.specs.ExpressionRules.{broken, option_places}
 use Rattle.c_rules.specs.Items.{Before, Call, text_of, nothing_before, items_faults, items_calls}
 use Rattle.c_rules.specs.Recursion.{Among, LeadsBack}
-use Rattle.c_rules.specs.Sound.{NotBehind, Breaks, BreaksTree, IsRecursive, IsTooLarge, Sound}
+use Rattle.c_rules.specs.Sound.{NotBehind, BreaksTree, Sound}
 use Rattle.c_rules.specs.Sound.{IsFirstBroken, unit_faults, unit_calls, unit_globals}
 use Rattle.c_rules.specs.Sound.{unit_functions, counts, is_too_large, without_main}
 use Rattle.c_calls.specs.Least.{FindsLeast}

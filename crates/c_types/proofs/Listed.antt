@@ -2,7 +2,7 @@
 -- is found by its name's place (`start_found`, `start_within`).
 use Rattle.std.proofs.Common.{◌≡◌, ℕ, suc, ◌+◌, ◌<◌, Bool, true, false, not, ◌&&◌, ◌||◌, cond}
 use Rattle.std.proofs.Common.{List, [], ◌∷◌, ◌++◌, length, get_or, find, Option, None, Some, IfSome}
-use Rattle.std.proofs.Common.{is_some, option_map, refl, sym, subst, ap, ◌∙◌, arith}
+use Rattle.std.proofs.Common.{is_some, option_map, refl, sym, ap, ◌∙◌, arith}
 use Rattle.std.specs.List.{flat_map, list_any}
 use Rattle.std.specs.Str.{bytes_eq}
 use Rattle.std.proofs.lemmas.Cmp.{nat_list_eq_equiv}

@@ -1,7 +1,7 @@
 -- The numbers of the objects of file scope stay below the count of objects (`numbered_item`): a
 -- merged object keeps its number, a new one has the count, and no body lowers it (`rises_body`).
 use Rattle.std.proofs.Common.{◌≡◌, ℕ, ◌+◌, ◌<◌, ◌≤◌, Bool, true, false, ◌||◌, List, [], ◌∷◌}
-use Rattle.std.proofs.Common.{◌++◌, map, Option, Some, None, refl, sym, subst, arith}
+use Rattle.std.proofs.Common.{◌++◌, map, Option, Some, None, sym, subst, arith}
 use Rattle.std.specs.List.{filter_map, AllByRecursion}
 use Rattle.std.specs.Str.{bytes_eq}
 use Rattle.std.proofs.lemmas.List.Elements.{filter_map-append}
@@ -39,9 +39,9 @@ use Rattle.c_rules.specs.Items.{globals_behind, function_behind, item_behind, bo
 use Rattle.c_rules.specs.StatementRules.{object_number}
 use Rattle.c_rules.specs.Statements.{Around, Act, Walk, doing, followed, in_order, scoped, looped}
 use Rattle.c_rules.specs.Statements.{inner, loop, evaluating, evaluates, declarator_walk}
-use Rattle.c_rules.specs.Statements.{declaration_walk, receiving, perhaps, start_walk, still}
-use Rattle.c_rules.specs.Statements.{statement_walk, item_walk, walk_of, returns, marks}
-use Rattle.c_bodies.specs.Bodies.{AreNumbered, begins, objects_behind}
+use Rattle.c_rules.specs.Statements.{declaration_walk, receiving, start_walk, still}
+use Rattle.c_rules.specs.Statements.{statement_walk, item_walk, walk_of, marks}
+use Rattle.c_bodies.specs.Bodies.{AreNumbered, begins}
 
 -- a walk that counts objects up alone
 abbrev pub Rises : Walk → Type 0

@@ -1,17 +1,17 @@
 -- The typed tree that is answered is the text's (`typed_is`).
-use Rattle.std.proofs.Common.{◌≡◌, ℕ, Bool, true, false, List, Option, None, Some, refl, sym, ap}
-use Rattle.std.proofs.Common.{◌∙◌, map, unwrap_or}
+use Rattle.std.proofs.Common.{◌≡◌, ℕ, Bool, true, false, List, Option, None, Some, refl, ap}
+use Rattle.std.proofs.Common.{◌∙◌, unwrap_or}
 use Rattle.std.specs.Prelude.{if◌then◌else◌}
 use Rattle.std.specs.List.{flat_map}
 use Rattle.c_tree.specs.declared.item.Unit.{Unit as UnitTree}
 use Rattle.c_rules.specs.declared.typed.Global.{Global}
 use Rattle.c_rules.specs.declared.typed.TypedFunction.{TypedFunction}
 use Rattle.c_rules.specs.declared.typed.TypedUnit.{TypedUnit}
-use Rattle.c_rules.specs.Names.{Text, body_of}
+use Rattle.c_rules.specs.Names.{body_of}
 use Rattle.c_rules.specs.Counts.{heads_of}
 use Rattle.c_rules.specs.Items.{text_of}
 use Rattle.c_rules.specs.Sound.{counts, is_too_large, started, filled, first_cells, object_types}
-use Rattle.c_rules.specs.Sound.{typed_parts, typed_unit, unit_globals, unit_functions, main_name}
+use Rattle.c_rules.specs.Sound.{typed_unit, unit_globals, unit_functions, main_name}
 use Rattle.c_counts.specs.declared.cells.TextCells.{TextCells}
 use Rattle.c_counts.specs.TextCells.{text_cells, objects_of}
 

@@ -1,6 +1,6 @@
 -- A function's body behind its name's declaration: what `item_behind`, `item_faults` and the others
 -- of c_rules say of it, from there on.
-use Rattle.std.specs.Prelude.{ℕ, ◌+◌, List}
+use Rattle.std.specs.Prelude.{◌+◌, List}
 use Rattle.std.specs.List.{flat_map}
 use Rattle.c_lexer.specs.declared.fault.TextFault.{TextFault}
 use Rattle.c_tree.specs.declared.declaration.Specifiers.{Specifiers}

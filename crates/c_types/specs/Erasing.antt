@@ -1,6 +1,6 @@
 -- What is left of a typed tree without its types, and of a tree without what is bound: the names,
 -- the words of types, the places of statements and the lengths of arrays (this project's own).
-use Rattle.std.specs.Prelude.{ℕ, List, [], ◌∷◌, length, map, Option, option_map, None}
+use Rattle.std.specs.Prelude.{ℕ, List, [], ◌∷◌, length, map, option_map, None}
 use Rattle.std.specs.List.{flat_map}
 use Rattle.c_tree.specs.declared.name.Name.{Name}
 use Rattle.c_tree.specs.declared.expression.TypeName.{TypeName}
@@ -20,7 +20,6 @@ use Rattle.c_tree.specs.declared.statement.Statement.{Statement, roll-Statement}
 use Rattle.c_tree.specs.declared.statement.BlockItem.{BlockItem, roll-BlockItem}
 use Rattle.c_tree.specs.declared.statement.BlockItem.TheOpen.{BlockItem-F, Statement-F}
 use Rattle.c_tree.specs.declared.statement.BlockItem.TheFolds.{fold-BlockItem, fold-Statement}
-use Rattle.c_tree.specs.declared.item.FunctionDeclarator.{FunctionDeclarator}
 use Rattle.c_tree.specs.declared.item.Body.TheVariants as body
 use Rattle.c_tree.specs.declared.item.Item.{Item}
 use Rattle.c_tree.specs.declared.item.Item.TheVariants as item
@@ -71,7 +70,8 @@ expression_form (TypedExpression-F.PrefixStep operator operand kind place) =
 expression_form (TypedExpression-F.Unary operator operand kind place) =
     Expression-F.Unary operator operand place
 expression_form (TypedExpression-F.Cast operand kind place) = Expression-F.Cast untold operand place
-expression_form (TypedExpression-F.Chain first rest kind place) = Expression-F.Chain first rest place
+expression_form (TypedExpression-F.Chain first rest kind place) =
+    Expression-F.Chain first rest place
 expression_form (TypedExpression-F.Conditional test first second kind place) =
     Expression-F.Conditional test first second place
 expression_form (TypedExpression-F.Assignment left operator right kind place) =

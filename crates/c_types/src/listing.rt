@@ -134,14 +134,14 @@ pub(crate) fn globals_of(
     let places = start_places(alloc, starts)?;
     let mut seen = Firsts::new(alloc);
     let mut globals = Vec::new(alloc);
-    let entries = names.entries();
-    for entry in entries {
+    let declarations = names.declarations();
+    for declaration in declarations {
         push_declared(
             alloc,
             names,
             starts,
             &places,
-            entry,
+            declaration.entry(),
             &mut seen,
             &mut globals,
         )?;

@@ -1,5 +1,5 @@
-//! The check of a text (`IsChecked` of `specs/Sound.antt` of `c_rules`, `specs/Erasing.antt`). Proved
-//! with `proofs/ErasedStatements`.
+//! The check of a text (`IsChecked` of `specs/Sound.antt` of `c_rules`, `specs/Erasing.antt`).
+//! Proved with `proofs/ErasedStatements`.
 ghost use Rattle.std.specs.Prelude.{◌≡◌, IfOk};
 ghost use Rattle.c_rules.specs.Sound.{IsChecked};
 ghost use Rattle.c_types.specs.Erasing.{erased_functions, bare_functions};

@@ -19,7 +19,7 @@ returns-in-Some c =
     let es = c.args.table.now.entries.items in
     let entry = c.index.result.now in
     let found = c.in-Some.ensures ∙ c.requires.latest c.args.name.now in
-    ap (λ (e : Entry). Some e.declared) c.index.ensures
+    ap (λ (e : Entry). Some e.declared) (c.entry.ensures ∙ c.index.ensures)
     ∙ ap (option_map (λ n. (get_or es n entry).declared)) found
     ∙ sym (declared_last entry es c.args.name.now)
 

@@ -25,7 +25,8 @@ loop-item-preserved c =
     let e = c.in_ok-gather_item.ensures in
     let next : x ∷ rest ≡ drop i all = sym (next_item all i x (omega arith) c.item-item.is) in
     record {
-      numbered = subst Numbered (sym e.scope) (numbered_item text x now c.loop-item.invariant.numbered);
+      numbered = subst Numbered (sym e.scope)
+          (numbered_item text x now c.loop-item.invariant.numbered);
       scope = ap (items_behind text rest) e.scope
           ∙ ap (λ (xs : List Item). items_behind text xs now) next ∙ c.loop-item.invariant.scope;
       first = ap (λ (f : Option TextFault). first_with f (items_faults text rest behind)) e.first

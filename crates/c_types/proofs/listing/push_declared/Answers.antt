@@ -1,4 +1,4 @@
-use Rattle.std.proofs.Common.{◌≡◌, ℕ, List, [], ◌∷◌, ◌++◌, sym, ap, ◌∙◌}
+use Rattle.std.proofs.Common.{ℕ, List, [], ◌∷◌, ◌++◌, sym, ap, ◌∙◌}
 use Rattle.std.specs.List.{flat_map}
 use Rattle.c_rules.specs.declared.typed.Global.{Global}
 use Rattle.c_rules.specs.Sound.{global_named, object_names}

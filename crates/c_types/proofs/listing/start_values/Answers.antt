@@ -1,4 +1,4 @@
-use Rattle.std.proofs.Common.{◌≡◌, ℕ, ℤ, ◌<◌, List, [], length, get_or, Option, Some, None, IfSome}
+use Rattle.std.proofs.Common.{ℕ, ℤ, ◌<◌, List, [], length, get_or, Option, IfSome}
 use Rattle.std.proofs.Common.{option_map, unwrap_or, sym, subst, ap, ◌∙◌}
 use Rattle.std.specs.Str.{bytes_eq}
 use Rattle.std.proofs.lemmas.Result.{IfOk-weaker}

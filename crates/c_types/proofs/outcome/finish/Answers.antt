@@ -1,10 +1,9 @@
-use Rattle.std.proofs.Common.{◌≡◌, ℕ, List, Option, unwrap_or, sym, ap, ◌∙◌}
+use Rattle.std.proofs.Common.{ℕ, List, Option, unwrap_or, sym, ap, ◌∙◌}
 use Rattle.c_rules.specs.declared.meaning.Entry.{Entry}
 use Rattle.c_rules.specs.declared.typed.Global.{Global}
-use Rattle.c_rules.specs.declared.typed.TypedFunction.{TypedFunction}
 use Rattle.c_rules.specs.Names.{Text, body_of}
 use Rattle.c_rules.specs.Items.{text_of, nothing_before}
-use Rattle.c_rules.specs.Sound.{Start, globals_of, items_behind, unit_globals, unit_functions}
+use Rattle.c_rules.specs.Sound.{globals_of, items_behind, unit_globals, unit_functions}
 use Rattle.c_rules.specs.Sound.{main_name}
 use Rattle.c_counts.specs.TextCells.{text_cells}
 use Rattle.c_types.proofs.Law.{large_checked, sound_checked}
