@@ -171,14 +171,24 @@ fn first_parameters(
     }
 }
 
+/// Whether a declaration adds nothing to the parameters that are known.
+fn keeps_parameters(old: &Option<Seq<ParameterType>>, fresh: &Option<Seq<ParameterType>>) -> bool
+    ensures { IsTrue result → or_else old.now fresh.now ≡ old.now }
+{
+    match (old, fresh) {
+        (Some(_), _) | (None, None) => true,
+        (None, Some(_)) => false,
+    }
+}
+
 /// Whether a declaration says nothing of a function that an earlier one does not say.
 pub(crate) fn is_said(
     declared: Option<&Declared>,
     fresh: &Option<Seq<ParameterType>>,
     defines: bool,
 ) -> bool
-    ensures { (kind : KindOfResult) → IsTrue result → option_copied declared.entry
-        ≡ Some (merged_function (option_copied declared.entry) kind fresh.now defines) }
+    ensures { (kind : KindOfResult) → IsTrue result → Some (merged_function
+        (option_copied declared.entry) kind fresh.now defines) ≡ option_copied declared.entry }
 {
     match declared {
         Some(
@@ -187,7 +197,7 @@ pub(crate) fn is_said(
                 is_defined,
                 ..
             },
-        ) => (parameters.is_some() || fresh.is_none()) && (*is_defined || !defines),
+        ) => keeps_parameters(parameters, fresh) && (*is_defined || !defines),
         _ => false,
     }
 }
