@@ -14,7 +14,9 @@ loop-declaration-preserved c =
     let rest = drop (i + 1) all in
     let next : e ∷ rest ≡ drop i all =
     sym (next_item all i e (omega arith) c.declaration-item.is) in
-    (rw c.entry.ensures at c.in_ok-push_declared.ensures) rest
+    c.in_ok-push_declared.ensures rest
+    ∙ ap (λ (one : Entry). c.loop-declaration.globals.items
+    ++ flat_map f (object_names c.loop-declaration.seen (one ∷ rest))) c.entry.ensures
     ∙ ap (λ (es : List Entry). c.loop-declaration.globals.items
     ++ flat_map f (object_names c.loop-declaration.seen es)) next
     ∙ c.loop-declaration.invariant
