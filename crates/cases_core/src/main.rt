@@ -1,0 +1,38 @@
+//! Rows of C texts with the program of core statements that each is: prints each row of the input
+//! with its answer. It owes safety alone; what the answers must be is `stdout`, which README.md says
+//! how it was made.
+#![tactic(auto)]
+
+mod programs;
+mod words;
+
+use std::alloc::{AllocError, Global};
+use std::io;
+use std::io::{BufRead, BufReader};
+
+/// The answer to a row: the word `core`, and the text that it is asked of.
+fn answer(alloc: Global, row: &str) -> Result<String, AllocError> {
+    match row.split_once(' ').unwrap_or((row, "")) {
+        ("core", text) => programs::program(alloc, text),
+        _ => String::from_str(alloc, "no row"),
+    }
+}
+
+/// Whether a line is a heading of rows, or nothing.
+fn is_heading(line: &str) -> bool {
+    line.is_empty() || line.starts_with("--")
+}
+
+fn main(rt: HostRuntime) -> io::Result<()> {
+    let alloc = rt.alloc();
+    for line in BufReader::new(alloc, rt.reader())?.lines(alloc) {
+        let line = line?;
+        if is_heading(line.as_str()) {
+            println!(rt; "{line}")?;
+        } else {
+            let found = answer(alloc, line.as_str())?;
+            println!(rt; "{line} => {found}")?;
+        }
+    }
+    Ok(())
+}
