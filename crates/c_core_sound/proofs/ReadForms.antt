@@ -21,7 +21,7 @@ use Rattle.c_rules.specs.declared.meaning.Role.TheVariants.{Called}
 use Rattle.c_rules.specs.Known.{known_result}
 use Rattle.c_rules.specs.Parts.{with_value, with_values, named_kind, element_kind, result_kind}
 use Rattle.c_rules.specs.Parts.{element_form, element_of, result_of, changed_kind, is_changeable}
-use Rattle.c_rules.specs.Expressions.{named, taken, given, Reading, used, plain, parts_of}
+use Rattle.c_rules.specs.Expressions.{named, taken, given, Reading, used, parts_of}
 use Rattle.c_rules.specs.Expressions.{trees_of, ReadSuffix, suffix_part, suffix_uses, suffix_typed}
 use Rattle.c_rules.specs.Expressions.{suffixed}
 use Rattle.c_rules.specs.ExpressionRules.{use_faults, names_function, names_array}

@@ -11,8 +11,6 @@ use Rattle.c_lexer.specs.declared.fault.Rule.{Rule}
 use Rattle.c_lexer.specs.declared.fault.Rule.TheVariants as rule
 use Rattle.c_rules.specs.declared.meaning.Kind.{Kind}
 use Rattle.c_rules.specs.declared.meaning.Kind.TheVariants.{Void, Value}
-use Rattle.c_rules.specs.declared.meaning.Object.{Object}
-use Rattle.c_rules.specs.declared.meaning.Function.{Function}
 use Rattle.c_rules.specs.declared.meaning.Meaning.{Meaning}
 use Rattle.c_rules.specs.declared.meaning.Meaning.TheVariants as meaning
 use Rattle.c_rules.specs.declared.meaning.Form.{Form}

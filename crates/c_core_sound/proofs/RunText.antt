@@ -18,7 +18,6 @@ use Rattle.c_rules.specs.declared.meaning.Object.{Object}
 use Rattle.c_rules.specs.declared.meaning.ParameterType.{ParameterType}
 use Rattle.c_rules.specs.declared.meaning.Meaning.{Meaning}
 use Rattle.c_rules.specs.declared.meaning.Meaning.TheVariants as meaning
-use Rattle.c_rules.specs.declared.meaning.Function.{Function}
 use Rattle.c_rules.specs.declared.meaning.Form.TheVariants.{Bare, Element, Plain}
 use Rattle.c_rules.specs.declared.meaning.Declared.{Declared}
 use Rattle.c_rules.specs.declared.meaning.Declared.TheVariants as declared

@@ -4,7 +4,6 @@ use Rattle.std.proofs.Common.{◌≡◌, ℕ, ◌+◌, ◌<◌, ◌≤◌, List,
 use Rattle.std.proofs.Common.{◌∙◌}
 use Rattle.std.proofs.Common.{subst, arith, inl, inr, refl}
 use Rattle.std.specs.Prelude.{◌⊎◌}
-use Rattle.c_rules.specs.declared.meaning.Object.{Object}
 use Rattle.c_rules.specs.declared.meaning.Declared.{Declared}
 use Rattle.c_rules.specs.declared.meaning.Declared.TheVariants as declared
 use Rattle.c_rules.specs.declared.meaning.Entry.{Entry}

@@ -31,7 +31,7 @@ use Rattle.c_tree.specs.Expressions.{suffixed, in_front, chain_of, conditional_o
 use Rattle.c_tree.specs.Expressions.{comma_of, Group, cast_group, bracket_group, group_of}
 use Rattle.c_tree.specs.Expressions.{list_of, assignments, arguments, suffix_at, skipped_call}
 use Rattle.c_tree.specs.Expressions.{opens_skipped, suffixes, primary_at, postfix, sign, unary_at}
-use Rattle.c_tree.specs.Expressions.{unary, group_at, cast_at, cast, operand_at, operand, chain}
+use Rattle.c_tree.specs.Expressions.{unary, group_at, cast_at, cast, operand_at, chain}
 use Rattle.c_tree.specs.Expressions.{conditional, right_side_at, assigns_to, assignment, comma}
 use Rattle.c_tree.specs.Declarations.{element, list, initializer_of, array, array_part, Rest}
 use Rattle.c_tree.specs.Declarations.{declarator_rest, declarator, more_declarators}
