@@ -14,7 +14,6 @@ use Rattle.c_symbols.specs.declared.operators.StepOperator.TheVariants as step
 use Rattle.c_rules.specs.declared.meaning.Meaning.{Meaning}
 use Rattle.c_rules.specs.declared.meaning.Meaning.TheVariants as meaning
 use Rattle.c_core_rules.specs.declared.tree.Location.{Location}
-use Rattle.c_core_rules.specs.declared.tree.Place.TheVariants as place
 use Rattle.c_core_rules.specs.declared.tree.Valued.{Valued}
 use Rattle.c_core_rules.specs.Values.{is_constant, scalar, element, first_index, int, cell_at}
 use Rattle.c_core_rules.specs.Trees.{Trees, valued, pure, set, write}

@@ -1,6 +1,6 @@
 -- Rules that make well typed trees and values, whatever is taken before them, where what is taken
 -- behind them is the first part of the cells of a program.
-use Rattle.std.proofs.Common.{◌≡◌, ℕ, ◌+◌, ◌<◌, ◌≤◌, Bool, true, false, if◌then◌else◌, List, []}
+use Rattle.std.proofs.Common.{◌≡◌, ℕ, ◌<◌, ◌≤◌, Bool, true, false, if◌then◌else◌, List, []}
 use Rattle.std.proofs.Common.{◌∷◌, ◌++◌, map, length, Option, Some, refl, ap, sym, ◌∙◌, subst}
 use Rattle.std.proofs.Common.{slice_get, append_assoc, pos}
 use Rattle.std.specs.List.{AllByRecursion}

@@ -1,6 +1,6 @@
 -- Rules that declare objects: what they make is well typed, and the names that are declared behind
 -- them stand for what is there.
-use Rattle.std.proofs.Common.{◌≡◌, ℕ, ◌+◌, ◌<◌, ◌≤◌, List, [], ◌∷◌, ◌++◌, Option, Some, ap, sym}
+use Rattle.std.proofs.Common.{◌≡◌, ℕ, ◌<◌, ◌≤◌, List, [], ◌∷◌, ◌++◌, Option, Some, ap, sym}
 use Rattle.std.proofs.Common.{◌∙◌}
 use Rattle.std.proofs.Common.{subst, arith, inl, inr, refl}
 use Rattle.std.specs.Prelude.{◌⊎◌}
