@@ -1,0 +1,42 @@
+//! Prints each row of the standard input with the answer of the public calls that it names. Nothing
+//! is proved of a row but that its answer comes: what is right, the file `stdout` says.
+#![tactic(auto)]
+
+mod operator_rows;
+mod queries;
+mod query_rows;
+mod row;
+
+use row_reader::RowFault;
+use std::alloc::{AllocError, Global};
+use std::io;
+use std::io::{BufRead, BufReader};
+
+fn main(rt: HostRuntime) -> io::Result<()> {
+    let alloc = rt.alloc();
+    for line in BufReader::new(alloc, rt.reader())?.lines(alloc) {
+        let line = line?;
+        let printed = answered(alloc, line.as_str())?;
+        println!(rt; "{printed}")?;
+    }
+    Ok(())
+}
+
+/// A row with its answer. An empty line and a remark stay as they are.
+fn answered(alloc: Global, line: &str) -> Result<String, AllocError> {
+    let mut out = String::from_str(alloc, line)?;
+    if line.is_empty() || line.starts_with("#") {
+        return Ok(out);
+    }
+    match row::answer(alloc, line) {
+        Ok(answer) => {
+            write!(out, " ={answer}")?;
+            Ok(out)
+        }
+        Err(RowFault::Unreadable) => {
+            out.push_str(" = unreadable")?;
+            Ok(out)
+        }
+        Err(RowFault::OutOfMemory) => Err(AllocError),
+    }
+}

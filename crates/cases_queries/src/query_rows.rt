@@ -1,0 +1,101 @@
+//! Rows on queries.
+
+use crate::queries::{ask, is_model, size};
+use cpa_expr::{Expr, Store};
+use cpa_ints::Seq;
+use cpa_query::Query;
+use cpa_solver::Decided;
+use row_reader::{RowFault, next_index, push_number, rest_expr, type_of_word};
+use std::alloc::{AllocError, Global};
+use std::str::{Split, SplitWhitespace};
+
+/// The answer of a row on queries; false where the word names none.
+pub fn answer(
+    alloc: Global,
+    out: &mut String,
+    word: &str,
+    words: &mut SplitWhitespace<'_>,
+    parts: &mut Split<'_, char>,
+) -> Result<bool, RowFault> {
+    if word == "solve" {
+        let learnt = next_index(words)?;
+        let query = query(alloc, words, parts)?;
+        push_solved(out, &query, &ask(alloc, &query, learnt)?)?;
+    } else if word == "decide" {
+        let learnt = next_index(words)?;
+        let query = query(alloc, words, parts)?;
+        push_decided(out, &query, &ask(alloc, &query, learnt)?)?;
+    } else if word == "measure" {
+        let learnt = next_index(words)?;
+        let query = query(alloc, words, parts)?;
+        let (vars, clauses) = size(alloc, &query)?;
+        write!(out, " {vars} {clauses}")?;
+        push_decided(out, &query, &ask(alloc, &query, learnt)?)?;
+    } else {
+        return Ok(false);
+    }
+    Ok(true)
+}
+
+/// The query of a row: the types of its cells, and each wanted expression behind a sign.
+fn query(
+    alloc: Global,
+    words: &mut SplitWhitespace<'_>,
+    parts: &mut Split<'_, char>,
+) -> Result<Query, RowFault> {
+    let mut cells = Seq::new(alloc);
+    for word in words {
+        cells.push(type_of_word(word).ok_or(RowFault::Unreadable)?)?;
+    }
+    let mut wanted = Seq::new(alloc);
+    for part in parts {
+        wanted.push(one_wanted(alloc, part)?)?;
+    }
+    Ok(Query { cells, wanted })
+}
+
+/// `+ E` or `- E`: an expression that is wanted true, or false.
+fn one_wanted(alloc: Global, text: &str) -> Result<(Expr, bool), RowFault> {
+    let mut words = text.split_whitespace();
+    let holds = match words.next() {
+        Some("+") => true,
+        Some("-") => false,
+        _ => return Err(RowFault::Unreadable),
+    };
+    Ok((rest_expr(alloc, &mut words)?, holds))
+}
+
+/// Appends the outcome with the model's values.
+fn push_solved(out: &mut String, query: &Query, decided: &Decided) -> Result<(), AllocError> {
+    push_decided(out, query, decided)?;
+    if let Decided::Model(store) = decided {
+        push_values(out, store)?;
+    }
+    Ok(())
+}
+
+fn push_values(out: &mut String, store: &Store) -> Result<(), AllocError> {
+    for number in store.values.as_slice() {
+        push_number(out, *number)?;
+    }
+    Ok(())
+}
+
+/// Appends the outcome; a model is looked at again.
+fn push_decided(out: &mut String, query: &Query, decided: &Decided) -> Result<(), AllocError> {
+    match decided {
+        Decided::Model(store) => {
+            let word = if is_model(query, store) {
+                " model"
+            } else {
+                " wrong"
+            };
+            Ok(out.push_str(word)?)
+        }
+        Decided::NoModel(_) => Ok(out.push_str(" none")?),
+        Decided::Learnt(lines) => {
+            let count = lines.len();
+            Ok(write!(out, " learnt {count}")?)
+        }
+    }
+}

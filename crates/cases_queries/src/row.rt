@@ -1,0 +1,19 @@
+//! A row: the word of its call and what the call takes, and behind colons expressions.
+
+use crate::{operator_rows, query_rows};
+use row_reader::{RowFault, next_word};
+use std::alloc::Global;
+
+/// The answer of a row, its words each behind a space.
+pub fn answer(alloc: Global, row: &str) -> Result<String, RowFault> {
+    let mut out = String::new(alloc);
+    let mut parts = row.split(':');
+    let mut words = parts.next().unwrap_or("").split_whitespace();
+    let word = next_word(&mut words)?;
+    let known = operator_rows::answer(alloc, &mut out, word, &mut words)?
+        || query_rows::answer(alloc, &mut out, word, &mut words, &mut parts)?;
+    if !known || parts.next().is_some() {
+        return Err(RowFault::Unreadable);
+    }
+    Ok(out)
+}
