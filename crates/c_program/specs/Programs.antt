@@ -1,0 +1,56 @@
+-- The program that the bytes of a text stand for, and the fault of bytes that stand for none: a
+-- text is cut into tokens, read as a tree and checked, in this order (C11 5.1.1.2).
+use Rattle.std.specs.Prelude.{◌≡◌, ℕ, List, length}
+use Rattle.c_lexer.specs.declared.token.Token.{Token}
+use Rattle.c_lexer.specs.declared.fault.TextFault.{TextFault}
+use Rattle.c_lexer.specs.declared.fault.TextError.{TextError}
+use Rattle.c_lexer.specs.declared.fault.TextError.TheVariants.{Fault, OutOfMemory}
+use Rattle.c_lexer.specs.Parts.{Tokens}
+use Rattle.c_lexer.specs.Faults.{HasFault}
+use Rattle.c_tree.specs.declared.item.Unit.{Unit as UnitTree}
+use Rattle.c_tree.specs.Grammar.{Tree}
+use Rattle.c_tree.specs.Faults.{IsTreeFault}
+use Rattle.c_rules.specs.Sound.{Sound, IsFirstBroken, typed_unit}
+use Rattle.c_core_rules.specs.Programs.{IsCore}
+use Rattle.cpa_model.specs.declared.program.Program.{Program}
+use Rattle.cpa_model.specs.Programs.{IsWellFormed}
+
+-- the bytes fall into tokens, these have a tree, it breaks no rule, and P is its core
+pub record IsProgram (bytes : List ℕ) (P : Program) : Type 0 where
+  pub tokens : List Token
+  pub tree : UnitTree
+  pub falls : Tokens bytes tokens
+  pub reads : Tree bytes tokens tree
+  pub sound : Sound tree
+  pub core : IsCore (typed_unit tree) P
+
+-- P is the one program of the bytes; it has their length, and it is well formed
+pub record IsTheProgram (bytes : List ℕ) (P : Program) : Type 0 where
+  pub is : IsProgram bytes P
+  pub only : (Q : Program) → IsProgram bytes Q → Q ≡ P
+  pub length_is : P.text_len ≡ length bytes
+  pub well_formed : IsWellFormed P
+
+-- the tree of the bytes is this one
+pub record IsTreeOf (bytes : List ℕ) (tree : UnitTree) : Type 0 where
+  pub tokens : List Token
+  pub falls : Tokens bytes tokens
+  pub reads : Tree bytes tokens tree
+
+-- the fault of the bytes: that of the tokens where there are none, else that of the tree where
+-- there is none, else the first broken rule
+pub data IsTextFault : List ℕ → TextFault → Type 0 where
+  no_tokens : {bytes : List ℕ} {fault : TextFault} → HasFault bytes fault → IsTextFault bytes fault
+  no_tree : {bytes : List ℕ} {fault : TextFault} (tokens : List Token) → Tokens bytes tokens
+      → IsTreeFault bytes tokens fault → IsTextFault bytes fault
+  unsound : {bytes : List ℕ} {fault : TextFault} (tree : UnitTree) → IsTreeOf bytes tree
+      → IsFirstBroken tree fault → IsTextFault bytes fault
+
+-- the bytes stand for no program
+abbrev pub NoProgram : List ℕ → Type 0
+NoProgram bytes = (P : Program) → IsProgram bytes P → ⊥
+
+-- what an error says of the bytes
+abbrev pub IsRefused : List ℕ → TextError → Type 0
+IsRefused bytes (Fault fault) = IsTextFault bytes fault × NoProgram bytes
+IsRefused bytes OutOfMemory = Unit {0}
