@@ -1,0 +1,70 @@
+//! Reads elements: facts with commas between them, as `at 3`, `stack 8 9`, `equals 0 5`,
+//! `within 0 1 2` and `truth 1 EXPRESSION`.
+
+use cpa_model::{Elem, Fact, Seq};
+use row_reader::{RowFault, end_row, index_of_word, next_index, next_number, rest_expr};
+use std::alloc::Global;
+use std::str::SplitWhitespace;
+
+/// The element that a text spells. Where no words stand there is no fact.
+pub fn elem_of(alloc: Global, text: &str) -> Result<Elem, RowFault> {
+    let mut facts = Seq::new(alloc);
+    for part in text.split(',') {
+        let mut words = part.split_whitespace();
+        if let Some(kind) = words.next() {
+            facts.push(fact_of(alloc, kind, &mut words)?)?;
+        }
+    }
+    Ok(Elem { facts })
+}
+
+fn fact_of(alloc: Global, kind: &str, words: &mut SplitWhitespace<'_>) -> Result<Fact, RowFault> {
+    let fact = if kind == "at" {
+        point_of(words)
+    } else if kind == "stack" {
+        stack_of(alloc, words)
+    } else if kind == "equals" {
+        equals_of(words)
+    } else if kind == "within" {
+        within_of(words)
+    } else if kind == "truth" {
+        truth_of(alloc, words)
+    } else {
+        Err(RowFault::Unreadable)
+    };
+    let fact = fact?;
+    end_row(words)?;
+    Ok(fact)
+}
+
+fn point_of(words: &mut SplitWhitespace<'_>) -> Result<Fact, RowFault> {
+    let point = next_index(words)?;
+    Ok(Fact::At { point })
+}
+
+fn stack_of(alloc: Global, words: &mut SplitWhitespace<'_>) -> Result<Fact, RowFault> {
+    let mut sites = Seq::new(alloc);
+    for word in words {
+        sites.push(index_of_word(word)?)?;
+    }
+    Ok(Fact::Stack { sites })
+}
+
+fn equals_of(words: &mut SplitWhitespace<'_>) -> Result<Fact, RowFault> {
+    let cell = next_index(words)?;
+    let value = next_number(words)?;
+    Ok(Fact::Equals { cell, value })
+}
+
+fn within_of(words: &mut SplitWhitespace<'_>) -> Result<Fact, RowFault> {
+    let cell = next_index(words)?;
+    let lo = next_number(words)?;
+    let hi = next_number(words)?;
+    Ok(Fact::Within { cell, lo, hi })
+}
+
+fn truth_of(alloc: Global, words: &mut SplitWhitespace<'_>) -> Result<Fact, RowFault> {
+    let holds = next_index(words)? != 0;
+    let expr = rest_expr(alloc, words)?;
+    Ok(Fact::Truth { expr, holds })
+}

@@ -1,0 +1,15 @@
+//! Programs that rows give, statement by statement, with tables that show them well formed, and the
+//! elements and precisions of rows. What fits is `specs/Fits.antt`.
+#![tactic(auto)]
+
+mod automata;
+mod elements;
+mod fitting;
+mod shapes;
+mod statements;
+mod table;
+
+pub use automata::automaton;
+pub use elements::elem_of;
+pub use shapes::{are_elems, are_precisions, is_path, is_precision};
+pub use table::Table;
