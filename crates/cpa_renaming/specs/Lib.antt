@@ -1,0 +1,5 @@
+pub mod Places
+pub mod Renaming
+pub mod TrapTests
+pub mod lemmas
+pub mod Laws
