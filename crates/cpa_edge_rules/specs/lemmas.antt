@@ -1,0 +1,21 @@
+-- Lemmas on the definitions, which the laws of Laws.antt cite. No definition that a contract cites
+-- stands here.
+pub mod Lists
+pub mod Models
+pub mod Copies
+pub mod Wants
+pub mod FactTests
+pub mod Chains
+pub mod Places
+pub mod Writes
+pub mod Blocks
+pub mod Calls
+pub mod Failures
+pub mod Steps
+pub mod Changes
+pub mod Assigns
+pub mod Each
+pub mod Added
+pub mod Whole
+pub mod Beginnings
+pub mod Formed

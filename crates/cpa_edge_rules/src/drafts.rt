@@ -1,0 +1,13 @@
+//! What a call adds to a query, as specs/Drafts says.
+
+use cpa_expr::Expr;
+use cpa_ints::{IntType, Seq};
+
+/// Cells and wanted expressions that come behind a query.
+#[derive(Debug, Drop)]
+pub struct Draft {
+    /// The number of the first cell.
+    pub first: u32,
+    pub cells: Seq<IntType>,
+    pub wanted: Seq<(Expr, bool)>,
+}
