@@ -1,5 +1,5 @@
-//! Runs the whole program on the rows of `stdin`, each a call on the one file `p.c` in memory, and
-//! prints each row's name, status and text. README.md says how the wanted answers were made.
+//! Runs the whole program on the rows of `stdin`, each a call on files in memory, and prints each
+//! row's name, status and text. README.md says how the wanted answers were made.
 #![tactic(auto)]
 
 mod row;
@@ -15,10 +15,17 @@ use std::thread::Threads;
 /// The most bytes that an answer may have.
 const ROOM: usize = 1_000_000;
 
-/// The one file `p.c`.
-fn file(alloc: Global, text: Vec<u8>) -> Result<MemoryInputs, AllocError> {
+/// The file `p.c`, and beside it `i.json` where its bytes are there.
+fn files(
+    alloc: Global,
+    text: Vec<u8>,
+    inputs: Option<Vec<u8>>,
+) -> Result<MemoryInputs, AllocError> {
     let mut files = Vec::new(alloc);
     files.push((String::from_str(alloc, "p.c")?, text))?;
+    if let Some(bytes) = inputs {
+        files.push((String::from_str(alloc, "i.json")?, bytes))?;
+    }
     MemoryInputs::new(alloc, files, Vec::new(alloc))
 }
 
@@ -28,7 +35,7 @@ fn answer<R: Threads + Sync>(
     alloc: Global,
     row: Row,
 ) -> Result<(u8, MemorySink), AllocError> {
-    let mut inputs = file(alloc, row.text)?;
+    let mut inputs = files(alloc, row.text, row.inputs)?;
     let mut out = MemorySink::new(alloc, ROOM, ROOM, Vec::new(alloc))?;
     let mut analyses: Vec<Box<dyn Analysis + Send>> = Vec::new(alloc);
     analyses.push(Box::new(alloc, Location::new())?)?;

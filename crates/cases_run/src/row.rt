@@ -1,30 +1,53 @@
-//! A row of the table: four columns with tabs between them, the row's name, the words of the call,
-//! how many blanks stand before the text, and the text of the file.
+//! A row of the table: columns with tabs between them. They are the row's name, the words of the
+//! call, how many blanks stand before the text of the file `p.c`, and that text; where there is a
+//! file `i.json`, the same two columns of it follow.
 
 use std::alloc::{AllocError, Global};
 
-/// A call of the program on one file.
+/// A call of the program on one file or on two.
 #[derive(Debug, Drop)]
 pub struct Row {
     pub words: Vec<String>,
     pub text: Vec<u8>,
+    pub inputs: Option<Vec<u8>>,
 }
 
 impl Row {
-    /// The name and the row that a line spells. In the text `\n` is a line feed, and a backslash
-    /// before any other byte is that byte. Columns that are not there are empty.
+    /// The name and the row that a line spells. In a text `\n` is a line feed, `\t` is a tab, and a
+    /// backslash before any other byte is that byte. Columns that are not there are empty.
     pub fn parse(alloc: Global, line: &str) -> Result<(String, Row), AllocError> {
-        let (name, rest) = line.split_once('\t').unwrap_or((line, ""));
-        let (words, rest) = rest.split_once('\t').unwrap_or((rest, ""));
-        let (blanks, text) = rest.split_once('\t').unwrap_or(("", rest));
-        let mut all = vec![in alloc; b' '; blanks.parse::<usize>().unwrap_or(0)]?;
-        push_unescaped(&mut all, text.as_bytes())?;
+        let (name, rest) = column(line);
+        let (words, rest) = column(rest);
+        let (blanks, rest) = column(rest);
+        let (text, rest) = column(rest);
         let row = Row {
             words: split(alloc, words)?,
-            text: all,
+            text: bytes(alloc, blanks, text)?,
+            inputs: inputs(alloc, rest)?,
         };
         Ok((String::from_str(alloc, name)?, row))
     }
+}
+
+/// The first column, and those behind it.
+fn column(line: &str) -> (&str, &str) {
+    line.split_once('\t').unwrap_or((line, ""))
+}
+
+/// The bytes of the second file, where its columns are there.
+fn inputs(alloc: Global, columns: &str) -> Result<Option<Vec<u8>>, AllocError> {
+    if columns.is_empty() {
+        return Ok(None);
+    }
+    let (blanks, text) = column(columns);
+    Ok(Some(bytes(alloc, blanks, text)?))
+}
+
+/// The bytes of a file: so many blanks, then what the text spells.
+fn bytes(alloc: Global, blanks: &str, text: &str) -> Result<Vec<u8>, AllocError> {
+    let mut all = vec![in alloc; b' '; blanks.parse::<usize>().unwrap_or(0)]?;
+    push_unescaped(&mut all, text.as_bytes())?;
+    Ok(all)
 }
 
 /// The words of a line.
@@ -43,13 +66,18 @@ fn push_unescaped(out: &mut Vec<u8>, text: &[u8]) -> Result<(), AllocError> {
         if *byte == b'\\' && !escaped {
             escaped = true;
         } else {
-            out.push(if escaped && *byte == b'n' {
-                b'\n'
-            } else {
-                *byte
-            })?;
+            out.push(if escaped { unescaped(*byte) } else { *byte })?;
             escaped = false;
         }
     }
     Ok(())
+}
+
+/// What a byte behind a backslash stands for.
+fn unescaped(byte: u8) -> u8 {
+    match byte {
+        b'n' => b'\n',
+        b't' => b'\t',
+        other => other,
+    }
 }

@@ -2,7 +2,6 @@
 //! safety alone; what the answers must be is `stdout`, which README.md says how it was made.
 #![tactic(auto)]
 
-mod forms;
 mod tokens;
 mod trees;
 
@@ -15,7 +14,6 @@ use std::io::{BufRead, BufReader};
 fn answer(alloc: Global, row: &str) -> Result<String, AllocError> {
     match row.split_once(' ').unwrap_or((row, "")) {
         ("tokens", text) => tokens::answer(alloc, text),
-        ("form", text) => forms::answer(alloc, text),
         ("tree", text) => trees::answer(alloc, text),
         _ => String::from_str(alloc, "no row"),
     }

@@ -21,7 +21,7 @@ use Rattle.cpa_top.specs.Explored.{walked_start, IsExplored}
 use Rattle.cpa_top.specs.Reached.{KeepsNumbers, AreTied, AreAdded, IsExpanded, IsErrorFree}
 use Rattle.cpa_top.specs.Reached.{IsReached, IsWalkedPin}
 use Rattle.cpa_top.proofs.PointPlaces.{place_of}
-use Rattle.cpa_top.proofs.Added.{kept_contained, reached_after}
+use Rattle.cpa_top.proofs.Added.{kept_contained, reached_after, entry_walked}
 use Rattle.cpa_top.proofs.Expanding.{leads_kept, still_within}
 
 -- the point of a pin
@@ -193,6 +193,12 @@ entry_of_point cfa entries p walked h =
     get_or-map pin points h.0 p (pin p) h.1 ∙ ap pin h.2 in
     (h.0, ap (λ (xs : List Elem). slice_get xs h.0) again ∙ at ∙ ap (λ (e : Elem). Some e) is)
 
+-- a point that was walked to is one of the automaton
+walked_inside : (cfa : Cfa) (p : ℕ) → IsWalkedPin cfa (pin p) → p < cfa.points
+unfolding point_in
+walked_inside cfa p w =
+    let same : p ≡ w.0 = ap (λ (x : Elem). point_in x.facts) w.1 in omega (arith, w.2, same)
+
 -- where all entries were expanded, and none of them stands at an error
 pub all_explored : (cfa : Cfa) (next : ℕ) (now : Reached) (was is : Meaning)
     → Explores cfa next now was is → length now.entries ≤ next → IsExplored cfa (Safe now.entries)
@@ -214,5 +220,8 @@ all_explored cfa next now was is so_far all =
             let here = entry_of_point cfa entries p walked among in
             let inside = slice_get_within entries here.0 (pin p) here.1 in
             so_far.safe here.0 (omega arith) p here.1 error;
+        within = λ p among.
+            let here = entry_of_point cfa entries p walked among in
+            walked_inside cfa p (entry_walked cfa now here.0 (pin p) so_far.reached here.1);
       },
     )

@@ -1,7 +1,10 @@
 -- The entries of a report.
-use Rattle.std.proofs.Common.{◌≡◌, ℕ, zero, suc, ◌+◌, List, [], ◌∷◌, ◌++◌, length, map, refl, sym}
+use Rattle.std.proofs.Common.{◌≡◌, ℕ, suc, ◌+◌, ◌<◌, List, [], ◌∷◌, ◌++◌, length, map, refl, sym}
 use Rattle.std.proofs.Common.{ap, ◌∙◌, arith, add-zero}
-use Rattle.std.specs.Prelude.{slice_get, Some}
+use Rattle.std.specs.List.{AllByRecursion, Contains}
+use Rattle.cpa_model.specs.declared.automaton.Cfa.{Cfa}
+use Rattle.cpa_iface.specs.Meanings.{AreShaped}
+use Rattle.cpa_top.specs.Answers.{AreAscending}
 use Rattle.cpa_model.specs.declared.facts.Elem.{Elem}
 use Rattle.cpa_iface.specs.Pins.{pin}
 use Rattle.cpa_top.specs.declared.report.Listed.{Listed}
@@ -20,25 +23,39 @@ listed_push n (d ∷ es) e =
       moved : n + 1 + length es ≡ n + length (d ∷ es)
       moved = omega arith
 
--- the entries are numbered by their places
-listed_number : (n : ℕ) (es : List Elem) (k : ℕ) (entry : Listed)
-    → slice_get (listed_from n es) k ≡ Some entry → entry.number ≡ n + k
-listed_number n [] k entry h = cc
-listed_number n (e ∷ es) zero entry h =
-    let same : entry_at n e ≡ entry =
-    some-same h in sym (ap (λ x. x.number) same) ∙ sym (add-zero n) where
-      some-same : Some (entry_at n e) ≡ Some entry → entry_at n e ≡ entry
-      some-same p = cc
-listed_number n (e ∷ es) (suc k) entry h =
-    let more = listed_number (n + 1) es k entry h in omega arith
-
-pub listed_by_place : (es : List Elem) (k : ℕ) (entry : Listed)
-    → slice_get (listed_from 0 es) k ≡ Some entry → entry.number ≡ k
-listed_by_place es k entry h = let more = listed_number 0 es k entry h in omega arith
-
 -- the entries of pins are the pins, each alone
 pub listed_pins : (n : ℕ) (points : List ℕ)
     → map (λ (entry : Listed). entry.elems) (listed_from n (map pin points))
     ≡ map (λ p. pin p ∷ []) points
 listed_pins n [] = refl
 listed_pins n (p ∷ points) = ap (λ rest. (pin p ∷ []) ∷ rest) (listed_pins (n + 1) points)
+
+-- the entries of pins of the automaton's points are shaped
+pub listed_shaped : (cfa : Cfa) (n : ℕ) (points : List ℕ)
+    → ((p : ℕ) → Contains points p → p < cfa.points)
+    → AllByRecursion (λ (entry : Listed). AreShaped cfa entry.elems)
+    (listed_from n (map pin points))
+listed_shaped cfa n [] within = tt
+listed_shaped cfa n (p ∷ points) within = (
+  ((within p (0, omega arith, refl), tt), tt),
+  listed_shaped cfa (n + 1) points
+      (λ q h. within q (suc h.0, (let inside = h.1 in omega (arith, inside)), h.2)),
+)
+
+-- each entry has one element
+pub listed_alone : (n : ℕ) (es : List Elem)
+    → AllByRecursion (λ (entry : Listed). length entry.elems ≡ 1) (listed_from n es)
+listed_alone n [] = tt
+listed_alone n (e ∷ es) = (refl, listed_alone (n + 1) es)
+
+-- a number below the first is below all
+listed_above : (low n : ℕ) (es : List Elem) → low < n
+    → AllByRecursion (λ m. low < m) (map (λ (entry : Listed). entry.number) (listed_from n es))
+listed_above low n [] h = tt
+listed_above low n (e ∷ es) h = (h, listed_above low (n + 1) es (omega (arith, h)))
+
+-- the numbers of entries ascend
+pub listed_ascend : (n : ℕ) (es : List Elem)
+    → AreAscending (map (λ (entry : Listed). entry.number) (listed_from n es))
+listed_ascend n [] = tt
+listed_ascend n (e ∷ es) = (listed_above n (n + 1) es (omega arith), listed_ascend (n + 1) es)

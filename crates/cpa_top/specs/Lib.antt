@@ -1,9 +1,12 @@
-pub mod Answered
-pub mod Core
-pub mod CoreSteps
-pub mod Led
+pub mod Answers
+pub mod Asking
+pub mod Calls
 pub mod Explored
+pub mod Jobs
+pub mod Led
+pub mod Lines
 pub mod Listing
 pub mod Reached
+pub mod Refusals
 pub mod Reports
-pub mod Run
+pub mod Statuses

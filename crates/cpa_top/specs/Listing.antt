@@ -4,6 +4,7 @@ use Rattle.cpa_model.specs.declared.facts.Elem.{Elem}
 use Rattle.cpa_model.specs.declared.automaton.Cfa.{Cfa}
 use Rattle.cpa_top.specs.declared.report.Listed.{Listed}
 use Rattle.cpa_top.specs.declared.report.Report.{Report}
+use Rattle.cpa_top.specs.Reports.{report_text}
 
 -- the elements as entries of one element each, numbered from first on
 abbrev pub listed_from : ℕ → List Elem → List Listed
@@ -18,3 +19,9 @@ pub record IsReportOf (cfa : Cfa) (elems : List Elem) (r : Report) : Type 0 wher
   pub cells : r.cells ≡ length cfa.cells
   pub edges : r.edges ≡ length cfa.edges
   pub entries : r.entries ≡ listed_from 0 elems
+
+-- the text is the report of these elements
+pub record IsTextOf (cfa : Cfa) (elems : List Elem) (text : List ℕ) : Type 0 where
+  pub report : Report
+  pub is : IsReportOf cfa elems report
+  pub spelled : text ≡ report_text report

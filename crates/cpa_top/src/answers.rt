@@ -1,67 +1,80 @@
-//! What a call may answer, with its status and line, and how it is delivered, by
-//! `specs/Answered.antt`; shown in `proofs/Lawful.antt`.
-ghost use Rattle.std.specs.Prelude.{◌≡◌};
-ghost use Rattle.cpa_top.specs.Answered.{status_of, text_of, IsDelivered};
+//! What a call comes to, and how it is written (`MayAnswer`, `Answers` of `specs/Answers.antt`);
+//! shown in `proofs/Answering.antt`.
+ghost use Rattle.std.specs.Prelude.{◌≡◌, map};
+ghost use Rattle.std.specs.String.{string_bytes};
+ghost use Rattle.cpa_top.specs.Answers.{MayAnswer};
+ghost use Rattle.cpa_top.specs.Calls.{call_of, files_of, output_of};
+ghost use Rattle.cpa_top.specs.Refusals.{status_of, text_of, IsDelivered};
 
-use cpa_outside::{Sink, write_whole};
+use crate::Status;
+use crate::asking::{Job, job_of};
+use crate::refusal::Refusal;
+use crate::replay_job::replay;
+use crate::verify_job::verify;
+use cpa_iface::Analysis;
+use cpa_outside::{Inputs, Sink, write_whole};
+use std::alloc::Global;
 
-/// What a call comes to, before anything is written.
+/// What a job comes to, and what is written of it.
 #[derive(Debug, Drop)]
-pub(crate) enum Answer {
-    /// TRUE, with its report.
-    Safe { report: String },
-    /// The words are no command.
-    Usage,
-    /// The program asked for more than is built.
-    Unbuilt,
-    ReadFailed,
-    TooLong,
-    OutOfMemory,
+pub(crate) struct Conclusion {
+    pub(crate) status: Status,
+    pub(crate) text: String,
 }
 
-const USAGE: &str = "usage: cpaverify verify PROGRAM [--config FILE]
-       cpaverify replay PROGRAM INPUTS [--steps N]
-       cpaverify recheck PROGRAM REPORT [--config FILE] [--proof] [--workers N]
-       cpaverify audit PROGRAM PROOF [--workers N]
-       cpaverify bench N
-";
+/// What the call comes to, before anything is written.
+pub(crate) fn answer<I: Inputs>(
+    alloc: Global,
+    words: &[String],
+    analyses: Vec<Box<dyn Analysis + Send>>,
+    inputs: &mut I,
+) -> Result<Conclusion, Refusal>
+    ensures { MayAnswer
+        (call_of (map string_bytes words.now) (map (λ b. meaning b) analyses.items)
+        (files_of (I.bytes_of inputs.old) (I.faults_of inputs.old) (I.faults_of inputs.new)))
+        (status_of result) (text_of result) }
+{
+    match job_of(words) {
+        Some(Job::Verify { program }) => verify(alloc, program, analyses, inputs),
+        Some(
+            Job::Replay {
+                program,
+                inputs: list,
+            },
+        ) => replay(alloc, program, list, inputs),
+        None => Err(Refusal::Usage),
+    }
+}
 
-/// The status of a failed write.
-const WRITE_FAILED: u8 = 9;
-
-fn status(answer: &Answer) -> u8
+/// The status of an answer.
+fn status(answer: &Result<Conclusion, Refusal>) -> Status
     ensures { result ≡ status_of answer.now }
 {
     match answer {
-        Answer::Safe { .. } => 0,
-        Answer::Usage => 3,
-        Answer::ReadFailed => 4,
-        Answer::TooLong => 5,
-        Answer::OutOfMemory => 10,
-        Answer::Unbuilt => 11,
+        Ok(conclusion) => conclusion.status,
+        Err(refusal) => refusal.status(),
     }
 }
 
-fn text(answer: &Answer) -> &str
+/// The text of an answer.
+fn text(answer: &Result<Conclusion, Refusal>) -> &str
     ensures { result.now ≡ text_of answer.now }
 {
     match answer {
-        Answer::Safe { report } => report.as_str(),
-        Answer::Usage => USAGE,
-        Answer::ReadFailed => "refused read program\n",
-        Answer::TooLong => "refused long program\n",
-        Answer::OutOfMemory => "refused memory\n",
-        Answer::Unbuilt => "refused unbuilt\n",
+        Ok(conclusion) => conclusion.text.as_str(),
+        Err(refusal) => refusal.line(),
     }
 }
 
-/// Writes the answer's text, and gives its status, or that of a failed write.
-pub(crate) fn deliver<K: Sink>(answer: &Answer, out: &mut K) -> u8
-    ensures { IsDelivered answer.now result (K.faults out.old) (K.faults out.new)
-        (K.written out.old) (K.written out.new) }
+/// Writes the answer's text, and gives the number of its status, or of that of a failed write.
+pub(crate) fn deliver<K: Sink>(answer: &Result<Conclusion, Refusal>, out: &mut K) -> u8
+    ensures { IsDelivered (status_of answer.now) (text_of answer.now)
+        (output_of (K.written out.old) (K.written out.new) (K.faults out.old) (K.faults out.new))
+        result }
 {
-    match write_whole(out, text(answer).as_bytes()) {
+    let status = match write_whole(out, text(answer).as_bytes()) {
         Ok(()) => status(answer),
-        Err(_) => WRITE_FAILED,
-    }
+        Err(_) => Status::WriteFailed,
+    };
+    status.code()
 }

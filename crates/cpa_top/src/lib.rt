@@ -2,12 +2,20 @@
 #![tactic(auto)]
 
 mod answers;
-mod core_program;
+mod asking;
 mod explore;
+mod files;
+mod place;
+mod refusal;
+mod replay_job;
 mod report;
+mod role;
+mod status;
 mod top;
-mod verify;
+mod verify_job;
 
-pub use core_program::core;
+pub use replay_job::MAX_STEPS;
 pub use report::{Listed, Report};
+pub use role::Role;
+pub use status::Status;
 pub use top::run;

@@ -204,9 +204,33 @@ fn status_of_failing_read<R: Threads + Sync>(rt: &R, alloc: Global) -> Result<u8
     call(rt, alloc, &["verify", "p.c"], 1, &mut inputs, &mut out)
 }
 
+/// The status, and what is written, of a replay of which the second read fails.
+fn second_read_failing<R: Threads + Sync>(
+    rt: &R,
+    alloc: Global,
+    text: &str,
+) -> Result<(u8, MemorySink), AllocError> {
+    let mut files = Vec::new(alloc);
+    let text = text.as_bytes().to_vec(alloc)?;
+    files.push((String::from_str(alloc, "p.c")?, text))?;
+    files.push((String::from_str(alloc, "i.json")?, b"[]".to_vec(alloc)?))?;
+    let mut inputs = MemoryInputs::new(alloc, files, [1].to_vec(alloc)?)?;
+    let mut out = MemorySink::new(alloc, 99, 99, Vec::new(alloc))?;
+    let words = &["replay", "p.c", "i.json"];
+    let status = call(rt, alloc, words, 0, &mut inputs, &mut out)?;
+    Ok((status, out))
+}
+
 #[test]
 fn a_read_that_fails(rt: HostRuntime) -> Result<(), Fail> {
-    assert_eq!(rt; status_of_failing_read(&rt, rt.alloc())?, 4);
+    let alloc = rt.alloc();
+    assert_eq!(rt; status_of_failing_read(&rt, alloc)?, 4);
+    let (status, out) = second_read_failing(&rt, alloc, RETURNS)?;
+    assert_eq!(rt; status, 4);
+    assert!(rt; out.written() == b"refused read inputs\n".as_slice());
+    let (status, out) = second_read_failing(&rt, alloc, "float x;")?;
+    assert_eq!(rt; status, 6);
+    assert!(rt; out.written() == b"refused text S3 at 1:1\n".as_slice());
     Ok(())
 }
 

@@ -7,6 +7,4 @@ mod automata;
 #[cfg(test)]
 mod calls;
 #[cfg(test)]
-mod cores;
-#[cfg(test)]
 mod programs;

@@ -1,0 +1,28 @@
+-- The number of each status, and that of an outcome of a replay (this project's own).
+use Rattle.std.specs.Prelude.{ℕ}
+use Rattle.cpa_interp.specs.declared.outcome.Outcome.{Outcome}
+use Rattle.cpa_interp.specs.declared.outcome.Outcome.TheVariants as outcome
+use Rattle.cpa_top.specs.declared.status.Status.{Status}
+use Rattle.cpa_top.specs.declared.status.Status.TheVariants as status
+
+abbrev pub code_of : Status → ℕ
+code_of status.Holds = 0
+code_of status.Fails = 1
+code_of status.Unknown = 2
+code_of status.Usage = 3
+code_of status.ReadFailed = 4
+code_of status.TooLong = 5
+code_of status.NoProgram = 6
+code_of status.NoInputs = 8
+code_of status.WriteFailed = 9
+code_of status.OutOfMemory = 10
+code_of status.Unbuilt = 11
+
+-- that of what comes of a replay
+abbrev pub outcome_status : Outcome → Status
+outcome_status (outcome.Error steps) = status.Fails
+outcome_status outcome.Ended = status.Holds
+outcome_status (outcome.Trapped point) = status.Holds
+outcome_status (outcome.InputsShort point) = status.Unknown
+outcome_status (outcome.BadInput place) = status.Unknown
+outcome_status outcome.StepsSpent = status.Unknown

@@ -1,0 +1,79 @@
+//! What refuses a call, with its status and its line (`specs/Refusals.antt`). Proved by the checker
+//! alone.
+ghost use Rattle.std.specs.Prelude.{◌≡◌};
+ghost use Rattle.cpa_top.specs.declared.refusal.Refusal.TheVariants.{OutOfMemory};
+ghost use Rattle.cpa_top.specs.Refusals.{refusal_status, refusal_line};
+
+use crate::{Role, Status};
+use std::alloc::AllocError;
+
+/// Why a call is refused.
+#[derive(Debug, Drop)]
+pub(crate) enum Refusal {
+    /// The words ask for nothing.
+    Usage,
+    /// The file in this role was not read.
+    ReadFailed { role: Role },
+    /// The file in this role has more bytes than it may have.
+    TooLong { role: Role },
+    /// The bytes of the program's file stand for no program; the line names their fault.
+    NoProgram { line: String },
+    /// The bytes of the inputs' file are no list of inputs.
+    NoInputs,
+    /// What is asked for is not built.
+    Unbuilt,
+    OutOfMemory,
+}
+
+impl From<AllocError> for Refusal {
+    ghost from_gives = { λ _ refusal. refusal ≡ OutOfMemory };
+
+    fn from(_error: AllocError) -> Refusal {
+        Refusal::OutOfMemory
+    }
+}
+
+const USAGE: &str = "usage: cpaverify verify PROGRAM [--config FILE]
+       cpaverify replay PROGRAM INPUTS [--steps N]
+       cpaverify recheck PROGRAM REPORT [--config FILE] [--proof] [--workers N]
+       cpaverify audit PROGRAM PROOF [--workers N]
+       cpaverify bench N
+";
+
+impl Refusal {
+    /// The status with which the call ends.
+    pub(crate) fn status(&self) -> Status
+        ensures { result ≡ refusal_status self.now }
+    {
+        match self {
+            Refusal::Usage => Status::Usage,
+            Refusal::ReadFailed { .. } => Status::ReadFailed,
+            Refusal::TooLong { .. } => Status::TooLong,
+            Refusal::NoProgram { .. } => Status::NoProgram,
+            Refusal::NoInputs => Status::NoInputs,
+            Refusal::Unbuilt => Status::Unbuilt,
+            Refusal::OutOfMemory => Status::OutOfMemory,
+        }
+    }
+
+    /// What is written: one line, or the usage text.
+    pub(crate) fn line(&self) -> &str
+        ensures { result.now ≡ refusal_line self.now }
+    {
+        match self {
+            Refusal::Usage => USAGE,
+            Refusal::ReadFailed {
+                role: Role::Program,
+            } => "refused read program\n",
+            Refusal::ReadFailed { role: Role::Inputs } => "refused read inputs\n",
+            Refusal::TooLong {
+                role: Role::Program,
+            } => "refused long program\n",
+            Refusal::TooLong { role: Role::Inputs } => "refused long inputs\n",
+            Refusal::NoProgram { line } => line.as_str(),
+            Refusal::NoInputs => "refused inputs\n",
+            Refusal::Unbuilt => "refused unbuilt\n",
+            Refusal::OutOfMemory => "refused memory\n",
+        }
+    }
+}

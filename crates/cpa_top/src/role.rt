@@ -1,0 +1,9 @@
+//! What a file is read as. Proved by the checker alone.
+/// What a file that the words name is read as.
+#[derive(Clone, Copy, Debug, PartialEq, Eq)]
+pub enum Role {
+    /// The C text of a program.
+    Program,
+    /// The JSON list of the inputs of a replay.
+    Inputs,
+}

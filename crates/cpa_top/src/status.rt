@@ -1,0 +1,50 @@
+//! The statuses of the program (`code_of` of `specs/Statuses.antt`). Proved by the checker alone.
+ghost use Rattle.std.specs.Prelude.{◌≡◌};
+ghost use Rattle.cpa_top.specs.Statuses.{code_of};
+
+/// How the program ends.
+#[derive(Clone, Copy, Debug, PartialEq, Eq)]
+pub enum Status {
+    /// TRUE; a replay that ends or traps.
+    Holds,
+    /// A replay that calls `reach_error`.
+    Fails,
+    /// A replay without an outcome: the inputs or the steps do not suffice.
+    Unknown,
+    /// The words ask for nothing.
+    Usage,
+    /// A file was not read.
+    ReadFailed,
+    /// A file has more bytes than it may have.
+    TooLong,
+    /// The bytes of the program's file stand for no program.
+    NoProgram,
+    /// The bytes of the inputs' file are no list of inputs.
+    NoInputs,
+    /// The answer was not written whole.
+    WriteFailed,
+    OutOfMemory,
+    /// What is asked for is not built.
+    Unbuilt,
+}
+
+impl Status {
+    /// The number with which the process ends.
+    pub fn code(self) -> u8
+        ensures { result ≡ code_of self }
+    {
+        match self {
+            Status::Holds => 0,
+            Status::Fails => 1,
+            Status::Unknown => 2,
+            Status::Usage => 3,
+            Status::ReadFailed => 4,
+            Status::TooLong => 5,
+            Status::NoProgram => 6,
+            Status::NoInputs => 8,
+            Status::WriteFailed => 9,
+            Status::OutOfMemory => 10,
+            Status::Unbuilt => 11,
+        }
+    }
+}
