@@ -1,4 +1,5 @@
--- A function's body where these names are declared and so many objects stand before it.
+-- A function's body where these names are declared and so many objects stand before it
+-- (`Items.antt` of `c_rules`).
 use Rattle.std.specs.Prelude.{ℕ, ◌<◌, List, map}
 use Rattle.std.specs.List.{filter_map, AllByRecursion}
 use Rattle.c_tree.specs.declared.declaration.Specifiers.{Specifiers}

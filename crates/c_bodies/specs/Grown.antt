@@ -1,4 +1,5 @@
--- A statement and an item of a block as the typed tree and the walk that they are.
+-- A statement and an item of a block as the typed tree and the walk that they are
+-- (`TypedStatements.antt` and `Statements.antt` of `c_rules`).
 use Rattle.c_tree.specs.declared.statement.Statement.{Statement}
 use Rattle.c_tree.specs.declared.statement.BlockItem.{BlockItem}
 use Rattle.c_tree.specs.declared.statement.BlockItem.TheFolds.{fold-Statement}

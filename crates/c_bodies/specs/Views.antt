@@ -1,4 +1,5 @@
--- What a walk through a function's statements keeps, as the state that the rules see.
+-- What a walk through a function's statements keeps, as the state that the rules see
+-- (`Statements.antt` of `c_rules`).
 use Rattle.std.specs.Prelude.{◌≡◌, ℕ, ◌≤◌, ◌<◌, List, ◌++◌, length, map, take}
 use Rattle.std.specs.List.{filter_map, AllByRecursion}
 use Rattle.c_rules.specs.declared.meaning.Entry.{Entry}

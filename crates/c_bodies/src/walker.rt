@@ -1,4 +1,5 @@
-//! What a walk through statements is told and what it keeps (`specs/Views.antt`).
+//! What a walk through statements is told and what it keeps.
+//! What it stands for is in `specs/Views.antt`. Plain data.
 use c_calls::Call;
 use c_lexer::TextFault;
 use c_names::{Firsts, Names, Survey};

@@ -1,4 +1,5 @@
-//! A call in a body (`Call` of `specs/Items.antt` of `c_rules`). Proved by the checker alone.
+//! A call in a body (`Call` of `specs/Items.antt` of `c_rules`): which body it stands in,
+//! which it calls, and where. Proved by the checker alone.
 use std::marker::Model;
 
 /// A call in a body.

@@ -1,4 +1,4 @@
--- The constants of the parts of a typed expression.
+-- The constants of the parts of a typed expression (`Constants.antt` of `c_rules`).
 use Rattle.std.specs.Prelude.{ℤ, Bool, ◌||◌, List, Option}
 use Rattle.std.specs.Prelude.{option_map, option_and_then}
 use Rattle.std.specs.List.{list_any}

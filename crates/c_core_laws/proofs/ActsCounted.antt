@@ -1,6 +1,6 @@
 -- The rules on values and their statements follow the counts.
-use Rattle.std.proofs.Common.{◌≡◌, ℕ, ◌+◌, max, Bool, true, false, if◌then◌else◌, ◌&&◌}
-use Rattle.std.proofs.Common.{List, [], ◌∷◌, ◌++◌, map, refl, ap, sym, ◌∙◌, arith}
+use Rattle.std.proofs.Common.{◌≡◌, ℕ, ◌+◌, max, Bool, true, false, if◌then◌else◌, ◌&&◌, List, []}
+use Rattle.std.proofs.Common.{◌∷◌, ◌++◌, map, refl, ap, sym, ◌∙◌, arith}
 use Rattle.cpa_ints.specs.declared.integers.IntType.{IntType}
 use Rattle.cpa_ints.specs.declared.integers.IntType.TheVariants as ty
 use Rattle.cpa_ints.specs.Conversions.{promoted, common_type}
@@ -16,8 +16,7 @@ use Rattle.c_tree.specs.declared.expression.UnaryOperator.{UnaryOperator}
 use Rattle.c_tree.specs.declared.expression.UnaryOperator.TheVariants as unary
 use Rattle.c_core_rules.specs.declared.tree.Location.{Location}
 use Rattle.c_core_rules.specs.declared.tree.Valued.{Valued}
-use Rattle.c_core_rules.specs.Values.{conv, is_constant, scalar, first_index, truth_of}
-use Rattle.c_core_rules.specs.Values.{int}
+use Rattle.c_core_rules.specs.Values.{conv, is_constant, scalar, first_index, truth_of, int}
 use Rattle.c_core_rules.specs.Values.{cell_at, chosen_value, promote}
 use Rattle.c_core_rules.specs.Trees.{Trees, valued, set, choice}
 use Rattle.c_core_rules.specs.Cells as core
@@ -26,17 +25,15 @@ use Rattle.c_rules.specs.Counts.{Size, both, one}
 use Rattle.c_rules.specs.Counts as counts
 use Rattle.c_core_laws.proofs.Sums.{both_comm}
 use Rattle.c_core_laws.proofs.Heights.{height_positive, first_height, element_height, element_type}
-use Rattle.c_core_laws.proofs.Heights.{constant_element, conv_height, conv_type, conv_constant}
-use Rattle.c_core_laws.proofs.Heights.{operator_type, operator_height, operator_constant, tall}
-use Rattle.c_core_laws.proofs.Heights.{truth_type, truth_height, int_type_is, int_height}
-use Rattle.c_core_laws.proofs.Heights.{same_self}
-use Rattle.c_core_laws.proofs.Heights.{constant_and, constant_or, constant_not, constant_un}
-use Rattle.c_core_laws.proofs.Heights.{constant_cond}
-use Rattle.c_core_laws.proofs.Following.{Follows, of_values, of_trees, seen}
-use Rattle.c_core_laws.proofs.Following.{trees_size, tree_size, given}
+use Rattle.c_core_laws.proofs.Heights.{constant_element, conv_height, conv_constant, operator_type}
+use Rattle.c_core_laws.proofs.Heights.{operator_height, operator_constant, tall, truth_type}
+use Rattle.c_core_laws.proofs.Heights.{truth_height, int_type_is, int_height, constant_and}
+use Rattle.c_core_laws.proofs.Heights.{constant_or, constant_not, constant_un, constant_cond}
+use Rattle.c_core_laws.specs.lemmas.MadeValues.{same_self, conv_type}
+use Rattle.c_core_laws.proofs.Following.{Follows, of_values, of_trees, seen, trees_size, tree_size}
+use Rattle.c_core_laws.proofs.Following.{given}
 use Rattle.c_core_laws.proofs.Sized.{behind_sized, set_sized, choice_sized, nil_points}
-use Rattle.c_core_laws.proofs.Sized.{joined_sized}
-use Rattle.c_core_laws.proofs.Sized.{only_sized}
+use Rattle.c_core_laws.proofs.Sized.{joined_sized, only_sized}
 use Rattle.c_core_laws.proofs.Rules.{seen_is, followed, either, recounted, freshly, of_lists}
 
 -- a scalar that is read behind statements

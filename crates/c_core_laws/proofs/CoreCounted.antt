@@ -15,7 +15,8 @@ use Rattle.c_core_rules.specs.Programs.{IsCore, frames_of, text_core, statements
 use Rattle.c_core_laws.specs.Sizes.{IsCounted, stmt_height}
 use Rattle.c_core_laws.proofs.Following.{counted_by}
 use Rattle.c_core_laws.proofs.TextCounted.{text_at, heads_same, of_texts}
-use Rattle.c_core_laws.proofs.ProgramCounted.{bodies_sized, numbers_length}
+use Rattle.c_core_laws.specs.lemmas.BodyCounts.{numbers_length}
+use Rattle.c_core_laws.proofs.ProgramCounted.{bodies_sized}
 
 pub text_counted : (unit : TypedUnit) →
     counted_by of_texts (text_core unit) ≡ sound.counts unit.globals unit.functions

@@ -1,7 +1,6 @@
 -- Each function of a sound text has the labels that its gotos name, and no loose break or continue.
-use Rattle.std.proofs.Common.{◌≡◌, ℕ, ◌<◌, true, false, List, [], ◌∷◌, ◌++◌, map, length, refl}
-use Rattle.std.proofs.Common.{ap, sym}
-use Rattle.std.proofs.Common.{◌∙◌, subst}
+use Rattle.std.proofs.Common.{◌≡◌, ℕ, ◌<◌, true, false, List, [], ◌∷◌, ◌++◌, map, length, refl, ap}
+use Rattle.std.proofs.Common.{sym, ◌∙◌, subst}
 use Rattle.std.specs.List.{AllByRecursion, flat_map}
 use Rattle.std.proofs.lemmas.List.{length-map}
 use Rattle.c_tree.specs.declared.name.Name.{Name}
@@ -22,8 +21,7 @@ use Rattle.c_rules.specs.Items.{Before, text_of, listed, around_body, function_b
 use Rattle.c_rules.specs.Items.{head_faults, item_behind, item_faults, items_faults, nothing_before}
 use Rattle.c_rules.specs.Sound.{Sound, typed_unit, functions_of, unit_functions}
 use Rattle.c_core_laws.specs.Jumps.{Jumps, function_jumps}
-use Rattle.c_core_laws.specs.lemmas.Faults.{NoFaults, none_left, none_right}
-use Rattle.c_core_laws.proofs.StartsFit.{no_fault}
+use Rattle.c_core_laws.specs.lemmas.Faults.{NoFaults, none_left, none_right, no_fault}
 use Rattle.c_core_laws.specs.lemmas.SameWalk.{same_walk}
 use Rattle.c_core_laws.proofs.JumpsTyped.{Clean, clean_right, Keeps, keeps_still, keeps_then}
 use Rattle.c_core_laws.proofs.JumpsTyped.{items_fit, all_jumped}

@@ -1,7 +1,6 @@
 -- Types and heights of values that are made.
-use Rattle.std.proofs.Common.{◌≡◌, ℕ, ◌+◌, ◌≤◌, max, Bool, true, false, if◌then◌else◌}
-use Rattle.std.proofs.Common.{refl, ap, sym, ◌∙◌, arith}
-use Rattle.std.proofs.Common.{ℤ, pos}
+use Rattle.std.proofs.Common.{◌≡◌, ℕ, ◌+◌, ◌≤◌, max, Bool, true, false, if◌then◌else◌, refl, ap}
+use Rattle.std.proofs.Common.{sym, ◌∙◌, arith, ℤ, pos}
 use Rattle.cpa_ints.specs.declared.integers.IntType.{IntType}
 use Rattle.cpa_ints.specs.declared.integers.IntType.TheVariants as ty
 use Rattle.cpa_expr.specs.declared.tree.Expr.{Expr, out-Expr, roll-Expr}
@@ -15,8 +14,6 @@ use Rattle.cpa_expr.specs.declared.tree.CmpOp.{CmpOp}
 use Rattle.cpa_expr.specs.declared.tree.CmpOp.TheVariants as cmp
 use Rattle.cpa_expr.specs.Shape.{type_of, height, parts}
 use Rattle.cpa_expr.specs.Equality.{same_type}
-use denote.Enum.Bare.{same_true, true_same}
-use Rattle.cpa_ints.specs.contracts.integers.IntType as int_type
 use Rattle.cpa_expr.specs.Laws.{type_at_variants, height_at_variants}
 use Rattle.cpa_expr.specs.lemmas.Parts.{height_parts}
 use Rattle.c_core_rules.specs.declared.tree.Location.{Location}
@@ -109,20 +106,6 @@ constant_cond t test first second =
     (expr.rolls-Cond t test first second)
 
 -- a converted value
-
-pub type_same : (t u : IntType) → same_type t u ≡ true → t ≡ u
-type_same = same_true int_type.the_type tt
-
-pub same_self : (t : IntType) → same_type t t ≡ true
-same_self t = true_same int_type.the_type t t refl
-
-conv_type_by : (b : Bool) (v : Expr) (t : IntType) → same_type (type_of v) t ≡ b →
-    type_of (if b then v else expr.Cast t v) ≡ t
-conv_type_by true v t is = type_same (type_of v) t is
-conv_type_by false v t is = type_at_variants.cast t v
-
-pub conv_type : (v : Expr) (t : IntType) → type_of (conv v t) ≡ t
-conv_type v t = conv_type_by (same_type (type_of v) t) v t refl
 
 if_constant : (b : Bool) (v w : Expr) → is_constant w ≡ false →
     is_constant (if b then v else w) ≡ (if b then is_constant v else false)

@@ -6,8 +6,7 @@ use Rattle.std.specs.List.{AllByRecursion}
 use Rattle.std.proofs.lemmas.Option.{same_Some, slice_get-get_or}
 use Rattle.cpa_model.specs.declared.program.Stmt.{Stmt}
 use Rattle.cpa_model.specs.declared.program.Program.{Program}
-use Rattle.cpa_model.specs.Programs.{IsStmt, IsBody, InFunction, function_body}
-use Rattle.cpa_model.specs.Programs.{function_part}
+use Rattle.cpa_model.specs.Programs.{IsStmt, IsBody, InFunction, function_body, function_part}
 use Rattle.cpa_model.specs.lemmas.Trees.{one_function, in_function_inside}
 use Rattle.c_tree.specs.declared.item.Unit.{Unit as UnitTree}
 use Rattle.c_rules.specs.declared.typed.TypedUnit.{TypedUnit}
@@ -22,7 +21,8 @@ use Rattle.c_core_laws.specs.Standing.{IsOfTree}
 use Rattle.c_core_laws.proofs.Shapes.{Shaped}
 use Rattle.c_core_laws.proofs.Jumping.{Anything}
 use Rattle.c_core_laws.proofs.JumpsKept.{text_keeps}
-use Rattle.c_core_laws.proofs.Numbered.{all_at, none_first, lengths_are, core_numbered}
+use Rattle.cpa_model.specs.lemmas.EdgesSound.{all_at}
+use Rattle.c_core_laws.proofs.Numbered.{none_first, lengths_are, core_numbered}
 use Rattle.c_core_laws.proofs.ProgramTrees.{PlacedAt, AllFit, spreads, TreeStands, tree_stands}
 use Rattle.c_core_laws.proofs.ProgramTrees.{InTree, in_tree, tree_stmt}
 use Rattle.c_core_laws.proofs.Loops.{leaves, IsInLoop, loops_in}

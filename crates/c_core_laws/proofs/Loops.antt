@@ -17,7 +17,7 @@ use Rattle.c_core_rules.specs.Trees.{Trees}
 use Rattle.c_core_rules.specs.Programs.{Placed, joined, statements, numbers_from, stmt_of}
 use Rattle.c_core_laws.specs.Jumps.{Jumps, all_jumps, head_jumps, node_jumps, tree_jumps}
 use Rattle.c_core_laws.proofs.Shapes.{HasParts, node_of, open_statements}
-use Rattle.c_core_laws.proofs.ProgramCounted.{numbers_length}
+use Rattle.c_core_laws.specs.lemmas.BodyCounts.{numbers_length}
 use Rattle.c_core_laws.proofs.Jumping.{open_jumps}
 use Rattle.c_core_laws.proofs.Numbered.{get_split, Behind, one_further, nothing_further, lengths}
 use Rattle.c_core_laws.proofs.ProgramTrees.{PlacedAt, placed_left, placed_right, placed_tail}

@@ -1,12 +1,11 @@
 -- The main of a sound text is one of its bodies.
-use Rattle.std.proofs.Common.{◌≡◌, ℕ, suc, ◌+◌, ◌<◌, Bool, true, false, ◌&&◌, ◌||◌, List, []}
-use Rattle.std.proofs.Common.{◌∷◌, ◌++◌, map, length, Option, Some, refl, ap, sym, ◌∙◌}
-use Rattle.std.proofs.Common.{arith, inl, inr, if◌then◌else◌}
+use Rattle.std.proofs.Common.{◌≡◌, ℕ, suc, ◌+◌, ◌<◌, Bool, true, false, ◌&&◌, ◌||◌, List, [], ◌∷◌}
+use Rattle.std.proofs.Common.{◌++◌, length, Option, Some, refl, ap, sym, ◌∙◌, arith, inl, inr}
+use Rattle.std.proofs.Common.{if◌then◌else◌}
 use Rattle.std.specs.Prelude.{unwrap_or, option_map}
 use Rattle.std.specs.List.{filter_map, list_any}
 use Rattle.std.specs.Str.{bytes_eq}
 use Rattle.std.specs.Cmp.Lexicographic.{bytes_decides}
-use Rattle.std.proofs.lemmas.List.{length-map}
 use Rattle.cpa_model.specs.declared.program.Program.{Program}
 use Rattle.c_lexer.specs.declared.fault.Rule.TheVariants as rule
 use Rattle.c_lexer.specs.declared.fault.TextFault.{TextFault}
@@ -16,44 +15,15 @@ use Rattle.c_tree.specs.declared.item.Item.TheVariants as item
 use Rattle.c_tree.specs.declared.item.Unit.{Unit as UnitTree}
 use Rattle.cpa_ints.specs.declared.integers.IntType.TheVariants as ty
 use Rattle.c_rules.specs.declared.meaning.Kind.TheVariants.{Value}
-use Rattle.c_rules.specs.declared.typed.TypedUnit.{TypedUnit}
 use Rattle.c_rules.specs.Names.{Text, place_of, body_of}
 use Rattle.c_rules.specs.Declarations.{kind_of}
 use Rattle.c_rules.specs.Items.{Before, text_of, body_name, item_behind, same_kind, items_faults}
 use Rattle.c_rules.specs.Items.{nothing_before}
 use Rattle.c_rules.specs.Recursion.{Among}
-use Rattle.c_rules.specs.Sound.{Sound, typed_unit, functions_of, main_name, is_main}
-use Rattle.c_rules.specs.Sound.{unit_faults, has_no_parameters}
-use Rattle.c_core_rules.specs.declared.tree.CoreTree.{CoreTree}
-use Rattle.c_core_rules.specs.Cells.{Taken, nothing_taken}
-use Rattle.c_core_rules.specs.Cells as core
-use Rattle.c_core_rules.specs.Statements.{function_rule, receiving_globals}
-use Rattle.c_core_rules.specs.Programs.{IsCore, text_core, frames_of, statements}
-use Rattle.c_core_laws.proofs.ProgramCounted.{numbers_length}
-
--- there is a body for each function
-
-each_length : {S : Type 0} (rules : List (core.Rule S)) (taken : Taken) →
-    length (core.each rules taken).made ≡ length rules
-each_length [] taken = refl
-each_length (rule ∷ rules) taken = ap suc (each_length rules (rule taken).taken)
-
-trees_many : (unit : TypedUnit) → length (text_core unit).made ≡ length unit.functions
-unfolding text_core
-trees_many unit =
-    let rules = map (function_rule (frames_of unit.first_cells unit.functions)) unit.functions in
-    each_length rules (receiving_globals unit.globals nothing_taken).taken
-    ∙ length-map unit.functions (function_rule (frames_of unit.first_cells unit.functions))
-
-pub bodies_are : (unit : TypedUnit) (P : Program) → IsCore unit P →
-    length P.bodies ≡ length unit.functions
-bodies_are unit P is =
-    let trees = (text_core unit).made in
-    let sizes = map (λ (tree : CoreTree). length (statements tree)) trees in
-    ap (λ (bodies : List ℕ). length bodies) is.bodies
-    ∙ numbers_length 0 sizes
-    ∙ length-map trees (λ (tree : CoreTree). length (statements tree))
-    ∙ trees_many unit
+use Rattle.c_rules.specs.Sound.{Sound, typed_unit, functions_of, main_name, is_main, unit_faults}
+use Rattle.c_rules.specs.Sound.{has_no_parameters}
+use Rattle.c_core_rules.specs.Programs.{IsCore}
+use Rattle.c_core_laws.specs.lemmas.BodyCounts.{bodies_are}
 
 -- and a function for each body of the text
 functions_many : (text : Text) (items : List Item) (before : Before) →

@@ -1,7 +1,6 @@
 -- The statements of shaped trees are numbered in the order of the trees.
-use Rattle.std.proofs.Common.{◌≡◌, ℕ, zero, suc, ◌+◌, List, [], ◌∷◌, ◌++◌, map, length}
-use Rattle.std.proofs.Common.{Some, slice_get, refl, ap, sym, ◌∙◌, subst, arith, add_assoc, inl}
-use Rattle.std.proofs.Common.{inr}
+use Rattle.std.proofs.Common.{◌≡◌, ℕ, zero, suc, ◌+◌, List, [], ◌∷◌, ◌++◌, map, length, Some}
+use Rattle.std.proofs.Common.{slice_get, refl, ap, sym, ◌∙◌, subst, arith, add_assoc, inl, inr}
 use Rattle.std.proofs.Common.{length-append}
 use Rattle.std.specs.Prelude.{◌⊎◌}
 use Rattle.std.specs.List.{AllByRecursion}
@@ -14,14 +13,14 @@ use Rattle.c_core_rules.specs.declared.tree.CoreTree.{CoreTree, roll-CoreTree}
 use Rattle.c_core_rules.specs.declared.tree.CoreTree.TheOpen.{CoreTree-F}
 use Rattle.c_core_rules.specs.declared.tree.CoreTree.TheFolds.{map-CoreTree, ind-CoreTree}
 use Rattle.c_core_rules.specs.Trees.{Trees}
-use Rattle.c_core_rules.specs.Programs.{Placed, joined, statements, numbers_from}
-use Rattle.c_core_rules.specs.Programs.{stmt_of, labels_from, numbered, numbered_bodies, IsCore}
-use Rattle.c_core_rules.specs.Programs.{text_core}
+use Rattle.c_core_rules.specs.Programs.{Placed, joined, statements, numbers_from, stmt_of}
+use Rattle.c_core_rules.specs.Programs.{labels_from, numbered, numbered_bodies, IsCore, text_core}
 use Rattle.c_core_laws.proofs.Shapes.{HasParts, PlacedFits, parts_are, joined_fit, node_of}
 use Rattle.c_core_laws.proofs.Shapes.{open_statements}
-use Rattle.c_core_laws.proofs.ProgramCounted.{numbers_length}
+use Rattle.c_core_laws.specs.lemmas.BodyCounts.{numbers_length}
 use Rattle.c_core_laws.proofs.JumpsKept.{text_keeps}
 use Rattle.c_core_laws.proofs.Jumping.{Anything, AllAny, anything}
+use Rattle.cpa_model.specs.lemmas.EdgesSound.{all_at}
 
 -- places of a list that is two lists
 
@@ -57,12 +56,6 @@ pub get_split : {X : Type 0} (a b : List X) (i : ℕ) (x : X) → slice_get (a +
 get_split [] b i x e = inr (i, sym (none_first i), e)
 get_split (y ∷ a) b zero x e = inl e
 get_split (y ∷ a) b (suc i) x e = behind_more y a b i x (get_split a b i x e)
-
-pub all_at : {X : Type 0} (P : X → Type 0) (xs : List X) (i : ℕ) (x : X) → AllByRecursion P xs →
-    slice_get xs i ≡ Some x → P x
-all_at P [] i x all e = absurd (none-some x e)
-all_at P (y ∷ xs) zero x all e = subst P (same_Some y x e) all.0
-all_at P (y ∷ xs) (suc i) x all e = all_at P xs i x all.1 e
 
 -- where trees end
 

@@ -1,7 +1,6 @@
 -- A program has the points and the heights of its trees.
 use Rattle.std.proofs.Common.{◌≡◌, ℕ, suc, ◌+◌, max, List, [], ◌∷◌, ◌++◌, map, length, refl, ap}
-use Rattle.std.proofs.Common.{sym, ◌∙◌}
-use Rattle.std.proofs.Common.{subst, arith, length-append}
+use Rattle.std.proofs.Common.{sym, ◌∙◌, subst, arith, length-append}
 use Rattle.cpa_expr.specs.Shape.{greatest}
 use Rattle.cpa_model.specs.declared.program.Stmt.{Stmt}
 use Rattle.c_rules.specs.Counts.{Size, both, one, empty, joined_sizes}
@@ -154,7 +153,3 @@ bodies_sized n (tree ∷ trees) =
     ∙ ap (λ s. both (both s (one 0)) (with_exits others (length trees)))
     (numbered_sized (labels_from n placed) n placed ∙ statements_sized tree)
     ∙ ap (both (function_size tree)) (bodies_sized (n + length placed) trees)
-
-pub numbers_length : (n : ℕ) (sizes : List ℕ) → length (numbers_from n sizes) ≡ length sizes
-numbers_length n [] = refl
-numbers_length n (size ∷ sizes) = ap suc (numbers_length (n + size) sizes)

@@ -1,6 +1,6 @@
 -- Where the trees of functions stand in a program, and what spreads from a statement to its parts.
-use Rattle.std.proofs.Common.{◌≡◌, ℕ, zero, suc, ◌+◌, List, [], ◌∷◌, ◌++◌, map, length}
-use Rattle.std.proofs.Common.{Some, slice_get, refl, ap, sym, ◌∙◌, subst, add_assoc, inl, inr}
+use Rattle.std.proofs.Common.{◌≡◌, ℕ, zero, suc, ◌+◌, List, [], ◌∷◌, ◌++◌, map, length, Some}
+use Rattle.std.proofs.Common.{slice_get, refl, ap, sym, ◌∙◌, subst, add_assoc, inl, inr}
 use Rattle.std.specs.Prelude.{◌⊎◌}
 use Rattle.std.specs.List.{AllByRecursion}
 use Rattle.std.proofs.lemmas.Option.{none-some, same_Some}
@@ -18,7 +18,7 @@ use Rattle.c_core_rules.specs.Trees.{Trees}
 use Rattle.c_core_rules.specs.Programs.{Placed, joined, statements, numbers_from, stmt_of}
 use Rattle.c_core_rules.specs.Programs.{labels_from, numbered, numbered_bodies, IsCore, text_core}
 use Rattle.c_core_laws.proofs.Shapes.{HasParts, PlacedFits, parts_are, node_of, open_statements}
-use Rattle.c_core_laws.proofs.ProgramCounted.{numbers_length}
+use Rattle.c_core_laws.specs.lemmas.BodyCounts.{numbers_length}
 use Rattle.c_core_laws.proofs.Jumping.{Anything}
 use Rattle.c_core_laws.proofs.Numbered.{get_left, get_right, get_split, Behind, none_first}
 use Rattle.c_core_laws.proofs.Numbered.{one_further, nothing_further, lengths, lengths_are}

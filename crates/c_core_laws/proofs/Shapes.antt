@@ -1,6 +1,6 @@
 -- Trees whose nodes have as many parts as their heads have, and rules that make such trees.
-use Rattle.std.proofs.Common.{◌≡◌, ℕ, Bool, true, false, if◌then◌else◌, List, []}
-use Rattle.std.proofs.Common.{◌∷◌, ◌++◌, map, length, refl, ap, sym, ◌∙◌, subst, arith}
+use Rattle.std.proofs.Common.{◌≡◌, ℕ, Bool, true, false, if◌then◌else◌, List, [], ◌∷◌, ◌++◌, map}
+use Rattle.std.proofs.Common.{length, refl, sym, ◌∙◌, subst, arith}
 use Rattle.std.specs.List.{AllByRecursion}
 use Rattle.std.proofs.lemmas.List.{length-map}
 use Rattle.cpa_ints.specs.declared.integers.IntType.{IntType}
@@ -9,7 +9,7 @@ use Rattle.cpa_model.specs.Programs.{parts_of}
 use Rattle.cpa_model.specs.lemmas.Parts.{firsts_items}
 use Rattle.c_core_rules.specs.declared.tree.CoreTree.{CoreTree, roll-CoreTree}
 use Rattle.c_core_rules.specs.declared.tree.CoreTree.TheOpen.{CoreTree-F}
-use Rattle.c_core_rules.specs.declared.tree.CoreTree.TheVariants.{Node, rolls-Node}
+use Rattle.c_core_rules.specs.declared.tree.CoreTree.TheVariants.{Node}
 use Rattle.c_core_rules.specs.declared.tree.CoreTree.TheFolds.{fold-roll-CoreTree, map-CoreTree}
 use Rattle.c_core_rules.specs.declared.tree.Head.{Head}
 use Rattle.c_core_rules.specs.declared.tree.Head.TheVariants as head
@@ -19,6 +19,7 @@ use Rattle.c_core_rules.specs.Trees.{Trees, leaf, block, choice, repeated, write
 use Rattle.c_core_rules.specs.Cells.{Taken}
 use Rattle.c_core_rules.specs.Cells as core
 use Rattle.c_core_rules.specs.Programs.{Placed, joined, node_statements, statements, stmt_of, part}
+use Rattle.c_core_laws.specs.lemmas.Nodes.{node_placed}
 
 -- so many parts belong to a head
 abbrev pub HasParts : Head → ℕ → Type 0
@@ -84,14 +85,6 @@ node_of x = node_statements (map-CoreTree CoreTree (List Placed) statements x)
 pub open_statements : (x : CoreTree-F CoreTree) → statements (roll-CoreTree x) ≡ node_of x
 unfolding statements
 open_statements x = fold-roll-CoreTree (List Placed) node_statements x
-
-pub node_placed : (h : Head) (parts : Trees) →
-    statements (Node h parts)
-    ≡ record { head = h; sizes = map length (map statements parts) } ∷ joined (map statements parts)
-unfolding statements
-node_placed h parts =
-    ap statements (sym (rolls-Node h parts))
-    ∙ fold-roll-CoreTree (List Placed) node_statements (CoreTree-F.Node h parts)
 
 module _ (H : Head → Type 0) (plain : (h : Head) → IsPlain h → H h) where
   fits_append : (a b : List Placed) → AllByRecursion (PlacedFits H) a →

@@ -1,7 +1,6 @@
 -- What the objects of file scope of a sound text start at lies in the ranges of their types.
-use Rattle.std.proofs.Common.{◌≡◌, ℕ, Bool, true, false, ◌&&◌, ◌||◌, not, List, []}
-use Rattle.std.proofs.Common.{◌∷◌, ◌++◌, map, Option, None, Some, refl, ap}
-use Rattle.std.proofs.Common.{sym, ◌∙◌, subst, inl, ℤ, pos}
+use Rattle.std.proofs.Common.{◌≡◌, ℕ, Bool, true, false, ◌&&◌, ◌||◌, not, List, [], ◌∷◌, ◌++◌, map}
+use Rattle.std.proofs.Common.{Option, None, Some, refl, ap, sym, ◌∙◌, subst, ℤ, pos}
 use Rattle.std.specs.Prelude.{unwrap_or, option_map, is_some, find, cond}
 use Rattle.std.specs.List.{AllByRecursion, flat_map}
 use Rattle.std.specs.Str.{bytes_eq}
@@ -31,23 +30,20 @@ use Rattle.c_rules.specs.declared.typed.Global.{Global}
 use Rattle.c_rules.specs.Names.{Text, declared_as}
 use Rattle.c_rules.specs.ExpressionRules.{broken, uses_faults}
 use Rattle.c_rules.specs.Declarations.{kind_of, items_of, constant_number, length_faults}
-use Rattle.c_rules.specs.Declarations.{length_uses}
-use Rattle.c_rules.specs.Declarations.{void_object, void_parameter}
+use Rattle.c_rules.specs.Declarations.{length_uses, void_object, void_parameter}
 use Rattle.c_rules.specs.Items.{Before, text_of, one_type, merged_object, redeclares_object}
-use Rattle.c_rules.specs.Items.{global_of}
-use Rattle.c_rules.specs.Items.{global_behind, redeclared_object, start_faults, global_faults}
-use Rattle.c_rules.specs.Items.{globals_behind, globals_faults, merged_function}
-use Rattle.c_rules.specs.Items.{redeclares_function}
-use Rattle.c_rules.specs.Items.{redeclared_function, function_behind, head_faults, parameter_types}
-use Rattle.c_rules.specs.Items.{body_sites, body_faults, body_behind, item_behind, item_faults}
-use Rattle.c_rules.specs.Items.{items_faults, nothing_before, listed, same_length}
+use Rattle.c_rules.specs.Items.{global_of, global_behind, redeclared_object, start_faults}
+use Rattle.c_rules.specs.Items.{global_faults, globals_behind, globals_faults, merged_function}
+use Rattle.c_rules.specs.Items.{redeclares_function, redeclared_function, function_behind}
+use Rattle.c_rules.specs.Items.{head_faults, parameter_types, body_sites, body_faults, body_behind}
+use Rattle.c_rules.specs.Items.{item_behind, item_faults, items_faults, nothing_before, listed}
+use Rattle.c_rules.specs.Items.{same_length}
 use Rattle.c_rules.specs.Sound.{Sound, Start, start_of, starts_in, item_starts, starts_of}
 use Rattle.c_rules.specs.Sound.{items_behind, object_names, object_in, start_values, global_named}
-use Rattle.c_rules.specs.Sound.{unit_globals, unit_faults, without_main}
-use Rattle.c_core_laws.specs.lemmas.Faults.{NoFaults, among_left, none_left, none_right}
-use Rattle.c_core_laws.specs.lemmas.Faults.{not_broken}
-use Rattle.c_core_laws.specs.lemmas.Entries.{push_named, push_other}
-use Rattle.c_core_laws.proofs.Heights.{type_same}
+use Rattle.c_rules.specs.Sound.{unit_globals}
+use Rattle.c_core_laws.specs.lemmas.Faults.{NoFaults, none_left, none_right, not_broken, no_fault}
+use Rattle.c_core_laws.specs.lemmas.Entries.{push_named, push_other, same_object}
+use Rattle.c_core_laws.specs.lemmas.MadeValues.{type_same}
 
 first_of_five : (a b c d e : List TextFault) → NoFaults (a ++ b ++ c ++ d ++ e) → NoFaults a
 first_of_five a b c d e none =
@@ -397,10 +393,6 @@ FoundFits names name o =
     → declared_as names name ≡ Some (declared.Object object initialized)
     → AllByRecursion (IsInRange object.ty) (unwrap_or (option_map (λ (s : Start). s.values) o) [])
 
-same_object : (a b : Object) (i j : Bool) →
-    Some (declared.Object a i) ≡ Some (declared.Object b j) → a ≡ b
-same_object a b i j is = cc
-
 found_by : (b : Bool) (names : List Entry) (name : List ℕ) (s : Start) (rest : Option Start) →
     bytes_eq s.name name ≡ b → Fits names s → FoundFits names name rest →
     FoundFits names name (cond b (Some s) rest)
@@ -442,13 +434,6 @@ all_named names starts [] h = tt
 all_named names starts (name ∷ all) h =
     append_globals (global_named names starts name) (flat_map (global_named names starts) all)
     (named_fits names starts name (declared_as names name) refl h) (all_named names starts all h)
-
-pub no_fault : (tree : UnitTree) → Sound tree →
-    NoFaults (items_faults (text_of tree.items) tree.items nothing_before)
-unfolding unit_faults
-no_fault tree sound fault among =
-    sound fault (inl (inl (among_left fault
-    (items_faults (text_of tree.items) tree.items nothing_before) (without_main tree) among)))
 
 pub globals_fit : (tree : UnitTree) → Sound tree → AllByRecursion InRange (unit_globals tree)
 globals_fit tree sound =

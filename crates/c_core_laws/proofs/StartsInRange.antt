@@ -1,10 +1,8 @@
 -- The cells of the core of a sound text start in the ranges of their types.
-use Rattle.std.proofs.Common.{◌≡◌, ℕ, zero, suc, List, [], ◌∷◌, ◌++◌, map, take, replicate}
-use Rattle.std.proofs.Common.{ℤ, pos, refl, sym, subst, arith}
+use Rattle.std.proofs.Common.{◌≡◌, ℕ, zero, suc, List, [], ◌∷◌, ◌++◌, map, take, replicate, ℤ, pos}
+use Rattle.std.proofs.Common.{refl, sym, subst}
 use Rattle.std.specs.List.{AllByRecursion}
-use Rattle.std.proofs.lemmas.Int.{ints}
 use Rattle.cpa_ints.specs.declared.integers.IntType.{IntType}
-use Rattle.cpa_ints.specs.declared.integers.IntType.TheVariants as ty
 use Rattle.cpa_ints.specs.Integers.{IsInRange}
 use Rattle.cpa_model.specs.declared.program.Cell.{Cell}
 use Rattle.cpa_model.specs.declared.program.Program.{Program}
@@ -19,17 +17,7 @@ use Rattle.c_core_rules.specs.Programs.{IsCore, text_core}
 use Rattle.c_core_laws.proofs.Following.{zero_cell}
 use Rattle.c_core_laws.proofs.LaidOut.{core_extends}
 use Rattle.c_core_laws.proofs.StartsFit.{InRange, globals_fit}
-
-zero_in_range : (t : IntType) → IsInRange t (pos 0)
-zero_in_range ty.Bool = (omega (arith, ints), omega (arith, ints))
-zero_in_range ty.I8 = (omega (arith, ints), omega (arith, ints))
-zero_in_range ty.U8 = (omega (arith, ints), omega (arith, ints))
-zero_in_range ty.I16 = (omega (arith, ints), omega (arith, ints))
-zero_in_range ty.U16 = (omega (arith, ints), omega (arith, ints))
-zero_in_range ty.I32 = (omega (arith, ints), omega (arith, ints))
-zero_in_range ty.U32 = (omega (arith, ints), omega (arith, ints))
-zero_in_range ty.I64 = (omega (arith, ints), omega (arith, ints))
-zero_in_range ty.U64 = (omega (arith, ints), omega (arith, ints))
+use Rattle.c_core_laws.specs.lemmas.MadeValues.{zero_in_range}
 
 abbrev CellInRange : Cell → Type 0
 CellInRange c = IsInRange c.ty c.start

@@ -29,44 +29,21 @@ use Rattle.c_core_rules.specs.Cells as core
 use Rattle.c_core_rules.specs.Expressions as rows
 use Rattle.c_core_rules.specs.Statements as statement
 use Rattle.c_core_laws.proofs.Sums.{size_is}
-use Rattle.c_core_laws.proofs.Following.{Follows, View, of_trees, trees_size, tree_size}
-use Rattle.c_core_laws.proofs.Following.{types, given, seen, zero_cell}
+use Rattle.c_core_laws.proofs.Following.{Follows, View, of_trees, trees_size, tree_size, types}
+use Rattle.c_core_laws.proofs.Following.{given, seen, zero_cell}
 use Rattle.c_core_laws.proofs.Sized.{behind_sized, joined_sized, none_sized, more_sized, only_sized}
 use Rattle.c_core_laws.proofs.Sized.{leaf_sized, choice_sized, set_sized}
 use Rattle.c_core_laws.proofs.Rules.{followed, freshly, ordered, EachFollows, no_rule, one_more}
 use Rattle.c_core_laws.proofs.ActsCounted.{set_own}
 use Rattle.c_core_laws.proofs.RowsCounted.{frame_heads, trees_given}
 use Rattle.c_core_laws.proofs.ExpressionsCounted.{expression_follows}
+use Rattle.c_core_laws.specs.lemmas.ObjectCells.{object_types}
 
 -- what has nothing to count
 abbrev pub of_any : (S : Type 0) → View S (Unit {0})
 of_any S = record { count = λ x. tt }
 
 -- objects take cells of their types
-
-each_type : (t : IntType) (values : List ℤ) →
-    map (λ (cell : Cell). cell.ty) (map (core.cell t) values) ≡ replicate (length values) t
-each_type t [] = refl
-each_type t (n ∷ values) = ap (λ ts. t ∷ ts) (each_type t values)
-
-zeros_taken : (n m : ℕ) → n ≤ m → length (take n (replicate m (pos 0))) ≡ n
-zeros_taken zero m h = refl
-zeros_taken (suc n) zero h = absurd (omega arith)
-zeros_taken (suc n) (suc m) h = ap suc (zeros_taken n m (omega arith))
-
-values_taken : (n m : ℕ) (values : List ℤ) → n ≤ m →
-    length (take n (values ++ replicate m (pos 0))) ≡ n
-values_taken n m [] h = zeros_taken n m h
-values_taken zero m (v ∷ values) h = refl
-values_taken (suc n) m (v ∷ values) h = ap suc (values_taken n m values (omega arith))
-
-object_types : (object : Object) (values : List ℤ) →
-    map (λ (cell : Cell). cell.ty) (cells_with object.ty (cells_of object) values)
-    ≡ replicate (cells_of object) object.ty
-object_types object values =
-    let n = cells_of object in
-    each_type object.ty (take n (values ++ replicate n (pos 0)))
-    ∙ ap (λ m. replicate m object.ty) (values_taken n n values (omega arith))
 
 pub taking_types : (object : Object) (values : List ℤ) (taken : Taken) →
     types (core.taking object values taken).taken

@@ -1,4 +1,5 @@
--- Where the cells of a text's objects and functions begin, and what they start at.
+-- Where the cells of a text's objects and functions begin, and what they start at (this
+-- project's own, for C11 6.2.4 and 6.7.9).
 use Rattle.std.specs.Prelude.{◌≡◌, ℕ, List, [], ◌∷◌, length, map, None, Some, slice_get}
 use Rattle.std.specs.List.{AllByRecursion}
 use Rattle.cpa_ints.specs.declared.integers.IntType.{IntType}

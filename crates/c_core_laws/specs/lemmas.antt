@@ -5,3 +5,7 @@ pub mod CoreLayers
 pub mod CoreItems
 pub mod Faults
 pub mod Entries
+pub mod MadeValues
+pub mod ObjectCells
+pub mod BodyCounts
+pub mod Nodes

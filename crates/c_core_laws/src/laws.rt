@@ -1,4 +1,5 @@
 //! Laws on the core of a typed text: functions with an empty body, whose contract is the law.
+//! The laws are stated in `specs/Laws.antt` and proved in `proofs/`.
 ghost use Rattle.c_core_laws.specs.Laws.{CoresAreCounted, CoresAreNumbered, CoresAreSmall, OneCore};
 ghost use Rattle.c_core_laws.specs.Laws.{CellsStartInRange, CoresHaveAMain, JumpsAreKept};
 ghost use Rattle.c_core_laws.specs.Laws.{FramesAreThere, TextsAreLaidOut, JumpsAreSound, StatementsAreOfTrees};

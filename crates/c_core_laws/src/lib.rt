@@ -1,5 +1,5 @@
-//! Laws of the core of a typed text, `c_core_rules`: there is one, and its cells, points and heights
-//! are those that the rules on numbers count. Proved in `proofs/`.
+//! Laws of the core of a typed text, `c_core_rules`: there is one, and its cells, points and
+//! heights are those that the rules on numbers count. Proved in `proofs/`.
 #![tactic(auto)]
 
 mod laws;

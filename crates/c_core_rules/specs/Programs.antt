@@ -92,8 +92,8 @@ unfoldable pub text_core : TypedUnit → Made Trees
 text_core unit =
     text_rule (frames_of unit.first_cells unit.functions) unit.globals unit.functions nothing_taken
 
--- P is the program of a typed text: the cells that the rules take, the statements of its functions in
--- the order of the text, and main
+-- P is the program of a typed text: the cells that the rules take, the statements of its functions
+-- in the order of the text, and main
 pub record IsCore (unit : TypedUnit) (P : Program) : Type 0 where
   pub cells : P.cells ≡ (text_core unit).taken.cells
   pub bodies : P.bodies ≡ numbers_from 0 (map (λ tree. length (statements tree))

@@ -24,15 +24,15 @@ use Rattle.c_rules.specs.Counts.{cells_of}
 use Rattle.c_rules.specs.ExpressionRules.{broken, uses_faults}
 use Rattle.c_rules.specs.Declarations.{kind_of, items_of, length_faults, length_uses, void_object}
 use Rattle.c_rules.specs.Declarations.{void_parameter}
-use Rattle.c_rules.specs.Items.{Before, one_type, merged_object, redeclares_object}
-use Rattle.c_rules.specs.Items.{global_of, global_behind, redeclared_object, start_faults}
-use Rattle.c_rules.specs.Items.{global_faults, same_kind, merged_function, redeclares_function}
-use Rattle.c_rules.specs.Items.{parameter_types, redeclared_function, function_behind, head_faults}
-use Rattle.c_rules.specs.Items.{listed, agreeing_parameters}
+use Rattle.c_rules.specs.Items.{Before, one_type, merged_object, redeclares_object, global_of}
+use Rattle.c_rules.specs.Items.{global_behind, redeclared_object, start_faults, global_faults}
+use Rattle.c_rules.specs.Items.{same_kind, merged_function, redeclares_function, parameter_types}
+use Rattle.c_rules.specs.Items.{redeclared_function, function_behind, head_faults, listed}
+use Rattle.c_rules.specs.Items.{agreeing_parameters}
 use Rattle.c_core_laws.specs.lemmas.Faults.{NoFaults, none_left, none_right, not_broken}
 use Rattle.c_core_laws.specs.lemmas.Entries.{push_named, push_other}
 use Rattle.c_core_sound.specs.Whole.{whole_length}
-use Rattle.c_core_sound.proofs.TypedValues.{type_same}
+use Rattle.c_core_laws.specs.lemmas.MadeValues.{type_same}
 use Rattle.c_core_sound.proofs.Lengths.{enough}
 use Rattle.c_core_sound.proofs.Entries.{pushed_by}
 use Rattle.c_core_sound.proofs.Running.{DeclaredBelow, Below, below_push, below_higher}

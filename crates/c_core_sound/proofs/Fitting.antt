@@ -1,8 +1,8 @@
 -- Rules that make well typed trees and values, whatever is taken before them, where what is taken
 -- behind them is the first part of the cells of a program.
-use Rattle.std.proofs.Common.{◌≡◌, ℕ, ◌<◌, ◌≤◌, Bool, true, false, if◌then◌else◌, List, []}
-use Rattle.std.proofs.Common.{◌∷◌, ◌++◌, map, length, Option, Some, refl, ap, sym, ◌∙◌, subst}
-use Rattle.std.proofs.Common.{slice_get, append_assoc, pos}
+use Rattle.std.proofs.Common.{◌≡◌, ℕ, ◌<◌, ◌≤◌, Bool, true, false, if◌then◌else◌, List, [], ◌∷◌}
+use Rattle.std.proofs.Common.{◌++◌, map, length, Option, Some, refl, ap, sym, ◌∙◌, subst, slice_get}
+use Rattle.std.proofs.Common.{append_assoc, pos}
 use Rattle.std.specs.List.{AllByRecursion}
 use Rattle.std.proofs.lemmas.List.{append-nil, map-append, length-map}
 use Rattle.cpa_ints.specs.declared.integers.IntType.{IntType}
@@ -11,9 +11,7 @@ use Rattle.cpa_expr.specs.Shape.{type_of, AreCells, IsTyped}
 use Rattle.cpa_model.specs.declared.program.Cell.{Cell}
 use Rattle.cpa_model.specs.Expressions.{types_of}
 use Rattle.c_core_rules.specs.declared.tree.CoreTree.{CoreTree}
-use Rattle.c_core_rules.specs.declared.tree.CoreTree.TheOpen.{CoreTree-F}
-use Rattle.c_core_rules.specs.declared.tree.CoreTree.TheVariants.{Node, rolls-Node}
-use Rattle.c_core_rules.specs.declared.tree.CoreTree.TheFolds.{fold-roll-CoreTree}
+use Rattle.c_core_rules.specs.declared.tree.CoreTree.TheVariants.{Node}
 use Rattle.c_core_rules.specs.declared.tree.Head.{Head}
 use Rattle.c_core_rules.specs.declared.tree.Head.TheVariants as head
 use Rattle.c_core_rules.specs.declared.tree.Location.{Location}
@@ -21,8 +19,10 @@ use Rattle.c_core_rules.specs.Values.{cell_at, conv, first_index}
 use Rattle.c_core_rules.specs.Trees.{Trees, leaf, block, choice, repeated, write, set}
 use Rattle.c_core_rules.specs.Cells.{Taken}
 use Rattle.c_core_rules.specs.Cells as core
-use Rattle.c_core_rules.specs.Programs.{Placed, joined, node_statements, statements}
-use Rattle.c_core_sound.proofs.TypedValues.{PlaceFits, conv_typed, conv_type, zero_typed, cell_fits}
+use Rattle.c_core_rules.specs.Programs.{Placed, joined, statements}
+use Rattle.c_core_laws.specs.lemmas.MadeValues.{conv_type}
+use Rattle.c_core_laws.specs.lemmas.Nodes.{node_placed}
+use Rattle.c_core_sound.proofs.TypedValues.{PlaceFits, conv_typed, zero_typed, cell_fits}
 use Rattle.cpa_ints.specs.declared.integers.IntType.TheVariants as ty
 
 -- what a function stands in: the types of all cells of the program, the bodies that are called in
@@ -56,14 +56,6 @@ pub record TreeFits (G : Ground) (t : CoreTree) : Type 0 where
 
 abbrev pub TreesFit : Ground → Trees → Type 0
 TreesFit G trees = AllByRecursion (TreeFits G) trees
-
-node_placed : (h : Head) (parts : Trees) →
-    statements (Node h parts)
-    ≡ record { head = h; sizes = map length (map statements parts) } ∷ joined (map statements parts)
-unfolding statements
-node_placed h parts =
-    ap statements (sym (rolls-Node h parts))
-    ∙ fold-roll-CoreTree (List Placed) node_statements (CoreTree-F.Node h parts)
 
 module _ (G : Ground) where
   placed_append : (a b : List Placed) → PlacedFit G a → PlacedFit G b → PlacedFit G (a ++ b)
@@ -115,7 +107,7 @@ module _ (G : Ground) where
         p.some,
         h,
         conv_typed G.cells v place.ty k,
-        subst (AreCells G.cells place.base place.len) (sym (conv_type G.cells v place.ty)) p.there,
+        subst (AreCells G.cells place.base place.len) (sym (conv_type v place.ty)) p.there,
       )
 
   pub set_fits : (place : Location) (v : Expr) → PlaceFits G.cells place → IsTyped G.cells v →

@@ -1,8 +1,7 @@
 -- The objects of file scope begin where their cells are taken.
 use Rattle.std.proofs.Common.{◌≡◌, ℕ, ◌≤◌, ◌==◌, Bool, true, false, not, ◌&&◌, ◌||◌, List, [], ◌∷◌}
-use Rattle.std.proofs.Common.{◌++◌}
-use Rattle.std.proofs.Common.{Option, None, Some, refl, ap, sym, ◌∙◌, subst, inl, inr, map, length}
-use Rattle.std.proofs.Common.{if◌then◌else◌}
+use Rattle.std.proofs.Common.{◌++◌, Option, None, Some, refl, ap, sym, ◌∙◌, subst, inl, inr, map}
+use Rattle.std.proofs.Common.{length, if◌then◌else◌}
 use Rattle.std.specs.Prelude.{◌⊎◌}
 use Rattle.std.specs.List.{flat_map, list_any}
 use Rattle.std.specs.Str.{bytes_eq}
@@ -27,6 +26,7 @@ use Rattle.c_core_sound.proofs.FittingRows.{Begins}
 use Rattle.c_core_sound.proofs.ReadParts.{no_two}
 use Rattle.c_core_sound.proofs.RunDeclarations.{taken_extends, taken_begins}
 use Rattle.c_core_sound.proofs.FileNames.{FileScope}
+use Rattle.c_core_laws.specs.lemmas.Entries.{same_object}
 
 globals_extend : (globals : List Global) (taken : Taken) →
     Extends taken (receiving_globals globals taken).taken
@@ -122,10 +122,6 @@ only_append [] b object h k = k
 only_append (g ∷ a) b object h k = (h.0, only_append a b object h.1 k)
 
 -- each of the globals of these names is what its name stands for
-same_object : (a b : Object) (i j : Bool) →
-    Some (declared.Object a i) ≡ Some (declared.Object b j) → a ≡ b
-same_object a b i j is = cc
-
 named_only : (names : List Entry) (objects : ℕ) (starts : List Start) (f : FileScope names objects)
     (name : List ℕ) (object : Object) (i : Bool) →
     declared_as names name ≡ Some (declared.Object object i) → (other : List ℕ)

@@ -1,8 +1,7 @@
 -- The rules of declarations and of expressions in statements make well typed trees.
-use Rattle.std.proofs.Common.{◌≡◌, ℕ, zero, suc, ◌+◌, ◌-◌, ◌<◌, ◌≤◌, true}
-use Rattle.std.proofs.Common.{List, [], ◌∷◌, ◌++◌, map, length, take, replicate, Option, None, Some}
-use Rattle.std.proofs.Common.{refl, ap, sym, ◌∙◌, arith, inl, inr, ℤ, pos, slice_get, append_assoc}
-use Rattle.std.proofs.Common.{add_assoc}
+use Rattle.std.proofs.Common.{◌≡◌, ℕ, zero, suc, ◌+◌, ◌-◌, ◌<◌, ◌≤◌, true, List, [], ◌∷◌, ◌++◌, map}
+use Rattle.std.proofs.Common.{length, replicate, Option, None, Some, refl, ap, sym, ◌∙◌, arith, inl}
+use Rattle.std.proofs.Common.{inr, ℤ, pos, slice_get, append_assoc, add_assoc}
 use Rattle.std.specs.Prelude.{◌⊎◌, option_map, if◌then◌else◌}
 use Rattle.std.specs.List.{AllByRecursion}
 use Rattle.std.proofs.lemmas.List.{map-append, length-map}
@@ -45,44 +44,19 @@ use Rattle.c_core_laws.specs.lemmas.Faults.{NoFaults, none_left, none_right}
 use Rattle.c_core_sound.specs.Whole.{is_whole, all_whole, whole_length, whole_declarator}
 use Rattle.c_core_sound.proofs.TypedValues.{PlaceFits, cell_fits, cell_below, zero_typed}
 use Rattle.c_core_sound.proofs.Fitting.{Ground, TreesFit, append_fits, push_fits, leaf_fits}
-use Rattle.c_core_sound.proofs.Fitting.{set_fits}
-use Rattle.c_core_sound.proofs.Fitting.{Extends, Within, Fits, fits_gives, fits_then, fits_weaker}
-use Rattle.c_core_sound.proofs.Fitting.{EachFits, none_fits, more_fit, fits_ordered}
+use Rattle.c_core_sound.proofs.Fitting.{set_fits, Extends, Within, Fits, fits_gives, fits_then}
+use Rattle.c_core_sound.proofs.Fitting.{fits_weaker, EachFits, none_fits, more_fit, fits_ordered}
 use Rattle.c_core_sound.proofs.FittingRows.{Begins, GoodRule}
 use Rattle.c_core_sound.proofs.ReadExpressions.{and_left, and_right}
 use Rattle.c_core_sound.proofs.Lengths.{Enough, items_count, enough}
 use Rattle.c_core_sound.proofs.Running.{known_push, below_push, world, Below, below_higher}
-use Rattle.c_core_sound.proofs.Running.{known_kept, Runs, runs_then}
-use Rattle.c_core_sound.proofs.Running.{runs_gives, runs_fits, runs_weaker}
+use Rattle.c_core_sound.proofs.Running.{known_kept, Runs, runs_then, runs_gives, runs_fits}
+use Rattle.c_core_sound.proofs.Running.{runs_weaker}
 use Rattle.c_core_sound.proofs.Sites.{SitesFit, sites_left, sites_right, FunctionsFit}
-use Rattle.c_core_sound.proofs.Sites.{functions_push}
-use Rattle.c_core_sound.proofs.Sites.{value_rule}
+use Rattle.c_core_sound.proofs.Sites.{functions_push, value_rule}
+use Rattle.c_core_laws.specs.lemmas.ObjectCells.{object_types}
 
 -- an object takes its cells
-
-each_type : (t : IntType) (values : List ℤ) →
-    types_of (map (core.cell t) values) ≡ replicate (length values) t
-each_type t [] = refl
-each_type t (n ∷ values) = ap (λ ts. t ∷ ts) (each_type t values)
-
-zeros_taken : (n m : ℕ) → n ≤ m → length (take n (replicate m (pos 0))) ≡ n
-zeros_taken zero m h = refl
-zeros_taken (suc n) zero h = absurd (omega arith)
-zeros_taken (suc n) (suc m) h = ap suc (zeros_taken n m (omega arith))
-
-values_taken : (n m : ℕ) (values : List ℤ) → n ≤ m →
-    length (take n (values ++ replicate m (pos 0))) ≡ n
-values_taken n m [] h = zeros_taken n m h
-values_taken zero m (v ∷ values) h = refl
-values_taken (suc n) m (v ∷ values) h = ap suc (values_taken n m values (omega arith))
-
-object_types : (object : Object) (values : List ℤ) →
-    types_of (cells_with object.ty (cells_of object) values)
-    ≡ replicate (cells_of object) object.ty
-object_types object values =
-    let n = cells_of object in
-    each_type object.ty (take n (values ++ replicate n (pos 0)))
-    ∙ ap (λ m. replicate m object.ty) (values_taken n n values (omega arith))
 
 taken_types : (object : Object) (values : List ℤ) (taken : Taken) →
     types_of (core.taking object values taken).taken.cells

@@ -1,9 +1,7 @@
 -- The core of a sound text is well formed (`core_sound`).
 use Rattle.std.proofs.Common.{◌≡◌, ℕ, zero, suc, ◌+◌, ◌<◌, ◌≤◌, max, Bool, true, false, List, []}
-use Rattle.std.proofs.Common.{◌∷◌}
-use Rattle.std.proofs.Common.{◌++◌, map, length, Option, None, Some, refl, ap, sym, ◌∙◌, subst}
-use Rattle.std.proofs.Common.{arith}
-use Rattle.std.proofs.Common.{slice_get, inl, inr}
+use Rattle.std.proofs.Common.{◌∷◌, ◌++◌, map, length, Option, None, Some, refl, ap, sym, ◌∙◌, subst}
+use Rattle.std.proofs.Common.{arith, slice_get, inl, inr}
 use Rattle.std.specs.List.{AllByRecursion, flat_map}
 use Rattle.std.proofs.lemmas.Option.{none-some, same_Some, slice_get_within}
 use Rattle.std.proofs.lemmas.List.{append-nil, length-map}
@@ -18,6 +16,7 @@ use Rattle.cpa_model.specs.declared.program.Program.{Program}
 use Rattle.cpa_model.specs.Expressions.{types_of}
 use Rattle.cpa_model.specs.Programs.{IsStmt, IsSound, InFunction, Reaches, reaches_call}
 use Rattle.cpa_model.specs.Programs.{reaches_through, IsNumbered, IsWellFormed}
+use Rattle.cpa_model.specs.lemmas.EdgesSound.{all_at}
 use Rattle.cpa_model.specs.lemmas.Trees.{one_function}
 use Rattle.c_lexer.specs.declared.fault.Rule.TheVariants as rule
 use Rattle.c_tree.specs.declared.statement.BlockItem.{BlockItem}
@@ -43,16 +42,15 @@ use Rattle.c_rules.specs.Items.{listed}
 use Rattle.c_rules.specs.Recursion.{Among, Calls, Through}
 use Rattle.c_rules.specs.Recursion as recursion
 use Rattle.c_rules.specs.Sound.{Sound, typed_unit, typed_parts, unit_globals, unit_functions}
-use Rattle.c_rules.specs.Sound.{unit_faults, unit_calls, without_main, items_behind, starts_of}
+use Rattle.c_rules.specs.Sound.{unit_calls, items_behind, starts_of}
 use Rattle.c_core_rules.specs.declared.tree.CoreTree.{CoreTree}
 use Rattle.c_core_rules.specs.declared.tree.Head.{Head}
 use Rattle.c_core_rules.specs.declared.tree.Head.TheVariants as head
 use Rattle.c_core_rules.specs.Trees.{Trees}
-use Rattle.c_core_rules.specs.Cells.{Rule, Taken, Made, each, nothing_taken}
+use Rattle.c_core_rules.specs.Cells.{Made, each, nothing_taken}
 use Rattle.c_core_rules.specs.Expressions.{Frame, Frames, frame_at}
 use Rattle.c_core_rules.specs.Statements.{function_rule, receiving_globals}
 use Rattle.c_core_rules.specs.Programs.{IsCore, Placed, statements, stmt_of, text_core, frames_of}
-use Rattle.c_core_rules.specs.Programs.{numbers_from}
 use Rattle.c_core_laws.specs.Sizes.{stmt_height}
 use Rattle.c_core_laws.specs.Starts.{FrameStands}
 use Rattle.c_core_laws.specs.Standing.{IsOfTree}
@@ -60,7 +58,8 @@ use Rattle.c_core_laws.specs.Jumps.{JumpIsSound}
 use Rattle.c_core_laws.specs.lemmas.SameWalk.{same_walk}
 use Rattle.c_core_laws.specs.Laws.{FramesAreThere, StatementsAreOfTrees, CoresAreNumbered}
 use Rattle.c_core_laws.specs.Laws.{CoresAreSmall, JumpsAreSound, CoresHaveAMain, CellsStartInRange}
-use Rattle.c_core_laws.specs.lemmas.Faults.{NoFaults, none_left, none_right, among_left}
+use Rattle.c_core_laws.specs.lemmas.Faults.{NoFaults, none_left, none_right, no_fault}
+use Rattle.c_core_laws.specs.lemmas.BodyCounts.{bodies_are}
 use Rattle.c_core_sound.specs.Whole.{IsWhole, all_whole, whole_block_item, whole_declarator}
 use Rattle.c_core_sound.specs.Whole.{whole_item}
 use Rattle.c_core_sound.proofs.TypedValues.{cell_fits}
@@ -75,12 +74,6 @@ use Rattle.c_core_sound.proofs.Bodies.{FoundBody, Single, found_body, frames_sin
 use Rattle.c_core_sound.proofs.Bodies.{single_at}
 
 -- statements by the heads of their trees
-
-all_at : {X : Type 0} (P : X → Type 0) (xs : List X) (i : ℕ) (x : X) → AllByRecursion P xs →
-    slice_get xs i ≡ Some x → P x
-all_at P [] i x all e = absurd (none-some x e)
-all_at P (y ∷ xs) zero x all e = subst P (same_Some y x e) all.0
-all_at P (y ∷ xs) (suc i) x all e = all_at P xs i x all.1 e
 
 no_further : (n : ℕ) → n ≡ n + 0
 no_further n = omega arith
@@ -196,13 +189,6 @@ callee all frames bodies functions last name result ps d is body many found stan
     }
 
 -- a sound text, opened
-
-no_fault : (tree : UnitTree) → Sound tree →
-    NoFaults (items_faults (text_of tree.items) tree.items nothing_before)
-unfolding unit_faults
-no_fault tree sound fault among =
-    sound fault (inl (inl (among_left fault
-    (items_faults (text_of tree.items) tree.items nothing_before) (without_main tree) among)))
 
 calls_are : (tree : UnitTree) →
     unit_calls tree ≡ items_calls (text_of tree.items) tree.items nothing_before
@@ -415,30 +401,6 @@ module _ (walks : (text : Text) (one : BlockItem) → (grown text one).walk ≡ 
       (λ f lands. call_sound tree P sound N bodies
       (ap (λ (u : TypedUnit). length u.functions) (sym (parts_are tree)) ∙ many) called r.function n
       f r.inside lands))
-
--- there is a body for each function
-
-numbers_length : (n : ℕ) (sizes : List ℕ) → length (numbers_from n sizes) ≡ length sizes
-numbers_length n [] = refl
-numbers_length n (size ∷ sizes) = ap suc (numbers_length (n + size) sizes)
-
-each_length : {S : Type 0} (rules : List (Rule S)) (taken : Taken) →
-    length (each rules taken).made ≡ length rules
-each_length [] taken = refl
-each_length (rule ∷ rules) taken = ap suc (each_length rules (rule taken).taken)
-
-bodies_are : (unit : TypedUnit) (P : Program) → IsCore unit P →
-    length P.bodies ≡ length unit.functions
-bodies_are unit P is =
-    let rules = map (function_rule (frames_of unit.first_cells unit.functions)) unit.functions in
-    let trees = (text_core unit).made in
-    let sizes = map (λ (tree : CoreTree). length (statements tree)) trees in
-    ap (λ (bodies : List ℕ). length bodies) is.bodies
-    ∙ numbers_length 0 sizes
-    ∙ length-map trees (λ (tree : CoreTree). length (statements tree))
-    ∙ ap (λ (m : Made Trees). length m.made) (open_made unit)
-    ∙ each_length rules (receiving_globals unit.globals nothing_taken).taken
-    ∙ length-map unit.functions (function_rule (frames_of unit.first_cells unit.functions))
 
 pub well_formed : FramesAreThere → StatementsAreOfTrees → CoresAreNumbered → CoresAreSmall →
     JumpsAreSound → CoresHaveAMain → CellsStartInRange → (tree : UnitTree) (P : Program) →

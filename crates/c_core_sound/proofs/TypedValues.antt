@@ -1,13 +1,11 @@
 -- Values that are made of well typed ones are well typed.
 use Rattle.std.proofs.Common.{◌≡◌, ℕ, ◌+◌, ◌≤◌, ◌<◌, ℤ, Bool, true, false, if◌then◌else◌, IsTrue}
-use Rattle.std.proofs.Common.{List, length, refl}
-use Rattle.std.proofs.Common.{ap, sym, ◌∙◌, arith, pos, Some, slice_get}
+use Rattle.std.proofs.Common.{List, length, refl, ap, sym, ◌∙◌, arith, pos, Some, slice_get}
 use Rattle.std.specs.Prelude.{nat_lt}
 use Rattle.std.proofs.lemmas.Int.{ints}
 use Rattle.std.proofs.lemmas.Option.{slice_get_within}
 use Rattle.cpa_ints.specs.declared.integers.IntType.{IntType}
 use Rattle.cpa_ints.specs.declared.integers.IntType.TheVariants as ty
-use Rattle.cpa_ints.specs.contracts.integers.IntType as int_type
 use Rattle.cpa_ints.specs.Integers.{IsInRange, width, is_signed}
 use Rattle.cpa_ints.specs.Conversions.{promoted, common_type}
 use Rattle.cpa_expr.specs.declared.tree.Expr.{Expr}
@@ -21,8 +19,7 @@ use Rattle.cpa_expr.specs.declared.tree.CmpOp.TheVariants as cmp
 use Rattle.cpa_expr.specs.Shape.{type_of, is_arithmetic, AreCells, IsTyped}
 use Rattle.cpa_expr.specs.Shape as shape
 use Rattle.cpa_expr.specs.Equality.{same_type}
-use Rattle.cpa_expr.specs.Laws.{type_at_variants, typed_at_variants}
-use denote.Enum.Bare.{same_true}
+use Rattle.cpa_expr.specs.Laws.{typed_at_variants}
 use Rattle.c_symbols.specs.declared.operators.BinaryOperator.{BinaryOperator}
 use Rattle.c_symbols.specs.declared.operators.BinaryOperator.TheVariants as binary
 use Rattle.c_tree.specs.declared.expression.UnaryOperator.{UnaryOperator}
@@ -30,9 +27,7 @@ use Rattle.c_tree.specs.declared.expression.UnaryOperator.TheVariants as unary
 use Rattle.c_core_rules.specs.declared.tree.Location.{Location}
 use Rattle.c_core_rules.specs.Values.{conv, promote, node_of, operator_value, signed_value}
 use Rattle.c_core_rules.specs.Values.{chosen_value, truth_of, int, element, scalar, cell_at}
-
-pub type_same : (t u : IntType) → same_type t u ≡ true → t ≡ u
-type_same = same_true int_type.the_type tt
+use Rattle.c_core_laws.specs.lemmas.MadeValues.{conv_type, zero_in_range}
 
 promoted_arithmetic : (t : IntType) → IsTrue (is_arithmetic (promoted t))
 promoted_arithmetic ty.Bool = refl
@@ -68,17 +63,6 @@ nothing_more n = omega arith
 first_only : (n i : ℕ) → i < 1 → n + i ≡ n
 first_only n i below = omega (arith, below)
 
-pub zero_in_range : (t : IntType) → IsInRange t (pos 0)
-zero_in_range ty.Bool = (omega (arith, ints), omega (arith, ints))
-zero_in_range ty.I8 = (omega (arith, ints), omega (arith, ints))
-zero_in_range ty.U8 = (omega (arith, ints), omega (arith, ints))
-zero_in_range ty.I16 = (omega (arith, ints), omega (arith, ints))
-zero_in_range ty.U16 = (omega (arith, ints), omega (arith, ints))
-zero_in_range ty.I32 = (omega (arith, ints), omega (arith, ints))
-zero_in_range ty.U32 = (omega (arith, ints), omega (arith, ints))
-zero_in_range ty.I64 = (omega (arith, ints), omega (arith, ints))
-zero_in_range ty.U64 = (omega (arith, ints), omega (arith, ints))
-
 module _ (cells : List IntType) where
   pub const_typed : (t : IntType) (n : ℤ) → IsInRange t n → IsTyped cells (expr.Const t n)
   const_typed t n h = (typed_at_variants.constant cells t n).1 h
@@ -96,14 +80,6 @@ module _ (cells : List IntType) where
 
   pub conv_typed : (v : Expr) (t : IntType) → IsTyped cells v → IsTyped cells (conv v t)
   conv_typed v t h = conv_by (same_type (type_of v) t) v t h
-
-  type_by : (b : Bool) (v : Expr) (t : IntType) → same_type (type_of v) t ≡ b →
-      type_of (if b then v else expr.Cast t v) ≡ t
-  type_by true v t is = type_same (type_of v) t is
-  type_by false v t is = type_at_variants.cast t v
-
-  pub conv_type : (v : Expr) (t : IntType) → type_of (conv v t) ≡ t
-  conv_type v t = type_by (same_type (type_of v) t) v t refl
 
   -- an operator of two operands of one type
   bin_typed : (o : BinOp) (t : IntType) (left right : Expr) → IsTrue (is_arithmetic t) →

@@ -1,4 +1,5 @@
 //! The laws of well-formed cores: functions that do nothing, whose contract is the law.
+//! Stated in `specs/Laws.antt`; proved in `proofs/TextWhole.antt` and `proofs/SoundCore.antt`.
 ghost use Rattle.c_core_sound.specs.Laws.{CoresAreWellFormed, TextsAreWhole, WholeCores};
 
 use c_core_laws::{

@@ -1,4 +1,5 @@
-//! The laws that the core of a sound text is well formed. Proved in `proofs/`.
+//! The laws that the core of a sound text is well formed, `IsWellFormed` of `cpa_model`.
+//! Stated in `specs/Laws.antt`, and proved in `proofs/`.
 #![tactic(auto)]
 
 mod laws;

@@ -3,8 +3,11 @@ use Rattle.std.proofs.Common.{◌≡◌, ◌<◌, ◌≤◌, ℕ, ◌+◌, List,
 use Rattle.std.proofs.Common.{◌++◌, refl, ap, sym, ◌∙◌, append_assoc, append-nil}
 use Rattle.std.proofs.lemmas.List.{at_drop_more, at_drop_all}
 use Rattle.c_core_rules.specs.Trees.{Trees}
-use Rattle.c_core_rules.specs.Cells.{Taken, Made, Rule, in_order}
-use Rattle.c_core_trees.specs.Rows.{in_behind}
+use Rattle.c_rules.specs.declared.typed.TypedFunction.{TypedFunction}
+use Rattle.c_core_rules.specs.Cells.{Taken, Made, Rule, each, in_order}
+use Rattle.c_core_rules.specs.Expressions.{Frames}
+use Rattle.c_core_rules.specs.Statements.{function_rule}
+use Rattle.c_core_trees.specs.Items.{in_behind}
 
 pub in_first : (rules : List (Rule Trees)) (taken : Taken) →
     in_behind [] rules taken ≡ in_order rules taken
@@ -63,3 +66,17 @@ pub in_done : {A : Type 0} (f : A → Rule Trees) (before : Trees) (xs : List A)
 in_done f before xs i taken whole h w =
     let e = sym (in_end f before xs i taken h) ∙ w in
     (ap (λ (m : Made Trees). m.taken) e, ap (λ (m : Made Trees). m.made) e)
+
+-- functions
+pub no_tree : (trees : Trees) → trees ++ [] ≡ trees
+no_tree trees = append-nil trees
+
+pub function_more : (frames : Frames) (before : Trees) (function : TypedFunction)
+    (functions : List TypedFunction) (taken : Taken) →
+    before ++ (each (map (function_rule frames) (function ∷ functions)) taken).made
+    ≡ (before ++ (function_rule frames function taken).made ∷ [])
+    ++ (each (map (function_rule frames) functions) (function_rule frames function taken).taken).made
+function_more frames before function functions taken =
+    let m = function_rule frames function taken in
+    let n = each (map (function_rule frames) functions) m.taken in
+    sym (append_assoc before (m.made ∷ []) n.made)

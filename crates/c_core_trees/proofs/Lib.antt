@@ -1,9 +1,3 @@
-pub mod Chains
-pub mod FramesAt
 pub mod InOrder
-pub mod Lists
-pub mod Passing
 pub mod Runs
 pub mod StatementForms
-pub mod Suffixes
-pub mod Variants

@@ -11,7 +11,7 @@ use Rattle.c_core_rules.specs.Trees.{Trees, input, set}
 use Rattle.c_core_rules.specs.Cells.{Taken, Made}
 use Rattle.c_core_rules.specs.Expressions.{Frames}
 use Rattle.c_core_rules.specs.Statements.{inputs, zeros, initialized, initialized_each}
-use Rattle.c_core_trees.specs.Rows.{in_behind}
+use Rattle.c_core_trees.specs.Items.{in_behind}
 use Rattle.c_core_trees.proofs.InOrder.{in_more, in_none}
 
 pub input_more : (before : Trees) (first count i : ℕ) → i < count →

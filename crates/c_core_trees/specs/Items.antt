@@ -1,13 +1,16 @@
--- Rules of statements on their own (`c_core_rules`, `specs/Statements.antt`).
-use Rattle.std.specs.Prelude.{[], Option, None, Some}
+-- Rules of statements on their own (`c_core_rules`, `specs/Statements.antt`), and rules that begin
+-- behind what is made already.
+use Rattle.std.specs.Prelude.{List, [], ◌∷◌, ◌++◌, Option, None, Some}
 use Rattle.c_rules.specs.declared.typed.TypedExpression.{TypedExpression}
+use Rattle.c_rules.specs.declared.typed.TypedForStart.{TypedForStart}
 use Rattle.c_rules.specs.declared.typed.TypedItem.TheFolds.{fold-TypedStatement}
 use Rattle.c_rules.specs.declared.typed.TypedStatement.{TypedStatement}
 use Rattle.c_core_rules.specs.declared.tree.Location.{Location}
-use Rattle.c_core_rules.specs.Trees.{Trees}
-use Rattle.c_core_rules.specs.Cells.{Rule, gives, then_by}
+use Rattle.c_core_rules.specs.Trees.{Trees, block, repeated}
+use Rattle.c_core_rules.specs.Cells.{Rule, gives, then_by, in_order}
 use Rattle.c_core_rules.specs.Expressions.{Frames, rows}
-use Rattle.c_core_rules.specs.Statements.{item_step, statement_step, leaving}
+use Rattle.c_core_rules.specs.Statements.{some_unused, started, leaving, left_unless}
+use Rattle.c_core_rules.specs.Statements.{item_step, statement_step}
 
 -- a statement of a function with its result in this place
 unfoldable pub statement_rule : Frames → Location → TypedStatement → Rule Trees
@@ -22,3 +25,23 @@ otherwise frames place (Some other) = statement_rule frames place other
 -- the way out of a loop with this test
 abbrev pub left : Frames → TypedExpression → Rule Trees
 left frames test = then_by (rows frames test).used (λ v. gives (leaving v))
+
+-- rules in order, behind what is made already
+unfoldable pub in_behind : Trees → List (Rule Trees) → Rule Trees
+in_behind before rules = then_by (in_order rules) (λ trees. gives (before ++ trees))
+
+-- a do behind its body
+abbrev pub do_behind : Frames → Trees → TypedExpression → Rule Trees
+do_behind frames inside test =
+    then_by (left frames test) (λ behind. gives (repeated inside behind ∷ []))
+
+-- what stands before the body of a for, and the for behind its body
+abbrev pub for_front : Frames → TypedForStart → Option TypedExpression → Rule (Trees × Trees)
+for_front frames first test =
+    then_by (started frames first) (λ before. then_by (left_unless frames test) (λ head.
+    gives (before, head)))
+
+abbrev pub for_behind : Frames → Trees × Trees → Trees → Option TypedExpression → Rule Trees
+for_behind frames front inside step =
+    then_by (some_unused frames step) (λ behind.
+    gives (block (front.0 ++ repeated (front.1 ++ inside) behind ∷ []) ∷ []))

@@ -7,8 +7,8 @@ ghost use Rattle.c_core_rules.specs.Statements.{function_rule, text_rule};
 ghost use Rattle.c_core_rules.specs.Programs.{frames_of};
 ghost use Rattle.c_core_values.specs.Found.{so_far};
 
-use crate::frames::Frames;
 use crate::statements::in_order;
+use c_core_expressions::Frames;
 use c_core_rules::CoreTree;
 use c_core_values::{Cells, block, cell_at, constant, joined, list_of, set};
 use c_rules::{Global, Kind, Object, TypedFunction};
@@ -82,7 +82,7 @@ fn function_tree(
 }
 
 /// Functions, in order.
-#[tactic(auto, using(crate::proofs::Lists::function_more, crate::proofs::Lists::no_tree))]
+#[tactic(auto, using(crate::proofs::InOrder::function_more, crate::proofs::InOrder::no_tree))]
 fn function_trees(
     cells: &mut Cells,
     frames: &Frames,

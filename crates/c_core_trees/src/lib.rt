@@ -2,11 +2,7 @@
 //! one function for each.
 #![tactic(auto)]
 
-mod calls;
-mod expressions;
-mod frames;
 mod functions;
-mod names;
 mod statements;
 
 pub use functions::{TextTrees, text_trees};

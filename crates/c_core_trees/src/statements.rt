@@ -1,6 +1,6 @@
 //! The core of statements (`statement_step` of `c_core_rules`, `specs/Statements.antt`), part by
 //! part. Proved with the lemmas of `proofs/StatementForms.antt` and `proofs/InOrder.antt`.
-ghost use Rattle.std.specs.Prelude.{◌≡◌, ◌+◌, ◌++◌, ◌∷◌, [], map, OnOk, IfOk};
+ghost use Rattle.std.specs.Prelude.{◌≡◌, ◌++◌, ◌∷◌, [], map, OnOk, IfOk};
 ghost use Rattle.c_core_rules.specs.Cells.{in_order};
 ghost use Rattle.c_core_rules.specs.Statements.{some_unused, initialized, inputs, zeros};
 ghost use Rattle.c_core_rules.specs.Statements.{initialized_each, initializing, declared};
@@ -10,10 +10,9 @@ ghost use Rattle.c_core_rules.specs.Trees.{set, block, repeated};
 ghost use Rattle.c_core_rules.specs.declared.tree.CoreTree.TheVariants.{Node};
 ghost use Rattle.c_core_rules.specs.declared.tree.Head.TheVariants as head;
 ghost use Rattle.c_core_values.specs.Found.{so_far};
-ghost use Rattle.c_core_trees.specs.Items.{statement_rule, left};
+ghost use Rattle.c_core_trees.specs.Items.{statement_rule, left, do_behind, for_front, for_behind};
 
-use crate::expressions::{chosen_unused, unused, used};
-use crate::frames::Frames;
+use c_core_expressions::{Frames, cell_behind, chosen_unused, unused, used};
 use c_core_rules::{CoreTree, Head, Location, Valued};
 use c_core_values::{
     Cells, block, cell_at, cells_of, constant, input, joined, leaf, list_of, repeated, set, with,
@@ -64,14 +63,6 @@ fn initialized(
 {
     let v = used(cells, frames, value)?;
     stored(frames.alloc(), place, v)
-}
-
-/// The cell behind so many others.
-pub(crate) fn cell_behind(first: u32, count: u128) -> Result<u32, AllocError>
-    ensures { IfOk result (λ cell. cell ≡ first + count) }
-{
-    let cell = u128::from(first).checked_add(count).ok_or(AllocError)?;
-    u32::try_from(cell).ok().ok_or(AllocError)
 }
 
 /// An input of each of so many cells from one on.
@@ -261,18 +252,103 @@ fn looped(
     list_of(alloc, tree)
 }
 
-/// A `for`, as a list.
-fn counted_loop(
+/// A `while`, by its test and its body.
+fn while_loop(
+    alloc: Global,
+    test: Seq<CoreTree>,
+    body: Seq<CoreTree>,
+) -> Result<Seq<CoreTree>, AllocError>
+    ensures { IfOk result (λ trees. trees ≡ repeated (test ++ body) [] ∷ []) }
+{
+    let turn = joined(test, body)?;
+    looped(alloc, turn, Seq::new(alloc))
+}
+
+/// A `do`, which tests behind its body.
+fn do_loop(
+    alloc: Global,
+    body: Seq<CoreTree>,
+    test: Seq<CoreTree>,
+) -> Result<Seq<CoreTree>, AllocError>
+    ensures { IfOk result (λ trees. trees ≡ repeated body test ∷ []) }
+{
+    looped(alloc, body, test)
+}
+
+/// A `for`, by what stands before it, its test, its body and its step.
+fn for_loop(
     alloc: Global,
     before: Seq<CoreTree>,
+    test: Seq<CoreTree>,
     body: Seq<CoreTree>,
     step: Seq<CoreTree>,
 ) -> Result<Seq<CoreTree>, AllocError>
-    ensures { IfOk result (λ trees. trees ≡ block (before ++ repeated body step ∷ []) ∷ []) }
+    ensures { IfOk result (λ trees. trees
+        ≡ block (before ++ repeated (test ++ body) step ∷ []) ∷ []) }
 {
-    let turns = repeated(alloc, body, step)?;
+    let turn = joined(test, body)?;
+    let turns = repeated(alloc, turn, step)?;
     let inside = with(before, turns)?;
     list_of(alloc, block(inside))
+}
+
+/// A `do` behind its body.
+fn do_behind(
+    cells: &mut Cells,
+    frames: &Frames,
+    body: Seq<CoreTree>,
+    test: &TypedExpression,
+) -> Result<Seq<CoreTree>, AllocError>
+    ensures taken { OnOk result (so_far cells.new
+        ≡ (do_behind frames.now body test.now (so_far cells.old)).taken) }
+    ensures made { IfOk result (λ trees. trees
+        ≡ (do_behind frames.now body test.now (so_far cells.old)).made) }
+{
+    let behind = left(cells, frames, test)?;
+    do_loop(frames.alloc(), body, behind)
+}
+
+/// What stands before the body of a `for`.
+#[derive(Drop)]
+struct ForFront {
+    start: Seq<CoreTree>,
+    test: Seq<CoreTree>,
+}
+
+/// What stands before the body of a `for`.
+fn for_front(
+    cells: &mut Cells,
+    frames: &Frames,
+    start: &TypedForStart,
+    test: &Option<TypedExpression>,
+) -> Result<ForFront, AllocError>
+    ensures taken { OnOk result (so_far cells.new
+        ≡ (for_front frames.now start.now test.now (so_far cells.old)).taken) }
+    ensures made { IfOk result (λ front. (front.start, front.test)
+        ≡ (for_front frames.now start.now test.now (so_far cells.old)).made) }
+{
+    let start = started(cells, frames, start)?;
+    let test = left_unless(cells, frames, test)?;
+    Ok(ForFront { start, test })
+}
+
+/// A `for` behind its body.
+fn for_behind(
+    cells: &mut Cells,
+    frames: &Frames,
+    front: ForFront,
+    body: Seq<CoreTree>,
+    step: &Option<TypedExpression>,
+) -> Result<Seq<CoreTree>, AllocError>
+    ensures taken { OnOk result (so_far cells.new
+        ≡ (for_behind frames.now (front.start, front.test) body step.now
+        (so_far cells.old)).taken) }
+    ensures made { IfOk result (λ trees. trees
+        ≡ (for_behind frames.now (front.start, front.test) body step.now
+        (so_far cells.old)).made) }
+{
+    let behind = some_unused(cells, frames, step)?;
+    for_loop(frames.alloc(), front.start, front.test, body, behind)
 }
 
 /// A return.
@@ -332,12 +408,11 @@ fn statement(
         TypedStatement::While { test, body } => {
             let head = left(cells, frames, test)?;
             let inside = statement(cells, frames, place, body.get())?;
-            looped(alloc, joined(head, inside)?, Seq::new(alloc))
+            while_loop(alloc, head, inside)
         }
         TypedStatement::Do { body, test } => {
             let inside = statement(cells, frames, place, body.get())?;
-            let behind = left(cells, frames, test)?;
-            looped(alloc, inside, behind)
+            do_behind(cells, frames, inside, test)
         }
         TypedStatement::For {
             start,
@@ -345,11 +420,9 @@ fn statement(
             step,
             body,
         } => {
-            let before = started(cells, frames, start)?;
-            let head = left_unless(cells, frames, test)?;
+            let front = for_front(cells, frames, start, test)?;
             let inside = statement(cells, frames, place, body.get())?;
-            let behind = some_unused(cells, frames, step)?;
-            counted_loop(alloc, before, joined(head, inside)?, behind)
+            for_behind(cells, frames, front, inside, step)
         }
         TypedStatement::Goto { label } => list_of(alloc, leaf(alloc, Head::Goto { label: *label })),
         TypedStatement::Break => list_of(alloc, leaf(alloc, Head::Break)),

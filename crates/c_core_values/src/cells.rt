@@ -1,5 +1,5 @@
 //! The cells taken so far, and where those of each object begin, found by hash (`c_core_rules`,
-//! `specs/Cells.antt`). Proved with `proofs/Begun.antt`.
+//! `specs/Cells.antt`). Proved with `proofs/Filled.antt`.
 ghost use Rattle.std.specs.Prelude.{◌≡◌, [], ◌∷◌, ◌++◌, length, IfOk, OnOk, None, Some};
 ghost use Rattle.c_rules.specs.declared.meaning.Meaning.TheVariants as meaning;
 ghost use Rattle.c_rules.specs.Counts.{cells_of};

@@ -1,5 +1,5 @@
 //! Any number of operands (`hold_all` of `c_core_rules`, `specs/Acts.antt`). Proved with
-//! `proofs/Operands.antt`.
+//! `proofs/HeldOperands.antt`.
 ghost use Rattle.std.specs.Prelude.{◌≡◌, IfOk, OnOk};
 ghost use Rattle.c_core_rules.specs.Acts.{hold_all, statements_of, values_of};
 ghost use Rattle.c_core_values.specs.Held.{full_count, left_behind, held_where};

@@ -8,7 +8,7 @@ use Rattle.c_rules.specs.Counts.{Heads, Size, Made, Rule, empty, both, in_order}
 use Rattle.c_rules.specs.Counts.{function_rule}
 use Rattle.c_rules.specs.Sound.{first_cells}
 use Rattle.c_counts.specs.Items.{in_behind}
-use Rattle.c_counts.proofs.Sums.{both_assoc, empty_both, both_empty}
+use Rattle.c_count_values.specs.lemmas.Sums.{both_assoc, empty_both, both_empty}
 
 pub in_first : (rules : List (Rule Size)) (cells : List IntType) →
     in_behind empty rules cells ≡ in_order rules cells

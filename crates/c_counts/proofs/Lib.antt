@@ -1,6 +1,4 @@
-pub mod Runs
 pub mod Parameters
-pub mod Sums
 pub mod Chains
 pub mod Lists
 pub mod Placed

@@ -5,7 +5,7 @@ use Rattle.std.proofs.lemmas.Bool.Decides.{nat_tests}
 use Rattle.cpa_ints.specs.declared.integers.IntType.{IntType}
 use Rattle.c_rules.specs.declared.typed.TypedFunction.{TypedFunction}
 use Rattle.c_rules.specs.Counts.{Heads, heads_of, head_at}
-use Rattle.c_counts.specs.Exact.{types_of}
+use Rattle.c_count_values.specs.Exact.{types_of}
 
 head_at_more : (head : List IntType) (heads : Heads) (n : ℕ) →
     head_at (head ∷ heads) (suc n) ≡ head_at heads n

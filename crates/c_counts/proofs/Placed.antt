@@ -9,7 +9,8 @@ use Rattle.c_symbols.specs.declared.operators.BinaryOperator.TheVariants as bina
 use Rattle.c_rules.specs.Counts.{Counted, Size, Made, Rule, Target, scalar_target, element_target}
 use Rattle.c_rules.specs.Counts.{no_target, then_by, gives, constant, operator_of, assigning}
 use Rattle.c_rules.specs.Counts.{compounded, incremented, stepped}
-use Rattle.c_counts.specs.Places.{placed, updated_at, changed_at, stepped_at}
+use Rattle.c_count_values.specs.Places.{updated_at, changed_at, stepped_at}
+use Rattle.c_counts.specs.Places.{placed}
 
 -- only the size of what was made
 abbrev pub to_size : Made Counted → Made Size

@@ -15,7 +15,8 @@ use Rattle.c_rules.specs.Counts.{Heads, Rows, ReadSuffix, Made, Size, Counted, s
 use Rattle.c_rules.specs.Counts.{suffixed, rows}
 use Rattle.c_rules.specs.Counts.{type_named, call_used, call_unused, dropped_value, element_rows}
 use Rattle.c_rules.specs.Counts.{element_target, then_by}
-use Rattle.c_counts.specs.Places.{Place, placed, stepped_at, incremented_at, element_read}
+use Rattle.c_count_values.specs.Places.{Place, stepped_at}
+use Rattle.c_counts.specs.Places.{placed, incremented_at, element_read}
 use Rattle.c_counts.specs.Rows.{suffix_of, suffixed_by, front_target, suffix_target}
 use Rattle.c_counts.specs.Rows.{suffix_count}
 use Rattle.c_counts.proofs.Placed.{incremented_placed, stepped_placed, to_size}

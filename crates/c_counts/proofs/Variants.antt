@@ -28,7 +28,8 @@ use Rattle.c_rules.specs.Counts.{rows, gives, scalar, empty, constant, type_name
 use Rattle.c_rules.specs.Counts.{cast_to, then_by, dropped, dropped_value, only_size}
 use Rattle.c_rules.specs.Counts.{comma_used, comma_unused, scalar_target, no_target, operator_of}
 use Rattle.c_rules.specs.Counts.{both, choice}
-use Rattle.c_counts.specs.Places.{placed, updated_at, changed_at}
+use Rattle.c_count_values.specs.Places.{updated_at, changed_at}
+use Rattle.c_counts.specs.Places.{placed}
 use Rattle.c_counts.specs.Rows.{suffix_of, suffixed_by, linked_to}
 use Rattle.c_counts.proofs.Chains.{linked_first}
 use Rattle.c_counts.proofs.Placed.{assigning_placed, incremented_placed, to_size}

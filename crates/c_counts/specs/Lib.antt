@@ -1,4 +1,3 @@
-pub mod Exact
 pub mod Places
 pub mod Rows
 pub mod Items

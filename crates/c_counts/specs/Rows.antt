@@ -1,7 +1,6 @@
 -- Rows of the parts of a typed expression (`c_rules`, `specs/Counts.antt`), and rules that begin
 -- behind what is made already.
-use Rattle.std.specs.Prelude.{ℕ, ◌+◌, ◌-◌, ◌==◌, true, false, if◌then◌else◌, List, [], ◌∷◌}
-use Rattle.std.specs.Prelude.{map, take, length, Option}
+use Rattle.std.specs.Prelude.{ℕ, List, map, take, length, Option}
 use Rattle.c_symbols.specs.declared.operators.BinaryOperator.{BinaryOperator}
 use Rattle.c_rules.specs.declared.meaning.Meaning.{Meaning}
 use Rattle.c_rules.specs.declared.typed.TypedExpression.{TypedExpression}
@@ -10,7 +9,7 @@ use Rattle.c_rules.specs.declared.typed.TypedExpression.TheOpen.{TypedExpression
 use Rattle.c_rules.specs.declared.typed.TypedSuffix.{TypedSuffix}
 use Rattle.c_rules.specs.Counts.{Heads, Rows, ReadSuffix, rows_step, read_suffix, rows, suffixed}
 use Rattle.c_rules.specs.Counts.{Counted, Size, Rule, gives, then_by, chained, both, Target}
-use Rattle.c_rules.specs.Counts.{no_target, element_target, type_named, is_empty, held, comma_used}
+use Rattle.c_rules.specs.Counts.{no_target, element_target, type_named, comma_used}
 use Rattle.c_rules.specs.Counts.{comma_unused}
 
 -- a suffix with rows for each expression in it
@@ -62,16 +61,3 @@ comma_behind heads before items =
     then_by (comma_used (map (rows heads) items)) (λ v. gives (record v {
       size = both before v.size;
     }))
-
--- how many of these have statements
-abbrev pub full_count : List Counted → ℕ
-full_count [] = 0
-full_count (v ∷ vs) = elim (is_empty v) [ true ↦ full_count vs | false ↦ full_count vs + 1 ]
-
--- how many of them stand behind the first
-abbrev pub left_behind : ℕ → Counted → ℕ
-left_behind n v = if is_empty v then n else n - 1
-
--- a value, held where some behind it have statements
-abbrev pub held_where : ℕ → Counted → Rule Counted
-held_where n v = if n == 0 then gives v else held v

@@ -1,20 +1,19 @@
 //! What calls take (`call_used` and `call_unused` of `c_rules`, `specs/Counts.antt`). Proved with
 //! the lemmas of `proofs/Lists.antt`.
 ghost use Rattle.std.specs.Prelude.{◌≡◌, map, OnOk, IfOk};
-ghost use Rattle.c_rules.specs.Counts.{rows, each, hold_all, called, first_unused, known_unused};
+ghost use Rattle.c_rules.specs.Counts.{rows, each, called, first_unused, known_unused};
 ghost use Rattle.c_rules.specs.Counts.{known_used, call_used, call_unused};
-ghost use Rattle.c_counts.specs.Exact.{exact, exact_size};
-ghost use Rattle.c_counts.specs.Rows.{used_by, full_count, left_behind, held_where};
+ghost use Rattle.c_count_values.specs.Exact.{exact, exact_size};
+ghost use Rattle.c_counts.specs.Rows.{used_by};
 
-use crate::acts::held;
 use crate::expressions::{unused, used};
 use crate::heads::Heads;
-use crate::size::{Counted, Size, both, empty, one};
-use crate::tally::Tally;
-use crate::value::{constant, is_empty, passed, scalar, sizes};
+use c_count_values::{
+    Counted, Size, Tally, both, constant, empty, hold_all, one, passed, scalar, sizes,
+};
 use c_rules::{Function, KnownFunction, Meaning, TypedExpression};
 use cpa_ints::IntType;
-use std::alloc::{AllocError, Global};
+use std::alloc::AllocError;
 
 /// Arguments, in order.
 #[cycle(expression)]
@@ -34,58 +33,6 @@ fn each(
         operands.push(used(tally, heads, argument)?)?;
     }
     Ok(operands)
-}
-
-/// How many of these have statements.
-fn full_count(operands: &[Counted]) -> usize
-    ensures { result ≡ full_count (map exact operands.now) }
-{
-    let mut count = 0;
-    for v in operands {
-        if !is_empty(*v) {
-            count += 1;
-        }
-    }
-    count
-}
-
-/// How many of these stand behind the first.
-fn left_behind(count: usize, first: Counted) -> usize
-    ensures { result ≡ left_behind count (exact first) }
-{
-    if is_empty(first) {
-        count
-    } else {
-        count.saturating_sub(1)
-    }
-}
-
-/// A value that is held where some behind it have statements.
-fn held_where(tally: &mut Tally, count: usize, v: Counted) -> Result<Counted, AllocError>
-    ensures cells { OnOk result (tally.new ≡ (held_where count (exact v) tally.old).cells) }
-    ensures made { IfOk result (λ w. exact w ≡ (held_where count (exact v) tally.old).made) }
-{
-    if count == 0 { Ok(v) } else { held(tally, v) }
-}
-
-/// Operands, each held that has statements behind it.
-fn hold_all(
-    alloc: Global,
-    tally: &mut Tally,
-    operands: &[Counted],
-) -> Result<Vec<Counted>, AllocError>
-    ensures cells { OnOk result (tally.new
-        ≡ (hold_all (map exact operands.now) tally.old).cells) }
-    ensures made { IfOk result (λ vs. map exact vs.items
-        ≡ (hold_all (map exact operands.now) tally.old).made) }
-{
-    let mut left = full_count(operands);
-    let mut kept = Vec::new(alloc);
-    for v in operands {
-        left = left_behind(left, *v);
-        kept.push(held_where(tally, left, *v)?)?;
-    }
-    Ok(kept)
 }
 
 /// A call of a function with a body.

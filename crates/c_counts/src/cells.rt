@@ -3,15 +3,14 @@
 ghost use Rattle.std.specs.Prelude.{◌≡◌, [], ◌∷◌, ◌++◌, OnOk, IfOk};
 ghost use Rattle.std.specs.List.{flat_map};
 ghost use Rattle.c_rules.specs.Sound.{started, filled};
-ghost use Rattle.c_counts.specs.Exact.{exact_size};
+ghost use Rattle.c_count_values.specs.Exact.{exact_size};
 ghost use Rattle.c_counts.specs.TextCells.{objects_of, text_cells, is_too_large_at, first_start};
 ghost use Rattle.c_counts.specs.TextCells.{starts_behind};
 
 use crate::functions::{functions_size, receiving};
 use crate::heads::Heads;
-use crate::size::Size;
 use crate::statements::cells_of;
-use crate::tally::Tally;
+use c_count_values::{Size, Tally};
 use c_rules::{Cell, Global, MAX_CELLS, MAX_POINTS, Object, TypedFunction};
 use cpa_expr::MAX_HEIGHT;
 use cpa_ints::{IntType, Seq};

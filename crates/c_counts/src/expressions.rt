@@ -3,19 +3,20 @@
 ghost use Rattle.std.specs.Prelude.{◌≡◌, ◌≤◌, map, OnOk, IfOk};
 ghost use Rattle.c_rules.specs.declared.typed.TypedExpression.{out-TypedExpression};
 ghost use Rattle.c_rules.specs.Counts.{rows, dropped, comma_used, comma_unused};
-ghost use Rattle.c_counts.specs.Exact.{exact, exact_size};
-ghost use Rattle.c_counts.specs.Places.{exact_place, placed, incremented_at, element_read};
+ghost use Rattle.c_count_values.specs.Exact.{exact, exact_size};
+ghost use Rattle.c_count_values.specs.Places.{exact_place};
+ghost use Rattle.c_counts.specs.Places.{placed, incremented_at, element_read};
 ghost use Rattle.c_counts.specs.Rows.{linked_to, front_target, suffix_count, suffix_of};
 ghost use Rattle.c_counts.specs.Rows.{suffix_target};
 
-use crate::acts::{chosen, dropped_value, fixed, linked};
 use crate::calls::{call_unused, call_used};
 use crate::heads::Heads;
 use crate::names::{front_names, type_named};
-use crate::places::{Place, changed_at, operator_of, stepped_at, updated_at};
-use crate::size::{Counted, Size, both, choice, empty, raised};
-use crate::tally::Tally;
-use crate::value::{cast_to, constant, counted, scalar, signed};
+use c_count_values::{
+    Counted, Place, Size, Tally, both, cast_to, changed_at, choice, chosen, constant, counted,
+    dropped_value, empty, fixed, linked, operator_of, raised, scalar, signed, stepped_at,
+    updated_at,
+};
 use c_rules::{Kind, Meaning, TypedExpression, TypedSuffix};
 use c_symbols::BinaryOperator;
 use cpa_ints::IntType;

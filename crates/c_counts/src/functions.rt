@@ -3,12 +3,11 @@
 ghost use Rattle.std.specs.Prelude.{◌≡◌, map, OnOk, IfOk};
 ghost use Rattle.c_rules.specs.Counts.{resulting, receiving, function_rule, in_order};
 ghost use Rattle.c_rules.specs.Sound.{first_cells};
-ghost use Rattle.c_counts.specs.Exact.{exact_size};
+ghost use Rattle.c_count_values.specs.Exact.{exact_size};
 
 use crate::heads::Heads;
-use crate::size::{Size, block, both, empty, one};
 use crate::statements::{cells_of, in_order};
-use crate::tally::Tally;
+use c_count_values::{Size, Tally, block, both, empty, one};
 use c_rules::{Kind, Object, TypedFunction};
 use std::alloc::AllocError;
 

@@ -2,7 +2,7 @@
 //! `c_rules`, `specs/Counts.antt`). Proved with `proofs/Parameters.antt`.
 ghost use Rattle.std.specs.Prelude.{◌≡◌};
 ghost use Rattle.c_rules.specs.Counts.{head_at, head_of, heads_of};
-ghost use Rattle.c_counts.specs.Exact.{types_of};
+ghost use Rattle.c_count_values.specs.Exact.{types_of};
 
 use c_rules::{Function, Object, TypedFunction};
 use std::alloc::Global;

@@ -2,17 +2,12 @@
 //! `specs/Counts.antt`; each function is a rule there.
 #![tactic(auto)]
 
-mod acts;
 mod calls;
 mod cells;
 mod expressions;
 mod functions;
 mod heads;
 mod names;
-mod places;
-mod size;
 mod statements;
-mod tally;
-mod value;
 
 pub use cells::{TextCells, counts};

@@ -4,14 +4,12 @@ ghost use Rattle.std.specs.Prelude.{◌≡◌, map, OnOk, IfOk};
 ghost use Rattle.c_rules.specs.Counts.{some_unused, initialized, in_order, initializing, declared};
 ghost use Rattle.c_rules.specs.Counts.{declaration, started, left_unless, returned, cells_of};
 ghost use Rattle.c_rules.specs.Counts.{item_rule};
-ghost use Rattle.c_counts.specs.Exact.{exact_size};
+ghost use Rattle.c_count_values.specs.Exact.{exact_size};
 ghost use Rattle.c_counts.specs.Items.{statement_rule, left};
 
 use crate::expressions::{unused, used};
 use crate::heads::Heads;
-use crate::size::{Size, block, both, choice, empty, looped, one, times};
-use crate::tally::Tally;
-use crate::value::{leaving, write};
+use c_count_values::{Size, Tally, block, both, choice, empty, leaving, looped, one, times, write};
 use c_rules::{
     Object, TypedDeclarator, TypedExpression, TypedForStart, TypedInitializer, TypedItem,
     TypedStatement,

@@ -1,4 +1,5 @@
 //! Readers of declarators, which are `declarator` and its parts of `Declarations.antt` of `c_tree`.
+//! Proved with `proofs/Steadies.antt`.
 ghost use Rattle.std.specs.Prelude.{◌≡◌, ◌<◌, length, IfOk, IfErr, [], ◌∷◌};
 ghost use Rattle.grammar_forms.specs.Forms.{Skip, Perhaps};
 ghost use Rattle.grammar_forms.specs.declared.fault.ReadError.TheVariants.{OutOfMemory};

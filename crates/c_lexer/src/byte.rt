@@ -1,4 +1,5 @@
 //! Classes of bytes, `specs/Bytes.antt`, and the runs of bytes of one class that begin a text.
+//! Proved by the checker alone.
 ghost use Rattle.std.specs.Prelude.{◌≡◌, ◌≤◌, length, drop};
 ghost use Rattle.std.specs.List.{prefix_len};
 ghost use Rattle.std.specs.Char.{digit_value};

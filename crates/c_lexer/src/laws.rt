@@ -1,4 +1,5 @@
 //! Laws of the tokens of a text. Each function does nothing: its contract is the law.
+//! Proved in `proofs/LexemeFacts.antt` and `proofs/Cuts.antt`.
 
 ghost use Rattle.std.specs.Prelude.{◌≡◌, ◌≢◌, ◌≤◌, ◌-◌, ◌⊎◌, ℕ, ℤ, List, length, slice_get};
 ghost use Rattle.cpa_ints.specs.declared.integers.IntType.{IntType};

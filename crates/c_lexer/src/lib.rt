@@ -1,4 +1,5 @@
-//! The tokens of C (C11 6.4) in a text that the preprocessor has left.
+//! The tokens of C (C11 6.4) in a text that the preprocessor has left, or its first fault:
+//! `Tokens` of `specs/Parts.antt`, `HasFault` of `specs/Faults.antt`. Proved in `proofs/`.
 #![tactic(auto)]
 
 mod byte;

@@ -1,4 +1,5 @@
 //! Tokens: what they are, and where they lie in their text.
+//! Which tokens a text has is `Tokens` of `specs/Parts.antt`.
 use cpa_ints::IntType;
 
 /// What a token is. The bytes of a word, a text and a mark stand in the text at its places.

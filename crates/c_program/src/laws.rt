@@ -1,4 +1,5 @@
 //! Laws of programs. Each function does nothing: its contract is the law.
+//! They speak of `specs/Programs.antt` and are proved in `proofs/Refusals.antt`.
 ghost use Rattle.std.specs.Prelude.{◌≡◌, ℕ, List};
 ghost use Rattle.c_lexer.specs.declared.fault.TextFault.{TextFault};
 ghost use Rattle.cpa_model.specs.declared.program.Program.{Program};

@@ -1,4 +1,5 @@
 //! From the bytes of a whole C text to its program, or to its fault (`specs/Programs.antt`).
+//! Proved with `proofs/Refusals.antt`.
 #![tactic(auto)]
 
 mod laws;

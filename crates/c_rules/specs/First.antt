@@ -1,4 +1,4 @@
--- The first of faults: at the least place, and there of the lowest rule.
+-- The first of faults: at the least place, and there of the lowest rule (this project's own).
 use Rattle.std.specs.Prelude.{◌≡◌, nat_lt, Bool, true, false}
 use Rattle.std.specs.Prelude.{if◌then◌else◌, List, [], ◌∷◌, ◌++◌, Option, None, Some, refl}
 use Rattle.c_lexer.specs.Rules.{rule_number}

@@ -1,4 +1,5 @@
--- The typed tree of statements, of functions and of a text.
+-- The typed tree of statements, of functions and of a text (this project's own, over C11 6.8 and
+-- 6.9).
 use Rattle.std.specs.Prelude.{ℕ, ◌+◌, true, List, [], ◌∷◌, map}
 use Rattle.std.specs.Prelude.{Option, unwrap_or, option_map}
 use Rattle.std.specs.Str.{bytes_eq}

@@ -1,4 +1,5 @@
-//! Types of words and operators (`specs/Types.antt`). Proved by the checker alone.
+//! Types of words and operators: the tables of `specs/Types.antt` and `specs/Parts.antt`,
+//! line for line. Proved by the checker alone.
 ghost use Rattle.std.specs.Prelude.{◌≡◌};
 ghost use Rattle.c_rules.specs.Types.{has, signed_or, type_of_words, kind_of_words, object_type};
 ghost use Rattle.c_rules.specs.Types.{value_type, value_kind, binary_type};

@@ -1,4 +1,5 @@
-//! Which statement begins with a token: the table of `Kinds.antt`; proved by the checker alone.
+//! Which statement begins with a token: the table of `specs/Kinds.antt`.
+//! Proved with `proofs/kinds/`.
 ghost use Rattle.std.specs.Prelude.{◌≡◌, ◌<◌, length, true};
 ghost use Rattle.c_symbols.specs.Symbols.{symbol_of};
 ghost use Rattle.c_symbols.specs.Sources.{leaf_at, GoesOn};

@@ -1,4 +1,5 @@
 //! The operators of expressions and their spelling, which is that of `specs/Spelling.antt`.
+//! Proved by the checker alone.
 ghost use Rattle.std.specs.Prelude.{◌≡◌};
 ghost use Rattle.c_symbols.specs.Spelling.{spelling_of_binary_operator};
 ghost use Rattle.c_symbols.specs.Spelling.{spelling_of_assignment_operator};

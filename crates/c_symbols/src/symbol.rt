@@ -1,4 +1,5 @@
-//! What a token stands for in the grammar. `symbol` is `symbol_of` of `specs/Symbols.antt`.
+//! What a token stands for in the grammar: `symbol_of` of `specs/Symbols.antt`.
+//! Proved by the checker alone.
 ghost use Rattle.std.specs.Prelude.{◌≡◌};
 ghost use Rattle.c_symbols.specs.Symbols.{spelling_of, word_spelled, mark_spelled, symbol_spelled};
 

@@ -1,4 +1,4 @@
--- The grammar as a whole, and the tree of a text.
+-- The grammar as a whole (C11 6.9), and the tree of a text.
 use Rattle.std.specs.Prelude.{◌≡◌, ℕ, ◌-◌, zero, suc, List, length}
 use Rattle.grammar_forms.specs.Forms.{World, Nothing, greedy_text}
 use Rattle.grammar_forms.specs.Reading.{Begins}

@@ -1,4 +1,4 @@
--- What the grammar asks of tokens and of trees, and what it makes of them.
+-- What the grammar asks of tokens and of trees, and what it makes of them (C11 6.4 to 6.9).
 use Rattle.std.specs.Prelude.{ℕ, ◌+◌, ◌==◌, Bool, true, false, not, ◌&&◌, ◌||◌, nat_le, nat_lt}
 use Rattle.std.specs.Prelude.{List, length, count_by, codes, Option, None, Some}
 use Rattle.std.specs.List.{filter_map}

@@ -1,4 +1,4 @@
--- What the readers of the grammar promise.
+-- What the readers of the grammar promise (this project's own).
 use Rattle.std.specs.Prelude.{ℕ, ◌+◌, ◌-◌, ◌≤◌, Bool, cond, List, length, Result}
 use Rattle.grammar_forms.specs.declared.fault.ReadError.{ReadError}
 use Rattle.grammar_forms.specs.declared.fault.ReadError.TheVariants.{Unexpected, TooDeep}

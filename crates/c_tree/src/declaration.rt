@@ -1,4 +1,5 @@
-//! Declarations of objects (C11 6.7). `specs/Declarations.antt` is their grammar.
+//! The tree of declarations of objects (C11 6.7).
+//! Which one a text has is said by their grammar, `specs/Declarations.antt`.
 use crate::{Expression, Name};
 use c_symbols::{SpecifierWord, StorageWord, TypeWord};
 use cpa_ints::Seq;

@@ -1,4 +1,5 @@
-//! Expressions (C11 6.5). `specs/Expressions.antt` is their grammar.
+//! The tree of expressions (C11 6.5).
+//! Which one a text has is said by their grammar, `specs/Expressions.antt`.
 use crate::Name;
 use c_symbols::{AssignmentOperator, BinaryOperator, StepOperator, TypeWord};
 use cpa_ints::{Boxed, IntType, Seq};

@@ -1,4 +1,5 @@
-//! The items of a text (C11 6.9). `specs/Items.antt` is their grammar.
+//! The tree of the items of a text (C11 6.9).
+//! Which one a text has is said by their grammar, `specs/Items.antt`.
 use crate::{BlockItem, Declaration, Name, Specifiers};
 use cpa_ints::Seq;
 

@@ -1,4 +1,5 @@
 //! Laws of the grammar. Each function does nothing: its contract is the law.
+//! They speak of `specs/Grammar.antt` and are proved in `proofs/Agreement.antt`.
 ghost use Rattle.std.specs.Prelude.{◌≡◌, ℕ, List};
 ghost use Rattle.c_lexer.specs.declared.token.Token.{Token};
 ghost use Rattle.c_tree.specs.declared.item.Unit.{Unit as UnitTree};

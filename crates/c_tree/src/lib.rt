@@ -1,4 +1,5 @@
-//! The tree of a C text and its grammar.
+//! The tree of a C text and its grammar: `Tree` of `specs/Grammar.antt` says which tree the tokens
+//! of a text have. That there is one at most is proved in `proofs/Agreement.antt`.
 #![tactic(auto)]
 
 mod declaration;

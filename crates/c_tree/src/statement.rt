@@ -1,4 +1,5 @@
-//! Statements (C11 6.8). `specs/Statements.antt` is their grammar.
+//! The tree of statements (C11 6.8).
+//! Which one a text has is said by their grammar, `specs/Statements.antt`.
 use crate::{Declaration, Expression, Name};
 use cpa_ints::{Boxed, Seq};
 

@@ -1,4 +1,4 @@
--- What a check of a text finds, where memory is enough.
+-- What a check of a text finds, where memory is enough (this project's own).
 use Rattle.std.specs.Prelude.{◌≡◌}
 use Rattle.c_tree.specs.declared.item.Unit.{Unit as UnitTree}
 use Rattle.c_rules.specs.Sound.{Sound, IsFirstBroken, typed_unit}

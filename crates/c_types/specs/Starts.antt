@@ -1,4 +1,4 @@
--- The names of what starts at some values, in order.
+-- The names of what starts at some values, in order (`Sound.antt` of `c_rules`).
 use Rattle.std.specs.Prelude.{ℕ, List, map}
 use Rattle.c_rules.specs.Sound.{Start}
 

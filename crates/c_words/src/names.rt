@@ -1,4 +1,5 @@
 //! Readers of identifiers, which are `identifier` of `Declarations.antt` of `c_tree`.
+//! Proved with `proofs/names/`.
 ghost use Rattle.std.specs.Prelude.{◌≡◌, ◌<◌, length, IfOk, IfErr};
 ghost use Rattle.grammar_forms.specs.Forms.{Perhaps};
 ghost use Rattle.grammar_forms.specs.declared.fault.ReadError.TheVariants.{OutOfMemory};

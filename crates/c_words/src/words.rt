@@ -1,4 +1,5 @@
 //! The reader of specifiers, which are `specifiers` of `Declarations.antt` of `c_tree`.
+//! Proved with `proofs/SpecifierWords.antt`.
 ghost use Rattle.std.specs.Prelude.{◌≡◌, ◌<◌, length};
 ghost use Rattle.c_tree.specs.Declarations.{specifiers};
 ghost use Rattle.c_words.specs.Answers.{Finds};

@@ -1,15 +1,15 @@
 //! Calls of an analysis, whichever it is, and their answers as text. What a call asks of its
 //! arguments is tested before it.
 
-ghost use Rattle.std.specs.Prelude.{◌≡◌, ◌<◌, IsTrue, length};
+ghost use Rattle.std.specs.Prelude.{IsTrue};
 ghost use Rattle.std.specs.List.{AllByRecursion};
 ghost use Rattle.cpa_model.specs.Automata.{IsAutomaton};
-ghost use Rattle.cpa_model.specs.Expressions.{IsExpr};
-ghost use Rattle.cpa_iface.specs.Meanings.{AreShaped, HasPlace, IsPathOf, IsPrecision};
+ghost use Rattle.cpa_iface.specs.Meanings.{HasPlace, IsPrecision};
 
 use crate::questions::{Call, Question};
 use cpa_iface::{Analysis, Entry, MergeRule, Part, Precision, Settings, copy_precision};
-use cpa_model::{Cell, Cfa, Elem, Expr, Path, Seq, Spell, copy_elem, is_elem, is_expr, push_list};
+use cpa_model::{Cfa, Elem, Path, Seq, Spell, copy_elem, is_elem, push_list};
+use row_programs::{are_elems, are_precisions, is_path};
 use row_reader::{RowFault, yes_or_no};
 use std::alloc::Global;
 
@@ -194,7 +194,7 @@ fn push_strengthen<A: Analysis>(
 {
     match elems {
         [own, others @ ..] => {
-            if !is_elem(own, cfa) || !are_shaped(others, cfa) {
+            if !is_elem(own, cfa) || !are_elems(others, cfa) {
                 return Err(RowFault::Unreadable);
             }
             let stronger = plain.strengthen(alloc, cfa, own, others, precision)?;
@@ -350,64 +350,6 @@ fn entry(alloc: Global, precision: &Precision, elem: &Elem) -> Result<Entry, Row
     })
 }
 
-/// Whether the precision fits the automaton.
-pub fn is_precision(precision: &Precision, cfa: &Cfa) -> bool
-    ensures { IsTrue result → IsPrecision cfa.now precision.now }
-{
-    are_below(precision.tracked.as_slice(), cfa.cells.len())
-        && are_exprs(precision.preds.as_slice(), cfa.cells.as_slice())
-}
-
-fn is_path(path: &Path, cfa: &Cfa) -> bool
-    ensures { IsTrue result → IsPathOf cfa.now path.now }
-{
-    are_below(path.edges.as_slice(), cfa.edges.len())
-}
-
-fn are_below(numbers: &[u32], limit: usize) -> bool
-    ensures { IsTrue result → AllByRecursion (λ number. number < limit) numbers.now }
-{
-    for number in numbers {
-        if limit <= *number as usize {
-            return false;
-        }
-    }
-    true
-}
-
-fn are_exprs(exprs: &[Expr], cells: &[Cell]) -> bool
-    ensures { IsTrue result → AllByRecursion (IsExpr cells.now) exprs.now }
-{
-    for expr in exprs {
-        if !is_expr(expr, cells) {
-            return false;
-        }
-    }
-    true
-}
-
-fn are_shaped(elems: &[Elem], cfa: &Cfa) -> bool
-    ensures { IsTrue result → AreShaped cfa.now elems.now }
-{
-    for elem in elems {
-        if !is_elem(elem, cfa) {
-            return false;
-        }
-    }
-    true
-}
-
-fn are_precisions(precisions: &[Precision], cfa: &Cfa) -> bool
-    ensures { IsTrue result → AllByRecursion (IsPrecision cfa.now) precisions.now }
-{
-    for precision in precisions {
-        if !is_precision(precision, cfa) {
-            return false;
-        }
-    }
-    true
-}
-
 fn have_place(entries: &[Entry], cfa: &Cfa) -> bool
     ensures { IsTrue result → AllByRecursion (HasPlace cfa.now 0) entries.now }
 {
@@ -422,7 +364,7 @@ fn have_place(entries: &[Entry], cfa: &Cfa) -> bool
 fn has_place(entry: &Entry, cfa: &Cfa) -> bool
     ensures { IsTrue result → HasPlace cfa.now 0 entry.now }
 {
-    are_shaped(entry.elems.as_slice(), cfa)
+    are_elems(entry.elems.as_slice(), cfa)
         && are_precisions(entry.precisions.as_slice(), cfa)
         && 0 < entry.elems.len()
         && 0 < entry.precisions.len()

@@ -1,4 +1,5 @@
-//! The analyses as `main` hands them on. Nothing is proved of what they answer here.
+//! The analyses as `main` hands them on, behind a box that tells its laws alone.
+//! Nothing is proved of what they answer here.
 
 use cpa_iface::Analysis;
 

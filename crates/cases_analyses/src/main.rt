@@ -4,18 +4,16 @@
 
 mod asking;
 mod boxes;
-mod elements;
 mod questions;
 mod rows;
-mod sample;
-mod table;
+mod setting;
 
 use boxes::Boxes;
 use cpa_callstack::Callstack;
 use cpa_iface::Location;
 use cpa_value::Value;
+use setting::Setting;
 use std::io::{self, BufRead, BufReader, BufWriter, Write};
-use table::Table;
 
 fn main(rt: HostRuntime) -> io::Result<()> {
     let alloc = rt.alloc();
@@ -24,11 +22,11 @@ fn main(rt: HostRuntime) -> io::Result<()> {
         callstack: Box::new(alloc, Callstack::new())?,
         value: Box::new(alloc, Value::new())?,
     };
-    let mut table = Table::new(alloc);
+    let mut setting = Setting::new(alloc);
     let mut out = BufWriter::new(alloc, io::writer(&rt))?;
     for line in BufReader::new(alloc, rt.reader())?.lines(alloc) {
         let line = line?;
-        let printed = rows::answered(alloc, &mut boxes, &mut table, line.as_str())?;
+        let printed = rows::answered(alloc, &mut boxes, &mut setting, line.as_str())?;
         writeln!(out, "{printed}")?;
     }
     out.flush()

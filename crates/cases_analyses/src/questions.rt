@@ -1,9 +1,9 @@
 //! A call of an analysis, as a row names it: the analysis, the call, its words, and behind colons
 //! the elements that it takes.
 
-use crate::elements::elem_of;
 use cpa_iface::MergeRule;
 use cpa_model::{Elem, Seq};
+use row_programs::elem_of;
 use row_reader::{RowFault, end_row, index_of_word, next_index, next_word};
 use std::alloc::Global;
 use std::str::SplitWhitespace;

@@ -4,15 +4,15 @@
 ghost use Rattle.cpa_model.specs.Automata.{IsAutomaton};
 ghost use Rattle.cpa_iface.specs.Meanings.{IsPrecision};
 
-use crate::asking::{answer, is_precision};
+use crate::asking::answer;
 use crate::boxes::Boxes;
 use crate::questions::{Called, Question, question_of};
-use crate::sample::automaton;
-use crate::table::Table;
+use crate::setting::Setting;
 use cpa_callstack::Callstack;
 use cpa_iface::{Location, Precision};
 use cpa_model::Cfa;
 use cpa_value::Value;
+use row_programs::{automaton, is_precision};
 use row_reader::RowFault;
 use std::alloc::{AllocError, Global};
 
@@ -20,14 +20,14 @@ use std::alloc::{AllocError, Global};
 pub fn answered(
     alloc: Global,
     boxes: &mut Boxes,
-    table: &mut Table,
+    setting: &mut Setting,
     line: &str,
 ) -> Result<String, AllocError> {
     let mut out = String::from_str(alloc, line)?;
     if line.is_empty() || line.starts_with("#") {
         return Ok(out);
     }
-    match push_answer(alloc, boxes, table, line, &mut out) {
+    match push_answer(alloc, boxes, setting, line, &mut out) {
         Ok(()) => Ok(out),
         Err(RowFault::Unreadable) => {
             out.push_str(" = unreadable")?;
@@ -40,22 +40,27 @@ pub fn answered(
 fn push_answer(
     alloc: Global,
     boxes: &mut Boxes,
-    table: &mut Table,
+    setting: &mut Setting,
     line: &str,
     out: &mut String,
 ) -> Result<(), RowFault> {
-    if !table.set(alloc, line)? {
-        let answer = asked(alloc, boxes, table, line)?;
+    if !setting.set(alloc, line)? {
+        let answer = asked(alloc, boxes, setting, line)?;
         write!(out, " ={answer}")?;
     }
     Ok(())
 }
 
-fn asked(alloc: Global, boxes: &mut Boxes, table: &Table, line: &str) -> Result<String, RowFault> {
+fn asked(
+    alloc: Global,
+    boxes: &mut Boxes,
+    setting: &Setting,
+    line: &str,
+) -> Result<String, RowFault> {
     let question = question_of(alloc, line)?;
-    let cfa = automaton(alloc, table)?;
-    if is_precision(&table.precision, &cfa) {
-        asked_of(alloc, boxes, &cfa, &table.precision, &question)
+    let cfa = automaton(alloc, &setting.table)?;
+    if is_precision(&setting.precision, &cfa) {
+        asked_of(alloc, boxes, &cfa, &setting.precision, &question)
     } else {
         Err(RowFault::Unreadable)
     }

@@ -1,19 +1,21 @@
-//! Rows of C texts with the program of core statements that each is: prints each row of the input
-//! with its answer. It owes safety alone; what the answers must be is `stdout`, which README.md says
-//! how it was made.
+//! Rows of C texts with the program of core statements, or the automaton, that each is: prints each
+//! row of the input with its answer. It owes safety alone; what the answers must be is `stdout`,
+//! which README.md says how it was made.
 #![tactic(auto)]
 
 mod programs;
 mod words;
 
+use programs::Spelled;
 use std::alloc::{AllocError, Global};
 use std::io;
 use std::io::{BufRead, BufReader};
 
-/// The answer to a row: the word `core`, and the text that it is asked of.
+/// The answer to a row: the word `core` or `edges`, and the text that it is asked of.
 fn answer(alloc: Global, row: &str) -> Result<String, AllocError> {
     match row.split_once(' ').unwrap_or((row, "")) {
-        ("core", text) => programs::program(alloc, text),
+        ("core", text) => programs::program(alloc, text, Spelled::Statements),
+        ("edges", text) => programs::program(alloc, text, Spelled::Edges),
         _ => String::from_str(alloc, "no row"),
     }
 }

@@ -1,8 +1,8 @@
-//! A program in a line: its length, its cells, its bodies, its main, its statements. Proved safe by
-//! the checker alone.
+//! A program in a line: its length, its cells, its bodies, its main, its statements; and an automaton.
+//! Proved safe by the checker alone.
 
 use cpa_expr::{Expr, push_expr, type_word};
-use cpa_model::{Cell, Program, Stmt};
+use cpa_model::{Cell, Cfa, Program, Spell, Stmt, push_list};
 use std::alloc::{AllocError, Global};
 
 /// A program in a line.
@@ -20,6 +20,19 @@ pub(crate) fn program_line(alloc: Global, program: &Program) -> Result<String, A
     for statement in program.stmts.as_slice() {
         line.push_str("; ")?;
         push_statement(alloc, &mut line, statement)?;
+    }
+    Ok(line)
+}
+
+/// An automaton in a line: its points, where it starts, its error points, its edges.
+pub(crate) fn automaton_line(alloc: Global, cfa: &Cfa) -> Result<String, AllocError> {
+    let points = cfa.points;
+    let start = cfa.start;
+    let mut line = format!(in alloc; "points {points}; start {start}; errors ")?;
+    push_list(&mut line, cfa.errors.as_slice())?;
+    for edge in cfa.edges.as_slice() {
+        line.push_str("; ")?;
+        edge.spell(&mut line)?;
     }
     Ok(line)
 }

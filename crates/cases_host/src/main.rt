@@ -1,4 +1,5 @@
 //! The program once more, run on words that are no command, to show how a refusal ends.
+//! Its one call is `start` of `cpa_entry`; it owes safety alone.
 #![tactic(auto)]
 
 use cpa_entry::start;

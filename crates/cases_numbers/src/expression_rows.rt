@@ -1,4 +1,5 @@
 //! Rows on expressions, which stand behind colons: what the public calls of `cpa_expr` answer.
+//! Proved safe by the checker alone.
 
 use crate::operator_rows::push_value;
 use cpa_expr::{

@@ -1,4 +1,5 @@
 //! Rows on numbers and types: what the public calls of `cpa_ints` answer.
+//! Proved safe by the checker alone.
 
 use cpa_expr::type_word;
 use cpa_ints::{common, promote, wrap};

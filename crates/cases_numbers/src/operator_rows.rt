@@ -1,4 +1,5 @@
 //! Rows on operators: what `value` of `cpa_expr` answers where they are applied to constants.
+//! Proved safe by the checker alone.
 
 use cpa_expr::{BinOp, Expr, Store, value};
 use cpa_ints::{Boxed, IntType, Seq};

@@ -1,4 +1,5 @@
-//! Queries, asked where they meet the condition of `decide`.
+//! Queries, asked where they meet the condition of `decide`: `IsQuery` of `cpa_query`.
+//! That they do is proved with `proofs/Gathered.antt`.
 
 ghost use Rattle.std.specs.Prelude.{IsTrue};
 ghost use Rattle.std.specs.List.{AllByRecursion};

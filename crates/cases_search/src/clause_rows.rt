@@ -1,4 +1,5 @@
-//! Rows on clauses, resolvents and lines.
+//! Rows on clauses, resolvents and lines: what the public calls of `cpa_cnf` answer.
+//! Proved safe with `proofs/clause_rows/`.
 
 use crate::formulas::{formula, line};
 use crate::words::{push_clause, variable_of_word, whole_clause};

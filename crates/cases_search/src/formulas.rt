@@ -1,4 +1,5 @@
-//! Formulas and lines from their words.
+//! Formulas and lines from their words, and whether they meet the condition of a search.
+//! That they do, `AreBelow` of `cpa_cnf`, is proved with `proofs/formulas/`.
 
 ghost use Rattle.std.specs.Prelude.{IsTrue};
 ghost use Rattle.std.specs.List.{AllByRecursion};

@@ -1,4 +1,5 @@
 //! Rows on searches: each outcome is looked at again, a model by evaluation, lines by `check_line`.
+//! Proved safe with `proofs/search_rows/`.
 
 use crate::formulas::{are_below, formula};
 use crate::words::push_clause;

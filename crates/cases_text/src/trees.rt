@@ -1,4 +1,5 @@
-//! Whether a text has a tree, or its first fault, as a line.
+//! Whether a text has a tree, or its first fault, as a line: what `parse` of `c_parser` answers.
+//! Proved safe by the checker alone.
 
 use c_lexer::{MAX_TEXT, TextError};
 use row_texts::{bytes_of, fault_line};

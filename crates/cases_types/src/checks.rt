@@ -1,4 +1,5 @@
-//! What a check of a row's text says, as a line. Proved safe by the checker alone.
+//! What a check of a row's text says, as a line: what `check` of `c_types` answers.
+//! Proved safe by the checker alone.
 ghost use Rattle.std.specs.Prelude.{◌≤◌, length};
 ghost use Rattle.c_lexer.specs.declared.lexer.TheConstants.{MAX_TEXT};
 

@@ -1,4 +1,5 @@
-//! The types of a typed tree as rows spell them. Proved safe by the checker alone.
+//! The types of a typed tree as rows spell them.
+//! Proved safe by the checker alone.
 
 use c_rules::{Kind, Meaning, TypedExpression, TypedSuffix, named_kind};
 use cpa_ints::IntType;

@@ -1,4 +1,5 @@
 //! The error points: the calls of `reach_error`, ascending, by `AreNumbersBelow`.
+//! Proved with `proofs/Growth.antt`.
 
 ghost use Rattle.std.specs.Prelude.{◌+◌, ◌<◌, ◌↔◌, length, IsTrue, IfOk, OnOk};
 ghost use Rattle.cpa_model.specs.Programs.{IsWellFormed};

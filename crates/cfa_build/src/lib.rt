@@ -1,4 +1,5 @@
-//! The control-flow automaton of a program.
+//! The control-flow automaton of a program: its edges are exactly the moves of `cpa_model`,
+//! in order (`specs/Edges.antt`, `IsAutomatonOf` of `cpa_model`). Proved in `proofs/Whole.antt`.
 #![tactic(auto)]
 
 mod automaton;

@@ -1,4 +1,5 @@
 //! The call sites of each function, ascending, by `AreSitesBelow`.
+//! Proved with `proofs/Growth.antt`.
 
 ghost use Rattle.std.specs.Prelude.{◌≡◌, ℕ, ◌+◌, ◌<◌, ◌↔◌, Some, length, IfOk, OnOk};
 ghost use Rattle.cpa_model.specs.Programs.{IsWellFormed};

@@ -1,4 +1,5 @@
--- The pieces of a list that extents name, and what the parts of an arena keep.
+-- The pieces of a list that extents name, and what the parts of an arena keep (this project's
+-- own).
 use Rattle.std.specs.Prelude.{◌≡◌, ℕ, ◌-◌, ◌<◌, ◌≤◌, ◌^◌, ◌++◌, List, take, drop, map, length}
 use Rattle.std.specs.Prelude.{slice_index}
 use Rattle.std.specs.List.{AllByRecursion}

@@ -1,4 +1,5 @@
 //! Laws of formulas, stated in specs/Laws. Each function does nothing: its contract is the law.
+//! Proved in specs/lemmas.
 
 ghost use Rattle.cpa_blast.specs.Laws.{FormulasAreBelow, FormulasAreQueries};
 

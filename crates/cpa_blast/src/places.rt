@@ -1,4 +1,5 @@
 //! The variables of the bits of cells, as specs/Formulas gives them out.
+//! Proved with `proofs/Turns.antt`.
 
 ghost use Rattle.std.specs.Prelude.{◌≡◌, ◌+◌, ◌*◌, ◌++◌, length, map, replicate, IfOk, OnOk};
 ghost use Rattle.cpa_gates.specs.Nets.{vars, built};

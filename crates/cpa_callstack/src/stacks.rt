@@ -1,4 +1,5 @@
 //! What an edge makes of an element, by `specs/Stacks.antt`.
+//! Proved with `proofs/Popping.antt`.
 
 ghost use Rattle.std.specs.Prelude.{◌≡◌, ◌++◌, ◌∷◌, [], IfOk, IfSome, IfNone, MatchOption};
 ghost use Rattle.std.specs.Prelude.{option_map};

@@ -1,5 +1,6 @@
--- The circuit of an expression: each node is made from the answers of its parts, from left to
--- right; parts that are not evaluated are made as well, and their traps do not count.
+-- The circuit of an expression (C11 6.5, as gates by Tseitin 1968): each node is made from the
+-- answers of its parts, from left to right; parts that are not evaluated are made as well, and
+-- their traps do not count.
 use Rattle.std.specs.Prelude.{List}
 use Rattle.cpa_gates.specs.declared.gate.Gate.{Gate}
 use Rattle.cpa_gates.specs.Nets.{Built, built}

@@ -1,6 +1,7 @@
--- What the circuit of an expression means: under each assignment under which the net holds, where
--- the words of the cells stand for the values of a store, the answer is the value of the expression
--- on the store, or a trap; and each assignment of the old net extends to one of the new.
+-- What the circuit of an expression means (this project's own): under each assignment under
+-- which the net holds, where the words of the cells stand for the values of a store, the answer
+-- is the value of the expression on the store, or a trap; and each assignment of the old net
+-- extends to one of the new.
 use Rattle.std.specs.Prelude.{◌≡◌, ℕ, ◌*◌, ◌<◌, ℤ, Bool, List, length, map, Option, IfSome}
 use Rattle.std.specs.List.{AllByRecursion, AllZip}
 use Rattle.std.specs.Option.{is_some}

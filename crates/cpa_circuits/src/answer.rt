@@ -1,4 +1,5 @@
-//! Words of a type, and what an expression comes to. What they mean is said in specs/Meanings.
+//! Words of a type, and what an expression comes to.
+//! What they mean is said in specs/Meanings.
 
 use cpa_cnf::Lit;
 use cpa_ints::{IntType, Seq};

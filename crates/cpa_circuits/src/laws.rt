@@ -1,4 +1,5 @@
 //! The law of circuits, stated in specs/Laws. The function does nothing: its contract is the law.
+//! Proved in specs/lemmas.
 
 ghost use Rattle.cpa_circuits.specs.Laws.{CircuitsHaveValues};
 

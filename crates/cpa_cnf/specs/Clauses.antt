@@ -1,4 +1,4 @@
--- Clauses: the ascending list of the literals, each once.
+-- Clauses (Robinson 1965), as the ascending list of their literals, each once.
 use Rattle.std.specs.Prelude.{ℕ, ◌==◌, ◌≤◌, ◌+◌, ◌||◌, Bool, false, List, [], ◌∷◌}
 
 -- the literal stands in the list

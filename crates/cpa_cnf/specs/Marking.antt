@@ -1,4 +1,4 @@
--- The scratch table of the check: a mark for each literal.
+-- The scratch table of the check (this project's own): a mark for each literal.
 use Rattle.std.specs.Prelude.{◌≡◌, ℕ, ◌*◌, ◌≤◌, ◌||◌, Bool, true, false, List, [], length}
 use Rattle.std.specs.Prelude.{slice_index_or, slice_index, slice_get, Some, ◌/◌, ◌<◌}
 use Rattle.std.specs.List.{list_any}

@@ -1,4 +1,5 @@
--- Models of a formula: values of its variables that make a literal of each clause true.
+-- Models of a formula in conjunctive normal form: values of its variables that make a literal of
+-- each clause true.
 use Rattle.std.specs.Prelude.{◌≡◌, ℕ, ◌==◌, ◌/◌, ◌%◌, Bool, true, false, not, List, length}
 use Rattle.std.specs.Prelude.{slice_index_or, if◌then◌else◌}
 use Rattle.std.specs.List.{AllByRecursion}

@@ -1,4 +1,5 @@
 //! Clauses: sorted lists of literals without repeats, an invariant of the type.
+//! What such a list is, `IsClause`, stands in `specs/Clauses.antt`. Proved with `proofs/clause/`.
 
 ghost use Rattle.std.specs.Prelude.{◌≡◌, ◌↔◌, ℕ, [], IfOk, IsTrue, length};
 ghost use Rattle.cpa_cnf.specs.Clauses.{has, IsClause};

@@ -1,4 +1,5 @@
 //! Formulas in conjunctive normal form, and the lines of a derivation.
+//! What they mean stands in `specs/Models.antt` and `specs/Lines.antt`.
 
 use crate::clause::Clause;
 use cpa_ints::Seq;

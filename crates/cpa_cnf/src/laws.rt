@@ -1,4 +1,5 @@
 //! Laws of refutations and clauses. Each function does nothing: its contract is the law.
+//! Proved with `proofs/Refutations.antt`.
 
 ghost use Rattle.std.specs.Prelude.{◌≡◌, ℕ, Bool, List};
 ghost use Rattle.cpa_cnf.specs.Clauses.{has, IsClause};

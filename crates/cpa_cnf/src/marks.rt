@@ -1,4 +1,5 @@
 //! The scratch table of `check_line`: a mark for each literal, none of them set between two calls.
+//! By `specs/Marking.antt`; proved with `proofs/marks/` and `specs/lemmas/Marking.antt`.
 
 ghost use Rattle.std.specs.Prelude.{◌≡◌, ◌↔◌, ◌||◌, ◌&&◌, ℕ, not, true, false, IsTrue, IfOk};
 ghost use Rattle.std.specs.Bool.{OnTrue, OnFalse};

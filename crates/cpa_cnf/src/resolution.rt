@@ -1,4 +1,5 @@
-//! The resolvent of two clauses, as `IsResolvent` defines it.
+//! The resolvent of two clauses, as `IsResolvent` of `specs/Resolution.antt` defines it.
+//! Proved with `proofs/resolution/`.
 
 ghost use Rattle.std.specs.Prelude.{◌≡◌, ◌↔◌, ◌==◌, ◌||◌, ◌&&◌, ℕ, not, None, IfOk, OnOk, IfSome};
 ghost use Rattle.std.specs.Prelude.{IsNone};

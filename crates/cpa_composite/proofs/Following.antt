@@ -72,7 +72,8 @@ none_before : (list : List Elem)
 none_before [] = refl
 none_before (e ∷ list) = none_before list
 
-pub choices_none : (lists : List (List Elem)) (i : ℕ) → slice_get lists i ≡ Some [] → choices lists ≡ []
+pub choices_none : (lists : List (List Elem)) (i : ℕ) → slice_get lists i ≡ Some []
+    → choices lists ≡ []
 choices_none [] i at = absurd (cc)
 choices_none (list ∷ lists) zero at =
     ap (flat_map (λ (e : Elem). map (λ (row : List Elem). e ∷ row) (choices lists)))
@@ -146,8 +147,8 @@ rows_have cfa cs ps (choice ∷ chosen) rows (inr h) i c x is control have =
     )
 
 -- of no choice comes no row
-pub none_of : (cfa : Cfa) (cs : List Component) (ps : List Precision) (chosen rows : List (List Elem))
-    → chosen ≡ [] → EachStrengthened cfa cs ps chosen rows → rows ≡ []
+pub none_of : (cfa : Cfa) (cs : List Component) (ps : List Precision)
+    (chosen rows : List (List Elem)) → chosen ≡ [] → EachStrengthened cfa cs ps chosen rows → rows ≡ []
 none_of cfa cs ps [] rows empty made = made
 none_of cfa cs ps (choice ∷ chosen) rows empty made = absurd (cc)
 

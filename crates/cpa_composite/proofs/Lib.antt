@@ -9,3 +9,6 @@ pub mod Lifted
 pub mod Following
 pub mod Chosen
 pub mod Pinned
+pub mod Deciding
+pub mod Moving
+pub mod Ranked

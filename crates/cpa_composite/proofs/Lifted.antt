@@ -3,7 +3,7 @@ use Rattle.std.proofs.Common.{◌≡◌, ◌≢◌, ℕ, ◌<◌, ◌≤◌, tru
 use Rattle.std.proofs.Common.{Option, Some, None, IfNone, sym, ap, ◌∙◌, subst, arith}
 use Rattle.std.specs.Prelude.{nat_lt}
 use Rattle.std.specs.List.{slice_get, AllByRecursion, Contains}
-use Rattle.std.proofs.lemmas.Bool.{and_parts, or_parts, ltb-false}
+use Rattle.std.proofs.lemmas.Bool.{or_parts, ltb-false}
 use Rattle.std.proofs.lemmas.List.{length-append}
 use Rattle.std.proofs.lemmas.Option.{slice_get_within, IfSome_then}
 use Rattle.cpa_expr.specs.declared.tree.Expr.{Expr}
@@ -18,7 +18,6 @@ use Rattle.cpa_iface.specs.declared.precisions.Precision.{Precision}
 use Rattle.cpa_iface.specs.Laws.{Extends, MergeLaws}
 use Rattle.cpa_iface.specs.Meanings.{IsShaped, IsPrecision, Suggestion, HasPlace}
 use Rattle.cpa_composite.specs.Components.{Component, StandsAt, IsEntryOf}
-use Rattle.cpa_composite.specs.Covers.{all_cover, IsWithinRow}
 use Rattle.cpa_composite.specs.Laws.{EachInitial, EachMerged, EachAdjusted, EachRefined}
 use Rattle.cpa_composite.specs.Laws.{InitialRow, MergedRow, AdjustedRow, RefinedRow, AgreeOnSep}
 use Rattle.cpa_composite.specs.Laws.{WidenCovers, SuggestionsStand, some_longer}
@@ -48,18 +47,6 @@ initial_row cs cfa settings es ps many long each =
           (each i s.0 e s.1 s.2).0.holds);
       each = each;
     }
-
--- an inclusion of each element is one of rows
-pub cover_within : (cs : List Component) (es fs : List Elem) → length es ≡ length cs
-    → length fs ≡ length cs → all_cover cs es fs ≡ true → IsWithinRow es fs
-cover_within cs es [] many long h s lies = tt
-cover_within [] es (f ∷ fs) many long h s lies = absurd (omega arith)
-cover_within (c ∷ cs) [] (f ∷ fs) many long h s lies = absurd (omega arith)
-cover_within (c ∷ cs) (e ∷ es) (f ∷ fs) many long h s lies =
-    let both = and_parts (c.meaning.cover e f) (all_cover cs es fs) h in (
-      c.meaning.within e f both.0 s lies.0,
-      cover_within cs es fs (omega arith) (omega arith) both.1 s lies.1,
-    )
 
 -- the parts of a merged row at a place
 pub record MergedAt (cfa : Cfa) (cs : List Component) (new old : List Elem) (ps : List Precision)

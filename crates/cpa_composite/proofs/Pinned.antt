@@ -18,7 +18,8 @@ use Rattle.cpa_iface.specs.declared.analysis.Settings.{Settings}
 use Rattle.cpa_iface.specs.declared.entries.Entry.{Entry}
 use Rattle.cpa_iface.specs.declared.precisions.Precision.{Precision}
 use Rattle.cpa_iface.specs.Laws.{StrengthenLaws, StandsByPins, AdjustLaws}
-use Rattle.cpa_iface.specs.Pins.{pin_of, equals_from, IsControlPin, StepsPart, PinsStep, IsSettledBy}
+use Rattle.cpa_iface.specs.Pins.{pin_of, equals_from, IsControlPin, StepsPart, PinsStep}
+use Rattle.cpa_iface.specs.Pins.{IsSettledBy}
 use Rattle.cpa_iface.specs.Pins.{MustBeExact, TracksAll}
 use Rattle.cpa_composite.specs.Components.{Component, StandsAt}
 use Rattle.cpa_composite.specs.Exact.{IsControl, AreControl, AreExact, BindAll, pins}

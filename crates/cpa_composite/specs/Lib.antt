@@ -2,6 +2,7 @@ pub mod Components
 pub mod Picks
 pub mod Composites
 pub mod Covers
+pub mod CoverLaws
 pub mod Comparisons
 pub mod Laws
 pub mod Steps

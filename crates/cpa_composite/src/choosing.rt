@@ -17,7 +17,7 @@ use cpa_model::{Cfa, Elem, copy_elem};
 use std::alloc::{AllocError, Global};
 
 /// An equal row.
-fn copy_row(alloc: Global, row: &[Elem]) -> Result<Vec<Elem>, AllocError>
+pub fn copy_row(alloc: Global, row: &[Elem]) -> Result<Vec<Elem>, AllocError>
     ensures { IfOk result (λ list. list.items ≡ row.now) }
 {
     let mut list = Vec::new(alloc);

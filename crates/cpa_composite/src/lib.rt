@@ -11,6 +11,7 @@ mod handed;
 mod laws;
 mod rows;
 
+pub use choosing::copy_row;
 pub use composite::Composite;
 pub use handed::Handed;
-pub use laws::{control_is_followed, merging_ends, pins_are_followed};
+pub use laws::{control_is_followed, merging_ends, pins_are_followed, ranks_are_bounded};

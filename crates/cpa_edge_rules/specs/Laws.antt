@@ -60,13 +60,13 @@ FormsAreRuns =
 
 -- ---- the lemma
 
-starts_fit : (cells : List Cell) → AllByRecursion (λ (c : Cell). IsInRange c.ty c.start) cells
+pub starts_fit : (cells : List Cell) → AllByRecursion (λ (c : Cell). IsInRange c.ty c.start) cells
     → AreValues (types_of cells) (map (λ cell. cell.start) cells)
 starts_fit [] h = tt
 starts_fit (cell ∷ cells) h = (h.0, starts_fit cells h.1)
 
 module _ (cfa : Cfa) (few : length (types_of cfa.cells) < 2 ^ 63) where
-  act_fits : (a : Act) → IsActOf cfa a → ActFits cfa.cells cfa.points few a
+  pub act_fits : (a : Act) → IsActOf cfa a → ActFits cfa.cells cfa.points few a
   act_fits act.Skip is = tt
   act_fits (act.Assign base len index value) is = is
   act_fits (act.Assume test holds) is = is
@@ -74,7 +74,7 @@ module _ (cfa : Cfa) (few : length (types_of cfa.cells) < 2 ^ 63) where
   act_fits (act.Call site) is = tt
   act_fits (act.Return site) is = tt
 
-  added_fits : (added : List Added) → AllByRecursion (IsAddedOf cfa) added
+  pub added_fits : (added : List Added) → AllByRecursion (IsAddedOf cfa) added
       → AllByRecursion (AddedFits cfa.cells cfa.points few) added
   added_fits [] h = tt
   added_fits (taken a ∷ added) h = (act_fits a h.0, added_fits added h.1)

@@ -19,3 +19,9 @@ pub mod Added
 pub mod Whole
 pub mod Beginnings
 pub mod Formed
+pub mod Readings
+pub mod SettledReads
+pub mod TestReads
+pub mod CallReads
+pub mod LaterReads
+pub mod Weights

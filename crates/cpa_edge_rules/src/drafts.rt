@@ -1,4 +1,5 @@
-//! What a call adds to a query, as specs/Drafts says.
+//! What a call adds to a query.
+//! What that is for an edge or an element is said in specs/Drafts.
 
 use cpa_expr::Expr;
 use cpa_ints::{IntType, Seq};

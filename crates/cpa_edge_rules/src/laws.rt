@@ -1,6 +1,9 @@
-//! The laws of forms, stated in specs/Laws. Each function does nothing: its contract is the law.
+//! The laws of forms, stated in specs/Laws and specs/Additions. Each function does nothing: its
+//! contract is the law.
 
 ghost use Rattle.cpa_edge_rules.specs.Laws.{FormsAreRuns, CallsAddBehind};
+ghost use Rattle.cpa_edge_rules.specs.Additions.{FurtherCallsAddBehind, FurtherCallsRead};
+ghost use Rattle.cpa_edge_rules.specs.Additions.{WeightsAreSums};
 
 /// The query of a beginning and of what was added has a model exactly where a run of stores along
 /// the edges meets all that was added. Its first and last store, its inputs and the present values
@@ -14,4 +17,23 @@ pub fn forms_are_runs()
 #[tactic(auto, using(crate::specs::Laws::calls_add_behind))]
 pub fn calls_add_behind()
     ensures { CallsAddBehind }
+{}
+
+/// After any number of further calls the cells and the wanted expressions that were there stand in
+/// front.
+#[tactic(auto, using(crate::specs::Additions::further_calls_add_behind))]
+pub fn further_calls_add_behind()
+    ensures { FurtherCallsAddBehind }
+{}
+
+/// Seen from any time: an expression that a later call adds reads only cells that came later, and
+/// the places at that time of cells which the edge or the elements of the call read.
+pub fn further_calls_read()
+    ensures { FurtherCallsRead }
+{}
+
+/// The weight of a form is the sum of the weights of what was added, as far as 64 bits go.
+#[tactic(auto, using(crate::specs::Additions::weights_are_sums))]
+pub fn weights_are_sums()
+    ensures { WeightsAreSums }
 {}

@@ -6,4 +6,7 @@ mod drafts;
 mod laws;
 
 pub use drafts::Draft;
-pub use laws::{calls_add_behind, forms_are_runs};
+pub use laws::{
+    calls_add_behind, forms_are_runs, further_calls_add_behind, further_calls_read,
+    weights_are_sums,
+};

@@ -2,7 +2,8 @@
 use Rattle.std.proofs.Common.{◌≡◌, List, refl, sym, subst}
 use Rattle.cpa_model.specs.declared.automaton.Cfa.{Cfa}
 use Rattle.cpa_composite.specs.Components.{Component}
-use Rattle.cpa_engine.specs.Stages.{Stage, Does, Leads, stays, goes_on}
+use Rattle.cpa_engine.specs.Stages.{Stage}
+use Rattle.cpa_engine.specs.Steps.{Does, Leads, stays, goes_on}
 
 pub kept_along : (cfa : Cfa) (cs : List Component) (P : Stage → Type 0)
     → ((m b : Stage) → P m → Does cfa cs m b → P b) → (a b : Stage) → Leads cfa cs a b → P a → P b

@@ -1,13 +1,12 @@
 -- Where all that do not tell entries apart widen, each live row with the key of the successor
 -- covers
--- it when all were compared (`compared_all`).
-use Rattle.std.proofs.Common.{◌≡◌, ◌≢◌, ℕ, zero, suc, ◌+◌, Bool, true, cond}
+-- it when all were compared (`compares_good`).
+use Rattle.std.proofs.Common.{◌≡◌, ◌≢◌, zero, suc, Bool, true, cond}
 use Rattle.std.proofs.Common.{List}
-use Rattle.std.proofs.Common.{[], ◌∷◌, ◌++◌, length, Some, refl, sym, ap, ◌∙◌}
+use Rattle.std.proofs.Common.{[], ◌∷◌, length, refl, sym, ap, ◌∙◌}
 use Rattle.std.proofs.Common.{subst}
 use Rattle.std.proofs.Common.{inl, inr, ⊎_elim, arith}
 use Rattle.std.specs.Prelude.{◌⊎◌}
-use Rattle.std.specs.List.{slice_get, AllByRecursion, remove}
 use Rattle.std.proofs.lemmas.Bool.{cases_Bool, and_parts}
 use Rattle.std.proofs.lemmas.Option.{same_Some}
 use Rattle.cpa_model.specs.declared.automaton.Cfa.{Cfa}
@@ -20,8 +19,7 @@ use Rattle.cpa_composite.specs.Components.{Component}
 use Rattle.cpa_composite.specs.Laws.{AgreeOnSep, WidenCovers, MergedRow, EachMerged}
 use Rattle.cpa_composite.specs.Ranks.{JoinNone}
 use Rattle.cpa_composite.specs.RankLaws.{stays_covers, merged_covers}
-use Rattle.cpa_engine.specs.Keys.{is_key, key_of, WidenBesideKeys, CoversKey, MergesAt}
-use Rattle.cpa_engine.specs.Keys.{Compared}
+use Rattle.cpa_engine.specs.Keys.{is_key, key_of, WidenBesideKeys, CoversKey}
 
 -- none of them joins
 apart : (rule : MergeRule) → keeps_apart rule ≡ true → rule ≡ Sep
@@ -35,7 +33,7 @@ one_joins_not c (inl key) join =
     absurd (let wrong : Sep ≡ Join = sym sep ∙ join in cc)
 one_joins_not c (inr widen) join = absurd (let wrong : Widen ≡ Join = sym widen ∙ join in cc)
 
-none_joins : (cs : List Component) → WidenBesideKeys cs → JoinNone cs
+pub none_joins : (cs : List Component) → WidenBesideKeys cs → JoinNone cs
 none_joins [] all = tt
 none_joins (c ∷ cs) all = (one_joins_not c all.0, none_joins cs all.1)
 
@@ -113,117 +111,3 @@ merged_key cfa (c ∷ cs) (e ∷ es) (f ∷ fs) (p ∷ ps) (g ∷ gs) a b d size
     rw key (ap (λ (x : Elem). x ∷ key_of cs gs) first ∙ ap (λ (l : List Elem). f ∷ l) later))
     (λ other. rw other later)
     (cases_Bool (is_key c))
-
--- rows in three parts
-take_first : {X : Type 0} (front : List X) (x : X) (rest : List X)
-    → slice_get (front ++ x ∷ rest) (length front) ≡ Some x
-take_first [] x rest = refl
-take_first (y ∷ front) x rest = take_first front x rest
-
-gone_first : {X : Type 0} (front : List X) (x : X) (rest : List X)
-    → remove (front ++ x ∷ rest) (length front) ≡ front ++ rest
-gone_first [] x rest = refl
-gone_first {X} (y ∷ front) x rest = ap (λ (l : List X). y ∷ l) (gone_first front x rest)
-
-shifted : {X : Type 0} (front : List X) (x : X) (rest : List X)
-    → front ++ x ∷ rest ≡ (front ++ x ∷ []) ++ rest
-shifted [] x rest = refl
-shifted {X} (y ∷ front) x rest = ap (λ (l : List X). y ∷ l) (shifted front x rest)
-
-grouped : {X : Type 0} (xs ys zs : List X) → (xs ++ ys) ++ zs ≡ xs ++ (ys ++ zs)
-grouped [] ys zs = refl
-grouped {X} (x ∷ xs) ys zs = ap (λ (l : List X). x ∷ l) (grouped xs ys zs)
-
-size_push : {X : Type 0} (xs : List X) (x : X) → length (xs ++ x ∷ []) ≡ length xs + 1
-size_push [] x = omega arith
-size_push (y ∷ xs) x = let h = size_push xs x in omega (arith, h)
-
-all_push : (P : List Elem → Type 0) (xs : List (List Elem)) (x : List Elem) → AllByRecursion P xs
-    → P x → AllByRecursion P (xs ++ x ∷ [])
-all_push P [] x all p = (p, tt)
-all_push P (y ∷ xs) x all p = (all.0, all_push P xs x all.1 p)
-
-all_both : (P : List Elem → Type 0) (xs ys : List (List Elem)) → AllByRecursion P xs
-    → AllByRecursion P ys → AllByRecursion P (xs ++ ys)
-all_both P [] ys a b = b
-all_both P (x ∷ xs) ys a b = (a.0, all_both P xs ys a.1 b)
-
-pub compared_first : (good : List Elem → Type 0) (rows : List (List Elem))
-    → Compared good rows 0 (length rows)
-compared_first good rows = record {
-  front = [];
-  todo = rows;
-  behind = [];
-  is = no_more rows;
-  size = refl;
-  count = refl;
-  good_front = tt;
-  good_behind = tt;
-}
-  where
-    no_more : (xs : List (List Elem)) → xs ≡ xs ++ []
-    no_more [] = refl
-    no_more (x ∷ xs) = ap (λ (l : List (List Elem)). x ∷ l) (no_more xs)
-
-step_with : (good : List Elem → Type 0) (old new : List (List Elem)) (place next left : ℕ)
-    (front todo behind : List (List Elem)) → old ≡ front ++ (todo ++ behind)
-    → length front ≡ place → length todo ≡ left + 1 → AllByRecursion good front
-    → AllByRecursion good behind → MergesAt good old new place next → Compared good new next left
-step_with good old new place next left front [] behind is size count good_front good_behind merges =
-    absurd (omega (arith, count))
-step_with good old new place next left front (x ∷ todo) behind is size count good_front good_behind
-    merges =
-    let there : slice_get old place ≡ Some x =
-    ap (λ (l : List (List Elem)). slice_get l place) is
-    ∙ (ap (λ (n : ℕ). slice_get (front ++ x ∷ (todo ++ behind)) n) (sym size)
-    ∙ take_first front x (todo ++ behind)) in
-    ⊎_elim
-    (λ (stay : (next ≡ place + 1) × (new ≡ old)
-    × ((row : List Elem) → slice_get old place ≡ Some row → good row)).
-    record {
-      front = front ++ x ∷ [];
-      todo = todo;
-      behind = behind;
-      is = stay.1 ∙ (is ∙ shifted front x (todo ++ behind));
-      size = let long = size_push front x in let to = stay.0 in omega (arith, long, size, to);
-      count = omega (arith, count);
-      good_front = all_push good front x good_front (stay.2 x there);
-      good_behind = good_behind;
-    })
-    (λ (gone : (next ≡ place) × (row : List Elem) × (new ≡ remove old place ++ row ∷ [])
-    × good row).
-    let left_is : remove old place ≡ front ++ (todo ++ behind) =
-    ap (λ (l : List (List Elem)). remove l place) is
-    ∙ (ap (λ (n : ℕ). remove (front ++ x ∷ (todo ++ behind)) n) (sym size)
-    ∙ gone_first front x (todo ++ behind)) in
-    record {
-      front = front;
-      todo = todo;
-      behind = behind ++ gone.1 ∷ [];
-      is = gone.2 ∙ (ap (λ (l : List (List Elem)). l ++ gone.1 ∷ []) left_is
-          ∙ (grouped front (todo ++ behind) (gone.1 ∷ [])
-          ∙ ap (λ (l : List (List Elem)). front ++ l) (grouped todo behind (gone.1 ∷ []))));
-      size = size ∙ sym gone.0;
-      count = omega (arith, count);
-      good_front = good_front;
-      good_behind = all_push good behind gone.1 good_behind gone.3;
-    })
-    merges.step
-
-pub compared_step : (good : List Elem → Type 0) (old new : List (List Elem))
-    (place next left : ℕ) → Compared good old place (left + 1) → MergesAt good old new place next
-    → Compared good new next left
-compared_step good old new place next left c merges =
-    step_with good old new place next left c.front c.todo c.behind c.is c.size c.count c.good_front
-    c.good_behind merges
-
-pub compared_all : (good : List Elem → Type 0) (rows : List (List Elem)) (place : ℕ)
-    → Compared good rows place 0 → AllByRecursion good rows
-compared_all good rows place c =
-    last c.todo c.count c.is
-  where
-    last : (todo : List (List Elem)) → length todo ≡ 0
-        → rows ≡ c.front ++ (todo ++ c.behind) → AllByRecursion good rows
-    last [] none is = subst (AllByRecursion good) (sym is)
-        (all_both good c.front c.behind c.good_front c.good_behind)
-    last (x ∷ todo) none is = absurd (omega (arith, none))

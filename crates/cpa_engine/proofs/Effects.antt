@@ -16,19 +16,19 @@ use Rattle.cpa_iface.specs.declared.entries.Entry.{Entry}
 use Rattle.cpa_iface.specs.declared.precisions.Precision.{Precision}
 use Rattle.cpa_composite.specs.Components.{Component}
 use Rattle.cpa_composite.specs.Covers.{all_cover}
-use Rattle.cpa_reached.specs.Members.{IsIn, is_in, Ascend}
+use Rattle.cpa_reached.specs.Members.{IsIn, Ascend}
 use Rattle.cpa_reached.specs.MemberLaws.{in_map, map_in, in_append, append_front, append_back}
 use Rattle.cpa_reached.specs.MemberLaws.{in_filter, filter_in, one_entry, numbers_append, all_push}
 use Rattle.cpa_reached.specs.MemberLaws.{ascend_push, ascend_kept, all_kept, entry_in, in_all}
 use Rattle.cpa_reached.specs.MemberLaws.{numbers_map, all_weaker}
 use Rattle.cpa_reached.specs.Entries.{ReachedSet, IsLive, numbers}
 use Rattle.cpa_reached.specs.Calls.{gains, fresh, rename, renamed}
-use Rattle.cpa_reached.specs.Calls.{replacing, others, those, replaced_entries, used}
-use Rattle.cpa_reached.specs.Calls.{added, replaced}
-use Rattle.cpa_engine.specs.Turns.{IsNamed, firsts, seconds}
-use Rattle.cpa_engine.specs.Stages.{Stage, stage, with_added, with_replaced}
-use Rattle.cpa_engine.specs.Stages.{Does, IsOrdered}
+use Rattle.cpa_reached.specs.Calls.{replacing, others, those, replaced_entries}
+use Rattle.cpa_reached.specs.Calls.{replaced}
+use Rattle.cpa_engine.specs.Turns.{IsNamed, seconds}
 use Rattle.cpa_engine.proofs.Lists.{in_push, in_front, last_in, in_map_of}
+use Rattle.cpa_engine.specs.Stages.{Stage, noting, adding, replacing_at}
+use Rattle.cpa_engine.specs.Steps.{Does, IsOrdered}
 
 pub below_next : (r : ReachedSet) (e : Entry) → IsOrdered r → IsIn e r.live → e.number < r.next
 below_next r e ordered there =
@@ -69,14 +69,14 @@ pub record IsNew (a b : Stage) (y : Entry) : Type 0 where
   pub number : y.number ≡ a.reached.next
   pub waits : y.waiting ≡ true
   pub rises : a.reached.next < b.reached.next
-  pub named : IsNamed b.work.row y.number
+  pub named : IsNamed b.row y.number
 
 -- another entry has taken its place
 pub record GivesWay (cfa : Cfa) (b : Stage) (x : Entry) : Type 0 where
   pub entry : Entry
   pub is_in : IsIn entry b.reached.live
   pub waits : entry.waiting ≡ true
-  pub pair : IsIn (x.number, entry.number) b.work.row.replaced
+  pub pair : IsIn (x.number, entry.number) b.row.replaced
   pub holds : (s : State) → IsStateOf cfa s → LiesIn s x.elems → LiesIn s entry.elems
 
 -- a number that was added just now, whose entry nothing covers that was there
@@ -99,18 +99,18 @@ pub record Effect (cfa : Cfa) (cs : List Component) (a b : Stage) : Type 0 where
   pub journal : b.reached.journal ≡ a.reached.journal
   pub back : (y : Entry) → IsIn y b.reached.live → HasAlike a.reached.live y ⊎ IsNew a b y
   pub forth : (x : Entry) → IsIn x a.reached.live → GoesOnIn b.reached.live x ⊎ GivesWay cfa b x
-  pub taken : b.work.row.taken ≡ a.work.row.taken
-  pub added : (n : ℕ) → IsIn n b.work.row.added
-      → IsIn n a.work.row.added ⊎ IsJustAdded cs a b n
-  pub still_added : (n : ℕ) → IsIn n a.work.row.added → IsIn n b.work.row.added
-  pub pairs : (p : ℕ × ℕ) → IsIn p b.work.row.replaced
-      → IsIn p a.work.row.replaced ⊎ IsJustPaired a b p
-  pub still_paired : (p : ℕ × ℕ) → IsIn p a.work.row.replaced → IsIn p b.work.row.replaced
-  pub current : IsLive a.reached.live a.work.current → IsLive b.reached.live b.work.current
-  pub stands : (b.work.current ≡ a.work.current) ⊎ (b.work.current ≡ a.reached.next)
+  pub taken : b.row.taken ≡ a.row.taken
+  pub added : (n : ℕ) → IsIn n b.row.added
+      → IsIn n a.row.added ⊎ IsJustAdded cs a b n
+  pub still_added : (n : ℕ) → IsIn n a.row.added → IsIn n b.row.added
+  pub pairs : (p : ℕ × ℕ) → IsIn p b.row.replaced
+      → IsIn p a.row.replaced ⊎ IsJustPaired a b p
+  pub still_paired : (p : ℕ × ℕ) → IsIn p a.row.replaced → IsIn p b.row.replaced
+  pub current : IsLive a.reached.live a.current → IsLive b.reached.live b.current
+  pub stands : (b.current ≡ a.current) ⊎ (b.current ≡ a.reached.next)
   -- the firsts of the pairs are as before, or one more that was live
-  pub once : (b.work.row.replaced ≡ a.work.row.replaced)
-      ⊎ ((p : ℕ × ℕ) × (b.work.row.replaced ≡ a.work.row.replaced ++ p ∷ [])
+  pub once : (b.row.replaced ≡ a.row.replaced)
+      ⊎ ((p : ℕ × ℕ) × (b.row.replaced ≡ a.row.replaced ++ p ∷ [])
       × IsLive a.reached.live p.0)
 
 -- a change of entries that leaves all but what they name
@@ -155,10 +155,10 @@ live_alike xs ys n forth l =
 
 -- `note_use`
 notes_effect : (cfa : Cfa) (cs : List Component) (a : Stage) (by : ℕ) → IsOrdered a.reached
-    → Effect cfa cs a (stage (used a.reached a.work.current by) a.work)
+    → Effect cfa cs a (noting by a)
 notes_effect cfa cs a by ordered =
-    let g : Entry → Entry = λ e. cond (eqb e.number a.work.current) (gains by e) e in
-    let mild = gains_mildly a.work.current by in
+    let g : Entry → Entry = λ e. cond (eqb e.number a.current) (gains by e) e in
+    let mild = gains_mildly a.current by in
     let same = mild_numbers g a.reached.live mild in
     record {
       ordered = record {
@@ -174,7 +174,7 @@ notes_effect cfa cs a by ordered =
       still_added = λ n there. there;
       pairs = λ p there. inl there;
       still_paired = λ p there. there;
-      current = λ l. live_alike a.reached.live (map g a.reached.live) a.work.current
+      current = λ l. live_alike a.reached.live (map g a.reached.live) a.current
           (λ x there. mild_forth g a.reached.live x mild there) l;
       stands = inl refl;
       once = inl refl;
@@ -184,15 +184,14 @@ notes_effect cfa cs a by ordered =
 adds_effect : (cfa : Cfa) (cs : List Component) (a : Stage) (es : List Elem) (ps : List Precision)
     (edge : ℕ) → IsOrdered a.reached
     → ((e : Entry) → IsIn e a.reached.live → all_cover cs es e.elems ≡ false)
-    → Effect cfa cs a (stage (added a.reached es ps (a.work.current, edge))
-    (with_added a.reached.next a.work))
+    → Effect cfa cs a (adding es ps edge a)
 adds_effect cfa cs a es ps edge ordered uncovered =
     let next = a.reached.next in
     let xs = a.reached.live in
-    let g : Entry → Entry = λ e. cond (eqb e.number a.work.current) (gains next e) e in
-    let mild = gains_mildly a.work.current next in
-    let new = fresh next es ps (Some (a.work.current, edge)) in
-    let b = stage (added a.reached es ps (a.work.current, edge)) (with_added next a.work) in
+    let g : Entry → Entry = λ e. cond (eqb e.number a.current) (gains next e) e in
+    let mild = gains_mildly a.current next in
+    let new = fresh next es ps (Some (a.current, edge)) in
+    let b = adding es ps edge a in
     let front : (x : Entry) → IsIn x xs → GoesOnIn b.reached.live x =
     λ x there. let on = mild_forth g xs x mild there in
     record {
@@ -224,8 +223,8 @@ adds_effect cfa cs a es ps edge ordered uncovered =
             number = ap (λ (z : Entry). z.number) (sym is);
             waits = ap (λ (z : Entry). z.waiting) (sym is);
             rises = omega arith;
-            named = inl (subst (λ (n : ℕ). IsIn n (a.work.row.added ++ next ∷ []))
-                (ap (λ (z : Entry). z.number) is) (last_in a.work.row.added next));
+            named = inl (subst (λ (n : ℕ). IsIn n (a.row.added ++ next ∷ []))
+                (ap (λ (z : Entry). z.number) is) (last_in a.row.added next));
           })) (from y there);
       forth = λ x there. inl (front x there);
       taken = refl;
@@ -243,11 +242,11 @@ adds_effect cfa cs a es ps edge ordered uncovered =
                 (λ is_new. subst (λ (z : Entry). all_cover cs z.elems x.elems ≡ false) is_new
                 (uncovered x in_x))
                 (from y in_y);
-          })) (in_push a.work.row.added next n there);
-      still_added = λ n there. in_front a.work.row.added (next ∷ []) n there;
+          })) (in_push a.row.added next n there);
+      still_added = λ n there. in_front a.row.added (next ∷ []) n there;
       pairs = λ p there. inl there;
       still_paired = λ p there. there;
-      current = λ l. live_alike xs b.reached.live a.work.current front l;
+      current = λ l. live_alike xs b.reached.live a.current front l;
       stands = inl refl;
       once = inl refl;
     }
@@ -325,40 +324,18 @@ replaced_ordered r old es ordered there =
           (omega arith));
     }
 
-replaces_effect : (cfa : Cfa) (cs : List Component) (a : Stage) (old : Entry) (es : List Elem)
-    → IsOrdered a.reached → IsIn old a.reached.live
-    → ((s : State) → IsStateOf cfa s → LiesIn s old.elems → LiesIn s es)
-    → Effect cfa cs a (stage (replaced a.reached old.number es)
-    (with_replaced old.number a.reached.next a.work))
-replaces_effect cfa cs a old es ordered in_old holds =
-    let next = a.reached.next in
-    let xs = a.reached.live in
+-- an entry after a replacement: one of another number that was there, or the new one
+pub replaced_back : (next : ℕ) (xs : List Entry) (old : Entry) (es : List Elem)
+    → Ascend (numbers xs) → IsIn old xs → (y : Entry)
+    → IsIn y (replaced_entries next xs old.number es)
+    → ((x : Entry) × IsIn x xs × Alike x y × (x.number ≢ old.number))
+    ⊎ (y ≡ replacing next es old)
+replaced_back next xs old es up in_old y there =
     let o = old.number in
     let keep : Entry → Bool = λ e. not (eqb e.number o) in
     let take : Entry → Bool = λ e. eqb e.number o in
-    let front = map (renamed o next) (others o xs) in
-    let behind = map (replacing next es) (those o xs) in
-    let b = stage (replaced a.reached o es) (with_replaced o next a.work) in
     let mild = renamed_mildly o next in
-    let new = replacing next es old in
-    let in_new : IsIn new (front ++ behind) =
-    append_back front behind new
-    (map_in (replacing next es) (those o xs) old
-    (filter_in take xs old in_old (eq-eqb o o refl))) in
-    let pair : IsIn (o, next) (a.work.row.replaced ++ (o, next) ∷ []) =
-    last_in a.work.row.replaced (o, next) in
-    let forth : (x : Entry) → IsIn x xs → GoesOnIn (front ++ behind) x ⊎ (x ≡ old) =
-    λ x there. ⊎_elim
-    (λ yes. inr (one_entry xs x old ordered.ascend there in_old (eqb-true x.number o yes)))
-    (λ no. inl (record {
-      entry = renamed o next x;
-      is_in = append_front front behind (renamed o next x)
-          (map_in (renamed o next) (others o xs) x (filter_in keep xs x there (rw no refl)));
-      alike = mild.alike x;
-    })) (cases_Bool (eqb x.number o)) in
-    let back : (y : Entry) → IsIn y (front ++ behind)
-    → ((x : Entry) × IsIn x xs × Alike x y × (x.number ≢ o)) ⊎ (y ≡ new) =
-    λ y there. ⊎_elim
+    ⊎_elim
     (λ kept. let from = in_map (renamed o next) (others o xs) y kept in
     let was = in_filter keep xs from.0 from.1 in
     inl (
@@ -370,9 +347,43 @@ replaces_effect cfa cs a old es ordered in_old holds =
     (λ last. let from = in_map (replacing next es) (those o xs) y last in
     let was = in_filter take xs from.0 from.1 in
     let same : from.0 ≡ old =
-    one_entry xs from.0 old ordered.ascend was.0 in_old (eqb-true from.0.number o was.1) in
+    one_entry xs from.0 old up was.0 in_old (eqb-true from.0.number o was.1) in
     inr (from.2 ∙ ap (replacing next es) same))
-    (in_append front behind y there) in
+    (in_append (map (renamed o next) (others o xs)) (map (replacing next es) (those o xs)) y there)
+
+replaces_effect : (cfa : Cfa) (cs : List Component) (a : Stage) (old : Entry) (es : List Elem)
+    → IsOrdered a.reached → IsIn old a.reached.live
+    → ((s : State) → IsStateOf cfa s → LiesIn s old.elems → LiesIn s es)
+    → Effect cfa cs a (replacing_at old.number es a)
+replaces_effect cfa cs a old es ordered in_old holds =
+    let next = a.reached.next in
+    let xs = a.reached.live in
+    let o = old.number in
+    let keep : Entry → Bool = λ e. not (eqb e.number o) in
+    let take : Entry → Bool = λ e. eqb e.number o in
+    let front = map (renamed o next) (others o xs) in
+    let behind = map (replacing next es) (those o xs) in
+    let b = replacing_at o es a in
+    let mild = renamed_mildly o next in
+    let new = replacing next es old in
+    let in_new : IsIn new (front ++ behind) =
+    append_back front behind new
+    (map_in (replacing next es) (those o xs) old
+    (filter_in take xs old in_old (eq-eqb o o refl))) in
+    let pair : IsIn (o, next) (a.row.replaced ++ (o, next) ∷ []) =
+    last_in a.row.replaced (o, next) in
+    let forth : (x : Entry) → IsIn x xs → GoesOnIn (front ++ behind) x ⊎ (x ≡ old) =
+    λ x there. ⊎_elim
+    (λ yes. inr (one_entry xs x old ordered.ascend there in_old (eqb-true x.number o yes)))
+    (λ no. inl (record {
+      entry = renamed o next x;
+      is_in = append_front front behind (renamed o next x)
+          (map_in (renamed o next) (others o xs) x (filter_in keep xs x there (rw no refl)));
+      alike = mild.alike x;
+    })) (cases_Bool (eqb x.number o)) in
+    let back : (y : Entry) → IsIn y (front ++ behind)
+    → ((x : Entry) × IsIn x xs × Alike x y × (x.number ≢ o)) ⊎ (y ≡ new) =
+    replaced_back next xs old es ordered.ascend in_old in
     let ordered_after : IsOrdered b.reached =
     replaced_ordered a.reached old es ordered in_old in
     record {
@@ -386,16 +397,16 @@ replaces_effect cfa cs a old es ordered in_old holds =
             number = ap (λ (z : Entry). z.number) is;
             waits = ap (λ (z : Entry). z.waiting) is;
             rises = omega arith;
-            named = inr (subst (λ (n : ℕ). IsIn n (seconds b.work.row.replaced))
+            named = inr (subst (λ (n : ℕ). IsIn n (seconds b.row.replaced))
                 (sym (ap (λ (z : Entry). z.number) is))
-                (in_map_of (λ (p : ℕ × ℕ). p.1) b.work.row.replaced (o, next) pair));
+                (in_map_of (λ (p : ℕ × ℕ). p.1) b.row.replaced (o, next) pair));
           })) (back y there);
       forth = λ x there. ⊎_elim (λ on. inl on)
           (λ is. inr (record {
             entry = new;
             is_in = in_new;
             waits = refl;
-            pair = subst (λ (z : Entry). IsIn (z.number, next) b.work.row.replaced) (sym is) pair;
+            pair = subst (λ (z : Entry). IsIn (z.number, next) b.row.replaced) (sym is) pair;
             holds = subst (λ (z : Entry). (s : State) → IsStateOf cfa s → LiesIn s z.elems
                 → LiesIn s es) (sym is) holds;
           })) (forth x there);
@@ -418,12 +429,12 @@ replaces_effect cfa cs a old es ordered in_old holds =
                 let at = l.is in
                 absurd (omega (arith, low, first, here, at)))
                 (back l.entry l.is_in);
-          })) (in_push a.work.row.replaced (o, next) p there);
-      still_paired = λ p there. in_front a.work.row.replaced ((o, next) ∷ []) p there;
+          })) (in_push a.row.replaced (o, next) p there);
+      still_paired = λ p there. in_front a.row.replaced ((o, next) ∷ []) p there;
       current = λ l. ⊎_elim
-          (λ (own : (a.work.current ≡ o) × (rename o next a.work.current ≡ next)).
+          (λ (own : (a.current ≡ o) × (rename o next a.current ≡ next)).
           record { entry = new; is_in = in_new; is = sym own.1 })
-          (λ (other : (a.work.current ≢ o) × (rename o next a.work.current ≡ a.work.current)).
+          (λ (other : (a.current ≢ o) × (rename o next a.current ≡ a.current)).
           ⊎_elim
           (λ on. record {
             entry = on.entry;
@@ -432,12 +443,12 @@ replaces_effect cfa cs a old es ordered in_old holds =
           })
           (λ is. absurd (other.0 (sym l.is ∙ ap (λ (z : Entry). z.number) is)))
           (forth l.entry l.is_in))
-          (rename_cases o next a.work.current);
+          (rename_cases o next a.current);
       stands = ⊎_elim
-          (λ (own : (a.work.current ≡ o) × (rename o next a.work.current ≡ next)). inr own.1)
-          (λ (other : (a.work.current ≢ o) × (rename o next a.work.current ≡ a.work.current)).
+          (λ (own : (a.current ≡ o) × (rename o next a.current ≡ next)). inr own.1)
+          (λ (other : (a.current ≢ o) × (rename o next a.current ≡ a.current)).
           inl other.1)
-          (rename_cases o next a.work.current);
+          (rename_cases o next a.current);
       once = inr ((o, next), refl, record { entry = old; is_in = in_old; is = refl });
     }
 

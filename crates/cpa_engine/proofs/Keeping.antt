@@ -16,11 +16,12 @@ use Rattle.cpa_reached.specs.Calls.{taken, closed}
 use Rattle.cpa_engine.specs.Turns.{IsNamed, firsts, seconds}
 use Rattle.cpa_engine.specs.Journals.{brought, numbers_of, all_brought, all_taken, all_replaced}
 use Rattle.cpa_engine.specs.Journals.{all_numbers, MayFollow, MayCome, IsJournalOf}
-use Rattle.cpa_engine.specs.Stages.{Stage, Expands}
 use Rattle.cpa_engine.proofs.Lists.{in_both, in_front, in_back, in_push, map_push}
 use Rattle.cpa_engine.proofs.Effects.{HasAlike}
 use Rattle.cpa_engine.proofs.Progress.{CameIn}
 use Rattle.cpa_engine.proofs.Turning.{Ended, ended, waits_there, alike_was, old_below}
+use Rattle.cpa_engine.specs.Stages.{Stage}
+use Rattle.cpa_engine.specs.Steps.{GoesOn}
 
 -- rows with one more
 no_more : (xs : List ℕ) → xs ++ [] ≡ xs
@@ -98,9 +99,9 @@ taken_within (row ∷ rows) n (inr later) =
 -- the row of the turn
 may_follow : (cfa : Cfa) (cs : List Component) (r : ReachedSet) (n : ℕ) (last : Stage)
     (began : List ℕ) → Ended cfa cs r n last → IsJournalOf began r
-    → MayFollow began r.journal last.work.row
+    → MayFollow began r.journal last.row
 may_follow cfa cs r n last began end of =
-    let row = last.work.row in
+    let row = last.row in
     let e = end.waiting.entry in
     let is : row.taken ≡ e.number = end.taken ∙ sym end.waiting.is in
     let from : (m : ℕ) → IsIn m (brought row) → r.next ≤ m =
@@ -124,10 +125,10 @@ may_follow cfa cs r n last began end of =
 
 pub journal_of : (cfa : Cfa) (cs : List Component) (r : ReachedSet) (n : ℕ) (last : Stage)
     (began : List ℕ) → Ended cfa cs r n last → IsJournalOf began r
-    → IsJournalOf began (closed last.reached last.work.row)
+    → IsJournalOf began (closed last.reached last.row)
 journal_of cfa cs r n last began end of =
     let so = end.so in
-    let row = last.work.row in
+    let row = last.row in
     let rows = r.journal in
     let new = closed last.reached row in
     let same : new.journal ≡ rows ++ row ∷ [] =
@@ -199,9 +200,9 @@ journal_of cfa cs r n last began end of =
 
 pub turned_journal : (cfa : Cfa) (cs : List Component) (order : Order) (r : ReachedSet) (n : ℕ)
     (new : ReachedSet) (began : List ℕ) → IsNext order r.live n
-    → Expands cfa cs n (taken n r) new → IsJournalOf began r → IsJournalOf began new
-turned_journal cfa cs order r n new began next expands of =
-    subst (IsJournalOf began) (sym expands.closed)
-    (journal_of cfa cs r n expands.last began
-    (ended cfa cs r n expands.last expands.ordered (waits_there r.live n next.waits) expands.leads)
+    → GoesOn cfa cs n (taken n r) new → IsJournalOf began r → IsJournalOf began new
+turned_journal cfa cs order r n new began next goes of =
+    subst (IsJournalOf began) (sym goes.closed)
+    (journal_of cfa cs r n goes.last began
+    (ended cfa cs r n goes.last goes.ordered (waits_there r.live n next.waits) goes.leads)
     of)

@@ -9,7 +9,12 @@ pub mod Shapes
 pub mod Turning
 pub mod Keeping
 pub mod Settled
-pub mod Expanded
+pub mod Places
+pub mod Working
 pub mod Beginning
 pub mod Comparing
 pub mod Owning
+pub mod Counting
+pub mod Keyed
+pub mod Bounding
+pub mod Pinning

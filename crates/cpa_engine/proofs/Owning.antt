@@ -15,13 +15,13 @@ use Rattle.cpa_reached.specs.MemberLaws.{in_map, in_append, in_filter, one_entry
 use Rattle.cpa_reached.specs.Entries.{ReachedSet}
 use Rattle.cpa_reached.specs.Calls.{gains, fresh, renamed, replacing, others, those, taken, rests}
 use Rattle.cpa_engine.specs.Keys.{key_of, WidenBesideKeys, HaveOwnKeys, CoversKey, rows_of}
-use Rattle.cpa_engine.specs.Stages.{Stage, stage, begun, IsOrdered}
-use Rattle.cpa_engine.specs.Stages.{Does, Expands}
 use Rattle.cpa_engine.proofs.Chains.{kept_along}
 use Rattle.cpa_engine.proofs.Comparing.{merged_key}
 use Rattle.cpa_engine.proofs.Effects.{effect, gains_mildly}
 use Rattle.cpa_engine.proofs.Lists.{in_map_of}
 use Rattle.cpa_engine.proofs.Shapes.{each_in}
+use Rattle.cpa_engine.specs.Stages.{Stage, taking}
+use Rattle.cpa_engine.specs.Steps.{IsOrdered, Does, Leads, GoesOn}
 
 -- an entry with the number and the key of one of before
 record Keyed (cs : List Component) (xs : List Entry) (y : Entry) : Type 0 where
@@ -65,13 +65,13 @@ adds_own : (cfa : Cfa) (cs : List Component) (a : Stage) (adds_next : ℕ) (es :
     → AllByRecursion (CoversKey cs es) (rows_of a.reached.live)
     → ((e : Entry) → IsIn e a.reached.live → all_cover cs es e.elems ≡ false)
     → HaveOwnKeys cs a.reached.live
-    → HaveOwnKeys cs (map (λ (x : Entry). cond (eqb x.number a.work.current) (gains adds_next x) x)
+    → HaveOwnKeys cs (map (λ (x : Entry). cond (eqb x.number a.current) (gains adds_next x) x)
     a.reached.live ++ new ∷ [])
 adds_own cfa cs a next es new number is_es compared uncovered own e f in_e in_f same =
     let xs = a.reached.live in
-    let g : Entry → Entry = λ x. cond (eqb x.number a.work.current) (gains next x) x in
+    let g : Entry → Entry = λ x. cond (eqb x.number a.current) (gains next x) x in
     let split : (y : Entry) → IsIn y (map g xs ++ new ∷ []) → Keyed cs xs y ⊎ (new ≡ y) =
-    λ y there. ⊎_elim (λ old. inl (gained_keyed cs a.work.current next xs y old))
+    λ y there. ⊎_elim (λ old. inl (gained_keyed cs a.current next xs y old))
     (λ last. ⊎_elim (λ is. inr is) (λ none. absurd none) last)
     (in_append (map g xs) (new ∷ []) y there) in
     let differ : (y z : Entry) → Keyed cs xs y → new ≡ z → key_of cs y.elems ≡ key_of cs z.elems
@@ -142,10 +142,10 @@ own_step : (cfa : Cfa) (cs : List Component) (a b : Stage) → WidenBesideKeys c
 own_step cfa cs a b all ordered (inl notes) own =
     subst (λ (m : Stage). HaveOwnKeys cs m.reached.live) (sym notes.is)
     (still_own cs a.reached.live
-    (map (λ (x : Entry). cond (eqb x.number a.work.current) (gains notes.by x) x) a.reached.live)
-    (λ y there. gained_keyed cs a.work.current notes.by a.reached.live y there) own)
+    (map (λ (x : Entry). cond (eqb x.number a.current) (gains notes.by x) x) a.reached.live)
+    (λ y there. gained_keyed cs a.current notes.by a.reached.live y there) own)
 own_step cfa cs a b all ordered (inr (inl adds)) own =
-    let new = fresh a.reached.next adds.elems adds.precisions (Some (a.work.current, adds.edge)) in
+    let new = fresh a.reached.next adds.elems adds.precisions (Some (a.current, adds.edge)) in
     subst (λ (m : Stage). HaveOwnKeys cs m.reached.live) (sym adds.is)
     (adds_own cfa cs a a.reached.next adds.elems new refl refl (adds.compared all) adds.uncovered
     own)
@@ -179,17 +179,26 @@ taken_keyed cs n xs y there =
           (λ z. z.elems ≡ from.0.elems) (λ _. refl) (λ _. refl));
     }
 
-pub turned_keys : (cfa : Cfa) (cs : List Component) (r : ReachedSet) (n : ℕ) (new : ReachedSet)
-    → WidenBesideKeys cs → Expands cfa cs n (taken n r) new → HaveOwnKeys cs r.live
-    → HaveOwnKeys cs new.live
-turned_keys cfa cs r n new all expands own =
-    let a : Stage = stage (taken n r) (begun n) in
-    let first : HaveOwnKeys cs a.reached.live =
-    still_own cs r.live a.reached.live (λ y there. taken_keyed cs n r.live y there) own in
-    subst (λ (s : ReachedSet). HaveOwnKeys cs s.live) (sym expands.closed)
+pub own_along : (cfa : Cfa) (cs : List Component) (a b : Stage) → WidenBesideKeys cs
+    → Leads cfa cs a b → IsOrdered a.reached → HaveOwnKeys cs a.reached.live
+    → HaveOwnKeys cs b.reached.live
+own_along cfa cs a b all leads ordered own =
     (kept_along cfa cs (Own cs)
     (λ m c o does. record {
       ordered = (effect cfa cs m c o.ordered does).ordered;
       own = own_step cfa cs m c all o.ordered does o.own;
     })
-    a expands.last expands.leads (record { ordered = expands.ordered; own = first })).own
+    a b leads (record { ordered = ordered; own = own })).own
+
+pub own_taken : (cs : List Component) (r : ReachedSet) (n : ℕ) → HaveOwnKeys cs r.live
+    → HaveOwnKeys cs (taken n r).live
+own_taken cs r n own =
+    still_own cs r.live (taken n r).live (λ y there. taken_keyed cs n r.live y there) own
+
+pub turned_keys : (cfa : Cfa) (cs : List Component) (r : ReachedSet) (n : ℕ) (new : ReachedSet)
+    → WidenBesideKeys cs → GoesOn cfa cs n (taken n r) new → HaveOwnKeys cs r.live
+    → HaveOwnKeys cs new.live
+turned_keys cfa cs r n new all goes own =
+    subst (λ (s : ReachedSet). HaveOwnKeys cs s.live) (sym goes.closed)
+    (own_along cfa cs (taking (taken n r) n) goes.last all goes.leads goes.ordered
+    (own_taken cs r n own))

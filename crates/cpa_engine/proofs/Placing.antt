@@ -16,17 +16,15 @@ use Rattle.cpa_reached.specs.Members.{IsIn}
 use Rattle.cpa_reached.specs.MemberLaws.{map_in, append_front, append_back, filter_in, one_entry}
 use Rattle.cpa_reached.specs.Entries.{IsLive}
 use Rattle.cpa_reached.specs.Calls.{gains, fresh, rename, renamed, replacing, others, those}
-use Rattle.cpa_reached.specs.Calls.{used, added, replaced}
+use Rattle.cpa_reached.specs.Calls.{replaced}
 use Rattle.cpa_reached.specs.Successors.{LiesInNamed}
 use Rattle.cpa_engine.specs.Turns.{LiesInEntry}
-use Rattle.cpa_engine.specs.Stages.{Stage, stage, with_added}
-use Rattle.cpa_engine.specs.Stages.{Does}
-use Rattle.cpa_engine.specs.Stages.{Leads, IsServed, IsPlaced}
 use Rattle.cpa_engine.proofs.Lists.{in_front, last_in, in_map_of}
-use Rattle.cpa_engine.specs.Stages.{IsOrdered}
 use Rattle.cpa_engine.proofs.Effects.{Effect, effect, GoesOnIn, GivesWay, rename_cases}
 use Rattle.cpa_engine.proofs.Effects.{mild_forth, gains_mildly}
 use Rattle.cpa_engine.proofs.Chains.{kept_along}
+use Rattle.cpa_engine.specs.Stages.{Stage, noting, adding}
+use Rattle.cpa_engine.specs.Steps.{Does, Leads, IsServed, IsPlaced, IsOrdered}
 
 -- it lies in an entry still
 lies_still : (cfa : Cfa) (cs : List Component) (a b : Stage) (t : State) → Effect cfa cs a b
@@ -79,9 +77,9 @@ more_serve t xs ys e (inr named) = inr (record {
 })
 
 notes_serve : (t : State) (a : Stage) (by : ℕ) → IsServed t a
-    → IsServed t (stage (used a.reached a.work.current by) a.work)
+    → IsServed t (noting by a)
 notes_serve t a by served =
-    let n = a.work.current in
+    let n = a.current in
     let g : Entry → Entry = λ x. cond (eqb x.number n) (gains by x) x in
     record {
       entry = g served.entry;
@@ -92,10 +90,9 @@ notes_serve t a by served =
 
 adds_serve : (t : State) (a : Stage) (es : List Elem) (ps : List Precision) (edge : ℕ)
     → IsServed t a
-    → IsServed t (stage (added a.reached es ps (a.work.current, edge))
-    (with_added a.reached.next a.work))
+    → IsServed t (adding es ps edge a)
 adds_serve t a es ps edge served =
-    let n = a.work.current in
+    let n = a.current in
     let next = a.reached.next in
     let g : Entry → Entry = λ x. cond (eqb x.number n) (gains next x) x in
     let new = fresh next es ps (Some (n, edge)) in
@@ -118,7 +115,7 @@ record NamedOn (t : State) (o next : ℕ) (e : Entry) (ys : List Entry) : Type 0
 replaces_serve : (cfa : Cfa) (t : State) (a : Stage) (old : Entry) (es : List Elem)
     → IsOrdered a.reached → IsIn old a.reached.live → IsStateOf cfa t
     → ((s : State) → IsStateOf cfa s → LiesIn s old.elems → LiesIn s es) → IsServed t a
-    → (w : ℕ) → w ≡ rename old.number a.reached.next a.work.current
+    → (w : ℕ) → w ≡ rename old.number a.reached.next a.current
     → (e : Entry) × IsIn e (replaced a.reached old.number es).live × (e.number ≡ w)
     × ((e.waiting ≡ true) ⊎ LiesInNamed t e.uses (replaced a.reached old.number es).live)
 replaces_serve cfa t a old es ordered in_old state holds served w is_w =
@@ -189,7 +186,7 @@ served_still cfa cs a b t ordered state (inr (inl adds)) served =
 served_still cfa cs a b t ordered state (inr (inr replaces)) served =
     let old = replaces.entry in
     let r = replaces_serve cfa t a old replaces.elems ordered replaces.is_in state
-    replaces.merged.covers served (rename old.number a.reached.next a.work.current) refl in
+    replaces.merged.covers served (rename old.number a.reached.next a.current) refl in
     subst (IsServed t) (sym replaces.is)
     (record { entry = r.0; is_in = r.1; number = r.2; serves = r.3 })
 
@@ -212,10 +209,10 @@ placed_along cfa cs a b t state leads ordered placed =
 
 -- where an entry that covers it is noted, the state is placed
 pub noted_places : (t : State) (a : Stage) (by : Entry) → IsIn by a.reached.live
-    → IsLive a.reached.live a.work.current → LiesIn t by.elems
-    → IsPlaced t (stage (used a.reached a.work.current by.number) a.work)
+    → IsLive a.reached.live a.current → LiesIn t by.elems
+    → IsPlaced t (noting by.number a)
 noted_places t a by in_by current lies =
-    let n = a.work.current in
+    let n = a.current in
     let g : Entry → Entry = λ x. cond (eqb x.number n) (gains by.number x) x in
     let mild = gains_mildly n by.number in
     let on = mild_forth g a.reached.live by mild in_by in
@@ -242,11 +239,10 @@ noted_places t a by in_by current lies =
 
 -- where the successor itself is added, the state is placed
 pub added_places : (t : State) (a : Stage) (es : List Elem) (ps : List Precision) (edge : ℕ)
-    → IsLive a.reached.live a.work.current → LiesIn t es
-    → IsPlaced t (stage (added a.reached es ps (a.work.current, edge))
-    (with_added a.reached.next a.work))
+    → IsLive a.reached.live a.current → LiesIn t es
+    → IsPlaced t (adding es ps edge a)
 added_places t a es ps edge current lies =
-    let n = a.work.current in
+    let n = a.current in
     let next = a.reached.next in
     let g : Entry → Entry = λ x. cond (eqb x.number n) (gains next x) x in
     let new = fresh next es ps (Some (n, edge)) in

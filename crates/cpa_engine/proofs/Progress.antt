@@ -13,17 +13,17 @@ use Rattle.cpa_reached.specs.Members.{IsIn}
 use Rattle.cpa_reached.specs.Entries.{ReachedSet, IsLive}
 use Rattle.cpa_engine.specs.Turns.{IsNamed, IsFollowedBy, at_once, later, firsts, seconds}
 use Rattle.cpa_engine.specs.Turns.{IsReplaced}
-use Rattle.cpa_engine.specs.Stages.{Stage, Does, Leads}
 use Rattle.cpa_engine.proofs.Lists.{map_push, in_map_of, of_map, distinct_push}
-use Rattle.cpa_engine.specs.Stages.{IsOrdered}
 use Rattle.cpa_engine.proofs.Effects.{alike_then, HasAlike, GoesOnIn, IsNew}
 use Rattle.cpa_engine.proofs.Effects.{GivesWay, IsJustAdded, IsJustPaired, Effect, effect}
 use Rattle.cpa_engine.proofs.Effects.{below_next}
 use Rattle.cpa_engine.proofs.Chains.{kept_along}
+use Rattle.cpa_engine.specs.Stages.{Stage}
+use Rattle.cpa_engine.specs.Steps.{Does, Leads, IsOrdered}
 
 -- an entry that came in this turn: the row names it, and it waits
 pub record CameIn (start : ℕ) (m : Stage) (e : Entry) : Type 0 where
-  pub named : IsNamed m.work.row e.number
+  pub named : IsNamed m.row e.number
   pub waits : e.waiting ≡ true
   pub from : start ≤ e.number
 
@@ -32,29 +32,29 @@ pub record SoFar (cfa : Cfa) (cs : List Component) (old : List Entry) (start : �
   pub ordered : IsOrdered m.reached
   pub rises : start ≤ m.reached.next
   pub entries : (o : Entry) → IsIn o old
-      → GoesOnIn m.reached.live o ⊎ IsReplaced cfa m.work.row m.reached.live o
+      → GoesOnIn m.reached.live o ⊎ IsReplaced cfa m.row m.reached.live o
   pub known : (e : Entry) → IsIn e m.reached.live → HasAlike old e ⊎ CameIn start m e
-  pub brought : (n : ℕ) → IsNamed m.work.row n → (start ≤ n) × (n < m.reached.next)
-  pub first : (n : ℕ) → IsIn n (firsts m.work.row.replaced)
-      → (n < m.reached.next) × (IsLive old n ⊎ IsNamed m.work.row n)
-  pub gone : (n : ℕ) → IsIn n (firsts m.work.row.replaced) → IsLive m.reached.live n → ⊥
-  pub once : AreDistinct (firsts m.work.row.replaced)
-  pub uncovered : (e f : Entry) → IsIn e m.reached.live → IsIn e.number m.work.row.added
+  pub brought : (n : ℕ) → IsNamed m.row n → (start ≤ n) × (n < m.reached.next)
+  pub first : (n : ℕ) → IsIn n (firsts m.row.replaced)
+      → (n < m.reached.next) × (IsLive old n ⊎ IsNamed m.row n)
+  pub gone : (n : ℕ) → IsIn n (firsts m.row.replaced) → IsLive m.reached.live n → ⊥
+  pub once : AreDistinct (firsts m.row.replaced)
+  pub uncovered : (e f : Entry) → IsIn e m.reached.live → IsIn e.number m.row.added
       → IsIn f m.reached.live → f.number < e.number → all_cover cs e.elems f.elems ≡ false
-  pub current : IsLive m.reached.live m.work.current
-  pub stands : (m.work.current ≡ m.work.row.taken) ⊎ (start ≤ m.work.current)
+  pub current : IsLive m.reached.live m.current
+  pub stands : (m.current ≡ m.row.taken) ⊎ (start ≤ m.current)
 
 -- what was named is named still
 still_named : (cfa : Cfa) (cs : List Component) (a b : Stage) (n : ℕ) → Effect cfa cs a b
-    → IsNamed a.work.row n → IsNamed b.work.row n
+    → IsNamed a.row n → IsNamed b.row n
 still_named cfa cs a b n e (inl there) = inl (e.still_added n there)
 still_named cfa cs a b n e (inr there) =
-    let p = of_map (λ (q : ℕ × ℕ). q.1) a.work.row.replaced n there in
-    inr (subst (λ (k : ℕ). IsIn k (seconds b.work.row.replaced)) p.2
-    (in_map_of (λ (q : ℕ × ℕ). q.1) b.work.row.replaced p.0 (e.still_paired p.0 p.1)))
+    let p = of_map (λ (q : ℕ × ℕ). q.1) a.row.replaced n there in
+    inr (subst (λ (k : ℕ). IsIn k (seconds b.row.replaced)) p.2
+    (in_map_of (λ (q : ℕ × ℕ). q.1) b.row.replaced p.0 (e.still_paired p.0 p.1)))
 
 still_followed : (cfa : Cfa) (cs : List Component) (a b : Stage) (n m : ℕ) → Effect cfa cs a b
-    → IsFollowedBy a.work.row.replaced n m → IsFollowedBy b.work.row.replaced n m
+    → IsFollowedBy a.row.replaced n m → IsFollowedBy b.row.replaced n m
 still_followed cfa cs a b n m e (at_once k there) = at_once k (e.still_paired (n, k) there)
 still_followed cfa cs a b n m e (later k j way there) =
     later k j (still_followed cfa cs a b n k e way) (e.still_paired (k, j) there)
@@ -62,8 +62,8 @@ still_followed cfa cs a b n m e (later k j way there) =
 -- an entry of the beginning
 still_there : (cfa : Cfa) (cs : List Component) (old : List Entry) (start : ℕ) (a b : Stage)
     (o : Entry) → Effect cfa cs a b
-    → GoesOnIn a.reached.live o ⊎ IsReplaced cfa a.work.row a.reached.live o
-    → GoesOnIn b.reached.live o ⊎ IsReplaced cfa b.work.row b.reached.live o
+    → GoesOnIn a.reached.live o ⊎ IsReplaced cfa a.row a.reached.live o
+    → GoesOnIn b.reached.live o ⊎ IsReplaced cfa b.row b.reached.live o
 still_there cfa cs old start a b o e (inl on) =
     ⊎_elim
     (λ (next : GoesOnIn b.reached.live on.entry). inl (record {
@@ -75,7 +75,7 @@ still_there cfa cs old start a b o e (inl on) =
       entry = gives.entry;
       is_in = gives.is_in;
       follows = at_once gives.entry.number
-          (subst (λ (k : ℕ). IsIn (k, gives.entry.number) b.work.row.replaced) on.alike.number
+          (subst (λ (k : ℕ). IsIn (k, gives.entry.number) b.row.replaced) on.alike.number
           gives.pair);
       waits = gives.waits;
       holds = λ s state lies. gives.holds s state
@@ -87,7 +87,7 @@ still_there cfa cs old start a b o e (inr is) =
     (λ (next : GoesOnIn b.reached.live is.entry). inr (record {
       entry = next.entry;
       is_in = next.is_in;
-      follows = subst (IsFollowedBy b.work.row.replaced o.number) (sym next.alike.number)
+      follows = subst (IsFollowedBy b.row.replaced o.number) (sym next.alike.number)
           (still_followed cfa cs a b o.number is.entry.number e is.follows);
       waits = next.alike.waiting ∙ is.waits;
       holds = λ s state lies. subst (λ es. LiesIn s es) (sym next.alike.elems)
@@ -115,7 +115,7 @@ still_known cfa cs old start a b y so e (inl has) =
       alike = alike_then was.entry has.entry y was.alike has.alike;
     }))
     (λ (came : CameIn start a has.entry). inr (record {
-      named = subst (IsNamed b.work.row) (sym has.alike.number)
+      named = subst (IsNamed b.row) (sym has.alike.number)
           (still_named cfa cs a b has.entry.number e came.named);
       waits = has.alike.waiting ∙ came.waits;
       from = let low = came.from in let same = has.alike.number in omega (arith, low, same);
@@ -143,7 +143,7 @@ live_before cfa cs a b n e low l =
 
 -- what the row brought
 brought_still : (cfa : Cfa) (cs : List Component) (old : List Entry) (start : ℕ) (a b : Stage)
-    (n : ℕ) → SoFar cfa cs old start a → Effect cfa cs a b → IsNamed b.work.row n
+    (n : ℕ) → SoFar cfa cs old start a → Effect cfa cs a b → IsNamed b.row n
     → (start ≤ n) × (n < b.reached.next)
 brought_still cfa cs old start a b n so e (inl there) =
     ⊎_elim
@@ -155,10 +155,10 @@ brought_still cfa cs old start a b n so e (inl there) =
     (omega (arith, is, low), omega (arith, is, up)))
     (e.added n there)
 brought_still cfa cs old start a b n so e (inr there) =
-    let p = of_map (λ (q : ℕ × ℕ). q.1) b.work.row.replaced n there in
+    let p = of_map (λ (q : ℕ × ℕ). q.1) b.row.replaced n there in
     ⊎_elim
-    (λ was. let r = so.brought n (inr (subst (λ (k : ℕ). IsIn k (seconds a.work.row.replaced)) p.2
-    (in_map_of (λ (q : ℕ × ℕ). q.1) a.work.row.replaced p.0 was))) in
+    (λ was. let r = so.brought n (inr (subst (λ (k : ℕ). IsIn k (seconds a.row.replaced)) p.2
+    (in_map_of (λ (q : ℕ × ℕ). q.1) a.row.replaced p.0 was))) in
     let low = r.0 in let less = r.1 in let up = e.rises in
     (omega (arith, low), omega (arith, less, up)))
     (λ (just : IsJustPaired a b p.0).
@@ -168,15 +168,15 @@ brought_still cfa cs old start a b n so e (inr there) =
 
 -- the first numbers of pairs
 first_cases : (cfa : Cfa) (cs : List Component) (a b : Stage) (n : ℕ) → Effect cfa cs a b
-    → IsIn n (firsts b.work.row.replaced)
-    → IsIn n (firsts a.work.row.replaced)
+    → IsIn n (firsts b.row.replaced)
+    → IsIn n (firsts a.row.replaced)
     ⊎ ((IsLive a.reached.live n) × (IsLive b.reached.live n → ⊥)
     × (a.reached.next < b.reached.next))
 first_cases cfa cs a b n e there =
-    let p = of_map (λ (q : ℕ × ℕ). q.0) b.work.row.replaced n there in
+    let p = of_map (λ (q : ℕ × ℕ). q.0) b.row.replaced n there in
     ⊎_elim
-    (λ was. inl (subst (λ (k : ℕ). IsIn k (firsts a.work.row.replaced)) p.2
-    (in_map_of (λ (q : ℕ × ℕ). q.0) a.work.row.replaced p.0 was)))
+    (λ was. inl (subst (λ (k : ℕ). IsIn k (firsts a.row.replaced)) p.2
+    (in_map_of (λ (q : ℕ × ℕ). q.0) a.row.replaced p.0 was)))
     (λ (just : IsJustPaired a b p.0).
     inr (
       subst (IsLive a.reached.live) p.2 just.was,
@@ -187,7 +187,7 @@ first_cases cfa cs a b n e there =
 
 known_number : (cfa : Cfa) (cs : List Component) (old : List Entry) (start : ℕ) (a b : Stage)
     (n : ℕ) → SoFar cfa cs old start a → Effect cfa cs a b → IsLive a.reached.live n
-    → IsLive old n ⊎ IsNamed b.work.row n
+    → IsLive old n ⊎ IsNamed b.row n
 known_number cfa cs old start a b n so e l =
     ⊎_elim
     (λ (has : HasAlike old l.entry). inl (record {
@@ -196,7 +196,7 @@ known_number cfa cs old start a b n so e l =
       is = sym has.alike.number ∙ l.is;
     }))
     (λ (came : CameIn start a l.entry).
-    inr (still_named cfa cs a b n e (subst (IsNamed a.work.row) l.is came.named)))
+    inr (still_named cfa cs a b n e (subst (IsNamed a.row) l.is came.named)))
     (so.known l.entry l.is_in)
 
 live_below : (r : ReachedSet) (n : ℕ) → IsOrdered r → IsLive r.live n → n < r.next
@@ -227,11 +227,11 @@ so_far_step cfa cs old start a b so e = record {
       (first_cases cfa cs a b n e there);
   once = ⊎_elim
       (λ same. subst (λ (ps : List (ℕ × ℕ)). AreDistinct (firsts ps)) (sym same) so.once)
-      (λ (more : (p : ℕ × ℕ) × (b.work.row.replaced ≡ a.work.row.replaced ++ p ∷ [])
+      (λ (more : (p : ℕ × ℕ) × (b.row.replaced ≡ a.row.replaced ++ p ∷ [])
       × IsLive a.reached.live p.0).
       subst (λ (ps : List (ℕ × ℕ)). AreDistinct (firsts ps)) (sym more.1)
-      (subst AreDistinct (sym (map_push (λ (q : ℕ × ℕ). q.0) a.work.row.replaced more.0))
-      (distinct_push (firsts a.work.row.replaced) more.0.0 so.once
+      (subst AreDistinct (sym (map_push (λ (q : ℕ × ℕ). q.0) a.row.replaced more.0))
+      (distinct_push (firsts a.row.replaced) more.0.0 so.once
       (λ there. so.gone more.0.0 there more.2))))
       e.once;
   uncovered = λ y f in_y is_added in_f less. uncovered_still y f in_y is_added in_f less
@@ -244,16 +244,16 @@ so_far_step cfa cs old start a b so e = record {
       e.stands;
 }
   where
-    uncovered_still : (y f : Entry) → IsIn y b.reached.live → IsIn y.number b.work.row.added
+    uncovered_still : (y f : Entry) → IsIn y b.reached.live → IsIn y.number b.row.added
         → IsIn f b.reached.live → f.number < y.number → HasAlike a.reached.live y ⊎ IsNew a b y
         → HasAlike a.reached.live f ⊎ IsNew a b f
-        → IsIn y.number a.work.row.added ⊎ IsJustAdded cs a b y.number
+        → IsIn y.number a.row.added ⊎ IsJustAdded cs a b y.number
         → all_cover cs y.elems f.elems ≡ false
     uncovered_still y f in_y is_added in_f less (inl has) (inl also) (inl was) =
         let old_y = has.alike.number in
         let old_f = also.alike.number in
         let r = so.uncovered has.entry also.entry has.is_in
-        (subst (λ (n : ℕ). IsIn n a.work.row.added) old_y was) also.is_in
+        (subst (λ (n : ℕ). IsIn n a.row.added) old_y was) also.is_in
         (omega (arith, less, old_y, old_f)) in
         subst (λ es. all_cover cs es f.elems ≡ false) (sym has.alike.elems)
         (subst (λ fs. all_cover cs has.entry.elems fs ≡ false) (sym also.alike.elems) r)
@@ -295,11 +295,11 @@ ordered_along cfa cs a b leads ordered =
 
 record HasBoth (m : Stage) : Type 0 where
   ordered : IsOrdered m.reached
-  current : IsLive m.reached.live m.work.current
+  current : IsLive m.reached.live m.current
 
 pub current_along : (cfa : Cfa) (cs : List Component) (a b : Stage) → Leads cfa cs a b
-    → IsOrdered a.reached → IsLive a.reached.live a.work.current
-    → IsLive b.reached.live b.work.current
+    → IsOrdered a.reached → IsLive a.reached.live a.current
+    → IsLive b.reached.live b.current
 current_along cfa cs a b leads ordered live =
     (kept_along cfa cs HasBoth
     (λ m c o does. let e = effect cfa cs m c o.ordered does in

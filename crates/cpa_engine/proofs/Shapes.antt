@@ -11,8 +11,9 @@ use Rattle.cpa_reached.specs.Members.{IsIn}
 use Rattle.cpa_reached.specs.Calls.{gains, fresh, renamed, rename_parent, replacing, others, those}
 use Rattle.cpa_reached.specs.Calls.{at_number, rests}
 use Rattle.cpa_engine.specs.Turns.{AreEntries, HasEdge}
-use Rattle.cpa_engine.specs.Stages.{Stage, Does, Leads}
 use Rattle.cpa_engine.proofs.Chains.{kept_along}
+use Rattle.cpa_engine.specs.Stages.{Stage}
+use Rattle.cpa_engine.specs.Steps.{Does, Leads}
 
 pub each_in : {X : Type 0} (P : X → Type 0) (xs : List X) (x : X) → AllByRecursion P xs → IsIn x xs
     → P x
@@ -80,17 +81,17 @@ shapes_step : (cfa : Cfa) (cs : List Component) (a b : Stage)
 shapes_step cfa cs a b all (inl notes) =
     let P = HasShape cfa (length cs) in
     subst (λ (m : Stage). AllByRecursion P m.reached.live) (sym notes.is)
-    (all_after P (λ (x : Entry). cond (eqb x.number a.work.current) (gains notes.by x) x)
-    a.reached.live (gains_shape cfa (length cs) a.work.current notes.by) all)
+    (all_after P (λ (x : Entry). cond (eqb x.number a.current) (gains notes.by x) x)
+    a.reached.live (gains_shape cfa (length cs) a.current notes.by) all)
 shapes_step cfa cs a b all (inr (inl adds)) =
     let P = HasShape cfa (length cs) in
     let g : Entry → Entry =
-    λ x. cond (eqb x.number a.work.current) (gains a.reached.next x) x in
-    let new = fresh a.reached.next adds.elems adds.precisions (Some (a.work.current, adds.edge)) in
+    λ x. cond (eqb x.number a.current) (gains a.reached.next x) x in
+    let new = fresh a.reached.next adds.elems adds.precisions (Some (a.current, adds.edge)) in
     subst (λ (m : Stage). AllByRecursion P m.reached.live) (sym adds.is)
     (all_both P (map g a.reached.live) (new ∷ [])
     (all_after P g a.reached.live
-    (gains_shape cfa (length cs) a.work.current a.reached.next) all) (
+    (gains_shape cfa (length cs) a.current a.reached.next) all) (
       record {
         entry = record { elems = adds.are_elems; precisions = adds.are_precisions };
         edge = adds.is_edge;

@@ -18,18 +18,18 @@ use Rattle.cpa_composite.specs.Components.{Component}
 use Rattle.cpa_reached.specs.Members.{IsIn, Ascend}
 use Rattle.cpa_reached.specs.MemberLaws.{in_map, map_in, in_filter, one_entry, numbers_map}
 use Rattle.cpa_reached.specs.Entries.{ReachedSet, IsLive, IsNext, numbers, waiting_numbers}
-use Rattle.cpa_reached.specs.Calls.{at_number, rests, taken, closed}
+use Rattle.cpa_reached.specs.Calls.{at_number, rests, taken}
 use Rattle.cpa_reached.specs.Successors.{LiesInNamed, CoversSuccessors}
 use Rattle.cpa_engine.specs.Turns.{AreEntries}
 use Rattle.cpa_engine.specs.Turns.{IsTurn, Turned, IsTaken, Stays, IsReplaced, IsFollowedBy}
-use Rattle.cpa_engine.specs.Stages.{Stage, stage, begun, Leads, IsPlaced, Expands}
 use Rattle.cpa_engine.proofs.Lists.{of_map}
-use Rattle.cpa_engine.specs.Stages.{IsOrdered}
 use Rattle.cpa_engine.proofs.Effects.{HasAlike, GoesOnIn, same_alike, effect, below_next}
 use Rattle.cpa_engine.proofs.Chains.{kept_along}
 use Rattle.cpa_engine.proofs.Shapes.{entries_along, taken_entries}
 use Rattle.cpa_engine.proofs.Progress.{SoFar, CameIn, so_far_along}
-use Rattle.cpa_engine.proofs.Waiting.{waits, CoversBut, covers_along, taken_covers, covers_last}
+use Rattle.cpa_engine.proofs.Waiting.{CoversBut, covers_along, taken_covers, covers_last}
+use Rattle.cpa_engine.specs.Stages.{Stage, taking, Works}
+use Rattle.cpa_engine.specs.Steps.{Leads, IsPlaced, GoesOn, IsOrdered}
 
 -- a waiting number is that of an entry that waits
 pub record Waits (xs : List Entry) (n : ℕ) : Type 0 where
@@ -105,7 +105,7 @@ ordered_before r n ordered =
 
 pub so_far_begins : (cfa : Cfa) (cs : List Component) (r : ReachedSet) (n : ℕ)
     → IsOrdered (taken n r) → Waits r.live n
-    → SoFar cfa cs (taken n r).live r.next (stage (taken n r) (begun n))
+    → SoFar cfa cs (taken n r).live r.next (taking (taken n r) n)
 so_far_begins cfa cs r n ordered waiting =
     record {
       ordered = ordered;
@@ -127,10 +127,10 @@ so_far_begins cfa cs r n ordered waiting =
 
 record TakenIs (n : ℕ) (m : Stage) : Type 0 where
   ordered : IsOrdered m.reached
-  taken : m.work.row.taken ≡ n
+  taken : m.row.taken ≡ n
 
 taken_along : (cfa : Cfa) (cs : List Component) (n : ℕ) (a b : Stage) → Leads cfa cs a b
-    → IsOrdered a.reached → a.work.row.taken ≡ n → b.work.row.taken ≡ n
+    → IsOrdered a.reached → a.row.taken ≡ n → b.row.taken ≡ n
 taken_along cfa cs n a b leads ordered is =
     (kept_along cfa cs (TakenIs n)
     (λ m c o does. let e = effect cfa cs m c o.ordered does in
@@ -156,15 +156,15 @@ pub record Ended (cfa : Cfa) (cs : List Component) (r : ReachedSet) (n : ℕ) (l
     pub numbered : IsOrdered r
     pub waiting : Waits r.live n
     pub so : SoFar cfa cs (taken n r).live r.next last
-    pub taken : last.work.row.taken ≡ n
+    pub taken : last.row.taken ≡ n
     pub journal : last.reached.journal ≡ r.journal
 
 pub ended : (cfa : Cfa) (cs : List Component) (r : ReachedSet) (n : ℕ) (last : Stage)
-    → IsOrdered (taken n r) → Waits r.live n → Leads cfa cs (stage (taken n r) (begun n)) last
+    → IsOrdered (taken n r) → Waits r.live n → Leads cfa cs (taking (taken n r) n) last
     → Ended cfa cs r n last
 ended cfa cs r n last ordered waiting leads =
     let start = so_far_begins cfa cs r n ordered waiting in
-    let a = stage (taken n r) (begun n) in
+    let a = taking (taken n r) n in
     record {
       numbered = ordered_before r n ordered;
       waiting = waiting;
@@ -192,7 +192,7 @@ alike_was r n e has =
 
 stays_or_not : (cfa : Cfa) (cs : List Component) (r : ReachedSet) (n : ℕ) (last : Stage)
     (e : Entry) → Ended cfa cs r n last → IsIn e r.live
-    → Stays last.work.row last.reached.live e ⊎ IsReplaced cfa last.work.row last.reached.live e
+    → Stays last.row last.reached.live e ⊎ IsReplaced cfa last.row last.reached.live e
 stays_or_not cfa cs r n last e end there =
     ⊎_elim
     (λ (on : GoesOnIn last.reached.live (at_rest n e)). inl (record {
@@ -203,10 +203,10 @@ stays_or_not cfa cs r n last e end there =
       waits = λ other waited. on.alike.waiting
           ∙ (rest_waiting n e (λ is. other (is ∙ sym end.taken)) ∙ waited);
     }))
-    (λ (is : IsReplaced cfa last.work.row last.reached.live (at_rest n e)). inr (record {
+    (λ (is : IsReplaced cfa last.row last.reached.live (at_rest n e)). inr (record {
       entry = is.entry;
       is_in = is.is_in;
-      follows = subst (λ (k : ℕ). IsFollowedBy last.work.row.replaced k is.entry.number)
+      follows = subst (λ (k : ℕ). IsFollowedBy last.row.replaced k is.entry.number)
           (rest_number n e) is.follows;
       waits = is.waits;
       holds = λ s state lies. is.holds s state
@@ -218,10 +218,10 @@ pub is_turn : (cfa : Cfa) (cs : List Component) (r : ReachedSet) (n : ℕ) (last
     → Ended cfa cs r n last
     → ((e : Entry) (s t : State) → IsIn e (taken n r).live → e.number ≡ n → LiesIn s e.elems
     → EdgeStep cfa s t → IsPlaced t last)
-    → IsTurn cfa cs r.live last.reached.live last.work.row
+    → IsTurn cfa cs r.live last.reached.live last.row
 is_turn cfa cs r n last end placed =
     let so = end.so in
-    let row = last.work.row in
+    let row = last.row in
     record {
       taken = subst (IsTaken r.live last.reached.live) (sym end.taken) (record {
         entry = end.waiting.entry;
@@ -267,25 +267,27 @@ is_turn cfa cs r n last end placed =
     }
 
 pub turned : (cfa : Cfa) (cs : List Component) (order : Order) (r : ReachedSet) (n : ℕ)
-    (new : ReachedSet) → IsNext order r.live n → Expands cfa cs n (taken n r) new
-    → Turned cfa cs order r new
-turned cfa cs order r n new next expands =
-    let last = expands.last in
-    let end = ended cfa cs r n last expands.ordered (waits_there r.live n next.waits) expands.leads
-    in
-    subst (Turned cfa cs order r) (sym expands.closed) (record {
-      row = last.work.row;
+    (new : ReachedSet) → IsNext order r.live n → GoesOn cfa cs n (taken n r) new
+    → Works cfa cs n (taken n r) new → Turned cfa cs order r new
+turned cfa cs order r n new next goes works =
+    let last = goes.last in
+    let end = ended cfa cs r n last goes.ordered (waits_there r.live n next.waits) goes.leads in
+    record {
+      row = last.row;
       next = subst (IsNext order r.live) (sym end.taken) next;
-      turn = is_turn cfa cs r n last end expands.placed;
-      closed = ap (λ (rows : List Turn). rows ++ last.work.row ∷ []) end.journal;
-    })
+      turn = subst (λ (s : ReachedSet). IsTurn cfa cs r.live s.live last.row) (sym goes.closed)
+          (is_turn cfa cs r n last end goes.placed);
+      works = subst (λ (k : ℕ). Works cfa cs k (taken k r) new) (sym end.taken) works;
+      closed = ap (λ (s : ReachedSet). s.journal) goes.closed
+          ∙ ap (λ (rows : List Turn). rows ++ last.row ∷ []) end.journal;
+    }
 
 -- what stands for the taken entry and waits no longer is that entry
 own_covered : (cfa : Cfa) (cs : List Component) (r : ReachedSet) (n : ℕ) (last : Stage)
     → Ended cfa cs r n last
     → ((e : Entry) (s t : State) → IsIn e (taken n r).live → e.number ≡ n → LiesIn s e.elems
     → EdgeStep cfa s t → IsPlaced t last)
-    → (e : Entry) (s t : State) → IsIn e last.reached.live → e.number ≡ last.work.current
+    → (e : Entry) (s t : State) → IsIn e last.reached.live → e.number ≡ last.current
     → e.waiting ≡ false → LiesIn s e.elems → EdgeStep cfa s t
     → LiesInNamed t e.uses last.reached.live
 own_covered cfa cs r n last end placed e s t there is rests lies steps =
@@ -313,27 +315,27 @@ own_covered cfa cs r n last end placed e s t there is rests lies steps =
 
 pub turned_covers : (cfa : Cfa) (cs : List Component) (order : Order) (r : ReachedSet) (n : ℕ)
     (new : ReachedSet) → IsStateOf cfa (initial_state cfa)
-    → IsNext order r.live n → Expands cfa cs n (taken n r) new → CoversSuccessors cfa r.live
+    → IsNext order r.live n → GoesOn cfa cs n (taken n r) new → CoversSuccessors cfa r.live
     → CoversSuccessors cfa new.live
-turned_covers cfa cs order r n new begins next expands covers =
-    let last = expands.last in
+turned_covers cfa cs order r n new begins next goes covers =
+    let last = goes.last in
     let waiting = waits_there r.live n next.waits in
-    let end = ended cfa cs r n last expands.ordered waiting expands.leads in
-    let a = stage (taken n r) (begun n) in
+    let end = ended cfa cs r n last goes.ordered waiting goes.leads in
+    let a = taking (taken n r) n in
     let first : CoversBut cfa a = taken_covers cfa n r.live
     (λ e there is. ap (λ (y : Entry). y.waiting)
     (one_entry r.live e waiting.entry end.numbered.ascend there waiting.is_in (is ∙ sym waiting.is))
     ∙ waiting.waiting) covers in
-    let but = covers_along cfa cs a last begins expands.leads
-    expands.ordered first in
-    subst (λ (s : ReachedSet). CoversSuccessors cfa s.live) (sym expands.closed)
-    (covers_last cfa last.work.current last.reached.live but
-    (own_covered cfa cs r n last end expands.placed))
+    let but = covers_along cfa cs a last begins goes.leads
+    goes.ordered first in
+    subst (λ (s : ReachedSet). CoversSuccessors cfa s.live) (sym goes.closed)
+    (covers_last cfa last.current last.reached.live but
+    (own_covered cfa cs r n last end goes.placed))
 
 pub turned_entries : (cfa : Cfa) (cs : List Component) (r : ReachedSet) (n : ℕ) (new : ReachedSet)
-    → Expands cfa cs n (taken n r) new → AreEntries cfa (length cs) r.live
+    → GoesOn cfa cs n (taken n r) new → AreEntries cfa (length cs) r.live
     → AreEntries cfa (length cs) new.live
-turned_entries cfa cs r n new expands are =
-    subst (λ (s : ReachedSet). AreEntries cfa (length cs) s.live) (sym expands.closed)
-    (entries_along cfa cs (stage (taken n r) (begun n)) expands.last expands.leads
+turned_entries cfa cs r n new goes are =
+    subst (λ (s : ReachedSet). AreEntries cfa (length cs) s.live) (sym goes.closed)
+    (entries_along cfa cs (taking (taken n r) n) goes.last goes.leads
     (taken_entries cfa (length cs) n r.live are))

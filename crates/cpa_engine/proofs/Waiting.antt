@@ -18,16 +18,16 @@ use Rattle.cpa_iface.specs.declared.precisions.Precision.{Precision}
 use Rattle.cpa_composite.specs.Components.{Component}
 use Rattle.cpa_reached.specs.Members.{IsIn}
 use Rattle.cpa_reached.specs.MemberLaws.{in_map, map_in, in_filter, one_entry}
-use Rattle.cpa_reached.specs.Entries.{ReachedSet, numbers}
+use Rattle.cpa_reached.specs.Entries.{ReachedSet}
 use Rattle.cpa_reached.specs.Calls.{at_number, gains, fresh, rename, renamed, replacing, others}
 use Rattle.cpa_reached.specs.Calls.{those}
 use Rattle.cpa_reached.specs.Calls.{added_entries, replaced_entries, rests}
 use Rattle.cpa_reached.specs.Successors.{LiesInNamed, CoversSuccessors, HoldOfAll}
 use Rattle.cpa_reached.specs.SuccessorLaws.{used-covers, added-covers, replaced-covers}
-use Rattle.cpa_engine.specs.Stages.{Stage, Does, Leads}
-use Rattle.cpa_engine.specs.Stages.{IsOrdered}
 use Rattle.cpa_engine.proofs.Effects.{effect, below_next, rename_cases}
 use Rattle.cpa_engine.proofs.Chains.{kept_along}
+use Rattle.cpa_engine.specs.Stages.{Stage}
+use Rattle.cpa_engine.specs.Steps.{Does, Leads, IsOrdered}
 
 abbrev pub waits : Entry → Entry
 waits e = record e { waiting = true }
@@ -169,7 +169,7 @@ replaced_commute n next r old es ordered is_next =
 
 -- the taken entry's successors aside, successors are covered
 abbrev pub CoversBut : Cfa → Stage → Type 0
-CoversBut cfa m = CoversSuccessors cfa (at_number m.work.current waits m.reached.live)
+CoversBut cfa m = CoversSuccessors cfa (at_number m.current waits m.reached.live)
 
 waiting_holds : (cfa : Cfa) (n : ℕ) (xs : List Entry) (old : Entry) (es : List Elem)
     → ((e : Entry) → IsIn e xs → e.number ≡ old.number → e ≡ old)
@@ -192,25 +192,25 @@ covers_step : (cfa : Cfa) (cs : List Component) (a b : Stage)
     → CoversBut cfa b
 covers_step cfa cs a b begins ordered (inl notes) covers =
     subst (CoversBut cfa) (sym notes.is)
-    (subst (CoversSuccessors cfa) (sym (gains_commute a.work.current notes.by a.reached.live))
-    (used-covers cfa a.work.current notes.by (at_number a.work.current waits a.reached.live)
+    (subst (CoversSuccessors cfa) (sym (gains_commute a.current notes.by a.reached.live))
+    (used-covers cfa a.current notes.by (at_number a.current waits a.reached.live)
     covers))
 covers_step cfa cs a b begins ordered (inr (inl adds)) covers =
     subst (CoversBut cfa) (sym adds.is)
     (subst (CoversSuccessors cfa)
-    (sym (added_commute a.work.current a.reached.next a.reached.live adds.elems adds.precisions
+    (sym (added_commute a.current a.reached.next a.reached.live adds.elems adds.precisions
     adds.edge))
-    (added-covers cfa a.reached.next (at_number a.work.current waits a.reached.live) adds.elems
-    adds.precisions (a.work.current, adds.edge) covers))
+    (added-covers cfa a.reached.next (at_number a.current waits a.reached.live) adds.elems
+    adds.precisions (a.current, adds.edge) covers))
 covers_step cfa cs a b begins ordered (inr (inr replaces)) covers =
     let old = replaces.entry in
     subst (CoversBut cfa) (sym replaces.is)
     (subst (CoversSuccessors cfa)
-    (sym (replaced_commute a.work.current a.reached.next a.reached old.number replaces.elems ordered
+    (sym (replaced_commute a.current a.reached.next a.reached old.number replaces.elems ordered
     refl))
     (replaced-covers cfa a.reached.next old.number
-    (at_number a.work.current waits a.reached.live) replaces.elems begins
-    (waiting_holds cfa a.work.current a.reached.live old replaces.elems
+    (at_number a.current waits a.reached.live) replaces.elems begins
+    (waiting_holds cfa a.current a.reached.live old replaces.elems
     (λ e there is. one_entry a.reached.live e old ordered.ascend there replaces.is_in is)
     replaces.merged.covers) covers))
 

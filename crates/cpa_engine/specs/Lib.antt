@@ -1,5 +1,7 @@
 pub mod Points
 pub mod Keys
+pub mod Stages
 pub mod Turns
 pub mod Journals
-pub mod Stages
+pub mod Bounds
+pub mod Steps

@@ -16,7 +16,9 @@ use Rattle.cpa_composite.specs.Components.{Component, IsEntryOf}
 use Rattle.cpa_composite.specs.Covers.{all_cover}
 use Rattle.cpa_reached.specs.Members.{IsIn}
 use Rattle.cpa_reached.specs.Entries.{ReachedSet, IsLive, IsNext}
+use Rattle.cpa_reached.specs.Calls.{taken}
 use Rattle.cpa_engine.specs.Keys.{key_of}
+use Rattle.cpa_engine.specs.Stages.{Works}
 
 -- the edge by which the entry came is one of the automaton
 abbrev pub HasEdge : Cfa → Entry → Type 0
@@ -96,10 +98,13 @@ pub record IsTurn (cfa : Cfa) (cs : List Component) (old new : List Entry) (row 
         → f.number < e.number → key_of cs e.elems ≡ key_of cs f.elems
         → all_cover cs e.elems f.elems ≡ false
 
--- One turn on the entry that is next in the order, with its row at the end of the journal.
+-- One turn on the entry that is next in the order, with its row at the end of the journal. The
+-- relation, which names no transfer and no merge, and the work by which it comes.
 pub record Turned (cfa : Cfa) (cs : List Component) (order : Order) (old new : ReachedSet) : Type 0
   where
     pub row : Turn
     pub next : IsNext order old.live row.taken
     pub turn : IsTurn cfa cs old.live new.live row
+    -- successor by successor
+    pub works : Works cfa cs row.taken (taken row.taken old) new
     pub closed : new.journal ≡ old.journal ++ row ∷ []

@@ -1,20 +1,17 @@
 //! The edges along which a turn goes: those that leave the point of the first fact on one, or all.
 //! That no state of the entry goes along another edge is shown in `proofs/Leaving.antt`.
 
-ghost use Rattle.std.specs.Prelude.{◌≡◌, ℕ, ◌+◌, ◌<◌, ◌≤◌, Some, length, slice_get, IfSome};
-ghost use Rattle.cpa_model.specs.declared.automaton.Edge.{Edge as AnEdge};
-ghost use Rattle.cpa_model.specs.declared.states.State.{State};
+ghost use Rattle.std.specs.Prelude.{◌≡◌, ◌+◌, ◌≤◌, length};
 ghost use Rattle.cpa_model.specs.Automata.{IsAutomaton};
-ghost use Rattle.cpa_model.specs.Facts.{Holds, LiesIn};
-ghost use Rattle.cpa_engine.specs.Points.{StandsAt, AllStandAt};
+ghost use Rattle.cpa_engine.specs.Points.{point_in, first_point, AreEdgesFrom};
 
 use cpa_model::{Cfa, Elem, Fact, automata_are_small, leaving};
 
 /// The point of the first fact on one.
-fn point_of(elem: &Elem) -> Option<u32>
-    ensures { IfSome result (StandsAt elem.now) }
+fn point_in(facts: &[Fact]) -> Option<u32>
+    ensures { result ≡ point_in facts.now }
 {
-    for fact in elem.facts.as_slice() {
+    for fact in facts {
         match fact {
             Fact::At { point } => return Some(*point),
             _ => {}
@@ -25,10 +22,10 @@ fn point_of(elem: &Elem) -> Option<u32>
 
 /// The point of the first element that has a fact on one.
 fn first_point(elems: &[Elem]) -> Option<u32>
-    ensures { IfSome result (AllStandAt elems.now) }
+    ensures { result ≡ first_point elems.now }
 {
     for elem in elems {
-        let point = point_of(elem);
+        let point = point_in(elem.facts.as_slice());
         if point.is_some() {
             return point;
         }
@@ -40,9 +37,7 @@ fn first_point(elems: &[Elem]) -> Option<u32>
 pub(crate) fn edges_from(cfa: &Cfa, elems: &[Elem]) -> (u32, u32)
     requires { IsAutomaton cfa.now }
     ensures within { result.0 + result.1 ≤ length cfa.now.edges }
-    ensures all { (k : ℕ) (g : AnEdge) (s : State) → slice_get cfa.now.edges k ≡ Some g
-        → LiesIn s elems.now → s.point ≡ g.from
-        → (result.0 ≤ k) × (k < result.0 + result.1) }
+    ensures edges { AreEdgesFrom cfa.now (first_point elems.now) result.0 result.1 }
 {
     automata_are_small();
     match first_point(elems) {

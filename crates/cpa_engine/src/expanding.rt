@@ -1,14 +1,12 @@
-//! The successors of the taken entry, edge by edge. That each of its states' successors is placed is
-//! shown in `proofs/Expanded.antt`.
+//! The successors of the taken entry, edge by edge. Each clause is a definition of
+//! `specs/Stages.antt`.
 
-ghost use Rattle.std.specs.Prelude.{◌≡◌, ℕ, ◌<◌, Some, length, slice_get, OnOk};
-ghost use Rattle.cpa_model.specs.declared.automaton.Edge.{Edge as AnEdge};
-ghost use Rattle.cpa_model.specs.declared.states.State.{State};
-ghost use Rattle.cpa_model.specs.Automata.{IsAutomaton, StepsAlong, EdgeStep};
-ghost use Rattle.cpa_model.specs.Facts.{LiesIn};
+ghost use Rattle.std.specs.Prelude.{◌≡◌, ◌<◌, length, OnOk};
+ghost use Rattle.cpa_model.specs.Automata.{IsAutomaton};
 ghost use Rattle.cpa_composite.specs.Components.{AreElems, ArePrecisions};
 ghost use Rattle.cpa_composite.specs.Composites.{components};
-ghost use Rattle.cpa_engine.specs.Stages.{stage, IsOrdered, Leads, IsPlaced, HasCurrent};
+ghost use Rattle.cpa_engine.specs.Stages.{Follows, Expands};
+ghost use Rattle.cpa_engine.specs.Steps.{stage, IsOrdered, HasCurrent};
 ghost use Rattle.cpa_engine.specs.Turns.{AreEntries};
 
 use crate::edges::edges_from;
@@ -39,11 +37,8 @@ fn follow<A: Analysis>(
     requires elems { AreElems cfa.now (length (components composite.old)) elems.now }
     requires precisions { ArePrecisions cfa.now (length (components composite.old))
         precisions.now }
-    ensures leads { OnOk result (Leads cfa.now (components composite.old)
-        (stage reached.old work.old) (stage reached.new work.new)) }
-    ensures placed { (g : AnEdge) (s t : State) → slice_get cfa.now.edges edge ≡ Some g
-        → LiesIn s elems.now → StepsAlong cfa.now g s t
-        → OnOk result (IsPlaced t (stage reached.new work.new)) }
+    ensures follows { OnOk result (Follows cfa.now (components composite.old) elems.now
+        precisions.now edge (stage reached.old work.old) (stage reached.new work.new)) }
     ensures kept { components composite.new ≡ components composite.old }
 {
     let rows = composite.successors(alloc, cfa, edge, elems, precisions)?;
@@ -69,10 +64,8 @@ pub(crate) fn expand<A: Analysis>(
     requires elems { AreElems cfa.now (length (components composite.old)) elems.now }
     requires precisions { ArePrecisions cfa.now (length (components composite.old))
         precisions.now }
-    ensures leads { OnOk result (Leads cfa.now (components composite.old)
-        (stage reached.old work.old) (stage reached.new work.new)) }
-    ensures placed { (s t : State) → LiesIn s elems.now → EdgeStep cfa.now s t
-        → OnOk result (IsPlaced t (stage reached.new work.new)) }
+    ensures expands { OnOk result (Expands cfa.now (components composite.old) elems.now
+        precisions.now (stage reached.old work.old) (stage reached.new work.new)) }
     ensures kept { components composite.new ≡ components composite.old }
 {
     automata_are_small();

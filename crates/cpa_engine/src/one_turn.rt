@@ -1,19 +1,25 @@
 //! One turn of the algorithm (CAV 2007, section 2, the body of the loop). That it is `IsTurn` is
 //! shown in `proofs/`, from what its steps are.
 
-ghost use Rattle.std.specs.Prelude.{◌≡◌, ℕ, [], false, List, length, IsTrue, IfOk, OnOk};
+ghost use Rattle.std.specs.Prelude.{◌≡◌, ℕ, ◌<◌, [], false, List, length, IsTrue, IfOk, OnOk};
+ghost use Rattle.cpa_model.specs.declared.facts.Elem.{Elem as AnElem};
+ghost use Rattle.cpa_model.specs.declared.states.State.{State};
 ghost use Rattle.cpa_model.specs.Automata.{IsAutomaton};
 ghost use Rattle.cpa_composite.specs.Composites.{components};
 ghost use Rattle.cpa_reached.specs.Entries.{waiting_numbers};
 ghost use Rattle.cpa_reached.specs.Successors.{CoversSuccessors};
+ghost use Rattle.cpa_engine.specs.Bounds.{turns_left, KeysBound, AreBounded};
+ghost use Rattle.cpa_engine.specs.Bounds.{StatesBound, ArePinned};
 ghost use Rattle.cpa_engine.specs.Journals.{IsJournalOf};
 ghost use Rattle.cpa_engine.specs.Keys.{WidenBesideKeys, HaveOwnKeys};
 ghost use Rattle.cpa_engine.specs.Turns.{AreEntries, Turned};
 
 use crate::taking::expand_taken;
-use cpa_composite::Composite;
+use cpa_composite::{
+    Composite, control_is_followed, merging_ends, pins_are_followed, ranks_are_bounded,
+};
 use cpa_iface::{Analysis, Order};
-use cpa_model::{Cfa, edges_are_steps, initial_is_state};
+use cpa_model::{Cfa, edges_are_sound, edges_are_steps, initial_is_state};
 use cpa_reached::Reached;
 use std::alloc::{AllocError, Global};
 
@@ -41,10 +47,31 @@ pub fn turn<A: Analysis>(
     ensures keys { WidenBesideKeys (components composite.old)
         → HaveOwnKeys (components composite.old) reached.old.live
         → OnOk result (HaveOwnKeys (components composite.old) reached.new.live) }
+    ensures bound { (keys : List (List AnElem))
+        → KeysBound cfa.now (components composite.old) keys
+        → AreBounded cfa.now (components composite.old) keys reached.old.live
+        → IfOk result (λ goes.
+        AreBounded cfa.now (components composite.old) keys reached.new.live
+        × (IsTrue goes →
+        turns_left cfa.now (components composite.old) (length keys) reached.new.live
+        < turns_left cfa.now (components composite.old) (length keys) reached.old.live)) }
+    ensures pins { (states : List State)
+        → StatesBound cfa.now (components composite.old) states
+        → ArePinned cfa.now (components composite.old) states reached.old.live
+        → IfOk result (λ goes.
+        ArePinned cfa.now (components composite.old) states reached.new.live
+        × (IsTrue goes →
+        turns_left cfa.now (components composite.old) (length states) reached.new.live
+        < turns_left cfa.now (components composite.old) (length states) reached.old.live)) }
     ensures kept { components composite.new ≡ components composite.old }
 {
     initial_is_state();
     edges_are_steps();
+    edges_are_sound();
+    merging_ends();
+    ranks_are_bounded();
+    control_is_followed();
+    pins_are_followed();
     match reached.take_next(order) {
         Some(number) => {
             expand_taken(alloc, cfa, composite, reached, number)?;

@@ -1,18 +1,15 @@
-//! One successor: it is adjusted, merged into the live entries, and noted as covered or added. What
-//! these steps are is `specs/Stages.antt`.
+//! One successor: it is adjusted, merged into the live entries, and noted as covered or added. Each
+//! clause is a definition of `specs/Stages.antt`.
 
-ghost use Rattle.std.specs.Prelude.{◌≡◌, ◌+◌, ◌<◌, ◌≤◌, length, map, IfOk, OnOk};
-ghost use Rattle.std.specs.List.{AllByRecursion, find};
-ghost use Rattle.std.specs.Option.{option_map};
-ghost use Rattle.cpa_model.specs.declared.states.State.{State};
-ghost use Rattle.cpa_model.specs.Automata.{IsAutomaton, IsStateOf};
-ghost use Rattle.cpa_model.specs.Covers.{LiesInSome};
-ghost use Rattle.cpa_model.specs.Facts.{LiesIn};
+ghost use Rattle.std.specs.Prelude.{◌≡◌, ℕ, ◌<◌, length, map, Some, slice_get, IfOk, OnOk};
+ghost use Rattle.std.specs.List.{AllByRecursion};
+ghost use Rattle.cpa_model.specs.Automata.{IsAutomaton};
 ghost use Rattle.cpa_composite.specs.Components.{AreElems, ArePrecisions};
 ghost use Rattle.cpa_composite.specs.Composites.{components};
-ghost use Rattle.cpa_composite.specs.Covers.{all_cover};
-ghost use Rattle.cpa_engine.specs.Keys.{WidenBesideKeys, CoversKey, rows_of, MergesAt};
-ghost use Rattle.cpa_engine.specs.Stages.{stage, IsOrdered, Leads, IsPlaced, HasCurrent};
+ghost use Rattle.cpa_reached.specs.Entries.{numbers};
+ghost use Rattle.cpa_engine.specs.Stages.{Compares, ComparesAll, first_cover, covered_or_added};
+ghost use Rattle.cpa_engine.specs.Stages.{Settles, SettlesAll};
+ghost use Rattle.cpa_engine.specs.Steps.{stage, IsOrdered, HasCurrent, MovesOn};
 ghost use Rattle.cpa_engine.specs.Turns.{AreEntries};
 
 use crate::work::Work;
@@ -40,13 +37,11 @@ fn merge_at<A: Analysis>(
     requires successor { AreElems cfa.now (length (components composite.old)) successor.now }
     requires precisions { ArePrecisions cfa.now (length (components composite.old))
         precisions.now }
-    ensures leads { OnOk result (Leads cfa.now (components composite.old)
+    ensures compares { (n : ℕ) → slice_get (numbers reached.old.live) place ≡ Some n
+        → OnOk result (Compares cfa.now (components composite.old) successor.now precisions.now n
         (stage reached.old work.old) (stage reached.new work.new)) }
-    ensures size { OnOk result (length reached.new.live ≡ length reached.old.live) }
-    ensures next { IfOk result (λ next. next ≤ place + 1) }
-    ensures compared { WidenBesideKeys (components composite.old) → IfOk result (λ next.
-        MergesAt (CoversKey (components composite.old) successor.now) (rows_of reached.old.live)
-        (rows_of reached.new.live) place next) }
+    ensures moves { IfOk result
+        (MovesOn (numbers reached.old.live) (numbers reached.new.live) place) }
     ensures kept { components composite.new ≡ components composite.old }
 {
     let entry = &reached.live()[place];
@@ -77,10 +72,9 @@ fn compare<A: Analysis>(
     requires successor { AreElems cfa.now (length (components composite.old)) successor.now }
     requires precisions { ArePrecisions cfa.now (length (components composite.old))
         precisions.now }
-    ensures leads { OnOk result (Leads cfa.now (components composite.old)
-        (stage reached.old work.old) (stage reached.new work.new)) }
-    ensures compared { WidenBesideKeys (components composite.old) → OnOk result (AllByRecursion
-        (CoversKey (components composite.old) successor.now) (rows_of reached.new.live)) }
+    ensures compares { OnOk result (ComparesAll cfa.now (components composite.old) successor.now
+        precisions.now (numbers reached.old.live) (stage reached.old work.old)
+        (stage reached.new work.new)) }
     ensures kept { components composite.new ≡ components composite.old }
 {
     let mut place = 0;
@@ -95,8 +89,7 @@ fn compare<A: Analysis>(
 
 /// The number of the first entry that covers the elements.
 fn covering<A: Analysis>(composite: &Composite<A>, entries: &[Entry], elems: &[Elem]) -> Option<u32>
-    ensures { result ≡ option_map (λ e. e.number)
-        (find (λ e. all_cover (components composite.now) elems.now e.elems) entries.now) }
+    ensures { result ≡ first_cover (components composite.now) elems.now entries.now }
 {
     for entry in entries {
         if composite.covered_by(elems, entry.elems.as_slice()) {
@@ -108,7 +101,6 @@ fn covering<A: Analysis>(composite: &Composite<A>, entries: &[Entry], elems: &[E
 
 /// Notes the first live entry that covers the successor as a use, or else adds the successor.
 fn cover_or_add<A: Analysis>(
-    cfa: &Cfa,
     composite: &Composite<A>,
     reached: &mut Reached,
     work: &mut Work,
@@ -116,18 +108,10 @@ fn cover_or_add<A: Analysis>(
     successor: Vec<Elem>,
     precisions: Vec<Precision>,
 ) -> Result<(), AllocError>
-    requires entries { AreEntries cfa.now (length (components composite.now)) reached.old.live }
     requires current { HasCurrent (stage reached.old work.old) }
-    requires edge { edge < length cfa.now.edges }
-    requires successor { AreElems cfa.now (length (components composite.now)) successor.items }
-    requires precisions { ArePrecisions cfa.now (length (components composite.now))
-        precisions.items }
-    requires compared { WidenBesideKeys (components composite.now) → AllByRecursion
-        (CoversKey (components composite.now) successor.items) (rows_of reached.old.live) }
-    ensures leads { OnOk result (Leads cfa.now (components composite.now)
-        (stage reached.old work.old) (stage reached.new work.new)) }
-    ensures placed { (t : State) → LiesIn t successor.items
-        → OnOk result (IsPlaced t (stage reached.new work.new)) }
+    ensures { OnOk result (stage reached.new work.new ≡ covered_or_added successor.items
+        precisions.items edge (first_cover (components composite.now) successor.items
+        reached.old.live) (stage reached.old work.old)) }
 {
     match covering(composite, reached.live(), &successor) {
         Some(by) => reached.note_use(work.current, by),
@@ -153,20 +137,17 @@ fn settle<A: Analysis>(
     requires entries { AreEntries cfa.now (length (components composite.old)) reached.old.live }
     requires ordered { IsOrdered reached.old }
     requires current { HasCurrent (stage reached.old work.old) }
-    requires edge { edge < length cfa.now.edges }
     requires successor { AreElems cfa.now (length (components composite.old)) successor.now }
     requires precisions { ArePrecisions cfa.now (length (components composite.old))
         precisions.now }
-    ensures leads { OnOk result (Leads cfa.now (components composite.old)
-        (stage reached.old work.old) (stage reached.new work.new)) }
-    ensures placed { (t : State) → IsStateOf cfa.now t → LiesIn t successor.now
-        → OnOk result (IsPlaced t (stage reached.new work.new)) }
+    ensures settles { OnOk result (Settles cfa.now (components composite.old) precisions.now edge
+        successor.now (stage reached.old work.old) (stage reached.new work.new)) }
     ensures kept { components composite.new ≡ components composite.old }
 {
     let live = reached.live();
     let (elems, precisions) = composite.adjust(alloc, cfa, successor, precisions, live)?;
     compare(alloc, cfa, composite, reached, work, &elems, &precisions)?;
-    cover_or_add(cfa, composite, reached, work, edge, elems, precisions)
+    cover_or_add(composite, reached, work, edge, elems, precisions)
 }
 
 /// The successors by an edge, one after another.
@@ -189,11 +170,9 @@ pub(crate) fn settle_all<A: Analysis>(
         (map (λ row. row.items) successors.now) }
     requires precisions { ArePrecisions cfa.now (length (components composite.old))
         precisions.now }
-    ensures leads { OnOk result (Leads cfa.now (components composite.old)
-        (stage reached.old work.old) (stage reached.new work.new)) }
-    ensures placed { (t : State) → IsStateOf cfa.now t
-        → LiesInSome t (map (λ row. row.items) successors.now)
-        → OnOk result (IsPlaced t (stage reached.new work.new)) }
+    ensures settles { OnOk result (SettlesAll cfa.now (components composite.old) precisions.now edge
+        (map (λ row. row.items) successors.now) (stage reached.old work.old)
+        (stage reached.new work.new)) }
     ensures kept { components composite.new ≡ components composite.old }
 {
     for successor in successors {

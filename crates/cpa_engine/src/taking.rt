@@ -5,27 +5,17 @@ ghost use Rattle.std.specs.Prelude.{◌≡◌, length, IfOk, OnOk};
 ghost use Rattle.cpa_model.specs.Automata.{IsAutomaton};
 ghost use Rattle.cpa_composite.specs.Composites.{components};
 ghost use Rattle.cpa_reached.specs.Entries.{IsLive};
-ghost use Rattle.cpa_engine.specs.Stages.{Expands};
+ghost use Rattle.cpa_engine.specs.Stages.{Works};
+ghost use Rattle.cpa_engine.specs.Steps.{IsOrdered};
 ghost use Rattle.cpa_engine.specs.Turns.{AreEntries};
 
 use crate::expanding::expand;
 use crate::work::Work;
-use cpa_composite::Composite;
+use cpa_composite::{Composite, copy_row};
 use cpa_iface::{Analysis, Precision, copy_precision};
-use cpa_model::{Cfa, Elem, copy_elem};
+use cpa_model::Cfa;
 use cpa_reached::Reached;
 use std::alloc::{AllocError, Global};
-
-/// Equal elements.
-fn copy_elems(alloc: Global, elems: &[Elem]) -> Result<Vec<Elem>, AllocError>
-    ensures { IfOk result (λ list. list.items ≡ elems.now) }
-{
-    let mut list = Vec::new(alloc);
-    for elem in elems {
-        list.push(copy_elem(alloc, elem)?)?;
-    }
-    Ok(list)
-}
 
 /// Equal precisions.
 fn copy_precisions(alloc: Global, precisions: &[Precision]) -> Result<Vec<Precision>, AllocError>
@@ -50,12 +40,13 @@ pub(crate) fn expand_taken<A: Analysis>(
     requires automaton { IsAutomaton cfa.now }
     requires entries { AreEntries cfa.now (length (components composite.old)) reached.old.live }
     requires live { IsLive reached.old.live number }
-    ensures expands { OnOk result
-        (Expands cfa.now (components composite.old) number reached.old reached.new) }
+    ensures works { OnOk result
+        (Works cfa.now (components composite.old) number reached.old reached.new) }
+    ensures ordered { OnOk result (IsOrdered reached.old) }
     ensures kept { components composite.new ≡ components composite.old }
 {
     let entry = reached.entry(number);
-    let elems = copy_elems(alloc, entry.elems.as_slice())?;
+    let elems = copy_row(alloc, entry.elems.as_slice())?;
     let precisions = copy_precisions(alloc, entry.precisions.as_slice())?;
     let mut work = Work::begin(alloc, number);
     expand(

@@ -1,4 +1,4 @@
-//! What a turn keeps beside the reached set. Each call does what `specs/Stages.antt` says, by the
+//! What a turn keeps beside the reached set. Each call does what `specs/Steps.antt` says, by the
 //! checker alone.
 
 ghost use Rattle.std.specs.Prelude.{◌≡◌, [], IfOk, OnOk};
@@ -17,7 +17,7 @@ pub(crate) struct Work {
 }
 
 impl Work {
-    ghost use Rattle.cpa_engine.specs.Stages.{begun, with_added, with_replaced};
+    ghost use Rattle.cpa_engine.specs.Steps.{begun, with_added, with_replaced};
 
     /// A turn that has taken an entry. Takes no memory.
     pub(crate) fn begin(alloc: Global, taken: u32) -> Work

@@ -1,4 +1,4 @@
--- The parts of a node as a list.
+-- The parts of a node as a list (this project's own).
 use Rattle.std.specs.Prelude.{List, [], ◌∷◌}
 use Rattle.cpa_expr.specs.declared.tree.Expr.{Expr}
 use Rattle.cpa_expr.specs.declared.parts.Parts.{Parts as PartsOf}

@@ -1,4 +1,5 @@
 //! Pure expressions over integer cells: their shape, and their value on a store.
+//! `specs/Shape.antt` and `specs/Values.antt` define them; their laws stand in `specs/Laws.antt`.
 #![tactic(auto)]
 
 mod equality;

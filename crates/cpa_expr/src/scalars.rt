@@ -1,4 +1,5 @@
 //! The read of a scalar (`scalar_read` of `specs/Cells.antt`); its law is `a_scalar_is_its_cell`.
+//! Proved by the checker alone.
 
 ghost use Rattle.std.specs.Prelude.{◌≡◌, IfOk};
 ghost use Rattle.cpa_expr.specs.Cells.{scalar_read};

@@ -1,4 +1,4 @@
--- A set of cells as a list of marks.
+-- A set of cells as a list of marks (this project's own).
 use Rattle.std.specs.Prelude.{ℕ, Bool, false, List}
 use Rattle.std.specs.List.{slice_index_or}
 

@@ -1,4 +1,5 @@
-//! A set of cells as a mark for each cell of an automaton.
+//! A set of cells as a mark for each cell of an automaton, by `specs/Marks.antt`.
+//! Proved with `proofs/MarkLemmas.antt`.
 
 ghost use Rattle.std.specs.Prelude.{◌≡◌, ◌+◌, ◌<◌, ◌≤◌, ◌||◌, ◌&&◌, ◌^◌, ℕ, nat_lt, length, []};
 ghost use Rattle.std.specs.Prelude.{◌∷◌, ◌++◌, if◌then◌else◌, IfOk, OnOk};

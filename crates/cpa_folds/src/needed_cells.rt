@@ -1,4 +1,5 @@
 //! The cells that are needed along a path, by `specs/Needed.antt`.
+//! Proved with `proofs/NeededLemmas.antt`.
 
 ghost use Rattle.std.specs.Prelude.{◌≡◌, ◌<◌, ◌||◌, ◌&&◌, ◌^◌, ℕ, false, Some, nat_lt, length};
 ghost use Rattle.std.specs.Prelude.{slice_get, IfOk};

@@ -1,4 +1,5 @@
-//! Whether an expression may trap, read off its form alone (`specs/Needed.antt`).
+//! Whether an expression may trap, read off its form alone, by `specs/Needed.antt`.
+//! Proved by the checker alone.
 
 ghost use Rattle.std.specs.Prelude.{◌≡◌};
 ghost use Rattle.std.specs.List.{list_any};

@@ -1,4 +1,5 @@
--- Nets of gates, the newest gate first. Variable 0 is true; each gate has the next variable.
+-- Nets of gates, the newest gate first (this project's own). Variable 0 is true; each gate has
+-- the next variable.
 use Rattle.std.specs.Prelude.{◌≡◌, ℕ, ◌+◌, ◌*◌, Bool, true, List, [], ◌∷◌, length}
 use Rattle.std.specs.Prelude.{Option, None, Some, if◌then◌else◌, ⊤}
 use Rattle.std.specs.Ordering.{is_eq}

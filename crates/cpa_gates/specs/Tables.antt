@@ -1,4 +1,5 @@
--- What a table of gates keeps beside them: the place of each gate, by the gate.
+-- What a table of gates keeps beside them (this project's own): the place of each gate, by the
+-- gate.
 use Rattle.std.specs.Prelude.{◌≡◌, ◌<◌, List, length, reverse}
 use Rattle.std.specs.BTreeMap.{get}
 use Rattle.cpa_gates.specs.declared.gate.Gate.{Gate}

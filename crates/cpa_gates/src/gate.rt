@@ -1,4 +1,5 @@
-//! What a gate is. What its variable stands for is `gate_value` of specs/Gates.
+//! What a gate is.
+//! What its variable stands for is `gate_value` of specs/Gates.
 
 use cpa_cnf::Lit;
 

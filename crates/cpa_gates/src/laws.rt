@@ -1,4 +1,5 @@
 //! Laws of nets, stated in specs/Laws. Each function does nothing: its contract is the law.
+//! Proved in specs/lemmas.
 
 ghost use Rattle.cpa_gates.specs.Laws.{LiteralsHaveValues, NetsGrow, InputsAreFree};
 ghost use Rattle.cpa_gates.specs.Laws.{OperatorsAreMeant, ModelsAreAssignments, ClausesAreBelow};

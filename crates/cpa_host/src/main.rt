@@ -1,4 +1,5 @@
-//! The program.
+//! The program: `start` of `cpa_entry`, handed what the machine has.
+//! It owes safety alone; what a run answers is proved of `run` of `cpa_top`.
 #![tactic(auto)]
 
 use cpa_entry::start;

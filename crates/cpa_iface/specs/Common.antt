@@ -1,5 +1,5 @@
 -- What analyses share that keep the facts which two elements have in common, and cover by the
--- letter.
+-- letter (this project's own).
 use Rattle.std.specs.Prelude.{ℕ, Bool, List, [], length}
 use Rattle.std.specs.List.{filter, list_any}
 use Rattle.cpa_model.specs.declared.facts.Fact.{Fact}

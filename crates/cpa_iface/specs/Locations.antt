@@ -1,4 +1,4 @@
--- The analysis of locations.
+-- The analysis of locations (CAV 2007, section 2).
 use Rattle.std.specs.Prelude.{ℕ, ◌==◌, Bool, true, List, [], ◌∷◌, Some, codes, if◌then◌else◌}
 use Rattle.std.specs.List.{list_all}
 use Rattle.cpa_model.specs.declared.facts.Fact.{Fact}

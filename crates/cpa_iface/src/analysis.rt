@@ -1,4 +1,5 @@
 //! The trait of analyses: ten calls, each with the record of the laws that it keeps as a clause.
+//! The records stand in `specs/Laws.antt`.
 
 ghost use Rattle.std.specs.Prelude.{◌≡◌, ◌<◌, length, IfOk};
 ghost use Rattle.std.specs.List.{AllByRecursion};

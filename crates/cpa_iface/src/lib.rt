@@ -1,4 +1,5 @@
-//! The interface of analyses, with its laws as clauses, and the analysis of locations.
+//! The interface of analyses, with its laws as clauses (`specs/Laws.antt`), and the analysis of
+//! locations, `specs/Locations.antt`, which keeps them by `proofs/LocationLaws.antt`.
 #![tactic(auto)]
 
 mod analysis;

@@ -1,4 +1,5 @@
 //! How the elements of two entries are merged, and which analyses an exploration uses.
+//! `merged_facts` stands in `specs/Common.antt`. Proved with `proofs/merging/`.
 
 ghost use Rattle.std.specs.Prelude.{◌≡◌, IfOk};
 ghost use Rattle.cpa_iface.specs.Common.{stands_in, common_facts, merged_facts};

@@ -1,4 +1,5 @@
 //! What an analysis is asked to keep, and an equal copy of it.
+//! `no_precision` stands in `specs/Common.antt`. Proved with `proofs/precisions/`.
 
 ghost use Rattle.std.specs.Prelude.{◌≡◌, IfOk};
 ghost use Rattle.cpa_iface.specs.Common.{no_precision};

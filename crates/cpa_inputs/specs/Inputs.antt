@@ -1,5 +1,5 @@
--- The numbers of an inputs file: a JSON list (RFC 8259, section 5) of whole numbers of 64 bits. Which
--- data a text is, and which numbers are whole, is as serde_json has it.
+-- The numbers of an inputs file: a JSON list (RFC 8259, section 5) of whole numbers of 64 bits.
+-- Which data a text is, and which numbers are whole, is as serde_json has it.
 use Rattle.std.specs.Prelude.{◌≡◌, ◌⊎◌, ℕ, ℤ, List, [], ◌∷◌, Option, Some, option_map}
 use Rattle.std.specs.Prelude.{option_and_then, IsUtf8}
 use Rattle.std.specs.List.{AllByRecursion}

@@ -1,4 +1,5 @@
-//! Why a file gives no inputs. Proved by the checker alone.
+//! Why a file gives no inputs: it is no list of numbers in range, or memory was short.
+//! Proved by the checker alone.
 ghost use Rattle.std.specs.Prelude.{◌≡◌};
 ghost use Rattle.cpa_inputs.specs.declared.fault.InputsError.TheVariants.{OutOfMemory};
 

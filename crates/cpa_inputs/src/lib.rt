@@ -1,4 +1,5 @@
-//! The numbers of an inputs file, which is a JSON list (`specs/Inputs.antt`).
+//! The numbers of an inputs file, which is a JSON list: `IsInputs` of `specs/Inputs.antt`.
+//! Proved with `proofs/Numbers.antt`.
 #![tactic(auto)]
 
 mod fault;

@@ -1,4 +1,5 @@
-//! What comes of a replay, as data. Which outcome comes is `ComesTo` of `specs/Replays.antt`.
+//! What comes of a replay, as data.
+//! Which outcome comes is `ComesTo` of `specs/Replays.antt`.
 
 /// What comes of a replay. Where several would do, the error and the end come first, then the
 /// budget, then what holds the step up.

@@ -1,5 +1,5 @@
--- Programs of core statements: their trees, where control goes after a statement, and which are
--- well formed.
+-- Programs of core statements (this project's own): their trees, where control goes after a
+-- statement, and which are well formed.
 use Rattle.std.specs.Prelude.{◌≡◌, ◌≢◌, ℕ, ◌+◌, ◌<◌, ◌≤◌, List, [], ◌∷◌, map, Option, Some, None}
 use Rattle.std.specs.Prelude.{length, slice_get, Bool, true, false, ◌==◌, if◌then◌else◌, ⊤}
 use Rattle.std.specs.List.{AllByRecursion}

@@ -1,4 +1,5 @@
 //! Copies of facts and elements, equal to what they copy.
+//! Proved with `proofs/copying/`.
 ghost use Rattle.std.specs.Prelude.{◌≡◌, IfOk};
 
 use crate::facts::{Elem, Fact};

@@ -1,4 +1,5 @@
-//! The program as core statements, its states and steps, facts on states, and the automaton.
+//! The program as core statements, its states and steps, facts on states, and the automaton:
+//! each is defined in the module of `specs/` of its name. Laws stand in `laws`.
 #![tactic(auto)]
 
 mod automaton;

@@ -1,4 +1,5 @@
 //! Which calls fail, by their numbers: `is_listed` and `one_more` of `specs/OutsideMemory.antt`.
+//! Proved by the checker alone.
 ghost use Rattle.std.specs.Prelude.{◌≡◌};
 ghost use Rattle.cpa_outside.specs.OutsideMemory.{is_listed, one_more};
 

@@ -1,4 +1,5 @@
 //! The law of products, stated in specs/Laws. The function does nothing: its contract is the law.
+//! Proved in specs/lemmas.
 
 ghost use Rattle.cpa_products.specs.Laws.{ProductsAreProducts};
 

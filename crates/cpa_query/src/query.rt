@@ -1,4 +1,5 @@
-//! What a query is. What its models are is `IsModel` of specs/Queries.
+//! What a query is.
+//! What its models are is `IsModel` of specs/Queries.
 
 use cpa_expr::Expr;
 use cpa_ints::{IntType, Seq};

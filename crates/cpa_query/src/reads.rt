@@ -1,4 +1,5 @@
 //! Which cells of a query its wanted expressions read, `reads` of specs/Queries.
+//! Proved with `proofs/MarkLemmas.antt`.
 
 ghost use Rattle.std.specs.Prelude.{◌≡◌, ◌||◌, ◌&&◌, ℕ, nat_lt, false, length, IfOk};
 ghost use Rattle.std.specs.List.{list_any};

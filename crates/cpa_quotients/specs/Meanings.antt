@@ -1,5 +1,5 @@
--- What a divider and a sign made from a net mean: division with remainder of natural numbers, and
--- the two's complement.
+-- What a divider and a sign made from a net mean (this project's own): division with remainder
+-- of natural numbers, and the two's complement.
 use Rattle.std.specs.Prelude.{◌≡◌, ◌≢◌, ℕ, ◌+◌, ◌-◌, ◌*◌, ◌%◌, ◌^◌, ◌<◌, ℤ, pos, neg_ℤ, Bool, List}
 use Rattle.std.specs.Prelude.{length, if◌then◌else◌}
 use Rattle.cpa_cnf.specs.Lines.{AreBelow}

@@ -1,4 +1,5 @@
--- The analysis of a conflict: a chain of resolutions whose present clause is the marked literals.
+-- The analysis of a conflict (Marques-Silva and Sakallah 1996): a chain of resolutions whose
+-- present clause is the marked literals.
 use Rattle.std.specs.Prelude.{◌≡◌, ◌≢◌, ◌⊎◌, ℕ, ◌<◌, ◌≤◌, ◌*◌, true, List, [], length}
 use Rattle.std.specs.Prelude.{slice_index_or, Option, Some, None}
 use Rattle.std.specs.List.{AllByRecursion}

@@ -1,4 +1,4 @@
--- Lines of new clauses.
+-- Lines of new clauses (this project's own).
 use Rattle.std.specs.Prelude.{◌≡◌, ◌≢◌, ℕ, ◌<◌, List, [], length, take, slice_get, slice_index_or}
 use Rattle.std.specs.Prelude.{Some}
 use Rattle.cpa_cnf.specs.declared.formula.Cnf.{Cnf}

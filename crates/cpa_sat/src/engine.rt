@@ -1,4 +1,5 @@
 //! The search: propagate, decide, learn from a clause that is false, jump back.
+//! It keeps `IsState` of `specs/States.antt`. Proved with `proofs/Growth.antt`.
 
 ghost use Rattle.std.specs.Prelude.{◌≡◌, ◌≢◌, ◌<◌, ◌≤◌, ◌+◌, ◌-◌, ◌*◌, ◌^◌, ℕ, [], ◌∷◌, ◌++◌};
 ghost use Rattle.std.specs.Prelude.{length, slice_index_or, OnOk, IfOk, IfSome, IfNone};

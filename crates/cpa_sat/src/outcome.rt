@@ -1,4 +1,5 @@
 //! What a search finds.
+//! What each outcome holds is said in `specs/Outcomes.antt`.
 
 use cpa_cnf::Line;
 

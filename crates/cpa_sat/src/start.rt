@@ -1,4 +1,5 @@
-//! From a formula to a search, and from the end of the search to what it found.
+//! From a formula to a search, and from the end of the search to what it found
+//! (`specs/Outcomes.antt`). Proved with `proofs/Loading.antt`.
 
 ghost use Rattle.std.specs.Prelude.{◌≡◌, ◌<◌, ◌≤◌, ◌^◌, [], ◌∷◌, ◌++◌, length, IfOk, OnOk};
 ghost use Rattle.std.specs.List.{AllByRecursion};

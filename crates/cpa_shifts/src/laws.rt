@@ -1,4 +1,5 @@
 //! Laws of shifts, stated in specs/Laws. Each function does nothing: its contract is the law.
+//! Proved in specs/lemmas.
 
 ghost use Rattle.cpa_shifts.specs.Laws.{MovesAreShifts, ShiftsMoveWords, ShiftsShift};
 ghost use Rattle.cpa_shifts.specs.Laws.{ConstantsMakeNoGates};

@@ -1,4 +1,5 @@
 //! The store that the values of a formula's variables give, `store_at` of `cpa_blast`.
+//! Proved with `proofs/Numbers.antt`.
 
 ghost use Rattle.std.specs.Prelude.{◌≡◌, ◌+◌, ◌*◌, ◌≤◌, ◌<◌, ◌^◌, ◌++◌, ◌∷◌, []};
 ghost use Rattle.std.specs.Prelude.{length, IfOk, OnOk};

@@ -9,6 +9,7 @@ pub mod Pinning
 pub mod Places
 pub mod PointPlaces
 pub mod Segments
+pub mod Spelled
 pub mod Stages
 pub mod Taking
 pub mod Ties

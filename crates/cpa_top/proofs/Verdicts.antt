@@ -15,7 +15,7 @@ use Rattle.cpa_top.specs.declared.refusal.Refusal.{Refusal}
 use Rattle.cpa_top.specs.declared.refusal.Refusal.TheVariants as refusal
 use Rattle.cpa_top.specs.declared.report.Listed.{Listed}
 use Rattle.cpa_top.specs.declared.report.Report.{Report}
-use Rattle.cpa_top.specs.Answers.{IsSafeReport, AreAscending}
+use Rattle.cpa_top.specs.Answers.{IsSafeReport}
 use Rattle.cpa_top.specs.Explored.{IsExplored}
 use Rattle.cpa_top.specs.Led.{LeadsToError}
 use Rattle.cpa_top.specs.Listing.{listed_from, IsReportOf, IsTextOf}
@@ -39,11 +39,11 @@ safe_report : (P : Program) (cfa : Cfa) (elems : List Elem) (r : Report) → Cov
     → IsSafeReport 1 P r
 safe_report P cfa elems r law W A explored reported =
     let points = explored.0 in
-    let pins : r.entries ≡ listed_from 0 (map pin points) =
-    reported.entries ∙ ap (listed_from 0) explored.1 in
-    let same : map (λ (entry : Listed). entry.elems) r.entries ≡ map (λ p. pin p ∷ []) points =
+    let entries : List Listed = listed_from 0 elems in
+    let pins : entries ≡ listed_from 0 (map pin points) = ap (listed_from 0) explored.1 in
+    let same : map (λ (entry : Listed). entry.elems) entries ≡ map (λ p. pin p ∷ []) points =
     ap (map (λ (entry : Listed). entry.elems)) pins ∙ listed_pins 0 points in
-    let cover : IsCover P (map (λ (entry : Listed). entry.elems) r.entries) =
+    let cover : IsCover P (map (λ (entry : Listed). entry.elems) entries) =
     subst (IsCover P) (sym same) (cover_of P cfa points W A explored.2) in
     record {
       automaton = cfa;
@@ -51,17 +51,15 @@ safe_report P cfa elems r law W A explored reported =
       points_are = reported.points;
       cells_are = reported.cells ∙ ap length A.cells;
       edges_are = reported.edges;
-      ascending =
-          subst (λ (es : List Listed). AreAscending (map (λ (entry : Listed). entry.number) es))
-          (sym reported.entries) (listed_ascend 0 elems);
+      entries = entries;
+      body_is = reported.body;
+      ascending = listed_ascend 0 elems;
       shaped =
           subst (AllByRecursion (λ (entry : Listed). AreShaped cfa entry.elems)) (sym pins)
           (listed_shaped cfa 0 points explored.2.within);
-      one_each =
-          subst (AllByRecursion (λ (entry : Listed). length entry.elems ≡ 1))
-          (sym reported.entries) (listed_alone 0 elems);
+      one_each = listed_alone 0 elems;
       cover = cover;
-      safe = law (map (λ (entry : Listed). entry.elems) r.entries) W cover;
+      safe = law (map (λ (entry : Listed). entry.elems) entries) W cover;
       apart = never_led P cfa points W A explored.2;
     }
 

@@ -20,6 +20,8 @@ use Rattle.cpa_top.specs.declared.status.Status.{Status}
 use Rattle.cpa_top.specs.declared.status.Status.TheVariants as status
 use Rattle.cpa_top.specs.declared.role.Role.TheVariants as role
 use Rattle.cpa_top.specs.declared.replay_job.TheConstants.{MAX_STEPS}
+use Rattle.cpa_top.specs.declared.report.Body.TheVariants as body
+use Rattle.cpa_top.specs.declared.report.Listed.{Listed}
 use Rattle.cpa_top.specs.declared.report.Report.{Report}
 use Rattle.cpa_top.specs.Calls.{Call, Files, Output, NoReadFailed, IsWhole, IsCutOff}
 use Rattle.cpa_top.specs.Jobs.{Job, verify, replay, words_of}
@@ -89,20 +91,22 @@ abbrev pub AreAscending : List ℕ → Type 0
 AreAscending [] = Unit {0}
 AreAscending (n ∷ ns) = AllByRecursion (λ m. n < m) ns × AreAscending ns
 
--- The report is that of a program that is safe: it has the program's counts, and its entries cover
--- the program. Their numbers ascend, and each has one shaped element of each analysis. No chain of
--- moves leads to an error.
+-- The report is that of a program that is safe: it has the program's counts, its verdict is TRUE,
+-- and its entries cover the program. Their numbers ascend, and each has one shaped element of each
+-- analysis. No chain of moves leads to an error.
 pub record IsSafeReport (count : ℕ) (P : Program) (report : Report) : Type 0 where
   pub automaton : Cfa
   pub edges : IsAutomatonOf P automaton
   pub points_are : report.points ≡ automaton.points
   pub cells_are : report.cells ≡ length P.cells
   pub edges_are : report.edges ≡ length automaton.edges
-  pub ascending : AreAscending (map (λ entry. entry.number) report.entries)
-  pub shaped : AllByRecursion (λ entry. AreShaped automaton entry.elems) report.entries
-  pub one_each : AllByRecursion (λ entry. length entry.elems ≡ count) report.entries
-  pub cover : IsCover P (map (λ entry. entry.elems) report.entries)
-  pub safe : IsSafe P (map (λ entry. entry.elems) report.entries)
+  pub entries : List Listed
+  pub body_is : report.body ≡ body.True entries
+  pub ascending : AreAscending (map (λ entry. entry.number) entries)
+  pub shaped : AllByRecursion (λ entry. AreShaped automaton entry.elems) entries
+  pub one_each : AllByRecursion (λ entry. length entry.elems ≡ count) entries
+  pub cover : IsCover P (map (λ entry. entry.elems) entries)
+  pub safe : IsSafe P (map (λ entry. entry.elems) entries)
   pub apart : LeadsToError P → ⊥
 
 -- The text is the report of a safe program: the one program that the bytes stand for.

@@ -1,4 +1,4 @@
--- The job of the code as that of the definitions.
+-- The job of the code as that of the definitions (`Jobs.antt`).
 use Rattle.cpa_top.specs.declared.asking.Job.{Job as Asked}
 use Rattle.cpa_top.specs.declared.asking.Job.TheVariants as asked
 use Rattle.cpa_top.specs.Jobs.{Job, verify, replay}

@@ -1,4 +1,5 @@
--- What an exploration of an automaton by an analysis that is exact on the point comes to.
+-- What an exploration of an automaton by an analysis that is exact on the point comes to (this
+-- project's own).
 use Rattle.std.specs.Prelude.{◌≡◌, ℕ, ◌<◌, List, map}
 use Rattle.std.specs.List.{Contains}
 use Rattle.cpa_model.specs.declared.automaton.Edge.{Edge}

@@ -6,6 +6,7 @@ pub mod Jobs
 pub mod Led
 pub mod Lines
 pub mod Listing
+pub mod Members
 pub mod Reached
 pub mod Refusals
 pub mod Reports

@@ -2,6 +2,7 @@
 use Rattle.std.specs.Prelude.{◌≡◌, ℕ, ◌+◌, List, [], ◌∷◌, length}
 use Rattle.cpa_model.specs.declared.facts.Elem.{Elem}
 use Rattle.cpa_model.specs.declared.automaton.Cfa.{Cfa}
+use Rattle.cpa_top.specs.declared.report.Body.TheVariants as body
 use Rattle.cpa_top.specs.declared.report.Listed.{Listed}
 use Rattle.cpa_top.specs.declared.report.Report.{Report}
 use Rattle.cpa_top.specs.Reports.{report_text}
@@ -12,13 +13,13 @@ listed_from first [] = []
 listed_from first (e ∷ es) =
     (record { number = first; elems = e ∷ [] }) ∷ listed_from (first + 1) es
 
--- the counts are the automaton's, and the entries are these elements
+-- the counts are the automaton's, and the verdict is TRUE, with these elements as entries
 pub record IsReportOf (cfa : Cfa) (elems : List Elem) (r : Report) : Type 0 where
   pub text : r.text ≡ cfa.text_len
   pub points : r.points ≡ cfa.points
   pub cells : r.cells ≡ length cfa.cells
   pub edges : r.edges ≡ length cfa.edges
-  pub entries : r.entries ≡ listed_from 0 elems
+  pub body : r.body ≡ body.True (listed_from 0 elems)
 
 -- the text is the report of these elements
 pub record IsTextOf (cfa : Cfa) (elems : List Elem) (text : List ℕ) : Type 0 where

@@ -1,4 +1,5 @@
-//! The job that words ask for (`words_of` of `specs/Jobs.antt`).
+//! The job that words ask for (`words_of` of `specs/Jobs.antt`, `job_of` of `specs/Asking.antt`).
+//! Proved with `proofs/asking/`.
 ghost use Rattle.std.specs.Prelude.{◌≡◌, map, IfSome, IfNone};
 ghost use Rattle.std.specs.String.{string_bytes};
 ghost use Rattle.cpa_top.specs.Asking.{job_of};

@@ -1,4 +1,5 @@
-//! The exploration of an automaton by a boxed analysis that is exact on the point.
+//! The exploration of an automaton by a boxed analysis that is exact on the point: `IsExplored`
+//! of `specs/Explored.antt`. Proved with `proofs/Exploring.antt` and `proofs/Expanding.antt`.
 ghost use Rattle.std.specs.Prelude.{◌≡◌, ◌<◌, false, IsTrue, length, IfOk, OnOk};
 ghost use Rattle.std.specs.List.{Contains};
 ghost use Rattle.cpa_model.specs.Automata.{IsAutomaton};

@@ -1,10 +1,12 @@
-//! The program: its words, its job, its answer.
+//! The program: its words, its job, its answer. What it may answer is `Answers` of
+//! `specs/Answers.antt`, for the one public call `run`.
 #![tactic(auto)]
 
 mod answers;
 mod asking;
 mod explore;
 mod files;
+mod members;
 mod place;
 mod refusal;
 mod replay_job;
@@ -15,7 +17,7 @@ mod top;
 mod verify_job;
 
 pub use replay_job::MAX_STEPS;
-pub use report::{Listed, Report};
+pub use report::{Body, Listed, Report};
 pub use role::Role;
 pub use status::Status;
 pub use top::run;

@@ -1,4 +1,5 @@
-//! What a file is read as. Proved by the checker alone.
+//! What a file is read as: the program or its inputs.
+//! Plain data.
 /// What a file that the words name is read as.
 #[derive(Clone, Copy, Debug, PartialEq, Eq)]
 pub enum Role {

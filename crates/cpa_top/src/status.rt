@@ -1,4 +1,5 @@
-//! The statuses of the program (`code_of` of `specs/Statuses.antt`). Proved by the checker alone.
+//! The statuses of the program (`code_of` of `specs/Statuses.antt`).
+//! Proved by the checker alone.
 ghost use Rattle.std.specs.Prelude.{◌≡◌};
 ghost use Rattle.cpa_top.specs.Statuses.{code_of};
 

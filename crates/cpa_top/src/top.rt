@@ -1,4 +1,5 @@
 //! The one public call. Its clauses are the headline, in the words of `specs/Answers.antt`.
+//! Proved by the checker alone, over what the other modules promise.
 ghost use Rattle.std.specs.Prelude.{◌≡◌, ℕ, List, map};
 ghost use Rattle.std.specs.String.{string_bytes};
 ghost use Rattle.cpa_top.specs.Answers.{Answers, IsTrueAnswer};

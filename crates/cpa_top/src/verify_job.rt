@@ -17,7 +17,7 @@ use crate::answers::Conclusion;
 use crate::explore::{Explored, explore};
 use crate::files::take_program;
 use crate::refusal::Refusal;
-use crate::report::{Listed, Report, print};
+use crate::report::{Body, Listed, Report, print};
 use cfa_build::build;
 use cpa_iface::{Analysis, Part, Settings};
 use cpa_model::{Cfa, Elem, Program, Seq, covers_are_safe};
@@ -126,7 +126,9 @@ fn report_of(alloc: Global, cfa: &Cfa, entries: Seq<Elem>) -> Result<Report, All
         points: cfa.points,
         cells: count(cfa.cells.as_slice())?,
         edges: count(cfa.edges.as_slice())?,
-        entries: listed(alloc, entries.into_vec())?,
+        body: Body::True {
+            entries: listed(alloc, entries.into_vec())?,
+        },
     })
 }
 

@@ -1,4 +1,4 @@
--- The last look at all clauses, and the values of a model.
+-- The last look at all clauses, and the values of a model (this project's own).
 use Rattle.std.specs.Prelude.{◌≡◌, ◌≢◌, ◌↔◌, ℕ, ◌<◌, ◌*◌, true, Bool, List, [], length}
 use Rattle.std.specs.Prelude.{slice_index_or, IsTrue}
 use Rattle.cpa_cnf.specs.Literals.{opposite}

@@ -1,4 +1,4 @@
--- What a look at a clause shows.
+-- What a look at a clause shows (this project's own).
 use Rattle.std.specs.Prelude.{◌≡◌, ◌≢◌, ℕ, ◌<◌, ◌*◌, true, List, [], length, slice_index_or, Option}
 use Rattle.std.specs.Prelude.{Some, None}
 use Rattle.cpa_cnf.specs.Literals.{opposite}

@@ -1,4 +1,5 @@
-//! What goes on the trail: decisions, forced literals, and jumps back; each raises the measure.
+//! What goes on the trail: decisions, forced literals, and jumps back; each raises the measure,
+//! `progress` of `specs/Progress.antt`. Proved by its lemmas in `specs/lemmas`.
 
 ghost use Rattle.std.specs.Prelude.{◌≡◌, ◌<◌, ◌*◌, [], length, slice_index_or, OnOk};
 ghost use Rattle.cpa_cnf.specs.Literals.{opposite};

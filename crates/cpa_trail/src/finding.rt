@@ -1,4 +1,5 @@
-//! The last look at all clauses, and the values of a model.
+//! The last look at all clauses, and the values of a model, by `specs/Findings.antt`.
+//! Proved by the lemmas of `specs/lemmas`.
 
 ghost use Rattle.std.specs.Prelude.{◌↔◌, ◌<◌, ◌*◌, ◌/◌, true, length};
 ghost use Rattle.std.specs.Prelude.{IsTrue, IfOk, IfSome, IfNone};

@@ -1,4 +1,5 @@
-//! Unit propagation: a clause whose literals are false but for one forces that one.
+//! Unit propagation: a clause whose literals are false but for one forces that one
+//! (`specs/Propagations.antt`). Proved by the lemmas of `specs/lemmas`.
 
 ghost use Rattle.std.specs.Prelude.{◌≡◌, ◌≢◌, ◌↔◌, ◌<◌, ◌*◌, ◌/◌, length};
 ghost use Rattle.std.specs.Prelude.{IsTrue, OnOk, IfOk, IfNone};

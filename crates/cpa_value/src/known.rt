@@ -1,4 +1,5 @@
 //! What is known of the value of an expression, by `specs/KnownValues.antt`.
+//! Proved with `proofs/known/`.
 
 ghost use Rattle.std.specs.Prelude.{◌≡◌, pos, not, if◌then◌else◌, None, Ok};
 ghost use Rattle.std.specs.List.{slice_index_or};

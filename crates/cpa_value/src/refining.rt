@@ -1,4 +1,5 @@
 //! The precisions of the analysis of values, by `specs/Values.antt`.
+//! Proved with `proofs/CellLemmas.antt`.
 
 ghost use Rattle.std.specs.Prelude.{◌≡◌, ◌<◌, ◌^◌, ◌++◌, ◌∷◌, [], not, length, if◌then◌else◌, IfOk};
 ghost use Rattle.std.specs.Prelude.{OnOk};

@@ -1,4 +1,5 @@
 //! What the elements of other analyses say of cells, by `specs/Strengthening.antt`.
+//! Proved with `proofs/StrengthenLemmas.antt`.
 
 ghost use Rattle.std.specs.Prelude.{◌≡◌, ◌<◌, ◌^◌, true, None, Some, option_map, if◌then◌else◌};
 ghost use Rattle.std.specs.Prelude.{length, IfOk};

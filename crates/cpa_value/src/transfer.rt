@@ -1,4 +1,5 @@
 //! What an edge makes of an element, by `specs/Transfer.antt`.
+//! Proved with `proofs/CellLemmas.antt`.
 
 ghost use Rattle.std.specs.Prelude.{◌≡◌, ◌<◌, ◌^◌, [], ◌∷◌, length, IfOk};
 ghost use Rattle.cpa_model.specs.Automata.{IsAutomaton};

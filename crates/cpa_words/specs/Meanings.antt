@@ -1,5 +1,5 @@
--- What a walk and a word made from a net mean: each assignment of the old net extends to one of the
--- new net, and each of these gives the bits their values.
+-- What a walk and a word made from a net mean (this project's own): each assignment of the old
+-- net extends to one of the new net, and each of these gives the bits their values.
 use Rattle.std.specs.Prelude.{◌≡◌, ℕ, ◌*◌, ◌<◌, Bool, List}
 use Rattle.cpa_cnf.specs.Lines.{AreBelow}
 use Rattle.cpa_gates.specs.declared.gate.Gate.{Gate}

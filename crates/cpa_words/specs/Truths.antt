@@ -1,4 +1,5 @@
--- What rows and walks make of truth values, and the number that a word of them stands for.
+-- What rows and walks make of truth values, and the number that a word of them stands for (this
+-- project's own).
 use Rattle.std.specs.Prelude.{ℕ, ◌+◌, ◌*◌, ◌&&◌, ◌||◌, Bool, true, false, not, List, [], ◌∷◌, map}
 use Rattle.std.specs.Prelude.{◌-◌, ◌++◌, length, take, drop, replicate, nat_le}
 use Rattle.std.specs.Prelude.{if◌then◌else◌}

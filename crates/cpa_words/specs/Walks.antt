@@ -1,4 +1,5 @@
--- A row along two words, from the low bits on: the bits, and what is carried out.
+-- A row along two words, from the low bits on (this project's own): the bits, and what is
+-- carried out.
 use Rattle.std.specs.Prelude.{ℕ, List, [], ◌∷◌}
 use Rattle.cpa_gates.specs.declared.gate.Gate.{Gate}
 use Rattle.cpa_gates.specs.Nets.{Built, built}

@@ -1,5 +1,5 @@
--- Operators on words of literals, the low bit first, as walks and as words without gates. Literal 0
--- is true and literal 1 is false.
+-- Operators on words of literals, the low bit first, as walks and as words without gates (this
+-- project's own). Literal 0 is true and literal 1 is false.
 use Rattle.std.specs.Prelude.{ℕ, ◌-◌, ◌%◌, ◌/◌, ◌==◌, nat_le, zero, suc, Bool, List, [], ◌∷◌, ◌++◌}
 use Rattle.std.specs.Prelude.{length, map, take, drop, replicate, if◌then◌else◌}
 use Rattle.std.specs.Prelude.{slice_index_or}

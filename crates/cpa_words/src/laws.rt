@@ -1,4 +1,5 @@
 //! Laws of words, stated in specs/Laws. Each function does nothing: its contract is the law.
+//! Proved in specs/lemmas.
 
 ghost use Rattle.cpa_words.specs.Laws.{WalksMeanTheirRows, WordsAreNumbers, SumsAreSums};
 ghost use Rattle.cpa_words.specs.Laws.{ComparisonsCompare, MasksAreBitwise, OperatorsAreMeant};

@@ -1,4 +1,5 @@
--- What a reader promises: the reading that it found, or a token through which there is none.
+-- What a reader promises (this project's own): the reading that it found, or a token through
+-- which there is none.
 use Rattle.std.specs.Prelude.{◌≡◌, ℕ, ◌<◌, ◌≤◌, true, Result, MatchResult}
 use Rattle.grammar_forms.specs.declared.fault.ReadError.{ReadError}
 use Rattle.grammar_forms.specs.declared.fault.ReadError.TheVariants.{Unexpected, TooDeep}

@@ -1,4 +1,5 @@
 //! Why a part was not read. What each answer says is `Faults` of `specs/Reading.antt`.
+//! Proved by the checker alone.
 
 ghost use Rattle.std.specs.Prelude.{◌≡◌};
 ghost use Rattle.grammar_forms.specs.declared.fault.ReadError.TheVariants.{OutOfMemory};

@@ -1,5 +1,5 @@
--- A program of rows, with its tables: where each statement's tree ends, in which function it stands,
--- and how deep the calls of a function go (this project's own).
+-- A program of rows, with its tables: where each statement's tree ends, in which function it
+-- stands, and how deep the calls of a function go (this project's own).
 use Rattle.std.specs.Prelude.{◌≡◌, ℕ, ◌+◌, ◌<◌, ◌≤◌, List, length, slice_get, Option, Some, None}
 use Rattle.std.specs.List.{AllByRecursion}
 use Rattle.cpa_ints.specs.Integers.{IsInRange}

@@ -1,5 +1,5 @@
-//! The automaton of a program of rows, where its tables are right. That the program is well formed is
-//! the law of `sample_programs`.
+//! The automaton of a program of rows, where its tables are right. That the program is well formed
+//! is the law of `sample_programs`.
 
 ghost use Rattle.std.specs.Prelude.{IfOk};
 ghost use Rattle.cpa_model.specs.Automata.{IsAutomaton};

@@ -1,4 +1,5 @@
-//! Whether elements, precisions and paths fit an automaton.
+//! Whether elements, precisions and paths fit an automaton: `AreShaped`, `IsPrecision` and
+//! `IsPathOf` of `cpa_iface`. Proved with `proofs/shapes/`.
 
 ghost use Rattle.std.specs.Prelude.{◌<◌, IsTrue, length};
 ghost use Rattle.std.specs.List.{AllByRecursion};

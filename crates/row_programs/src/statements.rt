@@ -1,5 +1,5 @@
 //! Reads a statement: `block N ..`, `if YES NO : TEST`, `loop BODY STEP`,
-//! `assign BASE LEN : INDEX : VALUE`, `input CELL`, `call F`, `goto N`, `leave`, `stop` and `error`.
+//! `assign BASE LEN : INDEX : VALUE`, `input CELL`, `call F`, `goto N`, `leave`, `stop`, `error`.
 
 use crate::table::numbers_of;
 use cpa_model::Stmt;

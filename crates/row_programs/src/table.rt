@@ -1,13 +1,14 @@
-//! What the rows so far have set: a program, and the tables that go with it. Nothing is proved of it
-//! here.
+//! What the rows so far have set: a program, and the tables that go with it. Nothing is proved of
+//! it here.
 
 use crate::statements::stmt_of;
-use cpa_model::{Cell, Program, Seq};
+use cpa_model::{Cell, Program, Seq, Stmt};
 use row_reader::{
     RowFault, end_parts, end_row, index_of_word, next_index, next_word, number_of_word,
     type_of_word,
 };
 use std::alloc::Global;
+use std::mem;
 use std::str::SplitWhitespace;
 
 /// A program of rows, with its tables.
@@ -41,7 +42,8 @@ impl Table {
 
     /// Sets what a row names, and says whether it names something: `program`, which begins another
     /// one, `main FUNCTION`, `cells T START ..`, `bodies N ..`, `ends N ..`, `owners N ..`,
-    /// `levels N ..`, or `stmt` with one more statement.
+    /// `levels N ..`, `stmt` with one more statement, or `put N` with another one in the place of
+    /// the statement N.
     pub fn set(&mut self, alloc: Global, line: &str) -> Result<bool, RowFault> {
         let mut parts = line.split(':');
         let mut words = parts.next().unwrap_or("").split_whitespace();
@@ -56,12 +58,33 @@ impl Table {
             self.program
                 .stmts
                 .push(stmt_of(alloc, &mut words, &mut parts)?)?;
+        } else if word == "put" {
+            let number = next_index(&mut words)?;
+            let stmt = stmt_of(alloc, &mut words, &mut parts)?;
+            self.put(alloc, number, stmt)?;
         } else {
             return self.set_numbers(alloc, word, &mut words);
         }
         end_row(&mut words)?;
         end_parts(&mut parts)?;
         Ok(true)
+    }
+
+    fn put(&mut self, alloc: Global, number: u32, stmt: Stmt) -> Result<(), RowFault> {
+        let mut stmts = mem::replace(&mut self.program.stmts, Seq::new(alloc)).into_vec();
+        let found = match stmts.get_mut(number as usize) {
+            Some(old) => {
+                *old = stmt;
+                true
+            }
+            None => false,
+        };
+        self.program.stmts = Seq::from_vec(stmts);
+        if found {
+            Ok(())
+        } else {
+            Err(RowFault::Unreadable)
+        }
     }
 
     fn set_numbers(

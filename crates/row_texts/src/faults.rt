@@ -1,4 +1,5 @@
-//! How rows name the fault of a text. Proved safe by the checker alone.
+//! How rows name the fault of a text.
+//! Proved safe by the checker alone.
 
 use crate::Place;
 use c_lexer::TextFault;

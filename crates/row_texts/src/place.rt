@@ -1,4 +1,5 @@
-//! Places in a text as a reader of it counts them. Proved safe by the checker alone.
+//! Places in a text as a reader of it counts them.
+//! Proved safe by the checker alone.
 
 use std::fmt;
 

@@ -1,4 +1,5 @@
-//! Texts as rows write them: any bytes in one line. Proved safe by the checker alone.
+//! Texts as rows write them: any bytes in one line.
+//! Proved safe by the checker alone.
 
 use std::alloc::{AllocError, Global};
 

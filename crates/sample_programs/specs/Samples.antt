@@ -1,6 +1,6 @@
--- A program whose statements are all given is well formed where each of them is, by tables that say
--- where the tree of a statement ends, in which function it stands, and how deep the calls of a
--- function go.
+-- A program whose statements are all given is well formed where each of them is (this project's
+-- own), by tables that say where the tree of a statement ends, in which function it stands, and
+-- how deep the calls of a function go.
 use Rattle.std.proofs.Common.{◌≡◌, ℕ, zero, suc, ◌+◌, ◌<◌, ◌≤◌, List, [], ◌∷◌, length, Some, sym}
 use Rattle.std.proofs.Common.{ap, ◌∙◌, subst, arith}
 use Rattle.std.specs.List.{AllByRecursion, slice_get}

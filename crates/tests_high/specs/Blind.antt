@@ -1,4 +1,4 @@
--- An analysis for tests: it knows nothing, and is exact on nothing.
+-- An analysis for tests (this project's own): it knows nothing, and is exact on nothing.
 use Rattle.std.specs.Prelude.{[], Some, codes}
 use Rattle.cpa_model.specs.declared.facts.Elem.{Elem}
 use Rattle.cpa_model.specs.Standing.{has_facts}

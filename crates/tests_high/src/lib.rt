@@ -3,8 +3,6 @@
 #![tactic(auto)]
 
 #[cfg(test)]
-mod automata;
-#[cfg(test)]
 mod calls;
 #[cfg(test)]
 mod programs;

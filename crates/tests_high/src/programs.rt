@@ -1,77 +1,12 @@
 //! Values worked by hand, and each allocating call once with ample memory.
-ghost use Rattle.std.specs.Prelude.{◌≡◌, ◌≤◌, [], ◌∷◌, pos, IfOk};
-ghost use Rattle.cpa_model.specs.Programs.{IsNumbered, point_count};
-
+//! They hold of the public calls of `cpa_model`.
 use cpa_expr::read_scalar;
 use cpa_model::{
-    Cell, Cfa, Elem, Expr, Fact, IntType, MAX_POINTS, Program, Seq, Spell, State, Stmt, Store,
-    copy_elem, has_facts, holds, is_elem, next_point,
+    Cell, Cfa, Elem, Expr, Fact, IntType, Seq, Spell, State, Store, copy_elem, has_facts, holds,
+    is_elem,
 };
 use std::alloc::{AllocError, Global};
 use std::test::Fail;
-
-const TEST: Expr = Expr::Const {
-    ty: IntType::I32,
-    value: 1,
-};
-
-/// A loop, an If and their parts in one function, and a second function.
-fn statements(alloc: Global) -> Result<Seq<Stmt>, AllocError>
-    ensures { IfOk result (λ stmts. stmts ≡
-        Stmt.Block (1 ∷ 4 ∷ []) ∷ Stmt.Loop 2 3 ∷ Stmt.Break ∷ Stmt.Leave
-        ∷ Stmt.If (Expr.Const IntType.I32 (pos 1)) 5 6 ∷ Stmt.Stop ∷ Stmt.Leave ∷ Stmt.Error ∷ []) }
-{
-    let items = Seq::from_vec(vec![in alloc; 1, 4]?);
-    let stmts = vec![in alloc;
-        Stmt::Block { items },
-        Stmt::Loop { body: 2, step: 3 },
-        Stmt::Break,
-        Stmt::Leave,
-        Stmt::If {
-            test: TEST,
-            yes: 5,
-            no: 6
-        },
-        Stmt::Stop,
-        Stmt::Leave,
-        Stmt::Error,
-    ]?;
-    Ok(Seq::from_vec(stmts))
-}
-
-fn two_functions(alloc: Global) -> Result<Program, AllocError>
-    ensures numbered { IfOk result (λ P. IsNumbered P) }
-    ensures few { IfOk result (λ P. point_count P ≤ MAX_POINTS) }
-{
-    Ok(Program {
-        cells: Seq::new(alloc),
-        bodies: Seq::from_vec(vec![in alloc; 0, 7]?),
-        main: 0,
-        stmts: statements(alloc)?,
-        text_len: 0,
-    })
-}
-
-#[test]
-fn finds_where_control_goes(rt: HostRuntime) -> Result<(), Fail> {
-    let program = two_functions(rt.alloc())?;
-    let successors = [
-        (0, Some(8)),
-        (1, Some(4)),
-        (2, Some(3)),
-        (3, Some(1)),
-        (4, Some(8)),
-        (5, Some(8)),
-        (6, Some(8)),
-        (7, Some(9)),
-        (8, None),
-        (9, None),
-    ];
-    for (number, point) in successors {
-        assert_eq!(rt; next_point(&program, number), point, "after {number}");
-    }
-    Ok(())
-}
 
 const WIDE: Expr = Expr::Const {
     ty: IntType::U8,

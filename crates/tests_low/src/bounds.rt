@@ -1,4 +1,5 @@
 //! A text that is too long for a row: the longest one that has tokens.
+//! It is the edge of the condition of `tokens` of `c_lexer`.
 
 use c_lexer::{MAX_TEXT, Token, TokenKind, tokens};
 use std::test::Fail;

@@ -1,4 +1,5 @@
-//! How the faults of a text are shown.
+//! How the faults of a text are shown:
+//! the words of `Display` of faults, which no clause gives.
 
 use c_lexer::{Rule, TextError, TextFault};
 use std::test::Fail;

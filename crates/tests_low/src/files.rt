@@ -1,4 +1,5 @@
 //! Real files, which no clause speaks of, and the fault of an error in the middle of a file.
+//! What is read from a source that tells its bytes is a clause of `cpa_outside`.
 ghost use Rattle.std.specs.Prelude.{⊤};
 
 use cpa_outside::{FileInputs, Inputs, Opens, ReadFault};

@@ -2,7 +2,9 @@
 use Rattle.std.proofs.Common.{◌≡◌, ℕ, Bool, true, false, List, [], ◌∷◌, ◌++◌, Option, None, Some}
 use Rattle.std.proofs.Common.{ap}
 use Rattle.std.specs.Str.{bytes_eq}
+use Rattle.c_rules.specs.declared.meaning.Object.{Object}
 use Rattle.c_rules.specs.declared.meaning.Declared.{Declared}
+use Rattle.c_rules.specs.declared.meaning.Declared.TheVariants as declared
 use Rattle.c_rules.specs.declared.meaning.Entry.{Entry}
 use Rattle.c_rules.specs.Names.{declared_as, or_else}
 
@@ -42,3 +44,8 @@ unfolding entry_as
 push_other [] entry name is = as_other entry name is
 push_other (x ∷ names) entry name is =
     ap (λ o. or_else o (entry_as x name)) (push_other names entry name is)
+
+-- what a name is declared as is one object
+pub same_object : (a b : Object) (i j : Bool) →
+    Some (declared.Object a i) ≡ Some (declared.Object b j) → a ≡ b
+same_object a b i j is = cc

@@ -2,8 +2,11 @@
 use Rattle.std.proofs.Common.{◌≡◌, ℕ, Bool, true, false, List, [], ◌∷◌, ◌++◌, refl, inl, inr}
 use Rattle.c_lexer.specs.declared.fault.Rule.{Rule}
 use Rattle.c_lexer.specs.declared.fault.TextFault.{TextFault}
+use Rattle.c_tree.specs.declared.item.Unit.{Unit as UnitTree}
 use Rattle.c_rules.specs.ExpressionRules.{broken, at_if}
+use Rattle.c_rules.specs.Items.{text_of, items_faults, nothing_before}
 use Rattle.c_rules.specs.Recursion.{Among}
+use Rattle.c_rules.specs.Sound.{Sound, unit_faults, without_main}
 
 -- none of these faults
 abbrev pub NoFaults : List TextFault → Type 0
@@ -29,3 +32,11 @@ pub not_broken : (r : Rule) (b : Bool) (place : ℕ) → NoFaults (broken r (at_
     b ≡ false
 not_broken r true place none = absurd (none (record { rule = r; place = place }) (inl refl))
 not_broken r false place none = refl
+
+-- a sound text has no fault in its items
+pub no_fault : (tree : UnitTree) → Sound tree →
+    NoFaults (items_faults (text_of tree.items) tree.items nothing_before)
+unfolding unit_faults
+no_fault tree sound fault among =
+    sound fault (inl (inl (among_left fault
+    (items_faults (text_of tree.items) tree.items nothing_before) (without_main tree) among)))

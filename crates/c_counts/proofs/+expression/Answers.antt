@@ -2,8 +2,9 @@
 use Rattle.std.proofs.Common.{◌≡◌, ◌-◌, length, take, OnOk, IfOk, ap, subst, ◌∙◌, arith}
 use Rattle.c_rules.specs.declared.typed.TypedExpression.{out-TypedExpression}
 use Rattle.c_rules.specs.Counts.{Counted, Target}
-use Rattle.c_counts.specs.Exact.{exact, exact_size}
-use Rattle.c_counts.specs.Places.{exact_place, placed, element_read}
+use Rattle.c_count_values.specs.Exact.{exact, exact_size}
+use Rattle.c_count_values.specs.Places.{exact_place}
+use Rattle.c_counts.specs.Places.{placed, element_read}
 use Rattle.c_counts.specs.Rows.{suffixed_by, suffix_count}
 use Rattle.c_counts.proofs.Chains.{linked_kept, linked_done}
 use Rattle.c_counts.proofs.Lists.{unused_kept, unused_done, comma_kept, comma_done}

@@ -92,7 +92,7 @@ below_long [] n m most h = tt
 below_long (k ∷ inputs) n m most h =
     let here = h.0 in (omega (arith, most, here), below_long inputs n m most h.1)
 
-front_long : {A : Type 0} (xs zs : List A) → Front xs zs → length xs ≤ length zs
+pub front_long : {A : Type 0} (xs zs : List A) → Front xs zs → length xs ≤ length zs
 front_long xs zs front =
     let is = ap length front.1 ∙ length-append xs front.0 in omega (arith, is)
 

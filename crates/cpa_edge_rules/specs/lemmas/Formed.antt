@@ -67,7 +67,7 @@ module _ (cells : List Cell) (points : ℕ) (few : length (types_of cells) < 2 ^
   AddedFits (failing elems) = AllByRecursion (IsElem cells points) elems
 
   module _ (form : Form) (fitted : Fitted cells form) where
-    abbrev Low : Expr × Bool → Type 0
+    abbrev pub Low : Expr × Bool → Type 0
     Low one = IsTyped (types_of cells) one.0 × (height one.0 ≤ 600)
 
     -- the type of a cell
@@ -161,20 +161,20 @@ module _ (cells : List Cell) (points : ℕ) (few : length (types_of cells) < 2 ^
         )
     fact_low (Truth expr holds) is = ((is.typed, let low = is.height in omega (arith, low)), tt)
 
-    facts_low : (facts : List Fact) → AllByRecursion (IsFact cells points) facts
+    pub facts_low : (facts : List Fact) → AllByRecursion (IsFact cells points) facts
         → AllByRecursion Low (tests_of form.places facts)
     facts_low [] h = tt
     facts_low (fact ∷ facts) h =
         all_both Low (fact_tests form.places fact) (tests_of form.places facts) (fact_low fact h.0)
         (facts_low facts h.1)
 
-    low_askable : (asked : List (Expr × Bool)) → AllByRecursion Low asked
+    pub low_askable : (asked : List (Expr × Bool)) → AllByRecursion Low asked
         → AllByRecursion (Askable cells form fitted) asked
     low_askable [] h = tt
     low_askable (one ∷ asked) h =
         ((h.0.0, let low = h.0.1 in omega (arith, low)), low_askable asked h.1)
 
-    elems_low : (elems : List Elem) → AllByRecursion (IsElem cells points) elems
+    pub elems_low : (elems : List Elem) → AllByRecursion (IsElem cells points) elems
         → AllByRecursion (λ (elem : Elem). AllByRecursion Low (tests_of form.places elem.facts))
         elems
     elems_low [] h = tt

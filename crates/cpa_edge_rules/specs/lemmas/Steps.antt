@@ -84,14 +84,14 @@ module _ (cells : List Cell) (form : Form) (fitted : Fitted cells form)
       subst (λ ts. AreValues ts store) fitted.types
       (shown_values form.query.cells old form.places store is.values_are fitted.stand shows)
 
-  abbrev denials : List Elem → List (List (Expr × Bool))
+  abbrev pub denials : List Elem → List (List (Expr × Bool))
   denials elems = map (λ elem. denials_of form.places elem.facts) elems
 
-  abbrev AllDeniable : List Elem → Type 0
+  abbrev pub AllDeniable : List Elem → Type 0
   AllDeniable = AllByRecursion (λ (elem : Elem).
       AllByRecursion Deniable (tests_of form.places elem.facts))
 
-  each_askable : (elems : List Elem) → AllDeniable elems
+  pub each_askable : (elems : List Elem) → AllDeniable elems
       → AllByRecursion (AllByRecursion
       (λ (one : Expr × Bool). IsTyped own_types one.0 × (height one.0 ≤ 1990))) (denials elems)
   each_askable [] h = tt

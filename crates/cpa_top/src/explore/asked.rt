@@ -1,4 +1,5 @@
-//! The questions of an exploration to a boxed analysis.
+//! The questions of an exploration to a boxed analysis, answered with pins of points.
+//! Proved with `proofs/Pinning.antt`.
 ghost use Rattle.std.specs.Prelude.{◌≡◌, ◌<◌, length, IfOk, IsTrue};
 ghost use Rattle.std.specs.List.{All};
 ghost use Rattle.cpa_model.specs.Automata.{IsAutomaton};

@@ -1,4 +1,5 @@
-//! The reached set: the entries, and which of them stands at a point.
+//! The reached set: the entries, and which of them stands at a point (`specs/Reached.antt`).
+//! Proved with `proofs/Added.antt` and `proofs/Ties.antt`.
 ghost use Rattle.std.specs.Prelude.{◌≡◌, ℕ, ◌<◌, [], ◌∷◌, ◌++◌, Some, None, IsTrue, false, length};
 ghost use Rattle.std.specs.Prelude.{slice_get, IfOk, OnOk};
 ghost use Rattle.std.specs.List.{All, Contains};

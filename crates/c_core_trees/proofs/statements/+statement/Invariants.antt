@@ -3,7 +3,7 @@ use Rattle.std.proofs.Common.{◌≡◌, drop, map}
 use Rattle.c_core_rules.specs.Cells.{in_order}
 use Rattle.c_core_rules.specs.Statements.{item_rule}
 use Rattle.c_core_values.specs.Found.{so_far}
-use Rattle.c_core_trees.specs.Rows.{in_behind}
+use Rattle.c_core_trees.specs.Items.{in_behind}
 use Rattle.c_core_trees.proofs.statements.+statement.Given as goal
 
 abbrev pub invariant-in_order-loop-item : goal.invariant-in_order-loop-item

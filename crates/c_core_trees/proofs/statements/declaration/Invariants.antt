@@ -3,7 +3,7 @@ use Rattle.std.proofs.Common.{◌≡◌, drop, map}
 use Rattle.c_core_rules.specs.Cells.{in_order}
 use Rattle.c_core_rules.specs.Statements.{declared}
 use Rattle.c_core_values.specs.Found.{so_far}
-use Rattle.c_core_trees.specs.Rows.{in_behind}
+use Rattle.c_core_trees.specs.Items.{in_behind}
 use Rattle.c_core_trees.proofs.statements.declaration.Given as goal
 
 abbrev pub invariant-loop-declarator : goal.invariant-loop-declarator

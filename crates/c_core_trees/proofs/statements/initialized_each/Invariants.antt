@@ -3,7 +3,7 @@ use Rattle.std.proofs.Common.{◌≡◌, drop}
 use Rattle.c_core_rules.specs.Cells.{in_order}
 use Rattle.c_core_rules.specs.Statements.{initialized_each}
 use Rattle.c_core_values.specs.Found.{so_far}
-use Rattle.c_core_trees.specs.Rows.{in_behind}
+use Rattle.c_core_trees.specs.Items.{in_behind}
 use Rattle.c_core_trees.proofs.statements.initialized_each.Given as goal
 
 abbrev pub invariant-loop-value : goal.invariant-loop-value

@@ -2,7 +2,7 @@
 use Rattle.std.proofs.Common.{◌≡◌, ◌++◌, drop, map}
 use Rattle.c_rules.specs.Counts.{function_rule, in_order}
 use Rattle.c_rules.specs.Sound.{first_cells}
-use Rattle.c_counts.specs.Exact.{exact_size}
+use Rattle.c_count_values.specs.Exact.{exact_size}
 use Rattle.c_counts.specs.Items.{in_behind}
 use Rattle.c_counts.proofs.functions.functions_size.Given as goal
 

@@ -1,6 +1,6 @@
 -- The parameters of the function of a number.
 use Rattle.std.proofs.Common.{ap, ◌∙◌}
-use Rattle.c_counts.specs.Exact.{types_of}
+use Rattle.c_count_values.specs.Exact.{types_of}
 use Rattle.c_counts.proofs.Parameters.{head_of_at, head_of_past}
 use Rattle.c_counts.proofs.heads.head_at.Goals as goal
 

@@ -1,4 +1,5 @@
 use Rattle.cpa_composite.proofs.Pinned.{pins_step, pins_stuck, pins_initial, pins_adjust}
+use Rattle.cpa_composite.proofs.Moving.{pins_next}
 use Rattle.cpa_composite.proofs.laws.pins_are_followed.Goals as goal
 
 pub returns-clause-step : goal.returns-clause-step
@@ -12,3 +13,6 @@ returns-clause-initial c = pins_initial
 
 pub returns-clause-adjust : goal.returns-clause-adjust
 returns-clause-adjust c = pins_adjust
+
+pub returns-clause-next : goal.returns-clause-next
+returns-clause-next c = pins_next c.steps_keep_states.ensures

@@ -4,12 +4,11 @@ use Rattle.std.proofs.Common.{List, map, length, sym, subst}
 use Rattle.std.specs.List.{AllByRecursion}
 use Rattle.std.proofs.lemmas.Result.{on_ok_weaker}
 use Rattle.cpa_model.specs.declared.facts.Elem.{Elem}
-use Rattle.cpa_model.specs.Covers.{LiesInSome}
 use Rattle.cpa_composite.specs.Components.{Component, AreElems, ArePrecisions}
 use Rattle.cpa_composite.specs.Composites.{components}
-use Rattle.cpa_engine.specs.Stages.{Stage, stage, Leads}
+use Rattle.cpa_engine.specs.Stages.{Stage, SettlesAll}
+use Rattle.cpa_engine.specs.Steps.{stage}
 use Rattle.cpa_engine.specs.Turns.{AreEntries}
-use Rattle.cpa_engine.proofs.Chains.{leads_under}
 use Rattle.cpa_engine.proofs.expanding.follow.Goals as goal
 
 pub settle_all-requires-clause-entries : goal.settle_all-requires-clause-entries
@@ -33,20 +32,26 @@ settle_all-requires-clause-precisions g c =
     subst (λ (cs : List Component). ArePrecisions c.args.cfa.now (length cs) c.args.precisions.now)
     (sym c.successors.ensures.kept) c.requires.precisions
 
-pub returns-clause-leads : goal.returns-clause-leads
-returns-clause-leads g c =
+pub returns-clause-follows : goal.returns-clause-follows
+returns-clause-follows g c =
+    let items : Vec Elem Global → List Elem = λ l. l.items in
     let cfa = c.args.cfa.now in
+    let cs = components c.args.composite.now in
+    let ds = components c.successors.new.self in
+    let ps = c.args.precisions.now in
+    let k = c.args.edge in
     let a : Stage = stage c.args.reached.now c.args.work.now in
     let b : Stage = stage c.settle_all.new.reached c.settle_all.new.work in
     on_ok_weaker _
-    (λ (leads : Leads cfa (components c.successors.new.self) a b).
-    leads_under cfa (components c.successors.new.self) (components c.args.composite.now) a b
-    c.successors.ensures.kept leads)
-    c.settle_all.ensures.leads
-
-pub returns-clause-placed : goal.returns-clause-placed
-returns-clause-placed g c = λ e s t at lies step.
-    let items : Vec Elem Global → List Elem = λ l. l.items in
-    c.settle_all.ensures.placed t step.after
-    (subst (λ (rows : List (Vec Elem Global)). LiesInSome t (map items rows))
-    (sym c.deref.ensures.value) (c.in_ok-rows.ensures.laws.covers e s t at lies step))
+    (λ (settles : SettlesAll cfa ds ps k (map items c.deref.result.now) a b).
+    record {
+      rows = map items c.in_ok-rows.rows.items;
+      successors = c.in_ok-rows.ensures.laws;
+      settles = subst (λ (rows : List (Vec Elem Global)). SettlesAll cfa cs ps k (map items rows) a
+          b)
+          c.deref.ensures.value
+          (subst (λ (bs : List Component). SettlesAll cfa bs ps k (map items c.deref.result.now) a
+          b)
+          c.successors.ensures.kept settles);
+    })
+    c.settle_all.ensures.settles

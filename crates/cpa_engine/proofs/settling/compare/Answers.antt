@@ -1,45 +1,48 @@
-use Rattle.std.proofs.Common.{◌+◌, List, length, refl, sym, ap, ◌∙◌, subst, arith}
+use Rattle.std.proofs.Common.{◌≡◌, ℕ, ◌+◌, ◌∷◌, List, length, take, drop, refl, sym, ap, ◌∙◌, subst}
+use Rattle.std.proofs.Common.{arith}
+use Rattle.std.proofs.lemmas.List.{length-map}
 use Rattle.cpa_iface.specs.declared.entries.Entry.{Entry}
 use Rattle.cpa_composite.specs.Components.{Component, AreElems, ArePrecisions}
 use Rattle.cpa_composite.specs.Composites.{components}
-use Rattle.cpa_engine.specs.Keys.{CoversKey, rows_of, Compared}
-use Rattle.cpa_engine.specs.Stages.{Stage, stage}
-use Rattle.cpa_engine.proofs.Chains.{leads_nowhere, leads_then, leads_under}
-use Rattle.cpa_engine.proofs.Comparing.{compared_first, compared_step, compared_all}
-use Rattle.cpa_engine.proofs.Settled.{rows_count, merges_under}
+use Rattle.cpa_reached.specs.Entries.{numbers}
+use Rattle.cpa_engine.specs.Stages.{Stage, Compares, ComparesAll}
+use Rattle.cpa_engine.specs.Steps.{stage, LeftAt}
+use Rattle.cpa_engine.proofs.Places.{left_first, left_step, left_there, left_inside, next_at}
+use Rattle.cpa_engine.proofs.Places.{take_whole}
+use Rattle.cpa_engine.proofs.Settled.{compares_push}
 use Rattle.cpa_engine.proofs.Shapes.{entries_on}
+use Rattle.cpa_engine.proofs.Working.{all_compares_lead}
 use Rattle.cpa_engine.proofs.settling.compare.Goals as goal
 
 pub loop-compared-init : goal.loop-compared-init
-loop-compared-init g c = record {
-  leads = leads_nowhere c.args.cfa.now (components c.args.composite.now)
-      (stage c.args.reached.now c.args.work.now);
-  size = refl;
-  place = omega arith;
-  compared = λ all left count.
-      subst (Compared (CoversKey (components c.args.composite.now) c.args.successor.now)
-      (rows_of c.args.reached.now.live) 0)
-      (rows_count c.args.reached.now.live ∙ omega (arith, count))
-      (compared_first (CoversKey (components c.args.composite.now) c.args.successor.now)
-      (rows_of c.args.reached.now.live));
-  kept = refl;
-}
+loop-compared-init g c =
+    record { compares = refl; left = left_first (numbers c.args.reached.now.live); kept = refl }
 
 pub merge_at-requires-clause-entries : goal.merge_at-requires-clause-entries
 merge_at-requires-clause-entries g c =
     let at = c.loop-compared in
-    entries_on c.args.cfa.now (components c.args.composite.now) (components at.composite)
-    (stage c.args.reached.now c.args.work.now) (stage at.reached at.work) at.invariant.kept
-    at.invariant.leads c.requires.entries
+    let cfa = c.args.cfa.now in
+    let cs = components c.args.composite.now in
+    let a : Stage = stage c.args.reached.now c.args.work.now in
+    let b : Stage = stage at.reached at.work in
+    entries_on cfa cs (components at.composite) a b at.invariant.kept
+    (all_compares_lead cfa cs c.args.successor.now c.args.precisions.now
+    (take at._compared (numbers c.args.reached.now.live)) a b c.requires.successor
+    c.requires.precisions c.requires.entries at.invariant.compares) c.requires.entries
 
 pub merge_at-requires-clause-place : goal.merge_at-requires-clause-place
 merge_at-requires-clause-place g c =
     let at = c.loop-compared in
-    let low = at.invariant.place in
+    let ns = numbers c.args.reached.now.live in
     let less = c.loop-compared-test.true in
-    let size = at.invariant.size in
     let same = ap (λ (xs : List Entry). length xs) c.live-compared-end.ensures.live in
-    omega (arith, low, less, size, same)
+    let size : length ns ≡ length c.args.reached.now.live =
+    length-map c.args.reached.now.live (λ (e : Entry). e.number) in
+    let now : length (numbers at.reached.live) ≡ length at.reached.live =
+    length-map at.reached.live (λ (e : Entry). e.number) in
+    let inside = left_inside (numbers at.reached.live) ns at.place at._compared at.invariant.left
+    (omega (arith, less, same, size)) in
+    omega (arith, inside, now)
 
 pub merge_at-requires-clause-successor : goal.merge_at-requires-clause-successor
 merge_at-requires-clause-successor g c =
@@ -56,34 +59,42 @@ loop-compared-preserved g c =
     let cfa = c.args.cfa.now in
     let at = c.loop-compared in
     let cs = components c.args.composite.now in
+    let es = c.args.successor.now in
+    let ps = c.args.precisions.now in
+    let ns = numbers c.args.reached.now.live in
     let a : Stage = stage c.args.reached.now c.args.work.now in
     let b : Stage = stage at.reached at.work in
     let m : Stage = stage c.merge_at.new.reached c.merge_at.new.work in
-    let low = at.invariant.place in
-    let next = c.in_ok-next.ensures.next in
+    let less = c.loop-compared-test.true in
+    let same = ap (λ (xs : List Entry). length xs) c.live-compared-end.ensures.live in
+    let size : length ns ≡ length c.args.reached.now.live =
+    length-map c.args.reached.now.live (λ (e : Entry). e.number) in
+    let next = next_at ns at._compared (omega (arith, less, same, size)) in
+    let n = next.number in
+    let left : LeftAt (numbers at.reached.live) at.place (n ∷ drop (at._compared + 1) ns) =
+    subst (LeftAt (numbers at.reached.live) at.place) next.behind at.invariant.left in
+    let one : Compares cfa cs es ps n b m =
+    subst (λ (ds : List Component). Compares cfa ds es ps n b m) at.invariant.kept
+    (c.in_ok-next.ensures.compares n
+    (left_there (numbers at.reached.live) at.place n (drop (at._compared + 1) ns) left)) in
     record {
-      leads = leads_then cfa cs a b m at.invariant.leads
-          (leads_under cfa (components at.composite) cs b m at.invariant.kept
-          c.in_ok-next.ensures.leads);
-      size = c.in_ok-next.ensures.size ∙ at.invariant.size;
-      place = omega (arith, low, next);
-      compared = λ all left count.
-          compared_step (CoversKey cs c.args.successor.now) (rows_of at.reached.live)
-          (rows_of c.merge_at.new.reached.live) at.place c.in_ok-next.next left
-          (at.invariant.compared all (left + 1) (omega (arith, count)))
-          (merges_under (components at.composite) cs c.args.successor.now (rows_of at.reached.live)
-          (rows_of c.merge_at.new.reached.live) at.place c.in_ok-next.next at.invariant.kept all
-          c.in_ok-next.ensures.compared);
+      compares = subst (λ (ks : List ℕ). ComparesAll cfa cs es ps ks a m) (sym next.front)
+          (compares_push cfa cs es ps (take at._compared ns) n a b m at.invariant.compares one);
+      left = left_step (numbers at.reached.live) (numbers c.merge_at.new.reached.live) at.place
+          c.in_ok-next.next n (drop (at._compared + 1) ns) left c.in_ok-next.ensures.moves;
       kept = c.merge_at.ensures.kept ∙ at.invariant.kept;
     }
 
-pub returns-clause-compared : goal.returns-clause-compared
-returns-clause-compared g c = λ all.
+pub returns-clause-compares : goal.returns-clause-compares
+returns-clause-compares g c =
     let at = c.loop-compared in
+    let cs = components c.args.composite.now in
+    let ns = numbers c.args.reached.now.live in
+    let a : Stage = stage c.args.reached.now c.args.work.now in
+    let b : Stage = stage at.reached at.work in
     let end = c.loop-compared-test.false in
-    let size = at.invariant.size in
     let same = ap (λ (xs : List Entry). length xs) c.live-compared-end.ensures.live in
-    let bound = at.auto._compared-end in
-    compared_all (CoversKey (components c.args.composite.now) c.args.successor.now)
-    (rows_of at.reached.live) at.place
-    (at.invariant.compared all 0 (omega (arith, end, same, bound)))
+    let size : length ns ≡ length c.args.reached.now.live =
+    length-map c.args.reached.now.live (λ (e : Entry). e.number) in
+    subst (λ (ks : List ℕ). ComparesAll c.args.cfa.now cs c.args.successor.now c.args.precisions.now
+    ks a b) (take_whole ns at._compared (omega (arith, end, same, size))) at.invariant.compares

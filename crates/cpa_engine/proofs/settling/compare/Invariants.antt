@@ -1,19 +1,17 @@
--- What was merged so far leads on from the beginning.
-use Rattle.std.proofs.Common.{◌≡◌, ℕ, ◌+◌, ◌≤◌, length}
+-- The numbers of the beginning up to here were compared, and the others are left from the place on.
+use Rattle.std.proofs.Common.{◌≡◌, take, drop}
 use Rattle.cpa_composite.specs.Composites.{components}
-use Rattle.cpa_engine.specs.Keys.{WidenBesideKeys, CoversKey, rows_of, Compared}
-use Rattle.cpa_engine.specs.Stages.{stage, Leads}
+use Rattle.cpa_reached.specs.Entries.{numbers}
+use Rattle.cpa_engine.specs.Stages.{ComparesAll}
+use Rattle.cpa_engine.specs.Steps.{stage, LeftAt}
 use Rattle.cpa_engine.proofs.settling.compare.Given as goal
 
 abbrev pub invariant-loop-compared : goal.invariant-loop-compared
 invariant-loop-compared g l = record {
-  leads : Leads l.cfa (components l.initial.composite)
+  compares : ComparesAll l.cfa (components l.initial.composite) l.successor l.precisions
+      (take l._compared (numbers l.initial.reached.live))
       (stage l.initial.reached l.initial.work) (stage l.reached l.work);
-  size : length l.reached.live ≡ length l.initial.reached.live;
-  place : l.place ≤ l._compared;
-  compared : WidenBesideKeys (components l.initial.composite) → (left : ℕ)
-      → l._compared + left ≡ length l.initial.reached.live
-      → Compared (CoversKey (components l.initial.composite) l.successor) (rows_of l.reached.live)
-      l.place left;
+  left : LeftAt (numbers l.reached.live) l.place
+      (drop l._compared (numbers l.initial.reached.live));
   kept : components l.composite ≡ components l.initial.composite;
 }

@@ -1,9 +1,7 @@
-use Rattle.std.proofs.Common.{◌+◌, refl}
+use Rattle.std.proofs.Common.{refl, inl}
 use Rattle.cpa_composite.specs.Composites.{components}
-use Rattle.cpa_engine.specs.Stages.{stage}
-use Rattle.cpa_engine.proofs.Chains.{leads_nowhere}
-use Rattle.cpa_engine.proofs.Settled.{placed_in, live_in_place, merged_leads, replaced_size}
-use Rattle.cpa_engine.proofs.Settled.{old_shaped, merges_none, merges_some}
+use Rattle.cpa_engine.proofs.Settled.{placed_in, live_in_place, numbered_at, merged_compares}
+use Rattle.cpa_engine.proofs.Settled.{merged_moves, left_compares}
 use Rattle.cpa_engine.proofs.settling.merge_at.Goals as goal
 
 pub replace-requires : goal.replace-requires
@@ -13,59 +11,40 @@ replace-requires g c =
     (placed_in c.args.reached.now.live c.live.result.now c.args.place x c.live.ensures.live
     c.requires.place c.index-live-place.is)
 
-pub returns-in_ok-note_replaced-in-Some-clause-leads :
-    goal.returns-in_ok-note_replaced-in-Some-clause-leads
-returns-in_ok-note_replaced-in-Some-clause-leads g c =
+pub returns-in_ok-note_replaced-in-Some-clause-compares :
+    goal.returns-in_ok-note_replaced-in-Some-clause-compares
+returns-in_ok-note_replaced-in-Some-clause-compares g c = λ n at.
     let x = c.index-live-place.result in
-    merged_leads c.args.cfa.now (components c.args.composite.now) c.args.reached.now
+    merged_compares c.args.cfa.now (components c.args.composite.now) c.args.reached.now
     c.replace.new.self c.args.work.now c.note_replaced.new.self x c.args.successor.now
     c.as_slice-old.result.now c.args.precisions.now c.in_ok-merged.field-0 c.in-Some.merged
-    c.in_ok-next-in-Some.next
+    c.in_ok-next-in-Some.next n
     (placed_in c.args.reached.now.live c.live.result.now c.args.place x c.live.ensures.live
     c.requires.place c.index-live-place.is)
-    c.as_slice-old.ensures c.in-Some.is c.requires.successor
-    (old_shaped c.args.cfa.now (components c.args.composite.now) c.args.reached.now.live x
-    c.as_slice-old.result.now c.requires.entries
-    (placed_in c.args.reached.now.live c.live.result.now c.args.place x c.live.ensures.live
-    c.requires.place c.index-live-place.is) c.as_slice-old.ensures)
-    c.requires.precisions c.in_ok-merged.ensures.some
+    c.as_slice-old.ensures c.in-Some.is c.in_ok-merged.ensures.some
     c.in_ok-next-in-Some.ensures.number c.in_ok-next-in-Some.ensures.ok
     c.in_ok-note_replaced-in-Some.ensures
+    (numbered_at c.args.reached.now.live c.live.result.now c.args.place x n c.live.ensures.live
+    c.requires.place c.index-live-place.is at)
 
-pub returns-in_ok-note_replaced-in-Some-clause-size :
-    goal.returns-in_ok-note_replaced-in-Some-clause-size
-returns-in_ok-note_replaced-in-Some-clause-size g c =
+pub returns-in_ok-note_replaced-in-Some-clause-moves :
+    goal.returns-in_ok-note_replaced-in-Some-clause-moves
+returns-in_ok-note_replaced-in-Some-clause-moves g c =
+    merged_moves c.args.reached.now c.replace.new.self c.live.result.now c.args.place
+    c.index-live-place.result c.in-Some.merged.items c.live.ensures.numbered c.live.ensures.live
+    c.requires.place c.index-live-place.is c.in_ok-next-in-Some.ensures.ok
+
+pub returns-in-None-clause-compares : goal.returns-in-None-clause-compares
+returns-in-None-clause-compares g c = λ n at.
     let x = c.index-live-place.result in
-    replaced_size c.args.reached.now c.replace.new.self x c.in-Some.merged.items
-    c.live.ensures.numbered
+    left_compares c.args.cfa.now (components c.args.composite.now) c.args.reached.now
+    c.args.work.now x c.args.successor.now c.as_slice-old.result.now c.args.precisions.now
+    c.in_ok-merged.field-0 n
     (placed_in c.args.reached.now.live c.live.result.now c.args.place x c.live.ensures.live
     c.requires.place c.index-live-place.is)
-    c.in_ok-next-in-Some.ensures.ok
+    c.as_slice-old.ensures c.in-None.is c.in_ok-merged.ensures.none
+    (numbered_at c.args.reached.now.live c.live.result.now c.args.place x n c.live.ensures.live
+    c.requires.place c.index-live-place.is at)
 
-pub returns-in-None-clause-leads : goal.returns-in-None-clause-leads
-returns-in-None-clause-leads g c =
-    leads_nowhere c.args.cfa.now (components c.args.composite.now)
-    (stage c.args.reached.now c.args.work.now)
-
-pub returns-in_ok-note_replaced-in-Some-clause-compared :
-    goal.returns-in_ok-note_replaced-in-Some-clause-compared
-returns-in_ok-note_replaced-in-Some-clause-compared g c = λ all.
-    let x = c.index-live-place.result in
-    let cs = components c.args.composite.now in
-    merges_some c.args.cfa.now cs c.args.reached.now c.replace.new.self c.live.result.now
-    c.args.place c.args.place x c.args.successor.now c.as_slice-old.result.now
-    c.args.precisions.now c.in_ok-merged.field-0 c.in-Some.merged all c.live.ensures.numbered
-    c.live.ensures.live c.requires.place c.index-live-place.is c.in-Some.is c.requires.successor
-    (old_shaped c.args.cfa.now cs c.args.reached.now.live x c.as_slice-old.result.now
-    c.requires.entries
-    (placed_in c.args.reached.now.live c.live.result.now c.args.place x c.live.ensures.live
-    c.requires.place c.index-live-place.is) c.as_slice-old.ensures)
-    c.requires.precisions c.in_ok-merged.ensures.some c.in_ok-next-in-Some.ensures.ok refl
-
-pub returns-in-None-clause-compared : goal.returns-in-None-clause-compared
-returns-in-None-clause-compared g c = λ all.
-    let x = c.index-live-place.result in
-    merges_none (components c.args.composite.now) c.args.reached.now.live c.live.result.now
-    c.args.place (c.args.place + 1) x c.args.successor.now c.as_slice-old.result.now
-    c.in_ok-merged.field-0 all c.live.ensures.live c.requires.place c.index-live-place.is
-    c.as_slice-old.ensures c.in-None.is c.in_ok-merged.ensures.none refl
+pub returns-in-None-clause-moves : goal.returns-in-None-clause-moves
+returns-in-None-clause-moves g c = record { step = inl (refl, refl) }

@@ -1,49 +1,64 @@
 use Rattle.std.specs.declared.vec.Vec.{Vec}
 use Rattle.std.specs.declared.alloc.Global.{Global}
-use Rattle.std.proofs.Common.{◌≡◌, List, Some, map, length, refl, sym, ap, ◌∙◌, subst, ⊎_elim}
+use Rattle.std.proofs.Common.{◌≡◌, List, Some, map, length, take, refl, sym, ap, ◌∙◌, subst}
+use Rattle.std.proofs.Common.{arith}
 use Rattle.std.specs.Option.{option_map}
 use Rattle.std.specs.List.{slice_get}
+use Rattle.std.proofs.lemmas.List.{length-map}
 use Rattle.std.proofs.lemmas.Option.{slice_get_read, slice_get-map}
 use Rattle.cpa_model.specs.declared.facts.Elem.{Elem}
-use Rattle.cpa_model.specs.Facts.{LiesIn}
-use Rattle.cpa_composite.specs.Components.{Component, AreElems}
+use Rattle.cpa_composite.specs.Components.{Component, AreElems, ArePrecisions}
 use Rattle.cpa_composite.specs.Composites.{components}
-use Rattle.cpa_engine.specs.Stages.{Stage, stage}
-use Rattle.cpa_engine.proofs.Chains.{leads_nowhere, leads_then, leads_under}
-use Rattle.cpa_engine.proofs.Expanded.{some_next, each_at}
-use Rattle.cpa_engine.proofs.Placing.{placed_along}
+use Rattle.cpa_engine.specs.Stages.{Stage, Settles, SettlesAll}
+use Rattle.cpa_engine.specs.Steps.{stage}
+use Rattle.cpa_engine.proofs.Places.{each_at, take_push, take_whole}
 use Rattle.cpa_engine.proofs.Progress.{ordered_along, current_along}
 use Rattle.cpa_engine.proofs.Shapes.{entries_on}
+use Rattle.cpa_engine.proofs.Working.{all_settles_lead, settles_push}
 use Rattle.cpa_engine.proofs.settling.settle_all.Goals as goal
 
 pub loop-successor-init : goal.loop-successor-init
-loop-successor-init g c = record {
-  leads = leads_nowhere c.args.cfa.now (components c.args.composite.now)
-      (stage c.args.reached.now c.args.work.now);
-  placed = λ t state none. absurd none;
-  kept = refl;
-}
+loop-successor-init g c = record { settles = refl; kept = refl }
 
 pub settle-requires-clause-entries : goal.settle-requires-clause-entries
 settle-requires-clause-entries g c =
+    let items : Vec Elem Global → List Elem = λ l. l.items in
+    let cfa = c.args.cfa.now in
     let at = c.loop-successor in
-    entries_on c.args.cfa.now (components c.args.composite.now) (components at.composite)
-    (stage c.args.reached.now c.args.work.now) (stage at.reached at.work) at.invariant.kept
-    at.invariant.leads c.requires.entries
+    let cs = components c.args.composite.now in
+    let a : Stage = stage c.args.reached.now c.args.work.now in
+    let b : Stage = stage at.reached at.work in
+    entries_on cfa cs (components at.composite) a b at.invariant.kept
+    (all_settles_lead cfa cs c.args.precisions.now c.args.edge
+    (take at.successor-index (map items c.args.successors.now)) a b c.requires.edge
+    c.requires.entries c.requires.ordered at.invariant.settles) c.requires.entries
 
 pub settle-requires-clause-ordered : goal.settle-requires-clause-ordered
 settle-requires-clause-ordered g c =
+    let items : Vec Elem Global → List Elem = λ l. l.items in
+    let cfa = c.args.cfa.now in
     let at = c.loop-successor in
-    ordered_along c.args.cfa.now (components c.args.composite.now)
-    (stage c.args.reached.now c.args.work.now) (stage at.reached at.work) at.invariant.leads
-    c.requires.ordered
+    let cs = components c.args.composite.now in
+    let a : Stage = stage c.args.reached.now c.args.work.now in
+    let b : Stage = stage at.reached at.work in
+    ordered_along cfa cs a b
+    (all_settles_lead cfa cs c.args.precisions.now c.args.edge
+    (take at.successor-index (map items c.args.successors.now)) a b c.requires.edge
+    c.requires.entries c.requires.ordered at.invariant.settles) c.requires.ordered
 
 pub settle-requires-clause-current : goal.settle-requires-clause-current
 settle-requires-clause-current g c =
+    let items : Vec Elem Global → List Elem = λ l. l.items in
+    let cfa = c.args.cfa.now in
     let at = c.loop-successor in
-    current_along c.args.cfa.now (components c.args.composite.now)
-    (stage c.args.reached.now c.args.work.now) (stage at.reached at.work) at.invariant.leads
-    c.requires.ordered c.requires.current
+    let cs = components c.args.composite.now in
+    let a : Stage = stage c.args.reached.now c.args.work.now in
+    let b : Stage = stage at.reached at.work in
+    current_along cfa cs a b
+    (all_settles_lead cfa cs c.args.precisions.now c.args.edge
+    (take at.successor-index (map items c.args.successors.now)) a b c.requires.edge
+    c.requires.entries c.requires.ordered at.invariant.settles) c.requires.ordered
+    c.requires.current
 
 pub settle-requires-clause-successor : goal.settle-requires-clause-successor
 settle-requires-clause-successor g c =
@@ -62,10 +77,17 @@ settle-requires-clause-successor g c =
     (each_at (AreElems cfa (length (components c.args.composite.now))) (map items rows)
     c.requires.successors i x.items there))
 
+pub settle-requires-clause-precisions : goal.settle-requires-clause-precisions
+settle-requires-clause-precisions g c =
+    subst (λ (cs : List Component). ArePrecisions c.args.cfa.now (length cs) c.args.precisions.now)
+    (sym c.loop-successor.invariant.kept) c.requires.precisions
+
 pub loop-successor-preserved : goal.loop-successor-preserved
 loop-successor-preserved g c =
     let items : Vec Elem Global → List Elem = λ l. l.items in
     let cfa = c.args.cfa.now in
+    let ps = c.args.precisions.now in
+    let k = c.args.edge in
     let at = c.loop-successor in
     let rows = c.args.successors.now in
     let i = at.successor-index in
@@ -78,17 +100,27 @@ loop-successor-preserved g c =
     let a : Stage = stage c.args.reached.now c.args.work.now in
     let b : Stage = stage at.reached at.work in
     let m : Stage = stage c.settle.new.reached c.settle.new.work in
-    let next = leads_under cfa (components at.composite) cs b m at.invariant.kept
-    c.in_ok-settle.ensures.leads in
+    let one : Settles cfa cs ps k x.items b m =
+    subst (λ (row : List Elem). Settles cfa cs ps k row b m) c.deref.ensures.value
+    (subst (λ (ds : List Component). Settles cfa ds ps k c.deref.result.now b m) at.invariant.kept
+    c.in_ok-settle.ensures.settles) in
     record {
-      leads = leads_then cfa cs a b m at.invariant.leads next;
-      placed = λ t state lies.
-          ⊎_elim
-          (λ earlier. placed_along cfa cs b m t state next
-          (ordered_along cfa cs a b at.invariant.leads c.requires.ordered)
-          (at.invariant.placed t state earlier))
-          (λ here. c.in_ok-settle.ensures.placed t state
-          (subst (LiesIn t) (sym c.deref.ensures.value) here))
-          (some_next t (map items rows) i x.items there lies);
+      settles = subst (λ (done : List (List Elem)). SettlesAll cfa cs ps k done a m)
+          (sym (take_push (map items rows) i x.items there))
+          (settles_push cfa cs ps k (take i (map items rows)) x.items a b m at.invariant.settles
+          one);
       kept = c.settle.ensures.kept ∙ at.invariant.kept;
     }
+
+pub returns-clause-settles : goal.returns-clause-settles
+returns-clause-settles g c =
+    let items : Vec Elem Global → List Elem = λ l. l.items in
+    let at = c.loop-successor in
+    let rows = c.args.successors.now in
+    let a : Stage = stage c.args.reached.now c.args.work.now in
+    let b : Stage = stage at.reached at.work in
+    let end = c.loop-successor-test.false in
+    let size : length (map items rows) ≡ length rows = length-map rows items in
+    subst (λ (done : List (List Elem)). SettlesAll c.args.cfa.now (components c.args.composite.now)
+    c.args.precisions.now c.args.edge done a b)
+    (take_whole (map items rows) at.successor-index (omega (arith, end, size))) at.invariant.settles

@@ -1,0 +1,110 @@
+-- Calls, by what is called.
+use Rattle.std.proofs.Common.{◌≡◌, ◌<◌, ◌≤◌, List, [], ◌∷◌, ◌++◌, map, length, get_or, refl, ap}
+use Rattle.std.proofs.Common.{None, Some, if◌then◌else◌, sym, arith}
+use Rattle.c_rules.specs.declared.known.KnownFunction.{KnownFunction}
+use Rattle.c_rules.specs.declared.known.KnownFunction.TheVariants as known
+use Rattle.c_rules.specs.declared.meaning.Function.{Function}
+use Rattle.c_rules.specs.declared.meaning.Meaning.TheVariants as meaning
+use Rattle.c_rules.specs.declared.meaning.Object.{Object}
+use Rattle.c_rules.specs.declared.typed.TypedExpression.{TypedExpression}
+use Rattle.c_core_rules.specs.declared.tree.Head.TheVariants as head
+use Rattle.c_core_rules.specs.declared.tree.Valued.{Valued}
+use Rattle.c_core_rules.specs.Values.{int}
+use Rattle.c_core_rules.specs.Trees.{leaf, pure}
+use Rattle.c_core_rules.specs.Cells.{Taken, Rule, gives, then_by, each}
+use Rattle.c_core_rules.specs.Expressions.{Frames, Rows, rows, called}
+use Rattle.c_core_expressions.specs.declared.usage.Usage.{Usage}
+use Rattle.c_core_expressions.specs.declared.usage.Usage.TheVariants.{Used, Unused}
+use Rattle.c_core_expressions.specs.Rows.{by_usage, lowered, kept_for, voided, used_by}
+use Rattle.c_core_expressions.specs.Rows.{called_behind, known_alone, exit_of, is_exit, call_of}
+
+used_rows : (frames : Frames) (arguments : List TypedExpression) →
+    map (λ (row : Rows). row.used) (map (rows frames) arguments)
+    ≡ map (used_by frames) arguments
+unfolding lowered by_usage
+used_rows frames [] = refl
+used_rows frames (argument ∷ arguments) =
+    ap (λ rules. (rows frames argument).used ∷ rules) (used_rows frames arguments)
+
+pub call_Function : (frames : Frames) (usage : Usage) (function : Function)
+    (arguments : List TypedExpression) (taken : Taken) →
+    call_of frames usage (Some (meaning.Function function)) arguments taken
+    ≡ then_by (each (map (used_by frames) arguments)) (called_behind frames usage function) taken
+unfolding call_of by_usage called_behind kept_for
+call_Function frames Used function arguments taken =
+    ap (λ (rules : List (Rule Valued)). called frames function rules taken)
+    (used_rows frames arguments)
+call_Function frames Unused function arguments taken =
+    ap (λ (rules : List (Rule Valued)). then_by (each rules)
+    (called_behind frames Unused function) taken) (used_rows frames arguments)
+
+pub call_Object : (frames : Frames) (usage : Usage) (object : Object)
+    (arguments : List TypedExpression) (taken : Taken) →
+    call_of frames usage (Some (meaning.Object object)) arguments taken
+    ≡ record { taken = taken; made = pure (int 0) }
+unfolding call_of by_usage
+call_Object frames Used object arguments taken = refl
+call_Object frames Unused object arguments taken = refl
+
+pub call_None : (frames : Frames) (usage : Usage) (arguments : List TypedExpression)
+    (taken : Taken) → call_of frames usage None arguments taken
+    ≡ record { taken = taken; made = pure (int 0) }
+unfolding call_of by_usage
+call_None frames Used arguments taken = refl
+call_None frames Unused arguments taken = refl
+
+pub call_Known : (frames : Frames) (usage : Usage) (function : KnownFunction)
+    (arguments : List TypedExpression) (taken : Taken) →
+    call_of frames usage (Some (meaning.Known function)) arguments taken
+    ≡ (if is_exit function then exit_of frames usage arguments
+    else known_alone usage function) taken
+unfolding call_of by_usage exit_of voided kept_for
+call_Known frames Used known.ReachError arguments taken = refl
+call_Known frames Used known.Abort arguments taken = refl
+call_Known frames Used known.Exit arguments taken = refl
+call_Known frames Used known.AssertFail arguments taken = refl
+call_Known frames Used known.InputBool arguments taken = refl
+call_Known frames Used known.InputChar arguments taken = refl
+call_Known frames Used known.InputUnsignedChar arguments taken = refl
+call_Known frames Used known.InputShort arguments taken = refl
+call_Known frames Used known.InputUnsignedShort arguments taken = refl
+call_Known frames Used known.InputInt arguments taken = refl
+call_Known frames Used known.InputUnsigned arguments taken = refl
+call_Known frames Used known.InputLong arguments taken = refl
+call_Known frames Used known.InputUnsignedLong arguments taken = refl
+call_Known frames Used known.InputLongLong arguments taken = refl
+call_Known frames Used known.InputUnsignedLongLong arguments taken = refl
+call_Known frames Unused known.ReachError arguments taken = refl
+call_Known frames Unused known.Abort arguments taken = refl
+call_Known frames Unused known.Exit arguments taken = refl
+call_Known frames Unused known.AssertFail arguments taken = refl
+call_Known frames Unused known.InputBool arguments taken = refl
+call_Known frames Unused known.InputChar arguments taken = refl
+call_Known frames Unused known.InputUnsignedChar arguments taken = refl
+call_Known frames Unused known.InputShort arguments taken = refl
+call_Known frames Unused known.InputUnsignedShort arguments taken = refl
+call_Known frames Unused known.InputInt arguments taken = refl
+call_Known frames Unused known.InputUnsigned arguments taken = refl
+call_Known frames Unused known.InputLong arguments taken = refl
+call_Known frames Unused known.InputUnsignedLong arguments taken = refl
+call_Known frames Unused known.InputLongLong arguments taken = refl
+call_Known frames Unused known.InputUnsignedLongLong arguments taken = refl
+
+-- the status of an exit
+pub exit_none : (frames : Frames) (usage : Usage) (xs : List TypedExpression) (taken : Taken) →
+    length xs < 1 → exit_of frames usage xs taken
+    ≡ record { taken = taken; made = voided usage ([] ++ leaf head.Stop ∷ []) }
+unfolding exit_of
+exit_none frames usage [] taken h = refl
+exit_none frames usage (x ∷ xs) taken h = absurd (omega arith)
+
+pub exit_some : (frames : Frames) (usage : Usage) (xs : List TypedExpression)
+    (x : TypedExpression) (taken : Taken) → 1 ≤ length xs → x ≡ get_or xs 0 x →
+    exit_of frames usage xs taken
+    ≡ then_by (lowered frames Unused x) (λ status.
+    gives (voided usage (status.statements ++ leaf head.Stop ∷ []))) taken
+unfolding exit_of lowered by_usage
+exit_some frames usage [] x taken h is = absurd (omega arith)
+exit_some frames usage (y ∷ xs) x taken h is =
+    ap (λ e. then_by (rows frames e).unused (λ before.
+    gives (voided usage (before ++ leaf head.Stop ∷ []))) taken) (sym is)

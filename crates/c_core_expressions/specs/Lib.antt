@@ -1,0 +1,2 @@
+pub mod Postfix
+pub mod Rows

@@ -1,0 +1,203 @@
+-- E and D of a typed expression as one rule, by whether the value is used, and the rules of its
+-- parts (`c_core_rules`, `specs/Expressions.antt`).
+use Rattle.std.specs.Prelude.{ℕ, [], ◌∷◌, ◌++◌, List, map, take, length, Bool, true, false}
+use Rattle.std.specs.Prelude.{Option, None, Some, unwrap_or, slice_get}
+use Rattle.cpa_ints.specs.declared.integers.IntType.{IntType}
+use Rattle.c_symbols.specs.declared.operators.BinaryOperator.{BinaryOperator}
+use Rattle.c_symbols.specs.declared.operators.StepOperator.{StepOperator}
+use Rattle.c_tree.specs.declared.expression.UnaryOperator.{UnaryOperator}
+use Rattle.c_rules.specs.declared.known.KnownFunction.{KnownFunction}
+use Rattle.c_rules.specs.declared.known.KnownFunction.TheVariants as known
+use Rattle.c_rules.specs.declared.meaning.Function.{Function}
+use Rattle.c_rules.specs.declared.meaning.Kind.{Kind}
+use Rattle.c_rules.specs.declared.meaning.Kind.TheVariants.{Void, Value}
+use Rattle.c_rules.specs.declared.meaning.Meaning.{Meaning}
+use Rattle.c_rules.specs.declared.typed.TypedExpression.{TypedExpression}
+use Rattle.c_rules.specs.declared.typed.TypedExpression.TheFolds.{fold-TypedSuffix}
+use Rattle.c_rules.specs.declared.typed.TypedExpression.TheOpen.{TypedExpression-F, TypedSuffix-F}
+use Rattle.c_rules.specs.declared.typed.TypedSuffix.{TypedSuffix}
+use Rattle.c_rules.specs.Known.{known_result}
+use Rattle.c_core_rules.specs.declared.tree.Head.TheVariants as head
+use Rattle.c_core_rules.specs.declared.tree.Place.{Place}
+use Rattle.c_core_rules.specs.declared.tree.Valued.{Valued}
+use Rattle.c_core_rules.specs.Values.{int, element}
+use Rattle.c_core_rules.specs.Trees.{Trees, choice, leaf, valued}
+use Rattle.c_core_rules.specs.Cells.{Rule, gives, then_by, located}
+use Rattle.c_core_rules.specs.Acts.{hold_all, signed, cast_to, chosen, dropped_value}
+use Rattle.c_core_rules.specs.Places.{changed, incremented, stepped}
+use Rattle.c_core_rules.specs.Expressions.{Frames, Rows, ReadSuffix, rows_step, read_suffix, rows}
+use Rattle.c_core_rules.specs.Expressions.{suffixed, chained, Target, no_target, element_target}
+use Rattle.c_core_rules.specs.Expressions.{comma_used, comma_unused, call_used, call_unused}
+use Rattle.c_core_rules.specs.Expressions.{called_with, first_unused, taken_in, no_value}
+use Rattle.c_core_rules.specs.Expressions.{name_used}
+use Rattle.c_core_expressions.specs.declared.usage.Usage.{Usage}
+use Rattle.c_core_expressions.specs.declared.usage.Usage.TheVariants.{Used, Unused}
+
+-- statements whose value nobody uses: 0 stands for it
+abbrev pub unvalued : Trees → Valued
+unvalued statements = valued statements (int 0)
+
+-- what two rules make, the one where the value is used, the other where it is not
+unfoldable pub by_usage : Usage → Rule Valued → Rule Trees → Rule Valued
+by_usage Used used unused = used
+by_usage Unused used unused = then_by unused (λ statements. gives (unvalued statements))
+
+abbrev pub row_by : Usage → Rows → Rule Valued
+row_by usage row = by_usage usage row.used row.unused
+
+-- an expression: E, or D
+unfoldable pub lowered : Frames → Usage → TypedExpression → Rule Valued
+lowered frames usage e = row_by usage (rows frames e)
+
+-- of what acts: all where the value is used, else the statements
+unfoldable pub kept_for : Usage → Valued → Valued
+kept_for Used v = v
+kept_for Unused v = unvalued v.statements
+
+-- of what is evaluated: the value is dropped where it is not used
+unfoldable pub finished : Usage → Valued → Rule Valued
+finished Used v = gives v
+finished Unused v = then_by (dropped_value v) (λ statements. gives (unvalued statements))
+
+-- of what has no value
+unfoldable pub voided : Usage → Trees → Valued
+voided Used statements = valued statements no_value
+voided Unused statements = unvalued statements
+
+-- a scalar that is read
+unfoldable pub name_for : Usage → Option Meaning → Rule Valued
+name_for usage found = then_by (name_used found) (finished usage)
+
+-- a[i] behind its index
+unfoldable pub element_behind : Usage → Option Meaning → Valued → Rule Valued
+element_behind usage found i =
+    then_by (located found) (λ place. finished usage (valued i.statements (element place i.value)))
+
+-- an operator before its operand, and a conversion
+unfoldable pub signed_for : Usage → UnaryOperator → Valued → Rule Valued
+signed_for usage operator v = finished usage (signed operator v)
+
+unfoldable pub cast_for : Usage → IntType → Valued → Rule Valued
+cast_for usage t v = finished usage (cast_to t v)
+
+abbrev pub is_used : Usage → Bool
+is_used Used = true
+is_used Unused = false
+
+-- an assignment behind its operands
+unfoldable pub changed_for : Usage → Option BinaryOperator → Place → Valued → Rule Valued
+changed_for usage operator place v =
+    then_by (changed (is_used usage) operator place v) (λ w. gives (kept_for usage w))
+
+-- ++l and --l behind the place
+unfoldable pub incremented_for : Usage → StepOperator → Place → Rule Valued
+incremented_for usage operator place =
+    then_by (incremented operator place) (λ v. gives (kept_for usage v))
+
+-- l++ and l-- behind the place
+unfoldable pub stepped_for : Usage → StepOperator → Place → Rule Valued
+stepped_for Used operator place = stepped operator place
+stepped_for Unused operator place =
+    then_by (incremented operator place) (λ v. gives (unvalued v.statements))
+
+-- how the ends of a conditional are used
+unfoldable pub usage_of_ends : Usage → Option Kind → Usage
+usage_of_ends Used kind = Used
+usage_of_ends Unused None = Used
+usage_of_ends Unused (Some Void) = Unused
+usage_of_ends Unused (Some (Value t)) = Used
+
+-- a conditional behind its operands, of which the ends are used so
+unfoldable pub chosen_for : Usage → Usage → Valued → Valued → Valued → Rule Valued
+chosen_for usage Used test first second = then_by (chosen test first second) (finished usage)
+chosen_for usage Unused test first second =
+    gives (unvalued (test.statements
+    ++ choice test.value first.statements second.statements ∷ []))
+
+-- a call of a function with a body behind its arguments
+unfoldable pub called_behind : Frames → Usage → Function → List Valued → Rule Valued
+called_behind frames usage function arguments =
+    then_by (hold_all arguments) (λ operands.
+    gives (kept_for usage (called_with frames function operands)))
+
+-- what a known function without a result does
+abbrev pub ended : KnownFunction → Trees
+ended known.ReachError = leaf head.Error ∷ []
+ended _ = leaf head.Stop ∷ []
+
+-- a call of a known function that evaluates no argument
+abbrev pub known_alone : Usage → KnownFunction → Rule Valued
+known_alone usage function = elim (known_result function) [
+  | Void ↦ gives (voided usage (ended function))
+  | Value t ↦ then_by (taken_in function) (λ v. gives (kept_for usage v))
+]
+
+-- a call of exit, whose status is evaluated
+unfoldable pub exit_of : Frames → Usage → List TypedExpression → Rule Valued
+exit_of frames usage arguments =
+    then_by (first_unused (map (rows frames) arguments)) (λ before.
+    gives (voided usage (before ++ leaf head.Stop ∷ [])))
+
+abbrev pub is_exit : KnownFunction → Bool
+is_exit known.Exit = true
+is_exit _ = false
+
+-- a call of what a name stands for
+unfoldable pub call_of : Frames → Usage → Option Meaning → List TypedExpression → Rule Valued
+call_of frames usage found arguments =
+    by_usage usage (call_used frames found (map (rows frames) arguments))
+    (call_unused frames found (map (rows frames) arguments))
+
+-- a suffix with rows for each expression in it
+unfoldable pub suffix_of : Frames → TypedSuffix → ReadSuffix
+suffix_of frames = fold-TypedSuffix Rows ReadSuffix (rows_step frames) read_suffix
+
+-- a link of a chain
+abbrev pub link_rows : Frames → BinaryOperator × TypedExpression → BinaryOperator × Rows
+link_rows frames link = (link.0, rows frames link.1)
+
+-- an expression with these suffixes behind it
+abbrev pub suffixed_by : Frames → TypedExpression → List TypedSuffix → Rows
+suffixed_by frames base suffixes =
+    suffixed frames (rows frames base) (map (suffix_of frames) suffixes)
+
+-- a value with the links behind it
+unfoldable pub linked_to : Frames → Usage → Valued → List (BinaryOperator × TypedExpression) →
+    Rule Valued
+linked_to frames usage left rest =
+    then_by (chained (gives left) (map (link_rows frames) rest)) (finished usage)
+
+-- what the first suffixes of a postfix expression make as a left side
+abbrev pub front_target : Frames → TypedExpression-F TypedExpression TypedSuffix → ℕ → Target
+front_target frames (TypedExpression-F.Postfix base suffixes place) count =
+    (suffixed_by frames base (take count suffixes)).target
+front_target frames _ count = no_target
+
+-- what a suffix makes as a left side, behind what has this name
+abbrev pub suffix_target : Option Meaning → ReadSuffix → Target
+suffix_target found (TypedSuffix-F.Index index kind place) = element_target found index.used
+suffix_target found _ = no_target
+
+-- how many suffixes a postfix expression has
+abbrev pub suffix_count : TypedExpression-F TypedExpression TypedSuffix → ℕ
+suffix_count (TypedExpression-F.Postfix base suffixes place) = length suffixes
+suffix_count _ = 0
+
+-- E of an expression
+abbrev pub used_by : Frames → TypedExpression → Rule Valued
+used_by frames e = lowered frames Used e
+
+-- items of a comma expression
+unfoldable pub comma_of : Frames → Usage → List TypedExpression → Rule Valued
+comma_of frames usage items =
+    by_usage usage (comma_used (map (rows frames) items)) (comma_unused (map (rows frames) items))
+
+-- the same behind statements
+unfoldable pub comma_behind : Frames → Usage → Trees → List TypedExpression → Rule Valued
+comma_behind frames usage before items =
+    then_by (comma_of frames usage items) (λ v.
+    gives (valued (before ++ v.statements) v.value))
+
+-- the first cell of the function of this number
+abbrev pub first_at : List ℕ → ℕ → ℕ
+first_at firsts n = unwrap_or (slice_get firsts n) 0

@@ -1,0 +1,294 @@
+//! Whether the value of an expression is used, and what is made of it then (`specs/Rows.antt`).
+//! Proved by the checker alone.
+ghost use Rattle.std.specs.Prelude.{◌≡◌, ◌++◌, ◌∷◌, [], OnOk, IfOk};
+ghost use Rattle.c_core_rules.specs.Trees.{choice};
+ghost use Rattle.c_core_rules.specs.Expressions.{no_value};
+ghost use Rattle.c_core_values.specs.Found.{so_far};
+ghost use Rattle.c_core_expressions.specs.Rows.{is_used, unvalued, kept_for, finished, voided};
+ghost use Rattle.c_core_expressions.specs.Rows.{name_for, element_behind, signed_for, cast_for};
+ghost use Rattle.c_core_expressions.specs.Rows.{changed_for, incremented_for, stepped_for};
+ghost use Rattle.c_core_expressions.specs.Rows.{usage_of_ends, chosen_for};
+
+use c_core_rules::{CoreTree, Place, Valued};
+use c_core_values::{
+    Cells, cast_to, cell_at, changed, choice, chosen, dropped_value, element, incremented, int,
+    pure, scalar, signed, stepped, with,
+};
+use c_rules::{Kind, Meaning};
+use c_symbols::{BinaryOperator, StepOperator};
+use c_tree::UnaryOperator;
+use cpa_expr::Expr;
+use cpa_ints::{IntType, Seq};
+use std::alloc::{AllocError, Global};
+
+/// Whether the value of an expression is used: E of the rules where it is, D where it is not.
+#[derive(Clone, Copy)]
+pub(crate) enum Usage {
+    Used,
+    /// The value is 0 then, and stands for none.
+    Unused,
+}
+
+/// Whether it is used.
+fn is_used(usage: Usage) -> bool
+    ensures { result ≡ is_used usage }
+{
+    match usage {
+        Usage::Used => true,
+        Usage::Unused => false,
+    }
+}
+
+/// Statements whose value nobody uses.
+fn unvalued(statements: Seq<CoreTree>) -> Valued
+    ensures { result ≡ unvalued statements }
+{
+    Valued {
+        statements,
+        value: int(0),
+    }
+}
+
+/// Its statements alone.
+pub(crate) fn statements_of(v: Valued) -> Seq<CoreTree>
+    ensures { result ≡ v.statements }
+{
+    v.statements
+}
+
+/// What acts.
+#[tactic(auto, unfolding(crate::specs::Rows::kept_for))]
+pub(crate) fn kept_for(usage: Usage, v: Valued) -> Valued
+    ensures { result ≡ kept_for usage v }
+{
+    match usage {
+        Usage::Used => v,
+        Usage::Unused => unvalued(statements_of(v)),
+    }
+}
+
+/// What is evaluated.
+#[tactic(auto, unfolding(crate::specs::Rows::finished))]
+pub(crate) fn finished(cells: &mut Cells, usage: Usage, v: Valued) -> Result<Valued, AllocError>
+    ensures taken { OnOk result (so_far cells.new
+        ≡ (finished usage v (so_far cells.old)).taken) }
+    ensures made { IfOk result (λ w. w ≡ (finished usage v (so_far cells.old)).made) }
+{
+    match usage {
+        Usage::Used => Ok(v),
+        Usage::Unused => {
+            let statements = dropped_value(cells, v)?;
+            Ok(unvalued(statements))
+        }
+    }
+}
+
+/// The value of what has none.
+fn no_value(alloc: Global) -> Result<Expr, AllocError>
+    ensures { IfOk result (λ v. v ≡ no_value) }
+{
+    scalar(alloc, cell_at(IntType::I32, 0))
+}
+
+/// What has no value.
+#[tactic(auto, unfolding(crate::specs::Rows::voided))]
+pub(crate) fn voided(
+    alloc: Global,
+    usage: Usage,
+    statements: Seq<CoreTree>,
+) -> Result<Valued, AllocError>
+    ensures { IfOk result (λ v. v ≡ voided usage statements) }
+{
+    match usage {
+        Usage::Used => {
+            let value = no_value(alloc)?;
+            Ok(Valued { statements, value })
+        }
+        Usage::Unused => Ok(unvalued(statements)),
+    }
+}
+
+/// A scalar that is read.
+#[tactic(auto, unfolding(crate::specs::Rows::name_for))]
+pub(crate) fn name_for(
+    cells: &mut Cells,
+    usage: Usage,
+    found: Option<Meaning>,
+) -> Result<Valued, AllocError>
+    ensures taken { OnOk result (so_far cells.new
+        ≡ (name_for usage found (so_far cells.old)).taken) }
+    ensures made { IfOk result (λ v. v ≡ (name_for usage found (so_far cells.old)).made) }
+{
+    let place = cells.scalar_place(found)?;
+    let alloc = cells.alloc();
+    let v = pure(alloc, scalar(alloc, place)?);
+    finished(cells, usage, v)
+}
+
+/// An element that is read, behind its index.
+#[tactic(auto, unfolding(crate::specs::Rows::element_behind))]
+pub(crate) fn element_behind(
+    cells: &mut Cells,
+    usage: Usage,
+    found: Option<Meaning>,
+    index: Valued,
+) -> Result<Valued, AllocError>
+    ensures taken { OnOk result (so_far cells.new
+        ≡ (element_behind usage found index (so_far cells.old)).taken) }
+    ensures made { IfOk result (λ v. v
+        ≡ (element_behind usage found index (so_far cells.old)).made) }
+{
+    let Valued { statements, value } = index;
+    let place = cells.located(found)?;
+    let value = element(cells.alloc(), place, value)?;
+    finished(cells, usage, Valued { statements, value })
+}
+
+/// An operator before an operand.
+#[tactic(auto, unfolding(crate::specs::Rows::signed_for))]
+pub(crate) fn signed_for(
+    cells: &mut Cells,
+    usage: Usage,
+    operator: UnaryOperator,
+    v: Valued,
+) -> Result<Valued, AllocError>
+    ensures taken { OnOk result (so_far cells.new
+        ≡ (signed_for usage operator v (so_far cells.old)).taken) }
+    ensures made { IfOk result (λ w. w ≡ (signed_for usage operator v (so_far cells.old)).made) }
+{
+    let v = signed(cells.alloc(), operator, v)?;
+    finished(cells, usage, v)
+}
+
+/// A value converted to a type.
+#[tactic(auto, unfolding(crate::specs::Rows::cast_for))]
+pub(crate) fn cast_for(
+    cells: &mut Cells,
+    usage: Usage,
+    ty: IntType,
+    v: Valued,
+) -> Result<Valued, AllocError>
+    ensures taken { OnOk result (so_far cells.new
+        ≡ (cast_for usage ty v (so_far cells.old)).taken) }
+    ensures made { IfOk result (λ w. w ≡ (cast_for usage ty v (so_far cells.old)).made) }
+{
+    let v = cast_to(cells.alloc(), ty, v)?;
+    finished(cells, usage, v)
+}
+
+/// An assignment, behind its operands.
+#[tactic(auto, unfolding(crate::specs::Rows::changed_for))]
+pub(crate) fn changed_for(
+    cells: &mut Cells,
+    usage: Usage,
+    operator: Option<BinaryOperator>,
+    place: Place,
+    v: Valued,
+) -> Result<Valued, AllocError>
+    ensures taken { OnOk result (so_far cells.new
+        ≡ (changed_for usage operator place v (so_far cells.old)).taken) }
+    ensures made { IfOk result (λ w. w
+        ≡ (changed_for usage operator place v (so_far cells.old)).made) }
+{
+    let w = changed(cells, is_used(usage), operator, place, v)?;
+    Ok(kept_for(usage, w))
+}
+
+/// `++l` and `--l`, behind the place.
+#[tactic(auto, unfolding(crate::specs::Rows::incremented_for))]
+pub(crate) fn incremented_for(
+    cells: &mut Cells,
+    usage: Usage,
+    operator: StepOperator,
+    place: Place,
+) -> Result<Valued, AllocError>
+    ensures taken { OnOk result (so_far cells.new
+        ≡ (incremented_for usage operator place (so_far cells.old)).taken) }
+    ensures made { IfOk result (λ v. v
+        ≡ (incremented_for usage operator place (so_far cells.old)).made) }
+{
+    let v = incremented(cells, operator, place)?;
+    Ok(kept_for(usage, v))
+}
+
+/// `l++` and `l--`, behind the place.
+#[tactic(auto, unfolding(crate::specs::Rows::stepped_for))]
+pub(crate) fn stepped_for(
+    cells: &mut Cells,
+    usage: Usage,
+    operator: StepOperator,
+    place: Place,
+) -> Result<Valued, AllocError>
+    ensures taken { OnOk result (so_far cells.new
+        ≡ (stepped_for usage operator place (so_far cells.old)).taken) }
+    ensures made { IfOk result (λ v. v
+        ≡ (stepped_for usage operator place (so_far cells.old)).made) }
+{
+    match usage {
+        Usage::Used => stepped(cells, operator, place),
+        Usage::Unused => {
+            let v = incremented(cells, operator, place)?;
+            Ok(unvalued(statements_of(v)))
+        }
+    }
+}
+
+/// How the ends of a conditional of this kind are used.
+#[tactic(auto, unfolding(crate::specs::Rows::usage_of_ends))]
+pub(crate) fn usage_of_ends(usage: Usage, kind: Option<Kind>) -> Usage
+    ensures { result ≡ usage_of_ends usage kind }
+{
+    match usage {
+        Usage::Used => Usage::Used,
+        Usage::Unused => match kind {
+            Some(Kind::Void) => Usage::Unused,
+            Some(Kind::Value(_)) | None => Usage::Used,
+        },
+    }
+}
+
+/// A conditional, behind its test and its ends, which are used so.
+#[tactic(auto, unfolding(crate::specs::Rows::chosen_for))]
+pub(crate) fn chosen_for(
+    cells: &mut Cells,
+    usage: Usage,
+    ends: Usage,
+    test: Valued,
+    yes: Valued,
+    no: Valued,
+) -> Result<Valued, AllocError>
+    ensures taken { OnOk result (so_far cells.new
+        ≡ (chosen_for usage ends test yes no (so_far cells.old)).taken) }
+    ensures made { IfOk result (λ v. v
+        ≡ (chosen_for usage ends test yes no (so_far cells.old)).made) }
+{
+    match ends {
+        Usage::Used => {
+            let v = chosen(cells, test, yes, no)?;
+            finished(cells, usage, v)
+        }
+        Usage::Unused => {
+            let statements = chosen_unused(
+                cells.alloc(),
+                test,
+                statements_of(yes),
+                statements_of(no),
+            )?;
+            Ok(unvalued(statements))
+        }
+    }
+}
+
+/// A test, and a choice by it between statements.
+pub fn chosen_unused(
+    alloc: Global,
+    test: Valued,
+    yes: Seq<CoreTree>,
+    no: Seq<CoreTree>,
+) -> Result<Seq<CoreTree>, AllocError>
+    ensures { IfOk result (λ trees. trees
+        ≡ test.statements ++ choice test.value yes no ∷ []) }
+{
+    let tree = choice(alloc, test.value, yes, no)?;
+    with(test.statements, tree)
+}

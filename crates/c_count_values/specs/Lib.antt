@@ -1,0 +1,4 @@
+pub mod Exact
+pub mod Places
+pub mod Operands
+pub mod lemmas

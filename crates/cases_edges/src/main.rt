@@ -1,0 +1,23 @@
+//! Prints each row of the standard input with what comes of the form that it asks for. README.md says
+//! how the wanted answers were made.
+#![tactic(auto)]
+
+mod additions;
+mod asking;
+mod rows;
+mod runs;
+
+use row_programs::Table;
+use std::io::{self, BufRead, BufReader, BufWriter, Write};
+
+fn main(rt: HostRuntime) -> io::Result<()> {
+    let alloc = rt.alloc();
+    let mut table = Table::new(alloc);
+    let mut out = BufWriter::new(alloc, io::writer(&rt))?;
+    for line in BufReader::new(alloc, rt.reader())?.lines(alloc) {
+        let line = line?;
+        let printed = rows::answered(alloc, &mut table, line.as_str())?;
+        writeln!(out, "{printed}")?;
+    }
+    out.flush()
+}

@@ -1,0 +1,10 @@
+//! The program once more, run on a word that is no text, to show that such words are no command
+//! and no want of memory.
+#![tactic(auto)]
+
+use cpa_entry::start;
+use std::process::ExitCode;
+
+fn main(rt: HostRuntime) -> ExitCode {
+    start(&rt)
+}

@@ -1,0 +1,46 @@
+-- Sums that stop at the greatest number of 64 bits.
+use Rattle.std.proofs.Common.{◌≡◌, ℕ, ◌+◌, ◌-◌, ◌^◌, ◌<◌, ◌≤◌, min, List, map, length, take, get_or}
+use Rattle.std.proofs.Common.{sym, ap, ◌∙◌, arith}
+use Rattle.std.specs.List.{sum, sum_by}
+use Rattle.std.proofs.lemmas.List.{take_all}
+use Rattle.std.proofs.lemmas.List.Sums.{sum-map, sum_by_more}
+use Rattle.cpa_edge_rules.specs.Forms.{Form, weighed}
+
+stops : (s w m : ℕ) → min (min s m + min w m) m ≡ min (s + w) m
+stops s w m = omega arith
+
+-- one item more
+pub one_weight : {A : Type 0} (f : A → ℕ) (xs : List A) (i : ℕ) (x : A) (old new m : ℕ)
+    → i < length xs → x ≡ get_or xs i x → new ≡ min (old + min (f x) m) m
+    → old ≡ min (sum_by f (take i xs)) m → new ≡ min (sum_by f (take (i + 1) xs)) m
+one_weight f xs i x old new m inside at step kept =
+    step
+    ∙ ap (λ n. min (n + min (f x) m) m) kept
+    ∙ stops (sum_by f (take i xs)) (f x) m
+    ∙ sym (ap (λ n. min n m) (sum_by_more f xs i x inside
+    ∙ ap (λ y. sum_by f (take i xs) + f y) (sym at)))
+
+pub all_weights : {A : Type 0} (f : A → ℕ) (xs : List A) (i old m : ℕ) → length xs ≤ i
+    → old ≡ min (sum_by f (take i xs)) m → old ≡ min (sum (map f xs)) m
+all_weights f xs i old m past kept =
+    kept
+    ∙ ap (λ ys. min (sum_by f ys) m) (take_all i xs past)
+    ∙ sym (ap (λ n. min n m) (sum-map f xs))
+
+-- a weight that has stopped already
+pub weighed_once : (more : ℕ) (form : Form)
+    → weighed (min more (2 ^ 64 - 1)) form ≡ weighed more form
+weighed_once more form =
+    ap (λ (n : ℕ). record form { weight = n }) (same form.weight more (2 ^ 64 - 1))
+  where
+    same : (w a m : ℕ) → min (w + min a m) m ≡ min (w + a) m
+    same w a m = omega arith
+
+-- what was added, with its weight
+pub weighed_behind : (mid new whole : Form) (w more : ℕ) → mid ≡ whole
+    → w ≡ min more (2 ^ 64 - 1) → new ≡ weighed w mid → new ≡ weighed more whole
+weighed_behind mid new whole w more is weight weighs =
+    weighs
+    ∙ ap (λ n. weighed n mid) weight
+    ∙ weighed_once more mid
+    ∙ ap (weighed more) is

@@ -1,0 +1,7 @@
+-- What is wanted so far, with what is left, is what all cells give.
+use Rattle.std.proofs.Common.{◌≡◌, ◌++◌, drop}
+use Rattle.cpa_edge_rules.specs.Forms.{starts}
+use Rattle.cpa_edgeform.proofs.beginning.starts.Given as goal
+
+abbrev pub invariant-loop-i : goal.invariant-loop-i
+invariant-loop-i l = l.wanted.items ++ starts l.i (drop l.i l.cells) ≡ starts 0 l.cells

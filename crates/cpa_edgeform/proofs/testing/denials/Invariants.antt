@@ -1,0 +1,7 @@
+-- The denials of the tests so far.
+use Rattle.std.proofs.Common.{◌≡◌, map, take}
+use Rattle.cpa_edge_rules.specs.Tests.{denied}
+use Rattle.cpa_edgeform.proofs.testing.denials.Given as goal
+
+abbrev pub invariant-loop-one : goal.invariant-loop-one
+invariant-loop-one l = l.all ≡ map denied (take l.one-index l.tests)

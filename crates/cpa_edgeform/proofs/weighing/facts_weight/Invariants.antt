@@ -1,0 +1,9 @@
+-- What has been summed up is the sum so far, or the greatest number.
+use Rattle.std.proofs.Common.{◌≡◌, ◌-◌, ◌^◌, min, take}
+use Rattle.std.specs.List.{sum_by}
+use Rattle.cpa_edge_rules.specs.Forms.{fact_weight}
+use Rattle.cpa_edgeform.proofs.weighing.facts_weight.Given as goal
+
+abbrev pub invariant-loop-fact : goal.invariant-loop-fact
+invariant-loop-fact l =
+    l.total ≡ min (sum_by (fact_weight l.places) (take l.fact-index l.facts)) (2 ^ 64 - 1)

@@ -1,0 +1,185 @@
+//! Facts on a store as tests, and the denials of these, by specs/Tests of `cpa_edge_rules`.
+//! Proved with `proofs/testing/`.
+
+ghost use Rattle.std.specs.Prelude.{◌≡◌, ◌++◌, ◌∷◌, [], true, map, IfOk, OnOk};
+ghost use Rattle.std.specs.List.{flat_map};
+ghost use Rattle.cpa_expr.specs.Cells.{scalar_read};
+ghost use Rattle.cpa_expr.specs.declared.tree.CmpOp.TheVariants as cmp;
+ghost use Rattle.cpa_expr.specs.declared.tree.Expr.TheVariants.{Const, Cmp, And};
+ghost use Rattle.cpa_edge_rules.specs.Tests.{type_at, fact_tests, tests_of, other_than, denied};
+ghost use Rattle.cpa_edge_rules.specs.Tests.{denials_of};
+
+use crate::nodes::{both, comparison, either, has_value, negation};
+use crate::settling::push_copies;
+use cpa_expr::{CmpOp, Expr, copy, read_scalar};
+use cpa_ints::{IntType, Seq};
+use cpa_model::{Elem, Fact};
+use cpa_renaming::{Place, trap_test};
+use std::alloc::{AllocError, Global};
+
+/// The type of a cell.
+pub(crate) fn type_at(places: &[Place], cell: u32) -> IntType
+    ensures { result ≡ type_at places.now cell }
+{
+    match places.get(cell as usize) {
+        Some(place) => place.ty,
+        None => IntType::I32,
+    }
+}
+
+/// A number of the type.
+fn number(ty: IntType, value: &i128) -> Expr
+    ensures { result ≡ Const ty value.now }
+{
+    Expr::Const { ty, value: *value }
+}
+
+/// Whether the cell's value is at least the expression's.
+fn at_least(alloc: Global, ty: IntType, cell: u32, lo: Expr) -> Result<Expr, AllocError>
+    ensures { IfOk result (λ e. e ≡ Cmp cmp.Le ty lo (scalar_read ty cell)) }
+{
+    let read = read_scalar(alloc, ty, cell)?;
+    comparison(alloc, CmpOp::Le, ty, lo, read)
+}
+
+/// Whether the cell's value is at most the expression's.
+fn at_most(alloc: Global, ty: IntType, cell: u32, hi: Expr) -> Result<Expr, AllocError>
+    ensures { IfOk result (λ e. e ≡ Cmp cmp.Le ty (scalar_read ty cell) hi) }
+{
+    let read = read_scalar(alloc, ty, cell)?;
+    comparison(alloc, CmpOp::Le, ty, read, hi)
+}
+
+/// Whether the cell's value lies between those of two expressions.
+fn lies_within(
+    alloc: Global,
+    ty: IntType,
+    cell: u32,
+    lo: Expr,
+    hi: Expr,
+) -> Result<Expr, AllocError>
+    ensures { IfOk result (λ e. e
+        ≡ And (Cmp cmp.Le ty lo (scalar_read ty cell)) (Cmp cmp.Le ty (scalar_read ty cell) hi)) }
+{
+    let above = at_least(alloc, ty, cell, lo)?;
+    let below = at_most(alloc, ty, cell, hi)?;
+    both(alloc, above, below)
+}
+
+/// Adds what a fact asks.
+fn push_tests(
+    alloc: Global,
+    out: &mut Seq<(Expr, bool)>,
+    places: &[Place],
+    fact: &Fact,
+) -> Result<(), AllocError>
+    ensures { OnOk result (out.new ≡ out.old ++ fact_tests places.now fact.now) }
+{
+    match fact {
+        Fact::At { .. } | Fact::Stack { .. } => Ok(()),
+        Fact::Equals { cell, value } => {
+            let ty = type_at(places, *cell);
+            let test = has_value(alloc, ty, *cell, number(ty, value))?;
+            out.push((test, true))
+        }
+        Fact::Within { cell, lo, hi } => {
+            let ty = type_at(places, *cell);
+            let test = lies_within(alloc, ty, *cell, number(ty, lo), number(ty, hi))?;
+            out.push((test, true))
+        }
+        Fact::Truth { expr, holds } => out.push((copy(alloc, expr)?, *holds)),
+    }
+}
+
+/// What facts ask, in order.
+pub(crate) fn tests_of(
+    alloc: Global,
+    places: &[Place],
+    facts: &[Fact],
+) -> Result<Seq<(Expr, bool)>, AllocError>
+    ensures { IfOk result (λ tests. tests ≡ tests_of places.now facts.now) }
+{
+    let mut tests = Seq::new(alloc);
+    for fact in facts {
+        push_tests(alloc, &mut tests, places, fact)?;
+    }
+    Ok(tests)
+}
+
+/// Whether the expression has the truth other than this one.
+fn other_than(alloc: Global, holds: bool, e: &Expr) -> Result<Expr, AllocError>
+    ensures { IfOk result (λ r. r ≡ other_than holds e.now) }
+{
+    let e = copy(alloc, e)?;
+    if holds { negation(alloc, e) } else { Ok(e) }
+}
+
+/// Whether the expression traps or has the other truth.
+fn failure(alloc: Global, e: &Expr, holds: bool) -> Result<Expr, AllocError>
+    ensures { IfOk result (λ r. r ≡ (denied (e.now, holds)).0) }
+{
+    let trap = trap_test(alloc, e)?;
+    let other = other_than(alloc, holds, e)?;
+    either(alloc, trap, other)
+}
+
+/// Adds the denial of a test.
+fn push_denial(
+    alloc: Global,
+    out: &mut Seq<(Expr, bool)>,
+    e: &Expr,
+    holds: bool,
+) -> Result<(), AllocError>
+    ensures { OnOk result (out.new ≡ out.old ++ denied (e.now, holds) ∷ []) }
+{
+    out.push((failure(alloc, e, holds)?, true))
+}
+
+/// The denials of tests.
+fn denials(alloc: Global, tests: &[(Expr, bool)]) -> Result<Seq<(Expr, bool)>, AllocError>
+    ensures { IfOk result (λ all. all ≡ map denied tests.now) }
+{
+    let mut all = Seq::new(alloc);
+    for one in tests {
+        push_denial(alloc, &mut all, &one.0, one.1)?;
+    }
+    Ok(all)
+}
+
+/// The denials of what an element's facts ask.
+fn denials_of(alloc: Global, places: &[Place], elem: &Elem) -> Result<Seq<(Expr, bool)>, AllocError>
+    ensures { IfOk result (λ all. all ≡ denials_of places.now elem.now.facts) }
+{
+    let tests = tests_of(alloc, places, elem.facts.as_slice())?;
+    denials(alloc, tests.as_slice())
+}
+
+/// The denials of what each element's facts ask.
+pub(crate) fn all_denials(
+    alloc: Global,
+    places: &[Place],
+    elems: &[Elem],
+) -> Result<Seq<Seq<(Expr, bool)>>, AllocError>
+    ensures { IfOk result (λ lists. lists
+        ≡ map (λ elem. denials_of places.now elem.facts) elems.now) }
+{
+    let mut lists = Seq::new(alloc);
+    for elem in elems {
+        lists.push(denials_of(alloc, places, elem)?)?;
+    }
+    Ok(lists)
+}
+
+/// The lists, one behind the other.
+pub(crate) fn joined_lists(
+    alloc: Global,
+    lists: &[Seq<(Expr, bool)>],
+) -> Result<Seq<(Expr, bool)>, AllocError>
+    ensures { IfOk result (λ all. all ≡ flat_map (λ tests. tests) lists.now) }
+{
+    let mut all = Seq::new(alloc);
+    for tests in lists {
+        push_copies(alloc, &mut all, tests.as_slice())?;
+    }
+    Ok(all)
+}
