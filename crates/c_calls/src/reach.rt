@@ -3,9 +3,9 @@
 ghost use Rattle.std.specs.Prelude.{◌≡◌, ℕ, ◌+◌, ◌<◌, ◌≤◌, ◌↔◌, ◌&&◌, not, true, false};
 ghost use Rattle.std.specs.Prelude.{length, slice_set, replicate, IfOk, IsTrue, if◌then◌else◌};
 ghost use Rattle.std.specs.List.{All};
-ghost use Rattle.c_rules.specs.Recursion.{Among, Reaches};
-ghost use Rattle.c_calls.specs.Marks.{IsWithin, is_marked, IsMarked, unmarked, Keeps, OnlyReached};
-ghost use Rattle.c_calls.specs.Marks.{Grows, Passes, IsClosed, IsCircular};
+ghost use Rattle.c_rules.specs.Recursion.{Reaches};
+ghost use Rattle.c_calls.specs.Marks.{IsWithin, is_marked, IsMarked, unmarked, Keeps};
+ghost use Rattle.c_calls.specs.Marks.{Grows, IsClosed, IsCircular};
 
 use crate::Call;
 use crate::links::Links;

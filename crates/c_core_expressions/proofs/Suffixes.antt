@@ -26,8 +26,8 @@ use Rattle.c_core_expressions.proofs.Variants.{rows_Postfix, suffix_Index, suffi
 use Rattle.c_core_expressions.proofs.Variants.{suffix_Skipped}
 
 -- suffixes up to the one of a number are those before it, and that one behind them
-with_next : (frames : Frames) (base : Rows) (suffixes : List TypedSuffix) (n : ℕ) (s : TypedSuffix) →
-    n < length suffixes → s ≡ get_or suffixes n s →
+with_next : (frames : Frames) (base : Rows) (suffixes : List TypedSuffix) (n : ℕ)
+    (s : TypedSuffix) → n < length suffixes → s ≡ get_or suffixes n s →
     suffixed frames base (map (suffix_of frames) (take (suc n) suffixes))
     ≡ suffix_rows frames (suffixed frames base (map (suffix_of frames) (take n suffixes)))
     (suffix_of frames s)
@@ -106,7 +106,8 @@ target_all frames base suffixes place =
     ∙ ap (λ xs. (suffixed_by frames base xs).target) (sym (take_all suffixes))
 
 -- what stands behind a suffix has no name
-unnamed : (frames : Frames) (base : Rows) (s : ReadSuffix) → (suffix_rows frames base s).names ≡ None
+unnamed : (frames : Frames) (base : Rows) (s : ReadSuffix) →
+    (suffix_rows frames base s).names ≡ None
 unnamed frames base (TypedSuffix-F.Index index kind place) = refl
 unnamed frames base (TypedSuffix-F.Call arguments kind place) = refl
 unnamed frames base (TypedSuffix-F.Step operator kind place) = refl

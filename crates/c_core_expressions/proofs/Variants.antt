@@ -532,7 +532,8 @@ pub suffix_Call : (frames : Frames) (arguments : List TypedExpression) (kind : O
     suffix_of frames (behind.Call arguments kind place) ≡ TypedSuffix-F.Call (map
     (rows frames) arguments) kind place
 suffix_Call frames arguments kind place =
-    opened_suffix frames (behind.Call arguments kind place) (TypedSuffix-F.Call arguments kind place)
+    opened_suffix frames (behind.Call arguments kind place)
+    (TypedSuffix-F.Call arguments kind place)
     (behind.rolls-Call arguments kind place)
 
 pub suffix_Step : (frames : Frames) (operator : StepOperator) (kind : Option Kind) (place : ℕ) →

@@ -85,7 +85,8 @@ set_behind (s ∷ before) old new rest = ap (λ ss. s ∷ ss) (set_behind before
 pub row_labels : (before after : List ℕ) (n next : ℕ) (t : CoreTree) (ts : List CoreTree)
     (whole : List ℕ) → after ≡ before ++ labels_from n (statements t) →
     next ≡ n + length (statements t) →
-    before ++ labels_from n (row_of (t ∷ ts)) ≡ whole → after ++ labels_from next (row_of ts) ≡ whole
+    before ++ labels_from n (row_of (t ∷ ts)) ≡ whole →
+    after ++ labels_from next (row_of ts) ≡ whole
 row_labels before after n next t ts whole a e w =
     ap (λ ls. ls ++ labels_from next (row_of ts)) a
     ∙ ap (λ k. (before ++ labels_from n (statements t)) ++ labels_from k (row_of ts)) e

@@ -75,7 +75,8 @@ pub function_more : (frames : Frames) (before : Trees) (function : TypedFunction
     (functions : List TypedFunction) (taken : Taken) →
     before ++ (each (map (function_rule frames) (function ∷ functions)) taken).made
     ≡ (before ++ (function_rule frames function taken).made ∷ [])
-    ++ (each (map (function_rule frames) functions) (function_rule frames function taken).taken).made
+    ++ (each (map (function_rule frames) functions)
+    (function_rule frames function taken).taken).made
 function_more frames before function functions taken =
     let m = function_rule frames function taken in
     let n = each (map (function_rule frames) functions) m.taken in

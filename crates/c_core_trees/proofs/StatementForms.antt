@@ -29,8 +29,8 @@ opened : (frames : Frames) (result : Location) (s : TypedStatement)
     (statement_rule frames result) x)
 unfolding statement_rule item_rule
 opened frames result s x is =
-    ap (fold-TypedStatement (Rule Trees) (Rule Trees) (item_step frames) (statement_step frames result))
-    (sym is)
+    ap (fold-TypedStatement (Rule Trees) (Rule Trees) (item_step frames)
+    (statement_step frames result)) (sym is)
     ∙ fold-roll-TypedStatement (Rule Trees) (Rule Trees) (item_step frames)
     (statement_step frames result) x
 
@@ -69,7 +69,8 @@ pub statement_Block : (frames : Frames) (result : Location) (items : List TypedI
     ≡ as_one block (in_order (map (item_rule frames result) items)) taken
 statement_Block frames result items taken =
     ap (λ (r : Rule Trees). r taken)
-    (opened frames result (tree.Block items) (TypedStatement-F.Block items) (tree.rolls-Block items))
+    (opened frames result (tree.Block items) (TypedStatement-F.Block items)
+    (tree.rolls-Block items))
 
 pub statement_Expression : (frames : Frames) (result : Location)
     (expression : Option TypedExpression) (taken : Taken) →

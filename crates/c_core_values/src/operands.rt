@@ -50,7 +50,8 @@ fn held_where(cells: &mut Cells, count: usize, v: Valued) -> Result<Valued, Allo
 pub fn hold_all(cells: &mut Cells, operands: Vec<Valued>) -> Result<Vec<Valued>, AllocError>
     ensures taken { OnOk result (so_far cells.new
         ≡ (hold_all operands.items (so_far cells.old)).taken) }
-    ensures made { IfOk result (λ vs. vs.items ≡ (hold_all operands.items (so_far cells.old)).made) }
+    ensures made { IfOk result (λ vs. vs.items
+        ≡ (hold_all operands.items (so_far cells.old)).made) }
 {
     let mut left = full_count(&operands);
     let mut kept = Vec::new(cells.alloc());

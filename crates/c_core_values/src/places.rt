@@ -88,7 +88,8 @@ fn set_element(
 ) -> Result<Valued, AllocError>
     ensures taken { OnOk result (so_far cells.new
         ≡ (set_element keeps place index v (so_far cells.old)).taken) }
-    ensures made { IfOk result (λ w. w ≡ (set_element keeps place index v (so_far cells.old)).made) }
+    ensures made { IfOk result (λ w. w
+        ≡ (set_element keeps place index v (so_far cells.old)).made) }
 {
     let alloc = cells.alloc();
     let first = held_before(cells, index, &v)?;
@@ -123,7 +124,8 @@ fn updated_at(
 ) -> Result<Valued, AllocError>
     ensures taken { OnOk result (so_far cells.new
         ≡ (updated_at operator place index v (so_far cells.old)).taken) }
-    ensures made { IfOk result (λ w. w ≡ (updated_at operator place index v (so_far cells.old)).made) }
+    ensures made { IfOk result (λ w. w
+        ≡ (updated_at operator place index v (so_far cells.old)).made) }
 {
     let alloc = cells.alloc();
     let read = element_again(alloc, place, &index.value)?;
@@ -204,7 +206,8 @@ fn stepped_at(
 ) -> Result<Valued, AllocError>
     ensures taken { OnOk result (so_far cells.new
         ≡ (stepped_at operator place index (so_far cells.old)).taken) }
-    ensures made { IfOk result (λ v. v ≡ (stepped_at operator place index (so_far cells.old)).made) }
+    ensures made { IfOk result (λ v. v
+        ≡ (stepped_at operator place index (so_far cells.old)).made) }
 {
     let alloc = cells.alloc();
     let read = Valued {

@@ -1,7 +1,6 @@
 //! Classes of tokens, which are those of `Parts.antt` of `c_tree`, and what to say where no level
 //! is left; proved by the checker alone.
 ghost use Rattle.std.specs.Prelude.{◌≡◌, ◌<◌, length, true};
-ghost use Rattle.c_symbols.specs.Symbols.{symbol_of};
 ghost use Rattle.c_symbols.specs.Sources.{leaf_at, GoesOn};
 ghost use Rattle.c_tree.specs.Parts.{is_local_specifier, is_initializing};
 ghost use Rattle.c_tree.specs.Reading.{no_level};

@@ -1,11 +1,9 @@
 //! Readers of initializers, which are `initializer_of`, `list` and their parts of
 //! `Declarations.antt` of `c_tree`.
-ghost use Rattle.std.specs.Prelude.{◌≡◌, ◌<◌, length};
-ghost use Rattle.grammar_forms.specs.Forms.{Choice, Many};
+ghost use Rattle.std.specs.Prelude.{◌<◌, length};
+ghost use Rattle.grammar_forms.specs.Forms.{Choice};
 ghost use Rattle.c_symbols.specs.declared.words.Terminal.TheVariants.{RightBrace};
 ghost use Rattle.c_symbols.specs.Symbols.{symbol_of};
-ghost use Rattle.c_symbols.specs.Sources.{leaf_at};
-ghost use Rattle.c_tree.specs.Parts.{is_not};
 ghost use Rattle.c_tree.specs.Declarations.{comma_or_end_at, element, list, initializer_of};
 ghost use Rattle.c_tree.specs.Reading.{Gives, HasRoom, HasRoomBelow};
 ghost use Rattle.c_words.specs.Answers.{Skips};

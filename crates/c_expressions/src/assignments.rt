@@ -1,6 +1,6 @@
 //! Readers of conditionals, assignments and comma expressions (C11 6.5.15 to 6.5.17): the forms of
 //! these names in `Expressions.antt` of `c_tree`. Proved in `proofs/Productions.antt`.
-ghost use Rattle.std.specs.Prelude.{◌≡◌, ◌<◌, length, IfSome};
+ghost use Rattle.std.specs.Prelude.{◌<◌, length, IfSome};
 ghost use Rattle.c_symbols.specs.Sources.{leaf_at, GoesOn};
 ghost use Rattle.c_tree.specs.Expressions.{conditional, assignment, comma};
 ghost use Rattle.c_tree.specs.Reading.{Gives, HasRoom};

@@ -1,7 +1,6 @@
 //! Readers of expressions one level deeper: `Deeper` of the forms in `Nested.antt` of `c_tree`.
 //! Proved by `answers_deeper` and `answers_no_level` of the crates below.
 ghost use Rattle.std.specs.Prelude.{◌≡◌, ◌<◌, length};
-ghost use Rattle.c_symbols.specs.Symbols.{symbol_of};
 ghost use Rattle.c_symbols.specs.Sources.{leaf_at};
 ghost use Rattle.c_tree.specs.Parts.{begins, begins_expression};
 ghost use Rattle.c_tree.specs.Reading.{Gives, HasRoomBelow, no_level, deeper_comma};

@@ -224,14 +224,14 @@ named_no_space [] named = refl
 named_no_space (byte ∷ rest) named =
     first_no_space byte rest (elim (or_cases (is_ascii_digit byte || starts_with nat_eq
     (byte ∷ rest) (codes "line")) (starts_with nat_eq (byte ∷ rest) (codes "pragma")) named) [
-      | inl h ↦ elim (or_cases (is_ascii_digit byte) (starts_with nat_eq (byte ∷ rest) (codes "line"))
-          h) [
+      | inl h ↦ elim (or_cases (is_ascii_digit byte) (starts_with nat_eq (byte ∷ rest)
+          (codes "line")) h) [
             | inl g ↦ digit_low byte g
-            | inr g ↦ (let p = and_parts (eqb 108 byte) _ g in let e : 108 ≡ byte = eqb-true 108 byte p.0 in
-                omega arith)
+            | inr g ↦ (let p = and_parts (eqb 108 byte) _ g in
+                let e : 108 ≡ byte = eqb-true 108 byte p.0 in omega arith)
           ]
-      | inr h ↦ (let p = and_parts (eqb 112 byte) _ h in let e : 112 ≡ byte = eqb-true 112 byte p.0 in
-          omega arith)
+      | inr h ↦ (let p = and_parts (eqb 112 byte) _ h in
+          let e : 112 ≡ byte = eqb-true 112 byte p.0 in omega arith)
     ])
 
 -- a directive line

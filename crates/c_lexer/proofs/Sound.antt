@@ -182,7 +182,12 @@ quoted_front quote n rest c =
     let bytes : List ℕ = quote ∷ (c.content ++ quote ∷ []) in
     let whole : quote ∷ rest ≡ bytes ++ c.rest = ap (λ z. quote ∷ z) (c.spelled
     ∙ sym (append_assoc c.content (quote ∷ []) c.rest)) in
-    let long : n + 2 ≡ length bytes = omega (arith, c.long, length-append c.content (quote ∷ [])) in (
+    let long : n + 2 ≡ length bytes = omega (
+      arith,
+      c.long,
+      length-append c.content
+          (quote ∷ []),
+    ) in (
       ap (λ z. take z (quote ∷ rest)) long ∙ ap (take (length bytes)) whole
           ∙ take-append_seam bytes c.rest,
       whole,

@@ -1,6 +1,6 @@
 //! Marks, the longest first. What they are stands in `specs/Marks.antt`; `proofs/MarkFacts.antt`
 //! shows that none is missed.
-ghost use Rattle.std.specs.Prelude.{◌≡◌, ◌≤◌, length, take, [], ◌∷◌};
+ghost use Rattle.std.specs.Prelude.{◌≡◌, ◌≤◌, length, [], ◌∷◌};
 ghost use Rattle.c_lexer.specs.Marks.{is_mark};
 ghost use Rattle.c_lexer.specs.Steps.Reading.{mark_length};
 

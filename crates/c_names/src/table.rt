@@ -60,7 +60,8 @@ fn reserve(table: &mut Table) -> Result<(), AllocError>
     ensures earlier { table.new.earlier.items ≡ table.old.earlier.items }
     ensures latest { table.new.latest ≡ table.old.latest }
     ensures room { OnOk result (vec_len table.new.entries < vec_capacity table.new.entries) }
-    ensures earlier_room { OnOk result (vec_len table.new.earlier < vec_capacity table.new.earlier) }
+    ensures earlier_room { OnOk result
+        (vec_len table.new.earlier < vec_capacity table.new.earlier) }
 {
     table.entries.reserve(1)?;
     table.earlier.reserve(1)
@@ -71,7 +72,8 @@ fn push(table: &mut Table, alloc: Global, declaration: Declaration) -> Result<()
     requires tied { IsTied table.old }
     requires counted { IsCounted declaration.declared }
     ensures tied { IsTied table.new }
-    ensures ok { OnOk result (table.new.entries.items ≡ table.old.entries.items ++ declaration ∷ []) }
+    ensures ok { OnOk result
+        (table.new.entries.items ≡ table.old.entries.items ++ declaration ∷ []) }
     ensures err { OnErr result (table.new.entries.items ≡ table.old.entries.items) }
 {
     let number = table.entries.len();

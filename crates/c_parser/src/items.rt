@@ -2,7 +2,7 @@
 //! `c_tree`.
 ghost use Rattle.std.specs.Prelude.{◌≡◌, ◌<◌, length, false};
 ghost use Rattle.c_symbols.specs.declared.words.Terminal.TheVariants.{LeftParen, Semicolon};
-ghost use Rattle.c_symbols.specs.Sources.{leaf_at, is, GoesOn};
+ghost use Rattle.c_symbols.specs.Sources.{leaf_at, is};
 ghost use Rattle.c_tree.specs.Parts.{is_end};
 ghost use Rattle.c_tree.specs.Items.{unit_item};
 ghost use Rattle.c_tree.specs.Reading.{Gives, HasRoom};

@@ -1,8 +1,8 @@
 //! The first fault of a text (`specs/First.antt`): one is held while others are noted. Proved by
 //! the checker alone.
-ghost use Rattle.std.specs.Prelude.{◌≡◌, [], ◌∷◌, IsTrue, ◌↔◌};
+ghost use Rattle.std.specs.Prelude.{◌≡◌};
 ghost use Rattle.c_rules.specs.First.{comes_before, first_of_two, first_with};
-ghost use Rattle.c_rules.specs.ExpressionRules.{broken, at_if, option_places};
+ghost use Rattle.c_rules.specs.ExpressionRules.{broken, option_places};
 
 use c_lexer::{Rule, TextFault};
 

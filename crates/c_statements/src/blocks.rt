@@ -1,6 +1,6 @@
 //! Readers of statements by their first token and of blocks, which are `statement`, `item` and
 //! `items` of `Statements.antt` of `c_tree`.
-ghost use Rattle.std.specs.Prelude.{◌≡◌, ◌<◌, length};
+ghost use Rattle.std.specs.Prelude.{◌<◌, length};
 ghost use Rattle.c_symbols.specs.declared.words.Terminal.TheVariants.{LeftBrace, Semicolon};
 ghost use Rattle.c_symbols.specs.Sources.{GoesOn};
 ghost use Rattle.c_tree.specs.Statements.{items, item, statement};

@@ -1,6 +1,6 @@
 //! Readers of jumps (C11 6.8.6), which are arms of `statement_at` of `Statements.antt` of `c_tree`.
 //! Proved with `proofs/Steadies.antt` and `proofs/Dispatch.antt`.
-ghost use Rattle.std.specs.Prelude.{◌≡◌, ◌<◌, length};
+ghost use Rattle.std.specs.Prelude.{◌<◌, length};
 ghost use Rattle.c_symbols.specs.declared.words.Terminal.TheVariants.{Goto, Break, Continue};
 ghost use Rattle.c_symbols.specs.declared.words.Terminal.TheVariants.{Return};
 ghost use Rattle.c_symbols.specs.Sources.{GoesOn};

@@ -1,6 +1,6 @@
 //! Readers of `if`, `while`, `do` and `for` (C11 6.8.4 and 6.8.5), which are arms of `statement_at`
 //! of `Statements.antt` of `c_tree`.
-ghost use Rattle.std.specs.Prelude.{◌≡◌, ◌<◌, length};
+ghost use Rattle.std.specs.Prelude.{◌<◌, length};
 ghost use Rattle.c_symbols.specs.declared.words.Terminal.TheVariants.{If, While, Do, For};
 ghost use Rattle.c_symbols.specs.Sources.{GoesOn};
 ghost use Rattle.c_tree.specs.Reading.{Gives, HasRoom, HasRoomBelow};

@@ -1,6 +1,6 @@
 //! Readers of tokens that are skipped: in brackets, and attributes. They are `round_brackets`,
 //! `skipped_body` and `attributes` of `c_tree`.
-ghost use Rattle.std.specs.Prelude.{◌≡◌, ◌≢◌, ◌+◌, ◌^◌, ◌<◌, length};
+ghost use Rattle.std.specs.Prelude.{◌≢◌, ◌+◌, ◌^◌, ◌<◌, length};
 ghost use Rattle.grammar_forms.specs.Forms.{Balanced};
 ghost use Rattle.c_symbols.specs.Sources.{leaf_at, is, GoesOn};
 ghost use Rattle.c_tree.specs.Parts.{is_end};

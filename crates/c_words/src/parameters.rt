@@ -1,9 +1,7 @@
 //! Readers of a function's parameters, which are `parameter`, `parameter_list` and `function_rest`
 //! of `Items.antt` of `c_tree`.
 ghost use Rattle.std.specs.Prelude.{◌≡◌, ◌<◌, length};
-ghost use Rattle.grammar_forms.specs.Forms.{One, Perhaps, Deeper};
-ghost use Rattle.grammar_forms.specs.Reading.{Reads};
-ghost use Rattle.c_symbols.specs.Symbols.{symbol_of};
+ghost use Rattle.grammar_forms.specs.Forms.{Perhaps, Deeper};
 ghost use Rattle.c_symbols.specs.Sources.{leaf_at, GoesOn};
 ghost use Rattle.c_symbols.specs.declared.words.Terminal.TheVariants.{RightParen};
 ghost use Rattle.c_tree.specs.Parts.{is_not, is_specifier, have_char};

@@ -3,7 +3,7 @@
 //! `proofs/Statements.antt`.
 
 ghost use Rattle.std.specs.Prelude.{◌≡◌, ◌+◌, ◌<◌, ◌++◌, ◌∷◌, [], ℕ, List, Some, true, false};
-ghost use Rattle.std.specs.Prelude.{length, map, slice_get, option_to_list, IfSome, IfOk, OnOk};
+ghost use Rattle.std.specs.Prelude.{length, map, option_to_list, IfSome, IfOk, OnOk};
 ghost use Rattle.std.specs.List.{All};
 ghost use Rattle.cpa_model.specs.declared.automaton.Act.TheVariants as acts;
 ghost use Rattle.cpa_model.specs.declared.program.Stmt.TheVariants as stmts;

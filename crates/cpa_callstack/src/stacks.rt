@@ -1,7 +1,7 @@
 //! What an edge makes of an element, by `specs/Stacks.antt`.
 //! Proved with `proofs/Popping.antt`.
 
-ghost use Rattle.std.specs.Prelude.{◌≡◌, ◌++◌, ◌∷◌, [], IfOk, IfSome, IfNone, MatchOption};
+ghost use Rattle.std.specs.Prelude.{◌≡◌, ◌++◌, ◌∷◌, [], IfOk};
 ghost use Rattle.std.specs.Prelude.{option_map};
 ghost use Rattle.std.specs.List.{list_all};
 ghost use Rattle.cpa_model.specs.Standing.{same_sites};

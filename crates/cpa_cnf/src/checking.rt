@@ -2,14 +2,13 @@
 //! what was touched.
 
 ghost use Rattle.std.specs.Prelude.{◌≡◌, ◌↔◌, ◌⊎◌, ◌||◌, ◌&&◌, ◌*◌, ◌+◌, ◌<◌, ℕ, not, true, false};
-ghost use Rattle.std.specs.Prelude.{None, [], length, slice_index_or, take, IsTrue};
+ghost use Rattle.std.specs.Prelude.{None, [], length, slice_index_or, IsTrue};
 ghost use Rattle.std.specs.Bool.{OnTrue, OnFalse};
-ghost use Rattle.std.specs.List.{AllByRecursion};
 ghost use Rattle.cpa_cnf.specs.Literals.{opposite};
 ghost use Rattle.cpa_cnf.specs.Clauses.{has, IsClause};
 ghost use Rattle.cpa_cnf.specs.Resolution.{clash_on, in_union_without};
-ghost use Rattle.cpa_cnf.specs.Lines.{AreBelow, known, IsInRange, IsGoodLine, IsGoodAt};
-ghost use Rattle.cpa_cnf.specs.Marking.{marked, IsBlank, IsBlankFor, HasBeyond, IsMarkedResolvent};
+ghost use Rattle.cpa_cnf.specs.Lines.{known, IsInRange, IsGoodLine, IsGoodAt};
+ghost use Rattle.cpa_cnf.specs.Marking.{marked, IsBlankFor, HasBeyond, IsMarkedResolvent};
 ghost use Rattle.cpa_cnf.specs.Marking.{is_touched, AreTouched, IsInRangeOf, Reaches, ReachesNone};
 
 use crate::clause::Clause;

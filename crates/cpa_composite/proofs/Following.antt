@@ -148,7 +148,8 @@ rows_have cfa cs ps (choice ∷ chosen) rows (inr h) i c x is control have =
 
 -- of no choice comes no row
 pub none_of : (cfa : Cfa) (cs : List Component) (ps : List Precision)
-    (chosen rows : List (List Elem)) → chosen ≡ [] → EachStrengthened cfa cs ps chosen rows → rows ≡ []
+    (chosen rows : List (List Elem)) → chosen ≡ [] →
+    EachStrengthened cfa cs ps chosen rows → rows ≡ []
 none_of cfa cs ps [] rows empty made = made
 none_of cfa cs ps (choice ∷ chosen) rows empty made = absurd (cc)
 

@@ -33,7 +33,8 @@ pub fn control_is_followed()
     ensures follows { (cs : List Component) (cfa : Cfa) (edge : ℕ) (es : List Elem)
         (ps : List Precision) (rows : List (List Elem))
         → SuccessorRows cs cfa edge es ps rows → (i : ℕ) (c : Component) (e : Elem)
-        (p : Precision) → StandsAt cs es ps i c e p → IsControl c.meaning.part → (g : Edge) (s : State) → slice_get cfa.edges edge ≡ Some g
+        (p : Precision) → StandsAt cs es ps i c e p → IsControl c.meaning.part
+        → (g : Edge) (s : State) → slice_get cfa.edges edge ≡ Some g
         → IsStateOf cfa s → e ≡ pin_of c.meaning.part s
         → FollowPart c.meaning.part cfa g s i rows }
     ensures steps { (cs : List Component) (cfa : Cfa) (edge : ℕ) (es : List Elem)

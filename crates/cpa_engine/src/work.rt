@@ -1,7 +1,7 @@
 //! What a turn keeps beside the reached set. Each call does what `specs/Steps.antt` says, by the
 //! checker alone.
 
-ghost use Rattle.std.specs.Prelude.{◌≡◌, [], IfOk, OnOk};
+ghost use Rattle.std.specs.Prelude.{◌≡◌, OnOk};
 
 use cpa_iface::Turn;
 use cpa_ints::Seq;

@@ -1,7 +1,7 @@
 //! A set of cells as a mark for each cell of an automaton, by `specs/Marks.antt`.
 //! Proved with `proofs/MarkLemmas.antt`.
 
-ghost use Rattle.std.specs.Prelude.{◌≡◌, ◌+◌, ◌<◌, ◌≤◌, ◌||◌, ◌&&◌, ◌^◌, ℕ, nat_lt, length, []};
+ghost use Rattle.std.specs.Prelude.{◌≡◌, ◌+◌, ◌<◌, ◌||◌, ◌&&◌, ◌^◌, ℕ, nat_lt, length, []};
 ghost use Rattle.std.specs.Prelude.{◌∷◌, ◌++◌, if◌then◌else◌, IfOk, OnOk};
 ghost use Rattle.std.specs.List.{filter, list_any, range_with_len};
 ghost use Rattle.cpa_expr.specs.declared.tree.Expr.{out-Expr};

@@ -1,8 +1,8 @@
 //! The cells that are needed along a path, by `specs/Needed.antt`.
 //! Proved with `proofs/NeededLemmas.antt`.
 
-ghost use Rattle.std.specs.Prelude.{◌≡◌, ◌<◌, ◌||◌, ◌&&◌, ◌^◌, ℕ, false, Some, nat_lt, length};
-ghost use Rattle.std.specs.Prelude.{slice_get, IfOk};
+ghost use Rattle.std.specs.Prelude.{◌≡◌, ◌<◌, ◌||◌, ◌&&◌, ℕ, false, nat_lt, length};
+ghost use Rattle.std.specs.Prelude.{IfOk};
 ghost use Rattle.std.specs.List.{AllByRecursion};
 ghost use Rattle.cpa_model.specs.Automata.{IsAutomaton};
 ghost use Rattle.cpa_folds.specs.Needed.{counts, adds, is_needed, needed};

@@ -1,7 +1,7 @@
 //! The analysis of locations, the smallest one. Each call gives what `specs/Locations.antt` says of
 //! it, and keeps the laws, which is shown in `proofs/LocationLaws.antt`.
 
-ghost use Rattle.std.specs.Prelude.{◌≡◌, ◌<◌, [], ◌∷◌, length, slice_get, IfOk, if◌then◌else◌};
+ghost use Rattle.std.specs.Prelude.{◌≡◌, ◌<◌, length, slice_get, IfOk};
 ghost use Rattle.cpa_model.specs.declared.automaton.Edge.{Edge as AnEdge};
 ghost use Rattle.cpa_model.specs.Automata.{IsAutomaton};
 ghost use Rattle.cpa_iface.specs.Meanings.{IsShaped, IsPrecision};

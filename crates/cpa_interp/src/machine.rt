@@ -1,6 +1,6 @@
 //! A machine that holds a state of an execution and changes it in place, edge by edge. What a turn
 //! makes of it is `specs/Turns.antt`; shown in `proofs/Turning.antt`.
-ghost use Rattle.std.specs.Prelude.{◌≡◌, ◌++◌, ◌∷◌, [], ◌<◌, ◌^◌, ◌↔◌, IsTrue, List, ℤ, length};
+ghost use Rattle.std.specs.Prelude.{◌≡◌, ◌<◌, ◌^◌, ◌↔◌, IsTrue, List, ℤ, length};
 ghost use Rattle.std.specs.Prelude.{Bool, IfOk, IfSome, IfNone, IsSomeAnd, false, map, slice_get, slice_set};
 ghost use Rattle.std.specs.List.{Contains};
 ghost use Rattle.cpa_model.specs.declared.automaton.Edge.{Edge};

@@ -1,6 +1,6 @@
 //! Facts on states, and elements made of them: whether one holds of a state, and whether it is
 //! shaped for an automaton, by `specs/Facts.antt`.
-ghost use Rattle.std.specs.Prelude.{◌≡◌, ◌<◌, ◌↔◌, IsTrue};
+ghost use Rattle.std.specs.Prelude.{◌<◌, ◌↔◌, IsTrue};
 ghost use Rattle.std.specs.List.{AllByRecursion};
 ghost use Rattle.cpa_model.specs.Facts.{FactHolds, Holds, IsElem, IsFact, IsValueOf};
 

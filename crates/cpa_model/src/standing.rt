@@ -1,7 +1,7 @@
 //! Whether a fact stands in an element, to the letter, by `Standing`. That it then does, and that
 //! each state of the element is one of the other, is shown in `specs/StandingLaws.antt`.
 ghost use Rattle.std.specs.Prelude.{◌≡◌, ◌↔◌, IsTrue};
-ghost use Rattle.std.specs.List.{AllByRecursion, Contains, list_any};
+ghost use Rattle.std.specs.List.{list_any};
 ghost use Rattle.cpa_model.specs.declared.facts.Fact.{Fact};
 ghost use Rattle.cpa_model.specs.declared.facts.Elem.{Elem};
 ghost use Rattle.cpa_model.specs.Facts.{HasFacts, IsWithin};

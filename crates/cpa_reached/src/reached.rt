@@ -1,8 +1,7 @@
 //! The reached set: its calls, each of which does exactly what a definition of `specs/` says. What
 //! is kept beside the entries stands in `specs/Kept.antt`, and in no contract here.
 
-ghost use Rattle.std.specs.Prelude.{◌≡◌, ℕ, [], ◌++◌, ◌∷◌, IfOk, OnOk, OnErr, IfSome, IfNone};
-ghost use Rattle.std.specs.Prelude.{OnSome};
+ghost use Rattle.std.specs.Prelude.{◌≡◌, [], IfOk, OnOk, OnErr, IfSome, IfNone};
 ghost use Rattle.cpa_reached.specs.Entries.{IsLive, IsNext, IsNumbered, waiting_numbers};
 ghost use Rattle.cpa_reached.specs.Members.{IsIn};
 ghost use Rattle.cpa_reached.specs.Calls.{begun, taken, added, replaced, used, refined, closed};

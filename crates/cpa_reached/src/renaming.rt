@@ -1,7 +1,7 @@
 //! How an entry takes the place of another, and those that name the old one name the new one. What
 //! each function does stands in `specs/Calls.antt` and `specs/Kept.antt`.
 
-ghost use Rattle.std.specs.Prelude.{◌≡◌, ℕ, ◌<◌, ◌++◌, [], ◌∷◌, Some, length, map, slice_get};
+ghost use Rattle.std.specs.Prelude.{◌≡◌, ℕ, ◌<◌, ◌++◌, Some, length, map, slice_get};
 ghost use Rattle.std.specs.Prelude.{vec_capacity, vec_len};
 ghost use Rattle.cpa_reached.specs.Members.{Ascend};
 ghost use Rattle.cpa_reached.specs.Entries.{numbers};

@@ -1,7 +1,7 @@
 //! The way up from an entry, by parents. What a path is stands in `specs/Paths.antt`.
 //! Proved with `proofs/Climbing.antt`.
 
-ghost use Rattle.std.specs.Prelude.{◌≡◌, ℕ, Some, IfOk};
+ghost use Rattle.std.specs.Prelude.{◌≡◌, Some, IfOk};
 ghost use Rattle.cpa_iface.specs.declared.entries.Entry.{Entry as AnEntry};
 ghost use Rattle.cpa_reached.specs.Members.{IsIn, Ascend};
 ghost use Rattle.cpa_reached.specs.Entries.{numbers, IsLive};

@@ -1,8 +1,8 @@
 //! What an act makes of the known values of cells, by `specs/Acts.antt`. Each function changes the
 //! values in place and says whether the act can be done.
 
-ghost use Rattle.std.specs.Prelude.{◌≡◌, ◌+◌, ℕ, ◌&&◌, ◌||◌, not, pos, None, Some, Bool, true};
-ghost use Rattle.std.specs.Prelude.{if◌then◌else◌, slice_set, int_le};
+ghost use Rattle.std.specs.Prelude.{◌≡◌, ◌+◌, ◌&&◌, ◌||◌, None, Some, true};
+ghost use Rattle.std.specs.Prelude.{if◌then◌else◌, slice_set};
 ghost use Rattle.cpa_ints.specs.Integers.{least, greatest};
 ghost use Rattle.cpa_expr.specs.declared.tree.Expr.{out-Expr};
 ghost use Rattle.cpa_expr.specs.Cells.{is_zero};
@@ -10,27 +10,7 @@ ghost use Rattle.cpa_expr.specs.Values.{is_nonzero};
 ghost use Rattle.cpa_model.specs.Standing.{same_bool};
 ghost use Rattle.cpa_folds.specs.Marks.{is_marked};
 ghost use Rattle.cpa_value.specs.KnownValues.{known_value};
-ghost use Rattle.cpa_value.specs.Acts.{
-  forgotten,
-  ok_of,
-  is_trap,
-  written,
-  placed,
-  assigned,
-  scalar_of,
-  holds_type,
-  held,
-  read_of,
-  told,
-  first_told,
-  set_told,
-  equated,
-  zeroed,
-  says_equal,
-  learned,
-  assumed,
-  after_act,
-};
+ghost use Rattle.cpa_value.specs.Acts.{forgotten, is_trap, written, assigned, scalar_of, holds_type, held, read_of, told, first_told, set_told, equated, zeroed, says_equal, learned, assumed, after_act};
 
 use crate::known::{Gap, known_value};
 use cpa_expr::{CmpOp, Expr, is_nonzero};

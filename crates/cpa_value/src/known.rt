@@ -1,19 +1,10 @@
 //! What is known of the value of an expression, by `specs/KnownValues.antt`.
 //! Proved with `proofs/known/`.
 
-ghost use Rattle.std.specs.Prelude.{◌≡◌, pos, not, if◌then◌else◌, None, Ok};
-ghost use Rattle.std.specs.List.{slice_index_or};
+ghost use Rattle.std.specs.Prelude.{◌≡◌, pos, not, if◌then◌else◌, Ok};
 ghost use Rattle.cpa_ints.specs.Wrapping.{wrapped};
 ghost use Rattle.cpa_expr.specs.Values.{un_value, bin_value, compares, truth, is_nonzero};
-ghost use Rattle.cpa_value.specs.KnownValues.{
-  known_then,
-  known_pair,
-  or_trap,
-  or_unknown,
-  known_at,
-  known_truth,
-  known_value,
-};
+ghost use Rattle.cpa_value.specs.KnownValues.{known_then, known_pair, or_trap, known_at, known_truth, known_value};
 
 use crate::cells::value_at;
 use cpa_expr::{BinOp, CmpOp, Expr, UnOp, bin_value, compares, is_nonzero, truth, un_value};

@@ -1,7 +1,7 @@
 //! Cells that have had too many values, by `specs/Limits.antt`. It takes time in the facts of the
 //! element and of the entries, and for each in the different values of its cell so far.
 
-ghost use Rattle.std.specs.Prelude.{◌≡◌, ◌<◌, ℕ, [], ◌∷◌, length, nat_le, replicate, IfOk, OnOk};
+ghost use Rattle.std.specs.Prelude.{◌≡◌, ◌<◌, ℕ, [], ◌∷◌, length, replicate, IfOk, OnOk};
 ghost use Rattle.std.specs.List.{AllByRecursion, filter, list_any, slice_index_or};
 ghost use Rattle.std.specs.Ordering.{int_eq};
 ghost use Rattle.cpa_iface.specs.Meanings.{IsShaped};

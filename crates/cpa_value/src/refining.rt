@@ -1,13 +1,12 @@
 //! The precisions of the analysis of values, by `specs/Values.antt`.
 //! Proved with `proofs/CellLemmas.antt`.
 
-ghost use Rattle.std.specs.Prelude.{◌≡◌, ◌<◌, ◌^◌, ◌++◌, ◌∷◌, [], not, length, if◌then◌else◌, IfOk};
+ghost use Rattle.std.specs.Prelude.{◌≡◌, ◌<◌, ◌^◌, ◌++◌, ◌∷◌, [], not, if◌then◌else◌, IfOk};
 ghost use Rattle.std.specs.Prelude.{OnOk};
 ghost use Rattle.std.specs.List.{filter, range_with_len};
 ghost use Rattle.cpa_model.specs.Automata.{IsAutomaton};
 ghost use Rattle.cpa_iface.specs.Meanings.{IsPathOf, IsPrecision};
 ghost use Rattle.cpa_folds.specs.Marks.{is_marked};
-ghost use Rattle.cpa_value.specs.Cells.{is_tracked};
 ghost use Rattle.cpa_value.specs.Values.{precision_of, refined};
 
 use crate::acts::is_marked;

@@ -1,8 +1,8 @@
 //! The operators of specs/Words. What they mean is said by the laws (laws.rt). Where memory runs
 //! out, more gates may stand than before.
 
-ghost use Rattle.std.specs.Prelude.{◌≡◌, ◌+◌, ◌++◌, ◌<◌, ◌∷◌, ◌^◌, []};
-ghost use Rattle.std.specs.Prelude.{length, map, replicate, IfOk};
+ghost use Rattle.std.specs.Prelude.{◌≡◌, ◌+◌, ◌++◌, ◌<◌, ◌∷◌, []};
+ghost use Rattle.std.specs.Prelude.{length, replicate, IfOk};
 ghost use Rattle.std.specs.Prelude.{OnOk};
 ghost use Rattle.cpa_cnf.specs.Literals.{opposite};
 ghost use Rattle.cpa_gates.specs.Nets.{built};

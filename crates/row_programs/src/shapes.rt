@@ -1,7 +1,7 @@
 //! Whether elements, precisions and paths fit an automaton: `AreShaped`, `IsPrecision` and
 //! `IsPathOf` of `cpa_iface`. Proved with `proofs/shapes/`.
 
-ghost use Rattle.std.specs.Prelude.{◌<◌, IsTrue, length};
+ghost use Rattle.std.specs.Prelude.{◌<◌, IsTrue};
 ghost use Rattle.std.specs.List.{AllByRecursion};
 ghost use Rattle.cpa_model.specs.Expressions.{IsExpr};
 ghost use Rattle.cpa_iface.specs.Meanings.{AreShaped, IsPathOf, IsPrecision};

@@ -397,7 +397,8 @@ module _ (cells : List IntType) (values : List ℤ) (fit : AreValues cells value
       part (Expr-F.Not arg) arg refl (h.0 q.0 (mapped_none (λ a. truth (not (is_nonzero a)))
       (value_of arg values) none))
   layer_trapped (Expr-F.Cond t test first second) h here q none =
-      elim (cond_none (value_of test values) (value_of first values) (value_of second values) none) [
+      elim (cond_none (value_of test values) (value_of first values) (value_of second values)
+      none) [
         | inl e ↦ part (Expr-F.Cond t test first second) test (inl refl) (h.0 q.0 e)
         | inr r ↦ elim r [
           | inl e ↦ part (Expr-F.Cond t test first second) first (inr (inl (e.0, refl)))

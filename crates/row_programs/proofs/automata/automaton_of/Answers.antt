@@ -7,5 +7,9 @@ use Rattle.row_programs.proofs.automata.automaton_of.Goals as goal
 pub returns : goal.returns
 returns c =
     IfOk-weaker c.build.result (IsAutomatonOf c.args.program.now) IsAutomaton
-    (λ (cfa : Cfa) is. record { program = c.args.program.now; well_formed = c.requires; automaton = is })
+    (λ (cfa : Cfa) is. record {
+      program = c.args.program.now;
+      well_formed = c.requires;
+      automaton = is;
+    })
     c.build.ensures

@@ -5,4 +5,5 @@ use Rattle.cpa_ints.specs.Integers.{IsInRange}
 use Rattle.row_programs.proofs.fitting.are_starts.Given as goal
 
 abbrev pub invariant-loop-cell : goal.invariant-loop-cell
-invariant-loop-cell l = AllByRecursion (λ cell. IsInRange cell.ty cell.start) (take l.cell-index l.cells)
+invariant-loop-cell l = AllByRecursion (λ cell. IsInRange cell.ty cell.start)
+    (take l.cell-index l.cells)

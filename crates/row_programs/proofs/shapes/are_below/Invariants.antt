@@ -4,4 +4,5 @@ use Rattle.std.specs.List.{AllByRecursion}
 use Rattle.row_programs.proofs.shapes.are_below.Given as goal
 
 abbrev pub invariant-loop-number : goal.invariant-loop-number
-invariant-loop-number l = AllByRecursion (λ number. number < l.limit) (take l.number-index l.numbers)
+invariant-loop-number l = AllByRecursion (λ number. number < l.limit)
+    (take l.number-index l.numbers)
