@@ -4,11 +4,13 @@
 ghost use Rattle.std.specs.Prelude.{◌≡◌, ◌+◌, ◌*◌, ◌/◌, ◌%◌, ◌==◌, ◌<◌, nat_eq};
 ghost use Rattle.std.specs.Prelude.{Some};
 ghost use Rattle.std.specs.Ordering.{nat_cmp};
-ghost use Rattle.std.specs.Cmp.Rules.{comparing};
+ghost use Rattle.std.specs.Cmp.Rules.{comparing, hashing};
+ghost use Rattle.std.specs.Hash as fed;
 ghost use borrow.Author.Rules.{rules};
 ghost use Rattle.cpa_cnf.specs.Literals.{literal_number, opposite};
 
 use std::cmp::Ordering;
+use std::hash::{Hash, Hasher};
 use std::marker::Model;
 
 /// A variable or its negation. Literals are ordered by variable, the positive one first.
@@ -84,6 +86,16 @@ impl PartialEq for Lit {
 
 impl Eq for Lit {
     ghost laws = { Prim.search rules };
+}
+
+impl Hash for Lit {
+    ghost hash_input = { λ l. fed.usize l };
+
+    ghost respects_eq = { Prim.search (hashing, rules) };
+
+    fn hash<H: Hasher>(&self, state: &mut H) {
+        self.number().hash(state);
+    }
 }
 
 impl PartialOrd for Lit {

@@ -2,10 +2,8 @@
 -- the next variable.
 use Rattle.std.specs.Prelude.{◌≡◌, ℕ, ◌+◌, ◌*◌, Bool, true, List, [], ◌∷◌, length}
 use Rattle.std.specs.Prelude.{Option, None, Some, if◌then◌else◌, ⊤}
-use Rattle.std.specs.Ordering.{is_eq}
-use Rattle.std.specs.declared.cmp.Ordering.{Ordering}
 use Rattle.cpa_cnf.specs.Literals.{opposite}
-use Rattle.cpa_gates.specs.contracts.gate.GateOrd.TheImpl as gate_ord
+use Rattle.cpa_gates.specs.contracts.gate.GatePartialEq.TheImpl as gate_eq
 use Rattle.cpa_gates.specs.declared.gate.Gate.{Gate}
 use Rattle.cpa_gates.specs.declared.gate.Gate.TheVariants.{Input}
 use Rattle.cpa_gates.specs.declared.folding.Plan.{Plan}
@@ -27,13 +25,9 @@ abbrev pub Holds : (ℕ → Bool) → List Gate → Type 0
 Holds m [] = m 0 ≡ true
 Holds m (g ∷ net) = Holds m net × (m (vars net) ≡ gate_value m (vars net) g)
 
--- the derived order of gates
-abbrev pub gate_cmp : Gate → Gate → Ordering
-gate_cmp = (gate_ord.ghosts).cmp
-
--- two gates are one by that order
+-- the derived equality of gates
 abbrev pub same_gate : Gate → Gate → Bool
-same_gate g h = is_eq (gate_cmp g h)
+same_gate = (gate_eq.ghosts).eq
 
 -- the variable of the newest gate that is this one
 abbrev pub place_of : List Gate → Gate → Option ℕ

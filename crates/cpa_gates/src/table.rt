@@ -1,4 +1,4 @@
-//! The gates of a net with the place of each by the gate, so that an equal gate is found. What is
+//! The gates of a net with the place of each by the gate, so that an equal gate is found by hash. What is
 //! kept is `IsTable` of specs/Tables, proved by the checker alone.
 
 ghost use Rattle.std.specs.Prelude.{◌≡◌, ◌∷◌, [], IfOk, OnOk, OnErr, None};
@@ -9,13 +9,13 @@ use crate::folding::Plan;
 use crate::gate::Gate;
 use cpa_cnf::Lit;
 use std::alloc::{AllocError, Global};
-use std::collections::BTreeMap;
+use std::collections::HashMap;
 
 /// The gates, the oldest one first, and the variable of the newest of each kind of equal ones.
 #[derive(Drop)]
 pub(crate) struct Table {
     pub(crate) gates: Vec<Gate>,
-    pub(crate) places: BTreeMap<Gate, u32>,
+    pub(crate) places: HashMap<Gate, u32>,
 }
 
 /// No gates.
@@ -25,7 +25,7 @@ pub(crate) fn empty(alloc: Global) -> Table
 {
     Table {
         gates: Vec::new(alloc),
-        places: BTreeMap::new(alloc),
+        places: HashMap::new(alloc),
     }
 }
 

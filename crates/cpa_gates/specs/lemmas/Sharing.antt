@@ -1,44 +1,24 @@
--- A gate that is found is the gate: gates that the derived order does not tell apart are equal, and
+-- A gate that is found is the gate: gates that the derived equality takes for one are equal, and
 -- the variable found has the gate's value.
 use Rattle.std.proofs.Common.{◌≡◌, ℕ, ◌<◌, Bool, true, List, [], ◌∷◌}
-use Rattle.std.proofs.Common.{Some, refl, ap, subst, ◌∙◌, arith}
-use Rattle.std.proofs.lemmas.Bool.{cond_both}
-use Rattle.std.proofs.lemmas.Map.Lookups.{exact_unsigned}
-use Rattle.std.specs.Ordering.{nat_cmp, is_eq, ordering_then}
-use Rattle.std.specs.declared.cmp.Ordering.{Ordering}
-use Rattle.std.specs.declared.cmp.Ordering.TheVariants.{Less, Equal, Greater}
+use Rattle.std.proofs.Common.{Some, refl, ap, subst, ◌∙◌, ◌&&◌, nat_eq, arith}
+use Rattle.std.proofs.lemmas.Bool.{and_parts, cond_both, eqb-true}
 use Rattle.cpa_gates.specs.declared.gate.Gate.{Gate}
 use Rattle.cpa_gates.specs.declared.gate.Gate.TheVariants.{Input, And, Xor, Majority, Choice}
 use Rattle.cpa_gates.specs.Gates.{gate_value}
 use Rattle.cpa_gates.specs.Nets.{vars, Holds, same_gate, place_of}
 
-is_equal : (o : Ordering) → is_eq o ≡ true → o ≡ Equal
-is_equal Less h = cc
-is_equal Equal h = refl
-is_equal Greater h = cc
-
-numbers_equal : (a b : ℕ) → is_eq (nat_cmp a b) ≡ true → a ≡ b
-numbers_equal a b h = exact_unsigned a b (is_equal (nat_cmp a b) h)
-
-both_equal : (o p : Ordering) → is_eq (ordering_then o p) ≡ true
-    → (is_eq o ≡ true) × (is_eq p ≡ true)
-both_equal Less p h = cc
-both_equal Equal p h = (refl, h)
-both_equal Greater p h = cc
-
-two : (a b c d : ℕ) → is_eq (ordering_then (nat_cmp a c) (nat_cmp b d)) ≡ true
-    → (a ≡ c) × (b ≡ d)
+two : (a b c d : ℕ) → nat_eq a c && nat_eq b d ≡ true → (a ≡ c) × (b ≡ d)
 two a b c d h =
-    let e = both_equal (nat_cmp a c) (nat_cmp b d) h in
-    (numbers_equal a c e.0, numbers_equal b d e.1)
+    let p = and_parts (nat_eq a c) (nat_eq b d) h in
+    (eqb-true a c p.0, eqb-true b d p.1)
 
-three : (a b c x y z : ℕ)
-    → is_eq (ordering_then (nat_cmp a x) (ordering_then (nat_cmp b y) (nat_cmp c z))) ≡ true
+three : (a b c x y z : ℕ) → nat_eq a x && (nat_eq b y && nat_eq c z) ≡ true
     → (a ≡ x) × (b ≡ y) × (c ≡ z)
 three a b c x y z h =
-    let e = both_equal (nat_cmp a x) (ordering_then (nat_cmp b y) (nat_cmp c z)) h in
-    let f = two b c y z e.1 in
-    (numbers_equal a x e.0, f.0, f.1)
+    let p = and_parts (nat_eq a x) (nat_eq b y && nat_eq c z) h in
+    let q = two b c y z p.1 in
+    (eqb-true a x p.0, q.0, q.1)
 
 pub same_exact : (g h : Gate) → same_gate g h ≡ true → g ≡ h
 same_exact Input Input e = refl
