@@ -1,6 +1,9 @@
 //! The rules on values and their statements (`c_core_rules`, `specs/Acts.antt`). Proved by the
 //! checker alone.
 ghost use Rattle.std.specs.Prelude.{◌≡◌, ◌∷◌, ◌++◌, [], IfOk, OnOk};
+ghost use Rattle.cpa_ints.specs.declared.integers.IntType.TheVariants as ty;
+ghost use Rattle.cpa_expr.specs.declared.tree.Expr.TheVariants.{And, Or};
+ghost use Rattle.c_core_rules.specs.Cells.{fresh};
 ghost use Rattle.c_core_rules.specs.Acts.{is_pure, held, held_before, operated, both_hold};
 ghost use Rattle.c_core_rules.specs.Acts.{one_holds, linked, signed, cast_to, chosen_by, chosen};
 ghost use Rattle.c_core_rules.specs.Acts.{dropped_value, fixed};
@@ -17,7 +20,7 @@ use crate::values::{
 use c_core_rules::{CoreTree, Location, Valued};
 use c_symbols::BinaryOperator;
 use c_tree::UnaryOperator;
-use cpa_expr::type_of;
+use cpa_expr::{Expr, type_of};
 use cpa_ints::{IntType, Seq, common};
 use std::alloc::{AllocError, Global};
 
@@ -28,16 +31,67 @@ pub(crate) fn is_pure(v: &Valued) -> bool
     v.statements.is_empty()
 }
 
-/// A value whose statements end with a write of it to a cell, which is read.
-fn kept_in(alloc: Global, place: Location, v: Valued) -> Result<Valued, AllocError>
-    ensures { IfOk result (λ w. w ≡ valued (v.statements ++ set place v.value ∷ [])
-        (scalar place)) }
+/// Its statements alone.
+pub(crate) fn statements_of(v: Valued) -> Seq<CoreTree>
+    ensures { result ≡ v.statements }
+{
+    v.statements
+}
+
+/// Its value alone.
+fn value_of(v: Valued) -> Expr
+    ensures { result ≡ v.value }
+{
+    v.value
+}
+
+/// A value with more statements behind its own.
+pub(crate) fn followed(v: Valued, behind: Seq<CoreTree>) -> Result<Valued, AllocError>
+    ensures { IfOk result (λ w. w ≡ valued (v.statements ++ behind) v.value) }
+{
+    let Valued { statements, value } = v;
+    let statements = joined(statements, behind)?;
+    Ok(Valued { statements, value })
+}
+
+/// Statements that end with a value in a cell.
+fn value_in(alloc: Global, place: Location, v: Valued) -> Result<Seq<CoreTree>, AllocError>
+    ensures { IfOk result (λ trees. trees ≡ v.statements ++ set place v.value ∷ []) }
 {
     let Valued { statements, value } = v;
     let written = set(alloc, place, value)?;
-    let statements = with(statements, written)?;
+    with(statements, written)
+}
+
+/// A cell that is read behind statements.
+fn read_behind(
+    alloc: Global,
+    statements: Seq<CoreTree>,
+    place: Location,
+) -> Result<Valued, AllocError>
+    ensures { IfOk result (λ v. v ≡ valued statements (scalar place)) }
+{
     let value = scalar(alloc, place)?;
     Ok(Valued { statements, value })
+}
+
+/// A fresh cell, and statements that end with a value in it.
+#[derive(Drop)]
+struct Kept {
+    place: Location,
+    statements: Seq<CoreTree>,
+}
+
+/// A value in a fresh cell of this type.
+fn keep(cells: &mut Cells, ty: IntType, v: Valued) -> Result<Kept, AllocError>
+    ensures taken { OnOk result (so_far cells.new ≡ (fresh ty (so_far cells.old)).taken) }
+    ensures place { IfOk result (λ k. k.place ≡ (fresh ty (so_far cells.old)).made) }
+    ensures statements { IfOk result (λ k. k.statements
+        ≡ v.statements ++ set (fresh ty (so_far cells.old)).made v.value ∷ []) }
+{
+    let place = cells.fresh(ty)?;
+    let statements = value_in(cells.alloc(), place, v)?;
+    Ok(Kept { place, statements })
 }
 
 /// A value that is held in a fresh cell.
@@ -46,8 +100,9 @@ pub(crate) fn held(cells: &mut Cells, v: Valued) -> Result<Valued, AllocError>
         ≡ (held v (so_far cells.old)).taken) }
     ensures made { IfOk result (λ w. w ≡ (held v (so_far cells.old)).made) }
 {
-    let place = cells.fresh(type_of(&v.value))?;
-    kept_in(cells.alloc(), place, v)
+    let ty = type_of(&v.value);
+    let Kept { place, statements } = keep(cells, ty, v)?;
+    read_behind(cells.alloc(), statements, place)
 }
 
 /// A value that is held where a later one has statements.
@@ -76,19 +131,28 @@ pub(crate) fn operated(
 ) -> Result<Valued, AllocError>
     ensures { IfOk result (λ v. v ≡ operated operator left right) }
 {
-    let statements = joined(left.statements, right.statements)?;
-    let value = operator_value(alloc, operator, left.value, right.value)?;
-    Ok(Valued { statements, value })
+    let Valued {
+        statements,
+        value: left,
+    } = left;
+    let Valued {
+        statements: behind,
+        value: right,
+    } = right;
+    let value = operator_value(alloc, operator, left, right)?;
+    followed(Valued { statements, value }, behind)
 }
 
-/// Statements that end with the truth of a value in a cell.
-fn truth_in(alloc: Global, place: Location, v: Valued) -> Result<Seq<CoreTree>, AllocError>
-    ensures { IfOk result (λ trees. trees
-        ≡ v.statements ++ set place (truth_of v.value) ∷ []) }
+/// The truth of a value in a fresh cell.
+fn keep_truth(cells: &mut Cells, v: Valued) -> Result<Kept, AllocError>
+    ensures taken { OnOk result (so_far cells.new ≡ (fresh ty.I32 (so_far cells.old)).taken) }
+    ensures place { IfOk result (λ k. k.place ≡ (fresh ty.I32 (so_far cells.old)).made) }
+    ensures statements { IfOk result (λ k. k.statements
+        ≡ v.statements ++ set (fresh ty.I32 (so_far cells.old)).made (truth_of v.value) ∷ []) }
 {
-    let truth = truth_of(alloc, v.value)?;
-    let written = set(alloc, place, truth)?;
-    with(v.statements, written)
+    let Valued { statements, value } = v;
+    let value = truth_of(cells.alloc(), value)?;
+    keep(cells, IntType::I32, Valued { statements, value })
 }
 
 /// A small number in a cell.
@@ -99,21 +163,65 @@ fn number_in(alloc: Global, place: Location, number: u32) -> Result<Seq<CoreTree
     list_of(alloc, written)
 }
 
-/// A test, a choice by it that leaves a value in a cell, and the cell.
-fn chosen_into(
-    alloc: Global,
+/// The ends of a choice, which leave a value in a fresh cell.
+#[derive(Drop)]
+struct Ends {
     place: Location,
+    yes: Seq<CoreTree>,
+    no: Seq<CoreTree>,
+}
+
+/// A test, and a choice by it.
+fn chosen_behind(
+    alloc: Global,
     test: Valued,
     yes: Seq<CoreTree>,
     no: Seq<CoreTree>,
-) -> Result<Valued, AllocError>
-    ensures { IfOk result (λ v. v
-        ≡ valued (test.statements ++ choice test.value yes no ∷ []) (scalar place)) }
+) -> Result<Seq<CoreTree>, AllocError>
+    ensures { IfOk result (λ trees. trees
+        ≡ test.statements ++ choice test.value yes no ∷ []) }
 {
-    let choice = choice(alloc, test.value, yes, no)?;
-    let statements = with(test.statements, choice)?;
-    let value = scalar(alloc, place)?;
+    let Valued { statements, value } = test;
+    let choice = choice(alloc, value, yes, no)?;
+    with(statements, choice)
+}
+
+/// A test, a choice by it that leaves a value in a cell, and the cell.
+fn chosen_into(alloc: Global, test: Valued, ends: Ends) -> Result<Valued, AllocError>
+    ensures { IfOk result (λ v. v
+        ≡ valued (test.statements ++ choice test.value ends.yes ends.no ∷ [])
+        (scalar ends.place)) }
+{
+    let Ends { place, yes, no } = ends;
+    let statements = chosen_behind(alloc, test, yes, no)?;
+    read_behind(alloc, statements, place)
+}
+
+/// `left && right` without a fresh cell.
+fn both_purely(alloc: Global, left: Valued, right: Expr) -> Result<Valued, AllocError>
+    ensures { IfOk result (λ v. v ≡ valued left.statements (And left.value right)) }
+{
+    let Valued { statements, value } = left;
+    let value = both(alloc, value, right)?;
     Ok(Valued { statements, value })
+}
+
+/// The ends of `left && right`: the truth of the right side, and 0.
+fn both_ends(cells: &mut Cells, right: Valued) -> Result<Ends, AllocError>
+    ensures taken { OnOk result (so_far cells.new ≡ (fresh ty.I32 (so_far cells.old)).taken) }
+    ensures place { IfOk result (λ ends. ends.place ≡ (fresh ty.I32 (so_far cells.old)).made) }
+    ensures yes { IfOk result (λ ends. ends.yes ≡ right.statements
+        ++ set (fresh ty.I32 (so_far cells.old)).made (truth_of right.value) ∷ []) }
+    ensures no { IfOk result (λ ends. ends.no
+        ≡ set (fresh ty.I32 (so_far cells.old)).made (int 0) ∷ []) }
+{
+    let yes = keep_truth(cells, right)?;
+    let no = number_in(cells.alloc(), yes.place, 0)?;
+    Ok(Ends {
+        place: yes.place,
+        yes: yes.statements,
+        no,
+    })
 }
 
 /// `left && right`.
@@ -122,18 +230,38 @@ fn both_hold(cells: &mut Cells, left: Valued, right: Valued) -> Result<Valued, A
         ≡ (both_hold left right (so_far cells.old)).taken) }
     ensures made { IfOk result (λ v. v ≡ (both_hold left right (so_far cells.old)).made) }
 {
-    let alloc = cells.alloc();
     if is_pure(&right) {
-        let value = both(alloc, left.value, right.value)?;
-        return Ok(Valued {
-            statements: left.statements,
-            value,
-        });
+        return both_purely(cells.alloc(), left, value_of(right));
     }
-    let place = cells.fresh(IntType::I32)?;
-    let yes = truth_in(alloc, place, right)?;
-    let no = number_in(alloc, place, 0)?;
-    chosen_into(alloc, place, left, yes, no)
+    let ends = both_ends(cells, right)?;
+    chosen_into(cells.alloc(), left, ends)
+}
+
+/// `left || right` without a fresh cell.
+fn one_purely(alloc: Global, left: Valued, right: Expr) -> Result<Valued, AllocError>
+    ensures { IfOk result (λ v. v ≡ valued left.statements (Or left.value right)) }
+{
+    let Valued { statements, value } = left;
+    let value = either(alloc, value, right)?;
+    Ok(Valued { statements, value })
+}
+
+/// The ends of `left || right`: 1, and the truth of the right side.
+fn one_ends(cells: &mut Cells, right: Valued) -> Result<Ends, AllocError>
+    ensures taken { OnOk result (so_far cells.new ≡ (fresh ty.I32 (so_far cells.old)).taken) }
+    ensures place { IfOk result (λ ends. ends.place ≡ (fresh ty.I32 (so_far cells.old)).made) }
+    ensures yes { IfOk result (λ ends. ends.yes
+        ≡ set (fresh ty.I32 (so_far cells.old)).made (int 1) ∷ []) }
+    ensures no { IfOk result (λ ends. ends.no ≡ right.statements
+        ++ set (fresh ty.I32 (so_far cells.old)).made (truth_of right.value) ∷ []) }
+{
+    let no = keep_truth(cells, right)?;
+    let yes = number_in(cells.alloc(), no.place, 1)?;
+    Ok(Ends {
+        place: no.place,
+        yes,
+        no: no.statements,
+    })
 }
 
 /// `left || right`.
@@ -142,18 +270,11 @@ fn one_holds(cells: &mut Cells, left: Valued, right: Valued) -> Result<Valued, A
         ≡ (one_holds left right (so_far cells.old)).taken) }
     ensures made { IfOk result (λ v. v ≡ (one_holds left right (so_far cells.old)).made) }
 {
-    let alloc = cells.alloc();
     if is_pure(&right) {
-        let value = either(alloc, left.value, right.value)?;
-        return Ok(Valued {
-            statements: left.statements,
-            value,
-        });
+        return one_purely(cells.alloc(), left, value_of(right));
     }
-    let place = cells.fresh(IntType::I32)?;
-    let yes = number_in(alloc, place, 1)?;
-    let no = truth_in(alloc, place, right)?;
-    chosen_into(alloc, place, left, yes, no)
+    let ends = one_ends(cells, right)?;
+    chosen_into(cells.alloc(), left, ends)
 }
 
 /// `left operator right` in a chain.
@@ -181,30 +302,36 @@ pub fn linked(
 pub fn signed(alloc: Global, operator: UnaryOperator, v: Valued) -> Result<Valued, AllocError>
     ensures { IfOk result (λ w. w ≡ signed operator v) }
 {
-    let value = signed_value(alloc, operator, v.value)?;
-    Ok(Valued {
-        statements: v.statements,
-        value,
-    })
+    let Valued { statements, value } = v;
+    let value = signed_value(alloc, operator, value)?;
+    Ok(Valued { statements, value })
 }
 
 /// A value converted to a type.
 pub fn cast_to(alloc: Global, ty: IntType, v: Valued) -> Result<Valued, AllocError>
     ensures { IfOk result (λ w. w ≡ cast_to ty v) }
 {
-    let value = conv(alloc, v.value, ty)?;
-    Ok(Valued {
-        statements: v.statements,
-        value,
-    })
+    let Valued { statements, value } = v;
+    let value = conv(alloc, value, ty)?;
+    Ok(Valued { statements, value })
 }
 
-/// Statements that end with a value in a cell.
-fn value_in(alloc: Global, place: Location, v: Valued) -> Result<Seq<CoreTree>, AllocError>
-    ensures { IfOk result (λ trees. trees ≡ v.statements ++ set place v.value ∷ []) }
+/// The ends of a conditional: each value in one cell of this type.
+fn chosen_ends(cells: &mut Cells, ty: IntType, yes: Valued, no: Valued) -> Result<Ends, AllocError>
+    ensures taken { OnOk result (so_far cells.new ≡ (fresh ty (so_far cells.old)).taken) }
+    ensures place { IfOk result (λ ends. ends.place ≡ (fresh ty (so_far cells.old)).made) }
+    ensures yes { IfOk result (λ ends. ends.yes
+        ≡ yes.statements ++ set (fresh ty (so_far cells.old)).made yes.value ∷ []) }
+    ensures no { IfOk result (λ ends. ends.no
+        ≡ no.statements ++ set (fresh ty (so_far cells.old)).made no.value ∷ []) }
 {
-    let written = set(alloc, place, v.value)?;
-    with(v.statements, written)
+    let yes = keep(cells, ty, yes)?;
+    let no = value_in(cells.alloc(), yes.place, no)?;
+    Ok(Ends {
+        place: yes.place,
+        yes: yes.statements,
+        no,
+    })
 }
 
 /// A conditional with a fresh cell for its value.
@@ -219,23 +346,18 @@ fn chosen_by(
         ≡ (chosen_by ty test yes no (so_far cells.old)).taken) }
     ensures made { IfOk result (λ v. v ≡ (chosen_by ty test yes no (so_far cells.old)).made) }
 {
-    let alloc = cells.alloc();
-    let place = cells.fresh(ty)?;
-    let yes = value_in(alloc, place, yes)?;
-    let no = value_in(alloc, place, no)?;
-    chosen_into(alloc, place, test, yes, no)
+    let ends = chosen_ends(cells, ty, yes, no)?;
+    chosen_into(cells.alloc(), test, ends)
 }
 
 /// A conditional without a fresh cell.
-fn chosen_purely(alloc: Global, test: Valued, yes: Valued, no: Valued) -> Result<Valued, AllocError>
+fn chosen_purely(alloc: Global, test: Valued, yes: Expr, no: Expr) -> Result<Valued, AllocError>
     ensures { IfOk result (λ v. v
-        ≡ valued test.statements (chosen_value test.value yes.value no.value)) }
+        ≡ valued test.statements (chosen_value test.value yes no)) }
 {
-    let value = chosen_value(alloc, test.value, yes.value, no.value)?;
-    Ok(Valued {
-        statements: test.statements,
-        value,
-    })
+    let Valued { statements, value } = test;
+    let value = chosen_value(alloc, value, yes, no)?;
+    Ok(Valued { statements, value })
 }
 
 /// `test ? yes : no`.
@@ -250,7 +372,7 @@ pub fn chosen(
     ensures made { IfOk result (λ v. v ≡ (chosen test yes no (so_far cells.old)).made) }
 {
     if is_pure(&yes) && is_pure(&no) {
-        return chosen_purely(cells.alloc(), test, yes, no);
+        return chosen_purely(cells.alloc(), test, value_of(yes), value_of(no));
     }
     let ty = common(type_of(&yes.value), type_of(&no.value));
     chosen_by(cells, ty, test, yes, no)
@@ -263,10 +385,10 @@ pub fn dropped_value(cells: &mut Cells, v: Valued) -> Result<Seq<CoreTree>, Allo
     ensures made { IfOk result (λ trees. trees ≡ (dropped_value v (so_far cells.old)).made) }
 {
     if is_constant(&v.value) {
-        return Ok(v.statements);
+        return Ok(statements_of(v));
     }
     let kept = held(cells, v)?;
-    Ok(kept.statements)
+    Ok(statements_of(kept))
 }
 
 /// An index that stays as it is.

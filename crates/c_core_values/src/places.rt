@@ -1,23 +1,24 @@
 //! Assignments, from the place that is assigned to on (`c_core_rules`, `specs/Places.antt`). Proved
 //! by the checker alone.
-ghost use Rattle.std.specs.Prelude.{◌≡◌, IfOk, OnOk};
+ghost use Rattle.std.specs.Prelude.{◌≡◌, ◌∷◌, ◌++◌, [], IfOk, OnOk};
 ghost use Rattle.c_rules.specs.Counts.{operator_of};
-ghost use Rattle.c_core_rules.specs.Trees.{write, pure};
+ghost use Rattle.c_core_rules.specs.Trees.{write, pure, valued};
 ghost use Rattle.c_core_rules.specs.Values.{element, int};
-ghost use Rattle.c_core_rules.specs.Acts.{operated};
+ghost use Rattle.c_core_rules.specs.Acts.{operated, held, held_before};
 ghost use Rattle.c_core_rules.specs.Places.{written, set_scalar, fixed_if, set_element, assigned};
 ghost use Rattle.c_core_rules.specs.Places.{updated_at};
 ghost use Rattle.c_core_rules.specs.Places.{updated, changed, step_operator, incremented};
 ghost use Rattle.c_core_rules.specs.Places.{stepped_at, stepped};
 ghost use Rattle.c_core_values.specs.Found.{so_far};
 
-use crate::acts::{fixed, held, held_before, operated};
+use crate::acts::{fixed, followed, held, held_before, operated, statements_of};
 use crate::cells::Cells;
 use crate::trees::{joined, pure, with, write};
 use crate::values::{element, int};
-use c_core_rules::{Location, Place, Valued};
+use c_core_rules::{CoreTree, Location, Place, Valued};
 use c_symbols::{AssignmentOperator, BinaryOperator, StepOperator};
 use cpa_expr::{Expr, copy};
+use cpa_ints::Seq;
 use std::alloc::{AllocError, Global};
 
 /// The operator that an assignment does before it writes.
@@ -47,15 +48,79 @@ fn element_again(alloc: Global, place: Location, index: &Expr) -> Result<Expr, A
     element(alloc, place, index)
 }
 
+/// An index, and the place that it names, read.
+#[derive(Drop)]
+struct Indexed {
+    index: Expr,
+    read: Expr,
+}
+
+/// What an index names.
+fn read_at(alloc: Global, place: Location, index: Expr) -> Result<Indexed, AllocError>
+    ensures index { IfOk result (λ t. t.index ≡ index) }
+    ensures read { IfOk result (λ t. t.read ≡ element place index) }
+{
+    let read = element_again(alloc, place, &index)?;
+    Ok(Indexed { index, read })
+}
+
+/// A write to a place behind the statements of the value.
+fn write_behind(
+    alloc: Global,
+    place: Location,
+    index: Expr,
+    v: Valued,
+) -> Result<Seq<CoreTree>, AllocError>
+    ensures { IfOk result (λ trees. trees ≡ v.statements ++ write place index v.value ∷ []) }
+{
+    let Valued { statements, value } = v;
+    let tree = write(alloc, place, index, value)?;
+    with(statements, tree)
+}
+
+/// A write to what an index names behind the statements of the value.
+fn written_to(
+    alloc: Global,
+    place: Location,
+    indexed: Indexed,
+    v: Valued,
+) -> Result<Valued, AllocError>
+    ensures { IfOk result (λ w. w
+        ≡ valued (v.statements ++ write place indexed.index v.value ∷ []) indexed.read) }
+{
+    let Indexed { index, read } = indexed;
+    let statements = write_behind(alloc, place, index, v)?;
+    Ok(Valued {
+        statements,
+        value: read,
+    })
+}
+
+/// A write to an element behind the statements of the value.
+fn written_at(alloc: Global, place: Location, index: Expr, v: Valued) -> Result<Valued, AllocError>
+    ensures { IfOk result (λ w. w
+        ≡ valued (v.statements ++ write place index v.value ∷ []) (element place index)) }
+{
+    let indexed = read_at(alloc, place, index)?;
+    written_to(alloc, place, indexed, v)
+}
+
+/// A value with more statements in front of its own.
+fn preceded(front: Seq<CoreTree>, v: Valued) -> Result<Valued, AllocError>
+    ensures { IfOk result (λ w. w ≡ valued (front ++ v.statements) v.value) }
+{
+    let Valued { statements, value } = v;
+    let statements = joined(front, statements)?;
+    Ok(Valued { statements, value })
+}
+
 /// A write to a place behind the statements of its index and of the value.
 fn written(alloc: Global, place: Location, index: Valued, v: Valued) -> Result<Valued, AllocError>
     ensures { IfOk result (λ w. w ≡ written place index v) }
 {
-    let value = element_again(alloc, place, &index.value)?;
-    let tree = write(alloc, place, index.value, v.value)?;
-    let behind = with(v.statements, tree)?;
-    let statements = joined(index.statements, behind)?;
-    Ok(Valued { statements, value })
+    let Valued { statements, value } = index;
+    let behind = written_at(alloc, place, value, v)?;
+    preceded(statements, behind)
 }
 
 /// A scalar that is set.
@@ -78,6 +143,45 @@ pub fn fixed_if(cells: &mut Cells, fixes: bool, index: Valued) -> Result<Valued,
     }
 }
 
+/// An index behind which more statements stand, fixed where that is wanted.
+fn fixed_behind(
+    cells: &mut Cells,
+    fixes: bool,
+    index: Valued,
+    behind: Seq<CoreTree>,
+) -> Result<Valued, AllocError>
+    ensures taken { OnOk result (so_far cells.new
+        ≡ (fixed_if fixes (valued (index.statements ++ behind) index.value)
+        (so_far cells.old)).taken) }
+    ensures made { IfOk result (λ v. v
+        ≡ (fixed_if fixes (valued (index.statements ++ behind) index.value)
+        (so_far cells.old)).made) }
+{
+    let both = followed(index, behind)?;
+    fixed_if(cells, fixes, both)
+}
+
+/// An element that is set, its index held where the value has statements.
+fn set_held(
+    cells: &mut Cells,
+    keeps: bool,
+    place: Location,
+    index: Valued,
+    v: Valued,
+) -> Result<Valued, AllocError>
+    ensures taken { OnOk result (so_far cells.new
+        ≡ (fixed_if keeps (valued (index.statements ++ v.statements) index.value)
+        (so_far cells.old)).taken) }
+    ensures made { IfOk result (λ w. w ≡ written place
+        (fixed_if keeps (valued (index.statements ++ v.statements) index.value)
+        (so_far cells.old)).made (pure v.value)) }
+{
+    let Valued { statements, value } = v;
+    let kept = fixed_behind(cells, keeps, index, statements)?;
+    let alloc = cells.alloc();
+    written(alloc, place, kept, pure(alloc, value))
+}
+
 /// An element that is set; its index is fixed where the value is used.
 fn set_element(
     cells: &mut Cells,
@@ -91,14 +195,8 @@ fn set_element(
     ensures made { IfOk result (λ w. w
         ≡ (set_element keeps place index v (so_far cells.old)).made) }
 {
-    let alloc = cells.alloc();
     let first = held_before(cells, index, &v)?;
-    let both = Valued {
-        statements: joined(first.statements, v.statements)?,
-        value: first.value,
-    };
-    let kept = fixed_if(cells, keeps, both)?;
-    written(alloc, place, kept, pure(alloc, v.value))
+    set_held(cells, keeps, place, first, v)
 }
 
 /// l = v
@@ -114,6 +212,40 @@ fn assigned(cells: &mut Cells, keeps: bool, place: Place, v: Valued) -> Result<V
     }
 }
 
+/// What a place holds, held where a later value has statements.
+fn old_before(
+    cells: &mut Cells,
+    place: Location,
+    index: &Expr,
+    later: &Valued,
+) -> Result<Valued, AllocError>
+    ensures taken { OnOk result (so_far cells.new
+        ≡ (held_before (pure (element place index.now)) later.now (so_far cells.old)).taken) }
+    ensures made { IfOk result (λ v. v
+        ≡ (held_before (pure (element place index.now)) later.now (so_far cells.old)).made) }
+{
+    let alloc = cells.alloc();
+    let read = element_again(alloc, place, index)?;
+    held_before(cells, pure(alloc, read), later)
+}
+
+/// l operator v, the index fixed.
+fn new_value(
+    cells: &mut Cells,
+    operator: BinaryOperator,
+    place: Location,
+    index: &Expr,
+    v: Valued,
+) -> Result<Valued, AllocError>
+    ensures taken { OnOk result (so_far cells.new
+        ≡ (held_before (pure (element place index.now)) v (so_far cells.old)).taken) }
+    ensures made { IfOk result (λ w. w ≡ operated operator
+        (held_before (pure (element place index.now)) v (so_far cells.old)).made v) }
+{
+    let old = old_before(cells, place, index, &v)?;
+    operated(cells.alloc(), operator, old, v)
+}
+
 /// l operator= v, the index fixed.
 fn updated_at(
     cells: &mut Cells,
@@ -127,11 +259,8 @@ fn updated_at(
     ensures made { IfOk result (λ w. w
         ≡ (updated_at operator place index v (so_far cells.old)).made) }
 {
-    let alloc = cells.alloc();
-    let read = element_again(alloc, place, &index.value)?;
-    let old = held_before(cells, pure(alloc, read), &v)?;
-    let new = operated(alloc, operator, old, v)?;
-    written(alloc, place, index, new)
+    let new = new_value(cells, operator, place, &index.value, v)?;
+    written(cells.alloc(), place, index, new)
 }
 
 /// The same of any place.
@@ -197,6 +326,43 @@ pub fn incremented(
     updated(cells, step_operator(operator), place, one)
 }
 
+/// What a place holds, in a fresh cell behind statements.
+fn old_held(
+    cells: &mut Cells,
+    place: Location,
+    statements: Seq<CoreTree>,
+    index: &Expr,
+) -> Result<Valued, AllocError>
+    ensures taken { OnOk result (so_far cells.new
+        ≡ (held (valued statements (element place index.now)) (so_far cells.old)).taken) }
+    ensures made { IfOk result (λ v. v
+        ≡ (held (valued statements (element place index.now)) (so_far cells.old)).made) }
+{
+    let value = element_again(cells.alloc(), place, index)?;
+    held(cells, Valued { statements, value })
+}
+
+/// A place that is stepped behind its old value.
+fn stepped_behind(
+    cells: &mut Cells,
+    operator: StepOperator,
+    place: Location,
+    old: Valued,
+    index: Expr,
+) -> Result<Valued, AllocError>
+    ensures taken { OnOk result (so_far cells.new ≡ (updated_at (step_operator operator) place
+        (pure index) (pure (int 1)) (so_far cells.old)).taken) }
+    ensures made { IfOk result (λ v. v ≡ valued (old.statements
+        ++ (updated_at (step_operator operator) place (pure index) (pure (int 1))
+        (so_far cells.old)).made.statements) old.value) }
+{
+    let alloc = cells.alloc();
+    let index = pure(alloc, index);
+    let one = pure(alloc, int(1));
+    let new = updated_at(cells, step_operator(operator), place, index, one)?;
+    followed(old, statements_of(new))
+}
+
 /// l++ and l--, the index fixed: the value is the old one, in a fresh cell.
 fn stepped_at(
     cells: &mut Cells,
@@ -209,20 +375,9 @@ fn stepped_at(
     ensures made { IfOk result (λ v. v
         ≡ (stepped_at operator place index (so_far cells.old)).made) }
 {
-    let alloc = cells.alloc();
-    let read = Valued {
-        statements: index.statements,
-        value: element_again(alloc, place, &index.value)?,
-    };
-    let old = held(cells, read)?;
-    let index = pure(alloc, index.value);
-    let one = pure(alloc, int(1));
-    let new = updated_at(cells, step_operator(operator), place, index, one)?;
-    let statements = joined(old.statements, new.statements)?;
-    Ok(Valued {
-        statements,
-        value: old.value,
-    })
+    let Valued { statements, value } = index;
+    let old = old_held(cells, place, statements, &value)?;
+    stepped_behind(cells, operator, place, old, value)
 }
 
 /// The same of any place.

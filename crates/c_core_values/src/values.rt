@@ -46,6 +46,14 @@ pub(crate) fn conv(alloc: Global, v: Expr, ty: IntType) -> Result<Expr, AllocErr
     }
 }
 
+/// A value converted to a type, as a part of another.
+fn converted(alloc: Global, v: Expr, ty: IntType) -> Result<Boxed<Expr>, AllocError>
+    ensures { IfOk result (λ e. e ≡ conv v ty) }
+{
+    let v = conv(alloc, v, ty)?;
+    Boxed::new(alloc, v)
+}
+
 /// A value with its type promoted.
 fn promote(alloc: Global, v: Expr) -> Result<Expr, AllocError>
     ensures { IfOk result (λ e. e ≡ promote v) }
@@ -125,9 +133,10 @@ fn shift_value(
         ≡ node_of operator (promoted (type_of left)) (promote left) (promote right)) }
 {
     let ty = promoted(type_of(&left));
-    let left = Boxed::new(alloc, promote(alloc, left)?)?;
-    let right = Boxed::new(alloc, promote(alloc, right)?)?;
-    Ok(node_of(operator, ty, left, right))
+    let right_ty = promoted(type_of(&right));
+    let left = converted(alloc, left, ty);
+    let right = converted(alloc, right, right_ty);
+    Ok(node_of(operator, ty, left?, right?))
 }
 
 /// An operator on two operands of this type after conversion.
@@ -140,9 +149,9 @@ fn common_value(
 ) -> Result<Expr, AllocError>
     ensures { IfOk result (λ e. e ≡ node_of operator ty (conv left ty) (conv right ty)) }
 {
-    let left = Boxed::new(alloc, conv(alloc, left, ty)?)?;
-    let right = Boxed::new(alloc, conv(alloc, right, ty)?)?;
-    Ok(node_of(operator, ty, left, right))
+    let left = converted(alloc, left, ty);
+    let right = converted(alloc, right, ty);
+    Ok(node_of(operator, ty, left?, right?))
 }
 
 /// `left operator right`.
@@ -167,7 +176,7 @@ fn unary(alloc: Global, op: UnOp, v: Expr) -> Result<Expr, AllocError>
     ensures { IfOk result (λ e. e ≡ Un op (promoted (type_of v)) (promote v)) }
 {
     let ty = promoted(type_of(&v));
-    let arg = Boxed::new(alloc, promote(alloc, v)?)?;
+    let arg = converted(alloc, v, ty)?;
     Ok(Expr::Un { op, ty, arg })
 }
 
@@ -213,10 +222,15 @@ fn common_choice(
 ) -> Result<Expr, AllocError>
     ensures { IfOk result (λ e. e ≡ Cond ty test (conv yes ty) (conv no ty)) }
 {
-    let test = Boxed::new(alloc, test)?;
-    let yes = Boxed::new(alloc, conv(alloc, yes, ty)?)?;
-    let no = Boxed::new(alloc, conv(alloc, no, ty)?)?;
-    Ok(Expr::Cond { ty, test, yes, no })
+    let test = Boxed::new(alloc, test);
+    let yes = converted(alloc, yes, ty);
+    let no = converted(alloc, no, ty);
+    Ok(Expr::Cond {
+        ty,
+        test: test?,
+        yes: yes?,
+        no: no?,
+    })
 }
 
 /// `test ? yes : no`.
@@ -236,18 +250,24 @@ pub(crate) fn chosen_value(
 pub(crate) fn both(alloc: Global, left: Expr, right: Expr) -> Result<Expr, AllocError>
     ensures { IfOk result (λ e. e ≡ And left right) }
 {
-    let left = Boxed::new(alloc, left)?;
-    let right = Boxed::new(alloc, right)?;
-    Ok(Expr::And { left, right })
+    let left = Boxed::new(alloc, left);
+    let right = Boxed::new(alloc, right);
+    Ok(Expr::And {
+        left: left?,
+        right: right?,
+    })
 }
 
 /// One of two holds.
 pub(crate) fn either(alloc: Global, left: Expr, right: Expr) -> Result<Expr, AllocError>
     ensures { IfOk result (λ e. e ≡ Or left right) }
 {
-    let left = Boxed::new(alloc, left)?;
-    let right = Boxed::new(alloc, right)?;
-    Ok(Expr::Or { left, right })
+    let left = Boxed::new(alloc, left);
+    let right = Boxed::new(alloc, right);
+    Ok(Expr::Or {
+        left: left?,
+        right: right?,
+    })
 }
 
 /// A place that is read.
