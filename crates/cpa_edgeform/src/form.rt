@@ -11,7 +11,7 @@ use crate::parts::Parts;
 use crate::settling::push_copies;
 use crate::{adding, beginning, reading};
 use cpa_expr::Store;
-use cpa_ints::{IntType, Seq};
+use cpa_ints::Seq;
 use cpa_model::{Cfa, Elem};
 use cpa_query::Query;
 use cpa_renaming::number_at;

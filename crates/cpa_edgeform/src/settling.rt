@@ -1,7 +1,7 @@
 //! Places at which expressions can be read, `settled` of specs/Drafts of `cpa_edge_rules`.
 //! Proved with `proofs/settling/`.
 
-ghost use Rattle.std.specs.Prelude.{◌≡◌, ◌++◌, ◌∷◌, [], map, length, IfOk, OnOk};
+ghost use Rattle.std.specs.Prelude.{◌≡◌, ◌++◌, map, length, IfOk, OnOk};
 ghost use Rattle.std.specs.List.{list_all};
 ghost use Rattle.cpa_renaming.specs.Renaming.{is_whole};
 ghost use Rattle.cpa_query.specs.Queries.{reads};
@@ -23,18 +23,6 @@ fn are_whole(asked: &[(Expr, bool)], places: &[Place]) -> bool
     asked.iter().all(|one| is_whole(&one.0, places))
 }
 
-/// A copy of an expression with its truth.
-fn copied_one(
-    alloc: Global,
-    out: &mut Seq<(Expr, bool)>,
-    e: &Expr,
-    holds: bool,
-) -> Result<(), AllocError>
-    ensures { OnOk result (out.new ≡ out.old ++ (e.now, holds) ∷ []) }
-{
-    out.push((copy(alloc, e)?, holds))
-}
-
 /// Adds copies of expressions with their truths.
 pub(crate) fn push_copies(
     alloc: Global,
@@ -44,7 +32,7 @@ pub(crate) fn push_copies(
     ensures { OnOk result (out.new ≡ out.old ++ asked.now) }
 {
     for one in asked {
-        copied_one(alloc, out, &one.0, one.1)?;
+        out.push((copy(alloc, &one.0)?, one.1))?;
     }
     Ok(())
 }

@@ -1,7 +1,7 @@
 //! Facts on a store as tests, and the denials of these, by specs/Tests of `cpa_edge_rules`.
 //! Proved with `proofs/testing/`.
 
-ghost use Rattle.std.specs.Prelude.{◌≡◌, ◌++◌, ◌∷◌, [], true, map, IfOk, OnOk};
+ghost use Rattle.std.specs.Prelude.{◌≡◌, ◌++◌, true, map, IfOk, OnOk};
 ghost use Rattle.std.specs.List.{flat_map};
 ghost use Rattle.cpa_expr.specs.Cells.{scalar_read};
 ghost use Rattle.cpa_expr.specs.declared.tree.CmpOp.TheVariants as cmp;
@@ -123,25 +123,13 @@ fn failure(alloc: Global, e: &Expr, holds: bool) -> Result<Expr, AllocError>
     either(alloc, trap, other)
 }
 
-/// Adds the denial of a test.
-fn push_denial(
-    alloc: Global,
-    out: &mut Seq<(Expr, bool)>,
-    e: &Expr,
-    holds: bool,
-) -> Result<(), AllocError>
-    ensures { OnOk result (out.new ≡ out.old ++ denied (e.now, holds) ∷ []) }
-{
-    out.push((failure(alloc, e, holds)?, true))
-}
-
 /// The denials of tests.
 fn denials(alloc: Global, tests: &[(Expr, bool)]) -> Result<Seq<(Expr, bool)>, AllocError>
     ensures { IfOk result (λ all. all ≡ map denied tests.now) }
 {
     let mut all = Seq::new(alloc);
     for one in tests {
-        push_denial(alloc, &mut all, &one.0, one.1)?;
+        all.push((failure(alloc, &one.0, one.1)?, true))?;
     }
     Ok(all)
 }

@@ -42,22 +42,15 @@ fn fact_weight(places: &[Place], fact: &Fact) -> u64
     }
 }
 
-/// The weight of facts.
-fn facts_weight(places: &[Place], facts: &[Fact]) -> u64
-    ensures { result ≡ min (sum (map (fact_weight places.now) facts.now)) u64.MAX }
-{
-    let mut total = 0u64;
-    for fact in facts {
-        total = total.saturating_add(fact_weight(places, fact));
-    }
-    total
-}
-
 /// The weight of an element.
 pub(crate) fn elem_weight(places: &[Place], elem: &Elem) -> u64
     ensures { result ≡ min (elem_weight places.now elem.now) u64.MAX }
 {
-    facts_weight(places, elem.facts.as_slice())
+    let mut total = 0u64;
+    for fact in elem.facts.as_slice() {
+        total = total.saturating_add(fact_weight(places, fact));
+    }
+    total
 }
 
 /// The weight of elements.

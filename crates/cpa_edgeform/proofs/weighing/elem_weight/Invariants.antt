@@ -2,8 +2,8 @@
 use Rattle.std.proofs.Common.{◌≡◌, ◌-◌, ◌^◌, min, take}
 use Rattle.std.specs.List.{sum_by}
 use Rattle.cpa_edge_rules.specs.Forms.{fact_weight}
-use Rattle.cpa_edgeform.proofs.weighing.facts_weight.Given as goal
+use Rattle.cpa_edgeform.proofs.weighing.elem_weight.Given as goal
 
 abbrev pub invariant-loop-fact : goal.invariant-loop-fact
 invariant-loop-fact l =
-    l.total ≡ min (sum_by (fact_weight l.places) (take l.fact-index l.facts)) (2 ^ 64 - 1)
+    l.total ≡ min (sum_by (fact_weight l.places) (take l.fact-index l.fact-items)) (2 ^ 64 - 1)
