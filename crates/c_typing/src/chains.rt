@@ -72,26 +72,20 @@ pub(crate) fn read_links(
 }
 
 /// A chain of what is read of its operands.
-pub(crate) fn chain(
-    alloc: Global,
-    head: TypedExpression,
-    links: Links,
-    place: u32,
-) -> Result<Read, AllocError>
-    ensures part { IfOk result (λ r. r.part ≡ plain place (value links.ty)) }
-    ensures typed { IfOk result (λ r. r.typed
-        ≡ typed.Chain head links.typed.items (value links.ty) place) }
+pub(crate) fn chain(head: Boxed<TypedExpression>, links: Links, place: u32) -> Read
+    ensures part { result.part ≡ plain place (value links.ty) }
+    ensures typed { result.typed ≡ typed.Chain head links.typed.items (value links.ty) place }
 {
     let kind = as_kind(links.ty);
-    Ok(Read {
+    Read {
         part: Part::plain(place, kind),
         typed: TypedExpression::Chain {
-            first: Boxed::new(alloc, head)?,
+            first: head,
             rest: Seq::from_vec(links.typed),
             kind,
             place,
         },
-    })
+    }
 }
 
 /// The type of items, and the typed items.

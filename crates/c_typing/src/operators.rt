@@ -9,7 +9,7 @@ ghost use Rattle.c_rules.specs.Expressions.{plain};
 ghost use Rattle.c_typing.specs.Read.{part_of, typed_of, faults_of, calls_of};
 
 use crate::combine::unary_kind;
-use crate::read::{Read, read_expression, read_used};
+use crate::read::{Read, ReadPart, read_expression, read_used};
 use c_calls::Call;
 use c_lexer::TextFault;
 use c_names::{Names, Survey};
@@ -186,53 +186,46 @@ pub(crate) fn read_cast(
 }
 
 /// A conditional of what is read of its parts.
-pub(crate) fn conditional(
-    alloc: Global,
-    test: Read,
-    yes: Read,
-    no: Read,
-    place: u32,
-) -> Result<Read, AllocError>
-    ensures part { IfOk result (λ r. r.part
-        ≡ plain place (with_value (ends_kind yes.part.kind no.part.kind) test.part.kind)) }
-    ensures typed { IfOk result (λ r. r.typed ≡ typed.Conditional test.typed yes.typed no.typed
-        (with_value (ends_kind yes.part.kind no.part.kind) test.part.kind) place) }
+pub(crate) fn conditional(test: ReadPart, yes: ReadPart, no: ReadPart, place: u32) -> Read
+    ensures part { result.part
+        ≡ plain place (with_value (ends_kind yes.part.kind no.part.kind) test.part.kind) }
+    ensures typed { result.typed ≡ typed.Conditional test.typed yes.typed no.typed
+        (with_value (ends_kind yes.part.kind no.part.kind) test.part.kind) place }
 {
     let kind = with_value(ends_kind(yes.part.kind, no.part.kind), test.part.kind);
-    Ok(Read {
+    Read {
         part: Part::plain(place, kind),
         typed: TypedExpression::Conditional {
-            test: Boxed::new(alloc, test.typed)?,
-            yes: Boxed::new(alloc, yes.typed)?,
-            no: Boxed::new(alloc, no.typed)?,
+            test: test.typed,
+            yes: yes.typed,
+            no: no.typed,
             kind,
             place,
         },
-    })
+    }
 }
 
 /// An assignment of what is read of its sides.
 pub(crate) fn assignment(
-    alloc: Global,
-    left: Read,
+    left: ReadPart,
     operator: AssignmentOperator,
-    right: Read,
+    right: ReadPart,
     place: u32,
-) -> Result<Read, AllocError>
-    ensures part { IfOk result (λ r. r.part
-        ≡ plain place (with_value (changed_kind left.part) right.part.kind)) }
-    ensures typed { IfOk result (λ r. r.typed ≡ typed.Assignment left.typed operator right.typed
-        (with_value (changed_kind left.part) right.part.kind) place) }
+) -> Read
+    ensures part { result.part
+        ≡ plain place (with_value (changed_kind left.part) right.part.kind) }
+    ensures typed { result.typed ≡ typed.Assignment left.typed operator right.typed
+        (with_value (changed_kind left.part) right.part.kind) place }
 {
     let kind = with_value(left.part.changed_kind(), right.part.kind);
-    Ok(Read {
+    Read {
         part: Part::plain(place, kind),
         typed: TypedExpression::Assignment {
-            left: Boxed::new(alloc, left.typed)?,
+            left: left.typed,
             operator,
-            right: Boxed::new(alloc, right.typed)?,
+            right: right.typed,
             kind,
             place,
         },
-    })
+    }
 }

@@ -302,29 +302,24 @@ pub(crate) fn read_suffixes(
 }
 
 /// A postfix expression of what is read of its base and of its suffixes.
-pub(crate) fn postfix(
-    alloc: Global,
-    base: TypedExpression,
-    suffixes: Suffixes,
-    place: u32,
-) -> Result<Read, AllocError>
-    ensures part { IfOk result (λ r. r.part ≡ record {
+pub(crate) fn postfix(base: Boxed<TypedExpression>, suffixes: Suffixes, place: u32) -> Read
+    ensures part { result.part ≡ record {
       place = place;
       kind = suffixes.part.kind;
       form = suffixes.part.form;
-    }) }
-    ensures typed { IfOk result (λ r. r.typed ≡ typed.Postfix base suffixes.typed.items place) }
+    } }
+    ensures typed { result.typed ≡ typed.Postfix base suffixes.typed.items place }
 {
-    Ok(Read {
+    Read {
         part: Part {
             place,
             kind: suffixes.part.kind,
             form: suffixes.part.form,
         },
         typed: TypedExpression::Postfix {
-            base: Boxed::new(alloc, base)?,
+            base,
             suffixes: Seq::from_vec(suffixes.typed),
             place,
         },
-    })
+    }
 }

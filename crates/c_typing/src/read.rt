@@ -16,6 +16,7 @@ use c_lexer::TextFault;
 use c_names::{Names, Survey};
 use c_rules::{Part, Role, TypedExpression, note_paired, note_taken, value_kind};
 use c_tree::Expression;
+use cpa_ints::Boxed;
 use std::alloc::{AllocError, Global};
 
 /// What the rules see of an expression, and its typed tree.
@@ -49,6 +50,38 @@ pub fn read_used(
     let read = read_expression(alloc, survey, names, caller, e, first, calls)?;
     note_taken(first, role, read.part);
     Ok(read)
+}
+
+/// What the rules see of a part of an expression, and its typed tree.
+#[derive(Drop)]
+pub(crate) struct ReadPart {
+    pub(crate) part: Part,
+    pub(crate) typed: Boxed<TypedExpression>,
+}
+
+/// Reads a part of an expression in a role.
+#[cycle(read)]
+fn read_part(
+    alloc: Global,
+    survey: &Survey,
+    names: &Names,
+    caller: u32,
+    role: Role,
+    e: &Expression,
+    first: &mut Option<TextFault>,
+    calls: &mut Vec<Call>,
+) -> Result<ReadPart, AllocError>
+    ensures part { IfOk result (λ r. r.part ≡ part_of survey.now names.now e.now) }
+    ensures typed { IfOk result (λ r. r.typed ≡ typed_of survey.now names.now e.now) }
+    ensures first { OnOk result (first.new
+        ≡ first_with first.old (role_faults survey.now names.now role e.now)) }
+    ensures calls { OnOk result (calls.new.items
+        ≡ calls.old.items ++ role_calls survey.now names.now caller role e.now) }
+{
+    let read = read_used(alloc, survey, names, caller, role, e, first, calls)?;
+    let part = read.part;
+    let typed = Boxed::new(alloc, read.typed)?;
+    Ok(ReadPart { part, typed })
 }
 
 /// Reads an expression, in the body of this number: holds its first fault, and notes its calls.
@@ -92,11 +125,11 @@ pub fn read_expression(
             place,
         } => {
             let base = read_expression(alloc, survey, names, caller, base.get(), first, calls)?;
+            let part = base.part;
+            let base = Boxed::new(alloc, base.typed)?;
             let suffixes = suffixes.as_slice();
-            let read = read_suffixes(
-                alloc, survey, names, caller, base.part, suffixes, first, calls,
-            )?;
-            postfix(alloc, base.typed, read, *place)
+            let read = read_suffixes(alloc, survey, names, caller, part, suffixes, first, calls)?;
+            Ok(postfix(base, read, *place))
         }
         Expression::PrefixStep {
             operator,
@@ -137,7 +170,7 @@ pub fn read_expression(
             place,
         } => {
             let head = head.get();
-            let head = read_used(
+            let head = read_part(
                 alloc,
                 survey,
                 names,
@@ -150,7 +183,7 @@ pub fn read_expression(
             let left = value_kind(head.part.kind);
             let rest = rest.as_slice();
             let links = read_links(alloc, survey, names, caller, left, rest, first, calls)?;
-            chain(alloc, head.typed, links, *place)
+            Ok(chain(head.typed, links, *place))
         }
         Expression::Conditional {
             test,
@@ -159,7 +192,7 @@ pub fn read_expression(
             place,
         } => {
             let test = test.get();
-            let test = read_used(
+            let test = read_part(
                 alloc,
                 survey,
                 names,
@@ -170,7 +203,7 @@ pub fn read_expression(
                 calls,
             )?;
             let yes = yes.get();
-            let yes = read_used(
+            let yes = read_part(
                 alloc,
                 survey,
                 names,
@@ -181,7 +214,7 @@ pub fn read_expression(
                 calls,
             )?;
             let no = no.get();
-            let no = read_used(
+            let no = read_part(
                 alloc,
                 survey,
                 names,
@@ -192,7 +225,7 @@ pub fn read_expression(
                 calls,
             )?;
             note_paired(first, yes.part, no.part);
-            conditional(alloc, test, yes, no, *place)
+            Ok(conditional(test, yes, no, *place))
         }
         Expression::Assignment {
             left,
@@ -201,7 +234,7 @@ pub fn read_expression(
             place,
         } => {
             let left = left.get();
-            let left = read_used(
+            let left = read_part(
                 alloc,
                 survey,
                 names,
@@ -212,7 +245,7 @@ pub fn read_expression(
                 calls,
             )?;
             let right = right.get();
-            let right = read_used(
+            let right = read_part(
                 alloc,
                 survey,
                 names,
@@ -222,7 +255,7 @@ pub fn read_expression(
                 first,
                 calls,
             )?;
-            assignment(alloc, left, *operator, right, *place)
+            Ok(assignment(left, *operator, right, *place))
         }
         Expression::Comma { items, place } => {
             read_comma(
