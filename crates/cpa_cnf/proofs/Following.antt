@@ -1,14 +1,11 @@
 -- The chain of a line, followed in the table of marks.
-use Rattle.std.proofs.Common.{◌≡◌, ℕ, zero, suc, ◌+◌, ◌*◌, ◌<◌, ◌≤◌, List, [], ◌∷◌, ◌++◌, Bool}
-use Rattle.std.proofs.Common.{true, false, not, ◌&&◌, ◌||◌, ◌⊎◌, inl, inr, length, get_or, drop}
-use Rattle.std.proofs.Common.{take, refl, sym, ap, ◌∙◌, subst, arith, Some, None}
+use Rattle.std.proofs.Common.{◌≡◌, ℕ, ◌*◌, ◌<◌, List, [], ◌∷◌, Bool}
+use Rattle.std.proofs.Common.{true, false, not, ◌&&◌, ◌||◌, ◌⊎◌, inl, inr, length}
+use Rattle.std.proofs.Common.{refl, sym, ap, ◌∙◌, subst, arith, Some, None}
 use Rattle.std.specs.Prelude.{slice_index_or}
 use Rattle.std.specs.List.{AllByRecursion, list_any}
 use Rattle.std.proofs.lemmas.Bool.{or_cases, true≢false, false≢true, cases_Bool}
 use Rattle.std.specs.Cmp.{both_ways as both_true}
-use Rattle.std.proofs.lemmas.List.{take_more, get_or_default}
-use Rattle.std.proofs.lemmas.List.Recursion.{or_push}
-use Rattle.std.proofs.Math.Seq.{drop-cons}
 use Rattle.cpa_cnf.specs.declared.formula.Step.{Step}
 use Rattle.cpa_cnf.specs.declared.formula.Line.{Line}
 use Rattle.cpa_cnf.specs.Clauses.{has, IsClause}
@@ -21,88 +18,87 @@ use Rattle.cpa_cnf.specs.lemmas.Chains.{same_members, resolvent_unique, chain_un
 use Rattle.cpa_cnf.specs.lemmas.Chains.{union_keeps_second, ends_beyond, listed_marks, clash_same}
 use Rattle.cpa_cnf.specs.lemmas.Chains.{union_same}
 
--- After k steps the marked literals are those of a clause, from which the other steps give what the
--- chain gives.
-pub record IsFollowed (clauses : List (List ℕ)) (line : Line) (k : ℕ) (table : List Bool) : Type 0
-  where
-    pub clause : List ℕ
-    pub marked_as : IsMarkedAs table clause
-    pub onward : (c : List ℕ) → Gives clauses (slice_index_or clauses line.first []) line.steps c
-        → Gives clauses clause (drop k line.steps) c
-    pub back : (c : List ℕ) → Gives clauses clause (drop k line.steps) c
-        → Gives clauses (slice_index_or clauses line.first []) line.steps c
-    pub touched : AreTouched clauses line.first (take k line.steps) table
-
--- the clause of step k
+-- the clause of a step
 abbrev pub step_clause : List (List ℕ) → Step → List ℕ
 step_clause clauses step = slice_index_or clauses step.clause []
 
--- what is touched by one more step, and by a front of the steps
-pub touched_more : (cs : List (List ℕ)) (first : ℕ) (ss : List Step) (k : ℕ) (s : Step) (l : ℕ)
-    → k < length ss → s ≡ get_or ss k s
-    → is_touched cs first (take (k + 1) ss) l
-    ≡ (is_touched cs first (take k ss) l || has (step_clause cs s) l)
-touched_more cs first ss k s l below is =
-    ap (λ b. has (slice_index_or cs first []) l || b)
-    (ap (λ xs. list_any (λ (t : Step). has (step_clause cs t) l) xs) (take_more ss k s below
-    ∙ ap (λ t. take k ss ++ t ∷ []) (sym is))
-    ∙ or_push (λ xs. list_any (λ (t : Step). has (step_clause cs t) l) xs)
-    (λ (t : Step). has (step_clause cs t) l) refl (λ _ _. refl) (take k ss) s)
-    ∙ assoc (has (slice_index_or cs first []) l) _ _
+-- the literal stands in the clause of one of the steps
+abbrev pub is_named : List (List ℕ) → List Step → ℕ → Bool
+is_named clauses steps l = list_any (λ (step : Step). has (step_clause clauses step) l) steps
+
+-- steps that are the last ones of a line in range
+pub record AreLast (vars : ℕ) (clauses : List (List ℕ)) (line : Line) (steps : List Step) : Type 0
   where
-    assoc : (a b c : Bool) → (a || (b || c)) ≡ ((a || b) || c)
-    assoc true b c = refl
-    assoc false b c = refl
+    pub numbers : AllByRecursion (λ (step : Step). step.clause < length clauses) steps
+    pub pivots : AllByRecursion (λ (step : Step). step.pivot < vars) steps
+    pub named : (l : ℕ) → is_named clauses steps l ≡ true
+        → is_touched clauses line.first line.steps l ≡ true
 
-any_front : (test : Step → Bool) (k : ℕ) (ss : List Step) → list_any test (take k ss) ≡ true
-    → list_any test ss ≡ true
-any_front test zero ss h = absurd (false≢true h)
-any_front test (suc k) [] h = absurd (false≢true h)
-any_front test (suc k) (s ∷ ss) h =
-    elim (or_cases (test s) (list_any test (take k ss)) h) [
-      | inl e ↦ or_true_left (test s) (list_any test ss) e
-      | inr e ↦ or_true_right (test s) (list_any test ss) (any_front test k ss e)
-    ]
+pub all_last : (vars : ℕ) (cs : List (List ℕ)) (line : Line) → IsInRange vars cs line
+    → AreLast vars cs line line.steps
+all_last vars cs line range = record {
+  numbers = range.numbers;
+  pivots = range.pivots;
+  named = λ l h. or_true_right (has (slice_index_or cs line.first []) l) _ h;
+}
 
-pub touched_front : (cs : List (List ℕ)) (first k : ℕ) (ss : List Step) (l : ℕ)
-    → is_touched cs first (take k ss) l ≡ true → is_touched cs first ss l ≡ true
-touched_front cs first k ss l h =
-    elim (or_cases (has (slice_index_or cs first []) l)
-    (list_any (λ (s : Step). has (step_clause cs s) l) (take k ss)) h) [
-      | inl e ↦ or_true_left _ _ e
-      | inr e ↦ or_true_right (has (slice_index_or cs first []) l) _
-          (any_front (λ (s : Step). has (step_clause cs s) l) k ss e)
-    ]
+-- the first of the last steps, and those behind it
+pub record IsNext (vars : ℕ) (clauses : List (List ℕ)) (line : Line) (step : Step)
+    (steps : List Step) : Type 0 where
+  pub number : step.clause < length clauses
+  pub pivot : step.pivot < vars
+  pub named : (l : ℕ) → has (step_clause clauses step) l ≡ true
+      → is_touched clauses line.first line.steps l ≡ true
+  pub behind : AreLast vars clauses line steps
 
--- a step as a loop over the steps reads it
-abbrev pub no_step : Step
-no_step = record { pivot = 0; clause = 0 }
+pub next_of : (vars : ℕ) (cs : List (List ℕ)) (line : Line) (s : Step) (last ss : List Step)
+    → last ≡ s ∷ ss → AreLast vars cs line last → IsNext vars cs line s ss
+next_of vars cs line s last ss is are =
+    of (subst (λ (all : List Step). AreLast vars cs line all) is are)
+  where
+    of : AreLast vars cs line (s ∷ ss) → IsNext vars cs line s ss
+    of are = record {
+      number = are.numbers.0;
+      pivot = are.pivots.0;
+      named = λ l h. are.named l (or_true_left (has (step_clause cs s) l) (is_named cs ss l) h);
+      behind = record {
+        numbers = are.numbers.1;
+        pivots = are.pivots.1;
+        named = λ l h. are.named l (or_true_right (has (step_clause cs s) l) (is_named cs ss l) h);
+      };
+    }
 
-pub read_step : (items steps : List Step) (k : ℕ) → items ≡ steps → k < length items
-    → (k < length steps) × (get_or items k no_step ≡ get_or steps k (get_or items k no_step))
-read_step items steps k same below =
-    let inside : k < length steps = subst (λ (ss : List Step). k < length ss) same below in (
-      inside,
-      ap (λ (ss : List Step). get_or ss k no_step) same
-          ∙ get_or_default steps k no_step (get_or items k no_step) inside,
-    )
+-- Before the last steps the marked literals are those of a clause, from which these steps give what
+-- the chain gives.
+pub record IsFollowed (vars : ℕ) (clauses : List (List ℕ)) (line : Line) (steps : List Step)
+    (table : List Bool) : Type 0 where
+  pub last : AreLast vars clauses line steps
+  pub clause : List ℕ
+  pub marked_as : IsMarkedAs table clause
+  pub onward : (c : List ℕ) → Gives clauses (slice_index_or clauses line.first []) line.steps c
+      → Gives clauses clause steps c
+  pub back : (c : List ℕ) → Gives clauses clause steps c
+      → Gives clauses (slice_index_or clauses line.first []) line.steps c
+  pub touched : AreTouched clauses line.first line.steps table
 
 -- the marks of the clause that the chain begins with
-pub begins : (cs : List (List ℕ)) (line : Line) (old table : List Bool)
+pub begins : (vars : ℕ) (cs : List (List ℕ)) (line : Line) (steps : List Step)
+    (old table : List Bool) → steps ≡ line.steps → IsInRange vars cs line
     → ((l : ℕ) → marked old l ≡ false) → IsClause (slice_index_or cs line.first [])
     → ((l : ℕ) → marked table l ≡ (marked old l || has (slice_index_or cs line.first []) l))
-    → IsFollowed cs line 0 table
-begins cs line old table blank sorted marks =
+    → IsFollowed vars cs line steps table
+begins vars cs line steps old table all range blank sorted marks =
     let first = slice_index_or cs line.first [] in
     let same : (l : ℕ) → has first l ≡ marked table l =
     λ l. sym (marks l ∙ ap (λ b. b || has first l) (blank l)) in
-    record {
+    subst (λ (ss : List Step). IsFollowed vars cs line ss table) (sym all) (record {
+      last = all_last vars cs line range;
       clause = first;
       marked_as = record { same = same; sorted = sorted };
       onward = λ c g. g;
       back = λ c g. g;
       touched = λ l h. or_true_left _ _ (same l ∙ h);
-    }
+    })
 
 -- the clause that the step gives, of the marks after it
 stepped : (a b : List ℕ) (pivot : ℕ) (old new : List Bool) → IsMarkedAs old a
@@ -120,50 +116,46 @@ stepped a b pivot old new marks res =
       },
     )
 
--- a step further, whatever is touched
-steps_on : (cs : List (List ℕ)) (line : Line) (k : ℕ) (s : Step) → k < length line.steps
-    → s ≡ get_or line.steps k s
-    → drop k line.steps ≡ s ∷ drop (k + 1) line.steps
-steps_on cs line k s below is =
-    drop-cons line.steps k s below ∙ ap (λ t. t ∷ drop (suc k) line.steps) (sym is)
-    ∙ ap (λ j. s ∷ drop j line.steps) next
-  where
-    next : suc k ≡ k + 1
-    next = omega arith
-
-pub touches : (cs : List (List ℕ)) (line : Line) (k : ℕ) (s : Step) (old new : List Bool)
-    → k < length line.steps → s ≡ get_or line.steps k s
-    → AreTouched cs line.first (take k line.steps) old
+-- what is marked after one more step is touched
+touches : (cs : List (List ℕ)) (line : Line) (s : Step) (old new : List Bool)
+    → ((l : ℕ) → has (step_clause cs s) l ≡ true → is_touched cs line.first line.steps l ≡ true)
+    → AreTouched cs line.first line.steps old
     → ((l : ℕ) → marked new l ≡ true → (marked old l || has (step_clause cs s) l) ≡ true)
-    → AreTouched cs line.first (take (k + 1) line.steps) new
-touches cs line k s old new below is touched only l h =
-    touched_more cs line.first line.steps k s l below is
-    ∙ (elim (or_cases (marked old l) (has (step_clause cs s) l) (only l h)) [
-      | inl e ↦ or_true_left _ _ (touched l e)
-      | inr e ↦ or_true_right (is_touched cs line.first (take k line.steps) l) _ e
-    ])
+    → AreTouched cs line.first line.steps new
+touches cs line s old new named touched only l h =
+    elim (or_cases (marked old l) (has (step_clause cs s) l) (only l h)) [
+      | inl e ↦ touched l e
+      | inr e ↦ named l e
+    ]
 
-pub follows : (cs : List (List ℕ)) (line : Line) (k : ℕ) (s : Step) (old new : List Bool)
-    → k < length line.steps → s ≡ get_or line.steps k s
-    → IsFollowed cs line k old → IsMarkedResolvent old (step_clause cs s) s.pivot new
+pub touches_next : (vars : ℕ) (cs : List (List ℕ)) (line : Line) (s : Step) (last ss : List Step)
+    (old new : List Bool) → last ≡ s ∷ ss → IsFollowed vars cs line last old
     → ((l : ℕ) → marked new l ≡ true → (marked old l || has (step_clause cs s) l) ≡ true)
-    → IsFollowed cs line (k + 1) new
-follows cs line k s old new below is f res only =
+    → AreTouched cs line.first line.steps new
+touches_next vars cs line s last ss old new is f only =
+    touches cs line s old new (next_of vars cs line s last ss is f.last).named f.touched only
+
+pub follows : (vars : ℕ) (cs : List (List ℕ)) (line : Line) (s : Step) (last ss : List Step)
+    (old new : List Bool) → last ≡ s ∷ ss → IsFollowed vars cs line last old
+    → IsMarkedResolvent old (step_clause cs s) s.pivot new
+    → ((l : ℕ) → marked new l ≡ true → (marked old l || has (step_clause cs s) l) ≡ true)
+    → IsFollowed vars cs line ss new
+follows vars cs line s last ss old new is f res only =
     let r = stepped f.clause (step_clause cs s) s.pivot old new f.marked_as res in
-    let at = steps_on cs line k s below is in
     record {
+      last = (next_of vars cs line s last ss is f.last).behind;
       clause = r.0;
       marked_as = r.1;
       onward = λ c g.
-          let here = subst (λ (ss : List Step). Gives cs f.clause ss c) at (f.onward c g) in
-          subst (λ (q : List ℕ). Gives cs q (drop (k + 1) line.steps) c)
+          let here = subst (λ (all : List Step). Gives cs f.clause all c) is (f.onward c g) in
+          subst (λ (q : List ℕ). Gives cs q ss c)
           (resolvent_unique f.clause (step_clause cs s) s.pivot here.0 r.0 here.1 r.2) here.2;
-      back = λ c g. f.back c (subst (λ (ss : List Step). Gives cs f.clause ss c) (sym at) (
+      back = λ c g. f.back c (subst (λ (all : List Step). Gives cs f.clause all c) (sym is) (
         r.0,
         r.2,
         g,
       ));
-      touched = touches cs line k s old new below is f.touched only;
+      touched = touches_next vars cs line s last ss old new is f only;
     }
 
 -- the first clause has a literal beyond the variables
@@ -174,61 +166,106 @@ first_beyond vars cs line table range long beyond c below chain =
     ends_beyond cs vars _ line.steps c beyond.0 range.pivots (omega (arith, beyond.1)) below chain
     beyond.2
 
-pivot_at : (vars : ℕ) (ss : List Step) (k : ℕ) (s : Step)
-    → AllByRecursion (λ (t : Step). t.pivot < vars) ss → k < length ss → s ≡ get_or ss k s
-    → (s.pivot < vars) × AllByRecursion (λ (t : Step). t.pivot < vars) (drop (k + 1) ss)
-pivot_at vars [] k s all below is = absurd (omega arith)
-pivot_at vars (t ∷ ss) zero s all below is =
-    (subst (λ (u : Step). u.pivot < vars) (sym is) all.0, all.1)
-pivot_at vars (t ∷ ss) (suc k) s all below is =
-    subst (λ (j : ℕ). (s.pivot < vars)
-    × AllByRecursion (λ (u : Step). u.pivot < vars) (drop j (t ∷ ss))) shift
-    (pivot_at vars ss k s all.1 (omega arith) is)
-  where
-    shift : suc (k + 1) ≡ suc k + 1
-    shift = omega arith
-
 -- a step that does not resolve, or meets a literal beyond the variables
-pub step_fails : (vars : ℕ) (cs : List (List ℕ)) (line : Line) (k : ℕ) (s : Step)
-    (table : List Bool) → IsInRange vars cs line → length table ≡ 2 * vars
-    → k < length line.steps → s ≡ get_or line.steps k s → IsFollowed cs line k table
+pub step_fails : (vars : ℕ) (cs : List (List ℕ)) (line : Line) (s : Step) (last ss : List Step)
+    (table : List Bool) → length table ≡ 2 * vars → last ≡ s ∷ ss
+    → IsFollowed vars cs line last table
     → ((clash_on (marked table) (has (step_clause cs s)) s.pivot ≡ None)
     ⊎ HasBeyond table (step_clause cs s)) → ReachesNone vars cs line
-step_fails vars cs line k s table range long in_list is f fails c below chain =
-    let at = steps_on cs line k s in_list is in
-    let here = subst (λ (ss : List Step). Gives cs f.clause ss c) at (f.onward c chain) in
-    let pivots = pivot_at vars line.steps k s range.pivots in_list is in
+step_fails vars cs line s last ss table long is f fails c below chain =
+    let here = subst (λ (all : List Step). Gives cs f.clause all c) is (f.onward c chain) in
+    let next = next_of vars cs line s last ss is f.last in
     elim fails [
       | inl none ↦ absurd (none_some here.1.literal (sym none
           ∙ sym (clash_same (has f.clause) (marked table) (has (step_clause cs s)) s.pivot
           f.marked_as.same) ∙ here.1.clash))
       | inr beyond ↦
-          ends_beyond cs vars here.0 (drop (k + 1) line.steps) c beyond.0 pivots.1
+          ends_beyond cs vars here.0 ss c beyond.0 next.behind.pivots
           (omega (arith, beyond.1)) below here.2
           (here.1.union beyond.0 ∙ union_keeps_second (has f.clause) (has (step_clause cs s))
           here.1.literal beyond.0
           (clash_below (has f.clause) (has (step_clause cs s)) s.pivot here.1.literal beyond.0
-          here.1.clash (omega (arith, beyond.1, pivots.0))).1 beyond.2)
+          here.1.clash (omega (arith, beyond.1, next.pivot))).1 beyond.2)
     ]
   where
     none_some : (z : ℕ) → None ≡ Some z → ⊥
     none_some z e = cc
 
-pub reached : (cs : List (List ℕ)) (line : Line) (k : ℕ) (table : List Bool) → length line.steps ≤ k
-    → IsFollowed cs line k table → Reaches cs line table
-reached cs line k table past f = (
-  f.clause,
-  f.marked_as,
-  f.back f.clause
-      (subst (λ (ss : List Step). Gives cs f.clause ss f.clause)
-      (sym (drop_past k line.steps past)) refl),
-)
+pub reached : (vars : ℕ) (cs : List (List ℕ)) (line : Line) (steps : List Step) (table : List Bool)
+    → length steps ≡ 0 → IsFollowed vars cs line steps table → Reaches cs line table
+reached vars cs line [] table none f = (f.clause, f.marked_as, f.back f.clause refl)
+reached vars cs line (s ∷ ss) table none f = absurd (omega (arith, none))
+
+-- None of what the last steps name is marked, so nothing that is touched is.
+abbrev pub AreUnmarked : (cs : List (List ℕ)) → Line → List Step → List Bool → Type 0
+AreUnmarked cs line steps table = ((l : ℕ) → is_named cs steps l ≡ true → marked table l ≡ false)
+    → (l : ℕ) → is_touched cs line.first line.steps l ≡ true → marked table l ≡ false
+
+pub unmarked_first : (cs : List (List ℕ)) (line : Line) (steps : List Step) (table : List Bool)
+    → steps ≡ line.steps
+    → ((l : ℕ) → has (slice_index_or cs line.first []) l ≡ true → marked table l ≡ false)
+    → AreUnmarked cs line steps table
+unmarked_first cs line steps table all first rest l h =
+    elim (or_cases (has (slice_index_or cs line.first []) l) (is_named cs line.steps l) h) [
+      | inl e ↦ first l e
+      | inr e ↦ rest l (subst (λ (ss : List Step). is_named cs ss l ≡ true) (sym all) e)
+    ]
+
+pub unmarked_next : (cs : List (List ℕ)) (line : Line) (s : Step) (last ss : List Step)
+    (table : List Bool) → last ≡ s ∷ ss → AreUnmarked cs line last table
+    → ((l : ℕ) → has (step_clause cs s) l ≡ true → marked table l ≡ false)
+    → AreUnmarked cs line ss table
+unmarked_next cs line s last ss table is are here rest =
+    are (λ l h. elim (or_cases (has (step_clause cs s) l) (is_named cs ss l)
+    (subst (λ (all : List Step). is_named cs all l ≡ true) is h)) [
+      | inl e ↦ here l e
+      | inr e ↦ rest l e
+    ])
+
+pub unmarked_all : (cs : List (List ℕ)) (line : Line) (steps : List Step) (table : List Bool)
+    → length steps ≡ 0 → AreUnmarked cs line steps table
+    → (l : ℕ) → is_touched cs line.first line.steps l ≡ true → marked table l ≡ false
+unmarked_all cs line [] table none are = are (λ l h. absurd (false≢true h))
+unmarked_all cs line (s ∷ ss) table none are = absurd (omega (arith, none))
+
+-- Once the marks of what the last steps name are off, those of all that is touched are.
+abbrev pub AreCleared : (cs : List (List ℕ)) → Line → List Step → List Bool → List Bool → Type 0
+AreCleared cs line steps old table = (l : ℕ) → (marked table l && not (is_named cs steps l))
+    ≡ (marked old l && not (is_touched cs line.first line.steps l))
+
+-- a mark that stays where neither of two takes it off
+off_both : (m a b : Bool) → ((m && not a) && not b) ≡ (m && not (a || b))
+off_both true true b = refl
+off_both true false b = refl
+off_both false a b = refl
+
+pub clears_first : (cs : List (List ℕ)) (line : Line) (steps : List Step) (old table : List Bool)
+    → steps ≡ line.steps
+    → ((l : ℕ) → marked table l ≡ (marked old l && not (has (slice_index_or cs line.first []) l)))
+    → AreCleared cs line steps old table
+clears_first cs line steps old table all off l =
+    ap (λ (ss : List Step). marked table l && not (is_named cs ss l)) all
+    ∙ ap (λ b. b && not (is_named cs line.steps l)) (off l)
+    ∙ off_both (marked old l) (has (slice_index_or cs line.first []) l) (is_named cs line.steps l)
+
+pub clears_next : (cs : List (List ℕ)) (line : Line) (s : Step) (last ss : List Step)
+    (old table new : List Bool) → last ≡ s ∷ ss → AreCleared cs line last old table
+    → ((l : ℕ) → marked new l ≡ (marked table l && not (has (step_clause cs s) l)))
+    → AreCleared cs line ss old new
+clears_next cs line s last ss old table new is are off l =
+    ap (λ b. b && not (is_named cs ss l)) (off l)
+    ∙ off_both (marked table l) (has (step_clause cs s) l) (is_named cs ss l)
+    ∙ ap (λ (all : List Step). marked table l && not (is_named cs all l)) (sym is) ∙ are l
+
+pub clears_all : (cs : List (List ℕ)) (line : Line) (steps : List Step) (old table : List Bool)
+    → length steps ≡ 0 → AreCleared cs line steps old table
+    → (l : ℕ) → marked table l ≡ (marked old l && not (is_touched cs line.first line.steps l))
+clears_all cs line [] old table none are l = sym (and_true (marked table l)) ∙ are l
   where
-    drop_past : (j : ℕ) (ss : List Step) → length ss ≤ j → drop j ss ≡ []
-    drop_past zero [] h = refl
-    drop_past zero (s ∷ ss) h = absurd (omega arith)
-    drop_past (suc j) [] h = refl
-    drop_past (suc j) (s ∷ ss) h = drop_past j ss (omega arith)
+    and_true : (b : Bool) → (b && true) ≡ b
+    and_true true = refl
+    and_true false = refl
+clears_all cs line (s ∷ ss) old table none are l = absurd (omega (arith, none))
 
 -- The marked literals are the clause's: each of these was marked, and nothing else that was touched
 -- is.

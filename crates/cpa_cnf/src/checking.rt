@@ -95,7 +95,7 @@ fn follow(cnf: &Cnf, earlier: &[Line], line: &Line, table: &mut [bool]) -> bool
     if !mark(table, named(cnf, earlier, line.first).literals()) {
         return false;
     }
-    for step in line.steps.as_slice() {
+    for step in &line.steps {
         if !take_step(table, named(cnf, earlier, step.clause), step.pivot) {
             return false;
         }
@@ -113,7 +113,7 @@ fn none_touched(cnf: &Cnf, earlier: &[Line], line: &Line, table: &[bool]) -> boo
     if !none_marked(table, named(cnf, earlier, line.first).literals()) {
         return false;
     }
-    for step in line.steps.as_slice() {
+    for step in &line.steps {
         if !none_marked(table, named(cnf, earlier, step.clause).literals()) {
             return false;
         }
@@ -129,7 +129,7 @@ fn clear_touched(cnf: &Cnf, earlier: &[Line], line: &Line, table: &mut [bool])
         (is_touched (known cnf.now earlier.now) line.now.first line.now.steps l)) }
 {
     clear(table, named(cnf, earlier, line.first).literals());
-    for step in line.steps.as_slice() {
+    for step in &line.steps {
         clear(table, named(cnf, earlier, step.clause).literals());
     }
 }

@@ -1,9 +1,10 @@
-use Rattle.std.proofs.Common.{◌≡◌, ℕ, not, ◌&&◌, take}
+use Rattle.std.specs.Slice.Iter.{iter_rest}
 use Rattle.cpa_cnf.specs.Lines.{known}
-use Rattle.cpa_cnf.specs.Marking.{marked, is_touched}
+use Rattle.cpa_cnf.proofs.Following.{AreCleared, AreLast}
 use Rattle.cpa_cnf.proofs.checking.clear_touched.Given as goal
 
 abbrev pub invariant-loop-step : goal.invariant-loop-step
 invariant-loop-step l =
-    (x : ℕ) → marked l.table x ≡ (marked l.fn.table x
-    && not (is_touched (known l.cnf l.earlier) l.line.first (take l.step-index l.step-items) x))
+    let cs = known l.cnf l.earlier in
+    let steps = iter_rest l.step-iterator in
+    AreLast l.cnf.vars cs l.line steps × AreCleared cs l.line steps l.fn.table l.table

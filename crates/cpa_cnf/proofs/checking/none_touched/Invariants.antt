@@ -1,9 +1,10 @@
-use Rattle.std.proofs.Common.{◌≡◌, ℕ, true, false, take}
+use Rattle.std.specs.Slice.Iter.{iter_rest}
 use Rattle.cpa_cnf.specs.Lines.{known}
-use Rattle.cpa_cnf.specs.Marking.{marked, is_touched}
+use Rattle.cpa_cnf.proofs.Following.{AreLast, AreUnmarked}
 use Rattle.cpa_cnf.proofs.checking.none_touched.Given as goal
 
 abbrev pub invariant-loop-step : goal.invariant-loop-step
 invariant-loop-step l =
-    (x : ℕ) → is_touched (known l.cnf l.earlier) l.line.first (take l.step-index l.step-items) x
-    ≡ true → marked l.table x ≡ false
+    let cs = known l.cnf l.earlier in
+    let steps = iter_rest l.step-iterator in
+    AreLast l.cnf.vars cs l.line steps × AreUnmarked cs l.line steps l.table
