@@ -1,5 +1,6 @@
 -- Lemmas on the definitions, which the laws of src/laws.rt and lemmas of other crates cite. No
 -- definition that a contract cites stands here.
+pub mod Counted
 pub mod Lists
 pub mod Parts
 pub mod Tiling

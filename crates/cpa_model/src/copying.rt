@@ -11,7 +11,7 @@ pub fn copy_elem(alloc: Global, elem: &Elem) -> Result<Elem, AllocError>
     ensures { IfOk result (λ e. e ≡ elem.now) }
 {
     let mut facts = Seq::new(alloc);
-    for fact in elem.facts.as_slice() {
+    for fact in &elem.facts {
         facts.push(copy_fact(alloc, fact)?)?;
     }
     Ok(Elem { facts })

@@ -34,7 +34,7 @@ pub struct Elem {
 pub fn holds(elem: &Elem, state: &State) -> bool
     ensures { IsTrue result ↔ Holds elem.now state.now }
 {
-    for fact in elem.facts.as_slice() {
+    for fact in &elem.facts {
         if !fact_holds(fact, state) {
             return false;
         }
@@ -64,7 +64,7 @@ pub fn is_elem(elem: &Elem, cfa: &Cfa) -> bool
     ensures { IsTrue result ↔ IsElem cfa.now.cells cfa.now.points elem.now }
 {
     let cells = cfa.cells.as_slice();
-    for fact in elem.facts.as_slice() {
+    for fact in &elem.facts {
         if !is_fact(fact, cells, cfa.points) {
             return false;
         }

@@ -33,7 +33,7 @@ fn function_of_body(program: &Program, number: u32) -> Option<u32>
     ensures found { IfSome result (λ f. IsBody program.now f number) }
     ensures none { IfNone result ((f : ℕ) → IsBody program.now f number → ⊥) }
 {
-    for (function, body) in program.bodies.as_slice().iter().enumerate() {
+    for (function, body) in program.bodies.iter().enumerate() {
         if *body == number {
             return Some(function as u32);
         }
@@ -47,7 +47,7 @@ fn whole_of(program: &Program, part: u32) -> Option<(u32, Successor)>
     ensures found { IfSome result (λ r. IsPartAt program.now r.0 part r.1) }
     ensures none { IfNone result ((b : ℕ) → IsPart program.now b part → ⊥) }
 {
-    for (number, stmt) in program.stmts.as_slice().iter().enumerate() {
+    for (number, stmt) in program.stmts.iter().enumerate() {
         if let Some(successor) = after_part(number as u32, stmt, part) {
             return Some((number as u32, successor));
         }

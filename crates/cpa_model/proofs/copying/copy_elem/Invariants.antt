@@ -1,6 +1,7 @@
--- The copies so far are the facts so far.
-use Rattle.std.proofs.Common.{◌≡◌, take}
+-- The copies, and behind them the facts that are left, are the facts.
+use Rattle.std.proofs.Common.{◌≡◌, ◌++◌}
+use Rattle.std.specs.Slice.Iter.{iter_rest}
 use Rattle.cpa_model.proofs.copying.copy_elem.Given as goal
 
 abbrev pub invariant-loop-fact : goal.invariant-loop-fact
-invariant-loop-fact l = l.facts ≡ take l.fact-index l.elem.facts
+invariant-loop-fact l = l.facts ++ iter_rest l.fact-iterator ≡ l.elem.facts
