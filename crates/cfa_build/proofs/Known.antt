@@ -6,7 +6,7 @@ use Rattle.std.proofs.Common.{IfSome, IsSomeAnd}
 use Rattle.std.specs.List.{All, slice_get}
 use Rattle.std.proofs.lemmas.Bool.{cases_eq, cases_Bool, cond-true, cond-false}
 use Rattle.std.proofs.lemmas.List.Elements.{Contains-get_or}
-use Rattle.std.proofs.lemmas.Option.{same_Some, IfSome_then, slice_get_within, slice_get-get_or}
+use Rattle.std.proofs.lemmas.Option.{same_Some, IfSome_then, slice_get_within}
 use Rattle.cpa_model.specs.declared.program.Stmt.{Stmt}
 use Rattle.cpa_model.specs.declared.program.Program.{Program}
 use Rattle.cpa_model.specs.declared.program.Successor.{Successor}
@@ -157,38 +157,28 @@ abbrev pub BodiesPlaced : Program → ℕ → List Place → Type 0
 BodiesPlaced P f places =
     (g n : ℕ) → g < f → IsBody P g n → IsSomeAnd (slice_get places n) (IsPlace P n)
 
-body_at : (P : Program) (f : ℕ) (bodies : List ℕ) → bodies ≡ P.bodies → f < length bodies
-    → IsBody P f (get_or bodies f 0)
-body_at P f bodies e h = rw (sym e) (slice_get-get_or bodies f 0 h)
+pub body_in_table : (P : Program) → TreeLaws P → (f body : ℕ) (places : List Place)
+    → IsBody P f body → length places ≡ length P.stmts → body < length places
+body_in_table P T f body places is len = omega (arith, T.body_inside f body is)
 
-pub body_in_table : (P : Program) → TreeLaws P → (f : ℕ) (bodies : List ℕ) (places : List Place)
-    → bodies ≡ P.bodies → f < length bodies → length places ≡ length P.stmts
-    → get_or bodies f 0 < length places
-body_in_table P T f bodies places e h len =
-    omega (arith, T.body_inside f (get_or bodies f 0) (body_at P f bodies e h))
-
-pub one_more_body : (P : Program) → TreeLaws P
-    → (f exit : ℕ) (bodies : List ℕ) (places : List Place) → bodies ≡ P.bodies → exit ≡ exit_of P f
-    → f < length bodies → length places ≡ length P.stmts
+pub one_more_body : (P : Program) → TreeLaws P → (f exit body : ℕ) (places : List Place)
+    → IsBody P f body → exit ≡ exit_of P f → length places ≡ length P.stmts
     → BodiesPlaced P f places
-    → BodiesPlaced P (f + 1) (set places (get_or bodies f 0)
+    → BodiesPlaced P (f + 1) (set places body
     (record { next = exit; inner_loop = None; function = f }))
-one_more_body P T f exit bodies places e e' h len below g n less is =
+one_more_body P T f exit body places at e len below g n less is =
     let place : Place = record { next = exit; inner_loop = None; function = f } in
-    let body : ℕ = get_or bodies f 0 in
-    let here : IsPlace P body place = rw e' (place_of_body P T f body (body_at P f bodies e h)) in
-    right_after_write P places body n place (body_in_table P T f bodies places e h len) here
+    let here : IsPlace P body place = rw e (place_of_body P T f body at) in
+    right_after_write P places body n place (body_in_table P T f body places at len) here
     (λ apart.
     let other : g ≡ f → ⊥ =
-    λ same. apart (same_Some n body
-    (sym is ∙ ap (slice_get P.bodies) same ∙ body_at P f bodies e h)) in
+    λ same. apart (same_Some n body (sym is ∙ ap (slice_get P.bodies) same ∙ at)) in
     below g n (omega arith) is)
 
 -- once the bodies of all functions are written
-pub bodies_known : (P : Program) (count f : ℕ) (places : List Place) → count ≡ length P.bodies
-    → count ≤ f → length places ≡ length P.stmts → BodiesPlaced P f places
-    → ArePlacesBelow P 0 places
-bodies_known P count f places e all len h = record {
+pub bodies_known : (P : Program) (f : ℕ) (places : List Place) → length P.bodies ≤ f
+    → length places ≡ length P.stmts → BodiesPlaced P f places → ArePlacesBelow P 0 places
+bodies_known P f places all len h = record {
   each = len;
   right =
       λ k known. ⊎_elim (λ body. h body.0 k

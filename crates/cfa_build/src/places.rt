@@ -87,7 +87,7 @@ fn place_bodies(program: &Program, places: &mut [Place])
     requires each { length places.old ≡ length program.now.stmts }
     ensures { ArePlacesBelow program.now 0 places.new }
 {
-    for (f, body) in program.bodies.as_slice().iter().enumerate() {
+    for (f, body) in program.bodies.iter().enumerate() {
         places[*body as usize] = Place {
             next: program.exit(f as u32),
             inner_loop: None,

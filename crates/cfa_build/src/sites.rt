@@ -24,7 +24,7 @@ fn no_sites(alloc: Global, program: &Program) -> Result<Vec<Seq<u32>>, AllocErro
     ensures { IfOk result (λ sites. AreSitesBelow program.now 0 sites.items) }
 {
     let mut sites = Vec::new(alloc);
-    for _ in program.bodies.as_slice() {
+    for _ in &program.bodies {
         sites.push(Seq::new(alloc))?;
     }
     Ok(sites)
