@@ -56,7 +56,7 @@ fn common_facts(alloc: Global, new: &Elem, old: &Elem) -> Result<Elem, AllocErro
     ensures { IfOk result (λ e. e ≡ common_facts new.now old.now) }
 {
     let mut facts = Seq::new(alloc);
-    for fact in old.facts.as_slice() {
+    for fact in &old.facts {
         if stands_in(fact, new) {
             facts.push(copy_fact(alloc, fact)?)?;
         }
