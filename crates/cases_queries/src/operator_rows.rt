@@ -3,13 +3,11 @@
 //! there is no model the operator traps.
 
 use crate::queries::ask;
-use cpa_expr::{BinOp, CmpOp, Expr, read_scalar};
+use cpa_expr::{CmpOp, Expr, copy, read_scalar, type_of};
 use cpa_ints::{Boxed, IntType, Seq};
 use cpa_query::Query;
 use cpa_solver::Decided;
-use row_reader::{
-    BINARY, COMPARISONS, RowFault, TYPES, UNARY, next_number, next_type, push_number, push_word,
-};
+use row_reader::{Operand, OperatorRow, RowFault, operators_of, push_number, push_word};
 use std::alloc::{AllocError, Global};
 use std::str::SplitWhitespace;
 
@@ -23,25 +21,42 @@ pub fn answer(
     word: &str,
     words: &mut SplitWhitespace<'_>,
 ) -> Result<bool, RowFault> {
-    match word {
-        "arithmetic" => arithmetic(alloc, out, words)?,
-        "shifts" => shifts(alloc, out, words)?,
-        "unary" => unary(alloc, out, words)?,
-        "comparisons" => comparisons(alloc, out, words)?,
-        "casts" => casts(alloc, out, words)?,
-        _ => return Ok(false),
+    match operators_of(alloc, word, words)? {
+        Some(row) => {
+            for expr in row.exprs.as_slice() {
+                push_operator(alloc, out, &row, expr)?;
+            }
+            Ok(true)
+        }
+        None => Ok(false),
     }
-    Ok(true)
 }
 
-/// The read of a cell, as a part.
-fn cell(alloc: Global, ty: IntType, number: u32) -> Result<Boxed<Expr>, AllocError> {
-    Boxed::new(alloc, read_scalar(alloc, ty, number)?)
+/// Appends the value of an operator of the row.
+fn push_operator(
+    alloc: Global,
+    out: &mut String,
+    row: &OperatorRow,
+    expr: &Expr,
+) -> Result<(), RowFault> {
+    let mut query = Query {
+        cells: Seq::new(alloc),
+        wanted: Seq::new(alloc),
+    };
+    fix(alloc, &mut query, 0, row.first)?;
+    let number = match row.second {
+        Some(second) => {
+            fix(alloc, &mut query, 1, second)?;
+            2
+        }
+        None => 1,
+    };
+    push_result(alloc, out, &mut query, number, expr)
 }
 
 /// That a cell equals an expression.
 fn equals(alloc: Global, ty: IntType, number: u32, e: Expr) -> Result<Expr, AllocError> {
-    let left = cell(alloc, ty, number)?;
+    let left = Boxed::new(alloc, read_scalar(alloc, ty, number)?)?;
     let right = Boxed::new(alloc, e)?;
     Ok(Expr::Cmp {
         op: CmpOp::Eq,
@@ -51,21 +66,19 @@ fn equals(alloc: Global, ty: IntType, number: u32, e: Expr) -> Result<Expr, Allo
     })
 }
 
-/// Adds the cell of this number, which equals a constant.
-fn fix(
-    alloc: Global,
-    query: &mut Query,
-    number: u32,
-    fixed: (IntType, i128),
-) -> Result<(), AllocError> {
-    query.cells.push(fixed.0)?;
+/// That a cell has a number.
+fn has_number(alloc: Global, number: u32, fixed: Operand) -> Result<Expr, AllocError> {
     let e = Expr::Const {
-        ty: fixed.0,
-        value: fixed.1,
+        ty: fixed.ty,
+        value: fixed.value,
     };
-    query
-        .wanted
-        .push((equals(alloc, fixed.0, number, e)?, true))
+    equals(alloc, fixed.ty, number, e)
+}
+
+/// Adds the cell of this number, which has a number of its type.
+fn fix(alloc: Global, query: &mut Query, number: u32, fixed: Operand) -> Result<(), AllocError> {
+    query.cells.push(fixed.ty)?;
+    query.wanted.push((has_number(alloc, number, fixed)?, true))
 }
 
 /// Appends the value of one more cell, the one of this number, where it equals the expression, or
@@ -75,14 +88,18 @@ fn push_result(
     out: &mut String,
     query: &mut Query,
     number: u32,
-    ty: IntType,
-    e: Expr,
+    expr: &Expr,
 ) -> Result<(), RowFault> {
+    let ty = type_of(expr);
     query.cells.push(ty)?;
+    let e = copy(alloc, expr)?;
     query.wanted.push((equals(alloc, ty, number, e)?, true))?;
     match ask(alloc, query, LEARNT)? {
         Decided::Model(store) => match store.values.get(number as usize) {
-            Some(value) => push_only(alloc, out, query, number, (ty, *value)),
+            Some(value) => {
+                let found = Operand { ty, value: *value };
+                push_only(alloc, out, query, number, found)
+            }
             None => Ok(push_word(out, "wrong")?),
         },
         Decided::NoModel(_) => Ok(push_word(out, "trap")?),
@@ -96,126 +113,13 @@ fn push_only(
     out: &mut String,
     query: &mut Query,
     number: u32,
-    found: (IntType, i128),
+    found: Operand,
 ) -> Result<(), RowFault> {
-    let e = Expr::Const {
-        ty: found.0,
-        value: found.1,
-    };
     query
         .wanted
-        .push((equals(alloc, found.0, number, e)?, false))?;
+        .push((has_number(alloc, number, found)?, false))?;
     match ask(alloc, query, LEARNT)? {
-        Decided::NoModel(_) => Ok(push_number(out, found.1)?),
+        Decided::NoModel(_) => Ok(push_number(out, found.value)?),
         _ => Ok(push_word(out, "wrong")?),
     }
-}
-
-/// A query without cells.
-fn empty(alloc: Global) -> Query {
-    Query {
-        cells: Seq::new(alloc),
-        wanted: Seq::new(alloc),
-    }
-}
-
-/// Appends the value of an operator on two numbers.
-fn push_binary(
-    alloc: Global,
-    out: &mut String,
-    op: BinOp,
-    left: (IntType, i128),
-    right: (IntType, i128),
-) -> Result<(), RowFault> {
-    let mut query = empty(alloc);
-    fix(alloc, &mut query, 0, left)?;
-    fix(alloc, &mut query, 1, right)?;
-    let e = Expr::Bin {
-        op,
-        ty: left.0,
-        left: cell(alloc, left.0, 0)?,
-        right: cell(alloc, right.0, 1)?,
-    };
-    push_result(alloc, out, &mut query, 2, left.0, e)
-}
-
-/// `arithmetic T A B`: A + B, and so on for - * / % & | ^.
-fn arithmetic(
-    alloc: Global,
-    out: &mut String,
-    words: &mut SplitWhitespace<'_>,
-) -> Result<(), RowFault> {
-    let ty = next_type(words)?;
-    let left = next_number(words)?;
-    let right = next_number(words)?;
-    for op in BINARY.iter().copied().take(8) {
-        push_binary(alloc, out, op, (ty, left), (ty, right))?;
-    }
-    Ok(())
-}
-
-/// `shifts T U A B`: A << B and A >> B, where the amount B has the type U.
-fn shifts(
-    alloc: Global,
-    out: &mut String,
-    words: &mut SplitWhitespace<'_>,
-) -> Result<(), RowFault> {
-    let ty = next_type(words)?;
-    let amount_ty = next_type(words)?;
-    let left = next_number(words)?;
-    let amount = next_number(words)?;
-    for op in BINARY.iter().copied().skip(8) {
-        push_binary(alloc, out, op, (ty, left), (amount_ty, amount))?;
-    }
-    Ok(())
-}
-
-/// `unary T A`: -A and ~A.
-fn unary(alloc: Global, out: &mut String, words: &mut SplitWhitespace<'_>) -> Result<(), RowFault> {
-    let ty = next_type(words)?;
-    let number = next_number(words)?;
-    for op in UNARY {
-        let mut query = empty(alloc);
-        fix(alloc, &mut query, 0, (ty, number))?;
-        let arg = cell(alloc, ty, 0)?;
-        push_result(alloc, out, &mut query, 1, ty, Expr::Un { op, ty, arg })?;
-    }
-    Ok(())
-}
-
-/// `comparisons T A B`: whether A == B, and so on for != < <= > >=.
-fn comparisons(
-    alloc: Global,
-    out: &mut String,
-    words: &mut SplitWhitespace<'_>,
-) -> Result<(), RowFault> {
-    let ty = next_type(words)?;
-    let first = next_number(words)?;
-    let second = next_number(words)?;
-    for op in COMPARISONS {
-        let mut query = empty(alloc);
-        fix(alloc, &mut query, 0, (ty, first))?;
-        fix(alloc, &mut query, 1, (ty, second))?;
-        let e = Expr::Cmp {
-            op,
-            ty,
-            left: cell(alloc, ty, 0)?,
-            right: cell(alloc, ty, 1)?,
-        };
-        push_result(alloc, out, &mut query, 2, IntType::I32, e)?;
-    }
-    Ok(())
-}
-
-/// `casts T A`: what A of the type T becomes in each type.
-fn casts(alloc: Global, out: &mut String, words: &mut SplitWhitespace<'_>) -> Result<(), RowFault> {
-    let from = next_type(words)?;
-    let number = next_number(words)?;
-    for ty in TYPES {
-        let mut query = empty(alloc);
-        fix(alloc, &mut query, 0, (from, number))?;
-        let arg = cell(alloc, from, 0)?;
-        push_result(alloc, out, &mut query, 1, ty, Expr::Cast { ty, arg })?;
-    }
-    Ok(())
 }

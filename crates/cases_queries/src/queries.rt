@@ -1,51 +1,13 @@
-//! Queries, asked where they meet the condition of `decide`: `IsQuery` of `cpa_query`.
-//! That they do is proved with `proofs/Gathered.antt`.
-
-ghost use Rattle.std.specs.Prelude.{IsTrue};
-ghost use Rattle.std.specs.List.{AllByRecursion};
-ghost use Rattle.cpa_query.specs.Queries.{IsAsked, IsQuery};
+//! Queries, asked where they meet the condition of `decide`, and models that are looked at again.
+//! Proved safe by the checker alone.
 
 use cpa_blast::blast;
-use cpa_expr::{Expr, Store, is_expr, is_nonzero, value};
-use cpa_ints::{IntType, Seq};
+use cpa_expr::{Expr, Store, is_nonzero, value};
+use cpa_ints::Seq;
 use cpa_query::Query;
 use cpa_solver::{Decided, decide};
-use row_reader::RowFault;
+use row_reader::{RowFault, is_query};
 use std::alloc::Global;
-
-/// Whether the expression may be wanted over the cells.
-fn is_asked(e: &Expr, cells: &[IntType]) -> bool
-    ensures { IsTrue result → IsAsked cells.now e.now }
-{
-    is_expr(e, cells)
-}
-
-/// Whether both hold.
-fn both(first: bool, second: bool) -> bool
-    ensures first { IsTrue result → IsTrue first }
-    ensures second { IsTrue result → IsTrue second }
-{
-    first && second
-}
-
-/// Whether each of the expressions may be wanted over the cells.
-fn are_asked(wanted: &[(Expr, bool)], cells: &[IntType]) -> bool
-    ensures { IsTrue result → AllByRecursion (λ one. IsAsked cells.now one.0) wanted.now }
-{
-    let mut all = true;
-    for one in wanted {
-        let asked = is_asked(&one.0, cells);
-        all = both(all, asked);
-    }
-    all
-}
-
-/// Whether the query meets the condition of `decide`.
-fn is_query(query: &Query) -> bool
-    ensures { IsTrue result → IsQuery query.now }
-{
-    are_asked(query.wanted.as_slice(), query.cells.as_slice())
-}
 
 /// What is found out of the query.
 pub fn ask(alloc: Global, query: &Query, learnt: u32) -> Result<Decided, RowFault> {
