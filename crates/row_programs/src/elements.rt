@@ -4,7 +4,7 @@
 use cpa_model::{Elem, Fact, Seq};
 use row_reader::{RowFault, end_row, index_of_word, next_index, next_number, rest_expr};
 use std::alloc::Global;
-use std::str::SplitWhitespace;
+use std::str::{Split, SplitWhitespace};
 
 /// The element that a text spells. Where no words stand there is no fact.
 pub fn elem_of(alloc: Global, text: &str) -> Result<Elem, RowFault> {
@@ -16,6 +16,15 @@ pub fn elem_of(alloc: Global, text: &str) -> Result<Elem, RowFault> {
         }
     }
     Ok(Elem { facts })
+}
+
+/// The elements that the parts which are left spell, one each.
+pub fn elems_of(alloc: Global, parts: &mut Split<'_, char>) -> Result<Vec<Elem>, RowFault> {
+    let mut elems = Vec::new(alloc);
+    for part in parts {
+        elems.push(elem_of(alloc, part)?)?;
+    }
+    Ok(elems)
 }
 
 fn fact_of(alloc: Global, kind: &str, words: &mut SplitWhitespace<'_>) -> Result<Fact, RowFault> {

@@ -3,6 +3,7 @@
 #![tactic(auto)]
 
 mod automata;
+mod calls;
 mod elements;
 mod fitting;
 mod shapes;
@@ -10,6 +11,7 @@ mod statements;
 mod table;
 
 pub use automata::automaton;
-pub use elements::elem_of;
+pub use calls::{next_settings, rule_of_word};
+pub use elements::{elem_of, elems_of};
 pub use shapes::{are_elems, are_precisions, is_path, is_precision};
-pub use table::Table;
+pub use table::{Table, rest_indices};

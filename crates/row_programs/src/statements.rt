@@ -1,7 +1,7 @@
 //! Reads a statement: `block N ..`, `if YES NO : TEST`, `loop BODY STEP`,
 //! `assign BASE LEN : INDEX : VALUE`, `input CELL`, `call F`, `goto N`, `leave`, `stop`, `error`.
 
-use crate::table::numbers_of;
+use crate::table::rest_indices;
 use cpa_model::Stmt;
 use row_reader::{RowFault, next_index, next_part, next_word, whole_expr};
 use std::alloc::Global;
@@ -15,7 +15,7 @@ pub(crate) fn stmt_of(
 ) -> Result<Stmt, RowFault> {
     let word = next_word(words)?;
     if word == "block" {
-        let items = numbers_of(alloc, words)?;
+        let items = rest_indices(alloc, words)?;
         Ok(Stmt::Block { items })
     } else if word == "if" {
         if_of(alloc, words, parts)

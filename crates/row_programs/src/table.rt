@@ -94,13 +94,13 @@ impl Table {
         words: &mut SplitWhitespace<'_>,
     ) -> Result<bool, RowFault> {
         if word == "bodies" {
-            self.program.bodies = numbers_of(alloc, words)?;
+            self.program.bodies = rest_indices(alloc, words)?;
         } else if word == "ends" {
-            self.ends = numbers_of(alloc, words)?;
+            self.ends = rest_indices(alloc, words)?;
         } else if word == "owners" {
-            self.owners = numbers_of(alloc, words)?;
+            self.owners = rest_indices(alloc, words)?;
         } else if word == "levels" {
-            self.levels = numbers_of(alloc, words)?;
+            self.levels = rest_indices(alloc, words)?;
         } else {
             return Ok(false);
         }
@@ -109,10 +109,7 @@ impl Table {
 }
 
 /// The words that are left, as indices.
-pub(crate) fn numbers_of(
-    alloc: Global,
-    words: &mut SplitWhitespace<'_>,
-) -> Result<Seq<u32>, RowFault> {
+pub fn rest_indices(alloc: Global, words: &mut SplitWhitespace<'_>) -> Result<Seq<u32>, RowFault> {
     let mut numbers = Seq::new(alloc);
     for word in words {
         numbers.push(index_of_word(word)?)?;

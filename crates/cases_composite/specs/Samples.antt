@@ -1,0 +1,66 @@
+-- Three analyses for rows: one that knows nothing, one that guesses, and one that counts (this
+-- project's own).
+use Rattle.std.specs.Prelude.{◌≡◌, ℕ, pos, [], ◌∷◌, None, codes}
+use Rattle.cpa_ints.specs.declared.integers.IntType.TheVariants.{U32}
+use Rattle.cpa_expr.specs.declared.tree.Expr.TheVariants.{Const}
+use Rattle.cpa_expr.specs.Values.{is_nonzero}
+use Rattle.cpa_model.specs.declared.facts.Fact.TheVariants.{Truth}
+use Rattle.cpa_model.specs.declared.facts.Elem.{Elem}
+use Rattle.cpa_model.specs.declared.states.State.{State}
+use Rattle.cpa_model.specs.Facts.{Holds}
+use Rattle.cpa_model.specs.Standing.{has_facts}
+use Rattle.cpa_model.specs.StandingLaws.{has_facts-within, has_facts-same}
+use Rattle.cpa_iface.specs.declared.analysis.Part.TheVariants as part
+use Rattle.cpa_iface.specs.Common.{fact_count}
+use Rattle.cpa_iface.specs.Meanings.{Meaning}
+
+-- the element without facts
+abbrev pub no_facts : Elem
+no_facts = record { facts = [] }
+
+-- exact on nothing, and tells no suggestion
+abbrev pub blind : Meaning
+blind = record {
+  name = codes "blind";
+  part = part.Nothing;
+  cover = has_facts;
+  height = λ cfa p. 0;
+  rank = fact_count;
+  suggestion = λ cfa path. None;
+  within = has_facts-within;
+  same = has_facts-same;
+}
+
+-- the same, of the height 1
+abbrev pub guess : Meaning
+guess = record {
+  name = codes "guess";
+  part = part.Nothing;
+  cover = has_facts;
+  height = λ cfa p. 1;
+  rank = fact_count;
+  suggestion = λ cfa path. None;
+  within = has_facts-within;
+  same = has_facts-same;
+}
+
+-- the element of a number: that it is not 0, or that it is
+abbrev pub count : ℕ → Elem
+count n = record { facts = Truth (Const U32 (pos n)) (is_nonzero (pos n)) ∷ [] }
+
+-- the same, of elements that all differ
+abbrev pub counter : Meaning
+counter = record {
+  name = codes "counter";
+  part = part.Nothing;
+  cover = has_facts;
+  height = λ cfa p. 1;
+  rank = fact_count;
+  suggestion = λ cfa path. None;
+  within = has_facts-within;
+  same = has_facts-same;
+}
+
+-- all states of the element stand at the point
+abbrev pub StandsAt : Elem → ℕ → Type 0
+StandsAt e point = (s : State) → Holds e s → s.point ≡ point

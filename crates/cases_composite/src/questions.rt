@@ -1,0 +1,111 @@
+//! A call of a composite, as a row names it: the call, its words, and behind colons the elements
+//! that it takes. Nothing is proved of what is read.
+
+use cpa_iface::{Order, Settings};
+use cpa_model::{Elem, Path};
+use row_programs::{elems_of, next_settings, rest_indices};
+use row_reader::{RowFault, end_row, next_index, next_word};
+use std::alloc::Global;
+use std::str::SplitWhitespace;
+
+/// Which call it is, with what it takes beside elements.
+#[derive(Drop)]
+pub enum Call {
+    /// `initial all LIMIT` or `initial none LIMIT`
+    Initial {
+        settings: Settings,
+    },
+    /// `successors EDGE TIMES : ELEMENT : ..`, the call so many times
+    Successors {
+        edge: u32,
+        times: u32,
+    },
+    /// `merge : NEW : .. : OLD : ..`
+    Merge,
+    /// `covered : ELEMENT : .. : OTHER : ..`
+    Covered,
+    /// `adjust : ELEMENT : ..`, where nothing is reached
+    Adjust,
+    /// `refine EDGE ..`
+    Refine {
+        path: Path,
+    },
+    /// `explore first all LIMIT TURNS`, with `last` and `none`, too
+    Explore {
+        order: Order,
+        settings: Settings,
+        turns: u32,
+    },
+}
+
+/// A call with its elements.
+#[derive(Drop)]
+pub struct Question {
+    pub call: Call,
+    pub elems: Vec<Elem>,
+}
+
+/// The call that a row names.
+pub fn question_of(alloc: Global, line: &str) -> Result<Question, RowFault> {
+    let mut parts = line.split(':');
+    let mut words = parts.next().unwrap_or("").split_whitespace();
+    let call = call_of(alloc, &mut words)?;
+    end_row(&mut words)?;
+    let elems = elems_of(alloc, &mut parts)?;
+    Ok(Question { call, elems })
+}
+
+fn call_of(alloc: Global, words: &mut SplitWhitespace<'_>) -> Result<Call, RowFault> {
+    let word = next_word(words)?;
+    if word == "initial" {
+        let settings = next_settings(words)?;
+        Ok(Call::Initial { settings })
+    } else if word == "successors" {
+        let edge = next_index(words)?;
+        let times = next_index(words)?;
+        Ok(Call::Successors { edge, times })
+    } else if word == "refine" {
+        let edges = rest_indices(alloc, words)?;
+        let path = Path { edges };
+        Ok(Call::Refine { path })
+    } else if word == "explore" {
+        explore_of(words)
+    } else {
+        bare_call(word)
+    }
+}
+
+/// A call that takes elements alone.
+fn bare_call(word: &str) -> Result<Call, RowFault> {
+    if word == "merge" {
+        Ok(Call::Merge)
+    } else if word == "covered" {
+        Ok(Call::Covered)
+    } else if word == "adjust" {
+        Ok(Call::Adjust)
+    } else {
+        Err(RowFault::Unreadable)
+    }
+}
+
+/// `explore ORDER SETTINGS TURNS`, with the order `first` or `last`.
+fn explore_of(words: &mut SplitWhitespace<'_>) -> Result<Call, RowFault> {
+    let order = order_of(next_word(words)?)?;
+    let settings = next_settings(words)?;
+    let turns = next_index(words)?;
+    Ok(Call::Explore {
+        order,
+        settings,
+        turns,
+    })
+}
+
+fn order_of(word: &str) -> Result<Order, RowFault> {
+    if word == "first" {
+        Ok(Order::First)
+    } else if word == "last" {
+        Ok(Order::Last)
+    } else {
+        Err(RowFault::Unreadable)
+    }
+}

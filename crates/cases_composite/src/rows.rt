@@ -1,0 +1,71 @@
+//! A row with its answer. Nothing is proved of a row but that its answer comes: what is right, the
+//! file `stdout` says.
+
+ghost use Rattle.std.specs.Prelude.{◌≡◌, length};
+
+use crate::asking::push_answer;
+use crate::picking::picks_of;
+use crate::questions::question_of;
+use crate::setting::Setting;
+use cpa_composite::Composite;
+use cpa_iface::Analysis;
+use row_programs::automaton;
+use row_reader::RowFault;
+use std::alloc::{AllocError, Global};
+
+/// A row with its answer. An empty line, a remark and a row that sets something stay as they are.
+pub fn answered<A: Analysis>(
+    alloc: Global,
+    handed: Vec<A>,
+    setting: &mut Setting,
+    line: &str,
+) -> Result<String, AllocError>
+    requires { length handed.items ≡ 7 }
+{
+    let mut out = String::from_str(alloc, line)?;
+    if line.is_empty() || line.starts_with("#") {
+        return Ok(out);
+    }
+    match answer(alloc, handed, setting, line) {
+        Ok(answer) => {
+            out.push_str(answer.as_str())?;
+            Ok(out)
+        }
+        Err(RowFault::Unreadable) => {
+            out.push_str(" = unreadable")?;
+            Ok(out)
+        }
+        Err(RowFault::OutOfMemory) => Err(AllocError),
+    }
+}
+
+/// The answer of a row, behind a sign, or nothing where the row sets something.
+fn answer<A: Analysis>(
+    alloc: Global,
+    handed: Vec<A>,
+    setting: &mut Setting,
+    line: &str,
+) -> Result<String, RowFault>
+    requires { length handed.items ≡ 7 }
+{
+    let mut out = String::new(alloc);
+    if setting.set(alloc, line)? {
+        return Ok(out);
+    }
+    let question = question_of(alloc, line)?;
+    let cfa = automaton(alloc, &setting.table)?;
+    let picks = picks_of(alloc, setting.picks.as_str())?;
+    let count = picks.len();
+    let mut composite = Composite::new(handed, picks);
+    out.push_str(" = ")?;
+    push_answer(
+        alloc,
+        &mut out,
+        &mut composite,
+        count,
+        &cfa,
+        &setting.precisions,
+        &question,
+    )?;
+    Ok(out)
+}
