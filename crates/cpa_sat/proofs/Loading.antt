@@ -1,12 +1,12 @@
 -- The beginning of a search, and what its end gives.
 use Rattle.std.proofs.Common.{◌≡◌, ◌≢◌, ℕ, zero, suc, ◌+◌, ◌-◌, ◌*◌, ◌^◌, ◌<◌, ◌≤◌, List, [], ◌∷◌}
-use Rattle.std.proofs.Common.{◌++◌, map, take, length, get_or, sym, ap, ◌∙◌, subst, arith}
+use Rattle.std.proofs.Common.{◌++◌, map, take, length, get_or, refl, sym, ap, ◌∙◌, subst, arith}
 use Rattle.std.proofs.Common.{Bool}
 use Rattle.std.specs.Prelude.{slice_index_or}
 use Rattle.std.specs.List.{AllByRecursion}
-use Rattle.std.proofs.lemmas.List.{take_more, take_all, append-nil, get_or_append_left}
+use Rattle.std.proofs.lemmas.List.{take_all, append_assoc, append-nil, get_or_append_left}
 use Rattle.std.proofs.lemmas.List.{get_or_default, length-map, length-append}
-use Rattle.std.proofs.lemmas.List.Elements.{All-from_recursion, recursion_from_All}
+use Rattle.std.proofs.lemmas.List.Elements.{recursion_from_All}
 use Rattle.std.proofs.lemmas.Option.{slice_get_within}
 use Rattle.cpa_cnf.specs.declared.formula.Cnf.{Cnf}
 use Rattle.cpa_cnf.specs.declared.formula.Line.{Line}
@@ -24,10 +24,6 @@ use Rattle.cpa_sat.proofs.Growth.{at_number}
 use Rattle.cpa_trail.specs.lemmas.Values.{satisfied}
 use Rattle.cpa_sat.proofs.Counting.{few_lines}
 
-pub at_item : (P : List ℕ → Type 0) (xs : List (List ℕ)) (i : ℕ) (x : List ℕ) → AllByRecursion P xs
-    → i < length xs → x ≡ get_or xs i x → P x
-at_item P xs i x all below is = subst P (sym is) (All-from_recursion P xs all i x below)
-
 weaker : (n m : ℕ) (xs : List ℕ) → n ≤ m → AllByRecursion (λ l. l < n) xs
     → AllByRecursion (λ l. l < m) xs
 weaker n m [] h all = tt
@@ -36,36 +32,60 @@ weaker n m (x ∷ xs) h all = (up x n m all.0 h, weaker n m xs h all.1)
     up : (a b c : ℕ) → a < b → b ≤ c → a < c
     up a b c p q = omega arith
 
-pub small_literals : (vars : ℕ) (xs : List ℕ) → vars < 2 ^ 31 → AreBelow vars xs
+small_literals : (vars : ℕ) (xs : List ℕ) → vars < 2 ^ 31 → AreBelow vars xs
     → AllByRecursion (λ l. l < 4294967296) xs
 small_literals vars xs h all = weaker (2 * vars) 4294967296 xs (room vars h) all
   where
     room : (n : ℕ) → n < 2147483648 → 2 * n ≤ 4294967296
     room n k = omega arith
 
-pub loaded_more : (cnf : Cnf) (i : ℕ) (arena more : List (List ℕ)) (clause : List ℕ)
-    → i < length cnf.clauses → clause ≡ get_or cnf.clauses i clause
-    → AreLoaded cnf i arena → more ≡ arena ++ clause ∷ [] → IsClause clause
-    → length more < 4294967295 → AreLoaded cnf (i + 1) more
-loaded_more cnf i arena more clause inside is l e sorted few =
-    let next : take (i + 1) cnf.clauses ≡ take i cnf.clauses ++ clause ∷ [] =
-    take_more cnf.clauses i clause inside
-    ∙ ap (λ (c : List ℕ). take i cnf.clauses ++ c ∷ []) (sym is) in
+-- the clauses of the arena are the first ones of a formula, and these stand behind them
+pub record IsLoading (cnf : Cnf) (behind arena : List (List ℕ)) : Type 0 where
+  pub clauses : arena ++ behind ≡ cnf.clauses
+  pub sorted : (k : ℕ) → IsClause (slice_index_or arena k [])
+  pub few : length arena < 4294967295
+  pub below : AllByRecursion (AreBelow cnf.vars) behind
+
+pub loads_first : (cnf : Cnf) (behind arena : List (List ℕ)) → behind ≡ cnf.clauses → arena ≡ []
+    → AllByRecursion (AreBelow cnf.vars) cnf.clauses → IsLoading cnf behind arena
+loads_first cnf behind arena all none below =
+    subst (λ (cs : List (List ℕ)). IsLoading cnf cs arena) (sym all)
+    (subst (λ (cs : List (List ℕ)). IsLoading cnf cnf.clauses cs) (sym none) (record {
+      clauses = refl;
+      sorted = λ k. tt;
+      few = omega arith;
+      below = below;
+    }))
+
+pub loads_small : (cnf : Cnf) (clause : List ℕ) (last behind arena : List (List ℕ))
+    → last ≡ clause ∷ behind → cnf.vars < 2 ^ 31 → IsLoading cnf last arena
+    → AllByRecursion (λ l. l < 4294967296) clause
+loads_small cnf clause last behind arena is vars l =
+    small_literals cnf.vars clause vars
+    (subst (λ (cs : List (List ℕ)). AllByRecursion (AreBelow cnf.vars) cs) is l.below).0
+
+pub loads_next : (cnf : Cnf) (clause : List ℕ) (last behind arena more : List (List ℕ))
+    → last ≡ clause ∷ behind → IsLoading cnf last arena → more ≡ arena ++ clause ∷ []
+    → IsClause clause → length more < 4294967295 → IsLoading cnf behind more
+loads_next cnf clause last behind arena more is l next sorted few =
     record {
-      clauses = e ∙ ap (λ (cs : List (List ℕ)). cs ++ clause ∷ []) l.clauses ∙ sym next;
+      clauses = ap (λ (cs : List (List ℕ)). cs ++ behind) next
+          ∙ append_assoc arena (clause ∷ []) behind
+          ∙ ap (λ (cs : List (List ℕ)). arena ++ cs) (sym is) ∙ l.clauses;
       sorted = λ k. subst (λ (cs : List (List ℕ)). IsClause (slice_index_or cs k [])) (sym next)
-          (at_number IsClause (take i cnf.clauses) clause l.sorted sorted k);
+          (at_number IsClause arena clause l.sorted sorted k);
       few = few;
+      below = (subst (λ (cs : List (List ℕ)). AllByRecursion (AreBelow cnf.vars) cs) is l.below).1;
     }
 
-pub loaded_all : (cnf : Cnf) (i : ℕ) (arena : List (List ℕ)) → length cnf.clauses ≤ i
-    → AreLoaded cnf i arena → AreLoaded cnf (length cnf.clauses) arena
-loaded_all cnf i arena past l =
-    let same : take i cnf.clauses ≡ take (length cnf.clauses) cnf.clauses =
-    take_all i cnf.clauses past ∙ sym
-    (take_all (length cnf.clauses) cnf.clauses (same_le (length cnf.clauses))) in
+pub loads_all : (cnf : Cnf) (behind arena : List (List ℕ)) → length behind ≡ 0
+    → IsLoading cnf behind arena → AreLoaded cnf (length cnf.clauses) arena
+loads_all cnf [] arena none l =
+    let whole : arena ≡ cnf.clauses = sym (append-nil arena) ∙ l.clauses in
+    let same : arena ≡ take (length cnf.clauses) cnf.clauses =
+    whole ∙ sym (take_all (length cnf.clauses) cnf.clauses (same_le (length cnf.clauses))) in
     record {
-      clauses = l.clauses ∙ same;
+      clauses = same;
       sorted = λ k. subst (λ (cs : List (List ℕ)). IsClause (slice_index_or cs k [])) same
           (l.sorted k);
       few = l.few;
@@ -73,6 +93,7 @@ loaded_all cnf i arena past l =
   where
     same_le : (n : ℕ) → n ≤ n
     same_le n = omega arith
+loads_all cnf (c ∷ cs) arena none l = absurd (omega (arith, none))
 
 below_at : (vars : ℕ) (cs : List (List ℕ)) → AllByRecursion (AreBelow vars) cs → (k : ℕ)
     → AreBelow vars (slice_index_or cs k [])

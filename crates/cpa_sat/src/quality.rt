@@ -49,7 +49,7 @@ impl Quality {
 
     /// Whether the clause is watched.
     pub(crate) fn is_kept(&self, number: usize) -> bool {
-        !self.dropped.as_slice().get(number).copied().unwrap_or(true)
+        !self.dropped.get(number).copied().unwrap_or(true)
     }
 
     /// Whether the clause was learned and is watched.
@@ -59,7 +59,7 @@ impl Quality {
 
     /// The distance of a clause, 0 for those of the formula.
     fn distance(&self, number: usize) -> u32 {
-        self.distances.as_slice().get(number).copied().unwrap_or(0)
+        self.distances.get(number).copied().unwrap_or(0)
     }
 
     /// How many watched learned clauses have each distance.

@@ -45,7 +45,7 @@ impl Redundancy {
 
     /// `is_implied` of a place as an index.
     pub(crate) fn is_implied_at(&self, place: usize) -> bool {
-        self.implied.as_slice().get(place).copied().unwrap_or(false)
+        self.implied.get(place).copied().unwrap_or(false)
     }
 
     /// Forgets what is known, and counts the levels of the marked literals.
@@ -74,7 +74,7 @@ impl Redundancy {
 
     /// Whether a marked literal has the level, or no decision stands before it.
     fn has_level(&self, level: u32) -> bool {
-        level == 0 || self.stamps.as_slice().get(level as usize).copied() == Some(self.stamp)
+        level == 0 || self.stamps.get(level as usize).copied() == Some(self.stamp)
     }
 
     /// Forgets the places that became known after so many others.
@@ -87,7 +87,7 @@ impl Redundancy {
 
     /// Forgets what is known of the place that became known as number `k`.
     fn forget_one(&mut self, k: usize) {
-        let place = self.known.as_slice().get(k).copied().unwrap_or(NONE) as usize;
+        let place = self.known.get(k).copied().unwrap_or(NONE) as usize;
         if place < self.implied.len() {
             self.implied[place] = false;
         }

@@ -44,7 +44,7 @@ fn load(alloc: Global, cnf: &Cnf) -> Result<Arena, AllocError>
     ensures { IfOk result (AreLoaded cnf.now (length cnf.now.clauses)) }
 {
     let mut arena = Arena::new(alloc);
-    for clause in cnf.clauses.as_slice() {
+    for clause in &cnf.clauses {
         load_clause(&mut arena, clause)?;
     }
     Ok(arena)
