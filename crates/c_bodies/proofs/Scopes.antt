@@ -26,13 +26,16 @@ two_walks text caller a b zero_state one two first second =
     second ∙ ap (λ (s : State). walked text caller b s) first
     ∙ sym (walked_followed text caller a b zero_state)
 
-pub three_walks : (text : Text) (caller : ℕ) (a b c : Walk) (zero_state one two three : State)
-    → one ≡ walked text caller a zero_state → two ≡ walked text caller b one
-    → three ≡ walked text caller c two
-    → three ≡ walked text caller (followed a (followed b c)) zero_state
-three_walks text caller a b c zero_state one two three first second third =
-    two_walks text caller a (followed b c) zero_state one three first
-    (two_walks text caller b c one two three second third)
+pub four_walks : (text : Text) (caller : ℕ) (a b c d : Walk) (zero_state three four : State)
+    → three ≡ walked text caller c (walked text caller b (walked text caller a zero_state))
+    → four ≡ walked text caller d three
+    → four ≡ walked text caller (followed a (followed b (followed c d))) zero_state
+four_walks text caller a b c d zero_state three four third fourth =
+    let one = walked text caller a zero_state in
+    let two = walked text caller b one in
+    fourth ∙ ap (λ (s : State). walked text caller d s) third
+    ∙ sym (walked_followed text caller a (followed b (followed c d)) zero_state
+    ∙ walked_followed text caller b (followed c d) one ∙ walked_followed text caller c d two)
 
 looped_is : (text : Text) (caller : ℕ) (part : Walk) (state : State)
     → walked text caller (looped part) state

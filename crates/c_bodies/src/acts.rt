@@ -3,7 +3,7 @@
 ghost use Rattle.std.specs.Prelude.{◌≡◌, not, IfOk, OnOk, is_some, option_map};
 ghost use Rattle.std.specs.List.{list_any};
 ghost use Rattle.std.specs.Str.{bytes_eq};
-ghost use Rattle.c_rules.specs.declared.meaning.Role.TheVariants.{Valued};
+ghost use Rattle.c_rules.specs.declared.meaning.Role.TheVariants.{Valued, Evaluated};
 ghost use Rattle.c_rules.specs.Statements.{evaluates, jumps as goes_to, marks, leaves, returns};
 ghost use Rattle.c_rules.specs.Statements.{evaluating};
 ghost use Rattle.c_rules.specs.Statements.{followed, doing};
@@ -76,6 +76,37 @@ pub(crate) fn evaluate_optional(
             Ok(Some(typed))
         }
     }
+}
+
+/// The test and the step of a `for`.
+#[derive(Drop)]
+pub(crate) struct Tests {
+    pub(crate) test: Option<TypedExpression>,
+    pub(crate) step: Option<TypedExpression>,
+}
+
+/// Evaluates the test and the step of a `for`.
+pub(crate) fn evaluate_tests(
+    alloc: Global,
+    frame: &Frame,
+    walker: &mut Walker,
+    test: &Option<Expression>,
+    step: &Option<Expression>,
+) -> Result<Tests, AllocError>
+    ensures test { IfOk result (λ t. t.test
+        ≡ option_map (typed_of frame.now.survey.now walker.old.names) test.now) }
+    ensures step { IfOk result (λ t. t.step
+        ≡ option_map (typed_of frame.now.survey.now walker.old.names) step.now) }
+    ensures names { OnOk result (walker.new.names ≡ walker.old.names) }
+    ensures objects { OnOk result (walker.new.objects ≡ walker.old.objects) }
+    ensures state { (nest : Nesting) (found : Found) → OnOk result
+        (state_of frame.now nest walker.new found ≡ walked frame.now.survey.now frame.now.caller
+        (evaluating Evaluated step.now) (walked frame.now.survey.now frame.now.caller
+        (evaluating Valued test.now) (state_of frame.now nest walker.old found))) }
+{
+    let test = evaluate_optional(alloc, frame, walker, Role::Valued, test)?;
+    let step = evaluate_optional(alloc, frame, walker, Role::Evaluated, step)?;
+    Ok(Tests { test, step })
 }
 
 /// A break or a continue.

@@ -4,17 +4,17 @@ ghost use Rattle.std.specs.Prelude.{◌≡◌, map, IfOk, OnOk, option_map, unwr
 ghost use Rattle.std.specs.Str.{bytes_eq};
 ghost use Rattle.c_tree.specs.declared.statement.BlockItem.TheOpen.{Statement-F};
 ghost use Rattle.c_rules.specs.Names.{place_of};
-ghost use Rattle.c_rules.specs.declared.meaning.Role.TheVariants.{Valued};
-ghost use Rattle.c_rules.specs.Statements.{followed, doing, evaluates};
+ghost use Rattle.c_rules.specs.declared.meaning.Role.TheVariants.{Valued, Evaluated};
+ghost use Rattle.c_rules.specs.Statements.{followed, doing, evaluates, evaluating};
 ghost use Rattle.c_typing.specs.Read.{typed_of};
 ghost use Rattle.c_rules.specs.Statements.{looped, loop, in_order, start_walk, perhaps};
 ghost use Rattle.c_rules.specs.TypedStatements.{grown, grown_statement};
-ghost use Rattle.c_rules.specs.TypedStatements.{typed_in_order, typed_for_start};
+ghost use Rattle.c_rules.specs.TypedStatements.{typed_in_order, typed_for_start, typed_optional};
 ghost use Rattle.c_bodies.specs.Grown.{grown_of, grown_walk, grown_typed, walk_of_statement};
 ghost use Rattle.c_bodies.specs.States.{walked};
 ghost use Rattle.c_bodies.specs.Views.{state_of, around_of, IsTied, Extends};
 
-use crate::acts::{evaluate, evaluate_optional, finish, jump, leave, mark};
+use crate::acts::{evaluate, evaluate_optional, evaluate_tests, finish, jump, leave, mark};
 use crate::declarations::walk_declaration;
 use crate::walker::{Frame, Nest, Walker};
 use c_jumps::Jumps;
@@ -116,6 +116,31 @@ pub(crate) fn walk_statement(
     }
 }
 
+/// Walks through a statement that is a part of another.
+#[cycle(statement)]
+fn walk_part(
+    alloc: Global,
+    frame: &Frame,
+    walker: &mut Walker,
+    jumps: &mut Jumps,
+    nest: Nest,
+    statement: &Statement,
+) -> Result<Boxed<TypedStatement>, AllocError>
+    requires { IsTied frame.now walker.old jumps.old }
+    ensures tied { OnOk result (IsTied frame.now walker.new jumps.new) }
+    ensures names { OnOk result (walker.new.names ≡ walker.old.names) }
+    ensures typed { IfOk result (λ t. t ≡ (grown_of frame.now.survey.now statement.now).typed
+        (around_of frame.now nest walker.old)) }
+    ensures state { OnOk result (state_of frame.now nest walker.new jumps.new
+        ≡ walked frame.now.survey.now frame.now.caller
+        (grown_of frame.now.survey.now statement.now).walk
+        (state_of frame.now nest walker.old jumps.old)) }
+{
+    let typed = walk_statement(alloc, frame, walker, jumps, nest, statement)?;
+    let boxed = Boxed::new(alloc, typed)?;
+    Ok(boxed)
+}
+
 /// Walks through the body of a loop.
 #[cycle(statement)]
 fn walk_looped(
@@ -125,7 +150,7 @@ fn walk_looped(
     jumps: &mut Jumps,
     nest: Nest,
     body: &Statement,
-) -> Result<TypedStatement, AllocError>
+) -> Result<Boxed<TypedStatement>, AllocError>
     requires { IsTied frame.now walker.old jumps.old }
     ensures tied { OnOk result (IsTied frame.now walker.new jumps.new) }
     ensures names { OnOk result (walker.new.names ≡ walker.old.names) }
@@ -140,7 +165,7 @@ fn walk_looped(
         outer: nest.outer,
         in_loop: true,
     };
-    let typed = walk_statement(alloc, frame, walker, jumps, inside, body)?;
+    let typed = walk_part(alloc, frame, walker, jumps, inside, body)?;
     Ok(typed)
 }
 
@@ -175,9 +200,8 @@ fn walk_tested(
         (state_of frame.now nest walker.old jumps.old)) }
 {
     let test = evaluate(alloc, frame, walker, Role::Valued, test)?;
-    let then = walk_statement(alloc, frame, walker, jumps, nest, yes)?;
-    let boxed = Boxed::new(alloc, then)?;
-    Ok(Tested { test, yes: boxed })
+    let yes = walk_part(alloc, frame, walker, jumps, nest, yes)?;
+    Ok(Tested { test, yes })
 }
 
 /// Walks through an `else`, if there is one.
@@ -204,8 +228,8 @@ fn walk_optional(
     match statement {
         None => Ok(None),
         Some(statement) => {
-            let typed = walk_statement(alloc, frame, walker, jumps, nest, statement.get())?;
-            Ok(Some(Boxed::new(alloc, typed)?))
+            let typed = walk_part(alloc, frame, walker, jumps, nest, statement.get())?;
+            Ok(Some(typed))
         }
     }
 }
@@ -234,7 +258,6 @@ fn walk_while(
 {
     let test = evaluate(alloc, frame, walker, Role::Valued, test)?;
     let body = walk_looped(alloc, frame, walker, jumps, nest, body)?;
-    let body = Boxed::new(alloc, body)?;
     Ok(TypedStatement::While { test, body })
 }
 
@@ -262,7 +285,6 @@ fn walk_do(
 {
     let body = walk_looped(alloc, frame, walker, jumps, nest, body)?;
     let test = evaluate(alloc, frame, walker, Role::Valued, test)?;
-    let body = Boxed::new(alloc, body)?;
     Ok(TypedStatement::Do { body, test })
 }
 
@@ -297,6 +319,54 @@ fn walk_start(
     }
 }
 
+/// What stands in the brackets of a `for`.
+#[derive(Drop)]
+struct Head {
+    start: TypedForStart,
+    test: Option<TypedExpression>,
+    step: Option<TypedExpression>,
+}
+
+/// Walks through what stands in the brackets of a `for`.
+fn walk_head(
+    alloc: Global,
+    frame: &Frame,
+    walker: &mut Walker,
+    jumps: &mut Jumps,
+    nest: Nest,
+    start: &ForStart,
+    test: &Option<Expression>,
+    step: &Option<Expression>,
+) -> Result<Head, AllocError>
+    requires { IsTied frame.now walker.old jumps.old }
+    ensures tied { OnOk result (IsTied frame.now walker.new jumps.new) }
+    ensures extends { OnOk result (Extends walker.old.names walker.new.names) }
+    ensures start { IfOk result (λ head. head.start ≡ typed_for_start frame.now.survey.now
+        start.now (around_of frame.now nest walker.old)) }
+    ensures test { IfOk result (λ head. head.test ≡ typed_optional frame.now.survey.now
+        ((start_walk frame.now.survey.now start.now).behind (around_of frame.now nest walker.old))
+        test.now) }
+    ensures step { IfOk result (λ head. head.step ≡ typed_optional frame.now.survey.now
+        ((start_walk frame.now.survey.now start.now).behind (around_of frame.now nest walker.old))
+        step.now) }
+    ensures around { OnOk result (around_of frame.now nest walker.new
+        ≡ (start_walk frame.now.survey.now start.now).behind
+        (around_of frame.now nest walker.old)) }
+    ensures state { OnOk result (state_of frame.now nest walker.new jumps.new
+        ≡ walked frame.now.survey.now frame.now.caller (evaluating Evaluated step.now)
+        (walked frame.now.survey.now frame.now.caller (evaluating Valued test.now)
+        (walked frame.now.survey.now frame.now.caller (start_walk frame.now.survey.now start.now)
+        (state_of frame.now nest walker.old jumps.old)))) }
+{
+    let start = walk_start(alloc, frame, walker, jumps, nest, start)?;
+    let tests = evaluate_tests(alloc, frame, walker, test, step)?;
+    Ok(Head {
+        start,
+        test: tests.test,
+        step: tests.step,
+    })
+}
+
 /// Walks through a `for`.
 #[cycle(statement)]
 fn walk_for(
@@ -329,17 +399,14 @@ fn walk_for(
         outer: count,
         in_loop: nest.in_loop,
     };
-    let start = walk_start(alloc, frame, walker, jumps, inside, start)?;
-    let test = evaluate_optional(alloc, frame, walker, Role::Valued, test)?;
-    let step = evaluate_optional(alloc, frame, walker, Role::Evaluated, step)?;
+    let head = walk_head(alloc, frame, walker, jumps, inside, start, test, step)?;
     let body = walk_looped(alloc, frame, walker, jumps, inside, body)?;
     walker.names.keep(count);
     jumps.leave(depth);
-    let body = Boxed::new(alloc, body)?;
     Ok(TypedStatement::For {
-        start,
-        test,
-        step,
+        start: head.start,
+        test: head.test,
+        step: head.step,
         body,
     })
 }
@@ -367,8 +434,7 @@ fn walk_labeled(
         (state_of frame.now nest walker.old jumps.old)) }
 {
     mark(alloc, frame, walker, jumps, label)?;
-    let body = walk_statement(alloc, frame, walker, jumps, nest, body)?;
-    let body = Boxed::new(alloc, body)?;
+    let body = walk_part(alloc, frame, walker, jumps, nest, body)?;
     Ok(TypedStatement::Labeled {
         label: label_number(frame, label),
         body,

@@ -21,8 +21,8 @@ use Rattle.c_bodies.specs.Grown.{grown_of, grown_walk, grown_typed, walk_of_stat
 use Rattle.c_bodies.specs.States.{walked, State}
 use Rattle.c_bodies.specs.Views.{state_of, around_of, Extends}
 use Rattle.c_bodies.proofs.Walks.{walked_still}
-use Rattle.c_bodies.proofs.Scopes.{two_walks, three_walks, looped_state, scoped_state, tied_scoped}
-use Rattle.c_bodies.proofs.Scopes.{tied_same, extends_kept, extends_then, looping, regrouped}
+use Rattle.c_bodies.proofs.Scopes.{two_walks, four_walks, looped_state, scoped_state, tied_scoped}
+use Rattle.c_bodies.proofs.Scopes.{tied_same, extends_kept, extends_then, regrouped}
 use Rattle.c_bodies.proofs.Lists.{item_state, items_end, items_step, around_walked, walks_same}
 use Rattle.c_bodies.proofs.Forms.{of_Declaration, of_Statement, of_Block, of_If, of_While, of_Do}
 use Rattle.c_bodies.proofs.Forms.{of_For, of_Goto, of_Break, of_Continue, of_Return, of_Labeled}
@@ -32,8 +32,8 @@ use Rattle.c_bodies.proofs.statements.+statement.Goals as goal
 pub walk_looped-returns-clause-state : goal.walk_looped-returns-clause-state
 walk_looped-returns-clause-state t c =
     let frame = c.args.frame.now in
-    looped_state frame c.args.nest c.args.walker.now c.walk_statement.new.walker c.args.jumps.now
-    c.walk_statement.new.jumps frame.survey.now frame.caller
+    looped_state frame c.args.nest c.args.walker.now c.walk_part.new.walker c.args.jumps.now
+    c.walk_part.new.jumps frame.survey.now frame.caller
     (grown_of frame.survey.now c.args.body.now).walk c.in_ok-typed.ensures.names
     c.in_ok-typed.ensures.state
 
@@ -132,14 +132,12 @@ walk_block-returns-clause-state t c =
 pub walk_for-returns-clause-tied : goal.walk_for-returns-clause-tied
 walk_for-returns-clause-tied t c =
     let frame = c.args.frame.now in
-    let text = frame.survey.now in
     let old = c.args.walker.now in
     let mid = c.walk_looped.new.walker in
     let before = c.walk_looped.new.jumps in
     let more : Extends old.names mid.names = record {
-      rest = c.in_ok-start.ensures.extends.rest;
-      is = c.in_ok-body.ensures.names ∙ c.in_ok-step.ensures.names ∙ c.in_ok-test.ensures.names
-          ∙ c.in_ok-start.ensures.extends.is;
+      rest = c.in_ok-head.ensures.extends.rest;
+      is = c.in_ok-body.ensures.names ∙ c.in_ok-head.ensures.extends.is;
     } in
     let names = c.keep.ensures
     ∙ ap (λ (n : ℕ). take n mid.names) c.len-count.ensures
@@ -158,9 +156,8 @@ walk_for-returns-clause-state t c =
     let mid = c.walk_looped.new.walker in
     let before = c.walk_looped.new.jumps in
     let more : Extends old.names mid.names = record {
-      rest = c.in_ok-start.ensures.extends.rest;
-      is = c.in_ok-body.ensures.names ∙ c.in_ok-step.ensures.names ∙ c.in_ok-test.ensures.names
-          ∙ c.in_ok-start.ensures.extends.is;
+      rest = c.in_ok-head.ensures.extends.rest;
+      is = c.in_ok-body.ensures.names ∙ c.in_ok-head.ensures.extends.is;
     } in
     let names = c.keep.ensures
     ∙ ap (λ (n : ℕ). take n mid.names) c.len-count.ensures
@@ -171,64 +168,36 @@ walk_for-returns-clause-state t c =
     let third = evaluating Evaluated c.args.step.now in
     let last = looped (grown_of text c.args.body.now).walk in
     let part = followed first (followed second (followed third last)) in
-    let jumps = c.walk_start.new.jumps in
-    let begun = state_of frame inside c.walk_start.new.walker jumps in
-    let tested = state_of frame inside c.evaluate_optional.new.walker jumps in
-    let stepped = state_of frame inside c.evaluate_optional-2.new.walker jumps in
-    let ended = state_of frame inside mid before in
     scoped_state frame c.args.nest c.len-count.result old mid
     (record mid { names = c.keep.new.self }) c.args.jumps.now before c.leave.new.self text
     frame.caller part c.requires.within c.len-count.ensures more names refl refl refl
     (ap (λ (f : Found). f.labels) c.leave.ensures) (ap (λ (f : Found). f.gotos) c.leave.ensures)
-    (two_walks text frame.caller first (followed second (followed third last))
-    (state_of frame inside old c.args.jumps.now) begun ended c.in_ok-start.ensures.state
-    (three_walks text frame.caller second third last begun tested stepped ended
-    (c.in_ok-test.ensures.state inside jumps) (c.in_ok-step.ensures.state inside jumps)
-    c.in_ok-body.ensures.state))
+    (four_walks text frame.caller first second third last
+    (state_of frame inside old c.args.jumps.now)
+    (state_of frame inside c.walk_head.new.walker c.walk_head.new.jumps)
+    (state_of frame inside mid before) c.in_ok-head.ensures.state c.in_ok-body.ensures.state)
 
 pub walk_for-returns-clause-typed : goal.walk_for-returns-clause-typed
 walk_for-returns-clause-typed t c =
     let frame = c.args.frame.now in
     let text = frame.survey.now in
-    let old = c.args.walker.now in
-    let inside : Nest = record { outer = c.len-count.result; in_loop = c.args.nest.in_loop } in
-    let outside = around_of frame c.args.nest old in
-    let jumps = c.walk_start.new.jumps in
+    let outside = around_of frame c.args.nest c.args.walker.now in
     let first = start_walk text c.args.start.now in
-    let begun = c.walk_start.new.walker in
-    let stepped = c.evaluate_optional-2.new.walker in
     let entered = ap (λ (n : ℕ). record outside { outer = n }) c.len-count.ensures in
-    let behind = around_walked text frame.caller first (state_of frame inside old c.args.jumps.now)
-    (state_of frame inside begun jumps) c.in_ok-start.ensures.state
-    ∙ ap (λ (around : Around). first.behind around) entered in
-    let names = c.in_ok-step.ensures.names ∙ c.in_ok-test.ensures.names in
-    let objects = c.in_ok-step.ensures.objects ∙ c.in_ok-test.ensures.objects in
-    let last : around_of frame (looping inside) stepped ≡ loop (around_of frame inside begun) =
-    ap (λ (all : List Entry). record (around_of frame (looping inside) stepped) { names = all })
-    names
-    ∙ ap (λ (n : ℕ). record (loop (around_of frame inside begun)) { objects = n }) objects in
-    for_same c.in_ok-start.start _ c.in_ok-test.test _ c.in_ok-step.step _ c.in_ok-body-2.body _
-    (c.in_ok-start.ensures.typed
+    for_same c.in_ok-head.head.start _ c.in_ok-head.head.test _ c.in_ok-head.head.step _
+    c.in_ok-body.body _
+    (c.in_ok-head.ensures.start
     ∙ ap (λ (around : Around). typed_for_start text c.args.start.now around) entered)
-    (c.in_ok-test.ensures.typed
-    ∙ ap (λ (around : Around). typed_optional text around c.args.test.now) behind)
-    (c.in_ok-step.ensures.typed
-    ∙ ap (λ (all : List Entry). option_map (typed_of text all) c.args.step.now)
-    c.in_ok-test.ensures.names
-    ∙ ap (λ (around : Around). typed_optional text around c.args.step.now) behind)
-    (c.in_ok-body-2.ensures ∙ c.in_ok-body.ensures.typed
-    ∙ ap (λ (around : Around). (grown_of text c.args.body.now).typed around)
-    (last ∙ ap (λ (around : Around). loop around) behind))
+    (c.in_ok-head.ensures.test
+    ∙ ap (λ (around : Around). typed_optional text (first.behind around) c.args.test.now) entered)
+    (c.in_ok-head.ensures.step
+    ∙ ap (λ (around : Around). typed_optional text (first.behind around) c.args.step.now) entered)
+    (c.in_ok-body.ensures.typed
+    ∙ ap (λ (around : Around). (grown_of text c.args.body.now).typed (loop around))
+    (c.in_ok-head.ensures.around ∙ ap (λ (around : Around). first.behind around) entered))
 
 pub walk_for-walk_looped-requires : goal.walk_for-walk_looped-requires
-walk_for-walk_looped-requires t c = (
-  search rules,
-  tied_same c.args.frame.now c.evaluate_optional.new.walker c.evaluate_optional-2.new.walker
-      c.walk_start.new.jumps
-      (tied_same c.args.frame.now c.walk_start.new.walker c.evaluate_optional.new.walker
-      c.walk_start.new.jumps c.in_ok-start.ensures.tied c.in_ok-test.ensures.names
-      c.in_ok-test.ensures.objects) c.in_ok-step.ensures.names c.in_ok-step.ensures.objects,
-)
+walk_for-walk_looped-requires t c = (search rules, c.in_ok-head.ensures.tied)
 
 pub walk_items-loop-item-preserved : goal.walk_items-loop-item-preserved
 walk_items-loop-item-preserved t c =
@@ -408,8 +377,8 @@ walk_statement-returns-in_ok-value-in-Return-clause-state t c =
     rw (c.in-Return.is, of_Return c.args.frame.now.survey.now c.in-Return.value c.in-Return.place)
     (c.in_ok-value-in-Return.ensures.state c.args.nest c.args.jumps.now)
 
-pub walk_tested-walk_statement-requires : goal.walk_tested-walk_statement-requires
-walk_tested-walk_statement-requires t c = (
+pub walk_tested-walk_part-requires : goal.walk_tested-walk_part-requires
+walk_tested-walk_part-requires t c = (
   first_of (search rules, grind arith, grind (arith, common_steps)),
   tied_same c.args.frame.now c.args.walker.now c.evaluate.new.walker c.args.jumps.now c.requires
       c.in_ok-test.ensures.names c.in_ok-test.ensures.objects,
@@ -423,7 +392,7 @@ walk_tested-returns-clause-state t c =
     two_walks text frame.caller (doing (evaluates Valued c.args.test.now))
     (grown_of text c.args.yes.now).walk (state_of frame c.args.nest old c.args.jumps.now)
     (state_of frame c.args.nest c.evaluate.new.walker c.args.jumps.now) _
-    (c.in_ok-test.ensures.state c.args.nest c.args.jumps.now) c.in_ok-then.ensures.state
+    (c.in_ok-test.ensures.state c.args.nest c.args.jumps.now) c.in_ok-yes.ensures.state
 
 pub walk_tested-returns-clause-yes : goal.walk_tested-returns-clause-yes
 walk_tested-returns-clause-yes t c =
@@ -431,7 +400,7 @@ walk_tested-returns-clause-yes t c =
     let text = frame.survey.now in
     let old = c.args.walker.now in
     let tested = c.evaluate.new.walker in
-    c.in_ok-boxed.ensures ∙ c.in_ok-then.ensures.typed
+    c.in_ok-yes.ensures.typed
     ∙ ap (λ (around : Around). (grown_of text c.args.yes.now).typed around)
     (ap (λ (all : List Entry). record (around_of frame c.args.nest tested) { names = all })
     c.in_ok-test.ensures.names
