@@ -14,6 +14,7 @@ use Rattle.cpa_expr.specs.declared.tree.CmpOp.TheVariants as cmp
 use Rattle.cpa_expr.specs.declared.tree.Expr.{Expr}
 use Rattle.cpa_expr.specs.declared.tree.Expr.TheVariants.{Const, Cmp}
 use Rattle.cpa_expr.specs.Shape.{type_of, height, AreCells, IsTyped}
+use Rattle.cpa_expr.specs.declared.shape.TheConstants.{MAX_HEIGHT}
 use Rattle.cpa_expr.specs.Cells.{AreValues, scalar_read}
 use Rattle.cpa_expr.specs.Laws.{typed_at_variants, height_at_variants, type_at_variants}
 use Rattle.cpa_expr.specs.Laws.{a_scalar_is_its_cell, a_constant_is_its_number}
@@ -112,12 +113,12 @@ module _ (cells : List Cell) (points : ℕ) (few : length (types_of cells) < 2 ^
 
     -- a comparison of a cell with a number
     compared : (o : CmpOp) (t : IntType) (a b : Expr) → IsTyped (types_of cells) a
-        → IsTyped (types_of cells) b → type_of a ≡ t → type_of b ≡ t → height a ≤ 500
-        → height b ≤ 500
-        → IsTyped (types_of cells) (Cmp o t a b) × (height (Cmp o t a b) ≤ 501)
+        → IsTyped (types_of cells) b → type_of a ≡ t → type_of b ≡ t → height a ≤ MAX_HEIGHT
+        → height b ≤ MAX_HEIGHT
+        → IsTyped (types_of cells) (Cmp o t a b) × (height (Cmp o t a b) ≤ MAX_HEIGHT + 1)
     compared o t a b h k is are low also = (
       (typed_at_variants.comparison (types_of cells) o t a b).1 (is, are, h, k),
-      subst (λ n. n ≤ 501) (sym (height_at_variants.comparison o t a b))
+      subst (λ n. n ≤ MAX_HEIGHT + 1) (sym (height_at_variants.comparison o t a b))
           (let most = max-le low also in omega (arith, most)),
     )
 

@@ -15,6 +15,7 @@ use Rattle.cpa_expr.specs.declared.tree.CmpOp.TheVariants as cmp
 use Rattle.cpa_expr.specs.declared.tree.Expr.{Expr}
 use Rattle.cpa_expr.specs.declared.tree.Expr.TheVariants.{Cmp}
 use Rattle.cpa_expr.specs.Shape.{type_of, height, IsTyped}
+use Rattle.cpa_expr.specs.declared.shape.TheConstants.{MAX_HEIGHT}
 use Rattle.cpa_expr.specs.Values.{truth, is_nonzero, comparison, value_of}
 use Rattle.cpa_expr.specs.Cells.{AreValues, scalar_read}
 use Rattle.cpa_expr.specs.Laws.{value_at_variants, typed_at_variants, height_at_variants}
@@ -216,7 +217,7 @@ pub record Fits (cells : List IntType) (e : Expr) : Type 0 where
   pub typed : IsTyped cells e
   pub height : height e ≤ 1990
 
-pub scalar_height : (t : IntType) (cell : ℕ) → height (scalar_read t cell) ≤ 500
+pub scalar_height : (t : IntType) (cell : ℕ) → height (scalar_read t cell) ≤ MAX_HEIGHT
 scalar_height t cell =
     ((a_scalar_is_its_cell.expr (many t cell) t cell).1 (there t cell)).height
   where
