@@ -1,6 +1,6 @@
 -- What further calls add to a form: it stands behind what was there, reads the places of that time
 -- or what came later, and weighs what was added. Below each statement stands its lemma.
-use Rattle.std.specs.Prelude.{◌≡◌, ℕ, ◌+◌, ◌-◌, ◌^◌, ◌<◌, ◌++◌, min, Bool, IsTrue, List, [], ◌∷◌}
+use Rattle.std.specs.Prelude.{◌≡◌, ℕ, ◌-◌, ◌^◌, ◌<◌, ◌++◌, min, Bool, IsTrue, List, [], ◌∷◌}
 use Rattle.std.specs.Prelude.{length, map, sum}
 use Rattle.std.specs.List.{AllByRecursion}
 use Rattle.std.proofs.Common.{sym, subst, arith, ap, ◌∙◌, zero-add}

@@ -1,6 +1,6 @@
 -- The law of forms: the models of a form's query are the runs that meet what was added. Below the
 -- statement stands its lemma.
-use Rattle.std.specs.Prelude.{sum, true, ◌≡◌, ℕ, ◌+◌, ◌<◌, ◌^◌, ℤ, Bool, List, [], ◌∷◌, length, map}
+use Rattle.std.specs.Prelude.{sum, true, ◌≡◌, ℕ, ◌<◌, ◌^◌, ℤ, Bool, List, [], ◌∷◌, length, map}
 use Rattle.std.specs.Prelude.{slice_get, ◌++◌}
 use Rattle.std.specs.List.{AllByRecursion, flat_map}
 use Rattle.std.proofs.Common.{refl, sym, subst, arith, ap}

@@ -25,7 +25,7 @@ use Rattle.cpa_renaming.specs.Places.{number_at}
 use Rattle.cpa_edge_rules.specs.declared.drafts.Draft.{Draft}
 use Rattle.cpa_edge_rules.specs.Drafts.{next, behind, fresh, kept_unless, block}
 use Rattle.cpa_edge_rules.specs.lemmas.Lists.{Front, front_itself, front_of_front}
-use Rattle.cpa_edge_rules.specs.lemmas.Models.{Fine, all_cells, next_is, model_long, fine_want}
+use Rattle.cpa_edge_rules.specs.lemmas.Models.{Fine, all_cells, model_long, fine_want}
 use Rattle.cpa_edge_rules.specs.lemmas.Models.{want_back, want_forth, fine_fresh, fresh_back}
 use Rattle.cpa_edge_rules.specs.lemmas.Models.{fresh_forth, fresh_value, fresh_type, cells_more}
 use Rattle.cpa_edge_rules.specs.lemmas.Models.{scalar_height}

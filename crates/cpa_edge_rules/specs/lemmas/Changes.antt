@@ -25,7 +25,7 @@ use Rattle.cpa_renaming.specs.Renaming.{renamed}
 use Rattle.cpa_renaming.specs.Laws.{renaming_keeps_meanings}
 use Rattle.cpa_edge_rules.specs.declared.drafts.Draft.{Draft}
 use Rattle.cpa_edge_rules.specs.Drafts.{next, behind, fresh, want, Placed, placed, place_at}
-use Rattle.cpa_edge_rules.specs.Drafts.{written, moved, settled}
+use Rattle.cpa_edge_rules.specs.Drafts.{written, moved}
 use Rattle.cpa_edge_rules.specs.Tests.{type_at}
 use Rattle.cpa_edge_rules.specs.Forms.{Form, draft_of, joined, with_input, or_zero, value_in}
 use Rattle.cpa_edge_rules.specs.Forms.{inputs_at}

@@ -1,5 +1,5 @@
 -- Facts on a store are their tests, and fail where a denial is true.
-use Rattle.std.proofs.Common.{◌≡◌, ◌<◌, ◌≤◌, ◌^◌, ℤ, ◌≤ℤ◌, Bool, true, false, not, List, [], ◌∷◌}
+use Rattle.std.proofs.Common.{◌≡◌, ◌<◌, ◌^◌, ℤ, ◌≤ℤ◌, Bool, true, false, not, List, [], ◌∷◌}
 use Rattle.std.proofs.Common.{length, Option, None, Some, slice_get, refl, sym, ap, ◌∙◌, subst}
 use Rattle.std.proofs.Common.{arith}
 use Rattle.std.specs.Prelude.{IsSomeAnd, int_le, pos, if◌then◌else◌}

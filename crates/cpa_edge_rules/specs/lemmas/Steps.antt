@@ -25,7 +25,7 @@ use Rattle.cpa_edge_rules.specs.lemmas.Copies.{stand_front, shows_same, same_fro
 use Rattle.cpa_edge_rules.specs.lemmas.Wants.{Reads}
 use Rattle.cpa_edge_rules.specs.lemmas.FactTests.{Denies, denied_is}
 use Rattle.cpa_edge_rules.specs.lemmas.Chains.{HasTold, SomeTold, each_kept, each_back, each_forth}
-use Rattle.cpa_edge_rules.specs.lemmas.Calls.{Fitted, q, before_is, behind_is, fitted_joined}
+use Rattle.cpa_edge_rules.specs.lemmas.Calls.{Fitted, before_is, behind_is, fitted_joined}
 use Rattle.cpa_edge_rules.specs.lemmas.Calls.{Askable, Settles, settles}
 use Rattle.cpa_edge_rules.specs.lemmas.Failures.{shown_values, all_flat, flat_all, denials_told}
 use Rattle.cpa_edge_rules.specs.lemmas.Failures.{fails_told, told_fails}
