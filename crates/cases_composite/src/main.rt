@@ -28,29 +28,29 @@ fn main(rt: HostRuntime) -> io::Result<()> {
     let mut out = BufWriter::new(alloc, io::writer(&rt))?;
     for line in BufReader::new(alloc, rt.reader())?.lines(alloc) {
         let line = line?;
-        let handed = vec![in alloc;
-            Handed {
-                analysis: Box::new(alloc, Location::new())?
-            },
-            Handed {
-                analysis: Box::new(alloc, Callstack::new())?
-            },
-            Handed {
-                analysis: Box::new(alloc, Value::new())?
-            },
-            Handed {
-                analysis: Box::new(alloc, Blind::new(0))?
-            },
-            Handed {
-                analysis: Box::new(alloc, Blind::new(3))?
-            },
-            Handed {
-                analysis: Box::new(alloc, Guess)?
-            },
-            Handed {
-                analysis: Box::new(alloc, Counter::new())?
-            },
-        ]?;
+        let mut handed = Vec::new(alloc);
+        handed.reserve(7)?;
+        handed.push_reserved(Handed {
+            analysis: Box::new(alloc, Location::new())?,
+        });
+        handed.push_reserved(Handed {
+            analysis: Box::new(alloc, Callstack::new())?,
+        });
+        handed.push_reserved(Handed {
+            analysis: Box::new(alloc, Value::new())?,
+        });
+        handed.push_reserved(Handed {
+            analysis: Box::new(alloc, Blind::new(0))?,
+        });
+        handed.push_reserved(Handed {
+            analysis: Box::new(alloc, Blind::new(3))?,
+        });
+        handed.push_reserved(Handed {
+            analysis: Box::new(alloc, Guess)?,
+        });
+        handed.push_reserved(Handed {
+            analysis: Box::new(alloc, Counter::new())?,
+        });
         let printed = rows::answered(alloc, handed, &mut setting, line.as_str())?;
         writeln!(out, "{printed}")?;
     }
