@@ -13,9 +13,9 @@ ghost use Rattle.c_core_values.specs.Found.{so_far};
 
 use crate::cells::Cells;
 use crate::trees::{choice, joined, list_of, set, with};
-use crate::values::{
-    both, chosen_value, conv, either, int, is_constant, operator_value, scalar, signed_value,
-    truth_of,
+use crate::values::{int, scalar};
+use c_core_operators::{
+    both, chosen_value, conv, either, is_constant, operator_value, signed_value, truth_of,
 };
 use c_core_rules::{CoreTree, Location, Valued};
 use c_symbols::BinaryOperator;

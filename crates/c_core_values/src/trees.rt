@@ -3,7 +3,8 @@
 ghost use Rattle.std.specs.Prelude.{◌≡◌, [], ◌∷◌, ◌++◌, IfOk};
 ghost use Rattle.c_core_rules.specs.Trees.{leaf, block, choice, repeated, write, set, input, pure};
 
-use crate::values::{conv, int};
+use crate::values::int;
+use c_core_operators::conv;
 use c_core_rules::{CoreTree, Head, Location, Valued};
 use cpa_expr::Expr;
 use cpa_ints::Seq;
