@@ -1,6 +1,5 @@
-//! Ranks of bodies that do not fall along a call (`DoesNotFall`), where those that reach each other
-//! have one rank: the strong components by one depth-first search (Tarjan 1972). That no rank falls
-//! is tested; nothing else is said of them.
+//! Ranks of bodies that do not fall along a call (`DoesNotFall`): the strong components by one
+//! depth-first search (Tarjan 1972). That no rank falls is tested; nothing else is said of them.
 ghost use Rattle.std.specs.Prelude.{IfOk, IsTrue};
 ghost use Rattle.std.specs.List.{All};
 ghost use Rattle.c_calls.specs.Marks.{DoesNotFall};

@@ -1,6 +1,5 @@
-//! Numbers for the statements of trees (`numbered_bodies` of `c_core_rules`,
-//! `specs/Programs.antt`): the labels of a function first, then its statements, each before its
-//! parts. Proved with `proofs/NumberedRows.antt`.
+//! Numbers for the statements of trees (`numbered_bodies` of `c_core_rules`): a function's labels,
+//! then its statements, each before its parts. Shown in `proofs/NumberedRows.antt`.
 ghost use Rattle.std.specs.Prelude.{◌≡◌, ◌<◌, ◌+◌, ◌++◌, ◌∷◌, [], length, set, IfOk, OnOk};
 ghost use Rattle.cpa_model.specs.declared.program.Stmt.TheVariants as stmt;
 ghost use Rattle.c_core_rules.specs.declared.tree.CoreTree.TheVariants.{Node};

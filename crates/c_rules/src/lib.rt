@@ -1,6 +1,5 @@
-//! What names stand for in a C text and which types its expressions have, the typed tree, and the
-//! rules of names and types that a text can break (C11 6.2.1, 6.5 to 6.9). The definitions are in
-//! `specs/`.
+//! What names stand for in a C text, the types of its expressions, the typed tree, and the rules of
+//! names and types that a text can break (C11 6.2.1, 6.5 to 6.9). The definitions are in `specs/`.
 #![tactic(auto)]
 
 mod first;

@@ -1,6 +1,5 @@
-//! Rows of C texts with the program of core statements, or the automaton, that each is: prints each
-//! row of the input with its answer. It owes safety alone; what the answers must be is `stdout`,
-//! which README.md says how it was made.
+//! Prints each row of C text with the program of core statements, or the automaton, that it is.
+//! Safe by the checker alone; what the answers must be is `stdout` (its source: README.md).
 #![tactic(auto)]
 
 mod programs;

@@ -1,6 +1,5 @@
-//! Rows on operators: cells that are wanted equal to numbers, and one that is wanted equal to the
-//! operator on them. Its value in the model is the answer, where no model has another one; where
-//! there is no model the operator traps.
+//! Rows on operators: cells wanted equal to numbers, and one wanted equal to the operator on them.
+//! Its value in the model is the answer where no other model is; with no model the operator traps.
 
 use crate::queries::ask;
 use cpa_expr::{CmpOp, Expr, copy, read_scalar, type_of};

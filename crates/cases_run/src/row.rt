@@ -1,6 +1,5 @@
-//! A row of the table: columns with tabs between them. They are the row's name, the words of the
-//! call, how many blanks stand before the text of the file `p.c`, and that text; where there is a
-//! file `i.json`, the same two columns of it follow.
+//! A row of the table, by tabs: its name, the words of the call, how many blanks stand before the
+//! text of the file `p.c`, and that text; for a file `i.json` two such columns more.
 
 use std::alloc::{AllocError, Global};
 

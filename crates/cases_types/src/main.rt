@@ -1,6 +1,5 @@
-//! Rows of C texts with what a check of their names and types says: prints each row of the input
-//! with its answer. It owes safety alone; what the answers must be is `stdout`, and README.md says
-//! how that was made.
+//! Prints each row of C text with what a check of its names and types says. Safe by the checker
+//! alone; what the answers must be is `stdout`, and README.md says how it was made.
 #![tactic(auto)]
 
 mod checks;

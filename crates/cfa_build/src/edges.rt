@@ -1,6 +1,5 @@
 //! The edges of the automaton, by the points that they leave: for each statement and each exit its
-//! moves, by `AreEdgesFrom`. That the edges of a statement are its moves is shown in
-//! `proofs/Statements.antt`.
+//! moves (`AreEdgesFrom`). That the edges of a statement are its moves: `proofs/Statements.antt`.
 
 ghost use Rattle.std.specs.Prelude.{◌≡◌, ◌+◌, ◌<◌, ◌++◌, ◌∷◌, [], ℕ, List, Some, true, false};
 ghost use Rattle.std.specs.Prelude.{length, map, option_to_list, IfSome, IfOk, OnOk};

@@ -1,6 +1,5 @@
-//! Where control goes after each statement, found in one pass from the bodies down. The table that
-//! it fills is `ArePlaces`; that a part's place follows from the whole's is shown in
-//! `proofs/Known.antt`.
+//! Where control goes after each statement, in one pass from the bodies down. The table filled is
+//! `ArePlaces`; that a part's place follows from the whole's: `proofs/Known.antt`.
 
 ghost use Rattle.std.specs.Prelude.{◌≡◌, ◌+◌, ◌<◌, length, slice_get, Some, IfOk};
 ghost use Rattle.std.specs.List.{All};

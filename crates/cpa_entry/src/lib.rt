@@ -1,6 +1,5 @@
-//! The start of the program: the words of the command line, and the analyses and the outside that
-//! the top call is handed. It stands apart from `main`, so that a second program can show how a
-//! refusal ends.
+//! The start of the program: the words of the command line, the analyses and the outside, handed to
+//! the top call. Apart from `main`, so that a second program can show how a refusal ends.
 #![tactic(auto)]
 
 use cpa_iface::{Analysis, Location};

@@ -1,7 +1,5 @@
-//! Laws of expressions. Each function does nothing: its contract is the law, which stands in
-//! `specs/Laws.antt` with a lemma of the function's name. A lemma of another crate cites that one,
-//! as `value_at_variants.binary o t left right values`; an answer of a function that calls the law
-//! may also cite the call, as `c.value_at_variants.ensures.binary o t left right values`.
+//! Laws of expressions: functions with an empty body, whose contract is the law of
+//! `specs/Laws.antt`. A lemma of another crate cites that one by its name, an answer also the call.
 
 ghost use Rattle.cpa_expr.specs.Laws.{ValueAtVariants, TypeAtVariants, TypedAtVariants};
 ghost use Rattle.cpa_expr.specs.Laws.{ReadsAtVariants, SizeAtVariants, HeightAtVariants};

@@ -1,6 +1,5 @@
-//! The edges that leave a point of an automaton, and the one among them that has a rank. Found by
-//! halving; shown in
-//! `proofs/Leaving.antt`.
+//! The edges that leave a point of an automaton, and the one among them that has a rank, found by
+//! halving. Shown in `proofs/Leaving.antt`.
 ghost use Rattle.std.specs.Prelude.{◌≡◌, IfSome, IfNone};
 ghost use Rattle.std.specs.List.{Contains};
 ghost use Rattle.std.specs.List.Sorted.{IsNonDecreasingBy};

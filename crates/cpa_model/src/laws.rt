@@ -1,6 +1,5 @@
 //! Laws on programs, steps, automata and covers: functions with an empty body, whose contract is
-//! the law. They are shown in `specs/lemmas/` (`Trees.antt`, `EdgesSound.antt`) and in `proofs/`
-//! (`Moves.antt`, `EdgeSteps.antt`, `Edges.antt`, `CoverLemmas.antt`).
+//! the law. Shown in `specs/lemmas/` and `proofs/`: the answer of each names the lemma.
 ghost use Rattle.std.specs.Prelude.{◌≡◌, ℕ, ◌^◌, ◌<◌, ◌↔◌, List, Some, length, slice_get};
 ghost use Rattle.std.specs.List.{AllByRecursion};
 ghost use Rattle.cpa_model.specs.declared.automaton.Act.{Act};

@@ -1,6 +1,5 @@
-//! Quotients and remainders at a type, by the magnitudes of the operands, as specs/Quotients
-//! defines them; what they mean is said by the laws (laws.rt). Where memory runs out, more gates
-//! may stand than before.
+//! Quotients and remainders at a type, by the magnitudes of the operands, as specs/Quotients has
+//! it; laws.rt says what they mean. Where memory runs out, more gates may stand than before.
 
 ghost use Rattle.std.specs.Prelude.{◌≡◌, length, IfOk};
 ghost use Rattle.cpa_gates.specs.Nets.{built};

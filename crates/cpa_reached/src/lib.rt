@@ -1,6 +1,5 @@
 //! The reached set of an exploration: entries by number, which of them wait, and the journal of the
-//! turns. Each call does exactly what `specs/Calls.antt`, `specs/Removal.antt` and
-//! `specs/Paths.antt` say.
+//! turns. Each call does exactly what `Calls`, `Removal` and `Paths` of `specs/` say.
 #![tactic(auto)]
 
 mod finding;

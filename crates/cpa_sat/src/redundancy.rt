@@ -1,6 +1,5 @@
-//! Which literals of a learned clause its others imply, through the clauses that forced them
-//! (Sörensson and Biere 2009), and how many levels it has (Audemard and Simon 2009). Nothing rests
-//! on either but speed.
+//! Which literals of a learned clause its others imply (Sörensson and Biere 2009), and how many
+//! levels it has (Audemard and Simon 2009). Nothing rests on either but speed.
 
 use crate::analysis::Analysis;
 use cpa_arena::Arena;

@@ -1,6 +1,5 @@
-//! Two watched literals for each clause, with a literal of it that was true or free when it was
-//! looked at last, its blocker (Moskewicz et al. 2001; Eén and Sörensson 2003). They are there for
-//! speed alone: what goes on the trail is justified by a look at the clause.
+//! Two watched literals for each clause, with a blocker (Moskewicz et al. 2001; Eén and Sörensson
+//! 2003). For speed alone: what goes on the trail is justified by a look at the clause.
 
 ghost use Rattle.std.specs.Prelude.{◌<◌, length};
 ghost use Rattle.cpa_trail.specs.declared.trail.TheConstants.{NONE};

@@ -1,6 +1,5 @@
-//! Reads an expression from its words in prefix order, as reports spell it:
-//! `add i32 const i32 1 const i32 2`. The words are gone through from the last one on, so that a
-//! node's parts are there before it.
+//! Reads an expression from its words in prefix order, as reports spell it: `neg i32 const i32 1`.
+//! The words are taken from the last one on, so that a node's parts are there before it.
 
 use crate::fault::RowFault;
 use crate::words::{
