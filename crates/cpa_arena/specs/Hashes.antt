@@ -2,9 +2,10 @@
 -- 3, 6.4).
 use Rattle.std.specs.Prelude.{◌≡◌, ℕ, ◌+◌, ◌*◌, ◌%◌, ◌^◌, ◌<◌, ◌≤◌, List, [], ◌∷◌, length}
 use Rattle.std.specs.Prelude.{slice_index}
+use Rattle.cpa_arena.specs.declared.index.TheConstants.{MULTIPLIER}
 
 unfoldable pub mixed_hash : ℕ → ℕ → ℕ
-mixed_hash hash literal = (((hash + literal % 4294967296) % 2 ^ 32) * 2654435761) % 2 ^ 32
+mixed_hash hash literal = (((hash + literal % 2 ^ 32) % 2 ^ 32) * MULTIPLIER) % 2 ^ 32
 
 abbrev pub hash_from : ℕ → List ℕ → ℕ
 hash_from hash [] = hash

@@ -8,6 +8,12 @@ ghost use Rattle.cpa_arena.specs.Hashes.{clause_hash, mixed_hash};
 use cpa_cnf::Lit;
 use std::alloc::{AllocError, Global};
 
+/// How many values a u32 has.
+const VALUES: usize = 1 << 32;
+
+/// The prime next to 2^32 over the golden ratio (Knuth 6.4).
+pub(crate) const MULTIPLIER: u32 = 2654435761;
+
 /// Chains of numbers. A link is a number and one, or 0 at the end of a chain.
 #[derive(Debug, Drop)]
 pub(crate) struct Index {
@@ -80,8 +86,8 @@ impl Index {
 fn mixed(hash: u32, literal: Lit) -> u32
     ensures { result ≡ mixed_hash hash literal }
 {
-    let number = (literal.number() % 4294967296) as u32;
-    hash.wrapping_add(number).wrapping_mul(2654435761)
+    let number = (literal.number() % VALUES) as u32;
+    hash.wrapping_add(number).wrapping_mul(MULTIPLIER)
 }
 
 /// The hash of a clause.

@@ -12,6 +12,9 @@ use crate::index::{Index, hash_of};
 use cpa_cnf::{Clause, Lit};
 use std::alloc::{AllocError, Global};
 
+/// The most clauses of an arena: u32::MAX is the number of none of them.
+const MOST_CLAUSES: usize = u32::MAX as usize - 1;
+
 /// Where the literals of a clause stand, and its hash.
 #[derive(Clone, Copy, Debug)]
 pub(crate) struct Extent {
@@ -63,7 +66,7 @@ fn file(
     let from = literals.len();
     push_literals(literals, clause)?;
     let to = literals.len();
-    if to > 4294967295 {
+    if to > u32::MAX as usize {
         return Err(AllocError);
     }
     extents.push(Extent {
@@ -167,7 +170,7 @@ impl Store {
             ≡ clauses_of self.old.literals.items self.old.extents.items) }
     {
         let number = self.extents.len();
-        if number >= 4294967294 {
+        if number >= MOST_CLAUSES {
             return Err(AllocError);
         }
         make_room(self.alloc, &self.extents, &mut self.index)?;

@@ -32,13 +32,13 @@ returns-in_err-push_literals-clause-same c =
     on_err c.from_residual.result _ (same c.args.literals.now.items _ e.0 c.args.extents.now.items
     e.1 c.requires.filed)
 
-pub returns-then-to-gt4294967295-clause-filed : goal.returns-then-to-gt4294967295-clause-filed
-returns-then-to-gt4294967295-clause-filed c =
+pub returns-then-to-clause-filed : goal.returns-then-to-clause-filed
+returns-then-to-clause-filed c =
     more c.args.literals.now.items _ c.args.clause.now c.args.extents.now.items
     c.in_ok-push_literals.ensures.ok c.requires.filed
 
-pub returns-then-to-gt4294967295-clause-same : goal.returns-then-to-gt4294967295-clause-same
-returns-then-to-gt4294967295-clause-same c =
+pub returns-then-to-clause-same : goal.returns-then-to-clause-same
+returns-then-to-clause-same c =
     same c.args.literals.now.items _ c.args.clause.now c.args.extents.now.items
     c.in_ok-push_literals.ensures.ok c.requires.filed
 
