@@ -4,6 +4,7 @@ use Rattle.std.specs.Prelude.{◌≡◌, ◌<◌, List, length, reverse}
 use Rattle.std.specs.HashMap.{get}
 use Rattle.cpa_gates.specs.declared.gate.Gate.{Gate}
 use Rattle.cpa_gates.specs.declared.table.Table.{Table}
+use Rattle.cpa_gates.specs.declared.table.TheConstants.{MOST_VARIABLES}
 use Rattle.cpa_gates.specs.Nets.{same_gate, place_of}
 
 -- the gates, the newest one first
@@ -12,4 +13,4 @@ net_of table = reverse table.gates.items
 
 pub record IsTable (table : Table) : Type 0 where
   pub indexed : (g : Gate) → get same_gate table.places g ≡ place_of (net_of table) g
-  pub few : length table.gates.items < 4294967295
+  pub few : length table.gates.items < MOST_VARIABLES

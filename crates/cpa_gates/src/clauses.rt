@@ -5,6 +5,7 @@ ghost use Rattle.std.specs.Prelude.{◌≡◌, ◌<◌, ◌∷◌, ◌++◌, [],
 ghost use Rattle.cpa_gates.specs.Clauses.{clause_of, two_sided, chosen, gate_lists, gate_clauses};
 ghost use Rattle.cpa_gates.specs.Clauses.{clauses_of};
 ghost use Rattle.cpa_gates.specs.declared.gate.Gate.TheVariants as of;
+ghost use Rattle.cpa_gates.specs.declared.table.TheConstants.{MOST_VARIABLES};
 
 use crate::folding::always;
 use crate::gate::Gate;
@@ -142,7 +143,7 @@ fn add_gate(alloc: Global, clauses: &mut Seq<Clause>, l: Lit, gate: Gate) -> Res
 
 /// The clauses of the gates, the oldest one first.
 pub(crate) fn all_of(alloc: Global, gates: &[Gate]) -> Result<Seq<Clause>, AllocError>
-    requires { length gates.now < 4294967295 }
+    requires { length gates.now < MOST_VARIABLES }
     ensures { IfOk result (λ cs. cs ≡ clauses_of (reverse gates.now)) }
 {
     let mut clauses = Seq::new(alloc);

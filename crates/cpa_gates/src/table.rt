@@ -1,5 +1,5 @@
-//! The gates of a net with the place of each by the gate, so that an equal gate is found by hash. What is
-//! kept is `IsTable` of specs/Tables, proved by the checker alone.
+//! The gates of a net with the place of each by the gate, so that an equal gate is found by hash.
+//! What is kept is `IsTable` of specs/Tables, proved by the checker alone.
 
 ghost use Rattle.std.specs.Prelude.{◌≡◌, ◌∷◌, [], IfOk, OnOk, OnErr, None};
 ghost use Rattle.cpa_gates.specs.Nets.{vars, place_of, with_input, shared, negated, settled, built};
@@ -10,6 +10,9 @@ use crate::gate::Gate;
 use cpa_cnf::Lit;
 use std::alloc::{AllocError, Global};
 use std::collections::HashMap;
+
+/// The most variables of a net: a u32 counts them.
+pub(crate) const MOST_VARIABLES: usize = u32::MAX as usize;
 
 /// The gates, the oldest one first, and the variable of the newest of each kind of equal ones.
 #[derive(Drop)]
@@ -47,7 +50,7 @@ fn push(table: &mut Table, gate: &Gate) -> Result<u32, AllocError>
     ensures kept { OnErr result (net_of table.new ≡ net_of table.old) }
 {
     let variable = table.gates.len() + 1;
-    if variable >= 4294967295 {
+    if variable >= MOST_VARIABLES {
         return Err(AllocError);
     }
     table.gates.reserve(1)?;
