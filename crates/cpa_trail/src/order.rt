@@ -1,7 +1,7 @@
 //! Which literal to decide next (VSIDS: Moskewicz et al. 2001; as in MiniSat), and when to restart
 //! (Luby, Sinclair and Zuckerman 1993). Nothing rests on either but speed.
 
-use crate::trail::NONE;
+use crate::trail::{NONE, VARS_LIMIT};
 use std::alloc::{AllocError, Global};
 
 /// The most steps from the root of a heap to a leaf.
@@ -100,7 +100,7 @@ impl Order {
     /// The child of the place with the greater activity, NONE where it has no child.
     fn child(&self, slot: u32) -> u32 {
         let left = u64::from(slot) * 2 + 1;
-        if left >= self.heap.len() as u64 || left >= 4294967294 {
+        if left >= self.heap.len() as u64 || left + 1 >= u64::from(NONE) {
             return NONE;
         }
         let left = left as u32;
@@ -147,7 +147,7 @@ impl Order {
             .get(var as usize)
             .copied()
             .unwrap_or(true);
-        if var < 2147483648 {
+        if var < VARS_LIMIT {
             Some(var * 2 + u32::from(is_negative))
         } else {
             None
@@ -160,7 +160,7 @@ impl Order {
         if (var as usize) < self.negative.len() {
             self.negative[var as usize] = literal % 2 == 1;
         }
-        if self.slot(var) == NONE && self.heap.len() < 2147483648 {
+        if self.slot(var) == NONE && self.heap.len() < VARS_LIMIT as usize {
             let slot = self.heap.len() as u32;
             self.heap.push(var)?;
             self.put(slot, var);

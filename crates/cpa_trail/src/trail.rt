@@ -12,6 +12,9 @@ use std::alloc::{AllocError, Global};
 /// The number that stands for no place and no clause.
 pub const NONE: u32 = u32::MAX;
 
+/// A trail has fewer variables than these, so that each literal is a u32.
+pub const VARS_LIMIT: u32 = 1 << 31;
+
 /// Literals that are true, by number.
 #[derive(Debug, Drop)]
 pub struct Trail {
