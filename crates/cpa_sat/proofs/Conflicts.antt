@@ -1,5 +1,5 @@
 -- What a resolution on the trail leaves.
-use Rattle.std.proofs.Common.{◌≡◌, ◌≢◌, ℕ, ◌+◌, ◌-◌, ◌*◌, ◌<◌, ◌≤◌, true, false, not}
+use Rattle.std.proofs.Common.{◌≡◌, ℕ, ◌+◌, ◌*◌, ◌^◌, ◌<◌, ◌≤◌, true, false, not}
 use Rattle.std.proofs.Common.{◌&&◌, List, ◌⊎◌, inl, inr, length, sym, ap}
 use Rattle.std.proofs.Common.{◌∙◌, subst, arith}
 use Rattle.std.specs.Prelude.{◌==◌}
@@ -11,6 +11,7 @@ use Rattle.cpa_cnf.specs.lemmas.Chains.{union_keeps_first}
 use Rattle.cpa_sat.specs.declared.analysis.Analysis.{Analysis}
 use Rattle.cpa_trail.specs.declared.assertion.Jump.{Jump}
 use Rattle.cpa_trail.specs.declared.trail.Trail.{Trail}
+use Rattle.cpa_trail.specs.declared.trail.TheConstants.{NONE}
 use Rattle.cpa_trail.specs.Trails.{IsTrail, IsReasonFor, height, lit_at, reason_at, place_of}
 use Rattle.cpa_sat.specs.Analyses.{AreFalseBefore, AreOthersBefore, GivesWay, HasUnion, IsAsserting}
 use Rattle.cpa_sat.specs.Analyses.{IsReducible}
@@ -40,21 +41,21 @@ pub true_unmarked : (a : Analysis) (t : Trail) (place : ℕ) → IsTrail t
     → marked a.marks.items (lit_at t place) ≡ true → ⊥
 true_unmarked a t place s untrue inside h =
     let here : place_of t (lit_at t place) ≡ place = s.stands place inside in
-    let none : place_of t (opposite (lit_at t place)) ≡ 4294967295 =
+    let none : place_of t (opposite (lit_at t place)) ≡ NONE =
     s.one (lit_at t place) (s.below place inside)
     (λ e. far place (height t) t.vars inside s.short s.small (sym here ∙ e)) in
     far_below _ (height t) t.vars (untrue (lit_at t place) h) s.short s.small none
   where
-    far : (p n v : ℕ) → p < n → n ≤ v → v < 2147483648 → p ≡ 4294967295 → ⊥
+    far : (p n v : ℕ) → p < n → n ≤ v → v < 2 ^ 31 → p ≡ NONE → ⊥
     far p n v h k m e = absurd (omega arith)
 
-    far_below : (q n v : ℕ) → q < n → n ≤ v → v < 2147483648 → q ≡ 4294967295 → ⊥
+    far_below : (q n v : ℕ) → q < n → n ≤ v → v < 2 ^ 31 → q ≡ NONE → ⊥
     far_below q n v h k m e = absurd (omega arith)
 
 below_one : (p n : ℕ) → p < n + 1 → (p ≡ n → ⊥) → p < n
 below_one p n h ne = omega arith
 
-far : (p n v : ℕ) → p < n → n ≤ v → v < 2147483648 → p ≡ 4294967295 → ⊥
+far : (p n v : ℕ) → p < n → n ≤ v → v < 2 ^ 31 → p ≡ NONE → ⊥
 far p n v h k m e = absurd (omega arith)
 
 -- another marked literal than the one that became false at the place did so at another place
@@ -144,7 +145,7 @@ pub reducible : (a : Analysis) (t : Trail) (jump : Jump) (place literal : ℕ) �
     → marked a.marks.items literal ≡ true
     → (literal ≡ opposite (lit_at t jump.at) → ⊥) → place ≡ place_of t (opposite literal)
     → place < height t → opposite (lit_at t place) ≡ literal
-    → (reason_at t place ≡ 4294967295 → ⊥) → IsReducible a t jump place
+    → (reason_at t place ≡ NONE → ⊥) → IsReducible a t jump place
 reducible a t jump place literal j here apart is inside back forced = record {
   inside = inside;
   forced = forced;

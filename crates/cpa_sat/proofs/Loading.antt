@@ -15,6 +15,7 @@ use Rattle.cpa_cnf.specs.Lines.{AreBelow, IsRefutation, known}
 use Rattle.cpa_cnf.specs.Models.{Satisfies, IsModel}
 use Rattle.cpa_cnf.specs.lemmas.Chains.{member_below}
 use Rattle.cpa_sat.specs.declared.engine.Search.{Search}
+use Rattle.cpa_trail.specs.declared.trail.TheConstants.{NONE}
 use Rattle.cpa_trail.specs.Trails.{IsTrail, height}
 use Rattle.cpa_sat.specs.Analyses.{IsIdle}
 use Rattle.cpa_trail.specs.Findings.{AreSatisfied, AreValues}
@@ -33,17 +34,17 @@ weaker n m (x ∷ xs) h all = (up x n m all.0 h, weaker n m xs h all.1)
     up a b c p q = omega arith
 
 small_literals : (vars : ℕ) (xs : List ℕ) → vars < 2 ^ 31 → AreBelow vars xs
-    → AllByRecursion (λ l. l < 4294967296) xs
-small_literals vars xs h all = weaker (2 * vars) 4294967296 xs (room vars h) all
+    → AllByRecursion (λ l. l < 2 ^ 32) xs
+small_literals vars xs h all = weaker (2 * vars) (2 ^ 32) xs (room vars h) all
   where
-    room : (n : ℕ) → n < 2147483648 → 2 * n ≤ 4294967296
+    room : (n : ℕ) → n < 2 ^ 31 → 2 * n ≤ 2 ^ 32
     room n k = omega arith
 
 -- the clauses of the arena are the first ones of a formula, and these stand behind them
 pub record IsLoading (cnf : Cnf) (behind arena : List (List ℕ)) : Type 0 where
   pub clauses : arena ++ behind ≡ cnf.clauses
   pub sorted : (k : ℕ) → IsClause (slice_index_or arena k [])
-  pub few : length arena < 4294967295
+  pub few : length arena < NONE
   pub below : AllByRecursion (AreBelow cnf.vars) behind
 
 pub loads_first : (cnf : Cnf) (behind arena : List (List ℕ)) → behind ≡ cnf.clauses → arena ≡ []
@@ -59,14 +60,14 @@ loads_first cnf behind arena all none below =
 
 pub loads_small : (cnf : Cnf) (clause : List ℕ) (last behind arena : List (List ℕ))
     → last ≡ clause ∷ behind → cnf.vars < 2 ^ 31 → IsLoading cnf last arena
-    → AllByRecursion (λ l. l < 4294967296) clause
+    → AllByRecursion (λ l. l < 2 ^ 32) clause
 loads_small cnf clause last behind arena is vars l =
     small_literals cnf.vars clause vars
     (subst (λ (cs : List (List ℕ)). AllByRecursion (AreBelow cnf.vars) cs) is l.below).0
 
 pub loads_next : (cnf : Cnf) (clause : List ℕ) (last behind arena more : List (List ℕ))
     → last ≡ clause ∷ behind → IsLoading cnf last arena → more ≡ arena ++ clause ∷ []
-    → IsClause clause → length more < 4294967295 → IsLoading cnf behind more
+    → IsClause clause → length more < NONE → IsLoading cnf behind more
 loads_next cnf clause last behind arena more is l next sorted few =
     record {
       clauses = ap (λ (cs : List (List ℕ)). cs ++ behind) next

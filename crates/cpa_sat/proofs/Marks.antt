@@ -1,5 +1,5 @@
 -- Marks that are set and noted.
-use Rattle.std.proofs.Common.{◌≡◌, ◌≢◌, ℕ, ◌+◌, ◌-◌, ◌*◌, ◌/◌, ◌%◌, ◌^◌, ◌<◌, ◌≤◌, Bool, true}
+use Rattle.std.proofs.Common.{◌≡◌, ℕ, ◌+◌, ◌*◌, ◌/◌, ◌%◌, ◌^◌, ◌<◌, ◌≤◌, Bool, true}
 use Rattle.std.proofs.Common.{false, not, cond, ◌&&◌, ◌||◌, List, [], ◌∷◌, ◌++◌, ◌⊎◌, inl, inr}
 use Rattle.std.proofs.Common.{Option, Some, None, subst, length, get_or, take, set, refl, sym, ap}
 use Rattle.std.proofs.Common.{◌∙◌, arith}
@@ -15,6 +15,7 @@ use Rattle.cpa_cnf.specs.Literals.{opposite, literal_number}
 use Rattle.cpa_cnf.specs.Resolution.{clash_on, in_union_without, IsResolvent}
 use Rattle.cpa_cnf.specs.Lines.{AreBelow, Gives, IsGoodLine}
 use Rattle.cpa_cnf.specs.lemmas.Chains.{member_below}
+use Rattle.cpa_trail.specs.declared.trail.TheConstants.{NONE}
 use Rattle.cpa_sat.specs.declared.analysis.Analysis.{Analysis}
 use Rattle.cpa_sat.specs.Analyses.{AreNoted, HasMarksOf, HasUnion, IsDerived}
 use Rattle.cpa_cnf.specs.Marking.{marked, IsMarkedAs}
@@ -215,14 +216,14 @@ marked_inside marks l h = go (cases_lt l (length marks))
 -- what the first loop marks are the literals of the clause
 pub begun_marks : (vars : ℕ) (old new : List Bool) (clause : List ℕ) → vars < 2 ^ 31
     → AreBelow vars clause → ((l : ℕ) → marked old l ≡ false)
-    → ((l : ℕ) → marked new l ≡ (marked old l || (has clause l && not (l == 4294967295)))) → (l : ℕ)
+    → ((l : ℕ) → marked new l ≡ (marked old l || (has clause l && not (l == NONE)))) → (l : ℕ)
     → marked new l ≡ has clause l
 begun_marks vars old new clause small below blank marks l =
-    marks l ∙ ap (λ b. b || (has clause l && not (l == 4294967295))) (blank l)
-    ∙ and_true_right (has clause l) (not (l == 4294967295))
-    (λ h. not_eq l 4294967295 (λ e. in_range (member_below vars clause l below h) e))
+    marks l ∙ ap (λ b. b || (has clause l && not (l == NONE))) (blank l)
+    ∙ and_true_right (has clause l) (not (l == NONE))
+    (λ h. not_eq l NONE (λ e. in_range (member_below vars clause l below h) e))
   where
-    in_range : l < 2 * vars → l ≡ 4294967295 → ⊥
+    in_range : l < 2 * vars → l ≡ NONE → ⊥
     in_range h e = absurd (omega arith)
 
 pub begun : (cs : List (List ℕ)) (number : ℕ) (a : Analysis) → length a.marks.items ≡ 2 * a.vars

@@ -121,7 +121,7 @@ impl Search {
         ensures lines { OnOk result (self.new.lines.items ≡ self.old.lines.items ++ line ∷ []) }
     {
         let _vars = cnf.vars;
-        if self.arena.len() >= 4294967294 {
+        if self.arena.len() >= NONE as usize - 1 {
             return Err(AllocError);
         }
         self.watches.add()?;

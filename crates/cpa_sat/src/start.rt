@@ -18,7 +18,7 @@ use crate::quality::Quality;
 use crate::redundancy::Redundancy;
 use cpa_arena::Arena;
 use cpa_cnf::{Clause, Cnf, Line};
-use cpa_trail::{Order, Restarts, Trail, values, watch_all};
+use cpa_trail::{NONE, Order, Restarts, Trail, VARS_LIMIT, values, watch_all};
 use std::alloc::{AllocError, Global};
 use std::mem;
 
@@ -29,7 +29,7 @@ fn load_clause(arena: &mut Arena, clause: &Clause) -> Result<(), AllocError>
     ensures sorted { OnOk result (IsClause clause.now) }
     ensures few { OnOk result (length arena.new < NONE) }
 {
-    if arena.len() >= 4294967294 {
+    if arena.len() >= NONE as usize - 1 {
         return Err(AllocError);
     }
     let _sorted = clause.literals();
@@ -146,7 +146,7 @@ pub fn search(alloc: Global, cnf: &Cnf, learnt: u32) -> Result<Found, AllocError
     requires { AllByRecursion (AreBelow cnf.now.vars) cnf.now.clauses }
     ensures { IfOk result (IsFound cnf.now learnt) }
 {
-    if cnf.vars >= 2147483648 {
+    if cnf.vars >= VARS_LIMIT {
         return Err(AllocError);
     }
     let mut search = start(alloc, cnf)?;
