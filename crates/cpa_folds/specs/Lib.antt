@@ -1,2 +1,1 @@
 pub mod Needed
-pub mod Marks

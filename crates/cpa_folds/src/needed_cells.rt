@@ -6,11 +6,12 @@ ghost use Rattle.std.specs.Prelude.{IfOk};
 ghost use Rattle.std.specs.List.{AllByRecursion};
 ghost use Rattle.cpa_model.specs.Automata.{IsAutomaton};
 ghost use Rattle.cpa_folds.specs.Needed.{counts, adds, is_needed, needed};
-ghost use Rattle.cpa_folds.specs.Marks.{is_marked};
+ghost use Rattle.cpa_query.specs.Queries.{is_marked};
 
-use crate::marks::{mark_reads, marked, some_marked};
+use crate::marks::{marked, some_marked};
 use crate::stops::may_stop;
 use cpa_model::{Act, Cfa, Edge, Expr, Path, Seq};
+use cpa_query::mark_reads;
 use std::alloc::{AllocError, Global};
 
 /// The cells of the automaton that are needed along the path, ascending: those that its tests may

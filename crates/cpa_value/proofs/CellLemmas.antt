@@ -15,7 +15,7 @@ use Rattle.cpa_model.specs.declared.automaton.Edge.{Edge}
 use Rattle.cpa_model.specs.declared.automaton.Cfa.{Cfa}
 use Rattle.cpa_model.specs.Automata.{IsAutomaton}
 use Rattle.cpa_iface.specs.declared.precisions.Precision.{Precision}
-use Rattle.cpa_folds.specs.Marks.{is_marked}
+use Rattle.cpa_query.specs.Queries.{is_marked}
 use Rattle.cpa_value.specs.Acts.{after_act}
 use Rattle.cpa_value.specs.Transfer.{elems_of, next_values}
 use Rattle.cpa_value.specs.Cells.{first_value, first_known, known_cells, is_tracked, facts_from}

@@ -8,7 +8,7 @@ ghost use Rattle.cpa_expr.specs.declared.tree.Expr.{out-Expr};
 ghost use Rattle.cpa_expr.specs.Cells.{is_zero};
 ghost use Rattle.cpa_expr.specs.Values.{is_nonzero};
 ghost use Rattle.cpa_model.specs.Standing.{same_bool};
-ghost use Rattle.cpa_folds.specs.Marks.{is_marked};
+ghost use Rattle.cpa_query.specs.Queries.{is_marked};
 ghost use Rattle.cpa_value.specs.KnownValues.{known_value};
 ghost use Rattle.cpa_value.specs.Acts.{forgotten, is_trap, written, assigned, scalar_of, holds_type, held, read_of, told, first_told, set_told, equated, zeroed, says_equal, learned, assumed, after_act};
 

@@ -4,7 +4,7 @@
 ghost use Rattle.std.specs.Prelude.{◌≡◌, ◌<◌, ◌^◌, ℕ, ◌++◌, ◌∷◌, [], None, is_none, true, false};
 ghost use Rattle.std.specs.Prelude.{◌==◌, length, IfOk, OnOk};
 ghost use Rattle.std.specs.List.{AllByRecursion, list_any, slice_index_or};
-ghost use Rattle.cpa_folds.specs.Marks.{is_marked};
+ghost use Rattle.cpa_query.specs.Queries.{is_marked};
 ghost use Rattle.cpa_value.specs.Cells.{first_value, first_known, known_cells, is_tracked};
 ghost use Rattle.cpa_value.specs.Cells.{facts_from, elem_of};
 

@@ -126,7 +126,7 @@ fn kept(alloc: Global, limit: u32, elem: &Elem, values: &[Seq<i128>]) -> Result<
     }) }
 {
     let mut facts = Seq::new(alloc);
-    for fact in elem.facts.as_slice() {
+    for fact in &elem.facts {
         if is_kept(fact, limit, values) {
             facts.push(copy_fact(alloc, fact)?)?;
         }

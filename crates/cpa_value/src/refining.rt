@@ -6,7 +6,7 @@ ghost use Rattle.std.specs.Prelude.{OnOk};
 ghost use Rattle.std.specs.List.{filter, range_with_len};
 ghost use Rattle.cpa_model.specs.Automata.{IsAutomaton};
 ghost use Rattle.cpa_iface.specs.Meanings.{IsPathOf, IsPrecision};
-ghost use Rattle.cpa_folds.specs.Marks.{is_marked};
+ghost use Rattle.cpa_query.specs.Queries.{is_marked};
 ghost use Rattle.cpa_value.specs.Values.{precision_of, refined};
 
 use crate::acts::is_marked;

@@ -1,6 +1,6 @@
 -- One cell more.
 use Rattle.std.proofs.Common.{ap, sym, ◌∙◌, refl, [], ◌∷◌, ◌++◌, cond}
-use Rattle.cpa_folds.specs.Marks.{is_marked}
+use Rattle.cpa_query.specs.Queries.{is_marked}
 use Rattle.cpa_folds.proofs.MarkLemmas.{filter_push}
 use Rattle.cpa_folds.proofs.marks.marked.Goals as goal
 

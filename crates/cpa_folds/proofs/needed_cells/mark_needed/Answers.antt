@@ -2,7 +2,7 @@
 use Rattle.std.proofs.Common.{◌≡◌, ◌<◌, ◌-◌, suc, refl, ap, ◌∙◌, arith, length, ◌&&◌, ◌||◌}
 use Rattle.std.specs.Prelude.{nat_lt}
 use Rattle.cpa_folds.specs.Needed.{adds}
-use Rattle.cpa_folds.specs.Marks.{is_marked}
+use Rattle.cpa_query.specs.Queries.{is_marked}
 use Rattle.cpa_folds.proofs.NeededLemmas.{one_more_place}
 use Rattle.cpa_folds.proofs.needed_cells.mark_needed.Goals as goal
 

@@ -2,7 +2,7 @@
 use Rattle.std.proofs.Common.{◌≡◌, ℕ, ◌≤◌, Bool, List, drop}
 use Rattle.std.specs.Prelude.{length}
 use Rattle.cpa_folds.specs.Needed.{is_needed}
-use Rattle.cpa_folds.specs.Marks.{is_marked}
+use Rattle.cpa_query.specs.Queries.{is_marked}
 use Rattle.cpa_model.specs.declared.automaton.Cfa.{Cfa}
 use Rattle.cpa_folds.proofs.needed_cells.mark_needed.Given as goal
 

@@ -1,7 +1,7 @@
 -- One cell more.
 use Rattle.std.proofs.Common.{◌∙◌, ◌++◌, ap, [], ◌∷◌, get_or}
 use Rattle.std.specs.Prelude.{None}
-use Rattle.cpa_folds.specs.Marks.{is_marked}
+use Rattle.cpa_query.specs.Queries.{is_marked}
 use Rattle.cpa_value.specs.Cells.{facts_from}
 use Rattle.cpa_value.proofs.CellLemmas.{facts_from-more}
 use Rattle.cpa_value.proofs.cells.elem_of.Goals as goal

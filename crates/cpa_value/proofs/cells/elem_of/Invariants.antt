@@ -1,6 +1,6 @@
 -- The facts so far are those of the cells so far.
 use Rattle.std.proofs.Common.{◌≡◌, take}
-use Rattle.cpa_folds.specs.Marks.{is_marked}
+use Rattle.cpa_query.specs.Queries.{is_marked}
 use Rattle.cpa_value.specs.Cells.{facts_from}
 use Rattle.cpa_value.proofs.cells.elem_of.Given as goal
 

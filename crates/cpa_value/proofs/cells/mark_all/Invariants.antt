@@ -2,7 +2,7 @@
 use Rattle.std.proofs.Common.{◌≡◌, ℕ, take}
 use Rattle.std.specs.Prelude.{◌==◌}
 use Rattle.std.specs.List.{list_any}
-use Rattle.cpa_folds.specs.Marks.{is_marked}
+use Rattle.cpa_query.specs.Queries.{is_marked}
 use Rattle.cpa_value.proofs.cells.mark_all.Given as goal
 
 abbrev pub invariant-loop-cell : goal.invariant-loop-cell

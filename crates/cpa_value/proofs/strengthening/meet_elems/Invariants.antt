@@ -1,6 +1,6 @@
 -- What is left gives what the whole gives.
 use Rattle.std.proofs.Common.{◌≡◌, drop}
-use Rattle.cpa_folds.specs.Marks.{is_marked}
+use Rattle.cpa_query.specs.Queries.{is_marked}
 use Rattle.cpa_value.specs.Strengthening.{met_elems}
 use Rattle.cpa_value.proofs.strengthening.meet_elems.Given as goal
 

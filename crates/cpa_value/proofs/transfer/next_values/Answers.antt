@@ -4,7 +4,7 @@ use Rattle.std.specs.declared.alloc.Global.{Global}
 use Rattle.std.proofs.Common.{ap, ◌∙◌, length, ℕ}
 use Rattle.std.proofs.lemmas.Result.{IfOk-weaker}
 use Rattle.cpa_model.specs.declared.facts.Elem.{Elem}
-use Rattle.cpa_folds.specs.Marks.{is_marked}
+use Rattle.cpa_query.specs.Queries.{is_marked}
 use Rattle.cpa_value.specs.Cells.{known_cells}
 use Rattle.cpa_value.proofs.CellLemmas.{few_known, same_transfer}
 use Rattle.cpa_value.proofs.transfer.next_values.Goals as goal
