@@ -54,7 +54,8 @@ statements_of (v ∷ vs) = v.statements ++ statements_of vs
 abbrev pub values_of : List Valued → List Expr
 values_of vs = map (λ v. v.value) vs
 
--- `left operator right` behind the statements of both
+-- `left operator right` behind the statements of both (6.5p1; those of the left operand first, this
+-- project's profile)
 abbrev pub operated : BinaryOperator → Valued → Valued → Valued
 operated operator left right =
     valued (left.statements ++ right.statements) (operator_value operator left.value right.value)
@@ -76,18 +77,19 @@ one_holds left right =
     gives (valued (left.statements ++ choice left.value (set t (int 1) ∷ [])
     (right.statements ++ set t (truth_of right.value) ∷ []) ∷ []) (scalar t)))
 
--- a link of a chain
+-- a link of a chain (6.5.5 to 6.5.14; 6.5p3 leaves open which operand is evaluated first: here the
+-- left one, this project's profile, as 6.5.13p4 and 6.5.14p4 say of && and ||)
 abbrev pub linked : BinaryOperator → Valued → Valued → Rule Valued
 linked binary.LogicalAnd left right = both_hold left right
 linked binary.LogicalOr left right = one_holds left right
 linked operator left right =
     then_by (held_before left right) (λ first. gives (operated operator first right))
 
--- + - ~ !
+-- + - ~ ! (6.5.3.3)
 abbrev pub signed : UnaryOperator → Valued → Valued
 signed operator v = valued v.statements (signed_value operator v.value)
 
--- (t) v (6.5.4)
+-- (t) v (6.5.4p5)
 abbrev pub cast_to : IntType → Valued → Valued
 cast_to t v = valued v.statements (conv v.value t)
 

@@ -32,8 +32,8 @@ use Rattle.c_core_rules.specs.Values.{int, element, scalar, cell_at}
 use Rattle.c_core_rules.specs.Trees.{Trees, leaf, choice, set, input, valued, pure}
 use Rattle.c_core_rules.specs.Cells.{Rule, gives, then_by, each, in_order, fresh, located}
 use Rattle.c_core_rules.specs.Cells.{scalar_place}
-use Rattle.c_core_rules.specs.Acts.{hold_all, statements_of, values_of, linked, signed, cast_to, chosen}
-use Rattle.c_core_rules.specs.Acts.{dropped_value}
+use Rattle.c_core_rules.specs.Acts.{hold_all, statements_of, values_of, linked, signed, cast_to}
+use Rattle.c_core_rules.specs.Acts.{chosen, dropped_value}
 use Rattle.c_core_rules.specs.Places.{fixed_if, changed, incremented, stepped}
 
 -- the cells of a function with a body: of its result, and of each parameter
@@ -148,7 +148,7 @@ abbrev pub first_unused : List Rows → Rule Trees
 first_unused [] = gives []
 first_unused (argument ∷ more) = argument.unused
 
--- an input of a fresh t of the function's type
+-- an input of a fresh t of the function's type (this project's own)
 abbrev pub taken_in : KnownFunction → Rule Valued
 taken_in function =
     then_by (fresh (object_type (known_result function))) (λ t.
@@ -238,7 +238,7 @@ suffixed frames base [] = base
 suffixed frames base (suffix ∷ suffixes) =
     suffixed frames (suffix_rows frames base suffix) suffixes
 
--- a chain belongs together from the left, two at a time
+-- a chain belongs together from the left, two at a time (6.5p3 and the syntax of 6.5.5 to 6.5.14)
 abbrev pub chained : Rule Valued → List (BinaryOperator × Rows) → Rule Valued
 chained left [] = left
 chained left ((operator, right) ∷ rest) =
@@ -255,7 +255,7 @@ comma_used (item ∷ next ∷ items) =
 abbrev pub comma_unused : List Rows → Rule Trees
 comma_unused items = in_order (map (λ item. item.unused) items)
 
--- a conditional with void ends: S1, if (v1) { D(e2) } else { D(e3) }
+-- a conditional with void ends (6.5.15p3 and p4): S1, if (v1) { D(e2) } else { D(e3) }
 abbrev pub void_choice : Rows → Rows → Rows → Rule Trees
 void_choice test first second =
     then_by test.used (λ v. then_by first.unused (λ a. then_by second.unused (λ b.
@@ -265,7 +265,7 @@ abbrev pub conditional : Rows → Rows → Rows → Rule Valued
 conditional test first second =
     then_by test.used (λ v. then_by first.used (λ a. then_by second.used (λ b. chosen v a b)))
 
--- (type) e, and (void) e, which is D of e
+-- (type) e (6.5.4p5), and (void) e, which is D of e (6.3.2.2p1)
 abbrev pub cast_rows : Option Kind → Rows → Rows
 cast_rows (Some (Value t)) operand = plain (then_by operand.used (λ v. gives (cast_to t v)))
 cast_rows _ operand = act (valueless operand.unused) operand.unused
@@ -273,8 +273,10 @@ cast_rows _ operand = act (valueless operand.unused) operand.unused
 -- an expression with rows for each part of it
 abbrev pub rows_step : Frames → TypedExpression-F Rows ReadSuffix → Rows
 rows_step frames (TypedExpression-F.Name found place) = name_rows found
+-- an integer has the type that the typed text gives it (6.4.4.1p5), a character int (6.4.4.4p10)
 rows_step frames (TypedExpression-F.Number t n place) = plain (gives (pure (Const t n)))
 rows_step frames (TypedExpression-F.Character n place) = plain (gives (pure (Const ty.I32 n)))
+-- 6.5.1p5
 rows_step frames (TypedExpression-F.Bracketed inside place) = inside
 rows_step frames (TypedExpression-F.Postfix base suffixes place) =
     suffixed frames base suffixes
