@@ -82,7 +82,7 @@ fn push(
     ensures err { OnErr result (names.new.items ≡ names.old.items) }
 {
     let number = names.len();
-    if number > 4294967295 {
+    if number > u32::MAX as usize {
         return Err(AllocError);
     }
     let item = Seq::from_vec(name.to_vec(alloc)?);

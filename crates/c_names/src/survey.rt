@@ -47,8 +47,8 @@ impl Model for Survey {
 }
 
 impl Survey {
-    /// What these items say. A text with more than 2^32 bodies, or a function with more than 2^32
-    /// parameters, is want of memory.
+    /// What these items say. A text with more than 2^32 bodies, or a function with 2^32 parameters
+    /// or more, is want of memory.
     pub fn of(alloc: Global, items: &[Item]) -> Result<Survey, AllocError>
         ensures { IfOk result (λ survey. survey ≡ text_of items.now) }
     {
@@ -80,7 +80,7 @@ fn note_arity(parts: &mut Parts, alloc: Global, name: &[u8], count: usize) -> Re
     ensures arities { OnOk result
         (parts.new.arities.items ≡ parts.old.arities.items ++ (name.now, count) ∷ []) }
 {
-    if count > 4294967295 {
+    if count > u32::MAX as usize {
         return Err(AllocError);
     }
     let row = (Seq::from_vec(name.to_vec(alloc)?), count as u32);

@@ -49,7 +49,7 @@ fn is_counted(declared: &Declared) -> bool
         Declared::Function {
             parameters: Some(types),
             ..
-        } => types.len() <= 4294967295,
+        } => types.len() <= u32::MAX as usize,
         _ => true,
     }
 }
@@ -77,7 +77,7 @@ fn push(table: &mut Table, alloc: Global, declaration: Declaration) -> Result<()
     ensures err { OnErr result (table.new.entries.items ≡ table.old.entries.items) }
 {
     let number = table.entries.len();
-    if number > 4294967295 {
+    if number > u32::MAX as usize {
         return Err(AllocError);
     }
     reserve(table)?;
