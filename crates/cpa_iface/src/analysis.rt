@@ -24,6 +24,12 @@ pub enum Part {
     Store,
 }
 
+/// How many clauses a search may learn where no configuration says it.
+pub const DEFAULT_LEARNT: u32 = 20_000;
+
+/// How much a query may weigh where no configuration says it: about so many gates.
+pub const DEFAULT_GATES: u64 = 4_000_000;
+
 /// What a configuration says to each analysis.
 #[derive(Clone, Copy, Debug)]
 pub struct Settings {

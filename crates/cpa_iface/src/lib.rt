@@ -9,7 +9,7 @@ mod merging;
 mod precisions;
 mod unchanged;
 
-pub use analysis::{Analysis, Part, Settings};
+pub use analysis::{Analysis, DEFAULT_GATES, DEFAULT_LEARNT, Part, Settings};
 pub use entries::{Entry, Refined, Turn};
 pub use location::Location;
 pub use merging::{MergeRule, Order, Pick, merge_facts};
