@@ -11,17 +11,9 @@ use Rattle.cpa_renaming.specs.Places.{number_at, stand_together}
 
 -- the node itself: a read begins at the place of its first cell
 abbrev pub moved_node : {A : Type 0} → List Place → Expr-F A → Expr-F A
-moved_node places (Expr-F.Const t n) = Expr-F.Const t n
 moved_node places (Expr-F.Read t base len index) =
     Expr-F.Read t (number_at places base) len index
-moved_node places (Expr-F.Un o t arg) = Expr-F.Un o t arg
-moved_node places (Expr-F.Bin o t left right) = Expr-F.Bin o t left right
-moved_node places (Expr-F.Cmp o t left right) = Expr-F.Cmp o t left right
-moved_node places (Expr-F.Cast t arg) = Expr-F.Cast t arg
-moved_node places (Expr-F.And left right) = Expr-F.And left right
-moved_node places (Expr-F.Or left right) = Expr-F.Or left right
-moved_node places (Expr-F.Not arg) = Expr-F.Not arg
-moved_node places (Expr-F.Cond t test first second) = Expr-F.Cond t test first second
+moved_node places node = node
 
 -- the expression with each read at the place of its first cell
 abbrev pub renamed : List Place → Expr → Expr
