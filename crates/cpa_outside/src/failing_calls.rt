@@ -5,14 +5,14 @@ ghost use Rattle.cpa_outside.specs.OutsideMemory.{is_listed, one_more};
 
 /// The numbers of the calls that fail, and the number of the next call.
 #[derive(Drop)]
-pub(super) struct FailingCalls {
+pub(crate) struct FailingCalls {
     numbers: Vec<u32>,
     next: u64,
 }
 
 impl FailingCalls {
     /// The calls are counted from 0.
-    pub(super) fn new(numbers: Vec<u32>) -> FailingCalls
+    pub(crate) fn new(numbers: Vec<u32>) -> FailingCalls
         ensures numbers { result.numbers ≡ numbers }
         ensures next { result.next ≡ 0 }
     {
@@ -21,7 +21,7 @@ impl FailingCalls {
 
     /// Takes the next number, and says whether the call of that number fails.
     /// The greatest u64 is the number of each call from there on.
-    pub(super) fn next_fails(&mut self) -> bool
+    pub(crate) fn next_fails(&mut self) -> bool
         ensures answer { result ≡ is_listed self.old.numbers.items self.old.next }
         ensures numbers { self.new.numbers ≡ self.old.numbers }
         ensures next { self.new.next ≡ one_more self.old.next }

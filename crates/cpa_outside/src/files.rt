@@ -128,7 +128,7 @@ impl<O: Opens> Inputs for FileInputs<O> {
     }
 }
 
-// How many reads have failed, behind this answer.
+/// How many reads have failed, behind this answer.
 fn count_after(faults: u64, answer: &Result<Vec<u8>, ReadFault>) -> u64
     ensures { result ≡ (if is_failed answer.now then one_more faults else faults) }
 {
@@ -138,7 +138,7 @@ fn count_after(faults: u64, answer: &Result<Vec<u8>, ReadFault>) -> u64
     }
 }
 
-// The answer that what came of a read gives: no bytes are a file that is too long.
+/// The answer that what came of a read gives: no bytes are a file that is too long.
 fn answer_of(read: io::Result<Option<Vec<u8>>>) -> Result<Vec<u8>, ReadFault>
     ensures { result ≡ answer_of read }
 {
@@ -149,7 +149,7 @@ fn answer_of(read: io::Result<Option<Vec<u8>>>) -> Result<Vec<u8>, ReadFault>
     }
 }
 
-// Any error but want of memory is a failed read.
+/// Any error but want of memory is a failed read.
 fn fault_of(kind: ErrorKind) -> ReadFault
     ensures { result ≡ fault_of kind }
 {
@@ -159,7 +159,7 @@ fn fault_of(kind: ErrorKind) -> ReadFault
     }
 }
 
-// The bytes of the file of this name, or `None` where it has more than `limit`.
+/// The bytes of the file of this name, or `None` where it has more than `limit`.
 fn read_file<O: Opens>(
     opener: &O,
     alloc: Global,
@@ -176,7 +176,7 @@ fn read_file<O: Opens>(
     read_within(opener.open(name)?, alloc, limit)
 }
 
-// All that a reader has left, or `None` where that is more than `limit` bytes.
+/// All that a reader has left, or `None` where that is more than `limit` bytes.
 fn read_within<F: Read + Drop>(
     reader: F,
     alloc: Global,
@@ -193,7 +193,7 @@ fn read_within<F: Read + Drop>(
     Ok(Some(bytes))
 }
 
-// What a reader has left, but at most `most` bytes of it.
+/// What a reader has left, but at most `most` bytes of it.
 fn read_front<F: Read + Drop>(reader: F, alloc: Global, most: u64) -> io::Result<Vec<u8>>
     ensures { IfOk result (λ bytes.
         IfSome (F.remaining reader) (λ left. bytes.items ≡ take most left)) }

@@ -97,14 +97,14 @@ impl Inputs for MemoryInputs {
     }
 }
 
-// The place of the first file of a name, if there is one.
+/// The place of the first file of a name, if there is one.
 fn find(files: &[(String, Vec<u8>)], name: &str) -> Option<usize>
     ensures { result ≡ position (has_name name.now) files.now }
 {
     files.iter().position(|file| file.0.as_str() == name)
 }
 
-// The place of the first file of a name, or how many files there are.
+/// The place of the first file of a name, or how many files there are.
 fn find_place(files: &[(String, Vec<u8>)], name: &str) -> usize
     ensures place { result ≡ place_of files.now name.now }
     ensures within { result ≤ length files.now }
@@ -112,7 +112,7 @@ fn find_place(files: &[(String, Vec<u8>)], name: &str) -> usize
     find(files, name).unwrap_or(files.len())
 }
 
-// One more fault at a place.
+/// One more fault at a place.
 fn count_fault(faults: &mut [u64], place: usize)
     requires { place < length faults.old }
     ensures value { slice_index faults.new place ≡ one_more (slice_index faults.old place) }
@@ -122,7 +122,7 @@ fn count_fault(faults: &mut [u64], place: usize)
     faults[place] = faults[place].saturating_add(1);
 }
 
-// A copy of the bytes, if there are at most `limit`.
+/// A copy of the bytes, if there are at most `limit`.
 fn copy_within(alloc: Global, bytes: &[u8], limit: usize) -> Result<Vec<u8>, ReadFault>
     ensures ok { IfOk result (λ copy. copy.items ≡ bytes.now) }
     ensures within { OnOk result (length bytes.now ≤ limit) }

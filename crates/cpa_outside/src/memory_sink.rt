@@ -102,7 +102,7 @@ impl Sink for MemorySink {
     }
 }
 
-// Appends bytes for which there is room.
+/// Appends bytes for which there is room.
 fn append(bytes: &mut Vec<u8>, more: &[u8])
     requires { vec_len bytes.old + length more.now ≤ vec_capacity bytes.old }
     ensures items { bytes.new.items ≡ bytes.old.items ++ more.now }

@@ -83,8 +83,8 @@ impl<W: Write> Sink for WriterSink<W> {
     }
 }
 
-// Writes the front of a piece, and says how many bytes that is. To take nothing of a piece that is
-// not empty is a failure too.
+/// Writes the front of a piece, and says how many bytes that is. To take nothing of a piece that is
+/// not empty is a failure too.
 fn write_front<W: Write>(out: &mut W, piece: &[u8]) -> Option<usize>
     ensures within { IfSome result (λ count. count ≤ length piece.now) }
     ensures progress { IfSome result (λ count. 0 < length piece.now → 0 < count) }
