@@ -34,6 +34,7 @@ pub(crate) struct Piece {
     pub(crate) length: usize,
 }
 
+/// A blank or a comment of so many bytes.
 fn gap(length: usize) -> Piece
     ensures { result ≡ record { kind = Gap; length = length } }
 {
@@ -43,6 +44,7 @@ fn gap(length: usize) -> Piece
     }
 }
 
+/// A token of so many bytes.
 fn token(kind: TokenKind, length: usize) -> Piece
     ensures { result ≡ record { kind = Token kind; length = length } }
 {
