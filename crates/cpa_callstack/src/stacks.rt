@@ -83,6 +83,7 @@ pub(crate) fn with_stack(alloc: Global, sites: &[u32]) -> Result<Elem, AllocErro
     elem_of_sites(alloc, Seq::from_vec(sites.to_vec(alloc)?))
 }
 
+/// The element of one fact, made of a list of its own: these are the call sites, bottom first.
 fn elem_of_sites(alloc: Global, sites: Seq<u32>) -> Result<Elem, AllocError>
     ensures { IfOk result (λ e. e ≡ with_stack sites) }
 {
@@ -132,6 +133,7 @@ fn names_stack(fact: &Fact, sites: &[u32]) -> bool
     }
 }
 
+/// Whether two stacks have the same sites in the same order.
 fn is_same(a: &[u32], b: &[u32]) -> bool
     ensures { result ≡ same_sites a.now b.now }
 {
