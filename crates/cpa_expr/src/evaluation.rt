@@ -56,6 +56,7 @@ fn value_of_read(base: u32, len: u32, index: &Boxed<Expr>, store: &Store) -> Opt
     read(store, base, len, value(index.get(), store)?)
 }
 
+/// The value of the operator on the value of its argument; it traps only where that does.
 #[cycle(evaluating)]
 fn value_of_un(op: UnOp, ty: IntType, arg: &Boxed<Expr>, store: &Store) -> Option<i128>
     ensures { result ≡ option_map (un_value op ty) (value_of arg.now store.now.values) }
@@ -63,6 +64,8 @@ fn value_of_un(op: UnOp, ty: IntType, arg: &Boxed<Expr>, store: &Store) -> Optio
     Some(un_value(op, ty, value(arg.get(), store)?))
 }
 
+/// The value of the operator on both values. A division by zero and a shift by less than 0 or by
+/// the width of the type or more trap as well.
 #[cycle(evaluating)]
 fn value_of_bin(
     op: BinOp,
@@ -79,6 +82,7 @@ fn value_of_bin(
     bin_value(op, ty, a, b)
 }
 
+/// 1 where the values compare so, else 0 (C11 6.5.8, 6.5.9).
 #[cycle(evaluating)]
 fn value_of_cmp(op: CmpOp, left: &Boxed<Expr>, right: &Boxed<Expr>, store: &Store) -> Option<i128>
     ensures { result ≡ comparison op
@@ -89,6 +93,7 @@ fn value_of_cmp(op: CmpOp, left: &Boxed<Expr>, right: &Boxed<Expr>, store: &Stor
     Some(truth(compares(op, a, b)))
 }
 
+/// The value of the argument, wrapped to the type.
 #[cycle(evaluating)]
 fn value_of_cast(ty: IntType, arg: &Boxed<Expr>, store: &Store) -> Option<i128>
     ensures { result ≡ option_map (wrapped ty) (value_of arg.now store.now.values) }
@@ -96,6 +101,7 @@ fn value_of_cast(ty: IntType, arg: &Boxed<Expr>, store: &Store) -> Option<i128>
     Some(wrap(ty, value(arg.get(), store)?))
 }
 
+/// The right side is evaluated only where the left one is nonzero (C11 6.5.13).
 #[cycle(evaluating)]
 fn value_of_and(left: &Boxed<Expr>, right: &Boxed<Expr>, store: &Store) -> Option<i128>
     ensures { result ≡ logical_and
@@ -108,6 +114,7 @@ fn value_of_and(left: &Boxed<Expr>, right: &Boxed<Expr>, store: &Store) -> Optio
     }
 }
 
+/// The right side is evaluated only where the left one is zero (C11 6.5.14).
 #[cycle(evaluating)]
 fn value_of_or(left: &Boxed<Expr>, right: &Boxed<Expr>, store: &Store) -> Option<i128>
     ensures { result ≡ logical_or
@@ -120,6 +127,7 @@ fn value_of_or(left: &Boxed<Expr>, right: &Boxed<Expr>, store: &Store) -> Option
     }
 }
 
+/// 1 where the value of the argument is zero, else 0 (C11 6.5.3.3).
 #[cycle(evaluating)]
 fn value_of_not(arg: &Boxed<Expr>, store: &Store) -> Option<i128>
     ensures { result ≡ logical_not (value_of arg.now store.now.values) }
@@ -127,6 +135,7 @@ fn value_of_not(arg: &Boxed<Expr>, store: &Store) -> Option<i128>
     Some(truth(!is_nonzero(value(arg.get(), store)?)))
 }
 
+/// Only the side that the test picks is evaluated (C11 6.5.15).
 #[cycle(evaluating)]
 fn value_of_cond(
     test: &Boxed<Expr>,

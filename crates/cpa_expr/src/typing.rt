@@ -16,6 +16,7 @@ use cpa_ints::IntType;
 pub trait Typed {
     ghost ty: { Self → Ty };
 
+    /// The integer type that it has.
     fn ty(&self) -> IntType
         ensures { result ≡ ty self.now };
 }
