@@ -50,6 +50,7 @@ pub struct Settings {
 pub trait Analysis: Drop {
     ghost meaning: { Self → Meaning };
 
+    /// The name by which it is told from other analyses.
     fn name(&self) -> &str
         ensures { result.now ≡ (meaning self.now).name };
 

@@ -41,12 +41,14 @@ pub fn copy_precision(alloc: Global, precision: &Precision) -> Result<Precision,
     })
 }
 
+/// An equal list of cells.
 fn copy_cells(alloc: Global, cells: &[u32]) -> Result<Seq<u32>, AllocError>
     ensures { IfOk result (λ list. list ≡ cells.now) }
 {
     Ok(Seq::from_vec(cells.to_vec(alloc)?))
 }
 
+/// An equal list of predicates.
 fn copy_preds(alloc: Global, preds: &[Expr]) -> Result<Seq<Expr>, AllocError>
     ensures { IfOk result (λ list. list ≡ preds.now) }
 {
