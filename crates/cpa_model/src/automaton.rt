@@ -34,6 +34,7 @@ pub enum Act {
     },
 }
 
+/// A step of control from one point to another, with its act.
 #[derive(Debug, Drop)]
 pub struct Edge {
     pub from: u32,

@@ -42,6 +42,7 @@ pub fn copy_fact(alloc: Global, fact: &Fact) -> Result<Fact, AllocError>
     }
 }
 
+/// An equal list of call sites. It fails only where memory runs out.
 fn copy_sites(alloc: Global, sites: &[u32]) -> Result<Seq<u32>, AllocError>
     ensures { IfOk result (λ s. s ≡ sites.now) }
 {

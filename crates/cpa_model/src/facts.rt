@@ -42,6 +42,7 @@ pub fn holds(elem: &Elem, state: &State) -> bool
     true
 }
 
+/// Whether the fact holds of the state. A fact on a cell that the state lacks does not.
 fn fact_holds(fact: &Fact, state: &State) -> bool
     ensures { IsTrue result ↔ FactHolds state.now fact.now }
 {
@@ -72,6 +73,7 @@ pub fn is_elem(elem: &Elem, cfa: &Cfa) -> bool
     true
 }
 
+/// Whether the fact is shaped for these cells and so many points.
 fn is_fact(fact: &Fact, cells: &[Cell], points: u32) -> bool
     ensures { IsTrue result ↔ IsFact cells.now points fact.now }
 {
@@ -86,6 +88,7 @@ fn is_fact(fact: &Fact, cells: &[Cell], points: u32) -> bool
     }
 }
 
+/// Whether each call site is one of the points.
 fn are_points(sites: &[u32], points: u32) -> bool
     ensures { IsTrue result ↔ AllByRecursion (λ site. site < points) sites.now }
 {
@@ -97,6 +100,7 @@ fn are_points(sites: &[u32], points: u32) -> bool
     true
 }
 
+/// Whether the cell is there and its type has the value.
 fn is_value_of(cells: &[Cell], cell: u32, value: i128) -> bool
     ensures { IsTrue result ↔ IsValueOf cells.now cell value }
 {

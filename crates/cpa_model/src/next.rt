@@ -55,6 +55,7 @@ fn whole_of(program: &Program, part: u32) -> Option<(u32, Successor)>
     None
 }
 
+/// Where control goes after the part of the statement `number`, `None` where it is no part of it.
 fn after_part(number: u32, stmt: &Stmt, part: u32) -> Option<Successor>
     ensures { result ≡ after_part number stmt.now part }
 {
@@ -75,6 +76,7 @@ fn after_part(number: u32, stmt: &Stmt, part: u32) -> Option<Successor>
     }
 }
 
+/// Where control goes after the item of a block, `None` where it is no item of it.
 fn after_item(items: &[u32], part: u32) -> Option<Successor>
     ensures { result ≡ after_item items.now part }
 {

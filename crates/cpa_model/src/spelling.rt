@@ -31,6 +31,7 @@ impl Spell for u32 {
     }
 }
 
+/// Adds the number in decimal.
 fn push_number(out: &mut String, number: u32) -> Result<(), AllocError>
     ensures { OnOk result (string_bytes out.new ≡ string_bytes out.old ++ decimal number) }
 {
@@ -144,6 +145,7 @@ impl Spell for Edge {
     }
 }
 
+/// Adds an assignment, which a statement and an act spell alike.
 fn push_assignment(
     out: &mut String,
     base: u32,

@@ -19,6 +19,7 @@ pub fn has_facts(elem: &Elem, other: &Elem) -> bool
     all_stand(elem, other)
 }
 
+/// Whether each fact of `other` stands in `elem`, by the value alone; `has_facts` adds the meaning.
 fn all_stand(elem: &Elem, other: &Elem) -> bool
     ensures { result ≡ has_facts elem.now other.now }
 {
@@ -40,6 +41,7 @@ pub fn same_fact(a: &Fact, b: &Fact) -> bool
     is_same(a, b)
 }
 
+/// Whether two facts are the same, by the value alone; `same_fact` adds the meaning.
 fn is_same(a: &Fact, b: &Fact) -> bool
     ensures { result ≡ same_fact a.now b.now }
 {
@@ -72,6 +74,7 @@ fn is_same(a: &Fact, b: &Fact) -> bool
     }
 }
 
+/// Whether two stacks have the same sites in the same order.
 fn same_sites(a: &Seq<u32>, b: &Seq<u32>) -> bool
     ensures { result ≡ same_sites a.now b.now }
 {
