@@ -79,6 +79,7 @@ pub(crate) fn parent_of(entries: &[Entry], number: u32) -> Option<(u32, u32)>
     entries[place(entries, number)].parent
 }
 
+/// The entry of this number does not wait any more.
 pub(crate) fn rest(entries: &mut Vec<Entry>, number: u32)
     requires ascend { Ascend (numbers entries.old.items) }
     requires live { IsLive entries.old.items number }
@@ -100,6 +101,7 @@ pub(crate) fn gain(entries: &mut Vec<Entry>, number: u32, by: u32) -> Result<(),
     entries[at].uses.push(by)
 }
 
+/// The entry of this number has these precisions in place of its own.
 pub(crate) fn put_precisions(entries: &mut Vec<Entry>, number: u32, precisions: Vec<Precision>)
     requires ascend { Ascend (numbers entries.old.items) }
     requires live { IsLive entries.old.items number }

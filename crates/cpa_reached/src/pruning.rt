@@ -70,6 +70,7 @@ fn is_gone(gone: &[u32], number: u32) -> bool
     gone.binary_search(&number).is_ok()
 }
 
+/// Whether one of the uses is among those that go.
 fn uses_gone(uses: &[u32], gone: &[u32]) -> bool
     requires { Ascend gone.now }
     ensures { result ≡ list_any (λ n. is_in n gone.now) uses.now }
@@ -77,6 +78,7 @@ fn uses_gone(uses: &[u32], gone: &[u32]) -> bool
     uses.iter().any(|used| is_gone(gone, *used))
 }
 
+/// Whether a kept entry waits again: it is the pivot, or it used an entry that goes.
 fn is_opened(entry: &Entry, gone: &[u32], pivot: u32) -> bool
     requires { Ascend gone.now }
     ensures { result ≡ is_opened gone.now pivot entry.now }
@@ -84,6 +86,7 @@ fn is_opened(entry: &Entry, gone: &[u32], pivot: u32) -> bool
     entry.number == pivot || uses_gone(entry.uses.as_slice(), gone)
 }
 
+/// Whether the entry stays and waits: it waited before, or it waits again.
 fn waits_after(entry: &Entry, gone: &[u32], pivot: u32) -> bool
     requires { Ascend gone.now }
     ensures { result ≡ waits_after gone.now pivot entry.now }
@@ -111,6 +114,7 @@ fn waiting_after(
     Ok(waiting)
 }
 
+/// The entries that go are taken out, and the others keep their order.
 fn drop_entries(entries: &mut Vec<Entry>, gone: &[u32])
     requires { Ascend gone.now }
     ensures { entries.new.items ≡ without gone.now entries.old.items }
@@ -118,6 +122,7 @@ fn drop_entries(entries: &mut Vec<Entry>, gone: &[u32])
     entries.retain(|entry| !is_gone(gone, entry.number));
 }
 
+/// So is what is kept of them.
 fn drop_links(links: &mut Vec<Link>, gone: &[u32])
     requires { Ascend gone.now }
     ensures { links.new.items ≡ without_links gone.now links.old.items }
@@ -136,6 +141,7 @@ fn leave(entry: &mut Entry, alloc: Global, gone: &[u32], pivot: u32)
     }
 }
 
+/// What becomes of all kept entries. It takes no memory.
 fn leave_all(entries: &mut Vec<Entry>, alloc: Global, gone: &[u32], pivot: u32)
     requires { Ascend gone.now }
     ensures { entries.new.items ≡ map (left gone.now pivot) entries.old.items }
@@ -145,6 +151,7 @@ fn leave_all(entries: &mut Vec<Entry>, alloc: Global, gone: &[u32], pivot: u32)
     }
 }
 
+/// All memory is taken before the first change, so that where it runs out nothing has changed.
 pub(crate) fn remove_below(table: &mut Table, pivot: u32) -> Result<(), AllocError>
     requires kept { IsKeptTable table.old }
     requires pivot { IsLive table.old.entries.items pivot }

@@ -18,12 +18,14 @@ use cpa_model::Elem;
 use std::alloc::Global;
 use std::mem;
 
+/// The next number in place of the old one; any other stays.
 fn rename(old: u32, next: u32, number: u32) -> u32
     ensures { result ≡ rename old next number }
 {
     if number == old { next } else { number }
 }
 
+/// So with the number of a parent; the edge from it stays.
 fn rename_parent(old: u32, next: u32, parent: Option<(u32, u32)>) -> Option<(u32, u32)>
     ensures { result ≡ rename_parent old next parent }
 {
@@ -33,6 +35,7 @@ fn rename_parent(old: u32, next: u32, parent: Option<(u32, u32)>) -> Option<(u32
     }
 }
 
+/// So with each of the uses. It takes no memory.
 fn rename_uses(old: u32, next: u32, uses: Seq<u32>) -> Seq<u32>
     ensures { result ≡ map (rename old next) uses }
 {

@@ -109,6 +109,7 @@ pub(crate) fn begin(
     })
 }
 
+/// Takes the number that comes next in the order, and its entry does not wait any more.
 pub(crate) fn take_next(table: &mut Table, order: Order) -> Option<u32>
     requires { IsKeptTable table.old }
     ensures kept { IsKeptTable table.new }
@@ -180,6 +181,7 @@ fn name_parent(table: &mut Table, number: u32, next: u32) -> Result<(), AllocErr
     }
 }
 
+/// Adds an entry that waits, with the next number. Its parent uses it.
 pub(crate) fn add(
     table: &mut Table,
     elems: Vec<Elem>,
@@ -222,6 +224,7 @@ pub(crate) fn add(
     Ok(number)
 }
 
+/// Puts an entry that waits, with the next number, in the place of an old one.
 pub(crate) fn replace(table: &mut Table, old: u32, elems: Vec<Elem>) -> Result<u32, AllocError>
     requires kept { IsKeptTable table.old }
     requires live { IsLive table.old.entries.items old }
@@ -252,6 +255,7 @@ pub(crate) fn replace(table: &mut Table, old: u32, elems: Vec<Elem>) -> Result<u
     Ok(number)
 }
 
+/// Notes that the entry `by` covers a successor of `entry`.
 pub(crate) fn note_use(table: &mut Table, entry: u32, by: u32) -> Result<(), AllocError>
     requires kept { IsKeptTable table.old }
     requires entry { IsLive table.old.entries.items entry }
@@ -266,6 +270,7 @@ pub(crate) fn note_use(table: &mut Table, entry: u32, by: u32) -> Result<(), All
     gain(&mut table.entries, entry, by)
 }
 
+/// Gives the entry other precisions. It takes no memory.
 pub(crate) fn set_precisions(table: &mut Table, entry: u32, precisions: Vec<Precision>)
     requires kept { IsKeptTable table.old }
     requires entry { IsLive table.old.entries.items entry }
