@@ -10,9 +10,10 @@ const DEPTH: u32 = 33;
 /// How much faster each bump is than the one before: 1 / 0.95.
 const GROWTH: f64 = 1.0526315789473684;
 
-/// The activity at which all are scaled down, and by what.
+/// The activity at which all are scaled down.
 const HIGH: f64 = 1e100;
 
+/// What all activities are multiplied by then.
 const SCALE: f64 = 1e-100;
 
 /// The variables in a heap by activity, and the sign that each had last.
@@ -44,6 +45,7 @@ impl Order {
         })
     }
 
+    /// The activity of a variable, 0 where there is no such variable.
     fn activity(&self, var: u32) -> f64 {
         self.activities
             .as_slice()
@@ -52,6 +54,7 @@ impl Order {
             .unwrap_or(0.0)
     }
 
+    /// The variable at the place in the heap, NONE where there is no such place.
     fn at(&self, slot: u32) -> u32 {
         self.heap
             .as_slice()
@@ -60,6 +63,7 @@ impl Order {
             .unwrap_or(NONE)
     }
 
+    /// The place of a variable in the heap, NONE where it is not there.
     fn slot(&self, var: u32) -> u32 {
         self.slots
             .as_slice()
@@ -188,6 +192,7 @@ impl Order {
         self.step *= GROWTH;
     }
 
+    /// Scales all activities down, and the next bump with them.
     fn scale(&mut self) {
         for activity in self.activities.iter_mut() {
             *activity *= SCALE;
@@ -209,6 +214,7 @@ pub struct Restarts {
 const UNIT: u64 = 100;
 
 impl Restarts {
+    /// The first length is one unit of conflicts.
     pub fn new() -> Restarts {
         Restarts {
             u: 1,
