@@ -80,6 +80,7 @@ fn assign(
     }
 }
 
+/// Whether an evaluation traps. One whose value is only unknown does not.
 fn is_trap(known: Result<i128, Gap>) -> bool
     ensures { result ≡ is_trap known }
 {
@@ -132,6 +133,7 @@ fn assume(test: &Expr, holds: bool, cells: &mut [Option<i128>], tracked: &[bool]
     }
 }
 
+/// Whether the truth of a test is the one that is assumed.
 fn is_same(a: bool, b: bool) -> bool
     ensures { result ≡ same_bool a b }
 {
@@ -206,6 +208,7 @@ fn told(read: Option<Scalar>, known: Result<i128, Gap>, tracked: &[bool]) -> Opt
     }
 }
 
+/// The first thing that is told, and the other one only where the first tells nothing.
 fn first_told(first: Option<ScalarValue>, other: Option<ScalarValue>) -> Option<ScalarValue>
     ensures { result ≡ first_told first other }
 {
@@ -272,6 +275,7 @@ fn held(ty: IntType, read: Option<Scalar>) -> Option<Scalar>
     }
 }
 
+/// Whether each value of the other type is one of this type.
 fn holds_type(ty: IntType, other: IntType) -> bool
     ensures { result ≡ holds_type ty other }
 {

@@ -50,6 +50,7 @@ fn know(cells: &mut [Option<i128>], fact: &Fact)
     }
 }
 
+/// Whether no value of the cell is known. That of a cell which is not there is not.
 fn is_unknown(cells: &[Option<i128>], cell: usize) -> bool
     ensures { result ≡ is_none (slice_index_or cells.now cell None) }
 {

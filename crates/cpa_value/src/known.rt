@@ -56,6 +56,7 @@ pub fn known_value(e: &Expr, cells: &[Option<i128>]) -> Result<i128, Gap>
     }
 }
 
+/// The value of the cell that the index picks, where the index is known.
 #[cycle(knowing)]
 fn known_read(base: u32, len: u32, index: &Boxed<Expr>, cells: &[Option<i128>]) -> Result<i128, Gap>
     ensures { result ≡ known_then (known_at cells.now base len) (known_value index.now cells.now) }
@@ -63,6 +64,7 @@ fn known_read(base: u32, len: u32, index: &Boxed<Expr>, cells: &[Option<i128>]) 
     known_at(cells, base, len, known_value(index.get(), cells)?)
 }
 
+/// The value of the operator on the value of its argument, where that is known.
 #[cycle(knowing)]
 fn known_un(op: UnOp, ty: IntType, arg: &Boxed<Expr>, cells: &[Option<i128>]) -> Result<i128, Gap>
     ensures { result ≡ known_then (λ a. Ok (un_value op ty a)) (known_value arg.now cells.now) }
@@ -70,6 +72,7 @@ fn known_un(op: UnOp, ty: IntType, arg: &Boxed<Expr>, cells: &[Option<i128>]) ->
     Ok(un_value(op, ty, known_value(arg.get(), cells)?))
 }
 
+/// The value of the operator on both values, where they are known.
 #[cycle(knowing)]
 fn known_bin(
     op: BinOp,
@@ -86,6 +89,7 @@ fn known_bin(
     or_trap(bin_value(op, ty, a, b))
 }
 
+/// 1 where the values compare so, else 0, where they are known.
 #[cycle(knowing)]
 fn known_cmp(
     op: CmpOp,
@@ -101,6 +105,7 @@ fn known_cmp(
     Ok(truth(compares(op, a, b)))
 }
 
+/// The value of the argument wrapped to the type, where it is known.
 #[cycle(knowing)]
 fn known_cast(ty: IntType, arg: &Boxed<Expr>, cells: &[Option<i128>]) -> Result<i128, Gap>
     ensures { result ≡ known_then (λ a. Ok (wrapped ty a)) (known_value arg.now cells.now) }
@@ -108,6 +113,7 @@ fn known_cast(ty: IntType, arg: &Boxed<Expr>, cells: &[Option<i128>]) -> Result<
     Ok(wrap(ty, known_value(arg.get(), cells)?))
 }
 
+/// The right side counts only where the left one is known to be nonzero.
 #[cycle(knowing)]
 fn known_and(left: &Boxed<Expr>, right: &Boxed<Expr>, cells: &[Option<i128>]) -> Result<i128, Gap>
     ensures { result ≡ known_then
@@ -121,6 +127,7 @@ fn known_and(left: &Boxed<Expr>, right: &Boxed<Expr>, cells: &[Option<i128>]) ->
     }
 }
 
+/// The right side counts only where the left one is known to be zero.
 #[cycle(knowing)]
 fn known_or(left: &Boxed<Expr>, right: &Boxed<Expr>, cells: &[Option<i128>]) -> Result<i128, Gap>
     ensures { result ≡ known_then
@@ -134,6 +141,7 @@ fn known_or(left: &Boxed<Expr>, right: &Boxed<Expr>, cells: &[Option<i128>]) -> 
     }
 }
 
+/// 1 where the argument is known to be zero, 0 where it is known not to be.
 #[cycle(knowing)]
 fn known_not(arg: &Boxed<Expr>, cells: &[Option<i128>]) -> Result<i128, Gap>
     ensures { result ≡ known_then (λ a. Ok (truth (not (is_nonzero a))))
@@ -142,6 +150,7 @@ fn known_not(arg: &Boxed<Expr>, cells: &[Option<i128>]) -> Result<i128, Gap>
     Ok(truth(!is_nonzero(known_value(arg.get(), cells)?)))
 }
 
+/// Only the side that a known test picks counts.
 #[cycle(knowing)]
 fn known_cond(
     test: &Boxed<Expr>,

@@ -112,6 +112,7 @@ fn note(values: &mut Seq<i128>, value: i128) -> Result<(), AllocError>
     Ok(())
 }
 
+/// Whether the value is among those that were noted.
 fn has_value(values: &[i128], value: i128) -> bool
     ensures { result ≡ list_any (λ own. int_eq own value) values.now }
 {

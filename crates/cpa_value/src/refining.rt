@@ -32,6 +32,7 @@ pub(crate) fn precision_of(
     })
 }
 
+/// The cells that the first precision tracks: all of them, or none.
 fn tracked_at_first(alloc: Global, count: usize, is_all: bool) -> Result<Seq<u32>, AllocError>
     requires { count < 2 ^ 32 }
     ensures { IfOk result (λ cells. cells ≡ (if is_all then range_with_len 0 count else [])) }
@@ -85,6 +86,7 @@ fn append_unmarked(list: &mut Seq<u32>, cells: &[u32], marks: &[bool]) -> Result
     Ok(())
 }
 
+/// Adds the cell at the end, where it is not marked.
 fn push_unless(list: &mut Seq<u32>, cell: u32, is_marked: bool) -> Result<(), AllocError>
     ensures { OnOk result (list.new ≡ list.old ++ (if not is_marked then cell ∷ [] else [])) }
 {

@@ -66,6 +66,7 @@ fn some_point(others: &[Elem], tracked: &[bool]) -> bool
     others.iter().any(|other| has_point(other, tracked))
 }
 
+/// Whether some fact of the element leaves a tracked cell one value.
 fn has_point(elem: &Elem, tracked: &[bool]) -> bool
     ensures { result ≡ has_point (is_marked tracked.now) elem.now }
 {
@@ -75,6 +76,7 @@ fn has_point(elem: &Elem, tracked: &[bool]) -> bool
         .any(|fact| is_point(fact, tracked))
 }
 
+/// Whether the fact leaves a tracked cell one value: its bounds are equal.
 fn is_point(fact: &Fact, tracked: &[bool]) -> bool
     ensures { result ≡ is_point (is_marked tracked.now) fact.now }
 {
@@ -97,6 +99,7 @@ fn meet_elems(cells: &mut [Option<i128>], others: &[Elem], tracked: &[bool]) -> 
     true
 }
 
+/// Adds what the facts say, and says whether no cell would have two values.
 fn meet_facts(cells: &mut [Option<i128>], facts: &[Fact], tracked: &[bool]) -> bool
     ensures { (if result then Some cells.new else None)
         ≡ met_facts (is_marked tracked.now) facts.now cells.old }
@@ -109,6 +112,7 @@ fn meet_facts(cells: &mut [Option<i128>], facts: &[Fact], tracked: &[bool]) -> b
     true
 }
 
+/// Adds what the fact says, and says whether no cell would have two values.
 fn meet(cells: &mut [Option<i128>], fact: &Fact, tracked: &[bool]) -> bool
     ensures { (if result then Some cells.new else None)
         ≡ met (is_marked tracked.now) fact.now cells.old }

@@ -190,6 +190,7 @@ fn starts(alloc: Global, cells: &[Cell]) -> Result<Elem, AllocError>
     Ok(Elem { facts })
 }
 
+/// The cell at a place that is there.
 fn cell_at(cells: &[Cell], place: usize) -> &Cell
     requires { place < length cells.now }
     ensures { slice_get cells.now place ≡ Some result.now }
