@@ -16,6 +16,7 @@ pub(crate) fn some_marked(marks: &[bool], base: u32, len: u32) -> bool
     (base as usize..base as usize + len as usize).any(|cell| is_marked(marks, cell))
 }
 
+/// Whether the cell is marked. One for which there is no mark is not.
 fn is_marked(marks: &[bool], cell: usize) -> bool
     ensures { result ≡ is_marked marks.now cell }
 {
