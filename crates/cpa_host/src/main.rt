@@ -5,6 +5,7 @@
 use cpa_entry::start;
 use std::process::ExitCode;
 
+/// What the program may reach of the machine, it reaches by `rt`.
 fn main(rt: HostRuntime) -> ExitCode {
     start(&rt)
 }
