@@ -33,6 +33,7 @@ impl From<AllocError> for Refusal {
     }
 }
 
+/// The calls that the program knows, those that are not built among them.
 const USAGE: &str = "usage: cpaverify verify PROGRAM [--config FILE]
        cpaverify replay PROGRAM INPUTS [--steps N]
        cpaverify recheck PROGRAM REPORT [--config FILE] [--proof] [--workers N]
