@@ -6,9 +6,10 @@ use std::alloc::{AllocError, Global};
 /// A clause of so few levels stays watched for good.
 const FEW: u32 = 2;
 
-/// Learned clauses before the first choice, and by how many more later ones wait.
+/// Learned clauses before the first choice.
 const FIRST: u64 = 4000;
 
+/// By how many the wait for the next choice grows each time.
 const MORE: u64 = 1000;
 
 /// The distances that are told apart.
