@@ -178,11 +178,6 @@ abbrev pub suffix_target : Option Meaning → ReadSuffix → Target
 suffix_target found (TypedSuffix-F.Index index kind place) = element_target found index.used
 suffix_target found _ = no_target
 
--- how many suffixes a postfix expression has
-abbrev pub suffix_count : TypedExpression-F TypedExpression TypedSuffix → ℕ
-suffix_count (TypedExpression-F.Postfix base suffixes place) = length suffixes
-suffix_count _ = 0
-
 -- E of an expression
 abbrev pub used_by : Frames → TypedExpression → Rule Valued
 used_by frames e = lowered frames Used e

@@ -2,11 +2,12 @@
 //! `specs/Expressions.antt`). Proved with the lemmas of `proofs/Variants.antt`.
 ghost use Rattle.std.specs.Prelude.{◌≡◌, ◌≤◌, OnOk, IfOk};
 ghost use Rattle.c_rules.specs.declared.typed.TypedExpression.{out-TypedExpression};
+ghost use Rattle.c_rules.specs.Counts.{suffix_count};
 ghost use Rattle.c_core_rules.specs.Expressions.{rows, placed};
 ghost use Rattle.c_core_values.specs.Found.{so_far};
 ghost use Rattle.c_core_expressions.specs.Postfix.{postfix_of};
 ghost use Rattle.c_core_expressions.specs.Rows.{lowered, linked_to, comma_of, front_target};
-ghost use Rattle.c_core_expressions.specs.Rows.{suffix_count, suffix_of, suffix_target};
+ghost use Rattle.c_core_expressions.specs.Rows.{suffix_of, suffix_target};
 
 use crate::calls::call_of;
 use crate::frames::Frames;
@@ -16,8 +17,8 @@ use crate::usage::{
     signed_for, statements_of, stepped_for, usage_of_ends, voided,
 };
 use c_core_rules::{CoreTree, Place, Valued};
-use c_core_values::{Cells, constant, fixed_if, int, joined, linked, operator_of, pure};
-use c_rules::{Kind, Meaning, TypedExpression, TypedSuffix};
+use c_core_values::{Cells, constant, fixed_if, int, joined, linked, pure};
+use c_rules::{Kind, Meaning, TypedExpression, TypedSuffix, operator_of};
 use c_symbols::BinaryOperator;
 use cpa_ints::{IntType, Seq};
 use std::alloc::AllocError;

@@ -4,8 +4,8 @@ ghost use Rattle.std.specs.Prelude.{◌≡◌, ◌+◌, IfOk};
 ghost use Rattle.c_core_rules.specs.Expressions.{passed, cells_from};
 
 use c_core_rules::CoreTree;
-use c_core_values::{cell_at, cells_of, set};
-use c_rules::Object;
+use c_core_values::{cell_at, set};
+use c_rules::{Object, cells_of};
 use cpa_expr::Expr;
 use cpa_ints::Seq;
 use std::alloc::{AllocError, Global};

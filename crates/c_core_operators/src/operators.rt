@@ -4,10 +4,10 @@ ghost use Rattle.std.specs.Prelude.{◌≡◌, IfOk};
 ghost use Rattle.cpa_ints.specs.Conversions.{promoted};
 ghost use Rattle.cpa_expr.specs.declared.tree.Expr.TheVariants.{Un, Bin, Cmp, And, Or, Not, Cond};
 ghost use Rattle.cpa_expr.specs.Shape.{type_of};
-ghost use Rattle.c_rules.specs.Counts.{is_shift};
 ghost use Rattle.c_core_rules.specs.Values.{conv, promote, node_of, operator_value, signed_value};
 ghost use Rattle.c_core_rules.specs.Values.{chosen_value, truth_of, is_constant};
 
+use c_rules::is_shift;
 use c_symbols::BinaryOperator;
 use c_tree::UnaryOperator;
 use cpa_expr::{BinOp, CmpOp, Expr, UnOp, type_of};
@@ -89,16 +89,6 @@ fn comparison(op: CmpOp, ty: IntType, left: Boxed<Expr>, right: Boxed<Expr>) -> 
         ty,
         left,
         right,
-    }
-}
-
-/// Whether operands are promoted each by itself.
-fn is_shift(operator: BinaryOperator) -> bool
-    ensures { result ≡ is_shift operator }
-{
-    match operator {
-        BinaryOperator::ShiftLeft | BinaryOperator::ShiftRight => true,
-        _ => false,
     }
 }
 

@@ -15,11 +15,11 @@ ghost use Rattle.c_core_trees.specs.Items.{statement_rule, left, do_behind, for_
 use c_core_expressions::{Frames, cell_behind, chosen_unused, unused, used};
 use c_core_rules::{CoreTree, Head, Location, Valued};
 use c_core_values::{
-    Cells, block, cell_at, cells_of, constant, input, joined, leaf, list_of, repeated, set, with,
+    Cells, block, cell_at, constant, input, joined, leaf, list_of, repeated, set, with,
 };
 use c_rules::{
     Object, TypedDeclarator, TypedExpression, TypedForStart, TypedInitializer, TypedItem,
-    TypedStatement,
+    TypedStatement, cells_of,
 };
 use cpa_ints::{IntType, Seq};
 use std::alloc::{AllocError, Global};

@@ -9,7 +9,7 @@ ghost use Rattle.c_core_values.specs.Found.{found_starts, so_far, first_value, v
 
 use crate::values::cell_at;
 use c_core_rules::Location;
-use c_rules::{Meaning, Object};
+use c_rules::{Meaning, Object, cells_of};
 use cpa_ints::{IntType, Seq};
 use cpa_model::Cell;
 use std::alloc::{AllocError, Global};
@@ -142,16 +142,6 @@ fn begin(starts: &mut Starts, number: u32, cell: u32) -> Result<(), AllocError>
 {
     starts.insert(number, cell)?;
     Ok(())
-}
-
-/// How many cells an object takes.
-pub fn cells_of(object: Object) -> u128
-    ensures { result ≡ cells_of object }
-{
-    match object.length {
-        None => 1,
-        Some(length) => length.unsigned_abs(),
-    }
 }
 
 /// The first of these values, 0 where there is none.

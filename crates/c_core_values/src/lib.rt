@@ -10,8 +10,8 @@ mod trees;
 mod values;
 
 pub use acts::{cast_to, chosen, dropped_value, linked, signed};
-pub use cells::{Cells, cells_of};
+pub use cells::Cells;
 pub use operands::{divided, hold_all};
-pub use places::{changed, fixed_if, incremented, operator_of, stepped};
+pub use places::{changed, fixed_if, incremented, stepped};
 pub use trees::{block, choice, input, joined, leaf, list_of, pure, repeated, set, with};
 pub use values::{cell_at, constant, element, int, scalar};

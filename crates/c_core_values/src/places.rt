@@ -1,7 +1,6 @@
 //! Assignments, from the place that is assigned to on (`c_core_rules`, `specs/Places.antt`). Proved
 //! by the checker alone.
 ghost use Rattle.std.specs.Prelude.{◌≡◌, ◌∷◌, ◌++◌, [], IfOk, OnOk};
-ghost use Rattle.c_rules.specs.Counts.{operator_of};
 ghost use Rattle.c_core_rules.specs.Trees.{write, pure, valued};
 ghost use Rattle.c_core_rules.specs.Values.{element, int};
 ghost use Rattle.c_core_rules.specs.Acts.{operated, held, held_before};
@@ -16,29 +15,10 @@ use crate::cells::Cells;
 use crate::trees::{joined, pure, with, write};
 use crate::values::{element, int};
 use c_core_rules::{CoreTree, Location, Place, Valued};
-use c_symbols::{AssignmentOperator, BinaryOperator, StepOperator};
+use c_symbols::{BinaryOperator, StepOperator};
 use cpa_expr::{Expr, copy};
 use cpa_ints::Seq;
 use std::alloc::{AllocError, Global};
-
-/// The operator that an assignment does before it writes.
-pub fn operator_of(operator: AssignmentOperator) -> Option<BinaryOperator>
-    ensures { result ≡ operator_of operator }
-{
-    match operator {
-        AssignmentOperator::Assign => None,
-        AssignmentOperator::Multiply => Some(BinaryOperator::Multiply),
-        AssignmentOperator::Divide => Some(BinaryOperator::Divide),
-        AssignmentOperator::Remainder => Some(BinaryOperator::Remainder),
-        AssignmentOperator::Add => Some(BinaryOperator::Add),
-        AssignmentOperator::Subtract => Some(BinaryOperator::Subtract),
-        AssignmentOperator::ShiftLeft => Some(BinaryOperator::ShiftLeft),
-        AssignmentOperator::ShiftRight => Some(BinaryOperator::ShiftRight),
-        AssignmentOperator::BitAnd => Some(BinaryOperator::BitAnd),
-        AssignmentOperator::BitXor => Some(BinaryOperator::BitXor),
-        AssignmentOperator::BitOr => Some(BinaryOperator::BitOr),
-    }
-}
 
 /// The place with a copy of its index, read.
 fn element_again(alloc: Global, place: Location, index: &Expr) -> Result<Expr, AllocError>

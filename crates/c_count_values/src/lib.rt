@@ -11,7 +11,7 @@ mod value;
 
 pub use acts::{chosen, dropped_value, fixed, linked};
 pub use operands::hold_all;
-pub use places::{Place, changed_at, operator_of, stepped_at, updated_at};
+pub use places::{Place, changed_at, stepped_at, updated_at};
 pub use size::{Counted, Size, block, both, choice, empty, looped, one, raised, times};
 pub use tally::Tally;
 pub use value::{cast_to, constant, counted, leaving, passed, scalar, signed, sizes, write};

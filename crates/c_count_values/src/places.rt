@@ -1,7 +1,6 @@
 //! What is assigned to, its index evaluated, and what it counts for, by `specs/Places.antt`.
 //! Proved by the checker alone.
 ghost use Rattle.std.specs.Prelude.{◌≡◌, IfOk, OnOk};
-ghost use Rattle.c_rules.specs.Counts.{operator_of};
 ghost use Rattle.c_count_values.specs.Exact.{exact};
 ghost use Rattle.c_count_values.specs.Places.{exact_place, assigned_at, updated_at, changed_at};
 ghost use Rattle.c_count_values.specs.Places.{element_place, stepped_at};
@@ -10,7 +9,7 @@ use crate::acts::{fixed, held_before, stepped_from, updated};
 use crate::size::{Counted, both, empty, raised};
 use crate::tally::Tally;
 use crate::value::{constant, set_element, set_scalar};
-use c_symbols::{AssignmentOperator, BinaryOperator};
+use c_symbols::BinaryOperator;
 use cpa_ints::IntType;
 use std::alloc::AllocError;
 
@@ -20,25 +19,6 @@ pub enum Place {
     Scalar(IntType),
     Element(IntType, Counted),
     Neither,
-}
-
-/// The operator that an assignment does before it writes.
-pub fn operator_of(operator: AssignmentOperator) -> Option<BinaryOperator>
-    ensures { result ≡ operator_of operator }
-{
-    match operator {
-        AssignmentOperator::Assign => None,
-        AssignmentOperator::Multiply => Some(BinaryOperator::Multiply),
-        AssignmentOperator::Divide => Some(BinaryOperator::Divide),
-        AssignmentOperator::Remainder => Some(BinaryOperator::Remainder),
-        AssignmentOperator::Add => Some(BinaryOperator::Add),
-        AssignmentOperator::Subtract => Some(BinaryOperator::Subtract),
-        AssignmentOperator::ShiftLeft => Some(BinaryOperator::ShiftLeft),
-        AssignmentOperator::ShiftRight => Some(BinaryOperator::ShiftRight),
-        AssignmentOperator::BitAnd => Some(BinaryOperator::BitAnd),
-        AssignmentOperator::BitXor => Some(BinaryOperator::BitXor),
-        AssignmentOperator::BitOr => Some(BinaryOperator::BitOr),
-    }
 }
 
 /// An element that is set; its index is kept where the value is used.

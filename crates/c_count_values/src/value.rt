@@ -1,13 +1,13 @@
 //! What is known of a counted expression, and the rules that take no cell (`c_rules`,
 //! `specs/Counts.antt`). Proved with `specs/lemmas/Sums.antt`.
 ghost use Rattle.std.specs.Prelude.{◌≡◌, map, max, IfOk};
-ghost use Rattle.c_rules.specs.Counts.{conv, counted, constant, scalar, is_empty, is_shift};
+ghost use Rattle.c_rules.specs.Counts.{conv, counted, constant, scalar, is_empty};
 ghost use Rattle.c_rules.specs.Counts.{operands_height, operated, signed, cast_to, write};
 ghost use Rattle.c_rules.specs.Counts.{set_scalar, set_element, leaving, sizes, passed};
 ghost use Rattle.c_count_values.specs.Exact.{exact, exact_size, types_of};
 
 use crate::size::{Counted, Size, both, choice, empty, higher, one, raised};
-use c_rules::{Object, binary_type};
+use c_rules::{Object, binary_type, is_shift};
 use c_symbols::BinaryOperator;
 use c_tree::UnaryOperator;
 use cpa_ints::{IntType, common, promote};
@@ -60,16 +60,6 @@ pub(crate) fn is_empty(v: Counted) -> bool
     ensures { result ≡ is_empty (exact v) }
 {
     v.size.points == 0
-}
-
-/// Whether operands are promoted each by itself.
-fn is_shift(operator: BinaryOperator) -> bool
-    ensures { result ≡ is_shift operator }
-{
-    match operator {
-        BinaryOperator::ShiftLeft | BinaryOperator::ShiftRight => true,
-        _ => false,
-    }
 }
 
 /// The height of the higher of two operands that are converted to these types.

@@ -18,7 +18,7 @@ use Rattle.c_rules.specs.Counts.{element_target, then_by}
 use Rattle.c_count_values.specs.Places.{Place, stepped_at}
 use Rattle.c_counts.specs.Places.{placed, incremented_at, element_read}
 use Rattle.c_counts.specs.Rows.{suffix_of, suffixed_by, front_target, suffix_target}
-use Rattle.c_counts.specs.Rows.{suffix_count}
+use Rattle.c_rules.specs.Counts.{suffix_count}
 use Rattle.c_counts.proofs.Placed.{incremented_placed, stepped_placed, to_size}
 use Rattle.c_counts.proofs.Variants.{rows_Postfix, suffix_Index, suffix_Call, suffix_Step}
 use Rattle.c_counts.proofs.Variants.{suffix_Skipped}

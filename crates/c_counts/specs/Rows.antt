@@ -41,11 +41,6 @@ suffix_target found (TypedSuffix-F.Index index kind place) =
     element_target (type_named found) index.used
 suffix_target found _ = no_target
 
--- how many suffixes a postfix expression has
-abbrev pub suffix_count : TypedExpression-F TypedExpression TypedSuffix → ℕ
-suffix_count (TypedExpression-F.Postfix base suffixes place) = length suffixes
-suffix_count _ = 0
-
 -- the value of an expression that is used
 abbrev pub used_by : Heads → TypedExpression → Rule Counted
 used_by heads e = (rows heads e).used

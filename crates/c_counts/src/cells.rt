@@ -9,9 +9,8 @@ ghost use Rattle.c_counts.specs.TextCells.{starts_behind};
 
 use crate::functions::{functions_size, receiving};
 use crate::heads::Heads;
-use crate::statements::cells_of;
 use c_count_values::{Size, Tally};
-use c_rules::{Cell, Global, MAX_CELLS, MAX_POINTS, Object, TypedFunction};
+use c_rules::{Cell, Global, MAX_CELLS, MAX_POINTS, Object, TypedFunction, cells_of};
 use cpa_expr::MAX_HEIGHT;
 use cpa_ints::{IntType, Seq};
 use std::alloc::{AllocError, Global as Memory};

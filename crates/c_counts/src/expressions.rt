@@ -2,22 +2,20 @@
 //! `specs/Counts.antt`), each part in its turn. Proved with the lemmas of `proofs/Variants.antt`.
 ghost use Rattle.std.specs.Prelude.{◌≡◌, ◌≤◌, map, OnOk, IfOk};
 ghost use Rattle.c_rules.specs.declared.typed.TypedExpression.{out-TypedExpression};
-ghost use Rattle.c_rules.specs.Counts.{rows, dropped, comma_used, comma_unused};
+ghost use Rattle.c_rules.specs.Counts.{rows, dropped, comma_used, comma_unused, suffix_count};
 ghost use Rattle.c_count_values.specs.Exact.{exact, exact_size};
 ghost use Rattle.c_count_values.specs.Places.{exact_place};
 ghost use Rattle.c_counts.specs.Places.{placed, incremented_at, element_read};
-ghost use Rattle.c_counts.specs.Rows.{linked_to, front_target, suffix_count, suffix_of};
-ghost use Rattle.c_counts.specs.Rows.{suffix_target};
+ghost use Rattle.c_counts.specs.Rows.{linked_to, front_target, suffix_of, suffix_target};
 
 use crate::calls::{call_unused, call_used};
 use crate::heads::Heads;
 use crate::names::{front_names, type_named};
 use c_count_values::{
     Counted, Place, Size, Tally, both, cast_to, changed_at, choice, chosen, constant, counted,
-    dropped_value, empty, fixed, linked, operator_of, raised, scalar, signed, stepped_at,
-    updated_at,
+    dropped_value, empty, fixed, linked, raised, scalar, signed, stepped_at, updated_at,
 };
-use c_rules::{Kind, Meaning, TypedExpression, TypedSuffix};
+use c_rules::{Kind, Meaning, TypedExpression, TypedSuffix, operator_of};
 use c_symbols::BinaryOperator;
 use cpa_ints::IntType;
 use std::alloc::AllocError;

@@ -6,9 +6,9 @@ ghost use Rattle.c_rules.specs.Sound.{first_cells};
 ghost use Rattle.c_count_values.specs.Exact.{exact_size};
 
 use crate::heads::Heads;
-use crate::statements::{cells_of, in_order};
+use crate::statements::in_order;
 use c_count_values::{Size, Tally, block, both, empty, one};
-use c_rules::{Kind, Object, TypedFunction};
+use c_rules::{Kind, Object, TypedFunction, cells_of};
 use std::alloc::AllocError;
 
 /// The cell of a result.

@@ -2,7 +2,7 @@
 //! Proved with the lemmas of `proofs/StatementForms.antt` and `proofs/InOrder.antt`.
 ghost use Rattle.std.specs.Prelude.{◌≡◌, map, OnOk, IfOk};
 ghost use Rattle.c_rules.specs.Counts.{some_unused, initialized, in_order, initializing, declared};
-ghost use Rattle.c_rules.specs.Counts.{declaration, started, left_unless, returned, cells_of};
+ghost use Rattle.c_rules.specs.Counts.{declaration, started, left_unless, returned};
 ghost use Rattle.c_rules.specs.Counts.{item_rule};
 ghost use Rattle.c_count_values.specs.Exact.{exact_size};
 ghost use Rattle.c_counts.specs.Items.{statement_rule, left};
@@ -12,20 +12,10 @@ use crate::heads::Heads;
 use c_count_values::{Size, Tally, block, both, choice, empty, leaving, looped, one, times, write};
 use c_rules::{
     Object, TypedDeclarator, TypedExpression, TypedForStart, TypedInitializer, TypedItem,
-    TypedStatement,
+    TypedStatement, cells_of,
 };
 use cpa_ints::IntType;
 use std::alloc::AllocError;
-
-/// How many cells an object takes.
-pub(crate) fn cells_of(object: Object) -> u128
-    ensures { result ≡ cells_of object }
-{
-    match object.length {
-        None => 1,
-        Some(length) => length.unsigned_abs(),
-    }
-}
 
 /// An expression that may be left out, its value not used.
 fn some_unused(

@@ -26,6 +26,7 @@ use Rattle.c_rules.specs.declared.meaning.Meaning.TheVariants as meaning
 use Rattle.c_rules.specs.declared.typed.TypedExpression.{TypedExpression}
 use Rattle.c_rules.specs.declared.typed.TypedExpression.TheOpen.{TypedExpression-F, TypedSuffix-F}
 use Rattle.c_rules.specs.declared.typed.TypedExpression.TheFolds.{fold-TypedExpression}
+use Rattle.c_rules.specs.declared.typed.TypedSuffix.{TypedSuffix}
 use Rattle.c_rules.specs.declared.typed.TypedInitializer.{TypedInitializer}
 use Rattle.c_rules.specs.declared.typed.TypedInitializer.TheVariants as initializer
 use Rattle.c_rules.specs.declared.typed.TypedDeclarator.{TypedDeclarator}
@@ -525,6 +526,11 @@ in_order (rule ∷ rules) =
 abbrev pub some_unused : Heads → Option TypedExpression → Rule Size
 some_unused heads None = gives empty
 some_unused heads (Some expression) = (rows heads expression).unused
+
+-- how many suffixes a postfix expression has
+abbrev pub suffix_count : TypedExpression-F TypedExpression TypedSuffix → ℕ
+suffix_count (TypedExpression-F.Postfix base suffixes place) = length suffixes
+suffix_count _ = 0
 
 -- how many cells an object takes
 abbrev pub cells_of : Object → ℕ

@@ -2,6 +2,7 @@
 //! names and types that a text can break (C11 6.2.1, 6.5 to 6.9). The definitions are in `specs/`.
 #![tactic(auto)]
 
+mod counting;
 mod first;
 mod kinds;
 mod known;
@@ -10,6 +11,7 @@ mod parts;
 mod typed;
 mod uses;
 
+pub use counting::{cells_of, is_shift, operator_of};
 pub use first::{note, note_place};
 pub use kinds::{
     as_kind, binary_type, cast_kind, ends_kind, kind_of_words, unary_type, value_kind,
