@@ -100,12 +100,14 @@ impl<'a> Pending<'a> {
         Ok(())
     }
 
+    /// Holds an expression for the node to the left of it.
     fn put(&mut self, alloc: Global, expr: Expr) -> Result<(), RowFault> {
         let part = Boxed::new(alloc, expr)?;
         self.parts.push(part)?;
         Ok(())
     }
 
+    /// The node of this head, with the words and parts that stand right behind it.
     fn node(&mut self, head: Head) -> Result<Expr, RowFault> {
         match head {
             Head::Const => self.constant(),
@@ -121,12 +123,14 @@ impl<'a> Pending<'a> {
         }
     }
 
+    /// A number of the type T: `const T NUMBER`.
     fn constant(&mut self) -> Result<Expr, RowFault> {
         let ty = self.ty()?;
         let value = number_of_word(self.word()?)?;
         Ok(Expr::Const { ty, value })
     }
 
+    /// One of LEN cells from BASE on, which have the type T: `read T BASE LEN INDEX`.
     fn read(&mut self) -> Result<Expr, RowFault> {
         let ty = self.ty()?;
         let base = index_of_word(self.word()?)?;
@@ -140,12 +144,14 @@ impl<'a> Pending<'a> {
         })
     }
 
+    /// An operator whose result has the type T: `OP T ARG`.
     fn unary(&mut self, op: UnOp) -> Result<Expr, RowFault> {
         let ty = self.ty()?;
         let arg = self.part()?;
         Ok(Expr::Un { op, ty, arg })
     }
 
+    /// An operator whose result has the type T: `OP T LEFT RIGHT`.
     fn binary(&mut self, op: BinOp) -> Result<Expr, RowFault> {
         let ty = self.ty()?;
         let left = self.part()?;
@@ -158,6 +164,7 @@ impl<'a> Pending<'a> {
         })
     }
 
+    /// A comparison of two values of the type T: `OP T LEFT RIGHT`.
     fn comparison(&mut self, op: CmpOp) -> Result<Expr, RowFault> {
         let ty = self.ty()?;
         let left = self.part()?;
@@ -170,29 +177,34 @@ impl<'a> Pending<'a> {
         })
     }
 
+    /// A conversion to the type T: `cast T ARG`.
     fn cast(&mut self) -> Result<Expr, RowFault> {
         let ty = self.ty()?;
         let arg = self.part()?;
         Ok(Expr::Cast { ty, arg })
     }
 
+    /// `both LEFT RIGHT`, which stands for `&&`.
     fn both(&mut self) -> Result<Expr, RowFault> {
         let left = self.part()?;
         let right = self.part()?;
         Ok(Expr::And { left, right })
     }
 
+    /// `either LEFT RIGHT`, which stands for `||`.
     fn either(&mut self) -> Result<Expr, RowFault> {
         let left = self.part()?;
         let right = self.part()?;
         Ok(Expr::Or { left, right })
     }
 
+    /// `not ARG`, which stands for `!`.
     fn negation(&mut self) -> Result<Expr, RowFault> {
         let arg = self.part()?;
         Ok(Expr::Not { arg })
     }
 
+    /// One of two values of the type T: `cond T TEST YES NO`, which stands for `?:`.
     fn conditional(&mut self) -> Result<Expr, RowFault> {
         let ty = self.ty()?;
         let test = self.part()?;
@@ -201,14 +213,17 @@ impl<'a> Pending<'a> {
         Ok(Expr::Cond { ty, test, yes, no })
     }
 
+    /// The next word of the node that is read.
     fn word(&mut self) -> Result<&'a str, RowFault> {
         self.words.pop().ok_or(RowFault::Unreadable)
     }
 
+    /// The next word of the node that is read, as a type.
     fn ty(&mut self) -> Result<IntType, RowFault> {
         type_of_word(self.word()?).ok_or(RowFault::Unreadable)
     }
 
+    /// The next part of the node that is read.
     fn part(&mut self) -> Result<Boxed<Expr>, RowFault> {
         self.parts.pop().ok_or(RowFault::Unreadable)
     }
