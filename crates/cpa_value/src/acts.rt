@@ -10,7 +10,9 @@ ghost use Rattle.cpa_expr.specs.Values.{is_nonzero};
 ghost use Rattle.cpa_model.specs.Standing.{same_bool};
 ghost use Rattle.cpa_query.specs.Queries.{is_marked};
 ghost use Rattle.cpa_value.specs.KnownValues.{known_value};
-ghost use Rattle.cpa_value.specs.Acts.{forgotten, is_trap, written, assigned, scalar_of, holds_type, held, read_of, told, first_told, set_told, equated, zeroed, says_equal, learned, assumed, after_act};
+ghost use Rattle.cpa_value.specs.Acts.{forgotten, is_trap, written, assigned, scalar_of};
+ghost use Rattle.cpa_value.specs.Acts.{holds_type, held, read_of, told, first_told, set_told};
+ghost use Rattle.cpa_value.specs.Acts.{equated, zeroed, says_equal, learned, assumed, after_act};
 
 use crate::known::{Gap, known_value};
 use cpa_expr::{CmpOp, Expr, is_nonzero};
