@@ -2,7 +2,8 @@
 //! The laws are stated in `specs/Laws.antt` and proved in `proofs/`.
 ghost use Rattle.c_core_laws.specs.Laws.{CoresAreCounted, CoresAreNumbered, CoresAreSmall, OneCore};
 ghost use Rattle.c_core_laws.specs.Laws.{CellsStartInRange, CoresHaveAMain, JumpsAreKept};
-ghost use Rattle.c_core_laws.specs.Laws.{FramesAreThere, TextsAreLaidOut, JumpsAreSound, StatementsAreOfTrees};
+ghost use Rattle.c_core_laws.specs.Laws.{FramesAreThere, TextsAreLaidOut, JumpsAreSound};
+ghost use Rattle.c_core_laws.specs.Laws.{StatementsAreOfTrees};
 
 /// A typed text has one core.
 pub fn there_is_one_core()

@@ -1,7 +1,8 @@
 -- Numbered statements of trees one behind the other: a node is its own statement and those of its
 -- parts (`node_*`), a row its first tree and the others (`row_*`).
 use Rattle.std.proofs.Common.{◌≡◌, ℕ, suc, ◌+◌, List, [], ◌∷◌, ◌++◌, map, length, refl, ap, sym}
-use Rattle.std.proofs.Common.{◌<◌, ◌≤◌, ◌*◌, get_or, drop, ◌∙◌, arith, append_assoc, set, length-append}
+use Rattle.std.proofs.Common.{◌<◌, ◌≤◌, ◌*◌, get_or, drop, ◌∙◌, arith, append_assoc, set}
+use Rattle.std.proofs.Common.{length-append}
 use Rattle.std.proofs.lemmas.List.{at_drop_more}
 use Rattle.cpa_model.specs.declared.program.Stmt.{Stmt}
 use Rattle.c_core_rules.specs.declared.tree.CoreTree.{CoreTree, roll-CoreTree}

@@ -25,7 +25,8 @@ use Rattle.cpa_interp.specs.declared.machine.Machine.{Machine}
 use Rattle.cpa_interp.specs.declared.outcome.Outcome.{Outcome}
 use Rattle.cpa_interp.specs.declared.outcome.Outcome.TheVariants as outcome
 use Rattle.cpa_interp.specs.Replays.{IsHeld}
-use Rattle.cpa_interp.specs.Turns.{state_of, stage_of, Leave, IsOpen, Takes, BarsInput, IsBarred, Turns}
+use Rattle.cpa_interp.specs.Turns.{state_of, stage_of, Leave, IsOpen, Takes, BarsInput, IsBarred}
+use Rattle.cpa_interp.specs.Turns.{Turns}
 use Rattle.cpa_interp.specs.lemmas.Opening.{input_by, input_moves, one_open, open_of, taken_by}
 use Rattle.cpa_interp.specs.lemmas.Choosing.{set_there, step_of, value_there}
 

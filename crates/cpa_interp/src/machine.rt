@@ -1,7 +1,8 @@
 //! A machine that holds a state of an execution and changes it in place, edge by edge. What a turn
 //! makes of it is `specs/Turns.antt`; shown in `proofs/Turning.antt`.
 ghost use Rattle.std.specs.Prelude.{◌≡◌, ◌<◌, ◌^◌, ◌↔◌, IsTrue, List, ℤ, length};
-ghost use Rattle.std.specs.Prelude.{Bool, IfOk, IfSome, IfNone, IsSomeAnd, false, map, slice_get, slice_set};
+ghost use Rattle.std.specs.Prelude.{Bool, IfOk, IfSome, IfNone, IsSomeAnd, false, map, slice_get};
+ghost use Rattle.std.specs.Prelude.{slice_set};
 ghost use Rattle.std.specs.List.{Contains};
 ghost use Rattle.cpa_model.specs.declared.automaton.Edge.{Edge};
 ghost use Rattle.cpa_model.specs.declared.program.Program.{Program};
@@ -11,8 +12,8 @@ ghost use Rattle.cpa_model.specs.Programs.{IsWellFormed};
 ghost use Rattle.cpa_model.specs.Steps.{Assigns};
 ghost use Rattle.cpa_expr.specs.Values.{value_of};
 ghost use Rattle.cpa_ints.specs.Integers.{IsInRange};
-ghost use Rattle.cpa_interp.specs.Turns.{AreAlike, AreWaysOf, IsOpen, IsWay, Leave, Performs, Turns};
-ghost use Rattle.cpa_interp.specs.Turns.{state_of};
+ghost use Rattle.cpa_interp.specs.Turns.{AreAlike, AreWaysOf, IsOpen, IsWay, Leave, Performs};
+ghost use Rattle.cpa_interp.specs.Turns.{Turns, state_of};
 ghost use Rattle.cpa_model.specs.Expressions.{HasTruth};
 ghost use Rattle.std.specs.List.Sorted.{IsNonDecreasingBy};
 

@@ -1,7 +1,8 @@
 -- Of a well-formed program, the inputs and the budget give exactly one outcome.
 use Rattle.std.proofs.Common.{◌≡◌, ℕ, zero, suc, ◌+◌, ◌<◌, ◌≤◌, ℤ, pos, negsuc, List, [], ◌∷◌, ◌++◌}
-use Rattle.std.proofs.Common.{Option, Some, None, Bool, true, false, length, slice_get, slice_set, ◌⊎◌}
-use Rattle.std.proofs.Common.{IsSomeAnd, inl, inr, ⊎_elim, refl, sym, ap, ◌∙◌, subst, arith, append_assoc}
+use Rattle.std.proofs.Common.{Option, Some, None, Bool, true, false, length, slice_get, slice_set}
+use Rattle.std.proofs.Common.{◌⊎◌, IsSomeAnd, inl, inr, ⊎_elim, refl, sym, ap, ◌∙◌, subst, arith}
+use Rattle.std.proofs.Common.{append_assoc}
 use Rattle.std.specs.Int.Signed.{clash_ℤ}
 use Rattle.std.proofs.lemmas.Bool.{cases_lt}
 use Rattle.std.proofs.lemmas.Int.{by_lt_z}
@@ -23,16 +24,16 @@ use Rattle.cpa_model.specs.Expressions.{HasTruth}
 use Rattle.cpa_model.specs.Programs.{IsStmt, IsNumbered, IsWellFormed, point_count}
 use Rattle.cpa_model.specs.States.{IsState, initial_of, state_at}
 use Rattle.cpa_model.specs.Steps.{Moves, MovesAt, at_statement, at_exit, Step, StepsApart}
-use Rattle.cpa_model.specs.Steps.{StepsStore, StepsKeepStates, BeginsInState, Assigns, IsChain, IsError}
-use Rattle.cpa_model.specs.Steps.{IsExecution, CallsError}
+use Rattle.cpa_model.specs.Steps.{StepsStore, StepsKeepStates, BeginsInState, Assigns, IsChain}
+use Rattle.cpa_model.specs.Steps.{IsError, IsExecution, CallsError}
 use Rattle.cpa_model.specs.lemmas.Trees.{some_next}
 use Rattle.cpa_interp.specs.declared.outcome.Outcome.{Outcome}
 use Rattle.cpa_interp.specs.declared.outcome.Outcome.TheVariants as outcome
 use Rattle.cpa_interp.specs.Replays.{input_left, input_of, inputs_of, last_of, IsEnd, GoesOn}
 use Rattle.cpa_interp.specs.Replays.{IsInputFor, Stage, Arrives, IsHeld, ComesTo, Replay}
 use Rattle.cpa_interp.specs.Turns.{IsOpen}
-use Rattle.cpa_interp.specs.lemmas.Opening.{input_by, input_moves, moves_at, one_stmt, one_open, open_of}
-use Rattle.cpa_interp.specs.lemmas.Opening.{taken_by}
+use Rattle.cpa_interp.specs.lemmas.Opening.{input_by, input_moves, moves_at, one_stmt, one_open}
+use Rattle.cpa_interp.specs.lemmas.Opening.{open_of, taken_by}
 use Rattle.cpa_interp.specs.lemmas.Calling.{Fits, fits_along, fits_first}
 use Rattle.cpa_interp.specs.lemmas.Going.{Goes, goes, goes_error, goes_end, goes_on, IsOnTop}
 use Rattle.cpa_interp.specs.lemmas.Going.{moves_go_on}
