@@ -1,5 +1,5 @@
-//! Conversions and operators of the core on pure values, each its rule of `c_core_rules`. Values are
-//! consumed, and parts are boxed.
+//! Conversions and operators of the core on pure values, each its rule of `c_core_rules`.
+//! Values are consumed, and parts are boxed.
 #![tactic(auto)]
 
 mod operators;
