@@ -7,7 +7,7 @@ use Rattle.c_lexer.specs.declared.fault.TextFault.{TextFault}
 use Rattle.cpa_model.specs.declared.program.Program.{Program}
 use Rattle.cpa_model.specs.declared.automaton.Cfa.{Cfa}
 use Rattle.cpa_model.specs.Programs.{IsWellFormed}
-use Rattle.cpa_model.specs.Automata.{IsAutomatonOf}
+use Rattle.cpa_model.specs.Automata.{AreAscending, IsAutomatonOf}
 use Rattle.cpa_model.specs.Covers.{IsCover, IsSafe}
 use Rattle.cpa_iface.specs.declared.analysis.Part.TheVariants as part
 use Rattle.cpa_iface.specs.Meanings.{Meaning, AreShaped}
@@ -85,11 +85,6 @@ pub record Stops (files : Files) (analyses : List Meaning) (job : Job) (with : S
   pub order : stages_of analyses job ≡ earlier ++ stage ∷ later
   pub passed : AllByRecursion (Passes files) earlier
   pub refused : Refuses files with line stage
-
--- each number is less than all those behind it
-abbrev pub AreAscending : List ℕ → Type 0
-AreAscending [] = Unit {0}
-AreAscending (n ∷ ns) = AllByRecursion (λ m. n < m) ns × AreAscending ns
 
 -- The report is that of a program that is safe: it has the program's counts, its verdict is TRUE,
 -- and its entries cover the program. Their numbers ascend, and each has one shaped element of each
