@@ -1,9 +1,8 @@
 -- Keys: the elements by which entries are told apart, and entries that have a key of their own
--- (this
--- project's own).
+-- (this project's own).
 use Rattle.std.specs.Prelude.{◌≡◌, ℕ, Bool, true, false, ◌&&◌, List, [], ◌∷◌, ◌++◌, map, length}
-use Rattle.std.specs.Prelude.{if◌then◌else◌, ◌⊎◌, IsTrue, ◌+◌, slice_get, Some}
-use Rattle.std.specs.List.{AllByRecursion, remove}
+use Rattle.std.specs.Prelude.{if◌then◌else◌, ◌⊎◌, IsTrue}
+use Rattle.std.specs.List.{AllByRecursion}
 use Rattle.cpa_model.specs.declared.facts.Elem.{Elem}
 use Rattle.cpa_iface.specs.declared.analysis.Part.{Part}
 use Rattle.cpa_iface.specs.declared.analysis.Part.TheVariants as part
@@ -46,14 +45,6 @@ CoversKey cs successor row =
 
 abbrev pub rows_of : List Entry → List (List Elem)
 rows_of xs = map (λ e. e.elems) xs
-
--- One comparison: the row at a place stays, and covers; or it is gone, and the last one covers.
-pub record MergesAt (good : List Elem → Type 0) (old new : List (List Elem)) (place next : ℕ)
-    : Type 0 where
-  pub step :
-      ((next ≡ place + 1) × (new ≡ old)
-      × ((row : List Elem) → slice_get old place ≡ Some row → good row))
-      ⊎ ((next ≡ place) × (row : List Elem) × (new ≡ remove old place ++ row ∷ []) × good row)
 
 -- The rows before a place, and those behind the ones that are left, cover.
 pub record Compared (good : List Elem → Type 0) (rows : List (List Elem)) (place left : ℕ) : Type 0
