@@ -5,8 +5,6 @@ use Rattle.cpa_outside.proofs.Places.{first_bytes-past, IsTrue-left, IsTrue-miss
 use Rattle.cpa_outside.proofs.Places.{none_listed, count-kept}
 use Rattle.cpa_outside.proofs.SharedCounts.{counts-failed, counts-kept, fails-not}
 use Rattle.cpa_outside.proofs.memory_inputs.MemoryInputsInputs.read.Goals as goal
-use Rattle.cpa_outside.proofs.memory_inputs.MemoryInputsInputs.read.Goals.{then-next_fails-via-then-next_fails}
-use Rattle.cpa_outside.proofs.memory_inputs.MemoryInputsInputs.read.Goals.{then-next_fails-via-else-next_fails+then-place-len}
 
 pub returns-then-next_fails-clause-others : goal.returns-then-next_fails-clause-others
 returns-then-next_fails-clause-others c = λ other differ told.
@@ -22,12 +20,12 @@ pub returns-then-next_fails-clause-fails : goal.returns-then-next_fails-clause-f
 returns-then-next_fails-clause-fails c =
     let place = rw c.deref.ensures.value at c.find_place-place.ensures.place in
     elim c.then-next_fails.branch [
-      | then-next_fails-via-then-next_fails w ↦ (
+      | goal.then-next_fails-via-then-next_fails w ↦ (
         λ _.
             IsTrue-left _ _ (sym w.if-next_fails.ensures.answer),
         λ _. refl,
       )
-      | then-next_fails-via-else-next_fails+then-place-len w ↦ (
+      | goal.then-next_fails-via-else-next_fails+then-place-len w ↦ (
         λ _.
             IsTrue-missing _ _ (first_bytes-past c.args.self.now.files.items c.args.name.now
             (omega (arith, place))),
@@ -41,10 +39,10 @@ returns-then-next_fails-clause-steady c = λ none other told.
     let place = rw c.deref.ensures.value at c.find_place-place.ensures.place in
     let there = place_of-told files other told in
     elim c.then-next_fails.branch [
-      | then-next_fails-via-then-next_fails w ↦ absurd
+      | goal.then-next_fails-via-then-next_fails w ↦ absurd
           (none_listed _ _ none w.if-next_fails.ensures.answer)
-      | then-next_fails-via-else-next_fails+then-place-len w ↦ count-kept c.args.self.now.faults _ _
-          (place_of files other) c.deref_mut.ensures.value (omega arith)
+      | goal.then-next_fails-via-else-next_fails+then-place-len w ↦ count-kept
+          c.args.self.now.faults _ _ (place_of files other) c.deref_mut.ensures.value (omega arith)
           (c.count_fault.ensures.others (place_of files other) (λ same. omega (arith, same, place)))
     ]
 
@@ -84,9 +82,9 @@ returns-then-next_fails-clause-counts c = λ other.
     _ c.args.name.now other _ fails is place c.deref_mut.ensures.value (omega arith)
     c.count_fault.ensures.value c.count_fault.ensures.others in
     elim c.then-next_fails.branch [
-      | then-next_fails-via-then-next_fails w ↦ raised _
+      | goal.then-next_fails-via-then-next_fails w ↦ raised _
           (IsTrue-left _ _ (sym w.if-next_fails.ensures.answer))
-      | then-next_fails-via-else-next_fails+then-place-len w ↦ raised _
+      | goal.then-next_fails-via-else-next_fails+then-place-len w ↦ raised _
           (IsTrue-missing _ _ (first_bytes-past files c.args.name.now (omega (arith, place))))
     ]
 
