@@ -11,7 +11,8 @@ use Rattle.cpa_iface.specs.Pins.{pin}
 use Rattle.cpa_top.specs.declared.explore.reached.Reached.{Reached}
 use Rattle.cpa_top.specs.Reached.{AreTied, KeepsNumbers, GrewBy, AreAdded, IsReached, IsWalkedPin}
 use Rattle.cpa_top.specs.Reached.{IsPinBelow, LeadsInto, LeadsOn}
-use Rattle.cpa_top.proofs.PointPlaces.{at_front, place_of, in_list}
+use Rattle.cpa_top.proofs.PointPlaces.{at_front}
+use Rattle.cpa_model.specs.lemmas.Lists.{place_of, in_list}
 
 pub numbers_same : (xs : List Elem) → KeepsNumbers xs xs
 numbers_same xs = record { kept = λ k e h. h }

@@ -20,7 +20,7 @@ use Rattle.cpa_top.specs.declared.explore.Explored.TheVariants.{Safe}
 use Rattle.cpa_top.specs.Explored.{walked_start, IsExplored}
 use Rattle.cpa_top.specs.Reached.{KeepsNumbers, AreTied, AreAdded, IsExpanded, IsErrorFree}
 use Rattle.cpa_top.specs.Reached.{IsReached, IsWalkedPin}
-use Rattle.cpa_top.proofs.PointPlaces.{place_of}
+use Rattle.cpa_model.specs.lemmas.Lists.{place_of}
 use Rattle.cpa_top.proofs.Added.{kept_contained, reached_after, entry_walked}
 use Rattle.cpa_top.proofs.Expanding.{leads_kept, still_within}
 

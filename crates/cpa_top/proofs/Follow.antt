@@ -12,7 +12,7 @@ use Rattle.cpa_model.specs.Automata.{IsAutomaton}
 use Rattle.cpa_iface.specs.Pins.{pin}
 use Rattle.cpa_top.specs.Explored.{IsWalkedTo, walked_on}
 use Rattle.cpa_top.specs.Reached.{IsWalkedPin, LeadsInto}
-use Rattle.cpa_top.proofs.PointPlaces.{in_list}
+use Rattle.cpa_model.specs.lemmas.Lists.{in_list}
 
 -- what an exact analysis answers at the edge of this number
 abbrev pub PinsTarget : Cfa → ℕ → Elem → List Elem → Type 0

@@ -1,9 +1,7 @@
 -- What stands at a place of a list, after a push or a write.
 use Rattle.std.proofs.Common.{◌≡◌, ◌≢◌, ℕ, zero, suc, ◌<◌, List, [], ◌∷◌, ◌++◌, length, set, Some}
 use Rattle.std.proofs.Common.{slice_get, ◌⊎◌, refl, ap, inl, inr, arith}
-use Rattle.std.specs.List.{Contains}
-use Rattle.std.proofs.lemmas.Option.{none-some, same_Some, slice_get-get_or, slice_get_within}
-use Rattle.std.proofs.lemmas.Option.{get_or_from_slice_get}
+use Rattle.std.proofs.lemmas.Option.{none-some, same_Some}
 
 pub at_front : {X : Type 0} (xs ys : List X) (k : ℕ) (x : X) → slice_get xs k ≡ Some x
     → slice_get (xs ++ ys) k ≡ Some x
@@ -41,11 +39,3 @@ at_set_other (y ∷ xs) zero zero x h = absurd (h refl)
 at_set_other (y ∷ xs) zero (suc k) x h = refl
 at_set_other (y ∷ xs) (suc j) zero x h = refl
 at_set_other (y ∷ xs) (suc j) (suc k) x h = at_set_other xs j k x (λ e. h (ap (λ (n : ℕ). suc n) e))
-
--- between an element of a list and what stands at a place
-pub place_of : {X : Type 0} (xs : List X) (x : X) → Contains xs x
-    → (k : ℕ) × (slice_get xs k ≡ Some x)
-place_of xs x h = let e = slice_get-get_or xs h.0 x h.1 in (h.0, cc (e, h.2))
-
-pub in_list : {X : Type 0} (xs : List X) (k : ℕ) (x : X) → slice_get xs k ≡ Some x → Contains xs x
-in_list xs k x e = (k, slice_get_within xs k x e, get_or_from_slice_get xs k x x e)

@@ -8,7 +8,7 @@ use Rattle.cpa_model.specs.declared.facts.Elem.{Elem}
 use Rattle.cpa_iface.specs.Pins.{pin}
 use Rattle.cpa_top.specs.Reached.{AreTied}
 use Rattle.cpa_top.proofs.PointPlaces.{at_front, at_push, at_last, at_set_same, at_set_other}
-use Rattle.cpa_top.proofs.PointPlaces.{in_list}
+use Rattle.cpa_model.specs.lemmas.Lists.{in_list}
 
 -- the pins of two points differ
 pub same_point : (p q : ℕ) → pin p ≡ pin q → p ≡ q

@@ -2,7 +2,7 @@ use Rattle.std.proofs.Common.{◌+◌, Some, ap, ◌∙◌, arith}
 use Rattle.std.proofs.lemmas.List.Elements.{All-contains}
 use Rattle.cpa_model.specs.declared.facts.Elem.{Elem}
 use Rattle.cpa_top.specs.Reached.{IsWalkedPin}
-use Rattle.cpa_top.proofs.PointPlaces.{in_list}
+use Rattle.cpa_model.specs.lemmas.Lists.{in_list}
 use Rattle.cpa_top.proofs.Expanding.{edge_expanded, all_expanded}
 use Rattle.cpa_top.proofs.explore.expand.Goals as goal
 

@@ -1,7 +1,7 @@
 use Rattle.std.proofs.lemmas.List.Elements.{All-contains}
 use Rattle.std.proofs.lemmas.Result.{on_ok_weaker}
 use Rattle.cpa_top.specs.Reached.{AreAdded, IsWalkedPin}
-use Rattle.cpa_top.proofs.PointPlaces.{in_list}
+use Rattle.cpa_model.specs.lemmas.Lists.{in_list}
 use Rattle.cpa_top.proofs.Added.{walked_below, reached_after, leads_after}
 use Rattle.cpa_top.proofs.explore.follow.Goals as goal
 
