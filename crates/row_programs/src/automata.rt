@@ -25,6 +25,7 @@ pub fn automaton(alloc: Global, table: &Table) -> Result<Cfa, RowFault>
     }
 }
 
+/// The automaton of a table that fits. The laws which show its program well formed are called here.
 fn fitting_automaton(alloc: Global, table: &Table) -> Result<Cfa, AllocError>
     requires { FitsTable table.now }
     ensures { IfOk result IsAutomaton }
@@ -34,6 +35,7 @@ fn fitting_automaton(alloc: Global, table: &Table) -> Result<Cfa, AllocError>
     automaton_of(alloc, &table.program)
 }
 
+/// The automaton of a program. `build` promises more: that it is the one of this program.
 fn automaton_of(alloc: Global, program: &Program) -> Result<Cfa, AllocError>
     requires { IsWellFormed program.now }
     ensures { IfOk result IsAutomaton }

@@ -1,7 +1,7 @@
 //! Reads what a call of an analysis takes beside elements: a rule of merging, and settings. Nothing
 //! is proved of what is read but that reading is safe and ends.
 
-use cpa_iface::{MergeRule, Settings};
+use cpa_iface::{DEFAULT_GATES, DEFAULT_LEARNT, MergeRule, Settings};
 use row_reader::{RowFault, next_index, next_word};
 use std::str::SplitWhitespace;
 
@@ -19,15 +19,15 @@ pub fn rule_of_word(word: &str) -> Result<MergeRule, RowFault> {
 }
 
 /// The settings that the next words spell: `all LIMIT` or `none LIMIT`. Searches and queries have
-/// ample budgets.
+/// the budgets of a run without a configuration.
 pub fn next_settings(words: &mut SplitWhitespace<'_>) -> Result<Settings, RowFault> {
     let tracked_all = is_all(next_word(words)?)?;
     let limit = next_index(words)?;
     Ok(Settings {
         tracked_all,
         limit,
-        learnt: 20000,
-        gates: 4000000,
+        learnt: DEFAULT_LEARNT,
+        gates: DEFAULT_GATES,
     })
 }
 

@@ -27,8 +27,9 @@ pub fn elems_of(alloc: Global, parts: &mut Split<'_, char>) -> Result<Vec<Elem>,
     Ok(elems)
 }
 
+/// The fact whose first word is taken already. No word is left behind it.
 fn fact_of(alloc: Global, kind: &str, words: &mut SplitWhitespace<'_>) -> Result<Fact, RowFault> {
-    let fact = if kind == "at" {
+    if kind == "at" {
         point_of(words)
     } else if kind == "stack" {
         stack_of(alloc, words)
@@ -40,17 +41,17 @@ fn fact_of(alloc: Global, kind: &str, words: &mut SplitWhitespace<'_>) -> Result
         truth_of(alloc, words)
     } else {
         Err(RowFault::Unreadable)
-    };
-    let fact = fact?;
-    end_row(words)?;
-    Ok(fact)
+    }
 }
 
+/// `at POINT`, read behind its first word, as the next four are.
 fn point_of(words: &mut SplitWhitespace<'_>) -> Result<Fact, RowFault> {
     let point = next_index(words)?;
+    end_row(words)?;
     Ok(Fact::At { point })
 }
 
+/// `stack SITE ..`, with the sites of calls from the bottom to the top.
 fn stack_of(alloc: Global, words: &mut SplitWhitespace<'_>) -> Result<Fact, RowFault> {
     let mut sites = Seq::new(alloc);
     for word in words {
@@ -59,19 +60,24 @@ fn stack_of(alloc: Global, words: &mut SplitWhitespace<'_>) -> Result<Fact, RowF
     Ok(Fact::Stack { sites })
 }
 
+/// `equals CELL VALUE`.
 fn equals_of(words: &mut SplitWhitespace<'_>) -> Result<Fact, RowFault> {
     let cell = next_index(words)?;
     let value = next_number(words)?;
+    end_row(words)?;
     Ok(Fact::Equals { cell, value })
 }
 
+/// `within CELL LOWEST HIGHEST`.
 fn within_of(words: &mut SplitWhitespace<'_>) -> Result<Fact, RowFault> {
     let cell = next_index(words)?;
     let lo = next_number(words)?;
     let hi = next_number(words)?;
+    end_row(words)?;
     Ok(Fact::Within { cell, lo, hi })
 }
 
+/// `truth 1 EXPRESSION`, or with 0 where the expression is false.
 fn truth_of(alloc: Global, words: &mut SplitWhitespace<'_>) -> Result<Fact, RowFault> {
     let holds = next_index(words)? != 0;
     let expr = rest_expr(alloc, words)?;

@@ -86,6 +86,7 @@ fn are_cells(cells: &[Cell], base: u32, len: u32, ty: IntType) -> bool
     true
 }
 
+/// Whether the cell is there and has the type.
 fn is_cell(cells: &[Cell], cell: usize, ty: IntType) -> bool
     ensures { IsTrue result → slice_get (types_of cells.now) cell ≡ Some ty }
 {
@@ -130,6 +131,8 @@ fn is_good(table: &Table, number: usize, stmt: &Stmt) -> bool
     }
 }
 
+/// Whether a called function is there and has a lower level than the calling one, so that none
+/// reaches itself.
 fn calls_lower(table: &Table, number: usize, function: u32) -> bool
     ensures there { IsTrue result → function < length table.now.program.bodies }
     ensures lower { IsTrue result → entry_of table.now.levels function
@@ -141,6 +144,7 @@ fn calls_lower(table: &Table, number: usize, function: u32) -> bool
         && entry_of(levels, function as usize) < entry_of(levels, owner as usize)
 }
 
+/// Whether a jump leads to a statement that is there, in the function of the jump.
 fn jumps_within(table: &Table, number: usize, to: u32) -> bool
     ensures there { IsTrue result → to < length table.now.program.stmts }
     ensures within { IsTrue result →

@@ -30,6 +30,7 @@ pub(crate) fn stmt_of(
     }
 }
 
+/// `if YES NO : TEST`, behind its first word.
 fn if_of(
     alloc: Global,
     words: &mut SplitWhitespace<'_>,
@@ -41,6 +42,7 @@ fn if_of(
     Ok(Stmt::If { test, yes, no })
 }
 
+/// `assign BASE LEN : INDEX : VALUE`, behind its first word.
 fn assign_of(
     alloc: Global,
     words: &mut SplitWhitespace<'_>,
@@ -48,8 +50,10 @@ fn assign_of(
 ) -> Result<Stmt, RowFault> {
     let base = next_index(words)?;
     let len = next_index(words)?;
-    let index = whole_expr(alloc, next_part(parts)?)?;
-    let value = whole_expr(alloc, next_part(parts)?)?;
+    let index = next_part(parts)?;
+    let value = next_part(parts)?;
+    let index = whole_expr(alloc, index)?;
+    let value = whole_expr(alloc, value)?;
     Ok(Stmt::Assign {
         base,
         len,

@@ -9,7 +9,7 @@ use row_reader::{
 };
 use std::alloc::Global;
 use std::mem;
-use std::str::SplitWhitespace;
+use std::str::{Split, SplitWhitespace};
 
 /// A program of rows, with its tables.
 #[derive(Debug, Drop)]
@@ -55,13 +55,9 @@ impl Table {
         } else if word == "cells" {
             self.program.cells = cells_of(alloc, &mut words)?;
         } else if word == "stmt" {
-            self.program
-                .stmts
-                .push(stmt_of(alloc, &mut words, &mut parts)?)?;
+            self.push_stmt(alloc, &mut words, &mut parts)?;
         } else if word == "put" {
-            let number = next_index(&mut words)?;
-            let stmt = stmt_of(alloc, &mut words, &mut parts)?;
-            self.put(alloc, number, stmt)?;
+            self.put_stmt(alloc, &mut words, &mut parts)?;
         } else {
             return self.set_numbers(alloc, word, &mut words);
         }
@@ -70,6 +66,31 @@ impl Table {
         Ok(true)
     }
 
+    /// Adds the statement that the words and parts spell.
+    fn push_stmt(
+        &mut self,
+        alloc: Global,
+        words: &mut SplitWhitespace<'_>,
+        parts: &mut Split<'_, char>,
+    ) -> Result<(), RowFault> {
+        let stmt = stmt_of(alloc, words, parts)?;
+        self.program.stmts.push(stmt)?;
+        Ok(())
+    }
+
+    /// Puts the statement that stands behind a number in the place of the one of that number.
+    fn put_stmt(
+        &mut self,
+        alloc: Global,
+        words: &mut SplitWhitespace<'_>,
+        parts: &mut Split<'_, char>,
+    ) -> Result<(), RowFault> {
+        let number = next_index(words)?;
+        let stmt = stmt_of(alloc, words, parts)?;
+        self.put(alloc, number, stmt)
+    }
+
+    /// Puts a statement in the place of another one, which is to be there.
     fn put(&mut self, alloc: Global, number: u32, stmt: Stmt) -> Result<(), RowFault> {
         let mut stmts = mem::replace(&mut self.program.stmts, Seq::new(alloc)).into_vec();
         let found = match stmts.get_mut(number as usize) {
@@ -87,6 +108,7 @@ impl Table {
         }
     }
 
+    /// Sets the list that the word names, to the numbers that are left; false where it names none.
     fn set_numbers(
         &mut self,
         alloc: Global,
@@ -135,6 +157,7 @@ fn cells_of(alloc: Global, words: &mut SplitWhitespace<'_>) -> Result<Seq<Cell>,
     Ok(cells)
 }
 
+/// A cell of the type, with the number that it has at the start.
 fn cell_of(ty: &str, start: &str) -> Result<Cell, RowFault> {
     let ty = type_of_word(ty).ok_or(RowFault::Unreadable)?;
     let start = number_of_word(start)?;
