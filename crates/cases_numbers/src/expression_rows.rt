@@ -6,7 +6,7 @@ use cpa_expr::{
     Expr, Store, copy, height, is_expr, may_read, push_expr, replace_cell, same_expr, size,
     type_of, type_word, value,
 };
-use cpa_ints::{IntType, Seq};
+use cpa_ints::{Boxed, IntType, Seq};
 use row_reader::{
     RowFault, next_index, number_of_word, push_number, push_word, type_of_word, whole_expr,
     yes_or_no,
@@ -24,8 +24,14 @@ pub fn answer(
     words: &mut SplitWhitespace<'_>,
     text: &str,
 ) -> Result<bool, RowFault> {
-    let expr = whole_expr(alloc, text)?;
-    push_answer(alloc, out, word, words, &expr)
+    let expr = boxed_expr(alloc, text)?;
+    push_answer(alloc, out, word, words, expr.get())
+}
+
+/// The expression that a text spells. It is boxed where it is read, so that what is dropped where a
+/// later step fails is a box.
+fn boxed_expr(alloc: Global, text: &str) -> Result<Boxed<Expr>, RowFault> {
+    Ok(Boxed::new(alloc, whole_expr(alloc, text)?)?)
 }
 
 /// The answer to a call on the expression, where the word names one.
@@ -49,6 +55,7 @@ fn push_answer(
     Ok(true)
 }
 
+/// `value`: the value in the store of the words that are left; `trap` where there is none.
 fn push_value_of(
     alloc: Global,
     out: &mut String,
@@ -59,10 +66,12 @@ fn push_value_of(
     Ok(push_value(out, value(expr, &store))?)
 }
 
+/// `type_of`: the word of the type.
 fn push_type_of(out: &mut String, expr: &Expr) -> Result<(), RowFault> {
     Ok(push_word(out, type_word(type_of(expr)))?)
 }
 
+/// `is_expr`: whether it is well typed over cells of the types that are left.
 fn push_is_expr(
     alloc: Global,
     out: &mut String,
@@ -73,14 +82,17 @@ fn push_is_expr(
     Ok(push_word(out, yes_or_no(is_expr(expr, cells.as_slice())))?)
 }
 
+/// `size`: how many nodes it has.
 fn push_size(out: &mut String, expr: &Expr) -> Result<(), RowFault> {
     Ok(push_number(out, i128::from(size(expr)))?)
 }
 
+/// `height`: how many nodes lie on the longest way down.
 fn push_height(out: &mut String, expr: &Expr) -> Result<(), RowFault> {
     Ok(push_number(out, i128::from(height(expr)))?)
 }
 
+/// `may_read`: whether some node may read the cell.
 fn push_may_read(
     out: &mut String,
     words: &mut SplitWhitespace<'_>,
@@ -90,9 +102,10 @@ fn push_may_read(
     Ok(push_word(out, yes_or_no(may_read(expr, cell)))?)
 }
 
-fn push_copy(alloc: Global, out: &mut String, expr: &Expr) -> Result<(), RowFault> {
+/// `copy`: how the copy is spelled.
+fn push_copy(alloc: Global, out: &mut String, expr: &Expr) -> Result<(), AllocError> {
     let copied = copy(alloc, expr)?;
-    Ok(push_spelled(out, &copied)?)
+    push_spelled(out, &copied)
 }
 
 /// The answer of a row on two expressions, where the word names one: `same_expr : E : F`, and
@@ -104,40 +117,30 @@ pub fn answer_on_two(
     words: &mut SplitWhitespace<'_>,
     texts: (&str, &str),
 ) -> Result<bool, RowFault> {
-    let pair = whole_pair(alloc, texts)?;
+    let first = boxed_expr(alloc, texts.0)?;
+    let second = boxed_expr(alloc, texts.1)?;
     if word == "same_expr" {
-        push_word(out, yes_or_no(same_expr(&pair.first, &pair.second)))?;
+        push_word(out, yes_or_no(same_expr(first.get(), second.get())))?;
         Ok(true)
     } else if word == "replace_cell" {
-        push_replaced(alloc, out, words, &pair)?;
+        let cell = next_index(words)?;
+        push_replaced(alloc, out, first.get(), cell, second.get())?;
         Ok(true)
     } else {
         Ok(false)
     }
 }
 
-/// The two expressions of a row.
-#[derive(Drop)]
-struct Pair {
-    first: Expr,
-    second: Expr,
-}
-
-fn whole_pair(alloc: Global, texts: (&str, &str)) -> Result<Pair, RowFault> {
-    let first = whole_expr(alloc, texts.0)?;
-    let second = whole_expr(alloc, texts.1)?;
-    Ok(Pair { first, second })
-}
-
+/// `replace_cell`: how the first expression is spelled with the second in the cell's place.
 fn push_replaced(
     alloc: Global,
     out: &mut String,
-    words: &mut SplitWhitespace<'_>,
-    pair: &Pair,
-) -> Result<(), RowFault> {
-    let cell = next_index(words)?;
-    let replaced = replace_cell(alloc, &pair.first, cell, &pair.second)?;
-    Ok(push_spelled(out, &replaced)?)
+    e: &Expr,
+    cell: u32,
+    by: &Expr,
+) -> Result<(), AllocError> {
+    let replaced = replace_cell(alloc, e, cell, by)?;
+    push_spelled(out, &replaced)
 }
 
 /// The store of the values that are left.
@@ -158,6 +161,7 @@ fn next_types(alloc: Global, words: &mut SplitWhitespace<'_>) -> Result<Seq<IntT
     Ok(types)
 }
 
+/// Adds an expression as reports spell it.
 fn push_spelled(out: &mut String, expr: &Expr) -> Result<(), AllocError> {
     out.push_str(" ")?;
     push_expr(out, expr)
