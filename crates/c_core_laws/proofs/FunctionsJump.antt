@@ -39,14 +39,14 @@ clean_of text (site ∷ sites) none =
       clean_of text sites (none_right (site_faults text site) rest none),
     )
 
-walks_same : (text : Text) (items : List BlockItem) →
+pub walks_same : (text : Text) (items : List BlockItem) →
     map walk_in (map (grown text) items) ≡ map (walk_of text) items
 walks_same text [] = refl
 walks_same text (item ∷ items) =
     ap (λ (w : Walk). w ∷ map walk_in (map (grown text) items)) (same_walk text item)
     ∙ ap (λ (ws : List Walk). walk_of text item ∷ ws) (walks_same text items)
 
-keeps_receiving : (text : Text) (parameters : List Parameter) →
+pub keeps_receiving : (text : Text) (parameters : List Parameter) →
     Keeps text (in_order (map receiving parameters))
 keeps_receiving text [] = keeps_still text
 keeps_receiving text (parameter ∷ parameters) =
@@ -117,7 +117,7 @@ functions_fit text (item.Function specifiers declarator (body.Block items place)
           (none_right (item_faults text one before) rest none),
     )
 
-typed_functions : (tree : UnitTree) → (typed_unit tree).functions ≡ unit_functions tree
+pub typed_functions : (tree : UnitTree) → (typed_unit tree).functions ≡ unit_functions tree
 unfolding typed_unit
 typed_functions tree = refl
 

@@ -20,7 +20,7 @@ use Rattle.c_core_laws.proofs.ProgramTrees.{AllFit, fit_left, fit_right}
 
 -- where the labels of statements stand
 
-labels_append : (n : ℕ) (a b : List Placed) →
+pub labels_append : (n : ℕ) (a b : List Placed) →
     labels_from n (a ++ b) ≡ labels_from n a ++ labels_from (n + length a) b
 labels_append n [] b = ap (λ m. labels_from m b) (omega arith)
 labels_append n (p ∷ a) b =
@@ -88,7 +88,7 @@ pub record Going (n : ℕ) (t : CoreTree) : Type 0 where
   pub at : AllFit (statements t) → AllBelow n (tree_jumps t).gotos →
       GotosBelow n (statements t)
 
-forest_marked : (trees : Trees) → AllByRecursion Marked trees → (n : ℕ) →
+pub forest_marked : (trees : Trees) → AllByRecursion Marked trees → (n : ℕ) →
     AllFit (joined (map statements trees)) →
     length (labels_from n (joined (map statements trees)))
     ≡ (all_jumps (map tree_jumps trees)).labels
@@ -162,6 +162,10 @@ marked_at y x is =
 
 pub marked : (t : CoreTree) → Marked t
 marked = ind-CoreTree Marked (λ x y is. marked_at y x is)
+
+pub each_marked : (trees : Trees) → AllByRecursion Marked trees
+each_marked [] = tt
+each_marked (t ∷ trees) = (marked t, each_marked trees)
 
 -- gotos
 

@@ -57,13 +57,13 @@ use Rattle.c_core_laws.proofs.Jumping.{node_has}
 use Rattle.c_core_laws.proofs.Jumping.{jumps_is, AllAny}
 
 -- anything
-abbrev Any : {S : Type 0} → S → Type 0
+abbrev pub Any : {S : Type 0} → S → Type 0
 Any x = Unit {0}
 
-any_makes : {S : Type 0} (rule : core.Rule S) → Makes Any rule
+pub any_makes : {S : Type 0} (rule : core.Rule S) → Makes Any rule
 any_makes rule = record { at = λ taken. tt }
 
-makes_weaker : {S : Type 0} {P Q : S → Type 0} {rule : core.Rule S} → ((x : S) → P x → Q x) →
+pub makes_weaker : {S : Type 0} {P Q : S → Type 0} {rule : core.Rule S} → ((x : S) → P x → Q x) →
     Makes P rule → Makes Q rule
 makes_weaker {rule = rule} f h = record { at = λ taken. f (rule taken).made (h.at taken) }
 
@@ -79,7 +79,7 @@ zeros_shaped t first zero = tt
 zeros_shaped t first (suc n) =
     (set_shaped (cell_at t first) (Const t (pos 0)), zeros_shaped t (first + 1) n)
 
-resulting_makes : (kind : Kind) → Makes AllShaped (statement.resulting kind)
+pub resulting_makes : (kind : Kind) → Makes AllShaped (statement.resulting kind)
 resulting_makes Void = makes AllShaped [] tt
 resulting_makes (Value t) =
     makes_freshly AllShaped t (λ place. set place (Const t (pos 0)) ∷ [])
@@ -163,7 +163,7 @@ as_one_makes a b make made h =
     (λ inside is. makes (Has b) (make inside ∷ []) (has_one b (make inside) (made inside is)))
 
 module _ (frames : rows.Frames) where
-  unused_makes : (e : Option TypedExpression) → Makes AllShaped (statement.some_unused frames e)
+  pub unused_makes : (e : Option TypedExpression) → Makes AllShaped (statement.some_unused frames e)
   unused_makes None = makes AllShaped [] tt
   unused_makes (Some e) = (expression_makes frames e).unused
 
@@ -203,17 +203,17 @@ module _ (frames : rows.Frames) where
       (any_makes (core.taking declarator.object []))
       (λ first is. initializing_makes declarator.object declarator.initializer first)
 
-  each_declared : (declarators : List TypedDeclarator) →
+  pub each_declared : (declarators : List TypedDeclarator) →
       EachMakes AllShaped (map (statement.declared frames) declarators)
   each_declared [] = none_makes
   each_declared (declarator ∷ declarators) =
       more_make (declared_makes declarator) (each_declared declarators)
 
-  started_makes : (first : TypedForStart) → Makes AllShaped (statement.started frames first)
+  pub started_makes : (first : TypedForStart) → Makes AllShaped (statement.started frames first)
   started_makes (start.Declaration declarators) = makes_ordered (each_declared declarators)
   started_makes (start.Expression expression) = unused_makes expression
 
-  left_makes : (test : Option TypedExpression) → Makes Loose (statement.left_unless frames test)
+  pub left_makes : (test : Option TypedExpression) → Makes Loose (statement.left_unless frames test)
   left_makes None = makes Loose [] (record { loose = false; has = has_none })
   left_makes (Some test) =
       makes_then (λ v. core.gives (statement.leaving v)) (expression_makes frames test).used
@@ -224,7 +224,7 @@ module _ (frames : rows.Frames) where
             (choice_has no_jumps leaving v.value [] (leaf head.Break ∷ []) has_none break_has));
       }))
 
-  returned_makes : (place : Location) (value : Option TypedExpression) →
+  pub returned_makes : (place : Location) (value : Option TypedExpression) →
       Makes (Has no_jumps) (statement.returned frames place value)
   returned_makes place None = one_makes no_jumps head.Leave (leaf_has head.Leave refl)
   returned_makes place (Some value) =

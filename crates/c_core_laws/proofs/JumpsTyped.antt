@@ -18,6 +18,7 @@ use Rattle.c_tree.specs.declared.statement.Statement.{Statement, roll-Statement}
 use Rattle.c_tree.specs.declared.statement.BlockItem.{BlockItem, roll-BlockItem}
 use Rattle.c_tree.specs.declared.statement.BlockItem.TheOpen.{BlockItem-F, Statement-F}
 use Rattle.c_tree.specs.declared.statement.BlockItem.TheFolds.{fold-Statement, ind-BlockItem}
+use Rattle.c_tree.specs.declared.statement.BlockItem.TheFolds.{ind-Statement}
 use Rattle.c_tree.specs.declared.statement.BlockItem.TheFolds.{fold-roll-BlockItem}
 use Rattle.c_tree.specs.declared.statement.BlockItem.TheFolds.{fold-roll-Statement}
 use Rattle.c_tree.specs.declared.statement.BlockItem.TheFolds.{map-BlockItem, map-Statement}
@@ -278,7 +279,7 @@ module _ (text : Text) where
       (record { looping = λ around. refl; names = λ around. refl })
       (keeps_declarators specifiers more)
 
-  keeps_start : (first : ForStart) → Keeps (start_walk text first)
+  pub keeps_start : (first : ForStart) → Keeps (start_walk text first)
   keeps_start (start.Declaration declaration) =
       keeps_declarators declaration.specifiers declaration.declarators
   keeps_start (start.Expression expression) = keeps_evaluating Evaluated expression
@@ -299,17 +300,17 @@ module _ (text : Text) where
     pub at : (around : Around) →
         FitsAt around (part.walk.sites around) (length labels) (jumps_of (part.typed around))
 
-  labels_in : Statement → List Name
+  pub labels_in : Statement → List Name
   labels_in = fold-Statement (List Name) (List Name) labels_item labels_step
 
-  open_labels_item : (x : BlockItem-F BlockItem Statement) →
+  pub open_labels_item : (x : BlockItem-F BlockItem Statement) →
       labels_of (roll-BlockItem x)
       ≡ labels_item (map-BlockItem BlockItem Statement (List Name) (List Name) labels_of
       labels_in x)
   unfolding labels_of labels_in
   open_labels_item x = fold-roll-BlockItem (List Name) (List Name) labels_item labels_step x
 
-  open_labels : (x : Statement-F BlockItem Statement) →
+  pub open_labels : (x : Statement-F BlockItem Statement) →
       labels_in (roll-Statement x)
       ≡ labels_step (map-Statement BlockItem Statement (List Name) (List Name) labels_of
       labels_in x)
@@ -319,7 +320,7 @@ module _ (text : Text) where
   abbrev pub ItemJumps : BlockItem → Type 0
   ItemJumps item = Jumped item_jumps (grown text item) (labels_of item)
 
-  abbrev StatementJumps : Statement → Type 0
+  abbrev pub StatementJumps : Statement → Type 0
   StatementJumps s = Jumped jumps_in (grown_of text s) (labels_in s)
 
   abbrev HeldItem : Type 0
@@ -368,7 +369,7 @@ module _ (text : Text) where
       (fits_after g.walk around (rest.sites behind) (length (flat_map labels_of items)) others
       all.0.keeps (items_fit items all.1 behind)))
 
-  flat_items : (items : List BlockItem) →
+  pub flat_items : (items : List BlockItem) →
       flat_map (λ (names : List Name). names) (map labels_of items) ≡ flat_map labels_of items
   flat_items [] = refl
   flat_items (one ∷ items) = ap (λ (names : List Name). labels_of one ++ names) (flat_items items)
@@ -666,9 +667,14 @@ module _ (text : Text) where
       Statement (Grown TypedItem) (Grown TypedStatement) (grown text) (grown_of text)
       (bare_item y))) names) (sym (open_labels_item (bare_item y))) (item_layer y)))
 
-  item_jumped : (item : BlockItem) → ItemJumps item
+  pub item_jumped : (item : BlockItem) → ItemJumps item
   item_jumped =
       ind-BlockItem ItemJumps StatementJumps (λ x y is. at_item y x is)
+      (λ x y is. at_statement y x is)
+
+  pub statement_jumped : (s : Statement) → StatementJumps s
+  statement_jumped =
+      ind-Statement ItemJumps StatementJumps (λ x y is. at_item y x is)
       (λ x y is. at_statement y x is)
 
   pub all_jumped : (items : List BlockItem) → AllByRecursion ItemJumps items

@@ -24,11 +24,13 @@ pub mod Numbered
 pub mod ProgramTrees
 pub mod Loops
 pub mod Gotos
+pub mod LabelBlocks
 pub mod FramesThere
 pub mod Small
 pub mod MainBody
 pub mod StartsFit
 pub mod JumpsTyped
 pub mod FunctionsJump
+pub mod LabelNumbers
 pub mod JumpsSound
 pub mod StartsInRange

@@ -12,9 +12,14 @@ use Rattle.c_rules.specs.declared.typed.Global.{Global}
 use Rattle.c_rules.specs.declared.typed.TypedFunction.{TypedFunction}
 use Rattle.c_rules.specs.Names.{Text}
 use Rattle.c_rules.specs.Sound.{counts, typed_parts, typed_unit, Sound}
-use Rattle.c_core_rules.specs.Expressions.{frame_at}
+use Rattle.c_rules.specs.Types.{object_type}
+use Rattle.c_core_rules.specs.Values.{cell_at}
+use Rattle.c_core_rules.specs.Cells.{Taken}
+use Rattle.c_core_rules.specs.Expressions.{Frames, frame_at}
+use Rattle.c_core_rules.specs.Statements.{function_rule}
 use Rattle.c_core_rules.specs.Programs.{IsCore, frames_of, text_core}
 use Rattle.c_core_laws.specs.Jumps.{tree_jumps, function_jumps, JumpIsSound}
+use Rattle.c_core_laws.specs.Labels.{function_labels, AreInOrder, IsBlockOf}
 use Rattle.c_core_laws.specs.Sizes.{IsCounted, IsSmall}
 use Rattle.c_core_laws.specs.Starts.{IsLaidOut, FrameStands}
 use Rattle.c_core_laws.specs.Standing.{IsOfTree}
@@ -71,3 +76,14 @@ abbrev pub JumpsAreSound : Type 0
 JumpsAreSound =
     (tree : UnitTree) (P : Program) → Sound tree → IsCore (typed_unit tree) P → (n : ℕ) (s : Stmt)
     → IsStmt P n s → JumpIsSound P n s
+
+abbrev pub LabelsAreInOrder : Type 0
+LabelsAreInOrder =
+    (tree : UnitTree) → Sound tree → AllByRecursion AreInOrder (typed_unit tree).functions
+
+abbrev pub LabelsAreBlocks : Type 0
+LabelsAreBlocks =
+    (frames : Frames) (function : TypedFunction) (taken : Taken) → AreInOrder function
+    → AllByRecursion (IsBlockOf frames
+    (cell_at (object_type function.result) (length taken.cells))
+    (function_rule frames function taken).made) (function_labels function)

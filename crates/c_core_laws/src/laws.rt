@@ -3,7 +3,7 @@
 ghost use Rattle.c_core_laws.specs.Laws.{CoresAreCounted, CoresAreNumbered, CoresAreSmall, OneCore};
 ghost use Rattle.c_core_laws.specs.Laws.{CellsStartInRange, CoresHaveAMain, JumpsAreKept};
 ghost use Rattle.c_core_laws.specs.Laws.{FramesAreThere, TextsAreLaidOut, JumpsAreSound};
-ghost use Rattle.c_core_laws.specs.Laws.{StatementsAreOfTrees};
+ghost use Rattle.c_core_laws.specs.Laws.{LabelsAreBlocks, LabelsAreInOrder, StatementsAreOfTrees};
 
 /// A typed text has one core.
 pub fn there_is_one_core()
@@ -61,4 +61,15 @@ pub fn jumps_are_sound()
 /// The cells of the result and of the parameters of each function are there.
 pub fn frames_are_there()
     ensures { FramesAreThere }
+{}
+
+/// In each function of a sound text the labels have the numbers 0, 1, .. in the order of the text.
+pub fn labels_are_in_order()
+    ensures { LabelsAreInOrder }
+{}
+
+/// Where they have these numbers, a goto of the core goes to the block of the statement behind its
+/// label: the block that is made of label k is the k-th labelled one of the function's tree.
+pub fn labels_are_blocks()
+    ensures { LabelsAreBlocks }
 {}

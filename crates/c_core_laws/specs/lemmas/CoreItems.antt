@@ -2,7 +2,7 @@
 use Rattle.std.proofs.Common.{◌≡◌}
 use Rattle.c_rules.specs.declared.typed.TypedItem.{TypedItem, roll-TypedItem}
 use Rattle.c_rules.specs.declared.typed.TypedItem.TheOpen.{TypedItem-F, TypedStatement-F}
-use Rattle.c_rules.specs.declared.typed.TypedItem.TheFolds.{fold-TypedStatement, map-TypedItem}
+use Rattle.c_rules.specs.declared.typed.TypedItem.TheFolds.{map-TypedItem}
 use Rattle.c_rules.specs.declared.typed.TypedItem.TheFolds.{map-TypedStatement}
 use Rattle.c_rules.specs.declared.typed.TypedItem.TheFolds.{fold-roll-TypedItem}
 use Rattle.c_rules.specs.declared.typed.TypedItem.TheFolds.{fold-roll-TypedStatement}
@@ -12,10 +12,7 @@ use Rattle.c_core_rules.specs.Trees.{Trees}
 use Rattle.c_core_rules.specs.Cells.{Rule}
 use Rattle.c_core_rules.specs.Expressions.{Frames}
 use Rattle.c_core_rules.specs.Statements.{item_rule, item_step, statement_step}
-
-abbrev pub core_statement : Frames → Location → TypedStatement → Rule Trees
-core_statement frames place =
-    fold-TypedStatement (Rule Trees) (Rule Trees) (item_step frames) (statement_step frames place)
+pub use Rattle.c_core_laws.specs.Labels.{core_statement}
 
 pub open_core_item : (frames : Frames) (place : Location)
     (x : TypedItem-F TypedItem TypedStatement) →

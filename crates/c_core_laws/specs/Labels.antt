@@ -1,0 +1,102 @@
+-- The labelled statements of a typed function, and the block of its core tree that a label is (C11
+-- 6.8.1 and 6.8.6.1).
+use Rattle.std.specs.Prelude.{◌≡◌, ℕ, ◌+◌, List, [], ◌∷◌, ◌++◌, map, length, Option, None, Some}
+use Rattle.std.specs.List.{flat_map, range_with_len}
+use Rattle.c_rules.specs.declared.typed.TypedItem.{TypedItem, roll-TypedItem}
+use Rattle.c_rules.specs.declared.typed.TypedItem.TheOpen.{TypedItem-F, TypedStatement-F}
+use Rattle.c_rules.specs.declared.typed.TypedItem.TheFolds.{fold-TypedItem, map-TypedItem}
+use Rattle.c_rules.specs.declared.typed.TypedItem.TheFolds.{fold-TypedStatement}
+use Rattle.c_rules.specs.declared.typed.TypedItem.TheFolds.{map-TypedStatement}
+use Rattle.c_rules.specs.declared.typed.TypedStatement.{TypedStatement, roll-TypedStatement}
+use Rattle.c_rules.specs.declared.typed.TypedFunction.{TypedFunction}
+use Rattle.c_core_rules.specs.declared.tree.CoreTree.{CoreTree}
+use Rattle.c_core_rules.specs.declared.tree.CoreTree.TheVariants.{Node}
+use Rattle.c_core_rules.specs.declared.tree.Head.TheVariants as head
+use Rattle.c_core_rules.specs.declared.tree.Location.{Location}
+use Rattle.c_core_rules.specs.Trees.{Trees}
+use Rattle.c_core_rules.specs.Cells.{Rule, Taken}
+use Rattle.c_core_rules.specs.Expressions.{Frames}
+use Rattle.c_core_rules.specs.Statements.{item_step, statement_step}
+use Rattle.c_core_rules.specs.Programs.{Placed, statements, labels_from, part}
+
+-- a label: its number, and the statement behind it
+pub record Label : Type 0 where
+  pub number : ℕ
+  pub body : TypedStatement
+
+-- a statement or an item of a block, with the labels in it
+pub record Labelled (T : Type 0) : Type 0 where
+  pub whole : T
+  pub labels : List Label
+
+abbrev pub whole_of : {T : Type 0} → Labelled T → T
+whole_of one = one.whole
+
+abbrev pub perhaps_labels : Option (Labelled TypedStatement) → List Label
+perhaps_labels None = []
+perhaps_labels (Some one) = one.labels
+
+-- the labels of a statement in the order of the text, those of each part given
+abbrev pub labels_step : TypedStatement-F (Labelled TypedItem) (Labelled TypedStatement)
+    → List Label
+labels_step (TypedStatement-F.Block items) = flat_map (λ item. item.labels) items
+labels_step (TypedStatement-F.If test first second) = first.labels ++ perhaps_labels second
+labels_step (TypedStatement-F.While test body) = body.labels
+labels_step (TypedStatement-F.Do body test) = body.labels
+labels_step (TypedStatement-F.For first test step body) = body.labels
+labels_step (TypedStatement-F.Labeled label body) =
+    record { number = label; body = body.whole } ∷ body.labels
+labels_step _ = []
+
+abbrev pub labelled_statement : TypedStatement-F (Labelled TypedItem) (Labelled TypedStatement)
+    → Labelled TypedStatement
+labelled_statement part = record {
+  whole = roll-TypedStatement (map-TypedStatement (Labelled TypedItem) (Labelled TypedStatement)
+      TypedItem TypedStatement whole_of whole_of part);
+  labels = labels_step part;
+}
+
+abbrev pub item_labels_step : TypedItem-F (Labelled TypedItem) (Labelled TypedStatement)
+    → List Label
+item_labels_step (TypedItem-F.Declaration declarators) = []
+item_labels_step (TypedItem-F.Statement statement) = statement.labels
+
+abbrev pub labelled_item : TypedItem-F (Labelled TypedItem) (Labelled TypedStatement)
+    → Labelled TypedItem
+labelled_item part = record {
+  whole = roll-TypedItem (map-TypedItem (Labelled TypedItem) (Labelled TypedStatement) TypedItem
+      TypedStatement whole_of whole_of part);
+  labels = item_labels_step part;
+}
+
+-- an item of a block with its labels
+unfoldable pub with_labels : TypedItem → Labelled TypedItem
+with_labels =
+    fold-TypedItem (Labelled TypedItem) (Labelled TypedStatement) labelled_item labelled_statement
+
+abbrev pub function_labels : TypedFunction → List Label
+function_labels function = flat_map (λ item. (with_labels item).labels) function.items
+
+-- they are numbered 0, 1, .. in order
+abbrev pub AreInOrder : TypedFunction → Type 0
+AreInOrder function =
+    map (λ label. label.number) (function_labels function)
+    ≡ range_with_len 0 (length (function_labels function))
+
+-- the rule of a statement, as `item_rule` of an item
+abbrev pub core_statement : Frames → Location → TypedStatement → Rule Trees
+core_statement frames place =
+    fold-TypedStatement (Rule Trees) (Rule Trees) (item_step frames) (statement_step frames place)
+
+-- in this tree a goto to the label goes to a block of what the rule of the statement behind the
+-- label makes: so many statements stand before it
+pub record IsBlockOf (frames : Frames) (place : Location) (tree : CoreTree) (label : Label)
+    : Type 0 where
+  pub before : List Placed
+  pub behind : List Placed
+  pub taken : Taken
+  pub stands : statements tree
+      ≡ before
+      ++ (statements (Node head.Labeled (core_statement frames place label.body taken).made)
+      ++ behind)
+  pub leads : (n : ℕ) → part (labels_from n (statements tree)) label.number ≡ n + length before
