@@ -1,8 +1,9 @@
 //! Reads elements: facts with commas between them, as `at 3`, `stack 8 9`, `equals 0 5`,
 //! `within 0 1 2` and `truth 1 EXPRESSION`.
 
+use crate::table::rest_indices;
 use cpa_model::{Elem, Fact, Seq};
-use row_reader::{RowFault, end_row, index_of_word, next_index, next_number, rest_expr};
+use row_reader::{RowFault, end_row, next_index, next_number, rest_expr};
 use std::alloc::Global;
 use std::str::{Split, SplitWhitespace};
 
@@ -53,10 +54,7 @@ fn point_of(words: &mut SplitWhitespace<'_>) -> Result<Fact, RowFault> {
 
 /// `stack SITE ..`, with the sites of calls from the bottom to the top.
 fn stack_of(alloc: Global, words: &mut SplitWhitespace<'_>) -> Result<Fact, RowFault> {
-    let mut sites = Seq::new(alloc);
-    for word in words {
-        sites.push(index_of_word(word)?)?;
-    }
+    let sites = rest_indices(alloc, words)?;
     Ok(Fact::Stack { sites })
 }
 

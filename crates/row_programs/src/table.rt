@@ -2,7 +2,7 @@
 //! it here.
 
 use crate::statements::stmt_of;
-use cpa_model::{Cell, Program, Seq, Stmt};
+use cpa_model::{Cell, Program, Seq};
 use row_reader::{
     RowFault, end_parts, end_row, index_of_word, next_index, next_word, number_of_word,
     type_of_word,
@@ -78,34 +78,32 @@ impl Table {
         Ok(())
     }
 
-    /// Puts the statement that stands behind a number in the place of the one of that number.
+    /// `N STATEMENT`: the statement comes in the place of the one of the number N. It is added first,
+    /// since a statement that lives on beside another one is dear to prove.
     fn put_stmt(
         &mut self,
         alloc: Global,
         words: &mut SplitWhitespace<'_>,
         parts: &mut Split<'_, char>,
     ) -> Result<(), RowFault> {
-        let number = next_index(words)?;
-        let stmt = stmt_of(alloc, words, parts)?;
-        self.put(alloc, number, stmt)
+        let number = next_index(words)? as usize;
+        if self.program.stmts.len() <= number {
+            return Err(RowFault::Unreadable);
+        }
+        self.push_stmt(alloc, words, parts)?;
+        self.move_last(alloc, number);
+        Ok(())
     }
 
-    /// Puts a statement in the place of another one, which is to be there.
-    fn put(&mut self, alloc: Global, number: u32, stmt: Stmt) -> Result<(), RowFault> {
+    /// Puts the last statement in the place of another one.
+    fn move_last(&mut self, alloc: Global, number: usize) {
         let mut stmts = mem::replace(&mut self.program.stmts, Seq::new(alloc)).into_vec();
-        let found = match stmts.get_mut(number as usize) {
-            Some(old) => {
-                *old = stmt;
-                true
-            }
-            None => false,
-        };
-        self.program.stmts = Seq::from_vec(stmts);
-        if found {
-            Ok(())
-        } else {
-            Err(RowFault::Unreadable)
+        let last = stmts.len().saturating_sub(1);
+        if number < last {
+            stmts.swap(number, last);
+            stmts.truncate(last);
         }
+        self.program.stmts = Seq::from_vec(stmts);
     }
 
     /// Sets the list that the word names, to the numbers that are left; false where it names none.
