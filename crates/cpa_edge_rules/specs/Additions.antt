@@ -1,9 +1,9 @@
 -- What further calls add to a form: it stands behind what was there, reads the places of that time
 -- or what came later, and weighs what was added. Below each statement stands its lemma.
-use Rattle.std.specs.Prelude.{◌≡◌, ℕ, ◌-◌, ◌^◌, ◌<◌, ◌++◌, min, Bool, IsTrue, List, [], ◌∷◌}
-use Rattle.std.specs.Prelude.{length, map, sum}
+use Rattle.std.specs.Prelude.{◌≡◌, ◌↔◌, ℕ, ◌-◌, ◌^◌, ◌<◌, ℤ, ◌++◌, min, Bool, IsTrue, List, []}
+use Rattle.std.specs.Prelude.{◌∷◌, length, map, sum}
 use Rattle.std.specs.List.{AllByRecursion}
-use Rattle.std.proofs.Common.{sym, subst, arith, ap, ◌∙◌, zero-add}
+use Rattle.std.proofs.Common.{refl, sym, subst, arith, ap, ◌∙◌, zero-add}
 use Rattle.std.proofs.lemmas.List.{length-map, append-nil, append_assoc}
 use Rattle.cpa_ints.specs.Integers.{IsInRange}
 use Rattle.cpa_expr.specs.declared.tree.Expr.{Expr}
@@ -12,7 +12,7 @@ use Rattle.cpa_model.specs.declared.program.Cell.{Cell}
 use Rattle.cpa_model.specs.declared.automaton.Cfa.{Cfa}
 use Rattle.cpa_model.specs.Automata.{IsAutomaton}
 use Rattle.cpa_model.specs.Expressions.{types_of}
-use Rattle.cpa_edge_rules.specs.Runs.{Added}
+use Rattle.cpa_edge_rules.specs.Runs.{Added, Runs}
 use Rattle.cpa_edge_rules.specs.Forms.{Form, begun, with_added, form_from, form_of, places_from}
 use Rattle.cpa_edge_rules.specs.Forms.{added_weight}
 use Rattle.cpa_edge_rules.specs.Reading.{IsNewOrPlace}
@@ -53,6 +53,15 @@ WeightsAreSums =
     → AllByRecursion (IsAddedOf cfa) added
     → (form_of cfa.cells initial added).weight
     ≡ min (sum (map (added_weight (places_from 0 cfa.cells)) added)) (2 ^ 64 - 1)
+
+-- What is added in two goes is what is added at once: to the form, and to what runs meet.
+pub record AddingGoesOn : Type 0 where
+  pub form : (form : Form) (first second : List Added)
+      → form_from form (first ++ second) ≡ form_from (form_from form first) second
+  pub runs : (cells : List Cell) (first second : List Added) (from inputs to : List ℤ)
+      → Runs cells (first ++ second) from inputs to
+      ↔ ((between own others : List ℤ) × Runs cells first from own between
+      × (inputs ≡ own ++ others) × Runs cells second between others to)
 
 -- ---- the lemmas
 
@@ -110,3 +119,50 @@ weights_are_sums cfa initial added is first =
     (added_fits cfa so.few added first) (begun_fitted cfa.cells so.starts initial) (omega arith)
     ∙ ap (λ n. min n (2 ^ 64 - 1)) (zero-add (sum (map (added_weight (places_from 0 cfa.cells))
     added)))
+
+goes_on : (form : Form) (first second : List Added)
+    → form_from form (first ++ second) ≡ form_from (form_from form first) second
+goes_on form [] second = refl
+goes_on form (one ∷ first) second = goes_on (with_added one form) first second
+
+module _ (cells : List Cell) (second : List Added) (to : List ℤ) where
+  -- a run of both, by the store between them
+  abbrev InTwo : List Added → List ℤ → List ℤ → Type 0
+  InTwo first from inputs =
+      (between own others : List ℤ) × Runs cells first from own between
+      × (inputs ≡ own ++ others) × Runs cells second between others to
+
+  in_two : (first : List Added) (from inputs : List ℤ)
+      → Runs cells (first ++ second) from inputs to → InTwo first from inputs
+  in_two [] from inputs h = (from, [], inputs, (refl, refl), refl, h)
+  in_two (one ∷ first) from inputs h =
+      let rest = in_two first h.0 h.2 h.5 in (
+        rest.0,
+        h.1 ++ rest.1,
+        rest.2,
+        (h.0, h.1, rest.1, h.3, refl, rest.3),
+        h.4 ∙ (ap (λ l. h.1 ++ l) rest.4 ∙ sym (append_assoc h.1 rest.1 rest.2)),
+        rest.5,
+      )
+
+  at_once : (first : List Added) (from inputs : List ℤ) → InTwo first from inputs
+      → Runs cells (first ++ second) from inputs to
+  at_once [] from inputs (between, own, others, here, is, rest) =
+      subst (λ l. Runs cells second from l to)
+      (sym (is ∙ ap (λ l. l ++ others) here.0))
+      (subst (λ s. Runs cells second s others to) here.1 rest)
+  at_once (one ∷ first) from inputs (between, own, others, here, is, rest) = (
+    here.0,
+    here.1,
+    here.2 ++ others,
+    here.3,
+    is ∙ (ap (λ l. l ++ others) here.4 ∙ append_assoc here.1 here.2 others),
+    at_once first here.0 (here.2 ++ others) (between, here.2, others, here.5, refl, rest),
+  )
+
+pub adding_goes_on : AddingGoesOn
+adding_goes_on = record {
+  form = goes_on;
+  runs = λ cells first second from inputs to.
+      (in_two cells second to first from inputs, at_once cells second to first from inputs);
+}

@@ -6,3 +6,4 @@ pub mod Reading
 pub mod lemmas
 pub mod Laws
 pub mod Additions
+pub mod Stores

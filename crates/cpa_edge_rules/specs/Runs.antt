@@ -48,9 +48,8 @@ StepsWith cells (act.Input cell) old inputs new =
     (v : ℤ) × IsValueOf cells cell v × (inputs ≡ v ∷ []) × (new ≡ slice_set old cell v)
 StepsWith cells other old inputs new = (inputs ≡ []) × StepsStore cells other old new
 
--- What was added leads from one store to the other and takes these inputs: an edge by its step;
--- what
--- is said of a store is said of the one that is there, and leaves it.
+-- What was added leads from one store to the other and takes these inputs: an edge by its step.
+-- What is said of a store is said of the one that is there, and leaves it.
 abbrev pub Meets : List Cell → Added → List ℤ → List ℤ → List ℤ → Type 0
 Meets cells (taken act) old inputs new = StepsWith cells act old inputs new
 Meets cells (holding elem) old inputs new =

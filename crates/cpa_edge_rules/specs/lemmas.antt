@@ -1,5 +1,6 @@
 -- Lemmas on the definitions, which the laws of Laws.antt cite. No definition that a contract cites
 -- stands here.
+pub mod Heights
 pub mod Lists
 pub mod Models
 pub mod Copies

@@ -1,9 +1,11 @@
-//! The laws of forms, stated in specs/Laws and specs/Additions. Each function does nothing: its
-//! contract is the law.
+//! The laws of forms, stated in specs/Laws, specs/Additions and specs/Stores. Each function does
+//! nothing: its contract is the law.
 
 ghost use Rattle.cpa_edge_rules.specs.Laws.{FormsAreRuns, CallsAddBehind};
 ghost use Rattle.cpa_edge_rules.specs.Additions.{FurtherCallsAddBehind, FurtherCallsRead};
-ghost use Rattle.cpa_edge_rules.specs.Additions.{WeightsAreSums};
+ghost use Rattle.cpa_edge_rules.specs.Additions.{WeightsAreSums, AddingGoesOn};
+ghost use Rattle.cpa_edge_rules.specs.Stores.{HoldingHasTwoParts, FailingIsNotHolding};
+ghost use Rattle.cpa_edge_rules.specs.Stores.{StepsTakeInputs};
 
 /// The query of a beginning and of what was added has a model exactly where a run of stores along
 /// the edges meets all that was added. Its first and last store, its inputs and the present values
@@ -36,4 +38,31 @@ pub fn further_calls_read()
 #[tactic(auto, using(crate::specs::Additions::weights_are_sums))]
 pub fn weights_are_sums()
     ensures { WeightsAreSums }
+{}
+
+/// What is added in two goes is what is added at once, and a run that meets it all is a run that
+/// meets the first part, followed by one that meets the second.
+#[tactic(auto, using(crate::specs::Additions::adding_goes_on))]
+pub fn adding_goes_on()
+    ensures { AddingGoesOn }
+{}
+
+/// What an element asks of a store is that its facts on the store hold of it. What else it asks of
+/// a state are its facts on the point and on the stack, which a form passes over.
+#[tactic(auto, using(crate::specs::Stores::holding_has_two_parts))]
+pub fn holding_has_two_parts()
+    ensures { HoldingHasTwoParts }
+{}
+
+/// An element fails on a store exactly where its facts on the store do not all hold. An expression
+/// that traps has neither truth, so that each fact on its truth fails.
+#[tactic(auto, using(crate::specs::Stores::failing_is_not_holding))]
+pub fn failing_is_not_holding()
+    ensures { FailingIsNotHolding }
+{}
+
+/// A step of stores along an edge is one with inputs: none, or the one that an input takes.
+#[tactic(auto, using(crate::specs::Stores::steps_take_inputs))]
+pub fn steps_take_inputs()
+    ensures { StepsTakeInputs }
 {}

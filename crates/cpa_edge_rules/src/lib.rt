@@ -7,6 +7,7 @@ mod laws;
 
 pub use drafts::Draft;
 pub use laws::{
-    calls_add_behind, forms_are_runs, further_calls_add_behind, further_calls_read,
+    adding_goes_on, calls_add_behind, failing_is_not_holding, forms_are_runs,
+    further_calls_add_behind, further_calls_read, holding_has_two_parts, steps_take_inputs,
     weights_are_sums,
 };

@@ -13,6 +13,7 @@ use Rattle.cpa_ints.specs.Integers.{IsInRange}
 use Rattle.cpa_expr.specs.declared.tree.CmpOp.TheVariants as cmp
 use Rattle.cpa_expr.specs.declared.tree.Expr.{Expr}
 use Rattle.cpa_expr.specs.declared.tree.Expr.TheVariants.{Const, Cmp, Cast}
+use Rattle.cpa_expr.specs.declared.shape.TheConstants.{MAX_HEIGHT}
 use Rattle.cpa_expr.specs.Shape.{height, IsTyped}
 use Rattle.cpa_expr.specs.Values.{value_of}
 use Rattle.cpa_expr.specs.Cells.{scalar_read}
@@ -69,18 +70,20 @@ kept_asked cells t u new old at i small new_is old_is at_is =
           let first = height_at_variants.comparison cmp.Eq t (scalar_read t new) (scalar_read t old)
           in
           let most = max-le (scalar_height t new) (scalar_height t old) in
-          let low : height a ≤ 501 = omega (arith, first, most) in
+          let low : height a ≤ MAX_HEIGHT + 1 = omega (arith, first, most) in
           let cast = height_at_variants.cast ty.I64 read in
           let read_low = scalar_height u at in
-          let cast_low : height (Cast ty.I64 read) ≤ 501 = omega (arith, cast, read_low) in
+          let cast_low : height (Cast ty.I64 read) ≤ MAX_HEIGHT + 1 =
+          omega (arith, cast, read_low) in
           let constant = height_at_variants.constant ty.I64 (pos i) in
-          let constant_low : height (Const ty.I64 (pos i)) ≤ 501 = omega (arith, constant) in
+          let constant_low : height (Const ty.I64 (pos i)) ≤ MAX_HEIGHT + 1 =
+          omega (arith, constant) in
           let second = height_at_variants.comparison cmp.Eq ty.I64 (Cast ty.I64 read)
           (Const ty.I64 (pos i)) in
           let second_most = max-le cast_low constant_low in
-          let also : height b ≤ 502 = omega (arith, second, second_most) in
+          let also : height b ≤ MAX_HEIGHT + 2 = omega (arith, second, second_most) in
           let whole = height_at_variants.disjunction a b in
-          let here : height a ≤ 502 = omega (arith, low) in
+          let here : height a ≤ MAX_HEIGHT + 2 = omega (arith, low) in
           let both = max-le here also in omega (arith, whole, both);
     }
 

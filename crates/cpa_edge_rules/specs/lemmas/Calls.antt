@@ -18,6 +18,7 @@ use Rattle.cpa_edge_rules.specs.Runs.{Added, Meets}
 use Rattle.cpa_edge_rules.specs.Drafts.{behind, Placed, placed, settled, want_all}
 use Rattle.cpa_edge_rules.specs.Forms.{Form, draft_of, joined, with_tests, or_zero, value_in}
 use Rattle.cpa_edge_rules.specs.Forms.{inputs_at}
+use Rattle.cpa_edge_rules.specs.lemmas.Heights.{inner_height}
 use Rattle.cpa_edge_rules.specs.lemmas.Lists.{Front}
 use Rattle.cpa_edge_rules.specs.lemmas.Models.{Wanted, Fine, all_cells, model_long}
 use Rattle.cpa_edge_rules.specs.lemmas.Copies.{Stand, types_at, shows_same, shows_types, IsSettled}
@@ -141,7 +142,7 @@ module _ (cells : List Cell) (form : Form) (fitted : Fitted cells form) where
   -- ---- expressions that are asked of the program's cells
 
   abbrev pub Askable : Expr × Bool → Type 0
-  Askable one = IsTyped types one.0 × (height one.0 ≤ 1990)
+  Askable one = IsTyped types one.0 × (height one.0 ≤ inner_height)
 
   typed_there : (asked : List (Expr × Bool)) → AllByRecursion Askable asked
       → AllByRecursion (λ (one : Expr × Bool). IsTyped (types_at form.places) one.0) asked

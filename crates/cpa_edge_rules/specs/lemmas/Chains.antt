@@ -1,6 +1,6 @@
 -- The chain of truths that says that some of some tests is true.
-use Rattle.std.proofs.Common.{◌≡◌, ℕ, ◌≤◌, ℤ, pos, Bool, true, false, not, List, [], ◌∷◌, ◌++◌}
-use Rattle.std.proofs.Common.{length, Option, None, Some, slice_get, refl, sym, ap, ◌∙◌, subst}
+use Rattle.std.proofs.Common.{◌≡◌, ℕ, ◌+◌, ◌≤◌, ℤ, pos, Bool, true, false, not, List, [], ◌∷◌}
+use Rattle.std.proofs.Common.{◌++◌, length, Option, None, Some, slice_get, refl, sym, ap, ◌∙◌, subst}
 use Rattle.std.proofs.Common.{arith, ◌⊎◌, inl, inr}
 use Rattle.std.specs.Prelude.{IsSomeAnd}
 use Rattle.std.specs.List.{AllByRecursion}
@@ -26,6 +26,7 @@ use Rattle.cpa_renaming.specs.Laws.{renaming_keeps_meanings}
 use Rattle.cpa_edge_rules.specs.declared.drafts.Draft.{Draft}
 use Rattle.cpa_edge_rules.specs.Drafts.{next, behind, fresh, want}
 use Rattle.cpa_edge_rules.specs.Tests.{some_from, want_some, want_each}
+use Rattle.cpa_edge_rules.specs.lemmas.Heights.{inner_height}
 use Rattle.cpa_edge_rules.specs.lemmas.Lists.{Front, front_itself, front_of_front}
 use Rattle.cpa_edge_rules.specs.lemmas.Models.{Fine, all_cells, model_long, fine_want, want_back}
 use Rattle.cpa_edge_rules.specs.lemmas.Models.{want_forth, fine_fresh, fresh_back, fresh_forth}
@@ -153,8 +154,8 @@ module _ (q : Query) (places : List Place) (types : List IntType)
               let in_most = max-le e.height w.height in
               let out_height = height_at_variants.negation (scalar_read ty.Bool truth) in
               let out_most = s.height in
-              let here : height inner ≤ 1991 = omega (arith, in_height, in_most) in
-              let there : height outer ≤ 1991 = omega (arith, out_height, out_most) in
+              let here : height inner ≤ inner_height + 1 = omega (arith, in_height, in_most) in
+              let there : height outer ≤ inner_height + 1 = omega (arith, out_height, out_most) in
               let whole = height_at_variants.disjunction outer inner in
               let most = max-le there here in omega (arith, whole, most);
         }

@@ -29,6 +29,7 @@ use Rattle.cpa_edge_rules.specs.Drafts.{written, moved}
 use Rattle.cpa_edge_rules.specs.Tests.{type_at}
 use Rattle.cpa_edge_rules.specs.Forms.{Form, draft_of, joined, with_input, or_zero, value_in}
 use Rattle.cpa_edge_rules.specs.Forms.{inputs_at}
+use Rattle.cpa_edge_rules.specs.lemmas.Heights.{inner_height}
 use Rattle.cpa_edge_rules.specs.lemmas.Lists.{Front, all_both}
 use Rattle.cpa_edge_rules.specs.lemmas.Models.{Fine, all_cells, model_long, Fits, fine_want}
 use Rattle.cpa_edge_rules.specs.lemmas.Models.{want_back, want_forth, fine_fresh, fresh_back}
@@ -183,8 +184,9 @@ written_asked cells first len index value some are fit also =
       height =
           let high = height_at_variants.read t first len index in
           let low = fit.height in
-          let read_low : height read ≤ 1991 = omega (arith, high, low) in
-          let value_low : height value ≤ 1991 = let l = also.height in omega (arith, l) in
+          let read_low : height read ≤ inner_height + 1 = omega (arith, high, low) in
+          let value_low : height value ≤ inner_height + 1 =
+          let l = also.height in omega (arith, l) in
           let whole = height_at_variants.comparison cmp.Eq t read value in
           let most = max-le read_low value_low in omega (arith, whole, most);
     }

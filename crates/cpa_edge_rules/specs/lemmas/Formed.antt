@@ -37,6 +37,7 @@ use Rattle.cpa_edge_rules.specs.Forms.{inputs_at, place_now, act_weight, elem_we
 use Rattle.cpa_edge_rules.specs.Tests.{type_at, fact_tests, tests_of}
 use Rattle.cpa_renaming.specs.lemmas.TestShapes.{short}
 use Rattle.cpa_edge_rules.specs.lemmas.Failures.{shows_tail}
+use Rattle.cpa_edge_rules.specs.lemmas.Heights.{test_height}
 use Rattle.cpa_edge_rules.specs.lemmas.Lists.{all_both}
 use Rattle.cpa_edge_rules.specs.lemmas.Models.{model_long}
 use Rattle.cpa_edge_rules.specs.lemmas.Copies.{Stand}
@@ -69,7 +70,7 @@ module _ (cells : List Cell) (points : ℕ) (few : length (types_of cells) < 2 ^
 
   module _ (form : Form) (fitted : Fitted cells form) where
     abbrev pub Low : Expr × Bool → Type 0
-    Low one = IsTyped (types_of cells) one.0 × (height one.0 ≤ 600)
+    Low one = IsTyped (types_of cells) one.0 × (height one.0 ≤ test_height)
 
     -- the type of a cell
     cell_type : (cell : ℕ) → cell < length form.places
@@ -155,7 +156,7 @@ module _ (cells : List Cell) (points : ℕ) (few : length (types_of cells) < 2 ^
         let b = Cmp cmp.Le t (scalar_read t cell) (Const t hi) in (
           (
             (typed_at_variants.conjunction (types_of cells) a b).1 (first.0, second.0),
-            subst (λ n. n ≤ 600) (sym (height_at_variants.conjunction a b))
+            subst (λ n. n ≤ test_height) (sym (height_at_variants.conjunction a b))
                 (let most = max-le first.1 second.1 in omega (arith, most)),
           ),
           tt,

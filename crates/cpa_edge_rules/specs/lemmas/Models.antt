@@ -20,11 +20,13 @@ use Rattle.cpa_expr.specs.Values.{truth, is_nonzero, comparison, value_of}
 use Rattle.cpa_expr.specs.Cells.{AreValues, scalar_read}
 use Rattle.cpa_expr.specs.Laws.{value_at_variants, typed_at_variants, height_at_variants}
 use Rattle.cpa_expr.specs.Laws.{a_scalar_is_its_cell, values_lie_in_range}
+use Rattle.cpa_query.specs.declared.query.TheConstants as of_query
 use Rattle.cpa_query.specs.declared.query.Query.{Query}
 use Rattle.cpa_query.specs.Queries.{IsAsked, IsQuery, HasTruth, IsModel}
 use Rattle.cpa_renaming.specs.Laws.{cells_behind_change_nothing}
 use Rattle.cpa_edge_rules.specs.declared.drafts.Draft.{Draft}
 use Rattle.cpa_edge_rules.specs.Drafts.{next, behind, fresh, want, named}
+use Rattle.cpa_edge_rules.specs.lemmas.Heights.{inner_height}
 use Rattle.cpa_edge_rules.specs.lemmas.Lists.{all_parts, all_both, zip_last, zip_more, last_item}
 
 abbrev pub Wanted : List ℤ → Expr × Bool → Type 0
@@ -215,7 +217,7 @@ equal_forth t a b values v is are =
 -- an expression that a test of one level more may hold
 pub record Fits (cells : List IntType) (e : Expr) : Type 0 where
   pub typed : IsTyped cells e
-  pub height : height e ≤ 1990
+  pub height : height e ≤ inner_height
 
 pub scalar_height : (t : IntType) (cell : ℕ) → height (scalar_read t cell) ≤ MAX_HEIGHT
 scalar_height t cell =
@@ -240,7 +242,7 @@ pub equal_asked : (cells : List IntType) (t : IntType) (a b : Expr) → Fits cel
     → type_of a ≡ t → type_of b ≡ t → IsAsked cells (Cmp cmp.Eq t a b)
 equal_asked cells t a b fit also is are = record {
   typed = (typed_at_variants.comparison cells cmp.Eq t a b).1 (is, are, fit.typed, also.typed);
-  height = subst (λ n. n ≤ 2000) (sym (height_at_variants.comparison cmp.Eq t a b))
+  height = subst (λ n. n ≤ of_query.MAX_HEIGHT) (sym (height_at_variants.comparison cmp.Eq t a b))
       (let most = max-le fit.height also.height in omega (arith, most));
 }
 

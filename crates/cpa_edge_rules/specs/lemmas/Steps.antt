@@ -19,6 +19,7 @@ use Rattle.cpa_edge_rules.specs.Runs.{StoreFails}
 use Rattle.cpa_edge_rules.specs.Drafts.{behind, Placed, placed, settled}
 use Rattle.cpa_edge_rules.specs.Tests.{tests_of, other_than, denied, denials_of, want_each}
 use Rattle.cpa_edge_rules.specs.Forms.{Form, draft_of, with_failing}
+use Rattle.cpa_edge_rules.specs.lemmas.Heights.{inner_height, test_height, trap_height}
 use Rattle.cpa_edge_rules.specs.lemmas.Lists.{Front, front_of_front}
 use Rattle.cpa_edge_rules.specs.lemmas.Models.{all_cells, model_long}
 use Rattle.cpa_edge_rules.specs.lemmas.Copies.{stand_front, shows_same, same_front}
@@ -37,10 +38,10 @@ module _ (cells : List Cell) (form : Form) (fitted : Fitted cells form)
 
   -- a test of a height that leaves room for its denial
   abbrev pub Deniable : Expr × Bool → Type 0
-  Deniable one = IsTyped own_types one.0 × (height one.0 ≤ 600)
+  Deniable one = IsTyped own_types one.0 × (height one.0 ≤ test_height)
 
   denial_askable : (one : Expr × Bool) → Deniable one
-      → IsTyped own_types (denied one).0 × (height (denied one).0 ≤ 1990)
+      → IsTyped own_types (denied one).0 × (height (denied one).0 ≤ inner_height)
   denial_askable one h = (
     (typed_at_variants.disjunction own_types (trap_test one.0) (other_than one.1 one.0)).1 (
       trap_tests_tell.typed own_types one.0 few h.0,
@@ -54,19 +55,21 @@ module _ (cells : List Cell) (form : Form) (fitted : Fitted cells form)
       other_typed true e h = (typed_at_variants.negation own_types e).1 h
       other_typed false e h = h
 
-      other_low : (holds : Bool) (e : Expr) → height e ≤ 600 → height (other_than holds e) ≤ 1800
+      other_low : (holds : Bool) (e : Expr) → height e ≤ test_height
+          → height (other_than holds e) ≤ trap_height
       other_low true e h = let is = height_at_variants.negation e in omega (arith, is, h)
       other_low false e h = omega (arith, h)
 
-      low : (one : Expr × Bool) → Deniable one → height (denied one).0 ≤ 1990
+      low : (one : Expr × Bool) → Deniable one → height (denied one).0 ≤ inner_height
       low one h =
           let is = height_at_variants.disjunction (trap_test one.0) (other_than one.1 one.0) in
           let test = trap_tests_tell.height one.0 in
-          let low_test : height (trap_test one.0) ≤ 1800 = omega (arith, test, h.1) in
+          let low_test : height (trap_test one.0) ≤ trap_height = omega (arith, test, h.1) in
           let most = max-le low_test (other_low one.1 one.0 h.1) in omega (arith, is, most)
 
   denials_askable : (tests : List (Expr × Bool)) → AllByRecursion Deniable tests
-      → AllByRecursion (λ (one : Expr × Bool). IsTyped own_types one.0 × (height one.0 ≤ 1990))
+      → AllByRecursion
+      (λ (one : Expr × Bool). IsTyped own_types one.0 × (height one.0 ≤ inner_height))
       (map denied tests)
   denials_askable [] h = tt
   denials_askable (one ∷ tests) h = (denial_askable one h.0, denials_askable tests h.1)
@@ -93,7 +96,8 @@ module _ (cells : List Cell) (form : Form) (fitted : Fitted cells form)
 
   pub each_askable : (elems : List Elem) → AllDeniable elems
       → AllByRecursion (AllByRecursion
-      (λ (one : Expr × Bool). IsTyped own_types one.0 × (height one.0 ≤ 1990))) (denials elems)
+      (λ (one : Expr × Bool). IsTyped own_types one.0 × (height one.0 ≤ inner_height)))
+      (denials elems)
   each_askable [] h = tt
   each_askable (elem ∷ elems) h =
       (denials_askable (tests_of form.places elem.facts) h.0, each_askable elems h.1)

@@ -14,19 +14,21 @@ use Rattle.cpa_renaming.specs.Renaming.{renamed, IsReadable}
 use Rattle.cpa_renaming.specs.Laws.{renaming_keeps_meanings}
 use Rattle.cpa_edge_rules.specs.declared.drafts.Draft.{Draft}
 use Rattle.cpa_edge_rules.specs.Drafts.{behind, want, want_all}
+use Rattle.cpa_edge_rules.specs.lemmas.Heights.{inner_height}
 use Rattle.cpa_edge_rules.specs.lemmas.Models.{Wanted, Fine, all_cells, fine_want, want_back}
 use Rattle.cpa_edge_rules.specs.lemmas.Models.{want_forth, Fits}
 
 -- an expression of the program that can be read at the places, and that a wanted one may hold
 pub record Reads (places : List Place) (types : List IntType) (e : Expr) : Type 0 where
   pub readable : IsReadable places types e
-  pub height : height e ≤ 1990
+  pub height : height e ≤ inner_height
 
 pub reads_fit : (places : List Place) (cells types : List IntType) (e : Expr)
     → Reads places types e → Shows places cells types → Fits cells (renamed places e)
 reads_fit places cells types e reads shows = record {
   typed = renaming_keeps_meanings.typed places cells types e reads.readable shows;
-  height = subst (λ n. n ≤ 1990) (sym (renaming_keeps_meanings.same_height places e)) reads.height;
+  height = subst (λ n. n ≤ inner_height) (sym (renaming_keeps_meanings.same_height places e))
+      reads.height;
 }
 
 pub fit_asked : (cells : List IntType) (e : Expr) → Fits cells e → IsAsked cells e
