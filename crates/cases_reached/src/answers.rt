@@ -1,62 +1,77 @@
-//! What a reached set answers to the call of a row. That each entry which the call names is there
-//! is tested before it; nothing else is proved of an answer but that it comes.
+//! What a reached set answers to the call that a row names. That each entry which the row names is
+//! there is tested before the call, which is shown with `proofs/answers/`.
 
 ghost use Rattle.std.specs.Prelude.{◌≡◌, ◌==◌, IsTrue};
 ghost use Rattle.std.specs.List.{list_any};
 ghost use Rattle.cpa_reached.specs.Entries.{IsLive};
 
-use crate::calls::{Call, Change};
-use crate::printing::{push_entries, push_numbers, push_path, push_turns, push_waiting};
-use cpa_iface::{Entry, Order, Precision};
-use cpa_model::Elem;
+use crate::printing::{push_entries, push_path, push_turns, push_waiting};
+use crate::reading::{elems_of, end, order_of, pairs_of, precisions_of};
+use cpa_iface::{Entry, Turn};
 use cpa_reached::Reached;
-use row_reader::{RowFault, push_word};
+use row_reader::{
+    RowFault, end_parts, end_row, indices_of, next_index, next_part, next_word, push_word,
+};
 use std::alloc::Global;
 use std::mem;
+use std::str::{Split, SplitWhitespace};
 
-/// Adds the answer, its words each behind a space.
+/// Adds the answer of a row, its words each behind a space. The whole row is read before the call.
 pub fn push_answer(
     alloc: Global,
     out: &mut String,
     reached: &mut Reached,
-    call: Call,
+    line: &str,
 ) -> Result<(), RowFault> {
-    match call {
-        Call::Change(change) => push_change(alloc, out, reached, change),
-        Call::Live => push_entries(out, reached.live()),
-        Call::Waiting => push_waiting(alloc, out, reached.live()),
-        Call::Journal => push_turns(out, reached.journal()),
-        Call::Path { entry } => path(out, reached, entry),
+    let mut parts = line.split(':');
+    let mut words = next_part(&mut parts)?.split_whitespace();
+    match next_word(&mut words)? {
+        "new" => new(alloc, out, reached, &mut words, &mut parts),
+        "add" => add(alloc, out, reached, &mut words, &mut parts),
+        "replace" => replace(alloc, out, reached, &mut words, &mut parts),
+        "refine" => refine(alloc, out, reached, &mut words, &mut parts),
+        "turn" => turn(alloc, out, reached, &mut words, &mut parts),
+        word => {
+            end_parts(&mut parts)?;
+            push_without_parts(alloc, out, reached, word, &mut words)
+        }
     }
 }
 
-fn push_change(
+/// The answer to a call whose row has no parts behind colons.
+fn push_without_parts(
     alloc: Global,
     out: &mut String,
     reached: &mut Reached,
-    change: Change,
+    word: &str,
+    words: &mut SplitWhitespace<'_>,
 ) -> Result<(), RowFault> {
-    match change {
-        Change::New { elems, precisions } => new(alloc, out, reached, elems, precisions),
-        Change::Take { order } => take(out, reached, order),
-        Change::Add {
-            elems,
-            precisions,
-            parent,
-        } => add(out, reached, elems, precisions, parent),
-        Change::Replace { old, elems } => replace(out, reached, old, elems),
-        Change::Use { entry, by } => note_use(out, reached, entry, by),
-        Change::Remove { pivot } => remove(out, reached, pivot),
-        Change::Refine { entry, precisions } => refine(out, reached, entry, precisions),
-        Change::Turn { turn } => {
-            reached.close_turn(turn)?;
-            done(out)
+    match word {
+        "take" => take(out, reached, words),
+        "use" => note_use(out, reached, words),
+        "remove" => remove(out, reached, words),
+        "path" => path(out, reached, words),
+        _ => {
+            end_row(words)?;
+            push_alone(alloc, out, reached, word)
         }
-        Change::Round => {
-            reached.start_round();
-            done(out)
-        }
-        Change::Parts => parts(alloc, out, reached),
+    }
+}
+
+/// The answer to a call whose row is its word alone.
+fn push_alone(
+    alloc: Global,
+    out: &mut String,
+    reached: &mut Reached,
+    word: &str,
+) -> Result<(), RowFault> {
+    match word {
+        "live" => push_entries(out, reached.live()),
+        "waiting" => push_waiting(alloc, out, reached.live()),
+        "journal" => push_turns(out, reached.journal()),
+        "round" => round(out, reached),
+        "parts" => take_parts(alloc, out, reached),
+        _ => Err(RowFault::Unreadable),
     }
 }
 
@@ -66,49 +81,58 @@ fn done(out: &mut String) -> Result<(), RowFault> {
     Ok(())
 }
 
+/// The number of an entry.
 fn push_number(out: &mut String, number: u32) -> Result<(), RowFault> {
     write!(out, " {number}")?;
     Ok(())
 }
 
+/// `new : POINT .. : LIMIT ..`: another set, of one entry.
 fn new(
     alloc: Global,
     out: &mut String,
     reached: &mut Reached,
-    elems: Vec<Elem>,
-    precisions: Vec<Precision>,
+    words: &mut SplitWhitespace<'_>,
+    parts: &mut Split<'_, char>,
 ) -> Result<(), RowFault> {
+    let elems = elems_of(alloc, next_part(parts)?)?;
+    let precisions = precisions_of(alloc, next_part(parts)?)?;
+    end(words, parts)?;
     *reached = Reached::new(alloc, elems, precisions)?;
     done(out)
 }
 
-fn take(out: &mut String, reached: &mut Reached, order: Order) -> Result<(), RowFault> {
-    match reached.take_next(order) {
-        Some(number) => push_number(out, number),
-        None => Ok(push_word(out, "none")?),
-    }
-}
-
+/// `add PARENT EDGE : POINT .. : LIMIT ..`: the number of the new entry.
 fn add(
+    alloc: Global,
     out: &mut String,
     reached: &mut Reached,
-    elems: Vec<Elem>,
-    precisions: Vec<Precision>,
-    parent: (u32, u32),
+    words: &mut SplitWhitespace<'_>,
+    parts: &mut Split<'_, char>,
 ) -> Result<(), RowFault> {
-    if !is_live(reached, parent.0) {
+    let parent = next_index(words)?;
+    let edge = next_index(words)?;
+    let elems = elems_of(alloc, next_part(parts)?)?;
+    let precisions = precisions_of(alloc, next_part(parts)?)?;
+    end(words, parts)?;
+    if !is_live(reached, parent) {
         return Err(RowFault::Unreadable);
     }
-    let number = reached.add(elems, precisions, parent)?;
+    let number = reached.add(elems, precisions, (parent, edge))?;
     push_number(out, number)
 }
 
+/// `replace OLD : POINT ..`: the number of the new entry.
 fn replace(
+    alloc: Global,
     out: &mut String,
     reached: &mut Reached,
-    old: u32,
-    elems: Vec<Elem>,
+    words: &mut SplitWhitespace<'_>,
+    parts: &mut Split<'_, char>,
 ) -> Result<(), RowFault> {
+    let old = next_index(words)?;
+    let elems = elems_of(alloc, next_part(parts)?)?;
+    end(words, parts)?;
     if !is_live(reached, old) {
         return Err(RowFault::Unreadable);
     }
@@ -116,7 +140,67 @@ fn replace(
     push_number(out, number)
 }
 
-fn note_use(out: &mut String, reached: &mut Reached, entry: u32, by: u32) -> Result<(), RowFault> {
+/// `refine ENTRY : LIMIT ..`: other precisions of an entry.
+fn refine(
+    alloc: Global,
+    out: &mut String,
+    reached: &mut Reached,
+    words: &mut SplitWhitespace<'_>,
+    parts: &mut Split<'_, char>,
+) -> Result<(), RowFault> {
+    let entry = next_index(words)?;
+    let precisions = precisions_of(alloc, next_part(parts)?)?;
+    end(words, parts)?;
+    if !is_live(reached, entry) {
+        return Err(RowFault::Unreadable);
+    }
+    reached.set_precisions(entry, precisions);
+    done(out)
+}
+
+/// `turn TAKEN : ADDED .. : OLD NEW OLD NEW ..`: a row more of the journal.
+fn turn(
+    alloc: Global,
+    out: &mut String,
+    reached: &mut Reached,
+    words: &mut SplitWhitespace<'_>,
+    parts: &mut Split<'_, char>,
+) -> Result<(), RowFault> {
+    let taken = next_index(words)?;
+    let added = indices_of(alloc, next_part(parts)?)?;
+    let replaced = pairs_of(alloc, next_part(parts)?)?;
+    end(words, parts)?;
+    reached.close_turn(Turn {
+        taken,
+        added,
+        replaced,
+    })?;
+    done(out)
+}
+
+/// `take first` or `take last`: the entry that is next in the order; `none` where none waits.
+fn take(
+    out: &mut String,
+    reached: &mut Reached,
+    words: &mut SplitWhitespace<'_>,
+) -> Result<(), RowFault> {
+    let order = order_of(next_word(words)?)?;
+    end_row(words)?;
+    match reached.take_next(order) {
+        Some(number) => push_number(out, number),
+        None => Ok(push_word(out, "none")?),
+    }
+}
+
+/// `use ENTRY BY`: a use of an entry by another one.
+fn note_use(
+    out: &mut String,
+    reached: &mut Reached,
+    words: &mut SplitWhitespace<'_>,
+) -> Result<(), RowFault> {
+    let entry = next_index(words)?;
+    let by = next_index(words)?;
+    end_row(words)?;
     if !is_live(reached, entry) {
         return Err(RowFault::Unreadable);
     }
@@ -127,7 +211,14 @@ fn note_use(out: &mut String, reached: &mut Reached, entry: u32, by: u32) -> Res
     done(out)
 }
 
-fn remove(out: &mut String, reached: &mut Reached, pivot: u32) -> Result<(), RowFault> {
+/// `remove PIVOT`: the end of what lies below an entry.
+fn remove(
+    out: &mut String,
+    reached: &mut Reached,
+    words: &mut SplitWhitespace<'_>,
+) -> Result<(), RowFault> {
+    let pivot = next_index(words)?;
+    end_row(words)?;
     if !is_live(reached, pivot) {
         return Err(RowFault::Unreadable);
     }
@@ -135,28 +226,28 @@ fn remove(out: &mut String, reached: &mut Reached, pivot: u32) -> Result<(), Row
     done(out)
 }
 
-fn refine(
+/// `path ENTRY`: the edges that lead to an entry.
+fn path(
     out: &mut String,
-    reached: &mut Reached,
-    entry: u32,
-    precisions: Vec<Precision>,
+    reached: &Reached,
+    words: &mut SplitWhitespace<'_>,
 ) -> Result<(), RowFault> {
-    if !is_live(reached, entry) {
-        return Err(RowFault::Unreadable);
-    }
-    reached.set_precisions(entry, precisions);
-    done(out)
-}
-
-fn path(out: &mut String, reached: &Reached, entry: u32) -> Result<(), RowFault> {
+    let entry = next_index(words)?;
+    end_row(words)?;
     if !is_live(reached, entry) {
         return Err(RowFault::Unreadable);
     }
     push_path(out, &reached.path_to(entry)?)
 }
 
-/// The entries and the journal. A set of one entry is left.
-fn parts(alloc: Global, out: &mut String, reached: &mut Reached) -> Result<(), RowFault> {
+/// `round`: an empty journal.
+fn round(out: &mut String, reached: &mut Reached) -> Result<(), RowFault> {
+    reached.start_round();
+    done(out)
+}
+
+/// `parts`: the entries and the journal, taken out of the set. A set of one entry is left.
+fn take_parts(alloc: Global, out: &mut String, reached: &mut Reached) -> Result<(), RowFault> {
     let left = Reached::new(alloc, Vec::new(alloc), Vec::new(alloc))?;
     let (entries, turns) = mem::replace(reached, left).into_parts();
     push_entries(out, entries.as_slice())?;
@@ -171,6 +262,7 @@ fn is_live(reached: &Reached, number: u32) -> bool
     has_number(reached.live(), number)
 }
 
+/// Whether some entry has the number. Apart from `is_live`, since `any` proves over a slice.
 fn has_number(entries: &[Entry], number: u32) -> bool
     ensures { result ≡ list_any (λ entry. entry.number == number) entries.now }
 {

@@ -3,7 +3,6 @@
 #![tactic(auto)]
 
 mod answers;
-mod calls;
 mod printing;
 mod reading;
 mod rows;
@@ -11,6 +10,7 @@ mod rows;
 use cpa_reached::Reached;
 use std::io::{self, BufRead, BufReader, BufWriter, Write};
 
+/// The set lives from the first row to the last. It begins with one entry that has no elements.
 fn main(rt: HostRuntime) -> io::Result<()> {
     let alloc = rt.alloc();
     let mut reached = Reached::new(alloc, Vec::new(alloc), Vec::new(alloc))?;

@@ -40,6 +40,7 @@ fn push_entry(out: &mut String, entry: &Entry) -> Result<(), RowFault> {
     Ok(())
 }
 
+/// ` limits LIMIT ..`, all that is told of precisions.
 fn push_limits(out: &mut String, precisions: &[Precision]) -> Result<(), RowFault> {
     push_word(out, "limits")?;
     for precision in precisions {
@@ -49,6 +50,7 @@ fn push_limits(out: &mut String, precisions: &[Precision]) -> Result<(), RowFaul
     Ok(())
 }
 
+/// ` from PARENT by EDGE`, or nothing where there is no parent.
 fn push_parent(out: &mut String, parent: Option<(u32, u32)>) -> Result<(), RowFault> {
     if let Some((number, edge)) = parent {
         write!(out, " from {number} by {edge}")?;
@@ -56,6 +58,7 @@ fn push_parent(out: &mut String, parent: Option<(u32, u32)>) -> Result<(), RowFa
     Ok(())
 }
 
+/// ` uses NUMBER ..`, or nothing where it uses none.
 fn push_uses(out: &mut String, uses: &[u32]) -> Result<(), RowFault> {
     if !uses.is_empty() {
         push_word(out, "uses")?;
@@ -106,7 +109,7 @@ fn push_turn(out: &mut String, turn: &Turn) -> Result<(), RowFault> {
     write!(out, " {taken} added")?;
     push_numbers(out, turn.added.as_slice())?;
     push_word(out, "replaced")?;
-    for (old, next) in turn.replaced.as_slice() {
+    for (old, next) in &turn.replaced {
         write!(out, " {old} by {next}")?;
     }
     Ok(())

@@ -2,7 +2,6 @@
 //! file `stdout` says.
 
 use crate::answers::push_answer;
-use crate::reading::call_of;
 use cpa_reached::Reached;
 use row_reader::RowFault;
 use std::alloc::{AllocError, Global};
@@ -28,8 +27,7 @@ pub fn answered(alloc: Global, reached: &mut Reached, line: &str) -> Result<Stri
 
 /// The answer of a row, its words each behind a space.
 fn answer(alloc: Global, reached: &mut Reached, line: &str) -> Result<String, RowFault> {
-    let call = call_of(alloc, line)?;
     let mut out = String::new(alloc);
-    push_answer(alloc, &mut out, reached, call)?;
+    push_answer(alloc, &mut out, reached, line)?;
     Ok(out)
 }
