@@ -48,6 +48,7 @@ pub fn answer<A: Analysis>(
     }
 }
 
+/// Adds the answers of the call to both ways of calling it.
 fn push_answers<A: Analysis>(
     alloc: Global,
     out: &mut Answers,
@@ -64,16 +65,7 @@ fn push_answers<A: Analysis>(
     match &question.call {
         Call::Means => push_meanings(out, plain, boxed),
         Call::Initial => push_initial(alloc, out, plain, boxed, cfa),
-        Call::First { tracked_all, limit } => {
-            push_first(
-                alloc,
-                out,
-                plain,
-                boxed,
-                cfa,
-                &settings(*tracked_all, *limit),
-            )
-        }
+        Call::First { settings } => push_first(alloc, out, plain, boxed, cfa, settings),
         Call::Transfer { edge } => {
             push_transfer(alloc, out, plain, boxed, cfa, precision, *edge, elems)
         }
@@ -83,21 +75,11 @@ fn push_answers<A: Analysis>(
         }
         Call::Covered => push_covered(out, plain, boxed, elems),
         Call::Adjust => push_adjust(alloc, out, plain, boxed, cfa, precision, elems),
-        Call::Refine { edges } => {
-            push_refine(alloc, out, plain, boxed, cfa, precision, edges.as_slice())
-        }
+        Call::Refine { path } => push_refine(alloc, out, plain, boxed, cfa, precision, path),
     }
 }
 
-fn settings(tracked_all: bool, limit: u32) -> Settings {
-    Settings {
-        tracked_all,
-        limit,
-        learnt: 20000,
-        gates: 4000000,
-    }
-}
-
+/// `means`: what the calls `name` and `exact_on` answer.
 fn push_meanings<A: Analysis>(
     out: &mut Answers,
     plain: &mut A,
@@ -107,6 +89,7 @@ fn push_meanings<A: Analysis>(
     push_meaning(&mut out.boxed, boxed.name(), boxed.exact_on())
 }
 
+/// `NAME, exact on PART`.
 fn push_meaning(out: &mut String, name: &str, part: Part) -> Result<(), RowFault> {
     let part = match part {
         Part::Nothing => "nothing",
@@ -118,6 +101,7 @@ fn push_meaning(out: &mut String, name: &str, part: Part) -> Result<(), RowFault
     Ok(())
 }
 
+/// `initial`: the element of the initial states.
 fn push_initial<A: Analysis>(
     alloc: Global,
     out: &mut Answers,
@@ -132,6 +116,7 @@ fn push_initial<A: Analysis>(
     Ok(())
 }
 
+/// `first`: the first precision under the settings.
 fn push_first<A: Analysis>(
     alloc: Global,
     out: &mut Answers,
@@ -152,6 +137,7 @@ fn push_first<A: Analysis>(
     )
 }
 
+/// `transfer`: the successors of the one element by the edge, which is to be there.
 fn push_transfer<A: Analysis>(
     alloc: Global,
     out: &mut Answers,
@@ -180,6 +166,7 @@ fn push_transfer<A: Analysis>(
     }
 }
 
+/// `strengthen`: the first element with what the others tell.
 fn push_strengthen<A: Analysis>(
     alloc: Global,
     out: &mut Answers,
@@ -206,6 +193,7 @@ fn push_strengthen<A: Analysis>(
     }
 }
 
+/// The element; `none` where no state is left.
 fn push_perhaps(out: &mut String, elem: &Option<Elem>) -> Result<(), RowFault> {
     match elem {
         Some(elem) => elem.spell(out)?,
@@ -214,6 +202,7 @@ fn push_perhaps(out: &mut String, elem: &Option<Elem>) -> Result<(), RowFault> {
     Ok(())
 }
 
+/// `merge`: the two elements, the new one before the old one, as one.
 fn push_merge<A: Analysis>(
     alloc: Global,
     out: &mut Answers,
@@ -244,6 +233,7 @@ fn push_merge<A: Analysis>(
     }
 }
 
+/// `covered`: whether the other element covers the first one. Any two elements may be asked.
 fn push_covered<A: Analysis>(
     out: &mut Answers,
     plain: &mut A,
@@ -262,6 +252,7 @@ fn push_covered<A: Analysis>(
     }
 }
 
+/// `adjust`: the first element and its precision, where the others are reached.
 fn push_adjust<A: Analysis>(
     alloc: Global,
     out: &mut Answers,
@@ -289,12 +280,14 @@ fn push_adjust<A: Analysis>(
     }
 }
 
+/// `ELEMENT, PRECISION`.
 fn push_adjusted(out: &mut String, elem: &Elem, precision: &Precision) -> Result<(), RowFault> {
     elem.spell(out)?;
     out.push_str(", ")?;
     push_precision(out, precision)
 }
 
+/// `refine`: the precision after a path that has no run.
 fn push_refine<A: Analysis>(
     alloc: Global,
     out: &mut Answers,
@@ -302,21 +295,19 @@ fn push_refine<A: Analysis>(
     boxed: &mut Box<dyn Analysis + Send>,
     cfa: &Cfa,
     precision: &Precision,
-    edges: &[u32],
+    path: &Path,
 ) -> Result<(), RowFault>
     requires automaton { IsAutomaton cfa.now }
     requires precision { IsPrecision cfa.now precision.now }
 {
-    let path = Path {
-        edges: Seq::from_vec(edges.to_vec(alloc)?),
-    };
-    if !is_path(&path, cfa) {
+    if !is_path(path, cfa) {
         return Err(RowFault::Unreadable);
     }
-    push_precision(&mut out.plain, &plain.refine(alloc, cfa, &path, precision)?)?;
-    push_precision(&mut out.boxed, &boxed.refine(alloc, cfa, &path, precision)?)
+    push_precision(&mut out.plain, &plain.refine(alloc, cfa, path, precision)?)?;
+    push_precision(&mut out.boxed, &boxed.refine(alloc, cfa, path, precision)?)
 }
 
+/// `limit LIMIT, tracked [CELL,..], predicates [PREDICATE,..]`.
 fn push_precision(out: &mut String, precision: &Precision) -> Result<(), RowFault> {
     let limit = precision.limit;
     write!(out, "limit {limit}, tracked ")?;
@@ -335,6 +326,7 @@ fn entries(alloc: Global, precision: &Precision, elems: &[Elem]) -> Result<Vec<E
     Ok(entries)
 }
 
+/// An entry without a parent, which waits for nothing. Its number is 0, whichever it is.
 fn entry(alloc: Global, precision: &Precision, elem: &Elem) -> Result<Entry, RowFault> {
     let mut elems = Seq::new(alloc);
     elems.push(copy_elem(alloc, elem)?)?;
@@ -350,6 +342,7 @@ fn entry(alloc: Global, precision: &Precision, elem: &Elem) -> Result<Entry, Row
     })
 }
 
+/// Whether each entry has an element and a precision at the place 0, and all of its own fit.
 fn have_place(entries: &[Entry], cfa: &Cfa) -> bool
     ensures { IsTrue result → AllByRecursion (HasPlace cfa.now 0) entries.now }
 {
@@ -361,6 +354,7 @@ fn have_place(entries: &[Entry], cfa: &Cfa) -> bool
     true
 }
 
+/// Whether an entry has an element and a precision at the place 0, and all of its own fit.
 fn has_place(entry: &Entry, cfa: &Cfa) -> bool
     ensures { IsTrue result → HasPlace cfa.now 0 entry.now }
 {

@@ -15,6 +15,7 @@ use cpa_value::Value;
 use setting::Setting;
 use std::io::{self, BufRead, BufReader, BufWriter, Write};
 
+/// The boxes and what the rows set live from the first row to the last.
 fn main(rt: HostRuntime) -> io::Result<()> {
     let alloc = rt.alloc();
     let mut boxes = Boxes {

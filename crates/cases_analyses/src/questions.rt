@@ -1,10 +1,10 @@
 //! A call of an analysis, as a row names it: the analysis, the call, its words, and behind colons
 //! the elements that it takes.
 
-use cpa_iface::MergeRule;
-use cpa_model::{Elem, Seq};
-use row_programs::elem_of;
-use row_reader::{RowFault, end_row, index_of_word, next_index, next_word};
+use cpa_iface::{MergeRule, Settings};
+use cpa_model::{Elem, Path};
+use row_programs::{elems_of, next_settings, rest_indices, rule_of_word};
+use row_reader::{RowFault, end_row, next_index, next_word};
 use std::alloc::Global;
 use std::str::SplitWhitespace;
 
@@ -23,7 +23,7 @@ pub enum Call {
     Means,
     Initial,
     /// `first all LIMIT` or `first none LIMIT`
-    First { tracked_all: bool, limit: u32 },
+    First { settings: Settings },
     /// `transfer EDGE : ELEMENT`
     Transfer { edge: u32 },
     /// `strengthen : OWN : OTHER : ..`
@@ -35,7 +35,7 @@ pub enum Call {
     /// `adjust : ELEMENT : REACHED : ..`
     Adjust,
     /// `refine EDGE ..`
-    Refine { edges: Seq<u32> },
+    Refine { path: Path },
 }
 
 /// A call with its elements.
@@ -53,10 +53,7 @@ pub fn question_of(alloc: Global, line: &str) -> Result<Question, RowFault> {
     let called = called_of(next_word(&mut words)?)?;
     let call = call_of(alloc, &mut words)?;
     end_row(&mut words)?;
-    let mut elems = Vec::new(alloc);
-    for part in parts {
-        elems.push(elem_of(alloc, part)?)?;
-    }
+    let elems = elems_of(alloc, &mut parts)?;
     Ok(Question {
         called,
         call,
@@ -64,6 +61,7 @@ pub fn question_of(alloc: Global, line: &str) -> Result<Question, RowFault> {
     })
 }
 
+/// The analysis that a word names, as the analysis itself does.
 fn called_of(word: &str) -> Result<Called, RowFault> {
     if word == "location" {
         Ok(Called::Location)
@@ -76,18 +74,22 @@ fn called_of(word: &str) -> Result<Called, RowFault> {
     }
 }
 
+/// The call that the next words name, without the elements behind colons.
 fn call_of(alloc: Global, words: &mut SplitWhitespace<'_>) -> Result<Call, RowFault> {
     let word = next_word(words)?;
     if word == "first" {
-        first_of(words)
+        let settings = next_settings(words)?;
+        Ok(Call::First { settings })
     } else if word == "transfer" {
         let edge = next_index(words)?;
         Ok(Call::Transfer { edge })
     } else if word == "merge" {
-        let rule = rule_of(next_word(words)?)?;
+        let rule = rule_of_word(next_word(words)?)?;
         Ok(Call::Merge { rule })
     } else if word == "refine" {
-        refine_of(alloc, words)
+        let edges = rest_indices(alloc, words)?;
+        let path = Path { edges };
+        Ok(Call::Refine { path })
     } else {
         bare_call(word)
     }
@@ -105,43 +107,6 @@ fn bare_call(word: &str) -> Result<Call, RowFault> {
         Ok(Call::Covered)
     } else if word == "adjust" {
         Ok(Call::Adjust)
-    } else {
-        Err(RowFault::Unreadable)
-    }
-}
-
-fn first_of(words: &mut SplitWhitespace<'_>) -> Result<Call, RowFault> {
-    let tracked_all = is_all(next_word(words)?)?;
-    let limit = next_index(words)?;
-    Ok(Call::First { tracked_all, limit })
-}
-
-/// Whether a word names all cells, or none.
-fn is_all(word: &str) -> Result<bool, RowFault> {
-    if word == "all" {
-        Ok(true)
-    } else if word == "none" {
-        Ok(false)
-    } else {
-        Err(RowFault::Unreadable)
-    }
-}
-
-fn refine_of(alloc: Global, words: &mut SplitWhitespace<'_>) -> Result<Call, RowFault> {
-    let mut edges = Seq::new(alloc);
-    for word in words {
-        edges.push(index_of_word(word)?)?;
-    }
-    Ok(Call::Refine { edges })
-}
-
-fn rule_of(word: &str) -> Result<MergeRule, RowFault> {
-    if word == "sep" {
-        Ok(MergeRule::Sep)
-    } else if word == "join" {
-        Ok(MergeRule::Join)
-    } else if word == "widen" {
-        Ok(MergeRule::Widen)
     } else {
         Err(RowFault::Unreadable)
     }

@@ -37,6 +37,7 @@ pub fn answered(
     }
 }
 
+/// Adds the answer behind ` =`, or nothing where the row sets something.
 fn push_answer(
     alloc: Global,
     boxes: &mut Boxes,
@@ -51,14 +52,15 @@ fn push_answer(
     Ok(())
 }
 
+/// The answer to a call. The automaton is made again for each, as rows may change the program.
 fn asked(
     alloc: Global,
     boxes: &mut Boxes,
     setting: &Setting,
     line: &str,
 ) -> Result<String, RowFault> {
-    let question = question_of(alloc, line)?;
     let cfa = automaton(alloc, &setting.table)?;
+    let question = question_of(alloc, line)?;
     if is_precision(&setting.precision, &cfa) {
         asked_of(alloc, boxes, &cfa, &setting.precision, &question)
     } else {
@@ -66,6 +68,7 @@ fn asked(
     }
 }
 
+/// The answer of the analysis: a new one through the bound, one that lives on through the box.
 fn asked_of(
     alloc: Global,
     boxes: &mut Boxes,

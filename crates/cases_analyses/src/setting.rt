@@ -37,6 +37,7 @@ impl Setting {
     }
 }
 
+/// `LIMIT : CELL .. : PREDICATE : ..`, whether or not it fits the program.
 fn precision_of(
     alloc: Global,
     words: &mut SplitWhitespace<'_>,
