@@ -89,6 +89,7 @@ fn push_at<A: Analysis>(
     }
 }
 
+/// `initial`: the elements and the first precisions, one of each for each component.
 fn push_initial<A: Analysis>(
     alloc: Global,
     out: &mut String,
@@ -103,6 +104,7 @@ fn push_initial<A: Analysis>(
     push_precisions(out, first.1.as_slice())
 }
 
+/// `, limit LIMIT tracked [CELL,..]` for each. They are told without their predicates.
 fn push_precisions(out: &mut String, precisions: &[Precision]) -> Result<(), RowFault> {
     for precision in precisions {
         let limit = precision.limit;
@@ -177,6 +179,7 @@ fn push_rows(out: &mut String, rows: &[Vec<Elem>]) -> Result<(), RowFault> {
     Ok(())
 }
 
+/// `merge`: the merged elements; `none` where the old ones stay.
 fn push_merge<A: Analysis>(
     alloc: Global,
     out: &mut String,
@@ -204,6 +207,7 @@ fn push_merge<A: Analysis>(
     Ok(())
 }
 
+/// `covered`: whether the second elements cover the first ones, which any may be.
 fn push_covered<A: Analysis>(
     out: &mut String,
     composite: &Composite<A>,
@@ -217,6 +221,7 @@ fn push_covered<A: Analysis>(
     Ok(())
 }
 
+/// `adjust`: the elements and precisions after it, with no entry reached.
 fn push_adjust<A: Analysis>(
     alloc: Global,
     out: &mut String,
@@ -239,6 +244,7 @@ fn push_adjust<A: Analysis>(
     push_precisions(out, after.1.as_slice())
 }
 
+/// `refine`: the precisions after a path that has no run; `none` where none of them grows.
 fn push_refine<A: Analysis>(
     alloc: Global,
     out: &mut String,

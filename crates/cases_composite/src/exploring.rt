@@ -75,7 +75,7 @@ fn push_turns(out: &mut String, turns: &[Turn]) -> Result<(), RowFault> {
         write!(out, "[{taken},")?;
         push_list(out, turn.added.as_slice())?;
         out.push_str(",[")?;
-        for (old, next) in turn.replaced.as_slice() {
+        for (old, next) in &turn.replaced {
             write!(out, "[{old},{next}]")?;
         }
         out.push_str("]]")?;

@@ -165,6 +165,7 @@ fn stand_elsewhere(elems: &[Elem], point: u32) -> bool
     false
 }
 
+/// Whether the first fact of an element on a point is on another one.
 fn stands_elsewhere(elem: &Elem, point: u32) -> bool
     ensures { IsTrue result → (s : State) → Holds elem.now s → s.point ≡ point → ⊥ }
 {

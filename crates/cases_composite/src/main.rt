@@ -20,39 +20,47 @@ use cpa_iface::Location;
 use cpa_value::Value;
 use guess::Guess;
 use setting::Setting;
+use std::alloc::{AllocError, Global};
 use std::io::{self, BufRead, BufReader, BufWriter, Write};
 
+/// What the rows set lives from the first row to the last.
 fn main(rt: HostRuntime) -> io::Result<()> {
     let alloc = rt.alloc();
     let mut setting = Setting::new(alloc);
     let mut out = BufWriter::new(alloc, io::writer(&rt))?;
     for line in BufReader::new(alloc, rt.reader())?.lines(alloc) {
         let line = line?;
-        let mut handed = Vec::new(alloc);
-        handed.reserve(7)?;
-        handed.push_reserved(Handed {
-            analysis: Box::new(alloc, Location::new())?,
-        });
-        handed.push_reserved(Handed {
-            analysis: Box::new(alloc, Callstack::new())?,
-        });
-        handed.push_reserved(Handed {
-            analysis: Box::new(alloc, Value::new())?,
-        });
-        handed.push_reserved(Handed {
-            analysis: Box::new(alloc, Blind::new(0))?,
-        });
-        handed.push_reserved(Handed {
-            analysis: Box::new(alloc, Blind::new(3))?,
-        });
-        handed.push_reserved(Handed {
-            analysis: Box::new(alloc, Guess)?,
-        });
-        handed.push_reserved(Handed {
-            analysis: Box::new(alloc, Counter::new())?,
-        });
-        let printed = rows::answered(alloc, handed, &mut setting, line.as_str())?;
+        let printed = answered(alloc, &mut setting, line.as_str())?;
         writeln!(out, "{printed}")?;
     }
     out.flush()
+}
+
+/// A row with its answer. The analyses are new for each row, so that no row depends on what another
+/// one asked.
+fn answered(alloc: Global, setting: &mut Setting, line: &str) -> Result<String, AllocError> {
+    let mut handed = Vec::new(alloc);
+    handed.reserve(7)?;
+    handed.push_reserved(Handed {
+        analysis: Box::new(alloc, Location::new())?,
+    });
+    handed.push_reserved(Handed {
+        analysis: Box::new(alloc, Callstack::new())?,
+    });
+    handed.push_reserved(Handed {
+        analysis: Box::new(alloc, Value::new())?,
+    });
+    handed.push_reserved(Handed {
+        analysis: Box::new(alloc, Blind::new(0))?,
+    });
+    handed.push_reserved(Handed {
+        analysis: Box::new(alloc, Blind::new(3))?,
+    });
+    handed.push_reserved(Handed {
+        analysis: Box::new(alloc, Guess)?,
+    });
+    handed.push_reserved(Handed {
+        analysis: Box::new(alloc, Counter::new())?,
+    });
+    rows::answered(alloc, handed, setting, line)
 }

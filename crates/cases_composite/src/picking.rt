@@ -41,6 +41,7 @@ pub fn picks_of(alloc: Global, text: &str) -> Result<Vec<Pick>, RowFault>
     Ok(picks)
 }
 
+/// The pick of an analysis by its name, with the rule of its merging.
 fn pick_of(name: &str, rule: &str) -> Result<Pick, RowFault>
     ensures { IfOk result (λ pick. pick.place < 7) }
 {
@@ -49,6 +50,7 @@ fn pick_of(name: &str, rule: &str) -> Result<Pick, RowFault>
     Ok(Pick { place, rule })
 }
 
+/// The place of the name among `NAMES`.
 fn place_of(name: &str) -> Result<u32, RowFault>
     ensures { IfOk result (λ place. place < 7) }
 {

@@ -55,6 +55,7 @@ pub fn question_of(alloc: Global, line: &str) -> Result<Question, RowFault> {
     Ok(Question { call, elems })
 }
 
+/// The call that the next words name, without the elements behind colons.
 fn call_of(alloc: Global, words: &mut SplitWhitespace<'_>) -> Result<Call, RowFault> {
     let word = next_word(words)?;
     if word == "initial" {
@@ -100,6 +101,7 @@ fn explore_of(words: &mut SplitWhitespace<'_>) -> Result<Call, RowFault> {
     })
 }
 
+/// `first` or `last`: which waiting entry is taken.
 fn order_of(word: &str) -> Result<Order, RowFault> {
     if word == "first" {
         Ok(Order::First)

@@ -5,7 +5,7 @@ ghost use Rattle.std.specs.Prelude.{◌≡◌, length};
 
 use crate::asking::push_answer;
 use crate::picking::picks_of;
-use crate::questions::question_of;
+use crate::questions::{Question, question_of};
 use crate::setting::Setting;
 use cpa_composite::Composite;
 use cpa_iface::Analysis;
@@ -48,16 +48,27 @@ fn answer<A: Analysis>(
 ) -> Result<String, RowFault>
     requires { length handed.items ≡ 7 }
 {
-    let mut out = String::new(alloc);
     if setting.set(alloc, line)? {
-        return Ok(out);
+        return Ok(String::new(alloc));
     }
     let question = question_of(alloc, line)?;
+    asked(alloc, handed, setting, &question)
+}
+
+/// The answer to a question, behind a sign.
+fn asked<A: Analysis>(
+    alloc: Global,
+    handed: Vec<A>,
+    setting: &Setting,
+    question: &Question,
+) -> Result<String, RowFault>
+    requires { length handed.items ≡ 7 }
+{
     let cfa = automaton(alloc, &setting.table)?;
     let picks = picks_of(alloc, setting.picks.as_str())?;
     let count = picks.len();
     let mut composite = Composite::new(handed, picks);
-    out.push_str(" = ")?;
+    let mut out = String::from_str(alloc, " = ")?;
     push_answer(
         alloc,
         &mut out,
@@ -65,7 +76,7 @@ fn answer<A: Analysis>(
         count,
         &cfa,
         &setting.precisions,
-        &question,
+        question,
     )?;
     Ok(out)
 }

@@ -41,6 +41,7 @@ impl Setting {
     }
 }
 
+/// `LIMIT, CELL .. : ..`, a precision for each part, none with predicates.
 fn precisions_of(alloc: Global, text: &str) -> Result<Vec<Precision>, RowFault> {
     let mut precisions = Vec::new(alloc);
     for part in text.split(':') {
@@ -56,6 +57,7 @@ fn precisions_of(alloc: Global, text: &str) -> Result<Vec<Precision>, RowFault> 
     Ok(precisions)
 }
 
+/// The one number of a text.
 fn limit_of(text: &str) -> Result<u32, RowFault> {
     let mut words = text.split_whitespace();
     let limit = next_index(&mut words)?;
