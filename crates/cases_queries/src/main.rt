@@ -12,6 +12,7 @@ use std::alloc::{AllocError, Global};
 use std::io;
 use std::io::{BufRead, BufReader};
 
+/// Each row is answered from itself alone.
 fn main(rt: HostRuntime) -> io::Result<()> {
     let alloc = rt.alloc();
     for line in BufReader::new(alloc, rt.reader())?.lines(alloc) {

@@ -22,7 +22,7 @@ pub fn answer(
 ) -> Result<bool, RowFault> {
     match operators_of(alloc, word, words)? {
         Some(row) => {
-            for expr in row.exprs.as_slice() {
+            for expr in &row.exprs {
                 push_operator(alloc, out, &row, expr)?;
             }
             Ok(true)

@@ -47,7 +47,7 @@ pub fn is_model(query: &Query, store: &Store) -> bool {
             return false;
         }
     }
-    for one in query.wanted.as_slice() {
+    for one in &query.wanted {
         if !has_truth(&one.0, one.1, store) {
             return false;
         }

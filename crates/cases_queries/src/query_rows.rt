@@ -75,8 +75,9 @@ fn push_solved(out: &mut String, query: &Query, decided: &Decided) -> Result<(),
     Ok(())
 }
 
+/// Appends the value of each cell.
 fn push_values(out: &mut String, store: &Store) -> Result<(), AllocError> {
-    for number in store.values.as_slice() {
+    for number in &store.values {
         push_number(out, *number)?;
     }
     Ok(())

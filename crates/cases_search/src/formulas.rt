@@ -72,7 +72,7 @@ fn is_below(vars: u32, clause: &Clause) -> bool
 pub fn are_below(cnf: &Cnf) -> bool
     ensures { IsTrue result → AllByRecursion (AreBelow cnf.now.vars) cnf.now.clauses }
 {
-    for clause in cnf.clauses.as_slice() {
+    for clause in &cnf.clauses {
         if !is_below(cnf.vars, clause) {
             return false;
         }

@@ -5,7 +5,7 @@ use crate::formulas::{are_below, formula};
 use crate::words::push_clause;
 use cpa_cnf::{Clause, Cnf, Line, Marks, check_line};
 use cpa_sat::{Found, search};
-use row_reader::{RowFault, end_row, next_index, next_part};
+use row_reader::{RowFault, end_row, next_index, next_part, push_word};
 use std::alloc::Global;
 use std::str::{Split, SplitWhitespace};
 
@@ -60,11 +60,7 @@ fn one_search(
     parts: &mut Split<'_, char>,
 ) -> Result<(), RowFault> {
     let (cnf, learnt) = query(alloc, words, parts)?;
-    let found = find(alloc, &cnf, learnt)?;
-    let outcome = judged(alloc, &cnf, learnt, &found)?;
-    out.push_str(" ")?;
-    out.push_str(outcome)?;
-    Ok(())
+    Ok(push_word(out, outcome(alloc, &cnf, learnt)?)?)
 }
 
 /// `budgets VARS LAST : FORMULA`: the outcomes of the budgets from 0 to the last, a letter each.
@@ -77,11 +73,15 @@ fn budgets(
     let (cnf, last) = query(alloc, words, parts)?;
     out.push_str(" ")?;
     for learnt in 0..last.min(1000) + 1 {
-        let found = find(alloc, &cnf, learnt)?;
-        let outcome = judged(alloc, &cnf, learnt, &found)?;
-        out.push_str(letter(outcome))?;
+        out.push_str(letter(outcome(alloc, &cnf, learnt)?))?;
     }
     Ok(())
+}
+
+/// The word of the outcome within a budget, looked at again.
+fn outcome(alloc: Global, cnf: &Cnf, learnt: u32) -> Result<&'static str, RowFault> {
+    let found = find(alloc, cnf, learnt)?;
+    judged(alloc, cnf, learnt, &found)
 }
 
 /// The first letter of an outcome.
@@ -202,9 +202,13 @@ fn measure(
     parts: &mut Split<'_, char>,
 ) -> Result<(), RowFault> {
     let (cnf, learnt) = query(alloc, words, parts)?;
-    let found = find(alloc, &cnf, learnt)?;
-    match &found {
-        Found::Model(_) => Ok(out.push_str(" model")?),
+    push_measured(out, &find(alloc, &cnf, learnt)?)
+}
+
+/// The word of the outcome, and behind it what its lines take.
+fn push_measured(out: &mut String, found: &Found) -> Result<(), RowFault> {
+    match found {
+        Found::Model(_) => Ok(push_word(out, "model")?),
         Found::Refuted(lines) => push_sizes(out, "refuted", lines),
         Found::Spent(lines) => push_sizes(out, "spent", lines),
     }
@@ -232,8 +236,12 @@ fn trace(
     parts: &mut Split<'_, char>,
 ) -> Result<(), RowFault> {
     let (cnf, learnt) = query(alloc, words, parts)?;
-    let found = find(alloc, &cnf, learnt)?;
-    match &found {
+    push_traced(out, &find(alloc, &cnf, learnt)?)
+}
+
+/// The word of the outcome, and behind it all that was found.
+fn push_traced(out: &mut String, found: &Found) -> Result<(), RowFault> {
+    match found {
         Found::Model(values) => push_values(out, values),
         Found::Refuted(lines) => push_lines(out, " refuted", lines),
         Found::Spent(lines) => push_lines(out, " spent", lines),
@@ -266,7 +274,7 @@ fn push_line(out: &mut String, line: &Line) -> Result<(), RowFault> {
         push_clause(out, &line.clause)?;
     }
     write!(out, " 0 {first}")?;
-    for step in line.steps.as_slice() {
+    for step in &line.steps {
         let pivot = u64::from(step.pivot) + 1;
         let clause = step.clause;
         write!(out, " {pivot} {clause}")?;
