@@ -33,6 +33,7 @@ pub(crate) fn program(alloc: Global, row: &str, spelled: Spelled) -> Result<Stri
     }
 }
 
+/// The line of a text that is short enough. Its fault is handed on.
 fn spelled_of(alloc: Global, text: &[u8], spelled: Spelled) -> Result<String, TextError>
     requires { length text.now ≤ MAX_TEXT }
 {
@@ -40,6 +41,7 @@ fn spelled_of(alloc: Global, text: &[u8], spelled: Spelled) -> Result<String, Te
     Ok(line_of(alloc, &program, spelled)?)
 }
 
+/// The line of a program, or of its automaton.
 fn line_of(alloc: Global, program: &Program, spelled: Spelled) -> Result<String, AllocError>
     requires { IsWellFormed program.now }
 {

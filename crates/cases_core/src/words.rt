@@ -9,15 +9,15 @@ use std::alloc::{AllocError, Global};
 pub(crate) fn program_line(alloc: Global, program: &Program) -> Result<String, AllocError> {
     let length = program.text_len;
     let mut line = format!(in alloc; "text {length}")?;
-    for cell in program.cells.as_slice() {
+    for cell in &program.cells {
         line.push_str(cell_words(alloc, *cell)?.as_str())?;
     }
-    for body in program.bodies.as_slice() {
+    for body in &program.bodies {
         line.push_str(format!(in alloc; "; body {body}")?.as_str())?;
     }
     let main = program.main;
     line.push_str(format!(in alloc; "; main {main}")?.as_str())?;
-    for statement in program.stmts.as_slice() {
+    for statement in &program.stmts {
         line.push_str("; ")?;
         push_statement(alloc, &mut line, statement)?;
     }
@@ -30,7 +30,7 @@ pub(crate) fn automaton_line(alloc: Global, cfa: &Cfa) -> Result<String, AllocEr
     let start = cfa.start;
     let mut line = format!(in alloc; "points {points}; start {start}; errors ")?;
     push_list(&mut line, cfa.errors.as_slice())?;
-    for edge in cfa.edges.as_slice() {
+    for edge in &cfa.edges {
         line.push_str("; ")?;
         edge.spell(&mut line)?;
     }

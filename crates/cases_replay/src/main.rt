@@ -1,12 +1,14 @@
-//! Prints each row of the standard input with what comes of the replay that it asks for. README.md
-//! says how the wanted answers were made.
+//! Prints each row of the standard input with what comes of the replay, or is said of the facts, that
+//! it asks for. README.md says how the wanted answers were made.
 #![tactic(auto)]
 
+mod facts;
 mod rows;
 
 use row_programs::Table;
 use std::io::{self, BufRead, BufReader, BufWriter, Write};
 
+/// The program that the rows set lives from the first row to the last.
 fn main(rt: HostRuntime) -> io::Result<()> {
     let alloc = rt.alloc();
     let mut table = Table::new(alloc);

@@ -15,6 +15,7 @@ use std::process::Abort;
 use std::test::Fail;
 use std::thread::Threads;
 
+/// A program without reads, writes and calls.
 const RETURNS: &str = "int main(void){return 0;}";
 
 /// An analysis that knows nothing and is exact on nothing.
@@ -119,6 +120,7 @@ fn no_facts(alloc: Global) -> Elem
     }
 }
 
+/// The words of a call, as texts.
 fn texts(alloc: Global, words: &[&str]) -> Result<Vec<String>, AllocError> {
     let mut texts = Vec::new(alloc);
     for word in words {
@@ -184,6 +186,7 @@ fn status_with_blind<R: Threads + Sync>(rt: &R, alloc: Global) -> Result<u8, All
     Ok(run(rt, alloc, words, analyses, &mut inputs, &mut out))
 }
 
+/// A list is refused that is not of one analysis which is exact on the point.
 #[test]
 fn lists_of_analyses(rt: HostRuntime) -> Result<(), Fail> {
     let alloc = rt.alloc();
@@ -221,6 +224,7 @@ fn second_read_failing<R: Threads + Sync>(
     Ok((status, out))
 }
 
+/// The read of the inputs fails only where the program's text is read and right.
 #[test]
 fn a_read_that_fails(rt: HostRuntime) -> Result<(), Fail> {
     let alloc = rt.alloc();
@@ -248,6 +252,7 @@ fn written_to<R: Threads + Sync>(
     Ok((status, out.written().len()))
 }
 
+/// A write that takes a part is followed by another one; one that fails or takes nothing ends it.
 #[test]
 fn sinks_that_fail_or_take_little(rt: HostRuntime) -> Result<(), Fail> {
     let alloc = rt.alloc();
@@ -269,6 +274,7 @@ fn ifs(alloc: Global, count: usize) -> Result<String, AllocError> {
     Ok(text)
 }
 
+/// A program whose report has ten thousand entries, too many for a row.
 #[test]
 fn many_statements(rt: HostRuntime) -> Result<(), Fail> {
     let text = ifs(rt.alloc(), 2_000)?;
