@@ -4,7 +4,7 @@
 
 use cpa_iface::{Analysis, Location};
 use cpa_outside::{FileInputs, StdoutSink, write_whole};
-use cpa_top::run;
+use cpa_top::{Status, run};
 use std::alloc::{AllocError, Global};
 use std::env;
 use std::io::ErrorKind;
@@ -33,8 +33,8 @@ fn words<R: Env + Alloc<A = Global>>(rt: &R) -> Result<Vec<String>, AllocError> 
 /// Refuses for want of memory before the call could be made.
 fn refuse_memory<R: Print>(out: &mut StdoutSink<R>) -> ExitCode {
     match write_whole(out, b"refused memory\n") {
-        Ok(()) => ExitCode::from(10),
-        Err(_) => ExitCode::from(9),
+        Ok(()) => ExitCode::from(Status::OutOfMemory.code()),
+        Err(_) => ExitCode::from(Status::WriteFailed.code()),
     }
 }
 

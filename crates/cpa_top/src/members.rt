@@ -1,6 +1,6 @@
 //! The members of a JSON object in byte order of their keys, and how they are spelled, by
 //! `specs/Members.antt`; shown in `proofs/Spelled.antt`.
-ghost use Rattle.std.specs.Prelude.{◌≡◌, ◌++◌, ◌∷◌, map, length, ◌≤◌, OnOk};
+ghost use Rattle.std.specs.Prelude.{◌≡◌, ◌++◌, map, length, ◌≤◌, OnOk, codes};
 ghost use Rattle.std.specs.List.{prefix_len, flat_map};
 ghost use Rattle.std.specs.String.{string_bytes};
 ghost use Rattle.cpa_model.specs.Spelling.{commas};
@@ -88,8 +88,8 @@ fn push_member(out: &mut String, member: Member<'_>) -> Result<(), AllocError>
 
 /// Adds each member with a comma before it.
 fn push_rest(out: &mut String, members: &[Member<'_>]) -> Result<(), AllocError>
-    ensures { OnOk result (string_bytes out.new
-        ≡ string_bytes out.old ++ flat_map (λ m. 44 ∷ member_text m) (map meant members.now)) }
+    ensures { OnOk result (string_bytes out.new ≡ string_bytes out.old
+        ++ flat_map (λ m. codes "," ++ member_text m) (map meant members.now)) }
 {
     for member in members {
         out.push_str(",")?;

@@ -19,7 +19,7 @@ use crate::files::take_program;
 use crate::refusal::Refusal;
 use crate::report::{Body, Listed, Report, print};
 use cfa_build::build;
-use cpa_iface::{Analysis, Part, Settings};
+use cpa_iface::{Analysis, DEFAULT_GATES, DEFAULT_LEARNT, Part, Settings};
 use cpa_model::{Cfa, Elem, Program, Seq, covers_are_safe};
 use cpa_outside::Inputs;
 use std::alloc::{AllocError, Global};
@@ -28,8 +28,8 @@ use std::alloc::{AllocError, Global};
 const SETTINGS: Settings = Settings {
     tracked_all: false,
     limit: 0,
-    learnt: 20_000,
-    gates: 4_000_000,
+    learnt: DEFAULT_LEARNT,
+    gates: DEFAULT_GATES,
 };
 
 /// Verifies the program of the name by the one handed analysis.
