@@ -30,6 +30,7 @@ pub fn addition_of(alloc: Global, text: &str) -> Result<Addition, RowFault> {
     }
 }
 
+/// `EDGE ..`. Whether they are there is tested when they are taken.
 fn edges_of(alloc: Global, text: &str) -> Result<Addition, RowFault> {
     let mut edges = Vec::new(alloc);
     for word in text.split_whitespace() {
@@ -64,6 +65,7 @@ pub fn add(form: &mut EdgeForm, cfa: &Cfa, addition: &Addition) -> Result<(), Ro
     }
 }
 
+/// Takes an edge, which is to be there.
 fn take(form: &mut EdgeForm, cfa: &Cfa, edge: u32) -> Result<(), RowFault> {
     if edge as usize >= cfa.edges.len() {
         return Err(RowFault::Unreadable);
@@ -72,6 +74,7 @@ fn take(form: &mut EdgeForm, cfa: &Cfa, edge: u32) -> Result<(), RowFault> {
     Ok(())
 }
 
+/// An element holds now, whose facts are to fit the automaton.
 fn hold(form: &mut EdgeForm, cfa: &Cfa, elem: &Elem) -> Result<(), RowFault> {
     if !is_elem(elem, cfa) {
         return Err(RowFault::Unreadable);
@@ -80,6 +83,7 @@ fn hold(form: &mut EdgeForm, cfa: &Cfa, elem: &Elem) -> Result<(), RowFault> {
     Ok(())
 }
 
+/// Of each element some fact fails now. All facts are to fit the automaton.
 fn fail(form: &mut EdgeForm, cfa: &Cfa, elems: &[Elem]) -> Result<(), RowFault> {
     for elem in elems {
         if !is_elem(elem, cfa) {

@@ -118,6 +118,7 @@ fn stand(form: &EdgeForm, model: &Store, last: &Store) -> bool {
     true
 }
 
+/// Appends a word, and numbers behind it.
 fn push_values(out: &mut String, word: &str, values: &[i128]) -> Result<(), RowFault> {
     push_word(out, word)?;
     for v in values {

@@ -10,6 +10,7 @@ mod runs;
 use row_programs::Table;
 use std::io::{self, BufRead, BufReader, BufWriter, Write};
 
+/// The program that the rows set lives from the first row to the last.
 fn main(rt: HostRuntime) -> io::Result<()> {
     let alloc = rt.alloc();
     let mut table = Table::new(alloc);

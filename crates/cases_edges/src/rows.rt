@@ -69,6 +69,7 @@ fn additions_of(alloc: Global, parts: &mut Split<'_, char>) -> Result<Vec<Additi
     Ok(additions)
 }
 
+/// Adds what the parts of a row say, from left to right.
 fn add_all(form: &mut EdgeForm, cfa: &Cfa, additions: &[Addition]) -> Result<(), RowFault> {
     for addition in additions {
         add(form, cfa, addition)?;
@@ -115,6 +116,7 @@ fn places(
     Ok(())
 }
 
+/// Appends the number of the cell of the query at which a cell of the automaton stands now.
 fn push_place(out: &mut String, form: &EdgeForm, cell: u32) -> Result<(), RowFault> {
     let place = form.place_now(cell);
     Ok(write!(out, " {place}")?)

@@ -27,6 +27,7 @@ impl Run<'_> {
         true
     }
 
+    /// Follows the run through one addition; an element is asked of the present store alone.
     fn meets_one(&mut self, cfa: &Cfa, addition: &Addition) -> bool {
         match addition {
             Addition::Taken(edges) => self.takes(cfa, edges.as_slice()),
@@ -35,6 +36,7 @@ impl Run<'_> {
         }
     }
 
+    /// Takes the edges in order. That one begins where the last one ends is not asked.
     fn takes(&mut self, cfa: &Cfa, edges: &[u32]) -> bool {
         for edge in edges {
             let taken = match cfa.edges.get(*edge as usize) {
@@ -63,6 +65,7 @@ impl Run<'_> {
         }
     }
 
+    /// A write; false where its index or its value traps, or no cell has the index.
     fn writes(&mut self, base: u32, len: u32, index: &Expr, written: &Expr) -> bool {
         let Some(at) = value(index, &self.store) else {
             return false;
@@ -121,6 +124,7 @@ fn all_fail(elems: &[Elem], store: &Store) -> bool {
     true
 }
 
+/// Whether a fact holds of the store. A fact on the point or the stack says nothing of it.
 fn fact_holds(fact: &Fact, store: &Store) -> bool {
     match fact {
         Fact::At { .. } | Fact::Stack { .. } => true,

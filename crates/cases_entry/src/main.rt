@@ -5,6 +5,7 @@
 use cpa_entry::start;
 use std::process::ExitCode;
 
+/// The word that is no text is in `args`.
 fn main(rt: HostRuntime) -> ExitCode {
     start(&rt)
 }

@@ -5,6 +5,7 @@
 use cpa_entry::start;
 use std::process::ExitCode;
 
+/// The words that are no command are in `args`.
 fn main(rt: HostRuntime) -> ExitCode {
     start(&rt)
 }

@@ -43,6 +43,7 @@ fn answer<R: Threads + Sync>(
     Ok((status, out))
 }
 
+/// Each row is a run of its own: no file and no analysis is used twice.
 fn main(rt: HostRuntime) -> io::Result<()> {
     let alloc = rt.alloc();
     let mut out = BufWriter::new(alloc, io::writer(&rt))?;

@@ -24,6 +24,7 @@ fn is_heading(line: &str) -> bool {
     line.is_empty() || line.starts_with("--")
 }
 
+/// Each row is answered from itself alone.
 fn main(rt: HostRuntime) -> io::Result<()> {
     let alloc = rt.alloc();
     for line in BufReader::new(alloc, rt.reader())?.lines(alloc) {

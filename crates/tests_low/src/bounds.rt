@@ -4,6 +4,7 @@
 use c_lexer::{MAX_TEXT, Token, TokenKind, tokens};
 use std::test::Fail;
 
+/// A text of one byte more may not be asked.
 #[test]
 fn the_longest_text_has_its_tokens(rt: HostRuntime) -> Result<(), Fail> {
     let text = vec![in rt.alloc(); b';'; MAX_TEXT]?;

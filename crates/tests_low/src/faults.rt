@@ -4,6 +4,7 @@
 use c_lexer::{Rule, TextError, TextFault};
 use std::test::Fail;
 
+/// A fault with its rule and its place, and want of memory.
 #[test]
 fn errors_are_shown(rt: HostRuntime) -> Result<(), Fail> {
     let fault = TextError::Fault(TextFault {

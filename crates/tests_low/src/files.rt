@@ -7,6 +7,7 @@ use std::io::{ErrorKind, Read};
 use std::test::Fail;
 use std::{env, fs, io};
 
+/// A file that is as long as the limit, one that is longer, and one that is gone.
 #[test]
 fn a_file_is_read_up_to_its_limit(rt: HostRuntime) -> Result<(), Fail> {
     let alloc = rt.alloc();
@@ -72,6 +73,7 @@ impl Opens for FailingOpener {
     }
 }
 
+/// A row is how opening and reading end, the limit, and the wanted length or fault.
 #[test]
 fn an_error_is_the_fault_of_its_kind(rt: HostRuntime) -> Result<(), Fail> {
     let alloc = rt.alloc();

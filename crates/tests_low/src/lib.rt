@@ -1,5 +1,5 @@
-//! Tests of the lower crates: what no clause says and no row of a `cases_` program shows. The crate
-//! has no functions of its own, so nothing is proved twice for them.
+//! Tests of the lower crates: what no clause says and no row of a `cases_` program shows. Whatever
+//! else stands here is for tests alone, so nothing is proved twice.
 #![tactic(auto)]
 
 #[cfg(test)]
