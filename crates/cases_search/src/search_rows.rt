@@ -274,7 +274,7 @@ fn push_line(out: &mut String, line: &Line) -> Result<(), RowFault> {
         push_clause(out, &line.clause)?;
     }
     write!(out, " 0 {first}")?;
-    for step in &line.steps {
+    for step in line.steps.as_slice() {
         let pivot = u64::from(step.pivot) + 1;
         let clause = step.clause;
         write!(out, " {pivot} {clause}")?;
