@@ -1,5 +1,5 @@
-//! A program in a line: its length, its cells, its bodies, its main, its statements; and an automaton.
-//! Proved safe by the checker alone.
+//! A program in a line: its length, its cells, its bodies, its main, its statements; and an
+//! automaton. Proved safe by the checker alone.
 
 use cpa_expr::{Expr, push_expr, type_word};
 use cpa_model::{Cell, Cfa, Program, Spell, Stmt, push_list};

@@ -1,5 +1,5 @@
-//! Prints each row of the standard input with what comes of the form that it asks for. README.md says
-//! how the wanted answers were made.
+//! Prints each row of the standard input with what comes of the form that it asks for. README.md
+//! says how the wanted answers were made.
 #![tactic(auto)]
 
 mod additions;

@@ -2,7 +2,7 @@
 //! file `stdout` says.
 
 use crate::additions::{Addition, add, addition_of};
-use crate::asking::{push_decided, push_size};
+use crate::asking::{Question, push_decided, push_size};
 use cpa_edgeform::EdgeForm;
 use cpa_model::Cfa;
 use row_programs::{Table, automaton};
@@ -51,13 +51,18 @@ fn answer(alloc: Global, table: &mut Table, line: &str) -> Result<Option<String>
     Ok(Some(out))
 }
 
-/// A form at the initial store, or at any store.
-fn begun(alloc: Global, cfa: &Cfa, words: &mut SplitWhitespace<'_>) -> Result<EdgeForm, RowFault> {
+/// Whether a form begins at the initial store, and else at any store.
+fn begins_initially(words: &mut SplitWhitespace<'_>) -> Result<bool, RowFault> {
     match next_word(words)? {
-        "initial" => Ok(EdgeForm::begin(alloc, cfa, true)?),
-        "any" => Ok(EdgeForm::begin(alloc, cfa, false)?),
+        "initial" => Ok(true),
+        "any" => Ok(false),
         _ => Err(RowFault::Unreadable),
     }
+}
+
+fn begun(alloc: Global, cfa: &Cfa, words: &mut SplitWhitespace<'_>) -> Result<EdgeForm, RowFault> {
+    let from_initial = begins_initially(words)?;
+    Ok(EdgeForm::begin(alloc, cfa, from_initial)?)
 }
 
 /// What the parts of a row add.
@@ -86,11 +91,18 @@ fn run(
     parts: &mut Split<'_, char>,
     told: bool,
 ) -> Result<(), RowFault> {
-    let mut form = begun(alloc, cfa, words)?;
+    let from_initial = begins_initially(words)?;
+    let mut form = EdgeForm::begin(alloc, cfa, from_initial)?;
     let learnt = next_index(words)?;
     let additions = additions_of(alloc, parts)?;
     add_all(&mut form, cfa, additions.as_slice())?;
-    push_decided(alloc, out, cfa, &form, additions.as_slice(), learnt, told)
+    let question = Question {
+        from_initial,
+        additions: additions.as_slice(),
+        learnt,
+        told,
+    };
+    push_decided(alloc, out, cfa, &form, &question)
 }
 
 /// `places BEGINNING CELL : ADDITION : ..`: where the cell stands at the beginning, and after each
@@ -137,8 +149,7 @@ fn weight(
     Ok(write!(out, " {weight}")?)
 }
 
-/// `size BEGINNING : ADDITION : ..`: the numbers of the query's cells and wanted expressions, its
-/// weight, and the numbers of variables and clauses of its formula.
+/// `size BEGINNING : ADDITION : ..`: the numbers of the query's cells and wanted expressions.
 fn size(
     alloc: Global,
     out: &mut String,
@@ -149,5 +160,5 @@ fn size(
     let mut form = begun(alloc, cfa, words)?;
     let additions = additions_of(alloc, parts)?;
     add_all(&mut form, cfa, additions.as_slice())?;
-    push_size(alloc, out, &form)
+    push_size(out, &form)
 }

@@ -4,7 +4,7 @@
 use crate::additions::Addition;
 use cpa_expr::{Expr, Store, value};
 use cpa_ints::Seq;
-use cpa_model::{Act, Cfa, Elem, Fact, has_truth};
+use cpa_model::{Act, Cell, Cfa, Elem, Fact, has_truth};
 use std::alloc::Global;
 use std::mem;
 
@@ -101,6 +101,33 @@ impl Run<'_> {
         }
         self.store.values = Seq::from_vec(values);
         there
+    }
+}
+
+/// Whether a run may begin at the store: at the start of each cell, or at any values in range.
+pub fn begins(cfa: &Cfa, from_initial: bool, first: &Store) -> bool {
+    let cells = cfa.cells.as_slice();
+    if first.values.len() != cells.len() {
+        return false;
+    }
+    for i in 0..cells.len() {
+        let begun = match first.values.get(i) {
+            Some(value) => may_begin(&cells[i], *value, from_initial),
+            None => false,
+        };
+        if !begun {
+            return false;
+        }
+    }
+    true
+}
+
+/// Whether the cell may have the value at the beginning.
+fn may_begin(cell: &Cell, value: i128, from_initial: bool) -> bool {
+    if from_initial {
+        value == cell.start
+    } else {
+        cell.ty.contains(value)
     }
 }
 
