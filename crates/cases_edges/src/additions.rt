@@ -1,4 +1,5 @@
-//! What a row adds to a form: edges that are taken, an element that holds, elements that fail.
+//! What a row adds to a form: edges that are taken, an element that holds, elements that fail. Each
+//! is tested before it is added. Proved safe by the checker alone.
 
 use cpa_edgeform::EdgeForm;
 use cpa_model::{Cfa, Elem, is_elem};
