@@ -78,8 +78,8 @@ impl Table {
         Ok(())
     }
 
-    /// `N STATEMENT`: the statement comes in the place of the one of the number N. It is added first,
-    /// since a statement that lives on beside another one is dear to prove.
+    /// `N STATEMENT`: the statement comes in the place of the one of the number N. It is added
+    /// first, since a statement that lives on beside another one is dear to prove.
     fn put_stmt(
         &mut self,
         alloc: Global,
