@@ -14,7 +14,7 @@ use crate::parts::Parts;
 use cpa_expr::Expr;
 use cpa_ints::IntType;
 use cpa_model::Cell;
-use cpa_renaming::Place;
+use cpa_renaming::{Place, constant};
 use std::alloc::{AllocError, Global};
 
 /// Whether a cell of the query has the start of a cell of the program.
@@ -22,11 +22,8 @@ fn start(alloc: Global, number: u32, cell: &Cell) -> Result<Expr, AllocError>
     ensures { IfOk result (λ e. e ≡ Cmp cmp.Eq cell.now.ty (scalar_read cell.now.ty number)
         (Const cell.now.ty cell.now.start)) }
 {
-    let value = Expr::Const {
-        ty: cell.ty,
-        value: cell.start,
-    };
-    has_value(alloc, cell.ty, number, value)
+    let value = constant(alloc, cell.ty, cell.start)?;
+    Ok(has_value(alloc, cell.ty, number, value)?.into_inner())
 }
 
 /// Each cell has its start.

@@ -7,7 +7,7 @@ ghost use Rattle.cpa_edge_rules.specs.Drafts.{next, fresh, want, named};
 use crate::nodes::has_value;
 use cpa_edge_rules::Draft;
 use cpa_expr::{Expr, type_of};
-use cpa_ints::IntType;
+use cpa_ints::{Boxed, IntType};
 use std::alloc::{AllocError, Global};
 
 /// The number of the next cell. There are 2^32 numbers.
@@ -35,18 +35,18 @@ pub(crate) fn fresh(draft: &mut Draft, ty: IntType) -> Result<u32, AllocError>
 }
 
 /// One more wanted expression.
-pub(crate) fn want(draft: &mut Draft, e: Expr, holds: bool) -> Result<(), AllocError>
+pub(crate) fn want(draft: &mut Draft, e: Boxed<Expr>, holds: bool) -> Result<(), AllocError>
     ensures { OnOk result (draft.new ≡ want e holds draft.old) }
 {
-    draft.wanted.push((e, holds))
+    draft.wanted.push((e.into_inner(), holds))
 }
 
 /// One more cell, by its number, that has the value of the expression.
-pub(crate) fn named(alloc: Global, draft: &mut Draft, e: Expr) -> Result<u32, AllocError>
+pub(crate) fn named(alloc: Global, draft: &mut Draft, e: Boxed<Expr>) -> Result<u32, AllocError>
     ensures number { IfOk result (λ n. n ≡ next draft.old) }
     ensures named { OnOk result (draft.new ≡ named e draft.old) }
 {
-    let ty = type_of(&e);
+    let ty = type_of(e.get());
     let number = fresh(draft, ty)?;
     let same = has_value(alloc, ty, number, e)?;
     want(draft, same, true)?;

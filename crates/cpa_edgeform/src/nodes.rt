@@ -1,70 +1,29 @@
-//! Nodes of expressions, each in a box of its own.
+//! Expressions at places and values of cells, in boxes, by the nodes of `cpa_renaming`.
 //! Proved by the checker alone.
 
 ghost use Rattle.std.specs.Prelude.{◌≡◌, IfOk};
 ghost use Rattle.cpa_expr.specs.Cells.{scalar_read};
 ghost use Rattle.cpa_expr.specs.declared.tree.CmpOp.TheVariants as cmp;
-ghost use Rattle.cpa_expr.specs.declared.tree.Expr.TheVariants.{Cmp, Cast, And, Or, Not};
+ghost use Rattle.cpa_expr.specs.declared.tree.Expr.TheVariants.{Cmp};
+ghost use Rattle.cpa_renaming.specs.Renaming.{renamed};
 
 use cpa_expr::{CmpOp, Expr, read_scalar};
 use cpa_ints::{Boxed, IntType};
+use cpa_renaming::{Place, comparison, rename};
 use std::alloc::{AllocError, Global};
 
-/// Whether two values of the type compare so.
-pub(crate) fn comparison(
-    alloc: Global,
-    op: CmpOp,
-    ty: IntType,
-    left: Expr,
-    right: Expr,
-) -> Result<Expr, AllocError>
-    ensures { IfOk result (λ e. e ≡ Cmp op ty left right) }
+/// The expression at the places of its cells.
+pub(crate) fn renamed(alloc: Global, e: &Expr, places: &[Place]) -> Result<Boxed<Expr>, AllocError>
+    ensures { IfOk result (λ r. r ≡ renamed places.now e.now) }
 {
-    Ok(Expr::Cmp {
-        op,
-        ty,
-        left: Boxed::new(alloc, left)?,
-        right: Boxed::new(alloc, right)?,
-    })
+    Boxed::new(alloc, rename(alloc, e, places)?)
 }
 
-/// Whether both are nonzero.
-pub(crate) fn both(alloc: Global, left: Expr, right: Expr) -> Result<Expr, AllocError>
-    ensures { IfOk result (λ e. e ≡ And left right) }
+/// The cell's value.
+pub(crate) fn scalar(alloc: Global, ty: IntType, cell: u32) -> Result<Boxed<Expr>, AllocError>
+    ensures { IfOk result (λ e. e ≡ scalar_read ty cell) }
 {
-    Ok(Expr::And {
-        left: Boxed::new(alloc, left)?,
-        right: Boxed::new(alloc, right)?,
-    })
-}
-
-/// Whether one is nonzero.
-pub(crate) fn either(alloc: Global, left: Expr, right: Expr) -> Result<Expr, AllocError>
-    ensures { IfOk result (λ e. e ≡ Or left right) }
-{
-    Ok(Expr::Or {
-        left: Boxed::new(alloc, left)?,
-        right: Boxed::new(alloc, right)?,
-    })
-}
-
-/// Whether the expression is zero.
-pub(crate) fn negation(alloc: Global, arg: Expr) -> Result<Expr, AllocError>
-    ensures { IfOk result (λ e. e ≡ Not arg) }
-{
-    Ok(Expr::Not {
-        arg: Boxed::new(alloc, arg)?,
-    })
-}
-
-/// The expression's value converted to the type.
-pub(crate) fn cast(alloc: Global, ty: IntType, arg: Expr) -> Result<Expr, AllocError>
-    ensures { IfOk result (λ e. e ≡ Cast ty arg) }
-{
-    Ok(Expr::Cast {
-        ty,
-        arg: Boxed::new(alloc, arg)?,
-    })
+    Boxed::new(alloc, read_scalar(alloc, ty, cell)?)
 }
 
 /// Whether a cell of the type has the value of the expression.
@@ -72,10 +31,10 @@ pub(crate) fn has_value(
     alloc: Global,
     ty: IntType,
     cell: u32,
-    value: Expr,
-) -> Result<Expr, AllocError>
+    value: Boxed<Expr>,
+) -> Result<Boxed<Expr>, AllocError>
     ensures { IfOk result (λ e. e ≡ Cmp cmp.Eq ty (scalar_read ty cell) value) }
 {
-    let read = read_scalar(alloc, ty, cell)?;
+    let read = scalar(alloc, ty, cell)?;
     comparison(alloc, CmpOp::Eq, ty, read, value)
 }

@@ -9,8 +9,9 @@ ghost use Rattle.cpa_edge_rules.specs.Drafts.{placed, copied, asked_of, settled}
 ghost use Rattle.cpa_edgeform.specs.Parts.{places_or, stood, own_place};
 
 use crate::drafting::named;
+use crate::nodes::scalar;
 use cpa_edge_rules::Draft;
-use cpa_expr::{Expr, copy, read_scalar};
+use cpa_expr::{Expr, copy};
 use cpa_ints::{IntType, Seq};
 use cpa_query::{Query, read_cells};
 use cpa_renaming::{Place, is_whole};
@@ -78,7 +79,7 @@ fn copied_place(
     ensures { IfOk result (λ p. stood draft.new p ≡ own_place marked place draft.old) }
 {
     if marked {
-        let read = read_scalar(alloc, place.ty, place.number)?;
+        let read = scalar(alloc, place.ty, place.number)?;
         let number = named(alloc, draft, read)?;
         Ok(Place {
             number,

@@ -9,12 +9,12 @@ ghost use Rattle.cpa_expr.specs.declared.tree.Expr.TheVariants.{Const, Cmp, And}
 ghost use Rattle.cpa_edge_rules.specs.Tests.{type_at, fact_tests, tests_of, other_than, denied};
 ghost use Rattle.cpa_edge_rules.specs.Tests.{denials_of};
 
-use crate::nodes::{both, comparison, either, has_value, negation};
+use crate::nodes::{has_value, scalar};
 use crate::settling::push_copies;
-use cpa_expr::{CmpOp, Expr, copy, read_scalar};
-use cpa_ints::{IntType, Seq};
+use cpa_expr::{CmpOp, Expr, copy};
+use cpa_ints::{Boxed, IntType, Seq};
 use cpa_model::{Elem, Fact};
-use cpa_renaming::{Place, trap_test};
+use cpa_renaming::{Place, both, comparison, constant, copied, either, negation, trap_test};
 use std::alloc::{AllocError, Global};
 
 /// The type of a cell.
@@ -27,39 +27,35 @@ pub(crate) fn type_at(places: &[Place], cell: u32) -> IntType
     }
 }
 
-/// A number of the type.
-fn number(ty: IntType, value: &i128) -> Expr
-    ensures { result ≡ Const ty value.now }
+/// Whether the cell's value is at least this number.
+fn at_least(alloc: Global, ty: IntType, cell: u32, lo: &i128) -> Result<Boxed<Expr>, AllocError>
+    ensures { IfOk result (λ e. e ≡ Cmp cmp.Le ty (Const ty lo.now) (scalar_read ty cell)) }
 {
-    Expr::Const { ty, value: *value }
+    let least = constant(alloc, ty, *lo)?;
+    let read = scalar(alloc, ty, cell)?;
+    comparison(alloc, CmpOp::Le, ty, least, read)
 }
 
-/// Whether the cell's value is at least the expression's.
-fn at_least(alloc: Global, ty: IntType, cell: u32, lo: Expr) -> Result<Expr, AllocError>
-    ensures { IfOk result (λ e. e ≡ Cmp cmp.Le ty lo (scalar_read ty cell)) }
+/// Whether the cell's value is at most this number.
+fn at_most(alloc: Global, ty: IntType, cell: u32, hi: &i128) -> Result<Boxed<Expr>, AllocError>
+    ensures { IfOk result (λ e. e ≡ Cmp cmp.Le ty (scalar_read ty cell) (Const ty hi.now)) }
 {
-    let read = read_scalar(alloc, ty, cell)?;
-    comparison(alloc, CmpOp::Le, ty, lo, read)
+    let read = scalar(alloc, ty, cell)?;
+    let most = constant(alloc, ty, *hi)?;
+    comparison(alloc, CmpOp::Le, ty, read, most)
 }
 
-/// Whether the cell's value is at most the expression's.
-fn at_most(alloc: Global, ty: IntType, cell: u32, hi: Expr) -> Result<Expr, AllocError>
-    ensures { IfOk result (λ e. e ≡ Cmp cmp.Le ty (scalar_read ty cell) hi) }
-{
-    let read = read_scalar(alloc, ty, cell)?;
-    comparison(alloc, CmpOp::Le, ty, read, hi)
-}
-
-/// Whether the cell's value lies between those of two expressions.
+/// Whether the cell's value lies between these numbers.
 fn lies_within(
     alloc: Global,
     ty: IntType,
     cell: u32,
-    lo: Expr,
-    hi: Expr,
-) -> Result<Expr, AllocError>
-    ensures { IfOk result (λ e. e
-        ≡ And (Cmp cmp.Le ty lo (scalar_read ty cell)) (Cmp cmp.Le ty (scalar_read ty cell) hi)) }
+    lo: &i128,
+    hi: &i128,
+) -> Result<Boxed<Expr>, AllocError>
+    ensures { IfOk result (λ e. e ≡ And
+        (Cmp cmp.Le ty (Const ty lo.now) (scalar_read ty cell))
+        (Cmp cmp.Le ty (scalar_read ty cell) (Const ty hi.now))) }
 {
     let above = at_least(alloc, ty, cell, lo)?;
     let below = at_most(alloc, ty, cell, hi)?;
@@ -79,13 +75,13 @@ fn push_tests(
         Fact::At { .. } | Fact::Stack { .. } => Ok(()),
         Fact::Equals { cell, value } => {
             let ty = type_at(places, *cell);
-            let test = has_value(alloc, ty, *cell, number(ty, value))?;
-            out.push((test, true))
+            let test = has_value(alloc, ty, *cell, constant(alloc, ty, *value)?)?;
+            out.push((test.into_inner(), true))
         }
         Fact::Within { cell, lo, hi } => {
             let ty = type_at(places, *cell);
-            let test = lies_within(alloc, ty, *cell, number(ty, lo), number(ty, hi))?;
-            out.push((test, true))
+            let test = lies_within(alloc, ty, *cell, lo, hi)?;
+            out.push((test.into_inner(), true))
         }
         Fact::Truth { expr, holds } => out.push((copy(alloc, expr)?, *holds)),
     }
@@ -107,18 +103,18 @@ pub(crate) fn tests_of(
 }
 
 /// Whether the expression has the truth other than this one.
-fn other_than(alloc: Global, holds: bool, e: &Expr) -> Result<Expr, AllocError>
+fn other_than(alloc: Global, holds: bool, e: &Expr) -> Result<Boxed<Expr>, AllocError>
     ensures { IfOk result (λ r. r ≡ other_than holds e.now) }
 {
-    let e = copy(alloc, e)?;
+    let e = copied(alloc, e)?;
     if holds { negation(alloc, e) } else { Ok(e) }
 }
 
 /// Whether the expression traps or has the other truth.
-fn failure(alloc: Global, e: &Expr, holds: bool) -> Result<Expr, AllocError>
+fn failure(alloc: Global, e: &Expr, holds: bool) -> Result<Boxed<Expr>, AllocError>
     ensures { IfOk result (λ r. r ≡ (denied (e.now, holds)).0) }
 {
-    let trap = trap_test(alloc, e)?;
+    let trap = Boxed::new(alloc, trap_test(alloc, e)?)?;
     let other = other_than(alloc, holds, e)?;
     either(alloc, trap, other)
 }
@@ -129,7 +125,8 @@ fn denials(alloc: Global, tests: &[(Expr, bool)]) -> Result<Seq<(Expr, bool)>, A
 {
     let mut all = Seq::new(alloc);
     for one in tests {
-        all.push((failure(alloc, &one.0, one.1)?, true))?;
+        let failure = failure(alloc, &one.0, one.1)?;
+        all.push((failure.into_inner(), true))?;
     }
     Ok(all)
 }

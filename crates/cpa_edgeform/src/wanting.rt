@@ -10,11 +10,11 @@ ghost use Rattle.cpa_edge_rules.specs.Drafts.{next, fresh, want, want_all};
 ghost use Rattle.cpa_edge_rules.specs.Tests.{want_some, want_each};
 
 use crate::drafting::{fresh, want};
-use crate::nodes::{either, negation};
+use crate::nodes::{renamed, scalar};
 use cpa_edge_rules::Draft;
-use cpa_expr::{Expr, read_scalar};
-use cpa_ints::{IntType, Seq};
-use cpa_renaming::{Place, rename};
+use cpa_expr::Expr;
+use cpa_ints::{Boxed, IntType, Seq};
+use cpa_renaming::{Place, either, negation};
 use std::alloc::{AllocError, Global};
 
 /// The expression is wanted at the places.
@@ -27,7 +27,7 @@ fn want_renamed(
 ) -> Result<(), AllocError>
     ensures { OnOk result (draft.new ≡ want (renamed places.now e.now) holds draft.old) }
 {
-    want(draft, rename(alloc, e, places)?, holds)
+    want(draft, renamed(alloc, e, places)?, holds)
 }
 
 /// Each expression is wanted at the places.
@@ -49,22 +49,22 @@ pub(crate) fn want_all(
 fn want_truth(alloc: Global, draft: &mut Draft, cell: u32, holds: bool) -> Result<(), AllocError>
     ensures { OnOk result (draft.new ≡ want (scalar_read ty.Bool cell) holds draft.old) }
 {
-    want(draft, read_scalar(alloc, IntType::Bool, cell)?, holds)
+    want(draft, scalar(alloc, IntType::Bool, cell)?, holds)
 }
 
 /// Whether the truth in a cell is false.
-fn untrue(alloc: Global, cell: u32) -> Result<Expr, AllocError>
+fn untrue(alloc: Global, cell: u32) -> Result<Boxed<Expr>, AllocError>
     ensures { IfOk result (λ e. e ≡ Not (scalar_read ty.Bool cell)) }
 {
-    negation(alloc, read_scalar(alloc, IntType::Bool, cell)?)
+    negation(alloc, scalar(alloc, IntType::Bool, cell)?)
 }
 
 /// Whether the expression is true at the places, or the truth in a cell is.
-fn or_truth(alloc: Global, places: &[Place], e: &Expr, cell: u32) -> Result<Expr, AllocError>
+fn or_truth(alloc: Global, places: &[Place], e: &Expr, cell: u32) -> Result<Boxed<Expr>, AllocError>
     ensures { IfOk result (λ r. r ≡ Or (renamed places.now e.now) (scalar_read ty.Bool cell)) }
 {
-    let test = rename(alloc, e, places)?;
-    let truth = read_scalar(alloc, IntType::Bool, cell)?;
+    let test = renamed(alloc, e, places)?;
+    let truth = scalar(alloc, IntType::Bool, cell)?;
     either(alloc, test, truth)
 }
 

@@ -13,23 +13,30 @@ ghost use Rattle.cpa_edge_rules.specs.Drafts.{placed, place_at, block, moved, ce
 ghost use Rattle.cpa_edge_rules.specs.Drafts.{array_written, assigned};
 
 use crate::drafting::{fresh, named, next, want};
-use crate::nodes::{cast, comparison, either, has_value};
+use crate::nodes::{has_value, renamed, scalar};
 use cpa_edge_rules::Draft;
-use cpa_expr::{CmpOp, Expr, copy, read_scalar, type_of};
+use cpa_expr::{CmpOp, Expr, type_of};
 use cpa_ints::{Boxed, IntType};
-use cpa_renaming::{Place, number_at, rename};
+use cpa_renaming::{Place, cast, comparison, constant, copied, either, number_at};
 use std::alloc::{AllocError, Global};
 
 /// The cell at the index of an array.
-fn read_at(alloc: Global, ty: IntType, base: u32, len: u32, index: Expr) -> Result<Expr, AllocError>
+fn read_at(
+    alloc: Global,
+    ty: IntType,
+    base: u32,
+    len: u32,
+    index: Boxed<Expr>,
+) -> Result<Boxed<Expr>, AllocError>
     ensures { IfOk result (λ e. e ≡ Read ty base len index) }
 {
-    Ok(Expr::Read {
+    let node = Expr::Read {
         ty,
         base,
         len,
-        index: Boxed::new(alloc, index)?,
-    })
+        index,
+    };
+    Boxed::new(alloc, node)
 }
 
 /// Whether the array has the value at the index.
@@ -37,34 +44,31 @@ fn written(
     alloc: Global,
     first: u32,
     len: u32,
-    index: Expr,
-    value: Expr,
-) -> Result<Expr, AllocError>
+    index: Boxed<Expr>,
+    value: Boxed<Expr>,
+) -> Result<Boxed<Expr>, AllocError>
     ensures { IfOk result (λ e. e ≡ written first len index value) }
 {
-    let ty = type_of(&value);
+    let ty = type_of(value.get());
     let read = read_at(alloc, ty, first, len, index)?;
     comparison(alloc, CmpOp::Eq, ty, read, value)
 }
 
 /// Whether the index is this number.
-fn is_index(alloc: Global, index: &Expr, number: u32) -> Result<Expr, AllocError>
+fn is_index(alloc: Global, index: &Expr, number: u32) -> Result<Boxed<Expr>, AllocError>
     ensures { IfOk result (λ e. e
         ≡ Cmp cmp.Eq ty.I64 (Cast ty.I64 index.now) (Const ty.I64 (pos number))) }
 {
-    let index = cast(alloc, IntType::I64, copy(alloc, index)?)?;
-    let number = Expr::Const {
-        ty: IntType::I64,
-        value: number as i128,
-    };
+    let index = cast(alloc, IntType::I64, copied(alloc, index)?)?;
+    let number = constant(alloc, IntType::I64, number as i128)?;
     comparison(alloc, CmpOp::Eq, IntType::I64, index, number)
 }
 
 /// Whether a cell has the value of another one.
-fn same_value(alloc: Global, ty: IntType, new: u32, old: u32) -> Result<Expr, AllocError>
+fn same_value(alloc: Global, ty: IntType, new: u32, old: u32) -> Result<Boxed<Expr>, AllocError>
     ensures { IfOk result (λ e. e ≡ Cmp cmp.Eq ty (scalar_read ty new) (scalar_read ty old)) }
 {
-    has_value(alloc, ty, new, read_scalar(alloc, ty, old)?)
+    has_value(alloc, ty, new, scalar(alloc, ty, old)?)
 }
 
 /// Whether a cell has the value of an older one, or the index names it.
@@ -75,7 +79,7 @@ fn kept_unless(
     old: u32,
     index: &Expr,
     number: u32,
-) -> Result<Expr, AllocError>
+) -> Result<Boxed<Expr>, AllocError>
     ensures { IfOk result (λ e. e ≡ kept_unless ty new old index.now number) }
 {
     let same = same_value(alloc, ty, new, old)?;
@@ -133,14 +137,14 @@ fn block(
 fn cell_written(
     alloc: Global,
     draft: &mut Draft,
-    index: Expr,
-    value: Expr,
+    index: Boxed<Expr>,
+    value: Boxed<Expr>,
 ) -> Result<Place, AllocError>
     ensures place { IfOk result (λ p. p ≡ place_at (next draft.old) (type_of value)) }
     ensures written { OnOk result (draft.new
         ≡ want (written (next draft.old) 1 index value) true (fresh (type_of value) draft.old)) }
 {
-    let ty = type_of(&value);
+    let ty = type_of(value.get());
     let number = fresh(draft, ty)?;
     want(draft, written(alloc, number, 1, index, value)?, true)?;
     Ok(Place { number, ty })
@@ -157,13 +161,17 @@ fn has_numbers(first: u32, len: u32) -> Result<(), AllocError>
 }
 
 /// A new cell with the index's value, by a read of it.
-fn index_cell(alloc: Global, draft: &mut Draft, index: Expr) -> Result<Expr, AllocError>
+fn index_cell(
+    alloc: Global,
+    draft: &mut Draft,
+    index: Boxed<Expr>,
+) -> Result<Boxed<Expr>, AllocError>
     ensures read { IfOk result (λ e. e ≡ scalar_read (type_of index) (next draft.old)) }
     ensures named { OnOk result (draft.new ≡ named index draft.old) }
 {
-    let ty = type_of(&index);
+    let ty = type_of(index.get());
     let cell = named(alloc, draft, index)?;
-    read_scalar(alloc, ty, cell)
+    scalar(alloc, ty, cell)
 }
 
 /// The write of an array, by the new place of its first cell.
@@ -172,8 +180,8 @@ fn array_written(
     draft: &mut Draft,
     places: &[Place],
     cells: Target,
-    index: Expr,
-    value: Expr,
+    index: Boxed<Expr>,
+    value: Boxed<Expr>,
 ) -> Result<Place, AllocError>
     requires { cells.ty ≡ type_of value }
     ensures { IfOk result (λ p.
@@ -182,7 +190,7 @@ fn array_written(
 {
     let read = index_cell(alloc, draft, index)?;
     let number = next(draft)?;
-    block(alloc, draft, places, cells, &read)?;
+    block(alloc, draft, places, cells, read.get())?;
     let whole = written(alloc, number, cells.len, read, value)?;
     want(draft, whole, true)?;
     Ok(Place {
@@ -197,8 +205,8 @@ fn assigned_at(
     draft: &mut Draft,
     places: &[Place],
     cells: Target,
-    index: Expr,
-    value: Expr,
+    index: Boxed<Expr>,
+    value: Boxed<Expr>,
 ) -> Result<Place, AllocError>
     requires { cells.ty ≡ type_of value }
     ensures { IfOk result (λ p.
@@ -229,9 +237,9 @@ pub(crate) fn assigned(
         ≡ assigned base len index.now value.now (placed draft.old places.now)) }
     ensures room { IfOk result (λ p. p.number + len ≤ 2 ^ 32 - 1) }
 {
-    let index = rename(alloc, index, places)?;
-    let value = rename(alloc, value, places)?;
-    let ty = type_of(&value);
+    let index = renamed(alloc, index, places)?;
+    let value = renamed(alloc, value, places)?;
+    let ty = type_of(value.get());
     let place = assigned_at(alloc, draft, places, Target { base, len, ty }, index, value)?;
     has_numbers(place.number, len)?;
     Ok(place)

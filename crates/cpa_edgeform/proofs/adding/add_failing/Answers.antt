@@ -4,7 +4,6 @@ use Rattle.std.specs.List.{flat_map}
 use Rattle.std.proofs.lemmas.Result.{on_ok_weaker}
 use Rattle.cpa_expr.specs.declared.tree.Expr.{Expr}
 use Rattle.cpa_edge_rules.specs.Drafts.{placed}
-use Rattle.cpa_edge_rules.specs.Tests.{want_each}
 use Rattle.cpa_edge_rules.specs.Forms.{joined}
 use Rattle.cpa_edgeform.specs.Parts.{form_in, places_or}
 use Rattle.cpa_edgeform.proofs.Additions.{failing_added}
