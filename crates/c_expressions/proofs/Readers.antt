@@ -8,7 +8,6 @@ use Rattle.grammar_forms.specs.Reading.{Reads, NoneThrough}
 use Rattle.grammar_forms.specs.Found.{reads_node, reads_pair}
 use Rattle.grammar_forms.specs.NotFound.{only}
 use Rattle.grammar_forms.specs.Loops.{SoFar}
-use Rattle.c_symbols.specs.Sources.{is}
 
 -- what is made of the one reading of a part has no reading where the part has none, and the other
 -- way round

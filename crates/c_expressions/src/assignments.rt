@@ -34,11 +34,11 @@ pub(crate) fn conditional(
     if !source.is(mark, Terminal::Question) {
         return Ok((condition, mark));
     }
+    let test = Boxed::new(alloc, condition)?;
     let (chosen, colon) = inner_comma(alloc, source, mark + 1, left)?;
+    let yes = Boxed::new(alloc, chosen)?;
     let start = source.expect(colon, Terminal::Colon)?;
     let (other, end) = inner_conditional(alloc, source, start, left)?;
-    let test = Boxed::new(alloc, condition)?;
-    let yes = Boxed::new(alloc, chosen)?;
     let no = Boxed::new(alloc, other)?;
     let place = source.place(at);
     Ok((
@@ -80,8 +80,8 @@ pub(crate) fn assignment(
     let Some(operator) = operator_behind(&target, source, mark) else {
         return Ok((target, mark));
     };
-    let (value, end) = inner_assignment(alloc, source, mark + 1, left)?;
     let left_side = Boxed::new(alloc, target)?;
+    let (value, end) = inner_assignment(alloc, source, mark + 1, left)?;
     let right_side = Boxed::new(alloc, value)?;
     let place = source.place(at);
     Ok((

@@ -47,8 +47,8 @@ fn primary(
         return leaf(alloc, source, at);
     }
     let (inside, closer) = inner_comma(alloc, source, at + 1, left)?;
-    let behind = source.expect(closer, Terminal::RightParen)?;
     let inner = Boxed::new(alloc, inside)?;
+    let behind = source.expect(closer, Terminal::RightParen)?;
     let place = source.place(at);
     Ok((Expression::Bracketed { inner, place }, behind))
 }

@@ -120,10 +120,10 @@ fn group(
         return Ok((Expression::Cast { to, operand, place }, behind));
     }
     let (inside, closer) = inner_comma(alloc, source, at + 1, left)?;
-    let behind = source.expect(closer, Terminal::RightParen)?;
     let asserts = names_assert(&inside);
-    let (suffixes, end) = suffixes(alloc, source, behind, left, asserts)?;
     let inner = Boxed::new(alloc, inside)?;
+    let behind = source.expect(closer, Terminal::RightParen)?;
+    let (suffixes, end) = suffixes(alloc, source, behind, left, asserts)?;
     let base = Expression::Bracketed { inner, place };
     let whole = suffixed(alloc, place, base, suffixes)?;
     Ok((whole, end))

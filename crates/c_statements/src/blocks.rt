@@ -15,7 +15,7 @@ use crate::loops::{do_statement, for_statement, if_statement, while_statement};
 use c_declarations::{begins_declaration, declaration, no_level};
 use c_symbols::{Source, Terminal};
 use c_tree::{BlockItem, Statement};
-use cpa_ints::Seq;
+use cpa_ints::{Boxed, Seq};
 use grammar_forms::ReadError;
 use std::alloc::Global;
 
@@ -78,7 +78,7 @@ fn statement(
 
 /// The statement that begins here, one level deeper.
 #[cycle(statement)]
-pub(crate) fn inner_statement(
+fn inner_statement(
     alloc: Global,
     source: &Source,
     at: usize,
@@ -92,6 +92,23 @@ pub(crate) fn inner_statement(
         return Err(no_level(begins_statement(source, at), at));
     }
     statement(alloc, source, at, left - 1)
+}
+
+/// The same in a box, as a part of another statement.
+#[cycle(statement)]
+pub(crate) fn boxed_statement(
+    alloc: Global,
+    source: &Source,
+    at: usize,
+    left: u32,
+) -> Result<(Boxed<Statement>, usize), ReadError>
+    requires within { at < length source.now }
+    requires room { HasRoomBelow left at }
+    ensures { Gives deeper_statement source.now left at result }
+{
+    let (inner, behind) = inner_statement(alloc, source, at, left)?;
+    let whole = Boxed::new(alloc, inner)?;
+    Ok((whole, behind))
 }
 
 /// What begins here in a block: a declaration or a statement.

@@ -6,12 +6,11 @@ ghost use Rattle.c_symbols.specs.Sources.{leaf_at, is, GoesOn};
 ghost use Rattle.c_tree.specs.Reading.{Gives, HasRoom};
 ghost use Rattle.c_statements.specs.Forms.{behind_comma, expression_statement};
 
-use crate::blocks::inner_statement;
+use crate::blocks::boxed_statement;
 use crate::parts::bare_name;
 use c_expressions::comma;
 use c_symbols::{Source, Terminal};
 use c_tree::{Expression, Statement};
-use cpa_ints::Boxed;
 use grammar_forms::ReadError;
 use std::alloc::Global;
 
@@ -33,8 +32,7 @@ fn labeled(
 {
     match bare_name(made) {
         Some(label) => {
-            let (inner, behind) = inner_statement(alloc, source, at + 1, left)?;
-            let body = Boxed::new(alloc, inner)?;
+            let (body, behind) = boxed_statement(alloc, source, at + 1, left)?;
             Ok((Statement::Labeled { label, body }, behind))
         }
         None => Err(ReadError::Unexpected { at }),

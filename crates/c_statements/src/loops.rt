@@ -6,7 +6,7 @@ ghost use Rattle.c_symbols.specs.Sources.{GoesOn};
 ghost use Rattle.c_tree.specs.Reading.{Gives, HasRoom, HasRoomBelow};
 ghost use Rattle.c_statements.specs.Forms.{optional_else, branches, statement_with};
 
-use crate::blocks::inner_statement;
+use crate::blocks::boxed_statement;
 use crate::parts::{condition, for_head};
 use c_symbols::{Source, Terminal};
 use c_tree::Statement;
@@ -29,8 +29,7 @@ fn optional_else(
     if !source.is(at, Terminal::Else) {
         return Ok((None, at));
     }
-    let (inner, behind) = inner_statement(alloc, source, at + 1, left)?;
-    let other = Boxed::new(alloc, inner)?;
+    let (other, behind) = boxed_statement(alloc, source, at + 1, left)?;
     Ok((Some(other), behind))
 }
 
@@ -46,8 +45,7 @@ fn branches(
     requires room { HasRoomBelow left at }
     ensures { Gives branches source.now left at result }
 {
-    let (inner, mark) = inner_statement(alloc, source, at, left)?;
-    let yes = Boxed::new(alloc, inner)?;
+    let (yes, mark) = boxed_statement(alloc, source, at, left)?;
     let (no, behind) = optional_else(alloc, source, mark, left)?;
     Ok(((yes, no), behind))
 }
@@ -89,8 +87,7 @@ pub(crate) fn while_statement(
     ensures { Gives (statement_with While) source.now left at result }
 {
     let (test, start) = condition(alloc, source, at + 1, left)?;
-    let (inner, behind) = inner_statement(alloc, source, start, left)?;
-    let body = Boxed::new(alloc, inner)?;
+    let (body, behind) = boxed_statement(alloc, source, start, left)?;
     let place = source.place(at);
     Ok((Statement::While { test, body, place }, behind))
 }
@@ -107,11 +104,10 @@ pub(crate) fn do_statement(
     requires room { HasRoom left at }
     ensures { Gives (statement_with Do) source.now left at result }
 {
-    let (inner, word) = inner_statement(alloc, source, at + 1, left)?;
+    let (body, word) = boxed_statement(alloc, source, at + 1, left)?;
     let start = source.expect(word, Terminal::While)?;
     let (test, mark) = condition(alloc, source, start, left)?;
     let behind = source.expect(mark, Terminal::Semicolon)?;
-    let body = Boxed::new(alloc, inner)?;
     let place = source.place(at);
     Ok((Statement::Do { body, test, place }, behind))
 }
@@ -128,10 +124,10 @@ pub(crate) fn for_statement(
     requires room { HasRoom left at }
     ensures { Gives (statement_with For) source.now left at result }
 {
-    let ((start, (test, step)), closed) = for_head(alloc, source, at + 1, left)?;
-    let (inner, behind) = inner_statement(alloc, source, closed, left)?;
-    let body = Boxed::new(alloc, inner)?;
+    let (head, closed) = for_head(alloc, source, at + 1, left)?;
+    let (body, behind) = boxed_statement(alloc, source, closed, left)?;
     let place = source.place(at);
+    let (start, (test, step)) = head.into_inner();
     let statement = Statement::For {
         start,
         test,

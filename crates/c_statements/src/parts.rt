@@ -11,6 +11,7 @@ use c_declarations::{begins_declaration, inner_declaration};
 use c_expressions::inner_comma;
 use c_symbols::{Source, Terminal};
 use c_tree::{Expression, ForStart, Name};
+use cpa_ints::Boxed;
 use grammar_forms::ReadError;
 use std::alloc::Global;
 
@@ -112,13 +113,17 @@ fn test_and_step(
     Ok(((test, step), behind))
 }
 
-/// What stands in the brackets of a `for` with its brackets: its first part, its test and its step.
+/// The parts of a `for` that its brackets hold: the first one, the test and the step.
+pub(crate) type ForHead = (ForStart, (Option<Expression>, Option<Expression>));
+
+/// What stands in the brackets of a `for`, with its brackets. It comes in a box, which is given
+/// back by one call where the body behind it cannot be read.
 pub(crate) fn for_head(
     alloc: Global,
     source: &Source,
     at: usize,
     left: u32,
-) -> Result<((ForStart, (Option<Expression>, Option<Expression>)), usize), ReadError>
+) -> Result<(Boxed<ForHead>, usize), ReadError>
     requires within { at < length source.now }
     requires room { HasRoom left at }
     ensures { Gives for_head source.now left at result }
@@ -126,5 +131,6 @@ pub(crate) fn for_head(
     let opened = source.expect(at, Terminal::LeftParen)?;
     let (start, next) = for_start(alloc, source, opened, left)?;
     let (ends, behind) = test_and_step(alloc, source, next, left)?;
-    Ok(((start, ends), behind))
+    let head = Boxed::new(alloc, (start, ends))?;
+    Ok((head, behind))
 }

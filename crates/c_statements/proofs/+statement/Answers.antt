@@ -1,6 +1,6 @@
 -- Each statement from its parts.
-use Rattle.std.proofs.Common.{◌-◌, length, sym, ◌∙◌, ap, arith, refl, not}
-use Rattle.grammar_forms.specs.Forms.{Skip, Before, Pair, Deeper, Choice}
+use Rattle.std.proofs.Common.{length, sym, ◌∙◌, ap, arith, refl, not}
+use Rattle.grammar_forms.specs.Forms.{Skip, Before, Deeper, Choice}
 use Rattle.grammar_forms.specs.Found.{reads_node, reads_skip, reads_pair, reads_choice}
 use Rattle.grammar_forms.specs.Found.{reads_nearest, reads_nearest_no}
 use Rattle.grammar_forms.specs.NotFound.{none_node, none_skip, none_first, none_second, none_before}
@@ -20,7 +20,7 @@ use Rattle.c_tree.specs.Statements.{item_by, item}
 use Rattle.c_tree.specs.Terminals.{reads_closed, at_lack}
 use Rattle.c_declarations.specs.Readers.{reads_then_onto, none_then_onto}
 use Rattle.c_statements.specs.declared.kinds.StatementKind.TheVariants as kind
-use Rattle.c_statements.specs.Forms.{optional_else, branches, begun, block_items}
+use Rattle.c_statements.specs.Forms.{optional_else, branches, begun}
 use Rattle.c_statements.proofs.Steadies.{steady_comma, steady_condition, steady_head, steady_inner}
 use Rattle.c_statements.proofs.Steadies.{steady_closed, steady_item, steady_items}
 use Rattle.c_statements.proofs.Arms.{begun_is}
@@ -54,6 +54,13 @@ blocks::inner_item-returns t c =
     answers_deeper MAX_LEVEL (leaf_at c.args.source.now)
     (length c.args.source.now) c.args.at item_above
     (omega (arith, c.if-left-eq0.false)) c.item.result c.item.ensures
+
+pub blocks::boxed_statement-returns-in_err-inner : goal.blocks::boxed_statement-returns-in_err-inner
+blocks::boxed_statement-returns-in_err-inner t c =
+    at_exit MAX_LEVEL _ _ c.from_residual.ensures.1 c.in_err-inner.ensures (λ i g. g)
+
+pub blocks::boxed_statement-returns : goal.blocks::boxed_statement-returns
+blocks::boxed_statement-returns t c = rw c.in_ok-whole.ensures c.in_ok-inner.ensures
 
 pub blocks::item-returns-in_err-declaration : goal.blocks::item-returns-in_err-declaration
 unfolding item item_by
@@ -135,29 +142,27 @@ loops::optional_else-returns-then-not-is t c =
     reads_nearest_no (λ n. Skip (Deeper ((grammar n).statement))) (is terminal.Else)
     (sym c.if-not-is.ensures.value) c.requires.within
 
-pub loops::optional_else-returns-in_err-inner : goal.loops::optional_else-returns-in_err-inner
-loops::optional_else-returns-in_err-inner t c =
-    at_exit MAX_LEVEL _ _ c.from_residual.ensures.1 c.in_err-inner.ensures
+pub loops::optional_else-returns-in_err-other : goal.loops::optional_else-returns-in_err-other
+loops::optional_else-returns-in_err-other t c =
+    at_exit MAX_LEVEL _ _ c.from_residual.ensures.1 c.in_err-other.ensures
     (λ i g. none_nearest (is terminal.Else) (sym c.if-not-is.ensures.value) (none_skip g))
 
 pub loops::optional_else-returns : goal.loops::optional_else-returns
-loops::optional_else-returns t c = rw c.in_ok-other.ensures
-    (reads_nearest (is terminal.Else) (sym c.if-not-is.ensures.value)
-    (reads_skip c.in_ok-inner.ensures))
+loops::optional_else-returns t c = reads_nearest (is terminal.Else)
+    (sym c.if-not-is.ensures.value) (reads_skip c.in_ok-other.ensures)
 
-pub loops::branches-returns-in_err-inner : goal.loops::branches-returns-in_err-inner
-loops::branches-returns-in_err-inner t c =
-    at_exit MAX_LEVEL _ _ c.from_residual.ensures.1 c.in_err-inner.ensures
+pub loops::branches-returns-in_err-yes : goal.loops::branches-returns-in_err-yes
+loops::branches-returns-in_err-yes t c =
+    at_exit MAX_LEVEL _ _ c.from_residual.ensures.1 c.in_err-yes.ensures
     (λ i g. none_first (λ n. optional_else (grammar n)) g)
 
 pub loops::branches-returns-in_err-no : goal.loops::branches-returns-in_err-no
 loops::branches-returns-in_err-no t c =
     at_exit MAX_LEVEL _ _ c.from_residual-in_err-no.ensures.1 c.in_err-no.ensures
-    (λ i g. none_second steady_inner c.in_ok-inner.ensures g)
+    (λ i g. none_second steady_inner c.in_ok-yes.ensures g)
 
 pub loops::branches-returns : goal.loops::branches-returns
-loops::branches-returns t c =
-    rw c.in_ok-yes.ensures (reads_pair c.in_ok-inner.ensures c.in_ok-no.ensures)
+loops::branches-returns t c = reads_pair c.in_ok-yes.ensures c.in_ok-no.ensures
 
 pub loops::if_statement-returns-in_err-test : goal.loops::if_statement-returns-in_err-test
 unfolding statement_at
@@ -182,21 +187,21 @@ loops::while_statement-returns-in_err-test t c =
     at_exit MAX_LEVEL _ _ c.from_residual.ensures.1 c.in_err-test.ensures
     (λ i g. none_node _ (none_skip (none_first (λ n. Deeper ((grammar n).statement)) g)))
 
-pub loops::while_statement-returns-in_err-inner : goal.loops::while_statement-returns-in_err-inner
+pub loops::while_statement-returns-in_err-body : goal.loops::while_statement-returns-in_err-body
 unfolding statement_at
-loops::while_statement-returns-in_err-inner t c =
-    at_exit MAX_LEVEL _ _ c.from_residual-in_err-inner.ensures.1 c.in_err-inner.ensures
+loops::while_statement-returns-in_err-body t c =
+    at_exit MAX_LEVEL _ _ c.from_residual-in_err-body.ensures.1 c.in_err-body.ensures
     (λ i g. none_node _ (none_skip (none_second steady_condition c.in_ok-test.ensures g)))
 
 pub loops::while_statement-returns : goal.loops::while_statement-returns
 unfolding statement_at
-loops::while_statement-returns t c = rw (c.in_ok-body.ensures, c.place-place.ensures)
-    (reads_node _ refl (reads_skip (reads_pair c.in_ok-test.ensures c.in_ok-inner.ensures)))
+loops::while_statement-returns t c = rw c.place-place.ensures
+    (reads_node _ refl (reads_skip (reads_pair c.in_ok-test.ensures c.in_ok-body.ensures)))
 
-pub loops::do_statement-returns-in_err-inner : goal.loops::do_statement-returns-in_err-inner
+pub loops::do_statement-returns-in_err-body : goal.loops::do_statement-returns-in_err-body
 unfolding statement_at
-loops::do_statement-returns-in_err-inner t c =
-    at_exit MAX_LEVEL _ _ c.from_residual.ensures.1 c.in_err-inner.ensures
+loops::do_statement-returns-in_err-body t c =
+    at_exit MAX_LEVEL _ _ c.from_residual.ensures.1 c.in_err-body.ensures
     (λ i g. none_node _ (none_skip (none_first (λ n. Before (condition (grammar n))
     (is terminal.Semicolon)) (none_before (is terminal.While) g))))
 
@@ -206,14 +211,14 @@ loops::do_statement-returns-in_err-start t c =
     at_lack MAX_LEVEL _ _ c.from_residual-in_err-start.ensures.1 c.in_err-start.ensures
     (λ fails. none_node _ (none_skip (none_first (λ n. Before (condition (grammar n))
     (is terminal.Semicolon))
-    (none_before_here (is terminal.While) steady_inner c.in_ok-inner.ensures fails))))
+    (none_before_here (is terminal.While) steady_inner c.in_ok-body.ensures fails))))
 
 pub loops::do_statement-returns-in_err-test : goal.loops::do_statement-returns-in_err-test
 unfolding statement_at
 loops::do_statement-returns-in_err-test t c =
     at_exit MAX_LEVEL _ _ c.from_residual-in_err-test.ensures.1 c.in_err-test.ensures
     (λ i g. none_node _ (none_skip (none_second (steady_closed terminal.While)
-    (reads_closed c.in_ok-inner.ensures c.in_ok-start.ensures)
+    (reads_closed c.in_ok-body.ensures c.in_ok-start.ensures)
     (none_before (is terminal.Semicolon) g))))
 
 pub loops::do_statement-returns-in_err-behind : goal.loops::do_statement-returns-in_err-behind
@@ -221,43 +226,43 @@ unfolding statement_at
 loops::do_statement-returns-in_err-behind t c =
     at_lack MAX_LEVEL _ _ c.from_residual-in_err-behind.ensures.1 c.in_err-behind.ensures
     (λ fails. none_node _ (none_skip (none_second (steady_closed terminal.While)
-    (reads_closed c.in_ok-inner.ensures c.in_ok-start.ensures)
+    (reads_closed c.in_ok-body.ensures c.in_ok-start.ensures)
     (none_before_here (is terminal.Semicolon) steady_condition c.in_ok-test.ensures fails))))
 
 pub loops::do_statement-returns : goal.loops::do_statement-returns
 unfolding statement_at
-loops::do_statement-returns t c = rw (c.in_ok-body.ensures, c.place-place.ensures)
+loops::do_statement-returns t c = rw c.place-place.ensures
     (reads_node _ refl
-    (reads_skip (reads_pair (reads_closed c.in_ok-inner.ensures c.in_ok-start.ensures)
+    (reads_skip (reads_pair (reads_closed c.in_ok-body.ensures c.in_ok-start.ensures)
     (reads_closed c.in_ok-test.ensures c.in_ok-behind.ensures))))
 
-pub loops::for_statement-returns-in_err-start : goal.loops::for_statement-returns-in_err-start
+pub loops::for_statement-returns-in_err-head : goal.loops::for_statement-returns-in_err-head
 unfolding statement_at
-loops::for_statement-returns-in_err-start t c =
-    at_exit MAX_LEVEL _ _ c.from_residual.ensures.1 c.in_err-start.ensures
+loops::for_statement-returns-in_err-head t c =
+    at_exit MAX_LEVEL _ _ c.from_residual.ensures.1 c.in_err-head.ensures
     (λ i g. none_node _ (none_skip (none_head (λ n. Deeper ((grammar n).statement)) g)))
 
-pub loops::for_statement-returns-in_err-inner : goal.loops::for_statement-returns-in_err-inner
+pub loops::for_statement-returns-in_err-body : goal.loops::for_statement-returns-in_err-body
 unfolding statement_at
-loops::for_statement-returns-in_err-inner t c =
-    at_exit MAX_LEVEL _ _ c.from_residual-in_err-inner.ensures.1 c.in_err-inner.ensures
-    (λ i g. none_node _ (none_skip (none_body steady_head c.in_ok-start.ensures g)))
+loops::for_statement-returns-in_err-body t c =
+    at_exit MAX_LEVEL _ _ c.from_residual-in_err-body.ensures.1 c.in_err-body.ensures
+    (λ i g. none_node _ (none_skip (none_body steady_head c.in_ok-head.ensures g)))
 
 pub loops::for_statement-returns : goal.loops::for_statement-returns
 unfolding statement_at
-loops::for_statement-returns t c = rw (c.in_ok-body.ensures, c.place-place.ensures)
-    (reads_node _ refl (reads_skip (reads_head c.in_ok-start.ensures c.in_ok-inner.ensures)))
+loops::for_statement-returns t c = rw (c.place-place.ensures, c.into_inner-start.ensures)
+    (reads_node _ refl (reads_skip (reads_head c.in_ok-head.ensures c.in_ok-body.ensures)))
 
-pub labels::labeled-returns-in_err-inner-in-Some : goal.labels::labeled-returns-in_err-inner-in-Some
-labels::labeled-returns-in_err-inner-in-Some t c =
-    at_exit MAX_LEVEL _ _ c.from_residual.ensures.1 c.in_err-inner-in-Some.ensures
+pub labels::labeled-returns-in_err-body-in-Some : goal.labels::labeled-returns-in_err-body-in-Some
+labels::labeled-returns-in_err-body-in-Some t c =
+    at_exit MAX_LEVEL _ _ c.from_residual.ensures.1 c.in_err-body-in-Some.ensures
     (λ i g. none_label _ _ _ c.args.place c.args.made c.in-Some.label (sym c.bare_name.ensures ∙
     c.in-Some.is) c.requires.colon g)
 
 pub labels::labeled-returns-in_ok-body-in-Some : goal.labels::labeled-returns-in_ok-body-in-Some
-labels::labeled-returns-in_ok-body-in-Some t c = rw c.in_ok-body-in-Some.ensures
+labels::labeled-returns-in_ok-body-in-Some t c =
     (reads_label _ _ _ c.args.place c.args.made c.in-Some.label (sym c.bare_name.ensures ∙
-    c.in-Some.is) c.requires.colon c.in_ok-inner-in-Some.ensures)
+    c.in-Some.is) c.requires.colon c.in_ok-body-in-Some.ensures)
 
 pub labels::labeled-returns-in-None : goal.labels::labeled-returns-in-None
 labels::labeled-returns-in-None t c =

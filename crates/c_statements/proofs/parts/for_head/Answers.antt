@@ -32,5 +32,5 @@ returns-in_err-ends c =
     (λ i g. none_opened c.in_ok-opened.ensures (none_second steady_start c.in_ok-start.ensures g))
 
 pub returns : goal.returns
-returns c =
-    reads_opened c.in_ok-opened.ensures (reads_pair c.in_ok-start.ensures c.in_ok-ends.ensures)
+returns c = rw c.in_ok-head.ensures
+    (reads_opened c.in_ok-opened.ensures (reads_pair c.in_ok-start.ensures c.in_ok-ends.ensures))
