@@ -15,7 +15,6 @@ use Rattle.cpa_top.specs.declared.refusal.Refusal.TheVariants as refusal
 use Rattle.cpa_top.specs.declared.role.Role.{Role}
 use Rattle.cpa_top.specs.declared.role.Role.TheVariants as role
 use Rattle.cpa_top.specs.declared.status.Status.{Status}
-use Rattle.cpa_top.specs.declared.status.Status.TheVariants as status
 use Rattle.cpa_top.specs.declared.report.Report.{Report}
 use Rattle.cpa_top.specs.Answers.{IsOneExact, Passes, Concludes}
 use Rattle.cpa_top.specs.Answers.{IsSafeText, IsUnbuiltText, IsReplayed, IsSafeReport}

@@ -1,7 +1,7 @@
 -- The chain of truths that says that some of some tests is true.
 use Rattle.std.proofs.Common.{◌≡◌, ℕ, ◌+◌, ◌≤◌, ℤ, pos, Bool, true, false, not, List, [], ◌∷◌}
-use Rattle.std.proofs.Common.{◌++◌, length, Option, None, Some, slice_get, refl, sym, ap, ◌∙◌, subst}
-use Rattle.std.proofs.Common.{arith, ◌⊎◌, inl, inr}
+use Rattle.std.proofs.Common.{◌++◌, length, Option, None, Some, slice_get, refl, sym, ap, ◌∙◌}
+use Rattle.std.proofs.Common.{subst, arith, ◌⊎◌, inl, inr}
 use Rattle.std.specs.Prelude.{IsSomeAnd}
 use Rattle.std.specs.List.{AllByRecursion}
 use Rattle.std.proofs.Math.Nat.{max-le}
@@ -28,18 +28,15 @@ use Rattle.cpa_edge_rules.specs.Drafts.{next, behind, fresh, want}
 use Rattle.cpa_edge_rules.specs.Tests.{some_from, want_some, want_each}
 use Rattle.cpa_edge_rules.specs.lemmas.Heights.{inner_height}
 use Rattle.cpa_edge_rules.specs.lemmas.Lists.{Front, front_itself, front_of_front}
-use Rattle.cpa_edge_rules.specs.lemmas.Models.{Fine, all_cells, model_long, fine_want, want_back}
-use Rattle.cpa_edge_rules.specs.lemmas.Models.{want_forth, fine_fresh, fresh_back, fresh_forth}
-use Rattle.cpa_edge_rules.specs.lemmas.Models.{fresh_value, fresh_type, cells_more, scalar_fits}
+use Rattle.cpa_edge_rules.specs.lemmas.Models.{IsYes, Fine, all_cells, model_long, fine_want}
+use Rattle.cpa_edge_rules.specs.lemmas.Models.{want_back, want_forth, fine_fresh, fresh_back}
+use Rattle.cpa_edge_rules.specs.lemmas.Models.{fresh_forth, fresh_value, fresh_type, cells_more}
+use Rattle.cpa_edge_rules.specs.lemmas.Models.{scalar_fits}
 use Rattle.cpa_edge_rules.specs.lemmas.Copies.{Stand, stand_front, get_in_front, types_at}
 use Rattle.cpa_edge_rules.specs.lemmas.Copies.{same_front, shows_same, shows_types}
 use Rattle.cpa_edge_rules.specs.lemmas.Wants.{Reads, reads_fit, fit_asked}
 
 -- ---- the values of a truth and of a link of the chain
-
--- a value that counts as true
-abbrev IsYes : Option ℤ → Type 0
-IsYes o = IsSomeAnd o (λ v. is_nonzero v ≡ true)
 
 link_back : (s : ℤ) (c : Bool) (w : ℤ) → is_nonzero s ≡ true
     → IsYes (logical_or (logical_not (Some s)) (logical_or (Some (as_number c)) (Some w)))

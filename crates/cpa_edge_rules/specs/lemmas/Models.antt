@@ -29,6 +29,10 @@ use Rattle.cpa_edge_rules.specs.Drafts.{next, behind, fresh, want, named}
 use Rattle.cpa_edge_rules.specs.lemmas.Heights.{inner_height}
 use Rattle.cpa_edge_rules.specs.lemmas.Lists.{all_parts, all_both, zip_last, zip_more, last_item}
 
+-- a value that counts as true
+abbrev pub IsYes : Option ℤ → Type 0
+IsYes o = IsSomeAnd o (λ v. is_nonzero v ≡ true)
+
 abbrev pub Wanted : List ℤ → Expr × Bool → Type 0
 Wanted values one = HasTruth values one.0 one.1
 

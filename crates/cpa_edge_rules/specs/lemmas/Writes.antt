@@ -2,7 +2,7 @@
 use Rattle.std.proofs.Common.{◌≡◌, ℕ, ◌+◌, ◌<◌, ◌^◌, nat_lt, ℤ, pos, negsuc, Bool, true, false}
 use Rattle.std.proofs.Common.{List, Option, None, Some, slice_get, option_and_then, option_map}
 use Rattle.std.proofs.Common.{refl, sym, ap, ◌∙◌, subst, arith, ◌⊎◌, inl, inr}
-use Rattle.std.specs.Prelude.{IsSomeAnd, if◌then◌else◌}
+use Rattle.std.specs.Prelude.{if◌then◌else◌}
 use Rattle.std.proofs.lemmas.Int.{ints}
 use Rattle.std.proofs.lemmas.Bool.Decides.{nat_tests}
 use Rattle.cpa_ints.specs.declared.integers.IntType.{IntType}
@@ -19,7 +19,7 @@ use Rattle.cpa_expr.specs.Cells.{scalar_read}
 use Rattle.cpa_expr.specs.Laws.{value_at_variants, a_scalar_is_its_cell}
 use Rattle.cpa_query.specs.Queries.{HasTruth}
 use Rattle.cpa_edge_rules.specs.Drafts.{kept_unless}
-use Rattle.cpa_edge_rules.specs.lemmas.Models.{equal_back, equal_forth}
+use Rattle.cpa_edge_rules.specs.lemmas.Models.{IsYes, equal_back, equal_forth}
 
 -- ---- a read of an array
 
@@ -62,9 +62,6 @@ stays k h = wrapped_of_range ty.I64 (pos k) (omega (arith, ints), omega (arith, 
 
 abbrev named_here : Expr → ℕ → Expr
 named_here index i = Cmp cmp.Eq ty.I64 (Cast ty.I64 index) (Const ty.I64 (pos i))
-
-abbrev IsYes : Option ℤ → Type 0
-IsYes o = IsSomeAnd o (λ v. is_nonzero v ≡ true)
 
 -- one of two is true
 or_back : (a b : Expr) (values : List ℤ) → HasTruth values (Or a b) true
