@@ -271,20 +271,25 @@ fn push_adjust<A: Analysis>(
             if !is_elem(elem, cfa) || !have_place(reached.as_slice(), cfa) {
                 return Err(RowFault::Unreadable);
             }
-            let after = plain.adjust(alloc, cfa, elem, precision, reached.as_slice(), 0)?;
-            push_adjusted(&mut out.plain, &after.0, &after.1)?;
-            let after = boxed.adjust(alloc, cfa, elem, precision, reached.as_slice(), 0)?;
-            push_adjusted(&mut out.boxed, &after.0, &after.1)
+            let reached = reached.as_slice();
+            push_adjusted(
+                &mut out.plain,
+                &plain.adjust(alloc, cfa, elem, precision, reached, 0)?,
+            )?;
+            push_adjusted(
+                &mut out.boxed,
+                &boxed.adjust(alloc, cfa, elem, precision, reached, 0)?,
+            )
         }
         [] => Err(RowFault::Unreadable),
     }
 }
 
 /// `ELEMENT, PRECISION`.
-fn push_adjusted(out: &mut String, elem: &Elem, precision: &Precision) -> Result<(), RowFault> {
-    elem.spell(out)?;
+fn push_adjusted(out: &mut String, after: &(Elem, Precision)) -> Result<(), RowFault> {
+    after.0.spell(out)?;
     out.push_str(", ")?;
-    push_precision(out, precision)
+    push_precision(out, &after.1)
 }
 
 /// `refine`: the precision after a path that has no run.

@@ -24,10 +24,16 @@ fn main(rt: HostRuntime) -> io::Result<()> {
         value: Box::new(alloc, Value::new())?,
     };
     let mut setting = Setting::new(alloc);
-    let mut out = BufWriter::new(alloc, io::writer(&rt))?;
+    answer_all(&rt, &mut boxes, &mut setting)
+}
+
+/// Answers row by row.
+fn answer_all(rt: &HostRuntime, boxes: &mut Boxes, setting: &mut Setting) -> io::Result<()> {
+    let alloc = rt.alloc();
+    let mut out = BufWriter::new(alloc, io::writer(rt))?;
     for line in BufReader::new(alloc, rt.reader())?.lines(alloc) {
         let line = line?;
-        let printed = rows::answered(alloc, &mut boxes, &mut setting, line.as_str())?;
+        let printed = rows::answered(alloc, boxes, setting, line.as_str())?;
         writeln!(out, "{printed}")?;
     }
     out.flush()
