@@ -25,12 +25,17 @@ use std::io::{self, BufRead, BufReader, BufWriter, Write};
 
 /// What the rows set lives from the first row to the last.
 fn main(rt: HostRuntime) -> io::Result<()> {
+    let mut setting = Setting::new(rt.alloc());
+    answer_all(&rt, &mut setting)
+}
+
+/// Answers row by row.
+fn answer_all(rt: &HostRuntime, setting: &mut Setting) -> io::Result<()> {
     let alloc = rt.alloc();
-    let mut setting = Setting::new(alloc);
-    let mut out = BufWriter::new(alloc, io::writer(&rt))?;
+    let mut out = BufWriter::new(alloc, io::writer(rt))?;
     for line in BufReader::new(alloc, rt.reader())?.lines(alloc) {
         let line = line?;
-        let printed = answered(alloc, &mut setting, line.as_str())?;
+        let printed = answered(alloc, setting, line.as_str())?;
         writeln!(out, "{printed}")?;
     }
     out.flush()

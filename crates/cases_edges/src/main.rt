@@ -12,12 +12,17 @@ use std::io::{self, BufRead, BufReader, BufWriter, Write};
 
 /// The program that the rows set lives from the first row to the last.
 fn main(rt: HostRuntime) -> io::Result<()> {
+    let mut table = Table::new(rt.alloc());
+    answer_all(&rt, &mut table)
+}
+
+/// Answers row by row.
+fn answer_all(rt: &HostRuntime, table: &mut Table) -> io::Result<()> {
     let alloc = rt.alloc();
-    let mut table = Table::new(alloc);
-    let mut out = BufWriter::new(alloc, io::writer(&rt))?;
+    let mut out = BufWriter::new(alloc, io::writer(rt))?;
     for line in BufReader::new(alloc, rt.reader())?.lines(alloc) {
         let line = line?;
-        let printed = rows::answered(alloc, &mut table, line.as_str())?;
+        let printed = rows::answered(alloc, table, line.as_str())?;
         writeln!(out, "{printed}")?;
     }
     out.flush()

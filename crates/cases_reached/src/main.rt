@@ -14,10 +14,16 @@ use std::io::{self, BufRead, BufReader, BufWriter, Write};
 fn main(rt: HostRuntime) -> io::Result<()> {
     let alloc = rt.alloc();
     let mut reached = Reached::new(alloc, Vec::new(alloc), Vec::new(alloc))?;
-    let mut out = BufWriter::new(alloc, io::writer(&rt))?;
+    answer_all(&rt, &mut reached)
+}
+
+/// Answers row by row.
+fn answer_all(rt: &HostRuntime, reached: &mut Reached) -> io::Result<()> {
+    let alloc = rt.alloc();
+    let mut out = BufWriter::new(alloc, io::writer(rt))?;
     for line in BufReader::new(alloc, rt.reader())?.lines(alloc) {
         let line = line?;
-        let printed = rows::answered(alloc, &mut reached, line.as_str())?;
+        let printed = rows::answered(alloc, reached, line.as_str())?;
         writeln!(out, "{printed}")?;
     }
     out.flush()
