@@ -5,7 +5,7 @@ ghost use Rattle.c_core_rules.specs.Programs.{IsCore};
 
 use c_core_numbers::numbered_bodies;
 use c_core_trees::text_trees;
-use c_rules::TypedUnit;
+use c_types_rules::TypedUnit;
 use cpa_model::Program;
 use std::alloc::{AllocError, Global};
 

@@ -1,12 +1,12 @@
 -- Calls, by what is called.
 use Rattle.std.proofs.Common.{◌≡◌, ◌<◌, ◌≤◌, List, [], ◌∷◌, ◌++◌, map, length, get_or, refl, ap}
 use Rattle.std.proofs.Common.{None, Some, if◌then◌else◌, sym, arith}
-use Rattle.c_rules.specs.declared.known.KnownFunction.{KnownFunction}
-use Rattle.c_rules.specs.declared.known.KnownFunction.TheVariants as known
-use Rattle.c_rules.specs.declared.meaning.Function.{Function}
-use Rattle.c_rules.specs.declared.meaning.Meaning.TheVariants as meaning
-use Rattle.c_rules.specs.declared.meaning.Object.{Object}
-use Rattle.c_rules.specs.declared.typed.TypedExpression.{TypedExpression}
+use Rattle.c_types_rules.specs.declared.known.KnownFunction.{KnownFunction}
+use Rattle.c_types_rules.specs.declared.known.KnownFunction.TheVariants as known
+use Rattle.c_types_rules.specs.declared.meaning.Function.{Function}
+use Rattle.c_types_rules.specs.declared.meaning.Meaning.TheVariants as meaning
+use Rattle.c_types_rules.specs.declared.meaning.Object.{Object}
+use Rattle.c_types_rules.specs.declared.typed.TypedExpression.{TypedExpression}
 use Rattle.c_core_rules.specs.declared.tree.Head.TheVariants as head
 use Rattle.c_core_rules.specs.declared.tree.Valued.{Valued}
 use Rattle.c_core_rules.specs.Values.{int}

@@ -1,7 +1,7 @@
 -- The cells of the function of a number.
 use Rattle.std.proofs.Common.{◌≡◌, ℕ, zero, suc, List, [], ◌∷◌, ◌<◌, ◌≤◌, length, get_or, refl, ap}
 use Rattle.std.proofs.Common.{arith}
-use Rattle.c_rules.specs.declared.typed.TypedFunction.{TypedFunction}
+use Rattle.c_types_rules.specs.declared.typed.TypedFunction.{TypedFunction}
 use Rattle.c_core_rules.specs.Expressions.{frame_of, frame_at, no_frame}
 use Rattle.c_core_rules.specs.Programs.{frames_of}
 use Rattle.c_core_expressions.specs.Rows.{first_at}

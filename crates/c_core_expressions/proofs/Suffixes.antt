@@ -1,15 +1,16 @@
 -- A postfix expression, by its last suffix.
 use Rattle.std.proofs.Common.{◌≡◌, ◌<◌, ◌≤◌, ℕ, zero, suc, true, List, [], ◌∷◌, map, length, take}
 use Rattle.std.proofs.Common.{◌+◌, get_or, Option, None, refl, ap, sym, ◌∙◌, arith}
-use Rattle.c_symbols.specs.declared.operators.StepOperator.{StepOperator}
-use Rattle.c_rules.specs.declared.meaning.Kind.{Kind}
-use Rattle.c_rules.specs.declared.meaning.Meaning.{Meaning}
-use Rattle.c_rules.specs.declared.typed.TypedExpression.{TypedExpression, out-TypedExpression}
-use Rattle.c_rules.specs.declared.typed.TypedExpression.TheOpen.{TypedExpression-F, TypedSuffix-F}
-use Rattle.c_rules.specs.declared.typed.TypedExpression.TheViews.{out-roll-TypedExpression}
-use Rattle.c_rules.specs.declared.typed.TypedExpression.TheVariants as tree
-use Rattle.c_rules.specs.declared.typed.TypedSuffix.{TypedSuffix}
-use Rattle.c_rules.specs.declared.typed.TypedSuffix.TheVariants as behind
+use Rattle.c_grammar_symbols.specs.declared.operators.StepOperator.{StepOperator}
+use Rattle.c_types_rules.specs.declared.meaning.Kind.{Kind}
+use Rattle.c_types_rules.specs.declared.meaning.Meaning.{Meaning}
+use Rattle.c_types_rules.specs.declared.typed.TypedExpression.{TypedExpression, out-TypedExpression}
+use Rattle.c_types_rules.specs.declared.typed.TypedExpression.TheOpen.{TypedExpression-F}
+use Rattle.c_types_rules.specs.declared.typed.TypedExpression.TheOpen.{TypedSuffix-F}
+use Rattle.c_types_rules.specs.declared.typed.TypedExpression.TheViews.{out-roll-TypedExpression}
+use Rattle.c_types_rules.specs.declared.typed.TypedExpression.TheVariants as tree
+use Rattle.c_types_rules.specs.declared.typed.TypedSuffix.{TypedSuffix}
+use Rattle.c_types_rules.specs.declared.typed.TypedSuffix.TheVariants as behind
 use Rattle.c_core_rules.specs.declared.tree.Valued.{Valued}
 use Rattle.c_core_rules.specs.declared.tree.Place.{Place}
 use Rattle.c_core_rules.specs.Cells.{Taken, then_by}
@@ -21,7 +22,7 @@ use Rattle.c_core_expressions.specs.Rows.{by_usage, row_by, lowered, finished, e
 use Rattle.c_core_expressions.specs.Postfix.{postfix_of}
 use Rattle.c_core_expressions.specs.Rows.{stepped_for, call_of}
 use Rattle.c_core_expressions.specs.Rows.{suffix_of, suffixed_by, front_target, suffix_target}
-use Rattle.c_rules.specs.Counts.{suffix_count}
+use Rattle.c_types_rules.specs.Counts.{suffix_count}
 use Rattle.c_core_expressions.proofs.Variants.{rows_Postfix, suffix_Index, suffix_Call, suffix_Step}
 use Rattle.c_core_expressions.proofs.Variants.{suffix_Skipped}
 

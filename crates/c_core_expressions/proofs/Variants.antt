@@ -4,26 +4,27 @@ use Rattle.std.proofs.Common.{is_some, refl, ap, sym, ◌∙◌}
 use Rattle.cpa_ints.specs.declared.integers.IntType.{IntType}
 use Rattle.cpa_ints.specs.declared.integers.IntType.TheVariants as ty
 use Rattle.cpa_expr.specs.declared.tree.Expr.TheVariants.{Const}
-use Rattle.c_symbols.specs.declared.operators.BinaryOperator.{BinaryOperator}
-use Rattle.c_symbols.specs.declared.operators.AssignmentOperator.{AssignmentOperator}
-use Rattle.c_symbols.specs.declared.operators.StepOperator.{StepOperator}
-use Rattle.c_tree.specs.declared.expression.UnaryOperator.{UnaryOperator}
-use Rattle.c_rules.specs.declared.meaning.Kind.{Kind}
-use Rattle.c_rules.specs.declared.meaning.Kind.TheVariants.{Void, Value}
-use Rattle.c_rules.specs.declared.meaning.Meaning.{Meaning}
-use Rattle.c_rules.specs.declared.typed.TypedExpression.{TypedExpression, roll-TypedExpression}
-use Rattle.c_rules.specs.declared.typed.TypedExpression.TheVariants as tree
-use Rattle.c_rules.specs.declared.typed.TypedExpression.TheOpen.{TypedExpression-F}
-use Rattle.c_rules.specs.declared.typed.TypedExpression.TheOpen.{TypedSuffix-F}
-use Rattle.c_rules.specs.declared.typed.TypedExpression.TheFolds.{fold-TypedExpression}
-use Rattle.c_rules.specs.declared.typed.TypedExpression.TheFolds.{fold-TypedSuffix}
-use Rattle.c_rules.specs.declared.typed.TypedExpression.TheFolds.{map-TypedExpression}
-use Rattle.c_rules.specs.declared.typed.TypedExpression.TheFolds.{map-TypedSuffix}
-use Rattle.c_rules.specs.declared.typed.TypedExpression.TheFolds.{fold-roll-TypedExpression}
-use Rattle.c_rules.specs.declared.typed.TypedExpression.TheFolds.{fold-roll-TypedSuffix}
-use Rattle.c_rules.specs.declared.typed.TypedSuffix.{TypedSuffix, roll-TypedSuffix}
-use Rattle.c_rules.specs.declared.typed.TypedSuffix.TheVariants as behind
-use Rattle.c_rules.specs.Counts.{operator_of}
+use Rattle.c_grammar_symbols.specs.declared.operators.BinaryOperator.{BinaryOperator}
+use Rattle.c_grammar_symbols.specs.declared.operators.AssignmentOperator.{AssignmentOperator}
+use Rattle.c_grammar_symbols.specs.declared.operators.StepOperator.{StepOperator}
+use Rattle.c_grammar_tree.specs.declared.expression.UnaryOperator.{UnaryOperator}
+use Rattle.c_types_rules.specs.declared.meaning.Kind.{Kind}
+use Rattle.c_types_rules.specs.declared.meaning.Kind.TheVariants.{Void, Value}
+use Rattle.c_types_rules.specs.declared.meaning.Meaning.{Meaning}
+use Rattle.c_types_rules.specs.declared.typed.TypedExpression.{TypedExpression}
+use Rattle.c_types_rules.specs.declared.typed.TypedExpression.{roll-TypedExpression}
+use Rattle.c_types_rules.specs.declared.typed.TypedExpression.TheVariants as tree
+use Rattle.c_types_rules.specs.declared.typed.TypedExpression.TheOpen.{TypedExpression-F}
+use Rattle.c_types_rules.specs.declared.typed.TypedExpression.TheOpen.{TypedSuffix-F}
+use Rattle.c_types_rules.specs.declared.typed.TypedExpression.TheFolds.{fold-TypedExpression}
+use Rattle.c_types_rules.specs.declared.typed.TypedExpression.TheFolds.{fold-TypedSuffix}
+use Rattle.c_types_rules.specs.declared.typed.TypedExpression.TheFolds.{map-TypedExpression}
+use Rattle.c_types_rules.specs.declared.typed.TypedExpression.TheFolds.{map-TypedSuffix}
+use Rattle.c_types_rules.specs.declared.typed.TypedExpression.TheFolds.{fold-roll-TypedExpression}
+use Rattle.c_types_rules.specs.declared.typed.TypedExpression.TheFolds.{fold-roll-TypedSuffix}
+use Rattle.c_types_rules.specs.declared.typed.TypedSuffix.{TypedSuffix, roll-TypedSuffix}
+use Rattle.c_types_rules.specs.declared.typed.TypedSuffix.TheVariants as behind
+use Rattle.c_types_rules.specs.Counts.{operator_of}
 use Rattle.c_core_rules.specs.declared.tree.Valued.{Valued}
 use Rattle.c_core_rules.specs.Trees.{pure}
 use Rattle.c_core_rules.specs.Cells.{Taken, Made, gives, then_by, located}

@@ -1,7 +1,7 @@
 -- A postfix expression by its layer (`c_core_rules`, `specs/Expressions.antt`).
-use Rattle.c_rules.specs.declared.typed.TypedExpression.{TypedExpression}
-use Rattle.c_rules.specs.declared.typed.TypedExpression.TheOpen.{TypedExpression-F}
-use Rattle.c_rules.specs.declared.typed.TypedSuffix.{TypedSuffix}
+use Rattle.c_types_rules.specs.declared.typed.TypedExpression.{TypedExpression}
+use Rattle.c_types_rules.specs.declared.typed.TypedExpression.TheOpen.{TypedExpression-F}
+use Rattle.c_types_rules.specs.declared.typed.TypedSuffix.{TypedSuffix}
 use Rattle.c_core_rules.specs.declared.tree.Valued.{Valued}
 use Rattle.c_core_rules.specs.Values.{int}
 use Rattle.c_core_rules.specs.Trees.{pure}

@@ -3,20 +3,21 @@
 use Rattle.std.specs.Prelude.{ℕ, [], ◌∷◌, ◌++◌, List, map, take, length, Bool, true, false}
 use Rattle.std.specs.Prelude.{Option, None, Some, unwrap_or, slice_get}
 use Rattle.cpa_ints.specs.declared.integers.IntType.{IntType}
-use Rattle.c_symbols.specs.declared.operators.BinaryOperator.{BinaryOperator}
-use Rattle.c_symbols.specs.declared.operators.StepOperator.{StepOperator}
-use Rattle.c_tree.specs.declared.expression.UnaryOperator.{UnaryOperator}
-use Rattle.c_rules.specs.declared.known.KnownFunction.{KnownFunction}
-use Rattle.c_rules.specs.declared.known.KnownFunction.TheVariants as known
-use Rattle.c_rules.specs.declared.meaning.Function.{Function}
-use Rattle.c_rules.specs.declared.meaning.Kind.{Kind}
-use Rattle.c_rules.specs.declared.meaning.Kind.TheVariants.{Void, Value}
-use Rattle.c_rules.specs.declared.meaning.Meaning.{Meaning}
-use Rattle.c_rules.specs.declared.typed.TypedExpression.{TypedExpression}
-use Rattle.c_rules.specs.declared.typed.TypedExpression.TheFolds.{fold-TypedSuffix}
-use Rattle.c_rules.specs.declared.typed.TypedExpression.TheOpen.{TypedExpression-F, TypedSuffix-F}
-use Rattle.c_rules.specs.declared.typed.TypedSuffix.{TypedSuffix}
-use Rattle.c_rules.specs.Known.{known_result}
+use Rattle.c_grammar_symbols.specs.declared.operators.BinaryOperator.{BinaryOperator}
+use Rattle.c_grammar_symbols.specs.declared.operators.StepOperator.{StepOperator}
+use Rattle.c_grammar_tree.specs.declared.expression.UnaryOperator.{UnaryOperator}
+use Rattle.c_types_rules.specs.declared.known.KnownFunction.{KnownFunction}
+use Rattle.c_types_rules.specs.declared.known.KnownFunction.TheVariants as known
+use Rattle.c_types_rules.specs.declared.meaning.Function.{Function}
+use Rattle.c_types_rules.specs.declared.meaning.Kind.{Kind}
+use Rattle.c_types_rules.specs.declared.meaning.Kind.TheVariants.{Void, Value}
+use Rattle.c_types_rules.specs.declared.meaning.Meaning.{Meaning}
+use Rattle.c_types_rules.specs.declared.typed.TypedExpression.{TypedExpression}
+use Rattle.c_types_rules.specs.declared.typed.TypedExpression.TheFolds.{fold-TypedSuffix}
+use Rattle.c_types_rules.specs.declared.typed.TypedExpression.TheOpen.{TypedExpression-F}
+use Rattle.c_types_rules.specs.declared.typed.TypedExpression.TheOpen.{TypedSuffix-F}
+use Rattle.c_types_rules.specs.declared.typed.TypedSuffix.{TypedSuffix}
+use Rattle.c_types_rules.specs.Known.{known_result}
 use Rattle.c_core_rules.specs.declared.tree.Head.TheVariants as head
 use Rattle.c_core_rules.specs.declared.tree.Place.{Place}
 use Rattle.c_core_rules.specs.declared.tree.Valued.{Valued}

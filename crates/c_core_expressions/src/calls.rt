@@ -17,7 +17,7 @@ use c_core_rules::{CoreTree, Head, Valued};
 use c_core_values::{
     Cells, cell_at, divided, hold_all, input, int, joined, leaf, list_of, pure, scalar, with,
 };
-use c_rules::{Function, Kind, KnownFunction, Meaning, TypedExpression};
+use c_types_rules::{Function, Kind, KnownFunction, Meaning, TypedExpression};
 use cpa_ints::Seq;
 use std::alloc::{AllocError, Global};
 

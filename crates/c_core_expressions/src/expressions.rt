@@ -1,8 +1,8 @@
 //! The core of a typed expression, its value used or not (`rows` of `c_core_rules`,
 //! `specs/Expressions.antt`). Proved with the lemmas of `proofs/Variants.antt`.
 ghost use Rattle.std.specs.Prelude.{◌≡◌, ◌≤◌, OnOk, IfOk};
-ghost use Rattle.c_rules.specs.declared.typed.TypedExpression.{out-TypedExpression};
-ghost use Rattle.c_rules.specs.Counts.{suffix_count};
+ghost use Rattle.c_types_rules.specs.declared.typed.TypedExpression.{out-TypedExpression};
+ghost use Rattle.c_types_rules.specs.Counts.{suffix_count};
 ghost use Rattle.c_core_rules.specs.Expressions.{rows, placed};
 ghost use Rattle.c_core_values.specs.Found.{so_far};
 ghost use Rattle.c_core_expressions.specs.Postfix.{postfix_of};
@@ -18,8 +18,8 @@ use crate::usage::{
 };
 use c_core_rules::{CoreTree, Place, Valued};
 use c_core_values::{Cells, constant, fixed_if, int, joined, linked, pure};
-use c_rules::{Kind, Meaning, TypedExpression, TypedSuffix, operator_of};
-use c_symbols::BinaryOperator;
+use c_grammar_symbols::BinaryOperator;
+use c_types_rules::{Kind, Meaning, TypedExpression, TypedSuffix, operator_of};
 use cpa_ints::{IntType, Seq};
 use std::alloc::AllocError;
 

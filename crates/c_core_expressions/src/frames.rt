@@ -7,7 +7,7 @@ ghost use Rattle.c_core_expressions.specs.Rows.{first_at};
 
 use c_core_rules::Location;
 use c_core_values::cell_at;
-use c_rules::{Kind, Object, TypedFunction};
+use c_types_rules::{Kind, Object, TypedFunction};
 use cpa_ints::IntType;
 use std::alloc::{AllocError, Global};
 use std::marker::Model;

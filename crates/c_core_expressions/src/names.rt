@@ -1,11 +1,11 @@
 //! What an expression names (`names` of `rows`, `c_core_rules`, `specs/Expressions.antt`). Proved
 //! with the lemmas of `proofs/Variants.antt` and `proofs/Suffixes.antt`.
 ghost use Rattle.std.specs.Prelude.{◌≡◌, ◌≤◌, List, length, take};
-ghost use Rattle.c_rules.specs.declared.typed.TypedSuffix.{TypedSuffix};
+ghost use Rattle.c_types_rules.specs.declared.typed.TypedSuffix.{TypedSuffix};
 ghost use Rattle.c_core_rules.specs.Expressions.{Frames, rows};
 ghost use Rattle.c_core_expressions.specs.Rows.{suffixed_by};
 
-use c_rules::{Meaning, TypedExpression};
+use c_types_rules::{Meaning, TypedExpression};
 
 /// What an expression names.
 #[tactic(auto, using(crate::proofs::Variants::names_Name, crate::proofs::Variants::names_Number, crate::proofs::Variants::names_Character, crate::proofs::Variants::names_Bracketed, crate::proofs::Variants::names_PrefixStep, crate::proofs::Variants::names_Unary, crate::proofs::Variants::names_Cast, crate::proofs::Variants::names_Chain, crate::proofs::Variants::names_Conditional, crate::proofs::Variants::names_Assignment, crate::proofs::Variants::names_Comma, crate::proofs::Suffixes::names_base, crate::proofs::Suffixes::names_Postfix))]

@@ -5,7 +5,7 @@ ghost use Rattle.c_core_rules.specs.Expressions.{passed, cells_from};
 
 use c_core_rules::CoreTree;
 use c_core_values::{cell_at, set};
-use c_rules::{Object, cells_of};
+use c_types_rules::{Object, cells_of};
 use cpa_expr::Expr;
 use cpa_ints::Seq;
 use std::alloc::{AllocError, Global};

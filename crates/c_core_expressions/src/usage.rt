@@ -14,9 +14,9 @@ use c_core_values::{
     Cells, cast_to, cell_at, changed, choice, chosen, dropped_value, element, incremented, int,
     pure, scalar, signed, stepped, with,
 };
-use c_rules::{Kind, Meaning};
-use c_symbols::{BinaryOperator, StepOperator};
-use c_tree::UnaryOperator;
+use c_grammar_symbols::{BinaryOperator, StepOperator};
+use c_grammar_tree::UnaryOperator;
+use c_types_rules::{Kind, Meaning};
 use cpa_expr::Expr;
 use cpa_ints::{IntType, Seq};
 use std::alloc::{AllocError, Global};

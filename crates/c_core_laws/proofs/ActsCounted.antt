@@ -10,10 +10,10 @@ use Rattle.cpa_expr.specs.declared.tree.UnOp.{UnOp}
 use Rattle.cpa_expr.specs.declared.tree.UnOp.TheVariants as un
 use Rattle.cpa_expr.specs.Shape.{type_of, height}
 use Rattle.cpa_expr.specs.Laws.{type_at_variants, height_at_variants}
-use Rattle.c_symbols.specs.declared.operators.BinaryOperator.{BinaryOperator}
-use Rattle.c_symbols.specs.declared.operators.BinaryOperator.TheVariants as binary
-use Rattle.c_tree.specs.declared.expression.UnaryOperator.{UnaryOperator}
-use Rattle.c_tree.specs.declared.expression.UnaryOperator.TheVariants as unary
+use Rattle.c_grammar_symbols.specs.declared.operators.BinaryOperator.{BinaryOperator}
+use Rattle.c_grammar_symbols.specs.declared.operators.BinaryOperator.TheVariants as binary
+use Rattle.c_grammar_tree.specs.declared.expression.UnaryOperator.{UnaryOperator}
+use Rattle.c_grammar_tree.specs.declared.expression.UnaryOperator.TheVariants as unary
 use Rattle.c_core_rules.specs.declared.tree.Location.{Location}
 use Rattle.c_core_rules.specs.declared.tree.Valued.{Valued}
 use Rattle.c_core_rules.specs.Values.{conv, is_constant, scalar, first_index, truth_of, int}
@@ -21,8 +21,8 @@ use Rattle.c_core_rules.specs.Values.{cell_at, chosen_value, promote}
 use Rattle.c_core_rules.specs.Trees.{Trees, valued, set, choice}
 use Rattle.c_core_rules.specs.Cells as core
 use Rattle.c_core_rules.specs.Acts as acts
-use Rattle.c_rules.specs.Counts.{Size, both, one}
-use Rattle.c_rules.specs.Counts as counts
+use Rattle.c_types_rules.specs.Counts.{Size, both, one}
+use Rattle.c_types_rules.specs.Counts as counts
 use Rattle.c_core_laws.proofs.Sums.{both_comm}
 use Rattle.c_core_laws.proofs.Heights.{height_positive, first_height, element_height, element_type}
 use Rattle.c_core_laws.proofs.Heights.{constant_element, conv_height, conv_constant, operator_type}

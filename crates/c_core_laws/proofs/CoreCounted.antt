@@ -5,10 +5,10 @@ use Rattle.cpa_expr.specs.Shape.{greatest}
 use Rattle.cpa_model.specs.declared.program.Cell.{Cell}
 use Rattle.cpa_model.specs.declared.program.Stmt.{Stmt}
 use Rattle.cpa_model.specs.declared.program.Program.{Program}
-use Rattle.c_rules.specs.declared.typed.Global.{Global}
-use Rattle.c_rules.specs.declared.typed.TypedUnit.{TypedUnit}
-use Rattle.c_rules.specs.Counts.{Size, Made, Heads, text_rule}
-use Rattle.c_rules.specs.Sound as sound
+use Rattle.c_types_rules.specs.declared.typed.Global.{Global}
+use Rattle.c_types_rules.specs.declared.typed.TypedUnit.{TypedUnit}
+use Rattle.c_types_rules.specs.Counts.{Size, Made, Heads, text_rule}
+use Rattle.c_types_rules.specs.Sound as sound
 use Rattle.c_core_rules.specs.declared.tree.CoreTree.{CoreTree}
 use Rattle.c_core_rules.specs.Cells.{nothing_taken}
 use Rattle.c_core_rules.specs.Programs.{IsCore, frames_of, text_core, statements, numbered_bodies}

@@ -1,14 +1,16 @@
 -- The count of an expression, opened at its node.
 use Rattle.std.proofs.Common.{◌≡◌}
-use Rattle.c_rules.specs.declared.typed.TypedExpression.{TypedExpression, roll-TypedExpression}
-use Rattle.c_rules.specs.declared.typed.TypedExpression.TheOpen.{TypedExpression-F, TypedSuffix-F}
-use Rattle.c_rules.specs.declared.typed.TypedExpression.TheFolds.{fold-TypedSuffix}
-use Rattle.c_rules.specs.declared.typed.TypedExpression.TheFolds.{map-TypedExpression}
-use Rattle.c_rules.specs.declared.typed.TypedExpression.TheFolds.{map-TypedSuffix}
-use Rattle.c_rules.specs.declared.typed.TypedExpression.TheFolds.{fold-roll-TypedExpression}
-use Rattle.c_rules.specs.declared.typed.TypedExpression.TheFolds.{fold-roll-TypedSuffix}
-use Rattle.c_rules.specs.declared.typed.TypedSuffix.{TypedSuffix, roll-TypedSuffix}
-use Rattle.c_rules.specs.Counts.{Heads, Rows, ReadSuffix, rows, rows_step, read_suffix}
+use Rattle.c_types_rules.specs.declared.typed.TypedExpression.{TypedExpression}
+use Rattle.c_types_rules.specs.declared.typed.TypedExpression.{roll-TypedExpression}
+use Rattle.c_types_rules.specs.declared.typed.TypedExpression.TheOpen.{TypedExpression-F}
+use Rattle.c_types_rules.specs.declared.typed.TypedExpression.TheOpen.{TypedSuffix-F}
+use Rattle.c_types_rules.specs.declared.typed.TypedExpression.TheFolds.{fold-TypedSuffix}
+use Rattle.c_types_rules.specs.declared.typed.TypedExpression.TheFolds.{map-TypedExpression}
+use Rattle.c_types_rules.specs.declared.typed.TypedExpression.TheFolds.{map-TypedSuffix}
+use Rattle.c_types_rules.specs.declared.typed.TypedExpression.TheFolds.{fold-roll-TypedExpression}
+use Rattle.c_types_rules.specs.declared.typed.TypedExpression.TheFolds.{fold-roll-TypedSuffix}
+use Rattle.c_types_rules.specs.declared.typed.TypedSuffix.{TypedSuffix, roll-TypedSuffix}
+use Rattle.c_types_rules.specs.Counts.{Heads, Rows, ReadSuffix, rows, rows_step, read_suffix}
 
 abbrev pub count_suffix : Heads → TypedSuffix → ReadSuffix
 count_suffix heads = fold-TypedSuffix Rows ReadSuffix (rows_step heads) read_suffix

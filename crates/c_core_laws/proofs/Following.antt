@@ -16,8 +16,8 @@ use Rattle.c_core_rules.specs.Values.{is_constant}
 use Rattle.cpa_model.specs.declared.program.Cell.{Cell}
 use Rattle.c_core_rules.specs.Cells.{Taken}
 use Rattle.c_core_rules.specs.Cells as core
-use Rattle.c_rules.specs.Counts.{Size, Counted, one, both, joined_sizes}
-use Rattle.c_rules.specs.Counts as counts
+use Rattle.c_types_rules.specs.Counts.{Size, Counted, one, both, joined_sizes}
+use Rattle.c_types_rules.specs.Counts as counts
 
 -- the height of the highest expression of a head
 abbrev pub head_height : Head → ℕ

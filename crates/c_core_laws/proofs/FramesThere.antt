@@ -10,15 +10,15 @@ use Rattle.std.proofs.lemmas.Option.{none-some, same_Some}
 use Rattle.cpa_ints.specs.declared.integers.IntType.{IntType}
 use Rattle.cpa_model.specs.declared.program.Cell.{Cell}
 use Rattle.cpa_model.specs.Expressions.{types_of}
-use Rattle.c_rules.specs.declared.meaning.Kind.{Kind}
-use Rattle.c_rules.specs.declared.meaning.Kind.TheVariants.{Void, Value}
-use Rattle.c_rules.specs.declared.meaning.Object.{Object}
-use Rattle.c_rules.specs.declared.typed.Global.{Global}
-use Rattle.c_rules.specs.declared.typed.TypedFunction.{TypedFunction}
-use Rattle.c_rules.specs.Names.{Text}
-use Rattle.c_rules.specs.Types.{object_type}
-use Rattle.c_rules.specs.Counts.{cells_of}
-use Rattle.c_rules.specs.Sound.{typed_parts}
+use Rattle.c_types_rules.specs.declared.meaning.Kind.{Kind}
+use Rattle.c_types_rules.specs.declared.meaning.Kind.TheVariants.{Void, Value}
+use Rattle.c_types_rules.specs.declared.meaning.Object.{Object}
+use Rattle.c_types_rules.specs.declared.typed.Global.{Global}
+use Rattle.c_types_rules.specs.declared.typed.TypedFunction.{TypedFunction}
+use Rattle.c_types_rules.specs.Names.{Text}
+use Rattle.c_types_rules.specs.Types.{object_type}
+use Rattle.c_types_rules.specs.Counts.{cells_of}
+use Rattle.c_types_rules.specs.Sound.{typed_parts}
 use Rattle.c_core_rules.specs.declared.tree.Location.{Location}
 use Rattle.c_core_rules.specs.Values.{cell_at}
 use Rattle.c_core_rules.specs.Cells.{Taken, taking, each, in_order, nothing_taken}

@@ -3,23 +3,25 @@ use Rattle.std.proofs.Common.{◌≡◌, ℕ, ◌<◌, true, false, List, [], �
 use Rattle.std.proofs.Common.{sym, ◌∙◌, subst}
 use Rattle.std.specs.List.{AllByRecursion, flat_map}
 use Rattle.std.proofs.lemmas.List.{length-map}
-use Rattle.c_tree.specs.declared.name.Name.{Name}
-use Rattle.c_tree.specs.declared.declaration.Specifiers.{Specifiers}
-use Rattle.c_tree.specs.declared.statement.BlockItem.{BlockItem}
-use Rattle.c_tree.specs.declared.item.Parameter.{Parameter}
-use Rattle.c_tree.specs.declared.item.FunctionDeclarator.{FunctionDeclarator}
-use Rattle.c_tree.specs.declared.item.Body.TheVariants as body
-use Rattle.c_tree.specs.declared.item.Item.{Item}
-use Rattle.c_tree.specs.declared.item.Item.TheVariants as item
-use Rattle.c_tree.specs.declared.item.Unit.{Unit as UnitTree}
-use Rattle.c_rules.specs.declared.typed.TypedFunction.{TypedFunction}
-use Rattle.c_rules.specs.Names.{Text}
-use Rattle.c_rules.specs.Statements.{Site, Walk, walk_of, in_order, receiving, labels_of}
-use Rattle.c_rules.specs.StatementRules.{site_faults, jump_faults}
-use Rattle.c_rules.specs.TypedStatements.{grown, walk_in, typed_function}
-use Rattle.c_rules.specs.Items.{Before, text_of, listed, around_body, function_behind, body_sites}
-use Rattle.c_rules.specs.Items.{head_faults, item_behind, item_faults, items_faults, nothing_before}
-use Rattle.c_rules.specs.Sound.{Sound, typed_unit, functions_of, unit_functions}
+use Rattle.c_grammar_tree.specs.declared.name.Name.{Name}
+use Rattle.c_grammar_tree.specs.declared.declaration.Specifiers.{Specifiers}
+use Rattle.c_grammar_tree.specs.declared.statement.BlockItem.{BlockItem}
+use Rattle.c_grammar_tree.specs.declared.item.Parameter.{Parameter}
+use Rattle.c_grammar_tree.specs.declared.item.FunctionDeclarator.{FunctionDeclarator}
+use Rattle.c_grammar_tree.specs.declared.item.Body.TheVariants as body
+use Rattle.c_grammar_tree.specs.declared.item.Item.{Item}
+use Rattle.c_grammar_tree.specs.declared.item.Item.TheVariants as item
+use Rattle.c_grammar_tree.specs.declared.item.Unit.{Unit as UnitTree}
+use Rattle.c_types_rules.specs.declared.typed.TypedFunction.{TypedFunction}
+use Rattle.c_types_rules.specs.Names.{Text}
+use Rattle.c_types_rules.specs.Statements.{Site, Walk, walk_of, in_order, receiving, labels_of}
+use Rattle.c_types_rules.specs.StatementRules.{site_faults, jump_faults}
+use Rattle.c_types_rules.specs.TypedStatements.{grown, walk_in, typed_function}
+use Rattle.c_types_rules.specs.Items.{Before, text_of, listed, around_body, function_behind}
+use Rattle.c_types_rules.specs.Items.{body_sites}
+use Rattle.c_types_rules.specs.Items.{head_faults, item_behind, item_faults, items_faults}
+use Rattle.c_types_rules.specs.Items.{nothing_before}
+use Rattle.c_types_rules.specs.Sound.{Sound, typed_unit, functions_of, unit_functions}
 use Rattle.c_core_laws.specs.Jumps.{Jumps, function_jumps}
 use Rattle.c_core_laws.specs.lemmas.Faults.{NoFaults, none_left, none_right, no_fault}
 use Rattle.c_core_laws.specs.lemmas.SameWalk.{same_walk}

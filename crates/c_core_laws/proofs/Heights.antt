@@ -17,13 +17,13 @@ use Rattle.cpa_expr.specs.Equality.{same_type}
 use Rattle.cpa_expr.specs.Laws.{type_at_variants, height_at_variants}
 use Rattle.cpa_expr.specs.lemmas.Parts.{height_parts}
 use Rattle.c_core_rules.specs.declared.tree.Location.{Location}
-use Rattle.c_symbols.specs.declared.operators.BinaryOperator.{BinaryOperator}
-use Rattle.c_symbols.specs.declared.operators.BinaryOperator.TheVariants as binary
+use Rattle.c_grammar_symbols.specs.declared.operators.BinaryOperator.{BinaryOperator}
+use Rattle.c_grammar_symbols.specs.declared.operators.BinaryOperator.TheVariants as binary
 use Rattle.c_core_rules.specs.Values.{conv, element, first_index, is_constant, is_constant_node}
 use Rattle.c_core_rules.specs.Values.{node_of, operator_value, promote, int, truth_of}
 use Rattle.cpa_ints.specs.Conversions.{promoted, common_type}
-use Rattle.c_rules.specs.Types.{binary_type}
-use Rattle.c_rules.specs.Counts.{converted_height, of_element, is_shift}
+use Rattle.c_types_rules.specs.Types.{binary_type}
+use Rattle.c_types_rules.specs.Counts.{converted_height, of_element, is_shift}
 
 pub height_positive : (e : Expr) → 1 ≤ height e
 height_positive e = omega (arith, height_parts e (parts (out-Expr e)) refl)

@@ -8,41 +8,44 @@ use Rattle.std.specs.Prelude.{unwrap_or, is_some}
 use Rattle.std.specs.List.{AllByRecursion, flat_map, list_any}
 use Rattle.std.specs.Str.{bytes_eq}
 use Rattle.c_lexer.specs.declared.fault.Rule.TheVariants as rule
-use Rattle.c_tree.specs.declared.name.Name.{Name}
-use Rattle.c_tree.specs.declared.expression.Expression.{Expression}
-use Rattle.c_tree.specs.declared.declaration.Specifiers.{Specifiers}
-use Rattle.c_tree.specs.declared.declaration.Declarator.{Declarator}
-use Rattle.c_tree.specs.declared.statement.ForStart.{ForStart}
-use Rattle.c_tree.specs.declared.statement.ForStart.TheVariants as start
-use Rattle.c_tree.specs.declared.statement.Statement.{Statement, roll-Statement}
-use Rattle.c_tree.specs.declared.statement.BlockItem.{BlockItem, roll-BlockItem}
-use Rattle.c_tree.specs.declared.statement.BlockItem.TheOpen.{BlockItem-F, Statement-F}
-use Rattle.c_tree.specs.declared.statement.BlockItem.TheFolds.{fold-Statement, ind-BlockItem}
-use Rattle.c_tree.specs.declared.statement.BlockItem.TheFolds.{ind-Statement}
-use Rattle.c_tree.specs.declared.statement.BlockItem.TheFolds.{fold-roll-BlockItem}
-use Rattle.c_tree.specs.declared.statement.BlockItem.TheFolds.{fold-roll-Statement}
-use Rattle.c_tree.specs.declared.statement.BlockItem.TheFolds.{map-BlockItem, map-Statement}
-use Rattle.c_rules.specs.declared.meaning.Role.{Role}
-use Rattle.c_rules.specs.declared.meaning.Role.TheVariants.{Valued, Evaluated}
-use Rattle.c_rules.specs.declared.typed.TypedExpression.{TypedExpression}
-use Rattle.c_rules.specs.declared.typed.TypedDeclarator.{TypedDeclarator}
-use Rattle.c_rules.specs.declared.typed.TypedForStart.{TypedForStart}
-use Rattle.c_rules.specs.declared.typed.TypedItem.{TypedItem}
-use Rattle.c_rules.specs.declared.typed.TypedItem.TheVariants as typed_item
-use Rattle.c_rules.specs.declared.typed.TypedItem.TheOpen.{TypedItem-F, TypedStatement-F}
-use Rattle.c_rules.specs.declared.typed.TypedStatement.{TypedStatement}
-use Rattle.c_rules.specs.declared.typed.TypedStatement.TheVariants as tree
-use Rattle.c_rules.specs.Names.{Text, place_of}
-use Rattle.c_rules.specs.Statements.{Around, Site, Act, Walk, still, doing, followed, in_order}
-use Rattle.c_rules.specs.Statements.{looped, inner, loop, evaluating, start_walk}
-use Rattle.c_rules.specs.Statements.{declaration_walk, declarator_walk, labels_of, labels_item}
-use Rattle.c_rules.specs.Statements.{labels_step, evaluates, jumps, leaves, marks, returns}
-use Rattle.c_rules.specs.StatementRules.{site_faults}
-use Rattle.c_rules.specs.ExpressionRules.{broken, at_if}
-use Rattle.c_rules.specs.TypedStatements.{Grown, grown, grown_item, grown_statement}
-use Rattle.c_rules.specs.TypedStatements.{typed_in_order, label_number, walk_in}
-use Rattle.c_rules.specs.TypedStatements.{typed_expression, typed_optional, typed_for_start}
-use Rattle.c_rules.specs.TypedStatements.{typed_declarators}
+use Rattle.c_grammar_tree.specs.declared.name.Name.{Name}
+use Rattle.c_grammar_tree.specs.declared.expression.Expression.{Expression}
+use Rattle.c_grammar_tree.specs.declared.declaration.Specifiers.{Specifiers}
+use Rattle.c_grammar_tree.specs.declared.declaration.Declarator.{Declarator}
+use Rattle.c_grammar_tree.specs.declared.statement.ForStart.{ForStart}
+use Rattle.c_grammar_tree.specs.declared.statement.ForStart.TheVariants as start
+use Rattle.c_grammar_tree.specs.declared.statement.Statement.{Statement, roll-Statement}
+use Rattle.c_grammar_tree.specs.declared.statement.BlockItem.{BlockItem, roll-BlockItem}
+use Rattle.c_grammar_tree.specs.declared.statement.BlockItem.TheOpen.{BlockItem-F, Statement-F}
+use Rattle.c_grammar_tree.specs.declared.statement.BlockItem.TheFolds.{fold-Statement}
+use Rattle.c_grammar_tree.specs.declared.statement.BlockItem.TheFolds.{ind-BlockItem}
+use Rattle.c_grammar_tree.specs.declared.statement.BlockItem.TheFolds.{ind-Statement}
+use Rattle.c_grammar_tree.specs.declared.statement.BlockItem.TheFolds.{fold-roll-BlockItem}
+use Rattle.c_grammar_tree.specs.declared.statement.BlockItem.TheFolds.{fold-roll-Statement}
+use Rattle.c_grammar_tree.specs.declared.statement.BlockItem.TheFolds.{map-BlockItem, map-Statement}
+use Rattle.c_types_rules.specs.declared.meaning.Role.{Role}
+use Rattle.c_types_rules.specs.declared.meaning.Role.TheVariants.{Valued, Evaluated}
+use Rattle.c_types_rules.specs.declared.typed.TypedExpression.{TypedExpression}
+use Rattle.c_types_rules.specs.declared.typed.TypedDeclarator.{TypedDeclarator}
+use Rattle.c_types_rules.specs.declared.typed.TypedForStart.{TypedForStart}
+use Rattle.c_types_rules.specs.declared.typed.TypedItem.{TypedItem}
+use Rattle.c_types_rules.specs.declared.typed.TypedItem.TheVariants as typed_item
+use Rattle.c_types_rules.specs.declared.typed.TypedItem.TheOpen.{TypedItem-F, TypedStatement-F}
+use Rattle.c_types_rules.specs.declared.typed.TypedStatement.{TypedStatement}
+use Rattle.c_types_rules.specs.declared.typed.TypedStatement.TheVariants as tree
+use Rattle.c_types_rules.specs.Names.{Text, place_of}
+use Rattle.c_types_rules.specs.Statements.{Around, Site, Act, Walk, still, doing, followed}
+use Rattle.c_types_rules.specs.Statements.{in_order}
+use Rattle.c_types_rules.specs.Statements.{looped, inner, loop, evaluating, start_walk}
+use Rattle.c_types_rules.specs.Statements.{declaration_walk, declarator_walk, labels_of}
+use Rattle.c_types_rules.specs.Statements.{labels_item}
+use Rattle.c_types_rules.specs.Statements.{labels_step, evaluates, jumps, leaves, marks, returns}
+use Rattle.c_types_rules.specs.StatementRules.{site_faults}
+use Rattle.c_types_rules.specs.ExpressionRules.{broken, at_if}
+use Rattle.c_types_rules.specs.TypedStatements.{Grown, grown, grown_item, grown_statement}
+use Rattle.c_types_rules.specs.TypedStatements.{typed_in_order, label_number, walk_in}
+use Rattle.c_types_rules.specs.TypedStatements.{typed_expression, typed_optional, typed_for_start}
+use Rattle.c_types_rules.specs.TypedStatements.{typed_declarators}
 use Rattle.c_core_laws.specs.Jumps.{Jumps, no_jumps, then_jumps, all_jumps, labelled, in_loop, goto}
 use Rattle.c_core_laws.specs.Jumps.{item_jumps}
 use Rattle.c_core_laws.specs.Jumps as jumping

@@ -6,17 +6,17 @@ use Rattle.std.specs.Prelude.{unwrap_or}
 use Rattle.std.specs.List.{AllByRecursion, flat_map, range_with_len}
 use Rattle.std.proofs.lemmas.List.{append-nil}
 use Rattle.cpa_expr.specs.declared.tree.Expr.{Expr}
-use Rattle.c_rules.specs.declared.typed.TypedExpression.{TypedExpression}
-use Rattle.c_rules.specs.declared.typed.TypedItem.{TypedItem, roll-TypedItem}
-use Rattle.c_rules.specs.declared.typed.TypedItem.TheOpen.{TypedItem-F, TypedStatement-F}
-use Rattle.c_rules.specs.declared.typed.TypedItem.TheFolds.{map-TypedItem, map-TypedStatement}
-use Rattle.c_rules.specs.declared.typed.TypedItem.TheFolds.{ind-TypedItem, ind-TypedStatement}
-use Rattle.c_rules.specs.declared.typed.TypedItem.TheFolds.{fold-TypedStatement}
-use Rattle.c_rules.specs.declared.typed.TypedItem.TheFolds.{fold-roll-TypedItem}
-use Rattle.c_rules.specs.declared.typed.TypedItem.TheFolds.{fold-roll-TypedStatement}
-use Rattle.c_rules.specs.declared.typed.TypedStatement.{TypedStatement, roll-TypedStatement}
-use Rattle.c_rules.specs.declared.typed.TypedFunction.{TypedFunction}
-use Rattle.c_rules.specs.Types.{object_type}
+use Rattle.c_types_rules.specs.declared.typed.TypedExpression.{TypedExpression}
+use Rattle.c_types_rules.specs.declared.typed.TypedItem.{TypedItem, roll-TypedItem}
+use Rattle.c_types_rules.specs.declared.typed.TypedItem.TheOpen.{TypedItem-F, TypedStatement-F}
+use Rattle.c_types_rules.specs.declared.typed.TypedItem.TheFolds.{map-TypedItem, map-TypedStatement}
+use Rattle.c_types_rules.specs.declared.typed.TypedItem.TheFolds.{ind-TypedItem, ind-TypedStatement}
+use Rattle.c_types_rules.specs.declared.typed.TypedItem.TheFolds.{fold-TypedStatement}
+use Rattle.c_types_rules.specs.declared.typed.TypedItem.TheFolds.{fold-roll-TypedItem}
+use Rattle.c_types_rules.specs.declared.typed.TypedItem.TheFolds.{fold-roll-TypedStatement}
+use Rattle.c_types_rules.specs.declared.typed.TypedStatement.{TypedStatement, roll-TypedStatement}
+use Rattle.c_types_rules.specs.declared.typed.TypedFunction.{TypedFunction}
+use Rattle.c_types_rules.specs.Types.{object_type}
 use Rattle.c_core_rules.specs.declared.tree.CoreTree.{CoreTree}
 use Rattle.c_core_rules.specs.declared.tree.CoreTree.TheVariants.{Node}
 use Rattle.c_core_rules.specs.declared.tree.Head.{Head}

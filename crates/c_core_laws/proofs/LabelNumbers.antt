@@ -11,46 +11,49 @@ use Rattle.std.specs.Cmp.Lexicographic.{bytes_decides}
 use Rattle.std.proofs.lemmas.List.{append-nil, map-append, length-map}
 use Rattle.c_lexer.specs.declared.fault.TextFault.{TextFault}
 use Rattle.c_lexer.specs.declared.fault.Rule.TheVariants as rule
-use Rattle.c_tree.specs.declared.name.Name.{Name}
-use Rattle.c_tree.specs.declared.expression.Expression.{Expression}
-use Rattle.c_tree.specs.declared.declaration.Specifiers.{Specifiers}
-use Rattle.c_tree.specs.declared.declaration.Declarator.{Declarator}
-use Rattle.c_tree.specs.declared.statement.ForStart.{ForStart}
-use Rattle.c_tree.specs.declared.statement.ForStart.TheVariants as start
-use Rattle.c_tree.specs.declared.statement.Statement.{Statement, roll-Statement}
-use Rattle.c_tree.specs.declared.statement.BlockItem.{BlockItem, roll-BlockItem}
-use Rattle.c_tree.specs.declared.statement.BlockItem.TheOpen.{BlockItem-F, Statement-F}
-use Rattle.c_tree.specs.declared.statement.BlockItem.TheFolds.{ind-BlockItem, map-BlockItem}
-use Rattle.c_tree.specs.declared.statement.BlockItem.TheFolds.{map-Statement}
-use Rattle.c_tree.specs.declared.item.Parameter.{Parameter}
-use Rattle.c_tree.specs.declared.item.FunctionDeclarator.{FunctionDeclarator}
-use Rattle.c_tree.specs.declared.item.Body.TheVariants as made
-use Rattle.c_tree.specs.declared.item.Item.{Item}
-use Rattle.c_tree.specs.declared.item.Item.TheVariants as item
-use Rattle.c_tree.specs.declared.item.Unit.{Unit as UnitTree}
-use Rattle.c_rules.specs.declared.meaning.Role.{Role}
-use Rattle.c_rules.specs.declared.meaning.Role.TheVariants.{Valued, Evaluated}
-use Rattle.c_rules.specs.declared.typed.TypedDeclarator.{TypedDeclarator}
-use Rattle.c_rules.specs.declared.typed.TypedItem.{TypedItem}
-use Rattle.c_rules.specs.declared.typed.TypedItem.TheVariants as typed_item
-use Rattle.c_rules.specs.declared.typed.TypedItem.TheOpen.{TypedItem-F, TypedStatement-F}
-use Rattle.c_rules.specs.declared.typed.TypedItem.TheFolds.{map-TypedStatement}
-use Rattle.c_rules.specs.declared.typed.TypedStatement.{TypedStatement, roll-TypedStatement}
-use Rattle.c_rules.specs.declared.typed.TypedStatement.TheVariants as typed
-use Rattle.c_rules.specs.Names.{Text, place_of}
-use Rattle.c_rules.specs.Declarations.{items_of}
-use Rattle.c_rules.specs.Statements.{Around, Site, Walk, walk_of, in_order, receiving, labels_of}
-use Rattle.c_rules.specs.Statements.{inner, loop, looped, evaluating, evaluates, start_walk}
-use Rattle.c_rules.specs.Statements.{declarator_walk, labels_item, labels_step}
-use Rattle.c_rules.specs.StatementRules.{Jump, label_at, goto_at, has_label, repeated_labels}
-use Rattle.c_rules.specs.StatementRules.{entering_gotos, site_faults, jump_faults}
-use Rattle.c_rules.specs.ExpressionRules.{broken, at_if}
-use Rattle.c_rules.specs.TypedStatements.{Grown, grown, grown_item, grown_statement}
-use Rattle.c_rules.specs.TypedStatements.{label_number, typed_expression, typed_optional}
-use Rattle.c_rules.specs.TypedStatements.{typed_for_start, typed_declarators, typed_function}
-use Rattle.c_rules.specs.Items.{Before, text_of, listed, around_body, function_behind, body_sites}
-use Rattle.c_rules.specs.Items.{head_faults, item_behind, item_faults, items_faults, nothing_before}
-use Rattle.c_rules.specs.Sound.{Sound, typed_unit, functions_of}
+use Rattle.c_grammar_tree.specs.declared.name.Name.{Name}
+use Rattle.c_grammar_tree.specs.declared.expression.Expression.{Expression}
+use Rattle.c_grammar_tree.specs.declared.declaration.Specifiers.{Specifiers}
+use Rattle.c_grammar_tree.specs.declared.declaration.Declarator.{Declarator}
+use Rattle.c_grammar_tree.specs.declared.statement.ForStart.{ForStart}
+use Rattle.c_grammar_tree.specs.declared.statement.ForStart.TheVariants as start
+use Rattle.c_grammar_tree.specs.declared.statement.Statement.{Statement, roll-Statement}
+use Rattle.c_grammar_tree.specs.declared.statement.BlockItem.{BlockItem, roll-BlockItem}
+use Rattle.c_grammar_tree.specs.declared.statement.BlockItem.TheOpen.{BlockItem-F, Statement-F}
+use Rattle.c_grammar_tree.specs.declared.statement.BlockItem.TheFolds.{ind-BlockItem, map-BlockItem}
+use Rattle.c_grammar_tree.specs.declared.statement.BlockItem.TheFolds.{map-Statement}
+use Rattle.c_grammar_tree.specs.declared.item.Parameter.{Parameter}
+use Rattle.c_grammar_tree.specs.declared.item.FunctionDeclarator.{FunctionDeclarator}
+use Rattle.c_grammar_tree.specs.declared.item.Body.TheVariants as made
+use Rattle.c_grammar_tree.specs.declared.item.Item.{Item}
+use Rattle.c_grammar_tree.specs.declared.item.Item.TheVariants as item
+use Rattle.c_grammar_tree.specs.declared.item.Unit.{Unit as UnitTree}
+use Rattle.c_types_rules.specs.declared.meaning.Role.{Role}
+use Rattle.c_types_rules.specs.declared.meaning.Role.TheVariants.{Valued, Evaluated}
+use Rattle.c_types_rules.specs.declared.typed.TypedDeclarator.{TypedDeclarator}
+use Rattle.c_types_rules.specs.declared.typed.TypedItem.{TypedItem}
+use Rattle.c_types_rules.specs.declared.typed.TypedItem.TheVariants as typed_item
+use Rattle.c_types_rules.specs.declared.typed.TypedItem.TheOpen.{TypedItem-F, TypedStatement-F}
+use Rattle.c_types_rules.specs.declared.typed.TypedItem.TheFolds.{map-TypedStatement}
+use Rattle.c_types_rules.specs.declared.typed.TypedStatement.{TypedStatement, roll-TypedStatement}
+use Rattle.c_types_rules.specs.declared.typed.TypedStatement.TheVariants as typed
+use Rattle.c_types_rules.specs.Names.{Text, place_of}
+use Rattle.c_types_rules.specs.Declarations.{items_of}
+use Rattle.c_types_rules.specs.Statements.{Around, Site, Walk, walk_of, in_order, receiving}
+use Rattle.c_types_rules.specs.Statements.{labels_of}
+use Rattle.c_types_rules.specs.Statements.{inner, loop, looped, evaluating, evaluates, start_walk}
+use Rattle.c_types_rules.specs.Statements.{declarator_walk, labels_item, labels_step}
+use Rattle.c_types_rules.specs.StatementRules.{Jump, label_at, goto_at, has_label, repeated_labels}
+use Rattle.c_types_rules.specs.StatementRules.{entering_gotos, site_faults, jump_faults}
+use Rattle.c_types_rules.specs.ExpressionRules.{broken, at_if}
+use Rattle.c_types_rules.specs.TypedStatements.{Grown, grown, grown_item, grown_statement}
+use Rattle.c_types_rules.specs.TypedStatements.{label_number, typed_expression, typed_optional}
+use Rattle.c_types_rules.specs.TypedStatements.{typed_for_start, typed_declarators, typed_function}
+use Rattle.c_types_rules.specs.Items.{Before, text_of, listed, around_body, function_behind}
+use Rattle.c_types_rules.specs.Items.{body_sites}
+use Rattle.c_types_rules.specs.Items.{head_faults, item_behind, item_faults, items_faults}
+use Rattle.c_types_rules.specs.Items.{nothing_before}
+use Rattle.c_types_rules.specs.Sound.{Sound, typed_unit, functions_of}
 use Rattle.c_core_laws.specs.Labels.{Label, Labelled, with_labels, function_labels, AreInOrder}
 use Rattle.c_core_laws.specs.Labels as labelling
 use Rattle.c_core_laws.specs.lemmas.Faults.{NoFaults, none_left, none_right, not_broken, no_fault}

@@ -5,14 +5,14 @@ use Rattle.std.specs.List.{flat_map}
 use Rattle.std.proofs.lemmas.List.{map-append, append-nil}
 use Rattle.cpa_ints.specs.declared.integers.IntType.{IntType}
 use Rattle.cpa_model.specs.declared.program.Cell.{Cell}
-use Rattle.c_rules.specs.declared.meaning.Object.{Object}
-use Rattle.c_rules.specs.declared.typed.TypedFunction.{TypedFunction}
-use Rattle.c_rules.specs.declared.typed.Global.{Global}
-use Rattle.c_rules.specs.declared.typed.TypedUnit.{TypedUnit}
-use Rattle.c_rules.specs.Names.{Text}
-use Rattle.c_rules.specs.Counts.{cells_of, heads_of, Size, Made, Heads, receiving}
-use Rattle.c_rules.specs.Sound.{filled, started, object_types, first_cells, typed_parts}
-use Rattle.c_rules.specs.Sound as sound
+use Rattle.c_types_rules.specs.declared.meaning.Object.{Object}
+use Rattle.c_types_rules.specs.declared.typed.TypedFunction.{TypedFunction}
+use Rattle.c_types_rules.specs.declared.typed.Global.{Global}
+use Rattle.c_types_rules.specs.declared.typed.TypedUnit.{TypedUnit}
+use Rattle.c_types_rules.specs.Names.{Text}
+use Rattle.c_types_rules.specs.Counts.{cells_of, heads_of, Size, Made, Heads, receiving}
+use Rattle.c_types_rules.specs.Sound.{filled, started, object_types, first_cells, typed_parts}
+use Rattle.c_types_rules.specs.Sound as sound
 use Rattle.c_core_rules.specs.Cells.{Taken, cell, cells_with, nothing_taken}
 use Rattle.c_core_rules.specs.Statements.{receiving_globals, function_rule}
 use Rattle.c_core_rules.specs.Cells.{each, taking}

@@ -9,19 +9,21 @@ use Rattle.std.specs.Cmp.Lexicographic.{bytes_decides}
 use Rattle.cpa_model.specs.declared.program.Program.{Program}
 use Rattle.c_lexer.specs.declared.fault.Rule.TheVariants as rule
 use Rattle.c_lexer.specs.declared.fault.TextFault.{TextFault}
-use Rattle.c_tree.specs.declared.item.Body.TheVariants as body
-use Rattle.c_tree.specs.declared.item.Item.{Item}
-use Rattle.c_tree.specs.declared.item.Item.TheVariants as item
-use Rattle.c_tree.specs.declared.item.Unit.{Unit as UnitTree}
+use Rattle.c_grammar_tree.specs.declared.item.Body.TheVariants as body
+use Rattle.c_grammar_tree.specs.declared.item.Item.{Item}
+use Rattle.c_grammar_tree.specs.declared.item.Item.TheVariants as item
+use Rattle.c_grammar_tree.specs.declared.item.Unit.{Unit as UnitTree}
 use Rattle.cpa_ints.specs.declared.integers.IntType.TheVariants as ty
-use Rattle.c_rules.specs.declared.meaning.Kind.TheVariants.{Value}
-use Rattle.c_rules.specs.Names.{Text, place_of, body_of}
-use Rattle.c_rules.specs.Declarations.{kind_of}
-use Rattle.c_rules.specs.Items.{Before, text_of, body_name, item_behind, same_kind, items_faults}
-use Rattle.c_rules.specs.Items.{nothing_before}
-use Rattle.c_rules.specs.Recursion.{Among}
-use Rattle.c_rules.specs.Sound.{Sound, typed_unit, functions_of, main_name, is_main, unit_faults}
-use Rattle.c_rules.specs.Sound.{has_no_parameters}
+use Rattle.c_types_rules.specs.declared.meaning.Kind.TheVariants.{Value}
+use Rattle.c_types_rules.specs.Names.{Text, place_of, body_of}
+use Rattle.c_types_rules.specs.Declarations.{kind_of}
+use Rattle.c_types_rules.specs.Items.{Before, text_of, body_name, item_behind, same_kind}
+use Rattle.c_types_rules.specs.Items.{items_faults}
+use Rattle.c_types_rules.specs.Items.{nothing_before}
+use Rattle.c_types_rules.specs.Recursion.{Among}
+use Rattle.c_types_rules.specs.Sound.{Sound, typed_unit, functions_of, main_name, is_main}
+use Rattle.c_types_rules.specs.Sound.{unit_faults}
+use Rattle.c_types_rules.specs.Sound.{has_no_parameters}
 use Rattle.c_core_rules.specs.Programs.{IsCore}
 use Rattle.c_core_laws.specs.lemmas.BodyCounts.{bodies_are}
 

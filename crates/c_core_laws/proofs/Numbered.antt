@@ -8,7 +8,7 @@ use Rattle.std.proofs.lemmas.Option.{none-some, same_Some}
 use Rattle.cpa_model.specs.declared.program.Stmt.{Stmt}
 use Rattle.cpa_model.specs.declared.program.Program.{Program}
 use Rattle.cpa_model.specs.Programs.{Tiles, IsNumbered, parts_of}
-use Rattle.c_rules.specs.declared.typed.TypedUnit.{TypedUnit}
+use Rattle.c_types_rules.specs.declared.typed.TypedUnit.{TypedUnit}
 use Rattle.c_core_rules.specs.declared.tree.CoreTree.{CoreTree, roll-CoreTree}
 use Rattle.c_core_rules.specs.declared.tree.CoreTree.TheOpen.{CoreTree-F}
 use Rattle.c_core_rules.specs.declared.tree.CoreTree.TheFolds.{map-CoreTree, ind-CoreTree}

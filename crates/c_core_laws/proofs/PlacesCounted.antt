@@ -6,13 +6,13 @@ use Rattle.cpa_ints.specs.declared.integers.IntType.{IntType}
 use Rattle.cpa_ints.specs.declared.integers.IntType.TheVariants as ty
 use Rattle.cpa_expr.specs.declared.tree.Expr.{Expr}
 use Rattle.cpa_expr.specs.Shape.{type_of, height}
-use Rattle.c_symbols.specs.declared.operators.BinaryOperator.{BinaryOperator}
-use Rattle.c_symbols.specs.declared.operators.BinaryOperator.TheVariants as binary
-use Rattle.c_symbols.specs.declared.operators.AssignmentOperator.{AssignmentOperator}
-use Rattle.c_symbols.specs.declared.operators.StepOperator.{StepOperator}
-use Rattle.c_symbols.specs.declared.operators.StepOperator.TheVariants as step
-use Rattle.c_rules.specs.declared.meaning.Meaning.{Meaning}
-use Rattle.c_rules.specs.declared.meaning.Meaning.TheVariants as meaning
+use Rattle.c_grammar_symbols.specs.declared.operators.BinaryOperator.{BinaryOperator}
+use Rattle.c_grammar_symbols.specs.declared.operators.BinaryOperator.TheVariants as binary
+use Rattle.c_grammar_symbols.specs.declared.operators.AssignmentOperator.{AssignmentOperator}
+use Rattle.c_grammar_symbols.specs.declared.operators.StepOperator.{StepOperator}
+use Rattle.c_grammar_symbols.specs.declared.operators.StepOperator.TheVariants as step
+use Rattle.c_types_rules.specs.declared.meaning.Meaning.{Meaning}
+use Rattle.c_types_rules.specs.declared.meaning.Meaning.TheVariants as meaning
 use Rattle.c_core_rules.specs.declared.tree.Location.{Location}
 use Rattle.c_core_rules.specs.declared.tree.Valued.{Valued}
 use Rattle.c_core_rules.specs.Values.{is_constant, scalar, element, first_index, int, cell_at}
@@ -24,9 +24,9 @@ use Rattle.c_core_rules.specs.Places as places
 use Rattle.c_core_rules.specs.Expressions.{placed, assigning, incrementing, stepping}
 use Rattle.c_core_rules.specs.Expressions.{scalar_target, element_target, no_target}
 use Rattle.c_core_rules.specs.Expressions as rows
-use Rattle.c_rules.specs.Counts.{Size, Counted, empty, both, one, type_named}
-use Rattle.c_rules.specs.Counts.{operator_of}
-use Rattle.c_rules.specs.Counts as counts
+use Rattle.c_types_rules.specs.Counts.{Size, Counted, empty, both, one, type_named}
+use Rattle.c_types_rules.specs.Counts.{operator_of}
+use Rattle.c_types_rules.specs.Counts as counts
 use Rattle.c_core_laws.proofs.Sums.{size_is, both_assoc, empty_both}
 use Rattle.c_core_laws.proofs.Heights.{first_height, element_height, element_type}
 use Rattle.c_core_laws.proofs.Heights.{constant_element, tall, int_type_is, int_height}

@@ -3,7 +3,7 @@ use Rattle.std.proofs.Common.{◌≡◌, ℕ, suc, ◌+◌, max, List, [], ◌�
 use Rattle.std.proofs.Common.{sym, ◌∙◌, subst, arith, length-append}
 use Rattle.cpa_expr.specs.Shape.{greatest}
 use Rattle.cpa_model.specs.declared.program.Stmt.{Stmt}
-use Rattle.c_rules.specs.Counts.{Size, both, one, empty, joined_sizes}
+use Rattle.c_types_rules.specs.Counts.{Size, both, one, empty, joined_sizes}
 use Rattle.c_core_rules.specs.declared.tree.CoreTree.{CoreTree, roll-CoreTree}
 use Rattle.c_core_rules.specs.declared.tree.CoreTree.TheOpen.{CoreTree-F}
 use Rattle.c_core_rules.specs.declared.tree.CoreTree.TheFolds.{map-CoreTree, ind-CoreTree}

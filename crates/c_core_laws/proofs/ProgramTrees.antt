@@ -9,7 +9,7 @@ use Rattle.cpa_model.specs.declared.program.Successor.{Successor}
 use Rattle.cpa_model.specs.declared.program.Program.{Program}
 use Rattle.cpa_model.specs.Programs.{IsStmt, IsBody, IsPart, after_part}
 use Rattle.cpa_model.specs.lemmas.Parts.{part_of_place}
-use Rattle.c_rules.specs.declared.typed.TypedUnit.{TypedUnit}
+use Rattle.c_types_rules.specs.declared.typed.TypedUnit.{TypedUnit}
 use Rattle.c_core_rules.specs.declared.tree.CoreTree.{CoreTree, roll-CoreTree}
 use Rattle.c_core_rules.specs.declared.tree.CoreTree.TheOpen.{CoreTree-F}
 use Rattle.c_core_rules.specs.declared.tree.CoreTree.TheFolds.{map-CoreTree, ind-CoreTree}

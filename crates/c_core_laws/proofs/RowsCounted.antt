@@ -10,17 +10,17 @@ use Rattle.cpa_ints.specs.declared.integers.IntType.TheVariants as ty
 use Rattle.cpa_expr.specs.declared.tree.Expr.TheVariants.{Const}
 use Rattle.cpa_expr.specs.Shape.{height}
 use Rattle.cpa_expr.specs.Laws.{type_at_variants, height_at_variants}
-use Rattle.c_symbols.specs.declared.operators.BinaryOperator.{BinaryOperator}
-use Rattle.c_symbols.specs.declared.operators.StepOperator.{StepOperator}
-use Rattle.c_rules.specs.declared.known.KnownFunction.{KnownFunction}
-use Rattle.c_rules.specs.declared.known.KnownFunction.TheVariants as known
-use Rattle.c_rules.specs.declared.meaning.Kind.{Kind}
-use Rattle.c_rules.specs.declared.meaning.Kind.TheVariants.{Void, Value}
-use Rattle.c_rules.specs.declared.meaning.Function.{Function}
-use Rattle.c_rules.specs.declared.meaning.Meaning.{Meaning}
-use Rattle.c_rules.specs.declared.meaning.Meaning.TheVariants as meaning
-use Rattle.c_rules.specs.Types.{object_type}
-use Rattle.c_rules.specs.declared.typed.TypedExpression.TheOpen.{TypedSuffix-F}
+use Rattle.c_grammar_symbols.specs.declared.operators.BinaryOperator.{BinaryOperator}
+use Rattle.c_grammar_symbols.specs.declared.operators.StepOperator.{StepOperator}
+use Rattle.c_types_rules.specs.declared.known.KnownFunction.{KnownFunction}
+use Rattle.c_types_rules.specs.declared.known.KnownFunction.TheVariants as known
+use Rattle.c_types_rules.specs.declared.meaning.Kind.{Kind}
+use Rattle.c_types_rules.specs.declared.meaning.Kind.TheVariants.{Void, Value}
+use Rattle.c_types_rules.specs.declared.meaning.Function.{Function}
+use Rattle.c_types_rules.specs.declared.meaning.Meaning.{Meaning}
+use Rattle.c_types_rules.specs.declared.meaning.Meaning.TheVariants as meaning
+use Rattle.c_types_rules.specs.Types.{object_type}
+use Rattle.c_types_rules.specs.declared.typed.TypedExpression.TheOpen.{TypedSuffix-F}
 use Rattle.c_core_rules.specs.declared.tree.Head.TheVariants as head
 use Rattle.c_core_rules.specs.declared.tree.Location.{Location}
 use Rattle.c_core_rules.specs.declared.tree.Valued.{Valued}
@@ -30,8 +30,8 @@ use Rattle.c_core_rules.specs.Cells.{location_in}
 use Rattle.c_core_rules.specs.Cells as core
 use Rattle.c_core_rules.specs.Acts as acts
 use Rattle.c_core_rules.specs.Expressions as rows
-use Rattle.c_rules.specs.Counts.{Size, Counted, empty, both, one, type_named}
-use Rattle.c_rules.specs.Counts as counts
+use Rattle.c_types_rules.specs.Counts.{Size, Counted, empty, both, one, type_named}
+use Rattle.c_types_rules.specs.Counts as counts
 use Rattle.c_core_laws.proofs.Heights.{constant_const, tall}
 use Rattle.c_core_laws.proofs.Following.{Follows, of_values, of_trees, seen}
 use Rattle.c_core_laws.proofs.Following.{trees_size, given}

@@ -2,16 +2,18 @@
 use Rattle.std.proofs.Common.{◌≡◌, List, [], ◌∷◌, map, sym, subst}
 use Rattle.std.proofs.Common.{true, false}
 use Rattle.std.specs.List.{AllByRecursion}
-use Rattle.c_symbols.specs.declared.operators.BinaryOperator.{BinaryOperator}
+use Rattle.c_grammar_symbols.specs.declared.operators.BinaryOperator.{BinaryOperator}
 use Rattle.cpa_expr.specs.declared.tree.Expr.TheVariants.{Const}
 use Rattle.cpa_ints.specs.declared.integers.IntType.TheVariants as ty
-use Rattle.c_rules.specs.Counts.{is_void}
-use Rattle.c_rules.specs.declared.typed.TypedExpression.{TypedExpression, roll-TypedExpression}
-use Rattle.c_rules.specs.declared.typed.TypedExpression.TheOpen.{TypedExpression-F, TypedSuffix-F}
-use Rattle.c_rules.specs.declared.typed.TypedExpression.TheFolds.{ind-TypedExpression}
-use Rattle.c_rules.specs.declared.typed.TypedExpression.TheFolds.{map-TypedExpression}
-use Rattle.c_rules.specs.declared.typed.TypedExpression.TheFolds.{map-TypedSuffix}
-use Rattle.c_rules.specs.declared.typed.TypedSuffix.{TypedSuffix, roll-TypedSuffix}
+use Rattle.c_types_rules.specs.Counts.{is_void}
+use Rattle.c_types_rules.specs.declared.typed.TypedExpression.{TypedExpression}
+use Rattle.c_types_rules.specs.declared.typed.TypedExpression.{roll-TypedExpression}
+use Rattle.c_types_rules.specs.declared.typed.TypedExpression.TheOpen.{TypedExpression-F}
+use Rattle.c_types_rules.specs.declared.typed.TypedExpression.TheOpen.{TypedSuffix-F}
+use Rattle.c_types_rules.specs.declared.typed.TypedExpression.TheFolds.{ind-TypedExpression}
+use Rattle.c_types_rules.specs.declared.typed.TypedExpression.TheFolds.{map-TypedExpression}
+use Rattle.c_types_rules.specs.declared.typed.TypedExpression.TheFolds.{map-TypedSuffix}
+use Rattle.c_types_rules.specs.declared.typed.TypedSuffix.{TypedSuffix, roll-TypedSuffix}
 use Rattle.c_core_rules.specs.Trees.{pure}
 use Rattle.c_core_rules.specs.Cells as core
 use Rattle.c_core_rules.specs.Acts as acts

@@ -16,8 +16,8 @@ use Rattle.c_core_rules.specs.Values.{conv, first_index}
 use Rattle.c_core_rules.specs.Acts.{is_nil}
 use Rattle.c_core_rules.specs.Trees as tree
 use Rattle.c_core_rules.specs.Trees.{Trees}
-use Rattle.c_rules.specs.Counts.{Size, empty, one, both, converted_height, looped}
-use Rattle.c_rules.specs.Counts as counts
+use Rattle.c_types_rules.specs.Counts.{Size, empty, one, both, converted_height, looped}
+use Rattle.c_types_rules.specs.Counts as counts
 use Rattle.c_core_laws.proofs.Sums.{both_assoc, empty_both, both_empty}
 use Rattle.c_core_laws.proofs.Heights.{conv_height, first_height}
 use Rattle.c_core_laws.proofs.Following.{head_height, node_size, tree_size, trees_size}

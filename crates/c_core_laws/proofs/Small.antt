@@ -12,11 +12,11 @@ use Rattle.cpa_model.specs.declared.program.Cell.{Cell}
 use Rattle.cpa_model.specs.declared.program.Stmt.{Stmt}
 use Rattle.cpa_model.specs.declared.program.Program.{Program}
 use Rattle.c_lexer.specs.declared.fault.Rule.TheVariants as rule
-use Rattle.c_tree.specs.declared.item.Unit.{Unit as UnitTree}
-use Rattle.c_rules.specs.declared.TheConstants.{MAX_CELLS, MAX_POINTS}
-use Rattle.c_rules.specs.Counts.{Size, Made}
-use Rattle.c_rules.specs.Sound.{Sound, counts, typed_unit, unit_globals, unit_functions}
-use Rattle.c_rules.specs.Sound.{is_too_large}
+use Rattle.c_grammar_tree.specs.declared.item.Unit.{Unit as UnitTree}
+use Rattle.c_types_rules.specs.declared.TheConstants.{MAX_CELLS, MAX_POINTS}
+use Rattle.c_types_rules.specs.Counts.{Size, Made}
+use Rattle.c_types_rules.specs.Sound.{Sound, counts, typed_unit, unit_globals, unit_functions}
+use Rattle.c_types_rules.specs.Sound.{is_too_large}
 use Rattle.c_core_rules.specs.Programs.{IsCore}
 use Rattle.c_core_laws.specs.Sizes.{IsCounted, IsSmall, stmt_height}
 use Rattle.c_core_laws.proofs.CoreCounted.{core_counted}

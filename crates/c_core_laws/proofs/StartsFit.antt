@@ -12,35 +12,39 @@ use Rattle.cpa_ints.specs.lemmas.Arithmetic.{wrapped_in_range}
 use Rattle.cpa_expr.specs.Equality.{same_type}
 use Rattle.c_lexer.specs.declared.fault.Rule.TheVariants as rule
 use Rattle.c_lexer.specs.declared.fault.TextFault.{TextFault}
-use Rattle.c_tree.specs.declared.expression.Expression.{Expression}
-use Rattle.c_tree.specs.declared.declaration.Specifiers.{Specifiers}
-use Rattle.c_tree.specs.declared.declaration.Declarator.{Declarator}
-use Rattle.c_tree.specs.declared.declaration.Initializer.{Initializer}
-use Rattle.c_tree.specs.declared.item.FunctionDeclarator.{FunctionDeclarator}
-use Rattle.c_tree.specs.declared.item.Body.{Body}
-use Rattle.c_tree.specs.declared.item.Body.TheVariants as body
-use Rattle.c_tree.specs.declared.item.Item.{Item}
-use Rattle.c_tree.specs.declared.item.Item.TheVariants as item
-use Rattle.c_tree.specs.declared.item.Unit.{Unit as UnitTree}
-use Rattle.c_rules.specs.declared.meaning.Object.{Object}
-use Rattle.c_rules.specs.declared.meaning.Declared.{Declared}
-use Rattle.c_rules.specs.declared.meaning.Declared.TheVariants as declared
-use Rattle.c_rules.specs.declared.meaning.Entry.{Entry}
-use Rattle.c_rules.specs.declared.typed.Global.{Global}
-use Rattle.c_rules.specs.Names.{Text, declared_as}
-use Rattle.c_rules.specs.ExpressionRules.{broken, uses_faults}
-use Rattle.c_rules.specs.Declarations.{kind_of, items_of, constant_number, length_faults}
-use Rattle.c_rules.specs.Declarations.{length_uses, void_object, void_parameter}
-use Rattle.c_rules.specs.Items.{Before, text_of, one_type, merged_object, redeclares_object}
-use Rattle.c_rules.specs.Items.{global_of, global_behind, redeclared_object, start_faults}
-use Rattle.c_rules.specs.Items.{global_faults, globals_behind, globals_faults, merged_function}
-use Rattle.c_rules.specs.Items.{redeclares_function, redeclared_function, function_behind}
-use Rattle.c_rules.specs.Items.{head_faults, parameter_types, body_sites, body_faults, body_behind}
-use Rattle.c_rules.specs.Items.{item_behind, item_faults, items_faults, nothing_before, listed}
-use Rattle.c_rules.specs.Items.{same_length}
-use Rattle.c_rules.specs.Sound.{Sound, Start, start_of, starts_in, item_starts, starts_of}
-use Rattle.c_rules.specs.Sound.{items_behind, object_names, object_in, start_values, global_named}
-use Rattle.c_rules.specs.Sound.{unit_globals}
+use Rattle.c_grammar_tree.specs.declared.expression.Expression.{Expression}
+use Rattle.c_grammar_tree.specs.declared.declaration.Specifiers.{Specifiers}
+use Rattle.c_grammar_tree.specs.declared.declaration.Declarator.{Declarator}
+use Rattle.c_grammar_tree.specs.declared.declaration.Initializer.{Initializer}
+use Rattle.c_grammar_tree.specs.declared.item.FunctionDeclarator.{FunctionDeclarator}
+use Rattle.c_grammar_tree.specs.declared.item.Body.{Body}
+use Rattle.c_grammar_tree.specs.declared.item.Body.TheVariants as body
+use Rattle.c_grammar_tree.specs.declared.item.Item.{Item}
+use Rattle.c_grammar_tree.specs.declared.item.Item.TheVariants as item
+use Rattle.c_grammar_tree.specs.declared.item.Unit.{Unit as UnitTree}
+use Rattle.c_types_rules.specs.declared.meaning.Object.{Object}
+use Rattle.c_types_rules.specs.declared.meaning.Declared.{Declared}
+use Rattle.c_types_rules.specs.declared.meaning.Declared.TheVariants as declared
+use Rattle.c_types_rules.specs.declared.meaning.Entry.{Entry}
+use Rattle.c_types_rules.specs.declared.typed.Global.{Global}
+use Rattle.c_types_rules.specs.Names.{Text, declared_as}
+use Rattle.c_types_rules.specs.ExpressionRules.{broken, uses_faults}
+use Rattle.c_types_rules.specs.Declarations.{kind_of, items_of, constant_number, length_faults}
+use Rattle.c_types_rules.specs.Declarations.{length_uses, void_object, void_parameter}
+use Rattle.c_types_rules.specs.Items.{Before, text_of, one_type, merged_object, redeclares_object}
+use Rattle.c_types_rules.specs.Items.{global_of, global_behind, redeclared_object, start_faults}
+use Rattle.c_types_rules.specs.Items.{global_faults, globals_behind, globals_faults}
+use Rattle.c_types_rules.specs.Items.{merged_function}
+use Rattle.c_types_rules.specs.Items.{redeclares_function, redeclared_function, function_behind}
+use Rattle.c_types_rules.specs.Items.{head_faults, parameter_types, body_sites, body_faults}
+use Rattle.c_types_rules.specs.Items.{body_behind}
+use Rattle.c_types_rules.specs.Items.{item_behind, item_faults, items_faults, nothing_before}
+use Rattle.c_types_rules.specs.Items.{listed}
+use Rattle.c_types_rules.specs.Items.{same_length}
+use Rattle.c_types_rules.specs.Sound.{Sound, Start, start_of, starts_in, item_starts, starts_of}
+use Rattle.c_types_rules.specs.Sound.{items_behind, object_names, object_in, start_values}
+use Rattle.c_types_rules.specs.Sound.{global_named}
+use Rattle.c_types_rules.specs.Sound.{unit_globals}
 use Rattle.c_core_laws.specs.lemmas.Faults.{NoFaults, none_left, none_right, not_broken, no_fault}
 use Rattle.c_core_laws.specs.lemmas.Entries.{push_named, push_other, same_object}
 use Rattle.c_core_laws.specs.lemmas.MadeValues.{type_same}

@@ -6,11 +6,11 @@ use Rattle.cpa_ints.specs.declared.integers.IntType.{IntType}
 use Rattle.cpa_ints.specs.Integers.{IsInRange}
 use Rattle.cpa_model.specs.declared.program.Cell.{Cell}
 use Rattle.cpa_model.specs.declared.program.Program.{Program}
-use Rattle.c_tree.specs.declared.item.Unit.{Unit as UnitTree}
-use Rattle.c_rules.specs.declared.typed.Global.{Global}
-use Rattle.c_rules.specs.declared.typed.TypedUnit.{TypedUnit}
-use Rattle.c_rules.specs.Counts.{cells_of}
-use Rattle.c_rules.specs.Sound.{Sound, typed_unit, unit_globals}
+use Rattle.c_grammar_tree.specs.declared.item.Unit.{Unit as UnitTree}
+use Rattle.c_types_rules.specs.declared.typed.Global.{Global}
+use Rattle.c_types_rules.specs.declared.typed.TypedUnit.{TypedUnit}
+use Rattle.c_types_rules.specs.Counts.{cells_of}
+use Rattle.c_types_rules.specs.Sound.{Sound, typed_unit, unit_globals}
 use Rattle.c_core_rules.specs.Cells.{Taken, cell, cells_with, taking, nothing_taken}
 use Rattle.c_core_rules.specs.Statements.{receiving_globals}
 use Rattle.c_core_rules.specs.Programs.{IsCore, text_core}

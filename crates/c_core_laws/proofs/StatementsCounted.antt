@@ -9,17 +9,17 @@ use Rattle.cpa_expr.specs.declared.tree.Expr.TheVariants.{Const}
 use Rattle.cpa_expr.specs.Shape.{type_of, height}
 use Rattle.cpa_expr.specs.Laws.{type_at_variants, height_at_variants}
 use Rattle.cpa_model.specs.declared.program.Cell.{Cell}
-use Rattle.c_rules.specs.declared.meaning.Kind.{Kind}
-use Rattle.c_rules.specs.declared.meaning.Kind.TheVariants.{Void, Value}
-use Rattle.c_rules.specs.declared.meaning.Object.{Object}
-use Rattle.c_rules.specs.declared.typed.TypedExpression.{TypedExpression}
-use Rattle.c_rules.specs.declared.typed.TypedInitializer.{TypedInitializer}
-use Rattle.c_rules.specs.declared.typed.TypedInitializer.TheVariants as initializer
-use Rattle.c_rules.specs.declared.typed.TypedDeclarator.{TypedDeclarator}
-use Rattle.c_rules.specs.declared.typed.TypedForStart.{TypedForStart}
-use Rattle.c_rules.specs.declared.typed.TypedForStart.TheVariants as start
-use Rattle.c_rules.specs.Counts.{empty, both, one, cells_of}
-use Rattle.c_rules.specs.Counts as counts
+use Rattle.c_types_rules.specs.declared.meaning.Kind.{Kind}
+use Rattle.c_types_rules.specs.declared.meaning.Kind.TheVariants.{Void, Value}
+use Rattle.c_types_rules.specs.declared.meaning.Object.{Object}
+use Rattle.c_types_rules.specs.declared.typed.TypedExpression.{TypedExpression}
+use Rattle.c_types_rules.specs.declared.typed.TypedInitializer.{TypedInitializer}
+use Rattle.c_types_rules.specs.declared.typed.TypedInitializer.TheVariants as initializer
+use Rattle.c_types_rules.specs.declared.typed.TypedDeclarator.{TypedDeclarator}
+use Rattle.c_types_rules.specs.declared.typed.TypedForStart.{TypedForStart}
+use Rattle.c_types_rules.specs.declared.typed.TypedForStart.TheVariants as start
+use Rattle.c_types_rules.specs.Counts.{empty, both, one, cells_of}
+use Rattle.c_types_rules.specs.Counts as counts
 use Rattle.c_core_rules.specs.declared.tree.Head.TheVariants as head
 use Rattle.c_core_rules.specs.declared.tree.Location.{Location}
 use Rattle.c_core_rules.specs.Values.{cell_at}

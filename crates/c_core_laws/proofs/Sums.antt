@@ -1,6 +1,6 @@
 -- Sizes one after the other.
 use Rattle.std.proofs.Common.{◌≡◌, ap, ◌∙◌, arith}
-use Rattle.c_rules.specs.Counts.{Size, empty, both}
+use Rattle.c_types_rules.specs.Counts.{Size, empty, both}
 
 -- two sizes of the same points and the same height
 pub size_is : (a b : Size) → a.points ≡ b.points → a.tallest ≡ b.tallest → a ≡ b

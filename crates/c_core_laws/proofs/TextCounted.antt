@@ -4,14 +4,14 @@ use Rattle.std.proofs.Common.{sym}
 use Rattle.std.proofs.Common.{◌∙◌}
 use Rattle.std.proofs.lemmas.List.{length-map}
 use Rattle.cpa_ints.specs.declared.integers.IntType.{IntType}
-use Rattle.c_rules.specs.declared.meaning.Object.{Object}
-use Rattle.c_rules.specs.declared.typed.TypedItem.{TypedItem}
-use Rattle.c_rules.specs.declared.typed.TypedFunction.{TypedFunction}
-use Rattle.c_rules.specs.declared.typed.Global.{Global}
-use Rattle.c_rules.specs.Types.{object_type}
-use Rattle.c_rules.specs.Counts.{Size, both, one, empty, cells_of, joined_sizes, heads_of}
-use Rattle.c_rules.specs.Counts as counts
-use Rattle.c_rules.specs.Sound as sound
+use Rattle.c_types_rules.specs.declared.meaning.Object.{Object}
+use Rattle.c_types_rules.specs.declared.typed.TypedItem.{TypedItem}
+use Rattle.c_types_rules.specs.declared.typed.TypedFunction.{TypedFunction}
+use Rattle.c_types_rules.specs.declared.typed.Global.{Global}
+use Rattle.c_types_rules.specs.Types.{object_type}
+use Rattle.c_types_rules.specs.Counts.{Size, both, one, empty, cells_of, joined_sizes, heads_of}
+use Rattle.c_types_rules.specs.Counts as counts
+use Rattle.c_types_rules.specs.Sound as sound
 use Rattle.cpa_model.specs.declared.program.Cell.{Cell}
 use Rattle.c_core_rules.specs.declared.tree.CoreTree.{CoreTree}
 use Rattle.c_core_rules.specs.declared.tree.Location.{Location}

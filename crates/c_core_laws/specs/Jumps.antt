@@ -2,10 +2,10 @@
 -- lead where they may (C11 6.8.1 and 6.8.6).
 use Rattle.std.specs.Prelude.{ℕ, ◌+◌, Bool, true, false, ◌||◌, List, [], ◌∷◌, ◌++◌, map, Option}
 use Rattle.std.specs.Prelude.{None, Some, ⊤}
-use Rattle.c_rules.specs.declared.typed.TypedItem.{TypedItem}
-use Rattle.c_rules.specs.declared.typed.TypedItem.TheOpen.{TypedItem-F, TypedStatement-F}
-use Rattle.c_rules.specs.declared.typed.TypedItem.TheFolds.{fold-TypedItem}
-use Rattle.c_rules.specs.declared.typed.TypedFunction.{TypedFunction}
+use Rattle.c_types_rules.specs.declared.typed.TypedItem.{TypedItem}
+use Rattle.c_types_rules.specs.declared.typed.TypedItem.TheOpen.{TypedItem-F, TypedStatement-F}
+use Rattle.c_types_rules.specs.declared.typed.TypedItem.TheFolds.{fold-TypedItem}
+use Rattle.c_types_rules.specs.declared.typed.TypedFunction.{TypedFunction}
 use Rattle.c_core_rules.specs.declared.tree.CoreTree.{CoreTree}
 use Rattle.c_core_rules.specs.declared.tree.CoreTree.TheOpen.{CoreTree-F}
 use Rattle.c_core_rules.specs.declared.tree.CoreTree.TheFolds.{fold-CoreTree}

@@ -10,7 +10,7 @@ use Rattle.cpa_model.specs.declared.program.Program.{Program}
 use Rattle.cpa_model.specs.declared.program.TheConstants.{MAX_CELLS, MAX_POINTS}
 use Rattle.cpa_model.specs.Expressions.{types_of}
 use Rattle.cpa_model.specs.Programs.{point_count}
-use Rattle.c_rules.specs.Counts.{Size, Made}
+use Rattle.c_types_rules.specs.Counts.{Size, Made}
 
 -- the height of the highest expression of a statement
 abbrev pub stmt_height : Stmt → ℕ

@@ -3,7 +3,7 @@ use Rattle.std.specs.Prelude.{◌≡◌, ℕ, List, Some, slice_get}
 use Rattle.cpa_model.specs.declared.program.Stmt.{Stmt}
 use Rattle.cpa_model.specs.declared.program.Program.{Program}
 use Rattle.cpa_model.specs.Programs.{InFunction}
-use Rattle.c_rules.specs.declared.typed.TypedUnit.{TypedUnit}
+use Rattle.c_types_rules.specs.declared.typed.TypedUnit.{TypedUnit}
 use Rattle.c_core_rules.specs.declared.tree.CoreTree.{CoreTree}
 use Rattle.c_core_rules.specs.Programs.{Placed, statements, stmt_of, text_core}
 

@@ -4,11 +4,11 @@ use Rattle.std.specs.Prelude.{◌≡◌, ℕ, List, [], ◌∷◌, length, map, 
 use Rattle.std.specs.List.{AllByRecursion}
 use Rattle.cpa_ints.specs.declared.integers.IntType.{IntType}
 use Rattle.cpa_model.specs.declared.program.Cell.{Cell}
-use Rattle.c_rules.specs.declared.meaning.Kind.TheVariants.{Value}
-use Rattle.c_rules.specs.declared.meaning.Object.{Object}
-use Rattle.c_rules.specs.declared.typed.Cell.{Cell as TypedCell}
-use Rattle.c_rules.specs.declared.typed.TypedFunction.{TypedFunction}
-use Rattle.c_rules.specs.declared.typed.TypedUnit.{TypedUnit}
+use Rattle.c_types_rules.specs.declared.meaning.Kind.TheVariants.{Value}
+use Rattle.c_types_rules.specs.declared.meaning.Object.{Object}
+use Rattle.c_types_rules.specs.declared.typed.Cell.{Cell as TypedCell}
+use Rattle.c_types_rules.specs.declared.typed.TypedFunction.{TypedFunction}
+use Rattle.c_types_rules.specs.declared.typed.TypedUnit.{TypedUnit}
 use Rattle.c_core_rules.specs.Cells.{Taken, nothing_taken}
 use Rattle.c_core_rules.specs.Expressions.{Frame, Frames}
 use Rattle.c_core_rules.specs.Statements.{function_rule, receiving_globals}

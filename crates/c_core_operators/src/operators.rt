@@ -7,9 +7,9 @@ ghost use Rattle.cpa_expr.specs.Shape.{type_of};
 ghost use Rattle.c_core_rules.specs.Values.{conv, promote, node_of, operator_value, signed_value};
 ghost use Rattle.c_core_rules.specs.Values.{chosen_value, truth_of, is_constant};
 
-use c_rules::is_shift;
-use c_symbols::BinaryOperator;
-use c_tree::UnaryOperator;
+use c_grammar_symbols::BinaryOperator;
+use c_grammar_tree::UnaryOperator;
+use c_types_rules::is_shift;
 use cpa_expr::{BinOp, CmpOp, Expr, UnOp, type_of};
 use cpa_ints::{Boxed, IntType, common, promote as promoted};
 use std::alloc::{AllocError, Global};

@@ -7,9 +7,9 @@ use Rattle.cpa_ints.specs.Conversions.{common_type}
 use Rattle.cpa_expr.specs.declared.tree.Expr.{Expr}
 use Rattle.cpa_expr.specs.declared.tree.Expr.TheVariants.{And, Or}
 use Rattle.cpa_expr.specs.Shape.{type_of}
-use Rattle.c_symbols.specs.declared.operators.BinaryOperator.{BinaryOperator}
-use Rattle.c_symbols.specs.declared.operators.BinaryOperator.TheVariants as binary
-use Rattle.c_tree.specs.declared.expression.UnaryOperator.{UnaryOperator}
+use Rattle.c_grammar_symbols.specs.declared.operators.BinaryOperator.{BinaryOperator}
+use Rattle.c_grammar_symbols.specs.declared.operators.BinaryOperator.TheVariants as binary
+use Rattle.c_grammar_tree.specs.declared.expression.UnaryOperator.{UnaryOperator}
 use Rattle.c_core_rules.specs.declared.tree.Valued.{Valued}
 use Rattle.c_core_rules.specs.Values.{conv, operator_value, signed_value, chosen_value, truth_of}
 use Rattle.c_core_rules.specs.Values.{int, scalar, is_constant}

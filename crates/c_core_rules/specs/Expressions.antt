@@ -5,24 +5,25 @@ use Rattle.std.specs.Prelude.{◌∷◌, ◌++◌, map, Option, None, Some, unwr
 use Rattle.cpa_ints.specs.declared.integers.IntType.TheVariants as ty
 use Rattle.cpa_expr.specs.declared.tree.Expr.{Expr}
 use Rattle.cpa_expr.specs.declared.tree.Expr.TheVariants.{Const}
-use Rattle.c_symbols.specs.declared.operators.BinaryOperator.{BinaryOperator}
-use Rattle.c_symbols.specs.declared.operators.AssignmentOperator.{AssignmentOperator}
-use Rattle.c_symbols.specs.declared.operators.StepOperator.{StepOperator}
-use Rattle.c_rules.specs.declared.known.KnownFunction.{KnownFunction}
-use Rattle.c_rules.specs.declared.known.KnownFunction.TheVariants as known
-use Rattle.c_rules.specs.declared.meaning.Kind.{Kind}
-use Rattle.c_rules.specs.declared.meaning.Kind.TheVariants.{Void, Value}
-use Rattle.c_rules.specs.declared.meaning.Object.{Object}
-use Rattle.c_rules.specs.declared.meaning.Function.{Function}
-use Rattle.c_rules.specs.declared.meaning.Meaning.{Meaning}
-use Rattle.c_rules.specs.declared.meaning.Meaning.TheVariants as meaning
-use Rattle.c_rules.specs.declared.typed.TypedExpression.{TypedExpression}
-use Rattle.c_rules.specs.declared.typed.TypedExpression.TheOpen.{TypedExpression-F, TypedSuffix-F}
-use Rattle.c_rules.specs.declared.typed.TypedExpression.TheFolds.{fold-TypedExpression}
-use Rattle.c_rules.specs.declared.typed.TypedFunction.{TypedFunction}
-use Rattle.c_rules.specs.Types.{object_type}
-use Rattle.c_rules.specs.Known.{known_result}
-use Rattle.c_rules.specs.Counts.{cells_of, operator_of, is_void}
+use Rattle.c_grammar_symbols.specs.declared.operators.BinaryOperator.{BinaryOperator}
+use Rattle.c_grammar_symbols.specs.declared.operators.AssignmentOperator.{AssignmentOperator}
+use Rattle.c_grammar_symbols.specs.declared.operators.StepOperator.{StepOperator}
+use Rattle.c_types_rules.specs.declared.known.KnownFunction.{KnownFunction}
+use Rattle.c_types_rules.specs.declared.known.KnownFunction.TheVariants as known
+use Rattle.c_types_rules.specs.declared.meaning.Kind.{Kind}
+use Rattle.c_types_rules.specs.declared.meaning.Kind.TheVariants.{Void, Value}
+use Rattle.c_types_rules.specs.declared.meaning.Object.{Object}
+use Rattle.c_types_rules.specs.declared.meaning.Function.{Function}
+use Rattle.c_types_rules.specs.declared.meaning.Meaning.{Meaning}
+use Rattle.c_types_rules.specs.declared.meaning.Meaning.TheVariants as meaning
+use Rattle.c_types_rules.specs.declared.typed.TypedExpression.{TypedExpression}
+use Rattle.c_types_rules.specs.declared.typed.TypedExpression.TheOpen.{TypedExpression-F}
+use Rattle.c_types_rules.specs.declared.typed.TypedExpression.TheOpen.{TypedSuffix-F}
+use Rattle.c_types_rules.specs.declared.typed.TypedExpression.TheFolds.{fold-TypedExpression}
+use Rattle.c_types_rules.specs.declared.typed.TypedFunction.{TypedFunction}
+use Rattle.c_types_rules.specs.Types.{object_type}
+use Rattle.c_types_rules.specs.Known.{known_result}
+use Rattle.c_types_rules.specs.Counts.{cells_of, operator_of, is_void}
 use Rattle.c_core_rules.specs.declared.tree.Head.TheVariants as head
 use Rattle.c_core_rules.specs.declared.tree.Location.{Location}
 use Rattle.c_core_rules.specs.declared.tree.Place.{Place}

@@ -13,12 +13,12 @@ use Rattle.cpa_expr.specs.declared.tree.Expr.TheVariants.{Const, Read, Un, Bin, 
 use Rattle.cpa_expr.specs.declared.tree.Expr.TheVariants.{And, Or, Not, Cond}
 use Rattle.cpa_expr.specs.Shape.{type_of}
 use Rattle.cpa_expr.specs.Equality.{same_type}
-use Rattle.c_symbols.specs.declared.operators.BinaryOperator.{BinaryOperator}
-use Rattle.c_symbols.specs.declared.operators.BinaryOperator.TheVariants as binary
-use Rattle.c_tree.specs.declared.expression.UnaryOperator.{UnaryOperator}
-use Rattle.c_tree.specs.declared.expression.UnaryOperator.TheVariants as unary
+use Rattle.c_grammar_symbols.specs.declared.operators.BinaryOperator.{BinaryOperator}
+use Rattle.c_grammar_symbols.specs.declared.operators.BinaryOperator.TheVariants as binary
+use Rattle.c_grammar_tree.specs.declared.expression.UnaryOperator.{UnaryOperator}
+use Rattle.c_grammar_tree.specs.declared.expression.UnaryOperator.TheVariants as unary
 use Rattle.c_core_rules.specs.declared.tree.Location.{Location}
-use Rattle.c_rules.specs.Counts.{is_shift}
+use Rattle.c_types_rules.specs.Counts.{is_shift}
 
 -- v converted to the type t (6.3.1): v itself where it has the type
 abbrev pub conv : Expr → IntType → Expr

@@ -8,25 +8,25 @@ use Rattle.std.specs.Str.{bytes_eq}
 use Rattle.std.specs.Cmp.Lexicographic.{bytes_decides}
 use Rattle.std.proofs.lemmas.Option.{same_Some}
 use Rattle.cpa_ints.specs.declared.integers.IntType.{IntType}
-use Rattle.c_tree.specs.declared.item.Parameter.{Parameter}
-use Rattle.c_tree.specs.declared.item.Body.TheVariants as body
-use Rattle.c_tree.specs.declared.item.Item.{Item}
-use Rattle.c_tree.specs.declared.item.Item.TheVariants as item
-use Rattle.c_rules.specs.declared.meaning.Kind.{Kind}
-use Rattle.c_rules.specs.declared.meaning.Object.{Object}
-use Rattle.c_rules.specs.declared.meaning.ParameterType.{ParameterType}
-use Rattle.c_rules.specs.declared.meaning.Declared.{Declared}
-use Rattle.c_rules.specs.declared.meaning.Declared.TheVariants as declared
-use Rattle.c_rules.specs.declared.meaning.Entry.{Entry}
-use Rattle.c_rules.specs.declared.typed.TypedFunction.{TypedFunction}
-use Rattle.c_rules.specs.Names.{Text, declared_as, place_of}
-use Rattle.c_rules.specs.Counts.{cells_of}
-use Rattle.c_rules.specs.Declarations.{kind_of}
-use Rattle.c_rules.specs.StatementRules.{site_faults, jump_faults}
-use Rattle.c_rules.specs.TypedStatements.{typed_function, parameter_objects}
-use Rattle.c_rules.specs.Items.{Before, listed, body_name, head_faults, body_sites}
-use Rattle.c_rules.specs.Items.{item_behind, item_faults, items_faults}
-use Rattle.c_rules.specs.Sound.{items_behind, functions_of}
+use Rattle.c_grammar_tree.specs.declared.item.Parameter.{Parameter}
+use Rattle.c_grammar_tree.specs.declared.item.Body.TheVariants as body
+use Rattle.c_grammar_tree.specs.declared.item.Item.{Item}
+use Rattle.c_grammar_tree.specs.declared.item.Item.TheVariants as item
+use Rattle.c_types_rules.specs.declared.meaning.Kind.{Kind}
+use Rattle.c_types_rules.specs.declared.meaning.Object.{Object}
+use Rattle.c_types_rules.specs.declared.meaning.ParameterType.{ParameterType}
+use Rattle.c_types_rules.specs.declared.meaning.Declared.{Declared}
+use Rattle.c_types_rules.specs.declared.meaning.Declared.TheVariants as declared
+use Rattle.c_types_rules.specs.declared.meaning.Entry.{Entry}
+use Rattle.c_types_rules.specs.declared.typed.TypedFunction.{TypedFunction}
+use Rattle.c_types_rules.specs.Names.{Text, declared_as, place_of}
+use Rattle.c_types_rules.specs.Counts.{cells_of}
+use Rattle.c_types_rules.specs.Declarations.{kind_of}
+use Rattle.c_types_rules.specs.StatementRules.{site_faults, jump_faults}
+use Rattle.c_types_rules.specs.TypedStatements.{typed_function, parameter_objects}
+use Rattle.c_types_rules.specs.Items.{Before, listed, body_name, head_faults, body_sites}
+use Rattle.c_types_rules.specs.Items.{item_behind, item_faults, items_faults}
+use Rattle.c_types_rules.specs.Sound.{items_behind, functions_of}
 use Rattle.c_core_rules.specs.declared.tree.Location.{Location}
 use Rattle.c_core_rules.specs.Values.{cell_at}
 use Rattle.c_core_rules.specs.Expressions.{Frame, Frames, frame_at, cells_from, behind_result}

@@ -9,26 +9,28 @@ use Rattle.std.specs.Str.{bytes_eq}
 use Rattle.std.specs.Cmp.Lexicographic.{bytes_decides}
 use Rattle.std.proofs.lemmas.Option.{same_Some}
 use Rattle.c_lexer.specs.declared.fault.Rule.TheVariants as rule
-use Rattle.c_tree.specs.declared.declaration.Specifiers.{Specifiers}
-use Rattle.c_tree.specs.declared.declaration.Declarator.{Declarator}
-use Rattle.c_tree.specs.declared.item.FunctionDeclarator.{FunctionDeclarator}
-use Rattle.c_rules.specs.declared.meaning.Kind.{Kind}
-use Rattle.c_rules.specs.declared.meaning.Kind.TheVariants.{Void, Value}
-use Rattle.c_rules.specs.declared.meaning.Object.{Object}
-use Rattle.c_rules.specs.declared.meaning.ParameterType.{ParameterType}
-use Rattle.c_rules.specs.declared.meaning.Declared.{Declared}
-use Rattle.c_rules.specs.declared.meaning.Declared.TheVariants as declared
-use Rattle.c_rules.specs.declared.meaning.Entry.{Entry}
-use Rattle.c_rules.specs.Names.{Text, declared_as, or_else}
-use Rattle.c_rules.specs.Counts.{cells_of}
-use Rattle.c_rules.specs.ExpressionRules.{broken, uses_faults}
-use Rattle.c_rules.specs.Declarations.{kind_of, items_of, length_faults, length_uses, void_object}
-use Rattle.c_rules.specs.Declarations.{void_parameter}
-use Rattle.c_rules.specs.Items.{Before, one_type, merged_object, redeclares_object, global_of}
-use Rattle.c_rules.specs.Items.{global_behind, redeclared_object, start_faults, global_faults}
-use Rattle.c_rules.specs.Items.{same_kind, merged_function, redeclares_function, parameter_types}
-use Rattle.c_rules.specs.Items.{redeclared_function, function_behind, head_faults, listed}
-use Rattle.c_rules.specs.Items.{agreeing_parameters}
+use Rattle.c_grammar_tree.specs.declared.declaration.Specifiers.{Specifiers}
+use Rattle.c_grammar_tree.specs.declared.declaration.Declarator.{Declarator}
+use Rattle.c_grammar_tree.specs.declared.item.FunctionDeclarator.{FunctionDeclarator}
+use Rattle.c_types_rules.specs.declared.meaning.Kind.{Kind}
+use Rattle.c_types_rules.specs.declared.meaning.Kind.TheVariants.{Void, Value}
+use Rattle.c_types_rules.specs.declared.meaning.Object.{Object}
+use Rattle.c_types_rules.specs.declared.meaning.ParameterType.{ParameterType}
+use Rattle.c_types_rules.specs.declared.meaning.Declared.{Declared}
+use Rattle.c_types_rules.specs.declared.meaning.Declared.TheVariants as declared
+use Rattle.c_types_rules.specs.declared.meaning.Entry.{Entry}
+use Rattle.c_types_rules.specs.Names.{Text, declared_as, or_else}
+use Rattle.c_types_rules.specs.Counts.{cells_of}
+use Rattle.c_types_rules.specs.ExpressionRules.{broken, uses_faults}
+use Rattle.c_types_rules.specs.Declarations.{kind_of, items_of, length_faults, length_uses}
+use Rattle.c_types_rules.specs.Declarations.{void_object}
+use Rattle.c_types_rules.specs.Declarations.{void_parameter}
+use Rattle.c_types_rules.specs.Items.{Before, one_type, merged_object, redeclares_object, global_of}
+use Rattle.c_types_rules.specs.Items.{global_behind, redeclared_object, start_faults, global_faults}
+use Rattle.c_types_rules.specs.Items.{same_kind, merged_function, redeclares_function}
+use Rattle.c_types_rules.specs.Items.{parameter_types}
+use Rattle.c_types_rules.specs.Items.{redeclared_function, function_behind, head_faults, listed}
+use Rattle.c_types_rules.specs.Items.{agreeing_parameters}
 use Rattle.c_core_laws.specs.lemmas.Faults.{NoFaults, none_left, none_right, not_broken}
 use Rattle.c_core_laws.specs.lemmas.Entries.{push_named, push_other}
 use Rattle.c_core_sound.specs.Whole.{whole_length}

@@ -9,24 +9,26 @@ use Rattle.std.specs.List.{AllByRecursion}
 use Rattle.std.proofs.lemmas.Int.{ints}
 use Rattle.cpa_ints.specs.declared.integers.IntType.{IntType}
 use Rattle.c_lexer.specs.declared.fault.Rule.TheVariants as rule
-use Rattle.c_tree.specs.declared.expression.Expression.{Expression}
-use Rattle.c_tree.specs.declared.declaration.Array.{Array}
-use Rattle.c_tree.specs.declared.declaration.Initializer.{Initializer}
-use Rattle.c_tree.specs.declared.declaration.Declarator.{Declarator}
-use Rattle.c_rules.specs.declared.meaning.Kind.TheVariants.{Value}
-use Rattle.c_rules.specs.declared.meaning.Entry.{Entry}
-use Rattle.c_rules.specs.declared.meaning.Meaning.{Meaning}
-use Rattle.c_rules.specs.declared.meaning.Meaning.TheVariants as meaning
-use Rattle.c_rules.specs.declared.meaning.Role.TheVariants.{Valued}
-use Rattle.c_rules.specs.Names.{Text, meaning_of}
-use Rattle.c_rules.specs.Types.{value_kind}
-use Rattle.c_rules.specs.Constants.{constant}
-use Rattle.c_rules.specs.Expressions.{Use, used, reading}
-use Rattle.c_rules.specs.ExpressionRules.{broken, at_if, use_faults, uses_faults}
-use Rattle.c_rules.specs.Declarations.{items_of, constant_number, inconstant, length_of, is_length}
-use Rattle.c_rules.specs.Declarations.{is_longer, given_length_faults, length_faults, length_uses}
-use Rattle.c_rules.specs.Items.{Call, use_calls}
-use Rattle.c_rules.specs.declared.TheConstants.{MAX_ELEMENTS}
+use Rattle.c_grammar_tree.specs.declared.expression.Expression.{Expression}
+use Rattle.c_grammar_tree.specs.declared.declaration.Array.{Array}
+use Rattle.c_grammar_tree.specs.declared.declaration.Initializer.{Initializer}
+use Rattle.c_grammar_tree.specs.declared.declaration.Declarator.{Declarator}
+use Rattle.c_types_rules.specs.declared.meaning.Kind.TheVariants.{Value}
+use Rattle.c_types_rules.specs.declared.meaning.Entry.{Entry}
+use Rattle.c_types_rules.specs.declared.meaning.Meaning.{Meaning}
+use Rattle.c_types_rules.specs.declared.meaning.Meaning.TheVariants as meaning
+use Rattle.c_types_rules.specs.declared.meaning.Role.TheVariants.{Valued}
+use Rattle.c_types_rules.specs.Names.{Text, meaning_of}
+use Rattle.c_types_rules.specs.Types.{value_kind}
+use Rattle.c_types_rules.specs.Constants.{constant}
+use Rattle.c_types_rules.specs.Expressions.{Use, used, reading}
+use Rattle.c_types_rules.specs.ExpressionRules.{broken, at_if, use_faults, uses_faults}
+use Rattle.c_types_rules.specs.Declarations.{items_of, constant_number, inconstant, length_of}
+use Rattle.c_types_rules.specs.Declarations.{is_length}
+use Rattle.c_types_rules.specs.Declarations.{is_longer, given_length_faults, length_faults}
+use Rattle.c_types_rules.specs.Declarations.{length_uses}
+use Rattle.c_types_rules.specs.Items.{Call, use_calls}
+use Rattle.c_types_rules.specs.declared.TheConstants.{MAX_ELEMENTS}
 use Rattle.c_core_laws.specs.lemmas.Faults.{NoFaults, none_left, none_right, not_broken}
 use Rattle.c_core_sound.specs.Whole.{is_whole, whole_optional, whole_length}
 use Rattle.c_core_sound.proofs.Fitting.{World}

@@ -11,33 +11,35 @@ use Rattle.cpa_ints.specs.Integers.{IsInRange, least, greatest}
 use Rattle.cpa_ints.specs.Conversions.{common_type}
 use Rattle.cpa_expr.specs.declared.tree.Expr.TheVariants.{Const}
 use Rattle.c_lexer.specs.declared.fault.Rule.TheVariants as rule
-use Rattle.c_symbols.specs.declared.operators.BinaryOperator.{BinaryOperator}
-use Rattle.c_tree.specs.declared.expression.Expression.{Expression, roll-Expression}
-use Rattle.c_tree.specs.declared.expression.Expression.TheOpen.{Expression-F, Suffix-F}
-use Rattle.c_tree.specs.declared.expression.Expression.TheFolds.{fold-Suffix, ind-Expression}
-use Rattle.c_tree.specs.declared.expression.Expression.TheFolds.{map-Expression, map-Suffix}
-use Rattle.c_tree.specs.declared.expression.Expression.TheFolds.{fold-roll-Expression}
-use Rattle.c_tree.specs.declared.expression.Expression.TheFolds.{fold-roll-Suffix}
-use Rattle.c_tree.specs.declared.expression.Suffix.{Suffix, roll-Suffix}
-use Rattle.c_rules.specs.declared.meaning.Kind.{Kind}
-use Rattle.c_rules.specs.declared.meaning.Kind.TheVariants.{Void, Value}
-use Rattle.c_rules.specs.declared.meaning.Entry.{Entry}
-use Rattle.c_rules.specs.declared.meaning.Form.TheVariants.{Bare, Plain}
-use Rattle.c_rules.specs.declared.meaning.Part.{Part}
-use Rattle.c_rules.specs.declared.meaning.Role.TheVariants.{Valued, Evaluated, Changed}
-use Rattle.c_rules.specs.declared.typed.TypedExpression.{TypedExpression}
-use Rattle.c_rules.specs.declared.typed.TypedExpression.TheVariants as tree
-use Rattle.c_rules.specs.declared.typed.TypedExpression.TheOpen.{TypedExpression-F}
-use Rattle.c_rules.specs.Types.{kind_of_words, value_kind, binary_type}
-use Rattle.c_rules.specs.Names.{Text, meaning_of}
-use Rattle.c_rules.specs.Counts.{is_void}
-use Rattle.c_rules.specs.Parts.{named_kind, value, with_value, changed_kind, unary_type, cast_kind}
-use Rattle.c_rules.specs.Parts.{chain_type}
-use Rattle.c_rules.specs.Parts.{joined_type, ends_kind, comma_kind, last_kind}
-use Rattle.c_rules.specs.Expressions.{taken, paired, Reading, used, parts_of, trees_of}
-use Rattle.c_rules.specs.Expressions.{ReadSuffix, read_suffix, suffixed, cast_role, links_of}
-use Rattle.c_rules.specs.Expressions.{reading_step, reading}
-use Rattle.c_rules.specs.ExpressionRules.{broken, void_end, void_end_of}
+use Rattle.c_grammar_symbols.specs.declared.operators.BinaryOperator.{BinaryOperator}
+use Rattle.c_grammar_tree.specs.declared.expression.Expression.{Expression, roll-Expression}
+use Rattle.c_grammar_tree.specs.declared.expression.Expression.TheOpen.{Expression-F, Suffix-F}
+use Rattle.c_grammar_tree.specs.declared.expression.Expression.TheFolds.{fold-Suffix}
+use Rattle.c_grammar_tree.specs.declared.expression.Expression.TheFolds.{ind-Expression}
+use Rattle.c_grammar_tree.specs.declared.expression.Expression.TheFolds.{map-Expression, map-Suffix}
+use Rattle.c_grammar_tree.specs.declared.expression.Expression.TheFolds.{fold-roll-Expression}
+use Rattle.c_grammar_tree.specs.declared.expression.Expression.TheFolds.{fold-roll-Suffix}
+use Rattle.c_grammar_tree.specs.declared.expression.Suffix.{Suffix, roll-Suffix}
+use Rattle.c_types_rules.specs.declared.meaning.Kind.{Kind}
+use Rattle.c_types_rules.specs.declared.meaning.Kind.TheVariants.{Void, Value}
+use Rattle.c_types_rules.specs.declared.meaning.Entry.{Entry}
+use Rattle.c_types_rules.specs.declared.meaning.Form.TheVariants.{Bare, Plain}
+use Rattle.c_types_rules.specs.declared.meaning.Part.{Part}
+use Rattle.c_types_rules.specs.declared.meaning.Role.TheVariants.{Valued, Evaluated, Changed}
+use Rattle.c_types_rules.specs.declared.typed.TypedExpression.{TypedExpression}
+use Rattle.c_types_rules.specs.declared.typed.TypedExpression.TheVariants as tree
+use Rattle.c_types_rules.specs.declared.typed.TypedExpression.TheOpen.{TypedExpression-F}
+use Rattle.c_types_rules.specs.Types.{kind_of_words, value_kind, binary_type}
+use Rattle.c_types_rules.specs.Names.{Text, meaning_of}
+use Rattle.c_types_rules.specs.Counts.{is_void}
+use Rattle.c_types_rules.specs.Parts.{named_kind, value, with_value, changed_kind, unary_type}
+use Rattle.c_types_rules.specs.Parts.{cast_kind}
+use Rattle.c_types_rules.specs.Parts.{chain_type}
+use Rattle.c_types_rules.specs.Parts.{joined_type, ends_kind, comma_kind, last_kind}
+use Rattle.c_types_rules.specs.Expressions.{taken, paired, Reading, used, parts_of, trees_of}
+use Rattle.c_types_rules.specs.Expressions.{ReadSuffix, read_suffix, suffixed, cast_role, links_of}
+use Rattle.c_types_rules.specs.Expressions.{reading_step, reading}
+use Rattle.c_types_rules.specs.ExpressionRules.{broken, void_end, void_end_of}
 use Rattle.c_core_rules.specs.declared.tree.Valued.{Valued as CoreValued}
 use Rattle.c_core_rules.specs.Trees.{pure}
 use Rattle.c_core_rules.specs.Cells as core

@@ -6,27 +6,30 @@ use Rattle.std.specs.Prelude.{◌⊎◌, is_some}
 use Rattle.std.specs.List.{AllByRecursion, flat_map}
 use Rattle.cpa_ints.specs.declared.integers.IntType.{IntType}
 use Rattle.c_lexer.specs.declared.fault.Rule.TheVariants as rule
-use Rattle.c_tree.specs.declared.expression.Expression.TheOpen.{Suffix-F}
-use Rattle.c_rules.specs.declared.meaning.Kind.{Kind}
-use Rattle.c_rules.specs.declared.meaning.Kind.TheVariants.{Value}
-use Rattle.c_rules.specs.declared.meaning.Object.{Object}
-use Rattle.c_rules.specs.declared.meaning.Function.{Function}
-use Rattle.c_rules.specs.declared.meaning.Meaning.{Meaning}
-use Rattle.c_rules.specs.declared.meaning.Meaning.TheVariants as meaning
-use Rattle.c_rules.specs.declared.meaning.Form.{Form}
-use Rattle.c_rules.specs.declared.meaning.Form.TheVariants.{Bare, Element, Plain}
-use Rattle.c_rules.specs.declared.meaning.Part.{Part}
-use Rattle.c_rules.specs.declared.meaning.Role.TheVariants.{Valued, Changed, Indexed}
-use Rattle.c_rules.specs.declared.meaning.Role.TheVariants.{Called}
-use Rattle.c_rules.specs.Known.{known_result}
-use Rattle.c_rules.specs.Parts.{with_value, with_values, named_kind, element_kind, result_kind}
-use Rattle.c_rules.specs.Parts.{element_form, element_of, result_of, changed_kind, is_changeable}
-use Rattle.c_rules.specs.Expressions.{named, taken, given, Reading, used, parts_of}
-use Rattle.c_rules.specs.Expressions.{trees_of, ReadSuffix, suffix_part, suffix_uses, suffix_typed}
-use Rattle.c_rules.specs.Expressions.{suffixed}
-use Rattle.c_rules.specs.ExpressionRules.{use_faults, names_function, names_array}
-use Rattle.c_rules.specs.ExpressionRules.{misused_array, void_value}
-use Rattle.c_rules.specs.Items.{Call}
+use Rattle.c_grammar_tree.specs.declared.expression.Expression.TheOpen.{Suffix-F}
+use Rattle.c_types_rules.specs.declared.meaning.Kind.{Kind}
+use Rattle.c_types_rules.specs.declared.meaning.Kind.TheVariants.{Value}
+use Rattle.c_types_rules.specs.declared.meaning.Object.{Object}
+use Rattle.c_types_rules.specs.declared.meaning.Function.{Function}
+use Rattle.c_types_rules.specs.declared.meaning.Meaning.{Meaning}
+use Rattle.c_types_rules.specs.declared.meaning.Meaning.TheVariants as meaning
+use Rattle.c_types_rules.specs.declared.meaning.Form.{Form}
+use Rattle.c_types_rules.specs.declared.meaning.Form.TheVariants.{Bare, Element, Plain}
+use Rattle.c_types_rules.specs.declared.meaning.Part.{Part}
+use Rattle.c_types_rules.specs.declared.meaning.Role.TheVariants.{Valued, Changed, Indexed}
+use Rattle.c_types_rules.specs.declared.meaning.Role.TheVariants.{Called}
+use Rattle.c_types_rules.specs.Known.{known_result}
+use Rattle.c_types_rules.specs.Parts.{with_value, with_values, named_kind, element_kind}
+use Rattle.c_types_rules.specs.Parts.{result_kind}
+use Rattle.c_types_rules.specs.Parts.{element_form, element_of, result_of, changed_kind}
+use Rattle.c_types_rules.specs.Parts.{is_changeable}
+use Rattle.c_types_rules.specs.Expressions.{named, taken, given, Reading, used, parts_of}
+use Rattle.c_types_rules.specs.Expressions.{trees_of, ReadSuffix, suffix_part, suffix_uses}
+use Rattle.c_types_rules.specs.Expressions.{suffix_typed}
+use Rattle.c_types_rules.specs.Expressions.{suffixed}
+use Rattle.c_types_rules.specs.ExpressionRules.{use_faults, names_function, names_array}
+use Rattle.c_types_rules.specs.ExpressionRules.{misused_array, void_value}
+use Rattle.c_types_rules.specs.Items.{Call}
 use Rattle.c_core_rules.specs.declared.tree.CoreTree.{CoreTree}
 use Rattle.c_core_rules.specs.declared.tree.Valued.{Valued as CoreValued}
 use Rattle.c_core_rules.specs.Cells as core

@@ -9,22 +9,23 @@ use Rattle.std.proofs.lemmas.List.{map-append}
 use Rattle.cpa_ints.specs.declared.integers.IntType.{IntType}
 use Rattle.c_lexer.specs.declared.fault.Rule.{Rule}
 use Rattle.c_lexer.specs.declared.fault.Rule.TheVariants as rule
-use Rattle.c_rules.specs.declared.meaning.Kind.{Kind}
-use Rattle.c_rules.specs.declared.meaning.Kind.TheVariants.{Void, Value}
-use Rattle.c_rules.specs.declared.meaning.Meaning.{Meaning}
-use Rattle.c_rules.specs.declared.meaning.Meaning.TheVariants as meaning
-use Rattle.c_rules.specs.declared.meaning.Form.{Form}
-use Rattle.c_rules.specs.declared.meaning.Form.TheVariants.{Bare, Element, Plain}
-use Rattle.c_rules.specs.declared.meaning.Part.{Part}
-use Rattle.c_rules.specs.declared.meaning.Role.{Role}
-use Rattle.c_rules.specs.declared.meaning.Role.TheVariants.{Valued, Evaluated, Changed}
-use Rattle.c_rules.specs.Parts.{is_changeable}
-use Rattle.c_rules.specs.Expressions.{Use, taken}
-use Rattle.c_rules.specs.ExpressionRules.{broken, use_faults, names_function, names_array}
-use Rattle.c_rules.specs.ExpressionRules.{undeclared, misused_function, miscounted, misused_type}
-use Rattle.c_rules.specs.ExpressionRules.{called_without_body, not_changeable, misused_array}
-use Rattle.c_rules.specs.ExpressionRules.{void_value, has_own_fault, is_void}
-use Rattle.c_rules.specs.Items.{Call, use_calls}
+use Rattle.c_types_rules.specs.declared.meaning.Kind.{Kind}
+use Rattle.c_types_rules.specs.declared.meaning.Kind.TheVariants.{Void, Value}
+use Rattle.c_types_rules.specs.declared.meaning.Meaning.{Meaning}
+use Rattle.c_types_rules.specs.declared.meaning.Meaning.TheVariants as meaning
+use Rattle.c_types_rules.specs.declared.meaning.Form.{Form}
+use Rattle.c_types_rules.specs.declared.meaning.Form.TheVariants.{Bare, Element, Plain}
+use Rattle.c_types_rules.specs.declared.meaning.Part.{Part}
+use Rattle.c_types_rules.specs.declared.meaning.Role.{Role}
+use Rattle.c_types_rules.specs.declared.meaning.Role.TheVariants.{Valued, Evaluated, Changed}
+use Rattle.c_types_rules.specs.Parts.{is_changeable}
+use Rattle.c_types_rules.specs.Expressions.{Use, taken}
+use Rattle.c_types_rules.specs.ExpressionRules.{broken, use_faults, names_function, names_array}
+use Rattle.c_types_rules.specs.ExpressionRules.{undeclared, misused_function, miscounted}
+use Rattle.c_types_rules.specs.ExpressionRules.{misused_type}
+use Rattle.c_types_rules.specs.ExpressionRules.{called_without_body, not_changeable, misused_array}
+use Rattle.c_types_rules.specs.ExpressionRules.{void_value, has_own_fault, is_void}
+use Rattle.c_types_rules.specs.Items.{Call, use_calls}
 use Rattle.c_core_rules.specs.Expressions as rows
 use Rattle.c_core_laws.specs.lemmas.Faults.{NoFaults, none_left, none_right, not_broken}
 use Rattle.c_core_sound.proofs.Fitting.{World}

@@ -12,26 +12,28 @@ use Rattle.cpa_expr.specs.declared.tree.Expr.TheVariants.{Const}
 use Rattle.cpa_model.specs.declared.program.Cell.{Cell}
 use Rattle.cpa_model.specs.Expressions.{types_of}
 use Rattle.c_lexer.specs.declared.fault.Rule.TheVariants as rule
-use Rattle.c_tree.specs.declared.expression.Expression.{Expression}
-use Rattle.c_tree.specs.declared.declaration.Specifiers.{Specifiers}
-use Rattle.c_tree.specs.declared.declaration.Declarator.{Declarator}
-use Rattle.c_tree.specs.declared.declaration.Initializer.{Initializer}
-use Rattle.c_tree.specs.declared.declaration.Initializer.TheVariants as initializer
-use Rattle.c_rules.specs.declared.meaning.Kind.{Kind}
-use Rattle.c_rules.specs.declared.meaning.Object.{Object}
-use Rattle.c_rules.specs.declared.meaning.Entry.{Entry}
-use Rattle.c_rules.specs.declared.meaning.Role.TheVariants.{Valued}
-use Rattle.c_rules.specs.declared.typed.TypedExpression.{TypedExpression}
-use Rattle.c_rules.specs.Names.{Text}
-use Rattle.c_rules.specs.Counts.{cells_of}
-use Rattle.c_rules.specs.Expressions.{reading}
-use Rattle.c_rules.specs.ExpressionRules.{broken, uses_faults}
-use Rattle.c_rules.specs.Declarations.{items_of, object_of, local_entry, length_faults, length_uses}
-use Rattle.c_rules.specs.Declarations.{void_object, kind_of, typed_items}
-use Rattle.c_rules.specs.Statements.{Around, Site, Walk, declares, evaluates, declaring_behind}
-use Rattle.c_rules.specs.Statements.{declarator_walk, in_order}
-use Rattle.c_rules.specs.StatementRules.{site_faults, declared_twice}
-use Rattle.c_rules.specs.TypedStatements.{typed_declarator, typed_declarators}
+use Rattle.c_grammar_tree.specs.declared.expression.Expression.{Expression}
+use Rattle.c_grammar_tree.specs.declared.declaration.Specifiers.{Specifiers}
+use Rattle.c_grammar_tree.specs.declared.declaration.Declarator.{Declarator}
+use Rattle.c_grammar_tree.specs.declared.declaration.Initializer.{Initializer}
+use Rattle.c_grammar_tree.specs.declared.declaration.Initializer.TheVariants as initializer
+use Rattle.c_types_rules.specs.declared.meaning.Kind.{Kind}
+use Rattle.c_types_rules.specs.declared.meaning.Object.{Object}
+use Rattle.c_types_rules.specs.declared.meaning.Entry.{Entry}
+use Rattle.c_types_rules.specs.declared.meaning.Role.TheVariants.{Valued}
+use Rattle.c_types_rules.specs.declared.typed.TypedExpression.{TypedExpression}
+use Rattle.c_types_rules.specs.Names.{Text}
+use Rattle.c_types_rules.specs.Counts.{cells_of}
+use Rattle.c_types_rules.specs.Expressions.{reading}
+use Rattle.c_types_rules.specs.ExpressionRules.{broken, uses_faults}
+use Rattle.c_types_rules.specs.Declarations.{items_of, object_of, local_entry, length_faults}
+use Rattle.c_types_rules.specs.Declarations.{length_uses}
+use Rattle.c_types_rules.specs.Declarations.{void_object, kind_of, typed_items}
+use Rattle.c_types_rules.specs.Statements.{Around, Site, Walk, declares, evaluates}
+use Rattle.c_types_rules.specs.Statements.{declaring_behind}
+use Rattle.c_types_rules.specs.Statements.{declarator_walk, in_order}
+use Rattle.c_types_rules.specs.StatementRules.{site_faults, declared_twice}
+use Rattle.c_types_rules.specs.TypedStatements.{typed_declarator, typed_declarators}
 use Rattle.c_core_rules.specs.declared.tree.Location.{Location}
 use Rattle.c_core_rules.specs.declared.tree.Head.TheVariants as head
 use Rattle.c_core_rules.specs.Values.{cell_at}

@@ -7,19 +7,19 @@ use Rattle.cpa_ints.specs.declared.integers.IntType.{IntType}
 use Rattle.cpa_expr.specs.declared.tree.Expr.TheVariants.{Const}
 use Rattle.cpa_model.specs.declared.program.Cell.{Cell}
 use Rattle.cpa_model.specs.Expressions.{types_of}
-use Rattle.c_tree.specs.declared.name.Name.{Name}
-use Rattle.c_tree.specs.declared.statement.BlockItem.{BlockItem}
-use Rattle.c_tree.specs.declared.item.Parameter.{Parameter}
-use Rattle.c_rules.specs.declared.meaning.Kind.{Kind}
-use Rattle.c_rules.specs.declared.meaning.Kind.TheVariants.{Void, Value}
-use Rattle.c_rules.specs.declared.meaning.Entry.{Entry}
-use Rattle.c_rules.specs.declared.meaning.Object.{Object}
-use Rattle.c_rules.specs.declared.typed.TypedItem.{TypedItem}
-use Rattle.c_rules.specs.Names.{Text}
-use Rattle.c_rules.specs.Types.{object_type}
-use Rattle.c_rules.specs.Declarations.{is_void_kind, parameter_object, local_entry}
-use Rattle.c_rules.specs.Statements.{Around, Walk, in_order, receiving, receiving_behind}
-use Rattle.c_rules.specs.TypedStatements.{grown, walk_in, parameter_objects}
+use Rattle.c_grammar_tree.specs.declared.name.Name.{Name}
+use Rattle.c_grammar_tree.specs.declared.statement.BlockItem.{BlockItem}
+use Rattle.c_grammar_tree.specs.declared.item.Parameter.{Parameter}
+use Rattle.c_types_rules.specs.declared.meaning.Kind.{Kind}
+use Rattle.c_types_rules.specs.declared.meaning.Kind.TheVariants.{Void, Value}
+use Rattle.c_types_rules.specs.declared.meaning.Entry.{Entry}
+use Rattle.c_types_rules.specs.declared.meaning.Object.{Object}
+use Rattle.c_types_rules.specs.declared.typed.TypedItem.{TypedItem}
+use Rattle.c_types_rules.specs.Names.{Text}
+use Rattle.c_types_rules.specs.Types.{object_type}
+use Rattle.c_types_rules.specs.Declarations.{is_void_kind, parameter_object, local_entry}
+use Rattle.c_types_rules.specs.Statements.{Around, Walk, in_order, receiving, receiving_behind}
+use Rattle.c_types_rules.specs.TypedStatements.{grown, walk_in, parameter_objects}
 use Rattle.c_core_rules.specs.declared.tree.CoreTree.{CoreTree}
 use Rattle.c_core_rules.specs.declared.tree.Location.{Location}
 use Rattle.c_core_rules.specs.Values.{cell_at}

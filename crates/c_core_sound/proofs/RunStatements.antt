@@ -4,36 +4,39 @@ use Rattle.std.proofs.Common.{map, Option, None, Some, refl, ap, sym, ◌∙◌,
 use Rattle.std.specs.Prelude.{is_some}
 use Rattle.std.specs.List.{AllByRecursion}
 use Rattle.c_lexer.specs.declared.fault.Rule.TheVariants as rule
-use Rattle.c_tree.specs.declared.expression.Expression.{Expression}
-use Rattle.c_tree.specs.declared.statement.ForStart.{ForStart}
-use Rattle.c_tree.specs.declared.statement.ForStart.TheVariants as start
-use Rattle.c_tree.specs.declared.statement.Statement.{Statement, roll-Statement}
-use Rattle.c_tree.specs.declared.statement.BlockItem.{BlockItem, roll-BlockItem}
-use Rattle.c_tree.specs.declared.statement.BlockItem.TheOpen.{BlockItem-F, Statement-F}
-use Rattle.c_tree.specs.declared.statement.BlockItem.TheFolds.{fold-Statement, ind-BlockItem}
-use Rattle.c_tree.specs.declared.statement.BlockItem.TheFolds.{fold-roll-BlockItem}
-use Rattle.c_tree.specs.declared.statement.BlockItem.TheFolds.{fold-roll-Statement}
-use Rattle.c_tree.specs.declared.statement.BlockItem.TheFolds.{map-BlockItem, map-Statement}
-use Rattle.c_rules.specs.declared.meaning.Kind.{Kind}
-use Rattle.c_rules.specs.declared.meaning.Entry.{Entry}
-use Rattle.c_rules.specs.declared.meaning.Role.{Role}
-use Rattle.c_rules.specs.declared.meaning.Role.TheVariants.{Valued, Evaluated}
-use Rattle.c_rules.specs.declared.typed.TypedExpression.{TypedExpression}
-use Rattle.c_rules.specs.declared.typed.TypedItem.{TypedItem}
-use Rattle.c_rules.specs.declared.typed.TypedItem.TheVariants as typed_item
-use Rattle.c_rules.specs.declared.typed.TypedItem.TheOpen.{TypedItem-F, TypedStatement-F}
-use Rattle.c_rules.specs.declared.typed.TypedStatement.{TypedStatement}
-use Rattle.c_rules.specs.declared.typed.TypedStatement.TheVariants as tree
-use Rattle.c_rules.specs.Names.{Text}
-use Rattle.c_rules.specs.ExpressionRules.{broken, at_if}
-use Rattle.c_rules.specs.Declarations.{is_void_kind}
-use Rattle.c_rules.specs.Statements.{Around, Site, Act, Walk, doing, followed, in_order, scoped}
-use Rattle.c_rules.specs.Statements.{looped, inner, loop, left_by, evaluating, start_walk}
-use Rattle.c_rules.specs.Statements.{declaration_walk, evaluates, leaves, returns}
-use Rattle.c_rules.specs.StatementRules.{agree}
-use Rattle.c_rules.specs.TypedStatements.{Grown, grown, grown_item, grown_statement, typed_in_order}
-use Rattle.c_rules.specs.TypedStatements.{typed_expression, typed_optional, typed_for_start}
-use Rattle.c_rules.specs.TypedStatements.{typed_declarators, label_number, walk_in}
+use Rattle.c_grammar_tree.specs.declared.expression.Expression.{Expression}
+use Rattle.c_grammar_tree.specs.declared.statement.ForStart.{ForStart}
+use Rattle.c_grammar_tree.specs.declared.statement.ForStart.TheVariants as start
+use Rattle.c_grammar_tree.specs.declared.statement.Statement.{Statement, roll-Statement}
+use Rattle.c_grammar_tree.specs.declared.statement.BlockItem.{BlockItem, roll-BlockItem}
+use Rattle.c_grammar_tree.specs.declared.statement.BlockItem.TheOpen.{BlockItem-F, Statement-F}
+use Rattle.c_grammar_tree.specs.declared.statement.BlockItem.TheFolds.{fold-Statement}
+use Rattle.c_grammar_tree.specs.declared.statement.BlockItem.TheFolds.{ind-BlockItem}
+use Rattle.c_grammar_tree.specs.declared.statement.BlockItem.TheFolds.{fold-roll-BlockItem}
+use Rattle.c_grammar_tree.specs.declared.statement.BlockItem.TheFolds.{fold-roll-Statement}
+use Rattle.c_grammar_tree.specs.declared.statement.BlockItem.TheFolds.{map-BlockItem, map-Statement}
+use Rattle.c_types_rules.specs.declared.meaning.Kind.{Kind}
+use Rattle.c_types_rules.specs.declared.meaning.Entry.{Entry}
+use Rattle.c_types_rules.specs.declared.meaning.Role.{Role}
+use Rattle.c_types_rules.specs.declared.meaning.Role.TheVariants.{Valued, Evaluated}
+use Rattle.c_types_rules.specs.declared.typed.TypedExpression.{TypedExpression}
+use Rattle.c_types_rules.specs.declared.typed.TypedItem.{TypedItem}
+use Rattle.c_types_rules.specs.declared.typed.TypedItem.TheVariants as typed_item
+use Rattle.c_types_rules.specs.declared.typed.TypedItem.TheOpen.{TypedItem-F, TypedStatement-F}
+use Rattle.c_types_rules.specs.declared.typed.TypedStatement.{TypedStatement}
+use Rattle.c_types_rules.specs.declared.typed.TypedStatement.TheVariants as tree
+use Rattle.c_types_rules.specs.Names.{Text}
+use Rattle.c_types_rules.specs.ExpressionRules.{broken, at_if}
+use Rattle.c_types_rules.specs.Declarations.{is_void_kind}
+use Rattle.c_types_rules.specs.Statements.{Around, Site, Act, Walk, doing, followed, in_order}
+use Rattle.c_types_rules.specs.Statements.{scoped}
+use Rattle.c_types_rules.specs.Statements.{looped, inner, loop, left_by, evaluating, start_walk}
+use Rattle.c_types_rules.specs.Statements.{declaration_walk, evaluates, leaves, returns}
+use Rattle.c_types_rules.specs.StatementRules.{agree}
+use Rattle.c_types_rules.specs.TypedStatements.{Grown, grown, grown_item, grown_statement}
+use Rattle.c_types_rules.specs.TypedStatements.{typed_in_order}
+use Rattle.c_types_rules.specs.TypedStatements.{typed_expression, typed_optional, typed_for_start}
+use Rattle.c_types_rules.specs.TypedStatements.{typed_declarators, label_number, walk_in}
 use Rattle.c_core_rules.specs.declared.tree.CoreTree.TheVariants.{Node}
 use Rattle.c_core_rules.specs.declared.tree.Head.{Head}
 use Rattle.c_core_rules.specs.declared.tree.Head.TheVariants as head

@@ -5,38 +5,39 @@ use Rattle.std.specs.Prelude.{◌⊎◌, unwrap_or, unsigned_abs}
 use Rattle.std.specs.List.{AllByRecursion, flat_map}
 use Rattle.cpa_ints.specs.declared.integers.IntType.{IntType}
 use Rattle.cpa_expr.specs.Shape.{AreCells}
-use Rattle.c_tree.specs.declared.declaration.Specifiers.{Specifiers}
-use Rattle.c_tree.specs.declared.declaration.Declarator.{Declarator}
-use Rattle.c_tree.specs.declared.statement.BlockItem.{BlockItem}
-use Rattle.c_tree.specs.declared.item.FunctionDeclarator.{FunctionDeclarator}
-use Rattle.c_tree.specs.declared.item.Body.TheVariants as body
-use Rattle.c_tree.specs.declared.item.Item.{Item}
-use Rattle.c_tree.specs.declared.item.Item.TheVariants as item
-use Rattle.c_rules.specs.declared.meaning.Kind.{Kind}
-use Rattle.c_rules.specs.declared.meaning.Kind.TheVariants.{Value}
-use Rattle.c_rules.specs.declared.meaning.Object.{Object}
-use Rattle.c_rules.specs.declared.meaning.ParameterType.{ParameterType}
-use Rattle.c_rules.specs.declared.meaning.Meaning.{Meaning}
-use Rattle.c_rules.specs.declared.meaning.Meaning.TheVariants as meaning
-use Rattle.c_rules.specs.declared.meaning.Form.TheVariants.{Bare, Element, Plain}
-use Rattle.c_rules.specs.declared.meaning.Declared.{Declared}
-use Rattle.c_rules.specs.declared.meaning.Declared.TheVariants as declared
-use Rattle.c_rules.specs.declared.meaning.Entry.{Entry}
-use Rattle.c_rules.specs.declared.typed.TypedFunction.{TypedFunction}
-use Rattle.c_rules.specs.Names.{Text, body_of, declared_as, function_of}
-use Rattle.c_rules.specs.Counts.{cells_of}
-use Rattle.c_rules.specs.Expressions.{Use, named, taken, given, paired}
-use Rattle.c_rules.specs.Declarations.{kind_of, items_of}
-use Rattle.c_rules.specs.Statements.{Around, Site, Walk, in_order, receiving, walk_of}
-use Rattle.c_rules.specs.StatementRules.{site_faults, act_uses, jump_faults}
-use Rattle.c_rules.specs.TypedStatements.{grown, walk_in, typed_function}
-use Rattle.c_rules.specs.Items.{Before, Call, listed, around_body, function_behind, global_behind}
-use Rattle.c_rules.specs.Items.{globals_behind, globals_faults, global_faults, head_faults}
-use Rattle.c_rules.specs.Items.{body_sites, body_faults, item_behind, item_faults}
-use Rattle.c_rules.specs.Items.{items_faults}
-use Rattle.c_rules.specs.Items.{item_calls, items_calls, site_calls, use_calls, called_body}
-use Rattle.c_rules.specs.Recursion.{Among, Calls}
-use Rattle.c_rules.specs.Sound.{items_behind, functions_of}
+use Rattle.c_grammar_tree.specs.declared.declaration.Specifiers.{Specifiers}
+use Rattle.c_grammar_tree.specs.declared.declaration.Declarator.{Declarator}
+use Rattle.c_grammar_tree.specs.declared.statement.BlockItem.{BlockItem}
+use Rattle.c_grammar_tree.specs.declared.item.FunctionDeclarator.{FunctionDeclarator}
+use Rattle.c_grammar_tree.specs.declared.item.Body.TheVariants as body
+use Rattle.c_grammar_tree.specs.declared.item.Item.{Item}
+use Rattle.c_grammar_tree.specs.declared.item.Item.TheVariants as item
+use Rattle.c_types_rules.specs.declared.meaning.Kind.{Kind}
+use Rattle.c_types_rules.specs.declared.meaning.Kind.TheVariants.{Value}
+use Rattle.c_types_rules.specs.declared.meaning.Object.{Object}
+use Rattle.c_types_rules.specs.declared.meaning.ParameterType.{ParameterType}
+use Rattle.c_types_rules.specs.declared.meaning.Meaning.{Meaning}
+use Rattle.c_types_rules.specs.declared.meaning.Meaning.TheVariants as meaning
+use Rattle.c_types_rules.specs.declared.meaning.Form.TheVariants.{Bare, Element, Plain}
+use Rattle.c_types_rules.specs.declared.meaning.Declared.{Declared}
+use Rattle.c_types_rules.specs.declared.meaning.Declared.TheVariants as declared
+use Rattle.c_types_rules.specs.declared.meaning.Entry.{Entry}
+use Rattle.c_types_rules.specs.declared.typed.TypedFunction.{TypedFunction}
+use Rattle.c_types_rules.specs.Names.{Text, body_of, declared_as, function_of}
+use Rattle.c_types_rules.specs.Counts.{cells_of}
+use Rattle.c_types_rules.specs.Expressions.{Use, named, taken, given, paired}
+use Rattle.c_types_rules.specs.Declarations.{kind_of, items_of}
+use Rattle.c_types_rules.specs.Statements.{Around, Site, Walk, in_order, receiving, walk_of}
+use Rattle.c_types_rules.specs.StatementRules.{site_faults, act_uses, jump_faults}
+use Rattle.c_types_rules.specs.TypedStatements.{grown, walk_in, typed_function}
+use Rattle.c_types_rules.specs.Items.{Before, Call, listed, around_body, function_behind}
+use Rattle.c_types_rules.specs.Items.{global_behind}
+use Rattle.c_types_rules.specs.Items.{globals_behind, globals_faults, global_faults, head_faults}
+use Rattle.c_types_rules.specs.Items.{body_sites, body_faults, item_behind, item_faults}
+use Rattle.c_types_rules.specs.Items.{items_faults}
+use Rattle.c_types_rules.specs.Items.{item_calls, items_calls, site_calls, use_calls, called_body}
+use Rattle.c_types_rules.specs.Recursion.{Among, Calls}
+use Rattle.c_types_rules.specs.Sound.{items_behind, functions_of}
 use Rattle.c_core_rules.specs.declared.tree.CoreTree.{CoreTree}
 use Rattle.c_core_rules.specs.Values.{cell_at}
 use Rattle.c_core_rules.specs.Trees.{Trees}

@@ -4,11 +4,11 @@ use Rattle.std.proofs.Common.{◌≡◌, ℕ, ◌<◌, ◌≤◌, List, [], ◌�
 use Rattle.std.proofs.Common.{◌∙◌}
 use Rattle.std.proofs.Common.{subst, arith, inl, inr, refl}
 use Rattle.std.specs.Prelude.{◌⊎◌}
-use Rattle.c_rules.specs.declared.meaning.Declared.{Declared}
-use Rattle.c_rules.specs.declared.meaning.Declared.TheVariants as declared
-use Rattle.c_rules.specs.declared.meaning.Entry.{Entry}
-use Rattle.c_rules.specs.Names.{declared_as}
-use Rattle.c_rules.specs.Statements.{Around, left_by, inner, loop}
+use Rattle.c_types_rules.specs.declared.meaning.Declared.{Declared}
+use Rattle.c_types_rules.specs.declared.meaning.Declared.TheVariants as declared
+use Rattle.c_types_rules.specs.declared.meaning.Entry.{Entry}
+use Rattle.c_types_rules.specs.Names.{declared_as}
+use Rattle.c_types_rules.specs.Statements.{Around, left_by, inner, loop}
 use Rattle.c_core_rules.specs.Cells.{Taken}
 use Rattle.c_core_rules.specs.Cells as core
 use Rattle.c_core_sound.proofs.Fitting.{Ground, World, Extends, Within}

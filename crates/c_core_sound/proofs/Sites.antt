@@ -4,21 +4,21 @@ use Rattle.std.proofs.Common.{◌≡◌, ℕ, true, List, [], ◌∷◌, ◌++�
 use Rattle.std.proofs.Common.{refl}
 use Rattle.std.specs.List.{AllByRecursion, flat_map}
 use Rattle.std.specs.Str.{bytes_eq}
-use Rattle.c_tree.specs.declared.expression.Expression.{Expression}
-use Rattle.c_rules.specs.declared.known.KnownFunction.{KnownFunction}
-use Rattle.c_rules.specs.declared.meaning.Declared.{Declared}
-use Rattle.c_rules.specs.declared.meaning.Declared.TheVariants as declared
-use Rattle.c_rules.specs.declared.meaning.Entry.{Entry}
-use Rattle.c_rules.specs.declared.meaning.Role.TheVariants.{Valued, Evaluated}
-use Rattle.c_rules.specs.Names.{Text, body_of, declared_as, function_of, meaning_by}
-use Rattle.c_rules.specs.Names.{meaning_of}
-use Rattle.c_rules.specs.Known.{known}
-use Rattle.c_rules.specs.Expressions.{Use, used, reading}
-use Rattle.c_rules.specs.ExpressionRules.{use_faults, uses_faults}
-use Rattle.c_rules.specs.Statements.{Around, Site, evaluates}
-use Rattle.c_rules.specs.StatementRules.{site_faults}
-use Rattle.c_rules.specs.Items.{Call, use_calls, site_calls}
-use Rattle.c_rules.specs.TypedStatements.{typed_expression}
+use Rattle.c_grammar_tree.specs.declared.expression.Expression.{Expression}
+use Rattle.c_types_rules.specs.declared.known.KnownFunction.{KnownFunction}
+use Rattle.c_types_rules.specs.declared.meaning.Declared.{Declared}
+use Rattle.c_types_rules.specs.declared.meaning.Declared.TheVariants as declared
+use Rattle.c_types_rules.specs.declared.meaning.Entry.{Entry}
+use Rattle.c_types_rules.specs.declared.meaning.Role.TheVariants.{Valued, Evaluated}
+use Rattle.c_types_rules.specs.Names.{Text, body_of, declared_as, function_of, meaning_by}
+use Rattle.c_types_rules.specs.Names.{meaning_of}
+use Rattle.c_types_rules.specs.Known.{known}
+use Rattle.c_types_rules.specs.Expressions.{Use, used, reading}
+use Rattle.c_types_rules.specs.ExpressionRules.{use_faults, uses_faults}
+use Rattle.c_types_rules.specs.Statements.{Around, Site, evaluates}
+use Rattle.c_types_rules.specs.StatementRules.{site_faults}
+use Rattle.c_types_rules.specs.Items.{Call, use_calls, site_calls}
+use Rattle.c_types_rules.specs.TypedStatements.{typed_expression}
 use Rattle.c_core_rules.specs.Expressions as rows
 use Rattle.c_core_laws.specs.lemmas.Faults.{NoFaults, none_left, none_right}
 use Rattle.c_core_sound.specs.Whole.{is_whole}

@@ -19,30 +19,32 @@ use Rattle.cpa_model.specs.Programs.{reaches_through, IsNumbered, IsWellFormed}
 use Rattle.cpa_model.specs.lemmas.EdgesSound.{all_at}
 use Rattle.cpa_model.specs.lemmas.Trees.{one_function}
 use Rattle.c_lexer.specs.declared.fault.Rule.TheVariants as rule
-use Rattle.c_tree.specs.declared.statement.BlockItem.{BlockItem}
-use Rattle.c_tree.specs.declared.item.Body.TheVariants as body
-use Rattle.c_tree.specs.declared.item.Item.{Item}
-use Rattle.c_tree.specs.declared.item.Item.TheVariants as item
-use Rattle.c_tree.specs.declared.item.Unit.{Unit as UnitTree}
-use Rattle.c_rules.specs.declared.meaning.Kind.{Kind}
-use Rattle.c_rules.specs.declared.meaning.Object.{Object}
-use Rattle.c_rules.specs.declared.meaning.ParameterType.{ParameterType}
-use Rattle.c_rules.specs.declared.meaning.Declared.TheVariants as declared
-use Rattle.c_rules.specs.declared.meaning.Entry.{Entry}
-use Rattle.c_rules.specs.declared.typed.TypedFunction.{TypedFunction}
-use Rattle.c_rules.specs.declared.typed.TypedUnit.{TypedUnit}
-use Rattle.c_rules.specs.Names.{Text, body_of, declared_as}
-use Rattle.c_rules.specs.Declarations.{kind_of}
-use Rattle.c_rules.specs.StatementRules.{jump_faults, site_faults}
-use Rattle.c_rules.specs.Statements.{walk_of}
-use Rattle.c_rules.specs.TypedStatements.{grown}
-use Rattle.c_rules.specs.Items.{Before, Call, text_of, items_faults, items_calls, nothing_before}
-use Rattle.c_rules.specs.Items.{body_sites, globals_faults, head_faults, item_behind, item_faults}
-use Rattle.c_rules.specs.Items.{listed}
-use Rattle.c_rules.specs.Recursion.{Among, Calls, Through}
-use Rattle.c_rules.specs.Recursion as recursion
-use Rattle.c_rules.specs.Sound.{Sound, typed_unit, typed_parts, unit_globals, unit_functions}
-use Rattle.c_rules.specs.Sound.{unit_calls, items_behind, starts_of}
+use Rattle.c_grammar_tree.specs.declared.statement.BlockItem.{BlockItem}
+use Rattle.c_grammar_tree.specs.declared.item.Body.TheVariants as body
+use Rattle.c_grammar_tree.specs.declared.item.Item.{Item}
+use Rattle.c_grammar_tree.specs.declared.item.Item.TheVariants as item
+use Rattle.c_grammar_tree.specs.declared.item.Unit.{Unit as UnitTree}
+use Rattle.c_types_rules.specs.declared.meaning.Kind.{Kind}
+use Rattle.c_types_rules.specs.declared.meaning.Object.{Object}
+use Rattle.c_types_rules.specs.declared.meaning.ParameterType.{ParameterType}
+use Rattle.c_types_rules.specs.declared.meaning.Declared.TheVariants as declared
+use Rattle.c_types_rules.specs.declared.meaning.Entry.{Entry}
+use Rattle.c_types_rules.specs.declared.typed.TypedFunction.{TypedFunction}
+use Rattle.c_types_rules.specs.declared.typed.TypedUnit.{TypedUnit}
+use Rattle.c_types_rules.specs.Names.{Text, body_of, declared_as}
+use Rattle.c_types_rules.specs.Declarations.{kind_of}
+use Rattle.c_types_rules.specs.StatementRules.{jump_faults, site_faults}
+use Rattle.c_types_rules.specs.Statements.{walk_of}
+use Rattle.c_types_rules.specs.TypedStatements.{grown}
+use Rattle.c_types_rules.specs.Items.{Before, Call, text_of, items_faults, items_calls}
+use Rattle.c_types_rules.specs.Items.{nothing_before}
+use Rattle.c_types_rules.specs.Items.{body_sites, globals_faults, head_faults, item_behind}
+use Rattle.c_types_rules.specs.Items.{item_faults}
+use Rattle.c_types_rules.specs.Items.{listed}
+use Rattle.c_types_rules.specs.Recursion.{Among, Calls, Through}
+use Rattle.c_types_rules.specs.Recursion as recursion
+use Rattle.c_types_rules.specs.Sound.{Sound, typed_unit, typed_parts, unit_globals, unit_functions}
+use Rattle.c_types_rules.specs.Sound.{unit_calls, items_behind, starts_of}
 use Rattle.c_core_rules.specs.declared.tree.CoreTree.{CoreTree}
 use Rattle.c_core_rules.specs.declared.tree.Head.{Head}
 use Rattle.c_core_rules.specs.declared.tree.Head.TheVariants as head

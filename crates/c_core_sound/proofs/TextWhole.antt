@@ -9,19 +9,19 @@ use lib.Dec.{T}
 use Rattle.cpa_ints.specs.declared.integers.IntType.{IntType}
 use Rattle.cpa_ints.specs.declared.integers.IntType.TheVariants as ty
 use Rattle.cpa_ints.specs.Integers.{IsInRange, greatest, least}
-use Rattle.grammar_forms.specs.Forms.{greedy_text}
+use Rattle.c_grammar_forms.specs.Forms.{greedy_text}
 use Rattle.c_lexer.specs.declared.token.Token.{Token}
 use Rattle.c_lexer.specs.declared.token.TokenKind.{TokenKind}
 use Rattle.c_lexer.specs.declared.token.TokenKind.TheVariants as kind
-use Rattle.c_symbols.specs.declared.symbol.Symbol.{Symbol}
-use Rattle.c_symbols.specs.declared.symbol.Symbol.TheVariants as symbol
-use Rattle.c_symbols.specs.declared.symbol.TheConstants.{MARKS, WORDS}
-use Rattle.c_symbols.specs.Symbols.{leaf_of, leaves, mark_spelled, spelling_of, symbol_of}
-use Rattle.c_symbols.specs.Symbols.{symbol_spelled, word_spelled}
-use Rattle.c_symbols.specs.Sources.{leaf_at}
-use Rattle.c_tree.specs.declared.TheConstants.{MAX_LEVEL}
-use Rattle.c_tree.specs.declared.item.Unit.{Unit as UnitTree}
-use Rattle.c_tree.specs.Grammar.{Tree}
+use Rattle.c_grammar_symbols.specs.declared.symbol.Symbol.{Symbol}
+use Rattle.c_grammar_symbols.specs.declared.symbol.Symbol.TheVariants as symbol
+use Rattle.c_grammar_symbols.specs.declared.symbol.TheConstants.{MARKS, WORDS}
+use Rattle.c_grammar_symbols.specs.Symbols.{leaf_of, leaves, mark_spelled, spelling_of, symbol_of}
+use Rattle.c_grammar_symbols.specs.Symbols.{symbol_spelled, word_spelled}
+use Rattle.c_grammar_symbols.specs.Sources.{leaf_at}
+use Rattle.c_grammar_tree.specs.declared.TheConstants.{MAX_LEVEL}
+use Rattle.c_grammar_tree.specs.declared.item.Unit.{Unit as UnitTree}
+use Rattle.c_grammar_tree.specs.Grammar.{Tree}
 use Rattle.c_core_sound.specs.Whole.{IsWhole, has_value}
 use Rattle.c_core_sound.proofs.ReadExpressions.{and_left, and_right}
 use Rattle.c_core_sound.proofs.WholeForms.{both}

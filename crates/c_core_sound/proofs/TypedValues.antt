@@ -20,10 +20,10 @@ use Rattle.cpa_expr.specs.Shape.{type_of, is_arithmetic, AreCells, IsTyped}
 use Rattle.cpa_expr.specs.Shape as shape
 use Rattle.cpa_expr.specs.Equality.{same_type}
 use Rattle.cpa_expr.specs.Laws.{typed_at_variants}
-use Rattle.c_symbols.specs.declared.operators.BinaryOperator.{BinaryOperator}
-use Rattle.c_symbols.specs.declared.operators.BinaryOperator.TheVariants as binary
-use Rattle.c_tree.specs.declared.expression.UnaryOperator.{UnaryOperator}
-use Rattle.c_tree.specs.declared.expression.UnaryOperator.TheVariants as unary
+use Rattle.c_grammar_symbols.specs.declared.operators.BinaryOperator.{BinaryOperator}
+use Rattle.c_grammar_symbols.specs.declared.operators.BinaryOperator.TheVariants as binary
+use Rattle.c_grammar_tree.specs.declared.expression.UnaryOperator.{UnaryOperator}
+use Rattle.c_grammar_tree.specs.declared.expression.UnaryOperator.TheVariants as unary
 use Rattle.c_core_rules.specs.declared.tree.Location.{Location}
 use Rattle.c_core_rules.specs.Values.{conv, promote, node_of, operator_value, signed_value}
 use Rattle.c_core_rules.specs.Values.{chosen_value, truth_of, int, element, scalar, cell_at}

@@ -1,9 +1,9 @@
 -- What a form reads has a property, if its parts have theirs.
 use Rattle.std.proofs.Common.{◌≡◌, ℕ, Bool, true, ◌&&◌, List, [], ◌∷◌, map, Option, None, Some}
 use Rattle.std.proofs.Common.{refl, sym, subst}
-use Rattle.grammar_forms.specs.Forms.{World, Form, Nothing, Skip, Behind, Before, Pair, Then}
-use Rattle.grammar_forms.specs.Forms.{Node, Deeper, Choice, Many, Perhaps, Nearest}
-use Rattle.c_symbols.specs.Symbols.{Leaf}
+use Rattle.c_grammar_forms.specs.Forms.{World, Form, Nothing, Skip, Behind, Before, Pair, Then}
+use Rattle.c_grammar_forms.specs.Forms.{Node, Deeper, Choice, Many, Perhaps, Nearest}
+use Rattle.c_grammar_symbols.specs.Symbols.{Leaf}
 use Rattle.c_core_sound.specs.Whole.{all_whole}
 
 -- what the form reads in this text has the property

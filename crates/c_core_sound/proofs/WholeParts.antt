@@ -3,32 +3,32 @@ use Rattle.std.proofs.Common.{◌≡◌, ℕ, ℤ, Bool, true, List, [], ◌∷�
 use Rattle.std.proofs.Common.{refl, ap, sym, ◌∙◌}
 use Rattle.cpa_ints.specs.declared.integers.IntType.{IntType}
 use Rattle.cpa_ints.specs.declared.integers.IntType.TheVariants as ty
-use Rattle.c_symbols.specs.declared.operators.AssignmentOperator.{AssignmentOperator}
-use Rattle.c_symbols.specs.declared.operators.BinaryOperator.{BinaryOperator}
-use Rattle.c_symbols.specs.declared.operators.StepOperator.{StepOperator}
-use Rattle.c_tree.specs.declared.name.Name.{Name}
-use Rattle.c_tree.specs.declared.expression.Expression.{Expression, roll-Expression}
-use Rattle.c_tree.specs.declared.expression.Expression.TheVariants as expression
-use Rattle.c_tree.specs.declared.expression.Expression.TheOpen.{Expression-F, Suffix-F}
-use Rattle.c_tree.specs.declared.expression.Expression.TheFolds.{fold-Suffix}
-use Rattle.c_tree.specs.declared.expression.Expression.TheFolds.{fold-roll-Expression}
-use Rattle.c_tree.specs.declared.expression.Expression.TheFolds.{fold-roll-Suffix}
-use Rattle.c_tree.specs.declared.expression.Expression.TheFolds.{map-Expression, map-Suffix}
-use Rattle.c_tree.specs.declared.expression.Suffix.{Suffix, roll-Suffix}
-use Rattle.c_tree.specs.declared.expression.Suffix.TheVariants as suffix
-use Rattle.c_tree.specs.declared.expression.TypeName.{TypeName}
-use Rattle.c_tree.specs.declared.expression.UnaryOperator.{UnaryOperator}
-use Rattle.c_tree.specs.declared.declaration.Declaration.{Declaration}
-use Rattle.c_tree.specs.declared.statement.ForStart.{ForStart}
-use Rattle.c_tree.specs.declared.statement.Statement.{Statement, roll-Statement}
-use Rattle.c_tree.specs.declared.statement.Statement.TheVariants as node
-use Rattle.c_tree.specs.declared.statement.BlockItem.{BlockItem, roll-BlockItem}
-use Rattle.c_tree.specs.declared.statement.BlockItem.TheVariants as in_block
-use Rattle.c_tree.specs.declared.statement.BlockItem.TheOpen.{BlockItem-F, Statement-F}
-use Rattle.c_tree.specs.declared.statement.BlockItem.TheFolds.{fold-Statement}
-use Rattle.c_tree.specs.declared.statement.BlockItem.TheFolds.{fold-roll-BlockItem}
-use Rattle.c_tree.specs.declared.statement.BlockItem.TheFolds.{fold-roll-Statement}
-use Rattle.c_tree.specs.declared.statement.BlockItem.TheFolds.{map-BlockItem, map-Statement}
+use Rattle.c_grammar_symbols.specs.declared.operators.AssignmentOperator.{AssignmentOperator}
+use Rattle.c_grammar_symbols.specs.declared.operators.BinaryOperator.{BinaryOperator}
+use Rattle.c_grammar_symbols.specs.declared.operators.StepOperator.{StepOperator}
+use Rattle.c_grammar_tree.specs.declared.name.Name.{Name}
+use Rattle.c_grammar_tree.specs.declared.expression.Expression.{Expression, roll-Expression}
+use Rattle.c_grammar_tree.specs.declared.expression.Expression.TheVariants as expression
+use Rattle.c_grammar_tree.specs.declared.expression.Expression.TheOpen.{Expression-F, Suffix-F}
+use Rattle.c_grammar_tree.specs.declared.expression.Expression.TheFolds.{fold-Suffix}
+use Rattle.c_grammar_tree.specs.declared.expression.Expression.TheFolds.{fold-roll-Expression}
+use Rattle.c_grammar_tree.specs.declared.expression.Expression.TheFolds.{fold-roll-Suffix}
+use Rattle.c_grammar_tree.specs.declared.expression.Expression.TheFolds.{map-Expression, map-Suffix}
+use Rattle.c_grammar_tree.specs.declared.expression.Suffix.{Suffix, roll-Suffix}
+use Rattle.c_grammar_tree.specs.declared.expression.Suffix.TheVariants as suffix
+use Rattle.c_grammar_tree.specs.declared.expression.TypeName.{TypeName}
+use Rattle.c_grammar_tree.specs.declared.expression.UnaryOperator.{UnaryOperator}
+use Rattle.c_grammar_tree.specs.declared.declaration.Declaration.{Declaration}
+use Rattle.c_grammar_tree.specs.declared.statement.ForStart.{ForStart}
+use Rattle.c_grammar_tree.specs.declared.statement.Statement.{Statement, roll-Statement}
+use Rattle.c_grammar_tree.specs.declared.statement.Statement.TheVariants as node
+use Rattle.c_grammar_tree.specs.declared.statement.BlockItem.{BlockItem, roll-BlockItem}
+use Rattle.c_grammar_tree.specs.declared.statement.BlockItem.TheVariants as in_block
+use Rattle.c_grammar_tree.specs.declared.statement.BlockItem.TheOpen.{BlockItem-F, Statement-F}
+use Rattle.c_grammar_tree.specs.declared.statement.BlockItem.TheFolds.{fold-Statement}
+use Rattle.c_grammar_tree.specs.declared.statement.BlockItem.TheFolds.{fold-roll-BlockItem}
+use Rattle.c_grammar_tree.specs.declared.statement.BlockItem.TheFolds.{fold-roll-Statement}
+use Rattle.c_grammar_tree.specs.declared.statement.BlockItem.TheFolds.{map-BlockItem, map-Statement}
 use Rattle.c_core_sound.specs.Whole.{all_whole, has_value, is_whole}
 use Rattle.c_core_sound.specs.Whole.{whole_block_item, whole_declaration, whole_expression}
 use Rattle.c_core_sound.specs.Whole.{whole_item_layer, whole_optional, whole_start, whole_statement}

@@ -1,48 +1,55 @@
 -- The tree of a text is whole (`text_whole`).
 use Rattle.std.proofs.Common.{◌≡◌, ℕ, zero, suc, Bool, true, false, not, List, [], ◌∷◌}
 use Rattle.std.proofs.Common.{map, Option, None, Some, refl}
-use Rattle.grammar_forms.specs.Forms.{World, Form, Node, Pair, listed}
+use Rattle.c_grammar_forms.specs.Forms.{World, Form, Node, Pair, listed}
 use Rattle.cpa_ints.specs.declared.integers.IntType.TheVariants as ty
-use Rattle.c_symbols.specs.declared.words.Terminal.TheVariants as terminal
-use Rattle.c_symbols.specs.declared.words.Terminal.{Terminal}
-use Rattle.c_symbols.specs.declared.operators.BinaryOperator.{BinaryOperator}
-use Rattle.c_symbols.specs.declared.operators.BinaryOperator.TheVariants as binary
-use Rattle.c_symbols.specs.declared.operators.AssignmentOperator.{AssignmentOperator}
-use Rattle.c_symbols.specs.declared.symbol.Symbol.{Symbol}
-use Rattle.c_symbols.specs.declared.symbol.Symbol.TheVariants as symbol
-use Rattle.c_symbols.specs.Symbols.{Leaf, symbol_of}
-use Rattle.c_symbols.specs.Sources.{is}
-use Rattle.c_tree.specs.declared.name.Name.{Name}
-use Rattle.c_tree.specs.declared.expression.Expression.{Expression}
-use Rattle.c_tree.specs.declared.expression.Expression.TheVariants as expression
-use Rattle.c_tree.specs.declared.expression.Suffix.{Suffix}
-use Rattle.c_tree.specs.declared.expression.UnaryOperator.{UnaryOperator}
-use Rattle.c_tree.specs.declared.declaration.Specifiers.{Specifiers}
-use Rattle.c_tree.specs.declared.declaration.Array.{Array}
-use Rattle.c_tree.specs.declared.declaration.Initializer.{Initializer}
-use Rattle.c_tree.specs.declared.statement.Statement.{Statement}
-use Rattle.c_tree.specs.declared.item.Body.{Body}
-use Rattle.c_tree.specs.declared.item.Body.TheVariants as body
-use Rattle.c_tree.specs.declared.item.Item.{Item}
-use Rattle.c_tree.specs.Parts.{is_not, names_assert, is_end, begins_suffix, is_operator}
-use Rattle.c_tree.specs.Parts.{loosest, bare_name, is_initializing}
-use Rattle.c_tree.specs.Nested.{Grammar}
-use Rattle.c_tree.specs.Expressions.{suffixed, in_front, chain_of, conditional_of, assignment_of}
-use Rattle.c_tree.specs.Expressions.{comma_of, Group, cast_group, bracket_group, group_of}
-use Rattle.c_tree.specs.Expressions.{list_of, assignments, arguments, suffix_at, skipped_call}
-use Rattle.c_tree.specs.Expressions.{opens_skipped, suffixes, primary_at, postfix, sign, unary_at}
-use Rattle.c_tree.specs.Expressions.{unary, group_at, cast_at, cast, operand_at, chain}
-use Rattle.c_tree.specs.Expressions.{conditional, right_side_at, assigns_to, assignment, comma}
-use Rattle.c_tree.specs.Declarations.{element, list, initializer_of, array, array_part, Rest}
-use Rattle.c_tree.specs.Declarations.{declarator_rest, declarator, more_declarators}
-use Rattle.c_tree.specs.Declarations.{declaration}
-use Rattle.c_tree.specs.Statements.{items, condition, optional, for_start, behind_comma_at}
-use Rattle.c_tree.specs.Statements.{labeled_or_not, statement_at, statement, item_by, item}
-use Rattle.c_tree.specs.Items.{body_of, is_known, function_end_at, have_pointer, Named, function}
-use Rattle.c_tree.specs.Items.{objects, named_at, declared_of, declared_at, unit_item_at, unit_item}
-use Rattle.c_tree.specs.Items.{unit_items}
-use Rattle.c_tree.specs.Grammar.{grammar}
-use Rattle.c_rules.specs.Declarations.{items_of}
+use Rattle.c_grammar_symbols.specs.declared.words.Terminal.TheVariants as terminal
+use Rattle.c_grammar_symbols.specs.declared.words.Terminal.{Terminal}
+use Rattle.c_grammar_symbols.specs.declared.operators.BinaryOperator.{BinaryOperator}
+use Rattle.c_grammar_symbols.specs.declared.operators.BinaryOperator.TheVariants as binary
+use Rattle.c_grammar_symbols.specs.declared.operators.AssignmentOperator.{AssignmentOperator}
+use Rattle.c_grammar_symbols.specs.declared.symbol.Symbol.{Symbol}
+use Rattle.c_grammar_symbols.specs.declared.symbol.Symbol.TheVariants as symbol
+use Rattle.c_grammar_symbols.specs.Symbols.{Leaf, symbol_of}
+use Rattle.c_grammar_symbols.specs.Sources.{is}
+use Rattle.c_grammar_tree.specs.declared.name.Name.{Name}
+use Rattle.c_grammar_tree.specs.declared.expression.Expression.{Expression}
+use Rattle.c_grammar_tree.specs.declared.expression.Expression.TheVariants as expression
+use Rattle.c_grammar_tree.specs.declared.expression.Suffix.{Suffix}
+use Rattle.c_grammar_tree.specs.declared.expression.UnaryOperator.{UnaryOperator}
+use Rattle.c_grammar_tree.specs.declared.declaration.Specifiers.{Specifiers}
+use Rattle.c_grammar_tree.specs.declared.declaration.Array.{Array}
+use Rattle.c_grammar_tree.specs.declared.declaration.Initializer.{Initializer}
+use Rattle.c_grammar_tree.specs.declared.statement.Statement.{Statement}
+use Rattle.c_grammar_tree.specs.declared.item.Body.{Body}
+use Rattle.c_grammar_tree.specs.declared.item.Body.TheVariants as body
+use Rattle.c_grammar_tree.specs.declared.item.Item.{Item}
+use Rattle.c_grammar_tree.specs.Parts.{is_not, names_assert, is_end, begins_suffix, is_operator}
+use Rattle.c_grammar_tree.specs.Parts.{loosest, bare_name, is_initializing}
+use Rattle.c_grammar_tree.specs.Nested.{Grammar}
+use Rattle.c_grammar_tree.specs.Expressions.{suffixed, in_front, chain_of, conditional_of}
+use Rattle.c_grammar_tree.specs.Expressions.{assignment_of}
+use Rattle.c_grammar_tree.specs.Expressions.{comma_of, Group, cast_group, bracket_group, group_of}
+use Rattle.c_grammar_tree.specs.Expressions.{list_of, assignments, arguments, suffix_at}
+use Rattle.c_grammar_tree.specs.Expressions.{skipped_call}
+use Rattle.c_grammar_tree.specs.Expressions.{opens_skipped, suffixes, primary_at, postfix, sign}
+use Rattle.c_grammar_tree.specs.Expressions.{unary_at}
+use Rattle.c_grammar_tree.specs.Expressions.{unary, group_at, cast_at, cast, operand_at, chain}
+use Rattle.c_grammar_tree.specs.Expressions.{conditional, right_side_at, assigns_to, assignment}
+use Rattle.c_grammar_tree.specs.Expressions.{comma}
+use Rattle.c_grammar_tree.specs.Declarations.{element, list, initializer_of, array, array_part}
+use Rattle.c_grammar_tree.specs.Declarations.{Rest}
+use Rattle.c_grammar_tree.specs.Declarations.{declarator_rest, declarator, more_declarators}
+use Rattle.c_grammar_tree.specs.Declarations.{declaration}
+use Rattle.c_grammar_tree.specs.Statements.{items, condition, optional, for_start, behind_comma_at}
+use Rattle.c_grammar_tree.specs.Statements.{labeled_or_not, statement_at, statement, item_by, item}
+use Rattle.c_grammar_tree.specs.Items.{body_of, is_known, function_end_at, have_pointer, Named}
+use Rattle.c_grammar_tree.specs.Items.{function}
+use Rattle.c_grammar_tree.specs.Items.{objects, named_at, declared_of, declared_at, unit_item_at}
+use Rattle.c_grammar_tree.specs.Items.{unit_item}
+use Rattle.c_grammar_tree.specs.Items.{unit_items}
+use Rattle.c_grammar_tree.specs.Grammar.{grammar}
+use Rattle.c_types_rules.specs.Declarations.{items_of}
 use Rattle.c_core_sound.specs.Whole.{all_whole, has_value, is_whole, whole_block_item}
 use Rattle.c_core_sound.specs.Whole.{whole_declaration, whole_declarator, whole_item, whole_length}
 use Rattle.c_core_sound.specs.Whole.{whole_optional, whole_start}

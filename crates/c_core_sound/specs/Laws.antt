@@ -4,9 +4,9 @@ use Rattle.cpa_model.specs.declared.program.Program.{Program}
 use Rattle.cpa_model.specs.Programs.{IsWellFormed}
 use Rattle.c_lexer.specs.declared.token.Token.{Token}
 use Rattle.c_lexer.specs.Parts.{Tokens}
-use Rattle.c_tree.specs.declared.item.Unit.{Unit as UnitTree}
-use Rattle.c_tree.specs.Grammar.{Tree}
-use Rattle.c_rules.specs.Sound.{Sound, typed_unit}
+use Rattle.c_grammar_tree.specs.declared.item.Unit.{Unit as UnitTree}
+use Rattle.c_grammar_tree.specs.Grammar.{Tree}
+use Rattle.c_types_rules.specs.Sound.{Sound, typed_unit}
 use Rattle.c_core_rules.specs.Programs.{IsCore}
 use Rattle.c_core_sound.specs.Whole.{IsWhole}
 

@@ -5,22 +5,22 @@ use Rattle.std.specs.Prelude.{None, Some}
 use Rattle.cpa_ints.specs.declared.integers.IntType.{IntType}
 use Rattle.cpa_ints.specs.declared.integers.IntType.TheVariants as ty
 use Rattle.cpa_ints.specs.Integers.{least, greatest}
-use Rattle.c_tree.specs.declared.expression.Expression.{Expression}
-use Rattle.c_tree.specs.declared.expression.Expression.TheOpen.{Expression-F, Suffix-F}
-use Rattle.c_tree.specs.declared.expression.Expression.TheFolds.{fold-Expression}
-use Rattle.c_tree.specs.declared.declaration.Array.{Array}
-use Rattle.c_tree.specs.declared.declaration.Declarator.{Declarator}
-use Rattle.c_tree.specs.declared.declaration.Declaration.{Declaration}
-use Rattle.c_tree.specs.declared.statement.ForStart.{ForStart}
-use Rattle.c_tree.specs.declared.statement.ForStart.TheVariants as start
-use Rattle.c_tree.specs.declared.statement.BlockItem.{BlockItem}
-use Rattle.c_tree.specs.declared.statement.BlockItem.TheOpen.{BlockItem-F, Statement-F}
-use Rattle.c_tree.specs.declared.statement.BlockItem.TheFolds.{fold-BlockItem}
-use Rattle.c_tree.specs.declared.item.Body.TheVariants as body
-use Rattle.c_tree.specs.declared.item.Item.{Item}
-use Rattle.c_tree.specs.declared.item.Item.TheVariants as item
-use Rattle.c_tree.specs.declared.item.Unit.{Unit as UnitTree}
-use Rattle.c_rules.specs.Declarations.{items_of}
+use Rattle.c_grammar_tree.specs.declared.expression.Expression.{Expression}
+use Rattle.c_grammar_tree.specs.declared.expression.Expression.TheOpen.{Expression-F, Suffix-F}
+use Rattle.c_grammar_tree.specs.declared.expression.Expression.TheFolds.{fold-Expression}
+use Rattle.c_grammar_tree.specs.declared.declaration.Array.{Array}
+use Rattle.c_grammar_tree.specs.declared.declaration.Declarator.{Declarator}
+use Rattle.c_grammar_tree.specs.declared.declaration.Declaration.{Declaration}
+use Rattle.c_grammar_tree.specs.declared.statement.ForStart.{ForStart}
+use Rattle.c_grammar_tree.specs.declared.statement.ForStart.TheVariants as start
+use Rattle.c_grammar_tree.specs.declared.statement.BlockItem.{BlockItem}
+use Rattle.c_grammar_tree.specs.declared.statement.BlockItem.TheOpen.{BlockItem-F, Statement-F}
+use Rattle.c_grammar_tree.specs.declared.statement.BlockItem.TheFolds.{fold-BlockItem}
+use Rattle.c_grammar_tree.specs.declared.item.Body.TheVariants as body
+use Rattle.c_grammar_tree.specs.declared.item.Item.{Item}
+use Rattle.c_grammar_tree.specs.declared.item.Item.TheVariants as item
+use Rattle.c_grammar_tree.specs.declared.item.Unit.{Unit as UnitTree}
+use Rattle.c_types_rules.specs.Declarations.{items_of}
 
 abbrev pub has_value : IntType → ℤ → Bool
 has_value t n = int_le (least t) n && int_le n (greatest t)

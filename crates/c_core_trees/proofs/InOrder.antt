@@ -3,7 +3,7 @@ use Rattle.std.proofs.Common.{◌≡◌, ◌<◌, ◌≤◌, ℕ, ◌+◌, List,
 use Rattle.std.proofs.Common.{◌++◌, refl, ap, sym, ◌∙◌, append_assoc, append-nil}
 use Rattle.std.proofs.lemmas.List.{at_drop_more, at_drop_all}
 use Rattle.c_core_rules.specs.Trees.{Trees}
-use Rattle.c_rules.specs.declared.typed.TypedFunction.{TypedFunction}
+use Rattle.c_types_rules.specs.declared.typed.TypedFunction.{TypedFunction}
 use Rattle.c_core_rules.specs.Cells.{Taken, Made, Rule, each, in_order}
 use Rattle.c_core_rules.specs.Expressions.{Frames}
 use Rattle.c_core_rules.specs.Statements.{function_rule}

@@ -5,7 +5,7 @@ use Rattle.std.proofs.Common.{drop, pos, ap, sym, ◌∙◌, arith, append_assoc
 use Rattle.std.proofs.lemmas.List.{at_drop_more, at_drop_all}
 use Rattle.cpa_ints.specs.declared.integers.IntType.{IntType}
 use Rattle.cpa_expr.specs.declared.tree.Expr.TheVariants.{Const}
-use Rattle.c_rules.specs.declared.typed.TypedExpression.{TypedExpression}
+use Rattle.c_types_rules.specs.declared.typed.TypedExpression.{TypedExpression}
 use Rattle.c_core_rules.specs.Values.{cell_at}
 use Rattle.c_core_rules.specs.Trees.{Trees, input, set}
 use Rattle.c_core_rules.specs.Cells.{Taken, Made}

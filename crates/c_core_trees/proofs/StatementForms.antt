@@ -1,17 +1,18 @@
 -- The rules of each form of statement, by its parts (`opened`).
 use Rattle.std.proofs.Common.{◌≡◌, ℕ, List, [], ◌∷◌, ◌++◌, map, Option, None, Some, ap, sym, ◌∙◌}
-use Rattle.c_rules.specs.declared.typed.TypedDeclarator.{TypedDeclarator}
-use Rattle.c_rules.specs.declared.typed.TypedExpression.{TypedExpression}
-use Rattle.c_rules.specs.declared.typed.TypedForStart.{TypedForStart}
-use Rattle.c_rules.specs.declared.typed.TypedItem.{TypedItem, roll-TypedItem}
-use Rattle.c_rules.specs.declared.typed.TypedItem.TheVariants as item
-use Rattle.c_rules.specs.declared.typed.TypedItem.TheOpen.{TypedItem-F, TypedStatement-F}
-use Rattle.c_rules.specs.declared.typed.TypedItem.TheFolds.{fold-TypedItem, fold-TypedStatement}
-use Rattle.c_rules.specs.declared.typed.TypedItem.TheFolds.{map-TypedItem, map-TypedStatement}
-use Rattle.c_rules.specs.declared.typed.TypedItem.TheFolds.{fold-roll-TypedItem}
-use Rattle.c_rules.specs.declared.typed.TypedItem.TheFolds.{fold-roll-TypedStatement}
-use Rattle.c_rules.specs.declared.typed.TypedStatement.{TypedStatement, roll-TypedStatement}
-use Rattle.c_rules.specs.declared.typed.TypedStatement.TheVariants as tree
+use Rattle.c_types_rules.specs.declared.typed.TypedDeclarator.{TypedDeclarator}
+use Rattle.c_types_rules.specs.declared.typed.TypedExpression.{TypedExpression}
+use Rattle.c_types_rules.specs.declared.typed.TypedForStart.{TypedForStart}
+use Rattle.c_types_rules.specs.declared.typed.TypedItem.{TypedItem, roll-TypedItem}
+use Rattle.c_types_rules.specs.declared.typed.TypedItem.TheVariants as item
+use Rattle.c_types_rules.specs.declared.typed.TypedItem.TheOpen.{TypedItem-F, TypedStatement-F}
+use Rattle.c_types_rules.specs.declared.typed.TypedItem.TheFolds.{fold-TypedItem}
+use Rattle.c_types_rules.specs.declared.typed.TypedItem.TheFolds.{fold-TypedStatement}
+use Rattle.c_types_rules.specs.declared.typed.TypedItem.TheFolds.{map-TypedItem, map-TypedStatement}
+use Rattle.c_types_rules.specs.declared.typed.TypedItem.TheFolds.{fold-roll-TypedItem}
+use Rattle.c_types_rules.specs.declared.typed.TypedItem.TheFolds.{fold-roll-TypedStatement}
+use Rattle.c_types_rules.specs.declared.typed.TypedStatement.{TypedStatement, roll-TypedStatement}
+use Rattle.c_types_rules.specs.declared.typed.TypedStatement.TheVariants as tree
 use Rattle.c_core_rules.specs.declared.tree.CoreTree.TheVariants.{Node}
 use Rattle.c_core_rules.specs.declared.tree.Head.TheVariants as head
 use Rattle.c_core_rules.specs.declared.tree.Location.{Location}

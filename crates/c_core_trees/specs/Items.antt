@@ -1,10 +1,10 @@
 -- Rules of statements on their own (`c_core_rules`, `specs/Statements.antt`), and rules that begin
 -- behind what is made already.
 use Rattle.std.specs.Prelude.{List, [], ◌∷◌, ◌++◌, Option, None, Some}
-use Rattle.c_rules.specs.declared.typed.TypedExpression.{TypedExpression}
-use Rattle.c_rules.specs.declared.typed.TypedForStart.{TypedForStart}
-use Rattle.c_rules.specs.declared.typed.TypedItem.TheFolds.{fold-TypedStatement}
-use Rattle.c_rules.specs.declared.typed.TypedStatement.{TypedStatement}
+use Rattle.c_types_rules.specs.declared.typed.TypedExpression.{TypedExpression}
+use Rattle.c_types_rules.specs.declared.typed.TypedForStart.{TypedForStart}
+use Rattle.c_types_rules.specs.declared.typed.TypedItem.TheFolds.{fold-TypedStatement}
+use Rattle.c_types_rules.specs.declared.typed.TypedStatement.{TypedStatement}
 use Rattle.c_core_rules.specs.declared.tree.Location.{Location}
 use Rattle.c_core_rules.specs.Trees.{Trees, block, repeated}
 use Rattle.c_core_rules.specs.Cells.{Rule, gives, then_by, in_order}

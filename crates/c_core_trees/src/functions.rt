@@ -11,7 +11,7 @@ use crate::statements::in_order;
 use c_core_expressions::Frames;
 use c_core_rules::CoreTree;
 use c_core_values::{Cells, block, cell_at, constant, joined, list_of, set};
-use c_rules::{Global, Kind, Object, TypedFunction};
+use c_types_rules::{Global, Kind, Object, TypedFunction};
 use cpa_ints::Seq;
 use cpa_model::Cell;
 use std::alloc::{AllocError, Global as Memory};

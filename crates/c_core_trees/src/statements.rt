@@ -17,7 +17,7 @@ use c_core_rules::{CoreTree, Head, Location, Valued};
 use c_core_values::{
     Cells, block, cell_at, constant, input, joined, leaf, list_of, repeated, set, with,
 };
-use c_rules::{
+use c_types_rules::{
     Object, TypedDeclarator, TypedExpression, TypedForStart, TypedInitializer, TypedItem,
     TypedStatement, cells_of,
 };

@@ -18,8 +18,8 @@ use c_core_operators::{
     both, chosen_value, conv, either, is_constant, operator_value, signed_value, truth_of,
 };
 use c_core_rules::{CoreTree, Location, Valued};
-use c_symbols::BinaryOperator;
-use c_tree::UnaryOperator;
+use c_grammar_symbols::BinaryOperator;
+use c_grammar_tree::UnaryOperator;
 use cpa_expr::{Expr, type_of};
 use cpa_ints::{IntType, Seq, common};
 use std::alloc::{AllocError, Global};

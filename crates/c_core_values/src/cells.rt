@@ -1,15 +1,15 @@
 //! The cells taken so far, and where those of each object begin, found by hash (`c_core_rules`,
 //! `specs/Cells.antt`). Proved with `proofs/Filled.antt`.
 ghost use Rattle.std.specs.Prelude.{◌≡◌, [], ◌∷◌, ◌++◌, length, IfOk, OnOk, None, Some};
-ghost use Rattle.c_rules.specs.declared.meaning.Meaning.TheVariants as meaning;
-ghost use Rattle.c_rules.specs.Counts.{cells_of};
+ghost use Rattle.c_types_rules.specs.declared.meaning.Meaning.TheVariants as meaning;
+ghost use Rattle.c_types_rules.specs.Counts.{cells_of};
 ghost use Rattle.c_core_rules.specs.Cells.{nothing_taken, fresh, taking, begun};
 ghost use Rattle.c_core_rules.specs.Cells.{location_in, scalar_place, cell, cells_with};
 ghost use Rattle.c_core_values.specs.Found.{found_starts, so_far, first_value, values_behind};
 
 use crate::values::cell_at;
 use c_core_rules::Location;
-use c_rules::{Meaning, Object, cells_of};
+use c_types_rules::{Meaning, Object, cells_of};
 use cpa_ints::{IntType, Seq};
 use cpa_model::Cell;
 use std::alloc::{AllocError, Global};

@@ -15,7 +15,7 @@ use crate::cells::Cells;
 use crate::trees::{joined, pure, with, write};
 use crate::values::{element, int};
 use c_core_rules::{CoreTree, Location, Place, Valued};
-use c_symbols::{BinaryOperator, StepOperator};
+use c_grammar_symbols::{BinaryOperator, StepOperator};
 use cpa_expr::{Expr, copy};
 use cpa_ints::Seq;
 use std::alloc::{AllocError, Global};

@@ -5,8 +5,8 @@ use Rattle.std.proofs.Common.{◌==◌, ◌-◌, if◌then◌else◌}
 use Rattle.std.proofs.lemmas.List.{at_drop_more, map_push}
 use Rattle.std.proofs.lemmas.Bool.Decides.{nat_tests}
 use Rattle.cpa_ints.specs.declared.integers.IntType.{IntType}
-use Rattle.c_rules.specs.Counts.{Counted, Made, Rule, held, gives, hold_all, have_statements}
-use Rattle.c_rules.specs.Counts.{is_empty}
+use Rattle.c_types_rules.specs.Counts.{Counted, Made, Rule, held, gives, hold_all, have_statements}
+use Rattle.c_types_rules.specs.Counts.{is_empty}
 use Rattle.c_count_values.specs.Operands.{full_count, held_where, left_behind}
 use Rattle.c_count_values.specs.Exact.{exact}
 use Rattle.c_count_values.specs.declared.size.Counted.{Counted as CodeCounted}

@@ -1,10 +1,10 @@
--- What the numbers that are counted here say, as sizes and values of `c_rules`,
+-- What the numbers that are counted here say, as sizes and values of `c_types_rules`,
 -- `specs/Counts.antt`.
 use Rattle.std.specs.Prelude.{◌+◌, max, List, map, replicate}
 use Rattle.std.specs.List.{flat_map}
 use Rattle.cpa_ints.specs.declared.integers.IntType.{IntType}
-use Rattle.c_rules.specs.declared.meaning.Object.{Object}
-use Rattle.c_rules.specs.Counts.{Size, Counted, counted, conv}
+use Rattle.c_types_rules.specs.declared.meaning.Object.{Object}
+use Rattle.c_types_rules.specs.Counts.{Size, Counted, counted, conv}
 use Rattle.c_count_values.specs.declared.size.Size.{Size as CodeSize}
 use Rattle.c_count_values.specs.declared.tally.Run.{Run}
 use Rattle.c_count_values.specs.declared.size.Counted.{Counted as CodeCounted}

@@ -1,7 +1,7 @@
--- Operands in order, each held that has statements behind it (`hold_all` of `c_rules`,
+-- Operands in order, each held that has statements behind it (`hold_all` of `c_types_rules`,
 -- `specs/Counts.antt`), by their number.
 use Rattle.std.specs.Prelude.{ℕ, ◌+◌, ◌-◌, ◌==◌, true, false, if◌then◌else◌, List, [], ◌∷◌}
-use Rattle.c_rules.specs.Counts.{Counted, Rule, gives, is_empty, held}
+use Rattle.c_types_rules.specs.Counts.{Counted, Rule, gives, is_empty, held}
 
 -- how many of these have statements
 abbrev pub full_count : List Counted → ℕ

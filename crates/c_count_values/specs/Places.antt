@@ -1,12 +1,13 @@
--- What is assigned to, its index evaluated: the rules of assignments (`c_rules`,
+-- What is assigned to, its index evaluated: the rules of assignments (`c_types_rules`,
 -- `specs/Counts.antt`) from there on.
 use Rattle.std.specs.Prelude.{Bool, if◌then◌else◌, Option, None, Some}
 use Rattle.cpa_ints.specs.declared.integers.IntType.{IntType}
 use Rattle.cpa_ints.specs.declared.integers.IntType.TheVariants as ty
-use Rattle.c_symbols.specs.declared.operators.BinaryOperator.{BinaryOperator}
-use Rattle.c_rules.specs.Counts.{Counted, Rule, gives, then_by, fixed, held_before, set_scalar}
-use Rattle.c_rules.specs.Counts.{set_element, both, empty, updated, of_constant, of_scalar}
-use Rattle.c_rules.specs.Counts.{of_element, stepped_from, constant}
+use Rattle.c_grammar_symbols.specs.declared.operators.BinaryOperator.{BinaryOperator}
+use Rattle.c_types_rules.specs.Counts.{Counted, Rule, gives, then_by, fixed, held_before}
+use Rattle.c_types_rules.specs.Counts.{set_scalar}
+use Rattle.c_types_rules.specs.Counts.{set_element, both, empty, updated, of_constant, of_scalar}
+use Rattle.c_types_rules.specs.Counts.{of_element, stepped_from, constant}
 use Rattle.c_count_values.specs.Exact.{exact}
 use Rattle.c_count_values.specs.declared.places.Place.{Place as CodePlace}
 use Rattle.c_count_values.specs.declared.places.Place.TheVariants as code

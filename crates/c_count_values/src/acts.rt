@@ -1,14 +1,14 @@
-//! The rules that take fresh cells, on counted values (`c_rules`, `specs/Counts.antt`). Proved by
-//! the checker alone.
+//! The rules that take fresh cells, on counted values (`c_types_rules`, `specs/Counts.antt`).
+//! Proved by the checker alone.
 ghost use Rattle.std.specs.Prelude.{◌≡◌, IfOk, OnOk};
-ghost use Rattle.c_rules.specs.Counts.{held, held_before, logical, linked, chosen_by};
-ghost use Rattle.c_rules.specs.Counts.{chosen, dropped_value, fixed, updated, stepped_from};
+ghost use Rattle.c_types_rules.specs.Counts.{held, held_before, logical, linked, chosen_by};
+ghost use Rattle.c_types_rules.specs.Counts.{chosen, dropped_value, fixed, updated, stepped_from};
 ghost use Rattle.c_count_values.specs.Exact.{exact, exact_size, chosen_purely};
 
 use crate::size::{Counted, Size, both, choice, empty, higher, one, raised};
 use crate::tally::Tally;
 use crate::value::{constant, conv, counted, is_empty, operated, scalar, write};
-use c_symbols::BinaryOperator;
+use c_grammar_symbols::BinaryOperator;
 use cpa_ints::{IntType, common};
 use std::alloc::AllocError;
 

@@ -1,5 +1,5 @@
-//! What the rules of `c_rules`, `specs/Counts.antt`, take that read no tree: sizes, values, cells,
-//! operands, places. Each function is a rule there.
+//! What the rules of `c_types_rules`, `specs/Counts.antt`, take that read no tree: sizes, values,
+//! cells, operands, places. Each function is a rule there.
 #![tactic(auto)]
 
 mod acts;

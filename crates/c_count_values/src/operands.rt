@@ -1,7 +1,7 @@
-//! Operands in order, each held that has statements behind it (`hold_all` of `c_rules`,
+//! Operands in order, each held that has statements behind it (`hold_all` of `c_types_rules`,
 //! `specs/Counts.antt`). Proved with `proofs/Holding.antt`.
 ghost use Rattle.std.specs.Prelude.{◌≡◌, map, OnOk, IfOk};
-ghost use Rattle.c_rules.specs.Counts.{hold_all};
+ghost use Rattle.c_types_rules.specs.Counts.{hold_all};
 ghost use Rattle.c_count_values.specs.Exact.{exact};
 ghost use Rattle.c_count_values.specs.Operands.{full_count, left_behind, held_where};
 

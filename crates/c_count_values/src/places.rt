@@ -9,7 +9,7 @@ use crate::acts::{fixed, held_before, stepped_from, updated};
 use crate::size::{Counted, both, empty, raised};
 use crate::tally::Tally;
 use crate::value::{constant, set_element, set_scalar};
-use c_symbols::BinaryOperator;
+use c_grammar_symbols::BinaryOperator;
 use cpa_ints::IntType;
 use std::alloc::AllocError;
 

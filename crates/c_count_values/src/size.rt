@@ -1,7 +1,7 @@
-//! Sizes: points and the tallest expression (`c_rules`, `specs/Counts.antt`). A number that memory
-//! cannot count to is want of memory. Proved by the checker alone.
+//! Sizes: points and the tallest expression (`c_types_rules`, `specs/Counts.antt`). A number that
+//! memory cannot count to is want of memory. Proved by the checker alone.
 ghost use Rattle.std.specs.Prelude.{◌≡◌, ◌+◌, max, IfOk};
-ghost use Rattle.c_rules.specs.Counts.{empty, both, one, block, choice, times, looped};
+ghost use Rattle.c_types_rules.specs.Counts.{empty, both, one, block, choice, times, looped};
 ghost use Rattle.c_count_values.specs.Exact.{exact_size};
 
 use cpa_ints::IntType;

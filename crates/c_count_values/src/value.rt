@@ -1,15 +1,15 @@
-//! What is known of a counted expression, and the rules that take no cell (`c_rules`,
+//! What is known of a counted expression, and the rules that take no cell (`c_types_rules`,
 //! `specs/Counts.antt`). Proved with `specs/lemmas/Sums.antt`.
 ghost use Rattle.std.specs.Prelude.{◌≡◌, map, max, IfOk};
-ghost use Rattle.c_rules.specs.Counts.{conv, counted, constant, scalar, is_empty};
-ghost use Rattle.c_rules.specs.Counts.{operands_height, operated, signed, cast_to, write};
-ghost use Rattle.c_rules.specs.Counts.{set_scalar, set_element, leaving, sizes, passed};
+ghost use Rattle.c_types_rules.specs.Counts.{conv, counted, constant, scalar, is_empty};
+ghost use Rattle.c_types_rules.specs.Counts.{operands_height, operated, signed, cast_to, write};
+ghost use Rattle.c_types_rules.specs.Counts.{set_scalar, set_element, leaving, sizes, passed};
 ghost use Rattle.c_count_values.specs.Exact.{exact, exact_size, types_of};
 
 use crate::size::{Counted, Size, both, choice, empty, higher, one, raised};
-use c_rules::{Object, binary_type, is_shift};
-use c_symbols::BinaryOperator;
-use c_tree::UnaryOperator;
+use c_grammar_symbols::BinaryOperator;
+use c_grammar_tree::UnaryOperator;
+use c_types_rules::{Object, binary_type, is_shift};
 use cpa_ints::{IntType, common, promote};
 use std::alloc::AllocError;
 

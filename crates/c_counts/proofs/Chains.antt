@@ -3,10 +3,11 @@ use Rattle.std.proofs.Common.{◌≡◌, ◌<◌, ◌≤◌, ℕ, ◌+◌, List,
 use Rattle.std.proofs.Common.{refl, ap, ◌∙◌, sym}
 use Rattle.std.proofs.lemmas.List.{at_drop_more, at_drop_all}
 use Rattle.cpa_ints.specs.declared.integers.IntType.{IntType}
-use Rattle.c_symbols.specs.declared.operators.BinaryOperator.{BinaryOperator}
-use Rattle.c_rules.specs.declared.typed.TypedExpression.{TypedExpression}
-use Rattle.c_rules.specs.Counts.{Heads, Rows, Counted, Rule, Made, gives, then_by, chained, rows}
-use Rattle.c_rules.specs.Counts.{linked}
+use Rattle.c_grammar_symbols.specs.declared.operators.BinaryOperator.{BinaryOperator}
+use Rattle.c_types_rules.specs.declared.typed.TypedExpression.{TypedExpression}
+use Rattle.c_types_rules.specs.Counts.{Heads, Rows, Counted, Rule, Made, gives, then_by, chained}
+use Rattle.c_types_rules.specs.Counts.{rows}
+use Rattle.c_types_rules.specs.Counts.{linked}
 use Rattle.c_counts.specs.Rows.{link_rows, linked_to}
 
 -- it begins with the value of the first

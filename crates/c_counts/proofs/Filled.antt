@@ -4,11 +4,12 @@ use Rattle.std.proofs.Common.{List, [], ◌∷◌, ◌++◌, take, length, repli
 use Rattle.std.proofs.Common.{refl, ap, sym, ◌∙◌, append_assoc, arith, if◌then◌else◌}
 use Rattle.std.specs.List.{flat_map}
 use Rattle.cpa_ints.specs.declared.integers.IntType.{IntType}
-use Rattle.c_rules.specs.declared.meaning.Object.{Object}
-use Rattle.c_rules.specs.declared.typed.Global.{Global}
-use Rattle.c_rules.specs.declared.typed.TypedFunction.{TypedFunction}
-use Rattle.c_rules.specs.Counts.{cells_of, receiving, heads_of}
-use Rattle.c_rules.specs.Sound.{filled, object_types, counts, is_too_large, started, first_cells}
+use Rattle.c_types_rules.specs.declared.meaning.Object.{Object}
+use Rattle.c_types_rules.specs.declared.typed.Global.{Global}
+use Rattle.c_types_rules.specs.declared.typed.TypedFunction.{TypedFunction}
+use Rattle.c_types_rules.specs.Counts.{cells_of, receiving, heads_of}
+use Rattle.c_types_rules.specs.Sound.{filled, object_types, counts, is_too_large, started}
+use Rattle.c_types_rules.specs.Sound.{first_cells}
 use Rattle.c_counts.specs.TextCells.{objects_of, text_cells, values_of, first_start}
 use Rattle.c_counts.specs.TextCells.{starts_behind}
 

@@ -3,10 +3,10 @@ use Rattle.std.proofs.Common.{◌≡◌, ◌<◌, ◌≤◌, ℕ, ◌+◌, List,
 use Rattle.std.proofs.Common.{◌++◌, refl, ap, sym, ◌∙◌, append_assoc}
 use Rattle.std.proofs.lemmas.List.{at_drop_more, at_drop_all}
 use Rattle.cpa_ints.specs.declared.integers.IntType.{IntType}
-use Rattle.c_rules.specs.declared.typed.TypedFunction.{TypedFunction}
-use Rattle.c_rules.specs.Counts.{Heads, Size, Made, Rule, empty, both, in_order}
-use Rattle.c_rules.specs.Counts.{function_rule}
-use Rattle.c_rules.specs.Sound.{first_cells}
+use Rattle.c_types_rules.specs.declared.typed.TypedFunction.{TypedFunction}
+use Rattle.c_types_rules.specs.Counts.{Heads, Size, Made, Rule, empty, both, in_order}
+use Rattle.c_types_rules.specs.Counts.{function_rule}
+use Rattle.c_types_rules.specs.Sound.{first_cells}
 use Rattle.c_counts.specs.Items.{in_behind}
 use Rattle.c_count_values.specs.lemmas.Sums.{both_assoc, empty_both, both_empty}
 

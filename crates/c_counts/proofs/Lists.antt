@@ -5,9 +5,9 @@ use Rattle.std.proofs.Common.{arith, append_assoc}
 use Rattle.std.proofs.lemmas.List.{at_drop_more, at_drop_all}
 use Rattle.cpa_ints.specs.declared.integers.IntType.{IntType}
 use Rattle.cpa_ints.specs.declared.integers.IntType.TheVariants as ty
-use Rattle.c_rules.specs.declared.typed.TypedExpression.{TypedExpression}
-use Rattle.c_rules.specs.Counts.{Heads, Rows, Counted, Size, Made, rows, empty, both, each}
-use Rattle.c_rules.specs.Counts.{first_unused, comma_used, comma_unused, constant}
+use Rattle.c_types_rules.specs.declared.typed.TypedExpression.{TypedExpression}
+use Rattle.c_types_rules.specs.Counts.{Heads, Rows, Counted, Size, Made, rows, empty, both, each}
+use Rattle.c_types_rules.specs.Counts.{first_unused, comma_used, comma_unused, constant}
 use Rattle.c_counts.specs.Rows.{used_by, unused_behind, comma_behind}
 use Rattle.c_count_values.specs.lemmas.Sums.{both_assoc, empty_both, both_empty}
 

@@ -3,8 +3,8 @@ use Rattle.std.proofs.Common.{◌≡◌, ◌==◌, ◌-◌, ℕ, zero, suc, Bool
 use Rattle.std.proofs.Common.{◌<◌, ◌≤◌, length, get_or, refl, ap, sym, ◌∙◌, arith}
 use Rattle.std.proofs.lemmas.Bool.Decides.{nat_tests}
 use Rattle.cpa_ints.specs.declared.integers.IntType.{IntType}
-use Rattle.c_rules.specs.declared.typed.TypedFunction.{TypedFunction}
-use Rattle.c_rules.specs.Counts.{Heads, heads_of, head_at}
+use Rattle.c_types_rules.specs.declared.typed.TypedFunction.{TypedFunction}
+use Rattle.c_types_rules.specs.Counts.{Heads, heads_of, head_at}
 use Rattle.c_count_values.specs.Exact.{types_of}
 
 head_at_more : (head : List IntType) (heads : Heads) (n : ℕ) →

@@ -2,13 +2,14 @@
 use Rattle.std.proofs.Common.{◌≡◌, Bool, true, false, List, is_some, refl}
 use Rattle.cpa_ints.specs.declared.integers.IntType.{IntType}
 use Rattle.cpa_ints.specs.declared.integers.IntType.TheVariants as ty
-use Rattle.c_symbols.specs.declared.operators.AssignmentOperator.{AssignmentOperator}
-use Rattle.c_symbols.specs.declared.operators.AssignmentOperator.TheVariants as assign
-use Rattle.c_symbols.specs.declared.operators.BinaryOperator.{BinaryOperator}
-use Rattle.c_symbols.specs.declared.operators.BinaryOperator.TheVariants as binary
-use Rattle.c_rules.specs.Counts.{Counted, Size, Made, Rule, Target, scalar_target, element_target}
-use Rattle.c_rules.specs.Counts.{no_target, then_by, gives, constant, operator_of, assigning}
-use Rattle.c_rules.specs.Counts.{compounded, incremented, stepped}
+use Rattle.c_grammar_symbols.specs.declared.operators.AssignmentOperator.{AssignmentOperator}
+use Rattle.c_grammar_symbols.specs.declared.operators.AssignmentOperator.TheVariants as assign
+use Rattle.c_grammar_symbols.specs.declared.operators.BinaryOperator.{BinaryOperator}
+use Rattle.c_grammar_symbols.specs.declared.operators.BinaryOperator.TheVariants as binary
+use Rattle.c_types_rules.specs.Counts.{Counted, Size, Made, Rule, Target, scalar_target}
+use Rattle.c_types_rules.specs.Counts.{element_target}
+use Rattle.c_types_rules.specs.Counts.{no_target, then_by, gives, constant, operator_of, assigning}
+use Rattle.c_types_rules.specs.Counts.{compounded, incremented, stepped}
 use Rattle.c_count_values.specs.Places.{updated_at, changed_at, stepped_at}
 use Rattle.c_counts.specs.Places.{placed}
 

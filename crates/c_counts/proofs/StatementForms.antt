@@ -1,22 +1,24 @@
 -- What each form of statement takes, by its parts (`opened`).
 use Rattle.std.proofs.Common.{◌≡◌, ℕ, List, map, Option, None, Some, ap, sym, ◌∙◌}
 use Rattle.cpa_ints.specs.declared.integers.IntType.{IntType}
-use Rattle.c_rules.specs.declared.typed.TypedDeclarator.{TypedDeclarator}
-use Rattle.c_rules.specs.declared.typed.TypedExpression.{TypedExpression}
-use Rattle.c_rules.specs.declared.typed.TypedForStart.{TypedForStart}
-use Rattle.c_rules.specs.declared.typed.TypedItem.{TypedItem, roll-TypedItem}
-use Rattle.c_rules.specs.declared.typed.TypedItem.TheVariants as item
-use Rattle.c_rules.specs.declared.typed.TypedItem.TheOpen.{TypedItem-F, TypedStatement-F}
-use Rattle.c_rules.specs.declared.typed.TypedItem.TheFolds.{fold-TypedItem, fold-TypedStatement}
-use Rattle.c_rules.specs.declared.typed.TypedItem.TheFolds.{map-TypedItem, map-TypedStatement}
-use Rattle.c_rules.specs.declared.typed.TypedItem.TheFolds.{fold-roll-TypedItem}
-use Rattle.c_rules.specs.declared.typed.TypedItem.TheFolds.{fold-roll-TypedStatement}
-use Rattle.c_rules.specs.declared.typed.TypedStatement.{TypedStatement, roll-TypedStatement}
-use Rattle.c_rules.specs.declared.typed.TypedStatement.TheVariants as tree
-use Rattle.c_rules.specs.Counts.{Heads, Size, Rule, then_by, gives, both, choice, block, blocked}
-use Rattle.c_rules.specs.Counts.{one, empty, looped, rows, some_unused, started, left_unless}
-use Rattle.c_rules.specs.Counts.{returned, in_order, declaration, item_rule, item_step}
-use Rattle.c_rules.specs.Counts.{statement_step}
+use Rattle.c_types_rules.specs.declared.typed.TypedDeclarator.{TypedDeclarator}
+use Rattle.c_types_rules.specs.declared.typed.TypedExpression.{TypedExpression}
+use Rattle.c_types_rules.specs.declared.typed.TypedForStart.{TypedForStart}
+use Rattle.c_types_rules.specs.declared.typed.TypedItem.{TypedItem, roll-TypedItem}
+use Rattle.c_types_rules.specs.declared.typed.TypedItem.TheVariants as item
+use Rattle.c_types_rules.specs.declared.typed.TypedItem.TheOpen.{TypedItem-F, TypedStatement-F}
+use Rattle.c_types_rules.specs.declared.typed.TypedItem.TheFolds.{fold-TypedItem}
+use Rattle.c_types_rules.specs.declared.typed.TypedItem.TheFolds.{fold-TypedStatement}
+use Rattle.c_types_rules.specs.declared.typed.TypedItem.TheFolds.{map-TypedItem, map-TypedStatement}
+use Rattle.c_types_rules.specs.declared.typed.TypedItem.TheFolds.{fold-roll-TypedItem}
+use Rattle.c_types_rules.specs.declared.typed.TypedItem.TheFolds.{fold-roll-TypedStatement}
+use Rattle.c_types_rules.specs.declared.typed.TypedStatement.{TypedStatement, roll-TypedStatement}
+use Rattle.c_types_rules.specs.declared.typed.TypedStatement.TheVariants as tree
+use Rattle.c_types_rules.specs.Counts.{Heads, Size, Rule, then_by, gives, both, choice, block}
+use Rattle.c_types_rules.specs.Counts.{blocked}
+use Rattle.c_types_rules.specs.Counts.{one, empty, looped, rows, some_unused, started, left_unless}
+use Rattle.c_types_rules.specs.Counts.{returned, in_order, declaration, item_rule, item_step}
+use Rattle.c_types_rules.specs.Counts.{statement_step}
 use Rattle.c_counts.specs.Items.{statement_rule, left, otherwise}
 
 opened : (heads : Heads) (result : IntType) (s : TypedStatement)

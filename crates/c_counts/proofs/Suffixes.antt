@@ -2,23 +2,25 @@
 use Rattle.std.proofs.Common.{◌≡◌, ◌<◌, ◌≤◌, ℕ, zero, suc, true, List, [], ◌∷◌, map, length, take}
 use Rattle.std.proofs.Common.{◌+◌, get_or, Option, None, refl, ap, sym, ◌∙◌, arith}
 use Rattle.cpa_ints.specs.declared.integers.IntType.{IntType}
-use Rattle.c_symbols.specs.declared.operators.StepOperator.{StepOperator}
-use Rattle.c_rules.specs.declared.meaning.Kind.{Kind}
-use Rattle.c_rules.specs.declared.meaning.Meaning.{Meaning}
-use Rattle.c_rules.specs.declared.typed.TypedExpression.{TypedExpression, out-TypedExpression}
-use Rattle.c_rules.specs.declared.typed.TypedExpression.TheOpen.{TypedExpression-F, TypedSuffix-F}
-use Rattle.c_rules.specs.declared.typed.TypedExpression.TheViews.{out-roll-TypedExpression}
-use Rattle.c_rules.specs.declared.typed.TypedExpression.TheVariants as tree
-use Rattle.c_rules.specs.declared.typed.TypedSuffix.{TypedSuffix}
-use Rattle.c_rules.specs.declared.typed.TypedSuffix.TheVariants as behind
-use Rattle.c_rules.specs.Counts.{Heads, Rows, ReadSuffix, Made, Size, Counted, suffix_rows}
-use Rattle.c_rules.specs.Counts.{suffixed, rows}
-use Rattle.c_rules.specs.Counts.{type_named, call_used, call_unused, dropped_value, element_rows}
-use Rattle.c_rules.specs.Counts.{element_target, then_by}
+use Rattle.c_grammar_symbols.specs.declared.operators.StepOperator.{StepOperator}
+use Rattle.c_types_rules.specs.declared.meaning.Kind.{Kind}
+use Rattle.c_types_rules.specs.declared.meaning.Meaning.{Meaning}
+use Rattle.c_types_rules.specs.declared.typed.TypedExpression.{TypedExpression, out-TypedExpression}
+use Rattle.c_types_rules.specs.declared.typed.TypedExpression.TheOpen.{TypedExpression-F}
+use Rattle.c_types_rules.specs.declared.typed.TypedExpression.TheOpen.{TypedSuffix-F}
+use Rattle.c_types_rules.specs.declared.typed.TypedExpression.TheViews.{out-roll-TypedExpression}
+use Rattle.c_types_rules.specs.declared.typed.TypedExpression.TheVariants as tree
+use Rattle.c_types_rules.specs.declared.typed.TypedSuffix.{TypedSuffix}
+use Rattle.c_types_rules.specs.declared.typed.TypedSuffix.TheVariants as behind
+use Rattle.c_types_rules.specs.Counts.{Heads, Rows, ReadSuffix, Made, Size, Counted, suffix_rows}
+use Rattle.c_types_rules.specs.Counts.{suffixed, rows}
+use Rattle.c_types_rules.specs.Counts.{type_named, call_used, call_unused, dropped_value}
+use Rattle.c_types_rules.specs.Counts.{element_rows}
+use Rattle.c_types_rules.specs.Counts.{element_target, then_by}
 use Rattle.c_count_values.specs.Places.{Place, stepped_at}
 use Rattle.c_counts.specs.Places.{placed, incremented_at, element_read}
 use Rattle.c_counts.specs.Rows.{suffix_of, suffixed_by, front_target, suffix_target}
-use Rattle.c_rules.specs.Counts.{suffix_count}
+use Rattle.c_types_rules.specs.Counts.{suffix_count}
 use Rattle.c_counts.proofs.Placed.{incremented_placed, stepped_placed, to_size}
 use Rattle.c_counts.proofs.Variants.{rows_Postfix, suffix_Index, suffix_Call, suffix_Step}
 use Rattle.c_counts.proofs.Variants.{suffix_Skipped}

@@ -3,31 +3,34 @@ use Rattle.std.proofs.Common.{◌≡◌, ℕ, ℤ, true, false, List, map, Optio
 use Rattle.std.proofs.Common.{is_some, ap, sym, ◌∙◌}
 use Rattle.cpa_ints.specs.declared.integers.IntType.{IntType}
 use Rattle.cpa_ints.specs.declared.integers.IntType.TheVariants as ty
-use Rattle.c_symbols.specs.declared.operators.BinaryOperator.{BinaryOperator}
-use Rattle.c_symbols.specs.declared.operators.BinaryOperator.TheVariants as binary
-use Rattle.c_symbols.specs.declared.operators.AssignmentOperator.{AssignmentOperator}
-use Rattle.c_symbols.specs.declared.operators.StepOperator.{StepOperator}
-use Rattle.c_tree.specs.declared.expression.UnaryOperator.{UnaryOperator}
-use Rattle.c_rules.specs.declared.meaning.Kind.{Kind}
-use Rattle.c_rules.specs.declared.meaning.Kind.TheVariants.{Void, Value}
-use Rattle.c_rules.specs.declared.meaning.Meaning.{Meaning}
-use Rattle.c_rules.specs.declared.typed.TypedExpression.{TypedExpression, roll-TypedExpression}
-use Rattle.c_rules.specs.declared.typed.TypedExpression.TheVariants as tree
-use Rattle.c_rules.specs.declared.typed.TypedExpression.TheOpen.{TypedExpression-F}
-use Rattle.c_rules.specs.declared.typed.TypedExpression.TheOpen.{TypedSuffix-F}
-use Rattle.c_rules.specs.declared.typed.TypedExpression.TheFolds.{fold-TypedExpression}
-use Rattle.c_rules.specs.declared.typed.TypedExpression.TheFolds.{fold-TypedSuffix}
-use Rattle.c_rules.specs.declared.typed.TypedExpression.TheFolds.{map-TypedExpression}
-use Rattle.c_rules.specs.declared.typed.TypedExpression.TheFolds.{map-TypedSuffix}
-use Rattle.c_rules.specs.declared.typed.TypedExpression.TheFolds.{fold-roll-TypedExpression}
-use Rattle.c_rules.specs.declared.typed.TypedExpression.TheFolds.{fold-roll-TypedSuffix}
-use Rattle.c_rules.specs.declared.typed.TypedSuffix.{TypedSuffix, roll-TypedSuffix}
-use Rattle.c_rules.specs.declared.typed.TypedSuffix.TheVariants as behind
-use Rattle.c_rules.specs.Counts.{Heads, Rows, ReadSuffix, rows_step, read_suffix}
-use Rattle.c_rules.specs.Counts.{rows, gives, scalar, empty, constant, type_named, signed, chosen}
-use Rattle.c_rules.specs.Counts.{cast_to, then_by, dropped, dropped_value, only_size}
-use Rattle.c_rules.specs.Counts.{comma_used, comma_unused, scalar_target, no_target, operator_of}
-use Rattle.c_rules.specs.Counts.{both, choice}
+use Rattle.c_grammar_symbols.specs.declared.operators.BinaryOperator.{BinaryOperator}
+use Rattle.c_grammar_symbols.specs.declared.operators.BinaryOperator.TheVariants as binary
+use Rattle.c_grammar_symbols.specs.declared.operators.AssignmentOperator.{AssignmentOperator}
+use Rattle.c_grammar_symbols.specs.declared.operators.StepOperator.{StepOperator}
+use Rattle.c_grammar_tree.specs.declared.expression.UnaryOperator.{UnaryOperator}
+use Rattle.c_types_rules.specs.declared.meaning.Kind.{Kind}
+use Rattle.c_types_rules.specs.declared.meaning.Kind.TheVariants.{Void, Value}
+use Rattle.c_types_rules.specs.declared.meaning.Meaning.{Meaning}
+use Rattle.c_types_rules.specs.declared.typed.TypedExpression.{TypedExpression}
+use Rattle.c_types_rules.specs.declared.typed.TypedExpression.{roll-TypedExpression}
+use Rattle.c_types_rules.specs.declared.typed.TypedExpression.TheVariants as tree
+use Rattle.c_types_rules.specs.declared.typed.TypedExpression.TheOpen.{TypedExpression-F}
+use Rattle.c_types_rules.specs.declared.typed.TypedExpression.TheOpen.{TypedSuffix-F}
+use Rattle.c_types_rules.specs.declared.typed.TypedExpression.TheFolds.{fold-TypedExpression}
+use Rattle.c_types_rules.specs.declared.typed.TypedExpression.TheFolds.{fold-TypedSuffix}
+use Rattle.c_types_rules.specs.declared.typed.TypedExpression.TheFolds.{map-TypedExpression}
+use Rattle.c_types_rules.specs.declared.typed.TypedExpression.TheFolds.{map-TypedSuffix}
+use Rattle.c_types_rules.specs.declared.typed.TypedExpression.TheFolds.{fold-roll-TypedExpression}
+use Rattle.c_types_rules.specs.declared.typed.TypedExpression.TheFolds.{fold-roll-TypedSuffix}
+use Rattle.c_types_rules.specs.declared.typed.TypedSuffix.{TypedSuffix, roll-TypedSuffix}
+use Rattle.c_types_rules.specs.declared.typed.TypedSuffix.TheVariants as behind
+use Rattle.c_types_rules.specs.Counts.{Heads, Rows, ReadSuffix, rows_step, read_suffix}
+use Rattle.c_types_rules.specs.Counts.{rows, gives, scalar, empty, constant, type_named, signed}
+use Rattle.c_types_rules.specs.Counts.{chosen}
+use Rattle.c_types_rules.specs.Counts.{cast_to, then_by, dropped, dropped_value, only_size}
+use Rattle.c_types_rules.specs.Counts.{comma_used, comma_unused, scalar_target, no_target}
+use Rattle.c_types_rules.specs.Counts.{operator_of}
+use Rattle.c_types_rules.specs.Counts.{both, choice}
 use Rattle.c_count_values.specs.Places.{updated_at, changed_at}
 use Rattle.c_counts.specs.Places.{placed}
 use Rattle.c_counts.specs.Rows.{suffix_of, suffixed_by, linked_to}

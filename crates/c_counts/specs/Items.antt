@@ -1,12 +1,13 @@
 -- Rules of statements on their own, and rules that stand behind what is counted already
--- (`c_rules`, `specs/Counts.antt`).
+-- (`c_types_rules`, `specs/Counts.antt`).
 use Rattle.std.specs.Prelude.{List, Option, None, Some}
 use Rattle.cpa_ints.specs.declared.integers.IntType.{IntType}
-use Rattle.c_rules.specs.declared.typed.TypedExpression.{TypedExpression}
-use Rattle.c_rules.specs.declared.typed.TypedItem.TheFolds.{fold-TypedStatement}
-use Rattle.c_rules.specs.declared.typed.TypedStatement.{TypedStatement}
-use Rattle.c_rules.specs.Counts.{Heads, Size, Rule, then_by, gives, both, rows, leaving, in_order}
-use Rattle.c_rules.specs.Counts.{item_step, statement_step, empty}
+use Rattle.c_types_rules.specs.declared.typed.TypedExpression.{TypedExpression}
+use Rattle.c_types_rules.specs.declared.typed.TypedItem.TheFolds.{fold-TypedStatement}
+use Rattle.c_types_rules.specs.declared.typed.TypedStatement.{TypedStatement}
+use Rattle.c_types_rules.specs.Counts.{Heads, Size, Rule, then_by, gives, both, rows, leaving}
+use Rattle.c_types_rules.specs.Counts.{in_order}
+use Rattle.c_types_rules.specs.Counts.{item_step, statement_step, empty}
 
 -- a statement of a function with a result of this type
 unfoldable pub statement_rule : Heads → IntType → TypedStatement → Rule Size

@@ -1,12 +1,14 @@
--- Rules of expressions as left sides (`c_rules`, `specs/Counts.antt`), up to the place that is
--- assigned to.
+-- Rules of expressions as left sides (`c_types_rules`, `specs/Counts.antt`), up to the place that
+-- is assigned to.
 use Rattle.std.specs.Prelude.{Bool, if◌then◌else◌}
 use Rattle.cpa_ints.specs.declared.integers.IntType.{IntType}
 use Rattle.cpa_ints.specs.declared.integers.IntType.TheVariants as ty
-use Rattle.c_symbols.specs.declared.operators.BinaryOperator.TheVariants as binary
-use Rattle.c_rules.specs.Counts.{Counted, Rule, Target, scalar_target, element_target, no_target}
-use Rattle.c_rules.specs.Counts.{gives, then_by, fixed, of_element, constant, counted, only_size}
-use Rattle.c_rules.specs.Counts.{Size}
+use Rattle.c_grammar_symbols.specs.declared.operators.BinaryOperator.TheVariants as binary
+use Rattle.c_types_rules.specs.Counts.{Counted, Rule, Target, scalar_target, element_target}
+use Rattle.c_types_rules.specs.Counts.{no_target}
+use Rattle.c_types_rules.specs.Counts.{gives, then_by, fixed, of_element, constant, counted}
+use Rattle.c_types_rules.specs.Counts.{only_size}
+use Rattle.c_types_rules.specs.Counts.{Size}
 use Rattle.c_count_values.specs.Places.{Place, scalar_place, element_place, no_place, updated_at}
 
 -- the index of an element is evaluated, and fixed where that is wanted

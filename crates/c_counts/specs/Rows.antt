@@ -1,16 +1,18 @@
--- Rows of the parts of a typed expression (`c_rules`, `specs/Counts.antt`), and rules that begin
--- behind what is made already.
+-- Rows of the parts of a typed expression (`c_types_rules`, `specs/Counts.antt`), and rules that
+-- begin behind what is made already.
 use Rattle.std.specs.Prelude.{ℕ, List, map, take, length, Option}
-use Rattle.c_symbols.specs.declared.operators.BinaryOperator.{BinaryOperator}
-use Rattle.c_rules.specs.declared.meaning.Meaning.{Meaning}
-use Rattle.c_rules.specs.declared.typed.TypedExpression.{TypedExpression}
-use Rattle.c_rules.specs.declared.typed.TypedExpression.TheFolds.{fold-TypedSuffix}
-use Rattle.c_rules.specs.declared.typed.TypedExpression.TheOpen.{TypedExpression-F, TypedSuffix-F}
-use Rattle.c_rules.specs.declared.typed.TypedSuffix.{TypedSuffix}
-use Rattle.c_rules.specs.Counts.{Heads, Rows, ReadSuffix, rows_step, read_suffix, rows, suffixed}
-use Rattle.c_rules.specs.Counts.{Counted, Size, Rule, gives, then_by, chained, both, Target}
-use Rattle.c_rules.specs.Counts.{no_target, element_target, type_named, comma_used}
-use Rattle.c_rules.specs.Counts.{comma_unused}
+use Rattle.c_grammar_symbols.specs.declared.operators.BinaryOperator.{BinaryOperator}
+use Rattle.c_types_rules.specs.declared.meaning.Meaning.{Meaning}
+use Rattle.c_types_rules.specs.declared.typed.TypedExpression.{TypedExpression}
+use Rattle.c_types_rules.specs.declared.typed.TypedExpression.TheFolds.{fold-TypedSuffix}
+use Rattle.c_types_rules.specs.declared.typed.TypedExpression.TheOpen.{TypedExpression-F}
+use Rattle.c_types_rules.specs.declared.typed.TypedExpression.TheOpen.{TypedSuffix-F}
+use Rattle.c_types_rules.specs.declared.typed.TypedSuffix.{TypedSuffix}
+use Rattle.c_types_rules.specs.Counts.{Heads, Rows, ReadSuffix, rows_step, read_suffix, rows}
+use Rattle.c_types_rules.specs.Counts.{suffixed}
+use Rattle.c_types_rules.specs.Counts.{Counted, Size, Rule, gives, then_by, chained, both, Target}
+use Rattle.c_types_rules.specs.Counts.{no_target, element_target, type_named, comma_used}
+use Rattle.c_types_rules.specs.Counts.{comma_unused}
 
 -- a suffix with rows for each expression in it
 unfoldable pub suffix_of : Heads → TypedSuffix → ReadSuffix

@@ -1,15 +1,16 @@
 -- The cells of a text whose core is not too large, and where those of each function begin (this
--- project's own limits; the rules are those of `c_rules`, `specs/Counts.antt`).
+-- project's own limits; the rules are those of `c_types_rules`, `specs/Counts.antt`).
 use Rattle.std.specs.Prelude.{ℕ, ℤ, pos, Bool, nat_lt, ◌||◌, ◌++◌, if◌then◌else◌, List, map, take}
 use Rattle.std.specs.Prelude.{[], ◌∷◌, replicate, Option, None, Some}
 use Rattle.std.specs.List.{flat_map}
-use Rattle.c_rules.specs.declared.meaning.Object.{Object}
-use Rattle.c_rules.specs.declared.typed.Global.{Global}
-use Rattle.c_rules.specs.declared.typed.TypedFunction.{TypedFunction}
+use Rattle.c_types_rules.specs.declared.meaning.Object.{Object}
+use Rattle.c_types_rules.specs.declared.typed.Global.{Global}
+use Rattle.c_types_rules.specs.declared.typed.TypedFunction.{TypedFunction}
 use Rattle.cpa_expr.specs.declared.shape.TheConstants.{MAX_HEIGHT}
-use Rattle.c_rules.specs.declared.TheConstants.{MAX_CELLS, MAX_POINTS}
-use Rattle.c_rules.specs.Counts.{heads_of, Size}
-use Rattle.c_rules.specs.Sound.{counts, is_too_large, started, filled, first_cells, object_types}
+use Rattle.c_types_rules.specs.declared.TheConstants.{MAX_CELLS, MAX_POINTS}
+use Rattle.c_types_rules.specs.Counts.{heads_of, Size}
+use Rattle.c_types_rules.specs.Sound.{counts, is_too_large, started, filled, first_cells}
+use Rattle.c_types_rules.specs.Sound.{object_types}
 use Rattle.c_counts.specs.declared.cells.TextCells.{TextCells}
 
 abbrev pub objects_of : List Global → List Object

@@ -1,8 +1,8 @@
-//! What calls take (`call_used` and `call_unused` of `c_rules`, `specs/Counts.antt`). Proved with
-//! the lemmas of `proofs/Lists.antt`.
+//! What calls take (`call_used` and `call_unused` of `c_types_rules`, `specs/Counts.antt`). Proved
+//! with the lemmas of `proofs/Lists.antt`.
 ghost use Rattle.std.specs.Prelude.{◌≡◌, map, OnOk, IfOk};
-ghost use Rattle.c_rules.specs.Counts.{rows, each, called, first_unused, known_unused};
-ghost use Rattle.c_rules.specs.Counts.{known_used, call_used, call_unused};
+ghost use Rattle.c_types_rules.specs.Counts.{rows, each, called, first_unused, known_unused};
+ghost use Rattle.c_types_rules.specs.Counts.{known_used, call_used, call_unused};
 ghost use Rattle.c_count_values.specs.Exact.{exact, exact_size};
 ghost use Rattle.c_counts.specs.Rows.{used_by};
 
@@ -11,7 +11,7 @@ use crate::heads::Heads;
 use c_count_values::{
     Counted, Size, Tally, both, constant, empty, hold_all, one, passed, scalar, sizes,
 };
-use c_rules::{Function, KnownFunction, Meaning, TypedExpression};
+use c_types_rules::{Function, KnownFunction, Meaning, TypedExpression};
 use cpa_ints::IntType;
 use std::alloc::AllocError;
 

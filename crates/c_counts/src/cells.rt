@@ -2,7 +2,7 @@
 //! (`specs/TextCells.antt`). Proved with `proofs/Filled.antt`.
 ghost use Rattle.std.specs.Prelude.{◌≡◌, [], ◌∷◌, ◌++◌, OnOk, IfOk};
 ghost use Rattle.std.specs.List.{flat_map};
-ghost use Rattle.c_rules.specs.Sound.{started, filled};
+ghost use Rattle.c_types_rules.specs.Sound.{started, filled};
 ghost use Rattle.c_count_values.specs.Exact.{exact_size};
 ghost use Rattle.c_counts.specs.TextCells.{objects_of, text_cells, is_too_large_at, first_start};
 ghost use Rattle.c_counts.specs.TextCells.{starts_behind};
@@ -10,7 +10,7 @@ ghost use Rattle.c_counts.specs.TextCells.{starts_behind};
 use crate::functions::{functions_size, receiving};
 use crate::heads::Heads;
 use c_count_values::{Size, Tally};
-use c_rules::{Cell, Global, MAX_CELLS, MAX_POINTS, Object, TypedFunction, cells_of};
+use c_types_rules::{Cell, Global, MAX_CELLS, MAX_POINTS, Object, TypedFunction, cells_of};
 use cpa_expr::MAX_HEIGHT;
 use cpa_ints::{IntType, Seq};
 use std::alloc::{AllocError, Global as Memory};

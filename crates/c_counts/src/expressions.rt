@@ -1,8 +1,8 @@
-//! What a typed expression takes, its value used or not (`rows` of `c_rules`,
+//! What a typed expression takes, its value used or not (`rows` of `c_types_rules`,
 //! `specs/Counts.antt`), each part in its turn. Proved with the lemmas of `proofs/Variants.antt`.
 ghost use Rattle.std.specs.Prelude.{◌≡◌, ◌≤◌, map, OnOk, IfOk};
-ghost use Rattle.c_rules.specs.declared.typed.TypedExpression.{out-TypedExpression};
-ghost use Rattle.c_rules.specs.Counts.{rows, dropped, comma_used, comma_unused, suffix_count};
+ghost use Rattle.c_types_rules.specs.declared.typed.TypedExpression.{out-TypedExpression};
+ghost use Rattle.c_types_rules.specs.Counts.{rows, dropped, comma_used, comma_unused, suffix_count};
 ghost use Rattle.c_count_values.specs.Exact.{exact, exact_size};
 ghost use Rattle.c_count_values.specs.Places.{exact_place};
 ghost use Rattle.c_counts.specs.Places.{placed, incremented_at, element_read};
@@ -15,8 +15,8 @@ use c_count_values::{
     Counted, Place, Size, Tally, both, cast_to, changed_at, choice, chosen, constant, counted,
     dropped_value, empty, fixed, linked, raised, scalar, signed, stepped_at, updated_at,
 };
-use c_rules::{Kind, Meaning, TypedExpression, TypedSuffix, operator_of};
-use c_symbols::BinaryOperator;
+use c_grammar_symbols::BinaryOperator;
+use c_types_rules::{Kind, Meaning, TypedExpression, TypedSuffix, operator_of};
 use cpa_ints::IntType;
 use std::alloc::AllocError;
 

@@ -1,14 +1,14 @@
-//! What functions take (`function_rule` of `c_rules`, `specs/Counts.antt`), and how many cells
-//! stand before those of each (`first_cells`). Proved with `proofs/InOrder.antt`.
+//! What functions take (`function_rule` of `c_types_rules`, `specs/Counts.antt`), and how many
+//! cells stand before those of each (`first_cells`). Proved with `proofs/InOrder.antt`.
 ghost use Rattle.std.specs.Prelude.{◌≡◌, map, OnOk, IfOk};
-ghost use Rattle.c_rules.specs.Counts.{resulting, receiving, function_rule, in_order};
-ghost use Rattle.c_rules.specs.Sound.{first_cells};
+ghost use Rattle.c_types_rules.specs.Counts.{resulting, receiving, function_rule, in_order};
+ghost use Rattle.c_types_rules.specs.Sound.{first_cells};
 ghost use Rattle.c_count_values.specs.Exact.{exact_size};
 
 use crate::heads::Heads;
 use crate::statements::in_order;
 use c_count_values::{Size, Tally, block, both, empty, one};
-use c_rules::{Kind, Object, TypedFunction, cells_of};
+use c_types_rules::{Kind, Object, TypedFunction, cells_of};
 use std::alloc::AllocError;
 
 /// The cell of a result.

@@ -1,10 +1,10 @@
 //! The functions with a body, of which a call wants the types of the parameters (`heads_of` of
-//! `c_rules`, `specs/Counts.antt`). Proved with `proofs/Parameters.antt`.
+//! `c_types_rules`, `specs/Counts.antt`). Proved with `proofs/Parameters.antt`.
 ghost use Rattle.std.specs.Prelude.{◌≡◌};
-ghost use Rattle.c_rules.specs.Counts.{head_at, head_of, heads_of};
+ghost use Rattle.c_types_rules.specs.Counts.{head_at, head_of, heads_of};
 ghost use Rattle.c_count_values.specs.Exact.{types_of};
 
-use c_rules::{Function, Object, TypedFunction};
+use c_types_rules::{Function, Object, TypedFunction};
 use std::alloc::Global;
 use std::marker::Model;
 
@@ -16,7 +16,7 @@ pub(crate) struct Heads<'a> {
 }
 
 impl<'a> Model for Heads<'a> {
-    ghost use Rattle.c_rules.specs.Counts.{Heads, heads_of};
+    ghost use Rattle.c_types_rules.specs.Counts.{Heads, heads_of};
 
     ghost Value = { Heads };
 

@@ -1,4 +1,4 @@
-//! What the core of a typed text takes: cells, points and heights, by the rules of `c_rules`,
+//! What the core of a typed text takes: cells, points and heights, by the rules of `c_types_rules`,
 //! `specs/Counts.antt`; each function is a rule there.
 #![tactic(auto)]
 

@@ -1,11 +1,11 @@
-//! What an expression names (`names` of `rows`, `c_rules`, `specs/Counts.antt`). Proved with the
-//! lemmas of `proofs/Variants.antt` and `proofs/Suffixes.antt`.
+//! What an expression names (`names` of `rows`, `c_types_rules`, `specs/Counts.antt`). Proved with
+//! the lemmas of `proofs/Variants.antt` and `proofs/Suffixes.antt`.
 ghost use Rattle.std.specs.Prelude.{◌≡◌, ◌≤◌, List, length, take};
-ghost use Rattle.c_rules.specs.declared.typed.TypedSuffix.{TypedSuffix};
-ghost use Rattle.c_rules.specs.Counts.{Heads, rows, type_named};
+ghost use Rattle.c_types_rules.specs.declared.typed.TypedSuffix.{TypedSuffix};
+ghost use Rattle.c_types_rules.specs.Counts.{Heads, rows, type_named};
 ghost use Rattle.c_counts.specs.Rows.{suffixed_by};
 
-use c_rules::{Meaning, TypedExpression};
+use c_types_rules::{Meaning, TypedExpression};
 use cpa_ints::IntType;
 
 /// The type of what a name stands for.

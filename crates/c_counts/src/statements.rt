@@ -1,16 +1,17 @@
-//! What statements take (`statement_step` of `c_rules`, `specs/Counts.antt`), part by part.
+//! What statements take (`statement_step` of `c_types_rules`, `specs/Counts.antt`), part by part.
 //! Proved with the lemmas of `proofs/StatementForms.antt` and `proofs/InOrder.antt`.
 ghost use Rattle.std.specs.Prelude.{◌≡◌, map, OnOk, IfOk};
-ghost use Rattle.c_rules.specs.Counts.{some_unused, initialized, in_order, initializing, declared};
-ghost use Rattle.c_rules.specs.Counts.{declaration, started, left_unless, returned};
-ghost use Rattle.c_rules.specs.Counts.{item_rule};
+ghost use Rattle.c_types_rules.specs.Counts.{some_unused, initialized, in_order, initializing};
+ghost use Rattle.c_types_rules.specs.Counts.{declared};
+ghost use Rattle.c_types_rules.specs.Counts.{declaration, started, left_unless, returned};
+ghost use Rattle.c_types_rules.specs.Counts.{item_rule};
 ghost use Rattle.c_count_values.specs.Exact.{exact_size};
 ghost use Rattle.c_counts.specs.Items.{statement_rule, left};
 
 use crate::expressions::{unused, used};
 use crate::heads::Heads;
 use c_count_values::{Size, Tally, block, both, choice, empty, leaving, looped, one, times, write};
-use c_rules::{
+use c_types_rules::{
     Object, TypedDeclarator, TypedExpression, TypedForStart, TypedInitializer, TypedItem,
     TypedStatement, cells_of,
 };

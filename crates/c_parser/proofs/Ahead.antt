@@ -1,22 +1,22 @@
 -- An item has a token at least.
 use Rattle.std.specs.Prelude.{ℕ, ◌<◌}
-use Rattle.grammar_forms.specs.Reading.{Reads}
-use Rattle.grammar_forms.specs.Steady.{good_choice}
-use Rattle.grammar_forms.specs.Loops.{Strict, strict_one, strict_such, strict_second, strict_node}
-use Rattle.grammar_forms.specs.Loops.{strict_choice}
-use Rattle.c_symbols.specs.declared.words.Terminal.TheVariants as terminal
-use Rattle.c_symbols.specs.declared.symbol.Symbol.{Symbol}
-use Rattle.c_symbols.specs.declared.symbol.Symbol.TheVariants as symbol
-use Rattle.c_symbols.specs.Symbols.{Leaf, symbol_of}
-use Rattle.c_tree.specs.declared.item.Item.{Item}
-use Rattle.c_tree.specs.Parts.{is_name}
-use Rattle.c_tree.specs.Nested.{Grammar}
-use Rattle.c_tree.specs.Grammar.{grammar}
-use Rattle.c_tree.specs.Declarations.{identifier}
-use Rattle.c_tree.specs.Items.{declared_at, unit_item_at, unit_item}
-use Rattle.c_tree.specs.OneReading.{GoodGrammar}
-use Rattle.c_tree.specs.OneReadingOfText.{good_grammar, good_specifiers, good_named_at}
-use Rattle.c_declarations.specs.Readers.{strict_then_first}
+use Rattle.c_grammar_forms.specs.Reading.{Reads}
+use Rattle.c_grammar_forms.specs.Steady.{good_choice}
+use Rattle.c_grammar_forms.specs.Loops.{Strict, strict_one, strict_such, strict_second, strict_node}
+use Rattle.c_grammar_forms.specs.Loops.{strict_choice}
+use Rattle.c_grammar_symbols.specs.declared.words.Terminal.TheVariants as terminal
+use Rattle.c_grammar_symbols.specs.declared.symbol.Symbol.{Symbol}
+use Rattle.c_grammar_symbols.specs.declared.symbol.Symbol.TheVariants as symbol
+use Rattle.c_grammar_symbols.specs.Symbols.{Leaf, symbol_of}
+use Rattle.c_grammar_tree.specs.declared.item.Item.{Item}
+use Rattle.c_grammar_tree.specs.Parts.{is_name}
+use Rattle.c_grammar_tree.specs.Nested.{Grammar}
+use Rattle.c_grammar_tree.specs.Grammar.{grammar}
+use Rattle.c_grammar_tree.specs.Declarations.{identifier}
+use Rattle.c_grammar_tree.specs.Items.{declared_at, unit_item_at, unit_item}
+use Rattle.c_grammar_tree.specs.OneReading.{GoodGrammar}
+use Rattle.c_grammar_tree.specs.OneReadingOfText.{good_grammar, good_specifiers, good_named_at}
+use Rattle.c_parser_declarations.specs.Readers.{strict_then_first}
 
 module _ (G : Grammar) (g : GoodGrammar G G) where
   strict_declared_at : (s : Symbol) → Strict (declared_at G s)

@@ -1,23 +1,25 @@
 -- What each token calls for.
 use Rattle.std.specs.Prelude.{◌≡◌, ℕ, Bool, true, false, not, ◌&&◌, Option, None, Some}
 use Rattle.std.proofs.Common.{sym}
-use Rattle.grammar_forms.specs.Forms.{World, Form, Nothing, One, Node, Pair, Then, Before, Choice}
-use Rattle.grammar_forms.specs.Choices.{Same, same_form, impossible}
-use Rattle.c_symbols.specs.declared.words.Terminal.TheVariants as terminal
-use Rattle.c_symbols.specs.declared.symbol.Symbol.{Symbol}
-use Rattle.c_symbols.specs.declared.symbol.Symbol.TheVariants as symbol
-use Rattle.c_symbols.specs.Symbols.{Leaf, symbol_of}
-use Rattle.c_symbols.specs.Sources.{is, is_terminal}
-use Rattle.c_tree.specs.declared.name.Name.{Name}
-use Rattle.c_tree.specs.declared.item.Body.{Body}
-use Rattle.c_tree.specs.declared.item.Item.{Item}
-use Rattle.c_tree.specs.declared.item.Item.TheVariants as node
-use Rattle.c_tree.specs.Parts.{names, is_specifier}
-use Rattle.c_tree.specs.Nested.{Grammar}
-use Rattle.c_tree.specs.Declarations.{identifier, specifiers, declarator_rest, more_declarators}
-use Rattle.c_tree.specs.Items.{Named, function, objects, is_known, have_pointer, function_rest}
-use Rattle.c_tree.specs.Items.{body_of, function_end_at, named_at, declared_at, declared_of}
-use Rattle.c_tree.specs.Items.{unit_item_at}
+use Rattle.c_grammar_forms.specs.Forms.{World, Form, Nothing, One, Node, Pair, Then, Before, Choice}
+use Rattle.c_grammar_forms.specs.Choices.{Same, same_form, impossible}
+use Rattle.c_grammar_symbols.specs.declared.words.Terminal.TheVariants as terminal
+use Rattle.c_grammar_symbols.specs.declared.symbol.Symbol.{Symbol}
+use Rattle.c_grammar_symbols.specs.declared.symbol.Symbol.TheVariants as symbol
+use Rattle.c_grammar_symbols.specs.Symbols.{Leaf, symbol_of}
+use Rattle.c_grammar_symbols.specs.Sources.{is, is_terminal}
+use Rattle.c_grammar_tree.specs.declared.name.Name.{Name}
+use Rattle.c_grammar_tree.specs.declared.item.Body.{Body}
+use Rattle.c_grammar_tree.specs.declared.item.Item.{Item}
+use Rattle.c_grammar_tree.specs.declared.item.Item.TheVariants as node
+use Rattle.c_grammar_tree.specs.Parts.{names, is_specifier}
+use Rattle.c_grammar_tree.specs.Nested.{Grammar}
+use Rattle.c_grammar_tree.specs.Declarations.{identifier, specifiers, declarator_rest}
+use Rattle.c_grammar_tree.specs.Declarations.{more_declarators}
+use Rattle.c_grammar_tree.specs.Items.{Named, function, objects, is_known, have_pointer}
+use Rattle.c_grammar_tree.specs.Items.{function_rest}
+use Rattle.c_grammar_tree.specs.Items.{body_of, function_end_at, named_at, declared_at, declared_of}
+use Rattle.c_grammar_tree.specs.Items.{unit_item_at}
 
 -- the semicolon of a prototype
 abbrev pub prototype_form : Form Leaf (Option Body)

@@ -2,26 +2,29 @@
 use Rattle.std.specs.Prelude.{◌≡◌, ℕ, ◌+◌, ◌<◌, ◌≤◌, Bool, true, false, List, [], ◌∷◌, length, None}
 use Rattle.std.specs.Prelude.{Some, refl}
 use Rattle.std.proofs.Common.{sym, ◌∙◌, ap, subst, arith}
-use Rattle.grammar_forms.specs.Forms.{World, Form, Node, Pair, Then, Before, Choice}
-use Rattle.grammar_forms.specs.Steady.{Steady, good_node, from_place, ends_or_goes, test_path}
-use Rattle.grammar_forms.specs.Reading.{Reads, Begins, NoneThrough}
-use Rattle.grammar_forms.specs.Found.{reads_node, reads_one}
-use Rattle.grammar_forms.specs.NotFound.{only, none_node, none_before, none_first, none_then_first}
-use Rattle.grammar_forms.specs.Choices.{Same, none_arm}
-use Rattle.c_symbols.specs.declared.words.Terminal.TheVariants as terminal
-use Rattle.c_symbols.specs.Symbols.{Leaf, symbol_of}
-use Rattle.c_symbols.specs.Sources.{leaf_at, is, Takes}
-use Rattle.c_tree.specs.declared.name.Name.{Name}
-use Rattle.c_tree.specs.declared.declaration.Specifiers.{Specifiers}
-use Rattle.c_tree.specs.declared.declaration.Declarator.{Declarator}
-use Rattle.c_tree.specs.declared.item.Item.{Item}
-use Rattle.c_tree.specs.declared.item.Item.TheVariants as node
-use Rattle.c_tree.specs.Grammar.{grammar}
-use Rattle.c_tree.specs.Parts.{is_name}
-use Rattle.c_tree.specs.Declarations.{identifier, declarator_of, declarator_rest, more_declarators}
-use Rattle.c_tree.specs.Items.{objects, declared_of, named_at, declared_at}
-use Rattle.c_declarations.specs.Forms.{declarator_behind, declarators_behind}
-use Rattle.c_declarations.specs.Readers.{reads_made, none_made, reads_then_onto, none_then_onto}
+use Rattle.c_grammar_forms.specs.Forms.{World, Form, Node, Pair, Then, Before, Choice}
+use Rattle.c_grammar_forms.specs.Steady.{Steady, good_node, from_place, ends_or_goes, test_path}
+use Rattle.c_grammar_forms.specs.Reading.{Reads, Begins, NoneThrough}
+use Rattle.c_grammar_forms.specs.Found.{reads_node, reads_one}
+use Rattle.c_grammar_forms.specs.NotFound.{only, none_node, none_before, none_first}
+use Rattle.c_grammar_forms.specs.NotFound.{none_then_first}
+use Rattle.c_grammar_forms.specs.Choices.{Same, none_arm}
+use Rattle.c_grammar_symbols.specs.declared.words.Terminal.TheVariants as terminal
+use Rattle.c_grammar_symbols.specs.Symbols.{Leaf, symbol_of}
+use Rattle.c_grammar_symbols.specs.Sources.{leaf_at, is, Takes}
+use Rattle.c_grammar_tree.specs.declared.name.Name.{Name}
+use Rattle.c_grammar_tree.specs.declared.declaration.Specifiers.{Specifiers}
+use Rattle.c_grammar_tree.specs.declared.declaration.Declarator.{Declarator}
+use Rattle.c_grammar_tree.specs.declared.item.Item.{Item}
+use Rattle.c_grammar_tree.specs.declared.item.Item.TheVariants as node
+use Rattle.c_grammar_tree.specs.Grammar.{grammar}
+use Rattle.c_grammar_tree.specs.Parts.{is_name}
+use Rattle.c_grammar_tree.specs.Declarations.{identifier, declarator_of, declarator_rest}
+use Rattle.c_grammar_tree.specs.Declarations.{more_declarators}
+use Rattle.c_grammar_tree.specs.Items.{objects, declared_of, named_at, declared_at}
+use Rattle.c_parser_declarations.specs.Forms.{declarator_behind, declarators_behind}
+use Rattle.c_parser_declarations.specs.Readers.{reads_made, none_made, reads_then_onto}
+use Rattle.c_parser_declarations.specs.Readers.{none_then_onto}
 use Rattle.c_parser.specs.Forms.{item_named, item_behind}
 use Rattle.c_parser.proofs.Arms.{Leads, arm_objects, arm_alone, arm_named, only_named}
 use Rattle.c_parser.proofs.Steadies.{steady_identifier, steady_rest, steady_both}

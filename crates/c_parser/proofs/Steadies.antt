@@ -1,13 +1,14 @@
 -- Each form of items has one reading, at each two depths.
-use Rattle.grammar_forms.specs.Forms.{Pair}
-use Rattle.grammar_forms.specs.Steady.{Steady, good_pair}
-use Rattle.c_tree.specs.Parts.{is_specifier}
-use Rattle.c_tree.specs.Declarations.{identifier, specifiers, declarator_rest, more_declarators}
-use Rattle.c_tree.specs.Items.{function_rest, unit_item}
-use Rattle.c_tree.specs.Grammar.{grammar}
-use Rattle.c_tree.specs.OneReadingOfText.{good_grammar, good_identifier, good_specifiers}
-use Rattle.c_tree.specs.OneReadingOfText.{good_function_rest, good_declarator_rest}
-use Rattle.c_tree.specs.OneReadingOfText.{good_more_declarators, good_unit_item}
+use Rattle.c_grammar_forms.specs.Forms.{Pair}
+use Rattle.c_grammar_forms.specs.Steady.{Steady, good_pair}
+use Rattle.c_grammar_tree.specs.Parts.{is_specifier}
+use Rattle.c_grammar_tree.specs.Declarations.{identifier, specifiers, declarator_rest}
+use Rattle.c_grammar_tree.specs.Declarations.{more_declarators}
+use Rattle.c_grammar_tree.specs.Items.{function_rest, unit_item}
+use Rattle.c_grammar_tree.specs.Grammar.{grammar}
+use Rattle.c_grammar_tree.specs.OneReadingOfText.{good_grammar, good_identifier, good_specifiers}
+use Rattle.c_grammar_tree.specs.OneReadingOfText.{good_function_rest, good_declarator_rest}
+use Rattle.c_grammar_tree.specs.OneReadingOfText.{good_more_declarators, good_unit_item}
 
 pub steady_identifier : Steady (λ n. identifier)
 steady_identifier = record { good = λ n m. good_identifier }

@@ -7,27 +7,28 @@ use Rattle.std.proofs.Common.{sym, ◌∙◌, ap, subst, arith, inl, inr}
 use Rattle.std.proofs.lemmas.Bool.{and_parts}
 use Rattle.std.proofs.lemmas.List.{length-map}
 use Rattle.std.proofs.lemmas.Option.{slice_get-map, slice_get-get_or, get_or_from_slice_get}
-use Rattle.grammar_forms.specs.declared.fault.ReadError.{ReadError}
-use Rattle.grammar_forms.specs.declared.fault.ReadError.TheVariants.{Unexpected, TooDeep}
-use Rattle.grammar_forms.specs.declared.fault.ReadError.TheVariants.{OutOfMemory}
-use Rattle.grammar_forms.specs.Forms.{World, Form, Many}
-use Rattle.grammar_forms.specs.Reading.{Reads, NoneThrough, Faults}
+use Rattle.c_grammar_forms.specs.declared.fault.ReadError.{ReadError}
+use Rattle.c_grammar_forms.specs.declared.fault.ReadError.TheVariants.{Unexpected, TooDeep}
+use Rattle.c_grammar_forms.specs.declared.fault.ReadError.TheVariants.{OutOfMemory}
+use Rattle.c_grammar_forms.specs.Forms.{World, Form, Many}
+use Rattle.c_grammar_forms.specs.Reading.{Reads, NoneThrough, Faults}
 use Rattle.c_lexer.specs.declared.token.Token.{Token}
 use Rattle.c_lexer.specs.declared.token.TokenKind.{TokenKind}
 use Rattle.c_lexer.specs.declared.token.TokenKind.TheVariants as kind
 use Rattle.c_lexer.specs.Parts.{end_token}
-use Rattle.c_symbols.specs.declared.symbol.Symbol.{Symbol}
-use Rattle.c_symbols.specs.declared.symbol.Symbol.TheVariants as symbol
-use Rattle.c_symbols.specs.declared.symbol.TheConstants.{WORDS, MARKS}
-use Rattle.c_symbols.specs.Symbols.{Leaf, spelling_of, word_spelled, mark_spelled, symbol_spelled}
-use Rattle.c_symbols.specs.Symbols.{leaf_of, leaves}
-use Rattle.c_symbols.specs.Sources.{nowhere, leaf_at, IsSource}
+use Rattle.c_grammar_symbols.specs.declared.symbol.Symbol.{Symbol}
+use Rattle.c_grammar_symbols.specs.declared.symbol.Symbol.TheVariants as symbol
+use Rattle.c_grammar_symbols.specs.declared.symbol.TheConstants.{WORDS, MARKS}
+use Rattle.c_grammar_symbols.specs.Symbols.{Leaf, spelling_of, word_spelled, mark_spelled}
+use Rattle.c_grammar_symbols.specs.Symbols.{symbol_spelled}
+use Rattle.c_grammar_symbols.specs.Symbols.{leaf_of, leaves}
+use Rattle.c_grammar_symbols.specs.Sources.{nowhere, leaf_at, IsSource}
 use Rattle.std.specs.Str.{bytes_eq}
-use Rattle.c_tree.specs.declared.item.Unit.{Unit as UnitTree}
-use Rattle.c_tree.specs.declared.TheConstants.{MAX_LEVEL}
-use Rattle.c_tree.specs.Parts.{ends, is_end}
-use Rattle.c_tree.specs.Items.{unit_items}
-use Rattle.c_tree.specs.Grammar.{grammar, Tree, AgreesThrough}
+use Rattle.c_grammar_tree.specs.declared.item.Unit.{Unit as UnitTree}
+use Rattle.c_grammar_tree.specs.declared.TheConstants.{MAX_LEVEL}
+use Rattle.c_grammar_tree.specs.Parts.{ends, is_end}
+use Rattle.c_grammar_tree.specs.Items.{unit_items}
+use Rattle.c_grammar_tree.specs.Grammar.{grammar, Tree, AgreesThrough}
 use Rattle.c_parser.specs.Forms.{all_items}
 use Rattle.c_parser.specs.Faults.{IsRefused, fault_of}
 

@@ -4,12 +4,12 @@ use Rattle.c_lexer.specs.declared.token.Token.{Token}
 use Rattle.c_lexer.specs.declared.fault.Rule.TheVariants.{S2}
 use Rattle.c_lexer.specs.declared.fault.TextError.{TextError}
 use Rattle.c_lexer.specs.declared.fault.TextError.TheVariants as text_error
-use Rattle.grammar_forms.specs.declared.fault.ReadError.{ReadError}
-use Rattle.grammar_forms.specs.declared.fault.ReadError.TheVariants.{Unexpected, TooDeep}
-use Rattle.grammar_forms.specs.declared.fault.ReadError.TheVariants.{OutOfMemory}
-use Rattle.c_symbols.specs.Symbols.{Leaf}
-use Rattle.c_symbols.specs.Sources.{leaf_at}
-use Rattle.c_tree.specs.Faults.{IsTreeFault, rule_of}
+use Rattle.c_grammar_forms.specs.declared.fault.ReadError.{ReadError}
+use Rattle.c_grammar_forms.specs.declared.fault.ReadError.TheVariants.{Unexpected, TooDeep}
+use Rattle.c_grammar_forms.specs.declared.fault.ReadError.TheVariants.{OutOfMemory}
+use Rattle.c_grammar_symbols.specs.Symbols.{Leaf}
+use Rattle.c_grammar_symbols.specs.Sources.{leaf_at}
+use Rattle.c_grammar_tree.specs.Faults.{IsTreeFault, rule_of}
 
 -- the error is the fault of the text, or says nothing of it
 abbrev pub IsRefused : List ℕ → List Token → TextError → Type 0

@@ -1,13 +1,13 @@
 -- Parts of the grammar of items that have readers of their own (C11 6.9).
 use Rattle.std.specs.Prelude.{List, Some, not}
-use Rattle.grammar_forms.specs.Forms.{Form, Node, Choice, Many}
-use Rattle.c_symbols.specs.Symbols.{Leaf, symbol_of}
-use Rattle.c_tree.specs.declared.name.Name.{Name}
-use Rattle.c_tree.specs.declared.declaration.Specifiers.{Specifiers}
-use Rattle.c_tree.specs.declared.item.Item.{Item}
-use Rattle.c_tree.specs.Parts.{is_end}
-use Rattle.c_tree.specs.Nested.{Grammar}
-use Rattle.c_tree.specs.Items.{named_at, declared_at, declared_of, unit_item}
+use Rattle.c_grammar_forms.specs.Forms.{Form, Node, Choice, Many}
+use Rattle.c_grammar_symbols.specs.Symbols.{Leaf, symbol_of}
+use Rattle.c_grammar_tree.specs.declared.name.Name.{Name}
+use Rattle.c_grammar_tree.specs.declared.declaration.Specifiers.{Specifiers}
+use Rattle.c_grammar_tree.specs.declared.item.Item.{Item}
+use Rattle.c_grammar_tree.specs.Parts.{is_end}
+use Rattle.c_grammar_tree.specs.Nested.{Grammar}
+use Rattle.c_grammar_tree.specs.Items.{named_at, declared_at, declared_of, unit_item}
 
 -- the item with these specifiers and this name, which are read already
 abbrev pub item_named : Specifiers → Name → Grammar → Form Leaf Item

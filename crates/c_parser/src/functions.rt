@@ -1,22 +1,23 @@
 //! Readers of functions behind their name, which are `function_end_at`, `body_of` and an arm of
-//! `named_at` of `Items.antt` of `c_tree`.
+//! `named_at` of `Items.antt` of `c_grammar_tree`.
 ghost use Rattle.std.specs.Prelude.{◌≡◌, ◌<◌, length, true, Some, IsTrue, not, ◌&&◌};
 ghost use Rattle.std.specs.List.{list_any};
 ghost use Rattle.std.specs.Str.{bytes_eq};
-ghost use Rattle.grammar_forms.specs.Forms.{Choice};
-ghost use Rattle.c_symbols.specs.declared.words.Terminal.TheVariants.{LeftBrace, LeftParen};
-ghost use Rattle.c_symbols.specs.Symbols.{symbol_of};
-ghost use Rattle.c_symbols.specs.Sources.{leaf_at, is, GoesOn};
-ghost use Rattle.c_tree.specs.Items.{is_known, have_pointer, body_of, function_end_at, declared_of};
-ghost use Rattle.c_tree.specs.Items.{function};
-ghost use Rattle.c_tree.specs.Reading.{Gives, HasRoom};
+ghost use Rattle.c_grammar_forms.specs.Forms.{Choice};
+ghost use Rattle.c_grammar_symbols.specs.declared.words.Terminal.TheVariants.{LeftBrace, LeftParen};
+ghost use Rattle.c_grammar_symbols.specs.Symbols.{symbol_of};
+ghost use Rattle.c_grammar_symbols.specs.Sources.{leaf_at, is, GoesOn};
+ghost use Rattle.c_grammar_tree.specs.Items.{is_known, have_pointer, body_of, function_end_at};
+ghost use Rattle.c_grammar_tree.specs.Items.{declared_of};
+ghost use Rattle.c_grammar_tree.specs.Items.{function};
+ghost use Rattle.c_grammar_tree.specs.Reading.{Gives, HasRoom};
 ghost use Rattle.c_parser.specs.Forms.{item_named};
 
-use c_statements::items;
-use c_symbols::{Source, Terminal};
-use c_tree::{Body, FunctionDeclarator, Item, Name, Parameter, Parameters, Specifiers};
-use c_words::{function_rest, skipped_body};
-use grammar_forms::ReadError;
+use c_grammar_forms::ReadError;
+use c_grammar_symbols::{Source, Terminal};
+use c_grammar_tree::{Body, FunctionDeclarator, Item, Name, Parameter, Parameters, Specifiers};
+use c_parser_statements::items;
+use c_parser_words::{function_rest, skipped_body};
 use std::alloc::Global;
 
 /// Whether the name has this spelling.
@@ -27,7 +28,7 @@ fn is_spelled(name: &Name, spelling: &[u8]) -> bool
 }
 
 /// Whether the function of this name is one whose meaning the checker gives itself.
-#[tactic(auto, unfolding(c_tree::specs::Items::is_known))]
+#[tactic(auto, unfolding(c_grammar_tree::specs::Items::is_known))]
 fn is_known(name: &Name) -> bool
     ensures { result ≡ is_known name.now }
 {

@@ -1,20 +1,20 @@
 //! Readers of the items of a text (C11 6.9), which are `unit_item` and its parts of `Items.antt` of
-//! `c_tree`.
+//! `c_grammar_tree`.
 ghost use Rattle.std.specs.Prelude.{◌≡◌, ◌<◌, length, false};
-ghost use Rattle.c_symbols.specs.declared.words.Terminal.TheVariants.{LeftParen, Semicolon};
-ghost use Rattle.c_symbols.specs.Sources.{leaf_at, is};
-ghost use Rattle.c_tree.specs.Parts.{is_end};
-ghost use Rattle.c_tree.specs.Items.{unit_item};
-ghost use Rattle.c_tree.specs.Reading.{Gives, HasRoom};
+ghost use Rattle.c_grammar_symbols.specs.declared.words.Terminal.TheVariants.{LeftParen, Semicolon};
+ghost use Rattle.c_grammar_symbols.specs.Sources.{leaf_at, is};
+ghost use Rattle.c_grammar_tree.specs.Parts.{is_end};
+ghost use Rattle.c_grammar_tree.specs.Items.{unit_item};
+ghost use Rattle.c_grammar_tree.specs.Reading.{Gives, HasRoom};
 ghost use Rattle.c_parser.specs.Forms.{item_named, item_behind, all_items};
 
 use crate::functions::function;
-use c_declarations::{declarator_behind, declarators_behind};
-use c_symbols::{Source, Symbol, Terminal};
-use c_tree::{Declaration, Item, Name, Specifiers};
-use c_words::{AllowedStorage, identifier, specifiers};
+use c_grammar_forms::ReadError;
+use c_grammar_symbols::{Source, Symbol, Terminal};
+use c_grammar_tree::{Declaration, Item, Name, Specifiers};
+use c_parser_declarations::{declarator_behind, declarators_behind};
+use c_parser_words::{AllowedStorage, identifier, specifiers};
 use cpa_ints::Seq;
-use grammar_forms::ReadError;
 use std::alloc::Global;
 
 /// The objects of which the specifiers and the first name are read already: what stands behind

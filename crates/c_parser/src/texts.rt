@@ -1,18 +1,18 @@
-//! The tree of a text, or its fault, which are `Tree` and `IsTreeFault` of `c_tree`;
+//! The tree of a text, or its fault, which are `Tree` and `IsTreeFault` of `c_grammar_tree`;
 //! `proofs/Whole.antt` goes from its items to it.
 ghost use Rattle.std.specs.Prelude.{◌≡◌, ◌<◌, length, IfOk, IfErr};
 ghost use Rattle.c_lexer.specs.Parts.{Tokens};
-ghost use Rattle.c_symbols.specs.Sources.{leaf_at};
-ghost use Rattle.c_tree.specs.Faults.{is_outside};
-ghost use Rattle.c_tree.specs.Grammar.{Tree};
-ghost use Rattle.c_symbols.specs.Symbols.{symbol_of};
+ghost use Rattle.c_grammar_symbols.specs.Sources.{leaf_at};
+ghost use Rattle.c_grammar_tree.specs.Faults.{is_outside};
+ghost use Rattle.c_grammar_tree.specs.Grammar.{Tree};
+ghost use Rattle.c_grammar_symbols.specs.Symbols.{symbol_of};
 ghost use Rattle.c_parser.specs.Faults.{IsRefused, IsWithin, fault_of};
 
 use crate::items::unit_items;
+use c_grammar_forms::ReadError;
+use c_grammar_symbols::{Source, Symbol, tokens_are_a_source};
+use c_grammar_tree::{MAX_LEVEL, Unit};
 use c_lexer::{Rule, TextError, TextFault, Token};
-use c_symbols::{Source, Symbol, tokens_are_a_source};
-use c_tree::{MAX_LEVEL, Unit};
-use grammar_forms::ReadError;
 use std::alloc::Global;
 
 /// Whether a word that the grammar leaves out stands at this place.

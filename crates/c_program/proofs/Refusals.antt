@@ -9,12 +9,12 @@ use Rattle.c_lexer.specs.Parts.{Tokens, NoTokens}
 use Rattle.c_lexer.specs.Faults.{HasFault}
 use Rattle.c_lexer.specs.Faults.{IsRefused as NoTokensRefused}
 use Rattle.c_parser.specs.Faults.{IsRefused as NoTreeRefused}
-use Rattle.c_tree.specs.declared.item.Unit.{Unit as UnitTree}
-use Rattle.c_tree.specs.Grammar.{Tree}
-use Rattle.c_tree.specs.Faults.{IsTreeFault}
-use Rattle.c_rules.specs.Sound.{IsFirstBroken, typed_unit, IsChecked}
+use Rattle.c_grammar_tree.specs.declared.item.Unit.{Unit as UnitTree}
+use Rattle.c_grammar_tree.specs.Grammar.{Tree}
+use Rattle.c_grammar_tree.specs.Faults.{IsTreeFault}
+use Rattle.c_types_rules.specs.Sound.{IsFirstBroken, typed_unit, IsChecked}
 use Rattle.c_core_rules.specs.Programs.{IsCore}
-use Rattle.c_rules.specs.declared.typed.TypedUnit.{TypedUnit}
+use Rattle.c_types_rules.specs.declared.typed.TypedUnit.{TypedUnit}
 use Rattle.cpa_model.specs.declared.program.Program.{Program}
 use Rattle.cpa_model.specs.Programs.{IsWellFormed}
 use Rattle.std.specs.Prelude.{Ok, Err}

@@ -7,10 +7,10 @@ use Rattle.c_lexer.specs.declared.fault.TextError.{TextError}
 use Rattle.c_lexer.specs.declared.fault.TextError.TheVariants.{Fault, OutOfMemory}
 use Rattle.c_lexer.specs.Parts.{Tokens}
 use Rattle.c_lexer.specs.Faults.{HasFault}
-use Rattle.c_tree.specs.declared.item.Unit.{Unit as UnitTree}
-use Rattle.c_tree.specs.Grammar.{Tree}
-use Rattle.c_tree.specs.Faults.{IsTreeFault}
-use Rattle.c_rules.specs.Sound.{Sound, IsFirstBroken, typed_unit}
+use Rattle.c_grammar_tree.specs.declared.item.Unit.{Unit as UnitTree}
+use Rattle.c_grammar_tree.specs.Grammar.{Tree}
+use Rattle.c_grammar_tree.specs.Faults.{IsTreeFault}
+use Rattle.c_types_rules.specs.Sound.{Sound, IsFirstBroken, typed_unit}
 use Rattle.c_core_rules.specs.Programs.{IsCore}
 use Rattle.cpa_model.specs.declared.program.Program.{Program}
 use Rattle.cpa_model.specs.Programs.{IsWellFormed}

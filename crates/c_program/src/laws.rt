@@ -8,8 +8,8 @@ ghost use Rattle.c_program.specs.Programs.{IsProgram, IsTextFault, NoProgram};
 
 use c_core_laws::there_is_one_core;
 use c_core_sound::cores_are_well_formed;
+use c_grammar_tree::{no_tree_has_a_fault, one_tree};
 use c_lexer::{one_token_list, tokens_or_one_fault};
-use c_tree::{no_tree_has_a_fault, one_tree};
 
 /// Bytes stand for one program at most.
 pub fn one_program()

@@ -6,9 +6,9 @@ ghost use Rattle.c_program.specs.Programs.{IsTheProgram, IsRefused, IsTreeOf};
 
 use crate::laws::{no_program_has_a_fault, one_program, programs_are_well_formed};
 use c_core::core;
+use c_grammar_tree::Unit;
 use c_lexer::{TextError, tokens};
 use c_parser::parse;
-use c_tree::Unit;
 use c_types::check;
 use cpa_model::Program;
 use std::alloc::Global;

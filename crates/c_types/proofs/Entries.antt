@@ -3,9 +3,9 @@ use Rattle.std.proofs.Common.{◌≡◌, ℕ, Bool, true, false, not, [], ◌∷
 use Rattle.std.specs.Prelude.{if◌then◌else◌}
 use Rattle.std.specs.List.{list_any}
 use Rattle.c_lexer.specs.declared.fault.Rule.TheVariants as rule
-use Rattle.c_tree.specs.declared.item.Unit.{Unit as UnitTree}
-use Rattle.c_rules.specs.ExpressionRules.{broken, at_if}
-use Rattle.c_rules.specs.Sound.{is_main, without_main}
+use Rattle.c_grammar_tree.specs.declared.item.Unit.{Unit as UnitTree}
+use Rattle.c_types_rules.specs.ExpressionRules.{broken, at_if}
+use Rattle.c_types_rules.specs.Sound.{is_main, without_main}
 
 without_by : (b : Bool) (place : ℕ) → broken rule.N11 (at_if (not b) place)
     ≡ if b then [] else (record { rule = rule.N11; place = place } ∷ [])

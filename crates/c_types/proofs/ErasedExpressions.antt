@@ -1,27 +1,30 @@
 -- Without its types, the typed tree of an expression is the expression (`erased_reading`).
 use Rattle.std.proofs.Common.{◌≡◌, List, [], ◌∷◌, map, refl, sym, subst, ap, ◌∙◌}
-use Rattle.c_symbols.specs.declared.operators.BinaryOperator.{BinaryOperator}
-use Rattle.c_tree.specs.declared.expression.Expression.{Expression, roll-Expression}
-use Rattle.c_tree.specs.declared.expression.Expression.TheOpen.{Expression-F, Suffix-F}
-use Rattle.c_tree.specs.declared.expression.Expression.TheFolds.{fold-Suffix, map-Expression}
-use Rattle.c_tree.specs.declared.expression.Expression.TheFolds.{map-Suffix, ind-Expression}
-use Rattle.c_tree.specs.declared.expression.Expression.TheFolds.{fold-roll-Expression}
-use Rattle.c_tree.specs.declared.expression.Expression.TheFolds.{fold-roll-Suffix}
-use Rattle.c_tree.specs.declared.expression.Suffix.{Suffix, roll-Suffix}
-use Rattle.c_rules.specs.declared.meaning.Entry.{Entry}
-use Rattle.c_rules.specs.declared.meaning.Part.{Part}
-use Rattle.c_rules.specs.declared.typed.TypedExpression.{TypedExpression, roll-TypedExpression}
-use Rattle.c_rules.specs.declared.typed.TypedExpression.TheVariants as typed
-use Rattle.c_rules.specs.declared.typed.TypedExpression.TheOpen.{TypedExpression-F, TypedSuffix-F}
-use Rattle.c_rules.specs.declared.typed.TypedExpression.TheFolds.{map-TypedExpression}
-use Rattle.c_rules.specs.declared.typed.TypedExpression.TheFolds.{map-TypedSuffix}
-use Rattle.c_rules.specs.declared.typed.TypedExpression.TheFolds.{fold-roll-TypedExpression}
-use Rattle.c_rules.specs.declared.typed.TypedExpression.TheFolds.{fold-roll-TypedSuffix}
-use Rattle.c_rules.specs.declared.typed.TypedSuffix.{TypedSuffix, roll-TypedSuffix}
-use Rattle.c_rules.specs.declared.typed.TypedSuffix.TheVariants as behind
-use Rattle.c_rules.specs.Names.{Text}
-use Rattle.c_rules.specs.Expressions.{Reading, ReadSuffix, reading, reading_step, read_suffix}
-use Rattle.c_rules.specs.Expressions.{suffix_typed, suffix_part, suffixed, trees_of}
+use Rattle.c_grammar_symbols.specs.declared.operators.BinaryOperator.{BinaryOperator}
+use Rattle.c_grammar_tree.specs.declared.expression.Expression.{Expression, roll-Expression}
+use Rattle.c_grammar_tree.specs.declared.expression.Expression.TheOpen.{Expression-F, Suffix-F}
+use Rattle.c_grammar_tree.specs.declared.expression.Expression.TheFolds.{fold-Suffix}
+use Rattle.c_grammar_tree.specs.declared.expression.Expression.TheFolds.{map-Expression}
+use Rattle.c_grammar_tree.specs.declared.expression.Expression.TheFolds.{map-Suffix, ind-Expression}
+use Rattle.c_grammar_tree.specs.declared.expression.Expression.TheFolds.{fold-roll-Expression}
+use Rattle.c_grammar_tree.specs.declared.expression.Expression.TheFolds.{fold-roll-Suffix}
+use Rattle.c_grammar_tree.specs.declared.expression.Suffix.{Suffix, roll-Suffix}
+use Rattle.c_types_rules.specs.declared.meaning.Entry.{Entry}
+use Rattle.c_types_rules.specs.declared.meaning.Part.{Part}
+use Rattle.c_types_rules.specs.declared.typed.TypedExpression.{TypedExpression}
+use Rattle.c_types_rules.specs.declared.typed.TypedExpression.{roll-TypedExpression}
+use Rattle.c_types_rules.specs.declared.typed.TypedExpression.TheVariants as typed
+use Rattle.c_types_rules.specs.declared.typed.TypedExpression.TheOpen.{TypedExpression-F}
+use Rattle.c_types_rules.specs.declared.typed.TypedExpression.TheOpen.{TypedSuffix-F}
+use Rattle.c_types_rules.specs.declared.typed.TypedExpression.TheFolds.{map-TypedExpression}
+use Rattle.c_types_rules.specs.declared.typed.TypedExpression.TheFolds.{map-TypedSuffix}
+use Rattle.c_types_rules.specs.declared.typed.TypedExpression.TheFolds.{fold-roll-TypedExpression}
+use Rattle.c_types_rules.specs.declared.typed.TypedExpression.TheFolds.{fold-roll-TypedSuffix}
+use Rattle.c_types_rules.specs.declared.typed.TypedSuffix.{TypedSuffix, roll-TypedSuffix}
+use Rattle.c_types_rules.specs.declared.typed.TypedSuffix.TheVariants as behind
+use Rattle.c_types_rules.specs.Names.{Text}
+use Rattle.c_types_rules.specs.Expressions.{Reading, ReadSuffix, reading, reading_step, read_suffix}
+use Rattle.c_types_rules.specs.Expressions.{suffix_typed, suffix_part, suffixed, trees_of}
 use Rattle.c_types.specs.Erasing.{untold, erase_expression}
 use Rattle.c_types.specs.Erasing.{erase_suffix, erased_expression, erased_suffix}
 use Rattle.c_types.specs.Erasing.{bare_step, bare_behind, bare_expression, bare_suffix}

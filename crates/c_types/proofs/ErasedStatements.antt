@@ -2,51 +2,53 @@
 use Rattle.std.proofs.Common.{◌≡◌, ℕ, suc, ◌+◌, true, List, [], ◌∷◌, length, map, Option, None}
 use Rattle.std.proofs.Common.{Some}
 use Rattle.std.proofs.Common.{option_map, refl, sym, subst, ap, ◌∙◌}
-use Rattle.c_tree.specs.declared.expression.Expression.{Expression}
-use Rattle.c_tree.specs.declared.declaration.Array.{Array}
-use Rattle.c_tree.specs.declared.declaration.Declaration.{Declaration}
-use Rattle.c_tree.specs.declared.declaration.Declarator.{Declarator}
-use Rattle.c_tree.specs.declared.declaration.Initializer.{Initializer}
-use Rattle.c_tree.specs.declared.declaration.Initializer.TheVariants as initializer
-use Rattle.c_tree.specs.declared.declaration.Specifiers.{Specifiers}
-use Rattle.c_tree.specs.declared.statement.ForStart.{ForStart}
-use Rattle.c_tree.specs.declared.statement.ForStart.TheVariants as start
-use Rattle.c_tree.specs.declared.statement.Statement.{Statement, roll-Statement}
-use Rattle.c_tree.specs.declared.statement.BlockItem.{BlockItem, roll-BlockItem}
-use Rattle.c_tree.specs.declared.statement.BlockItem.TheOpen.{BlockItem-F, Statement-F}
-use Rattle.c_tree.specs.declared.statement.BlockItem.TheFolds.{map-BlockItem, map-Statement}
-use Rattle.c_tree.specs.declared.statement.BlockItem.TheFolds.{ind-BlockItem}
-use Rattle.c_tree.specs.declared.statement.BlockItem.TheFolds.{fold-roll-BlockItem}
-use Rattle.c_tree.specs.declared.statement.BlockItem.TheFolds.{fold-roll-Statement}
-use Rattle.c_tree.specs.declared.item.Parameter.{Parameter}
-use Rattle.c_tree.specs.declared.item.FunctionDeclarator.{FunctionDeclarator}
-use Rattle.c_tree.specs.declared.item.Body.TheVariants as body
-use Rattle.c_tree.specs.declared.item.Item.{Item}
-use Rattle.c_tree.specs.declared.item.Item.TheVariants as item
-use Rattle.c_tree.specs.declared.item.Unit.{Unit as UnitTree}
-use Rattle.c_rules.specs.declared.meaning.Entry.{Entry}
-use Rattle.c_rules.specs.declared.typed.TypedItem.{TypedItem, roll-TypedItem}
-use Rattle.c_rules.specs.declared.typed.TypedItem.TheOpen.{TypedItem-F, TypedStatement-F}
-use Rattle.c_rules.specs.declared.typed.TypedItem.TheVariants as typed_item
-use Rattle.c_rules.specs.declared.typed.TypedItem.TheFolds.{map-TypedItem, map-TypedStatement}
-use Rattle.c_rules.specs.declared.typed.TypedItem.TheFolds.{fold-roll-TypedItem}
-use Rattle.c_rules.specs.declared.typed.TypedItem.TheFolds.{fold-roll-TypedStatement}
-use Rattle.c_rules.specs.declared.typed.TypedStatement.{TypedStatement, roll-TypedStatement}
-use Rattle.c_rules.specs.declared.typed.TypedStatement.TheVariants as tree
-use Rattle.c_rules.specs.Names.{Text}
-use Rattle.c_rules.specs.Expressions.{reading}
-use Rattle.c_rules.specs.Declarations.{length_of, typed_items}
-use Rattle.c_rules.specs.Statements.{Around, inner, loop, in_order, receiving, start_walk}
-use Rattle.c_rules.specs.Statements.{declaring_behind}
-use Rattle.c_rules.specs.Items.{Before, text_of, nothing_before, listed, item_behind, around_body}
-use Rattle.c_rules.specs.Items.{function_behind}
-use Rattle.c_rules.specs.TypedStatements.{Grown, grown, grown_item, grown_statement}
-use Rattle.c_rules.specs.TypedStatements.{typed_expression, typed_optional, typed_in_order}
-use Rattle.c_rules.specs.TypedStatements.{typed_declarators, typed_for_start}
-use Rattle.c_rules.specs.TypedStatements.{typed_statement, typed_block_item, parameter_objects}
-use Rattle.c_rules.specs.TypedStatements.{typed_function}
-use Rattle.c_rules.specs.Sound.{functions_of, typed_unit}
-use Rattle.c_bodies.specs.Grown.{grown_of}
+use Rattle.c_grammar_tree.specs.declared.expression.Expression.{Expression}
+use Rattle.c_grammar_tree.specs.declared.declaration.Array.{Array}
+use Rattle.c_grammar_tree.specs.declared.declaration.Declaration.{Declaration}
+use Rattle.c_grammar_tree.specs.declared.declaration.Declarator.{Declarator}
+use Rattle.c_grammar_tree.specs.declared.declaration.Initializer.{Initializer}
+use Rattle.c_grammar_tree.specs.declared.declaration.Initializer.TheVariants as initializer
+use Rattle.c_grammar_tree.specs.declared.declaration.Specifiers.{Specifiers}
+use Rattle.c_grammar_tree.specs.declared.statement.ForStart.{ForStart}
+use Rattle.c_grammar_tree.specs.declared.statement.ForStart.TheVariants as start
+use Rattle.c_grammar_tree.specs.declared.statement.Statement.{Statement, roll-Statement}
+use Rattle.c_grammar_tree.specs.declared.statement.BlockItem.{BlockItem, roll-BlockItem}
+use Rattle.c_grammar_tree.specs.declared.statement.BlockItem.TheOpen.{BlockItem-F, Statement-F}
+use Rattle.c_grammar_tree.specs.declared.statement.BlockItem.TheFolds.{map-BlockItem, map-Statement}
+use Rattle.c_grammar_tree.specs.declared.statement.BlockItem.TheFolds.{ind-BlockItem}
+use Rattle.c_grammar_tree.specs.declared.statement.BlockItem.TheFolds.{fold-roll-BlockItem}
+use Rattle.c_grammar_tree.specs.declared.statement.BlockItem.TheFolds.{fold-roll-Statement}
+use Rattle.c_grammar_tree.specs.declared.item.Parameter.{Parameter}
+use Rattle.c_grammar_tree.specs.declared.item.FunctionDeclarator.{FunctionDeclarator}
+use Rattle.c_grammar_tree.specs.declared.item.Body.TheVariants as body
+use Rattle.c_grammar_tree.specs.declared.item.Item.{Item}
+use Rattle.c_grammar_tree.specs.declared.item.Item.TheVariants as item
+use Rattle.c_grammar_tree.specs.declared.item.Unit.{Unit as UnitTree}
+use Rattle.c_types_rules.specs.declared.meaning.Entry.{Entry}
+use Rattle.c_types_rules.specs.declared.typed.TypedItem.{TypedItem, roll-TypedItem}
+use Rattle.c_types_rules.specs.declared.typed.TypedItem.TheOpen.{TypedItem-F, TypedStatement-F}
+use Rattle.c_types_rules.specs.declared.typed.TypedItem.TheVariants as typed_item
+use Rattle.c_types_rules.specs.declared.typed.TypedItem.TheFolds.{map-TypedItem, map-TypedStatement}
+use Rattle.c_types_rules.specs.declared.typed.TypedItem.TheFolds.{fold-roll-TypedItem}
+use Rattle.c_types_rules.specs.declared.typed.TypedItem.TheFolds.{fold-roll-TypedStatement}
+use Rattle.c_types_rules.specs.declared.typed.TypedStatement.{TypedStatement, roll-TypedStatement}
+use Rattle.c_types_rules.specs.declared.typed.TypedStatement.TheVariants as tree
+use Rattle.c_types_rules.specs.Names.{Text}
+use Rattle.c_types_rules.specs.Expressions.{reading}
+use Rattle.c_types_rules.specs.Declarations.{length_of, typed_items}
+use Rattle.c_types_rules.specs.Statements.{Around, inner, loop, in_order, receiving, start_walk}
+use Rattle.c_types_rules.specs.Statements.{declaring_behind}
+use Rattle.c_types_rules.specs.Items.{Before, text_of, nothing_before, listed, item_behind}
+use Rattle.c_types_rules.specs.Items.{around_body}
+use Rattle.c_types_rules.specs.Items.{function_behind}
+use Rattle.c_types_rules.specs.TypedStatements.{Grown, grown, grown_item, grown_statement}
+use Rattle.c_types_rules.specs.TypedStatements.{typed_expression, typed_optional, typed_in_order}
+use Rattle.c_types_rules.specs.TypedStatements.{typed_declarators, typed_for_start}
+use Rattle.c_types_rules.specs.TypedStatements.{typed_statement, typed_block_item}
+use Rattle.c_types_rules.specs.TypedStatements.{parameter_objects}
+use Rattle.c_types_rules.specs.TypedStatements.{typed_function}
+use Rattle.c_types_rules.specs.Sound.{functions_of, typed_unit}
+use Rattle.c_types_bodies.specs.Grown.{grown_of}
 use Rattle.c_types.specs.Erasing.{unnamed, unspecified, unmeasured, erased_expression}
 use Rattle.c_types.specs.Erasing.{bare_expression, erased_initializer, bare_initializer}
 use Rattle.c_types.specs.Erasing.{erased_declarator, bare_declarator}

@@ -9,16 +9,17 @@ use Rattle.std.proofs.lemmas.Bool.Decides.{leb_tells}
 use Rattle.c_lexer.specs.Rules.{rule_number}
 use Rattle.c_lexer.specs.declared.fault.Rule.TheVariants as rule
 use Rattle.c_lexer.specs.declared.fault.TextFault.{TextFault}
-use Rattle.c_tree.specs.declared.item.Unit.{Unit as UnitTree}
-use Rattle.c_rules.specs.Names.{Text}
-use Rattle.c_rules.specs.First.{comes_before, first_of_two, first_with, first_append}
-use Rattle.c_rules.specs.ExpressionRules.{broken, option_places}
-use Rattle.c_rules.specs.Items.{Before, Call, text_of, nothing_before, items_faults, items_calls}
-use Rattle.c_rules.specs.Recursion.{Among, LeadsBack}
-use Rattle.c_rules.specs.Sound.{NotBehind, BreaksTree, Sound}
-use Rattle.c_rules.specs.Sound.{IsFirstBroken, unit_faults, unit_calls, unit_globals}
-use Rattle.c_rules.specs.Sound.{unit_functions, counts, is_too_large, without_main}
-use Rattle.c_calls.specs.Least.{FindsLeast}
+use Rattle.c_grammar_tree.specs.declared.item.Unit.{Unit as UnitTree}
+use Rattle.c_types_rules.specs.Names.{Text}
+use Rattle.c_types_rules.specs.First.{comes_before, first_of_two, first_with, first_append}
+use Rattle.c_types_rules.specs.ExpressionRules.{broken, option_places}
+use Rattle.c_types_rules.specs.Items.{Before, Call, text_of, nothing_before, items_faults}
+use Rattle.c_types_rules.specs.Items.{items_calls}
+use Rattle.c_types_rules.specs.Recursion.{Among, LeadsBack}
+use Rattle.c_types_rules.specs.Sound.{NotBehind, BreaksTree, Sound}
+use Rattle.c_types_rules.specs.Sound.{IsFirstBroken, unit_faults, unit_calls, unit_globals}
+use Rattle.c_types_rules.specs.Sound.{unit_functions, counts, is_too_large, without_main}
+use Rattle.c_types_recursion.specs.Least.{FindsLeast}
 use Rattle.c_types.specs.Firsts.{FindsFirst}
 use mathlib.Core.Logic.{inl, inr, ⊎_elim}
 

@@ -7,10 +7,10 @@ use Rattle.std.specs.List.{flat_map, list_any}
 use Rattle.std.specs.Str.{bytes_eq}
 use Rattle.std.proofs.lemmas.Cmp.{nat_list_eq_equiv}
 use Rattle.std.proofs.lemmas.List.{append_assoc}
-use Rattle.c_rules.specs.declared.meaning.Entry.{Entry}
-use Rattle.c_rules.specs.declared.typed.Global.{Global}
-use Rattle.c_rules.specs.Names.{place_of}
-use Rattle.c_rules.specs.Sound.{Start, is_object_entry, object_names}
+use Rattle.c_types_rules.specs.declared.meaning.Entry.{Entry}
+use Rattle.c_types_rules.specs.declared.typed.Global.{Global}
+use Rattle.c_types_rules.specs.Names.{place_of}
+use Rattle.c_types_rules.specs.Sound.{Start, is_object_entry, object_names}
 use Rattle.c_types.specs.Starts.{start_names}
 
 place_some : (b : Bool) (held : Option ℕ) →

@@ -5,43 +5,47 @@ use Rattle.std.proofs.Common.{◌++◌, map, Option, Some, None, sym, subst, ari
 use Rattle.std.specs.List.{filter_map, AllByRecursion}
 use Rattle.std.specs.Str.{bytes_eq}
 use Rattle.std.proofs.lemmas.List.Elements.{filter_map-append}
-use Rattle.c_tree.specs.declared.declaration.Declaration.{Declaration}
-use Rattle.c_tree.specs.declared.declaration.Declarator.{Declarator}
-use Rattle.c_tree.specs.declared.declaration.Specifiers.{Specifiers}
-use Rattle.c_tree.specs.declared.expression.Expression.{Expression}
-use Rattle.c_tree.specs.declared.item.FunctionDeclarator.{FunctionDeclarator}
-use Rattle.c_tree.specs.declared.item.Parameter.{Parameter}
-use Rattle.c_tree.specs.declared.item.Parameters.{Parameters}
-use Rattle.c_tree.specs.declared.item.Body.{Body}
-use Rattle.c_tree.specs.declared.item.Body.TheVariants as body
-use Rattle.c_tree.specs.declared.item.Item.{Item}
-use Rattle.c_tree.specs.declared.item.Item.TheVariants as item
-use Rattle.c_tree.specs.declared.statement.ForStart.{ForStart}
-use Rattle.c_tree.specs.declared.statement.ForStart.TheVariants as start
-use Rattle.c_tree.specs.declared.statement.Statement.{Statement, roll-Statement}
-use Rattle.c_tree.specs.declared.statement.BlockItem.{BlockItem, roll-BlockItem}
-use Rattle.c_tree.specs.declared.statement.BlockItem.TheOpen.{BlockItem-F, Statement-F}
-use Rattle.c_tree.specs.declared.statement.BlockItem.TheFolds.{fold-Statement, map-BlockItem}
-use Rattle.c_tree.specs.declared.statement.BlockItem.TheFolds.{map-Statement, ind-BlockItem}
-use Rattle.c_tree.specs.declared.statement.BlockItem.TheFolds.{fold-roll-BlockItem}
-use Rattle.c_tree.specs.declared.statement.BlockItem.TheFolds.{fold-roll-Statement}
-use Rattle.c_rules.specs.declared.meaning.Declared.{Declared}
-use Rattle.c_rules.specs.declared.meaning.Declared.TheVariants as declared
-use Rattle.c_rules.specs.declared.meaning.Entry.{Entry}
-use Rattle.c_rules.specs.declared.meaning.Kind.{Kind}
-use Rattle.c_rules.specs.declared.meaning.Object.{Object}
-use Rattle.c_rules.specs.declared.meaning.ParameterType.{ParameterType}
-use Rattle.c_rules.specs.declared.meaning.Role.{Role}
-use Rattle.c_rules.specs.declared.meaning.Role.TheVariants.{Evaluated, Valued}
-use Rattle.c_rules.specs.Names.{Text, declared_as, or_else}
-use Rattle.c_rules.specs.Items.{Before, merged_object, merged_function, one_type, global_behind}
-use Rattle.c_rules.specs.Items.{globals_behind, function_behind, item_behind, body_walk, listed}
-use Rattle.c_rules.specs.StatementRules.{object_number}
-use Rattle.c_rules.specs.Statements.{Around, Act, Walk, doing, followed, in_order, scoped, looped}
-use Rattle.c_rules.specs.Statements.{inner, loop, evaluating, evaluates, declarator_walk}
-use Rattle.c_rules.specs.Statements.{declaration_walk, receiving, start_walk, still}
-use Rattle.c_rules.specs.Statements.{statement_walk, item_walk, walk_of, marks}
-use Rattle.c_bodies.specs.Bodies.{AreNumbered, begins}
+use Rattle.c_grammar_tree.specs.declared.declaration.Declaration.{Declaration}
+use Rattle.c_grammar_tree.specs.declared.declaration.Declarator.{Declarator}
+use Rattle.c_grammar_tree.specs.declared.declaration.Specifiers.{Specifiers}
+use Rattle.c_grammar_tree.specs.declared.expression.Expression.{Expression}
+use Rattle.c_grammar_tree.specs.declared.item.FunctionDeclarator.{FunctionDeclarator}
+use Rattle.c_grammar_tree.specs.declared.item.Parameter.{Parameter}
+use Rattle.c_grammar_tree.specs.declared.item.Parameters.{Parameters}
+use Rattle.c_grammar_tree.specs.declared.item.Body.{Body}
+use Rattle.c_grammar_tree.specs.declared.item.Body.TheVariants as body
+use Rattle.c_grammar_tree.specs.declared.item.Item.{Item}
+use Rattle.c_grammar_tree.specs.declared.item.Item.TheVariants as item
+use Rattle.c_grammar_tree.specs.declared.statement.ForStart.{ForStart}
+use Rattle.c_grammar_tree.specs.declared.statement.ForStart.TheVariants as start
+use Rattle.c_grammar_tree.specs.declared.statement.Statement.{Statement, roll-Statement}
+use Rattle.c_grammar_tree.specs.declared.statement.BlockItem.{BlockItem, roll-BlockItem}
+use Rattle.c_grammar_tree.specs.declared.statement.BlockItem.TheOpen.{BlockItem-F, Statement-F}
+use Rattle.c_grammar_tree.specs.declared.statement.BlockItem.TheFolds.{fold-Statement}
+use Rattle.c_grammar_tree.specs.declared.statement.BlockItem.TheFolds.{map-BlockItem}
+use Rattle.c_grammar_tree.specs.declared.statement.BlockItem.TheFolds.{map-Statement, ind-BlockItem}
+use Rattle.c_grammar_tree.specs.declared.statement.BlockItem.TheFolds.{fold-roll-BlockItem}
+use Rattle.c_grammar_tree.specs.declared.statement.BlockItem.TheFolds.{fold-roll-Statement}
+use Rattle.c_types_rules.specs.declared.meaning.Declared.{Declared}
+use Rattle.c_types_rules.specs.declared.meaning.Declared.TheVariants as declared
+use Rattle.c_types_rules.specs.declared.meaning.Entry.{Entry}
+use Rattle.c_types_rules.specs.declared.meaning.Kind.{Kind}
+use Rattle.c_types_rules.specs.declared.meaning.Object.{Object}
+use Rattle.c_types_rules.specs.declared.meaning.ParameterType.{ParameterType}
+use Rattle.c_types_rules.specs.declared.meaning.Role.{Role}
+use Rattle.c_types_rules.specs.declared.meaning.Role.TheVariants.{Evaluated, Valued}
+use Rattle.c_types_rules.specs.Names.{Text, declared_as, or_else}
+use Rattle.c_types_rules.specs.Items.{Before, merged_object, merged_function, one_type}
+use Rattle.c_types_rules.specs.Items.{global_behind}
+use Rattle.c_types_rules.specs.Items.{globals_behind, function_behind, item_behind, body_walk}
+use Rattle.c_types_rules.specs.Items.{listed}
+use Rattle.c_types_rules.specs.StatementRules.{object_number}
+use Rattle.c_types_rules.specs.Statements.{Around, Act, Walk, doing, followed, in_order, scoped}
+use Rattle.c_types_rules.specs.Statements.{looped}
+use Rattle.c_types_rules.specs.Statements.{inner, loop, evaluating, evaluates, declarator_walk}
+use Rattle.c_types_rules.specs.Statements.{declaration_walk, receiving, start_walk, still}
+use Rattle.c_types_rules.specs.Statements.{statement_walk, item_walk, walk_of, marks}
+use Rattle.c_types_bodies.specs.Bodies.{AreNumbered, begins}
 
 -- a walk that counts objects up alone
 abbrev pub Rises : Walk → Type 0

@@ -2,13 +2,14 @@
 use Rattle.std.proofs.Common.{◌≡◌, List, [], ◌∷◌, ◌++◌, Option, sym}
 use Rattle.std.proofs.lemmas.List.{append-nil, append_assoc}
 use Rattle.c_lexer.specs.declared.fault.TextFault.{TextFault}
-use Rattle.c_tree.specs.declared.item.Item.{Item}
-use Rattle.c_rules.specs.declared.typed.TypedFunction.{TypedFunction}
-use Rattle.c_rules.specs.Names.{Text}
-use Rattle.c_rules.specs.First.{first_with, first_append}
-use Rattle.c_rules.specs.Items.{Before, Call, item_behind, item_faults, items_faults, item_calls}
-use Rattle.c_rules.specs.Items.{items_calls}
-use Rattle.c_rules.specs.Sound.{Start, item_function, functions_of, item_starts, starts_of}
+use Rattle.c_grammar_tree.specs.declared.item.Item.{Item}
+use Rattle.c_types_rules.specs.declared.typed.TypedFunction.{TypedFunction}
+use Rattle.c_types_rules.specs.Names.{Text}
+use Rattle.c_types_rules.specs.First.{first_with, first_append}
+use Rattle.c_types_rules.specs.Items.{Before, Call, item_behind, item_faults, items_faults}
+use Rattle.c_types_rules.specs.Items.{item_calls}
+use Rattle.c_types_rules.specs.Items.{items_calls}
+use Rattle.c_types_rules.specs.Sound.{Start, item_function, functions_of, item_starts, starts_of}
 
 pub no_starts : (held : List Start) → held ++ [] ≡ held
 no_starts held = append-nil held

@@ -3,15 +3,16 @@ use Rattle.std.proofs.Common.{◌≡◌, ℕ, Bool, true, false, List, Option, N
 use Rattle.std.proofs.Common.{◌∙◌, unwrap_or}
 use Rattle.std.specs.Prelude.{if◌then◌else◌}
 use Rattle.std.specs.List.{flat_map}
-use Rattle.c_tree.specs.declared.item.Unit.{Unit as UnitTree}
-use Rattle.c_rules.specs.declared.typed.Global.{Global}
-use Rattle.c_rules.specs.declared.typed.TypedFunction.{TypedFunction}
-use Rattle.c_rules.specs.declared.typed.TypedUnit.{TypedUnit}
-use Rattle.c_rules.specs.Names.{body_of}
-use Rattle.c_rules.specs.Counts.{heads_of}
-use Rattle.c_rules.specs.Items.{text_of}
-use Rattle.c_rules.specs.Sound.{counts, is_too_large, started, filled, first_cells, object_types}
-use Rattle.c_rules.specs.Sound.{typed_unit, unit_globals, unit_functions, main_name}
+use Rattle.c_grammar_tree.specs.declared.item.Unit.{Unit as UnitTree}
+use Rattle.c_types_rules.specs.declared.typed.Global.{Global}
+use Rattle.c_types_rules.specs.declared.typed.TypedFunction.{TypedFunction}
+use Rattle.c_types_rules.specs.declared.typed.TypedUnit.{TypedUnit}
+use Rattle.c_types_rules.specs.Names.{body_of}
+use Rattle.c_types_rules.specs.Counts.{heads_of}
+use Rattle.c_types_rules.specs.Items.{text_of}
+use Rattle.c_types_rules.specs.Sound.{counts, is_too_large, started, filled, first_cells}
+use Rattle.c_types_rules.specs.Sound.{object_types}
+use Rattle.c_types_rules.specs.Sound.{typed_unit, unit_globals, unit_functions, main_name}
 use Rattle.c_counts.specs.declared.cells.TextCells.{TextCells}
 use Rattle.c_counts.specs.TextCells.{text_cells, objects_of}
 

@@ -1,16 +1,16 @@
 -- A function's body behind its name's declaration: what `item_behind`, `item_faults` and the others
--- of c_rules say of it, from there on.
+-- of c_types_rules say of it, from there on.
 use Rattle.std.specs.Prelude.{◌+◌, List}
 use Rattle.std.specs.List.{flat_map}
 use Rattle.c_lexer.specs.declared.fault.TextFault.{TextFault}
-use Rattle.c_tree.specs.declared.declaration.Specifiers.{Specifiers}
-use Rattle.c_tree.specs.declared.item.FunctionDeclarator.{FunctionDeclarator}
-use Rattle.c_tree.specs.declared.statement.BlockItem.{BlockItem}
-use Rattle.c_rules.specs.declared.typed.TypedFunction.{TypedFunction}
-use Rattle.c_rules.specs.Names.{Text}
-use Rattle.c_rules.specs.Statements.{Site}
-use Rattle.c_rules.specs.Items.{Before, Call, body_faults, site_calls}
-use Rattle.c_bodies.specs.Bodies.{acts_of, objects_behind, typed_body}
+use Rattle.c_grammar_tree.specs.declared.declaration.Specifiers.{Specifiers}
+use Rattle.c_grammar_tree.specs.declared.item.FunctionDeclarator.{FunctionDeclarator}
+use Rattle.c_grammar_tree.specs.declared.statement.BlockItem.{BlockItem}
+use Rattle.c_types_rules.specs.declared.typed.TypedFunction.{TypedFunction}
+use Rattle.c_types_rules.specs.Names.{Text}
+use Rattle.c_types_rules.specs.Statements.{Site}
+use Rattle.c_types_rules.specs.Items.{Before, Call, body_faults, site_calls}
+use Rattle.c_types_bodies.specs.Bodies.{acts_of, objects_behind, typed_body}
 
 abbrev pub block_sites : Text → Specifiers → FunctionDeclarator → List BlockItem → Before
     → List Site

@@ -1,7 +1,7 @@
 -- What a check of a text finds, where memory is enough (this project's own).
 use Rattle.std.specs.Prelude.{◌≡◌}
-use Rattle.c_tree.specs.declared.item.Unit.{Unit as UnitTree}
-use Rattle.c_rules.specs.Sound.{Sound, IsFirstBroken, typed_unit}
+use Rattle.c_grammar_tree.specs.declared.item.Unit.{Unit as UnitTree}
+use Rattle.c_types_rules.specs.Sound.{Sound, IsFirstBroken, typed_unit}
 use Rattle.c_types.specs.declared.outcome.Outcome.{Outcome}
 use Rattle.c_types.specs.declared.outcome.Outcome.TheVariants as outcome
 

@@ -1,15 +1,15 @@
 //! The function at which a text starts (`is_main` and `without_main` of `specs/Sound.antt` of
-//! `c_rules`). Proved with `proofs/Entries`.
+//! `c_types_rules`). Proved with `proofs/Entries`.
 ghost use Rattle.std.specs.Prelude.{◌≡◌, IfOk, OnOk};
 ghost use Rattle.std.specs.List.{list_any};
-ghost use Rattle.c_rules.specs.First.{first_with};
-ghost use Rattle.c_rules.specs.Sound.{has_no_parameters, is_main, without_main};
+ghost use Rattle.c_types_rules.specs.First.{first_with};
+ghost use Rattle.c_types_rules.specs.Sound.{has_no_parameters, is_main, without_main};
 
-use c_globals::same_kind;
+use c_grammar_tree::{Body, Item, Parameters, Unit};
 use c_lexer::{Rule, TextFault};
-use c_objects::{note_if, read_specifiers};
-use c_rules::Kind;
-use c_tree::{Body, Item, Parameters, Unit};
+use c_types_globals::same_kind;
+use c_types_objects::{note_if, read_specifiers};
+use c_types_rules::Kind;
 use cpa_ints::IntType;
 use std::alloc::{AllocError, Global};
 

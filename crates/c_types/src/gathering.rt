@@ -1,17 +1,17 @@
 //! What is gathered of a whole text, with the first fault of each rule but N13
 //! (`specs/Firsts.antt`). Proved with `proofs/Law`.
 ghost use Rattle.std.specs.Prelude.{◌≡◌, IfOk};
-ghost use Rattle.c_rules.specs.Items.{text_of, nothing_before};
-ghost use Rattle.c_rules.specs.Sound.{items_behind, starts_of, functions_of, BreaksTree};
+ghost use Rattle.c_types_rules.specs.Items.{text_of, nothing_before};
+ghost use Rattle.c_types_rules.specs.Sound.{items_behind, starts_of, functions_of, BreaksTree};
 ghost use Rattle.c_types.specs.Firsts.{FindsFirst};
 
 use crate::entry::note_missing_main;
 use crate::items::{Gathered, gather_items};
-use c_calls::least_leading_back;
+use c_grammar_tree::Unit;
 use c_lexer::Rule;
-use c_names::Survey;
-use c_rules::note_place;
-use c_tree::Unit;
+use c_types_names::Survey;
+use c_types_recursion::least_leading_back;
+use c_types_rules::note_place;
 use std::alloc::{AllocError, Global};
 
 /// Gathers a text, which says this of its functions.

@@ -1,22 +1,22 @@
 //! Items in order: what is known behind them, their faults, and what is gathered of them
-//! (`specs/Items.antt` and `specs/Sound.antt` of `c_rules`). Proved with `proofs/Steps`.
+//! (`specs/Items.antt` and `specs/Sound.antt` of `c_types_rules`). Proved with `proofs/Steps`.
 ghost use Rattle.std.specs.Prelude.{◌≡◌, ◌++◌, [], ◌∷◌, None, OnOk};
-ghost use Rattle.c_rules.specs.First.{first_with};
-ghost use Rattle.c_rules.specs.Items.{item_behind, item_faults, item_calls, nothing_before};
-ghost use Rattle.c_rules.specs.Items.{items_faults, items_calls};
-ghost use Rattle.c_rules.specs.Sound.{item_starts, item_function, items_behind, starts_of};
-ghost use Rattle.c_rules.specs.Sound.{functions_of};
-ghost use Rattle.c_globals.specs.Scopes.{before_of};
-ghost use Rattle.c_bodies.specs.Bodies.{AreNumbered};
+ghost use Rattle.c_types_rules.specs.First.{first_with};
+ghost use Rattle.c_types_rules.specs.Items.{item_behind, item_faults, item_calls, nothing_before};
+ghost use Rattle.c_types_rules.specs.Items.{items_faults, items_calls};
+ghost use Rattle.c_types_rules.specs.Sound.{item_starts, item_function, items_behind, starts_of};
+ghost use Rattle.c_types_rules.specs.Sound.{functions_of};
+ghost use Rattle.c_types_globals.specs.Scopes.{before_of};
+ghost use Rattle.c_types_bodies.specs.Bodies.{AreNumbered};
 ghost use Rattle.c_types.specs.Blocks.{block_behind, block_faults, block_calls, block_function};
 
-use c_bodies::read_body;
-use c_calls::Call;
-use c_globals::{Scope, Start, declare_function, declare_objects};
+use c_grammar_tree::{BlockItem, Body, FunctionDeclarator, Item, Specifiers};
 use c_lexer::TextFault;
-use c_names::Survey;
-use c_rules::TypedFunction;
-use c_tree::{BlockItem, Body, FunctionDeclarator, Item, Specifiers};
+use c_types_bodies::read_body;
+use c_types_globals::{Scope, Start, declare_function, declare_objects};
+use c_types_names::Survey;
+use c_types_recursion::Call;
+use c_types_rules::TypedFunction;
 use std::alloc::{AllocError, Global};
 
 /// What is known behind some items, and what was gathered of them.
@@ -92,7 +92,7 @@ fn gather_block(
 }
 
 /// Gathers an item.
-#[tactic(auto, using(c_rules::specs::First::first_append, crate::proofs::Steps::no_starts, crate::proofs::Steps::no_calls, crate::proofs::Steps::no_functions))]
+#[tactic(auto, using(c_types_rules::specs::First::first_append, crate::proofs::Steps::no_starts, crate::proofs::Steps::no_calls, crate::proofs::Steps::no_functions))]
 fn gather_item(
     alloc: Global,
     survey: &Survey,

@@ -1,5 +1,5 @@
 //! The rules of names and types: the typed tree of a text that breaks none of them, or the first
-//! broken rule (`IsChecked` of `specs/Sound.antt` of `c_rules`).
+//! broken rule (`IsChecked` of `specs/Sound.antt` of `c_types_rules`).
 #![tactic(auto)]
 
 mod entry;

@@ -1,17 +1,18 @@
 //! The objects of file scope, each once, with what its elements start at (`globals_of` of
-//! `specs/Sound.antt` of `c_rules`). Proved with `proofs/Listed`.
+//! `specs/Sound.antt` of `c_types_rules`). Proved with `proofs/Listed`.
 ghost use Rattle.std.specs.Prelude.{◌≡◌, ◌&&◌, not, is_some, ◌++◌, ◌∷◌, [], List, IfOk, OnOk};
 ghost use Rattle.std.specs.List.{flat_map};
-ghost use Rattle.c_rules.specs.declared.meaning.Entry.{Entry as AnEntry};
+ghost use Rattle.c_types_rules.specs.declared.meaning.Entry.{Entry as AnEntry};
 ghost use Rattle.std.specs.Str.{bytes_eq};
-ghost use Rattle.c_rules.specs.Names.{place_of};
-ghost use Rattle.c_rules.specs.Sound.{is_object_entry, object_names, start_values, global_named};
-ghost use Rattle.c_rules.specs.Sound.{globals_of};
+ghost use Rattle.c_types_rules.specs.Names.{place_of};
+ghost use Rattle.c_types_rules.specs.Sound.{is_object_entry, object_names, start_values};
+ghost use Rattle.c_types_rules.specs.Sound.{global_named};
+ghost use Rattle.c_types_rules.specs.Sound.{globals_of};
 ghost use Rattle.c_types.specs.Starts.{start_names};
 
-use c_globals::Start;
-use c_names::{Firsts, Names};
-use c_rules::{Declared, Entry, Global};
+use c_types_globals::Start;
+use c_types_names::{Firsts, Names};
+use c_types_rules::{Declared, Entry, Global};
 use cpa_ints::Seq;
 use std::alloc::{AllocError, Global as Memory};
 

@@ -1,8 +1,8 @@
 //! What a check of a text finds (`IsOutcome` of `specs/Outcomes.antt`). Proved with `proofs/Law`
 //! and `proofs/Typed`.
 ghost use Rattle.std.specs.Prelude.{◌≡◌, None, IfOk};
-ghost use Rattle.c_rules.specs.Items.{text_of, nothing_before};
-ghost use Rattle.c_rules.specs.Sound.{items_behind, starts_of, functions_of, BreaksTree};
+ghost use Rattle.c_types_rules.specs.Items.{text_of, nothing_before};
+ghost use Rattle.c_types_rules.specs.Sound.{items_behind, starts_of, functions_of, BreaksTree};
 ghost use Rattle.c_types.specs.Firsts.{FindsFirst};
 ghost use Rattle.c_types.specs.Outcomes.{IsOutcome};
 
@@ -11,10 +11,10 @@ use crate::gathering::gather;
 use crate::items::Gathered;
 use crate::listing::globals_of;
 use c_counts::counts;
+use c_grammar_tree::Unit;
 use c_lexer::{Rule, TextFault};
-use c_names::Survey;
-use c_rules::TypedUnit;
-use c_tree::Unit;
+use c_types_names::Survey;
+use c_types_rules::TypedUnit;
 use cpa_ints::Seq;
 use std::alloc::{AllocError, Global};
 

@@ -1,13 +1,13 @@
-//! The check of a text (`IsChecked` of `specs/Sound.antt` of `c_rules`, `specs/Erasing.antt`).
-//! Proved with `proofs/ErasedStatements`.
+//! The check of a text (`IsChecked` of `specs/Sound.antt` of `c_types_rules`,
+//! `specs/Erasing.antt`). Proved with `proofs/ErasedStatements`.
 ghost use Rattle.std.specs.Prelude.{◌≡◌, IfOk};
-ghost use Rattle.c_rules.specs.Sound.{IsChecked};
+ghost use Rattle.c_types_rules.specs.Sound.{IsChecked};
 ghost use Rattle.c_types.specs.Erasing.{erased_functions, bare_functions};
 
 use crate::outcome::{Outcome, find_outcome};
+use c_grammar_tree::Unit;
 use c_lexer::TextError;
-use c_rules::TypedUnit;
-use c_tree::Unit;
+use c_types_rules::TypedUnit;
 use std::alloc::Global;
 
 /// The typed tree of a text that breaks no rule of names and types, or its first broken rule.

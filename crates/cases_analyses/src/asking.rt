@@ -7,10 +7,10 @@ ghost use Rattle.cpa_model.specs.Automata.{IsAutomaton};
 ghost use Rattle.cpa_iface.specs.Meanings.{HasPlace, IsPrecision};
 
 use crate::questions::{Call, Question};
+use cases_programs::{are_elems, are_precisions, is_path};
+use cases_reader::{RowFault, yes_or_no};
 use cpa_iface::{Analysis, Entry, MergeRule, Part, Precision, Settings, copy_precision};
 use cpa_model::{Cfa, Elem, Path, Seq, Spell, copy_elem, is_elem, push_list};
-use row_programs::{are_elems, are_precisions, is_path};
-use row_reader::{RowFault, yes_or_no};
 use std::alloc::Global;
 
 /// What the analysis answers to both ways of calling it.

@@ -1,10 +1,10 @@
 //! A call of an analysis, as a row names it: the analysis, the call, its words, and behind colons
 //! the elements that it takes.
 
+use cases_programs::{elems_of, next_settings, rest_indices, rule_of_word};
+use cases_reader::{RowFault, end_row, next_index, next_word};
 use cpa_iface::{MergeRule, Settings};
 use cpa_model::{Elem, Path};
-use row_programs::{elems_of, next_settings, rest_indices, rule_of_word};
-use row_reader::{RowFault, end_row, next_index, next_word};
 use std::alloc::Global;
 use std::str::SplitWhitespace;
 

@@ -8,12 +8,12 @@ use crate::asking::answer;
 use crate::boxes::Boxes;
 use crate::questions::{Called, Question, question_of};
 use crate::setting::Setting;
+use cases_programs::{automaton, is_precision};
+use cases_reader::RowFault;
 use cpa_callstack::Callstack;
 use cpa_iface::{Location, Precision};
 use cpa_model::Cfa;
 use cpa_value::Value;
-use row_programs::{automaton, is_precision};
-use row_reader::RowFault;
 use std::alloc::{AllocError, Global};
 
 /// A row with its answer. An empty line, a remark and a row that sets something stay as they are.

@@ -1,10 +1,10 @@
 //! What the rows so far have set: the program, and the precision that is handed in. Nothing is
 //! proved of it here.
 
+use cases_programs::Table;
+use cases_reader::{RowFault, end_row, indices_of, next_index, next_part, next_word, whole_expr};
 use cpa_iface::{Precision, empty_precision};
 use cpa_model::Seq;
-use row_programs::Table;
-use row_reader::{RowFault, end_row, indices_of, next_index, next_part, next_word, whole_expr};
 use std::alloc::Global;
 use std::str::{Split, SplitWhitespace};
 

@@ -8,11 +8,11 @@ ghost use Rattle.cpa_composite.specs.Composites.{components};
 
 use crate::exploring::explore;
 use crate::questions::{Call, Question};
+use cases_programs::{are_elems, are_precisions, is_path};
+use cases_reader::{RowFault, yes_or_no};
 use cpa_composite::Composite;
 use cpa_iface::{Analysis, Precision, Settings};
 use cpa_model::{Cfa, Elem, Path, push_list};
-use row_programs::{are_elems, are_precisions, is_path};
-use row_reader::{RowFault, yes_or_no};
 use std::alloc::{AllocError, Global};
 
 /// Whether so many elements are shaped.

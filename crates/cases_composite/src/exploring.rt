@@ -4,14 +4,14 @@
 ghost use Rattle.std.specs.Prelude.{length, IfOk};
 ghost use Rattle.cpa_model.specs.Automata.{IsAutomaton};
 ghost use Rattle.cpa_composite.specs.Composites.{components};
-ghost use Rattle.cpa_engine.specs.Turns.{AreEntries};
+ghost use Rattle.cpa_engine_turn.specs.Turns.{AreEntries};
 
+use cases_reader::RowFault;
 use cpa_composite::Composite;
-use cpa_engine::turn;
+use cpa_engine_turn::turn;
 use cpa_iface::{Analysis, Entry, Order, Settings, Turn};
 use cpa_model::{Cfa, push_list};
 use cpa_reached::Reached;
-use row_reader::RowFault;
 use std::alloc::{AllocError, Global};
 
 /// The reached set of the initial state alone.

@@ -4,9 +4,9 @@
 ghost use Rattle.std.specs.Prelude.{◌<◌, IfOk};
 ghost use Rattle.cpa_composite.specs.Components.{ArePlaces};
 
+use cases_programs::rule_of_word;
+use cases_reader::RowFault;
 use cpa_iface::Pick;
-use row_programs::rule_of_word;
-use row_reader::RowFault;
 use std::alloc::Global;
 
 /// The analyses that may be picked, by their places: `failing` is a blind one whose third transfer

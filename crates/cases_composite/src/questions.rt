@@ -1,10 +1,10 @@
 //! A call of a composite, as a row names it: the call, its words, and behind colons the elements
 //! that it takes. Nothing is proved of what is read.
 
+use cases_programs::{elems_of, next_settings, rest_indices};
+use cases_reader::{RowFault, end_row, next_index, next_word};
 use cpa_iface::{Order, Settings};
 use cpa_model::{Elem, Path};
-use row_programs::{elems_of, next_settings, rest_indices};
-use row_reader::{RowFault, end_row, next_index, next_word};
 use std::alloc::Global;
 use std::str::SplitWhitespace;
 

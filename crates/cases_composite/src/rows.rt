@@ -7,10 +7,10 @@ use crate::asking::push_answer;
 use crate::picking::picks_of;
 use crate::questions::{Question, question_of};
 use crate::setting::Setting;
+use cases_programs::automaton;
+use cases_reader::RowFault;
 use cpa_composite::Composite;
 use cpa_iface::Analysis;
-use row_programs::automaton;
-use row_reader::RowFault;
 use std::alloc::{AllocError, Global};
 
 /// A row with its answer. An empty line, a remark and a row that sets something stay as they are.

@@ -1,10 +1,10 @@
 //! What the rows so far have set: a program, the picks, and the precisions that are handed in.
 //! Nothing is proved of it here.
 
+use cases_programs::Table;
+use cases_reader::{RowFault, end_row, indices_of, next_index};
 use cpa_iface::Precision;
 use cpa_model::Seq;
-use row_programs::Table;
-use row_reader::{RowFault, end_row, indices_of, next_index};
 use std::alloc::Global;
 
 /// What the rows have set.

@@ -6,9 +6,9 @@ ghost use Rattle.cpa_model.specs.Programs.{IsWellFormed};
 
 use crate::words::{automaton_line, program_line};
 use c_lexer::{MAX_TEXT, TextError};
+use cases_reader::{bytes_of, fault_line};
 use cfa_build::build;
 use cpa_model::Program;
-use row_texts::{bytes_of, fault_line};
 use std::alloc::{AllocError, Global};
 
 /// What is spelled of a program.

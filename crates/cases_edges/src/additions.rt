@@ -1,10 +1,10 @@
 //! What a row adds to a form: edges that are taken, an element that holds, elements that fail. Each
 //! is tested before it is added. Proved safe by the checker alone.
 
+use cases_programs::elem_of;
+use cases_reader::{RowFault, index_of_word};
 use cpa_edgeform::EdgeForm;
 use cpa_model::{Cfa, Elem, is_elem};
-use row_programs::elem_of;
-use row_reader::{RowFault, index_of_word};
 use std::alloc::Global;
 
 /// One part of a row.

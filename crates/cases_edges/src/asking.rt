@@ -3,11 +3,11 @@
 
 use crate::additions::Addition;
 use crate::runs::{Run, begins};
+use cases_reader::{RowFault, is_query, push_number, push_word};
 use cpa_edgeform::EdgeForm;
 use cpa_expr::Store;
 use cpa_model::Cfa;
 use cpa_solver::{Decided, decide};
-use row_reader::{RowFault, is_query, push_number, push_word};
 use std::alloc::Global;
 
 /// What a row asks of a form.

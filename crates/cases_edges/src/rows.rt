@@ -3,10 +3,10 @@
 
 use crate::additions::{Addition, add, addition_of};
 use crate::asking::{Question, push_decided, push_size};
+use cases_programs::{Table, automaton};
+use cases_reader::{RowFault, end_row, next_index, next_part, next_word};
 use cpa_edgeform::EdgeForm;
 use cpa_model::Cfa;
-use row_programs::{Table, automaton};
-use row_reader::{RowFault, end_row, next_index, next_part, next_word};
 use std::alloc::{AllocError, Global};
 use std::str::{Split, SplitWhitespace};
 

@@ -2,7 +2,7 @@
 //! and no want of memory.
 #![tactic(auto)]
 
-use cpa_entry::start;
+use cpa_host_start::start;
 use std::process::ExitCode;
 
 /// The word that is no text is in `args`.

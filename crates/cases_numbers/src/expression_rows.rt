@@ -2,15 +2,15 @@
 //! Proved safe by the checker alone.
 
 use crate::operator_rows::push_value;
+use cases_reader::{
+    RowFault, next_index, number_of_word, push_number, push_word, type_of_word, whole_expr,
+    yes_or_no,
+};
 use cpa_expr::{
     Expr, Store, copy, height, is_expr, may_read, push_expr, replace_cell, same_expr, size,
     type_of, type_word, value,
 };
 use cpa_ints::{Boxed, IntType, Seq};
-use row_reader::{
-    RowFault, next_index, number_of_word, push_number, push_word, type_of_word, whole_expr,
-    yes_or_no,
-};
 use std::alloc::{AllocError, Global};
 use std::str::SplitWhitespace;
 

@@ -1,9 +1,9 @@
 //! Rows on numbers and types: what the public calls of `cpa_ints` answer.
 //! Proved safe by the checker alone.
 
+use cases_reader::{RowFault, TYPES, next_number, next_type, push_number, push_word, yes_or_no};
 use cpa_expr::type_word;
 use cpa_ints::{common, promote, wrap};
-use row_reader::{RowFault, TYPES, next_number, next_type, push_number, push_word, yes_or_no};
 use std::str::SplitWhitespace;
 
 /// The answer of a row on types and numbers, where the word names one.

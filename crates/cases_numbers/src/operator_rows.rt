@@ -1,9 +1,9 @@
 //! Rows on operators: what `value` of `cpa_expr` answers where they are applied to cells that have
 //! the row's numbers. Proved safe by the checker alone.
 
+use cases_reader::{OperatorRow, RowFault, operators_of, push_number, push_word};
 use cpa_expr::{Store, value};
 use cpa_ints::Seq;
-use row_reader::{OperatorRow, RowFault, operators_of, push_number, push_word};
 use std::alloc::{AllocError, Global};
 use std::str::SplitWhitespace;
 

@@ -2,7 +2,7 @@
 //! asked of.
 
 use crate::{expression_rows, number_rows, operator_rows};
-use row_reader::{RowFault, end_row, next_word};
+use cases_reader::{RowFault, end_row, next_word};
 use std::alloc::Global;
 
 /// The answer of a row, its words each behind a space.

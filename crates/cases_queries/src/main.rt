@@ -7,7 +7,7 @@ mod queries;
 mod query_rows;
 mod row;
 
-use row_reader::RowFault;
+use cases_reader::RowFault;
 use std::alloc::{AllocError, Global};
 use std::io;
 use std::io::{BufRead, BufReader};

@@ -2,11 +2,11 @@
 //! Its value in the model is the answer where no other model is; with no model the operator traps.
 
 use crate::queries::ask;
+use cases_reader::{Operand, OperatorRow, RowFault, operators_of, push_number, push_word};
 use cpa_expr::{CmpOp, Expr, copy, read_scalar, type_of};
 use cpa_ints::{Boxed, IntType, Seq};
 use cpa_query::Query;
 use cpa_solver::Decided;
-use row_reader::{Operand, OperatorRow, RowFault, operators_of, push_number, push_word};
 use std::alloc::{AllocError, Global};
 use std::str::SplitWhitespace;
 

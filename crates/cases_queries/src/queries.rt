@@ -1,12 +1,12 @@
 //! Queries, asked where they meet the condition of `decide`, and models that are looked at again.
 //! Proved safe by the checker alone.
 
+use cases_reader::{RowFault, is_query};
 use cpa_blast::blast;
 use cpa_expr::{Expr, Store, is_nonzero, value};
 use cpa_ints::Seq;
 use cpa_query::Query;
 use cpa_solver::{Decided, decide};
-use row_reader::{RowFault, is_query};
 use std::alloc::Global;
 
 /// What is found out of the query.

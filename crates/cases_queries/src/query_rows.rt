@@ -2,11 +2,11 @@
 //! Proved safe by the checker alone.
 
 use crate::queries::{ask, is_model, size};
+use cases_reader::{RowFault, next_index, push_number, rest_expr, type_of_word};
 use cpa_expr::{Expr, Store};
 use cpa_ints::Seq;
 use cpa_query::Query;
 use cpa_solver::Decided;
-use row_reader::{RowFault, next_index, push_number, rest_expr, type_of_word};
 use std::alloc::{AllocError, Global};
 use std::str::{Split, SplitWhitespace};
 

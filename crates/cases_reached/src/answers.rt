@@ -7,11 +7,11 @@ ghost use Rattle.cpa_reached.specs.Entries.{IsLive};
 
 use crate::printing::{push_entries, push_path, push_turns, push_waiting};
 use crate::reading::{elems_of, end, order_of, pairs_of, precisions_of};
-use cpa_iface::{Entry, Turn};
-use cpa_reached::Reached;
-use row_reader::{
+use cases_reader::{
     RowFault, end_parts, end_row, indices_of, next_index, next_part, next_word, push_word,
 };
+use cpa_iface::{Entry, Turn};
+use cpa_reached::Reached;
 use std::alloc::Global;
 use std::mem;
 use std::str::{Split, SplitWhitespace};

@@ -1,9 +1,9 @@
 //! Entries, journals and paths as the rows spell them. Nothing is proved of a spelling but that it
 //! comes.
 
+use cases_reader::{RowFault, push_word};
 use cpa_iface::{Entry, Precision, Turn};
 use cpa_model::{Path, push_list};
-use row_reader::{RowFault, push_word};
 use std::alloc::Global;
 
 /// Each entry, a comma between two.

@@ -1,9 +1,9 @@
 //! Reads what a row of a call has beside its word: an order, points of elements, limits of
 //! precisions. Nothing is proved of what is read but that reading is safe and ends.
 
+use cases_reader::{RowFault, end_parts, end_row, index_of_word, indices_of};
 use cpa_iface::{Order, Precision};
 use cpa_model::{Elem, Fact, Seq};
-use row_reader::{RowFault, end_parts, end_row, index_of_word, indices_of};
 use std::alloc::Global;
 use std::str::{Split, SplitWhitespace};
 

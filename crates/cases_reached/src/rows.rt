@@ -2,8 +2,8 @@
 //! file `stdout` says.
 
 use crate::answers::push_answer;
+use cases_reader::RowFault;
 use cpa_reached::Reached;
-use row_reader::RowFault;
 use std::alloc::{AllocError, Global};
 
 /// A row with its answer. An empty line and a remark stay as they are.

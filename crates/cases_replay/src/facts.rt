@@ -1,11 +1,11 @@
 //! Rows on elements: what `holds`, `is_elem`, `has_facts` and `copy_elem` of `cpa_model` answer.
 //! Proved safe by the checker alone.
 
-use cpa_model::{Seq, Spell, State, Store, copy_elem, has_facts, holds, is_elem};
-use row_programs::{Table, automaton, elem_of};
-use row_reader::{
+use cases_programs::{Table, automaton, elem_of};
+use cases_reader::{
     RowFault, indices_of, next_index, next_part, number_of_word, push_word, yes_or_no,
 };
+use cpa_model::{Seq, Spell, State, Store, copy_elem, has_facts, holds, is_elem};
 use std::alloc::Global;
 use std::str::{Split, SplitWhitespace};
 

@@ -5,7 +5,7 @@
 mod facts;
 mod rows;
 
-use row_programs::Table;
+use cases_programs::Table;
 use std::io::{self, BufRead, BufReader, BufWriter, Write};
 
 /// The program that the rows set lives from the first row to the last.

@@ -2,9 +2,9 @@
 //! file `stdout` says.
 
 use crate::facts::{push_copy, push_has_facts, push_holds, push_is_elem};
+use cases_programs::{Table, automaton};
+use cases_reader::{RowFault, end_parts, end_row, next_part, next_word, number_of_word};
 use cpa_interp::{Outcome, replay};
-use row_programs::{Table, automaton};
-use row_reader::{RowFault, end_parts, end_row, next_part, next_word, number_of_word};
 use std::alloc::{AllocError, Global};
 use std::str::SplitWhitespace;
 

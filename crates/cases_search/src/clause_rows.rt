@@ -3,8 +3,8 @@
 
 use crate::formulas::{formula, line};
 use crate::words::{push_clause, variable_of_word, whole_clause};
+use cases_reader::{RowFault, end_row, next_index, next_part, next_word};
 use cpa_cnf::{Cnf, Line, Marks, check_line, resolve};
-use row_reader::{RowFault, end_row, next_index, next_part, next_word};
 use std::alloc::Global;
 use std::str::{Split, SplitWhitespace};
 

@@ -6,9 +6,9 @@ ghost use Rattle.std.specs.List.{AllByRecursion};
 ghost use Rattle.cpa_cnf.specs.Lines.{AreBelow};
 
 use crate::words::{next_clause, variable_of_word};
+use cases_reader::{RowFault, next_index};
 use cpa_cnf::{Clause, Cnf, Line, Step};
 use cpa_ints::Seq;
-use row_reader::{RowFault, next_index};
 use std::alloc::Global;
 use std::str::SplitWhitespace;
 

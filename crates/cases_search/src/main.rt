@@ -8,7 +8,7 @@ mod row;
 mod search_rows;
 mod words;
 
-use row_reader::RowFault;
+use cases_reader::RowFault;
 use std::alloc::{AllocError, Global};
 use std::io;
 use std::io::{BufRead, BufReader};

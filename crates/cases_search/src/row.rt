@@ -2,7 +2,7 @@
 //! lines.
 
 use crate::{clause_rows, search_rows};
-use row_reader::{RowFault, next_word};
+use cases_reader::{RowFault, next_word};
 use std::alloc::Global;
 
 /// The answer of a row, its words each behind a space.

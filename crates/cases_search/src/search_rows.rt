@@ -3,9 +3,9 @@
 
 use crate::formulas::{are_below, formula};
 use crate::words::push_clause;
+use cases_reader::{RowFault, end_row, next_index, next_part, push_word};
 use cpa_cnf::{Clause, Cnf, Line, Marks, check_line};
 use cpa_sat::{Found, search};
-use row_reader::{RowFault, end_row, next_index, next_part, push_word};
 use std::alloc::Global;
 use std::str::{Split, SplitWhitespace};
 

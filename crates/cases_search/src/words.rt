@@ -1,8 +1,8 @@
 //! The words of a row: literals and clauses, as in DIMACS: the literals of variable v are v + 1 and
 //! -(v + 1), and a clause ends with 0.
 
+use cases_reader::RowFault;
 use cpa_cnf::{Clause, Lit};
-use row_reader::RowFault;
 use std::alloc::Global;
 use std::str::SplitWhitespace;
 

@@ -2,7 +2,7 @@
 //! Proved safe by the checker alone.
 
 use c_lexer::{MAX_TEXT, TextError, Token, TokenKind};
-use row_texts::{bytes_of, fault_line};
+use cases_reader::{bytes_of, fault_line};
 use std::alloc::{AllocError, Global};
 use std::fmt;
 

@@ -2,7 +2,7 @@
 //! Proved safe by the checker alone.
 
 use c_lexer::{MAX_TEXT, TextError};
-use row_texts::{bytes_of, fault_line};
+use cases_reader::{bytes_of, fault_line};
 use std::alloc::{AllocError, Global};
 
 /// The word "tree" for a written text that has one, or the rule that it breaks and the place.

@@ -5,9 +5,9 @@ ghost use Rattle.c_lexer.specs.declared.lexer.TheConstants.{MAX_TEXT};
 
 use crate::spelling::kind_of;
 use c_lexer::{MAX_TEXT, TextError};
-use c_rules::{Cell, Kind, TypedExpression, TypedItem, TypedStatement, TypedUnit};
+use c_types_rules::{Cell, Kind, TypedExpression, TypedItem, TypedStatement, TypedUnit};
+use cases_reader::{bytes_of, fault_line};
 use cpa_expr::type_word;
-use row_texts::{bytes_of, fault_line};
 use std::alloc::{AllocError, Global};
 
 /// Objects of each type, arrays and functions, which stand in front of an expression that is asked

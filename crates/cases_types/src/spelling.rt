@@ -1,7 +1,7 @@
 //! The types of a typed tree as rows spell them.
 //! Proved safe by the checker alone.
 
-use c_rules::{Kind, Meaning, TypedExpression, TypedSuffix, named_kind};
+use c_types_rules::{Kind, Meaning, TypedExpression, TypedSuffix, named_kind};
 use cpa_ints::IntType;
 
 /// The type that an expression has, if it has one.

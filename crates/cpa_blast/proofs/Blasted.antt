@@ -1,12 +1,12 @@
 -- The steps of `blast` put together.
 use Rattle.std.proofs.Common.{◌≡◌, ℕ, Bool, true, false, List, [], ◌++◌, map, ap, ◌∙◌}
 use Rattle.cpa_cnf.specs.declared.formula.Cnf.{Cnf}
-use Rattle.cpa_gates.specs.declared.gate.Gate.{Gate}
-use Rattle.cpa_gates.specs.Nets.{vars, Built, built}
-use Rattle.cpa_gates.specs.Clauses.{clauses_of}
+use Rattle.cpa_blast_gates.specs.declared.gate.Gate.{Gate}
+use Rattle.cpa_blast_gates.specs.Nets.{vars, Built, built}
+use Rattle.cpa_blast_gates.specs.Clauses.{clauses_of}
 use Rattle.cpa_query.specs.declared.query.Query.{Query}
 use Rattle.cpa_query.specs.Queries.{reads}
-use Rattle.cpa_circuits.specs.declared.answer.Word.{Word}
+use Rattle.cpa_blast_circuits.specs.declared.answer.Word.{Word}
 use Rattle.cpa_blast.specs.declared.places.Place.{Place}
 use Rattle.cpa_blast.specs.Formulas.{places_of, with_bits, words_of, asserted, units, read_places}
 use Rattle.cpa_blast.specs.Formulas.{circuits_of, all_places, formula, first_bits}

@@ -4,10 +4,10 @@ use Rattle.std.proofs.Common.{length, drop, get_or, refl, sym, ap, ◌∙◌, ar
 use Rattle.std.proofs.Common.{drop-cons, add-one}
 use Rattle.std.proofs.lemmas.List.{drop_all, append-nil}
 use Rattle.cpa_ints.specs.declared.integers.IntType.{IntType}
-use Rattle.cpa_gates.specs.declared.gate.Gate.{Gate}
-use Rattle.cpa_gates.specs.Nets.{Built, built, with_input}
+use Rattle.cpa_blast_gates.specs.declared.gate.Gate.{Gate}
+use Rattle.cpa_blast_gates.specs.Nets.{Built, built, with_input}
 use Rattle.cpa_expr.specs.declared.tree.Expr.{Expr}
-use Rattle.cpa_circuits.specs.declared.answer.Word.{Word}
+use Rattle.cpa_blast_circuits.specs.declared.answer.Word.{Word}
 use Rattle.cpa_blast.specs.declared.places.Place.{Place}
 use Rattle.cpa_blast.specs.declared.formulas.Required.{Required}
 use Rattle.cpa_blast.specs.Formulas.{with_inputs, variables_from, place_of, places_of, next_place}

@@ -9,17 +9,17 @@ use Rattle.cpa_ints.specs.Integers.{width}
 use Rattle.cpa_ints.specs.Wrapping.{wrapped}
 use Rattle.cpa_cnf.specs.declared.formula.Cnf.{Cnf}
 use Rattle.cpa_cnf.specs.Literals.{opposite}
-use Rattle.cpa_gates.specs.declared.gate.Gate.{Gate}
-use Rattle.cpa_gates.specs.declared.gate.Gate.TheVariants.{Input}
-use Rattle.cpa_gates.specs.Nets.{vars, Built, built}
-use Rattle.cpa_gates.specs.Clauses.{clauses_of, assigned}
-use Rattle.cpa_words.specs.Truths.{values, number}
-use Rattle.cpa_words.specs.Words.{some_bit}
+use Rattle.cpa_blast_gates.specs.declared.gate.Gate.{Gate}
+use Rattle.cpa_blast_gates.specs.declared.gate.Gate.TheVariants.{Input}
+use Rattle.cpa_blast_gates.specs.Nets.{vars, Built, built}
+use Rattle.cpa_blast_gates.specs.Clauses.{clauses_of, assigned}
+use Rattle.cpa_blast_words.specs.Truths.{values, number}
+use Rattle.cpa_blast_words.specs.Words.{some_bit}
 use Rattle.cpa_expr.specs.declared.tree.Expr.{Expr}
 use Rattle.cpa_query.specs.declared.query.Query.{Query}
 use Rattle.cpa_query.specs.Queries.{reads}
-use Rattle.cpa_circuits.specs.declared.answer.Word.{Word}
-use Rattle.cpa_circuits.specs.Circuits.{circuit}
+use Rattle.cpa_blast_circuits.specs.declared.answer.Word.{Word}
+use Rattle.cpa_blast_circuits.specs.Circuits.{circuit}
 use Rattle.cpa_blast.specs.declared.places.Place.{Place}
 use Rattle.cpa_blast.specs.declared.formulas.Required.{Required}
 

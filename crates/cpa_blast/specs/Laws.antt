@@ -5,10 +5,10 @@ use Rattle.std.specs.Prelude.{Some}
 use Rattle.cpa_ints.specs.declared.integers.IntType.{IntType}
 use Rattle.cpa_ints.specs.Integers.{width}
 use Rattle.cpa_cnf.specs.Models.{IsModel as IsTruth}
-use Rattle.cpa_words.specs.Types.{BitFacts}
+use Rattle.cpa_blast_words.specs.Types.{BitFacts}
 use Rattle.cpa_query.specs.declared.query.Query.{Query}
 use Rattle.cpa_query.specs.Queries.{IsQuery, IsModel, wanted_reads}
-use Rattle.cpa_circuits.specs.Laws.{CircuitsHaveValues}
+use Rattle.cpa_blast_circuits.specs.Laws.{CircuitsHaveValues}
 use Rattle.cpa_blast.specs.Formulas.{formula, first_bits, store_at}
 use Rattle.cpa_blast.specs.lemmas.Models.{names, sound, complete, unread, formula_below}
 use Rattle.cpa_blast.specs.lemmas.Models.{cells_below}

@@ -4,24 +4,24 @@
 ghost use Rattle.std.specs.Prelude.{◌≡◌, ◌<◌, ◌≤◌, ◌+◌, ◌++◌, ◌∷◌, [], ◌^◌, length, IfOk, OnOk};
 ghost use Rattle.std.specs.List.{AllByRecursion, AllZip};
 ghost use Rattle.cpa_cnf.specs.Lines.{AreBelow};
-ghost use Rattle.cpa_gates.specs.Nets.{built};
-ghost use Rattle.cpa_gates.specs.Clauses.{clauses_of};
+ghost use Rattle.cpa_blast_gates.specs.Nets.{built};
+ghost use Rattle.cpa_blast_gates.specs.Clauses.{clauses_of};
 ghost use Rattle.cpa_ints.specs.Integers.{width};
 ghost use Rattle.cpa_query.specs.Queries.{IsQuery};
 ghost use Rattle.cpa_expr.specs.Shape.{IsTyped};
-ghost use Rattle.cpa_circuits.specs.Meanings.{types_of, AreLong};
+ghost use Rattle.cpa_blast_circuits.specs.Meanings.{types_of, AreLong};
 ghost use Rattle.cpa_blast.specs.Formulas.{told, told_in, asserted, units, formula};
 ghost use Rattle.cpa_blast.specs.Formulas.{first_bits, circuits_of, all_places};
 
 use crate::laws::formulas_are_below;
 use crate::places::{Place, firsts_of, places_of, with_bits, words_of};
-use cpa_circuits::{Word, circuit};
+use cpa_blast_circuits::{Word, circuit};
+use cpa_blast_gates::Net;
+use cpa_blast_words::some_bit;
 use cpa_cnf::{Clause, Cnf, Lit, a_clause_is_its_literals};
 use cpa_expr::Expr;
-use cpa_gates::Net;
 use cpa_ints::Seq;
 use cpa_query::{Query, read_cells};
-use cpa_words::some_bit;
 use std::alloc::{AllocError, Global};
 
 /// Where the bits of a query's cells stand among the variables of its formula.

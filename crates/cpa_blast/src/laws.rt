@@ -3,7 +3,7 @@
 
 ghost use Rattle.cpa_blast.specs.Laws.{FormulasAreBelow, FormulasAreQueries};
 
-use cpa_circuits::circuits_have_values;
+use cpa_blast_circuits::circuits_have_values;
 use cpa_ints::{bits_are_the_congruent_number, bits_keep_the_number};
 
 /// Each model of a query's formula gives a model of the query on the bits of its cells, and each

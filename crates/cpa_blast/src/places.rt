@@ -2,16 +2,16 @@
 //! Proved with `proofs/Turns.antt`.
 
 ghost use Rattle.std.specs.Prelude.{◌≡◌, ◌+◌, ◌*◌, ◌++◌, length, map, replicate, IfOk, OnOk};
-ghost use Rattle.cpa_gates.specs.Nets.{vars, built};
+ghost use Rattle.cpa_blast_gates.specs.Nets.{vars, built};
 ghost use Rattle.cpa_ints.specs.Integers.{width};
 ghost use Rattle.cpa_blast.specs.Formulas.{with_inputs, variables_from, places_of, is_due};
 ghost use Rattle.cpa_blast.specs.Formulas.{next_place, with_bits, word_of, words_of, place_of};
 
-use cpa_circuits::Word;
+use cpa_blast_circuits::Word;
+use cpa_blast_gates::{Net, never};
+use cpa_blast_words::push_repeated;
 use cpa_cnf::Lit;
-use cpa_gates::{Net, never};
 use cpa_ints::{IntType, Seq};
-use cpa_words::push_repeated;
 use std::alloc::{AllocError, Global};
 
 /// A cell, whether it is read, and the variable of its low bit, 0 where it has none yet.

@@ -1,20 +1,20 @@
-//! Forms: queries on runs of stores along edges. Contracts see the `Form` of `cpa_edge_rules`,
+//! Forms: queries on runs of stores along edges. Contracts see the `Form` of `cpa_edgeform_rules`,
 //! whose laws say what the models of its query are.
 
 ghost use Rattle.std.specs.Prelude.{◌≡◌, ◌<◌, length, slice_get, Some, IfOk, OnOk, OnErr};
 ghost use Rattle.cpa_model.specs.declared.automaton.Edge.{Edge as AnEdge};
-ghost use Rattle.cpa_edge_rules.specs.Runs.{taken, holding, failing};
-ghost use Rattle.cpa_edge_rules.specs.Forms.{begun, with_added, first_store, last_store};
-ghost use Rattle.cpa_edge_rules.specs.Forms.{inputs_at, place_now};
+ghost use Rattle.cpa_edgeform_rules.specs.Runs.{taken, holding, failing};
+ghost use Rattle.cpa_edgeform_rules.specs.Forms.{begun, with_added, first_store, last_store};
+ghost use Rattle.cpa_edgeform_rules.specs.Forms.{inputs_at, place_now};
 
 use crate::parts::Parts;
 use crate::settling::push_copies;
 use crate::{adding, beginning, reading};
+use cpa_edgeform_renaming::number_at;
 use cpa_expr::Store;
 use cpa_ints::Seq;
 use cpa_model::{Cfa, Elem};
 use cpa_query::Query;
-use cpa_renaming::number_at;
 use std::alloc::{AllocError, Global};
 use std::marker::Model;
 
@@ -33,7 +33,7 @@ pub struct EdgeForm {
 impl Model for EdgeForm {
     ghost use Rattle.std.specs.Coded.{codes};
     ghost use Rattle.cpa_expr.specs.contracts.tree.Expr as e;
-    ghost use Rattle.cpa_edge_rules.specs.Forms.{Form};
+    ghost use Rattle.cpa_edgeform_rules.specs.Forms.{Form};
     ghost use Rattle.cpa_edgeform.specs.Parts.{form_in};
 
     ghost Value = { Form };

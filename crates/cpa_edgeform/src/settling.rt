@@ -1,20 +1,20 @@
-//! Places at which expressions can be read, `settled` of specs/Drafts of `cpa_edge_rules`.
+//! Places at which expressions can be read, `settled` of specs/Drafts of `cpa_edgeform_rules`.
 //! Proved with `proofs/settling/`.
 
 ghost use Rattle.std.specs.Prelude.{◌≡◌, ◌++◌, map, length, IfOk, OnOk};
 ghost use Rattle.std.specs.List.{list_all};
-ghost use Rattle.cpa_renaming.specs.Renaming.{is_whole};
+ghost use Rattle.cpa_edgeform_renaming.specs.Renaming.{is_whole};
 ghost use Rattle.cpa_query.specs.Queries.{reads};
-ghost use Rattle.cpa_edge_rules.specs.Drafts.{placed, copied, asked_of, settled};
+ghost use Rattle.cpa_edgeform_rules.specs.Drafts.{placed, copied, asked_of, settled};
 ghost use Rattle.cpa_edgeform.specs.Parts.{places_or, stood, own_place};
 
 use crate::drafting::named;
 use crate::nodes::scalar;
-use cpa_edge_rules::Draft;
+use cpa_edgeform_renaming::{Place, is_whole};
+use cpa_edgeform_rules::Draft;
 use cpa_expr::{Expr, copy};
 use cpa_ints::{IntType, Seq};
 use cpa_query::{Query, read_cells};
-use cpa_renaming::{Place, is_whole};
 use std::alloc::{AllocError, Global};
 
 /// Whether each array that the expressions read stands in one piece.

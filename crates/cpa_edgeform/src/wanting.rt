@@ -1,20 +1,20 @@
 //! Expressions over the program's cells that are wanted at places, by specs/Drafts and specs/Tests
-//! of `cpa_edge_rules`.
+//! of `cpa_edgeform_rules`.
 
 ghost use Rattle.std.specs.Prelude.{◌≡◌, true, IfOk, OnOk};
 ghost use Rattle.cpa_ints.specs.declared.integers.IntType.TheVariants as ty;
 ghost use Rattle.cpa_expr.specs.Cells.{scalar_read};
 ghost use Rattle.cpa_expr.specs.declared.tree.Expr.TheVariants.{Or, Not};
-ghost use Rattle.cpa_renaming.specs.Renaming.{renamed};
-ghost use Rattle.cpa_edge_rules.specs.Drafts.{next, fresh, want, want_all};
-ghost use Rattle.cpa_edge_rules.specs.Tests.{want_some, want_each};
+ghost use Rattle.cpa_edgeform_renaming.specs.Renaming.{renamed};
+ghost use Rattle.cpa_edgeform_rules.specs.Drafts.{next, fresh, want, want_all};
+ghost use Rattle.cpa_edgeform_rules.specs.Tests.{want_some, want_each};
 
 use crate::drafting::{fresh, want};
 use crate::nodes::{renamed, scalar};
-use cpa_edge_rules::Draft;
+use cpa_edgeform_renaming::{Place, either, negation};
+use cpa_edgeform_rules::Draft;
 use cpa_expr::Expr;
 use cpa_ints::{Boxed, IntType, Seq};
-use cpa_renaming::{Place, either, negation};
 use std::alloc::{AllocError, Global};
 
 /// The expression is wanted at the places.

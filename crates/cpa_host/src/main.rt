@@ -1,8 +1,8 @@
-//! The program: `start` of `cpa_entry`, handed what the machine has.
+//! The program: `start` of `cpa_host_start`, handed what the machine has.
 //! It owes safety alone; what a run answers is proved of `run` of `cpa_top`.
 #![tactic(auto)]
 
-use cpa_entry::start;
+use cpa_host_start::start;
 use std::process::ExitCode;
 
 /// What the program may reach of the machine, it reaches by `rt`.

@@ -9,13 +9,13 @@ use Rattle.cpa_cnf.specs.Clauses.{has}
 use Rattle.cpa_cnf.specs.Marking.{marked}
 use Rattle.cpa_cnf.specs.lemmas.Chains.{union_keeps_first}
 use Rattle.cpa_sat.specs.declared.analysis.Analysis.{Analysis}
-use Rattle.cpa_trail.specs.declared.assertion.Jump.{Jump}
-use Rattle.cpa_trail.specs.declared.trail.Trail.{Trail}
-use Rattle.cpa_trail.specs.declared.trail.TheConstants.{NONE}
-use Rattle.cpa_trail.specs.Trails.{IsTrail, IsReasonFor, height, lit_at, reason_at, place_of}
+use Rattle.cpa_sat_trail.specs.declared.assertion.Jump.{Jump}
+use Rattle.cpa_sat_trail.specs.declared.trail.Trail.{Trail}
+use Rattle.cpa_sat_trail.specs.declared.trail.TheConstants.{NONE}
+use Rattle.cpa_sat_trail.specs.Trails.{IsTrail, IsReasonFor, height, lit_at, reason_at, place_of}
 use Rattle.cpa_sat.specs.Analyses.{AreFalseBefore, AreOthersBefore, GivesWay, HasUnion, IsAsserting}
 use Rattle.cpa_sat.specs.Analyses.{IsReducible}
-use Rattle.cpa_trail.specs.lemmas.TrailSteps.{opposite_twice, opposite_below}
+use Rattle.cpa_sat_trail.specs.lemmas.TrailSteps.{opposite_twice, opposite_below}
 use Rattle.cpa_sat.proofs.Marks.{marked_inside}
 
 pub gives_way : (a b : Analysis) (t : Trail) (place : ℕ) (clause : List ℕ) (x : ℕ)

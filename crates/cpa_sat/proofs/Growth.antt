@@ -16,18 +16,18 @@ use Rattle.cpa_cnf.specs.Literals.{opposite}
 use Rattle.cpa_cnf.specs.Clauses.{has, IsClause}
 use Rattle.cpa_cnf.specs.Marking.{marked}
 use Rattle.cpa_cnf.specs.Lines.{AreBelow, AreGood, IsGoodLine, known}
-use Rattle.cpa_trail.specs.declared.trail.Trail.{Trail}
-use Rattle.cpa_trail.specs.Trails.{IsReasonFor, lit_at, reason_at}
+use Rattle.cpa_sat_trail.specs.declared.trail.Trail.{Trail}
+use Rattle.cpa_sat_trail.specs.Trails.{IsReasonFor, lit_at, reason_at}
 use Rattle.cpa_sat.specs.Analyses.{IsConcluded, IsIdle}
-use Rattle.cpa_trail.specs.Progress.{Asserts, IsRisen, IsSound, progress}
+use Rattle.cpa_sat_trail.specs.Progress.{Asserts, IsRisen, IsSound, progress}
 use Rattle.cpa_sat.specs.Fresh.{AreNew}
 use Rattle.cpa_sat.specs.States.{IsAsBut, IsState, IsTurned, rank}
 use Rattle.cpa_sat.specs.declared.engine.Turn.{Turn}
 use Rattle.cpa_sat.specs.declared.engine.Turn.TheVariants.{Again, Satisfied, Refuted, Spent}
-use Rattle.cpa_trail.specs.lemmas.Measure.{weight_below}
+use Rattle.cpa_sat_trail.specs.lemmas.Measure.{weight_below}
 use Rattle.cpa_sat.specs.declared.analysis.Analysis.{Analysis}
-use Rattle.cpa_trail.specs.declared.assertion.Jump.{Jump}
-use Rattle.cpa_trail.specs.declared.trail.TheConstants.{NONE}
+use Rattle.cpa_sat_trail.specs.declared.assertion.Jump.{Jump}
+use Rattle.cpa_sat_trail.specs.declared.trail.TheConstants.{NONE}
 use Rattle.cpa_sat.specs.declared.engine.Search.{Search}
 
 -- the clauses of the numbers, once one more stands

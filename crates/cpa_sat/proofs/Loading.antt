@@ -15,14 +15,14 @@ use Rattle.cpa_cnf.specs.Lines.{AreBelow, IsRefutation, known}
 use Rattle.cpa_cnf.specs.Models.{Satisfies, IsModel}
 use Rattle.cpa_cnf.specs.lemmas.Chains.{member_below}
 use Rattle.cpa_sat.specs.declared.engine.Search.{Search}
-use Rattle.cpa_trail.specs.declared.trail.TheConstants.{NONE}
-use Rattle.cpa_trail.specs.Trails.{IsTrail, height}
+use Rattle.cpa_sat_trail.specs.declared.trail.TheConstants.{NONE}
+use Rattle.cpa_sat_trail.specs.Trails.{IsTrail, height}
 use Rattle.cpa_sat.specs.Analyses.{IsIdle}
-use Rattle.cpa_trail.specs.Findings.{AreSatisfied, AreValues}
+use Rattle.cpa_sat_trail.specs.Findings.{AreSatisfied, AreValues}
 use Rattle.cpa_sat.specs.Outcomes.{IsRefutedWithin, IsSpent}
 use Rattle.cpa_sat.specs.States.{AreLoaded, IsState}
 use Rattle.cpa_sat.proofs.Growth.{at_number}
-use Rattle.cpa_trail.specs.lemmas.Values.{satisfied}
+use Rattle.cpa_sat_trail.specs.lemmas.Values.{satisfied}
 use Rattle.cpa_sat.proofs.Counting.{few_lines}
 
 weaker : (n m : ℕ) (xs : List ℕ) → n ≤ m → AllByRecursion (λ l. l < n) xs

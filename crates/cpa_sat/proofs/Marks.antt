@@ -15,7 +15,7 @@ use Rattle.cpa_cnf.specs.Literals.{opposite, literal_number}
 use Rattle.cpa_cnf.specs.Resolution.{clash_on, in_union_without, IsResolvent}
 use Rattle.cpa_cnf.specs.Lines.{AreBelow, Gives, IsGoodLine}
 use Rattle.cpa_cnf.specs.lemmas.Chains.{member_below}
-use Rattle.cpa_trail.specs.declared.trail.TheConstants.{NONE}
+use Rattle.cpa_sat_trail.specs.declared.trail.TheConstants.{NONE}
 use Rattle.cpa_sat.specs.declared.analysis.Analysis.{Analysis}
 use Rattle.cpa_sat.specs.Analyses.{AreNoted, HasMarksOf, HasUnion, IsDerived}
 use Rattle.cpa_cnf.specs.Marking.{marked, IsMarkedAs}

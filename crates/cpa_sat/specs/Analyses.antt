@@ -10,11 +10,11 @@ use Rattle.cpa_cnf.specs.Resolution.{in_union_without}
 use Rattle.cpa_cnf.specs.Lines.{Gives}
 use Rattle.cpa_cnf.specs.Marking.{marked, IsBlank, IsMarkedAs}
 use Rattle.cpa_sat.specs.declared.analysis.Analysis.{Analysis}
-use Rattle.cpa_trail.specs.declared.assertion.Jump.{Jump}
-use Rattle.cpa_trail.specs.declared.trail.Trail.{Trail}
-use Rattle.cpa_trail.specs.declared.trail.TheConstants.{NONE}
-use Rattle.cpa_trail.specs.Trails.{IsTrail, IsJustified, height, lit_at, reason_at, place_of}
-use Rattle.cpa_trail.specs.Trails.{AreClauses}
+use Rattle.cpa_sat_trail.specs.declared.assertion.Jump.{Jump}
+use Rattle.cpa_sat_trail.specs.declared.trail.Trail.{Trail}
+use Rattle.cpa_sat_trail.specs.declared.trail.TheConstants.{NONE}
+use Rattle.cpa_sat_trail.specs.Trails.{IsTrail, IsJustified, height, lit_at, reason_at, place_of}
+use Rattle.cpa_sat_trail.specs.Trails.{AreClauses}
 
 -- no chain is under way
 pub record IsIdle (a : Analysis) : Type 0 where

@@ -12,11 +12,11 @@ use Rattle.cpa_sat.specs.declared.engine.End.{End}
 use Rattle.cpa_sat.specs.declared.engine.End.TheVariants.{Model, Refutation, Lines}
 use Rattle.cpa_sat.specs.declared.engine.Turn.{Turn}
 use Rattle.cpa_sat.specs.declared.engine.Turn.TheVariants.{Again, Satisfied, Refuted, Spent}
-use Rattle.cpa_trail.specs.declared.trail.TheConstants.{NONE}
+use Rattle.cpa_sat_trail.specs.declared.trail.TheConstants.{NONE}
 use Rattle.cpa_sat.specs.Analyses.{IsIdle}
-use Rattle.cpa_trail.specs.Findings.{AreSatisfied}
+use Rattle.cpa_sat_trail.specs.Findings.{AreSatisfied}
 use Rattle.cpa_sat.specs.Fresh.{AreNew}
-use Rattle.cpa_trail.specs.Progress.{Asserts, IsSound, progress}
+use Rattle.cpa_sat_trail.specs.Progress.{Asserts, IsSound, progress}
 
 -- clauses, lines and analysis are as before
 pub record IsAsBut (s t : Search) : Type 0 where

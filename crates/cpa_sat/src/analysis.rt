@@ -7,14 +7,14 @@ ghost use Rattle.cpa_cnf.specs.Literals.{opposite};
 ghost use Rattle.cpa_cnf.specs.Clauses.{has, IsClause};
 ghost use Rattle.cpa_cnf.specs.Lines.{AreBelow, IsGoodLine};
 ghost use Rattle.cpa_cnf.specs.Marking.{marked, IsBlank};
-ghost use Rattle.cpa_trail.specs.Trails.{IsTrail, AreClauses};
+ghost use Rattle.cpa_sat_trail.specs.Trails.{IsTrail, AreClauses};
 ghost use Rattle.cpa_sat.specs.Analyses.{AreNoted, HasMarksOf, HasUnion, IsAsBefore, IsIdle};
 ghost use Rattle.cpa_sat.specs.Analyses.{IsDerived};
 
-use cpa_arena::Arena;
 use cpa_cnf::{Clause, Line, Lit, Step};
 use cpa_ints::Seq;
-use cpa_trail::{NONE, Trail, flip};
+use cpa_sat_arena::Arena;
+use cpa_sat_trail::{NONE, Trail, flip};
 use std::alloc::{AllocError, Global};
 use std::mem;
 

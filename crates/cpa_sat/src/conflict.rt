@@ -5,16 +5,17 @@ ghost use Rattle.std.specs.Prelude.{◌≡◌, ◌≢◌, ◌<◌, ◌≤◌, �
 ghost use Rattle.std.specs.Prelude.{slice_index_or, OnOk, IfOk, IfSome, IfNone, IsTrue};
 ghost use Rattle.cpa_cnf.specs.Literals.{opposite};
 ghost use Rattle.cpa_cnf.specs.Marking.{marked};
-ghost use Rattle.cpa_trail.specs.Trails.{IsFalse, IsTrail, IsJustified, height, lit_at, reason_at};
-ghost use Rattle.cpa_trail.specs.Trails.{place_of, AreClauses};
+ghost use Rattle.cpa_sat_trail.specs.Trails.{IsFalse, IsTrail, IsJustified, height, lit_at};
+ghost use Rattle.cpa_sat_trail.specs.Trails.{reason_at};
+ghost use Rattle.cpa_sat_trail.specs.Trails.{place_of, AreClauses};
 ghost use Rattle.cpa_sat.specs.Analyses.{AreFalseBefore, AreNoted, AreOthersBefore, GivesWay};
 ghost use Rattle.cpa_sat.specs.Analyses.{IsAnalysing, IsAsserting, IsConcluded, IsCut, IsReducible};
 ghost use Rattle.cpa_sat.specs.Analyses.{IsStepped, IsDerived, IsIdle};
 
 use crate::analysis::Analysis;
 use crate::redundancy::Redundancy;
-use cpa_arena::Arena;
-use cpa_trail::{Jump, NONE, Trail, flip};
+use cpa_sat_arena::Arena;
+use cpa_sat_trail::{Jump, NONE, Trail, flip};
 use std::alloc::AllocError;
 
 /// Resolves the marked literal that became false at the place with the clause that forced it.

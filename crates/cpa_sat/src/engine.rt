@@ -5,11 +5,11 @@ ghost use Rattle.std.specs.Prelude.{◌≡◌, ◌≢◌, ◌<◌, ◌≤◌, �
 ghost use Rattle.std.specs.Prelude.{length, slice_index_or, OnOk, IfOk, IfSome, IfNone};
 ghost use Rattle.cpa_cnf.specs.Clauses.{IsClause};
 ghost use Rattle.cpa_cnf.specs.Lines.{IsGoodLine};
-ghost use Rattle.cpa_trail.specs.declared.trail.TheConstants.{NONE};
-ghost use Rattle.cpa_trail.specs.Trails.{IsFalse, IsTrail, height};
-ghost use Rattle.cpa_trail.specs.Findings.{IsOpen};
-ghost use Rattle.cpa_trail.specs.Progress.{Asserts, IsRisen, IsSound, progress};
-ghost use Rattle.cpa_trail.specs.Propagations.{IsPropagated};
+ghost use Rattle.cpa_sat_trail.specs.declared.trail.TheConstants.{NONE};
+ghost use Rattle.cpa_sat_trail.specs.Trails.{IsFalse, IsTrail, height};
+ghost use Rattle.cpa_sat_trail.specs.Findings.{IsOpen};
+ghost use Rattle.cpa_sat_trail.specs.Progress.{Asserts, IsRisen, IsSound, progress};
+ghost use Rattle.cpa_sat_trail.specs.Propagations.{IsPropagated};
 ghost use Rattle.cpa_sat.specs.States.{IsAsBut, IsAsButAnalysis, IsBegun, IsEnded, IsLearned};
 ghost use Rattle.cpa_sat.specs.States.{IsNumberOf, IsState, IsTurned, rank};
 
@@ -17,9 +17,9 @@ use crate::analysis::Analysis;
 use crate::conflict::analyse;
 use crate::quality::Quality;
 use crate::redundancy::Redundancy;
-use cpa_arena::Arena;
 use cpa_cnf::{Cnf, Line};
-use cpa_trail::{
+use cpa_sat_arena::Arena;
+use cpa_sat_trail::{
     Jump, NONE, Order, Restarts, Trail, Watches, decide, force_units, is_open, jump_back,
     open_literal, propagate, unsatisfied, watch_clause,
 };

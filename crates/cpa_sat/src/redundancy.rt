@@ -2,8 +2,8 @@
 //! levels it has (Audemard and Simon 2009). Nothing rests on either but speed.
 
 use crate::analysis::Analysis;
-use cpa_arena::Arena;
-use cpa_trail::{NONE, Trail};
+use cpa_sat_arena::Arena;
+use cpa_sat_trail::{NONE, Trail};
 use std::alloc::{AllocError, Global};
 
 /// The most places that are looked at for one literal.

@@ -6,8 +6,8 @@ ghost use Rattle.std.specs.List.{AllByRecursion};
 ghost use Rattle.cpa_cnf.specs.Clauses.{IsClause};
 ghost use Rattle.cpa_cnf.specs.Lines.{AreBelow, IsRefutation};
 ghost use Rattle.cpa_cnf.specs.Models.{IsModel};
-ghost use Rattle.cpa_trail.specs.declared.trail.TheConstants.{NONE};
-ghost use Rattle.cpa_trail.specs.Findings.{AreSatisfied};
+ghost use Rattle.cpa_sat_trail.specs.declared.trail.TheConstants.{NONE};
+ghost use Rattle.cpa_sat_trail.specs.Findings.{AreSatisfied};
 ghost use Rattle.cpa_sat.specs.Outcomes.{IsFound, IsRefutedWithin, IsSpent};
 ghost use Rattle.cpa_sat.specs.States.{AreLoaded, IsEnded, IsState};
 
@@ -16,9 +16,9 @@ use crate::engine::{End, Search, Turn};
 use crate::outcome::Found;
 use crate::quality::Quality;
 use crate::redundancy::Redundancy;
-use cpa_arena::Arena;
 use cpa_cnf::{Clause, Cnf, Line};
-use cpa_trail::{NONE, Order, Restarts, Trail, VARS_LIMIT, values, watch_all};
+use cpa_sat_arena::Arena;
+use cpa_sat_trail::{NONE, Order, Restarts, Trail, VARS_LIMIT, values, watch_all};
 use std::alloc::{AllocError, Global};
 use std::mem;
 

@@ -6,9 +6,9 @@ use Rattle.std.proofs.Math.Nat.{pow-suc}
 use Rattle.std.proofs.Math.Pow.{pow_mono}
 use Rattle.std.proofs.lemmas.List.{drop_all, append-nil}
 use Rattle.cpa_ints.specs.declared.integers.IntType.{IntType}
-use Rattle.cpa_gates.specs.Gates.{lit_value}
-use Rattle.cpa_gates.specs.Laws.{literals_have_values}
-use Rattle.cpa_words.specs.Truths.{bit, values, number}
+use Rattle.cpa_blast_gates.specs.Gates.{lit_value}
+use Rattle.cpa_blast_gates.specs.Laws.{literals_have_values}
+use Rattle.cpa_blast_words.specs.Truths.{bit, values, number}
 use Rattle.cpa_blast.specs.Formulas.{variables_from, value_at, store_at}
 
 -- the number of the variables from a place on

@@ -3,8 +3,8 @@
 
 ghost use Rattle.std.specs.Prelude.{◌≡◌, ◌+◌, ◌*◌, ◌≤◌, ◌<◌, ◌^◌, ◌++◌, ◌∷◌, []};
 ghost use Rattle.std.specs.Prelude.{length, IfOk, OnOk};
-ghost use Rattle.cpa_gates.specs.Clauses.{assigned};
-ghost use Rattle.cpa_words.specs.Truths.{bit, values, number};
+ghost use Rattle.cpa_blast_gates.specs.Clauses.{assigned};
+ghost use Rattle.cpa_blast_words.specs.Truths.{bit, values, number};
 ghost use Rattle.cpa_blast.specs.Formulas.{variables_from, value_at, store_at};
 
 use cpa_expr::Store;

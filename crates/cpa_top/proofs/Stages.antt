@@ -5,7 +5,7 @@ use Rattle.std.specs.Prelude.{Option, Some, None, IfSome, Result, Ok, Err}
 use Rattle.std.specs.List.{AllByRecursion}
 use Rattle.std.specs.String.{string_bytes}
 use Rattle.c_program.specs.Programs.{IsTheProgram}
-use Rattle.cpa_inputs.specs.Inputs.{IsInputs}
+use Rattle.cpa_top_inputs.specs.Inputs.{IsInputs}
 use Rattle.cpa_model.specs.declared.program.Program.{Program}
 use Rattle.cpa_model.specs.Programs.{IsWellFormed}
 use Rattle.cpa_iface.specs.Meanings.{Meaning}

@@ -4,7 +4,7 @@ use Rattle.std.specs.Prelude.{Option, Some, None, IfSome}
 use Rattle.std.specs.String.{string_bytes}
 use Rattle.c_lexer.specs.declared.lexer.TheConstants.{MAX_TEXT}
 use Rattle.c_program.specs.Programs.{IsTheProgram}
-use Rattle.cpa_inputs.specs.Inputs.{IsInputs}
+use Rattle.cpa_top_inputs.specs.Inputs.{IsInputs}
 use Rattle.cpa_model.specs.declared.program.Program.{Program}
 use Rattle.cpa_top.specs.declared.refusal.Refusal.{Refusal}
 use Rattle.cpa_top.specs.declared.refusal.Refusal.TheVariants as refusal

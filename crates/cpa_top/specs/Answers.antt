@@ -15,7 +15,7 @@ use Rattle.cpa_outside.specs.Outside.{Rose}
 use Rattle.cpa_interp.specs.declared.outcome.Outcome.{Outcome}
 use Rattle.cpa_interp.specs.Replays.{Replay}
 use Rattle.c_program.specs.Programs.{IsProgram, IsTextFault, NoProgram}
-use Rattle.cpa_inputs.specs.Inputs.{IsInputs}
+use Rattle.cpa_top_inputs.specs.Inputs.{IsInputs}
 use Rattle.cpa_top.specs.declared.status.Status.{Status}
 use Rattle.cpa_top.specs.declared.status.Status.TheVariants as status
 use Rattle.cpa_top.specs.declared.role.Role.TheVariants as role

@@ -4,7 +4,7 @@ ghost use Rattle.std.specs.Prelude.{◌≡◌, ◌<◌, ◌≤◌, ◌^◌, leng
 ghost use Rattle.c_lexer.specs.declared.lexer.TheConstants.{MAX_TEXT};
 ghost use Rattle.cpa_model.specs.Programs.{IsWellFormed};
 ghost use Rattle.c_program.specs.Programs.{IsTheProgram};
-ghost use Rattle.cpa_inputs.specs.Inputs.{IsInputs};
+ghost use Rattle.cpa_top_inputs.specs.Inputs.{IsInputs};
 ghost use Rattle.cpa_top.specs.declared.refusal.Refusal.TheVariants.{OutOfMemory};
 ghost use Rattle.cpa_top.specs.Answers.{NoInputs};
 ghost use Rattle.cpa_top.specs.Calls.{files_of};
@@ -17,9 +17,9 @@ use crate::place::fault_line;
 use crate::refusal::Refusal;
 use c_lexer::{MAX_TEXT, TextError};
 use c_program::program;
-use cpa_inputs::{InputsError, read_inputs};
 use cpa_model::Program;
 use cpa_outside::{Inputs, ReadFault};
+use cpa_top_inputs::{InputsError, read_inputs};
 use std::alloc::Global;
 
 /// The bytes of a file, of which there may be as many as a program has.

@@ -12,7 +12,7 @@ use Rattle.cpa_model.specs.declared.automaton.Path.{Path}
 use Rattle.cpa_iface.specs.declared.precisions.Precision.{Precision}
 use Rattle.cpa_iface.specs.Meanings.{IsPrecision}
 use Rattle.cpa_iface.specs.Laws.{RefineLaws, AppendsMissing, AreDistinct}
-use Rattle.cpa_folds.specs.Needed.{is_needed, needed}
+use Rattle.cpa_path_folds.specs.Needed.{is_needed, needed}
 use Rattle.cpa_value.specs.Cells.{is_tracked}
 use Rattle.cpa_value.specs.Values.{values, refined}
 use Rattle.cpa_value.proofs.TransferLemmas.{tracks}

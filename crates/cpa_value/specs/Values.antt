@@ -13,7 +13,7 @@ use Rattle.cpa_iface.specs.declared.precisions.Precision.{Precision}
 use Rattle.cpa_iface.specs.Meanings.{Meaning}
 use Rattle.cpa_iface.specs.Common.{fact_count}
 use Rattle.cpa_iface.specs.Pins.{equals_from}
-use Rattle.cpa_folds.specs.Needed.{needed}
+use Rattle.cpa_path_folds.specs.Needed.{needed}
 use Rattle.cpa_value.specs.Cells.{is_tracked}
 
 -- each cell has its start

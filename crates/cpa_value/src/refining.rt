@@ -11,9 +11,9 @@ ghost use Rattle.cpa_value.specs.Values.{precision_of, refined};
 
 use crate::acts::is_marked;
 use crate::cells::tracked_marks;
-use cpa_folds::needed;
 use cpa_iface::{Precision, Settings, copy_precision};
 use cpa_model::{Cfa, Path, Seq};
+use cpa_path_folds::needed;
 use std::alloc::{AllocError, Global};
 
 /// All cells are tracked, or none, by the settings.

@@ -1,10 +1,10 @@
 -- The goals of the cycle of expressions: loops, and what stands behind an expression.
 use Rattle.std.proofs.Common.{◌≡◌, ◌-◌, length, take, OnOk, IfOk, ap, sym, subst, ◌∙◌, arith}
-use Rattle.c_rules.specs.declared.typed.TypedExpression.{out-TypedExpression}
+use Rattle.c_types_rules.specs.declared.typed.TypedExpression.{out-TypedExpression}
 use Rattle.c_core_rules.specs.Expressions.{Target, placed}
 use Rattle.c_core_values.specs.Found.{so_far}
 use Rattle.c_core_expressions.specs.Rows.{suffixed_by}
-use Rattle.c_rules.specs.Counts.{suffix_count}
+use Rattle.c_types_rules.specs.Counts.{suffix_count}
 use Rattle.c_core_expressions.proofs.Chains.{linked_kept, linked_done}
 use Rattle.c_core_expressions.proofs.Lists.{comma_kept, comma_done, comma_past_done}
 use Rattle.c_core_expressions.proofs.Suffixes.{rows_of_last, of_Index, of_Call, of_Skipped, of_Step}

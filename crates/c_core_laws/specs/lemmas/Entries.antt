@@ -2,11 +2,11 @@
 use Rattle.std.proofs.Common.{◌≡◌, ℕ, Bool, true, false, List, [], ◌∷◌, ◌++◌, Option, None, Some}
 use Rattle.std.proofs.Common.{ap}
 use Rattle.std.specs.Str.{bytes_eq}
-use Rattle.c_rules.specs.declared.meaning.Object.{Object}
-use Rattle.c_rules.specs.declared.meaning.Declared.{Declared}
-use Rattle.c_rules.specs.declared.meaning.Declared.TheVariants as declared
-use Rattle.c_rules.specs.declared.meaning.Entry.{Entry}
-use Rattle.c_rules.specs.Names.{declared_as, or_else}
+use Rattle.c_types_rules.specs.declared.meaning.Object.{Object}
+use Rattle.c_types_rules.specs.declared.meaning.Declared.{Declared}
+use Rattle.c_types_rules.specs.declared.meaning.Declared.TheVariants as declared
+use Rattle.c_types_rules.specs.declared.meaning.Entry.{Entry}
+use Rattle.c_types_rules.specs.Names.{declared_as, or_else}
 
 entry_as : Entry → List ℕ → Option Declared
 entry_as entry name = elim (bytes_eq entry.name name) [ true ↦ Some entry.declared | false ↦ None ]

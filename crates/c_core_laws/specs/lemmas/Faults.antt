@@ -2,11 +2,11 @@
 use Rattle.std.proofs.Common.{◌≡◌, ℕ, Bool, true, false, List, [], ◌∷◌, ◌++◌, refl, inl, inr}
 use Rattle.c_lexer.specs.declared.fault.Rule.{Rule}
 use Rattle.c_lexer.specs.declared.fault.TextFault.{TextFault}
-use Rattle.c_tree.specs.declared.item.Unit.{Unit as UnitTree}
-use Rattle.c_rules.specs.ExpressionRules.{broken, at_if}
-use Rattle.c_rules.specs.Items.{text_of, items_faults, nothing_before}
-use Rattle.c_rules.specs.Recursion.{Among}
-use Rattle.c_rules.specs.Sound.{Sound, unit_faults, without_main}
+use Rattle.c_grammar_tree.specs.declared.item.Unit.{Unit as UnitTree}
+use Rattle.c_types_rules.specs.ExpressionRules.{broken, at_if}
+use Rattle.c_types_rules.specs.Items.{text_of, items_faults, nothing_before}
+use Rattle.c_types_rules.specs.Recursion.{Among}
+use Rattle.c_types_rules.specs.Sound.{Sound, unit_faults, without_main}
 
 -- none of these faults
 abbrev pub NoFaults : List TextFault → Type 0

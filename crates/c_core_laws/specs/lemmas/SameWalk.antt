@@ -1,22 +1,24 @@
 -- An item of a block has one walk, by both of its definitions (`same_walk`).
 use Rattle.std.proofs.Common.{◌≡◌, List, [], ◌∷◌, map, Some, None, refl, sym, ap, ◌∙◌}
 use Rattle.std.proofs.Common.{subst}
-use Rattle.c_tree.specs.declared.statement.Statement.{Statement, roll-Statement}
-use Rattle.c_tree.specs.declared.statement.BlockItem.{BlockItem, roll-BlockItem}
-use Rattle.c_tree.specs.declared.statement.BlockItem.TheOpen.{BlockItem-F, Statement-F}
-use Rattle.c_tree.specs.declared.statement.BlockItem.TheFolds.{fold-Statement}
-use Rattle.c_tree.specs.declared.statement.BlockItem.TheFolds.{fold-roll-BlockItem}
-use Rattle.c_tree.specs.declared.statement.BlockItem.TheFolds.{fold-roll-Statement}
-use Rattle.c_tree.specs.declared.statement.BlockItem.TheFolds.{map-BlockItem, map-Statement}
-use Rattle.c_tree.specs.declared.statement.BlockItem.TheFolds.{ind-BlockItem}
-use Rattle.c_rules.specs.declared.meaning.Role.TheVariants.{Valued, Evaluated}
-use Rattle.c_rules.specs.declared.typed.TypedStatement.{TypedStatement}
-use Rattle.c_rules.specs.declared.typed.TypedItem.{TypedItem}
-use Rattle.c_rules.specs.Names.{Text}
-use Rattle.c_rules.specs.Statements.{Walk, walk_of, item_walk, statement_walk, evaluates, doing}
-use Rattle.c_rules.specs.Statements.{evaluating, followed, looped, scoped, in_order, start_walk}
-use Rattle.c_rules.specs.Statements.{marks, still}
-use Rattle.c_rules.specs.TypedStatements.{Grown, grown, grown_item, grown_statement}
+use Rattle.c_grammar_tree.specs.declared.statement.Statement.{Statement, roll-Statement}
+use Rattle.c_grammar_tree.specs.declared.statement.BlockItem.{BlockItem, roll-BlockItem}
+use Rattle.c_grammar_tree.specs.declared.statement.BlockItem.TheOpen.{BlockItem-F, Statement-F}
+use Rattle.c_grammar_tree.specs.declared.statement.BlockItem.TheFolds.{fold-Statement}
+use Rattle.c_grammar_tree.specs.declared.statement.BlockItem.TheFolds.{fold-roll-BlockItem}
+use Rattle.c_grammar_tree.specs.declared.statement.BlockItem.TheFolds.{fold-roll-Statement}
+use Rattle.c_grammar_tree.specs.declared.statement.BlockItem.TheFolds.{map-BlockItem, map-Statement}
+use Rattle.c_grammar_tree.specs.declared.statement.BlockItem.TheFolds.{ind-BlockItem}
+use Rattle.c_types_rules.specs.declared.meaning.Role.TheVariants.{Valued, Evaluated}
+use Rattle.c_types_rules.specs.declared.typed.TypedStatement.{TypedStatement}
+use Rattle.c_types_rules.specs.declared.typed.TypedItem.{TypedItem}
+use Rattle.c_types_rules.specs.Names.{Text}
+use Rattle.c_types_rules.specs.Statements.{Walk, walk_of, item_walk, statement_walk, evaluates}
+use Rattle.c_types_rules.specs.Statements.{doing}
+use Rattle.c_types_rules.specs.Statements.{evaluating, followed, looped, scoped, in_order}
+use Rattle.c_types_rules.specs.Statements.{start_walk}
+use Rattle.c_types_rules.specs.Statements.{marks, still}
+use Rattle.c_types_rules.specs.TypedStatements.{Grown, grown, grown_item, grown_statement}
 
 module _ (text : Text) where
   -- a statement, as `grown` of an item

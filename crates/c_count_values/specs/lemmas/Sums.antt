@@ -2,7 +2,7 @@
 use Rattle.std.proofs.Common.{◌≡◌, ℕ, ◌+◌, max, refl, ap, ◌∙◌, arith, add_assoc, zero-add}
 use Rattle.std.proofs.Common.{◌<◌, List, [], ◌∷◌, length, map}
 use Rattle.cpa_ints.specs.declared.integers.IntType.{IntType}
-use Rattle.c_rules.specs.Counts.{Size, empty, both, passed}
+use Rattle.c_types_rules.specs.Counts.{Size, empty, both, passed}
 use Rattle.c_count_values.specs.declared.size.Counted.{Counted as CodeCounted}
 use Rattle.c_count_values.specs.Exact.{exact}
 

@@ -1,12 +1,12 @@
 -- The goals of the cycle of expressions: loops, and what stands behind an expression.
 use Rattle.std.proofs.Common.{◌≡◌, ◌-◌, length, take, OnOk, IfOk, ap, subst, ◌∙◌, arith}
-use Rattle.c_rules.specs.declared.typed.TypedExpression.{out-TypedExpression}
-use Rattle.c_rules.specs.Counts.{Counted, Target}
+use Rattle.c_types_rules.specs.declared.typed.TypedExpression.{out-TypedExpression}
+use Rattle.c_types_rules.specs.Counts.{Counted, Target}
 use Rattle.c_count_values.specs.Exact.{exact, exact_size}
 use Rattle.c_count_values.specs.Places.{exact_place}
 use Rattle.c_counts.specs.Places.{placed, element_read}
 use Rattle.c_counts.specs.Rows.{suffixed_by}
-use Rattle.c_rules.specs.Counts.{suffix_count}
+use Rattle.c_types_rules.specs.Counts.{suffix_count}
 use Rattle.c_counts.proofs.Chains.{linked_kept, linked_done}
 use Rattle.c_counts.proofs.Lists.{unused_kept, unused_done, comma_kept, comma_done}
 use Rattle.c_counts.proofs.Lists.{comma_past_done, first_some}

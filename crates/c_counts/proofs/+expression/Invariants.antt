@@ -1,6 +1,6 @@
 -- What is left of a list makes what the whole makes.
 use Rattle.std.proofs.Common.{◌≡◌, ◌+◌, ◌++◌, drop, map, length}
-use Rattle.c_rules.specs.Counts.{rows, each, comma_used, comma_unused}
+use Rattle.c_types_rules.specs.Counts.{rows, each, comma_used, comma_unused}
 use Rattle.c_count_values.specs.Exact.{exact, exact_size}
 use Rattle.c_counts.specs.Rows.{linked_to, used_by, unused_behind, comma_behind}
 use Rattle.c_counts.proofs.+expression.Given as goal

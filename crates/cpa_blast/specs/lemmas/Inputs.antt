@@ -3,14 +3,14 @@ use Rattle.std.proofs.Common.{◌≡◌, ℕ, zero, suc, ◌+◌, ◌*◌, ◌�
 use Rattle.std.proofs.Common.{sym, ap, ◌∙◌, arith}
 use Rattle.std.proofs.lemmas.List.{append-nil}
 use Rattle.cpa_cnf.specs.Lines.{AreBelow}
-use Rattle.cpa_gates.specs.declared.gate.Gate.{Gate}
-use Rattle.cpa_gates.specs.declared.gate.Gate.TheVariants.{Input}
-use Rattle.cpa_gates.specs.Gates.{lit_value}
-use Rattle.cpa_gates.specs.Nets.{vars, IsScoped, Holds}
-use Rattle.cpa_gates.specs.Clauses.{clauses_of}
-use Rattle.cpa_gates.specs.Meanings.{Agrees, Extends, Grows}
-use Rattle.cpa_gates.specs.Laws.{literals_have_values, nets_grow, inputs_are_free}
-use Rattle.cpa_words.specs.Truths.{values}
+use Rattle.cpa_blast_gates.specs.declared.gate.Gate.{Gate}
+use Rattle.cpa_blast_gates.specs.declared.gate.Gate.TheVariants.{Input}
+use Rattle.cpa_blast_gates.specs.Gates.{lit_value}
+use Rattle.cpa_blast_gates.specs.Nets.{vars, IsScoped, Holds}
+use Rattle.cpa_blast_gates.specs.Clauses.{clauses_of}
+use Rattle.cpa_blast_gates.specs.Meanings.{Agrees, Extends, Grows}
+use Rattle.cpa_blast_gates.specs.Laws.{literals_have_values, nets_grow, inputs_are_free}
+use Rattle.cpa_blast_words.specs.Truths.{values}
 use Rattle.cpa_blast.specs.Formulas.{with_inputs, variables_from}
 
 -- values of literals of variables below n

@@ -6,7 +6,7 @@ use Rattle.std.specs.Prelude.{◌==◌, slice_get}
 use Rattle.std.specs.List.{AllByRecursion, AllZip, list_any, range_with_len}
 use Rattle.std.proofs.lemmas.Bool.{eqb-true, eq-eqb, ne_eqb}
 use Rattle.std.proofs.lemmas.Option.{slice_get_within}
-use Rattle.cpa_circuits.specs.lemmas.Facts.{same_some}
+use Rattle.cpa_blast_circuits.specs.lemmas.Facts.{same_some}
 use Rattle.std.proofs.lemmas.List.{length-map}
 use Rattle.std.proofs.lemmas.Slice.Zip.{AllZip-long}
 use Rattle.cpa_ints.specs.declared.integers.IntType.{IntType}
@@ -14,20 +14,21 @@ use Rattle.cpa_ints.specs.Integers.{width, IsInRange}
 use Rattle.cpa_cnf.specs.Clauses.{has}
 use Rattle.cpa_cnf.specs.Lines.{AreBelow}
 use Rattle.cpa_cnf.specs.Models.{Satisfies, IsModel as IsTruth}
-use Rattle.cpa_gates.specs.Gates.{lit_value}
-use Rattle.cpa_gates.specs.Nets.{vars, Holds}
-use Rattle.cpa_gates.specs.Clauses.{clauses_of, assigned}
-use Rattle.cpa_gates.specs.Meanings.{Agrees}
-use Rattle.cpa_gates.specs.Laws.{models_are_assignments, clauses_are_below, literals_have_values}
-use Rattle.cpa_gates.specs.lemmas.Growth.{holds_local}
-use Rattle.cpa_words.specs.Types.{StandsFor, BitFacts}
+use Rattle.cpa_blast_gates.specs.Gates.{lit_value}
+use Rattle.cpa_blast_gates.specs.Nets.{vars, Holds}
+use Rattle.cpa_blast_gates.specs.Clauses.{clauses_of, assigned}
+use Rattle.cpa_blast_gates.specs.Meanings.{Agrees}
+use Rattle.cpa_blast_gates.specs.Laws.{models_are_assignments, clauses_are_below}
+use Rattle.cpa_blast_gates.specs.Laws.{literals_have_values}
+use Rattle.cpa_blast_gates.specs.lemmas.Growth.{holds_local}
+use Rattle.cpa_blast_words.specs.Types.{StandsFor, BitFacts}
 use Rattle.cpa_expr.specs.declared.tree.Expr.{Expr}
 use Rattle.cpa_expr.specs.Cells.{AreValues}
 use Rattle.cpa_query.specs.declared.query.Query.{Query}
 use Rattle.cpa_query.specs.Queries.{IsAsked, IsQuery, IsModel, wanted_reads, reads}
-use Rattle.cpa_circuits.specs.declared.answer.Word.{Word}
-use Rattle.cpa_circuits.specs.Meanings.{types_of, HasStore}
-use Rattle.cpa_circuits.specs.Laws.{AreCellWords, CircuitsHaveValues}
+use Rattle.cpa_blast_circuits.specs.declared.answer.Word.{Word}
+use Rattle.cpa_blast_circuits.specs.Meanings.{types_of, HasStore}
+use Rattle.cpa_blast_circuits.specs.Laws.{AreCellWords, CircuitsHaveValues}
 use Rattle.cpa_blast.specs.declared.places.Place.{Place}
 use Rattle.cpa_blast.specs.Formulas.{variables_from, places_of, words_of, units, read_places}
 use Rattle.cpa_blast.specs.Formulas.{circuits_of, all_places, formula, first_bits, store_at}

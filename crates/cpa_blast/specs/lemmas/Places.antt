@@ -11,19 +11,20 @@ use Rattle.cpa_ints.specs.Integers.{width, IsInRange}
 use Rattle.cpa_ints.specs.Bits.{bits_of}
 use Rattle.cpa_ints.specs.lemmas.WrapLaws.{zero_within}
 use Rattle.cpa_cnf.specs.Lines.{AreBelow}
-use Rattle.cpa_gates.specs.declared.gate.Gate.{Gate}
-use Rattle.cpa_gates.specs.Gates.{lit_value}
-use Rattle.cpa_gates.specs.Nets.{vars, IsScoped, Holds, Built, built}
-use Rattle.cpa_gates.specs.Clauses.{clauses_of}
-use Rattle.cpa_gates.specs.Meanings.{Agrees, Extends, Grows}
-use Rattle.cpa_gates.specs.Laws.{literals_have_values, nets_grow}
-use Rattle.cpa_words.specs.Truths.{values}
-use Rattle.cpa_words.specs.Words.{constant_word}
-use Rattle.cpa_words.specs.Types.{StandsFor, BitFacts}
-use Rattle.cpa_words.specs.Laws.{words_mean_their_operators, words_are_long, words_are_numbers}
-use Rattle.cpa_words.specs.lemmas.WordMeanings.{values_repeated}
-use Rattle.cpa_circuits.specs.Meanings.{types_of, AreLong, AreWordsOf, HasStore}
-use Rattle.cpa_circuits.specs.lemmas.Facts.{no_bits}
+use Rattle.cpa_blast_gates.specs.declared.gate.Gate.{Gate}
+use Rattle.cpa_blast_gates.specs.Gates.{lit_value}
+use Rattle.cpa_blast_gates.specs.Nets.{vars, IsScoped, Holds, Built, built}
+use Rattle.cpa_blast_gates.specs.Clauses.{clauses_of}
+use Rattle.cpa_blast_gates.specs.Meanings.{Agrees, Extends, Grows}
+use Rattle.cpa_blast_gates.specs.Laws.{literals_have_values, nets_grow}
+use Rattle.cpa_blast_words.specs.Truths.{values}
+use Rattle.cpa_blast_words.specs.Words.{constant_word}
+use Rattle.cpa_blast_words.specs.Types.{StandsFor, BitFacts}
+use Rattle.cpa_blast_words.specs.Laws.{words_mean_their_operators, words_are_long}
+use Rattle.cpa_blast_words.specs.Laws.{words_are_numbers}
+use Rattle.cpa_blast_words.specs.lemmas.WordMeanings.{values_repeated}
+use Rattle.cpa_blast_circuits.specs.Meanings.{types_of, AreLong, AreWordsOf, HasStore}
+use Rattle.cpa_blast_circuits.specs.lemmas.Facts.{no_bits}
 use Rattle.cpa_blast.specs.declared.places.Place.{Place}
 use Rattle.cpa_blast.specs.Formulas.{with_inputs, variables_from, place_of, is_due, place_before}
 use Rattle.cpa_blast.specs.Formulas.{next_place, with_bits, words_of}

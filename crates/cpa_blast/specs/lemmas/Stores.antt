@@ -7,7 +7,7 @@ use Rattle.std.specs.Prelude.{slice_get, IsTrue, IsSomeAnd, if◌then◌else◌}
 use Rattle.std.specs.List.{AllByRecursion, AllZip, range_with_len, slice_index_or}
 use Rattle.std.proofs.Math.Nat.{mod-eq_of_lt}
 use Rattle.std.proofs.lemmas.Bool.{cases_lt}
-use Rattle.cpa_circuits.specs.lemmas.Facts.{same_some}
+use Rattle.cpa_blast_circuits.specs.lemmas.Facts.{same_some}
 use Rattle.std.proofs.lemmas.List.{length-map}
 use Rattle.cpa_ints.specs.declared.integers.IntType.{IntType}
 use Rattle.cpa_ints.specs.declared.integers.IntType.TheVariants.{Bool as Boolean}
@@ -16,10 +16,10 @@ use Rattle.cpa_ints.specs.Integers.{width, IsInRange}
 use Rattle.cpa_ints.specs.Wrapping.{wrapped}
 use Rattle.cpa_ints.specs.Bits.{bits_of}
 use Rattle.cpa_ints.specs.lemmas.Arithmetic.{wrapped_in_range}
-use Rattle.cpa_gates.specs.Clauses.{assigned}
-use Rattle.cpa_words.specs.Truths.{values, number}
-use Rattle.cpa_words.specs.Types.{StandsFor, BitFacts}
-use Rattle.cpa_words.specs.Laws.{words_are_numbers}
+use Rattle.cpa_blast_gates.specs.Clauses.{assigned}
+use Rattle.cpa_blast_words.specs.Truths.{values, number}
+use Rattle.cpa_blast_words.specs.Types.{StandsFor, BitFacts}
+use Rattle.cpa_blast_words.specs.Laws.{words_are_numbers}
 use Rattle.cpa_expr.specs.declared.tree.Expr.{Expr}
 use Rattle.cpa_expr.specs.Values.{value_of, is_nonzero}
 use Rattle.cpa_expr.specs.Cells.{may_read, AreValues}

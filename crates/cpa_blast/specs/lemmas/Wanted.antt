@@ -6,28 +6,28 @@ use Rattle.std.specs.List.{AllByRecursion}
 use Rattle.cpa_ints.specs.declared.integers.IntType.{IntType}
 use Rattle.cpa_ints.specs.Integers.{IsInRange}
 use Rattle.cpa_cnf.specs.Lines.{AreBelow}
-use Rattle.cpa_gates.specs.declared.gate.Gate.{Gate}
-use Rattle.cpa_gates.specs.Gates.{lit_value}
-use Rattle.cpa_gates.specs.Nets.{vars, Holds, Built}
-use Rattle.cpa_gates.specs.Meanings.{Grows}
-use Rattle.cpa_gates.specs.Laws.{literals_have_values, nets_grow}
-use Rattle.cpa_words.specs.Truths.{values, number}
-use Rattle.cpa_words.specs.Words.{some_bit}
-use Rattle.cpa_words.specs.Types.{BitFacts}
-use Rattle.cpa_words.specs.Laws.{words_mean_their_operators}
-use Rattle.cpa_words.specs.lemmas.Columns.{still_below, opposite_below}
+use Rattle.cpa_blast_gates.specs.declared.gate.Gate.{Gate}
+use Rattle.cpa_blast_gates.specs.Gates.{lit_value}
+use Rattle.cpa_blast_gates.specs.Nets.{vars, Holds, Built}
+use Rattle.cpa_blast_gates.specs.Meanings.{Grows}
+use Rattle.cpa_blast_gates.specs.Laws.{literals_have_values, nets_grow}
+use Rattle.cpa_blast_words.specs.Truths.{values, number}
+use Rattle.cpa_blast_words.specs.Words.{some_bit}
+use Rattle.cpa_blast_words.specs.Types.{BitFacts}
+use Rattle.cpa_blast_words.specs.Laws.{words_mean_their_operators}
+use Rattle.cpa_blast_words.specs.lemmas.Columns.{still_below, opposite_below}
 use Rattle.cpa_expr.specs.declared.tree.Expr.{Expr}
 use Rattle.cpa_expr.specs.Shape.{type_of, IsTyped}
 use Rattle.cpa_expr.specs.Values.{value_of, is_nonzero}
 use Rattle.cpa_expr.specs.Laws.{values_lie_in_range}
 use Rattle.cpa_query.specs.Queries.{HasTruth}
-use Rattle.cpa_circuits.specs.declared.answer.Word.{Word}
-use Rattle.cpa_circuits.specs.Circuits.{circuit}
-use Rattle.cpa_circuits.specs.Meanings.{types_of, HasStore, IsAnswer}
-use Rattle.cpa_circuits.specs.Laws.{AreCellWords, CircuitsHaveValues}
-use Rattle.cpa_circuits.specs.lemmas.Facts.{nonzero}
-use Rattle.cpa_circuits.specs.lemmas.CellWords.{store_values}
-use Rattle.cpa_circuits.specs.lemmas.ReadMeanings.{words_still_of}
+use Rattle.cpa_blast_circuits.specs.declared.answer.Word.{Word}
+use Rattle.cpa_blast_circuits.specs.Circuits.{circuit}
+use Rattle.cpa_blast_circuits.specs.Meanings.{types_of, HasStore, IsAnswer}
+use Rattle.cpa_blast_circuits.specs.Laws.{AreCellWords, CircuitsHaveValues}
+use Rattle.cpa_blast_circuits.specs.lemmas.Facts.{nonzero}
+use Rattle.cpa_blast_circuits.specs.lemmas.CellWords.{store_values}
+use Rattle.cpa_blast_circuits.specs.lemmas.ReadMeanings.{words_still_of}
 use Rattle.cpa_blast.specs.declared.formulas.Required.{Required}
 use Rattle.cpa_blast.specs.Formulas.{told, told_in, asserted}
 

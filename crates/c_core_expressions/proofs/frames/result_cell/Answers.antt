@@ -1,6 +1,6 @@
 -- The cell of a function's result.
 use Rattle.std.proofs.Common.{ap, ◌∙◌}
-use Rattle.c_rules.specs.Types.{object_type}
+use Rattle.c_types_rules.specs.Types.{object_type}
 use Rattle.c_core_rules.specs.Values.{cell_at}
 use Rattle.c_core_rules.specs.Expressions.{Frame}
 use Rattle.c_core_expressions.proofs.FramesAt.{frame_here, frame_past}

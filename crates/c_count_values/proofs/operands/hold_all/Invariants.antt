@@ -1,6 +1,6 @@
 -- What is left of a list makes what the whole makes.
 use Rattle.std.proofs.Common.{◌≡◌, ◌++◌, drop, map}
-use Rattle.c_rules.specs.Counts.{hold_all}
+use Rattle.c_types_rules.specs.Counts.{hold_all}
 use Rattle.c_count_values.specs.Exact.{exact}
 use Rattle.c_count_values.specs.Operands.{full_count}
 use Rattle.c_count_values.proofs.operands.hold_all.Given as goal

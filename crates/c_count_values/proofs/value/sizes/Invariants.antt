@@ -1,6 +1,6 @@
 -- What is left of a list makes what the whole makes.
 use Rattle.std.proofs.Common.{◌≡◌, drop, map}
-use Rattle.c_rules.specs.Counts.{both, sizes}
+use Rattle.c_types_rules.specs.Counts.{both, sizes}
 use Rattle.c_count_values.specs.Exact.{exact, exact_size}
 use Rattle.c_count_values.proofs.value.sizes.Given as goal
 

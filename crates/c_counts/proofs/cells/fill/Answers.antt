@@ -1,6 +1,6 @@
 -- What the cells of a global hold, one by one.
 use Rattle.std.proofs.Common.{arith}
-use Rattle.c_rules.specs.Counts.{cells_of}
+use Rattle.c_types_rules.specs.Counts.{cells_of}
 use Rattle.c_counts.proofs.Filled.{fill_kept, fill_done}
 use Rattle.c_counts.proofs.cells.fill.Goals as goal
 

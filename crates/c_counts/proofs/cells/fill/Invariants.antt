@@ -1,7 +1,7 @@
 -- What is left of a list makes what the whole makes.
 use Rattle.std.proofs.Common.{◌≡◌, ◌++◌, ◌-◌}
-use Rattle.c_rules.specs.Counts.{cells_of}
-use Rattle.c_rules.specs.Sound.{filled}
+use Rattle.c_types_rules.specs.Counts.{cells_of}
+use Rattle.c_types_rules.specs.Sound.{filled}
 use Rattle.c_counts.specs.TextCells.{values_of}
 use Rattle.c_counts.proofs.cells.fill.Given as goal
 

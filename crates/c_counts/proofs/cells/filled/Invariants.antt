@@ -1,7 +1,7 @@
 -- What is left of a list makes what the whole makes.
 use Rattle.std.proofs.Common.{◌≡◌, ◌++◌, drop}
 use Rattle.std.specs.List.{flat_map}
-use Rattle.c_rules.specs.Sound.{filled}
+use Rattle.c_types_rules.specs.Sound.{filled}
 use Rattle.c_counts.proofs.cells.filled.Given as goal
 
 abbrev pub invariant-loop-global : goal.invariant-loop-global

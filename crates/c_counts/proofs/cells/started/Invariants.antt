@@ -1,6 +1,6 @@
 -- What is left of a list makes what the whole makes.
 use Rattle.std.proofs.Common.{◌≡◌, ◌++◌, drop}
-use Rattle.c_rules.specs.Sound.{started}
+use Rattle.c_types_rules.specs.Sound.{started}
 use Rattle.c_counts.proofs.cells.started.Given as goal
 
 abbrev pub invariant-loop-ty : goal.invariant-loop-ty

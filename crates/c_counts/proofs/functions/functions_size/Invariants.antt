@@ -1,7 +1,7 @@
 -- What is left of a list makes what the whole makes.
 use Rattle.std.proofs.Common.{◌≡◌, ◌++◌, drop, map}
-use Rattle.c_rules.specs.Counts.{function_rule, in_order}
-use Rattle.c_rules.specs.Sound.{first_cells}
+use Rattle.c_types_rules.specs.Counts.{function_rule, in_order}
+use Rattle.c_types_rules.specs.Sound.{first_cells}
 use Rattle.c_count_values.specs.Exact.{exact_size}
 use Rattle.c_counts.specs.Items.{in_behind}
 use Rattle.c_counts.proofs.functions.functions_size.Given as goal

@@ -1,6 +1,6 @@
 -- What is left of a list makes what the whole makes.
 use Rattle.std.proofs.Common.{◌≡◌, drop}
-use Rattle.c_rules.specs.Counts.{receiving}
+use Rattle.c_types_rules.specs.Counts.{receiving}
 use Rattle.c_counts.proofs.functions.receiving.Given as goal
 
 abbrev pub invariant-loop-object : goal.invariant-loop-object

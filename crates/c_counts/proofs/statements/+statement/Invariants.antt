@@ -1,6 +1,6 @@
 -- What is left of a list makes what the whole makes.
 use Rattle.std.proofs.Common.{◌≡◌, drop, map}
-use Rattle.c_rules.specs.Counts.{in_order, item_rule}
+use Rattle.c_types_rules.specs.Counts.{in_order, item_rule}
 use Rattle.c_count_values.specs.Exact.{exact_size}
 use Rattle.c_counts.specs.Items.{in_behind}
 use Rattle.c_counts.proofs.statements.+statement.Given as goal

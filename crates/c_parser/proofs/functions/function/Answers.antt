@@ -1,15 +1,16 @@
 -- Parameters, and what ends a function.
 use Rattle.std.proofs.Common.{refl, Some}
-use Rattle.grammar_forms.specs.Forms.{Choice}
-use Rattle.grammar_forms.specs.Found.{reads_node, reads_then}
-use Rattle.grammar_forms.specs.NotFound.{none_node, none_then_first, none_then}
-use Rattle.grammar_forms.specs.Exits.{at_exit}
-use Rattle.grammar_forms.specs.Choices.{reads_arm, none_arm}
-use Rattle.c_symbols.specs.Symbols.{symbol_of}
-use Rattle.c_symbols.specs.Sources.{leaf_at}
-use Rattle.c_tree.specs.declared.TheConstants.{MAX_LEVEL}
-use Rattle.c_tree.specs.Grammar.{grammar}
-use Rattle.c_tree.specs.Items.{have_pointer, function_end_at, named_at, declared_of, function}
+use Rattle.c_grammar_forms.specs.Forms.{Choice}
+use Rattle.c_grammar_forms.specs.Found.{reads_node, reads_then}
+use Rattle.c_grammar_forms.specs.NotFound.{none_node, none_then_first, none_then}
+use Rattle.c_grammar_forms.specs.Exits.{at_exit}
+use Rattle.c_grammar_forms.specs.Choices.{reads_arm, none_arm}
+use Rattle.c_grammar_symbols.specs.Symbols.{symbol_of}
+use Rattle.c_grammar_symbols.specs.Sources.{leaf_at}
+use Rattle.c_grammar_tree.specs.declared.TheConstants.{MAX_LEVEL}
+use Rattle.c_grammar_tree.specs.Grammar.{grammar}
+use Rattle.c_grammar_tree.specs.Items.{have_pointer, function_end_at, named_at, declared_of}
+use Rattle.c_grammar_tree.specs.Items.{function}
 use Rattle.c_parser.proofs.Steadies.{steady_function_rest}
 use Rattle.c_parser.proofs.Arms.{arm_function}
 use Rattle.c_parser.proofs.functions.function.Goals as goal

@@ -1,14 +1,14 @@
 -- A semicolon, a body, or neither.
 use Rattle.std.proofs.Common.{sym, refl}
-use Rattle.grammar_forms.specs.Found.{reads_node, reads_one}
-use Rattle.grammar_forms.specs.NotFound.{none_node, none_nothing}
-use Rattle.grammar_forms.specs.Exits.{at_exit}
-use Rattle.grammar_forms.specs.Choices.{reads_arm, none_arm}
-use Rattle.c_symbols.specs.Symbols.{symbol_of}
-use Rattle.c_symbols.specs.Sources.{leaf_at}
-use Rattle.c_tree.specs.declared.TheConstants.{MAX_LEVEL}
-use Rattle.c_tree.specs.Grammar.{grammar}
-use Rattle.c_tree.specs.Items.{function_end_at}
+use Rattle.c_grammar_forms.specs.Found.{reads_node, reads_one}
+use Rattle.c_grammar_forms.specs.NotFound.{none_node, none_nothing}
+use Rattle.c_grammar_forms.specs.Exits.{at_exit}
+use Rattle.c_grammar_forms.specs.Choices.{reads_arm, none_arm}
+use Rattle.c_grammar_symbols.specs.Symbols.{symbol_of}
+use Rattle.c_grammar_symbols.specs.Sources.{leaf_at}
+use Rattle.c_grammar_tree.specs.declared.TheConstants.{MAX_LEVEL}
+use Rattle.c_grammar_tree.specs.Grammar.{grammar}
+use Rattle.c_grammar_tree.specs.Items.{function_end_at}
 use Rattle.c_parser.proofs.Arms.{arm_prototype, arm_body, arm_no_end}
 use Rattle.c_parser.proofs.functions.function_end.Goals as goal
 

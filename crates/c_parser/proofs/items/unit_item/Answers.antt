@@ -1,16 +1,16 @@
 -- A semicolon, or specifiers and what they declare.
 use Rattle.std.proofs.Common.{sym, refl, arith}
-use Rattle.grammar_forms.specs.Forms.{Choice}
-use Rattle.grammar_forms.specs.Found.{reads_node, reads_one}
-use Rattle.grammar_forms.specs.NotFound.{none_node, none_first}
-use Rattle.grammar_forms.specs.Exits.{at_exit, answers_with}
-use Rattle.grammar_forms.specs.Choices.{reads_arm, none_arm}
-use Rattle.c_symbols.specs.Symbols.{symbol_of}
-use Rattle.c_symbols.specs.Sources.{leaf_at}
-use Rattle.c_tree.specs.declared.TheConstants.{MAX_LEVEL}
-use Rattle.c_tree.specs.Grammar.{grammar}
-use Rattle.c_tree.specs.Items.{declared_at, declared_of, unit_item_at, unit_item}
-use Rattle.c_declarations.specs.Readers.{reads_onto, none_onto}
+use Rattle.c_grammar_forms.specs.Forms.{Choice}
+use Rattle.c_grammar_forms.specs.Found.{reads_node, reads_one}
+use Rattle.c_grammar_forms.specs.NotFound.{none_node, none_first}
+use Rattle.c_grammar_forms.specs.Exits.{at_exit, answers_with}
+use Rattle.c_grammar_forms.specs.Choices.{reads_arm, none_arm}
+use Rattle.c_grammar_symbols.specs.Symbols.{symbol_of}
+use Rattle.c_grammar_symbols.specs.Sources.{leaf_at}
+use Rattle.c_grammar_tree.specs.declared.TheConstants.{MAX_LEVEL}
+use Rattle.c_grammar_tree.specs.Grammar.{grammar}
+use Rattle.c_grammar_tree.specs.Items.{declared_at, declared_of, unit_item_at, unit_item}
+use Rattle.c_parser_declarations.specs.Readers.{reads_onto, none_onto}
 use Rattle.c_parser.proofs.Steadies.{steady_specifiers}
 use Rattle.c_parser.proofs.Arms.{arm_empty, arm_declared}
 use Rattle.c_parser.proofs.items.unit_item.Goals as goal

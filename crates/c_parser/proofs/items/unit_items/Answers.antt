@@ -1,11 +1,11 @@
 -- One item more, or no more.
 use Rattle.std.proofs.Common.{sym, ap, arith, not}
-use Rattle.grammar_forms.specs.Loops.{no_parts, one_more, no_more, no_part, at_items}
-use Rattle.grammar_forms.specs.Exits.{at_exit}
-use Rattle.c_tree.specs.declared.TheConstants.{MAX_LEVEL}
-use Rattle.c_tree.specs.Grammar.{grammar}
-use Rattle.c_tree.specs.Parts.{is_end}
-use Rattle.c_tree.specs.Items.{unit_item}
+use Rattle.c_grammar_forms.specs.Loops.{no_parts, one_more, no_more, no_part, at_items}
+use Rattle.c_grammar_forms.specs.Exits.{at_exit}
+use Rattle.c_grammar_tree.specs.declared.TheConstants.{MAX_LEVEL}
+use Rattle.c_grammar_tree.specs.Grammar.{grammar}
+use Rattle.c_grammar_tree.specs.Parts.{is_end}
+use Rattle.c_grammar_tree.specs.Items.{unit_item}
 use Rattle.c_parser.proofs.Steadies.{steady_unit_item}
 use Rattle.c_parser.proofs.Ahead.{unit_item_ahead}
 use Rattle.c_parser.proofs.items.unit_items.Goals as goal

@@ -1,10 +1,10 @@
 -- The items are read up to here. The rest of the text gets shorter.
 use Rattle.std.proofs.Common.{◌-◌, length, not}
-use Rattle.grammar_forms.specs.Loops.{SoFar}
-use Rattle.c_symbols.specs.Sources.{leaf_at}
-use Rattle.c_tree.specs.Grammar.{grammar}
-use Rattle.c_tree.specs.Parts.{is_end}
-use Rattle.c_tree.specs.Items.{unit_item}
+use Rattle.c_grammar_forms.specs.Loops.{SoFar}
+use Rattle.c_grammar_symbols.specs.Sources.{leaf_at}
+use Rattle.c_grammar_tree.specs.Grammar.{grammar}
+use Rattle.c_grammar_tree.specs.Parts.{is_end}
+use Rattle.c_grammar_tree.specs.Items.{unit_item}
 use Rattle.c_parser.specs.Forms.{all_items}
 use Rattle.c_parser.proofs.items.unit_items.Given as goal
 

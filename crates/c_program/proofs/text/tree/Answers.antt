@@ -5,7 +5,7 @@ use Rattle.std.proofs.lemmas.Result.{IfErr-weaker, err_from_is_err_and}
 use Rattle.c_lexer.specs.Parts.{Tokens}
 use Rattle.c_lexer.specs.declared.fault.TextError.{TextError}
 use Rattle.c_parser.specs.Faults.{IsRefused as NoTreeRefused}
-use Rattle.c_tree.specs.declared.item.Unit.{Unit as UnitTree}
+use Rattle.c_grammar_tree.specs.declared.item.Unit.{Unit as UnitTree}
 use Rattle.c_program.specs.Programs.{IsRefused}
 use Rattle.c_program.proofs.Refusals.{tokens_refused, tree_refused}
 use Rattle.c_program.proofs.text.tree.Goals as goal

@@ -1,6 +1,6 @@
 use Rattle.std.proofs.Common.{◌≡◌, drop}
 use Rattle.std.specs.List.{list_any}
-use Rattle.c_rules.specs.Sound.{is_main}
+use Rattle.c_types_rules.specs.Sound.{is_main}
 use Rattle.c_types.proofs.entry.has_main.Given as goal
 
 abbrev pub invariant-loop-item : goal.invariant-loop-item

@@ -1,5 +1,5 @@
 use Rattle.std.proofs.Common.{sym, subst}
-use Rattle.c_globals.specs.Scopes.{before_of}
+use Rattle.c_types_globals.specs.Scopes.{before_of}
 use Rattle.c_types.proofs.Law.{finds_gathered}
 use Rattle.c_types.proofs.Numbers.{Numbered}
 use Rattle.c_types.proofs.gathering.gather.Goals as goal

@@ -1,5 +1,5 @@
 use Rattle.std.proofs.Common.{true, sym, subst}
-use Rattle.c_globals.specs.Scopes.{before_of}
+use Rattle.c_types_globals.specs.Scopes.{before_of}
 use Rattle.c_types.proofs.Numbers.{Numbered, numbered_function}
 use Rattle.c_types.proofs.items.gather_item.Goals as goal
 

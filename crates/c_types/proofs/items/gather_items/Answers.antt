@@ -1,12 +1,13 @@
 use Rattle.std.proofs.Common.{◌≡◌, ◌+◌, ◌++◌, List, ◌∷◌, drop, Option, sym, ap, subst, ◌∙◌, arith}
 use Rattle.c_lexer.specs.declared.fault.TextFault.{TextFault}
-use Rattle.c_tree.specs.declared.item.Item.{Item}
-use Rattle.c_rules.specs.declared.typed.TypedFunction.{TypedFunction}
-use Rattle.c_rules.specs.First.{first_with}
-use Rattle.c_rules.specs.Items.{Before, Call, item_faults, item_calls, items_faults, items_calls}
-use Rattle.c_rules.specs.Sound.{Start, item_starts, item_function, items_behind, starts_of}
-use Rattle.c_rules.specs.Sound.{functions_of}
-use Rattle.c_globals.specs.Scopes.{before_of}
+use Rattle.c_grammar_tree.specs.declared.item.Item.{Item}
+use Rattle.c_types_rules.specs.declared.typed.TypedFunction.{TypedFunction}
+use Rattle.c_types_rules.specs.First.{first_with}
+use Rattle.c_types_rules.specs.Items.{Before, Call, item_faults, item_calls, items_faults}
+use Rattle.c_types_rules.specs.Items.{items_calls}
+use Rattle.c_types_rules.specs.Sound.{Start, item_starts, item_function, items_behind, starts_of}
+use Rattle.c_types_rules.specs.Sound.{functions_of}
+use Rattle.c_types_globals.specs.Scopes.{before_of}
 use Rattle.c_types.proofs.Steps.{faults_next, calls_next, functions_next, starts_next}
 use Rattle.c_types.proofs.Next.{next_item}
 use Rattle.c_types.proofs.Numbers.{Numbered, numbered_item}

@@ -1,10 +1,10 @@
 -- What has been gathered, with what the rest gives, is what all give.
 use Rattle.std.proofs.Common.{◌≡◌, ◌++◌, drop}
-use Rattle.c_rules.specs.First.{first_with}
-use Rattle.c_rules.specs.Items.{items_faults, items_calls}
-use Rattle.c_rules.specs.Sound.{items_behind, starts_of, functions_of}
-use Rattle.c_globals.specs.Scopes.{before_of}
-use Rattle.c_bodies.specs.Bodies.{AreNumbered}
+use Rattle.c_types_rules.specs.First.{first_with}
+use Rattle.c_types_rules.specs.Items.{items_faults, items_calls}
+use Rattle.c_types_rules.specs.Sound.{items_behind, starts_of, functions_of}
+use Rattle.c_types_globals.specs.Scopes.{before_of}
+use Rattle.c_types_bodies.specs.Bodies.{AreNumbered}
 use Rattle.c_types.proofs.items.gather_items.Given as goal
 
 abbrev pub invariant-loop-item : goal.invariant-loop-item

@@ -1,7 +1,7 @@
 use Rattle.std.proofs.Common.{◌≡◌, ◌+◌, List, ◌∷◌, ◌++◌, drop, sym, ap, ◌∙◌, arith}
 use Rattle.std.specs.List.{flat_map}
-use Rattle.c_rules.specs.declared.meaning.Entry.{Entry}
-use Rattle.c_rules.specs.Sound.{global_named, object_names}
+use Rattle.c_types_rules.specs.declared.meaning.Entry.{Entry}
+use Rattle.c_types_rules.specs.Sound.{global_named, object_names}
 use Rattle.c_types.proofs.Next.{next_item}
 use Rattle.c_types.proofs.listing.globals_of.Goals as goal
 

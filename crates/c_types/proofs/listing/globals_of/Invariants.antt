@@ -1,6 +1,6 @@
 use Rattle.std.proofs.Common.{◌≡◌, ◌++◌, drop}
 use Rattle.std.specs.List.{flat_map}
-use Rattle.c_rules.specs.Sound.{global_named, object_names, globals_of}
+use Rattle.c_types_rules.specs.Sound.{global_named, object_names, globals_of}
 use Rattle.c_types.proofs.listing.globals_of.Given as goal
 
 abbrev pub invariant-loop-declaration : goal.invariant-loop-declaration

@@ -1,7 +1,7 @@
 use Rattle.std.proofs.Common.{ℕ, List, [], ◌∷◌, ◌++◌, sym, ap, ◌∙◌}
 use Rattle.std.specs.List.{flat_map}
-use Rattle.c_rules.specs.declared.typed.Global.{Global}
-use Rattle.c_rules.specs.Sound.{global_named, object_names}
+use Rattle.c_types_rules.specs.declared.typed.Global.{Global}
+use Rattle.c_types_rules.specs.Sound.{global_named, object_names}
 use Rattle.c_types.proofs.Listed.{skipped, listed_more}
 use Rattle.c_types.proofs.listing.push_declared.Goals as goal
 

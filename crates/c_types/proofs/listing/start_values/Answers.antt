@@ -2,8 +2,8 @@ use Rattle.std.proofs.Common.{ℕ, ℤ, ◌<◌, List, [], length, get_or, Optio
 use Rattle.std.proofs.Common.{option_map, unwrap_or, sym, subst, ap, ◌∙◌}
 use Rattle.std.specs.Str.{bytes_eq}
 use Rattle.std.proofs.lemmas.Result.{IfOk-weaker}
-use Rattle.c_rules.specs.Names.{place_of}
-use Rattle.c_rules.specs.Sound.{Start}
+use Rattle.c_types_rules.specs.Names.{place_of}
+use Rattle.c_types_rules.specs.Sound.{Start}
 use Rattle.c_types.proofs.Listed.{start_found, start_within}
 use Rattle.c_types.proofs.listing.start_values.Goals as goal
 

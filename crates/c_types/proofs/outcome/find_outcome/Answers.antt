@@ -1,5 +1,5 @@
 use Rattle.std.proofs.Common.{subst}
-use Rattle.c_rules.specs.Sound.{BreaksTree}
+use Rattle.c_types_rules.specs.Sound.{BreaksTree}
 use Rattle.c_types.specs.Firsts.{FindsFirst}
 use Rattle.c_types.proofs.Law.{fault_checked}
 use Rattle.c_types.proofs.outcome.find_outcome.Goals as goal

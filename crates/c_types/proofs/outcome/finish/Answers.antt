@@ -1,10 +1,10 @@
 use Rattle.std.proofs.Common.{ℕ, List, Option, unwrap_or, sym, ap, ◌∙◌}
-use Rattle.c_rules.specs.declared.meaning.Entry.{Entry}
-use Rattle.c_rules.specs.declared.typed.Global.{Global}
-use Rattle.c_rules.specs.Names.{Text, body_of}
-use Rattle.c_rules.specs.Items.{text_of, nothing_before}
-use Rattle.c_rules.specs.Sound.{globals_of, items_behind, unit_globals, unit_functions}
-use Rattle.c_rules.specs.Sound.{main_name}
+use Rattle.c_types_rules.specs.declared.meaning.Entry.{Entry}
+use Rattle.c_types_rules.specs.declared.typed.Global.{Global}
+use Rattle.c_types_rules.specs.Names.{Text, body_of}
+use Rattle.c_types_rules.specs.Items.{text_of, nothing_before}
+use Rattle.c_types_rules.specs.Sound.{globals_of, items_behind, unit_globals, unit_functions}
+use Rattle.c_types_rules.specs.Sound.{main_name}
 use Rattle.c_counts.specs.TextCells.{text_cells}
 use Rattle.c_types.proofs.Law.{large_checked, sound_checked}
 use Rattle.c_types.proofs.Typed.{none_is_large, some_is_small, typed_is}

@@ -1,5 +1,5 @@
 use Rattle.std.proofs.Common.{ap, ◌∙◌}
-use Rattle.c_rules.specs.declared.typed.TypedUnit.{TypedUnit}
+use Rattle.c_types_rules.specs.declared.typed.TypedUnit.{TypedUnit}
 use Rattle.c_types.specs.Erasing.{erased_functions}
 use Rattle.c_types.proofs.ErasedStatements.{unit_erased}
 use Rattle.c_types.proofs.unit.check.Goals as goal

@@ -1,7 +1,7 @@
 -- The entries keep their shape, and the components are the same.
 use Rattle.std.proofs.Common.{length}
 use Rattle.cpa_composite.specs.Composites.{components}
-use Rattle.cpa_engine.specs.Turns.{AreEntries}
+use Rattle.cpa_engine_turn.specs.Turns.{AreEntries}
 use Rattle.cases_composite.proofs.exploring.turns.Given as goal
 
 abbrev pub invariant-loop-turn : goal.invariant-loop-turn

@@ -3,7 +3,7 @@ use Rattle.std.proofs.Common.{◌++◌, ◌+◌, ◌≤◌, map, ap, sym, subst,
 use Rattle.std.specs.List.{AllByRecursion, AllZip}
 use Rattle.cpa_cnf.specs.declared.formula.Cnf.{Cnf}
 use Rattle.cpa_cnf.specs.Lines.{AreBelow}
-use Rattle.cpa_gates.specs.Clauses.{clauses_of}
+use Rattle.cpa_blast_gates.specs.Clauses.{clauses_of}
 use Rattle.cpa_ints.specs.Integers.{width}
 use Rattle.cpa_blast.specs.declared.places.Place.{Place}
 use Rattle.cpa_blast.specs.Formulas.{units, first_bits}

@@ -1,6 +1,6 @@
 -- The steps put together.
 use Rattle.std.proofs.Common.{ap, sym, subst, ◌∙◌, length, true, false}
-use Rattle.cpa_circuits.specs.Meanings.{types_of, AreLong}
+use Rattle.cpa_blast_circuits.specs.Meanings.{types_of, AreLong}
 use Rattle.cpa_blast.specs.Formulas.{places_of, with_bits, words_of, asserted, read_places}
 use Rattle.cpa_blast.specs.lemmas.Places.{words_long}
 use Rattle.cpa_blast.specs.lemmas.Wanted.{AreTypedOver}

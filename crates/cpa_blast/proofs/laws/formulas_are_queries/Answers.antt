@@ -1,4 +1,4 @@
-use Rattle.cpa_words.specs.Types.{BitFacts}
+use Rattle.cpa_blast_words.specs.Types.{BitFacts}
 use Rattle.cpa_blast.specs.Laws.{formulas_are}
 use Rattle.cpa_blast.proofs.laws.formulas_are_queries.Goals as goal
 

@@ -1,6 +1,6 @@
 -- One fact more.
 use Rattle.std.proofs.Common.{arith, refl}
-use Rattle.cpa_edge_rules.specs.Tests.{fact_tests, tests_of}
+use Rattle.cpa_edgeform_rules.specs.Tests.{fact_tests, tests_of}
 use Rattle.cpa_edgeform.proofs.Turns.{gathered, all_gathered}
 use Rattle.cpa_edgeform.proofs.testing.tests_of.Goals as goal
 

@@ -2,7 +2,7 @@
 use Rattle.std.proofs.Common.{◌+◌, ◌-◌, ◌^◌, ◌∙◌, ℕ, List, map, min, ap, arith}
 use Rattle.std.specs.Prelude.{sum}
 use Rattle.cpa_model.specs.declared.facts.Fact.{Fact}
-use Rattle.cpa_edge_rules.specs.Forms.{fact_weight}
+use Rattle.cpa_edgeform_rules.specs.Forms.{fact_weight}
 use Rattle.cpa_edgeform.proofs.Sums.{one_weight, all_weights}
 use Rattle.cpa_edgeform.proofs.weighing.elem_weight.Goals as goal
 

@@ -3,7 +3,7 @@ use Rattle.std.proofs.lemmas.List.{get_or_default}
 use Rattle.cpa_cnf.specs.Literals.{opposite}
 use Rattle.cpa_cnf.specs.Marking.{marked}
 use Rattle.cpa_cnf.specs.lemmas.Members.{more}
-use Rattle.cpa_trail.specs.Trails.{place_of}
+use Rattle.cpa_sat_trail.specs.Trails.{place_of}
 use Rattle.cpa_sat.proofs.conflict.low_of.Goals as goal
 
 less_then : (a b m : ℕ) → a < b → b ≤ m → a < m

@@ -2,7 +2,7 @@ use Rattle.std.proofs.Common.{◌≡◌, ◌≢◌, ◌<◌, ◌≤◌, ℕ, tru
 use Rattle.cpa_cnf.specs.Clauses.{has}
 use Rattle.cpa_cnf.specs.Literals.{opposite}
 use Rattle.cpa_cnf.specs.Marking.{marked}
-use Rattle.cpa_trail.specs.Trails.{place_of}
+use Rattle.cpa_sat_trail.specs.Trails.{place_of}
 use Rattle.cpa_sat.specs.Analyses.{AreOthersBefore}
 use Rattle.cpa_sat.proofs.conflict.low_of.Given as goal
 

@@ -1,4 +1,4 @@
-use Rattle.cpa_trail.specs.Trails.{height}
+use Rattle.cpa_sat_trail.specs.Trails.{height}
 use Rattle.cpa_sat.specs.Analyses.{IsAnalysing, IsAsserting, AreFalseBefore}
 use Rattle.cpa_sat.proofs.conflict.reduce.Given as goal
 

@@ -2,7 +2,7 @@ use Rattle.std.proofs.Common.{◌<◌, length, ap, sym, ◌∙◌, subst}
 use Rattle.std.specs.Prelude.{slice_index_or, []}
 use Rattle.std.proofs.lemmas.List.{get_or_read}
 use Rattle.cpa_cnf.specs.Literals.{opposite}
-use Rattle.cpa_trail.specs.Trails.{IsReasonFor}
+use Rattle.cpa_sat_trail.specs.Trails.{IsReasonFor}
 use Rattle.cpa_sat.proofs.Conflicts.{gives_way}
 use Rattle.cpa_sat.proofs.conflict.resolve_at.Goals as goal
 

@@ -1,7 +1,7 @@
 -- One bit more.
 use Rattle.std.proofs.Common.{◌+◌, ◌-◌, ◌*◌, ◌<◌, ◌^◌, ap, sym, subst, ◌∙◌, arith}
-use Rattle.cpa_gates.specs.Clauses.{assigned}
-use Rattle.cpa_words.specs.Truths.{bit}
+use Rattle.cpa_blast_gates.specs.Clauses.{assigned}
+use Rattle.cpa_blast_words.specs.Truths.{bit}
 use Rattle.cpa_solver.proofs.Numbers.{one_bit, one_power, has_room}
 use Rattle.cpa_solver.proofs.stores.number_at.Goals as goal
 

@@ -1,6 +1,6 @@
 -- The number of the variables from the place on.
 use Rattle.std.proofs.Common.{◌≡◌, ◌-◌, ◌<◌, ◌≤◌, ◌^◌}
-use Rattle.cpa_gates.specs.Clauses.{assigned}
+use Rattle.cpa_blast_gates.specs.Clauses.{assigned}
 use Rattle.cpa_solver.proofs.Numbers.{number_from}
 use Rattle.cpa_solver.proofs.stores.number_at.Given as goal
 

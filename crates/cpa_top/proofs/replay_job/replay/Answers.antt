@@ -1,7 +1,7 @@
 use Rattle.std.proofs.Common.{ℕ, ℤ, List, sym, ◌∙◌, subst}
 use Rattle.std.specs.Prelude.{Option}
 use Rattle.std.proofs.lemmas.Result.{err_from_is_err_and}
-use Rattle.cpa_inputs.specs.Inputs.{IsInputs}
+use Rattle.cpa_top_inputs.specs.Inputs.{IsInputs}
 use Rattle.cpa_top.specs.Refusals.{IsDone, IsFileRefused, IsTaken, IsOutcome}
 use Rattle.cpa_top.proofs.Stages.{replay_stops, inputs_stop, replay_ends, moved}
 use Rattle.cpa_top.proofs.replay_job.replay.Goals as goal

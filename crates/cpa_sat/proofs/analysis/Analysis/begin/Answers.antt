@@ -2,7 +2,7 @@ use Rattle.std.proofs.Common.{◌≡◌, ℕ, List, ◌∙◌, ap, subst, sym, n
 use Rattle.std.specs.Prelude.{◌==◌, slice_index_or, []}
 use Rattle.cpa_cnf.specs.Clauses.{has}
 use Rattle.cpa_cnf.specs.Marking.{marked}
-use Rattle.cpa_trail.specs.declared.trail.TheConstants.{NONE}
+use Rattle.cpa_sat_trail.specs.declared.trail.TheConstants.{NONE}
 use Rattle.cpa_sat.specs.Analyses.{HasMarksOf}
 use Rattle.cpa_sat.proofs.Marks.{begun, begun_marks}
 use Rattle.cpa_sat.proofs.analysis.Analysis.begin.Goals as goal

@@ -1,5 +1,5 @@
 use Rattle.std.proofs.Common.{◌∙◌}
-use Rattle.cpa_trail.specs.lemmas.Sound.{IsCutTo, sound_cut}
+use Rattle.cpa_sat_trail.specs.lemmas.Sound.{IsCutTo, sound_cut}
 use Rattle.cpa_sat.proofs.engine.Search.restart.Goals as goal
 
 pub returns-clause-state : goal.returns-clause-state

@@ -1,9 +1,0 @@
-use Rattle.std.proofs.Common.{List, sym, subst}
-use Rattle.c_rules.specs.Items.{Call}
-use Rattle.c_calls.specs.Marks.{HasCircular}
-use Rattle.c_calls.proofs.least.least_leading_back.Goals as goal
-
-pub first_circular-requires-clause-each : goal.first_circular-requires-clause-each
-first_circular-requires-clause-each c =
-    subst (λ (found : List Call). HasCircular c.args.calls.now found) (sym c.deref.ensures.value)
-    c.in_ok-found.ensures.each

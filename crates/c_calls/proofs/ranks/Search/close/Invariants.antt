@@ -1,5 +1,0 @@
-use Rattle.std.proofs.Common.{vec_len}
-use Rattle.c_calls.proofs.ranks.Search.close.Given as goal
-
-abbrev pub decreases-loop-member : goal.decreases-loop-member
-decreases-loop-member l = vec_len l.self.open

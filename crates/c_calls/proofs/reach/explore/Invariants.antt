@@ -1,5 +1,0 @@
-use Rattle.c_calls.specs.Marks.{Keeps, Grows}
-use Rattle.c_calls.proofs.reach.explore.Given as goal
-
-abbrev pub invariant-loop : goal.invariant-loop
-invariant-loop l = record { kept : Keeps l.fn.seen l.seen; grown : Grows l.calls l.fn.seen l.seen }

@@ -1,5 +1,0 @@
-use Rattle.c_calls.proofs.Marks.{IsPassed}
-use Rattle.c_calls.proofs.reach.pass.Given as goal
-
-abbrev pub invariant-loop-call : goal.invariant-loop-call
-invariant-loop-call l = IsPassed l.calls l.fn.seen l.seen l.changed l.call-index

@@ -1,0 +1,265 @@
+-- Lemmas: the same of declarations, statements and items, and of the grammar at each two depths.
+use Rattle.std.specs.Prelude.{ℕ, zero, suc, Bool, true, false, is_some, Option, Some}
+use Rattle.c_grammar_forms.specs.Steady.{Good, good_nothing, good_one, good_such, good_empty}
+use Rattle.c_grammar_forms.specs.Steady.{good_skip, good_behind, good_before, good_pair, good_then}
+use Rattle.c_grammar_forms.specs.Steady.{good_node, good_shaped, good_deeper, good_choice}
+use Rattle.c_grammar_forms.specs.Steady.{good_perhaps, good_nearest, good_many, good_balanced}
+use Rattle.c_grammar_forms.specs.Steady.{good_against_nothing}
+use Rattle.c_grammar_symbols.specs.declared.words.Terminal.{Terminal}
+use Rattle.c_grammar_symbols.specs.declared.words.Terminal.TheVariants as terminal
+use Rattle.c_grammar_symbols.specs.declared.symbol.Symbol.{Symbol}
+use Rattle.c_grammar_symbols.specs.declared.symbol.Symbol.TheVariants as symbol
+use Rattle.c_grammar_symbols.specs.Symbols.{Leaf, symbol_of}
+use Rattle.c_grammar_tree.specs.declared.name.Name.{Name}
+use Rattle.c_grammar_tree.specs.Parts.{bare_name, is_local_specifier}
+use Rattle.c_grammar_tree.specs.Nested.{Grammar}
+use Rattle.c_grammar_tree.specs.Declarations.{identifier, specifier_at, specifiers, attribute}
+use Rattle.c_grammar_tree.specs.Declarations.{attributes}
+use Rattle.c_grammar_tree.specs.Declarations.{comma_or_end_at, element, list, initializer_of, array}
+use Rattle.c_grammar_tree.specs.Declarations.{array_part, declarator_rest, declarator}
+use Rattle.c_grammar_tree.specs.Declarations.{more_declarators}
+use Rattle.c_grammar_tree.specs.Declarations.{declaration}
+use Rattle.c_grammar_tree.specs.Statements.{items, condition, optional, for_start, behind_comma_at}
+use Rattle.c_grammar_tree.specs.Statements.{statement_at, statement, item_by, item}
+use Rattle.c_grammar_tree.specs.Items.{is_known, have_pointer, parameter, parameter_list}
+use Rattle.c_grammar_tree.specs.Items.{function_rest}
+use Rattle.c_grammar_tree.specs.Items.{skipped_body, body_of, function_end_at, named_at}
+use Rattle.c_grammar_tree.specs.Items.{declared_at}
+use Rattle.c_grammar_tree.specs.Items.{unit_item_at, unit_item, unit_items}
+use Rattle.c_grammar_tree.specs.Grammar.{grammar}
+use Rattle.c_grammar_tree.specs.OneReading.{GoodGrammar, good_round_brackets, good_comma}
+use Rattle.c_grammar_tree.specs.OneReading.{good_assignment}
+use Rattle.c_grammar_tree.specs.OneReading.{good_conditional, good_cast, good_unary}
+
+pub good_identifier : Good identifier identifier
+unfolding identifier
+good_identifier = good_node _ (good_such _)
+
+pub good_specifier_at : (s : Symbol) → Good (specifier_at s) (specifier_at s)
+unfolding specifier_at
+good_specifier_at (symbol.Storage word) = good_node _ good_one
+good_specifier_at (symbol.Specifier word) = good_node _ good_one
+good_specifier_at (symbol.TypeWord word) = good_node _ good_one
+good_specifier_at _ = good_nothing
+
+pub good_specifiers : (goes : Leaf → Bool) → Good (specifiers goes) (specifiers goes)
+unfolding specifiers
+good_specifiers goes =
+    good_node _ (good_shaped _ (good_many goes (good_choice symbol_of good_specifier_at)))
+
+pub good_attribute : Good attribute attribute
+unfolding attribute
+good_attribute = good_skip (good_behind _ (good_behind _ (good_before good_round_brackets _)))
+
+pub good_attributes : Good attributes attributes
+unfolding attributes
+good_attributes = good_node _ (good_many _ good_attribute)
+
+pub good_comma_or_end_at : (s : Symbol) → Good (comma_or_end_at s) (comma_or_end_at s)
+unfolding comma_or_end_at
+good_comma_or_end_at (symbol.Terminal terminal.Comma) = good_one
+good_comma_or_end_at (symbol.Terminal terminal.RightBrace) = good_empty
+good_comma_or_end_at _ = good_nothing
+
+pub good_parameter : Good parameter parameter
+unfolding parameter
+good_parameter = good_node _ (good_then (good_specifiers _)
+    (λ front. good_pair (good_perhaps _ good_one) (good_perhaps _ good_identifier)))
+
+pub good_parameter_list : Good parameter_list parameter_list
+unfolding parameter_list
+good_parameter_list = good_node _ (good_pair (good_deeper good_parameter)
+    (good_many _ (good_skip (good_deeper good_parameter))))
+
+pub good_function_rest : Good function_rest function_rest
+unfolding function_rest
+good_function_rest = good_node _ (good_skip (good_pair
+    (good_before (good_perhaps _ good_parameter_list) _) good_attributes))
+
+pub good_skipped_body : Good skipped_body skipped_body
+unfolding skipped_body
+good_skipped_body = good_balanced _ _ _
+
+module _ (G H : Grammar) (g : GoodGrammar G H) where
+  pub good_element : Good (element G) (element H)
+  unfolding element
+  good_element = good_node _ (good_pair (good_deeper g.assignment)
+      (good_choice symbol_of good_comma_or_end_at))
+
+  pub good_list : Good (list G) (list H)
+  unfolding list
+  good_list = good_node _ (good_behind _ (good_before (good_many _ good_element) _))
+
+  pub good_initializer_of : (is_array : Bool) → Good (initializer_of G is_array)
+      (initializer_of H is_array)
+  unfolding initializer_of
+  good_initializer_of false = good_node _ (good_deeper g.assignment)
+  good_initializer_of true = good_deeper g.list
+
+  pub good_array : Good (array G) (array H)
+  unfolding array
+  good_array = good_node _ (good_skip (good_before (good_perhaps _ (good_deeper g.conditional)) _))
+
+  pub good_array_part : Good (array_part G) (array_part H)
+  unfolding array_part
+  good_array_part = good_pair (good_perhaps _ good_array) good_attributes
+
+  pub good_declarator_rest : Good (declarator_rest G) (declarator_rest H)
+  unfolding declarator_rest
+  good_declarator_rest = good_node _ (good_then good_array_part
+      (λ front. good_perhaps _ (good_skip (good_initializer_of (is_some front.0)))))
+
+  pub good_declarator : Good (declarator G) (declarator H)
+  unfolding declarator
+  good_declarator = good_node _ (good_pair good_identifier good_declarator_rest)
+
+  pub good_more_declarators : Good (more_declarators G) (more_declarators H)
+  unfolding more_declarators
+  good_more_declarators = good_many _ (good_skip good_declarator)
+
+  pub good_declaration : Good (declaration G) (declaration H)
+  unfolding declaration
+  good_declaration = good_node _ (good_pair (good_specifiers _)
+      (good_before (good_node _ (good_pair good_declarator good_more_declarators)) _))
+
+  pub good_items : Good (items G) (items H)
+  unfolding items
+  good_items = good_before (good_many _ (good_deeper g.item)) _
+
+  pub good_condition : Good (condition G) (condition H)
+  unfolding condition
+  good_condition = good_behind _ (good_before (good_deeper g.comma) _)
+
+  pub good_optional : (closer : Terminal) → Good (optional closer G) (optional closer H)
+  unfolding optional
+  good_optional closer = good_before (good_perhaps _ (good_deeper g.comma)) _
+
+  pub good_for_start : (local : Bool) → Good (for_start G local) (for_start H local)
+  unfolding for_start
+  good_for_start true = good_node _ (good_deeper g.declaration)
+  good_for_start false = good_node _ (good_optional terminal.Semicolon)
+
+  pub good_behind_comma_at : (name : Option Name) (s : Symbol) →
+      Good (behind_comma_at G name s) (behind_comma_at H name s)
+  unfolding behind_comma_at
+  good_behind_comma_at name (symbol.Terminal terminal.Semicolon) = good_node _ good_one
+  good_behind_comma_at (Some name) (symbol.Terminal terminal.Colon) =
+      good_node _ (good_skip (good_deeper g.statement))
+  good_behind_comma_at _ _ = good_nothing
+
+  pub good_statement_at : (s : Symbol) → Good (statement_at G s) (statement_at H s)
+  unfolding statement_at
+  good_statement_at (symbol.Terminal terminal.LeftBrace) = good_node _ (good_skip good_items)
+  good_statement_at (symbol.Terminal terminal.Semicolon) = good_node _ good_one
+  good_statement_at (symbol.Terminal terminal.If) = good_node _ (good_skip (good_pair good_condition
+      (good_pair (good_deeper g.statement) (good_nearest _ (good_skip (good_deeper g.statement))))))
+  good_statement_at (symbol.Terminal terminal.While) =
+      good_node _ (good_skip (good_pair good_condition (good_deeper g.statement)))
+  good_statement_at (symbol.Terminal terminal.Do) =
+      good_node _ (good_skip (good_pair (good_before (good_deeper g.statement) _)
+      (good_before good_condition _)))
+  good_statement_at (symbol.Terminal terminal.For) =
+      good_node _ (good_skip (good_behind _ (good_pair
+      (good_choice is_local_specifier good_for_start)
+      (good_pair (good_optional terminal.Semicolon) (good_pair (good_optional terminal.RightParen)
+      (good_deeper g.statement))))))
+  good_statement_at (symbol.Terminal terminal.Goto) =
+      good_node _ (good_skip (good_before good_identifier _))
+  good_statement_at (symbol.Terminal terminal.Break) = good_node _ (good_skip (good_such _))
+  good_statement_at (symbol.Terminal terminal.Continue) = good_node _ (good_skip (good_such _))
+  good_statement_at (symbol.Terminal terminal.Return) =
+      good_node _ (good_skip (good_before (good_perhaps _ (good_comma G H g)) _))
+  good_statement_at _ = good_node _ (good_then (good_comma G H g)
+      (λ made. good_choice symbol_of (good_behind_comma_at (bare_name made))))
+
+  pub good_statement : Good (statement G) (statement H)
+  unfolding statement
+  good_statement = good_choice symbol_of good_statement_at
+
+  pub good_item_by : (local : Bool) → Good (item_by G local) (item_by H local)
+  unfolding item_by
+  good_item_by true = good_node _ good_declaration
+  good_item_by false = good_node _ good_statement
+
+  pub good_item : Good (item G) (item H)
+  unfolding item
+  good_item = good_choice is_local_specifier good_item_by
+
+  pub good_body_of : (known : Bool) → Good (body_of G known) (body_of H known)
+  unfolding body_of
+  good_body_of true = good_node _ (good_skip good_skipped_body)
+  good_body_of false = good_node _ (good_skip good_items)
+
+  pub good_function_end_at : (name : Name) (pointer : Bool) (s : Symbol) →
+      Good (function_end_at G name pointer s) (function_end_at H name pointer s)
+  unfolding function_end_at
+  good_function_end_at name pointer (symbol.Terminal terminal.Semicolon) = good_node _ good_one
+  good_function_end_at name false (symbol.Terminal terminal.LeftBrace) =
+      good_node _ (good_body_of (is_known name))
+  good_function_end_at name _ _ = good_nothing
+
+  pub good_named_at : (name : Name) (s : Symbol) → Good (named_at G name s) (named_at H name s)
+  unfolding named_at
+  good_named_at name (symbol.Terminal terminal.LeftParen) =
+      good_node _ (good_then good_function_rest
+      (λ found. good_choice symbol_of (good_function_end_at name (have_pointer found))))
+  good_named_at name _ =
+      good_node _ (good_before (good_pair good_declarator_rest good_more_declarators) _)
+
+  pub good_declared_at : (s : Symbol) → Good (declared_at G s) (declared_at H s)
+  unfolding declared_at
+  good_declared_at (symbol.Terminal terminal.Semicolon) = good_node _ good_one
+  good_declared_at symbol.Name =
+      good_node _ (good_then good_identifier (λ name. good_choice symbol_of (good_named_at name)))
+  good_declared_at _ = good_nothing
+
+  pub good_unit_item_at : (s : Symbol) → Good (unit_item_at G s) (unit_item_at H s)
+  unfolding unit_item_at
+  good_unit_item_at (symbol.Terminal terminal.Semicolon) = good_node _ good_one
+  good_unit_item_at _ =
+      good_node _ (good_pair (good_specifiers _) (good_choice symbol_of good_declared_at))
+
+  pub good_unit_item : Good (unit_item G) (unit_item H)
+  unfolding unit_item
+  good_unit_item = good_choice symbol_of good_unit_item_at
+
+  pub good_unit_items : Good (unit_items G) (unit_items H)
+  unfolding unit_items
+  good_unit_items = good_before (good_many _ good_unit_item) _
+
+-- the grammar at one depth against the grammar at another
+pub good_grammar : (n m : ℕ) → GoodGrammar (grammar n) (grammar m)
+unfolding grammar
+good_grammar zero m = record {
+  comma = good_nothing;
+  assignment = good_nothing;
+  conditional = good_nothing;
+  cast = good_nothing;
+  unary = good_nothing;
+  list = good_nothing;
+  declaration = good_nothing;
+  statement = good_nothing;
+  item = good_nothing;
+}
+good_grammar (suc n) zero = let g = good_grammar n n in record {
+  comma = good_against_nothing (good_comma (grammar n) (grammar n) g);
+  assignment = good_against_nothing (good_assignment (grammar n) (grammar n) g);
+  conditional = good_against_nothing (good_conditional (grammar n) (grammar n) g);
+  cast = good_against_nothing (good_cast (grammar n) (grammar n) g);
+  unary = good_against_nothing (good_unary (grammar n) (grammar n) g);
+  list = good_against_nothing (good_list (grammar n) (grammar n) g);
+  declaration = good_against_nothing (good_declaration (grammar n) (grammar n) g);
+  statement = good_against_nothing (good_statement (grammar n) (grammar n) g);
+  item = good_against_nothing (good_item (grammar n) (grammar n) g);
+}
+good_grammar (suc n) (suc m) = let g = good_grammar n m in record {
+  comma = good_comma (grammar n) (grammar m) g;
+  assignment = good_assignment (grammar n) (grammar m) g;
+  conditional = good_conditional (grammar n) (grammar m) g;
+  cast = good_cast (grammar n) (grammar m) g;
+  unary = good_unary (grammar n) (grammar m) g;
+  list = good_list (grammar n) (grammar m) g;
+  declaration = good_declaration (grammar n) (grammar m) g;
+  statement = good_statement (grammar n) (grammar m) g;
+  item = good_item (grammar n) (grammar m) g;
+}

@@ -1,0 +1,58 @@
+//! The tree of declarations of objects (C11 6.7).
+//! Which one a text has is said by their grammar, `specs/Declarations.antt`.
+use crate::{Expression, Name};
+use c_grammar_symbols::{SpecifierWord, StorageWord, TypeWord};
+use cpa_ints::Seq;
+
+/// What a word of specifiers is.
+#[derive(Clone, Copy, Debug, PartialEq, Eq)]
+pub enum SpecifierKind {
+    Storage(StorageWord),
+    Other(SpecifierWord),
+    TypeWord(TypeWord),
+}
+
+/// A word of specifiers and its place.
+#[derive(Clone, Copy, Debug, PartialEq, Eq)]
+pub struct Specifier {
+    pub kind: SpecifierKind,
+    pub place: u32,
+}
+
+/// The words before a declarator, in the order in which they stand; those of types are one type.
+#[derive(Debug, Drop)]
+pub struct Specifiers {
+    pub words: Seq<Specifier>,
+    pub place: u32,
+}
+
+/// `[length]` or `[]` behind the name of an array.
+#[derive(Debug, Drop)]
+pub struct Array {
+    pub length: Option<Expression>,
+    pub place: u32,
+}
+
+/// What an object is initialized with: an expression where it is a scalar, a list where it is an
+/// array.
+#[derive(Debug, Drop)]
+pub enum Initializer {
+    Scalar(Expression),
+    /// `{items}`, and the place of the brace.
+    List { items: Seq<Expression>, place: u32 },
+}
+
+/// A declared object. Its attributes are skipped.
+#[derive(Debug, Drop)]
+pub struct Declarator {
+    pub name: Name,
+    pub array: Option<Array>,
+    pub initializer: Option<Initializer>,
+}
+
+/// Specifiers and the objects that they declare.
+#[derive(Debug, Drop)]
+pub struct Declaration {
+    pub specifiers: Specifiers,
+    pub declarators: Seq<Declarator>,
+}

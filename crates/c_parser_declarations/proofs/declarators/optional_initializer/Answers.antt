@@ -1,0 +1,27 @@
+-- An initializer where its = stands.
+use Rattle.std.proofs.Common.{sym}
+use Rattle.c_grammar_forms.specs.Forms.{Skip}
+use Rattle.c_grammar_forms.specs.Found.{reads_no, reads_one_more, reads_skip}
+use Rattle.c_grammar_forms.specs.NotFound.{none_perhaps, none_skip}
+use Rattle.c_grammar_forms.specs.Exits.{at_exit}
+use Rattle.c_grammar_tree.specs.declared.TheConstants.{MAX_LEVEL}
+use Rattle.c_grammar_tree.specs.Grammar.{grammar}
+use Rattle.c_grammar_tree.specs.Parts.{is_initializing}
+use Rattle.c_grammar_tree.specs.Declarations.{initializer_of}
+use Rattle.c_parser_declarations.proofs.declarators.optional_initializer.Goals as goal
+
+pub returns-then-not-is_initializing : goal.returns-then-not-is_initializing
+returns-then-not-is_initializing c =
+    reads_no (λ n. Skip (initializer_of (grammar n) c.args.is_array)) is_initializing
+    (sym c.if-not-is_initializing.ensures.value)
+    c.requires.within
+
+pub returns-in_err-initializer : goal.returns-in_err-initializer
+returns-in_err-initializer c =
+    at_exit MAX_LEVEL _ _ c.from_residual.ensures.1 c.in_err-initializer.ensures
+    (λ i g. none_perhaps is_initializing (sym c.if-not-is_initializing.ensures.value) (none_skip g))
+
+pub returns : goal.returns
+returns c =
+    reads_one_more is_initializing (sym c.if-not-is_initializing.ensures.value)
+    (reads_skip c.in_ok-initializer.ensures)

@@ -1,0 +1,136 @@
+//! Readers of the parts of statements that are no statements, which are `condition`, `optional` and
+//! `for_start` of `Statements.antt` of `c_grammar_tree`.
+ghost use Rattle.std.specs.Prelude.{◌≡◌, ◌<◌, length};
+ghost use Rattle.c_grammar_forms.specs.Forms.{Choice};
+ghost use Rattle.c_grammar_tree.specs.Parts.{is_local_specifier, bare_name};
+ghost use Rattle.c_grammar_tree.specs.Statements.{condition, optional, for_start};
+ghost use Rattle.c_grammar_tree.specs.Reading.{Gives, HasRoom, HasRoomBelow};
+ghost use Rattle.c_parser_statements.specs.Forms.{optional_comma, test_and_step, for_head};
+
+use c_grammar_forms::ReadError;
+use c_grammar_symbols::{Source, Terminal};
+use c_grammar_tree::{Expression, ForStart, Name};
+use c_parser_declarations::{begins_declaration, inner_declaration};
+use c_parser_expressions::inner_comma;
+use cpa_ints::Boxed;
+use std::alloc::Global;
+
+/// The name that the expression is, where it is one and nothing more.
+pub(crate) fn bare_name(expression: Expression) -> Option<Name>
+    ensures { result ≡ bare_name expression }
+{
+    match expression {
+        Expression::Name(name) => Some(name),
+        _ => None,
+    }
+}
+
+/// The expression in brackets that a statement tests.
+pub(crate) fn condition(
+    alloc: Global,
+    source: &Source,
+    at: usize,
+    left: u32,
+) -> Result<(Expression, usize), ReadError>
+    requires within { at < length source.now }
+    requires room { HasRoom left at }
+    ensures { Gives condition source.now left at result }
+{
+    let start = source.expect(at, Terminal::LeftParen)?;
+    let (test, closer) = inner_comma(alloc, source, start, left)?;
+    let behind = source.expect(closer, Terminal::RightParen)?;
+    Ok((test, behind))
+}
+
+/// The expression that stands here, where the terminal does not stand at once.
+fn optional_comma(
+    alloc: Global,
+    source: &Source,
+    at: usize,
+    left: u32,
+    closer: Terminal,
+) -> Result<(Option<Expression>, usize), ReadError>
+    requires within { at < length source.now }
+    requires room { HasRoomBelow left at }
+    ensures { Gives (optional_comma closer) source.now left at result }
+{
+    if source.is(at, closer) {
+        return Ok((None, at));
+    }
+    let (expression, behind) = inner_comma(alloc, source, at, left)?;
+    Ok((Some(expression), behind))
+}
+
+/// The same with the terminal.
+pub(crate) fn optional(
+    alloc: Global,
+    source: &Source,
+    at: usize,
+    left: u32,
+    closer: Terminal,
+) -> Result<(Option<Expression>, usize), ReadError>
+    requires within { at < length source.now }
+    requires room { HasRoomBelow left at }
+    ensures { Gives (optional closer) source.now left at result }
+{
+    let (expression, mark) = optional_comma(alloc, source, at, left, closer)?;
+    let behind = source.expect(mark, closer)?;
+    Ok((expression, behind))
+}
+
+/// The first part of a `for`, with its semicolon.
+pub(crate) fn for_start(
+    alloc: Global,
+    source: &Source,
+    at: usize,
+    left: u32,
+) -> Result<(ForStart, usize), ReadError>
+    requires within { at < length source.now }
+    requires room { HasRoomBelow left at }
+    ensures { Gives (λ G. Choice is_local_specifier (for_start G)) source.now left at result }
+{
+    if begins_declaration(source, at) {
+        let (declaration, behind) = inner_declaration(alloc, source, at, left)?;
+        return Ok((ForStart::Declaration(declaration), behind));
+    }
+    let (expression, behind) = optional(alloc, source, at, left, Terminal::Semicolon)?;
+    Ok((ForStart::Expression(expression), behind))
+}
+
+/// The test and the step of a `for`, each with the token that ends it.
+fn test_and_step(
+    alloc: Global,
+    source: &Source,
+    at: usize,
+    left: u32,
+) -> Result<((Option<Expression>, Option<Expression>), usize), ReadError>
+    requires within { at < length source.now }
+    requires room { HasRoomBelow left at }
+    ensures { Gives test_and_step source.now left at result }
+{
+    let (test, next) = optional(alloc, source, at, left, Terminal::Semicolon)?;
+    let (step, behind) = optional(alloc, source, next, left, Terminal::RightParen)?;
+    Ok(((test, step), behind))
+}
+
+/// The parts of a `for` that its brackets hold: the first one, the test and the step.
+pub(crate) type ForHead = (ForStart, (Option<Expression>, Option<Expression>));
+
+/// What stands in the brackets of a `for`, with its brackets. It comes in a box, which is given
+/// back by one call where the body behind it cannot be read.
+pub(crate) fn for_head(
+    alloc: Global,
+    source: &Source,
+    at: usize,
+    left: u32,
+) -> Result<(Boxed<ForHead>, usize), ReadError>
+    requires within { at < length source.now }
+    requires room { HasRoom left at }
+    ensures { Gives for_head source.now left at result }
+{
+    let opened = source.expect(at, Terminal::LeftParen)?;
+    let (start, next) = for_start(alloc, source, opened, left)?;
+    let (ends, behind) = test_and_step(alloc, source, next, left)?;
+    let head = Boxed::new(alloc, (start, ends))?;
+    Ok((head, behind))
+}

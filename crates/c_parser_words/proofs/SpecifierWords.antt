@@ -1,0 +1,176 @@
+-- Specifiers that are read one by one.
+use Rattle.std.specs.Prelude.{◌≡◌, ℕ, ◌+◌, ◌<◌, Bool, true, false, ◌==◌, List, [], ◌∷◌, ◌++◌}
+use Rattle.std.specs.Prelude.{length, None, Some}
+use Rattle.std.proofs.Common.{sym, ◌∙◌, ap, subst, refl, arith, append_assoc}
+use Rattle.std.proofs.lemmas.List.Elements.{filter_map-append}
+use Rattle.c_grammar_forms.specs.declared.fault.ReadError.{ReadError}
+use Rattle.c_grammar_forms.specs.declared.fault.ReadError.TheVariants.{Unexpected, TooDeep}
+use Rattle.c_grammar_forms.specs.declared.fault.ReadError.TheVariants.{OutOfMemory}
+use Rattle.c_grammar_forms.specs.Forms.{World, Form, Choice, Many}
+use Rattle.c_grammar_forms.specs.Steady.{Steady, good_many, good_choice}
+use Rattle.c_grammar_forms.specs.Reading.{Reads, NoneThrough, Faults}
+use Rattle.c_grammar_forms.specs.Found.{reads_node, reads_one, reads_choice, reads_shaped}
+use Rattle.c_grammar_forms.specs.NotFound.{none_node, none_shaped_here}
+use Rattle.c_grammar_forms.specs.Loops.{SoFar, no_parts, one_more, no_more, no_such_part}
+use Rattle.c_grammar_symbols.specs.declared.words.TypeWord.{TypeWord}
+use Rattle.c_grammar_symbols.specs.declared.symbol.Symbol.{Symbol}
+use Rattle.c_grammar_symbols.specs.declared.symbol.Symbol.TheVariants as symbol
+use Rattle.c_grammar_symbols.specs.Symbols.{Leaf, symbol_of}
+use Rattle.c_grammar_symbols.specs.Sources.{leaf_at}
+use Rattle.c_grammar_tree.specs.declared.TheConstants.{MAX_LEVEL}
+use Rattle.c_grammar_tree.specs.declared.declaration.Specifier.{Specifier}
+use Rattle.c_grammar_tree.specs.declared.declaration.Specifiers.{Specifiers}
+use Rattle.c_grammar_tree.specs.declared.declaration.SpecifierKind.{SpecifierKind}
+use Rattle.c_grammar_tree.specs.declared.declaration.SpecifierKind.TheVariants as kind
+use Rattle.c_grammar_tree.specs.Parts.{is_part_of_type, is_type, type_word_of, type_words}
+use Rattle.c_grammar_tree.specs.Parts.{have_type}
+use Rattle.c_grammar_tree.specs.Declarations.{specifier_at, specifiers}
+use Rattle.c_grammar_tree.specs.OneReadingOfText.{good_specifier_at}
+use Rattle.c_parser_words.specs.declared.words.AllowedStorage.{AllowedStorage}
+use Rattle.c_parser_words.specs.Storage.{goes, goes_in}
+use Rattle.c_parser_words.specs.Steps.{words_in, AreGrown, IsRefused, kind_of}
+use Rattle.c_parser_words.proofs.TypeParts.{no_type_longer, is_type_of, no_words}
+
+abbrev pub any_specifier : Form Leaf Specifier
+any_specifier = Choice symbol_of specifier_at
+
+steady_specifier : Steady (λ n. any_specifier)
+steady_specifier = record { good = λ n m. good_choice symbol_of good_specifier_at }
+
+steady_list : (test : Leaf → Bool) → Steady (λ n. Many test any_specifier)
+steady_list test = record { good = λ n m. good_many test (good_choice symbol_of good_specifier_at) }
+
+-- the words are read from p up to here, and these words of types among them are some of one type
+pub record AreSpecifiers (allowed : AllowedStorage) (leaves : List Leaf) (p : ℕ)
+    (words : List Specifier)
+    (types : List TypeWord) (here : ℕ) : Type 0 where
+  pub so_far : (left : ℕ) → SoFar (λ n. Many (goes_in allowed) any_specifier) (goes_in allowed)
+      (λ n. any_specifier)
+      (leaf_at leaves) (length leaves) left p words here
+  pub kinds : types ≡ type_words words
+  pub part : is_part_of_type types ≡ true
+  pub within : here < length leaves
+
+-- the specifier that a symbol is
+reads_kind : {at : ℕ → Leaf} {size left p : ℕ} (s : Symbol) (k : SpecifierKind) →
+    kind_of s ≡ Some k → p + 1 < size →
+    Reads (λ n. specifier_at s) at size left p (record { kind = k; place = (at p).place }) (p + 1)
+unfolding specifier_at
+reads_kind {at} {p = p} (symbol.Storage w) k e fits =
+    reads_node _ (let same : k ≡ kind.Storage w = cc in ap (λ t. record {
+      kind = t;
+      place = (at p).place;
+    }) same) (reads_one fits)
+reads_kind {at} {p = p} (symbol.Specifier w) k e fits =
+    reads_node _ (let same : k ≡ kind.Other w = cc in ap (λ t. record {
+      kind = t;
+      place = (at p).place;
+    }) same) (reads_one fits)
+reads_kind {at} {p = p} (symbol.TypeWord w) k e fits =
+    reads_node _ (let same : k ≡ kind.TypeWord w =
+    cc in ap (λ t. record { kind = t; place = (at p).place }) same) (reads_one fits)
+reads_kind _ k e fits = let clash : None ≡ Some k = e in absurd (cc)
+
+-- what is read of a symbol is of its kind
+kind_read : (v : World Leaf) (left p : ℕ) (u : Specifier) (q : ℕ) (s : Symbol) (k : SpecifierKind) →
+    kind_of s ≡ Some k →
+    specifier_at s v left p u q → u.kind ≡ k
+unfolding specifier_at
+kind_read v left p u q (symbol.Storage w) k e r =
+    ap (λ t. t.kind) r.made ∙ (let same : kind.Storage w ≡ k = cc in same)
+kind_read v left p u q (symbol.Specifier w) k e r =
+    ap (λ t. t.kind) r.made ∙ (let same : kind.Other w ≡ k = cc in same)
+kind_read v left p u q (symbol.TypeWord w) k e r =
+    ap (λ t. t.kind) r.made ∙ (let same : kind.TypeWord w ≡ k = cc in same)
+kind_read v left p u q _ k e r = let clash : None ≡ Some k = e in absurd (cc)
+
+-- the words of types in one specifier
+types_in : (k : SpecifierKind) (place : ℕ) → type_words (record { kind = k; place = place } ∷
+    []) ≡ words_in k
+types_in (kind.Storage w) place = refl
+types_in (kind.Other w) place = refl
+types_in (kind.TypeWord w) place = refl
+
+types_behind : (words : List Specifier) (u : Specifier) (us : List Specifier) →
+    type_words (words ++ u ∷ us) ≡ (type_words words ++ words_in u.kind) ++ type_words us
+types_behind words u us =
+    filter_map-append type_word_of words (u ∷ us)
+    ∙ (ap (λ t. type_words words ++ t)
+    (filter_map-append type_word_of (u ∷ []) us ∙ ap (λ t. t ++ type_words us)
+    (types_in u.kind u.place))
+    ∙ sym (append_assoc (type_words words) (words_in u.kind) (type_words us)))
+
+module _ (allowed : AllowedStorage) (leaves : List Leaf) (p : ℕ) where
+  pub specifiers_first : p < length leaves → AreSpecifiers allowed leaves p [] [] p
+  specifiers_first fits = record {
+    so_far = λ left. no_parts (goes_in allowed) (λ n. any_specifier) fits;
+    kinds = refl;
+    part = refl;
+    within = fits;
+  }
+
+  module _ (words : List Specifier) (types : List TypeWord) (here : ℕ)
+      (s : AreSpecifiers allowed leaves p words types here) where
+    pub specifiers_more : (k : SpecifierKind) (more : List Specifier) (after : List TypeWord) →
+        goes allowed (symbol_of (leaf_at leaves here)) ≡ true →
+        kind_of (symbol_of (leaf_at leaves here)) ≡ Some k →
+        here + 1 < length leaves → more ≡ words ++ record {
+          kind = k;
+          place = (leaf_at leaves here).place;
+        } ∷ [] →
+        AreGrown types k after → AreSpecifiers allowed leaves p more after (here + 1)
+    specifiers_more k more after goes_on is_kind fits pushed g =
+        subst (λ list. AreSpecifiers allowed leaves p list after (here + 1)) (sym pushed)
+        (record {
+          so_far = λ left. one_more (s.so_far left) steady_specifier goes_on
+              (reads_choice symbol_of (λ n. specifier_at) refl
+              (reads_kind (symbol_of (leaf_at leaves here)) k is_kind fits));
+          kinds = g.all
+              ∙ (ap (λ t. t ++ words_in k) s.kinds
+              ∙ sym (filter_map-append type_word_of words
+              (record { kind = k; place = (leaf_at leaves here).place } ∷ [])
+              ∙ ap (λ t. type_words words ++ t) (types_in k (leaf_at leaves here).place)));
+          part = g.part;
+          within = fits;
+        })
+
+    pub specifiers_refused : (left : ℕ) (k : SpecifierKind) →
+        goes allowed (symbol_of (leaf_at leaves here)) ≡ true →
+        kind_of (symbol_of (leaf_at leaves here)) ≡ Some k → (e : ReadError) →
+        IsRefused types k here e →
+        Faults MAX_LEVEL (λ n. specifiers (goes_in allowed)) (leaf_at leaves)
+        (length leaves) left p e
+    unfolding specifiers
+    specifiers_refused left k goes_on is_kind (Unexpected i) h =
+        subst (λ j. NoneThrough (λ n. specifiers (goes_in allowed)) (leaf_at leaves)
+        (length leaves) left p j) (sym h.0)
+        (none_node _ (no_such_part (s.so_far left) have_type goes_on
+        (λ n v b u j r us.
+        let same = kind_read v left here u j (symbol_of (v.at here)) k
+        (ap (λ t. kind_of (symbol_of t)) (b.tokens here (omega arith)) ∙ is_kind)
+        r.chosen in
+        ap is_type (types_behind words u us
+        ∙ (ap (λ t. (type_words words ++ words_in t) ++ type_words us) same
+        ∙ ap (λ t. (t ++ words_in k) ++ type_words us) (sym s.kinds)))
+        ∙ no_type_longer (types ++ words_in k) (type_words us) h.1)))
+    specifiers_refused left k goes_on is_kind (TooDeep i) h = absurd h
+    specifiers_refused left k goes_on is_kind OutOfMemory h = tt
+
+    pub specifiers_none : (left : ℕ) → goes allowed (symbol_of (leaf_at leaves here)) ≡ false →
+        (length types == 0) ≡ true →
+        NoneThrough (λ n. specifiers (goes_in allowed)) (leaf_at leaves) (length leaves) left p here
+    unfolding specifiers
+    specifiers_none left stops none =
+        none_node _ (none_shaped_here have_type (steady_list (goes_in allowed))
+        (no_more (s.so_far left) stops)
+        (ap is_type (sym s.kinds) ∙ no_words types none))
+
+    pub specifiers_found : (left : ℕ) (u : Specifiers) →
+        u ≡ record { words = words; place = (leaf_at leaves p).place } →
+        goes allowed (symbol_of (leaf_at leaves here)) ≡ false → (length types == 0) ≡ false →
+        Reads (λ n. specifiers (goes_in allowed)) (leaf_at leaves) (length leaves) left p u here
+    unfolding specifiers
+    specifiers_found left u made stops some =
+        reads_node _ made (reads_shaped have_type (ap is_type (sym s.kinds) ∙
+        is_type_of types s.part some)
+        (no_more (s.so_far left) stops))

@@ -1,0 +1,17 @@
+//! Readers of the parts of C's grammar that hold no other part of their kind: names, words of
+//! types, specifiers, what is skipped, and parameters. Each meets the form of its name in
+//! `c_grammar_tree`.
+#![tactic(auto)]
+
+mod brackets;
+mod classes;
+mod names;
+mod parameters;
+mod types;
+mod words;
+
+pub use brackets::{attributes, round_brackets, skipped_body};
+pub use names::{identifier, name, optional_identifier};
+pub use parameters::{function_rest, parameter, parameter_list};
+pub use types::type_name;
+pub use words::{AllowedStorage, specifiers};

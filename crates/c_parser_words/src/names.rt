@@ -1,0 +1,58 @@
+//! Readers of identifiers, which are `identifier` of `Declarations.antt` of `c_grammar_tree`.
+//! Proved with `proofs/names/`.
+ghost use Rattle.std.specs.Prelude.{◌≡◌, ◌<◌, length, IfOk, IfErr};
+ghost use Rattle.c_grammar_forms.specs.Forms.{Perhaps};
+ghost use Rattle.c_grammar_forms.specs.declared.fault.ReadError.TheVariants.{OutOfMemory};
+ghost use Rattle.c_grammar_symbols.specs.Sources.{leaf_at};
+ghost use Rattle.c_grammar_tree.specs.Parts.{is_name, name_of};
+ghost use Rattle.c_grammar_tree.specs.Declarations.{identifier};
+ghost use Rattle.c_parser_words.specs.Answers.{Finds};
+
+use crate::classes::is_name;
+use c_grammar_forms::ReadError;
+use c_grammar_symbols::Source;
+use c_grammar_tree::Name;
+use cpa_ints::Seq;
+use std::alloc::Global;
+
+/// The name that the token is, whatever it stands for.
+pub fn name(alloc: Global, source: &Source, at: usize) -> Result<Name, ReadError>
+    requires { at < length source.now }
+    ensures name { IfOk result (λ name. name ≡ name_of (leaf_at source.now at) tt) }
+    ensures memory { IfErr result (λ error. error ≡ OutOfMemory) }
+{
+    let bytes = Seq::from_vec(source.bytes(at).to_vec(alloc)?);
+    Ok(Name {
+        bytes,
+        place: source.place(at),
+    })
+}
+
+/// The identifier that stands here.
+pub fn identifier(alloc: Global, source: &Source, at: usize) -> Result<(Name, usize), ReadError>
+    requires { at < length source.now }
+    ensures { Finds identifier source.now at result }
+{
+    if is_name(source, at) {
+        Ok((name(alloc, source, at)?, at + 1))
+    } else {
+        Err(ReadError::Unexpected { at })
+    }
+}
+
+/// The identifier that stands here, where one does.
+pub fn optional_identifier(
+    alloc: Global,
+    source: &Source,
+    at: usize,
+) -> Result<(Option<Name>, usize), ReadError>
+    requires { at < length source.now }
+    ensures { Finds (Perhaps is_name identifier) source.now at result }
+{
+    if is_name(source, at) {
+        let (name, behind) = identifier(alloc, source, at)?;
+        Ok((Some(name), behind))
+    } else {
+        Ok((None, at))
+    }
+}

@@ -1,7 +1,0 @@
-//! The grammar of C written plainly, `PlainTree` of `specs/Plain.antt`, has the trees of `c_tree`'s
-//! grammar. Proved in `proofs/PlainText.antt`.
-#![tactic(auto)]
-
-mod laws;
-
-pub use laws::plain_trees_are_trees;

@@ -1,5 +1,0 @@
-use Rattle.c_symbols.proofs.Tables.{no_text}
-use Rattle.c_symbols.proofs.laws.marks_are_no_text.Goals as goal
-
-pub returns : goal.returns
-returns c = no_text

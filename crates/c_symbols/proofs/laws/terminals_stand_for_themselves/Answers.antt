@@ -1,5 +1,0 @@
-use Rattle.c_symbols.proofs.Tables.{spelled_terminal}
-use Rattle.c_symbols.proofs.laws.terminals_stand_for_themselves.Goals as goal
-
-pub returns : goal.returns
-returns c = spelled_terminal

@@ -1,5 +1,0 @@
-use Rattle.c_tree.proofs.Agreement.{agrees}
-use Rattle.c_tree.proofs.laws.trees_agree_through_each_token.Goals as goal
-
-pub returns : goal.returns
-returns c = agrees

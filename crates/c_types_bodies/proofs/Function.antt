@@ -1,0 +1,148 @@
+-- A function's body read by one walk (`is_read`, `typed_is`), where it begins (`begins_is`).
+use Rattle.std.proofs.Common.{◌≡◌, ℕ, Bool, false, List, [], ◌++◌, length, map, Option, sym, ap}
+use Rattle.std.proofs.Common.{◌∙◌, subst}
+use Rattle.std.specs.List.{flat_map}
+use Rattle.c_lexer.specs.declared.fault.Rule.TheVariants as rule
+use Rattle.c_lexer.specs.declared.fault.TextFault.{TextFault}
+use Rattle.c_grammar_tree.specs.declared.declaration.Specifiers.{Specifiers}
+use Rattle.c_grammar_tree.specs.declared.item.Parameter.{Parameter}
+use Rattle.c_grammar_tree.specs.declared.item.Parameters.{Parameters}
+use Rattle.c_grammar_tree.specs.declared.statement.BlockItem.{BlockItem}
+use Rattle.c_types_rules.specs.declared.meaning.Entry.{Entry}
+use Rattle.c_types_rules.specs.declared.meaning.Kind.{Kind}
+use Rattle.c_types_rules.specs.declared.meaning.Object.{Object}
+use Rattle.c_types_rules.specs.declared.typed.TypedFunction.{TypedFunction}
+use Rattle.c_types_rules.specs.declared.typed.TypedItem.{TypedItem}
+use Rattle.c_types_rules.specs.Declarations.{kind_of}
+use Rattle.c_types_rules.specs.First.{first_with}
+use Rattle.c_types_rules.specs.ExpressionRules.{broken}
+use Rattle.c_types_rules.specs.Names.{Text}
+use Rattle.c_types_rules.specs.Statements.{Around, in_order, receiving, labels_of}
+use Rattle.c_types_rules.specs.StatementRules.{repeated_labels, entering_gotos}
+use Rattle.c_types_rules.specs.Items.{body_walk, listed, site_calls, body_faults}
+use Rattle.c_types_rules.specs.TypedStatements.{grown, typed_in_order, parameter_objects}
+use Rattle.c_types_jumps.specs.Found.{Found, nothing_found}
+use Rattle.c_types_bodies.specs.declared.walker.Frame.{Frame}
+use Rattle.c_types_bodies.specs.declared.walker.Nest.{Nest}
+use Rattle.c_types_bodies.specs.declared.walker.Walker.{Walker}
+use Rattle.c_types_bodies.specs.Bodies.{begins, acts_of, objects_behind, typed_body}
+use Rattle.c_types_bodies.specs.Grown.{grown_walk, name_bytes}
+use Rattle.c_types_bodies.specs.States.{walked}
+use Rattle.c_types_bodies.specs.Views.{state_of, around_of, IsTied}
+use Rattle.c_types_bodies.specs.Bodies.{AreNumbered}
+use Rattle.c_types_bodies.proofs.Starting.{tied_start}
+use Rattle.c_types_bodies.proofs.Whole.{whole_walk, is_behind, whole_first}
+
+abbrev pub around_with : List Entry → ℕ → ℕ → Bool → Kind → List (List ℕ) → Around
+around_with names outer objects in_loop result labels = record {
+  names = names;
+  outer = outer;
+  objects = objects;
+  in_loop = in_loop;
+  result = result;
+  labels = labels;
+}
+
+pub begins_is : {between : Found} (frame : Frame) (nest : Nest) {mid : Walker} (walker : Walker)
+    (specifiers : Specifiers) (items : List BlockItem) → IsTied frame mid between
+    → nest.outer ≡ length walker.names → nest.in_loop ≡ false
+    → frame.result ≡ kind_of specifiers
+    → frame.labels.now ≡ map name_bytes (flat_map labels_of items)
+    → around_of frame nest walker ≡ begins walker.names walker.objects specifiers items
+begins_is frame nest walker specifiers items tied outer in_loop result labels =
+    ap (λ (n : ℕ). around_with walker.names n walker.objects nest.in_loop frame.result
+    frame.labels.now) outer
+    ∙ ap (λ (b : Bool). around_with walker.names (length walker.names) walker.objects b
+    frame.result frame.labels.now) in_loop
+    ∙ ap (λ (k : Kind). around_with walker.names (length walker.names) walker.objects false k
+    frame.labels.now) result
+    ∙ ap (λ (ls : List (List ℕ)). around_with walker.names (length walker.names) walker.objects
+    false (kind_of specifiers) ls) labels
+
+pub record IsRead (text : Text) (caller : ℕ) (specifiers : Specifiers) (all : Parameters)
+    (items : List BlockItem) (old last : Walker) (noted : Option TextFault) : Type 0 where
+  pub objects : last.objects ≡ objects_behind text old.names old.objects specifiers all items
+  pub first : noted ≡ first_with old.first (body_faults text
+      (acts_of text old.names old.objects specifiers all items))
+  pub calls : last.calls.items ≡ old.calls.items ++ flat_map (site_calls text caller)
+      (acts_of text old.names old.objects specifiers all items)
+
+pub is_read : (frame : Frame) (nest : Nest) (old mid last : Walker) (start between found : Found)
+    (specifiers : Specifiers) (all : Parameters) (items : List BlockItem) (ps : List Parameter)
+    (noted : Option TextFault) → IsTied frame mid between → ps ≡ listed all
+    → start ≡ nothing_found old.objects
+    → around_of frame nest old ≡ begins old.names old.objects specifiers items
+    → state_of frame nest mid between ≡ walked frame.survey.now frame.caller
+    (in_order (map receiving ps)) (state_of frame nest old start)
+    → state_of frame nest last found ≡ walked frame.survey.now frame.caller
+    (in_order (map (grown_walk frame.survey.now) items)) (state_of frame nest mid between)
+    → noted ≡ first_with last.first (broken rule.N7
+    (repeated_labels [] (state_of frame nest last found).labels)
+    ++ broken rule.N9 (entering_gotos (state_of frame nest last found).labels
+    (state_of frame nest last found).gotos))
+    → IsRead frame.survey.now frame.caller specifiers all items old last noted
+is_read frame nest old mid last start between found specifiers all items ps noted tied ps_are
+    start_is
+    around_is first second noted_is =
+    let text = frame.survey.now in
+    let before = state_of frame nest old start in
+    let whole = whole_walk text frame.caller all items before (state_of frame nest mid between)
+    (state_of frame nest last found)
+    (subst (λ (qs : List Parameter). state_of frame nest mid between
+    ≡ walked text frame.caller (in_order (map receiving qs)) before) ps_are first) second in
+    let behind = is_behind text frame.caller (body_walk text all items) before
+    (state_of frame nest last found) whole in
+    let labels : before.labels ≡ [] =
+    ap (λ (j : Found). (state_of frame nest old j).labels) start_is in
+    let gotos : before.gotos ≡ [] =
+    ap (λ (j : Found). (state_of frame nest old j).gotos) start_is in
+    record {
+      objects = ap (λ (a : Around). a.objects) behind.around
+          ∙ ap (λ (a : Around). ((body_walk text all items).behind a).objects) around_is;
+      first = whole_first text frame.caller (body_walk text all items) before
+          (state_of frame nest last found) noted labels gotos behind noted_is
+          ∙ ap (λ (a : Around). first_with old.first (body_faults text
+          ((body_walk text all items).sites a))) around_is;
+      calls = behind.calls ∙ ap (λ (a : Around). old.calls.items
+          ++ flat_map (site_calls text frame.caller) ((body_walk text all items).sites a))
+          around_is;
+    }
+
+abbrev pub function_of : Kind → List Object → List TypedItem → TypedFunction
+function_of result parameters items =
+    record { result = result; parameters = parameters; items = items }
+
+pub typed_is : (frame : Frame) (nest : Nest) (old mid : Walker) (start between : Found)
+    (specifiers : Specifiers) (all : Parameters) (items : List BlockItem) (ps : List Parameter)
+    (os : List Object) (ts : List TypedItem) → IsTied frame mid between → ps ≡ listed all
+    → around_of frame nest old ≡ begins old.names old.objects specifiers items
+    → state_of frame nest mid between ≡ walked frame.survey.now frame.caller
+    (in_order (map receiving ps)) (state_of frame nest old start)
+    → frame.result ≡ kind_of specifiers → os ≡ parameter_objects old.objects ps
+    → ts ≡ typed_in_order (map (grown frame.survey.now) items) (around_of frame nest mid)
+    → function_of frame.result os ts
+    ≡ typed_body frame.survey.now old.names old.objects specifiers all items
+typed_is frame nest old mid start between specifiers all items ps os ts tied ps_are around_is first
+    result os_are ts_are =
+    let text = frame.survey.now in
+    let behind = is_behind text frame.caller (in_order (map receiving ps))
+    (state_of frame nest old start) (state_of frame nest mid between) first in
+    let objects : os ≡ parameter_objects old.objects (listed all) =
+    os_are ∙ ap (λ (qs : List Parameter). parameter_objects old.objects qs) ps_are in
+    let items_are : ts ≡ typed_in_order (map (grown text) items)
+    ((in_order (map receiving (listed all))).behind
+    (begins old.names old.objects specifiers items)) =
+    ts_are ∙ ap (λ (a : Around). typed_in_order (map (grown text) items) a)
+    (behind.around ∙ ap (λ (a : Around). (in_order (map receiving ps)).behind a) around_is
+    ∙ ap (λ (qs : List Parameter). (in_order (map receiving qs)).behind
+    (begins old.names old.objects specifiers items)) ps_are) in
+    ap (λ (k : Kind). function_of k os ts) result
+    ∙ ap (λ (xs : List Object). function_of (kind_of specifiers) xs ts) objects
+    ∙ ap (λ (ys : List TypedItem). function_of (kind_of specifiers)
+    (parameter_objects old.objects (listed all)) ys) items_are
+
+pub tied_from : (frame : Frame) (walker : Walker) (start : Found)
+    → start ≡ nothing_found walker.objects → frame.file ≡ length walker.names
+    → AreNumbered walker.objects walker.names → IsTied frame walker start
+tied_from frame walker start is file numbered =
+    subst (λ (j : Found). IsTied frame walker j) (sym is) (tied_start frame walker file numbered)

@@ -1,0 +1,454 @@
+use Rattle.std.proofs.Common.{◌≡◌, ℕ, List, map, take, Option, option_map, refl}
+use Rattle.std.proofs.Common.{sym, ap, ◌∙◌, subst, arith, rules}
+use Rattle.std.proofs.lemmas.Grind.{common_steps}
+use Rattle.c_grammar_tree.specs.declared.statement.BlockItem.{BlockItem}
+use Rattle.c_grammar_tree.specs.declared.statement.Statement.{Statement}
+use Rattle.c_types_rules.specs.declared.typed.TypedExpression.{TypedExpression}
+use Rattle.c_types_rules.specs.declared.typed.TypedItem.{TypedItem}
+use Rattle.c_types_rules.specs.declared.typed.TypedStatement.TheVariants as typed_tree
+use Rattle.c_types_rules.specs.declared.meaning.Role.TheVariants.{Valued, Evaluated}
+use Rattle.c_types_rules.specs.declared.meaning.Entry.{Entry}
+use Rattle.c_types_rules.specs.declared.typed.TypedItem.TheVariants as typed_item
+use Rattle.c_types_rules.specs.declared.typed.TypedDeclarator.{TypedDeclarator}
+use Rattle.c_types_rules.specs.declared.typed.TypedStatement.{TypedStatement}
+use Rattle.c_types_rules.specs.Statements.{Around, Walk, followed, doing, evaluating, evaluates}
+use Rattle.c_types_rules.specs.Statements.{marks}
+use Rattle.c_types_rules.specs.Statements.{looped, scoped, in_order, start_walk, loop, perhaps}
+use Rattle.c_types_rules.specs.TypedStatements.{Grown, typed_for_start, typed_optional}
+use Rattle.c_types_expressions.specs.Read.{typed_of}
+use Rattle.c_types_jumps.specs.Found.{Found}
+use Rattle.c_types_bodies.specs.declared.walker.Nest.{Nest}
+use Rattle.c_types_bodies.specs.Grown.{grown_of, grown_walk, grown_typed, walk_of_statement}
+use Rattle.c_types_bodies.specs.States.{walked, State}
+use Rattle.c_types_bodies.specs.Views.{state_of, around_of, Extends}
+use Rattle.c_types_bodies.proofs.Walks.{walked_still}
+use Rattle.c_types_bodies.proofs.Scopes.{two_walks, four_walks, looped_state, scoped_state}
+use Rattle.c_types_bodies.proofs.Scopes.{tied_scoped}
+use Rattle.c_types_bodies.proofs.Scopes.{tied_same, extends_kept, extends_then, regrouped}
+use Rattle.c_types_bodies.proofs.Lists.{item_state, items_end, items_step, around_walked}
+use Rattle.c_types_bodies.proofs.Lists.{walks_same}
+use Rattle.c_types_bodies.proofs.Forms.{of_Declaration, of_Statement, of_Block, of_If, of_While}
+use Rattle.c_types_bodies.proofs.Forms.{of_Do}
+use Rattle.c_types_bodies.proofs.Forms.{of_For, of_Goto, of_Break, of_Continue, of_Return}
+use Rattle.c_types_bodies.proofs.Forms.{of_Labeled}
+use Rattle.c_types_bodies.proofs.Forms.{of_Expression, for_same, if_same}
+use Rattle.c_types_bodies.proofs.statements.+statement.Goals as goal
+
+pub walk_looped-returns-clause-state : goal.walk_looped-returns-clause-state
+walk_looped-returns-clause-state t c =
+    let frame = c.args.frame.now in
+    looped_state frame c.args.nest c.args.walker.now c.walk_part.new.walker c.args.jumps.now
+    c.walk_part.new.jumps frame.survey.now frame.caller
+    (grown_of frame.survey.now c.args.body.now).walk c.in_ok-typed.ensures.names
+    c.in_ok-typed.ensures.state
+
+pub walk_while-walk_looped-requires : goal.walk_while-walk_looped-requires
+walk_while-walk_looped-requires t c = (
+  search rules,
+  tied_same c.args.frame.now c.args.walker.now c.evaluate.new.walker c.args.jumps.now c.requires
+      c.in_ok-test.ensures.names c.in_ok-test.ensures.objects,
+)
+
+pub walk_while-returns-clause-state : goal.walk_while-returns-clause-state
+walk_while-returns-clause-state t c =
+    let frame = c.args.frame.now in
+    let text = frame.survey.now in
+    two_walks text frame.caller (doing (evaluates Valued c.args.test.now))
+    (looped (grown_of text c.args.body.now).walk)
+    (state_of frame c.args.nest c.args.walker.now c.args.jumps.now)
+    (state_of frame c.args.nest c.evaluate.new.walker c.args.jumps.now) _
+    (c.in_ok-test.ensures.state c.args.nest c.args.jumps.now) c.in_ok-body.ensures.state
+
+pub walk_do-returns-clause-state : goal.walk_do-returns-clause-state
+walk_do-returns-clause-state t c =
+    let frame = c.args.frame.now in
+    let text = frame.survey.now in
+    two_walks text frame.caller (looped (grown_of text c.args.body.now).walk)
+    (doing (evaluates Valued c.args.test.now))
+    (state_of frame c.args.nest c.args.walker.now c.args.jumps.now)
+    (state_of frame c.args.nest c.walk_looped.new.walker c.walk_looped.new.jumps) _
+    c.in_ok-body.ensures.state (c.in_ok-test.ensures.state c.args.nest c.walk_looped.new.jumps)
+
+pub walk_labeled-returns-clause-state : goal.walk_labeled-returns-clause-state
+walk_labeled-returns-clause-state t c =
+    let frame = c.args.frame.now in
+    let text = frame.survey.now in
+    two_walks text frame.caller (doing (marks c.args.label.now)) (grown_of text
+    c.args.body.now).walk
+    (state_of frame c.args.nest c.args.walker.now c.args.jumps.now)
+    (state_of frame c.args.nest c.args.walker.now c.mark.new.jumps) _
+    (c.in_ok-mark.ensures.state c.args.nest) c.in_ok-body.ensures.state
+
+pub walk_item-returns-in_ok-typed-in-Declaration-clause-typed :
+    goal.walk_item-returns-in_ok-typed-in-Declaration-clause-typed
+walk_item-returns-in_ok-typed-in-Declaration-clause-typed t c =
+    rw (
+      c.in-Declaration.is,
+      of_Declaration c.args.frame.now.survey.now
+          c.in-Declaration.declaration,
+    )
+    (ap (λ (all : List TypedDeclarator). typed_item.Declaration all)
+    c.in_ok-typed-in-Declaration.ensures.typed)
+
+pub walk_item-returns-in_ok-typed-in-Statement-clause-typed :
+    goal.walk_item-returns-in_ok-typed-in-Statement-clause-typed
+walk_item-returns-in_ok-typed-in-Statement-clause-typed t c =
+    rw (c.in-Statement.is, of_Statement c.args.frame.now.survey.now c.in-Statement.statement)
+    (ap (λ (one : TypedStatement). typed_item.Statement one)
+    c.in_ok-typed-in-Statement.ensures.typed)
+
+pub walk_block-returns-clause-tied : goal.walk_block-returns-clause-tied
+walk_block-returns-clause-tied t c =
+    let frame = c.args.frame.now in
+    let text = frame.survey.now in
+    let old = c.args.walker.now in
+    let mid = c.walk_items.new.walker in
+    let before = c.walk_items.new.jumps in
+    let more : Extends old.names mid.names = c.in_ok-items.ensures.extends in
+    let names = c.keep.ensures
+    ∙ ap (λ (n : ℕ). take n mid.names) c.len-count.ensures
+    ∙ extends_kept old.names mid.names more in
+    tied_scoped frame old mid (record mid { names = c.keep.new.self }) c.args.jumps.now before
+    c.leave.new.self c.requires c.in_ok-items.ensures.tied more names refl
+    (ap (λ (f : Found). f.current) c.leave.ensures
+    ∙ ap (λ (n : ℕ). take n before.current) c.depth-depth.ensures)
+    (ap (λ (f : Found). f.next) c.leave.ensures) (ap (λ (f : Found). f.first) c.leave.ensures)
+
+pub walk_block-returns-clause-state : goal.walk_block-returns-clause-state
+walk_block-returns-clause-state t c =
+    let frame = c.args.frame.now in
+    let text = frame.survey.now in
+    let old = c.args.walker.now in
+    let mid = c.walk_items.new.walker in
+    let before = c.walk_items.new.jumps in
+    let more : Extends old.names mid.names = c.in_ok-items.ensures.extends in
+    let names = c.keep.ensures
+    ∙ ap (λ (n : ℕ). take n mid.names) c.len-count.ensures
+    ∙ extends_kept old.names mid.names more in
+    let part = in_order (map (grown_walk text) c.args.items.now) in
+    scoped_state frame c.args.nest c.len-count.result old mid
+    (record mid { names = c.keep.new.self }) c.args.jumps.now before c.leave.new.self text
+    frame.caller part c.requires.within c.len-count.ensures more names refl refl refl
+    (ap (λ (f : Found). f.labels) c.leave.ensures) (ap (λ (f : Found). f.gotos) c.leave.ensures)
+    c.in_ok-items.ensures.state
+    ∙ ap (λ (all : List Walk). walked text frame.caller (scoped (in_order all))
+    (state_of frame c.args.nest old c.args.jumps.now)) (sym (walks_same text c.args.items.now))
+
+pub walk_for-returns-clause-tied : goal.walk_for-returns-clause-tied
+walk_for-returns-clause-tied t c =
+    let frame = c.args.frame.now in
+    let old = c.args.walker.now in
+    let mid = c.walk_looped.new.walker in
+    let before = c.walk_looped.new.jumps in
+    let more : Extends old.names mid.names = record {
+      rest = c.in_ok-head.ensures.extends.rest;
+      is = c.in_ok-body.ensures.names ∙ c.in_ok-head.ensures.extends.is;
+    } in
+    let names = c.keep.ensures
+    ∙ ap (λ (n : ℕ). take n mid.names) c.len-count.ensures
+    ∙ extends_kept old.names mid.names more in
+    tied_scoped frame old mid (record mid { names = c.keep.new.self }) c.args.jumps.now before
+    c.leave.new.self c.requires c.in_ok-body.ensures.tied more names refl
+    (ap (λ (f : Found). f.current) c.leave.ensures
+    ∙ ap (λ (n : ℕ). take n before.current) c.depth-depth.ensures)
+    (ap (λ (f : Found). f.next) c.leave.ensures) (ap (λ (f : Found). f.first) c.leave.ensures)
+
+pub walk_for-returns-clause-state : goal.walk_for-returns-clause-state
+walk_for-returns-clause-state t c =
+    let frame = c.args.frame.now in
+    let text = frame.survey.now in
+    let old = c.args.walker.now in
+    let mid = c.walk_looped.new.walker in
+    let before = c.walk_looped.new.jumps in
+    let more : Extends old.names mid.names = record {
+      rest = c.in_ok-head.ensures.extends.rest;
+      is = c.in_ok-body.ensures.names ∙ c.in_ok-head.ensures.extends.is;
+    } in
+    let names = c.keep.ensures
+    ∙ ap (λ (n : ℕ). take n mid.names) c.len-count.ensures
+    ∙ extends_kept old.names mid.names more in
+    let inside : Nest = record { outer = c.len-count.result; in_loop = c.args.nest.in_loop } in
+    let first = start_walk text c.args.start.now in
+    let second = evaluating Valued c.args.test.now in
+    let third = evaluating Evaluated c.args.step.now in
+    let last = looped (grown_of text c.args.body.now).walk in
+    let part = followed first (followed second (followed third last)) in
+    scoped_state frame c.args.nest c.len-count.result old mid
+    (record mid { names = c.keep.new.self }) c.args.jumps.now before c.leave.new.self text
+    frame.caller part c.requires.within c.len-count.ensures more names refl refl refl
+    (ap (λ (f : Found). f.labels) c.leave.ensures) (ap (λ (f : Found). f.gotos) c.leave.ensures)
+    (four_walks text frame.caller first second third last
+    (state_of frame inside old c.args.jumps.now)
+    (state_of frame inside c.walk_head.new.walker c.walk_head.new.jumps)
+    (state_of frame inside mid before) c.in_ok-head.ensures.state c.in_ok-body.ensures.state)
+
+pub walk_for-returns-clause-typed : goal.walk_for-returns-clause-typed
+walk_for-returns-clause-typed t c =
+    let frame = c.args.frame.now in
+    let text = frame.survey.now in
+    let outside = around_of frame c.args.nest c.args.walker.now in
+    let first = start_walk text c.args.start.now in
+    let entered = ap (λ (n : ℕ). record outside { outer = n }) c.len-count.ensures in
+    for_same c.in_ok-head.head.start _ c.in_ok-head.head.test _ c.in_ok-head.head.step _
+    c.in_ok-body.body _
+    (c.in_ok-head.ensures.start
+    ∙ ap (λ (around : Around). typed_for_start text c.args.start.now around) entered)
+    (c.in_ok-head.ensures.test
+    ∙ ap (λ (around : Around). typed_optional text (first.behind around) c.args.test.now) entered)
+    (c.in_ok-head.ensures.step
+    ∙ ap (λ (around : Around). typed_optional text (first.behind around) c.args.step.now) entered)
+    (c.in_ok-body.ensures.typed
+    ∙ ap (λ (around : Around). (grown_of text c.args.body.now).typed (loop around))
+    (c.in_ok-head.ensures.around ∙ ap (λ (around : Around). first.behind around) entered))
+
+pub walk_for-walk_looped-requires : goal.walk_for-walk_looped-requires
+walk_for-walk_looped-requires t c = (search rules, c.in_ok-head.ensures.tied)
+
+pub walk_items-loop-item-preserved : goal.walk_items-loop-item-preserved
+walk_items-loop-item-preserved t c =
+    let frame = c.args.frame.now in
+    let text = frame.survey.now in
+    let items = c.args.items.now in
+    let held = c.loop-item.walker in
+    let walker = c.walk_item.new.walker in
+    let state = state_of frame c.args.nest held c.loop-item.jumps in
+    let next = state_of frame c.args.nest walker c.walk_item.new.jumps in
+    record {
+      tied = c.in_ok-one.ensures.tied;
+      extends = extends_then c.args.walker.now.names held.names walker.names
+          c.loop-item.invariant.extends c.in_ok-one.ensures.extends;
+      typed = items_step text items c.loop-item.item-index c.item-item.result
+          c.loop-item.typed.items c.push.new.self.items c.in_ok-one.one
+          (around_of frame c.args.nest held) (around_of frame c.args.nest walker) _ (omega arith)
+          c.item-item.is c.in_ok-push.ensures.items c.in_ok-one.ensures.typed
+          (around_walked text frame.caller (grown_walk text c.item-item.result) state next
+          c.in_ok-one.ensures.state)
+          c.loop-item.invariant.typed;
+      state = item_state text frame.caller (grown_walk text) items c.loop-item.item-index
+          c.item-item.result state next _ (omega arith) c.item-item.is c.in_ok-one.ensures.state
+          c.loop-item.invariant.state;
+    }
+
+pub walk_items-returns-clause-state : goal.walk_items-returns-clause-state
+walk_items-returns-clause-state t c =
+    let frame = c.args.frame.now in
+    items_end frame.survey.now frame.caller (grown_walk frame.survey.now) c.args.items.now
+    c.loop-item.item-index (state_of frame c.args.nest c.loop-item.walker c.loop-item.jumps) _
+    (omega arith) c.loop-item.invariant.state
+
+pub walk_optional-returns-in-None-clause-state : goal.walk_optional-returns-in-None-clause-state
+walk_optional-returns-in-None-clause-state t c =
+    let frame = c.args.frame.now in
+    rw c.in-None.is
+    (sym (walked_still frame.survey.now frame.caller
+    (state_of frame c.args.nest c.args.walker.now c.args.jumps.now)))
+
+pub walk_item-returns-in_ok-typed-in-Declaration-clause-state :
+    goal.walk_item-returns-in_ok-typed-in-Declaration-clause-state
+walk_item-returns-in_ok-typed-in-Declaration-clause-state t c =
+    let frame = c.args.frame.now in
+    let text = frame.survey.now in
+    c.in_ok-typed-in-Declaration.ensures.state
+    ∙ ap (λ (w : Walk). walked text frame.caller w
+    (state_of frame c.args.nest c.args.walker.now c.args.jumps.now))
+    (sym (ap (λ (i : BlockItem). grown_walk text i) c.in-Declaration.is
+    ∙ ap (λ (g : Grown TypedItem). g.walk) (of_Declaration text c.in-Declaration.declaration)))
+
+pub walk_item-returns-in_ok-typed-in-Statement-clause-state :
+    goal.walk_item-returns-in_ok-typed-in-Statement-clause-state
+walk_item-returns-in_ok-typed-in-Statement-clause-state t c =
+    let frame = c.args.frame.now in
+    let text = frame.survey.now in
+    c.in_ok-typed-in-Statement.ensures.state
+    ∙ ap (λ (w : Walk). walked text frame.caller w
+    (state_of frame c.args.nest c.args.walker.now c.args.jumps.now))
+    (sym (ap (λ (i : BlockItem). grown_walk text i) c.in-Statement.is
+    ∙ ap (λ (g : Grown TypedItem). g.walk) (of_Statement text c.in-Statement.statement)))
+
+pub walk_statement-returns-in-Block-clause-typed : goal.walk_statement-returns-in-Block-clause-typed
+walk_statement-returns-in-Block-clause-typed t c =
+    rw (c.in-Block.is, of_Block)
+    (rw c.as_slice.ensures at c.walk_block.ensures.typed)
+
+pub walk_statement-returns-in-Block-clause-state : goal.walk_statement-returns-in-Block-clause-state
+walk_statement-returns-in-Block-clause-state t c =
+    rw (c.in-Block.is, of_Block)
+    (rw c.as_slice.ensures at c.walk_block.ensures.state)
+
+pub walk_statement-returns-in-While-clause-typed : goal.walk_statement-returns-in-While-clause-typed
+walk_statement-returns-in-While-clause-typed t c =
+    rw (c.in-While.is, of_While)
+    (rw c.get-in-While.ensures at c.walk_while.ensures.typed)
+
+pub walk_statement-returns-in-While-clause-state : goal.walk_statement-returns-in-While-clause-state
+walk_statement-returns-in-While-clause-state t c =
+    rw (c.in-While.is, of_While)
+    (rw c.get-in-While.ensures at c.walk_while.ensures.state)
+
+pub walk_statement-returns-in-Do-clause-typed : goal.walk_statement-returns-in-Do-clause-typed
+walk_statement-returns-in-Do-clause-typed t c =
+    rw (c.in-Do.is, of_Do)
+    (rw c.get-in-Do.ensures at c.walk_do.ensures.typed)
+
+pub walk_statement-returns-in-Do-clause-state : goal.walk_statement-returns-in-Do-clause-state
+walk_statement-returns-in-Do-clause-state t c =
+    rw (c.in-Do.is, of_Do)
+    (rw c.get-in-Do.ensures at c.walk_do.ensures.state)
+
+pub walk_statement-returns-in-For-clause-typed : goal.walk_statement-returns-in-For-clause-typed
+walk_statement-returns-in-For-clause-typed t c =
+    rw (c.in-For.is, of_For)
+    (rw c.get-in-For.ensures at c.walk_for.ensures.typed)
+
+pub walk_statement-returns-in-For-clause-state : goal.walk_statement-returns-in-For-clause-state
+walk_statement-returns-in-For-clause-state t c =
+    rw (c.in-For.is, of_For)
+    (rw c.get-in-For.ensures at c.walk_for.ensures.state)
+
+pub walk_statement-returns-in-Labeled-clause-typed :
+    goal.walk_statement-returns-in-Labeled-clause-typed
+walk_statement-returns-in-Labeled-clause-typed t c =
+    rw (
+      c.in-Labeled.is,
+      of_Labeled c.args.frame.now.survey.now c.in-Labeled.label
+          c.in-Labeled.body,
+    )
+    (rw c.get-in-Labeled.ensures at c.walk_labeled.ensures.typed)
+
+pub walk_statement-returns-in-Labeled-clause-state :
+    goal.walk_statement-returns-in-Labeled-clause-state
+walk_statement-returns-in-Labeled-clause-state t c =
+    rw (
+      c.in-Labeled.is,
+      of_Labeled c.args.frame.now.survey.now c.in-Labeled.label
+          c.in-Labeled.body,
+    )
+    (rw c.get-in-Labeled.ensures at c.walk_labeled.ensures.state)
+
+pub walk_statement-returns-in_ok-expression-in-Expression-clause-typed :
+    goal.walk_statement-returns-in_ok-expression-in-Expression-clause-typed
+walk_statement-returns-in_ok-expression-in-Expression-clause-typed t c =
+    rw (c.in-Expression.is, of_Expression)
+    (ap (λ (e : Option TypedExpression). typed_tree.Expression e)
+    c.in_ok-expression-in-Expression.ensures.typed)
+
+pub walk_statement-returns-in_ok-expression-in-Expression-clause-state :
+    goal.walk_statement-returns-in_ok-expression-in-Expression-clause-state
+walk_statement-returns-in_ok-expression-in-Expression-clause-state t c =
+    rw (c.in-Expression.is, of_Expression)
+    (c.in_ok-expression-in-Expression.ensures.state c.args.nest c.args.jumps.now)
+
+pub walk_statement-returns-in_ok-jump-in-Goto-clause-typed :
+    goal.walk_statement-returns-in_ok-jump-in-Goto-clause-typed
+walk_statement-returns-in_ok-jump-in-Goto-clause-typed t c =
+    rw (c.in-Goto.is, of_Goto)
+    (ap (λ (n : ℕ). typed_tree.Goto n) c.label_number.ensures)
+
+pub walk_statement-returns-in_ok-jump-in-Goto-clause-state :
+    goal.walk_statement-returns-in_ok-jump-in-Goto-clause-state
+walk_statement-returns-in_ok-jump-in-Goto-clause-state t c =
+    rw (c.in-Goto.is, of_Goto)
+    (c.in_ok-jump-in-Goto.ensures.state c.args.nest)
+
+pub walk_statement-returns-in-Break-clause-typed : goal.walk_statement-returns-in-Break-clause-typed
+walk_statement-returns-in-Break-clause-typed t c =
+    rw (c.in-Break.is, of_Break c.args.frame.now.survey.now c.in-Break.place) refl
+
+pub walk_statement-returns-in-Break-clause-state : goal.walk_statement-returns-in-Break-clause-state
+walk_statement-returns-in-Break-clause-state t c =
+    rw (c.in-Break.is, of_Break c.args.frame.now.survey.now c.in-Break.place) (c.leave.ensures.state
+    c.args.jumps.now)
+
+pub walk_statement-returns-in-Continue-clause-typed :
+    goal.walk_statement-returns-in-Continue-clause-typed
+walk_statement-returns-in-Continue-clause-typed t c =
+    rw (c.in-Continue.is, of_Continue c.args.frame.now.survey.now c.in-Continue.place) refl
+
+pub walk_statement-returns-in-Continue-clause-state :
+    goal.walk_statement-returns-in-Continue-clause-state
+walk_statement-returns-in-Continue-clause-state t c =
+    rw (c.in-Continue.is, of_Continue c.args.frame.now.survey.now c.in-Continue.place)
+    (c.leave-in-Continue.ensures.state c.args.jumps.now)
+
+pub walk_statement-returns-in_ok-value-in-Return-clause-typed :
+    goal.walk_statement-returns-in_ok-value-in-Return-clause-typed
+walk_statement-returns-in_ok-value-in-Return-clause-typed t c =
+    rw (c.in-Return.is, of_Return c.args.frame.now.survey.now c.in-Return.value c.in-Return.place)
+    (ap (λ (e : Option TypedExpression). typed_tree.Return e) c.in_ok-value-in-Return.ensures.typed)
+
+pub walk_statement-returns-in_ok-value-in-Return-clause-state :
+    goal.walk_statement-returns-in_ok-value-in-Return-clause-state
+walk_statement-returns-in_ok-value-in-Return-clause-state t c =
+    rw (c.in-Return.is, of_Return c.args.frame.now.survey.now c.in-Return.value c.in-Return.place)
+    (c.in_ok-value-in-Return.ensures.state c.args.nest c.args.jumps.now)
+
+pub walk_tested-walk_part-requires : goal.walk_tested-walk_part-requires
+walk_tested-walk_part-requires t c = (
+  first_of (search rules, grind arith, grind (arith, common_steps)),
+  tied_same c.args.frame.now c.args.walker.now c.evaluate.new.walker c.args.jumps.now c.requires
+      c.in_ok-test.ensures.names c.in_ok-test.ensures.objects,
+)
+
+pub walk_tested-returns-clause-state : goal.walk_tested-returns-clause-state
+walk_tested-returns-clause-state t c =
+    let frame = c.args.frame.now in
+    let text = frame.survey.now in
+    let old = c.args.walker.now in
+    two_walks text frame.caller (doing (evaluates Valued c.args.test.now))
+    (grown_of text c.args.yes.now).walk (state_of frame c.args.nest old c.args.jumps.now)
+    (state_of frame c.args.nest c.evaluate.new.walker c.args.jumps.now) _
+    (c.in_ok-test.ensures.state c.args.nest c.args.jumps.now) c.in_ok-yes.ensures.state
+
+pub walk_tested-returns-clause-yes : goal.walk_tested-returns-clause-yes
+walk_tested-returns-clause-yes t c =
+    let frame = c.args.frame.now in
+    let text = frame.survey.now in
+    let old = c.args.walker.now in
+    let tested = c.evaluate.new.walker in
+    c.in_ok-yes.ensures.typed
+    ∙ ap (λ (around : Around). (grown_of text c.args.yes.now).typed around)
+    (ap (λ (all : List Entry). record (around_of frame c.args.nest tested) { names = all })
+    c.in_ok-test.ensures.names
+    ∙ ap (λ (n : ℕ). record (around_of frame c.args.nest old) { objects = n })
+    c.in_ok-test.ensures.objects)
+
+pub walk_statement-returns-in_ok-no-in-If-clause-state :
+    goal.walk_statement-returns-in_ok-no-in-If-clause-state
+walk_statement-returns-in_ok-no-in-If-clause-state t c =
+    let frame = c.args.frame.now in
+    let text = frame.survey.now in
+    let old = c.args.walker.now in
+    let zero_state = state_of frame c.args.nest old c.args.jumps.now in
+    let one = state_of frame c.args.nest c.walk_tested.new.walker c.walk_tested.new.jumps in
+    let both = followed (doing (evaluates Valued c.in-If.test)) (grown_of text c.in-If.yes).walk in
+    let then = subst (λ (s : Statement). one ≡ walked text frame.caller
+    (followed (doing (evaluates Valued c.in-If.test)) (grown_of text s).walk) zero_state)
+    c.get.ensures c.in_ok-tested-in-If.ensures.state in
+    let last = perhaps (option_map (walk_of_statement text) c.in-If.no) in
+    rw (c.in-If.is, of_If)
+    (c.in_ok-no-in-If.ensures.state
+    ∙ ap (λ (s : State). walked text frame.caller last s) then
+    ∙ regrouped text frame.caller (doing (evaluates Valued c.in-If.test))
+    (grown_of text c.in-If.yes).walk last zero_state)
+
+pub walk_statement-returns-in_ok-no-in-If-clause-typed :
+    goal.walk_statement-returns-in_ok-no-in-If-clause-typed
+walk_statement-returns-in_ok-no-in-If-clause-typed t c =
+    let frame = c.args.frame.now in
+    let text = frame.survey.now in
+    let old = c.args.walker.now in
+    let zero_state = state_of frame c.args.nest old c.args.jumps.now in
+    let one = state_of frame c.args.nest c.walk_tested.new.walker c.walk_tested.new.jumps in
+    let both = followed (doing (evaluates Valued c.in-If.test)) (grown_of text c.in-If.yes).walk in
+    let then = subst (λ (s : Statement). one ≡ walked text frame.caller
+    (followed (doing (evaluates Valued c.in-If.test)) (grown_of text s).walk) zero_state)
+    c.get.ensures c.in_ok-tested-in-If.ensures.state in
+    let behind = around_walked text frame.caller both zero_state one then in
+    rw (c.in-If.is, of_If)
+    (if_same c.in_ok-tested-in-If.tested.test _ c.in_ok-tested-in-If.tested.yes _
+    c.in_ok-no-in-If.no _ c.in_ok-tested-in-If.ensures.test
+    (c.in_ok-tested-in-If.ensures.yes
+    ∙ ap (λ (s : Statement). (grown_of text s).typed (around_of frame c.args.nest old))
+    c.get.ensures)
+    (c.in_ok-no-in-If.ensures.typed
+    ∙ ap (λ (around : Around). option_map (grown_typed text around) c.in-If.no) behind))

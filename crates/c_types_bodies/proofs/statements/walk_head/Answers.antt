@@ -1,0 +1,65 @@
+use Rattle.std.proofs.Common.{◌≡◌, ℕ, List, ap, ◌∙◌}
+use Rattle.c_types_rules.specs.declared.meaning.Entry.{Entry}
+use Rattle.c_types_rules.specs.declared.meaning.Role.TheVariants.{Valued, Evaluated}
+use Rattle.c_types_rules.specs.Statements.{Around, evaluating, start_walk}
+use Rattle.c_types_rules.specs.TypedStatements.{typed_optional}
+use Rattle.c_types_bodies.specs.States.{State, walked}
+use Rattle.c_types_bodies.specs.Views.{state_of, around_of}
+use Rattle.c_types_bodies.proofs.Lists.{around_walked}
+use Rattle.c_types_bodies.proofs.Scopes.{tied_same}
+use Rattle.c_types_bodies.proofs.statements.walk_head.Goals as goal
+
+pub returns-clause-tied : goal.returns-clause-tied
+returns-clause-tied c =
+    tied_same c.args.frame.now c.walk_start.new.walker c.evaluate_tests.new.walker
+    c.walk_start.new.jumps c.in_ok-start.ensures.tied c.in_ok-tests.ensures.names
+    c.in_ok-tests.ensures.objects
+
+pub returns-clause-extends : goal.returns-clause-extends
+returns-clause-extends c = record {
+  rest = c.in_ok-start.ensures.extends.rest;
+  is = c.in_ok-tests.ensures.names ∙ c.in_ok-start.ensures.extends.is;
+}
+
+pub returns-clause-test : goal.returns-clause-test
+returns-clause-test c =
+    let frame = c.args.frame.now in
+    let text = frame.survey.now in
+    c.in_ok-tests.ensures.test
+    ∙ ap (λ (around : Around). typed_optional text around c.args.test.now)
+    (around_walked text frame.caller (start_walk text c.args.start.now)
+    (state_of frame c.args.nest c.args.walker.now c.args.jumps.now)
+    (state_of frame c.args.nest c.walk_start.new.walker c.walk_start.new.jumps)
+    c.in_ok-start.ensures.state)
+
+pub returns-clause-step : goal.returns-clause-step
+returns-clause-step c =
+    let frame = c.args.frame.now in
+    let text = frame.survey.now in
+    c.in_ok-tests.ensures.step
+    ∙ ap (λ (around : Around). typed_optional text around c.args.step.now)
+    (around_walked text frame.caller (start_walk text c.args.start.now)
+    (state_of frame c.args.nest c.args.walker.now c.args.jumps.now)
+    (state_of frame c.args.nest c.walk_start.new.walker c.walk_start.new.jumps)
+    c.in_ok-start.ensures.state)
+
+pub returns-clause-around : goal.returns-clause-around
+returns-clause-around c =
+    let frame = c.args.frame.now in
+    let text = frame.survey.now in
+    let begun = c.walk_start.new.walker in
+    ap (λ (all : List Entry). record (around_of frame c.args.nest c.evaluate_tests.new.walker)
+    { names = all }) c.in_ok-tests.ensures.names
+    ∙ ap (λ (n : ℕ). record (around_of frame c.args.nest begun) { objects = n })
+    c.in_ok-tests.ensures.objects
+    ∙ around_walked text frame.caller (start_walk text c.args.start.now)
+    (state_of frame c.args.nest c.args.walker.now c.args.jumps.now)
+    (state_of frame c.args.nest begun c.walk_start.new.jumps) c.in_ok-start.ensures.state
+
+pub returns-clause-state : goal.returns-clause-state
+returns-clause-state c =
+    let frame = c.args.frame.now in
+    let text = frame.survey.now in
+    c.in_ok-tests.ensures.state c.args.nest c.walk_start.new.jumps
+    ∙ ap (λ (s : State). walked text frame.caller (evaluating Evaluated c.args.step.now)
+    (walked text frame.caller (evaluating Valued c.args.test.now) s)) c.in_ok-start.ensures.state

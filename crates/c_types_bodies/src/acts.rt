@@ -1,0 +1,205 @@
+//! The acts of statements that declare nothing: expressions, labels and what leaves
+//! (`act_faults` of `specs/StatementRules.antt` of `c_types_rules`). Proved with `proofs/Doing`.
+ghost use Rattle.std.specs.Prelude.{◌≡◌, not, IfOk, OnOk, is_some, option_map};
+ghost use Rattle.std.specs.List.{list_any};
+ghost use Rattle.std.specs.Str.{bytes_eq};
+ghost use Rattle.c_types_rules.specs.declared.meaning.Role.TheVariants.{Valued, Evaluated};
+ghost use Rattle.c_types_rules.specs.Statements.{evaluates, jumps as goes_to, marks, leaves};
+ghost use Rattle.c_types_rules.specs.Statements.{returns};
+ghost use Rattle.c_types_rules.specs.Statements.{evaluating};
+ghost use Rattle.c_types_rules.specs.Statements.{followed, doing};
+ghost use Rattle.c_types_rules.specs.Declarations.{is_void_kind};
+ghost use Rattle.c_types_rules.specs.StatementRules.{agree};
+ghost use Rattle.c_types_expressions.specs.Read.{typed_of};
+ghost use Rattle.c_types_jumps.specs.Found.{Found};
+ghost use Rattle.c_types_bodies.specs.declared.walker.Nest.{Nest as Nesting};
+ghost use Rattle.c_types_bodies.specs.States.{done, walked};
+ghost use Rattle.c_types_bodies.specs.Views.{state_of, IsTied};
+
+use crate::walker::{Frame, Nest, Walker};
+use c_grammar_tree::{Expression, Name};
+use c_lexer::Rule;
+use c_types_expressions::read_used;
+use c_types_jumps::Jumps;
+use c_types_objects::note_if;
+use c_types_rules::{Kind, Role, TypedExpression};
+use std::alloc::{AllocError, Global};
+
+/// Evaluates an expression in a role.
+pub(crate) fn evaluate(
+    alloc: Global,
+    frame: &Frame,
+    walker: &mut Walker,
+    role: Role,
+    expression: &Expression,
+) -> Result<TypedExpression, AllocError>
+    ensures typed { IfOk result (λ t. t
+        ≡ typed_of frame.now.survey.now walker.old.names expression.now) }
+    ensures names { OnOk result (walker.new.names ≡ walker.old.names) }
+    ensures objects { OnOk result (walker.new.objects ≡ walker.old.objects) }
+    ensures state { (nest : Nesting) (found : Found) → OnOk result
+        (state_of frame.now nest walker.new found ≡ done frame.now.survey.now frame.now.caller
+        (evaluates role expression.now) (state_of frame.now nest walker.old found)) }
+{
+    let read = read_used(
+        alloc,
+        frame.survey,
+        &walker.names,
+        frame.caller,
+        role,
+        expression,
+        &mut walker.first,
+        &mut walker.calls,
+    )?;
+    Ok(read.typed)
+}
+
+/// Evaluates an expression that may be left out.
+pub(crate) fn evaluate_optional(
+    alloc: Global,
+    frame: &Frame,
+    walker: &mut Walker,
+    role: Role,
+    expression: &Option<Expression>,
+) -> Result<Option<TypedExpression>, AllocError>
+    ensures typed { IfOk result (λ t. t
+        ≡ option_map (typed_of frame.now.survey.now walker.old.names) expression.now) }
+    ensures names { OnOk result (walker.new.names ≡ walker.old.names) }
+    ensures objects { OnOk result (walker.new.objects ≡ walker.old.objects) }
+    ensures state { (nest : Nesting) (found : Found) → OnOk result
+        (state_of frame.now nest walker.new found ≡ walked frame.now.survey.now frame.now.caller
+        (evaluating role expression.now) (state_of frame.now nest walker.old found)) }
+{
+    match expression {
+        None => Ok(None),
+        Some(expression) => {
+            let typed = evaluate(alloc, frame, walker, role, expression)?;
+            Ok(Some(typed))
+        }
+    }
+}
+
+/// The test and the step of a `for`.
+#[derive(Drop)]
+pub(crate) struct Tests {
+    pub(crate) test: Option<TypedExpression>,
+    pub(crate) step: Option<TypedExpression>,
+}
+
+/// Evaluates the test and the step of a `for`.
+pub(crate) fn evaluate_tests(
+    alloc: Global,
+    frame: &Frame,
+    walker: &mut Walker,
+    test: &Option<Expression>,
+    step: &Option<Expression>,
+) -> Result<Tests, AllocError>
+    ensures test { IfOk result (λ t. t.test
+        ≡ option_map (typed_of frame.now.survey.now walker.old.names) test.now) }
+    ensures step { IfOk result (λ t. t.step
+        ≡ option_map (typed_of frame.now.survey.now walker.old.names) step.now) }
+    ensures names { OnOk result (walker.new.names ≡ walker.old.names) }
+    ensures objects { OnOk result (walker.new.objects ≡ walker.old.objects) }
+    ensures state { (nest : Nesting) (found : Found) → OnOk result
+        (state_of frame.now nest walker.new found ≡ walked frame.now.survey.now frame.now.caller
+        (evaluating Evaluated step.now) (walked frame.now.survey.now frame.now.caller
+        (evaluating Valued test.now) (state_of frame.now nest walker.old found))) }
+{
+    let test = evaluate_optional(alloc, frame, walker, Role::Valued, test)?;
+    let step = evaluate_optional(alloc, frame, walker, Role::Evaluated, step)?;
+    Ok(Tests { test, step })
+}
+
+/// A break or a continue.
+pub(crate) fn leave(frame: &Frame, walker: &mut Walker, nest: Nest, place: u32)
+    ensures names { walker.new.names ≡ walker.old.names }
+    ensures objects { walker.new.objects ≡ walker.old.objects }
+    ensures state { (found : Found) → state_of frame.now nest walker.new found
+        ≡ done frame.now.survey.now frame.now.caller (leaves place)
+        (state_of frame.now nest walker.old found) }
+{
+    note_if(&mut walker.first, Rule::N8, !nest.in_loop, place);
+}
+
+/// Whether a return with a value, or one without, breaks the rule of its function.
+fn is_misreturned(kind: Kind, with_value: bool) -> bool
+    ensures { result ≡ agree with_value (is_void_kind kind) }
+{
+    match kind {
+        Kind::Void => with_value,
+        Kind::Value(_) => !with_value,
+    }
+}
+
+/// A return.
+pub(crate) fn finish(
+    alloc: Global,
+    frame: &Frame,
+    walker: &mut Walker,
+    value: &Option<Expression>,
+    place: u32,
+) -> Result<Option<TypedExpression>, AllocError>
+    ensures typed { IfOk result (λ t. t
+        ≡ option_map (typed_of frame.now.survey.now walker.old.names) value.now) }
+    ensures names { OnOk result (walker.new.names ≡ walker.old.names) }
+    ensures objects { OnOk result (walker.new.objects ≡ walker.old.objects) }
+    ensures state { (nest : Nesting) (found : Found) → OnOk result
+        (state_of frame.now nest walker.new found ≡ walked frame.now.survey.now frame.now.caller
+        (followed (doing (returns place (is_some value.now))) (evaluating Valued value.now))
+        (state_of frame.now nest walker.old found)) }
+{
+    let is_wrong = is_misreturned(frame.result, value.is_some());
+    note_if(&mut walker.first, Rule::N16, is_wrong, place);
+    let typed = evaluate_optional(alloc, frame, walker, Role::Valued, value)?;
+    Ok(typed)
+}
+
+/// Whether a name is no label's.
+fn is_missing(frame: &Frame, name: &Name) -> bool
+    ensures { result ≡ not (list_any (bytes_eq name.now.bytes) frame.now.labels.now) }
+{
+    match frame.labels.place_of(name.bytes.as_slice()) {
+        Some(_) => false,
+        None => true,
+    }
+}
+
+/// A goto. That its label is there is a rule of its own.
+pub(crate) fn jump(
+    alloc: Global,
+    frame: &Frame,
+    walker: &mut Walker,
+    jumps: &mut Jumps,
+    name: &Name,
+) -> Result<(), AllocError>
+    requires { IsTied frame.now walker.old jumps.old }
+    ensures tied { OnOk result (IsTied frame.now walker.new jumps.new) }
+    ensures names { OnOk result (walker.new.names ≡ walker.old.names) }
+    ensures objects { OnOk result (walker.new.objects ≡ walker.old.objects) }
+    ensures state { (nest : Nesting) → OnOk result (state_of frame.now nest walker.new jumps.new
+        ≡ done frame.now.survey.now frame.now.caller (goes_to name.now)
+        (state_of frame.now nest walker.old jumps.old)) }
+{
+    let missing = is_missing(frame, name);
+    note_if(&mut walker.first, Rule::N6, missing, name.place);
+    jumps.goto(alloc, name)?;
+    Ok(())
+}
+
+/// A label.
+pub(crate) fn mark(
+    alloc: Global,
+    frame: &Frame,
+    walker: &Walker,
+    jumps: &mut Jumps,
+    name: &Name,
+) -> Result<(), AllocError>
+    requires { IsTied frame.now walker.now jumps.old }
+    ensures tied { OnOk result (IsTied frame.now walker.now jumps.new) }
+    ensures state { (nest : Nesting) → OnOk result (state_of frame.now nest walker.now jumps.new
+        ≡ done frame.now.survey.now frame.now.caller (marks name.now)
+        (state_of frame.now nest walker.now jumps.old)) }
+{
+    jumps.label(alloc, name)?;
+    Ok(())
+}

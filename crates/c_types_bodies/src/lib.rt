@@ -1,0 +1,13 @@
+//! The bodies of functions: their typed trees, the first of their faults, their calls, and how many
+//! objects they declare (`specs/Statements.antt` and `StatementRules.antt` of `c_types_rules`).
+#![tactic(auto)]
+
+mod acts;
+mod body;
+mod declarations;
+mod labels;
+mod parameters;
+mod statements;
+mod walker;
+
+pub use body::{ReadBody, read_body};

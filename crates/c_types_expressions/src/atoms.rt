@@ -1,0 +1,74 @@
+//! Reading names and constants (`reading_step` of `c_types_rules`, `specs/Expressions.antt`).
+//! Proved with `proofs/Variants.antt`.
+ghost use Rattle.std.specs.Prelude.{◌≡◌, List};
+ghost use Rattle.c_grammar_tree.specs.declared.expression.Expression.{Expression};
+ghost use Rattle.c_types_rules.specs.declared.meaning.Entry.{Entry};
+ghost use Rattle.c_types_rules.specs.Names.{Text};
+ghost use Rattle.c_types_rules.specs.First.{first_with};
+ghost use Rattle.c_types_expressions.specs.Read.{part_of, typed_of, faults_of};
+
+use crate::read::Read;
+use c_grammar_tree::Name;
+use c_lexer::TextFault;
+use c_types_names::{Names, Survey};
+use c_types_rules::{Form, Kind, Part, TypedExpression, named_kind, note_named};
+use cpa_ints::IntType;
+
+/// Reads a name.
+#[tactic(auto, using(crate::proofs::Variants::part_Name, crate::proofs::Variants::typed_Name, crate::proofs::Variants::first_Name))]
+pub(crate) fn read_name(
+    survey: &Survey,
+    names: &Names,
+    name: &Name,
+    first: &mut Option<TextFault>,
+) -> Read
+    ensures part { result.part ≡ part_of survey.now names.now (Expression.Name name.now) }
+    ensures typed { result.typed ≡ typed_of survey.now names.now (Expression.Name name.now) }
+    ensures first { first.new
+        ≡ first_with first.old (faults_of survey.now names.now (Expression.Name name.now)) }
+{
+    let found = names.meaning(survey, name.bytes.as_slice());
+    note_named(first, name.place, found);
+    Read {
+        part: Part {
+            place: name.place,
+            kind: named_kind(found),
+            form: Form::Bare {
+                place: name.place,
+                meaning: found,
+            },
+        },
+        typed: TypedExpression::Name {
+            meaning: found,
+            place: name.place,
+        },
+    }
+}
+
+/// Reads a number.
+#[tactic(auto, using(crate::proofs::Variants::part_Number, crate::proofs::Variants::typed_Number))]
+pub(crate) fn read_number(ty: IntType, value: i128, place: u32) -> Read
+    ensures part { (text : Text) (names : List Entry)
+        → result.part ≡ part_of text names (Expression.Number ty value place) }
+    ensures typed { (text : Text) (names : List Entry)
+        → result.typed ≡ typed_of text names (Expression.Number ty value place) }
+{
+    Read {
+        part: Part::plain(place, Some(Kind::Value(ty))),
+        typed: TypedExpression::Number { ty, value, place },
+    }
+}
+
+/// Reads a character constant.
+#[tactic(auto, using(crate::proofs::Variants::part_Character, crate::proofs::Variants::typed_Character))]
+pub(crate) fn read_character(value: i128, place: u32) -> Read
+    ensures part { (text : Text) (names : List Entry)
+        → result.part ≡ part_of text names (Expression.Character value place) }
+    ensures typed { (text : Text) (names : List Entry)
+        → result.typed ≡ typed_of text names (Expression.Character value place) }
+{
+    Read {
+        part: Part::plain(place, Some(Kind::Value(IntType::I32))),
+        typed: TypedExpression::Character { value, place },
+    }
+}

@@ -1,0 +1,231 @@
+//! Reading expressions of an operator, brackets or a cast (`reading_step` of `c_types_rules`,
+//! `specs/Expressions.antt`). Proved with `proofs/Variants.antt`.
+ghost use Rattle.std.specs.Prelude.{◌≡◌, ◌++◌, IfOk, OnOk};
+ghost use Rattle.c_grammar_tree.specs.declared.expression.Expression.{Expression};
+ghost use Rattle.c_types_rules.specs.declared.typed.TypedExpression.TheVariants as typed;
+ghost use Rattle.c_types_rules.specs.First.{first_with};
+ghost use Rattle.c_types_rules.specs.Parts.{with_value, ends_kind, changed_kind};
+ghost use Rattle.c_types_rules.specs.Expressions.{plain};
+ghost use Rattle.c_types_expressions.specs.Read.{part_of, typed_of, faults_of, calls_of};
+
+use crate::combine::unary_kind;
+use crate::read::{Read, ReadPart, read_expression, read_used};
+use c_grammar_symbols::{AssignmentOperator, StepOperator};
+use c_grammar_tree::{Expression, TypeName, UnaryOperator};
+use c_lexer::TextFault;
+use c_types_names::{Names, Survey};
+use c_types_recursion::Call;
+use c_types_rules::{
+    Part, Role, TypedExpression, as_kind, cast_kind, cast_role, ends_kind, kind_of_words,
+    with_value,
+};
+use cpa_ints::Boxed;
+use std::alloc::{AllocError, Global};
+
+/// Reads `(inner)`.
+#[cycle(read)]
+#[tactic(auto, using(crate::proofs::Variants::part_Bracketed, crate::proofs::Variants::typed_Bracketed, crate::proofs::Variants::first_Bracketed, crate::proofs::Variants::calls_Bracketed))]
+pub(crate) fn read_bracketed(
+    alloc: Global,
+    survey: &Survey,
+    names: &Names,
+    caller: u32,
+    inner: &Expression,
+    place: u32,
+    first: &mut Option<TextFault>,
+    calls: &mut Vec<Call>,
+) -> Result<Read, AllocError>
+    ensures part { IfOk result (λ r. r.part
+        ≡ part_of survey.now names.now (Expression.Bracketed inner.now place)) }
+    ensures typed { IfOk result (λ r. r.typed
+        ≡ typed_of survey.now names.now (Expression.Bracketed inner.now place)) }
+    ensures first { OnOk result (first.new ≡ first_with first.old
+        (faults_of survey.now names.now (Expression.Bracketed inner.now place))) }
+    ensures calls { OnOk result (calls.new.items ≡ calls.old.items
+        ++ calls_of survey.now names.now caller (Expression.Bracketed inner.now place)) }
+{
+    let read = read_expression(alloc, survey, names, caller, inner, first, calls)?;
+    Ok(Read {
+        part: Part {
+            place,
+            kind: read.part.kind,
+            form: read.part.form,
+        },
+        typed: TypedExpression::Bracketed {
+            inner: Boxed::new(alloc, read.typed)?,
+            place,
+        },
+    })
+}
+
+/// Reads `++operand` or `--operand`.
+#[cycle(read)]
+#[tactic(auto, using(crate::proofs::Variants::part_PrefixStep, crate::proofs::Variants::typed_PrefixStep, crate::proofs::Variants::first_PrefixStep, crate::proofs::Variants::calls_PrefixStep))]
+pub(crate) fn read_prefix_step(
+    alloc: Global,
+    survey: &Survey,
+    names: &Names,
+    caller: u32,
+    operator: StepOperator,
+    operand: &Expression,
+    place: u32,
+    first: &mut Option<TextFault>,
+    calls: &mut Vec<Call>,
+) -> Result<Read, AllocError>
+    ensures part { IfOk result (λ r. r.part
+        ≡ part_of survey.now names.now (Expression.PrefixStep operator operand.now place)) }
+    ensures typed { IfOk result (λ r. r.typed
+        ≡ typed_of survey.now names.now (Expression.PrefixStep operator operand.now place)) }
+    ensures first { OnOk result (first.new ≡ first_with first.old
+        (faults_of survey.now names.now (Expression.PrefixStep operator operand.now place))) }
+    ensures calls { OnOk result (calls.new.items ≡ calls.old.items ++ calls_of survey.now names.now
+        caller (Expression.PrefixStep operator operand.now place)) }
+{
+    let read = read_used(
+        alloc,
+        survey,
+        names,
+        caller,
+        Role::Changed,
+        operand,
+        first,
+        calls,
+    )?;
+    let kind = read.part.changed_kind();
+    Ok(Read {
+        part: Part::plain(place, kind),
+        typed: TypedExpression::PrefixStep {
+            operator,
+            operand: Boxed::new(alloc, read.typed)?,
+            kind,
+            place,
+        },
+    })
+}
+
+/// Reads an operator before an operand.
+#[cycle(read)]
+#[tactic(auto, using(crate::proofs::Variants::part_Unary, crate::proofs::Variants::typed_Unary, crate::proofs::Variants::first_Unary, crate::proofs::Variants::calls_Unary))]
+pub(crate) fn read_unary(
+    alloc: Global,
+    survey: &Survey,
+    names: &Names,
+    caller: u32,
+    operator: UnaryOperator,
+    operand: &Expression,
+    place: u32,
+    first: &mut Option<TextFault>,
+    calls: &mut Vec<Call>,
+) -> Result<Read, AllocError>
+    ensures part { IfOk result (λ r. r.part
+        ≡ part_of survey.now names.now (Expression.Unary operator operand.now place)) }
+    ensures typed { IfOk result (λ r. r.typed
+        ≡ typed_of survey.now names.now (Expression.Unary operator operand.now place)) }
+    ensures first { OnOk result (first.new ≡ first_with first.old
+        (faults_of survey.now names.now (Expression.Unary operator operand.now place))) }
+    ensures calls { OnOk result (calls.new.items ≡ calls.old.items
+        ++ calls_of survey.now names.now caller (Expression.Unary operator operand.now place)) }
+{
+    let read = read_used(
+        alloc,
+        survey,
+        names,
+        caller,
+        Role::Valued,
+        operand,
+        first,
+        calls,
+    )?;
+    let kind = as_kind(unary_kind(operator, read.part.kind));
+    Ok(Read {
+        part: Part::plain(place, kind),
+        typed: TypedExpression::Unary {
+            operator,
+            operand: Boxed::new(alloc, read.typed)?,
+            kind,
+            place,
+        },
+    })
+}
+
+/// Reads `(to) operand`.
+#[cycle(read)]
+#[tactic(auto, using(crate::proofs::Variants::part_Cast, crate::proofs::Variants::typed_Cast, crate::proofs::Variants::first_Cast, crate::proofs::Variants::calls_Cast))]
+pub(crate) fn read_cast(
+    alloc: Global,
+    survey: &Survey,
+    names: &Names,
+    caller: u32,
+    to: &TypeName,
+    operand: &Expression,
+    place: u32,
+    first: &mut Option<TextFault>,
+    calls: &mut Vec<Call>,
+) -> Result<Read, AllocError>
+    ensures part { IfOk result (λ r. r.part
+        ≡ part_of survey.now names.now (Expression.Cast to.now operand.now place)) }
+    ensures typed { IfOk result (λ r. r.typed
+        ≡ typed_of survey.now names.now (Expression.Cast to.now operand.now place)) }
+    ensures first { OnOk result (first.new ≡ first_with first.old
+        (faults_of survey.now names.now (Expression.Cast to.now operand.now place))) }
+    ensures calls { OnOk result (calls.new.items ≡ calls.old.items
+        ++ calls_of survey.now names.now caller (Expression.Cast to.now operand.now place)) }
+{
+    let wanted = kind_of_words(to.words.as_slice());
+    let role = cast_role(wanted);
+    let read = read_used(alloc, survey, names, caller, role, operand, first, calls)?;
+    let kind = cast_kind(wanted, read.part.kind);
+    Ok(Read {
+        part: Part::plain(place, kind),
+        typed: TypedExpression::Cast {
+            operand: Boxed::new(alloc, read.typed)?,
+            kind,
+            place,
+        },
+    })
+}
+
+/// A conditional of what is read of its parts.
+pub(crate) fn conditional(test: ReadPart, yes: ReadPart, no: ReadPart, place: u32) -> Read
+    ensures part { result.part
+        ≡ plain place (with_value (ends_kind yes.part.kind no.part.kind) test.part.kind) }
+    ensures typed { result.typed ≡ typed.Conditional test.typed yes.typed no.typed
+        (with_value (ends_kind yes.part.kind no.part.kind) test.part.kind) place }
+{
+    let kind = with_value(ends_kind(yes.part.kind, no.part.kind), test.part.kind);
+    Read {
+        part: Part::plain(place, kind),
+        typed: TypedExpression::Conditional {
+            test: test.typed,
+            yes: yes.typed,
+            no: no.typed,
+            kind,
+            place,
+        },
+    }
+}
+
+/// An assignment of what is read of its sides.
+pub(crate) fn assignment(
+    left: ReadPart,
+    operator: AssignmentOperator,
+    right: ReadPart,
+    place: u32,
+) -> Read
+    ensures part { result.part
+        ≡ plain place (with_value (changed_kind left.part) right.part.kind) }
+    ensures typed { result.typed ≡ typed.Assignment left.typed operator right.typed
+        (with_value (changed_kind left.part) right.part.kind) place }
+{
+    let kind = with_value(left.part.changed_kind(), right.part.kind);
+    Read {
+        part: Part::plain(place, kind),
+        typed: TypedExpression::Assignment {
+            left: left.typed,
+            operator,
+            right: right.typed,
+            kind,
+            place,
+        },
+    }
+}

@@ -1,0 +1,20 @@
+-- The faults of parameters one after the other.
+use Rattle.std.proofs.Common.{◌≡◌, ℕ, List, ◌∷◌, Option, ap, ◌∙◌}
+use Rattle.std.specs.List.{flat_map}
+use Rattle.std.proofs.lemmas.List.{map-append}
+use Rattle.c_lexer.specs.declared.fault.Rule.TheVariants as rule
+use Rattle.c_lexer.specs.declared.fault.TextFault.{TextFault}
+use Rattle.c_grammar_tree.specs.declared.item.Parameter.{Parameter}
+use Rattle.c_types_rules.specs.First.{first_with, first_append}
+use Rattle.c_types_rules.specs.ExpressionRules.{broken}
+use Rattle.c_types_rules.specs.Declarations.{void_parameter}
+
+pub void_more : (held : Option TextFault) (x : Parameter) (xs : List Parameter) →
+    first_with held (broken rule.N5 (flat_map void_parameter (x ∷ xs)))
+    ≡ first_with (first_with held (broken rule.N5 (void_parameter x)))
+    (broken rule.N5 (flat_map void_parameter xs))
+void_more held x xs =
+    ap (first_with held) (map-append (λ (place : ℕ). record { rule = rule.N5; place = place })
+    (void_parameter x) (flat_map void_parameter xs))
+    ∙ first_append held (broken rule.N5 (void_parameter x))
+    (broken rule.N5 (flat_map void_parameter xs))

@@ -1,0 +1,167 @@
+//! Initializers: typed in a function (`typed_items` of `c_types_rules`, `specs/Declarations.antt`),
+//! constants in file scope (`start_faults` of `specs/Items.antt`). Proved by the checker alone.
+ghost use Rattle.std.specs.Prelude.{◌≡◌, ◌++◌, IfOk, OnOk, map, option_map};
+ghost use Rattle.std.specs.List.{flat_map};
+ghost use Rattle.c_types_rules.specs.declared.meaning.Role.TheVariants.{Valued};
+ghost use Rattle.c_types_rules.specs.First.{first_with};
+ghost use Rattle.c_types_rules.specs.Declarations.{items_of, typed_items};
+ghost use Rattle.c_types_rules.specs.Items.{start_faults};
+ghost use Rattle.c_types_expressions.specs.Read.{typed_of, role_faults, role_calls};
+ghost use Rattle.c_types_objects.specs.Objects.{start_value};
+
+use crate::constants::read_fixed;
+use c_grammar_tree::{Expression, Initializer};
+use c_lexer::{Rule, TextFault};
+use c_types_expressions::read_used;
+use c_types_names::{Names, Survey};
+use c_types_recursion::Call;
+use c_types_rules::{Role, TypedExpression, TypedInitializer, note_place};
+use cpa_ints::{IntType, Seq, wrap};
+use std::alloc::{AllocError, Global};
+
+/// Reads the items of a list, each a value.
+#[tactic(auto, using(c_types_rules::specs::First::first_append))]
+fn read_items(
+    alloc: Global,
+    survey: &Survey,
+    names: &Names,
+    caller: u32,
+    items: &[Expression],
+    first: &mut Option<TextFault>,
+    calls: &mut Vec<Call>,
+) -> Result<Vec<TypedExpression>, AllocError>
+    ensures typed { IfOk result (λ r. r.items ≡ map (typed_of survey.now names.now) items.now) }
+    ensures first { OnOk result (first.new
+        ≡ first_with first.old (flat_map (role_faults survey.now names.now Valued) items.now)) }
+    ensures calls { OnOk result (calls.new.items ≡ calls.old.items
+        ++ flat_map (role_calls survey.now names.now caller Valued) items.now) }
+{
+    let mut typed = Vec::new(alloc);
+    for item in items {
+        let read = read_used(
+            alloc,
+            survey,
+            names,
+            caller,
+            Role::Valued,
+            item,
+            first,
+            calls,
+        )?;
+        typed.push(read.typed)?;
+    }
+    Ok(typed)
+}
+
+/// Reads an initializer in a function, if there is one.
+pub fn read_initializer(
+    alloc: Global,
+    survey: &Survey,
+    names: &Names,
+    caller: u32,
+    initializer: &Option<Initializer>,
+    first: &mut Option<TextFault>,
+    calls: &mut Vec<Call>,
+) -> Result<Option<TypedInitializer>, AllocError>
+    ensures typed { IfOk result (λ r. r
+        ≡ option_map (typed_items survey.now names.now) initializer.now) }
+    ensures first { OnOk result (first.new ≡ first_with first.old
+        (flat_map (role_faults survey.now names.now Valued) (items_of initializer.now))) }
+    ensures calls { OnOk result (calls.new.items ≡ calls.old.items
+        ++ flat_map (role_calls survey.now names.now caller Valued) (items_of initializer.now)) }
+{
+    match initializer {
+        None => Ok(None),
+        Some(Initializer::Scalar(value)) => {
+            let read = read_used(
+                alloc,
+                survey,
+                names,
+                caller,
+                Role::Valued,
+                value,
+                first,
+                calls,
+            )?;
+            Ok(Some(TypedInitializer::Scalar(read.typed)))
+        }
+        Some(Initializer::List { items, .. }) => {
+            let items = items.as_slice();
+            let typed = read_items(alloc, survey, names, caller, items, first, calls)?;
+            Ok(Some(TypedInitializer::List(Seq::from_vec(typed))))
+        }
+    }
+}
+
+/// Reads the value that a cell of this type starts at. It stands in no body, so that its calls,
+/// each of which is a fault, go nowhere.
+#[tactic(auto, using(c_types_rules::specs::First::first_append))]
+fn read_start(
+    alloc: Global,
+    survey: &Survey,
+    names: &Names,
+    ty: IntType,
+    item: &Expression,
+    first: &mut Option<TextFault>,
+) -> Result<i128, AllocError>
+    ensures value { IfOk result (λ n. n ≡ start_value survey.now names.now ty item.now) }
+    ensures first { OnOk result (first.new
+        ≡ first_with first.old (start_faults survey.now names.now item.now)) }
+{
+    let mut calls = Vec::new(alloc);
+    let fixed = read_fixed(alloc, survey, names, 0, item, first, &mut calls)?;
+    note_place(first, Rule::N12, fixed.inconstant);
+    Ok(wrap(ty, fixed.number.unwrap_or(0)))
+}
+
+/// Reads the values of a list in file scope.
+#[tactic(auto, using(c_types_rules::specs::First::first_append))]
+fn read_start_items(
+    alloc: Global,
+    survey: &Survey,
+    names: &Names,
+    ty: IntType,
+    items: &[Expression],
+    first: &mut Option<TextFault>,
+) -> Result<Vec<i128>, AllocError>
+    ensures values { IfOk result (λ r. r.items
+        ≡ map (start_value survey.now names.now ty) items.now) }
+    ensures first { OnOk result (first.new
+        ≡ first_with first.old (flat_map (start_faults survey.now names.now) items.now)) }
+{
+    let mut values = Vec::new(alloc);
+    for item in items {
+        let value = read_start(alloc, survey, names, ty, item, first)?;
+        values.push(value)?;
+    }
+    Ok(values)
+}
+
+/// Reads an initializer in file scope, if there is one: what the first cells of an object of this
+/// type start at.
+pub fn read_starts(
+    alloc: Global,
+    survey: &Survey,
+    names: &Names,
+    ty: IntType,
+    initializer: &Option<Initializer>,
+    first: &mut Option<TextFault>,
+) -> Result<Vec<i128>, AllocError>
+    ensures values { IfOk result (λ r. r.items
+        ≡ map (start_value survey.now names.now ty) (items_of initializer.now)) }
+    ensures first { OnOk result (first.new ≡ first_with first.old
+        (flat_map (start_faults survey.now names.now) (items_of initializer.now))) }
+{
+    match initializer {
+        None => Ok(Vec::new(alloc)),
+        Some(Initializer::Scalar(item)) => {
+            let value = read_start(alloc, survey, names, ty, item, first)?;
+            let mut values = Vec::new(alloc);
+            values.push(value)?;
+            Ok(values)
+        }
+        Some(Initializer::List { items, .. }) => {
+            read_start_items(alloc, survey, names, ty, items.as_slice(), first)
+        }
+    }
+}

@@ -1,0 +1,89 @@
+//! What specifiers say of an object or a function (`kind_of` and `has_const` of `c_types_rules`,
+//! `specs/Declarations.antt`). Proved with `proofs/Words.antt`.
+ghost use Rattle.std.specs.Prelude.{◌≡◌, ◌++◌, ◌∷◌, [], IfOk, OnOk};
+ghost use Rattle.c_grammar_tree.specs.Parts.{type_words};
+ghost use Rattle.c_types_rules.specs.Declarations.{is_const_word, is_void_word, kind_of, has_const};
+
+use c_grammar_symbols::{SpecifierWord, TypeWord};
+use c_grammar_tree::{Specifier, SpecifierKind, Specifiers};
+use c_types_rules::{Kind, kind_of_words};
+use std::alloc::{AllocError, Global};
+
+/// What specifiers say of an object: its type, and whether it is const.
+#[derive(Clone, Copy, PartialEq, Eq)]
+pub struct Qualified {
+    pub kind: Kind,
+    pub is_const: bool,
+}
+
+/// What these specifiers say.
+pub fn read_specifiers(alloc: Global, specifiers: &Specifiers) -> Result<Qualified, AllocError>
+    ensures kind { IfOk result (λ q. q.kind ≡ kind_of specifiers.now) }
+    ensures is_const { IfOk result (λ q. q.is_const ≡ has_const specifiers.now) }
+{
+    let kind = kind_of(alloc, specifiers)?;
+    Ok(Qualified {
+        kind,
+        is_const: has_const(specifiers),
+    })
+}
+
+/// The type that specifiers name.
+pub(crate) fn kind_of(alloc: Global, specifiers: &Specifiers) -> Result<Kind, AllocError>
+    ensures { IfOk result (λ kind. kind ≡ kind_of specifiers.now) }
+{
+    let words = type_words(alloc, specifiers.words.as_slice())?;
+    Ok(kind_of_words(words.as_slice()))
+}
+
+/// Whether specifiers have `const` among them.
+pub(crate) fn has_const(specifiers: &Specifiers) -> bool
+    ensures { result ≡ has_const specifiers.now }
+{
+    specifiers.words.iter().any(|word| is_const_word(*word))
+}
+
+/// Whether the word is `const`.
+fn is_const_word(word: Specifier) -> bool
+    ensures { result ≡ is_const_word word }
+{
+    match word.kind {
+        SpecifierKind::Other(SpecifierWord::Const) => true,
+        SpecifierKind::Storage(_) | SpecifierKind::Other(_) | SpecifierKind::TypeWord(_) => false,
+    }
+}
+
+/// Whether the word is `void`.
+pub(crate) fn is_void_word(word: Specifier) -> bool
+    ensures { result ≡ is_void_word word }
+{
+    match word.kind {
+        SpecifierKind::TypeWord(TypeWord::Void) => true,
+        SpecifierKind::Storage(_) | SpecifierKind::Other(_) | SpecifierKind::TypeWord(_) => false,
+    }
+}
+
+/// Adds the word, if it is one of a type.
+fn push_type_word(found: &mut Vec<TypeWord>, word: Specifier) -> Result<(), AllocError>
+    ensures { OnOk result (found.new.items ≡ found.old.items ++ type_words (word ∷ [])) }
+{
+    match word.kind {
+        SpecifierKind::TypeWord(type_word) => {
+            found.push(type_word)?;
+            Ok(())
+        }
+        SpecifierKind::Storage(_) | SpecifierKind::Other(_) => Ok(()),
+    }
+}
+
+/// The words of types among these.
+#[tactic(auto, using(crate::proofs::Words::type_words_more))]
+fn type_words(alloc: Global, words: &[Specifier]) -> Result<Vec<TypeWord>, AllocError>
+    ensures { IfOk result (λ found. found.items ≡ type_words words.now) }
+{
+    let mut found = Vec::new(alloc);
+    for word in words {
+        push_type_word(&mut found, *word)?;
+    }
+    Ok(found)
+}

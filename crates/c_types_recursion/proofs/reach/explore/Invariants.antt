@@ -1,0 +1,5 @@
+use Rattle.c_types_recursion.specs.Marks.{Keeps, Grows}
+use Rattle.c_types_recursion.proofs.reach.explore.Given as goal
+
+abbrev pub invariant-loop : goal.invariant-loop
+invariant-loop l = record { kept : Keeps l.fn.seen l.seen; grown : Grows l.calls l.fn.seen l.seen }

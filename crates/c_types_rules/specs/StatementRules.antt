@@ -1,0 +1,151 @@
+-- The rules that an act of a function can break, and those of labels and gotos (C11 6.2.1, 6.7,
+-- 6.8), as the places at which it does.
+use Rattle.std.specs.Prelude.{ℕ, ◌==◌, Bool, true, false, not, List, [], ◌∷◌, ◌++◌, drop, find}
+use Rattle.std.specs.Prelude.{Option, None, Some, unwrap_or, option_map}
+use Rattle.std.specs.List.{flat_map, filter_map, list_any}
+use Rattle.std.specs.Str.{bytes_eq}
+use Rattle.c_lexer.specs.declared.fault.Rule.TheVariants as rule
+use Rattle.c_lexer.specs.declared.fault.TextFault.{TextFault}
+use Rattle.c_grammar_tree.specs.declared.name.Name.{Name}
+use Rattle.c_types_rules.specs.declared.meaning.Declared.TheVariants as declared
+use Rattle.c_types_rules.specs.declared.meaning.Entry.{Entry}
+use Rattle.c_types_rules.specs.Names.{Text}
+use Rattle.c_types_rules.specs.Expressions.{reading, Use, used}
+use Rattle.c_types_rules.specs.ExpressionRules.{broken, at_if, uses_faults}
+use Rattle.c_types_rules.specs.Declarations.{kind_of, is_void_kind, length_faults, length_uses}
+use Rattle.c_types_rules.specs.Declarations.{void_object, is_declared_among}
+use Rattle.c_types_rules.specs.Statements.{Around, Act, evaluates, declares, receives, jumps, marks}
+use Rattle.c_types_rules.specs.Statements.{leaves, returns, Site}
+
+-- the name is declared in this scope already
+abbrev pub is_declared_here : Around → List ℕ → Bool
+is_declared_here around name = is_declared_among (drop around.outer around.names) name
+
+-- N2: a name is declared twice in one scope, of a function's parameters and body or of a block
+-- (6.7p3): the later name
+abbrev pub declared_twice : Around → Act → List ℕ
+declared_twice around (declares specifiers declarator) =
+    at_if (is_declared_here around declarator.name.bytes) declarator.name.place
+declared_twice around (receives parameter) = elim parameter.name [
+  | None ↦ []
+  | Some name ↦ at_if (is_declared_here around name.bytes) name.place
+]
+declared_twice around _ = []
+
+-- N5: an object is declared with the type void: its name
+abbrev pub declared_void : Act → List ℕ
+declared_void (declares specifiers declarator) = void_object (kind_of specifiers) declarator
+declared_void _ = []
+
+-- N6: a goto names no label of its function (6.8.6.1p1): the label's name
+abbrev pub without_label : Around → Act → List ℕ
+without_label around (jumps name) =
+    at_if (not (list_any (bytes_eq name.bytes) around.labels)) name.place
+without_label around _ = []
+
+-- N8: a break or a continue outside a loop (6.8.6.2p1 and 6.8.6.3p1): the word
+abbrev pub outside_loop : Around → Act → List ℕ
+outside_loop around (leaves place) = at_if (not around.in_loop) place
+outside_loop around _ = []
+
+-- N12: of an array's length and the items of its list
+abbrev pub misdeclared_length : Text → Around → Act → List ℕ
+misdeclared_length text around (declares specifiers declarator) =
+    length_faults text around.names declarator
+misdeclared_length text around _ = []
+
+-- the one and not the other
+abbrev pub agree : Bool → Bool → Bool
+agree true b = b
+agree false b = not b
+
+-- N16: a return with a value in a void function, or without one in another (6.8.6.4p1): the word
+abbrev pub misreturned : Around → Act → List ℕ
+misreturned around (returns place with_value) =
+    at_if (agree with_value (is_void_kind around.result)) place
+misreturned around _ = []
+
+-- how an act uses names and parts of expressions
+abbrev pub act_uses : Text → Around → Act → List Use
+act_uses text around (evaluates role expression) = used role (reading text around.names expression)
+act_uses text around (declares specifiers declarator) = length_uses text around.names declarator
+act_uses text around _ = []
+
+-- the faults of an act where it stands, but for those of labels
+abbrev pub act_faults : Text → Around → Act → List TextFault
+act_faults text around act =
+    broken rule.N2 (declared_twice around act) ++ broken rule.N5 (declared_void act)
+    ++ broken rule.N6 (without_label around act) ++ broken rule.N8 (outside_loop around act)
+    ++ broken rule.N12 (misdeclared_length text around act)
+    ++ broken rule.N16 (misreturned around act)
+    ++ uses_faults (act_uses text around act)
+
+abbrev pub site_faults : Text → Site → List TextFault
+site_faults text site = act_faults text site.around site.act
+
+-- a label or a goto: its name, and the numbers of the objects in whose scopes it stands
+pub record Jump : Type 0 where
+  pub name : Name
+  pub scopes : List ℕ
+
+-- the number of an object that a name is declared as
+abbrev pub object_number : Entry → Option ℕ
+object_number entry = elim entry.declared [
+  | declared.Object object initialized ↦ Some object.number
+  | declared.Function result parameters defined ↦ None
+]
+
+abbrev pub jump_at : Name → Around → Jump
+jump_at name around = record { name = name; scopes = filter_map object_number around.names }
+
+abbrev pub label_at : Site → List Jump
+label_at site = elim site.act [
+  | evaluates role expression ↦ []
+  | declares specifiers declarator ↦ []
+  | receives parameter ↦ []
+  | jumps name ↦ []
+  | marks name ↦ jump_at name site.around ∷ []
+  | leaves place ↦ []
+  | returns place with_value ↦ []
+]
+
+abbrev pub goto_at : Site → List Jump
+goto_at site = elim site.act [
+  | evaluates role expression ↦ []
+  | declares specifiers declarator ↦ []
+  | receives parameter ↦ []
+  | jumps name ↦ jump_at name site.around ∷ []
+  | marks name ↦ []
+  | leaves place ↦ []
+  | returns place with_value ↦ []
+]
+
+-- one of the labels has this name
+abbrev pub has_label : List Jump → Name → Bool
+has_label labels name = list_any (λ label. bytes_eq label.name.bytes name.bytes) labels
+
+-- N7: a label stands twice in a function (6.8.1p3), those before it given: the later name
+abbrev pub repeated_labels : List Jump → List Jump → List ℕ
+repeated_labels before [] = []
+repeated_labels before (label ∷ labels) =
+    at_if (has_label before label.name) label.name.place ++ repeated_labels (before ++ label
+    ∷ []) labels
+
+-- the goto stands outside the scope of an object in whose scope the label stands
+abbrev pub enters_scope : Jump → Jump → Bool
+enters_scope goto label =
+    list_any (λ number. not (list_any (λ held. held == number) goto.scopes)) label.scopes
+
+-- N9: a goto outside an object's scope names a label inside it (6.8.6.1p1 says so of arrays of
+-- variable length; of every object this project's own): the name in the goto
+abbrev pub entering_gotos : List Jump → List Jump → List ℕ
+entering_gotos labels gotos = flat_map (λ goto.
+    at_if (unwrap_or (option_map (enters_scope goto) (find
+    (λ label. bytes_eq label.name.bytes goto.name.bytes) labels)) false)
+    goto.name.place) gotos
+
+-- the faults of a function's labels and gotos
+abbrev pub jump_faults : List Site → List TextFault
+jump_faults sites =
+    broken rule.N7 (repeated_labels [] (flat_map label_at sites))
+    ++ broken rule.N9 (entering_gotos (flat_map label_at sites) (flat_map goto_at sites))

@@ -1,0 +1,154 @@
+-- The typed tree of statements, of functions and of a text (this project's own, over C11 6.8 and
+-- 6.9).
+use Rattle.std.specs.Prelude.{ℕ, ◌+◌, true, List, [], ◌∷◌, map}
+use Rattle.std.specs.Prelude.{Option, unwrap_or, option_map}
+use Rattle.std.specs.Str.{bytes_eq}
+use Rattle.c_grammar_tree.specs.declared.name.Name.{Name}
+use Rattle.c_grammar_tree.specs.declared.expression.Expression.{Expression}
+use Rattle.c_grammar_tree.specs.declared.declaration.Specifiers.{Specifiers}
+use Rattle.c_grammar_tree.specs.declared.declaration.Declarator.{Declarator}
+use Rattle.c_grammar_tree.specs.declared.declaration.Declaration.{Declaration}
+use Rattle.c_grammar_tree.specs.declared.item.Parameter.{Parameter}
+use Rattle.c_grammar_tree.specs.declared.statement.ForStart.{ForStart}
+use Rattle.c_grammar_tree.specs.declared.statement.ForStart.TheVariants as start
+use Rattle.c_grammar_tree.specs.declared.statement.BlockItem.{BlockItem}
+use Rattle.c_grammar_tree.specs.declared.statement.BlockItem.TheOpen.{BlockItem-F, Statement-F}
+use Rattle.c_grammar_tree.specs.declared.statement.BlockItem.TheFolds.{fold-BlockItem}
+use Rattle.c_grammar_tree.specs.declared.statement.BlockItem.TheFolds.{map-BlockItem}
+use Rattle.c_grammar_tree.specs.declared.statement.BlockItem.TheFolds.{map-Statement}
+use Rattle.c_grammar_tree.specs.declared.item.FunctionDeclarator.{FunctionDeclarator}
+use Rattle.c_types_rules.specs.declared.meaning.Object.{Object}
+use Rattle.c_types_rules.specs.declared.typed.TypedExpression.{TypedExpression}
+use Rattle.c_types_rules.specs.declared.typed.TypedDeclarator.{TypedDeclarator}
+use Rattle.c_types_rules.specs.declared.typed.TypedForStart.{TypedForStart}
+use Rattle.c_types_rules.specs.declared.typed.TypedForStart.TheVariants as typed_start
+use Rattle.c_types_rules.specs.declared.typed.TypedStatement.{TypedStatement}
+use Rattle.c_types_rules.specs.declared.typed.TypedStatement.TheVariants as tree
+use Rattle.c_types_rules.specs.declared.typed.TypedItem.{TypedItem}
+use Rattle.c_types_rules.specs.declared.typed.TypedItem.TheVariants as typed_item
+use Rattle.c_types_rules.specs.declared.typed.TypedFunction.{TypedFunction}
+use Rattle.c_types_rules.specs.Names.{Text, place_of}
+use Rattle.c_types_rules.specs.Expressions.{reading}
+use Rattle.c_types_rules.specs.Declarations.{kind_of, object_of, parameter_object, typed_items}
+use Rattle.c_types_rules.specs.Statements.{Around, Walk, inner, loop, in_order, declaring_behind}
+use Rattle.c_types_rules.specs.Statements.{receiving, start_walk, statement_walk}
+use Rattle.c_types_rules.specs.Statements.{item_walk}
+use Rattle.c_types_rules.specs.Items.{Before, listed, around_body, function_behind}
+
+-- a part: its acts, and its typed tree where it stands
+pub record Grown (T : Type 0) : Type 0 where
+  pub walk : Walk
+  pub typed : Around → T
+
+abbrev pub typed_expression : Text → Around → Expression → TypedExpression
+typed_expression text around expression = (reading text around.names expression).typed
+
+abbrev pub typed_optional : Text → Around → Option Expression → Option TypedExpression
+typed_optional text around = option_map (typed_expression text around)
+
+-- parts one after the other
+abbrev pub typed_in_order : {T : Type 0} → List (Grown T) → Around → List T
+typed_in_order [] around = []
+typed_in_order (part ∷ parts) around =
+    part.typed around ∷ typed_in_order parts (part.walk.behind around)
+
+abbrev pub typed_declarator : Text → Specifiers → Declarator → Around → TypedDeclarator
+typed_declarator text specifiers declarator around = record {
+  object = object_of text around.names around.objects specifiers declarator;
+  initializer = option_map (typed_items text (declaring_behind text specifiers declarator
+      around).names) declarator.initializer;
+}
+
+abbrev pub typed_declarators : Text → Specifiers → List Declarator → Around → List TypedDeclarator
+typed_declarators text specifiers [] around = []
+typed_declarators text specifiers (declarator ∷ more) around =
+    typed_declarator text specifiers declarator around
+    ∷ typed_declarators text specifiers more (declaring_behind text specifiers declarator around)
+
+abbrev pub typed_for_start : Text → ForStart → Around → TypedForStart
+typed_for_start text (start.Declaration declaration) around =
+    typed_start.Declaration (typed_declarators text declaration.specifiers declaration.declarators
+    around)
+typed_for_start text (start.Expression expression) around =
+    typed_start.Expression (typed_optional text around expression)
+
+-- the number of the label of this name in its function
+abbrev pub label_number : Around → Name → ℕ
+label_number around name = unwrap_or (place_of (bytes_eq name.bytes) around.labels) 0
+
+-- a statement with a grown part for each statement in it, where it stands
+abbrev pub typed_statement : Text → Statement-F (Grown TypedItem) (Grown TypedStatement) → Around
+    → TypedStatement
+typed_statement text (Statement-F.Block items place) around =
+    tree.Block (typed_in_order items (inner around))
+typed_statement text (Statement-F.Expression expression place) around =
+    tree.Expression (typed_optional text around expression)
+typed_statement text (Statement-F.If test first second place) around =
+    tree.If (typed_expression text around test) (first.typed around)
+    (option_map (λ other. other.typed (first.walk.behind around)) second)
+typed_statement text (Statement-F.While test body place) around =
+    tree.While (typed_expression text around test) (body.typed (loop around))
+typed_statement text (Statement-F.Do body test place) around =
+    tree.Do (body.typed (loop around)) (typed_expression text around test)
+typed_statement text (Statement-F.For first test step body place) around =
+    let behind = (start_walk text first).behind (inner around) in
+    tree.For (typed_for_start text first (inner around)) (typed_optional text behind test)
+    (typed_optional text behind step) (body.typed (loop behind))
+typed_statement text (Statement-F.Goto label place) around = tree.Goto (label_number around label)
+typed_statement text (Statement-F.Break place) around = tree.Break
+typed_statement text (Statement-F.Continue place) around = tree.Continue
+typed_statement text (Statement-F.Return value place) around =
+    tree.Return (typed_optional text around value)
+typed_statement text (Statement-F.Labeled label body) around =
+    tree.Labeled (label_number around label) (body.typed around)
+
+abbrev pub typed_block_item : Text → BlockItem-F (Grown TypedItem) (Grown TypedStatement) → Around
+    → TypedItem
+typed_block_item text (BlockItem-F.Declaration declaration) around =
+    typed_item.Declaration (typed_declarators text declaration.specifiers declaration.declarators
+    around)
+typed_block_item text (BlockItem-F.Statement statement) around =
+    typed_item.Statement (statement.typed around)
+
+-- the acts of the parts
+abbrev pub walk_in : {T : Type 0} → Grown T → Walk
+walk_in part = part.walk
+
+abbrev pub grown_statement : Text → Statement-F (Grown TypedItem) (Grown TypedStatement)
+    → Grown TypedStatement
+grown_statement text part = record {
+  walk = statement_walk text (map-Statement (Grown TypedItem)
+      (Grown TypedStatement) Walk Walk walk_in walk_in part);
+  typed = typed_statement text part;
+}
+
+abbrev pub grown_item : Text → BlockItem-F (Grown TypedItem) (Grown TypedStatement)
+    → Grown TypedItem
+grown_item text part = record {
+  walk = item_walk text (map-BlockItem (Grown TypedItem)
+      (Grown TypedStatement) Walk Walk walk_in walk_in part);
+  typed = typed_block_item text part;
+}
+
+-- an item of a block: its acts and its typed tree
+unfoldable pub grown : Text → BlockItem → Grown TypedItem
+grown text =
+    fold-BlockItem (Grown TypedItem) (Grown TypedStatement) (grown_item text) (grown_statement text)
+
+-- the objects of parameters, from a number on
+abbrev pub parameter_objects : ℕ → List Parameter → List Object
+parameter_objects number [] = []
+parameter_objects number (parameter ∷ parameters) =
+    parameter_object number parameter ∷ parameter_objects (number + 1) parameters
+
+-- a function with this body
+abbrev pub typed_function : Text → Before → Specifiers → FunctionDeclarator → List BlockItem
+    → TypedFunction
+typed_function text before specifiers declarator items =
+    let around = around_body (function_behind true specifiers declarator before) specifiers items in
+    record {
+      result = kind_of specifiers;
+      parameters = parameter_objects before.objects (listed declarator.parameters);
+      items = typed_in_order (map (grown text) items)
+          ((in_order (map receiving (listed declarator.parameters))).behind around);
+    }

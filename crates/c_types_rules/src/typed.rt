@@ -1,0 +1,216 @@
+//! The typed tree: the tree of a text with a type on each expression, and each name bound to what
+//! it stands for. `typed_unit` of `specs/Sound.antt` says which one is a text's.
+use crate::{Kind, Meaning, Object};
+use c_grammar_symbols::{AssignmentOperator, BinaryOperator, StepOperator};
+use c_grammar_tree::UnaryOperator;
+use cpa_ints::{Boxed, IntType, Seq};
+
+/// An expression. A `kind` is its type; only what breaks a rule, the name of an array and the name
+/// of a function have none.
+#[cycle(typed_expression)]
+#[derive(Drop)]
+pub enum TypedExpression {
+    Name {
+        meaning: Option<Meaning>,
+        place: u32,
+    },
+    Number {
+        ty: IntType,
+        value: i128,
+        place: u32,
+    },
+    Character {
+        value: i128,
+        place: u32,
+    },
+    Bracketed {
+        inner: Boxed<TypedExpression>,
+        place: u32,
+    },
+    Postfix {
+        base: Boxed<TypedExpression>,
+        suffixes: Seq<TypedSuffix>,
+        place: u32,
+    },
+    PrefixStep {
+        operator: StepOperator,
+        operand: Boxed<TypedExpression>,
+        kind: Option<Kind>,
+        place: u32,
+    },
+    Unary {
+        operator: UnaryOperator,
+        operand: Boxed<TypedExpression>,
+        kind: Option<Kind>,
+        place: u32,
+    },
+    Cast {
+        operand: Boxed<TypedExpression>,
+        kind: Option<Kind>,
+        place: u32,
+    },
+    Chain {
+        first: Boxed<TypedExpression>,
+        rest: Seq<(BinaryOperator, TypedExpression)>,
+        kind: Option<Kind>,
+        place: u32,
+    },
+    Conditional {
+        test: Boxed<TypedExpression>,
+        yes: Boxed<TypedExpression>,
+        no: Boxed<TypedExpression>,
+        kind: Option<Kind>,
+        place: u32,
+    },
+    Assignment {
+        left: Boxed<TypedExpression>,
+        operator: AssignmentOperator,
+        right: Boxed<TypedExpression>,
+        kind: Option<Kind>,
+        place: u32,
+    },
+    Comma {
+        items: Seq<TypedExpression>,
+        kind: Option<Kind>,
+        place: u32,
+    },
+}
+
+/// What stands behind the base of a postfix expression. Its `kind` is the type of the expression
+/// that ends with it.
+#[cycle(typed_expression)]
+#[derive(Drop)]
+pub enum TypedSuffix {
+    Index {
+        index: TypedExpression,
+        kind: Option<Kind>,
+        place: u32,
+    },
+    Call {
+        arguments: Seq<TypedExpression>,
+        kind: Option<Kind>,
+        place: u32,
+    },
+    Step {
+        operator: StepOperator,
+        kind: Option<Kind>,
+        place: u32,
+    },
+    Skipped {
+        kind: Option<Kind>,
+        place: u32,
+    },
+}
+
+/// What an object is initialized with.
+#[derive(Drop)]
+pub enum TypedInitializer {
+    Scalar(TypedExpression),
+    List(Seq<TypedExpression>),
+}
+
+/// An object that is declared in a function.
+#[derive(Drop)]
+pub struct TypedDeclarator {
+    pub object: Object,
+    pub initializer: Option<TypedInitializer>,
+}
+
+/// A statement. A label is its number among the labels of its function.
+#[cycle(typed_statement)]
+#[derive(Drop)]
+pub enum TypedStatement {
+    Block {
+        items: Seq<TypedItem>,
+    },
+    Expression {
+        expression: Option<TypedExpression>,
+    },
+    If {
+        test: TypedExpression,
+        yes: Boxed<TypedStatement>,
+        no: Option<Boxed<TypedStatement>>,
+    },
+    While {
+        test: TypedExpression,
+        body: Boxed<TypedStatement>,
+    },
+    Do {
+        body: Boxed<TypedStatement>,
+        test: TypedExpression,
+    },
+    For {
+        start: TypedForStart,
+        test: Option<TypedExpression>,
+        step: Option<TypedExpression>,
+        body: Boxed<TypedStatement>,
+    },
+    Goto {
+        label: u32,
+    },
+    Break,
+    Continue,
+    Return {
+        value: Option<TypedExpression>,
+    },
+    Labeled {
+        label: u32,
+        body: Boxed<TypedStatement>,
+    },
+}
+
+/// What stands in a block.
+#[cycle(typed_statement)]
+#[derive(Drop)]
+pub enum TypedItem {
+    Declaration(Seq<TypedDeclarator>),
+    Statement(TypedStatement),
+}
+
+/// The first part of a `for`.
+#[derive(Drop)]
+pub enum TypedForStart {
+    Declaration(Seq<TypedDeclarator>),
+    Expression(Option<TypedExpression>),
+}
+
+/// A function with a body.
+#[derive(Drop)]
+pub struct TypedFunction {
+    pub result: Kind,
+    pub parameters: Seq<Object>,
+    pub items: Seq<TypedItem>,
+}
+
+/// An object of file scope, by the declarations of the whole text, and what its elements start at.
+#[derive(Drop)]
+pub struct Global {
+    pub object: Object,
+    pub starts: Seq<i128>,
+}
+
+/// A cell: its type, and what it holds at the start.
+#[derive(Clone, Copy, PartialEq, Eq)]
+pub struct Cell {
+    pub ty: IntType,
+    pub start: i128,
+}
+
+/// A typed text.
+#[derive(Drop)]
+pub struct TypedUnit {
+    /// In order of first declaration.
+    pub globals: Seq<Global>,
+    /// Those with a body, in the order of the text.
+    pub functions: Seq<TypedFunction>,
+    /// The cells that the core of the text has, in order: those of the globals, then those of each
+    /// function.
+    pub cells: Seq<Cell>,
+    /// How many cells stand before those of each function: the first is that of its result, if it
+    /// has one, and then come those of its parameters.
+    pub first_cells: Seq<u32>,
+    /// The number of `main` among the functions.
+    pub main: u32,
+    /// The length of the text in bytes.
+    pub length: u32,
+}

@@ -1,0 +1,163 @@
+//! What the rows so far have set: a program, and the tables that go with it. Nothing is proved of
+//! it here.
+
+use crate::statements::stmt_of;
+use cases_reader::{
+    RowFault, end_parts, end_row, index_of_word, next_index, next_word, number_of_word,
+    type_of_word,
+};
+use cpa_model::{Cell, Program, Seq};
+use std::alloc::Global;
+use std::mem;
+use std::str::{Split, SplitWhitespace};
+
+/// A program of rows, with its tables.
+#[derive(Debug, Drop)]
+pub struct Table {
+    pub program: Program,
+    /// Where the tree of each statement ends: the number behind its last one.
+    pub ends: Seq<u32>,
+    /// The function in which each statement stands.
+    pub owners: Seq<u32>,
+    /// A number for each function that is above those of the functions which it calls.
+    pub levels: Seq<u32>,
+}
+
+impl Table {
+    /// No program. It takes no memory.
+    pub fn new(alloc: Global) -> Table {
+        Table {
+            program: Program {
+                cells: Seq::new(alloc),
+                bodies: Seq::new(alloc),
+                main: 0,
+                stmts: Seq::new(alloc),
+                text_len: 0,
+            },
+            ends: Seq::new(alloc),
+            owners: Seq::new(alloc),
+            levels: Seq::new(alloc),
+        }
+    }
+
+    /// Sets what a row names, and says whether it names something: `program`, which begins another
+    /// one, `main FUNCTION`, `cells T START ..`, `bodies N ..`, `ends N ..`, `owners N ..`,
+    /// `levels N ..`, `stmt` with one more statement, or `put N` with another one in the place of
+    /// the statement N.
+    pub fn set(&mut self, alloc: Global, line: &str) -> Result<bool, RowFault> {
+        let mut parts = line.split(':');
+        let mut words = parts.next().unwrap_or("").split_whitespace();
+        let word = next_word(&mut words)?;
+        if word == "program" {
+            *self = Table::new(alloc);
+        } else if word == "main" {
+            self.program.main = next_index(&mut words)?;
+        } else if word == "cells" {
+            self.program.cells = cells_of(alloc, &mut words)?;
+        } else if word == "stmt" {
+            self.push_stmt(alloc, &mut words, &mut parts)?;
+        } else if word == "put" {
+            self.put_stmt(alloc, &mut words, &mut parts)?;
+        } else {
+            return self.set_numbers(alloc, word, &mut words);
+        }
+        end_row(&mut words)?;
+        end_parts(&mut parts)?;
+        Ok(true)
+    }
+
+    /// Adds the statement that the words and parts spell.
+    fn push_stmt(
+        &mut self,
+        alloc: Global,
+        words: &mut SplitWhitespace<'_>,
+        parts: &mut Split<'_, char>,
+    ) -> Result<(), RowFault> {
+        let stmt = stmt_of(alloc, words, parts)?;
+        self.program.stmts.push(stmt)?;
+        Ok(())
+    }
+
+    /// `N STATEMENT`: the statement comes in the place of the one of the number N. It is added
+    /// first, since a statement that lives on beside another one is dear to prove.
+    fn put_stmt(
+        &mut self,
+        alloc: Global,
+        words: &mut SplitWhitespace<'_>,
+        parts: &mut Split<'_, char>,
+    ) -> Result<(), RowFault> {
+        let number = next_index(words)? as usize;
+        if self.program.stmts.len() <= number {
+            return Err(RowFault::Unreadable);
+        }
+        self.push_stmt(alloc, words, parts)?;
+        self.move_last(alloc, number);
+        Ok(())
+    }
+
+    /// Puts the last statement in the place of another one.
+    fn move_last(&mut self, alloc: Global, number: usize) {
+        let mut stmts = mem::replace(&mut self.program.stmts, Seq::new(alloc)).into_vec();
+        let last = stmts.len().saturating_sub(1);
+        if number < last {
+            stmts.swap(number, last);
+            stmts.truncate(last);
+        }
+        self.program.stmts = Seq::from_vec(stmts);
+    }
+
+    /// Sets the list that the word names, to the numbers that are left; false where it names none.
+    fn set_numbers(
+        &mut self,
+        alloc: Global,
+        word: &str,
+        words: &mut SplitWhitespace<'_>,
+    ) -> Result<bool, RowFault> {
+        if word == "bodies" {
+            self.program.bodies = rest_indices(alloc, words)?;
+        } else if word == "ends" {
+            self.ends = rest_indices(alloc, words)?;
+        } else if word == "owners" {
+            self.owners = rest_indices(alloc, words)?;
+        } else if word == "levels" {
+            self.levels = rest_indices(alloc, words)?;
+        } else {
+            return Ok(false);
+        }
+        Ok(true)
+    }
+}
+
+/// The words that are left, as indices.
+pub fn rest_indices(alloc: Global, words: &mut SplitWhitespace<'_>) -> Result<Seq<u32>, RowFault> {
+    let mut numbers = Seq::new(alloc);
+    for word in words {
+        numbers.push(index_of_word(word)?)?;
+    }
+    Ok(numbers)
+}
+
+/// The cells of the words that are left, a type and a start each.
+fn cells_of(alloc: Global, words: &mut SplitWhitespace<'_>) -> Result<Seq<Cell>, RowFault> {
+    let mut all: Vec<&str> = Vec::new(alloc);
+    for word in words {
+        all.push(word)?;
+    }
+    let mut cells = Seq::new(alloc);
+    let mut rest = all.as_slice();
+    while let [ty, start, behind @ ..] = rest {
+        cells.push(cell_of(ty, start)?)?;
+        rest = behind;
+    }
+    if !rest.is_empty() {
+        return Err(RowFault::Unreadable);
+    }
+    Ok(cells)
+}
+
+/// A cell of the type, with the number that it has at the start.
+fn cell_of(ty: &str, start: &str) -> Result<Cell, RowFault> {
+    let ty = type_of_word(ty).ok_or(RowFault::Unreadable)?;
+    let start = number_of_word(start)?;
+    Ok(Cell { ty, start })
+}

@@ -1,0 +1,8 @@
+pub mod Products
+pub mod Moves
+pub mod Shifts
+pub mod Dividers
+pub mod Quotients
+pub mod Meanings
+pub mod lemmas
+pub mod Laws

@@ -1,0 +1,6 @@
+use Rattle.std.proofs.Common.{◌≡◌, ◌++◌, take}
+use Rattle.cpa_blast_words.specs.Words.{opposites}
+use Rattle.cpa_blast_words.proofs.words.push_opposites.Given as goal
+
+abbrev pub invariant-loop-x : goal.invariant-loop-x
+invariant-loop-x l = l.word ≡ l.initial.word ++ opposites (take l.x-index l.xs)

@@ -1,9 +1,0 @@
--- What is left has the first point, if all have one.
-use Rattle.std.proofs.Common.{◌≡◌, drop}
-use Rattle.cpa_engine.specs.Points.{point_in}
-use Rattle.cpa_engine.proofs.edges.point_in.Given as goal
-
-abbrev pub invariant-loop-fact : goal.invariant-loop-fact
-invariant-loop-fact l = record {
-  left : point_in l.facts ≡ point_in (drop l.fact-index l.facts);
-}

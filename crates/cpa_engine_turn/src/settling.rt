@@ -1,0 +1,185 @@
+//! One successor: it is adjusted, merged into the live entries, and noted as covered or added. Each
+//! clause is a definition of `specs/Stages.antt`.
+
+ghost use Rattle.std.specs.Prelude.{◌≡◌, ℕ, ◌<◌, length, map, Some, slice_get, IfOk, OnOk};
+ghost use Rattle.std.specs.List.{AllByRecursion};
+ghost use Rattle.cpa_model.specs.Automata.{IsAutomaton};
+ghost use Rattle.cpa_composite.specs.Components.{AreElems, ArePrecisions};
+ghost use Rattle.cpa_composite.specs.Composites.{components};
+ghost use Rattle.cpa_reached.specs.Entries.{numbers};
+ghost use Rattle.cpa_engine_turn.specs.Stages.{Compares, ComparesAll, first_cover};
+ghost use Rattle.cpa_engine_turn.specs.Stages.{covered_or_added};
+ghost use Rattle.cpa_engine_turn.specs.Stages.{Settles, SettlesAll};
+ghost use Rattle.cpa_engine_turn.specs.Steps.{stage, IsOrdered, HasCurrent, MovesOn};
+ghost use Rattle.cpa_engine_turn.specs.Turns.{AreEntries};
+
+use crate::work::Work;
+use cpa_composite::Composite;
+use cpa_iface::{Analysis, Entry, Precision};
+use cpa_model::{Cfa, Elem};
+use cpa_reached::Reached;
+use std::alloc::{AllocError, Global};
+
+/// Merges the successor into the live entry at a place. The place of the next one: the same, where
+/// what the merge gives took the place of that entry, as the last one.
+fn merge_at<A: Analysis>(
+    alloc: Global,
+    cfa: &Cfa,
+    composite: &mut Composite<A>,
+    reached: &mut Reached,
+    work: &mut Work,
+    place: usize,
+    successor: &[Elem],
+    precisions: &[Precision],
+) -> Result<usize, AllocError>
+    requires automaton { IsAutomaton cfa.now }
+    requires entries { AreEntries cfa.now (length (components composite.old)) reached.old.live }
+    requires place { place < length reached.old.live }
+    requires successor { AreElems cfa.now (length (components composite.old)) successor.now }
+    requires precisions { ArePrecisions cfa.now (length (components composite.old))
+        precisions.now }
+    ensures compares { (n : ℕ) → slice_get (numbers reached.old.live) place ≡ Some n
+        → OnOk result (Compares cfa.now (components composite.old) successor.now precisions.now n
+        (stage reached.old work.old) (stage reached.new work.new)) }
+    ensures moves { IfOk result
+        (MovesOn (numbers reached.old.live) (numbers reached.new.live) place) }
+    ensures kept { components composite.new ≡ components composite.old }
+{
+    let entry = &reached.live()[place];
+    let number = entry.number;
+    let old = entry.elems.as_slice();
+    match composite.merge(alloc, cfa, successor, old, precisions)? {
+        Some(merged) => {
+            let next = reached.replace(number, merged)?;
+            work.note_replaced(number, next)?;
+            Ok(place)
+        }
+        None => Ok(place + 1),
+    }
+}
+
+/// Merges the successor into each entry that is live now, in order of numbers.
+fn compare<A: Analysis>(
+    alloc: Global,
+    cfa: &Cfa,
+    composite: &mut Composite<A>,
+    reached: &mut Reached,
+    work: &mut Work,
+    successor: &[Elem],
+    precisions: &[Precision],
+) -> Result<(), AllocError>
+    requires automaton { IsAutomaton cfa.now }
+    requires entries { AreEntries cfa.now (length (components composite.old)) reached.old.live }
+    requires successor { AreElems cfa.now (length (components composite.old)) successor.now }
+    requires precisions { ArePrecisions cfa.now (length (components composite.old))
+        precisions.now }
+    ensures compares { OnOk result (ComparesAll cfa.now (components composite.old) successor.now
+        precisions.now (numbers reached.old.live) (stage reached.old work.old)
+        (stage reached.new work.new)) }
+    ensures kept { components composite.new ≡ components composite.old }
+{
+    let mut place = 0;
+    for _compared in 0..reached.live().len() {
+        let next = merge_at(
+            alloc, cfa, composite, reached, work, place, successor, precisions,
+        )?;
+        place = next;
+    }
+    Ok(())
+}
+
+/// The number of the first entry that covers the elements.
+fn covering<A: Analysis>(composite: &Composite<A>, entries: &[Entry], elems: &[Elem]) -> Option<u32>
+    ensures { result ≡ first_cover (components composite.now) elems.now entries.now }
+{
+    for entry in entries {
+        if composite.covered_by(elems, entry.elems.as_slice()) {
+            return Some(entry.number);
+        }
+    }
+    None
+}
+
+/// Notes the first live entry that covers the successor as a use, or else adds the successor.
+fn cover_or_add<A: Analysis>(
+    composite: &Composite<A>,
+    reached: &mut Reached,
+    work: &mut Work,
+    edge: u32,
+    successor: Vec<Elem>,
+    precisions: Vec<Precision>,
+) -> Result<(), AllocError>
+    requires current { HasCurrent (stage reached.old work.old) }
+    ensures { OnOk result (stage reached.new work.new ≡ covered_or_added successor.items
+        precisions.items edge (first_cover (components composite.now) successor.items
+        reached.old.live) (stage reached.old work.old)) }
+{
+    match covering(composite, reached.live(), &successor) {
+        Some(by) => reached.note_use(work.current, by),
+        None => {
+            let number = reached.add(successor, precisions, (work.current, edge))?;
+            work.note_added(number)
+        }
+    }
+}
+
+/// One successor by an edge.
+fn settle<A: Analysis>(
+    alloc: Global,
+    cfa: &Cfa,
+    composite: &mut Composite<A>,
+    reached: &mut Reached,
+    work: &mut Work,
+    edge: u32,
+    successor: &[Elem],
+    precisions: &[Precision],
+) -> Result<(), AllocError>
+    requires automaton { IsAutomaton cfa.now }
+    requires entries { AreEntries cfa.now (length (components composite.old)) reached.old.live }
+    requires ordered { IsOrdered reached.old }
+    requires current { HasCurrent (stage reached.old work.old) }
+    requires successor { AreElems cfa.now (length (components composite.old)) successor.now }
+    requires precisions { ArePrecisions cfa.now (length (components composite.old))
+        precisions.now }
+    ensures settles { OnOk result (Settles cfa.now (components composite.old) precisions.now edge
+        successor.now (stage reached.old work.old) (stage reached.new work.new)) }
+    ensures kept { components composite.new ≡ components composite.old }
+{
+    let live = reached.live();
+    let (elems, precisions) = composite.adjust(alloc, cfa, successor, precisions, live)?;
+    compare(alloc, cfa, composite, reached, work, &elems, &precisions)?;
+    cover_or_add(composite, reached, work, edge, elems, precisions)
+}
+
+/// The successors by an edge, one after another.
+pub(crate) fn settle_all<A: Analysis>(
+    alloc: Global,
+    cfa: &Cfa,
+    composite: &mut Composite<A>,
+    reached: &mut Reached,
+    work: &mut Work,
+    edge: u32,
+    successors: &[Vec<Elem>],
+    precisions: &[Precision],
+) -> Result<(), AllocError>
+    requires automaton { IsAutomaton cfa.now }
+    requires entries { AreEntries cfa.now (length (components composite.old)) reached.old.live }
+    requires ordered { IsOrdered reached.old }
+    requires current { HasCurrent (stage reached.old work.old) }
+    requires edge { edge < length cfa.now.edges }
+    requires successors { AllByRecursion (AreElems cfa.now (length (components composite.old)))
+        (map (λ row. row.items) successors.now) }
+    requires precisions { ArePrecisions cfa.now (length (components composite.old))
+        precisions.now }
+    ensures settles { OnOk result (SettlesAll cfa.now (components composite.old) precisions.now edge
+        (map (λ row. row.items) successors.now) (stage reached.old work.old)
+        (stage reached.new work.new)) }
+    ensures kept { components composite.new ≡ components composite.old }
+{
+    for successor in successors {
+        settle(
+            alloc, cfa, composite, reached, work, edge, successor, precisions,
+        )?;
+    }
+    Ok(())
+}

@@ -1,2 +1,0 @@
--- Lemmas on the definitions, which the laws' proofs and crates above cite.
-pub mod ProductMeanings

@@ -1,0 +1,201 @@
+//! Two watched literals for each clause, with a blocker (Moskewicz et al. 2001; Eén and Sörensson
+//! 2003). For speed alone: what goes on the trail is justified by a look at the clause.
+
+ghost use Rattle.std.specs.Prelude.{◌<◌, length};
+ghost use Rattle.cpa_sat_trail.specs.declared.trail.TheConstants.{NONE};
+
+use crate::trail::{NONE, Trail};
+use cpa_sat_arena::Arena;
+use std::alloc::{AllocError, Global};
+use std::mem;
+
+/// A watch of a clause.
+#[derive(Clone, Copy, Debug)]
+pub(crate) struct Watch {
+    pub(crate) clause: u32,
+    /// A literal of the clause: while it is true, the clause need not be looked at.
+    pub(crate) blocker: u32,
+}
+
+/// The watches of all literals.
+#[derive(Debug, Drop)]
+pub struct Watches {
+    alloc: Global,
+    /// The watches of each literal.
+    lists: Vec<Vec<Watch>>,
+    /// The two watched literals of each clause, as bits that differ.
+    pairs: Vec<u32>,
+}
+
+impl Watches {
+    /// No clause is watched.
+    pub fn new(alloc: Global, vars: u32) -> Result<Watches, AllocError> {
+        let mut lists = Vec::with_capacity(alloc, vars as usize * 2)?;
+        for _ in 0..vars as usize * 2 {
+            lists.push(Vec::new(alloc))?;
+        }
+        Ok(Watches {
+            alloc,
+            lists,
+            pairs: Vec::new(alloc),
+        })
+    }
+
+    /// Takes all watches away.
+    pub fn reset(&mut self) {
+        for list in self.lists.iter_mut() {
+            list.clear();
+        }
+    }
+
+    /// Makes room for the next clause.
+    pub fn add(&mut self) -> Result<(), AllocError> {
+        self.pairs.push(0)?;
+        Ok(())
+    }
+
+    /// Takes the watches of a literal out, to be put back.
+    pub(crate) fn take(&mut self, literal: u32) -> Vec<Watch> {
+        let number = literal as usize;
+        if number < self.lists.len() {
+            mem::replace(&mut self.lists[number], Vec::new(self.alloc))
+        } else {
+            Vec::new(self.alloc)
+        }
+    }
+
+    /// Puts the watches of a literal back.
+    pub(crate) fn put(&mut self, literal: u32, list: Vec<Watch>) {
+        let number = literal as usize;
+        if number < self.lists.len() {
+            self.lists[number] = list;
+        }
+    }
+
+    /// Adds a watch to a literal.
+    fn push(&mut self, literal: u32, watch: Watch) -> Result<(), AllocError> {
+        let number = literal as usize;
+        if number < self.lists.len() {
+            self.lists[number].push(watch)?;
+        }
+        Ok(())
+    }
+
+    /// The watched literal of a clause beside this one.
+    pub(crate) fn other(&self, clause: u32, literal: u32) -> u32 {
+        self.pairs
+            .as_slice()
+            .get(clause as usize)
+            .copied()
+            .unwrap_or(0)
+            ^ literal
+    }
+
+    /// Watches a literal in place of another.
+    pub(crate) fn shift(&mut self, watch: Watch, from: u32, to: u32) -> Result<(), AllocError> {
+        let number = watch.clause as usize;
+        if number < self.pairs.len() {
+            self.pairs[number] = self.pairs[number] ^ from ^ to;
+        }
+        self.push(to, watch)
+    }
+
+    /// Watches two literals of a clause.
+    fn pair(&mut self, clause: u32, first: u32, second: u32) -> Result<(), AllocError> {
+        let number = clause as usize;
+        if number < self.pairs.len() {
+            self.pairs[number] = first ^ second;
+        }
+        self.push(
+            first,
+            Watch {
+                clause,
+                blocker: second,
+            },
+        )?;
+        self.push(
+            second,
+            Watch {
+                clause,
+                blocker: first,
+            },
+        )
+    }
+}
+
+/// Watches the two literals of a clause that became false last, or not yet.
+pub fn watch_clause(
+    watches: &mut Watches,
+    trail: &Trail,
+    clause: &[u32],
+    number: u32,
+) -> Result<(), AllocError> {
+    if clause.len() < 2 {
+        return Ok(());
+    }
+    let mut first = 0;
+    let mut second = 1;
+    for i in 0..clause.len() {
+        let late = trail.when_false(clause[i]);
+        if late > trail.when_false(at(clause, first)) {
+            second = first;
+            first = i;
+        } else if i != first && late > trail.when_false(at(clause, second)) {
+            second = i;
+        }
+    }
+    if first == second {
+        second = 1 - first.min(1);
+    }
+    watches.pair(number, at(clause, first), at(clause, second))
+}
+
+/// The literal at the place in the clause, NONE behind its end.
+fn at(clause: &[u32], place: usize) -> u32 {
+    clause.get(place).copied().unwrap_or(NONE)
+}
+
+/// Watches all clauses.
+pub fn watch_all(alloc: Global, arena: &Arena, trail: &Trail) -> Result<Watches, AllocError>
+    requires { length arena.now < NONE }
+{
+    let mut watches = Watches::new(alloc, trail.vars)?;
+    for number in 0..arena.len() {
+        watches.add()?;
+        watch_clause(
+            &mut watches,
+            trail,
+            arena.clause(number as u32),
+            number as u32,
+        )?;
+    }
+    Ok(watches)
+}
+
+/// The watch at the place, one of no clause behind the end.
+pub(crate) fn watch_at(list: &[Watch], place: usize) -> Watch {
+    list.get(place).copied().unwrap_or(Watch {
+        clause: NONE,
+        blocker: NONE,
+    })
+}
+
+/// Keeps a watch at the place; the place behind it.
+pub(crate) fn keep(list: &mut [Watch], place: usize, watch: Watch) -> usize {
+    if place < list.len() {
+        list[place] = watch;
+        place + 1
+    } else {
+        place
+    }
+}
+
+/// Moves the watches from the second place on to the first one.
+pub(crate) fn close_up(list: &mut Vec<Watch>, to: usize, from: usize) {
+    let mut place = to;
+    for i in from..list.len() {
+        let watch = watch_at(list, i);
+        place = keep(list, place, watch);
+    }
+    list.truncate(place);
+}

@@ -1,4 +1,0 @@
-pub mod Moves
-pub mod Shifts
-pub mod lemmas
-pub mod Laws

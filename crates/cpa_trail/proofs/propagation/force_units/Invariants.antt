@@ -1,5 +1,0 @@
-use Rattle.cpa_trail.specs.Progress.{IsSound, IsRisen}
-use Rattle.cpa_trail.proofs.propagation.force_units.Given as goal
-
-abbrev pub invariant-loop-number : goal.invariant-loop-number
-invariant-loop-number l = IsSound l.arena l.trail × IsRisen l.fn.trail l.trail

@@ -1,5 +1,0 @@
-use Rattle.cpa_trail.specs.Progress.{IsSound, IsRisen}
-use Rattle.cpa_trail.proofs.propagation.wake_all.Given as goal
-
-abbrev pub invariant-loop-i : goal.invariant-loop-i
-invariant-loop-i l = IsSound l.arena l.trail × IsRisen l.fn.trail l.trail
