@@ -6,7 +6,7 @@ ghost use Rattle.c_grammar_symbols.specs.Spelling.{spelling_of_assignment_operat
 ghost use Rattle.c_grammar_symbols.specs.Spelling.{spelling_of_step_operator};
 
 /// An operator between two operands (C11 6.5.5 to 6.5.14).
-#[derive(Clone, Copy, Debug, PartialEq, Eq)]
+#[derive(Clone, Copy, PartialEq, Eq)]
 pub enum BinaryOperator {
     /// `||`
     LogicalOr,
@@ -75,7 +75,7 @@ impl BinaryOperator {
 }
 
 /// An operator of an assignment (C11 6.5.16).
-#[derive(Clone, Copy, Debug, PartialEq, Eq)]
+#[derive(Clone, Copy, PartialEq, Eq)]
 pub enum AssignmentOperator {
     /// `=`
     Assign,
@@ -123,7 +123,7 @@ impl AssignmentOperator {
 }
 
 /// An operator that adds or takes one (C11 6.5.2.4 and 6.5.3.1).
-#[derive(Clone, Copy, Debug, PartialEq, Eq)]
+#[derive(Clone, Copy, PartialEq, Eq)]
 pub enum StepOperator {
     /// `++`
     Increment,

@@ -15,7 +15,7 @@ use c_lexer::Token;
 use std::marker::Model;
 
 /// The tokens of a text, with the text.
-#[derive(Debug, Drop)]
+#[derive(Drop)]
 pub struct Source<'a> {
     text: &'a [u8],
     tokens: &'a [Token],

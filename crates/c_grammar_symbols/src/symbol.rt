@@ -10,7 +10,7 @@ use c_lexer::TokenKind;
 use cpa_ints::IntType;
 
 /// What a token stands for in the grammar.
-#[derive(Clone, Copy, Debug, PartialEq, Eq)]
+#[derive(Clone, Copy, PartialEq, Eq)]
 pub enum Symbol {
     /// The end of the text.
     End,

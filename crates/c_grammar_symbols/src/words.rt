@@ -7,7 +7,7 @@ ghost use Rattle.c_grammar_symbols.specs.Spelling.{spelling_of_type_word, spelli
 ghost use Rattle.c_grammar_symbols.specs.Spelling.{spelling_of_terminal, spelling_of_stray_mark};
 
 /// A storage class (C11 6.7.1).
-#[derive(Clone, Copy, Debug, PartialEq, Eq)]
+#[derive(Clone, Copy, PartialEq, Eq)]
 pub enum StorageWord {
     /// `extern`
     Extern,
@@ -32,7 +32,7 @@ impl StorageWord {
 
 /// A word of specifiers that is neither a storage class nor a type (C11 6.7.3 and 6.7.4), and what
 /// stands for `inline` before C99.
-#[derive(Clone, Copy, Debug, PartialEq, Eq)]
+#[derive(Clone, Copy, PartialEq, Eq)]
 pub enum SpecifierWord {
     /// `inline`
     Inline,
@@ -62,7 +62,7 @@ impl SpecifierWord {
 }
 
 /// A word of an integer type or of `void` (C11 6.7.2).
-#[derive(Clone, Copy, Debug, PartialEq, Eq)]
+#[derive(Clone, Copy, PartialEq, Eq)]
 pub enum TypeWord {
     /// `void`
     Void,
@@ -101,7 +101,7 @@ impl TypeWord {
 }
 
 /// A word of C that the grammar leaves out.
-#[derive(Clone, Copy, Debug, PartialEq, Eq)]
+#[derive(Clone, Copy, PartialEq, Eq)]
 pub enum OutsideWord {
     /// `_Alignas`
     Alignas,
@@ -191,7 +191,7 @@ impl OutsideWord {
 }
 
 /// A mark or a word that stands for itself in the grammar.
-#[derive(Clone, Copy, Debug, PartialEq, Eq)]
+#[derive(Clone, Copy, PartialEq, Eq)]
 pub enum Terminal {
     /// `(`
     LeftParen,
@@ -272,7 +272,7 @@ impl Terminal {
 }
 
 /// A mark of C that the grammar leaves out.
-#[derive(Clone, Copy, Debug, PartialEq, Eq)]
+#[derive(Clone, Copy, PartialEq, Eq)]
 pub enum StrayMark {
     /// `.`
     Dot,

@@ -5,7 +5,7 @@ use c_grammar_symbols::{SpecifierWord, StorageWord, TypeWord};
 use cpa_ints::Seq;
 
 /// What a word of specifiers is.
-#[derive(Clone, Copy, Debug, PartialEq, Eq)]
+#[derive(Clone, Copy, PartialEq, Eq)]
 pub enum SpecifierKind {
     Storage(StorageWord),
     Other(SpecifierWord),
@@ -13,21 +13,21 @@ pub enum SpecifierKind {
 }
 
 /// A word of specifiers and its place.
-#[derive(Clone, Copy, Debug, PartialEq, Eq)]
+#[derive(Clone, Copy, PartialEq, Eq)]
 pub struct Specifier {
     pub kind: SpecifierKind,
     pub place: u32,
 }
 
 /// The words before a declarator, in the order in which they stand; those of types are one type.
-#[derive(Debug, Drop)]
+#[derive(Drop)]
 pub struct Specifiers {
     pub words: Seq<Specifier>,
     pub place: u32,
 }
 
 /// `[length]` or `[]` behind the name of an array.
-#[derive(Debug, Drop)]
+#[derive(Drop)]
 pub struct Array {
     pub length: Option<Expression>,
     pub place: u32,
@@ -35,7 +35,7 @@ pub struct Array {
 
 /// What an object is initialized with: an expression where it is a scalar, a list where it is an
 /// array.
-#[derive(Debug, Drop)]
+#[derive(Drop)]
 pub enum Initializer {
     Scalar(Expression),
     /// `{items}`, and the place of the brace.
@@ -43,7 +43,7 @@ pub enum Initializer {
 }
 
 /// A declared object. Its attributes are skipped.
-#[derive(Debug, Drop)]
+#[derive(Drop)]
 pub struct Declarator {
     pub name: Name,
     pub array: Option<Array>,
@@ -51,7 +51,7 @@ pub struct Declarator {
 }
 
 /// Specifiers and the objects that they declare.
-#[derive(Debug, Drop)]
+#[derive(Drop)]
 pub struct Declaration {
     pub specifiers: Specifiers,
     pub declarators: Seq<Declarator>,

@@ -5,7 +5,7 @@ use c_grammar_symbols::{AssignmentOperator, BinaryOperator, StepOperator, TypeWo
 use cpa_ints::{Boxed, IntType, Seq};
 
 /// An operator before a cast that has one operand (C11 6.5.3.3).
-#[derive(Clone, Copy, Debug, PartialEq, Eq)]
+#[derive(Clone, Copy, PartialEq, Eq)]
 pub enum UnaryOperator {
     /// `+`
     Plus,
@@ -18,7 +18,7 @@ pub enum UnaryOperator {
 }
 
 /// The type of a cast: its words in order, and the place of the first.
-#[derive(Debug, Drop)]
+#[derive(Drop)]
 pub struct TypeName {
     pub words: Seq<TypeWord>,
     pub place: u32,
@@ -26,7 +26,7 @@ pub struct TypeName {
 
 /// An expression. Its place is that of its first token; a name has its own.
 #[cycle(expression)]
-#[derive(Debug, Drop)]
+#[derive(Drop)]
 pub enum Expression {
     /// An identifier.
     Name(Name),
@@ -102,7 +102,7 @@ pub enum Expression {
 /// What stands behind the base of a postfix expression (C11 6.5.2). Its place is that of its first
 /// token.
 #[cycle(expression)]
-#[derive(Debug, Drop)]
+#[derive(Drop)]
 pub enum Suffix {
     /// `[index]`
     Index {

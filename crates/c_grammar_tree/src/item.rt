@@ -4,7 +4,7 @@ use crate::{BlockItem, Declaration, Name, Specifiers};
 use cpa_ints::Seq;
 
 /// A parameter. A pointer stands only behind `char`, in a prototype.
-#[derive(Debug, Drop)]
+#[derive(Drop)]
 pub struct Parameter {
     pub specifiers: Specifiers,
     pub is_pointer: bool,
@@ -12,7 +12,7 @@ pub struct Parameter {
 }
 
 /// What stands between the brackets of a function's declarator.
-#[derive(Debug, Drop)]
+#[derive(Drop)]
 pub enum Parameters {
     /// `()`, which says nothing of the parameters.
     Unspecified,
@@ -23,14 +23,14 @@ pub enum Parameters {
 }
 
 /// A function's name and its parameters. Attributes behind them are skipped.
-#[derive(Debug, Drop)]
+#[derive(Drop)]
 pub struct FunctionDeclarator {
     pub name: Name,
     pub parameters: Parameters,
 }
 
 /// The body of a function.
-#[derive(Debug, Drop)]
+#[derive(Drop)]
 pub enum Body {
     /// `{items}`, and the place of the first brace.
     Block { items: Seq<BlockItem>, place: u32 },
@@ -40,7 +40,7 @@ pub enum Body {
 
 /// An item of a text. Its place is that of its first token, which is also the place of its
 /// specifiers.
-#[derive(Debug, Drop)]
+#[derive(Drop)]
 pub enum Item {
     /// A semicolon alone.
     Empty {
@@ -62,7 +62,7 @@ pub enum Item {
 }
 
 /// A whole text.
-#[derive(Debug, Drop)]
+#[derive(Drop)]
 pub struct Unit {
     /// Its items in order.
     pub items: Seq<Item>,

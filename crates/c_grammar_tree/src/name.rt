@@ -3,7 +3,7 @@
 use cpa_ints::Seq;
 
 /// An identifier (C11 6.4.2) and the place of its first byte.
-#[derive(Debug, Drop)]
+#[derive(Drop)]
 pub struct Name {
     pub bytes: Seq<u8>,
     pub place: u32,

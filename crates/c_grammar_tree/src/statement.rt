@@ -5,7 +5,7 @@ use cpa_ints::{Boxed, Seq};
 
 /// A statement. Its place is that of its first token; a labeled one has that of its label.
 #[cycle(statement)]
-#[derive(Debug, Drop)]
+#[derive(Drop)]
 pub enum Statement {
     /// `{items}`
     Block {
@@ -71,14 +71,14 @@ pub enum Statement {
 
 /// What stands in a block.
 #[cycle(statement)]
-#[derive(Debug, Drop)]
+#[derive(Drop)]
 pub enum BlockItem {
     Declaration(Declaration),
     Statement(Statement),
 }
 
 /// The first part of a `for`.
-#[derive(Debug, Drop)]
+#[derive(Drop)]
 pub enum ForStart {
     Declaration(Declaration),
     /// `expression;`, or `;` alone

@@ -11,7 +11,7 @@ use c_parser_declarations::begins_declaration;
 use c_parser_expressions::begins_expression;
 
 /// The statements of C by their first token.
-#[derive(Clone, Copy, Debug, PartialEq, Eq)]
+#[derive(Clone, Copy, PartialEq, Eq)]
 pub enum StatementKind {
     /// `{`
     Block,

@@ -15,7 +15,7 @@ use cpa_ints::Seq;
 use std::alloc::Global;
 
 /// Which storage classes may stand among specifiers (C11 6.7.1).
-#[derive(Clone, Copy, Debug, PartialEq, Eq)]
+#[derive(Clone, Copy, PartialEq, Eq)]
 pub enum AllowedStorage {
     /// All of them, as before items and parameters.
     Any,

@@ -9,7 +9,7 @@ use std::alloc::Global;
 use std::str::{Split, SplitWhitespace};
 
 /// What the rows have set.
-#[derive(Debug, Drop)]
+#[derive(Drop)]
 pub struct Setting {
     pub table: Table,
     pub precision: Precision,

@@ -12,7 +12,7 @@ use std::mem;
 use std::str::{Split, SplitWhitespace};
 
 /// A program of rows, with its tables.
-#[derive(Debug, Drop)]
+#[derive(Drop)]
 pub struct Table {
     pub program: Program,
     /// Where the tree of each statement ends: the number behind its last one.

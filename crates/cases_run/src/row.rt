@@ -4,7 +4,7 @@
 use std::alloc::{AllocError, Global};
 
 /// A call of the program on one file or on two.
-#[derive(Debug, Drop)]
+#[derive(Drop)]
 pub struct Row {
     pub words: Vec<String>,
     pub text: Vec<u8>,

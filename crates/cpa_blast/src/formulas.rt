@@ -25,7 +25,7 @@ use cpa_query::{Query, read_cells};
 use std::alloc::{AllocError, Global};
 
 /// Where the bits of a query's cells stand among the variables of its formula.
-#[derive(Debug, Drop)]
+#[derive(Drop)]
 pub struct Bits {
     /// The variable of each cell's low bit; the higher bits are the variables behind it.
     pub first: Seq<u32>,
@@ -59,7 +59,7 @@ fn told(holds: bool, literal: Lit) -> Lit
 }
 
 /// What is to be true of a wanted expression.
-#[derive(Clone, Copy, Debug)]
+#[derive(Clone, Copy)]
 pub(crate) struct Required {
     pub(crate) ok: Lit,
     pub(crate) truth: Lit,

@@ -15,7 +15,7 @@ use cpa_ints::{IntType, Seq};
 use std::alloc::{AllocError, Global};
 
 /// A cell, whether it is read, and the variable of its low bit, 0 where it has none yet.
-#[derive(Clone, Copy, Debug)]
+#[derive(Clone, Copy)]
 pub(crate) struct Place {
     pub(crate) ty: IntType,
     pub(crate) is_read: bool,

@@ -12,7 +12,7 @@ use cpa_ints::Seq;
 use std::alloc::{AllocError, Global};
 
 /// A quotient, and what it leaves.
-#[derive(Debug, Drop)]
+#[derive(Drop)]
 pub struct Divided {
     pub quotient: Seq<Lit>,
     pub remainder: Seq<Lit>,

@@ -10,7 +10,7 @@ use cpa_ints::Seq;
 use std::alloc::{AllocError, Global};
 
 /// Where the bits of a word go.
-#[derive(Clone, Copy, Debug)]
+#[derive(Clone, Copy)]
 pub enum Direction {
     /// To places of higher bits.
     Left,

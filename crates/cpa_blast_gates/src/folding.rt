@@ -12,7 +12,7 @@ use crate::gate::Gate;
 use cpa_cnf::Lit;
 
 /// A literal that is there already, a gate to be made, or the opposite of one.
-#[derive(Clone, Copy, Debug)]
+#[derive(Clone, Copy)]
 pub(crate) enum Plan {
     Known(Lit),
     Made(Gate),

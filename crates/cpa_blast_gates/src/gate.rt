@@ -4,7 +4,7 @@
 use cpa_cnf::Lit;
 
 /// What a variable stands for, in terms of the literals of earlier variables.
-#[derive(Clone, Copy, Debug, PartialEq, Eq, Hash)]
+#[derive(Clone, Copy, PartialEq, Eq, Hash)]
 pub enum Gate {
     /// Either value.
     Input,

@@ -11,7 +11,7 @@ use cpa_cnf::Lit;
 use std::alloc::AllocError;
 
 /// What is made of the bits x and y of two words at one place, and of the carry.
-#[derive(Clone, Copy, Debug)]
+#[derive(Clone, Copy)]
 pub enum Row {
     /// Both; the carry stays.
     And,
@@ -30,7 +30,7 @@ pub enum Row {
 }
 
 /// A bit, and what is carried on.
-#[derive(Clone, Copy, Debug)]
+#[derive(Clone, Copy)]
 pub(crate) struct Column {
     pub(crate) bit: Lit,
     pub(crate) carry: Lit,

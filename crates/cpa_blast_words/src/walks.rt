@@ -12,7 +12,7 @@ use cpa_ints::Seq;
 use std::alloc::{AllocError, Global};
 
 /// The bits of a walk, and what is carried out of it.
-#[derive(Debug, Drop)]
+#[derive(Drop)]
 pub struct Walked {
     pub bits: Seq<Lit>,
     pub carry: Lit,

@@ -10,7 +10,7 @@ use std::marker::Model;
 
 /// A clause: the disjunction of its literals, sorted by variable, the positive one first, each
 /// literal once. Contracts see it as the list of the literals.
-#[derive(Debug, Drop)]
+#[derive(Drop)]
 pub struct Clause {
     literals: Vec<Lit>,
 }

@@ -5,14 +5,14 @@ use crate::clause::Clause;
 use cpa_ints::Seq;
 
 /// A formula: the conjunction of its clauses over the variables below `vars`.
-#[derive(Debug, Drop)]
+#[derive(Drop)]
 pub struct Cnf {
     pub vars: u32,
     pub clauses: Seq<Clause>,
 }
 
 /// One resolution: the present clause with the clause of this number, on the pivot.
-#[derive(Clone, Copy, Debug)]
+#[derive(Clone, Copy)]
 pub struct Step {
     pub pivot: u32,
     pub clause: u32,
@@ -20,7 +20,7 @@ pub struct Step {
 
 /// A derived clause with its chain. In a formula with n clauses the numbers below n name these, and
 /// n + i names line i.
-#[derive(Debug, Drop)]
+#[derive(Drop)]
 pub struct Line {
     pub clause: Clause,
     /// The number of the clause that the chain begins with.

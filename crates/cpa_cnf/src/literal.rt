@@ -14,7 +14,7 @@ use std::hash::{Hash, Hasher};
 use std::marker::Model;
 
 /// A variable or its negation. Literals are ordered by variable, the positive one first.
-#[derive(Clone, Copy, Debug)]
+#[derive(Clone, Copy)]
 pub struct Lit {
     var: u32,
     neg: bool,

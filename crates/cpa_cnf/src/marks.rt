@@ -11,7 +11,7 @@ use std::alloc::{AllocError, Global};
 use std::marker::Model;
 
 /// A scratch table for formulas over so many variables, which contracts see as that number.
-#[derive(Debug, Drop)]
+#[derive(Drop)]
 pub struct Marks {
     vars: u32,
     pub(crate) table: Vec<bool>,

@@ -7,7 +7,7 @@ ghost use Rattle.cpa_edgeform_renaming.specs.Places.{number_at, stand_together};
 use cpa_ints::IntType;
 
 /// Where a cell stands.
-#[derive(Clone, Copy, Debug)]
+#[derive(Clone, Copy)]
 pub struct Place {
     /// The number of the cell that stands for it.
     pub number: u32,

@@ -5,7 +5,7 @@ use cpa_expr::Expr;
 use cpa_ints::{IntType, Seq};
 
 /// Cells and wanted expressions that come behind a query.
-#[derive(Debug, Drop)]
+#[derive(Drop)]
 pub struct Draft {
     /// The number of the first cell.
     pub first: u32,

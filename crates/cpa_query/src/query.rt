@@ -9,7 +9,7 @@ pub const MAX_HEIGHT: u32 = 2000;
 
 /// A question: whether there are values for some cells on which each wanted expression evaluates
 /// without a trap, and is nonzero exactly where it is wanted true.
-#[derive(Debug, Drop)]
+#[derive(Drop)]
 pub struct Query {
     /// The type of each cell.
     pub cells: Seq<IntType>,

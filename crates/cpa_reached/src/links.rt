@@ -10,7 +10,7 @@ use cpa_ints::Seq;
 use std::alloc::AllocError;
 
 /// What is kept of an entry.
-#[derive(Debug, Drop)]
+#[derive(Drop)]
 pub(crate) struct Link {
     /// The entry's number.
     pub(crate) number: u32,

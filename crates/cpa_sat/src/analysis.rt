@@ -19,7 +19,7 @@ use std::alloc::{AllocError, Global};
 use std::mem;
 
 /// A chain of resolutions under way.
-#[derive(Debug, Drop)]
+#[derive(Drop)]
 pub(crate) struct Analysis {
     pub(crate) vars: u32,
     pub(crate) marks: Vec<bool>,

@@ -26,7 +26,7 @@ use cpa_sat_trail::{
 use std::alloc::{AllocError, Global};
 
 /// A search under way.
-#[derive(Debug, Drop)]
+#[derive(Drop)]
 pub(crate) struct Search {
     pub(crate) alloc: Global,
     pub(crate) arena: Arena,
@@ -43,7 +43,7 @@ pub(crate) struct Search {
 }
 
 /// How a turn of the search ends.
-#[derive(Clone, Copy, Debug)]
+#[derive(Clone, Copy)]
 pub(crate) enum Turn {
     Again,
     Satisfied,
@@ -52,7 +52,7 @@ pub(crate) enum Turn {
 }
 
 /// How a search ends.
-#[derive(Clone, Copy, Debug)]
+#[derive(Clone, Copy)]
 pub(crate) enum End {
     Model,
     Refutation,
@@ -477,7 +477,7 @@ fn bump(order: &mut Order, analysis: &Analysis) {
 }
 
 /// What a conflict teaches.
-#[derive(Debug, Drop)]
+#[derive(Drop)]
 pub(crate) struct Learned {
     pub(crate) line: Line,
     pub(crate) jump: Option<Jump>,

@@ -4,7 +4,7 @@
 use cpa_cnf::Line;
 
 /// The outcome of a search.
-#[derive(Debug, Drop)]
+#[derive(Drop)]
 pub enum Found {
     /// A value for each variable.
     Model(Vec<bool>),

@@ -16,7 +16,7 @@ const MORE: u64 = 1000;
 const MOST: u32 = 63;
 
 /// The distances of all clauses; 0 for those of the formula.
-#[derive(Debug, Drop)]
+#[derive(Drop)]
 pub(crate) struct Quality {
     distances: Vec<u32>,
     dropped: Vec<bool>,

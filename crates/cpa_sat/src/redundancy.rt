@@ -10,7 +10,7 @@ use std::alloc::{AllocError, Global};
 const MOST: u32 = 10000;
 
 /// What is known of the places of a trail.
-#[derive(Debug, Drop)]
+#[derive(Drop)]
 pub(crate) struct Redundancy {
     /// Whether the literal of a place is known to be implied.
     implied: Vec<bool>,

@@ -12,7 +12,7 @@ use std::marker::Model;
 
 /// Clauses by number; literals as numbers, 2 * var and one more where negated. A clause that stands
 /// is never changed or taken out.
-#[derive(Debug, Drop)]
+#[derive(Drop)]
 pub struct Arena {
     store: Store,
 }

@@ -15,7 +15,7 @@ const VALUES: usize = 1 << 32;
 pub(crate) const MULTIPLIER: u32 = 2654435761;
 
 /// Chains of numbers. A link is a number and one, or 0 at the end of a chain.
-#[derive(Debug, Drop)]
+#[derive(Drop)]
 pub(crate) struct Index {
     /// The first link of each bucket.
     pub(crate) heads: Vec<u32>,

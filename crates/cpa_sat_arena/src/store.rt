@@ -16,7 +16,7 @@ use std::alloc::{AllocError, Global};
 const MOST_CLAUSES: usize = u32::MAX as usize - 1;
 
 /// Where the literals of a clause stand, and its hash.
-#[derive(Clone, Copy, Debug)]
+#[derive(Clone, Copy)]
 pub(crate) struct Extent {
     pub(crate) from: u32,
     pub(crate) to: u32,
@@ -24,7 +24,7 @@ pub(crate) struct Extent {
 }
 
 /// The parts of an arena.
-#[derive(Debug, Drop)]
+#[derive(Drop)]
 pub(crate) struct Store {
     pub(crate) alloc: Global,
     pub(crate) literals: Vec<u32>,

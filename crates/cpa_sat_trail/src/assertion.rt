@@ -14,7 +14,7 @@ use std::alloc::AllocError;
 
 /// Where a learned clause forces a literal: the opposite of the one that is true at the place `at`,
 /// once the trail is cut to `cut` literals.
-#[derive(Clone, Copy, Debug)]
+#[derive(Clone, Copy)]
 pub struct Jump {
     pub at: usize,
     pub cut: usize,

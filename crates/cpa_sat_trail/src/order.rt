@@ -17,7 +17,7 @@ const HIGH: f64 = 1e100;
 const SCALE: f64 = 1e-100;
 
 /// The variables in a heap by activity, and the sign that each had last.
-#[derive(Debug, Drop)]
+#[derive(Drop)]
 pub struct Order {
     heap: Vec<u32>,
     /// The place of each variable in the heap, NONE where it is not there.
@@ -202,7 +202,7 @@ impl Order {
 }
 
 /// The lengths between restarts: the Luby sequence in units of a hundred conflicts.
-#[derive(Debug, Drop)]
+#[derive(Drop)]
 pub struct Restarts {
     /// The pair of Knuth's recurrence for the sequence.
     u: u64,

@@ -20,7 +20,7 @@ use cpa_sat_arena::Arena;
 use std::alloc::AllocError;
 
 /// What a look at a clause shows.
-#[derive(Clone, Copy, Debug)]
+#[derive(Clone, Copy)]
 pub(crate) enum Seen {
     /// A literal is true.
     Satisfied,
@@ -124,7 +124,7 @@ fn visit(arena: &Arena, trail: &Trail, watches: &Watches, literal: u32, watch: W
 }
 
 /// What becomes of a watch when its literal is false.
-#[derive(Clone, Copy, Debug)]
+#[derive(Clone, Copy)]
 pub(crate) enum After {
     Stays,
     Moved,

@@ -16,7 +16,7 @@ pub const NONE: u32 = u32::MAX;
 pub const VARS_LIMIT: u32 = 1 << 31;
 
 /// Literals that are true, by number.
-#[derive(Debug, Drop)]
+#[derive(Drop)]
 pub struct Trail {
     pub vars: u32,
     pub lits: Vec<u32>,

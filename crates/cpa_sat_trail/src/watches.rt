@@ -10,7 +10,7 @@ use std::alloc::{AllocError, Global};
 use std::mem;
 
 /// A watch of a clause.
-#[derive(Clone, Copy, Debug)]
+#[derive(Clone, Copy)]
 pub(crate) struct Watch {
     pub(crate) clause: u32,
     /// A literal of the clause: while it is true, the clause need not be looked at.
@@ -18,7 +18,7 @@ pub(crate) struct Watch {
 }
 
 /// The watches of all literals.
-#[derive(Debug, Drop)]
+#[derive(Drop)]
 pub struct Watches {
     alloc: Global,
     /// The watches of each literal.

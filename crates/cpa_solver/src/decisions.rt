@@ -17,7 +17,7 @@ use cpa_sat::{Found, search};
 use std::alloc::{AllocError, Global};
 
 /// What was found out of a query.
-#[derive(Debug, Drop)]
+#[derive(Drop)]
 pub enum Decided {
     /// A store on which each wanted expression has its wanted truth.
     Model(Store),

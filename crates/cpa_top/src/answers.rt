@@ -16,7 +16,7 @@ use cpa_outside::{Inputs, Sink, write_whole};
 use std::alloc::Global;
 
 /// What a job comes to, and what is written of it.
-#[derive(Debug, Drop)]
+#[derive(Drop)]
 pub(crate) struct Conclusion {
     pub(crate) status: Status,
     pub(crate) text: String,

@@ -6,7 +6,7 @@ ghost use Rattle.cpa_top.specs.Asking.{job_of};
 ghost use Rattle.cpa_top.specs.Jobs.{Job as Meant, words_of};
 
 /// What words ask for, with the names of its files.
-#[derive(Clone, Copy, Debug)]
+#[derive(Clone, Copy)]
 pub(crate) enum Job<'a> {
     Verify { program: &'a str },
     Replay { program: &'a str, inputs: &'a str },

@@ -20,7 +20,7 @@ use cpa_model::{Cfa, Elem, Seq, automata_are_small, is_error, leaving};
 use std::alloc::{AllocError, Global};
 
 /// What an exploration comes to.
-#[derive(Debug, Drop)]
+#[derive(Drop)]
 pub(crate) enum Explored {
     /// The entries, in the order in which they were added.
     Safe { entries: Seq<Elem> },

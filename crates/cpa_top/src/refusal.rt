@@ -8,7 +8,7 @@ use crate::{Role, Status};
 use std::alloc::AllocError;
 
 /// Why a call is refused.
-#[derive(Debug, Drop)]
+#[derive(Drop)]
 pub(crate) enum Refusal {
     /// The words ask for nothing.
     Usage,

@@ -11,14 +11,14 @@ use cpa_model::{Elem, Seq, Spell, push_list};
 use std::alloc::{AllocError, Global};
 
 /// An entry of a printed reached set: its number, and one element for each analysis.
-#[derive(Debug, Drop)]
+#[derive(Drop)]
 pub struct Listed {
     pub number: u32,
     pub elems: Seq<Elem>,
 }
 
 /// The verdict on a program, with what is told for it.
-#[derive(Debug, Drop)]
+#[derive(Drop)]
 pub enum Body {
     /// The program is safe: its reached set.
     True { entries: Seq<Listed> },
@@ -26,7 +26,7 @@ pub enum Body {
 
 /// What is said of a program: the length of its text, how many points, cells and edges it has, and
 /// the verdict.
-#[derive(Debug, Drop)]
+#[derive(Drop)]
 pub struct Report {
     pub text: u32,
     pub points: u32,

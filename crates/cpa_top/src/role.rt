@@ -1,7 +1,7 @@
 //! What a file is read as: the program or its inputs.
 //! Plain data.
 /// What a file that the words name is read as.
-#[derive(Clone, Copy, Debug, PartialEq, Eq)]
+#[derive(Clone, Copy, PartialEq, Eq)]
 pub enum Role {
     /// The C text of a program.
     Program,
