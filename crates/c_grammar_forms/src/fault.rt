@@ -7,7 +7,7 @@ ghost use Rattle.c_grammar_forms.specs.declared.fault.ReadError.TheVariants.{Out
 use std::alloc::{AllocError, AllocFailed};
 
 /// Why a part was not read. Places are numbers of tokens.
-#[derive(Clone, Copy, Debug, PartialEq, Eq)]
+#[derive(Clone, Copy, PartialEq, Eq)]
 pub enum ReadError {
     /// No part goes on through this token.
     Unexpected { at: usize },

@@ -3,7 +3,7 @@
 use cpa_ints::IntType;
 
 /// What a token is. The bytes of a word, a text and a mark stand in the text at its places.
-#[derive(Clone, Copy, Debug, PartialEq, Eq)]
+#[derive(Clone, Copy, PartialEq, Eq)]
 pub enum TokenKind {
     /// A keyword or an identifier.
     Word,
@@ -20,7 +20,7 @@ pub enum TokenKind {
 }
 
 /// A token, and its bytes: those from `from` up to `to`.
-#[derive(Clone, Copy, Debug, PartialEq, Eq)]
+#[derive(Clone, Copy, PartialEq, Eq)]
 pub struct Token {
     pub kind: TokenKind,
     pub from: u32,

@@ -12,7 +12,7 @@ use cpa_model::{Cfa, Elem, Path, Seq, has_facts};
 use std::alloc::{AllocError, Global};
 
 /// It knows nothing, is exact on nothing, tells no suggestion and keeps none.
-#[derive(Debug, Drop)]
+#[derive(Drop)]
 pub struct Blind {
     /// How many transfers there are still, up to the one that is refused. 0 where none is.
     left: u32,

@@ -15,7 +15,7 @@ use cpa_model::{Cfa, Elem, Fact, Path, Seq, copy_elem, has_facts};
 use std::alloc::{AllocError, Global};
 
 /// It numbers its elements, and is exact on nothing.
-#[derive(Debug, Drop)]
+#[derive(Drop)]
 pub struct Counter {
     /// How many elements it has made.
     made: u32,

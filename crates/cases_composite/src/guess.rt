@@ -16,7 +16,7 @@ use cpa_model::{Cfa, Elem, Fact, Path, Seq, edges_are_sound, has_facts};
 use std::alloc::{AllocError, Global};
 
 /// It guesses among two points, and is exact on nothing.
-#[derive(Debug, Drop)]
+#[derive(Drop)]
 pub struct Guess;
 
 impl Analysis for Guess {

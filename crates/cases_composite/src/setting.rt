@@ -8,7 +8,7 @@ use cpa_model::Seq;
 use std::alloc::Global;
 
 /// What the rows have set.
-#[derive(Debug, Drop)]
+#[derive(Drop)]
 pub struct Setting {
     pub table: Table,
     /// The words of the picks.

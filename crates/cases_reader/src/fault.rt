@@ -5,7 +5,7 @@ use std::alloc::{AllocError, AllocFailed};
 use std::num::ParseIntError;
 
 /// Why a row has no answer.
-#[derive(Clone, Copy, Debug, PartialEq, Eq)]
+#[derive(Clone, Copy, PartialEq, Eq)]
 pub enum RowFault {
     /// It names no call, or does not have the words that its call takes.
     Unreadable,

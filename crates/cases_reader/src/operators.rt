@@ -9,7 +9,7 @@ use std::alloc::{AllocError, Global};
 use std::str::SplitWhitespace;
 
 /// A number of a type.
-#[derive(Clone, Copy, Debug)]
+#[derive(Clone, Copy)]
 pub struct Operand {
     pub ty: IntType,
     pub value: i128,

@@ -20,7 +20,7 @@ use std::alloc::{AllocError, Global};
 
 /// The analysis of call stacks: an element says which stack a state has, from the bottom to the
 /// top.
-#[derive(Debug, Drop)]
+#[derive(Drop)]
 pub struct Callstack;
 
 impl Callstack {

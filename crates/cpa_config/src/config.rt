@@ -5,7 +5,7 @@ use cpa_iface::{Order, Pick, Settings};
 use cpa_ints::Seq;
 
 /// What a run is asked to do.
-#[derive(Debug, Drop)]
+#[derive(Drop)]
 pub struct Config {
     /// The analyses that are used, by their places among the handed ones.
     pub picks: Seq<Pick>,

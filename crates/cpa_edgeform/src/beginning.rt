@@ -11,8 +11,8 @@ ghost use Rattle.cpa_edgeform.specs.Parts.{form_in};
 
 use crate::nodes::has_value;
 use crate::parts::Parts;
-use cpa_edgeform_renaming::{Place, constant};
-use cpa_expr::Expr;
+use cpa_edgeform_renaming::Place;
+use cpa_expr::{Expr, constant};
 use cpa_ints::IntType;
 use cpa_model::Cell;
 use std::alloc::{AllocError, Global};

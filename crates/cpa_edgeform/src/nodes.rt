@@ -7,8 +7,8 @@ ghost use Rattle.cpa_expr.specs.declared.tree.CmpOp.TheVariants as cmp;
 ghost use Rattle.cpa_expr.specs.declared.tree.Expr.TheVariants.{Cmp};
 ghost use Rattle.cpa_edgeform_renaming.specs.Renaming.{renamed};
 
-use cpa_edgeform_renaming::{Place, comparison, rename};
-use cpa_expr::{CmpOp, Expr, read_scalar};
+use cpa_edgeform_renaming::{Place, rename};
+use cpa_expr::{CmpOp, Expr, comparison, read_scalar};
 use cpa_ints::{Boxed, IntType};
 use std::alloc::{AllocError, Global};
 

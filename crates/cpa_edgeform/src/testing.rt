@@ -11,10 +11,8 @@ ghost use Rattle.cpa_edgeform_rules.specs.Tests.{denials_of};
 
 use crate::nodes::{has_value, scalar};
 use crate::settling::push_copies;
-use cpa_edgeform_renaming::{
-    Place, both, comparison, constant, copied, either, negation, trap_test,
-};
-use cpa_expr::{CmpOp, Expr, copy};
+use cpa_edgeform_renaming::{Place, trap_test};
+use cpa_expr::{CmpOp, Expr, both, comparison, constant, copied, copy, either, negation};
 use cpa_ints::{Boxed, IntType, Seq};
 use cpa_model::{Elem, Fact};
 use std::alloc::{AllocError, Global};

@@ -11,9 +11,9 @@ ghost use Rattle.cpa_edgeform_rules.specs.Tests.{want_some, want_each};
 
 use crate::drafting::{fresh, want};
 use crate::nodes::{renamed, scalar};
-use cpa_edgeform_renaming::{Place, either, negation};
+use cpa_edgeform_renaming::Place;
 use cpa_edgeform_rules::Draft;
-use cpa_expr::Expr;
+use cpa_expr::{Expr, either, negation};
 use cpa_ints::{Boxed, IntType, Seq};
 use std::alloc::{AllocError, Global};
 

@@ -14,9 +14,9 @@ ghost use Rattle.cpa_edgeform_rules.specs.Drafts.{array_written, assigned};
 
 use crate::drafting::{fresh, named, next, want};
 use crate::nodes::{has_value, renamed, scalar};
-use cpa_edgeform_renaming::{Place, cast, comparison, constant, copied, either, number_at};
+use cpa_edgeform_renaming::{Place, number_at};
 use cpa_edgeform_rules::Draft;
-use cpa_expr::{CmpOp, Expr, type_of};
+use cpa_expr::{CmpOp, Expr, cast, comparison, constant, copied, either, type_of};
 use cpa_ints::{Boxed, IntType};
 use std::alloc::{AllocError, Global};
 

@@ -3,13 +3,11 @@
 #![tactic(auto)]
 
 mod laws;
-mod nodes;
 mod places;
 mod renaming;
 mod traps;
 
 pub use laws::{cells_behind_change_nothing, renaming_keeps_meanings, trap_tests_tell};
-pub use nodes::{both, cast, comparison, constant, copied, either, negation};
 pub use places::{Place, number_at, stand_together};
 pub use renaming::{is_whole, rename};
 pub use traps::trap_test;

@@ -10,8 +10,7 @@ ghost use Rattle.cpa_edgeform_renaming.specs.TrapTests.{is_outside, right_test, 
 ghost use Rattle.cpa_edgeform_renaming.specs.TrapTests.{trap_test};
 ghost use Rattle.cpa_edgeform_renaming.specs.TrapTests.{Tested, tested};
 
-use crate::nodes::{both, cast, comparison, constant, copied, either, negation};
-use cpa_expr::{BinOp, CmpOp, Expr};
+use cpa_expr::{BinOp, CmpOp, Expr, both, cast, comparison, constant, copied, either, negation};
 use cpa_ints::{Boxed, IntType};
 use std::alloc::{AllocError, Global};
 

@@ -8,7 +8,7 @@ use cpa_ints::Seq;
 use std::alloc::{AllocError, Global};
 
 /// A turn under way.
-#[derive(Debug, Drop)]
+#[derive(Drop)]
 pub(crate) struct Work {
     /// What it did so far.
     pub(crate) row: Turn,

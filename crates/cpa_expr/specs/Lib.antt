@@ -3,6 +3,7 @@ pub mod Values
 pub mod Cells
 pub mod Equality
 pub mod Parts
+pub mod Evaluations
 pub mod Traps
 pub mod Rewriting
 pub mod Words

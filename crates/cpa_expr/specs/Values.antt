@@ -5,7 +5,7 @@
 use Rattle.std.specs.Prelude.{ℕ, ◌+◌, ◌^◌, ℤ, pos, negsuc, neg_ℤ, ◌+ℤ◌, ◌-ℤ◌, ◌*ℤ◌, int_div, int_lt}
 use Rattle.std.specs.Prelude.{int_le, nat_lt, bit_and, bit_or, bit_xor, Bool, true, false, not}
 use Rattle.std.specs.Prelude.{if◌then◌else◌, List, Option, None, Some, option_map, option_and_then}
-use Rattle.std.specs.Prelude.{slice_get}
+use Rattle.std.specs.Prelude.{slice_get, ◌≡◌, IsSomeAnd}
 use Rattle.std.specs.Int.{int_div_euclid}
 use Rattle.std.specs.Ordering.{int_eq}
 use Rattle.cpa_ints.specs.declared.integers.IntType.{IntType}
@@ -121,3 +121,8 @@ value_step values (Expr-F.Cond t test first second) = conditional test first sec
 -- the value of an expression on a store, or None where its evaluation traps
 abbrev pub value_of : Expr → List ℤ → Option ℤ
 value_of e values = fold-Expr (Option ℤ) (value_step values) e
+
+-- the expression has a value on the store, which is nonzero exactly where `holds` is true
+-- (C11 6.8.4.1)
+abbrev pub HasTruth : List ℤ → Expr → Bool → Type 0
+HasTruth values e holds = IsSomeAnd (value_of e values) (λ a. is_nonzero a ≡ holds)

@@ -70,7 +70,6 @@ pub fn reads_have_values_within_the_array()
 {}
 
 /// A well-typed expression has no value exactly where its evaluation traps.
-#[tactic(auto, using(crate::specs::Laws::no_value_is_a_trap))]
 pub fn no_value_is_a_trap()
     ensures { NoneIsATrap }
 {}

@@ -5,6 +5,7 @@
 mod equality;
 mod evaluation;
 mod laws;
+mod nodes;
 mod operators;
 mod parts;
 mod replacing;
@@ -23,6 +24,7 @@ pub use laws::{
     size_at_variants, to_replace_is_to_set, to_replace_keeps_types, type_at_variants,
     typed_at_variants, value_at_variants, value_depends_on_what_is_read, values_lie_in_range,
 };
+pub use nodes::{both, cast, comparison, constant, copied, either, negation};
 pub use operators::{bin_value, compares, is_nonzero, truth, un_value};
 pub use parts::{Parts, parts_of};
 pub use replacing::{copy, replace_cell};

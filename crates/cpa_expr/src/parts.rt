@@ -9,7 +9,7 @@ ghost use Rattle.cpa_expr.specs.Parts.{part_list};
 use crate::tree::Expr;
 
 /// The parts of a node, from left to right. The index of a read is its part.
-#[derive(Clone, Copy, Debug)]
+#[derive(Clone, Copy)]
 pub enum Parts<'a> {
     None,
     One(&'a Expr),

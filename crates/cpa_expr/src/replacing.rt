@@ -82,45 +82,70 @@ fn rewrite_parts(alloc: Global, e: &Expr, with: Rewriting<'_>) -> Result<Expr, A
             ty,
             left,
             right,
-        } => Ok(Expr::Bin {
-            op: *op,
-            ty: *ty,
-            left: rewrite_part(alloc, left, with)?,
-            right: rewrite_part(alloc, right, with)?,
-        }),
+        } => {
+            let (left, right) = rewrite_pair(alloc, left, right, with)?;
+            Ok(Expr::Bin {
+                op: *op,
+                ty: *ty,
+                left,
+                right,
+            })
+        }
         Expr::Cmp {
             op,
             ty,
             left,
             right,
-        } => Ok(Expr::Cmp {
-            op: *op,
-            ty: *ty,
-            left: rewrite_part(alloc, left, with)?,
-            right: rewrite_part(alloc, right, with)?,
-        }),
+        } => {
+            let (left, right) = rewrite_pair(alloc, left, right, with)?;
+            Ok(Expr::Cmp {
+                op: *op,
+                ty: *ty,
+                left,
+                right,
+            })
+        }
         Expr::Cast { ty, arg } => Ok(Expr::Cast {
             ty: *ty,
             arg: rewrite_part(alloc, arg, with)?,
         }),
-        Expr::And { left, right } => Ok(Expr::And {
-            left: rewrite_part(alloc, left, with)?,
-            right: rewrite_part(alloc, right, with)?,
-        }),
-        Expr::Or { left, right } => Ok(Expr::Or {
-            left: rewrite_part(alloc, left, with)?,
-            right: rewrite_part(alloc, right, with)?,
-        }),
+        Expr::And { left, right } => {
+            let (left, right) = rewrite_pair(alloc, left, right, with)?;
+            Ok(Expr::And { left, right })
+        }
+        Expr::Or { left, right } => {
+            let (left, right) = rewrite_pair(alloc, left, right, with)?;
+            Ok(Expr::Or { left, right })
+        }
         Expr::Not { arg } => Ok(Expr::Not {
             arg: rewrite_part(alloc, arg, with)?,
         }),
-        Expr::Cond { ty, test, yes, no } => Ok(Expr::Cond {
-            ty: *ty,
-            test: rewrite_part(alloc, test, with)?,
-            yes: rewrite_part(alloc, yes, with)?,
-            no: rewrite_part(alloc, no, with)?,
-        }),
+        Expr::Cond { ty, test, yes, no } => {
+            let test = rewrite_part(alloc, test, with)?;
+            let (yes, no) = rewrite_pair(alloc, yes, no, with)?;
+            Ok(Expr::Cond {
+                ty: *ty,
+                test,
+                yes,
+                no,
+            })
+        }
     }
+}
+
+/// What becomes of two parts.
+#[cycle(rewriting)]
+fn rewrite_pair(
+    alloc: Global,
+    left: &Boxed<Expr>,
+    right: &Boxed<Expr>,
+    with: Rewriting<'_>,
+) -> Result<(Boxed<Expr>, Boxed<Expr>), AllocError>
+    ensures { IfOk result (λ r.
+        (r.0 ≡ image with.entry left.now) × (r.1 ≡ image with.entry right.now)) }
+{
+    let left = rewrite_part(alloc, left, with)?;
+    Ok((left, rewrite_part(alloc, right, with)?))
 }
 
 /// What becomes of a part.

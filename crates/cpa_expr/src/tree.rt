@@ -4,7 +4,7 @@
 use cpa_ints::{Boxed, IntType, Seq};
 
 /// An operator of one argument.
-#[derive(Clone, Copy, Debug, PartialEq, Eq)]
+#[derive(Clone, Copy, PartialEq, Eq)]
 pub enum UnOp {
     /// `-`
     Neg,
@@ -14,7 +14,7 @@ pub enum UnOp {
 
 /// An operator of two arguments whose result has the node's type. The right one of a shift may have
 /// another type.
-#[derive(Clone, Copy, Debug, PartialEq, Eq)]
+#[derive(Clone, Copy, PartialEq, Eq)]
 pub enum BinOp {
     Add,
     Sub,
@@ -29,7 +29,7 @@ pub enum BinOp {
 }
 
 /// A comparison, whose result is 1 or 0.
-#[derive(Clone, Copy, Debug, PartialEq, Eq)]
+#[derive(Clone, Copy, PartialEq, Eq)]
 pub enum CmpOp {
     Eq,
     Ne,
@@ -42,7 +42,7 @@ pub enum CmpOp {
 /// An expression over the cells of a store. It changes no cell.
 ///
 /// `specs/Values.antt` says which value each form has.
-#[derive(Debug, Drop)]
+#[derive(Drop)]
 pub enum Expr {
     /// A number.
     Const {
@@ -106,7 +106,7 @@ pub enum Expr {
 }
 
 /// A value for each cell.
-#[derive(Debug, Drop)]
+#[derive(Drop)]
 pub struct Store {
     /// The values, by the numbers of the cells.
     pub values: Seq<i128>,

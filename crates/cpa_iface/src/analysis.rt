@@ -16,7 +16,7 @@ use cpa_model::{Cfa, Elem, Path};
 use std::alloc::{AllocError, Global};
 
 /// The part of a state on which an analysis is exact.
-#[derive(Clone, Copy, Debug, PartialEq, Eq)]
+#[derive(Clone, Copy, PartialEq, Eq)]
 pub enum Part {
     Nothing,
     Point,
@@ -31,7 +31,7 @@ pub const DEFAULT_LEARNT: u32 = 20_000;
 pub const DEFAULT_GATES: u64 = 4_000_000;
 
 /// What a configuration says to each analysis.
-#[derive(Clone, Copy, Debug)]
+#[derive(Clone, Copy)]
 pub struct Settings {
     /// Whether the first precision tracks all cells, or none.
     pub tracked_all: bool,

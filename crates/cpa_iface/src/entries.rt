@@ -5,7 +5,7 @@ use crate::precisions::Precision;
 use cpa_model::{Elem, Path, Seq};
 
 /// An entry of a reached set (CAV 2007, section 2).
-#[derive(Debug, Drop)]
+#[derive(Drop)]
 pub struct Entry {
     /// No two entries ever have one number, and later ones have greater numbers.
     pub number: u32,
@@ -22,7 +22,7 @@ pub struct Entry {
 }
 
 /// What one turn of an exploration did: a row of its journal.
-#[derive(Debug, Drop)]
+#[derive(Drop)]
 pub struct Turn {
     /// The number of the entry whose successors were found.
     pub taken: u32,
@@ -32,7 +32,7 @@ pub struct Turn {
 }
 
 /// A path that has no run, and the precisions to which it led.
-#[derive(Debug, Drop)]
+#[derive(Drop)]
 pub struct Refined {
     pub path: Path,
     /// One for each picked analysis.

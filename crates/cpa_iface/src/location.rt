@@ -20,7 +20,7 @@ use cpa_model::{Cfa, Edge, Elem, Fact, Path, Seq, automata_are_small, has_facts}
 use std::alloc::{AllocError, Global};
 
 /// The smallest analysis: it keeps the point of a state, and is exact on it.
-#[derive(Debug, Drop)]
+#[derive(Drop)]
 pub struct Location;
 
 impl Location {

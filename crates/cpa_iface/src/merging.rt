@@ -8,7 +8,7 @@ use cpa_model::{Elem, Fact, Seq, copy_elem, copy_fact, same_fact};
 use std::alloc::{AllocError, Global};
 
 /// How the elements of two entries are merged (CAV 2007, section 2; widening is POPL 1977's).
-#[derive(Clone, Copy, Debug, PartialEq, Eq)]
+#[derive(Clone, Copy, PartialEq, Eq)]
 pub enum MergeRule {
     /// They are kept apart.
     Sep,
@@ -19,7 +19,7 @@ pub enum MergeRule {
 }
 
 /// A handed analysis that is used.
-#[derive(Clone, Copy, Debug, PartialEq, Eq)]
+#[derive(Clone, Copy, PartialEq, Eq)]
 pub struct Pick {
     /// Its place among the handed ones.
     pub place: u32,
@@ -27,7 +27,7 @@ pub struct Pick {
 }
 
 /// Which waiting entry is taken.
-#[derive(Clone, Copy, Debug, PartialEq, Eq)]
+#[derive(Clone, Copy, PartialEq, Eq)]
 pub enum Order {
     /// The one of the least number.
     First,

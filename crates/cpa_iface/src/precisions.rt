@@ -9,7 +9,7 @@ use cpa_model::{Expr, Seq};
 use std::alloc::{AllocError, Global};
 
 /// What an analysis is asked to keep (ASE 2008).
-#[derive(Debug, Drop)]
+#[derive(Drop)]
 pub struct Precision {
     /// The cells whose values are kept.
     pub tracked: Seq<u32>,

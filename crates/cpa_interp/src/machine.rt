@@ -24,7 +24,7 @@ use std::alloc::{AllocError, Global};
 use std::mem;
 
 /// A state of an execution, and how many inputs it has taken.
-#[derive(Debug, Drop)]
+#[derive(Drop)]
 pub(crate) struct Machine {
     pub(crate) point: u32,
     /// The sites of the calls to return to, the last one on top.

@@ -3,7 +3,7 @@
 
 /// What comes of a replay. Where several would do, the error and the end come first, then the
 /// budget, then what holds the step up.
-#[derive(Clone, Copy, Debug)]
+#[derive(Clone, Copy)]
 pub enum Outcome {
     /// `reach_error` is called after so many steps.
     Error { steps: u64 },

@@ -6,10 +6,10 @@ use Rattle.cpa_ints.specs.declared.integers.IntType.TheVariants as ty
 use Rattle.cpa_ints.specs.Integers.{width, is_signed, IsInRange}
 
 -- the conversion rank (C11 6.3.1.1p1): types of one width have one rank, and a wider type has a
--- greater one. C11 ranks long long above long, which LP64 gives the same width: here one type
--- stands for both, since to rank them apart changes no conversion. Signed with signed and unsigned
--- with unsigned keep that one type, and signed with unsigned gives the unsigned one by either
--- order, as neither signed one has the unsigned one's values.
+-- greater one. C11 ranks long long above long, and long above int; where a data model gives two of
+-- them one width, one type stands for both, since to rank them apart changes no conversion. Signed
+-- with signed and unsigned with unsigned keep that one type, and signed with unsigned gives the
+-- unsigned one by either order, as neither signed one has the unsigned one's values.
 abbrev pub rank : IntType → ℕ
 rank t = width t
 

@@ -1,4 +1,4 @@
--- The integer types of C (C11 6.2.5, widths of LP64): width, sign and range.
+-- The integer types of C (C11 6.2.5, widths of LP64 and ILP32): width, sign and range.
 use Rattle.std.specs.Prelude.{ℕ, ◌-◌, ◌^◌, ℤ, pos, neg_ℤ, ◌≤ℤ◌, Bool, true, false, if◌then◌else◌}
 use Rattle.cpa_ints.specs.declared.integers.IntType.{IntType}
 use Rattle.cpa_ints.specs.declared.integers.IntType.TheVariants as ty

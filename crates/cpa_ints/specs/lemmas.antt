@@ -4,3 +4,4 @@ pub mod Congruence
 pub mod Masks
 pub mod WrapLaws
 pub mod Arithmetic
+pub mod Bits

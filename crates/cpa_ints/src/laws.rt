@@ -29,7 +29,7 @@ pub fn wrap_keeps_the_range()
 
 /// Two numbers wrap to one of a type other than `Bool` exactly where they are congruent modulo
 /// 2^width. `Bool` keeps neither way: 2 and 0 are congruent, and 2 wraps as 1 does.
-#[tactic(auto, using(crate::specs::lemmas::Arithmetic::congruent_wrapped, crate::specs::lemmas::Arithmetic::wrapped_congruent, crate::proofs::BitLaws::boolean_congruent, crate::proofs::BitLaws::boolean_apart, crate::proofs::BitLaws::boolean_together, crate::proofs::BitLaws::boolean_incongruent))]
+#[tactic(auto, using(crate::specs::lemmas::Arithmetic::congruent_wrapped, crate::specs::lemmas::Arithmetic::wrapped_congruent, crate::specs::lemmas::Bits::boolean_congruent, crate::specs::lemmas::Bits::boolean_apart, crate::specs::lemmas::Bits::boolean_together, crate::specs::lemmas::Bits::boolean_incongruent))]
 pub fn congruent_numbers_wrap_alike()
     ensures alike { (t : IntType) (a b : ℤ) →
         t ≢ Boolean → IsCongruent (width t) a b → wrapped t a ≡ wrapped t b }

@@ -1,9 +1,10 @@
-//! The integer types of C, wrapping and the usual conversions; lists and boxes that contracts see
-//! as what they hold.
+//! The integer types of C in two data models, wrapping and the usual conversions; lists and boxes
+//! that contracts see as what they hold.
 #![tactic(auto)]
 
 mod boxed;
 mod conversions;
+mod data_model;
 mod integers;
 mod laws;
 mod seq;
@@ -11,6 +12,7 @@ mod wrapping;
 
 pub use boxed::Boxed;
 pub use conversions::{common, promote};
+pub use data_model::DataModel;
 pub use integers::IntType;
 pub use laws::{
     bits_are_the_congruent_number, bits_keep_the_number, congruent_numbers_wrap_alike,

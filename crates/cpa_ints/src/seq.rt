@@ -13,7 +13,7 @@ use std::marker::Model;
 use std::slice;
 
 /// A `Vec` that contracts see as the list of its items, so that equal lists are equal values.
-#[derive(Debug, Drop)]
+#[derive(Drop)]
 pub struct Seq<T> {
     items: Vec<T>,
 }

@@ -7,7 +7,7 @@ use cpa_expr::Expr;
 use cpa_ints::Seq;
 
 /// What a step does to the stack and to the store.
-#[derive(Debug, Drop)]
+#[derive(Drop)]
 pub enum Act {
     Skip,
     Assign {
@@ -35,7 +35,7 @@ pub enum Act {
 }
 
 /// A step of control from one point to another, with its act.
-#[derive(Debug, Drop)]
+#[derive(Drop)]
 pub struct Edge {
     pub from: u32,
     pub to: u32,
@@ -43,7 +43,7 @@ pub struct Edge {
 }
 
 /// The control-flow automaton of a program.
-#[derive(Debug, Drop)]
+#[derive(Drop)]
 pub struct Cfa {
     pub cells: Seq<Cell>,
     /// How many points of control there are.
@@ -69,7 +69,7 @@ impl Cfa {
 }
 
 /// Numbers of edges, one after another.
-#[derive(Debug, Drop)]
+#[derive(Drop)]
 pub struct Path {
     pub edges: Seq<u32>,
 }

@@ -12,7 +12,7 @@ use cpa_expr::Expr;
 use cpa_ints::Seq;
 
 /// A fact on the point, the stack or the store of a state.
-#[derive(Debug, Drop)]
+#[derive(Drop)]
 pub enum Fact {
     At { point: u32 },
     /// The call sites from the bottom to the top.
@@ -25,7 +25,7 @@ pub enum Fact {
 }
 
 /// An element of an analysis: it holds of a state of which all its facts hold.
-#[derive(Debug, Drop)]
+#[derive(Drop)]
 pub struct Elem {
     pub facts: Seq<Fact>,
 }

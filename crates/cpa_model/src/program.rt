@@ -14,7 +14,7 @@ pub const MAX_POINTS: u32 = 65_536;
 
 /// A cell of the store: an object, an element of an array, a result or a fresh value. `start` is
 /// its value in the initial state.
-#[derive(Clone, Copy, Debug)]
+#[derive(Clone, Copy)]
 pub struct Cell {
     pub ty: IntType,
     pub start: i128,
@@ -29,7 +29,7 @@ impl Typed for Cell {
 }
 
 /// A core statement. Its parts are named by their numbers in `Program::stmts`.
-#[derive(Debug, Drop)]
+#[derive(Drop)]
 pub enum Stmt {
     /// The items in order.
     Block {
@@ -77,7 +77,7 @@ pub enum Stmt {
 }
 
 /// Where control goes after a part of a statement.
-#[derive(Clone, Copy, Debug)]
+#[derive(Clone, Copy)]
 pub enum Successor {
     /// To this statement.
     GoesTo(u32),
@@ -89,7 +89,7 @@ pub enum Successor {
 ///
 /// The points of control are the numbers of the statements and, after them, one exit for each
 /// function in order.
-#[derive(Debug, Drop)]
+#[derive(Drop)]
 pub struct Program {
     pub cells: Seq<Cell>,
     /// The statement that is each function's body.

@@ -4,7 +4,7 @@ use cpa_expr::Store;
 use cpa_ints::Seq;
 
 /// A state of an execution. The last item of the stack is its top: the call site to return to.
-#[derive(Debug, Drop)]
+#[derive(Drop)]
 pub struct State {
     pub point: u32,
     pub stack: Seq<u32>,

@@ -8,7 +8,7 @@ ghost use Rattle.cpa_outside.specs.declared.reads.ReadFault.TheVariants.{OutOfMe
 use std::alloc::{AllocError, Global};
 
 /// Why a file was not read.
-#[derive(Clone, Copy, Debug, PartialEq, Eq)]
+#[derive(Clone, Copy, PartialEq, Eq)]
 pub enum ReadFault {
     /// The read itself failed, as that of a file that is missing does.
     Failed,

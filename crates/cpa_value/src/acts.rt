@@ -20,14 +20,14 @@ use cpa_ints::{Boxed, IntType};
 use cpa_model::Act;
 
 /// A scalar that an expression reads.
-#[derive(Clone, Copy, Debug)]
+#[derive(Clone, Copy)]
 pub struct Scalar {
     pub cell: u32,
     pub ty: IntType,
 }
 
 /// What a test says of a scalar.
-#[derive(Clone, Copy, Debug)]
+#[derive(Clone, Copy)]
 pub struct ScalarValue {
     pub read: Scalar,
     pub value: i128,

@@ -12,7 +12,7 @@ use cpa_expr::{BinOp, CmpOp, Expr, UnOp, bin_value, compares, is_nonzero, truth,
 use cpa_ints::{Boxed, IntType, wrap};
 
 /// Why the value of an expression is not known.
-#[derive(Clone, Copy, Debug, PartialEq, Eq)]
+#[derive(Clone, Copy, PartialEq, Eq)]
 pub enum Gap {
     /// Its evaluation needs a cell that is not known.
     Unknown,

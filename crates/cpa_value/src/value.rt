@@ -34,7 +34,7 @@ use std::alloc::{AllocError, Global};
 
 /// The analysis of explicit values: an element says which values some cells have. It keeps those of
 /// tracked cells, as far as they are known, and of a cell no more different ones than the limit.
-#[derive(Debug, Drop)]
+#[derive(Drop)]
 pub struct Value;
 
 impl Value {

@@ -19,7 +19,7 @@ use std::thread::Threads;
 const RETURNS: &str = "int main(void){return 0;}";
 
 /// An analysis that knows nothing and is exact on nothing.
-#[derive(Debug, Drop)]
+#[derive(Drop)]
 struct Blind;
 
 impl Analysis for Blind {

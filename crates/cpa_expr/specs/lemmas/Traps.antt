@@ -22,8 +22,8 @@ use Rattle.cpa_expr.specs.Values.{un_value, amount_of, divided_by, bin_value, co
 use Rattle.cpa_expr.specs.Values.{is_nonzero, truth_of, cell_at, evaluated, logical_and, logical_or}
 use Rattle.cpa_expr.specs.Values.{logical_not, conditional, value_step, value_of}
 use Rattle.cpa_expr.specs.Cells.{AreValues}
-use Rattle.cpa_expr.specs.Traps.{IsOutside, HasNoValue, TrapsHere, Evaluates, Traps, at_node}
-use Rattle.cpa_expr.specs.Traps.{in_part}
+use Rattle.cpa_expr.specs.Evaluations.{Evaluates, at_node, in_part}
+use Rattle.cpa_expr.specs.Traps.{IsOutside, HasNoValue, TrapsHere, Traps}
 use Rattle.cpa_expr.specs.lemmas.Parts.{by_parts, every_rolled}
 use Rattle.cpa_expr.specs.lemmas.Layers.{values_in, value_rolled}
 use Rattle.cpa_expr.specs.lemmas.Variants.{value_read, typed_read}

@@ -4,7 +4,8 @@
 ghost use Rattle.std.specs.Prelude.{◌≡◌, IfOk};
 ghost use Rattle.cpa_expr.specs.declared.tree.Expr.TheVariants.{Const, Cmp, Cast, And, Or, Not};
 
-use cpa_expr::{CmpOp, Expr, copy};
+use crate::replacing::copy;
+use crate::tree::{CmpOp, Expr};
 use cpa_ints::{Boxed, IntType};
 use std::alloc::{AllocError, Global};
 
