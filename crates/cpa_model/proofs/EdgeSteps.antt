@@ -8,8 +8,9 @@ use Rattle.cpa_model.specs.declared.states.State.{State}
 use Rattle.cpa_model.specs.Programs.{point_count}
 use Rattle.cpa_model.specs.States.{IsState, initial_at, initial_of}
 use Rattle.cpa_model.specs.Steps.{Moves, Step, StepsStore}
-use Rattle.cpa_model.specs.Automata.{edge_of, IsAutomatonOf, IsStateOf, initial_state, StepsAlong}
-use Rattle.cpa_model.specs.Automata.{EdgeStep}
+use Rattle.cpa_model.specs.Automata.{edge_of, IsAutomaton, IsAutomatonOf, IsStateOf, initial_state}
+use Rattle.cpa_model.specs.Automata.{StepsAlong, EdgeStep}
+use Rattle.cpa_model.proofs.Moves.{initial_is_state_lem}
 
 -- the automaton starts at main's body
 pub start_is : (P : Program) (cfa : Cfa) → IsAutomatonOf P cfa
@@ -68,3 +69,11 @@ program_step P cfa A s t (edge, inside, along) = record {
 pub steps_are_edges : (P : Program) (cfa : Cfa) → IsAutomatonOf P cfa → (s t : State)
     → Step P s t ↔ EdgeStep cfa s t
 steps_are_edges P cfa A s t = (edge_step P cfa A s t, program_step P cfa A s t)
+
+-- the initial state is one of the automaton
+pub begins_in_state : (cfa : Cfa) → IsAutomaton cfa → IsStateOf cfa (initial_state cfa)
+begins_in_state cfa automaton =
+    let P = automaton.program in
+    state_of P cfa automaton.automaton (initial_state cfa)
+    (subst (IsState P.cells (point_count P)) (sym (initial_states P cfa automaton.automaton))
+    (initial_is_state_lem P automaton.well_formed))

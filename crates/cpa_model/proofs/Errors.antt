@@ -1,5 +1,5 @@
 -- What a binary search finds among the points of errors.
-use Rattle.std.proofs.Common.{◌≡◌, ℕ, zero, suc, ◌<◌, ◌≤◌, List, [], ◌∷◌, length, get_or, Result}
+use Rattle.std.proofs.Common.{◌≡◌, ℕ, ◌<◌, ◌≤◌, List, length, get_or, Result}
 use Rattle.std.proofs.Common.{Ok, Err, true, refl, ◌∙◌, ⊎_elim, arith}
 use Rattle.std.specs.List.{Contains}
 use Rattle.std.specs.List.Sorted.{IsBinarySearchResult}
@@ -7,20 +7,9 @@ use Rattle.std.specs.Ordering.{nat_cmp}
 use Rattle.std.specs.Result.{is_ok}
 use Rattle.std.proofs.lemmas.Bool.{cases_lt}
 use Rattle.std.proofs.lemmas.List.{get_or_default}
-use Rattle.std.proofs.lemmas.List.Elements.{All-from_recursion}
 use Rattle.std.proofs.lemmas.List.Sorted.{searched}
-use Rattle.cpa_model.specs.Automata.{AreAscending}
-
-ascending_by_place : (ns : List ℕ) → AreAscending ns → (i j : ℕ) → i ≤ j → j < length ns
-    → get_or ns i 0 ≤ get_or ns j 0
-ascending_by_place [] up i j le less = absurd (omega arith)
-ascending_by_place (n ∷ ns) up zero zero le less = omega arith
-ascending_by_place (n ∷ ns) up zero (suc j) le less =
-    let above = All-from_recursion (λ (m : ℕ). n < m) ns up.0 j 0 (omega arith) in
-    omega (arith, above)
-ascending_by_place (n ∷ ns) up (suc i) zero le less = absurd (omega arith)
-ascending_by_place (n ∷ ns) up (suc i) (suc j) le less =
-    ascending_by_place ns up.1 i j (omega arith) (omega arith)
+use Rattle.cpa_model.specs.Ascending.{AreAscending}
+use Rattle.cpa_model.specs.lemmas.Ascending.{ascending_by_place}
 
 pub found_exactly : (ns : List ℕ) (n : ℕ) (r : Result ℕ ℕ) → AreAscending ns
     → IsBinarySearchResult (λ m. nat_cmp m n) ns r

@@ -125,20 +125,20 @@ ArePoints : ℕ → List ℕ → Type 0
 ArePoints points sites = AllByRecursion (λ site. site < points) sites
 
 -- after a sound act the stack names points
-stack_after : (P : Program) (a : Act) (old new : List ℕ) → IsSoundAct P a → StepsStack a old new
+stack_named : (P : Program) (a : Act) (old new : List ℕ) → IsSoundAct P a → StepsStack a old new
     → ArePoints (point_count P) old → ArePoints (point_count P) new
 unfolding IsSoundAct ArePoints
-stack_after P act.Skip old new sound steps all = subst (ArePoints (point_count P)) (sym steps) all
-stack_after P (act.Assign base len index value) old new sound steps all =
+stack_named P act.Skip old new sound steps all = subst (ArePoints (point_count P)) (sym steps) all
+stack_named P (act.Assign base len index value) old new sound steps all =
     subst (ArePoints (point_count P)) (sym steps) all
-stack_after P (act.Assume test holds) old new sound steps all =
+stack_named P (act.Assume test holds) old new sound steps all =
     subst (ArePoints (point_count P)) (sym steps) all
-stack_after P (act.Input cell) old new sound steps all =
+stack_named P (act.Input cell) old new sound steps all =
     subst (ArePoints (point_count P)) (sym steps) all
-stack_after P (act.Call site) old new sound steps all =
+stack_named P (act.Call site) old new sound steps all =
     subst (ArePoints (point_count P)) (sym steps)
     (AllByRecursion-push (λ k. k < point_count P) old site all sound)
-stack_after P (act.Return site) old new sound steps all =
+stack_named P (act.Return site) old new sound steps all =
     AllByRecursion-front (λ k. k < point_count P) new site
     (subst (ArePoints (point_count P)) steps all)
 
@@ -173,7 +173,7 @@ steps_keep_states_lem P W s t state steps =
     let sound = act_sound P W s.point steps.act t.point steps.point in
     record {
       point = move_inside P W s.point steps.act t.point steps.point;
-      stack = stack_after P steps.act s.stack t.stack sound steps.stack state.stack;
+      stack = stack_named P steps.act s.stack t.stack sound steps.stack state.stack;
       store = store_after P steps.act s.store.values t.store.values sound steps.store state.store;
     }
 

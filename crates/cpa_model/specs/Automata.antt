@@ -7,6 +7,7 @@ use Rattle.cpa_model.specs.declared.automaton.Edge.{Edge}
 use Rattle.cpa_model.specs.declared.automaton.Cfa.{Cfa}
 use Rattle.cpa_model.specs.declared.program.Program.{Program}
 use Rattle.cpa_model.specs.declared.states.State.{State}
+use Rattle.cpa_model.specs.Ascending.{AreAscending}
 use Rattle.cpa_model.specs.Programs.{IsWellFormed, point_count}
 use Rattle.cpa_model.specs.States.{IsState, initial_at}
 use Rattle.cpa_model.specs.Steps.{Moves, StepsStack, StepsStore, IsError}
@@ -33,11 +34,6 @@ Precedes a b = (a.from < b.from) ⊎ ((a.from ≡ b.from) × (rank_of a.act < ra
 abbrev pub AreOrdered : List Edge → Type 0
 AreOrdered [] = Unit {0}
 AreOrdered (edge ∷ edges) = AllByRecursion (Precedes edge) edges × AreOrdered edges
-
--- each number is below all later ones
-abbrev pub AreAscending : List ℕ → Type 0
-AreAscending [] = Unit {0}
-AreAscending (n ∷ ns) = AllByRecursion (λ m. n < m) ns × AreAscending ns
 
 -- the automaton of a program: its edges are exactly the moves
 pub record IsAutomatonOf (P : Program) (cfa : Cfa) : Type 0 where

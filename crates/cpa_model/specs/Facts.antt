@@ -8,7 +8,8 @@ use Rattle.cpa_model.specs.declared.facts.Fact.{Fact}
 use Rattle.cpa_model.specs.declared.facts.Fact.TheVariants.{At, Stack, Equals, Within, Truth}
 use Rattle.cpa_model.specs.declared.facts.Elem.{Elem}
 use Rattle.cpa_ints.specs.Integers.{IsInRange}
-use Rattle.cpa_model.specs.Expressions.{HasTruth, IsExpr}
+use Rattle.cpa_expr.specs.Values.{HasTruth}
+use Rattle.cpa_model.specs.Expressions.{IsExpr}
 
 -- the fact holds of the state
 abbrev pub FactHolds : State → Fact → Type 0
@@ -17,7 +18,7 @@ FactHolds s (Stack sites) = s.stack ≡ sites
 FactHolds s (Equals cell value) = slice_get s.store.values cell ≡ Some value
 FactHolds s (Within cell lo hi) =
     IsSomeAnd (slice_get s.store.values cell) (λ v. (lo ≤ℤ v) × (v ≤ℤ hi))
-FactHolds s (Truth expr holds) = HasTruth expr holds s.store.values
+FactHolds s (Truth expr holds) = HasTruth s.store.values expr holds
 
 -- the element holds of the state: all its facts do, the element without facts always
 abbrev pub Holds : Elem → State → Type 0

@@ -2,9 +2,11 @@ pub mod Expressions
 pub mod Programs
 pub mod Successors
 pub mod TreeLaws
+pub mod Stacks
 pub mod States
 pub mod Steps
 pub mod Facts
+pub mod Ascending
 pub mod Automata
 pub mod Acts
 pub mod Covers

@@ -10,8 +10,7 @@ use Rattle.cpa_model.specs.declared.automaton.Act.{Act}
 use Rattle.cpa_model.specs.declared.automaton.Act.TheVariants as act
 use Rattle.cpa_model.specs.declared.states.State.{State}
 use Rattle.cpa_ints.specs.Integers.{IsInRange}
-use Rattle.cpa_expr.specs.Values.{value_of}
-use Rattle.cpa_model.specs.Expressions.{HasTruth}
+use Rattle.cpa_expr.specs.Values.{value_of, HasTruth}
 use Rattle.cpa_model.specs.Programs.{IsStmt, IsBody, Next, InLoop, InFunction, exit_of, point_count}
 use Rattle.cpa_model.specs.States.{IsState, initial_of}
 
@@ -70,7 +69,7 @@ abbrev pub StepsStore : List Cell → Act → List ℤ → List ℤ → Type 0
 StepsStore cells act.Skip old new = new ≡ old
 StepsStore cells (act.Assign base len index value) old new =
     Assigns base len (value_of index old) (value_of value old) old new
-StepsStore cells (act.Assume test holds) old new = HasTruth test holds old × (new ≡ old)
+StepsStore cells (act.Assume test holds) old new = HasTruth old test holds × (new ≡ old)
 StepsStore cells (act.Input cell) old new =
     (v : ℤ) × IsSomeAnd (slice_get cells cell) (λ c. IsInRange c.ty v)
     × (new ≡ slice_set old cell v)
@@ -128,3 +127,23 @@ IsError P p = IsStmt P p stmt.Error
 abbrev pub CallsError : Program → List State → Type 0
 CallsError P [] = ⊥
 CallsError P (s ∷ states) = IsError P s.point ⊎ CallsError P states
+
+-- control is at a statement that ends the program, or at the exit of main (C11 5.1.2.2.3, 7.22.4)
+abbrev pub IsEnd : Program → ℕ → Type 0
+IsEnd P p = IsStmt P p stmt.Stop ⊎ (p ≡ exit_of P P.main)
+
+-- the program has neither called the error nor ended
+pub record GoesOn (P : Program) (p : ℕ) : Type 0 where
+  pub no_error : IsError P p → ⊥
+  pub no_end : IsEnd P p → ⊥
+
+-- no step leads on from the state, though the program goes on: an evaluation has no value (C11 6.5)
+pub record TrapsAt (P : Program) (s : State) : Type 0 where
+  pub goes_on : GoesOn P s.point
+  pub stuck : (t : State) → Step P s t → ⊥
+
+-- the list of states ends in a trap
+abbrev pub Traps : Program → List State → Type 0
+Traps P [] = ⊥
+Traps P (s ∷ []) = TrapsAt P s
+Traps P (s ∷ t ∷ states) = Traps P (t ∷ states)

@@ -1,14 +1,15 @@
-//! Expressions over the cells of a program: their truth on a store and their typing, by
-//! `specs/Expressions.antt`, over the calls of `cpa_expr`.
+//! Expressions over the cells of a program: their truth on a store, by `HasTruth` of
+//! `cpa_expr`, and their typing, by `specs/Expressions.antt`.
 ghost use Rattle.std.specs.Prelude.{◌↔◌, IsTrue};
-ghost use Rattle.cpa_model.specs.Expressions.{HasTruth, IsExpr};
+ghost use Rattle.cpa_expr.specs.Values.{HasTruth};
+ghost use Rattle.cpa_model.specs.Expressions.{IsExpr};
 
 use crate::program::Cell;
 use cpa_expr::{Expr, Store, is_expr_over, value};
 
 /// Whether the expression does not trap, and is nonzero exactly where `holds`.
 pub fn has_truth(expr: &Expr, holds: bool, store: &Store) -> bool
-    ensures { IsTrue result ↔ HasTruth expr.now holds store.now.values }
+    ensures { IsTrue result ↔ HasTruth store.now.values expr.now holds }
 {
     match value(expr, store) {
         Some(v) => (v != 0) == holds,

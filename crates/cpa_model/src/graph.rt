@@ -5,7 +5,8 @@ ghost use Rattle.std.specs.Prelude.{slice_index_or};
 ghost use Rattle.std.specs.List.{Contains};
 ghost use Rattle.std.specs.List.Sorted.{IsNonDecreasingBy};
 ghost use Rattle.cpa_model.specs.declared.automaton.Edge.{Edge};
-ghost use Rattle.cpa_model.specs.Automata.{AreAscending, IsAutomaton};
+ghost use Rattle.cpa_model.specs.Ascending.{AreAscending};
+ghost use Rattle.cpa_model.specs.Automata.{IsAutomaton};
 
 use crate::automaton::{Cfa, Edge};
 

@@ -10,11 +10,13 @@ ghost use Rattle.cpa_model.specs.declared.program.Program.{Program};
 ghost use Rattle.cpa_model.specs.declared.program.Stmt.{Stmt};
 ghost use Rattle.cpa_model.specs.declared.states.State.{State};
 ghost use Rattle.cpa_model.specs.Acts.{IsEdgeOf};
-ghost use Rattle.cpa_model.specs.Automata.{EdgeStep, IsAutomaton, IsAutomatonOf, initial_state};
+ghost use Rattle.cpa_model.specs.Automata.{EdgeStep, IsAutomaton, IsAutomatonOf, IsStateOf};
+ghost use Rattle.cpa_model.specs.Automata.{initial_state};
 ghost use Rattle.cpa_model.specs.Covers.{CoversAutomaton, IsCover, IsSafe};
 ghost use Rattle.cpa_model.specs.Programs.{IsNumbered, IsWellFormed, parts_of, point_count};
+ghost use Rattle.cpa_model.specs.Stacks.{stack_after};
 ghost use Rattle.cpa_model.specs.States.{initial_of};
-ghost use Rattle.cpa_model.specs.Steps.{BeginsInState, Moves, Step, StepsKeepStates};
+ghost use Rattle.cpa_model.specs.Steps.{BeginsInState, Moves, Step, StepsKeepStates, StepsStack};
 ghost use Rattle.cpa_model.specs.TreeLaws.{TreeLaws};
 
 /// A law: the statements of a numbered program are trees, each with one origin and one successor.
@@ -41,11 +43,19 @@ pub fn initial_is_state()
     ensures { (P : Program) → IsWellFormed P → BeginsInState P }
 {}
 
-/// A law: the automaton of a program begins where the program does, and its steps along its edges
-/// are the program's steps.
+/// A law: the stack that an act leaves is the one to which its step leads; where it leaves none, no
+/// step leads on.
+pub fn stacks_are_left()
+    ensures { (act : Act) (old new : List ℕ) → StepsStack act old new
+        ↔ (stack_after act old ≡ Some new) }
+{}
+
+/// A law: the automaton of a program begins where the program does, in a state of its own, and its
+/// steps along its edges are the program's steps.
 pub fn edges_are_steps()
     ensures initial { (P : Program) (cfa : Cfa) → IsAutomatonOf P cfa
         → initial_state cfa ≡ initial_of P }
+    ensures state { (cfa : Cfa) → IsAutomaton cfa → IsStateOf cfa (initial_state cfa) }
     ensures steps { (P : Program) (cfa : Cfa) (s t : State) → IsAutomatonOf P cfa
         → Step P s t ↔ EdgeStep cfa s t }
 {}

@@ -11,6 +11,7 @@ mod laws;
 mod next;
 mod program;
 mod spelling;
+mod stacks;
 mod standing;
 mod states;
 
@@ -23,10 +24,11 @@ pub use facts::{Elem, Fact, holds, is_elem};
 pub use graph::{is_error, leaving};
 pub use laws::{
     automata_are_small, covers_are_safe, edges_are_sound, edges_are_steps, initial_is_state,
-    moves_stay_inside, statements_are_trees, steps_keep_states,
+    moves_stay_inside, stacks_are_left, statements_are_trees, steps_keep_states,
 };
 pub use next::next_point;
 pub use program::{Cell, MAX_CELLS, MAX_POINTS, Program, Stmt, Successor};
 pub use spelling::{Spell, push_list};
+pub use stacks::step_stack;
 pub use standing::{facts_that_stand, has_facts, same_fact};
 pub use states::State;
