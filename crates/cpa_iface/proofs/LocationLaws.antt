@@ -100,6 +100,7 @@ next_points-laws cfa edge e p g a at =
           λ _. cond_both (may_stand_at e g.from) (pin g.to ∷ []) []
           (AllByRecursion (λ x. IsBounded location cfa x p))
           (λ _. (omega arith, tt)) (λ _. tt);
+      told = λ h ath. ap (next_points e) (same_edge cfa edge g h at ath);
     }
 
 -- and those of the initial element
@@ -109,4 +110,5 @@ pin-laws cfa inside = record {
   holds = (refl, tt);
   exact = λ _. refl;
   bounded = λ p _. omega arith;
+  told = refl;
 }

@@ -23,10 +23,13 @@ use Rattle.cpa_iface.specs.Laws.{RefineLaws, AppendsMissing, AppendsSuggested}
 use Rattle.cpa_iface.specs.Common.{stands_in, common_facts, merged_facts, fact_count, no_precision}
 use Rattle.cpa_iface.specs.Common.{no_suggestion}
 
--- the analysis covers by the letter, and its rank is the number of facts
+-- the analysis covers by the letter, its rank is the number of facts, and it tells nothing else of
+-- merging than that the common facts are kept
 pub record CoversByFacts (m : Meaning) : Type 0 where
   pub cover : m.cover ≡ has_facts
   pub rank : m.rank ≡ fact_count
+  pub merges : (cfa : Cfa) (rule : MergeRule) (new old : Elem) (p : Precision)
+      → IfSome m.replies (λ r. merged_facts rule new old ≡ r.merge cfa rule new old p)
 
 -- what holds of all items holds of those that pass a test
 pub kept_all : (P : Fact → Type 0) (test : Fact → Bool) (fs : List Fact) → AllByRecursion P fs
@@ -102,6 +105,7 @@ widened m cfa new old p by shaped =
           λ _ differs. let fewer : length merged.facts < length old.facts =
           common_falls new old differs in omega (arith, of_merged, of_old);
       bounded = λ _ below. omega (arith, of_merged, of_old, less, below);
+      told = by.merges cfa Widen new old p;
     }
 
 -- To keep the common facts keeps the laws of merging, the widening law too.
@@ -116,6 +120,7 @@ merged_facts-laws m cfa Sep new old p by shaped = record {
   covered = λ e. absurd (cc);
   falls = λ e. absurd (cc);
   bounded = λ _ below. below;
+  told = by.merges cfa Sep new old p;
 }
 merged_facts-laws m cfa Join new old p by shaped =
     let w = widened m cfa new old p by shaped in
@@ -127,30 +132,36 @@ merged_facts-laws m cfa Join new old p by shaped =
       covered = λ e. absurd (cc);
       falls = λ e. absurd (cc);
       bounded = w.bounded;
+      told = by.merges cfa Join new old p;
     }
 merged_facts-laws m cfa Widen new old p by shaped = widened m cfa new old p by shaped
 
 -- To give the own element keeps the laws of strengthening.
 pub own-laws : (m : Meaning) (cfa : Cfa) (own : Elem) (others : List Elem) (p : Precision)
-    → IsShaped cfa own
+    → IfSome m.replies (λ r. Some own ≡ r.strengthen cfa own others p) → IsShaped cfa own
     → StrengthenLaws m cfa own others p (Some own)
-own-laws m cfa own others p shaped = record {
+own-laws m cfa own others p told shaped = record {
   shaped = shaped;
   keeps = λ s _ holds _. holds;
   exact = λ _ _. refl;
   bounded = λ below. below;
+  told = told;
 }
 
 -- To adjust nothing keeps the laws of adjustment.
 pub unadjusted-laws : (m : Meaning) (cfa : Cfa) (e : Elem) (p : Precision) (reached : List Entry)
-    (place : ℕ) → IsShaped cfa e → IsPrecision cfa p → AdjustLaws m cfa e p reached place e p
-unadjusted-laws m cfa e p reached place shaped precision = record {
+    (place : ℕ)
+    → IfSome m.replies (λ r. (e ≡ (r.adjust cfa e p reached place).0)
+    × (p ≡ (r.adjust cfa e p reached place).1))
+    → IsShaped cfa e → IsPrecision cfa p → AdjustLaws m cfa e p reached place e p
+unadjusted-laws m cfa e p reached place told shaped precision = record {
   shaped = shaped;
   shaped_precision = precision;
   covers = λ s _ holds. holds;
   exact = λ _. refl;
   exact_precision = λ _ _. refl;
   bounded = λ below _. below;
+  told = told;
 }
 
 nothing_missing : {X : Type 0} (old : List X) → AppendsMissing [] old old
@@ -159,22 +170,27 @@ nothing_missing old =
 
 -- To refine nothing keeps the laws of refinement, where nothing is suggested.
 pub unrefined-laws : (m : Meaning) (cfa : Cfa) (path : Path) (p : Precision)
-    → m.suggestion cfa path ≡ Some no_suggestion → IsPrecision cfa p → RefineLaws m cfa path p p
-unrefined-laws m cfa path p told precision = record {
+    → m.suggestion cfa path ≡ Some no_suggestion
+    → IfSome m.replies (λ r. p ≡ r.refine cfa path p) → IsPrecision cfa p
+    → RefineLaws m cfa path p p
+unrefined-laws m cfa path p suggested told precision = record {
   shaped = precision;
   limit = refl;
   tracked = ([], sym (append-nil p.tracked));
   preds = ([], sym (append-nil p.preds));
   suggested =
-      subst (λ o. IfSome o (AppendsSuggested p p)) (sym told)
+      subst (λ o. IfSome o (AppendsSuggested p p)) (sym suggested)
       (nothing_missing p.tracked, nothing_missing p.preds);
+  told = told;
 }
 
 -- The empty precision keeps the laws of the first one, but for an analysis that is exact on the
 -- store.
 pub no_precision-laws : (m : Meaning) (cfa : Cfa) (settings : Settings) → m.part ≢ part.Store
+    → IfSome m.replies (λ r. no_precision ≡ r.first_precision cfa settings)
     → FirstPrecisionLaws m cfa settings no_precision
-no_precision-laws m cfa settings other = record {
+no_precision-laws m cfa settings other told = record {
   shaped = record { tracked = tt; preds = tt };
   exact = λ e _ _. absurd (other e);
+  told = told;
 }

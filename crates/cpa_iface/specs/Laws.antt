@@ -1,6 +1,6 @@
 -- The laws that each call of an analysis keeps, one record a call (CAV 2007, section 2, and ASE
--- 2008; the refinement, exactness and widening laws are this project's own). The cover law stands
--- in `Meaning`.
+-- 2008; the refinement, exactness, widening and telling laws are this project's own). The cover law
+-- stands in `Meaning`.
 use Rattle.std.specs.Prelude.{◌≡◌, ◌≢◌, ℕ, ◌<◌, ◌≤◌, List, [], ◌∷◌, ◌++◌, slice_get, Option, Some}
 use Rattle.std.specs.Prelude.{None, IsSomeAnd, IfSome, IsTrue, true, ◌⊎◌, ⊤}
 use Rattle.std.specs.List.{AllByRecursion, Contains}
@@ -92,6 +92,8 @@ pub record InitialLaws (m : Meaning) (cfa : Cfa) (e : Elem) : Type 0 where
   -- of the widening law, for each precision, since another call gives the one that goes with the
   -- element
   pub bounded : (p : Precision) → IsPrecision cfa p → IsBounded m cfa e p
+  -- the telling law
+  pub told : IfSome m.replies (λ r. e ≡ r.initial cfa)
 
 -- `first_precision`
 pub record FirstPrecisionLaws (m : Meaning) (cfa : Cfa) (settings : Settings)
@@ -101,6 +103,8 @@ pub record FirstPrecisionLaws (m : Meaning) (cfa : Cfa) (settings : Settings)
   -- of the exactness law
   pub exact : m.part ≡ part.Store → settings.tracked_all ≡ true → settings.limit ≡ 0
       → TracksAll cfa p
+  -- the telling law
+  pub told : IfSome m.replies (λ r. p ≡ r.first_precision cfa settings)
 
 -- `transfer`
 pub record TransferLaws (m : Meaning) (cfa : Cfa) (edge : ℕ) (elem : Elem) (p : Precision)
@@ -113,6 +117,9 @@ pub record TransferLaws (m : Meaning) (cfa : Cfa) (edge : ℕ) (elem : Elem) (p 
   pub exact : MustBeExact m.part cfa p → PinsEdge m cfa edge elem es
   -- of the widening law
   pub bounded : IsBounded m cfa elem p → AllByRecursion (λ e. IsBounded m cfa e p) es
+  -- the telling law
+  pub told : IfSome m.replies (λ r. (g : Edge) → slice_get cfa.edges edge ≡ Some g
+      → es ≡ r.transfer cfa g elem p)
 
 -- `strengthen`
 pub record StrengthenLaws (m : Meaning) (cfa : Cfa) (own : Elem) (others : List Elem)
@@ -127,6 +134,8 @@ pub record StrengthenLaws (m : Meaning) (cfa : Cfa) (own : Elem) (others : List 
   pub exact : MustBeExact m.part cfa p → StandsByPins m cfa others → IsOwnOrNone own result
   -- of the widening law
   pub bounded : IsBounded m cfa own p → IfSome result (λ e. IsBounded m cfa e p)
+  -- the telling law
+  pub told : IfSome m.replies (λ r. result ≡ r.strengthen cfa own others p)
 
 -- `merge`
 pub record MergeLaws (m : Meaning) (cfa : Cfa) (rule : MergeRule) (new old : Elem) (p : Precision)
@@ -141,6 +150,8 @@ pub record MergeLaws (m : Meaning) (cfa : Cfa) (rule : MergeRule) (new old : Ele
   pub covered : rule ≡ Widen → IsTrue (m.cover new merged)
   pub falls : rule ≡ Widen → merged ≢ old → m.rank cfa merged < m.rank cfa old
   pub bounded : IsBounded m cfa new p → IsBounded m cfa old p → IsBounded m cfa merged p
+  -- the telling law
+  pub told : IfSome m.replies (λ r. merged ≡ r.merge cfa rule new old p)
 
 -- `adjust`, which gives an element and the precision that goes with it
 pub record AdjustLaws (m : Meaning) (cfa : Cfa) (elem : Elem) (p : Precision) (reached : List Entry)
@@ -156,6 +167,9 @@ pub record AdjustLaws (m : Meaning) (cfa : Cfa) (elem : Elem) (p : Precision) (r
   -- of the widening law
   pub bounded : IsBounded m cfa elem p → AllByRecursion (IsBoundedAt m cfa place) reached
       → IsBounded m cfa after next
+  -- the telling law
+  pub told : IfSome m.replies (λ r. (after ≡ (r.adjust cfa elem p reached place).0)
+      × (next ≡ (r.adjust cfa elem p reached place).1))
 
 -- `refine`
 pub record RefineLaws (m : Meaning) (cfa : Cfa) (path : Path) (old new : Precision) : Type 0 where
@@ -166,3 +180,5 @@ pub record RefineLaws (m : Meaning) (cfa : Cfa) (path : Path) (old new : Precisi
   pub tracked : Extends old.tracked new.tracked
   pub preds : Extends old.preds new.preds
   pub suggested : IfSome (m.suggestion cfa path) (AppendsSuggested old new)
+  -- the telling law
+  pub told : IfSome m.replies (λ r. new ≡ r.refine cfa path old)

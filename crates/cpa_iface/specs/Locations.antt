@@ -9,7 +9,7 @@ use Rattle.cpa_iface.specs.declared.analysis.Part.TheVariants as part
 use Rattle.cpa_model.specs.Standing.{has_facts}
 use Rattle.cpa_iface.specs.Meanings.{Meaning}
 use Rattle.cpa_iface.specs.Pins.{pin}
-use Rattle.cpa_iface.specs.Common.{fact_count, no_suggestion}
+use Rattle.cpa_iface.specs.Common.{fact_count, no_suggestion, plain_replies}
 use Rattle.cpa_model.specs.StandingLaws.{has_facts-within, has_facts-same}
 
 -- the fact does not name another point
@@ -25,7 +25,7 @@ may_stand_at e point = list_all (names_point point) e.facts
 abbrev pub next_points : Elem → Edge → List Elem
 next_points e g = if may_stand_at e g.from then pin g.to ∷ [] else []
 
--- It is exact on the point, covers by the letter, and asks for nothing.
+-- It is exact on the point, covers by the letter, asks for nothing, and tells what it answers.
 abbrev pub location : Meaning
 location = record {
   name = codes "location";
@@ -34,6 +34,7 @@ location = record {
   height = λ cfa p. 1;
   rank = fact_count;
   suggestion = λ cfa path. Some no_suggestion;
+  replies = Some (plain_replies (λ cfa. pin cfa.start) next_points);
   within = has_facts-within;
   same = has_facts-same;
 }

@@ -1,5 +1,5 @@
 -- What an analysis means, whatever state its object is in (CAV 2007, section 2; ASE 2008; height,
--- rank and suggestion are this project's own).
+-- rank, suggestion and replies are this project's own).
 use Rattle.std.specs.Prelude.{ℕ, ◌<◌, List, length, Option, IsTrue, Bool}
 use Rattle.std.specs.List.{AllByRecursion}
 use Rattle.cpa_expr.specs.declared.tree.Expr.{Expr}
@@ -7,10 +7,13 @@ use Rattle.cpa_model.specs.declared.facts.Elem.{Elem}
 use Rattle.cpa_model.specs.declared.states.State.{State}
 use Rattle.cpa_model.specs.declared.automaton.Cfa.{Cfa}
 use Rattle.cpa_model.specs.declared.automaton.Path.{Path}
+use Rattle.cpa_model.specs.declared.automaton.Edge.{Edge}
 use Rattle.cpa_model.specs.Expressions.{IsExpr}
 use Rattle.cpa_model.specs.Facts.{Holds, IsElem, IsWithin}
 use Rattle.cpa_model.specs.Automata.{IsStateOf}
 use Rattle.cpa_iface.specs.declared.analysis.Part.{Part}
+use Rattle.cpa_iface.specs.declared.analysis.Settings.{Settings}
+use Rattle.cpa_iface.specs.declared.merging.MergeRule.{MergeRule}
 use Rattle.cpa_iface.specs.declared.precisions.Precision.{Precision}
 use Rattle.cpa_iface.specs.declared.entries.Entry.{Entry}
 
@@ -23,9 +26,20 @@ pub record Suggestion : Type 0 where
   pub cells : List ℕ
   pub preds : List Expr
 
--- The six meanings of an analysis. Its cover is what `covered_by` answers, and its suggestion is
--- there where it tells it. The cover law: a true cover is inclusion, and each element covers
--- itself.
+-- What an analysis answers, whatever state its object is in, at each call of which the laws leave
+-- the answer open.
+pub record Replies : Type 0 where
+  pub initial : Cfa → Elem
+  pub first_precision : Cfa → Settings → Precision
+  pub transfer : Cfa → Edge → Elem → Precision → List Elem
+  pub strengthen : Cfa → Elem → List Elem → Precision → Option Elem
+  pub merge : Cfa → MergeRule → Elem → Elem → Precision → Elem
+  pub adjust : Cfa → Elem → Precision → List Entry → ℕ → Elem × Precision
+  pub refine : Cfa → Path → Precision → Precision
+
+-- The seven meanings of an analysis. Its cover is what `covered_by` answers; its suggestion and its
+-- replies are there where it tells them. The cover law: a true cover is inclusion, and each element
+-- covers itself.
 pub record Meaning : Type 0 where
   pub name : List ℕ
   pub part : Part
@@ -33,6 +47,7 @@ pub record Meaning : Type 0 where
   pub height : Cfa → Precision → ℕ
   pub rank : Cfa → Elem → ℕ
   pub suggestion : Cfa → Path → Option Suggestion
+  pub replies : Option Replies
   pub within : (e f : Elem) → IsTrue (cover e f) → IsWithin e f
   pub same : (e : Elem) → IsTrue (cover e e)
 
