@@ -1,6 +1,6 @@
 -- What analyses share that keep the facts which two elements have in common, and cover by the
 -- letter (this project's own).
-use Rattle.std.specs.Prelude.{ℕ, Bool, List, [], length, Some}
+use Rattle.std.specs.Prelude.{ℕ, Bool, List, [], length}
 use Rattle.std.specs.List.{filter, list_any}
 use Rattle.cpa_model.specs.declared.facts.Fact.{Fact}
 use Rattle.cpa_model.specs.declared.facts.Elem.{Elem}
@@ -9,8 +9,7 @@ use Rattle.cpa_iface.specs.declared.merging.MergeRule.{MergeRule}
 use Rattle.cpa_iface.specs.declared.merging.MergeRule.TheVariants.{Sep, Join, Widen}
 use Rattle.cpa_iface.specs.declared.precisions.Precision.{Precision}
 use Rattle.cpa_model.specs.Standing.{same_fact}
-use Rattle.cpa_model.specs.declared.automaton.Edge.{Edge}
-use Rattle.cpa_iface.specs.Meanings.{Suggestion, Replies}
+use Rattle.cpa_iface.specs.Meanings.{Suggestion}
 
 -- the fact is one of the list
 abbrev pub stands_in : List Fact → Fact → Bool
@@ -37,15 +36,3 @@ no_precision = record { tracked = []; limit = 0; preds = [] }
 -- the suggestion to keep nothing more
 abbrev pub no_suggestion : Suggestion
 no_suggestion = record { cells = []; preds = [] }
-
--- the replies of an analysis that begins and steps so, and leaves the rest as it is
-abbrev pub plain_replies : (Cfa → Elem) → (Elem → Edge → List Elem) → Replies
-plain_replies first next = record {
-  initial = first;
-  first_precision = λ cfa settings. no_precision;
-  transfer = λ cfa g e p. next e g;
-  strengthen = λ cfa own others p. Some own;
-  merge = λ cfa rule new old p. merged_facts rule new old;
-  adjust = λ cfa e p reached place. (e, p);
-  refine = λ cfa path p. p;
-}

@@ -3,4 +3,5 @@ pub mod Pins
 pub mod Laws
 pub mod Common
 pub mod CommonLaws
+pub mod PlainMeanings
 pub mod Locations

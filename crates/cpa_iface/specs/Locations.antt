@@ -1,16 +1,14 @@
 -- The analysis of locations (CAV 2007, section 2).
-use Rattle.std.specs.Prelude.{ℕ, ◌==◌, Bool, true, List, [], ◌∷◌, Some, codes, if◌then◌else◌}
+use Rattle.std.specs.Prelude.{ℕ, ◌==◌, Bool, true, List, [], ◌∷◌, codes, if◌then◌else◌}
 use Rattle.std.specs.List.{list_all}
 use Rattle.cpa_model.specs.declared.facts.Fact.{Fact}
 use Rattle.cpa_model.specs.declared.facts.Fact.TheVariants.{At}
 use Rattle.cpa_model.specs.declared.facts.Elem.{Elem}
 use Rattle.cpa_model.specs.declared.automaton.Edge.{Edge}
 use Rattle.cpa_iface.specs.declared.analysis.Part.TheVariants as part
-use Rattle.cpa_model.specs.Standing.{has_facts}
 use Rattle.cpa_iface.specs.Meanings.{Meaning}
 use Rattle.cpa_iface.specs.Pins.{pin}
-use Rattle.cpa_iface.specs.Common.{fact_count, no_suggestion, plain_replies}
-use Rattle.cpa_model.specs.StandingLaws.{has_facts-within, has_facts-same}
+use Rattle.cpa_iface.specs.PlainMeanings.{PlainMeaning, meaning_of}
 
 -- the fact does not name another point
 abbrev pub names_point : ℕ → Fact → Bool
@@ -25,16 +23,15 @@ may_stand_at e point = list_all (names_point point) e.facts
 abbrev pub next_points : Elem → Edge → List Elem
 next_points e g = if may_stand_at e g.from then pin g.to ∷ [] else []
 
--- It is exact on the point, covers by the letter, asks for nothing, and tells what it answers.
-abbrev pub location : Meaning
-location = record {
+-- it begins with the pin of the start, and is exact on the point
+abbrev pub locations : PlainMeaning
+locations = record {
   name = codes "location";
   part = part.Point;
-  cover = has_facts;
-  height = λ cfa p. 1;
-  rank = fact_count;
-  suggestion = λ cfa path. Some no_suggestion;
-  replies = Some (plain_replies (λ cfa. pin cfa.start) next_points);
-  within = has_facts-within;
-  same = has_facts-same;
+  beside_store = tt;
+  initial = λ cfa. pin cfa.start;
+  next = next_points;
 }
+
+abbrev pub location : Meaning
+location = meaning_of locations

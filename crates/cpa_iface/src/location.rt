@@ -1,37 +1,21 @@
-//! The analysis of locations, the smallest one. Each call gives what `specs/Locations.antt` says of
-//! it, and keeps the laws, which is shown in `proofs/LocationLaws.antt`.
+//! The analysis of locations, the smallest one. What it gives stands in `specs/Locations.antt`, and
+//! that it keeps the laws is shown in `proofs/LocationLaws.antt`.
 
-ghost use Rattle.std.specs.Prelude.{◌≡◌, ◌<◌, length, slice_get, IfOk};
-ghost use Rattle.cpa_model.specs.declared.automaton.Edge.{Edge as AnEdge};
-ghost use Rattle.cpa_model.specs.Automata.{IsAutomaton};
-ghost use Rattle.cpa_iface.specs.Meanings.{IsShaped, IsPrecision};
-ghost use Rattle.cpa_iface.specs.Common.{merged_facts, no_precision};
-ghost use Rattle.cpa_iface.specs.Laws.{InitialLaws, FirstPrecisionLaws, TransferLaws};
-ghost use Rattle.cpa_iface.specs.Laws.{StrengthenLaws, MergeLaws, AdjustLaws, RefineLaws};
-ghost use Rattle.cpa_iface.specs.Locations.{location, names_point, may_stand_at, next_points};
+ghost use Rattle.std.specs.Prelude.{◌≡◌, IfOk};
+ghost use Rattle.cpa_iface.specs.Locations.{locations, names_point, may_stand_at, next_points};
 ghost use Rattle.cpa_iface.specs.Pins.{pin};
 
-use crate::analysis::{Analysis, Part, Settings};
-use crate::entries::Entry;
-use crate::merging::{MergeRule, merge_facts};
-use crate::precisions::{Precision, empty_precision};
-use crate::unchanged::{unadjusted, unrefined, unstrengthened};
-use cpa_model::{Cfa, Edge, Elem, Fact, Path, Seq, automata_are_small, has_facts};
+use crate::analysis::Part;
+use crate::plain::Steps;
+use cpa_model::{Cfa, Edge, Elem, Fact, Seq, automata_are_small};
 use std::alloc::{AllocError, Global};
 
 /// The smallest analysis: it keeps the point of a state, and is exact on it.
 #[derive(Drop)]
 pub struct Location;
 
-impl Location {
-    /// Takes no memory.
-    pub fn new() -> Location {
-        Location
-    }
-}
-
-impl Analysis for Location {
-    ghost meaning = { λ _. location };
+impl Steps for Location {
+    ghost own = { locations };
 
     fn name(&self) -> &str {
         "location"
@@ -41,25 +25,9 @@ impl Analysis for Location {
         Part::Point
     }
 
-    fn initial(&mut self, alloc: Global, cfa: &Cfa) -> Result<Elem, AllocError>
-        requires { IsAutomaton cfa.now }
-        ensures laws { IfOk result (λ e. InitialLaws location cfa.now e) }
-        ensures given { IfOk result (λ e. e ≡ pin cfa.now.start) }
-    {
+    fn initial(&mut self, alloc: Global, cfa: &Cfa) -> Result<Elem, AllocError> {
         automata_are_small();
         pin(alloc, cfa.start)
-    }
-
-    fn first_precision(
-        &mut self,
-        alloc: Global,
-        _cfa: &Cfa,
-        _settings: &Settings,
-    ) -> Result<Precision, AllocError>
-        ensures laws { IfOk result (λ p. FirstPrecisionLaws location _cfa.now _settings.now p) }
-        ensures given { IfOk result (λ p. p ≡ no_precision) }
-    {
-        Ok(empty_precision(alloc))
     }
 
     fn transfer(
@@ -68,87 +36,8 @@ impl Analysis for Location {
         cfa: &Cfa,
         edge: u32,
         elem: &Elem,
-        _precision: &Precision,
-    ) -> Result<Vec<Elem>, AllocError>
-        requires automaton { IsAutomaton cfa.now }
-        requires edge { edge < length cfa.now.edges }
-        ensures laws { IfOk result (λ es.
-            TransferLaws location cfa.now edge elem.now _precision.now es.items) }
-        ensures given { IfOk result (λ es. (g : AnEdge) →
-            slice_get cfa.now.edges edge ≡ Some g → es.items ≡ next_points elem.now g) }
-    {
+    ) -> Result<Vec<Elem>, AllocError> {
         next_points(alloc, elem, cfa.edge(edge))
-    }
-
-    fn strengthen(
-        &mut self,
-        alloc: Global,
-        _cfa: &Cfa,
-        own: &Elem,
-        _others: &[Elem],
-        _precision: &Precision,
-    ) -> Result<Option<Elem>, AllocError>
-        requires { IsShaped _cfa.now own.now }
-        ensures laws { IfOk result (λ e.
-            StrengthenLaws location _cfa.now own.now _others.now _precision.now e) }
-        ensures given { IfOk result (λ e. e ≡ Some own.now) }
-    {
-        unstrengthened(alloc, own)
-    }
-
-    fn merge(
-        &mut self,
-        alloc: Global,
-        _cfa: &Cfa,
-        rule: MergeRule,
-        new: &Elem,
-        old: &Elem,
-        _precision: &Precision,
-    ) -> Result<Elem, AllocError>
-        requires { IsShaped _cfa.now old.now }
-        ensures laws { IfOk result (λ e.
-            MergeLaws location _cfa.now rule new.now old.now _precision.now e) }
-        ensures given { IfOk result (λ e. e ≡ merged_facts rule new.now old.now) }
-    {
-        merge_facts(alloc, rule, new, old)
-    }
-
-    fn covered_by(&self, elem: &Elem, other: &Elem) -> bool {
-        has_facts(elem, other)
-    }
-
-    fn adjust(
-        &mut self,
-        alloc: Global,
-        _cfa: &Cfa,
-        elem: &Elem,
-        precision: &Precision,
-        _reached: &[Entry],
-        _place: u32,
-    ) -> Result<(Elem, Precision), AllocError>
-        requires elem { IsShaped _cfa.now elem.now }
-        requires precision { IsPrecision _cfa.now precision.now }
-        ensures laws { IfOk result (λ pair.
-            AdjustLaws location _cfa.now elem.now precision.now _reached.now _place
-            pair.0 pair.1) }
-        ensures given { IfOk result (λ pair. (pair.0 ≡ elem.now) × (pair.1 ≡ precision.now)) }
-    {
-        unadjusted(alloc, elem, precision)
-    }
-
-    fn refine(
-        &mut self,
-        alloc: Global,
-        _cfa: &Cfa,
-        _path: &Path,
-        precision: &Precision,
-    ) -> Result<Precision, AllocError>
-        requires { IsPrecision _cfa.now precision.now }
-        ensures laws { IfOk result (λ p.
-            RefineLaws location _cfa.now _path.now precision.now p) }
-        ensures given { IfOk result (λ p. p ≡ precision.now) }
-    {
-        unrefined(alloc, precision)
     }
 }
 

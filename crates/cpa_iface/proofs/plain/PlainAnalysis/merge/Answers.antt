@@ -3,17 +3,18 @@ use Rattle.std.proofs.lemmas.Result.{IfOk-weaker}
 use Rattle.cpa_model.specs.declared.facts.Elem.{Elem}
 use Rattle.cpa_iface.specs.Laws.{MergeLaws}
 use Rattle.cpa_iface.specs.CommonLaws.{merged_facts-laws}
-use Rattle.cpa_iface.specs.Locations.{location}
-use Rattle.cpa_iface.proofs.location.LocationAnalysis.merge.Goals as goal
+use Rattle.cpa_iface.specs.PlainMeanings.{meaning_of}
+use Rattle.cpa_iface.proofs.plain.PlainAnalysis.merge.Goals as goal
 
 pub returns-clause-laws : goal.returns-clause-laws
-returns-clause-laws c =
+returns-clause-laws g c =
+    let plain = meaning_of g.S.Steps.own in
     let cfa = c.args._cfa.now in
     let new = c.args.new.now in
     let old = c.args.old.now in
     let p = c.args._precision.now in
     IfOk-weaker _ _ _ (λ (e : Elem) is.
-    subst (MergeLaws location cfa c.args.rule new old p) (sym is)
-    (merged_facts-laws location cfa c.args.rule new old p
-    (record { cover = refl; rank = refl; merges = λ _ _ _ _ _. refl }) c.requires))
+    subst (MergeLaws plain cfa c.args.rule new old p) (sym is)
+    (merged_facts-laws plain cfa c.args.rule new old p
+    (record { cover = refl; rank = refl; merges = λ _ _ _ _ _. refl }) c.requires.old))
     c.merge_facts.ensures
