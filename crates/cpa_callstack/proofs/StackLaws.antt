@@ -193,6 +193,7 @@ next_stacks-laws cfa edge e p g sound shaped at = record {
   bounded =
       λ _. all_next (λ x. IsBounded callstack cfa x p) e g (omega arith)
       (λ sites new first after. omega arith);
+  told = λ h ath. ap (next_stacks e) (same_edge cfa edge g h at ath);
 }
 
 -- the laws of the initial element
@@ -202,4 +203,5 @@ with_stack-laws cfa = record {
   holds = (refl, tt);
   exact = λ _. refl;
   bounded = λ p _. omega arith;
+  told = refl;
 }

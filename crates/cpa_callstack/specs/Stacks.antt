@@ -8,11 +8,10 @@ use Rattle.cpa_model.specs.declared.facts.Elem.{Elem}
 use Rattle.cpa_model.specs.declared.automaton.Act.{Act}
 use Rattle.cpa_model.specs.declared.automaton.Act.TheVariants.{Call, Return}
 use Rattle.cpa_model.specs.declared.automaton.Edge.{Edge}
-use Rattle.cpa_model.specs.Standing.{same_sites, has_facts}
-use Rattle.cpa_model.specs.StandingLaws.{has_facts-within, has_facts-same}
+use Rattle.cpa_model.specs.Standing.{same_sites}
 use Rattle.cpa_iface.specs.declared.analysis.Part.TheVariants as part
 use Rattle.cpa_iface.specs.Meanings.{Meaning}
-use Rattle.cpa_iface.specs.Common.{fact_count, no_suggestion}
+use Rattle.cpa_iface.specs.PlainMeanings.{PlainMeaning, meaning_of}
 
 -- the element of one fact, that this is the stack
 abbrev pub with_stack : List ℕ → Elem
@@ -61,15 +60,15 @@ stacks_after act facts (Some sites) =
 abbrev pub next_stacks : Elem → Edge → List Elem
 next_stacks e g = stacks_after g.act e.facts (first_stack e.facts)
 
--- It is exact on the stack, covers by the letter, and asks for nothing.
-abbrev pub callstack : Meaning
-callstack = record {
+-- it begins with the empty stack, and is exact on the stack
+abbrev pub stacks : PlainMeaning
+stacks = record {
   name = codes "callstack";
   part = part.Stack;
-  cover = has_facts;
-  height = λ cfa p. 1;
-  rank = fact_count;
-  suggestion = λ cfa path. Some no_suggestion;
-  within = has_facts-within;
-  same = has_facts-same;
+  beside_store = tt;
+  initial = λ cfa. with_stack [];
+  next = next_stacks;
 }
+
+abbrev pub callstack : Meaning
+callstack = meaning_of stacks
