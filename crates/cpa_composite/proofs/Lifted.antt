@@ -5,7 +5,7 @@ use Rattle.std.specs.Prelude.{nat_lt}
 use Rattle.std.specs.List.{slice_get, AllByRecursion, Contains}
 use Rattle.std.proofs.lemmas.Bool.{or_parts, ltb-false}
 use Rattle.std.proofs.lemmas.List.{length-append}
-use Rattle.std.proofs.lemmas.Option.{slice_get_within, IfSome_then}
+use Rattle.std.proofs.lemmas.Option.{slice_get_within, IfSome_then, same_Some}
 use Rattle.cpa_expr.specs.declared.tree.Expr.{Expr}
 use Rattle.cpa_model.specs.declared.facts.Elem.{Elem}
 use Rattle.cpa_model.specs.declared.automaton.Cfa.{Cfa}
@@ -15,12 +15,12 @@ use Rattle.cpa_model.specs.Automata.{initial_state}
 use Rattle.cpa_iface.specs.declared.analysis.Settings.{Settings}
 use Rattle.cpa_iface.specs.declared.entries.Entry.{Entry}
 use Rattle.cpa_iface.specs.declared.precisions.Precision.{Precision}
-use Rattle.cpa_iface.specs.Laws.{Extends, MergeLaws}
+use Rattle.cpa_iface.specs.Laws.{Extends, MergeLaws, RefineLaws}
 use Rattle.cpa_iface.specs.Meanings.{IsShaped, IsPrecision, Suggestion, HasPlace}
 use Rattle.cpa_composite.specs.Components.{Component, StandsAt, IsEntryOf}
 use Rattle.cpa_composite.specs.Laws.{EachInitial, EachMerged, EachAdjusted, EachRefined}
 use Rattle.cpa_composite.specs.Laws.{InitialRow, MergedRow, AdjustedRow, RefinedRow, AgreeOnSep}
-use Rattle.cpa_composite.specs.Laws.{WidenCovers, SuggestionsStand, some_longer}
+use Rattle.cpa_composite.specs.Laws.{WidenCovers, SuggestionsStand, some_longer, is_longer}
 use Rattle.cpa_composite.proofs.Placed.{there_is, at_each, each_at, no_more}
 use Rattle.cpa_composite.proofs.Picking.{stands_there, stands_for}
 use Rattle.cpa_composite.proofs.Compared.{none_longer}
@@ -186,6 +186,37 @@ suggestions_stand cs cfa path old new a b each short i c p at is =
       subst (λ (l : List ℕ). AllByRecursion (Contains l) s.cells) cells h.0.whole,
       subst (λ (l : List Expr). AllByRecursion (Contains l) s.preds) preds h.1.whole,
     ))
+
+same_precision : (p q : Precision) → q.tracked ≡ p.tracked → q.limit ≡ p.limit → q.preds ≡ p.preds
+    → q ≡ p
+same_precision p q cells limit preds =
+    ap (λ (l : List ℕ). let r : Precision =
+    record { tracked = l; limit = q.limit; preds = q.preds } in r) cells
+    ∙ (ap (λ (n : ℕ). let r : Precision =
+    record { tracked = p.tracked; limit = n; preds = q.preds } in r) limit
+    ∙ ap (λ (l : List Expr). let r : Precision =
+    record { tracked = p.tracked; limit = p.limit; preds = l } in r) preds)
+
+-- what is not longer than the old precision is that one
+not_longer : (p q : Precision) (c : Component) (cfa : Cfa) (path : Path)
+    → RefineLaws c.meaning cfa path p q → is_longer p q ≡ false → q ≡ p
+not_longer p q c cfa path laws short =
+    let parts = or_parts (nat_lt (length p.tracked) (length q.tracked))
+    (nat_lt (length p.preds) (length q.preds)) short in
+    same_precision p q (same_list p.tracked q.tracked laws.tracked parts.0) laws.limit
+    (same_list p.preds q.preds laws.preds parts.1)
+
+-- where none is longer, the old precisions are what the analyses refine them to
+pub precisions_stay : (cs : List Component) (cfa : Cfa) (path : Path) (old new : List Precision)
+    → length new ≡ length cs → EachRefined cfa path cs old new → some_longer old new ≡ false
+    → EachRefined cfa path cs old old
+precisions_stay cs cfa path old new many each short i c p q at is also =
+    let inside = slice_get_within cs i c at in
+    let r = there_is new i (omega (arith, inside, many)) in
+    let laws = each i c p r.0 at is r.1 in
+    let stays : r.0 ≡ p =
+    not_longer p r.0 c cfa path laws (none_longer old new short i p r.0 is r.1) in
+    subst (RefineLaws c.meaning cfa path p) (stays ∙ sym (same_Some q p (sym also ∙ is))) laws
 
 -- what follows from a clause of a None
 pub if_none : {X P Q : Type 0} (o : Option X) → IfNone o P → (P → Q) → IfNone o Q

@@ -10,7 +10,7 @@ ghost use Rattle.cpa_composite.specs.Components.{picked, ArePlaces, AreElems, Ar
 ghost use Rattle.cpa_composite.specs.Components.{IsEntryOf};
 ghost use Rattle.cpa_composite.specs.Laws.{InitialRow, SuccessorRows, MergedRow, AdjustedRow};
 ghost use Rattle.cpa_composite.specs.Laws.{RefinedRow, AgreeOnSep, WidenCovers, SuggestionsStand};
-ghost use Rattle.cpa_composite.specs.Laws.{some_longer};
+ghost use Rattle.cpa_composite.specs.Laws.{EachMerged, EachRefined, some_longer};
 
 use crate::{choosing, comparing, rows};
 use cpa_iface::{Analysis, Entry, Pick, Precision, Settings};
@@ -97,6 +97,9 @@ pub(crate) fn merge<A: Analysis>(
     ensures none { let cs = picked (map A.meaning handed.old.items) picks.now in
         IfOk result (λ o. IfNone o (AgreeOnSep cs new.now old.now
         → WidenCovers cs new.now old.now)) }
+    ensures stays { let cs = picked (map A.meaning handed.old.items) picks.now in
+        IfOk result (λ o. IfNone o (AgreeOnSep cs new.now old.now
+        → EachMerged cfa.now cs new.now old.now precisions.now old.now)) }
     ensures kept { map A.meaning handed.new.items ≡ map A.meaning handed.old.items }
 {
     if !comparing::agree(picks, new, old) {
@@ -163,6 +166,9 @@ pub(crate) fn refine<A: Analysis>(
         RefinedRow cs cfa.now path.now precisions.now ps.items)) }
     ensures none { let cs = picked (map A.meaning handed.old.items) picks.now in
         IfOk result (λ o. IfNone o (SuggestionsStand cfa.now path.now cs precisions.now)) }
+    ensures stays { let cs = picked (map A.meaning handed.old.items) picks.now in
+        IfOk result (λ o. IfNone o
+        (EachRefined cfa.now path.now cs precisions.now precisions.now)) }
     ensures kept { map A.meaning handed.new.items ≡ map A.meaning handed.old.items }
 {
     let refined = rows::refines(handed, picks, alloc, cfa, path, precisions)?;

@@ -27,7 +27,7 @@ impl<A: Analysis> Composite<A> {
     ghost use Rattle.cpa_composite.specs.Covers.{all_cover, IsWithinRow};
     ghost use Rattle.cpa_composite.specs.Laws.{InitialRow, SuccessorRows, MergedRow, AdjustedRow};
     ghost use Rattle.cpa_composite.specs.Laws.{RefinedRow, AgreeOnSep, WidenCovers};
-    ghost use Rattle.cpa_composite.specs.Laws.{SuggestionsStand};
+    ghost use Rattle.cpa_composite.specs.Laws.{SuggestionsStand, EachMerged, EachRefined};
 
     /// Uses the picked ones, in the order of the picks. Takes no memory.
     pub fn new(handed: Vec<A>, picks: Vec<Pick>) -> Composite<A>
@@ -104,6 +104,9 @@ impl<A: Analysis> Composite<A> {
             merged.items)) }
         ensures none { IfOk result (λ o. IfNone o (AgreeOnSep (components self.old)
             new.now old.now → WidenCovers (components self.old) new.now old.now)) }
+        ensures stays { IfOk result (λ o. IfNone o (AgreeOnSep (components self.old)
+            new.now old.now → EachMerged cfa.now (components self.old) new.now old.now
+            precisions.now old.now)) }
         ensures kept { components self.new ≡ components self.old }
     {
         calls::merge(
@@ -174,6 +177,8 @@ impl<A: Analysis> Composite<A> {
             cfa.now path.now precisions.now ps.items)) }
         ensures none { IfOk result (λ o. IfNone o (SuggestionsStand cfa.now path.now
             (components self.old) precisions.now)) }
+        ensures stays { IfOk result (λ o. IfNone o (EachRefined cfa.now path.now
+            (components self.old) precisions.now precisions.now)) }
         ensures kept { components self.new ≡ components self.old }
     {
         calls::refine(&mut self.handed, &self.picks, alloc, cfa, path, precisions)

@@ -5,7 +5,7 @@ use Rattle.std.proofs.Common.{List}
 use Rattle.std.proofs.lemmas.Option.{IfSome_then}
 use Rattle.cpa_model.specs.declared.facts.Elem.{Elem}
 use Rattle.cpa_composite.specs.Components.{picked, AreElems, ArePrecisions}
-use Rattle.cpa_composite.specs.Laws.{MergedRow, AgreeOnSep, WidenCovers}
+use Rattle.cpa_composite.specs.Laws.{MergedRow, AgreeOnSep, WidenCovers, EachMerged}
 use Rattle.cpa_composite.proofs.Picking.{picked_length, within_meanings}
 use Rattle.cpa_composite.proofs.Compared.{agree_means, agree_fails}
 use Rattle.cpa_composite.proofs.Lifted.{merged_row, widen_covers, if_none}
@@ -84,3 +84,24 @@ returns-clause-none g c =
     → WidenCovers cs c.args.new.now c.args.old.now} _ c.other_row.ensures.none (λ same. λ agreed.
     widen_covers cs cfa c.args.new.now c.args.old.now c.args.precisions.now merged.items
     c.requires.new.size c.requires.precisions.size c.in_ok-merged.ensures.each same)
+
+pub returns-then-not-agree-clause-stays : goal.returns-then-not-agree-clause-stays
+returns-then-not-agree-clause-stays g c =
+    let meaning = g.A.Analysis.meaning in
+    let handed = c.args.handed.now.items in
+    let ms = map meaning handed in
+    let picks = c.args.picks.now in
+    let within = within_meanings meaning handed picks c.requires.picks in
+    λ all. absurd (agree_fails ms picks within c.args.new.now c.args.old.now
+    (sym c.if-not-agree.ensures) all)
+
+pub returns-clause-stays : goal.returns-clause-stays
+returns-clause-stays g c =
+    let cs = picked (map g.A.Analysis.meaning c.args.handed.now.items) c.args.picks.now in
+    let cfa = c.args.cfa.now in
+    let new = c.args.new.now in
+    let old = c.args.old.now in
+    let ps = c.args.precisions.now in
+    if_none {Q = AgreeOnSep cs new old → EachMerged cfa cs new old ps old} _
+    c.other_row.ensures.none (λ same. λ agreed.
+    subst (λ (l : List Elem). EachMerged cfa cs new old ps l) same c.in_ok-merged.ensures.each)

@@ -7,7 +7,7 @@ use Rattle.cpa_iface.specs.declared.precisions.Precision.{Precision}
 use Rattle.cpa_composite.specs.Components.{picked, ArePrecisions}
 use Rattle.cpa_composite.specs.Laws.{RefinedRow}
 use Rattle.cpa_composite.proofs.Picking.{picked_length, within_meanings}
-use Rattle.cpa_composite.proofs.Lifted.{refined_row, suggestions_stand, if_none}
+use Rattle.cpa_composite.proofs.Lifted.{refined_row, suggestions_stand, precisions_stay, if_none}
 use Rattle.cpa_composite.proofs.calls.refine.Goals as goal
 
 pub refines-requires-clause-precisions : goal.refines-requires-clause-precisions
@@ -50,3 +50,16 @@ returns-clause-none g c =
     suggestions_stand cs c.args.cfa.now c.args.path.now c.args.precisions.now refined.items
     c.requires.precisions.size (c.in_ok-refined.ensures.size ∙ sym many)
     c.in_ok-refined.ensures.each short)
+
+pub returns-clause-stays : goal.returns-clause-stays
+returns-clause-stays g c =
+    let meaning = g.A.Analysis.meaning in
+    let handed = c.args.handed.now.items in
+    let ms = map meaning handed in
+    let picks = c.args.picks.now in
+    let many = picked_length ms picks (within_meanings meaning handed picks c.requires.picks) in
+    let cs = picked ms picks in
+    let refined = c.in_ok-refined.refined in
+    if_none _ c.longer_row.ensures.none (λ short.
+    precisions_stay cs c.args.cfa.now c.args.path.now c.args.precisions.now refined.items
+    (c.in_ok-refined.ensures.size ∙ sym many) c.in_ok-refined.ensures.each short)
