@@ -7,7 +7,7 @@ ghost use Rattle.cpa_edgeform_rules.specs.Runs.{taken, holding, failing};
 ghost use Rattle.cpa_edgeform_rules.specs.Forms.{begun, with_added, first_store, last_store};
 ghost use Rattle.cpa_edgeform_rules.specs.Forms.{inputs_at, place_now};
 
-use crate::parts::Parts;
+use crate::parts::{Parts, copy};
 use crate::settling::push_copies;
 use crate::{adding, beginning, reading};
 use cpa_edgeform_renaming::number_at;
@@ -85,6 +85,15 @@ impl EdgeForm {
         ensures { result ≡ self.now.weight }
     {
         self.parts.weight
+    }
+
+    /// An equal form. It fails only where memory runs out.
+    pub fn copy(&self) -> Result<EdgeForm, AllocError>
+        ensures { IfOk result (λ form. form ≡ self.now) }
+    {
+        Ok(EdgeForm {
+            parts: copy(&self.parts)?,
+        })
     }
 
     /// A copy of the query.

@@ -16,3 +16,4 @@ mod weighing;
 mod writing;
 
 pub use form::EdgeForm;
+pub use weighing::act_weight;

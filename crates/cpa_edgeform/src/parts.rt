@@ -7,6 +7,7 @@ ghost use Rattle.cpa_edgeform_rules.specs.Drafts.{placed, moved};
 ghost use Rattle.cpa_edgeform_rules.specs.Forms.{draft_of, joined, weighed};
 ghost use Rattle.cpa_edgeform.specs.Parts.{form_in, places_or, with_places, with_one_input};
 
+use crate::settling::push_copies;
 use crate::writing::{move_cells, put};
 use cpa_edgeform_renaming::Place;
 use cpa_edgeform_rules::Draft;
@@ -24,6 +25,23 @@ pub(crate) struct Parts {
     pub(crate) places: Vec<Place>,
     pub(crate) inputs: Vec<u32>,
     pub(crate) weight: u64,
+}
+
+/// Equal parts. It fails only where memory runs out.
+pub(crate) fn copy(parts: &Parts) -> Result<Parts, AllocError>
+    ensures { IfOk result (λ made. form_in made ≡ form_in parts.now) }
+{
+    let alloc = parts.alloc;
+    let mut wanted = Seq::new(alloc);
+    push_copies(alloc, &mut wanted, parts.wanted.as_slice())?;
+    Ok(Parts {
+        alloc,
+        cells: parts.cells.to_vec(alloc)?,
+        wanted: wanted.into_vec(),
+        places: parts.places.to_vec(alloc)?,
+        inputs: parts.inputs.to_vec(alloc)?,
+        weight: parts.weight,
+    })
 }
 
 /// Nothing yet, behind the query. There are 2^32 numbers of cells.

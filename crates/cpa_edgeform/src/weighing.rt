@@ -10,8 +10,8 @@ use cpa_edgeform_renaming::Place;
 use cpa_expr::type_of;
 use cpa_model::{Act, Elem, Fact};
 
-/// The weight of an edge.
-pub(crate) fn act_weight(act: &Act) -> u64
+/// The weight of an edge, by its act. Takes no memory.
+pub fn act_weight(act: &Act) -> u64
     ensures { result ≡ min (act_weight act.now) u64.MAX }
 {
     match act {

@@ -10,7 +10,8 @@ use Rattle.cpa_model.specs.declared.automaton.Act.TheVariants as act
 use Rattle.cpa_model.specs.declared.facts.Fact.{Fact}
 use Rattle.cpa_model.specs.declared.facts.Fact.TheVariants.{At, Stack, Equals, Within, Truth}
 use Rattle.cpa_model.specs.declared.facts.Elem.{Elem}
-use Rattle.cpa_model.specs.Expressions.{HasTruth, types_of}
+use Rattle.cpa_expr.specs.Values.{HasTruth}
+use Rattle.cpa_model.specs.Expressions.{types_of}
 use Rattle.cpa_model.specs.Facts.{IsValueOf}
 use Rattle.cpa_model.specs.Steps.{StepsStore}
 
@@ -28,7 +29,7 @@ StoreFactHolds store (Stack sites) = ⊤
 StoreFactHolds store (Equals cell value) = slice_get store cell ≡ Some value
 StoreFactHolds store (Within cell lo hi) =
     IsSomeAnd (slice_get store cell) (λ v. (lo ≤ℤ v) × (v ≤ℤ hi))
-StoreFactHolds store (Truth expr holds) = HasTruth expr holds store
+StoreFactHolds store (Truth expr holds) = HasTruth store expr holds
 
 -- the facts on the store all hold
 abbrev pub StoreHolds : List ℤ → Elem → Type 0

@@ -10,7 +10,7 @@ use Rattle.std.proofs.Common.{refl, ap, inl, inr}
 use Rattle.std.proofs.lemmas.Int.{by_lt_z}
 use Rattle.std.proofs.lemmas.Bool.Decides.{Decides-int_eq}
 use Rattle.cpa_expr.specs.declared.tree.Expr.{Expr}
-use Rattle.cpa_expr.specs.Values.{is_nonzero, value_of}
+use Rattle.cpa_expr.specs.Values.{is_nonzero, value_of, HasTruth}
 use Rattle.cpa_model.specs.declared.program.Cell.{Cell}
 use Rattle.cpa_model.specs.declared.automaton.Act.{Act}
 use Rattle.cpa_model.specs.declared.automaton.Act.TheVariants as act
@@ -18,7 +18,6 @@ use Rattle.cpa_model.specs.declared.facts.Fact.{Fact}
 use Rattle.cpa_model.specs.declared.facts.Fact.TheVariants.{At, Stack, Equals, Within, Truth}
 use Rattle.cpa_model.specs.declared.facts.Elem.{Elem}
 use Rattle.cpa_model.specs.declared.states.State.{State}
-use Rattle.cpa_model.specs.Expressions.{HasTruth}
 use Rattle.cpa_model.specs.Facts.{FactHolds, Holds}
 use Rattle.cpa_model.specs.Steps.{StepsStore}
 use Rattle.cpa_edgeform_renaming.specs.TrapTests.{is_trap}
@@ -50,7 +49,7 @@ pub record FailingIsNotHolding : Type 0 where
   pub either : (store : List ℤ) (elem : Elem) → StoreHolds store elem ⊎ StoreFails store elem
   pub truth : (store : List ℤ) (e : Expr) (holds : Bool)
       → (StoreFactHolds store (Truth e holds) → ⊥)
-      ↔ (IsTrue (is_trap (value_of e store)) ⊎ HasTruth e (not holds) store)
+      ↔ (IsTrue (is_trap (value_of e store)) ⊎ HasTruth store e (not holds))
 
 -- An edge leads from one store to another exactly where it does so with some inputs.
 pub record StepsTakeInputs : Type 0 where

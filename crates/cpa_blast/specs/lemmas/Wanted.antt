@@ -18,9 +18,8 @@ use Rattle.cpa_blast_words.specs.Laws.{words_mean_their_operators}
 use Rattle.cpa_blast_words.specs.lemmas.Columns.{still_below, opposite_below}
 use Rattle.cpa_expr.specs.declared.tree.Expr.{Expr}
 use Rattle.cpa_expr.specs.Shape.{type_of, IsTyped}
-use Rattle.cpa_expr.specs.Values.{value_of, is_nonzero}
+use Rattle.cpa_expr.specs.Values.{value_of, is_nonzero, HasTruth}
 use Rattle.cpa_expr.specs.Laws.{values_lie_in_range}
-use Rattle.cpa_query.specs.Queries.{HasTruth}
 use Rattle.cpa_blast_circuits.specs.declared.answer.Word.{Word}
 use Rattle.cpa_blast_circuits.specs.Circuits.{circuit}
 use Rattle.cpa_blast_circuits.specs.Meanings.{types_of, HasStore, IsAnswer}

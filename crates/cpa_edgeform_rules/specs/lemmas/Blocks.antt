@@ -15,12 +15,12 @@ use Rattle.cpa_expr.specs.declared.tree.Expr.{Expr}
 use Rattle.cpa_expr.specs.declared.tree.Expr.TheVariants.{Const, Cmp, Cast}
 use Rattle.cpa_expr.specs.declared.shape.TheConstants.{MAX_HEIGHT}
 use Rattle.cpa_expr.specs.Shape.{height, IsTyped}
-use Rattle.cpa_expr.specs.Values.{value_of}
+use Rattle.cpa_expr.specs.Values.{value_of, HasTruth}
 use Rattle.cpa_expr.specs.Cells.{scalar_read}
 use Rattle.cpa_expr.specs.Laws.{typed_at_variants, height_at_variants, type_at_variants}
 use Rattle.cpa_expr.specs.Laws.{a_scalar_is_its_cell}
 use Rattle.cpa_query.specs.declared.query.Query.{Query}
-use Rattle.cpa_query.specs.Queries.{IsAsked, HasTruth, IsModel}
+use Rattle.cpa_query.specs.Queries.{IsAsked, IsModel}
 use Rattle.cpa_edgeform_renaming.specs.declared.places.Place.{Place}
 use Rattle.cpa_edgeform_renaming.specs.Places.{number_at}
 use Rattle.cpa_edgeform_rules.specs.declared.drafts.Draft.{Draft}

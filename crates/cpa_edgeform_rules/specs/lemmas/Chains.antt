@@ -14,11 +14,12 @@ use Rattle.cpa_expr.specs.declared.tree.Expr.{Expr}
 use Rattle.cpa_expr.specs.declared.tree.Expr.TheVariants.{Or, Not}
 use Rattle.cpa_expr.specs.Shape.{height}
 use Rattle.cpa_expr.specs.Values.{truth as as_number, is_nonzero, logical_or, logical_not, value_of}
+use Rattle.cpa_expr.specs.Values.{HasTruth}
 use Rattle.cpa_expr.specs.Cells.{scalar_read}
 use Rattle.cpa_expr.specs.Laws.{value_at_variants, typed_at_variants, height_at_variants}
 use Rattle.cpa_expr.specs.Laws.{a_scalar_is_its_cell}
 use Rattle.cpa_query.specs.declared.query.Query.{Query}
-use Rattle.cpa_query.specs.Queries.{IsAsked, HasTruth, IsModel}
+use Rattle.cpa_query.specs.Queries.{IsAsked, IsModel}
 use Rattle.cpa_edgeform_renaming.specs.declared.places.Place.{Place}
 use Rattle.cpa_edgeform_renaming.specs.Places.{Shows}
 use Rattle.cpa_edgeform_renaming.specs.Renaming.{renamed}

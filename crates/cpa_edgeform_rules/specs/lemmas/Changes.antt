@@ -12,13 +12,13 @@ use Rattle.cpa_expr.specs.declared.tree.CmpOp.TheVariants as cmp
 use Rattle.cpa_expr.specs.declared.tree.Expr.{Expr}
 use Rattle.cpa_expr.specs.declared.tree.Expr.TheVariants.{Read}
 use Rattle.cpa_expr.specs.Shape.{type_of, height, AreCells}
-use Rattle.cpa_expr.specs.Values.{value_of}
+use Rattle.cpa_expr.specs.Values.{value_of, HasTruth}
 use Rattle.cpa_expr.specs.Cells.{AreValues}
 use Rattle.cpa_expr.specs.Laws.{typed_at_variants, height_at_variants, type_at_variants}
 use Rattle.cpa_expr.specs.Laws.{values_lie_in_range}
 use Rattle.cpa_model.specs.declared.program.Cell.{Cell}
 use Rattle.cpa_model.specs.Expressions.{types_of}
-use Rattle.cpa_query.specs.Queries.{IsAsked, HasTruth, IsModel}
+use Rattle.cpa_query.specs.Queries.{IsAsked, IsModel}
 use Rattle.cpa_edgeform_renaming.specs.declared.places.Place.{Place}
 use Rattle.cpa_edgeform_renaming.specs.Places.{Shows}
 use Rattle.cpa_edgeform_renaming.specs.Renaming.{renamed}

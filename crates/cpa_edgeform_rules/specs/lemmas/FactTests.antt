@@ -11,12 +11,12 @@ use Rattle.cpa_expr.specs.declared.tree.Expr.{Expr}
 use Rattle.cpa_expr.specs.declared.tree.Expr.TheVariants.{Const, Cmp, And}
 use Rattle.cpa_expr.specs.Shape.{IsTyped}
 use Rattle.cpa_expr.specs.Values.{truth, is_nonzero, truth_of, comparison, logical_and, logical_or}
+use Rattle.cpa_expr.specs.Values.{HasTruth}
 use Rattle.cpa_expr.specs.Values.{logical_not, value_of}
 use Rattle.cpa_expr.specs.Cells.{AreValues, scalar_read}
 use Rattle.cpa_expr.specs.Laws.{value_at_variants, a_scalar_is_its_cell}
 use Rattle.cpa_model.specs.declared.facts.Fact.{Fact}
 use Rattle.cpa_model.specs.declared.facts.Fact.TheVariants.{At, Stack, Equals, Within, Truth}
-use Rattle.cpa_query.specs.Queries.{HasTruth}
 use Rattle.cpa_edgeform_renaming.specs.declared.places.Place.{Place}
 use Rattle.cpa_edgeform_renaming.specs.TrapTests.{is_trap, trap_test}
 use Rattle.cpa_edgeform_renaming.specs.Laws.{trap_tests_tell}

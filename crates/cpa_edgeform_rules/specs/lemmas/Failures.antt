@@ -8,7 +8,7 @@ use Rattle.cpa_expr.specs.declared.tree.Expr.{Expr}
 use Rattle.cpa_expr.specs.Cells.{AreValues}
 use Rattle.cpa_model.specs.declared.facts.Fact.{Fact}
 use Rattle.cpa_model.specs.declared.facts.Fact.TheVariants.{At, Stack, Equals, Within, Truth}
-use Rattle.cpa_query.specs.Queries.{HasTruth}
+use Rattle.cpa_expr.specs.Values.{HasTruth}
 use Rattle.cpa_edgeform_renaming.specs.declared.places.Place.{Place}
 use Rattle.cpa_edgeform_renaming.specs.Places.{Shows}
 use Rattle.cpa_edgeform_rules.specs.Runs.{SomeFails}

@@ -16,13 +16,13 @@ use Rattle.cpa_expr.specs.declared.tree.Expr.{Expr}
 use Rattle.cpa_expr.specs.declared.tree.Expr.TheVariants.{Cmp}
 use Rattle.cpa_expr.specs.Shape.{type_of, height, IsTyped}
 use Rattle.cpa_expr.specs.declared.shape.TheConstants.{MAX_HEIGHT}
-use Rattle.cpa_expr.specs.Values.{truth, is_nonzero, comparison, value_of}
+use Rattle.cpa_expr.specs.Values.{truth, is_nonzero, comparison, value_of, HasTruth}
 use Rattle.cpa_expr.specs.Cells.{AreValues, scalar_read}
 use Rattle.cpa_expr.specs.Laws.{value_at_variants, typed_at_variants, height_at_variants}
 use Rattle.cpa_expr.specs.Laws.{a_scalar_is_its_cell, values_lie_in_range}
 use Rattle.cpa_query.specs.declared.query.TheConstants as of_query
 use Rattle.cpa_query.specs.declared.query.Query.{Query}
-use Rattle.cpa_query.specs.Queries.{IsAsked, IsQuery, HasTruth, IsModel}
+use Rattle.cpa_query.specs.Queries.{IsAsked, IsQuery, IsModel}
 use Rattle.cpa_edgeform_renaming.specs.Laws.{cells_behind_change_nothing}
 use Rattle.cpa_edgeform_rules.specs.declared.drafts.Draft.{Draft}
 use Rattle.cpa_edgeform_rules.specs.Drafts.{next, behind, fresh, want, named}

@@ -5,9 +5,9 @@ use Rattle.std.specs.List.{AllByRecursion}
 use Rattle.cpa_ints.specs.declared.integers.IntType.{IntType}
 use Rattle.cpa_expr.specs.declared.tree.Expr.{Expr}
 use Rattle.cpa_expr.specs.Shape.{height}
-use Rattle.cpa_expr.specs.Values.{is_nonzero}
+use Rattle.cpa_expr.specs.Values.{is_nonzero, HasTruth}
 use Rattle.cpa_query.specs.declared.query.Query.{Query}
-use Rattle.cpa_query.specs.Queries.{IsAsked, HasTruth, IsModel}
+use Rattle.cpa_query.specs.Queries.{IsAsked, IsModel}
 use Rattle.cpa_edgeform_renaming.specs.declared.places.Place.{Place}
 use Rattle.cpa_edgeform_renaming.specs.Places.{Shows}
 use Rattle.cpa_edgeform_renaming.specs.Renaming.{renamed, IsReadable}

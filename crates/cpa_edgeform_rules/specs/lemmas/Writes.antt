@@ -14,10 +14,10 @@ use Rattle.cpa_expr.specs.declared.tree.Expr.{Expr}
 use Rattle.cpa_expr.specs.declared.tree.Expr.TheVariants.{Const, Read, Cmp, Cast, Or}
 use Rattle.std.specs.Ordering.{int_eq}
 use Rattle.cpa_expr.specs.Values.{truth, is_nonzero, truth_of, logical_or, cell_at, value_of}
+use Rattle.cpa_expr.specs.Values.{HasTruth}
 use Rattle.cpa_expr.specs.Values.{comparison}
 use Rattle.cpa_expr.specs.Cells.{scalar_read}
 use Rattle.cpa_expr.specs.Laws.{value_at_variants, a_scalar_is_its_cell}
-use Rattle.cpa_query.specs.Queries.{HasTruth}
 use Rattle.cpa_edgeform_rules.specs.Drafts.{kept_unless}
 use Rattle.cpa_edgeform_rules.specs.lemmas.Models.{IsYes, equal_back, equal_forth}
 
