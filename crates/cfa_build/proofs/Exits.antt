@@ -13,7 +13,8 @@ use Rattle.cpa_model.specs.declared.automaton.Act.TheVariants as act
 use Rattle.cpa_model.specs.declared.automaton.Edge.{Edge}
 use Rattle.cpa_model.specs.declared.program.Stmt.TheVariants as stmt
 use Rattle.cpa_model.specs.declared.program.Program.{Program}
-use Rattle.cpa_model.specs.Automata.{edge_of, Precedes, AreOrdered, AreAscending}
+use Rattle.cpa_model.specs.Ascending.{AreAscending}
+use Rattle.cpa_model.specs.Automata.{edge_of, Precedes, AreOrdered}
 use Rattle.cpa_model.specs.Programs.{exit_of, Next}
 use Rattle.cpa_model.specs.Steps.{Moves, at_statement, at_exit, Returns}
 use Rattle.cpa_model.specs.TreeLaws.{TreeLaws}

@@ -8,7 +8,7 @@ use Rattle.std.proofs.lemmas.List.Elements.{Contains-append_left, Contains-push}
 use Rattle.std.proofs.lemmas.Option.{same_Some, slice_get-get_or}
 use Rattle.cpa_model.specs.declared.program.Program.{Program}
 use Rattle.cpa_model.specs.declared.program.Stmt.TheVariants as stmt
-use Rattle.cpa_model.specs.Automata.{AreAscending}
+use Rattle.cpa_model.specs.lemmas.Ascending.{ascending_push}
 use Rattle.cfa_build.specs.Edges.{AreNumbersBelow, AreSitesBelow, IsCallOf}
 use Rattle.cfa_build.proofs.Tables.{slice_get-set_same, slice_get-set_other}
 
@@ -21,12 +21,6 @@ pub each_weaker : {X : Type 0} (Q R : X → Type 0) → ((x : X) → Q x → R x
     → AllByRecursion Q xs → AllByRecursion R xs
 each_weaker Q R f [] h = tt
 each_weaker Q R f (x ∷ xs) h = (f x h.0, each_weaker Q R f xs h.1)
-
-ascending_push : (ns : List ℕ) (k : ℕ) → AreAscending ns → AllByRecursion (λ n. n < k) ns
-    → AreAscending (ns ++ k ∷ [])
-ascending_push [] k h below = (tt, tt)
-ascending_push (n ∷ ns) k h below =
-    (each_append (λ m. n < m) ns (k ∷ []) h.0 (below.0, tt), ascending_push ns k h.1 below.1)
 
 -- the next number has the property
 pub take_number : (Q : ℕ → Type 0) (i : ℕ) (ns : List ℕ) → AreNumbersBelow Q i ns → Q i

@@ -7,7 +7,8 @@ use Rattle.cpa_model.specs.declared.automaton.Act.TheVariants as act
 use Rattle.cpa_model.specs.declared.automaton.Edge.{Edge}
 use Rattle.cpa_model.specs.declared.program.Program.{Program}
 use Rattle.cpa_model.specs.declared.program.Stmt.TheVariants as stmt
-use Rattle.cpa_model.specs.Automata.{edge_of, AreOrdered, AreAscending}
+use Rattle.cpa_model.specs.Ascending.{AreAscending}
+use Rattle.cpa_model.specs.Automata.{edge_of, AreOrdered}
 use Rattle.cpa_model.specs.Programs.{IsStmt}
 use Rattle.cpa_model.specs.Steps.{Moves}
 use Rattle.cfa_build.specs.declared.edges.Outgoing.{Outgoing}
