@@ -6,7 +6,8 @@ use Rattle.std.proofs.Common.{subst, inl, inr, ◌⊎◌, ⊎_elim, append_assoc
 use Rattle.std.proofs.lemmas.Option.{same_Some}
 use Rattle.cpa_iface.specs.declared.entries.Entry.{Entry}
 use Rattle.cpa_reached.specs.declared.links.Link.{Link}
-use Rattle.cpa_reached.specs.Members.{IsIn, is_in, Ascend}
+use Rattle.cpa_model.specs.Ascending.{AreAscending}
+use Rattle.cpa_reached.specs.Members.{IsIn, is_in}
 use Rattle.cpa_reached.specs.Entries.{numbers, IsLive}
 use Rattle.cpa_reached.specs.Paths.{LeadsBack}
 use Rattle.cpa_reached.specs.Removal.{IsBelow, child, further}
@@ -118,8 +119,8 @@ pub climbs_none : (xs : List Entry) (ls : List Link) (pivot number depth : ℕ) 
 climbs_none xs ls pivot number depth live deep =
     record { live = live; deep = omega arith; up = λ h. h; down = λ h. h }
 
-below_parent : (xs : List Entry) (pivot n p edge : ℕ) (e : Entry) → Ascend (numbers xs) → IsIn e xs
-    → e.number ≡ n → e.parent ≡ Some (p, edge) → IsBelow xs pivot n → IsUnder xs pivot p
+below_parent : (xs : List Entry) (pivot n p edge : ℕ) (e : Entry) → AreAscending (numbers xs)
+    → IsIn e xs → e.number ≡ n → e.parent ≡ Some (p, edge) → IsBelow xs pivot n → IsUnder xs pivot p
 below_parent xs pivot n p edge e up there is has (child m g d in_d is_d has_d) =
     let same : e ≡ d = one_entry xs e d up there in_d (is ∙ sym is_d) in
     inl (ap (λ (q : ℕ × ℕ). q.0)

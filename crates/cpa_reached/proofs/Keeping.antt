@@ -10,7 +10,8 @@ use Rattle.cpa_model.specs.declared.facts.Elem.{Elem}
 use Rattle.cpa_iface.specs.declared.precisions.Precision.{Precision}
 use Rattle.cpa_iface.specs.declared.entries.Entry.{Entry}
 use Rattle.cpa_reached.specs.declared.links.Link.{Link}
-use Rattle.cpa_reached.specs.Members.{IsIn, is_in, Ascend}
+use Rattle.cpa_model.specs.Ascending.{AreAscending}
+use Rattle.cpa_reached.specs.Members.{IsIn, is_in}
 use Rattle.cpa_reached.specs.Entries.{numbers, IsLive, waiting_numbers}
 use Rattle.cpa_reached.specs.Calls.{at_number, rests, gains, with_precisions, fresh}
 use Rattle.cpa_reached.specs.Kept.{IsTied, IsKept, link_numbers, at_link, lists, link}
@@ -18,7 +19,8 @@ use Rattle.cpa_reached.specs.Kept.{depth_of, is_named_by}
 use Rattle.cpa_reached.specs.Tables.{but}
 use Rattle.cpa_reached.specs.MemberLaws.{in_all, entry_in, live_in, in_live, above_absent}
 use Rattle.cpa_reached.specs.MemberLaws.{numbers_map, in_map, in_append, numbers_append, all_push}
-use Rattle.cpa_reached.specs.MemberLaws.{all_weaker, ascend_push}
+use Rattle.cpa_model.specs.lemmas.Ascending.{ascending_push}
+use Rattle.cpa_reached.specs.MemberLaws.{all_weaker}
 use Rattle.cpa_reached.proofs.Tying.{tied_along, tied_more, named_there, depth_lists, numbers_lists}
 use Rattle.cpa_reached.proofs.Tying.{named_lists, depth_front, depth_back, named_front}
 
@@ -85,7 +87,7 @@ kept_mild g xs ls ws next mild kept =
     let same : numbers (map g xs) ≡ numbers xs = numbers_map g xs mild.number in
     record {
       tree = record {
-        ascend = subst (λ ns. Ascend ns) (sym same) kept.tree.ascend;
+        ascend = subst (λ ns. AreAscending ns) (sym same) kept.tree.ascend;
         same = kept.tree.same ∙ sym same;
         tied = λ e there.
             let from = in_map g xs e there in
@@ -186,7 +188,7 @@ kept_rests n xs ls ws next kept =
     (λ _. refl) (λ _. refl)) in
     record {
       tree = record {
-        ascend = subst (λ ns. Ascend ns) (sym same) kept.tree.ascend;
+        ascend = subst (λ ns. AreAscending ns) (sym same) kept.tree.ascend;
         same = kept.tree.same ∙ sym same;
         tied = λ e there.
             let from = in_map g xs e there in
@@ -258,8 +260,8 @@ kept_fresh xs ls ws next es ps parent namers fits listed kept =
     depth_back next ls (l ∷ []) absent ∙ new_depth next (depth_of parent.0 ls + 1) namers in
     record {
       tree = record {
-        ascend = subst (λ ns. Ascend ns) (sym (numbers_append xs (new ∷ [])))
-            (ascend_push (numbers xs) next kept.tree.ascend kept.below);
+        ascend = subst (λ ns. AreAscending ns) (sym (numbers_append xs (new ∷ [])))
+            (ascending_push (numbers xs) next kept.tree.ascend kept.below);
         same = link_numbers_append ls (l ∷ []) ∙ ap (λ ns. ns ++ next ∷ []) kept.tree.same
             ∙ sym (numbers_append xs (new ∷ []));
         tied = λ e in_new. ⊎_elim

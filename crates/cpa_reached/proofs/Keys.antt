@@ -9,7 +9,8 @@ use Rattle.std.proofs.lemmas.Bool.{eq-eqb, ne_eqb, eqb-true, or_cases}
 use Rattle.std.proofs.lemmas.Option.{same_Some}
 use Rattle.cpa_iface.specs.declared.entries.Entry.{Entry}
 use Rattle.cpa_reached.specs.declared.links.Link.{Link}
-use Rattle.cpa_reached.specs.Members.{IsIn, is_in, Ascend}
+use Rattle.cpa_model.specs.Ascending.{AreAscending}
+use Rattle.cpa_reached.specs.Members.{IsIn, is_in}
 use Rattle.cpa_reached.specs.Entries.{numbers}
 use Rattle.cpa_reached.specs.MemberLaws.{in_all, entry_in}
 use Rattle.cpa_reached.specs.Kept.{at_key, link_numbers, depth_of}
@@ -27,7 +28,7 @@ get_all P (x ∷ xs) zero d all less = all.0
 get_all P (x ∷ xs) (suc j) d all less = get_all P xs j d all.1 (omega arith)
 
 -- numbers do not fall from place to place
-pub places_rise : (xs : List Entry) → Ascend (numbers xs) → (i j : ℕ) (d : Entry) → i ≤ j
+pub places_rise : (xs : List Entry) → AreAscending (numbers xs) → (i j : ℕ) (d : Entry) → i ≤ j
     → j < length xs → (get_or xs i d).number ≤ (get_or xs j d).number
 places_rise [] up i j d le less = absurd (omega arith)
 places_rise (x ∷ xs) up zero zero d le less = omega arith
@@ -39,7 +40,7 @@ places_rise (x ∷ xs) up (suc i) (suc j) d le less =
     places_rise xs up.1 i j d (omega arith) (omega arith)
 
 -- the place that parts lower numbers from the others is that of the number
-pub found_at : (xs : List Entry) (n p : ℕ) → Ascend (numbers xs)
+pub found_at : (xs : List Entry) (n p : ℕ) → AreAscending (numbers xs)
     → ((k : ℕ) (d : Entry) → k < p → (get_or xs k d).number < n)
     → ((k : ℕ) (d : Entry) → p ≤ k → k < length xs → n ≤ (get_or xs k d).number)
     → is_in n (numbers xs) ≡ true → slice_get (numbers xs) p ≡ Some n
@@ -70,7 +71,7 @@ number_at (x ∷ xs) zero d less = refl
 number_at (x ∷ xs) (suc p) d less = number_at xs p d (omega arith)
 
 -- a number has one entry
-pub one_at : (xs : List Entry) (p n : ℕ) (d e : Entry) → Ascend (numbers xs)
+pub one_at : (xs : List Entry) (p n : ℕ) (d e : Entry) → AreAscending (numbers xs)
     → slice_get (numbers xs) p ≡ Some n → IsIn e xs → e.number ≡ n → get_or xs p d ≡ e
 one_at [] p n d e up at there is = absurd there
 one_at (x ∷ xs) zero n d e up at (inl same) is = same
@@ -86,7 +87,7 @@ one_at (x ∷ xs) (suc p) n d e up at (inl same) is =
 one_at (x ∷ xs) (suc p) n d e up at (inr later) is = one_at xs p n d e up.1 at later is
 
 -- what is kept of the entry at its place is what is kept of its number
-pub depth_there : (ls : List Link) (p n : ℕ) (d : Link) → Ascend (link_numbers ls)
+pub depth_there : (ls : List Link) (p n : ℕ) (d : Link) → AreAscending (link_numbers ls)
     → slice_get (link_numbers ls) p ≡ Some n → (get_or ls p d).depth ≡ depth_of n ls
 depth_there [] p n d up at = absurd (cc)
 depth_there (l ∷ ls) zero n d up at = let yes : eqb l.number n ≡ true =
@@ -107,7 +108,7 @@ untouched key n f (x ∷ xs) above =
 
 -- A write at the place of a number changes the item of that number, and no other.
 pub written : {X : Type 0} (key : X → ℕ) (xs : List X) (i n : ℕ) (f : X → X) (d x : X)
-    → Ascend (map key xs) → slice_get (map key xs) i ≡ Some n → x ≡ get_or xs i d
+    → AreAscending (map key xs) → slice_get (map key xs) i ≡ Some n → x ≡ get_or xs i d
     → set xs i (f x) ≡ at_key key n f xs
 written key [] i n f d x up at is = absurd (cc)
 written key (y ∷ ys) zero n f d x up at is =

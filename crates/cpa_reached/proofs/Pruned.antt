@@ -9,12 +9,14 @@ use Rattle.std.proofs.lemmas.List.Elements.{filter_more}
 use Rattle.std.proofs.lemmas.Bool.{eqb-true, or_cases, cond_both, cases_Bool, both_ways, not-true}
 use Rattle.cpa_iface.specs.declared.entries.Entry.{Entry}
 use Rattle.cpa_reached.specs.declared.links.Link.{Link}
-use Rattle.cpa_reached.specs.Members.{IsIn, is_in, Ascend}
+use Rattle.cpa_model.specs.Ascending.{AreAscending}
+use Rattle.cpa_reached.specs.Members.{IsIn, is_in}
 use Rattle.cpa_reached.specs.Entries.{numbers, waiting_numbers}
 use Rattle.cpa_reached.specs.Removal.{IsBelow, child, further, is_opened, opened, left, without}
 use Rattle.cpa_reached.specs.MemberLaws.{or_left, or_right, in_all, entry_in, numbers_map}
 use Rattle.cpa_reached.specs.MemberLaws.{numbers_append, in_map, in_filter, all_push}
-use Rattle.cpa_reached.specs.MemberLaws.{ascend_push, all_kept, ascend_kept, in_push, in_last}
+use Rattle.cpa_model.specs.lemmas.Ascending.{ascending_push}
+use Rattle.cpa_reached.specs.MemberLaws.{all_kept, ascend_kept, in_push, in_last}
 use Rattle.cpa_reached.specs.SuccessorLaws.{left_number, none_gone, or_false}
 use Rattle.cpa_reached.specs.Kept.{IsTied, IsKept, depth_of}
 use Rattle.cpa_reached.specs.Kept.{without_links, waits_after}
@@ -73,7 +75,7 @@ kept_removed gone pivot xs ls ws later next all only waits kept =
     numbers_map (left gone pivot) (without gone xs) (left_number gone pivot) in
     record {
       tree = record {
-        ascend = subst (λ ns. Ascend ns) (sym same)
+        ascend = subst (λ ns. AreAscending ns) (sym same)
             (ascend_kept (λ e. keep e.number) xs kept.tree.ascend);
         same = links_kept keep ls ∙ ap (λ ns. filter keep ns) kept.tree.same
             ∙ sym (entries_kept keep xs) ∙ sym same;
@@ -119,12 +121,13 @@ pub record Gathers (xs : List Entry) (pivot : ℕ) (gone : List ℕ) (rest : Lis
   pub only : (n : ℕ) → is_in n gone ≡ true → IsBelow xs pivot n
   pub all : (e : Entry) → IsIn e xs → IsBelow xs pivot e.number → IsIn e rest
       ⊎ (is_in e.number gone ≡ true)
-  pub ascend : Ascend gone
+  pub ascend : AreAscending gone
   pub early : (e : Entry) → IsIn e rest → AllByRecursion (λ n. n < e.number) gone
   pub part : (e : Entry) → IsIn e rest → IsIn e xs
-  pub rises : Ascend (numbers rest)
+  pub rises : AreAscending (numbers rest)
 
-pub gathers_none : (xs : List Entry) (pivot : ℕ) → Ascend (numbers xs) → Gathers xs pivot [] xs
+pub gathers_none : (xs : List Entry) (pivot : ℕ) → AreAscending (numbers xs)
+    → Gathers xs pivot [] xs
 gathers_none xs pivot up = record {
   only = λ n wrong. absurd (cc);
   all = λ e there below. inl there;
@@ -174,7 +177,7 @@ gathers_takes xs pivot gone e rest is_below so_far = record {
       (in_last gone e.number)))
       (λ later. inl later) still)
       (λ done. inr (in_push d.number gone e.number done)) (so_far.all d there below);
-  ascend = ascend_push gone e.number so_far.ascend (so_far.early e (inl refl));
+  ascend = ascending_push gone e.number so_far.ascend (so_far.early e (inl refl));
   early = λ d there.
       let above : e.number < d.number =
       in_all (λ n. e.number < n) (numbers rest) d.number so_far.rises.0 (entry_in d rest there) in

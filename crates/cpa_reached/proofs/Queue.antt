@@ -10,7 +10,9 @@ use Rattle.std.specs.Ordering.{nat_cmp}
 use Rattle.std.specs.Result.{is_ok}
 use Rattle.std.proofs.lemmas.Bool.{eq-eqb, ne_eqb, eqb-true, or_cases, cases_Bool, cases_lt}
 use Rattle.std.proofs.lemmas.List.Sorted.{searched}
-use Rattle.cpa_reached.specs.Members.{IsIn, is_in, Ascend}
+use Rattle.cpa_model.specs.Ascending.{AreAscending}
+use Rattle.cpa_model.specs.lemmas.Ascending.{ascending_by_place}
+use Rattle.cpa_reached.specs.Members.{IsIn, is_in}
 use Rattle.cpa_reached.specs.Tables.{but}
 use Rattle.cpa_reached.specs.MemberLaws.{or_left, or_right, all_weaker}
 
@@ -25,7 +27,7 @@ last_of : (P : ℕ → Type 0) (ns : List ℕ) (n : ℕ) → AllByRecursion P (n
 last_of P [] n all = all.0
 last_of P (m ∷ ns) n all = last_of P ns n all.1
 
-but_last : (ns : List ℕ) (n : ℕ) → Ascend (ns ++ n ∷ []) → but n (ns ++ n ∷ []) ≡ ns
+but_last : (ns : List ℕ) (n : ℕ) → AreAscending (ns ++ n ∷ []) → but n (ns ++ n ∷ []) ≡ ns
 but_last [] n up = let yes : eqb n n ≡ true = eq-eqb n n refl in rw yes refl
 but_last (m ∷ ns) n up =
     let less : m < n = last_of (λ k. m < k) ns n up.0 in
@@ -36,25 +38,25 @@ last_in : (ns : List ℕ) (n : ℕ) → IsIn n (ns ++ n ∷ [])
 last_in [] n = inl refl
 last_in (m ∷ ns) n = inr (last_in ns n)
 
-last_greatest : (ns : List ℕ) (n : ℕ) → Ascend (ns ++ n ∷ [])
+last_greatest : (ns : List ℕ) (n : ℕ) → AreAscending (ns ++ n ∷ [])
     → AllByRecursion (λ m. m ≤ n) (ns ++ n ∷ [])
 last_greatest [] n up = (omega arith, tt)
 last_greatest (m ∷ ns) n up = let less : m < n = last_of (λ k. m < k) ns n up.0 in
     (omega arith, last_greatest ns n up.1)
 
-pub front_first : (r : Option ℕ) (old new : List ℕ) → old ≡ option_to_list r ++ new → Ascend old
-    → IfSome r (λ n. AllByRecursion (λ m. n ≤ m) old)
+pub front_first : (r : Option ℕ) (old new : List ℕ) → old ≡ option_to_list r ++ new
+    → AreAscending old → IfSome r (λ n. AllByRecursion (λ m. n ≤ m) old)
 front_first None old new is up = tt
 front_first (Some n) old new is up =
-    let up_now : Ascend (n ∷ new) = subst (λ ns. Ascend ns) is up in
+    let up_now : AreAscending (n ∷ new) = subst (λ ns. AreAscending ns) is up in
     subst (λ ns. AllByRecursion (λ m. n ≤ m) ns) (sym is)
     (omega arith, all_weaker (λ m. n < m) (λ m. n ≤ m) new (λ m less. omega arith) up_now.0)
 
-pub front_left : (r : Option ℕ) (old new : List ℕ) → old ≡ option_to_list r ++ new → Ascend old
-    → IfSome r (λ n. new ≡ but n old)
+pub front_left : (r : Option ℕ) (old new : List ℕ) → old ≡ option_to_list r ++ new
+    → AreAscending old → IfSome r (λ n. new ≡ but n old)
 front_left None old new is up = tt
 front_left (Some n) old new is up =
-    let up_now : Ascend (n ∷ new) = subst (λ ns. Ascend ns) is up in
+    let up_now : AreAscending (n ∷ new) = subst (λ ns. AreAscending ns) is up in
     let yes : eqb n n ≡ true = eq-eqb n n refl in
     subst (λ ns. new ≡ but n ns) (sym is) (rw yes (sym (but_above n new up_now.0)))
 
@@ -63,33 +65,19 @@ pub back_waits : (r : Option ℕ) (old new : List ℕ) → old ≡ new ++ option
 back_waits None old new is = tt
 back_waits (Some n) old new is = subst (λ ns. IsIn n ns) (sym is) (last_in new n)
 
-pub back_first : (r : Option ℕ) (old new : List ℕ) → old ≡ new ++ option_to_list r → Ascend old
-    → IfSome r (λ n. AllByRecursion (λ m. m ≤ n) old)
+pub back_first : (r : Option ℕ) (old new : List ℕ) → old ≡ new ++ option_to_list r
+    → AreAscending old → IfSome r (λ n. AllByRecursion (λ m. m ≤ n) old)
 back_first None old new is up = tt
 back_first (Some n) old new is up =
     subst (λ ns. AllByRecursion (λ m. m ≤ n) ns) (sym is)
-    (last_greatest new n (subst (λ ns. Ascend ns) is up))
+    (last_greatest new n (subst (λ ns. AreAscending ns) is up))
 
-pub back_left : (r : Option ℕ) (old new : List ℕ) → old ≡ new ++ option_to_list r → Ascend old
-    → IfSome r (λ n. new ≡ but n old)
+pub back_left : (r : Option ℕ) (old new : List ℕ) → old ≡ new ++ option_to_list r
+    → AreAscending old → IfSome r (λ n. new ≡ but n old)
 back_left None old new is up = tt
 back_left (Some n) old new is up =
-    subst (λ ns. new ≡ but n ns) (sym is) (sym (but_last new n (subst (λ ns. Ascend ns) is up)))
-
-get_of : (P : ℕ → Type 0) (ns : List ℕ) (j : ℕ) → AllByRecursion P ns → j < length ns
-    → P (get_or ns j 0)
-get_of P [] j all less = absurd (omega arith)
-get_of P (n ∷ ns) zero all less = all.0
-get_of P (n ∷ ns) (suc j) all less = get_of P ns j all.1 (omega arith)
-
-rises : (ns : List ℕ) → Ascend ns → (i j : ℕ) → i ≤ j → j < length ns
-    → get_or ns i 0 ≤ get_or ns j 0
-rises [] up i j le less = absurd (omega arith)
-rises (n ∷ ns) up zero zero le less = omega arith
-rises (n ∷ ns) up zero (suc j) le less = let above : n < get_or ns j 0 =
-    get_of (λ m. n < m) ns j up.0 (omega arith) in omega arith
-rises (n ∷ ns) up (suc i) zero le less = absurd (omega arith)
-rises (n ∷ ns) up (suc i) (suc j) le less = rises ns up.1 i j (omega arith) (omega arith)
+    subst (λ ns. new ≡ but n ns) (sym is)
+    (sym (but_last new n (subst (λ ns. AreAscending ns) is up)))
 
 in_at : (ns : List ℕ) (i n : ℕ) → i < length ns → get_or ns i 0 ≡ n → is_in n ns ≡ true
 in_at [] i n less is = absurd (omega arith)
@@ -104,15 +92,16 @@ at_in (m ∷ ns) n there = ⊎_elim (λ same. (0, omega arith, eqb-true m n same
     (or_cases (eqb m n) (is_in n ns) there)
 
 -- A search by halving finds exactly the numbers that are there.
-pub found_exactly : (ns : List ℕ) (n : ℕ) (r : Result ℕ ℕ) → Ascend ns
+pub found_exactly : (ns : List ℕ) (n : ℕ) (r : Result ℕ ℕ) → AreAscending ns
     → IsBinarySearchResult (λ m. nat_cmp m n) ns r → is_ok r ≡ is_in n ns
 found_exactly ns n (Ok i) up h =
-    let at : (i < length ns) × (get_or ns i 0 ≡ n) = searched ns n (Ok i) h (rises ns up) in
+    let at : (i < length ns) × (get_or ns i 0 ≡ n) =
+    searched ns n (Ok i) h (ascending_by_place ns up) in
     sym (in_at ns i n at.0 at.1)
 found_exactly ns n (Err i) up h =
     let gap : (i ≤ length ns) × ((k : ℕ) → k < i → get_or ns k 0 < n)
     × ((k : ℕ) → i ≤ k → k < length ns → n < get_or ns k 0) =
-    searched ns n (Err i) h (rises ns up) in
+    searched ns n (Err i) h (ascending_by_place ns up) in
     ⊎_elim
     (λ yes.
     let r = at_in ns n yes in

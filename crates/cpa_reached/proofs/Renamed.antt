@@ -12,7 +12,8 @@ use Rattle.std.proofs.lemmas.List.{map-append}
 use Rattle.cpa_model.specs.declared.facts.Elem.{Elem}
 use Rattle.cpa_iface.specs.declared.entries.Entry.{Entry}
 use Rattle.cpa_reached.specs.declared.links.Link.{Link}
-use Rattle.cpa_reached.specs.Members.{IsIn, is_in, Ascend}
+use Rattle.cpa_model.specs.Ascending.{AreAscending}
+use Rattle.cpa_reached.specs.Members.{IsIn, is_in}
 use Rattle.cpa_reached.specs.Entries.{numbers}
 use Rattle.cpa_reached.specs.Calls.{at_number, rename, rename_parent, renamed, replacing, others}
 use Rattle.cpa_reached.specs.Calls.{those, replaced_entries}
@@ -39,7 +40,7 @@ takes_none key n (x ∷ xs) above =
     let no : eqb (key x) n ≡ false = ne_eqb _ _ (λ e. omega arith) in
     rw no (takes_none key n xs above.1)
 
-taken_out : {X : Type 0} (key : X → ℕ) (xs : List X) (i n : ℕ) → Ascend (map key xs)
+taken_out : {X : Type 0} (key : X → ℕ) (xs : List X) (i n : ℕ) → AreAscending (map key xs)
     → slice_get (map key xs) i ≡ Some n
     → take i xs ++ drop (suc i) xs ≡ filter (λ x. not (eqb (key x) n)) xs
 taken_out key [] i n up at = absurd (cc)
@@ -53,7 +54,7 @@ taken_out key (x ∷ xs) (suc i) n up at =
     let no : eqb (key x) n ≡ false = ne_eqb _ _ (λ e. omega arith) in
     rw no (ap (λ t. x ∷ t) (taken_out key xs i n up.1 at))
 
-the_one : {X : Type 0} (key : X → ℕ) (xs : List X) (i n : ℕ) (d : X) → Ascend (map key xs)
+the_one : {X : Type 0} (key : X → ℕ) (xs : List X) (i n : ℕ) (d : X) → AreAscending (map key xs)
     → slice_get (map key xs) i ≡ Some n
     → filter (λ x. eqb (key x) n) xs ≡ get_or xs i d ∷ []
 the_one key [] i n d up at = absurd (cc)
@@ -69,7 +70,7 @@ the_one key (x ∷ xs) (suc i) n d up at =
 
 -- An item is taken out at its place, and what f makes of it stands last.
 pub gave_way : {X : Type 0} (key : X → ℕ) (f : X → X) (xs : List X) (i n : ℕ) (x : X)
-    → Ascend (map key xs) → slice_get (map key xs) i ≡ Some n
+    → AreAscending (map key xs) → slice_get (map key xs) i ≡ Some n
     → x ≡ get_or xs i x
     → remove xs i ++ f x ∷ [] ≡ filter (λ y. not (eqb (key y) n)) xs ++ map f
     (filter (λ y. eqb (key y) n) xs)
@@ -202,7 +203,7 @@ none_later (l ∷ ls) n m above named =
     (or_cases (eqb l.number n && is_in m l.namers) (is_named_by ls n m) named)
 
 -- who is named is in the link of what is named
-named_in : (ls : List Link) (i n m : ℕ) (d : Link) → Ascend (link_numbers ls)
+named_in : (ls : List Link) (i n m : ℕ) (d : Link) → AreAscending (link_numbers ls)
     → slice_get (link_numbers ls) i ≡ Some n → is_named_by ls n m ≡ true
     → is_in m (get_or ls i d).namers ≡ true
 named_in [] i n m d up at named = absurd (cc)
@@ -235,7 +236,7 @@ map_same f (x ∷ xs) same =
     ∙ ap (λ ys. x ∷ ys) (map_same f xs (λ e there. same e (inr there)))
 
 -- what is not listed does not name the old one
-names_not : (ls : List Link) (i old k m : ℕ) (d : Link) → Ascend (link_numbers ls)
+names_not : (ls : List Link) (i old k m : ℕ) (d : Link) → AreAscending (link_numbers ls)
     → slice_get (link_numbers ls) i ≡ Some old → is_in m (get_or ls i d).namers ≡ false
     → is_named_by ls k m ≡ true → eqb k old ≡ false
 names_not ls i old k m d up at absent named = ⊎_elim
@@ -252,7 +253,8 @@ pub renamed_all : (xs : List Entry) (ls : List Link) (i next old : ℕ) (es : Li
 renamed_all xs ls i next old es d tree at =
     let ns = (get_or ls i d).namers in
     let g : Entry → Entry = renamed_among ns old next in
-    let up : Ascend (link_numbers ls) = subst (λ ks. Ascend ks) (sym tree.same) tree.ascend in
+    let up : AreAscending (link_numbers ls) =
+    subst (λ ks. AreAscending ks) (sym tree.same) tree.ascend in
     map-append g (others old xs) (map (replacing next es) (those old xs))
     ∙ ap (λ ys. ys ++ map g (map (replacing next es) (those old xs)))
     (map_agree g (renamed old next) (others old xs) (λ e there.

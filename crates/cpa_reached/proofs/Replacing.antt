@@ -10,7 +10,8 @@ use Rattle.std.proofs.lemmas.Bool.{cond_both, cases_Bool, both_ways, not-true}
 use Rattle.cpa_model.specs.declared.facts.Elem.{Elem}
 use Rattle.cpa_iface.specs.declared.entries.Entry.{Entry}
 use Rattle.cpa_reached.specs.declared.links.Link.{Link}
-use Rattle.cpa_reached.specs.Members.{IsIn, is_in, Ascend}
+use Rattle.cpa_model.specs.Ascending.{AreAscending}
+use Rattle.cpa_reached.specs.Members.{IsIn, is_in}
 use Rattle.cpa_reached.specs.Entries.{numbers, IsLive, waiting_numbers}
 use Rattle.cpa_reached.specs.Calls.{rename, rename_parent, renamed, replacing, others, those}
 use Rattle.cpa_reached.specs.Calls.{replaced_entries}
@@ -19,7 +20,8 @@ use Rattle.cpa_reached.specs.Kept.{other_links, those_links, renumbered}
 use Rattle.cpa_reached.specs.Tables.{but}
 use Rattle.cpa_reached.specs.MemberLaws.{or_left, or_right, in_all, entry_in, live_in, above_absent}
 use Rattle.cpa_reached.specs.MemberLaws.{numbers_map, in_map, in_append, in_filter, numbers_append}
-use Rattle.cpa_reached.specs.MemberLaws.{all_push, all_weaker, ascend_push, all_kept, ascend_kept}
+use Rattle.cpa_model.specs.lemmas.Ascending.{ascending_push}
+use Rattle.cpa_reached.specs.MemberLaws.{all_push, all_weaker, all_kept, ascend_kept}
 use Rattle.cpa_reached.proofs.Tying.{named_there, depth_front, depth_back, named_front, named_back}
 use Rattle.cpa_reached.proofs.Tying.{depth_kept, named_kept, depth_renumbered, named_renumbered}
 use Rattle.cpa_reached.proofs.Keeping.{links_kept, entries_kept, waiting_append, waiting_same}
@@ -40,7 +42,7 @@ pub record IsOnly (n : ℕ) (xs : List Entry) : Type 0 where
   pub is : entry.number ≡ n
   pub only : those n xs ≡ entry ∷ []
 
-pub only_one : (n : ℕ) (xs : List Entry) → Ascend (numbers xs) → is_in n (numbers xs) ≡ true
+pub only_one : (n : ℕ) (xs : List Entry) → AreAscending (numbers xs) → is_in n (numbers xs) ≡ true
     → IsOnly n xs
 only_one n [] up there = absurd (cc)
 only_one n (x ∷ xs) up there = ⊎_elim
@@ -236,7 +238,7 @@ waiting_others n (x ∷ xs) =
     (λ (w : x.waiting ≡ false). rw (other, w) tail) (cases_Bool x.waiting))
     (cases_Bool (eqb x.number n))
 
-pub numbers_replaced : (next old : ℕ) (xs : List Entry) (es : List Elem) → Ascend (numbers xs)
+pub numbers_replaced : (next old : ℕ) (xs : List Entry) (es : List Elem) → AreAscending (numbers xs)
     → is_in old (numbers xs) ≡ true
     → numbers (replaced_entries next xs old es) ≡ numbers (others old xs) ++ next ∷ []
 numbers_replaced next old xs es up there =
@@ -246,15 +248,15 @@ numbers_replaced next old xs es up there =
     (numbers_map (renamed old next) (others old xs) (λ e. refl))
     ∙ ap (λ ys. numbers (others old xs) ++ numbers (map (replacing next es) ys)) o.only
 
-pub ascend_succeeded : (next old : ℕ) (xs : List Entry) (es : List Elem) → Ascend (numbers xs)
+pub ascend_succeeded : (next old : ℕ) (xs : List Entry) (es : List Elem) → AreAscending (numbers xs)
     → is_in old (numbers xs) ≡ true → AllByRecursion (λ n. n < next) (numbers xs)
-    → Ascend (numbers (others old xs ++ map (replacing next es) (those old xs)))
+    → AreAscending (numbers (others old xs ++ map (replacing next es) (those old xs)))
 ascend_succeeded next old xs es up there low =
     let o = only_one old xs up there in
-    subst (λ ns. Ascend ns)
+    subst (λ ns. AreAscending ns)
     (sym (numbers_append (others old xs) (map (replacing next es) (those old xs))
     ∙ ap (λ ys. numbers (others old xs) ++ numbers (map (replacing next es) ys)) o.only))
-    (ascend_push (numbers (others old xs)) next (ascend_kept (λ e. not (eqb e.number old)) xs up)
+    (ascending_push (numbers (others old xs)) next (ascend_kept (λ e. not (eqb e.number old)) xs up)
     (all_kept (λ n. n < next) (λ e. not (eqb e.number old)) xs low))
 
 pub kept_replaced : (xs : List Entry) (ls : List Link) (ws : List ℕ) (next old : ℕ) (es : List Elem)
@@ -280,8 +282,8 @@ kept_replaced xs ls ws next old es fits live listed kept =
     ∙ ap (λ ys. numbers ys) o.only ∙ ap (λ (n : ℕ). n ∷ []) o.is in
     record {
       tree = record {
-        ascend = subst (λ ns. Ascend ns) (sym nums)
-            (ascend_push (numbers (others old xs)) next
+        ascend = subst (λ ns. AreAscending ns) (sym nums)
+            (ascending_push (numbers (others old xs)) next
             (ascend_kept (λ e. not (eqb e.number old)) xs kept.tree.ascend) low_others);
         same = link_numbers_append (other_links old ls) (map (renumbered next) (those_links old ls))
             ∙ ap (λ ns. link_numbers (other_links old ls) ++ ns)

@@ -6,7 +6,8 @@ use Rattle.cpa_iface.specs.declared.entries.Entry.{Entry}
 use Rattle.cpa_iface.specs.declared.entries.Turn.{Turn}
 use Rattle.cpa_iface.specs.declared.merging.Order.{Order}
 use Rattle.cpa_iface.specs.declared.merging.Order.TheVariants.{First, Last}
-use Rattle.cpa_reached.specs.Members.{IsIn, Ascend}
+use Rattle.cpa_model.specs.Ascending.{AreAscending}
+use Rattle.cpa_reached.specs.Members.{IsIn}
 
 -- The entries that are there, in order of numbers; an entry says itself whether it waits. The rows
 -- of the journal, and the number that comes next.
@@ -26,7 +27,7 @@ pub record IsLive (xs : List Entry) (n : ℕ) : Type 0 where
 
 -- Numbers ascend and are used up; a number is at most 2^32 - 1. What an entry names is there.
 pub record IsNumbered (r : ReachedSet) : Type 0 where
-  pub ascend : Ascend (numbers r.live)
+  pub ascend : AreAscending (numbers r.live)
   pub below : AllByRecursion (λ n. n < r.next) (numbers r.live)
   pub bound : r.next ≤ 2 ^ 32
   pub parents : (e : Entry) (p edge : ℕ) → IsIn e r.live → e.parent ≡ Some (p, edge)

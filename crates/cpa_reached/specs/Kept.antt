@@ -5,7 +5,8 @@ use Rattle.std.specs.Prelude.{◌∷◌, ◌++◌, map, Option, Some, None, if�
 use Rattle.std.specs.List.{AllByRecursion, filter, list_any}
 use Rattle.cpa_iface.specs.declared.entries.Entry.{Entry}
 use Rattle.cpa_reached.specs.declared.links.Link.{Link}
-use Rattle.cpa_reached.specs.Members.{IsIn, is_in, Ascend}
+use Rattle.cpa_model.specs.Ascending.{AreAscending}
+use Rattle.cpa_reached.specs.Members.{IsIn, is_in}
 use Rattle.cpa_reached.specs.Entries.{numbers, waiting_numbers}
 use Rattle.cpa_reached.specs.Calls.{renamed}
 use Rattle.cpa_reached.specs.Removal.{left}
@@ -58,7 +59,7 @@ pub record IsTied (ls : List Link) (n : ℕ) (parent : Option (ℕ × ℕ)) (use
 
 -- The links are those of the entries, and tie them.
 pub record IsTree (xs : List Entry) (ls : List Link) : Type 0 where
-  pub ascend : Ascend (numbers xs)
+  pub ascend : AreAscending (numbers xs)
   pub same : link_numbers ls ≡ numbers xs
   pub tied : (e : Entry) → IsIn e xs → IsTied ls e.number e.parent e.uses
 

@@ -6,7 +6,8 @@ use Rattle.std.proofs.Common.{eqb, sym, ap, ◌∙◌, subst, inl, inr, ⊎_elim
 use Rattle.std.specs.List.{AllByRecursion, filter}
 use Rattle.std.proofs.lemmas.Bool.{eq-eqb, ne_eqb, eqb-true, or_cases, cond_both}
 use Rattle.cpa_iface.specs.declared.entries.Entry.{Entry}
-use Rattle.cpa_reached.specs.Members.{IsIn, is_in, Ascend}
+use Rattle.cpa_model.specs.Ascending.{AreAscending}
+use Rattle.cpa_reached.specs.Members.{IsIn, is_in}
 use Rattle.cpa_reached.specs.Entries.{numbers, IsLive}
 
 pub or_right : (x y : Bool) → y ≡ true → (x || y) ≡ true
@@ -45,7 +46,7 @@ in_live (x ∷ xs) n there =
     record { entry = l.entry; is_in = inr l.is_in; is = l.is })
     (or_cases (eqb x.number n) (is_in n (numbers xs)) there)
 
-pub one_entry : (xs : List Entry) (d e : Entry) → Ascend (numbers xs) → IsIn d xs → IsIn e xs
+pub one_entry : (xs : List Entry) (d e : Entry) → AreAscending (numbers xs) → IsIn d xs → IsIn e xs
     → d.number ≡ e.number → d ≡ e
 one_entry [] d e up in_d in_e same = absurd in_d
 one_entry (x ∷ xs) d e up (inl is_d) (inl is_e) same = sym is_d ∙ is_e
@@ -160,11 +161,6 @@ pub all_weaker : (P Q : ℕ → Type 0) (ns : List ℕ) → ((n : ℕ) → P n �
 all_weaker P Q [] f all = tt
 all_weaker P Q (n ∷ ns) f all = (f n all.0, all_weaker P Q ns f all.1)
 
-pub ascend_push : (ns : List ℕ) (n : ℕ) → Ascend ns → AllByRecursion (λ m. m < n) ns
-    → Ascend (ns ++ n ∷ [])
-ascend_push [] n up low = (tt, tt)
-ascend_push (m ∷ ns) n up low = (all_push (λ k. m < k) ns n up.0 low.0, ascend_push ns n up.1 low.1)
-
 -- numbers that are kept
 pub all_kept : (P : ℕ → Type 0) (keep : Entry → Bool) (xs : List Entry)
     → AllByRecursion P (numbers xs) → AllByRecursion P (numbers (filter keep xs))
@@ -173,10 +169,10 @@ all_kept P keep (x ∷ xs) all =
     cond_both (keep x) (x ∷ filter keep xs) (filter keep xs) (λ t. AllByRecursion P (numbers t))
     (λ _. (all.0, all_kept P keep xs all.1)) (λ _. all_kept P keep xs all.1)
 
-pub ascend_kept : (keep : Entry → Bool) (xs : List Entry) → Ascend (numbers xs)
-    → Ascend (numbers (filter keep xs))
+pub ascend_kept : (keep : Entry → Bool) (xs : List Entry) → AreAscending (numbers xs)
+    → AreAscending (numbers (filter keep xs))
 ascend_kept keep [] up = tt
 ascend_kept keep (x ∷ xs) up =
-    cond_both (keep x) (x ∷ filter keep xs) (filter keep xs) (λ t. Ascend (numbers t))
+    cond_both (keep x) (x ∷ filter keep xs) (filter keep xs) (λ t. AreAscending (numbers t))
     (λ _. (all_kept (λ m. x.number < m) keep xs up.0, ascend_kept keep xs up.1))
     (λ _. ascend_kept keep xs up.1)

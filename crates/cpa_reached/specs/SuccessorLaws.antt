@@ -13,7 +13,8 @@ use Rattle.cpa_model.specs.Facts.{LiesIn}
 use Rattle.cpa_model.specs.Automata.{IsStateOf, initial_state}
 use Rattle.cpa_iface.specs.declared.precisions.Precision.{Precision}
 use Rattle.cpa_iface.specs.declared.entries.Entry.{Entry}
-use Rattle.cpa_reached.specs.Members.{IsIn, is_in, Ascend}
+use Rattle.cpa_model.specs.Ascending.{AreAscending}
+use Rattle.cpa_reached.specs.Members.{IsIn, is_in}
 use Rattle.cpa_reached.specs.Entries.{numbers}
 use Rattle.cpa_reached.specs.Calls.{at_number, gains, with_precisions, fresh, rename}
 use Rattle.cpa_reached.specs.Calls.{renamed, replacing, others, those, added_entries}
@@ -251,7 +252,7 @@ left_rests gone pivot e rests =
     (λ _ wrong. absurd (cc)) (λ no _. (no, refl)) rests
 
 -- an entry without parent is no descendant
-pub root_stays : (xs : List Entry) (pivot : ℕ) (e : Entry) → Ascend (numbers xs) → IsIn e xs
+pub root_stays : (xs : List Entry) (pivot : ℕ) (e : Entry) → AreAscending (numbers xs) → IsIn e xs
     → e.parent ≡ None → (n : ℕ) → e.number ≡ n → IsBelow xs pivot n → ⊥
 root_stays xs pivot e up there root n is (child m edge d in_d is_d has) =
     let same : e ≡ d = one_entry xs e d up there in_d (is ∙ sym is_d) in
@@ -262,7 +263,7 @@ root_stays xs pivot e up there root n is (further m p edge d in_d is_d has below
     let wrong : e.parent ≡ Some (p, edge) = ap (λ (y : Entry). y.parent) same ∙ has in
     absurd (cc)
 
-pub removed-covers : (cfa : Cfa) (pivot : ℕ) (xs ys : List Entry) → Ascend (numbers xs)
+pub removed-covers : (cfa : Cfa) (pivot : ℕ) (xs ys : List Entry) → AreAscending (numbers xs)
     → RemovesBelow pivot xs ys → CoversSuccessors cfa xs → CoversSuccessors cfa ys
 removed-covers cfa pivot xs ys up removes covers =
     let gone = removes.gone in

@@ -6,7 +6,8 @@ ghost use Rattle.std.specs.Prelude.{slice_index_or, vec_capacity, OnOk, OnErr, I
 ghost use Rattle.std.specs.Prelude.{IsTrue, ◌↔◌};
 ghost use Rattle.std.specs.List.Sorted.{IsNonDecreasingBy};
 ghost use Rattle.cpa_iface.specs.declared.entries.Entry.{Entry as AnEntry};
-ghost use Rattle.cpa_reached.specs.Members.{IsIn, is_in, Ascend};
+ghost use Rattle.cpa_model.specs.Ascending.{AreAscending};
+ghost use Rattle.cpa_reached.specs.Members.{IsIn, is_in};
 ghost use Rattle.cpa_reached.specs.Entries.{numbers, IsLive};
 ghost use Rattle.cpa_reached.specs.Calls.{at_number, rests, gains, with_precisions};
 
@@ -28,7 +29,7 @@ fn first_from(entries: &[Entry], number: u32) -> usize
 
 /// The place of the entry of this number, which is there.
 pub(crate) fn place(entries: &[Entry], number: u32) -> usize
-    requires ascend { Ascend (numbers entries.now) }
+    requires ascend { AreAscending (numbers entries.now) }
     requires live { IsLive entries.now number }
     ensures at { slice_get (numbers entries.now) result ≡ Some number }
     ensures within { result < length entries.now }
@@ -38,7 +39,7 @@ pub(crate) fn place(entries: &[Entry], number: u32) -> usize
 
 /// The entry of this number, which is there.
 pub(crate) fn entry(entries: &[Entry], number: u32) -> &Entry
-    requires ascend { Ascend (numbers entries.now) }
+    requires ascend { AreAscending (numbers entries.now) }
     requires live { IsLive entries.now number }
     ensures is_in { IsIn result.now entries.now }
     ensures number { result.now.number ≡ number }
@@ -58,7 +59,7 @@ fn is_at(entries: &[Entry], place: usize, number: u32) -> bool
 
 /// The place of the entry of this number, where it is there.
 pub(crate) fn place_of(entries: &[Entry], number: u32) -> Option<usize>
-    requires { Ascend (numbers entries.now) }
+    requires { AreAscending (numbers entries.now) }
     ensures some { IfSome result (λ i. slice_get (numbers entries.now) i ≡ Some number) }
     ensures within { IfSome result (λ i. i < length entries.now) }
     ensures none { IfNone result (is_in number (numbers entries.now) ≡ false) }
@@ -72,7 +73,7 @@ pub(crate) fn place_of(entries: &[Entry], number: u32) -> Option<usize>
 
 /// The parent of the entry of this number, with the edge from it.
 pub(crate) fn parent_of(entries: &[Entry], number: u32) -> Option<(u32, u32)>
-    requires ascend { Ascend (numbers entries.now) }
+    requires ascend { AreAscending (numbers entries.now) }
     requires live { IsLive entries.now number }
     ensures { (e : AnEntry) → IsIn e entries.now → e.number ≡ number → result ≡ e.parent }
 {
@@ -81,7 +82,7 @@ pub(crate) fn parent_of(entries: &[Entry], number: u32) -> Option<(u32, u32)>
 
 /// The entry of this number does not wait any more.
 pub(crate) fn rest(entries: &mut Vec<Entry>, number: u32)
-    requires ascend { Ascend (numbers entries.old.items) }
+    requires ascend { AreAscending (numbers entries.old.items) }
     requires live { IsLive entries.old.items number }
     ensures { entries.new.items ≡ at_number number rests entries.old.items }
 {
@@ -91,7 +92,7 @@ pub(crate) fn rest(entries: &mut Vec<Entry>, number: u32)
 
 /// Notes a use. Where memory runs out nothing has changed.
 pub(crate) fn gain(entries: &mut Vec<Entry>, number: u32, by: u32) -> Result<(), AllocError>
-    requires ascend { Ascend (numbers entries.old.items) }
+    requires ascend { AreAscending (numbers entries.old.items) }
     requires live { IsLive entries.old.items number }
     ensures ok { OnOk result (entries.new.items ≡ at_number number (gains by) entries.old.items) }
     ensures err { OnErr result (entries.new.items ≡ entries.old.items) }
@@ -103,7 +104,7 @@ pub(crate) fn gain(entries: &mut Vec<Entry>, number: u32, by: u32) -> Result<(),
 
 /// The entry of this number has these precisions in place of its own.
 pub(crate) fn put_precisions(entries: &mut Vec<Entry>, number: u32, precisions: Vec<Precision>)
-    requires ascend { Ascend (numbers entries.old.items) }
+    requires ascend { AreAscending (numbers entries.old.items) }
     requires live { IsLive entries.old.items number }
     ensures { entries.new.items ≡
         at_number number (with_precisions precisions.items) entries.old.items }

@@ -8,7 +8,7 @@ ghost use Rattle.cpa_model.specs.Automata.{IsStateOf, initial_state};
 ghost use Rattle.cpa_iface.specs.declared.precisions.Precision.{Precision};
 ghost use Rattle.cpa_iface.specs.declared.entries.Entry.{Entry};
 ghost use Rattle.cpa_iface.specs.declared.entries.Turn.{Turn};
-ghost use Rattle.cpa_reached.specs.Members.{Ascend};
+ghost use Rattle.cpa_model.specs.Ascending.{AreAscending};
 ghost use Rattle.cpa_reached.specs.Entries.{ReachedSet, numbers};
 ghost use Rattle.cpa_reached.specs.Calls.{added, replaced, used, refined, closed, restarted};
 ghost use Rattle.cpa_reached.specs.Removal.{RemovesBelow};
@@ -25,8 +25,8 @@ pub fn calls_keep_cover()
         → CoversSuccessors cfa r.live → CoversSuccessors cfa (replaced r old es).live }
     ensures note_use { (cfa : Cfa) (r : ReachedSet) (n by : ℕ) → CoversSuccessors cfa r.live
         → CoversSuccessors cfa (used r n by).live }
-    ensures remove_below { (cfa : Cfa) (pivot : ℕ) (old new : List Entry) → Ascend (numbers old)
-        → RemovesBelow pivot old new → CoversSuccessors cfa old → CoversSuccessors cfa new }
+    ensures remove_below { (cfa : Cfa) (pivot : ℕ) (old new : List Entry)
+        → AreAscending (numbers old) → RemovesBelow pivot old new → CoversSuccessors cfa old → CoversSuccessors cfa new }
     ensures set_precisions { (cfa : Cfa) (r : ReachedSet) (n : ℕ) (ps : List Precision)
         → CoversSuccessors cfa r.live → CoversSuccessors cfa (refined r n ps).live }
     ensures close_turn { (cfa : Cfa) (r : ReachedSet) (turn : Turn) → CoversSuccessors cfa r.live

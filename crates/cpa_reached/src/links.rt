@@ -3,7 +3,7 @@
 
 ghost use Rattle.std.specs.Prelude.{◌≡◌, ℕ, ◌<◌, Some, length, slice_get, vec_capacity, vec_len};
 ghost use Rattle.std.specs.Prelude.{OnOk, OnErr};
-ghost use Rattle.cpa_reached.specs.Members.{Ascend};
+ghost use Rattle.cpa_model.specs.Ascending.{AreAscending};
 ghost use Rattle.cpa_reached.specs.Kept.{at_link, lists, link_numbers, depth_of};
 
 use cpa_ints::Seq;
@@ -22,7 +22,7 @@ pub(crate) struct Link {
 
 /// Notes that an entry names the one at this place. Where memory runs out nothing has changed.
 pub(crate) fn name_at(links: &mut Vec<Link>, place: usize, by: u32) -> Result<(), AllocError>
-    requires ascend { Ascend (link_numbers links.old.items) }
+    requires ascend { AreAscending (link_numbers links.old.items) }
     requires within { place < length links.old.items }
     ensures ok { (n : ℕ) → slice_get (link_numbers links.old.items) place ≡ Some n
         → OnOk result (links.new.items ≡ at_link n (lists by) links.old.items) }
@@ -35,7 +35,7 @@ pub(crate) fn name_at(links: &mut Vec<Link>, place: usize, by: u32) -> Result<()
 
 /// How deep the entry at this place lies.
 pub(crate) fn depth_at(links: &[Link], place: usize) -> u32
-    requires ascend { Ascend (link_numbers links.now) }
+    requires ascend { AreAscending (link_numbers links.now) }
     requires within { place < length links.now }
     ensures { (n : ℕ) → slice_get (link_numbers links.now) place ≡ Some n
         → result ≡ depth_of n links.now }

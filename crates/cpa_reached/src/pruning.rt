@@ -3,7 +3,8 @@
 
 ghost use Rattle.std.specs.Prelude.{◌≡◌, ℕ, map, true, ◌↔◌, IsTrue, IfOk, OnOk, OnErr};
 ghost use Rattle.std.specs.List.{list_any};
-ghost use Rattle.cpa_reached.specs.Members.{is_in, Ascend};
+ghost use Rattle.cpa_model.specs.Ascending.{AreAscending};
+ghost use Rattle.cpa_reached.specs.Members.{is_in};
 ghost use Rattle.cpa_reached.specs.Entries.{IsLive, waiting_numbers};
 ghost use Rattle.cpa_reached.specs.Removal.{IsBelow, is_opened, left, without, RemovesBelow};
 ghost use Rattle.cpa_reached.specs.Kept.{IsTree, waits_after, without_links};
@@ -47,7 +48,7 @@ fn below(
 ) -> Result<Vec<u32>, AllocError>
     requires tree { IsTree entries.now links.now }
     requires pivot { IsLive entries.now pivot }
-    ensures ascend { IfOk result (λ gone. Ascend gone.items) }
+    ensures ascend { IfOk result (λ gone. AreAscending gone.items) }
     ensures all { IfOk result (λ gone. (n : ℕ) → IsBelow entries.now pivot n
         → is_in n gone.items ≡ true) }
     ensures only { IfOk result (λ gone. (n : ℕ) → is_in n gone.items ≡ true
@@ -64,7 +65,7 @@ fn below(
 
 /// Whether the number is one of these, by halving.
 fn is_gone(gone: &[u32], number: u32) -> bool
-    requires { Ascend gone.now }
+    requires { AreAscending gone.now }
     ensures { result ≡ is_in number gone.now }
 {
     gone.binary_search(&number).is_ok()
@@ -72,7 +73,7 @@ fn is_gone(gone: &[u32], number: u32) -> bool
 
 /// Whether one of the uses is among those that go.
 fn uses_gone(uses: &[u32], gone: &[u32]) -> bool
-    requires { Ascend gone.now }
+    requires { AreAscending gone.now }
     ensures { result ≡ list_any (λ n. is_in n gone.now) uses.now }
 {
     uses.iter().any(|used| is_gone(gone, *used))
@@ -80,7 +81,7 @@ fn uses_gone(uses: &[u32], gone: &[u32]) -> bool
 
 /// Whether a kept entry waits again: it is the pivot, or it used an entry that goes.
 fn is_opened(entry: &Entry, gone: &[u32], pivot: u32) -> bool
-    requires { Ascend gone.now }
+    requires { AreAscending gone.now }
     ensures { result ≡ is_opened gone.now pivot entry.now }
 {
     entry.number == pivot || uses_gone(entry.uses.as_slice(), gone)
@@ -88,7 +89,7 @@ fn is_opened(entry: &Entry, gone: &[u32], pivot: u32) -> bool
 
 /// Whether the entry stays and waits: it waited before, or it waits again.
 fn waits_after(entry: &Entry, gone: &[u32], pivot: u32) -> bool
-    requires { Ascend gone.now }
+    requires { AreAscending gone.now }
     ensures { result ≡ waits_after gone.now pivot entry.now }
 {
     !is_gone(gone, entry.number) && (is_opened(entry, gone, pivot) || entry.waiting)
@@ -101,7 +102,7 @@ fn waiting_after(
     gone: &[u32],
     pivot: u32,
 ) -> Result<VecDeque<u32>, AllocError>
-    requires { Ascend gone.now }
+    requires { AreAscending gone.now }
     ensures { IfOk result (λ waiting. waiting.items ≡
         waiting_numbers (map (left gone.now pivot) (without gone.now entries.now))) }
 {
@@ -116,7 +117,7 @@ fn waiting_after(
 
 /// The entries that go are taken out, and the others keep their order.
 fn drop_entries(entries: &mut Vec<Entry>, gone: &[u32])
-    requires { Ascend gone.now }
+    requires { AreAscending gone.now }
     ensures { entries.new.items ≡ without gone.now entries.old.items }
 {
     entries.retain(|entry| !is_gone(gone, entry.number));
@@ -124,7 +125,7 @@ fn drop_entries(entries: &mut Vec<Entry>, gone: &[u32])
 
 /// So is what is kept of them.
 fn drop_links(links: &mut Vec<Link>, gone: &[u32])
-    requires { Ascend gone.now }
+    requires { AreAscending gone.now }
     ensures { links.new.items ≡ without_links gone.now links.old.items }
 {
     links.retain(|link| !is_gone(gone, link.number));
@@ -132,7 +133,7 @@ fn drop_links(links: &mut Vec<Link>, gone: &[u32])
 
 /// What becomes of a kept entry. It takes no memory.
 fn leave(entry: &mut Entry, alloc: Global, gone: &[u32], pivot: u32)
-    requires { Ascend gone.now }
+    requires { AreAscending gone.now }
     ensures { entry.new ≡ left gone.now pivot entry.old }
 {
     if is_opened(entry, gone, pivot) {
@@ -143,7 +144,7 @@ fn leave(entry: &mut Entry, alloc: Global, gone: &[u32], pivot: u32)
 
 /// What becomes of all kept entries. It takes no memory.
 fn leave_all(entries: &mut Vec<Entry>, alloc: Global, gone: &[u32], pivot: u32)
-    requires { Ascend gone.now }
+    requires { AreAscending gone.now }
     ensures { entries.new.items ≡ map (left gone.now pivot) entries.old.items }
 {
     for place in 0..entries.len() {

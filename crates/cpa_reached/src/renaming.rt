@@ -3,7 +3,7 @@
 
 ghost use Rattle.std.specs.Prelude.{◌≡◌, ℕ, ◌<◌, ◌++◌, Some, length, map, slice_get};
 ghost use Rattle.std.specs.Prelude.{vec_capacity, vec_len};
-ghost use Rattle.cpa_reached.specs.Members.{Ascend};
+ghost use Rattle.cpa_model.specs.Ascending.{AreAscending};
 ghost use Rattle.cpa_reached.specs.Entries.{numbers};
 ghost use Rattle.cpa_reached.specs.Calls.{at_number, rename, rename_parent, renamed, replacing};
 ghost use Rattle.cpa_reached.specs.Calls.{others, those};
@@ -57,7 +57,7 @@ fn rename_in(entry: &mut Entry, alloc: Global, old: u32, next: u32)
 
 /// So does the entry of this number, where it is there.
 fn rename_at(entries: &mut Vec<Entry>, alloc: Global, namer: u32, old: u32, next: u32)
-    requires { Ascend (numbers entries.old.items) }
+    requires { AreAscending (numbers entries.old.items) }
     ensures { entries.new.items ≡ at_number namer (renamed old next) entries.old.items }
 {
     match place_of(entries, namer) {
@@ -74,7 +74,7 @@ pub(crate) fn rename_among(
     old: u32,
     next: u32,
 )
-    requires ascend { Ascend (numbers entries.old.items) }
+    requires ascend { AreAscending (numbers entries.old.items) }
     requires apart { old < next }
     ensures { entries.new.items ≡ map (renamed_among namers.now old next) entries.old.items }
 {
@@ -91,7 +91,7 @@ pub(crate) fn succeed(
     number: u32,
     elems: Vec<Elem>,
 )
-    requires ascend { Ascend (numbers entries.old.items) }
+    requires ascend { AreAscending (numbers entries.old.items) }
     requires within { place < length entries.old.items }
     requires room { vec_len entries.old < vec_capacity entries.old }
     ensures { (n : ℕ) → slice_get (numbers entries.old.items) place ≡ Some n
@@ -111,7 +111,7 @@ pub(crate) fn succeed(
 
 /// So does what is kept of it.
 pub(crate) fn renumber(links: &mut Vec<Link>, place: usize, number: u32)
-    requires ascend { Ascend (link_numbers links.old.items) }
+    requires ascend { AreAscending (link_numbers links.old.items) }
     requires within { place < length links.old.items }
     requires room { vec_len links.old < vec_capacity links.old }
     ensures { (n : ℕ) → slice_get (link_numbers links.old.items) place ≡ Some n

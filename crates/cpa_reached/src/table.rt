@@ -6,7 +6,8 @@ ghost use Rattle.std.specs.Prelude.{vec_capacity, IfOk, OnOk, OnErr, IfSome, IfN
 ghost use Rattle.std.specs.VecDeque.{deque_len, deque_capacity};
 ghost use Rattle.std.specs.List.{AllByRecursion};
 ghost use Rattle.cpa_iface.specs.declared.entries.Entry.{Entry as AnEntry};
-ghost use Rattle.cpa_reached.specs.Members.{IsIn, Ascend};
+ghost use Rattle.cpa_model.specs.Ascending.{AreAscending};
+ghost use Rattle.cpa_reached.specs.Members.{IsIn};
 ghost use Rattle.cpa_reached.specs.Entries.{IsLive, ComesFirst, IsNext, waiting_numbers};
 ghost use Rattle.cpa_reached.specs.Calls.{at_number, fresh, rests, with_precisions, gains};
 ghost use Rattle.cpa_reached.specs.Calls.{added_entries, replaced_entries};
@@ -50,7 +51,7 @@ fn next_number(next: u64) -> Result<u32, AllocError>
 
 /// Takes the first number of the order out of ascending ones.
 fn pop(waiting: &mut VecDeque<u32>, order: Order) -> Option<u32>
-    requires { Ascend waiting.old.items }
+    requires { AreAscending waiting.old.items }
     ensures none { IfNone result (waiting.old.items ≡ []) }
     ensures waits { IfSome result (λ n. IsIn n waiting.old.items) }
     ensures first { IfSome result (λ n. AllByRecursion (ComesFirst order n) waiting.old.items) }

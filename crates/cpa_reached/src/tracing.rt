@@ -3,7 +3,8 @@
 
 ghost use Rattle.std.specs.Prelude.{◌≡◌, Some, IfOk};
 ghost use Rattle.cpa_iface.specs.declared.entries.Entry.{Entry as AnEntry};
-ghost use Rattle.cpa_reached.specs.Members.{IsIn, Ascend};
+ghost use Rattle.cpa_model.specs.Ascending.{AreAscending};
+ghost use Rattle.cpa_reached.specs.Members.{IsIn};
 ghost use Rattle.cpa_reached.specs.Entries.{numbers, IsLive};
 ghost use Rattle.cpa_reached.specs.Kept.{IsTree, HasParent};
 ghost use Rattle.cpa_reached.specs.Paths.{IsPathTo};
@@ -15,7 +16,7 @@ use std::alloc::{AllocError, Global};
 
 /// The parent of the entry of this number, which has one, with the edge from it.
 pub(crate) fn parent(entries: &[Entry], number: u32) -> (u32, u32)
-    requires ascend { Ascend (numbers entries.now) }
+    requires ascend { AreAscending (numbers entries.now) }
     requires parent { HasParent entries.now number }
     ensures { (e : AnEntry) → IsIn e entries.now → e.number ≡ number → e.parent ≡ Some result }
 {

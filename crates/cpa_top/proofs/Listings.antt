@@ -4,7 +4,7 @@ use Rattle.std.proofs.Common.{ap, ◌∙◌, arith, add-zero}
 use Rattle.std.specs.List.{AllByRecursion, Contains}
 use Rattle.cpa_model.specs.declared.automaton.Cfa.{Cfa}
 use Rattle.cpa_iface.specs.Meanings.{AreShaped}
-use Rattle.cpa_model.specs.Automata.{AreAscending}
+use Rattle.cpa_model.specs.Ascending.{AreAscending}
 use Rattle.cpa_model.specs.declared.facts.Elem.{Elem}
 use Rattle.cpa_iface.specs.Pins.{pin}
 use Rattle.cpa_top.specs.declared.report.Listed.{Listed}

@@ -7,7 +7,8 @@ use Rattle.c_lexer.specs.declared.fault.TextFault.{TextFault}
 use Rattle.cpa_model.specs.declared.program.Program.{Program}
 use Rattle.cpa_model.specs.declared.automaton.Cfa.{Cfa}
 use Rattle.cpa_model.specs.Programs.{IsWellFormed}
-use Rattle.cpa_model.specs.Automata.{AreAscending, IsAutomatonOf}
+use Rattle.cpa_model.specs.Ascending.{AreAscending}
+use Rattle.cpa_model.specs.Automata.{IsAutomatonOf}
 use Rattle.cpa_model.specs.Covers.{IsCover, IsSafe}
 use Rattle.cpa_iface.specs.declared.analysis.Part.TheVariants as part
 use Rattle.cpa_iface.specs.Meanings.{Meaning, AreShaped}

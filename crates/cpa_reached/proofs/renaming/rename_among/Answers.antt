@@ -1,7 +1,7 @@
 use Rattle.std.proofs.Common.{ℕ, List, [], map, take, get_or, sym, ap, ◌∙◌}
 use Rattle.std.proofs.Common.{subst}
 use Rattle.std.proofs.lemmas.List.{take_more}
-use Rattle.cpa_reached.specs.Members.{Ascend}
+use Rattle.cpa_model.specs.Ascending.{AreAscending}
 use Rattle.cpa_reached.specs.MemberLaws.{numbers_map}
 use Rattle.cpa_reached.specs.Kept.{renamed_among}
 use Rattle.cpa_reached.proofs.Renamed.{among_none, among_more, among_number}
@@ -14,7 +14,7 @@ pub rename_at-requires : goal.rename_at-requires
 rename_at-requires c =
     let seen = take c.loop-namer.namer-index c.args.namers.now in
     rw c.loop-namer.invariant
-    (subst (λ (ns : List ℕ). Ascend ns)
+    (subst (λ (ns : List ℕ). AreAscending ns)
     (sym (numbers_map (renamed_among seen c.args.old c.args.next) c.args.entries.now.items
     (among_number seen c.args.old c.args.next)))
     c.requires.ascend)
