@@ -1,18 +1,17 @@
 -- The analysis of call stacks (this project's own).
-use Rattle.std.specs.Prelude.{ℕ, ◌==◌, Bool, true, List, [], ◌∷◌, ◌++◌, Option, None, Some}
-use Rattle.std.specs.Prelude.{option_map, codes, if◌then◌else◌}
+use Rattle.std.specs.Prelude.{ℕ, Bool, true, List, [], ◌∷◌, Option, None, Some, codes}
+use Rattle.std.specs.Prelude.{if◌then◌else◌}
 use Rattle.std.specs.List.{list_all}
 use Rattle.cpa_model.specs.declared.facts.Fact.{Fact}
 use Rattle.cpa_model.specs.declared.facts.Fact.TheVariants.{Stack}
 use Rattle.cpa_model.specs.declared.facts.Elem.{Elem}
 use Rattle.cpa_model.specs.declared.automaton.Act.{Act}
-use Rattle.cpa_model.specs.declared.automaton.Act.TheVariants.{Call, Return}
 use Rattle.cpa_model.specs.declared.automaton.Edge.{Edge}
-use Rattle.cpa_model.specs.Standing.{same_sites, has_facts}
-use Rattle.cpa_model.specs.StandingLaws.{has_facts-within, has_facts-same}
+use Rattle.cpa_model.specs.Stacks.{stack_after}
+use Rattle.cpa_model.specs.Standing.{same_sites}
 use Rattle.cpa_iface.specs.declared.analysis.Part.TheVariants as part
 use Rattle.cpa_iface.specs.Meanings.{Meaning}
-use Rattle.cpa_iface.specs.Common.{fact_count, no_suggestion}
+use Rattle.cpa_iface.specs.PlainMeanings.{PlainMeaning, meaning_of}
 
 -- the element of one fact, that this is the stack
 abbrev pub with_stack : List ℕ → Elem
@@ -33,18 +32,6 @@ abbrev pub names_stack : List ℕ → Fact → Bool
 names_stack sites (Stack own) = same_sites own sites
 names_stack sites fact = true
 
--- the stack without its top, where this site is the top
-abbrev pub popped : ℕ → List ℕ → Option (List ℕ)
-popped site [] = None
-popped site (top ∷ []) = if top == site then Some [] else None
-popped site (s ∷ next ∷ sites) = option_map (λ rest. s ∷ rest) (popped site (next ∷ sites))
-
--- the stack after the act: a call pushes its site, and a return pops it, or cannot be
-abbrev pub stack_after : Act → List ℕ → Option (List ℕ)
-stack_after (Call site) sites = Some (sites ++ site ∷ [])
-stack_after (Return site) sites = popped site sites
-stack_after act sites = Some sites
-
 -- the element of a stack that is there
 abbrev pub elem_of : Option (List ℕ) → List Elem
 elem_of None = []
@@ -61,15 +48,15 @@ stacks_after act facts (Some sites) =
 abbrev pub next_stacks : Elem → Edge → List Elem
 next_stacks e g = stacks_after g.act e.facts (first_stack e.facts)
 
--- It is exact on the stack, covers by the letter, and asks for nothing.
-abbrev pub callstack : Meaning
-callstack = record {
+-- it begins with the empty stack, and is exact on the stack
+abbrev pub stacks : PlainMeaning
+stacks = record {
   name = codes "callstack";
   part = part.Stack;
-  cover = has_facts;
-  height = λ cfa p. 1;
-  rank = fact_count;
-  suggestion = λ cfa path. Some no_suggestion;
-  within = has_facts-within;
-  same = has_facts-same;
+  beside_store = tt;
+  initial = λ cfa. with_stack [];
+  next = next_stacks;
 }
+
+abbrev pub callstack : Meaning
+callstack = meaning_of stacks
