@@ -9,14 +9,14 @@ use Rattle.cpa_model.specs.declared.automaton.Cfa.{Cfa}
 use Rattle.cpa_model.specs.declared.states.State.{State}
 use Rattle.cpa_model.specs.declared.automaton.Act.{Act}
 use Rattle.cpa_model.specs.Programs.{IsWellFormed, point_count}
-use Rattle.cpa_model.specs.Steps.{Moves}
+use Rattle.cpa_model.specs.Steps.{Moves, GoesOn}
 use Rattle.cpa_model.specs.States.{IsState, initial_of}
 use Rattle.cpa_model.specs.lemmas.Lists.{in_list}
 use Rattle.cpa_model.specs.Automata.{IsAutomatonOf, IsStateOf, edge_of}
 use Rattle.cpa_interp.specs.declared.machine.Machine.{Machine}
 use Rattle.cpa_interp.specs.declared.outcome.Outcome.{Outcome}
 use Rattle.cpa_interp.specs.declared.outcome.Outcome.TheVariants as outcome
-use Rattle.cpa_interp.specs.Replays.{Stage, Arrives, ComesTo, GoesOn, IsHeld, Replay}
+use Rattle.cpa_interp.specs.Replays.{Stage, Arrives, ComesTo, IsHeld, Replay}
 use Rattle.cpa_interp.specs.Turns.{state_of, stage_of, Leave, Turns, IsLast}
 use Rattle.cpa_interp.specs.lemmas.Going.{goes_error, goes_end, goes_on, moves_go_on}
 use Rattle.cpa_interp.specs.lemmas.Outcomes.{arrives_first, arrives_next, first_stage}

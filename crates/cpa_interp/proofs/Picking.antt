@@ -18,7 +18,7 @@ use Rattle.cpa_model.specs.declared.automaton.Act.{Act}
 use Rattle.cpa_model.specs.declared.automaton.Act.TheVariants as act
 use Rattle.cpa_model.specs.declared.automaton.Edge.{Edge}
 use Rattle.cpa_model.specs.declared.automaton.Cfa.{Cfa}
-use Rattle.cpa_model.specs.Expressions.{HasTruth}
+use Rattle.cpa_expr.specs.Values.{HasTruth}
 use Rattle.cpa_model.specs.Steps.{Moves, MovesAt, at_statement, at_exit}
 use Rattle.cpa_model.specs.Automata.{rank_of, Precedes, AreOrdered, IsAutomatonOf}
 use Rattle.cpa_interp.specs.Turns.{Leave, AreAlike, AreWaysOf, IsOpen, IsWay}
@@ -113,7 +113,7 @@ sense_of_rank test other false false e = refl
 
 -- an edge with the rank of the test's truth is the way
 pub way_ranked : (edges : List Edge) (test : Expr) → AreWaysOf test edges → (holds : Bool)
-    (values : List ℤ) (rank : ℕ) → HasTruth test holds values
+    (values : List ℤ) (rank : ℕ) → HasTruth values test holds
     → rank ≡ rank_of (act.Assume test holds) → (e : Edge) → Contains edges e
     → rank_of e.act ≡ rank → IsWay test e.act values
 way_ranked edges test ways holds values rank truth is e here same =
@@ -124,7 +124,7 @@ way_ranked edges test ways holds values rank truth is e here same =
 
 -- and the way has this rank
 pub ranked_way : (test : Expr) (holds : Bool) (values : List ℤ) (rank : ℕ)
-    → HasTruth test holds values → rank ≡ rank_of (act.Assume test holds) → (e : Edge)
+    → HasTruth values test holds → rank ≡ rank_of (act.Assume test holds) → (e : Edge)
     → IsWay test e.act values → rank_of e.act ≡ rank
 ranked_way test holds values rank truth is e way =
     let sense = truth_one (value_of test values) way.0 holds way.2 truth in

@@ -1,7 +1,8 @@
 -- What a turn makes of the machine is a step of the program, or why there is none.
 use Rattle.std.proofs.Common.{◌≡◌, ℕ, zero, suc, ◌+◌, ℤ, pos, List, [], ◌∷◌, ◌++◌, Some}
 use Rattle.std.proofs.Common.{None, length, take, drop, get_or, slice_get, IsSomeAnd, refl, sym}
-use Rattle.std.proofs.Common.{ap, ◌∙◌, subst, arith}
+use Rattle.std.proofs.Common.{ap, ◌∙◌, subst, arith, Bool, true, false, ⊎_elim}
+use Rattle.std.specs.Prelude.{◌⊎◌, if◌then◌else◌}
 use Rattle.std.specs.List.{Contains}
 use Rattle.std.proofs.lemmas.List.{append-nil, drop_more, take_more, length-take-le}
 use Rattle.std.proofs.lemmas.Option.{slice_get_within, get_or_from_slice_get}
@@ -18,9 +19,11 @@ use Rattle.cpa_model.specs.declared.automaton.Cfa.{Cfa}
 use Rattle.cpa_model.specs.declared.states.State.{State}
 use Rattle.cpa_model.specs.Expressions.{types_of}
 use Rattle.cpa_model.specs.Programs.{IsStmt, IsNumbered, point_count}
+use Rattle.cpa_model.specs.Stacks.{stack_after}
 use Rattle.cpa_model.specs.States.{IsState}
 use Rattle.cpa_model.specs.Steps.{Moves, StepsApart, StepsStack, StepsStore, StepsKeepStates}
 use Rattle.cpa_model.specs.Automata.{IsAutomatonOf, IsStateOf, edge_of}
+use Rattle.cpa_model.specs.lemmas.Stacks.{stack_after-means, stack_after-whole}
 use Rattle.cpa_interp.specs.declared.machine.Machine.{Machine}
 use Rattle.cpa_interp.specs.declared.outcome.Outcome.{Outcome}
 use Rattle.cpa_interp.specs.declared.outcome.Outcome.TheVariants as outcome
@@ -195,3 +198,37 @@ pub move_of : (P : Program) (cfa : Cfa) → IsAutomatonOf P cfa → (point : ℕ
 move_of P cfa A point edges leave edge here =
     let at = (leave.each edge).0 here in
     subst (λ (p : ℕ). Moves P p edge.act edge.to) at.1 (A.moves edge at.0)
+
+-- ---- a call or a return
+
+stack_left : (a : Act) (old new next : List ℕ) (done : Bool) → StepsStack a old next
+    → (if done then Some new else None) ≡ stack_after a old → StepsStack a old new
+stack_left a old new next true steps is = stack_after-means a old new (sym is)
+stack_left a old new next false steps is =
+    let left = stack_after-whole a old next steps in
+    absurd (cc (is, left))
+
+-- what a call and a return do: they change the stack, and nothing else
+abbrev DoesToStack : List Cell → List ℤ → List ℕ → List ℕ → List ℤ → ℕ → Act → Type 0
+DoesToStack cells inputs old new values taken a =
+    StepsStack a old new × StepsStore cells a values values
+    × Takes a inputs values values taken taken
+
+-- and each that is open can do it
+pub stack_performed : (cells : List Cell) (a : Act) (inputs : List ℤ) (old new : List ℕ)
+    (values : List ℤ) (taken : ℕ) (done : Bool)
+    → ((site : ℕ) × (a ≡ act.Call site)) ⊎ ((site : ℕ) × (a ≡ act.Return site))
+    → IsOpen a old values → (if done then Some new else None) ≡ stack_after a old
+    → DoesToStack cells inputs old new values taken a
+stack_performed cells a inputs old new values taken done which opens is =
+    ⊎_elim
+    (λ (site, at).
+    let left = subst (λ (x : Act). (if done then Some new else None) ≡ stack_after x old) at is in
+    subst (DoesToStack cells inputs old new values taken) (sym at)
+    (stack_left (act.Call site) old new (old ++ site ∷ []) done refl left, refl, refl))
+    (λ (site, at).
+    let left = subst (λ (x : Act). (if done then Some new else None) ≡ stack_after x old) at is in
+    let top = subst (λ (x : Act). IsOpen x old values) at opens in
+    subst (DoesToStack cells inputs old new values taken) (sym at)
+    (stack_left (act.Return site) old new top.0 done top.1 left, refl, refl))
+    which

@@ -2,15 +2,15 @@
 -- of it (executions of the abstract machine, C11 5.1.2.3; the outcomes and their order are this
 -- project's own).
 use Rattle.std.specs.Prelude.{◌≡◌, ℕ, ◌<◌, ◌≤◌, ℤ, pos, List, [], ◌∷◌, ◌++◌, Option, Some}
-use Rattle.std.specs.Prelude.{length, slice_get, slice_index_or, ◌⊎◌, IsSomeAnd}
+use Rattle.std.specs.Prelude.{length, slice_get, slice_index_or, IsSomeAnd}
 use Rattle.cpa_ints.specs.Integers.{IsInRange}
 use Rattle.cpa_model.specs.declared.program.Stmt.{Stmt}
 use Rattle.cpa_model.specs.declared.program.Stmt.TheVariants as stmt
 use Rattle.cpa_model.specs.declared.program.Program.{Program}
 use Rattle.cpa_model.specs.declared.states.State.{State}
-use Rattle.cpa_model.specs.Programs.{IsStmt, exit_of}
+use Rattle.cpa_model.specs.Programs.{IsStmt}
 use Rattle.cpa_model.specs.States.{initial_of}
-use Rattle.cpa_model.specs.Steps.{Step, IsExecution, IsError}
+use Rattle.cpa_model.specs.Steps.{Step, IsExecution, IsError, IsEnd, GoesOn}
 use Rattle.cpa_interp.specs.declared.outcome.Outcome.{Outcome}
 use Rattle.cpa_interp.specs.declared.outcome.Outcome.TheVariants as outcome
 
@@ -32,15 +32,6 @@ inputs_of P s (t ∷ states) = input_of P s t ++ inputs_of P t states
 abbrev pub last_of : State → List State → State
 last_of s [] = s
 last_of s (t ∷ states) = last_of t states
-
--- control is at a statement that ends the program, or at the exit of main (C11 5.1.2.2.3, 7.22.4)
-abbrev pub IsEnd : Program → ℕ → Type 0
-IsEnd P p = IsStmt P p stmt.Stop ⊎ (p ≡ exit_of P P.main)
-
--- the program has neither called the error nor ended
-pub record GoesOn (P : Program) (p : ℕ) : Type 0 where
-  pub no_error : IsError P p → ⊥
-  pub no_end : IsEnd P p → ⊥
 
 -- the number is a value of the cell's type
 abbrev pub IsInputFor : Program → ℕ → ℤ → Type 0

@@ -5,6 +5,7 @@ use Rattle.std.specs.Prelude.{slice_get, slice_set, take, drop, ◌↔◌, ⊤, 
 use Rattle.std.specs.List.{Contains}
 use Rattle.cpa_ints.specs.Integers.{IsInRange}
 use Rattle.cpa_expr.specs.declared.tree.Expr.{Expr}
+use Rattle.cpa_expr.specs.Values.{HasTruth}
 use Rattle.cpa_model.specs.declared.program.Cell.{Cell}
 use Rattle.cpa_model.specs.declared.program.Program.{Program}
 use Rattle.cpa_model.specs.declared.automaton.Act.{Act}
@@ -12,7 +13,6 @@ use Rattle.cpa_model.specs.declared.automaton.Act.TheVariants as act
 use Rattle.cpa_model.specs.declared.automaton.Edge.{Edge}
 use Rattle.cpa_model.specs.declared.automaton.Cfa.{Cfa}
 use Rattle.cpa_model.specs.declared.states.State.{State}
-use Rattle.cpa_model.specs.Expressions.{HasTruth}
 use Rattle.cpa_model.specs.Steps.{Step, StepsStack, StepsStore}
 use Rattle.cpa_model.specs.Automata.{AreOrdered}
 use Rattle.cpa_interp.specs.declared.machine.Machine.{Machine}
@@ -49,7 +49,7 @@ pub record AreAlike (edges : List Edge) : Type 0 where
 
 -- the test holds as the edge says; the call to return to is on top
 abbrev pub IsOpen : Act → List ℕ → List ℤ → Type 0
-IsOpen (act.Assume test holds) calls values = HasTruth test holds values
+IsOpen (act.Assume test holds) calls values = HasTruth values test holds
 IsOpen (act.Return site) calls values = (below : List ℕ) × (calls ≡ below ++ site ∷ [])
 IsOpen _ calls values = ⊤
 
@@ -60,7 +60,7 @@ AreWaysOf test edges =
 
 -- the act is the way from the test that its truth opens
 abbrev pub IsWay : Expr → Act → List ℤ → Type 0
-IsWay test a values = (holds : Bool) × (a ≡ act.Assume test holds) × HasTruth test holds values
+IsWay test a values = (holds : Bool) × (a ≡ act.Assume test holds) × HasTruth values test holds
 
 -- what an act takes of the inputs from this place on, where it leaves these values
 abbrev pub Takes : Act → List ℤ → List ℤ → List ℤ → ℕ → ℕ → Type 0

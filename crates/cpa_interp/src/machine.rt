@@ -10,18 +10,17 @@ ghost use Rattle.cpa_model.specs.Automata.{IsAutomaton, IsAutomatonOf, IsStateOf
 ghost use Rattle.cpa_model.specs.Automata.{rank_of};
 ghost use Rattle.cpa_model.specs.Programs.{IsWellFormed};
 ghost use Rattle.cpa_model.specs.Steps.{Assigns};
-ghost use Rattle.cpa_expr.specs.Values.{value_of};
+ghost use Rattle.cpa_expr.specs.Values.{HasTruth, value_of};
 ghost use Rattle.cpa_ints.specs.Integers.{IsInRange};
 ghost use Rattle.cpa_interp.specs.Turns.{AreAlike, AreWaysOf, IsOpen, IsWay, Leave, Performs};
 ghost use Rattle.cpa_interp.specs.Turns.{Turns, state_of};
-ghost use Rattle.cpa_model.specs.Expressions.{HasTruth};
 ghost use Rattle.std.specs.List.Sorted.{IsNonDecreasingBy};
 
 use crate::edges::with_rank;
 use crate::outcome::Outcome;
-use cpa_model::{Act, Cell, Cfa, Edge, Expr, Seq, Store, has_truth, steps_keep_states, value};
+use crate::stores::{accepts, assign, put, starts};
+use cpa_model::{Act, Cell, Cfa, Edge, Expr, Seq, Store, has_truth, step_stack, steps_keep_states};
 use std::alloc::{AllocError, Global};
-use std::mem;
 
 /// A state of an execution, and how many inputs it has taken.
 #[derive(Drop)]
@@ -109,6 +108,10 @@ impl Machine {
     {
         match act {
             Act::Skip | Act::Assume { .. } => Ok(None),
+            Act::Call { .. } | Act::Return { .. } => {
+                step_stack(act, &mut self.calls)?;
+                Ok(None)
+            }
             Act::Assign {
                 base,
                 len,
@@ -122,14 +125,6 @@ impl Machine {
                 }
             }
             Act::Input { cell } => Ok(self.input(alloc, cells, *cell, inputs)),
-            Act::Call { site } => {
-                self.calls.push(*site)?;
-                Ok(None)
-            }
-            Act::Return { .. } => {
-                self.calls.pop();
-                Ok(None)
-            }
         }
     }
 
@@ -174,9 +169,9 @@ fn way_of<'e>(edges: &'e [Edge], test: &Expr, store: &Store) -> Option<&'e Edge>
 
 /// The rank of the way from the test that its truth opens; none where the test traps.
 fn way_rank(test: &Expr, store: &Store) -> Option<u32>
-    ensures some { IfSome result (λ rank. (holds : Bool) × HasTruth test.now holds store.now.values
+    ensures some { IfSome result (λ rank. (holds : Bool) × HasTruth store.now.values test.now holds
         × (rank ≡ rank_of (Act.Assume test.now holds))) }
-    ensures none { IfNone result ((holds : Bool) → HasTruth test.now holds store.now.values → ⊥) }
+    ensures none { IfNone result ((holds : Bool) → HasTruth store.now.values test.now holds → ⊥) }
 {
     if has_truth(test, true, store) {
         Some(0)
@@ -185,63 +180,4 @@ fn way_rank(test: &Expr, store: &Store) -> Option<u32>
     } else {
         None
     }
-}
-
-/// The values of the cells in the initial state.
-fn starts(alloc: Global, cells: &[Cell]) -> Result<Vec<i128>, AllocError>
-    ensures { IfOk result (λ values. values.items ≡ map (λ cell. cell.start) cells.now) }
-{
-    cells.iter().map(|cell| cell.start).collect(alloc)
-}
-
-/// Whether the number is a value of the cell's type.
-fn accepts(cells: &[Cell], cell: u32, number: i128) -> bool
-    ensures { IsTrue result ↔ IsSomeAnd (slice_get cells.now cell) (λ c. IsInRange c.ty number) }
-{
-    match cells.get(cell as usize) {
-        Some(found) => found.ty.contains(number),
-        None => false,
-    }
-}
-
-/// Writes the value to the cell that the index names, unless one of them traps or the index lies
-/// outside the array.
-fn assign(
-    alloc: Global,
-    store: &mut Store,
-    base: u32,
-    len: u32,
-    index: &Expr,
-    written: &Expr,
-) -> bool
-    ensures done { IsTrue result → Assigns base len (value_of index.now store.old.values)
-        (value_of written.now store.old.values) store.old.values store.new.values }
-    ensures never { result ≡ false → (new : List ℤ) → Assigns base len
-        (value_of index.now store.old.values) (value_of written.now store.old.values)
-        store.old.values new → ⊥ }
-{
-    let Some(place) = value(index, store) else {
-        return false;
-    };
-    let Some(number) = value(written, store) else {
-        return false;
-    };
-    if 0 <= place && place < len as i128 {
-        put(alloc, store, base as usize + place as usize, number);
-        true
-    } else {
-        false
-    }
-}
-
-/// This value for the cell, if it is there. The list is taken out of the store and put back, since
-/// a list lends out no item to be changed; that copies nothing and takes no memory.
-fn put(alloc: Global, store: &mut Store, cell: usize, number: i128)
-    ensures { store.new.values ≡ slice_set store.old.values cell number }
-{
-    let mut values = mem::replace(&mut store.values, Seq::new(alloc)).into_vec();
-    if cell < values.len() {
-        values[cell] = number;
-    }
-    store.values = Seq::from_vec(values);
 }

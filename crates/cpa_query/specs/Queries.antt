@@ -1,11 +1,11 @@
 -- Queries, and their models: stores on which the wanted expressions evaluate without a trap and
 -- have their wanted truth (this project's own; values by C11 6.5).
-use Rattle.std.specs.Prelude.{◌≡◌, ℕ, ℤ, ◌≤◌, Bool, false, List, length, map, IsSomeAnd}
+use Rattle.std.specs.Prelude.{ℕ, ℤ, ◌≤◌, Bool, false, List, length, map}
 use Rattle.std.specs.List.{AllByRecursion, list_any, range_with_len, slice_index_or}
 use Rattle.cpa_ints.specs.declared.integers.IntType.{IntType}
 use Rattle.cpa_expr.specs.declared.tree.Expr.{Expr}
 use Rattle.cpa_expr.specs.Shape.{height, IsTyped}
-use Rattle.cpa_expr.specs.Values.{value_of, is_nonzero}
+use Rattle.cpa_expr.specs.Values.{HasTruth}
 use Rattle.cpa_expr.specs.Cells.{may_read, AreValues}
 use Rattle.cpa_query.specs.declared.query.TheConstants.{MAX_HEIGHT}
 use Rattle.cpa_query.specs.declared.query.Query.{Query}
@@ -18,10 +18,6 @@ pub record IsAsked (cells : List IntType) (e : Expr) : Type 0 where
 -- every wanted expression is well typed over the cells, and not too high
 abbrev pub IsQuery : Query → Type 0
 IsQuery q = AllByRecursion (λ wanted. IsAsked q.cells wanted.0) q.wanted
-
--- the expression has a value on the store, which is nonzero exactly where `holds` is true
-abbrev pub HasTruth : List ℤ → Expr → Bool → Type 0
-HasTruth values e holds = IsSomeAnd (value_of e values) (λ a. is_nonzero a ≡ holds)
 
 -- a value in range for each cell, on which each wanted expression has its wanted truth
 pub record IsModel (q : Query) (values : List ℤ) : Type 0 where

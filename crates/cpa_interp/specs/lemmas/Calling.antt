@@ -161,7 +161,8 @@ return_fits P W f site m old new top next (calls_top below call g at is inside u
       calls = subst (λ stack. Calls P stack g) same.0 up;
     }
 
-moves_fit : (P : Program) → IsWellFormed P → (p : ℕ) (a : Act) (q : ℕ) (old new : List ℕ)
+-- a move and the stack that it leaves fit again
+pub moves_fit : (P : Program) → IsWellFormed P → (p : ℕ) (a : Act) (q : ℕ) (old new : List ℕ)
     → Moves P p a q → StepsStack a old new → Fits P p old → Fits P q new
 moves_fit P W p a q old new (at_statement s is move) stack fits =
     let below = slice_get_within P.stmts p s is in

@@ -16,8 +16,9 @@ use Rattle.cpa_model.specs.Programs.{IsNumbered, point_count}
 use Rattle.cpa_model.specs.States.{IsState, state_at}
 use Rattle.cpa_model.specs.Steps.{Step, StepsApart, StepsStack, StepsStore, StepsKeepStates}
 use Rattle.cpa_model.specs.Steps.{Assigns}
+use Rattle.cpa_model.specs.lemmas.Stacks.{stack_one}
 use Rattle.cpa_interp.specs.Replays.{input_of}
-use Rattle.cpa_interp.specs.lemmas.Opening.{input_by, one_open, open_of, snoc_same, taken_by}
+use Rattle.cpa_interp.specs.lemmas.Opening.{input_by, one_open, open_of, taken_by}
 
 -- the parts of a step from a state are a step
 pub step_of : (P : Program) → StepsKeepStates P → (s t : State)
@@ -55,15 +56,6 @@ pub input_is : (cells : List Cell) (old new : List ℤ) (cell : ℕ) (v : ℤ)
 input_is cells old new cell v are here after =
     let at = ap (λ values. get_or values cell (pos 0)) after in
     ap (λ (n : ℤ). n ∷ []) (at ∙ set_there old cell v (value_there cells old cell v are here))
-
--- one stack after an act
-stack_one : (a : Act) (old xs ys : List ℕ) → StepsStack a old xs → StepsStack a old ys → xs ≡ ys
-stack_one act.Skip old xs ys x y = x ∙ sym y
-stack_one (act.Assign base len index value) old xs ys x y = x ∙ sym y
-stack_one (act.Assume test holds) old xs ys x y = x ∙ sym y
-stack_one (act.Input cell) old xs ys x y = x ∙ sym y
-stack_one (act.Call site) old xs ys x y = x ∙ sym y
-stack_one (act.Return site) old xs ys x y = (snoc_same xs ys site site (sym x ∙ y)).0
 
 -- one store after a write
 assigns_one : (base len : ℕ) (index value : Option ℤ) (old xs ys : List ℤ)

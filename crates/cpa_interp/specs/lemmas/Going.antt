@@ -10,10 +10,9 @@ use Rattle.cpa_model.specs.declared.program.Program.{Program}
 use Rattle.cpa_model.specs.declared.automaton.Act.{Act}
 use Rattle.cpa_model.specs.declared.automaton.Act.TheVariants as act
 use Rattle.cpa_model.specs.Programs.{IsStmt, IsWellFormed, exit_of}
-use Rattle.cpa_model.specs.Steps.{Moves, MovesAt, at_statement, at_exit, IsError}
+use Rattle.cpa_model.specs.Steps.{Moves, MovesAt, at_statement, at_exit, IsError, IsEnd, GoesOn}
 use Rattle.cpa_model.specs.lemmas.Trees.{some_next, some_function, loop_inside, loop_is}
 use Rattle.cpa_model.specs.lemmas.Trees.{in_function_inside}
-use Rattle.cpa_interp.specs.Replays.{IsEnd, GoesOn}
 use Rattle.cpa_interp.specs.lemmas.Opening.{moves_at}
 use Rattle.cpa_interp.specs.lemmas.Calling.{Calls, calls_none, calls_top, Fits}
 

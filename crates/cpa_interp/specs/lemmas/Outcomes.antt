@@ -12,7 +12,7 @@ use Rattle.cpa_ints.specs.declared.integers.IntType.{IntType}
 use Rattle.cpa_ints.specs.Integers.{IsInRange, least, greatest}
 use Rattle.cpa_ints.specs.lemmas.WrapLaws.{zero_within}
 use Rattle.cpa_expr.specs.declared.tree.Expr.{Expr}
-use Rattle.cpa_expr.specs.Values.{value_of, is_nonzero}
+use Rattle.cpa_expr.specs.Values.{value_of, is_nonzero, HasTruth}
 use Rattle.cpa_model.specs.declared.program.Cell.{Cell}
 use Rattle.cpa_model.specs.declared.program.Stmt.{Stmt}
 use Rattle.cpa_model.specs.declared.program.Stmt.TheVariants as stmt
@@ -20,16 +20,15 @@ use Rattle.cpa_model.specs.declared.program.Program.{Program}
 use Rattle.cpa_model.specs.declared.automaton.Act.{Act}
 use Rattle.cpa_model.specs.declared.automaton.Act.TheVariants as act
 use Rattle.cpa_model.specs.declared.states.State.{State}
-use Rattle.cpa_model.specs.Expressions.{HasTruth}
 use Rattle.cpa_model.specs.Programs.{IsStmt, IsNumbered, IsWellFormed, point_count}
 use Rattle.cpa_model.specs.States.{IsState, initial_of, state_at}
 use Rattle.cpa_model.specs.Steps.{Moves, MovesAt, at_statement, at_exit, Step, StepsApart}
 use Rattle.cpa_model.specs.Steps.{StepsStore, StepsKeepStates, BeginsInState, Assigns, IsChain}
-use Rattle.cpa_model.specs.Steps.{IsError, IsExecution, CallsError}
+use Rattle.cpa_model.specs.Steps.{IsError, IsEnd, GoesOn, IsExecution, CallsError}
 use Rattle.cpa_model.specs.lemmas.Trees.{some_next}
 use Rattle.cpa_interp.specs.declared.outcome.Outcome.{Outcome}
 use Rattle.cpa_interp.specs.declared.outcome.Outcome.TheVariants as outcome
-use Rattle.cpa_interp.specs.Replays.{input_left, input_of, inputs_of, last_of, IsEnd, GoesOn}
+use Rattle.cpa_interp.specs.Replays.{input_left, input_of, inputs_of, last_of}
 use Rattle.cpa_interp.specs.Replays.{IsInputFor, Stage, Arrives, IsHeld, ComesTo, Replay}
 use Rattle.cpa_interp.specs.Turns.{IsOpen}
 use Rattle.cpa_interp.specs.lemmas.Opening.{input_by, input_moves, moves_at, one_stmt, one_open}
@@ -497,7 +496,7 @@ try_test P keeps at is test holds q moves (Some v) has =
     let statement = test_statement P s.point test holds q moves in
     let way =
     way_of P s.point test statement.0 statement.1 statement.2 (is_nonzero v) in
-    let truth : HasTruth test (is_nonzero v) s.store.values =
+    let truth : HasTruth s.store.values test (is_nonzero v) =
     subst (λ (o : Option ℤ). IsSomeAnd o (λ n. is_nonzero n ≡ is_nonzero v)) (sym has) refl in
     plain_step P keeps at (state_at way.0 s.stack s.store.values)
     (record {
