@@ -17,7 +17,6 @@ use Rattle.cpa_model.specs.Automata.{IsAutomatonOf, IsStateOf, StepsAlong, EdgeS
 use Rattle.cpa_model.specs.Programs.{point_count}
 use Rattle.cpa_model.specs.States.{IsState, state_at, initial_of}
 use Rattle.cpa_model.specs.Steps.{Step, StepsApart, StepsStore, StepsKeepStates, IsChain, Moves}
-use Rattle.cpa_model.specs.Steps.{BeginsInState}
 use Rattle.cpa_model.specs.lemmas.Lists.{in_list}
 use Rattle.cpa_interp.specs.Replays.{Stage, inputs_of, last_of}
 use Rattle.cpa_interp.specs.lemmas.Opening.{input_by, taken_by}
@@ -25,7 +24,8 @@ use Rattle.cpa_interp.specs.lemmas.Choosing.{input_is}
 use Rattle.cpa_edgeform_rules.specs.Runs.{taken, Runs, StepsWith}
 use Rattle.cpa_edgeform_rules.specs.Stores.{steps_take_inputs}
 use Rattle.cpa_path.specs.Paths.{TakesEdges, IsRunAlong, HasNoRun, ReplaysAlong, ChainsFrom, Chains}
-use Rattle.cpa_path.specs.Paths.{act_of, acts_along, added_along, HasStores}
+use Rattle.cpa_path.specs.Paths.{added_along, HasStores}
+use Rattle.cpa_path_folds.specs.Along.{act_of, acts_along}
 
 -- ---- a run is an execution
 
@@ -202,23 +202,16 @@ runs_on P cfa of keeps (n ∷ ns) s inputs last is (g, next, at, from, stack, ch
 pub record IsStepped (P : Program) (cfa : Cfa) : Type 0 where
   pub of : IsAutomatonOf P cfa
   pub keeps : StepsKeepStates P
-  pub begins : BeginsInState P
+  pub state : IsStateOf cfa (initial_state cfa)
   pub first : initial_state cfa ≡ initial_of P
   pub steps : (s t : State) → EdgeStep cfa s t → Step P s t
-
--- the initial state is one of the automaton
-first_there : (P : Program) (cfa : Cfa) → IsStepped P cfa → IsStateOf cfa (initial_state cfa)
-first_there P cfa so =
-    states_back P cfa so.of (initial_state cfa)
-    (subst (IsState P.cells (point_count P)) (sym so.first) so.begins)
 
 pub stores_replay : (P : Program) (cfa : Cfa) → IsStepped P cfa → (path : List ℕ)
     (inputs last : List ℤ) → Chains cfa path → HasStores cfa path inputs last
     → ReplaysAlong P cfa path inputs (length path)
 stores_replay P cfa so path inputs last chains stores =
     let first = initial_state cfa in
-    let on = runs_on P cfa so.of so.keeps path first inputs last (first_there P cfa so) chains
-    stores in
+    let on = runs_on P cfa so.of so.keeps path first inputs last so.state chains stores in
     subst (λ (xs : List ℤ). ReplaysAlong P cfa path xs (length path)) on.inputs_are
     (run_replays P cfa so.of so.first so.steps path on.states
     (record { takes = on.takes; error = on.error }))

@@ -1,19 +1,19 @@
 -- One edge of a path without inputs, by its store: it leads on (`stores_on`), or no stores do
 -- (`stores_stop`).
 use Rattle.std.proofs.Common.{◌≡◌, ℕ, ℤ, List, [], ◌∷◌, ◌++◌, map, Bool, true, false, Option, Some}
-use Rattle.std.proofs.Common.{slice_get, refl, sym, ap, ◌∙◌, subst}
+use Rattle.std.proofs.Common.{◌+◌, pos, slice_get, slice_set, refl, sym, ap, ◌∙◌, subst}
+use Rattle.std.proofs.lemmas.Option.{same_Some}
 use Rattle.std.specs.List.{list_any}
 use Rattle.std.specs.Prelude.{◌↔◌, ◌||◌}
-use Rattle.cpa_expr.specs.Values.{value_of}
 use Rattle.cpa_model.specs.declared.automaton.Act.{Act}
 use Rattle.cpa_model.specs.declared.automaton.Act.TheVariants as act
 use Rattle.cpa_model.specs.declared.automaton.Edge.{Edge}
 use Rattle.cpa_model.specs.declared.automaton.Cfa.{Cfa}
 use Rattle.cpa_model.specs.declared.program.Cell.{Cell}
 use Rattle.cpa_model.specs.Steps.{StepsStore}
-use Rattle.cpa_interp.specs.lemmas.Choosing.{assigns_one}
 use Rattle.cpa_edgeform_rules.specs.Runs.{taken, Runs, StepsWith}
-use Rattle.cpa_path.specs.Paths.{act_of, acts_along, added_along, is_input, has_input}
+use Rattle.cpa_path.specs.Paths.{added_along, is_input, has_input}
+use Rattle.cpa_path_folds.specs.Along.{act_of, acts_along}
 
 -- without inputs a step is one of the store, and leads to one store
 settled_step : (cells : List Cell) (a : Act) (old own new : List ℤ) → is_input a ≡ false
@@ -38,7 +38,11 @@ one_store : (cells : List Cell) (a : Act) (old xs ys : List ℤ) → is_input a 
     → StepsStore cells a old xs → StepsStore cells a old ys → xs ≡ ys
 one_store cells act.Skip old xs ys settles x y = x ∙ sym y
 one_store cells (act.Assign base len index value) old xs ys settles x y =
-    assigns_one base len (value_of index old) (value_of value old) old xs ys x y
+    let p = same_Some (pos x.place) (pos y.place) (sym x.index_is ∙ y.index_is) in
+    let place : x.place ≡ y.place = cc (p) in
+    let written = same_Some x.written y.written (sym x.value_is ∙ y.value_is) in
+    x.after ∙ ap (λ (k : ℕ). slice_set old (base + k) x.written) place
+    ∙ ap (slice_set old (base + y.place)) written ∙ sym y.after
 one_store cells (act.Assume test holds) old xs ys settles x y = x.1 ∙ sym y.1
 one_store cells (act.Input cell) old xs ys settles x y = absurd (cc)
 one_store cells (act.Call site) old xs ys settles x y = x ∙ sym y

@@ -1,8 +1,8 @@
 -- Paths of an automaton: the runs along them (CAV 2007, section 2), how their edges chain, and what
 -- is asked of a solver about them (this project's own).
-use Rattle.std.specs.Prelude.{◌≡◌, ℕ, ◌^◌, ◌-◌, min, ℤ, ⊤, Bool, true, false, List, [], ◌∷◌, ◌++◌}
-use Rattle.std.specs.Prelude.{map, sum, Option, Some, None, slice_get}
-use Rattle.std.specs.List.{Contains, list_any}
+use Rattle.std.specs.Prelude.{◌≡◌, ℕ, ◌^◌, ◌-◌, min, ℤ, ⊤, Bool, true, false, List, [], ◌∷◌, map}
+use Rattle.std.specs.Prelude.{Some, slice_get}
+use Rattle.std.specs.List.{Contains, list_any, sum_by}
 use Rattle.cpa_model.specs.declared.automaton.Act.{Act}
 use Rattle.cpa_model.specs.declared.automaton.Act.TheVariants as act
 use Rattle.cpa_model.specs.declared.automaton.Edge.{Edge}
@@ -15,6 +15,7 @@ use Rattle.cpa_interp.specs.declared.outcome.Outcome.TheVariants as outcome
 use Rattle.cpa_interp.specs.Replays.{Replay, last_of}
 use Rattle.cpa_edgeform_rules.specs.Runs.{Added, taken, Runs}
 use Rattle.cpa_edgeform_rules.specs.Forms.{Form, form_of, act_weight}
+use Rattle.cpa_path_folds.specs.Along.{acts_along}
 
 -- ---- runs
 
@@ -64,15 +65,6 @@ Chains cfa path = ChainsFrom cfa cfa.start [] path
 
 -- ---- acts
 
-abbrev pub act_of : Option Edge → List Act
-act_of None = []
-act_of (Some g) = g.act ∷ []
-
--- the acts of the edges, in order
-abbrev pub acts_along : Cfa → List ℕ → List Act
-acts_along cfa [] = []
-acts_along cfa (n ∷ ns) = act_of (slice_get cfa.edges n) ++ acts_along cfa ns
-
 abbrev pub is_input : Act → Bool
 is_input (act.Input cell) = true
 is_input _ = false
@@ -83,7 +75,7 @@ has_input cfa path = list_any is_input (acts_along cfa path)
 
 -- the sum of the weights of the path's edges, or the greatest number of 64 bits
 abbrev pub path_weight : Cfa → List ℕ → ℕ
-path_weight cfa path = min (sum (map act_weight (acts_along cfa path))) (2 ^ 64 - 1)
+path_weight cfa path = min (sum_by act_weight (acts_along cfa path)) (2 ^ 64 - 1)
 
 -- what a form of the path takes
 abbrev pub added_along : Cfa → List ℕ → List Added

@@ -13,7 +13,7 @@ use crate::walking::walk;
 use crate::weighing::path_weight;
 use cpa_cnf::Line;
 use cpa_edgeform_rules::forms_are_runs;
-use cpa_model::{Cfa, Path, edges_are_sound, edges_are_steps, initial_is_state, steps_keep_states};
+use cpa_model::{Cfa, Path, edges_are_sound, edges_are_steps, steps_keep_states};
 use cpa_solver::{Decided, decide};
 use std::alloc::{AllocError, Global};
 
@@ -70,7 +70,6 @@ fn walked(alloc: Global, cfa: &Cfa, path: &[u32]) -> Result<Judged, AllocError>
     ensures { (learnt gates : ℕ) → IfOk result (IsJudged cfa.now path.now learnt gates) }
 {
     steps_keep_states();
-    initial_is_state();
     edges_are_steps();
     let leads = walk(alloc, cfa, path)?;
     if leads {
@@ -92,7 +91,6 @@ fn asked(alloc: Global, cfa: &Cfa, path: &[u32], learnt: u32) -> Result<Judged, 
         → IfOk result (IsJudged cfa.now path.now learnt gates) }
 {
     steps_keep_states();
-    initial_is_state();
     edges_are_steps();
     edges_are_sound();
     forms_are_runs();

@@ -1,4 +1,4 @@
-use Rattle.std.proofs.Common.{◌≡◌, ◌+◌, ℕ, List, drop, get_or, subst, arith}
+use Rattle.std.proofs.Common.{◌≡◌, ◌+◌, ℕ, List, Some, None, cond, drop, get_or, subst, ap, sym, ◌∙◌, arith}
 use Rattle.std.specs.Prelude.{◌↔◌}
 use Rattle.std.proofs.lemmas.List.{drop_more}
 use Rattle.cpa_path.specs.Paths.{Chains, ChainsFrom}
@@ -16,7 +16,10 @@ loop-number-preserved c =
     let here = drop_more xs i 0 c.loop-number-test.true in
     let before = subst (λ (ns : List ℕ). ChainsFrom cfa at.point at.calls.items ns ↔ Chains cfa xs)
     here at.invariant in
-    let on = chains_on cfa at.point (get_or xs i 0) at.calls.items
-    (drop (i + 1) xs) g c.edge-edge.ensures c.step_calls-stepped.new.calls.items from
-    (c.in_ok-stepped.ensures.yes c.if-not-stepped.false) in
+    let next = c.step_stack.new.sites.items in
+    let after =
+    sym c.in_ok-stepped.ensures.after
+    ∙ ap (λ b. cond b (Some next) None) c.if-not-stepped.false in
+    let on = chains_on cfa at.point (get_or xs i 0) at.calls.items (drop (i + 1) xs) g
+    c.edge-edge.ensures next from after in
     (λ h. before.0 (on.0 h), λ h. on.1 (before.1 h))
