@@ -17,7 +17,7 @@ use Rattle.cpa_iface.specs.declared.entries.Entry.{Entry}
 use Rattle.cpa_iface.specs.declared.precisions.Precision.{Precision}
 use Rattle.cpa_composite.specs.Components.{Component, AreElems, IsEntryOf}
 use Rattle.cpa_composite.specs.Covers.{all_cover}
-use Rattle.cpa_composite.specs.Laws.{MergedRow, AgreeOnSep, WidenCovers}
+use Rattle.cpa_composite.specs.Laws.{MergedRow, AgreeOnSep, WidenCovers, EachMerged}
 use Rattle.cpa_reached.specs.Members.{IsIn, Ascend}
 use Rattle.cpa_reached.specs.MemberLaws.{in_all, entry_in}
 use Rattle.cpa_reached.specs.Entries.{ReachedSet, IsLive, IsNumbered, numbers}
@@ -182,15 +182,20 @@ merged_moves r new xs i x es numbered same less is made =
 pub left_compares : (cfa : Cfa) (cs : List Component) (r : ReachedSet) (w : Work) (x : Entry)
     (successor old : List Elem) (ps : List Precision) (o : Option (Vec Elem Global)) (n : ℕ)
     → IsIn x r.live → old ≡ x.elems → o ≡ None
-    → IfNone o (AgreeOnSep cs successor old → WidenCovers cs successor old) → x.number ≡ n
+    → IfNone o (AgreeOnSep cs successor old → WidenCovers cs successor old)
+    → IfNone o (AgreeOnSep cs successor old → EachMerged cfa cs successor old ps old)
+    → x.number ≡ n
     → Compares cfa cs successor ps n (stage r w) (stage r w)
-left_compares cfa cs r w x successor old ps o n there same none covers number = inl (record {
+left_compares cfa cs r w x successor old ps o n there same none covers each number = inl (record {
   entry = x;
   is_in = there;
   number = number;
   covers = subst (λ es. AgreeOnSep cs successor es → WidenCovers cs successor es) same
       (subst (λ (p : Option (Vec Elem Global)).
       IfNone p (AgreeOnSep cs successor old → WidenCovers cs successor old)) none covers);
+  each = subst (λ es. AgreeOnSep cs successor es → EachMerged cfa cs successor es ps es) same
+      (subst (λ (p : Option (Vec Elem Global)).
+      IfNone p (AgreeOnSep cs successor old → EachMerged cfa cs successor old ps old)) none each);
   is = refl;
 })
 

@@ -13,6 +13,7 @@ use Rattle.cpa_iface.specs.declared.precisions.Precision.{Precision}
 use Rattle.cpa_composite.specs.Components.{Component}
 use Rattle.cpa_composite.specs.Covers.{all_cover}
 use Rattle.cpa_composite.specs.Laws.{SuccessorRows, MergedRow, AdjustedRow, AgreeOnSep, WidenCovers}
+use Rattle.cpa_composite.specs.Laws.{EachMerged}
 use Rattle.cpa_reached.specs.Members.{IsIn}
 use Rattle.cpa_reached.specs.Entries.{ReachedSet, numbers}
 use Rattle.cpa_reached.specs.Calls.{added, replaced, used, closed, rename}
@@ -53,14 +54,17 @@ replacing_at old es a = record {
 }
 
 -- The entry stays that has the number: where those elements agree that are kept apart, each
--- analysis that widens takes the successor for covered by it.
-pub record Leaves (cs : List Component) (successor : List Elem) (n : ℕ) (a b : Stage) : Type 0
-  where
-    pub entry : Entry
-    pub is_in : IsIn entry a.reached.live
-    pub number : entry.number ≡ n
-    pub covers : AgreeOnSep cs successor entry.elems → WidenCovers cs successor entry.elems
-    pub is : b ≡ a
+-- analysis that widens takes the successor for covered by it, and each merges the two to what
+-- stands there.
+pub record Leaves (cfa : Cfa) (cs : List Component) (successor : List Elem) (ps : List Precision)
+    (n : ℕ) (a b : Stage) : Type 0 where
+  pub entry : Entry
+  pub is_in : IsIn entry a.reached.live
+  pub number : entry.number ≡ n
+  pub covers : AgreeOnSep cs successor entry.elems → WidenCovers cs successor entry.elems
+  pub each : AgreeOnSep cs successor entry.elems
+      → EachMerged cfa cs successor entry.elems ps entry.elems
+  pub is : b ≡ a
 
 -- What merging makes of the entry and the successor takes the place of that entry.
 pub record Replaces (cfa : Cfa) (cs : List Component) (successor : List Elem) (ps : List Precision)
@@ -75,7 +79,7 @@ pub record Replaces (cfa : Cfa) (cs : List Component) (successor : List Elem) (p
 -- the successor is compared with the entry of the number
 abbrev pub Compares : Cfa → List Component → List Elem → List Precision → ℕ → Stage → Stage → Type 0
 Compares cfa cs successor ps n a b =
-    Leaves cs successor n a b ⊎ Replaces cfa cs successor ps n a b
+    Leaves cfa cs successor ps n a b ⊎ Replaces cfa cs successor ps n a b
 
 -- with the entry of each of these, one after the other
 abbrev pub ComparesAll : Cfa → List Component → List Elem → List Precision → List ℕ → Stage → Stage

@@ -42,7 +42,7 @@ returns-in-None-clause-compares g c = λ n at.
     c.in_ok-merged.field-0 n
     (placed_in c.args.reached.now.live c.live.result.now c.args.place x c.live.ensures.live
     c.requires.place c.index-live-place.is)
-    c.as_slice-old.ensures c.in-None.is c.in_ok-merged.ensures.none
+    c.as_slice-old.ensures c.in-None.is c.in_ok-merged.ensures.none c.in_ok-merged.ensures.stays
     (numbered_at c.args.reached.now.live c.live.result.now c.args.place x n c.live.ensures.live
     c.requires.place c.index-live-place.is at)
 
