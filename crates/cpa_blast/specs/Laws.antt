@@ -5,7 +5,6 @@ use Rattle.std.specs.Prelude.{Some}
 use Rattle.cpa_ints.specs.declared.integers.IntType.{IntType}
 use Rattle.cpa_ints.specs.Integers.{width}
 use Rattle.cpa_cnf.specs.Models.{IsModel as IsTruth}
-use Rattle.cpa_blast_words.specs.Types.{BitFacts}
 use Rattle.cpa_query.specs.declared.query.Query.{Query}
 use Rattle.cpa_query.specs.Queries.{IsQuery, IsModel, wanted_reads}
 use Rattle.cpa_blast_circuits.specs.Laws.{CircuitsHaveValues}
@@ -44,18 +43,18 @@ pub record FormulasAreBelow : Type 0 where
   pub cells : (q : Query) → IsBlastable q
       → AllZip (λ t first. first + width t ≤ (formula q).vars) q.cells (first_bits q)
 
-pub formulas_below : BitFacts → CircuitsHaveValues → FormulasAreBelow
-formulas_below facts circuits = record {
-  literals = λ q is. formula_below facts circuits q is.asked is.few;
-  cells = λ q is. cells_below facts circuits q is.asked is.few;
+pub formulas_below : CircuitsHaveValues → FormulasAreBelow
+formulas_below circuits = record {
+  literals = λ q is. formula_below circuits q is.asked is.few;
+  cells = λ q is. cells_below circuits q is.asked is.few;
 }
 
-pub formulas_are : BitFacts → CircuitsHaveValues → FormulasAreQueries
-formulas_are facts circuits = record {
-  sound = λ q truths is model. sound facts circuits q is.asked is.few truths model;
+pub formulas_are : CircuitsHaveValues → FormulasAreQueries
+formulas_are circuits = record {
+  sound = λ q truths is model. sound circuits q is.asked is.few truths model;
   complete = λ q store is model.
-      let found = complete facts circuits q is.asked is.few store model in
+      let found = complete circuits q is.asked is.few store model in
       (found.truths, record { model = found.model; gives = found.gives });
   unread = λ q cell first j t is at_cell at_first inside named.
-      unread facts circuits q is.asked is.few cell first t j at_cell at_first named;
+      unread circuits q is.asked is.few cell first t j at_cell at_first named;
 }

@@ -4,7 +4,6 @@
 ghost use Rattle.cpa_blast.specs.Laws.{FormulasAreBelow, FormulasAreQueries};
 
 use cpa_blast_circuits::circuits_have_values;
-use cpa_ints::{bits_are_the_congruent_number, bits_keep_the_number};
 
 /// Each model of a query's formula gives a model of the query on the bits of its cells, and each
 /// model of the query extends to one of the formula that gives it. A clause names a bit of a cell
@@ -12,8 +11,6 @@ use cpa_ints::{bits_are_the_congruent_number, bits_keep_the_number};
 pub fn formulas_are_queries()
     ensures { FormulasAreQueries }
 {
-    bits_are_the_congruent_number();
-    bits_keep_the_number();
     circuits_have_values();
 }
 
@@ -21,7 +18,5 @@ pub fn formulas_are_queries()
 pub fn formulas_are_below()
     ensures { FormulasAreBelow }
 {
-    bits_are_the_congruent_number();
-    bits_keep_the_number();
     circuits_have_values();
 }

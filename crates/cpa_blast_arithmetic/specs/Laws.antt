@@ -11,7 +11,6 @@ use Rattle.cpa_expr.specs.declared.tree.BinOp.TheVariants as bin
 use Rattle.cpa_blast_words.specs.Words.{some_bit}
 use Rattle.cpa_blast_words.specs.Truths.{values, number}
 use Rattle.cpa_blast_words.specs.Meanings.{MakesWord}
-use Rattle.cpa_blast_words.specs.Types.{BitFacts}
 use Rattle.cpa_blast_words.specs.Values.{AreWords, MakesNumber, MakesValue, TestsValue}
 use Rattle.cpa_blast_arithmetic.specs.declared.moves.Direction.{Direction}
 use Rattle.cpa_blast_arithmetic.specs.declared.moves.Direction.TheVariants as toward
@@ -81,12 +80,12 @@ pub record ShiftsShift : Type 0 where
   pub right_amount : OfWordPairs (λ t u s xs ys.
       TestsValue t u (bin_value bin.Shr t) s xs ys (is_amount t s ys))
 
-pub shifts_shift : BitFacts → ShiftsShift
-shifts_shift facts = record {
-  left = shift.left_makes facts;
-  right = shift.right_makes facts;
-  left_amount = shift.left_tests facts;
-  right_amount = shift.right_tests facts;
+pub shifts_shift : ShiftsShift
+shifts_shift = record {
+  left = shift.left_makes;
+  right = shift.right_makes;
+  left_amount = shift.left_tests;
+  right_amount = shift.right_tests;
 }
 
 -- an amount of constants, which are the literals of variable 0, makes no gate
@@ -138,10 +137,10 @@ pub record QuotientsDivide : Type 0 where
   pub remainder_divisor : OfWords (λ t s xs ys.
       TestsValue t t (bin_value bin.Rem t) s xs ys (some_bit s ys))
 
-pub quotients_divide : BitFacts → QuotientsDivide
-quotients_divide facts = record {
-  quotient = at.quotient_makes facts;
-  remainder = at.remainder_makes facts;
-  quotient_divisor = at.quotient_tests facts;
-  remainder_divisor = at.remainder_tests facts;
+pub quotients_divide : QuotientsDivide
+quotients_divide = record {
+  quotient = at.quotient_makes;
+  remainder = at.remainder_makes;
+  quotient_divisor = at.quotient_tests;
+  remainder_divisor = at.remainder_tests;
 }

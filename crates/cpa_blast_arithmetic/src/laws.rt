@@ -6,8 +6,6 @@ ghost use Rattle.cpa_blast_arithmetic.specs.Laws.{ShiftsMoveWords, ShiftsShift};
 ghost use Rattle.cpa_blast_arithmetic.specs.Laws.{ConstantsMakeNoGates, DividersDivide};
 ghost use Rattle.cpa_blast_arithmetic.specs.Laws.{SignsTurnWords, QuotientsDivide};
 
-use cpa_ints::{bits_are_the_congruent_number, bits_keep_the_number};
-
 /// A product made of words of a net stands, under each assignment under which the new net holds,
 /// for the product of their numbers modulo 2 to the power of the length.
 #[tactic(auto, using(crate::specs::Laws::products_are_products))]
@@ -32,10 +30,7 @@ pub fn shifts_move_words()
 /// literal made of the amount tells whether there is one.
 pub fn shifts_shift_at_types()
     ensures { ShiftsShift }
-{
-    bits_are_the_congruent_number();
-    bits_keep_the_number();
-}
+{}
 
 /// No gate is made for an amount of constants.
 #[tactic(auto, using(crate::specs::Laws::constants_make_no_gates))]
@@ -62,7 +57,4 @@ pub fn signs_turn_words()
 /// of the divisor is true exactly there.
 pub fn quotients_divide_at_types()
     ensures { QuotientsDivide }
-{
-    bits_are_the_congruent_number();
-    bits_keep_the_number();
-}
+{}

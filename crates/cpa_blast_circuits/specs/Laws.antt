@@ -3,7 +3,6 @@
 use Rattle.std.specs.Prelude.{◌<◌, ◌^◌, List, [], length}
 use Rattle.cpa_blast_gates.specs.declared.gate.Gate.{Gate}
 use Rattle.cpa_blast_gates.specs.Nets.{IsScoped}
-use Rattle.cpa_blast_words.specs.Types.{BitFacts}
 use Rattle.cpa_expr.specs.declared.tree.Expr.{Expr}
 use Rattle.cpa_expr.specs.Shape.{IsTyped}
 use Rattle.cpa_blast_circuits.specs.declared.answer.Word.{Word}
@@ -23,10 +22,10 @@ abbrev pub CircuitsHaveValues : Type 0
 CircuitsHaveValues = (s : List Gate) (cells : List Word) (e : Expr) → AreCellWords s cells
     → IsTyped (types_of cells) e → MakesAnswer cells e s (circuit cells e s)
 
-pub circuits_mean : BitFacts → CircuitsHaveValues
-circuits_mean facts s cells e are typed =
-    let binaries = binaries_are facts in
-    let shape = circuit_ready facts binaries cells [] are.long are.few e s typed are.scoped
+pub circuits_mean : CircuitsHaveValues
+circuits_mean s cells e are typed =
+    let binaries = binaries_are in
+    let shape = circuit_ready binaries cells [] are.long are.few e s typed are.scoped
     are.below in
     record {
       grows = shape.grows;
@@ -35,6 +34,6 @@ circuits_mean facts s cells e are typed =
       ty = shape.ready.ty;
       long = shape.ready.long;
       is = λ m store holds has.
-          (circuit_ready facts binaries cells store are.long are.few e s typed are.scoped
+          (circuit_ready binaries cells store are.long are.few e s typed are.scoped
           are.below).ready.is m has holds;
     }

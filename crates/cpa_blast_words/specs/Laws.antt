@@ -20,7 +20,7 @@ use Rattle.cpa_blast_words.specs.Truths.{bit, values, number, walked_bits, walke
 use Rattle.cpa_blast_words.specs.Truths.{flipped_top_bits}
 use Rattle.cpa_blast_words.specs.Meanings.{IsWalk, MakesWord}
 use Rattle.cpa_blast_words.specs.lemmas.WalkMeanings.{walk_is}
-use Rattle.cpa_blast_words.specs.Types.{BitFacts, WordsWrap, WordsAreEqual, WordsCompare, WordsCast}
+use Rattle.cpa_blast_words.specs.Types.{WordsWrap, WordsAreEqual, WordsCompare, WordsCast}
 use Rattle.cpa_blast_words.specs.Types.{cast_bits}
 use Rattle.cpa_ints.specs.declared.integers.IntType.{IntType}
 use Rattle.cpa_blast_words.specs.lemmas.Numbers as lemma
@@ -208,16 +208,16 @@ words_are_long = record {
 
 -- at a type other than Bool sums, differences, negations and masks of words are those of the
 -- numbers, wrapped; at each type words are equal where the numbers are
-pub words_wrap : BitFacts → WordsWrap
+pub words_wrap : WordsWrap
 words_wrap = wrap_at_types
 
-pub words_are_equal : BitFacts → WordsAreEqual
+pub words_are_equal : WordsAreEqual
 words_are_equal = equal_at_types
 
 -- and less where the numbers are
-pub words_compare : BitFacts → WordsCompare
+pub words_compare : WordsCompare
 words_compare = compare_at_types
 
 -- a word at the width of another type stands for the number cast to it
-pub words_cast : BitFacts → WordsCast
+pub words_cast : WordsCast
 words_cast = cast_at_types

@@ -18,15 +18,6 @@ pub record StandsFor (t : IntType) (bits : List Bool) (a : ℤ) : Type 0 where
   pub long : length bits ≡ width t
   pub is : number bits ≡ bits_of t a
 
--- what is known of the bits of a number: the laws of `cpa_ints`
-pub record BitFacts : Type 0 where
-  pub below : (t : IntType) (a : ℤ) → bits_of t a < 2 ^ width t
-  pub congruent : (t : IntType) (a : ℤ) → IsCongruent (width t) a (pos (bits_of t a))
-  pub only : (t : IntType) (a : ℤ) (n : ℕ)
-      → n < 2 ^ width t → IsCongruent (width t) a (pos n) → n ≡ bits_of t a
-  pub back : (t : IntType) (a : ℤ) → IsInRange t a → wrapped t (pos (bits_of t a)) ≡ a
-  pub of_wrapped : (t : IntType) (a : ℤ) → t ≢ Boolean → bits_of t (wrapped t a) ≡ bits_of t a
-
 -- P holds of words that stand for two numbers at a type other than Bool
 abbrev pub OfNumbers : (IntType → List Bool → List Bool → ℤ → ℤ → Type 0) → Type 0
 OfNumbers P = (t : IntType) (xs ys : List Bool) (a b : ℤ)

@@ -7,8 +7,6 @@ ghost use Rattle.cpa_blast_words.specs.Laws.{OperatorsAreMeant};
 ghost use Rattle.cpa_blast_words.specs.Laws.{WordsAreLong};
 ghost use Rattle.cpa_blast_words.specs.Types.{WordsWrap, WordsAreEqual, WordsCompare, WordsCast};
 
-use cpa_ints::{bits_are_the_congruent_number, bits_keep_the_number};
-
 /// The bits and the carry of a walk have, under each assignment under which the net holds, the
 /// values that the row makes of the values of the two words and of the carry.
 #[tactic(auto, using(crate::specs::Laws::walks_mean_their_rows))]
@@ -61,7 +59,4 @@ pub fn words_wrap_at_types()
     ensures equal { WordsAreEqual }
     ensures compare { WordsCompare }
     ensures cast { WordsCast }
-{
-    bits_are_the_congruent_number();
-    bits_keep_the_number();
-}
+{}

@@ -21,7 +21,7 @@ use Rattle.cpa_blast_gates.specs.Meanings.{Agrees}
 use Rattle.cpa_blast_gates.specs.Laws.{models_are_assignments, clauses_are_below}
 use Rattle.cpa_blast_gates.specs.Laws.{literals_have_values}
 use Rattle.cpa_blast_gates.specs.lemmas.Growth.{holds_local}
-use Rattle.cpa_blast_words.specs.Types.{StandsFor, BitFacts}
+use Rattle.cpa_blast_words.specs.Types.{StandsFor}
 use Rattle.cpa_expr.specs.declared.tree.Expr.{Expr}
 use Rattle.cpa_expr.specs.Cells.{AreValues}
 use Rattle.cpa_query.specs.declared.query.Query.{Query}
@@ -164,7 +164,7 @@ first_behind low high (p ∷ places) (suc cell) first due e f =
 
 -- ---- the parts of a formula
 
-module _ (facts : BitFacts) (circuits : CircuitsHaveValues) (q : Query) (asked : IsQuery q)
+module _ (circuits : CircuitsHaveValues) (q : Query) (asked : IsQuery q)
     (few : length q.cells < 2 ^ 64) where
   abbrev start : List Place
   start = places_of q.cells (reads q)
@@ -201,8 +201,8 @@ module _ (facts : BitFacts) (circuits : CircuitsHaveValues) (q : Query) (asked :
   words_typed : AreTypedOver (types_of W) q.wanted
   words_typed = typed_words q asked
 
-  pub tells : Tells facts circuits W q.wanted (read_places q).net (circuits_of q)
-  tells = asserted_is facts circuits q.wanted (read_places q).net W are_words words_typed
+  pub tells : Tells circuits W q.wanted (read_places q).net (circuits_of q)
+  tells = asserted_is circuits q.wanted (read_places q).net W are_words words_typed
 
   pub rest_given : GivesBits false R (circuits_of q).net (all_places q)
   rest_given = bits_given false R (circuits_of q).net tells.grows.scoped
@@ -300,7 +300,7 @@ module _ (facts : BitFacts) (circuits : CircuitsHaveValues) (q : Query) (asked :
       let range = given_ranges truths in
       let at_circuits = rest_given.grows.keeps m holds in
       let stand = read_stand m R (all_places q).value store kept
-      (model_stands facts truths (all_places q).value) in
+      (model_stands truths (all_places q).value) in
       let told = (tells.is m (blanked R store) at_circuits (seen m store range at_circuits stand)).0
       (true_units truths (circuits_of q).value apart.1) in
       let found : IsModel q store = record {
@@ -351,7 +351,7 @@ module _ (facts : BitFacts) (circuits : CircuitsHaveValues) (q : Query) (asked :
               rest_given.longer tells.below) are));
         };
         gives = subst (λ ts. store_at ts (first_bits q) truths ≡ store) all_types
-            (same_store facts truths (all_places q).value store
+            (same_store truths (all_places q).value store
             (moved (all_places q).value store between stand)
             (subst (λ ts. AreValues ts store) (sym all_types) range));
       }
@@ -373,7 +373,7 @@ module _ (facts : BitFacts) (circuits : CircuitsHaveValues) (q : Query) (asked :
   complete store model =
       let range = model.values_are in
       let long = given_long store range in
-      let first = bits_exist facts true start [] (λ v. true) store tt refl
+      let first = bits_exist true start [] (λ v. true) store tt refl
       (long ∙ read_long ∙ sym (start_long)) in
       let next = tells.grows.extends first.assignment first.extends.holds in
       let m = next.0 in
@@ -381,7 +381,7 @@ module _ (facts : BitFacts) (circuits : CircuitsHaveValues) (q : Query) (asked :
       next.1.agrees read_given.between first.stand in
       let told = (tells.is m (blanked R store) next.1.holds
       (seen m store range next.1.holds stand)).1 ((truths_same store long).0 model.wanted) in
-      let last = bits_exist facts false R (circuits_of q).net m store tells.grows.scoped
+      let last = bits_exist false R (circuits_of q).net m store tells.grows.scoped
       next.1.holds long in
       let k = last.assignment in
       let agrees = last.extends.agrees in

@@ -10,6 +10,7 @@ use Rattle.cpa_ints.specs.declared.integers.IntType.{IntType}
 use Rattle.cpa_ints.specs.Integers.{width, IsInRange}
 use Rattle.cpa_ints.specs.Bits.{bits_of}
 use Rattle.cpa_ints.specs.lemmas.WrapLaws.{zero_within}
+use Rattle.cpa_ints.specs.lemmas.Bits.{bits_below}
 use Rattle.cpa_cnf.specs.Lines.{AreBelow}
 use Rattle.cpa_blast_gates.specs.declared.gate.Gate.{Gate}
 use Rattle.cpa_blast_gates.specs.Gates.{lit_value}
@@ -19,7 +20,7 @@ use Rattle.cpa_blast_gates.specs.Meanings.{Agrees, Extends, Grows}
 use Rattle.cpa_blast_gates.specs.Laws.{literals_have_values, nets_grow}
 use Rattle.cpa_blast_words.specs.Truths.{values}
 use Rattle.cpa_blast_words.specs.Words.{constant_word}
-use Rattle.cpa_blast_words.specs.Types.{StandsFor, BitFacts}
+use Rattle.cpa_blast_words.specs.Types.{StandsFor}
 use Rattle.cpa_blast_words.specs.Laws.{words_mean_their_operators, words_are_long}
 use Rattle.cpa_blast_words.specs.Laws.{words_are_numbers}
 use Rattle.cpa_blast_words.specs.lemmas.WordMeanings.{values_repeated}
@@ -183,14 +184,14 @@ pub record HasBits (reading : Bool) (places : List Place) (s : List Gate) (m : �
     pub stand : StandWhereDue reading assignment made.value store
 
 -- the variables of one more cell
-more_bits : (facts : BitFacts) (reading : Bool) (p : Place) (places : List Place) (s : List Gate)
+more_bits : (reading : Bool) (p : Place) (places : List Place) (s : List Gate)
     (m : ℕ → Bool) (v : ℤ) (store : List ℤ) → IsScoped s → Holds m s
     → ((n : List Gate) (k : ℕ → Bool) → IsScoped n → Holds k n
     → HasBits reading places n k store (with_bits reading places n))
     → HasBits reading (p ∷ places) s m (v ∷ store)
     (behind_next reading places (built (with_inputs (width p.ty) s)
     (place_of p.ty p.is_read (vars s))))
-more_bits facts reading p places s m v store scoped holds more =
+more_bits reading p places s m v store scoped holds more =
     let n = width p.ty in
     let word = constant_word n (bits_of p.ty v) in
     let bs = values m word in
@@ -219,26 +220,26 @@ more_bits facts reading p places s m v store scoped holds more =
         λ due. subst (λ cs. StandsFor p.ty cs v) (sym bits) (record {
           long = bs_long;
           is = words_mean_their_operators.constant s m n (bits_of p.ty v) holds
-              ∙ mod-eq_of_lt (facts.below p.ty v);
+              ∙ mod-eq_of_lt (bits_below p.ty v);
         }),
         rest.stand,
       );
     }
 
-pub bits_exist : (facts : BitFacts) (reading : Bool) (places : List Place) (s : List Gate)
+pub bits_exist : (reading : Bool) (places : List Place) (s : List Gate)
     (m : ℕ → Bool) (store : List ℤ) → IsScoped s → Holds m s → length store ≡ length places
     → HasBits reading places s m store (with_bits reading places s)
 unfolding with_bits next_place
-bits_exist facts reading [] s m [] scoped holds long = record {
+bits_exist reading [] s m [] scoped holds long = record {
   assignment = m;
   extends = record { agrees = λ v below. refl; holds = holds };
   stand = tt;
 }
-bits_exist facts reading [] s m (v ∷ store) scoped holds long = absurd (omega arith)
-bits_exist facts reading (p ∷ places) s m [] scoped holds long = absurd (omega arith)
-bits_exist facts reading (p ∷ places) s m (v ∷ store) scoped holds long =
+bits_exist reading [] s m (v ∷ store) scoped holds long = absurd (omega arith)
+bits_exist reading (p ∷ places) s m [] scoped holds long = absurd (omega arith)
+bits_exist reading (p ∷ places) s m (v ∷ store) scoped holds long =
     by (is_due reading p.is_read) refl
-    (λ n k h held. bits_exist facts reading places n k store h held (omega (arith, long)))
+    (λ n k h held. bits_exist reading places n k store h held (omega (arith, long)))
   where
     by : (b : Bool) → is_due reading p.is_read ≡ b
         → ((n : List Gate) (k : ℕ → Bool) → IsScoped n → Holds k n
@@ -246,7 +247,7 @@ bits_exist facts reading (p ∷ places) s m (v ∷ store) scoped holds long =
         → HasBits reading (p ∷ places) s m (v ∷ store)
         (behind_next reading places (if b then built (with_inputs (width p.ty) s)
         (place_of p.ty p.is_read (vars s)) else built s p))
-    by true e more = more_bits facts reading p places s m v store scoped holds more
+    by true e more = more_bits reading p places s m v store scoped holds more
     by false e more =
         let rest = more s m scoped holds in
         record {

@@ -16,9 +16,10 @@ use Rattle.cpa_ints.specs.Integers.{width, IsInRange}
 use Rattle.cpa_ints.specs.Wrapping.{wrapped}
 use Rattle.cpa_ints.specs.Bits.{bits_of}
 use Rattle.cpa_ints.specs.lemmas.Arithmetic.{wrapped_in_range}
+use Rattle.cpa_ints.specs.lemmas.Bits.{bits_back, bits_wrapped}
 use Rattle.cpa_blast_gates.specs.Clauses.{assigned}
 use Rattle.cpa_blast_words.specs.Truths.{values, number}
-use Rattle.cpa_blast_words.specs.Types.{StandsFor, BitFacts}
+use Rattle.cpa_blast_words.specs.Types.{StandsFor}
 use Rattle.cpa_blast_words.specs.Laws.{words_are_numbers}
 use Rattle.cpa_expr.specs.declared.tree.Expr.{Expr}
 use Rattle.cpa_expr.specs.Values.{value_of, is_nonzero}
@@ -213,16 +214,16 @@ boolean (suc zero) h = refl
 boolean (suc (suc n)) h = absurd (omega arith)
 
 -- a word stands for what its number wraps to
-own_number : (facts : BitFacts) (t : IntType) (bs : List Bool) → length bs ≡ width t
+own_number : (t : IntType) (bs : List Bool) → length bs ≡ width t
     → StandsFor t bs (wrapped t (pos (number bs)))
-own_number facts t bs long =
+own_number t bs long =
     let below : number bs < 2 ^ width t =
     subst (λ n. number bs < 2 ^ n) long (words_are_numbers.below bs) in
     record { long = long; is = by t below }
   where
     other : (u : IntType) → u ≢ Boolean → number bs < 2 ^ width u
         → number bs ≡ bits_of u (wrapped u (pos (number bs)))
-    other u ne h = sym (facts.of_wrapped u (pos (number bs)) ne ∙ mod-eq_of_lt h)
+    other u ne h = sym (bits_wrapped u ne (pos (number bs)) ∙ mod-eq_of_lt h)
 
     by : (u : IntType) → number bs < 2 ^ width u
         → number bs ≡ bits_of u (wrapped u (pos (number bs)))
@@ -239,14 +240,14 @@ own_number facts t bs long =
 abbrev pub firsts_at : List Place → List ℕ
 firsts_at places = map (λ (p : Place). p.first) places
 
-pub model_stands : (facts : BitFacts) (truths : List Bool) (made : List Place)
+pub model_stands : (truths : List Bool) (made : List Place)
     → AllZip (StandsAt (assigned truths)) made
     (store_at (types_at made) (firsts_at made) truths)
-model_stands facts truths [] = tt
-model_stands facts truths (p ∷ made) = (
-  own_number facts p.ty (values (assigned truths) (variables_from p.first (width p.ty)))
+model_stands truths [] = tt
+model_stands truths (p ∷ made) = (
+  own_number p.ty (values (assigned truths) (variables_from p.first (width p.ty)))
       (length-map (variables_from p.first (width p.ty)) _ ∙ variables_long p.first (width p.ty)),
-  model_stands facts truths made,
+  model_stands truths made,
 )
 
 pub model_ranges : (truths : List Bool) (cells : List IntType) (firsts : List ℕ)
@@ -258,16 +259,16 @@ model_ranges truths (t ∷ cells) (first ∷ firsts) long = (
   model_ranges truths cells firsts (omega arith),
 )
 
-pub same_store : (facts : BitFacts) (truths : List Bool) (made : List Place) (store : List ℤ)
+pub same_store : (truths : List Bool) (made : List Place) (store : List ℤ)
     → AllZip (StandsAt (assigned truths)) made store → AreValues (types_at made) store
     → store_at (types_at made) (firsts_at made) truths ≡ store
-same_store facts truths [] [] stand range = refl
-same_store facts truths [] (v ∷ store) stand range = absurd stand
-same_store facts truths (p ∷ made) [] stand range = absurd stand
-same_store facts truths (p ∷ made) (v ∷ store) stand range =
+same_store truths [] [] stand range = refl
+same_store truths [] (v ∷ store) stand range = absurd stand
+same_store truths (p ∷ made) [] stand range = absurd stand
+same_store truths (p ∷ made) (v ∷ store) stand range =
     ap (λ x. x ∷ store_at (types_at made) (firsts_at made) truths)
-    (ap (λ n. wrapped p.ty (pos n)) stand.0.is ∙ facts.back p.ty v range.0)
-    ∙ ap (λ xs. v ∷ xs) (same_store facts truths made store stand.1 range.1)
+    (ap (λ n. wrapped p.ty (pos n)) stand.0.is ∙ bits_back p.ty v range.0)
+    ∙ ap (λ xs. v ∷ xs) (same_store truths made store stand.1 range.1)
 
 pub ranges_at : (places : List Place) (store : List ℤ) → AreValues (types_at places) store
     → AllZip (λ p v. IsInRange p.ty v) places store

@@ -13,7 +13,6 @@ use Rattle.cpa_blast_gates.specs.Meanings.{Grows}
 use Rattle.cpa_blast_gates.specs.Laws.{literals_have_values, nets_grow}
 use Rattle.cpa_blast_words.specs.Truths.{values, number}
 use Rattle.cpa_blast_words.specs.Words.{some_bit}
-use Rattle.cpa_blast_words.specs.Types.{BitFacts}
 use Rattle.cpa_blast_words.specs.Laws.{words_mean_their_operators}
 use Rattle.cpa_blast_words.specs.lemmas.Columns.{still_below, opposite_below}
 use Rattle.cpa_expr.specs.declared.tree.Expr.{Expr}
@@ -68,7 +67,7 @@ pub record TellsOne (cells : List Word) (e : Expr) (holds : Bool) (s : List Gate
         → ((lit_value m made.value.ok ≡ true) × (lit_value m made.value.truth ≡ true))
         ↔ HasTruth store e holds
 
-module _ (facts : BitFacts) (circuits : CircuitsHaveValues) where
+module _ (circuits : CircuitsHaveValues) where
   told_is : (s : List Gate) (cells : List Word) (e : Expr) (holds : Bool) → AreCellWords s cells
       → IsTyped (types_of cells) e → TellsOne cells e holds s (told_in cells e holds s)
   unfolding told_in
@@ -104,7 +103,7 @@ module _ (facts : BitFacts) (circuits : CircuitsHaveValues) where
           let told_is = told_truth m holds (is_nonzero n)
           (some_bit (circuit cells e s).net (circuit cells e s).value.bits).value
           (bit
-          ∙ nonzero facts (type_of e) (values m (circuit cells e s).value.bits) n range is.bits)
+          ∙ nonzero (type_of e) (values m (circuit cells e s).value.bits) n range is.bits)
           in (λ h. told_is.0 h.1, λ h. (is.ok, told_is.1 h))
 
   -- all of them

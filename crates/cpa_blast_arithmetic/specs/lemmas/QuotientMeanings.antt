@@ -26,7 +26,7 @@ use Rattle.cpa_expr.specs.Values.{bin_value, divided_by}
 use Rattle.cpa_expr.specs.declared.tree.BinOp.TheVariants as bin
 use Rattle.cpa_blast_words.specs.Words.{some_bit, filling}
 use Rattle.cpa_blast_words.specs.Truths.{values, number}
-use Rattle.cpa_blast_words.specs.Types.{StandsFor, BitFacts, filling_bit}
+use Rattle.cpa_blast_words.specs.Types.{StandsFor, filling_bit}
 use Rattle.cpa_blast_words.specs.Values.{AreOperands, AreWords, MakesValue, TestsValue}
 use Rattle.cpa_blast_words.specs.Laws.{words_mean_their_operators, words_are_numbers}
 use Rattle.cpa_blast_words.specs.Laws.{comparisons_compare, words_are_equal}
@@ -50,21 +50,21 @@ equal_lengths s xs ys scoped p q e = divide_is s xs ys scoped p q (omega arith)
 -- ---- where there is a value
 
 -- a word stands for 0 where its number is 0
-zero_where : (facts : BitFacts) (t : IntType) (bs : List Bool) (b : ℤ) → IsInRange t b
+zero_where : (t : IntType) (bs : List Bool) (b : ℤ) → IsInRange t b
     → StandsFor t bs b → (number bs == 0) ≡ int_eq b (pos 0)
-zero_where facts t bs b range stands =
+zero_where t bs b range stands =
     let zeros = replicate (width t) false in
     let none : number zeros ≡ 0 = words_are_numbers.falses (width t) in
     ap (λ k. number bs == k) (sym none)
     ∙ sym (comparisons_compare.equal bs zeros
     (stands.long ∙ sym (length-replicate (width t) false)))
-    ∙ words_are_equal facts t bs zeros b (pos 0) range (zero_within t) stands
+    ∙ words_are_equal t bs zeros b (pos 0) range (zero_within t) stands
     (record {
       long = length-replicate (width t) false;
       is = none ∙ sym (mod-eq_of_lt (pow_pos (width t)));
     })
 
-module _ (facts : BitFacts) (t : IntType) (s : List Gate) (xs ys : List ℕ)
+module _ (t : IntType) (s : List Gate) (xs ys : List ℕ)
     (are : AreWords t t s xs ys) where
   tests : (f : ℤ → ℤ → ℤ)
       → TestsValue t t (λ a b. divided_by b (f a b)) s xs ys (some_bit s ys)
@@ -75,7 +75,7 @@ module _ (facts : BitFacts) (t : IntType) (s : List Gate) (xs ys : List ℕ)
         below = made.below;
         is = λ m a b holds of.
             made.is m holds
-            ∙ ap not (zero_where facts t (values m ys) b of.right_range of.right)
+            ∙ ap not (zero_where t (values m ys) b of.right_range of.right)
             ∙ there (int_eq b (pos 0)) (f a b);
       }
     where
@@ -198,7 +198,7 @@ below_power t m ls e =
     subst (λ k. number (values m ls) < 2 ^ k) (length-map ls (lit_value m) ∙ e)
     (words_are_numbers.below (values m ls))
 
-module _ (facts : BitFacts) (t : IntType) (s : List Gate) (xs ys : List ℕ)
+module _ (t : IntType) (s : List Gate) (xs ys : List ℕ)
     (are : AreWords t t s xs ys) where
   -- the numbers of two words, divided by their magnitudes
   numbers_divided : (m : ℕ → Bool) (a b : ℤ) → Holds m (divided_magnitudes t s xs ys).net
@@ -210,9 +210,9 @@ module _ (facts : BitFacts) (t : IntType) (s : List Gate) (xs ys : List ℕ)
   numbers_divided m a b holds of some =
       let f = filling_bit t (values m xs) in
       let g = filling_bit t (values m ys) in
-      let right = sized facts t (values m ys) b of.right_range of.right in
+      let right = sized t (values m ys) b of.right_range of.right in
       division f g a b (magnitude t (values m xs)) (magnitude t (values m ys)) _ _
-      (sized facts t (values m xs) a of.left_range of.left) right
+      (sized t (values m xs) a of.left_range of.left) right
       ((magnitudes_divide t s xs ys are).is m holds
       (λ e. some (right.is ∙ ap (signed g) e ∙ zero_signed g)))
     where
@@ -252,7 +252,7 @@ module _ (facts : BitFacts) (t : IntType) (s : List Gate) (xs ys : List ℕ)
             let q = number (values m both.value.quotient) in
             let is = numbers_divided m a b h1 of parts.0 in
             let less = below_power t m both.value.quotient first.quotient_long in
-            let stands = signed_stands facts t (differ fb gb) q (values m made.value)
+            let stands = signed_stands t (differ fb gb) q (values m made.value)
             (length-map made.value (lit_value m) ∙ long) less
             (third.is m holds
             ∙ ap (λ n. signed_number (lit_value m sign.value) n q) first.quotient_long
@@ -263,7 +263,7 @@ module _ (facts : BitFacts) (t : IntType) (s : List Gate) (xs ys : List ℕ)
             (ap (wrapped t) (sym is.quotient) ∙ parts.1)
             (record {
               long = stands.long;
-              is = stands.is ∙ sym (wraps_alike facts t (signed (differ fb gb) q)
+              is = stands.is ∙ sym (wraps_alike t (signed (differ fb gb) q)
                   (in_bool t (values m xs) (values m ys) q less));
             });
       }
@@ -290,7 +290,7 @@ module _ (facts : BitFacts) (t : IntType) (s : List Gate) (xs ys : List ℕ)
             let r = number (values m both.value.remainder) in
             let is = numbers_divided m a b h1 of parts.0 in
             subst (StandsFor t (values m made.value)) (sym is.remainder ∙ parts.1)
-            (signed_stands facts t fb r (values m made.value)
+            (signed_stands t fb r (values m made.value)
             (length-map made.value (lit_value m) ∙ long)
             (below_power t m both.value.remainder first.remainder_long)
             (second.is m holds

@@ -14,9 +14,10 @@ use Rattle.cpa_ints.specs.Wrapping.{wrapped}
 use Rattle.cpa_ints.specs.Bits.{bits_of}
 use Rattle.cpa_ints.specs.lemmas.Arithmetic.{wrapped_of_range}
 use Rattle.cpa_ints.specs.lemmas.Congruence.{Same, Same-refl}
+use Rattle.cpa_ints.specs.lemmas.Bits.{bits_wrapped}
 use Rattle.cpa_blast_gates.specs.Gates.{differ}
 use Rattle.cpa_blast_words.specs.Truths.{bit, number}
-use Rattle.cpa_blast_words.specs.Types.{StandsFor, BitFacts, filling_bit}
+use Rattle.cpa_blast_words.specs.Types.{StandsFor, filling_bit}
 use Rattle.cpa_blast_words.specs.Laws.{words_are_numbers}
 use Rattle.cpa_blast_words.specs.lemmas.AtTypes.{stand_for}
 use Rattle.cpa_blast_words.specs.lemmas.Orders.{halves, signed_range}
@@ -29,13 +30,13 @@ pub record IsSized (f : Bool) (a : ℤ) (k : ℕ) : Type 0 where
   pub is : a ≡ signed f k
   pub some : f ≡ true → 0 < k
 
-pub sized : (facts : BitFacts) (t : IntType) (bs : List Bool) (a : ℤ) → IsInRange t a
+pub sized : (t : IntType) (bs : List Bool) (a : ℤ) → IsInRange t a
     → StandsFor t bs a
     → IsSized (filling_bit t bs) a (signed_number (filling_bit t bs) (width t) (number bs))
-sized facts t bs a range stands = by (filling_bit t bs) refl
+sized t bs a range stands = by (filling_bit t bs) refl
   where
     signs : (f : Bool) → filling_bit t bs ≡ f → (a +ℤ pos (2 ^ width t * bit f)) ≡ pos (number bs)
-    signs f e = ap (λ x. a +ℤ pos (2 ^ width t * bit x)) (sym e) ∙ by_sign facts t bs a range stands
+    signs f e = ap (λ x. a +ℤ pos (2 ^ width t * bit x)) (sym e) ∙ by_sign t bs a range stands
 
     natural : (p n : ℕ) (a : ℤ) → (a +ℤ pos (p * bit false)) ≡ pos n → a ≡ pos n
     natural p n a e = omega (arith, ints)
@@ -129,28 +130,28 @@ division f g a b k d q r is_a is_b divides =
 
 -- ---- words of a sign and a magnitude
 
-pub signed_stands : (facts : BitFacts) (t : IntType) (f : Bool) (k : ℕ) (bits : List Bool)
+pub signed_stands : (t : IntType) (f : Bool) (k : ℕ) (bits : List Bool)
     → length bits ≡ width t → k < 2 ^ width t → number bits ≡ signed_number f (width t) k
     → StandsFor t bits (signed f k)
-signed_stands facts t true k bits long less is =
-    stand_for facts t (neg_ℤ (pos k)) bits (2 ^ width t - k) long is
+signed_stands t true k bits long less is =
+    stand_for t (neg_ℤ (pos k)) bits (2 ^ width t - k) long is
     (turned (2 ^ width t) k less)
   where
     turned : (p k : ℕ) → k < p → Same p (neg_ℤ (pos k)) (pos (p - k))
     turned p k less = record { j = 1; k = 0; same = omega (arith, ints) }
-signed_stands facts t false k bits long less is =
-    stand_for facts t (pos k) bits k long (is ∙ sym (mod-eq_of_lt less))
+signed_stands t false k bits long less is =
+    stand_for t (pos k) bits k long (is ∙ sym (mod-eq_of_lt less))
     (Same-refl (2 ^ width t) (pos k))
 
 -- a number and what it wraps to have the same bits, also at Bool where it lies in the range
-pub wraps_alike : (facts : BitFacts) (t : IntType) (z : ℤ) → (t ≡ ty.Bool → IsInRange t z)
+pub wraps_alike : (t : IntType) (z : ℤ) → (t ≡ ty.Bool → IsInRange t z)
     → bits_of t (wrapped t z) ≡ bits_of t z
-wraps_alike facts ty.Bool z range = ap (bits_of ty.Bool) (wrapped_of_range ty.Bool z (range refl))
-wraps_alike facts ty.I8 z range = facts.of_wrapped ty.I8 z (λ e. absurd (cc))
-wraps_alike facts ty.U8 z range = facts.of_wrapped ty.U8 z (λ e. absurd (cc))
-wraps_alike facts ty.I16 z range = facts.of_wrapped ty.I16 z (λ e. absurd (cc))
-wraps_alike facts ty.U16 z range = facts.of_wrapped ty.U16 z (λ e. absurd (cc))
-wraps_alike facts ty.I32 z range = facts.of_wrapped ty.I32 z (λ e. absurd (cc))
-wraps_alike facts ty.U32 z range = facts.of_wrapped ty.U32 z (λ e. absurd (cc))
-wraps_alike facts ty.I64 z range = facts.of_wrapped ty.I64 z (λ e. absurd (cc))
-wraps_alike facts ty.U64 z range = facts.of_wrapped ty.U64 z (λ e. absurd (cc))
+wraps_alike ty.Bool z range = ap (bits_of ty.Bool) (wrapped_of_range ty.Bool z (range refl))
+wraps_alike ty.I8 z range = bits_wrapped ty.I8 (λ e. absurd (cc)) z
+wraps_alike ty.U8 z range = bits_wrapped ty.U8 (λ e. absurd (cc)) z
+wraps_alike ty.I16 z range = bits_wrapped ty.I16 (λ e. absurd (cc)) z
+wraps_alike ty.U16 z range = bits_wrapped ty.U16 (λ e. absurd (cc)) z
+wraps_alike ty.I32 z range = bits_wrapped ty.I32 (λ e. absurd (cc)) z
+wraps_alike ty.U32 z range = bits_wrapped ty.U32 (λ e. absurd (cc)) z
+wraps_alike ty.I64 z range = bits_wrapped ty.I64 (λ e. absurd (cc)) z
+wraps_alike ty.U64 z range = bits_wrapped ty.U64 (λ e. absurd (cc)) z

@@ -18,7 +18,7 @@ use Rattle.cpa_expr.specs.Values.{bin_value, amount_of}
 use Rattle.cpa_expr.specs.declared.tree.BinOp.TheVariants as bin
 use Rattle.cpa_blast_words.specs.Words.{some_bit, filling}
 use Rattle.cpa_blast_words.specs.Truths.{values, number}
-use Rattle.cpa_blast_words.specs.Types.{StandsFor, BitFacts, filling_bit}
+use Rattle.cpa_blast_words.specs.Types.{StandsFor, filling_bit}
 use Rattle.cpa_blast_words.specs.Values.{AreWords, MakesValue, TestsValue}
 use Rattle.cpa_blast_words.specs.Laws.{words_mean_their_operators}
 use Rattle.cpa_blast_words.specs.lemmas.Columns.{opposite_below}
@@ -32,7 +32,7 @@ use Rattle.cpa_blast_arithmetic.specs.lemmas.StageMeanings.{stages_move, stages_
 use Rattle.cpa_blast_arithmetic.specs.lemmas.ShiftsAtTypes.{fits_where, shift_value, left_stands}
 use Rattle.cpa_blast_arithmetic.specs.lemmas.ShiftsAtTypes.{right_stands}
 
-module _ (facts : BitFacts) (t u : IntType) (s : List Gate) (xs ys : List ℕ)
+module _ (t u : IntType) (s : List Gate) (xs ys : List ℕ)
     (are : AreWords t u s xs ys) where
   low_below : AreBelow (vars s) (take (amount_bits t) ys)
   low_below = front_below (vars s) (amount_bits t) ys are.right_below
@@ -57,10 +57,10 @@ module _ (facts : BitFacts) (t u : IntType) (s : List Gate) (xs ys : List ℕ)
             ∙ ap (λ n. moved toward.Left n (lit_value m 1) (values m xs)) (low_number m)
             ∙ ap (λ f. moved toward.Left (number (take (amount_bits t) (values m ys))) f
             (values m xs)) (literals_have_values.falsehood net m holds)))
-            (shift_value facts t u (values m ys) b c (λ n. wrapped t (a *ℤ pos (2 ^ n)))
+            (shift_value t u (values m ys) b c (λ n. wrapped t (a *ℤ pos (2 ^ n)))
             (λ n z. StandsFor t (moved toward.Left n false (values m xs)) z) of.right_range
             of.right value
-            (λ n less. left_stands facts t (values m xs) a n of.left_range of.left less));
+            (λ n less. left_stands t (values m xs) a n of.left_range of.left less));
       }
 
   pub right_makes : MakesValue t u (bin_value bin.Shr t) s xs ys (shifted_right t s xs ys)
@@ -80,10 +80,10 @@ module _ (facts : BitFacts) (t u : IntType) (s : List Gate) (xs ys : List ℕ)
             ∙ ap (λ n. moved toward.Right n (lit_value m f) (values m xs)) (low_number m)
             ∙ ap (λ g. moved toward.Right (number (take (amount_bits t) (values m ys))) g
             (values m xs)) (values_filling net m t xs holds)))
-            (shift_value facts t u (values m ys) b c (λ n. int_div_euclid a (pos (2 ^ n)))
+            (shift_value t u (values m ys) b c (λ n. int_div_euclid a (pos (2 ^ n)))
             (λ n z. StandsFor t (moved toward.Right n (filling_bit t (values m xs)) (values m xs))
             z) of.right_range of.right value
-            (λ n less. right_stands facts t (values m xs) a n of.left_range of.left));
+            (λ n less. right_stands t (values m xs) a n of.left_range of.left));
       }
 
   some_high : Makes s (some_bit s (drop (amount_bits t) ys))
@@ -107,7 +107,7 @@ module _ (facts : BitFacts) (t u : IntType) (s : List Gate) (xs ys : List ℕ)
             ∙ ap not (some_high.is m holds)
             ∙ twice (number (values m high) == 0)
             ∙ ap (λ bs. number bs == 0) (sym (drop-map (lit_value m) (amount_bits t) ys))
-            ∙ fits_where facts t u (values m ys) b of.right_range of.right
+            ∙ fits_where t u (values m ys) b of.right_range of.right
             ∙ there (f a) (amount_of t b);
       }
     where

@@ -20,7 +20,7 @@ use Rattle.cpa_ints.specs.lemmas.Arithmetic.{wrapped_of_range}
 use Rattle.cpa_ints.specs.lemmas.Congruence.{Same, Same-refl, Same-mul}
 use Rattle.cpa_expr.specs.Values.{amount_of}
 use Rattle.cpa_blast_words.specs.Truths.{bit, number}
-use Rattle.cpa_blast_words.specs.Types.{StandsFor, BitFacts, filling_bit}
+use Rattle.cpa_blast_words.specs.Types.{StandsFor, filling_bit}
 use Rattle.cpa_blast_words.specs.Laws.{words_are_numbers}
 use Rattle.cpa_blast_words.specs.lemmas.AtTypes.{near, stand, stand_for}
 use Rattle.cpa_blast_words.specs.lemmas.Orders.{halves, signed_range}
@@ -73,16 +73,16 @@ AmountCase t b n =
     ((b ≡ pos n) × (amount_of t b ≡ Some n) × (n < width t))
     ⊎ ((amount_of t b ≡ None) × (width t ≤ n))
 
-amount_case : (facts : BitFacts) (t u : IntType) (ys : List Bool) (b : ℤ) → IsInRange u b
+amount_case : (t u : IntType) (ys : List Bool) (b : ℤ) → IsInRange u b
     → StandsFor u ys b → AmountCase t b (number ys)
-amount_case facts t u ys b range stands = by (filling_bit u ys) refl
+amount_case t u ys b range stands = by (filling_bit u ys) refl
   where
     n : ℕ
     n = number ys
 
     signs : (f : Bool) → filling_bit u ys ≡ f → (b +ℤ pos (2 ^ width u * bit f)) ≡ pos n
     signs f e =
-        ap (λ x. b +ℤ pos (2 ^ width u * bit x)) (sym e) ∙ by_sign facts u ys b range stands
+        ap (λ x. b +ℤ pos (2 ^ width u * bit x)) (sym e) ∙ by_sign u ys b range stands
 
     natural : (p n : ℕ) (b : ℤ) → (b +ℤ pos (p * bit false)) ≡ pos n → b ≡ pos n
     natural p n b e = omega (arith, ints)
@@ -128,13 +128,13 @@ amount_case facts t u ys b range stands = by (filling_bit u ys) refl
         )
 
 -- the other bits of an amount
-pub fits_where : (facts : BitFacts) (t u : IntType) (ys : List Bool) (b : ℤ) → IsInRange u b
+pub fits_where : (t u : IntType) (ys : List Bool) (b : ℤ) → IsInRange u b
     → StandsFor u ys b
     → (number (drop (amount_bits t) ys) == 0) ≡ is_some (amount_of t b)
-fits_where facts t u ys b range stands =
+fits_where t u ys b range stands =
     ap (λ k. k == 0) (high_number (amount_bits t) ys
     ∙ ap (λ w. number ys / w) (amount_width t))
-    ∙ elim (amount_case facts t u ys b range stands) [
+    ∙ elim (amount_case t u ys b range stands) [
       | inl h ↦ eq-eqb (number ys / width t) 0 (div-eq_of_lt h.2) ∙ sym (ap is_some h.1)
       | inr h ↦ ne_eqb (number ys / width t) 0
           (some_width (number ys) (width t) (positive (width t) (2 ^ amount_bits t)
@@ -157,12 +157,12 @@ fits_where facts t u ys b range stands =
         over n w (suc q) e less le = omega arith
 
 -- the amount of a shift that has a value, and that value
-pub shift_value : (facts : BitFacts) (t u : IntType) (ys : List Bool) (b c : ℤ) (f : ℕ → ℤ)
+pub shift_value : (t u : IntType) (ys : List Bool) (b c : ℤ) (f : ℕ → ℤ)
     (P : ℕ → ℤ → Type 0) → IsInRange u b → StandsFor u ys b
     → option_map f (amount_of t b) ≡ Some c
     → ((n : ℕ) → n < width t → P n (f n)) → P (number (take (amount_bits t) ys)) c
-shift_value facts t u ys b c f P range stands is holds =
-    elim (amount_case facts t u ys b range stands) [
+shift_value t u ys b c f P range stands is holds =
+    elim (amount_case t u ys b range stands) [
       | inl h ↦
           let same : f (number ys) ≡ c =
           value_is (f (number ys)) c (sym (ap (option_map f) h.1) ∙ is) in
@@ -181,24 +181,24 @@ shift_value facts t u ys b c f P range stands is holds =
 
 -- ---- to the left
 
-pub left_stands : (facts : BitFacts) (t : IntType) (xs : List Bool) (a : ℤ) (n : ℕ)
+pub left_stands : (t : IntType) (xs : List Bool) (a : ℤ) (n : ℕ)
     → IsInRange t a → StandsFor t xs a → n < width t
     → StandsFor t (moved toward.Left n false xs) (wrapped t (a *ℤ pos (2 ^ n)))
-left_stands facts t xs a zero range stands less =
+left_stands t xs a zero range stands less =
     subst (λ bs. StandsFor t bs (wrapped t (a *ℤ pos (2 ^ 0))))
     (sym (moved_nothing toward.Left false xs))
     (subst (StandsFor t xs) (sym (ap (wrapped t) (once a) ∙ wrapped_of_range t a range)) stands)
   where
     once : (a : ℤ) → a *ℤ pos (2 ^ 0) ≡ a
     once a = omega (arith, ints)
-left_stands facts t xs a (suc k) range stands less =
+left_stands t xs a (suc k) range stands less =
     let n = suc k in
     let p = 2 ^ width t in
-    stand facts t (a *ℤ pos (2 ^ n)) (moved toward.Left n false xs) (2 ^ n * number xs) other
+    stand t (a *ℤ pos (2 ^ n)) (moved toward.Left n false xs) (2 ^ n * number xs) other
     (moved_length toward.Left n false xs ∙ stands.long)
     (left_number n xs ∙ ap (λ w. (2 ^ n * number xs) % 2 ^ w) stands.long)
     (subst (Same p (a *ℤ pos (2 ^ n))) (as_product (number xs) (2 ^ n))
-    (Same-mul p a (pos (number xs)) (pos (2 ^ n)) (pos (2 ^ n)) (near facts t xs a stands)
+    (Same-mul p a (pos (number xs)) (pos (2 ^ n)) (pos (2 ^ n)) (near t xs a stands)
     (Same-refl p (pos (2 ^ n)))))
   where
     other : t ≢ ty.Bool
@@ -210,17 +210,17 @@ left_stands facts t xs a (suc k) range stands less =
 -- ---- to the right
 
 -- a word whose own number is congruent to a stands for a
-stand_own : (facts : BitFacts) (t : IntType) (a : ℤ) (bits : List Bool) → length bits ≡ width t
+stand_own : (t : IntType) (a : ℤ) (bits : List Bool) → length bits ≡ width t
     → Same (2 ^ width t) a (pos (number bits)) → StandsFor t bits a
-stand_own facts t a bits long same =
-    stand_for facts t a bits (number bits) long
+stand_own t a bits long same =
+    stand_for t a bits (number bits) long
     (sym (mod-eq_of_lt (subst (λ k. number bits < 2 ^ k) long (words_are_numbers.below bits))))
     same
 
-pub right_stands : (facts : BitFacts) (t : IntType) (xs : List Bool) (a : ℤ) (n : ℕ)
+pub right_stands : (t : IntType) (xs : List Bool) (a : ℤ) (n : ℕ)
     → IsInRange t a → StandsFor t xs a
     → StandsFor t (moved toward.Right n (filling_bit t xs) xs) (int_div_euclid a (pos (2 ^ n)))
-right_stands facts t xs a n range stands = by (filling_bit t xs) refl
+right_stands t xs a n range stands = by (filling_bit t xs) refl
   where
     p : ℕ
     p = 2 ^ width t
@@ -229,7 +229,7 @@ right_stands facts t xs a n range stands = by (filling_bit t xs) refl
     long b = moved_length toward.Right n b xs ∙ stands.long
 
     signs : (f : Bool) → filling_bit t xs ≡ f → (a +ℤ pos (p * bit f)) ≡ pos (number xs)
-    signs f e = ap (λ x. a +ℤ pos (p * bit x)) (sym e) ∙ by_sign facts t xs a range stands
+    signs f e = ap (λ x. a +ℤ pos (p * bit x)) (sym e) ∙ by_sign t xs a range stands
 
     natural : (p n : ℕ) (b : ℤ) → (b +ℤ pos (p * bit false)) ≡ pos n → b ≡ pos n
     natural p n b e = omega (arith, ints)
@@ -248,7 +248,7 @@ right_stands facts t xs a n range stands = by (filling_bit t xs) refl
         let bits = moved toward.Right n false xs in
         subst (λ z. StandsFor t bits (int_div_euclid z (pos (2 ^ n)))) (sym is)
         (subst (λ k. StandsFor t bits (pos k)) (right_number n xs)
-        (stand_own facts t (pos (number bits)) bits (long false)
+        (stand_own t (pos (number bits)) bits (long false)
         (Same-refl p (pos (number bits)))))
     by true e =
         let flipped = number (map not xs) in
@@ -260,6 +260,6 @@ right_stands facts t xs a n range stands = by (filling_bit t xs) refl
         ap number (opposites_moved toward.Right n true xs) ∙ right_number n (map not xs) in
         subst (λ z. StandsFor t bits (int_div_euclid z (pos (2 ^ n)))) (sym is)
         (subst (λ k. StandsFor t bits (negsuc k)) quotient
-        (stand_own facts t (negsuc rest) bits (long true)
+        (stand_own t (negsuc rest) bits (long true)
         (behind p (number bits) rest
         (words_are_numbers.opposite bits ∙ ap (λ k. 2 ^ k) (long true)))))

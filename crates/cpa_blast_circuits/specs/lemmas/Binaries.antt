@@ -24,7 +24,7 @@ use Rattle.cpa_blast_words.specs.Truths.{values, number, walked_bits}
 use Rattle.cpa_blast_words.specs.Words.{sum_word, difference_word, and_word, or_word, xor_word}
 use Rattle.cpa_blast_words.specs.Words.{equal}
 use Rattle.cpa_blast_words.specs.Words.{less, less_signed}
-use Rattle.cpa_blast_words.specs.Types.{StandsFor, BitFacts}
+use Rattle.cpa_blast_words.specs.Types.{StandsFor}
 use Rattle.cpa_blast_words.specs.Laws.{words_mean_their_operators, words_are_long, words_wrap}
 use Rattle.cpa_blast_words.specs.Laws.{words_are_equal, words_compare}
 use Rattle.cpa_blast_words.specs.lemmas.Columns.{still_below, opposite_below}
@@ -74,7 +74,7 @@ total_test t u f s xs ys scoped = record {
   is = λ m a b holds operands. literals_have_values.truth s m holds;
 }
 
-module _ (facts : BitFacts) (t : IntType) (s : List Gate) (xs ys : List ℕ) (other : t ≢ Boolean)
+module _ (t : IntType) (s : List Gate) (xs ys : List ℕ) (other : t ≢ Boolean)
     (words : AreWords t t s xs ys) where
   alike : length xs ≡ length ys
   alike = words.left_long ∙ sym words.right_long
@@ -89,7 +89,7 @@ module _ (facts : BitFacts) (t : IntType) (s : List Gate) (xs ys : List ℕ) (ot
       (λ m a b holds ops. subst (λ bs. StandsFor t bs (wrapped t (a +ℤ b)))
       (sym (made.is m holds ∙ ap (λ c. walked_bits row.Sum c (values m xs) (values m ys))
       (literals_have_values.falsehood w.net m holds)))
-      ((words_wrap facts).sum t (values m xs) (values m ys) a b other ops.left ops.right))
+      ((words_wrap).sum t (values m xs) (values m ys) a b other ops.left ops.right))
 
   difference_value : MakesValue t t (λ a b. Some (wrapped t (a -ℤ b))) s xs ys
       (difference_word s xs ys)
@@ -100,7 +100,7 @@ module _ (facts : BitFacts) (t : IntType) (s : List Gate) (xs ys : List ℕ) (ot
       made.below (words_are_long.difference s xs ys alike ∙ words.left_long)
       (λ m a b holds ops. subst (λ bs. StandsFor t bs (wrapped t (a -ℤ b)))
       (sym (made.is m holds))
-      ((words_wrap facts).difference t (values m xs) (values m ys) a b other ops.left ops.right))
+      ((words_wrap).difference t (values m xs) (values m ys) a b other ops.left ops.right))
 
   product_value : MakesValue t t (λ a b. Some (wrapped t (a *ℤ b))) s xs ys (product s xs ys)
   product_value =
@@ -112,11 +112,11 @@ module _ (facts : BitFacts) (t : IntType) (s : List Gate) (xs ys : List ℕ) (ot
       (λ m a b holds ops.
       let x = number (values m xs) in
       let y = number (values m ys) in
-      stand facts t (a *ℤ b) (values m w.value) (x * y) other
+      stand t (a *ℤ b) (values m w.value) (x * y) other
       (length-map w.value (lit_value m) ∙ made.long ∙ words.left_long)
       (made.is m holds ∙ ap (λ k. (x * y) % 2 ^ k) words.left_long)
-      (Same-mul (2 ^ width t) a (pos x) b (pos y) (near facts t (values m xs) a ops.left)
-      (near facts t (values m ys) b ops.right)))
+      (Same-mul (2 ^ width t) a (pos x) b (pos y) (near t (values m xs) a ops.left)
+      (near t (values m ys) b ops.right)))
 
   and_value : MakesValue t t
       (λ a b. Some (wrapped t (pos (bit_and (bits_of t a) (bits_of t b))))) s xs ys
@@ -128,7 +128,7 @@ module _ (facts : BitFacts) (t : IntType) (s : List Gate) (xs ys : List ℕ) (ot
       total_value t f s xs ys (and_word s xs ys) made.grows made.below
       (words_are_long.conjunction s xs ys alike ∙ words.left_long)
       (λ m a b holds ops. subst (λ bs. StandsFor t bs (f a b)) (sym (made.is m holds))
-      ((words_wrap facts).conjunction (lit_value m 1) t (values m xs) (values m ys) a b other
+      ((words_wrap).conjunction (lit_value m 1) t (values m xs) (values m ys) a b other
       ops.left ops.right))
 
   or_value : MakesValue t t
@@ -141,7 +141,7 @@ module _ (facts : BitFacts) (t : IntType) (s : List Gate) (xs ys : List ℕ) (ot
       total_value t f s xs ys (or_word s xs ys) made.grows made.below
       (words_are_long.disjunction s xs ys alike ∙ words.left_long)
       (λ m a b holds ops. subst (λ bs. StandsFor t bs (f a b)) (sym (made.is m holds))
-      ((words_wrap facts).disjunction (lit_value m 1) t (values m xs) (values m ys) a b other
+      ((words_wrap).disjunction (lit_value m 1) t (values m xs) (values m ys) a b other
       ops.left ops.right))
 
   xor_value : MakesValue t t
@@ -154,7 +154,7 @@ module _ (facts : BitFacts) (t : IntType) (s : List Gate) (xs ys : List ℕ) (ot
       total_value t f s xs ys (xor_word s xs ys) made.grows made.below
       (words_are_long.exclusion s xs ys alike ∙ words.left_long)
       (λ m a b holds ops. subst (λ bs. StandsFor t bs (f a b)) (sym (made.is m holds))
-      ((words_wrap facts).exclusion (lit_value m 1) t (values m xs) (values m ys) a b other
+      ((words_wrap).exclusion (lit_value m 1) t (values m xs) (values m ys) a b other
       ops.left ops.right))
 
 -- the word and the test of an operator
@@ -168,55 +168,55 @@ abbrev pub BinariesAre : Type 0
 BinariesAre = (o : BinOp) (t u : IntType) (s : List Gate) (xs ys : List ℕ) → t ≢ Boolean
     → (is_shift o ≡ false → u ≡ t) → AreWords t u s xs ys → IsBinary o t u s xs ys
 
-pub sum_is_binary : (facts : BitFacts) (t : IntType) (s : List Gate) (xs ys : List ℕ)
+pub sum_is_binary : (t : IntType) (s : List Gate) (xs ys : List ℕ)
     → t ≢ Boolean → AreWords t t s xs ys → IsBinary bin.Add t t s xs ys
 unfolding binary_word binary_test
-sum_is_binary facts t s xs ys other words = record {
-  value = sum_value facts t s xs ys other words;
+sum_is_binary t s xs ys other words = record {
+  value = sum_value t s xs ys other words;
   test = λ net in_net. total_test t t (λ a b. wrapped t (a +ℤ b)) net xs ys in_net.scoped;
 }
 
-pub difference_is_binary : (facts : BitFacts) (t : IntType) (s : List Gate) (xs ys : List ℕ)
+pub difference_is_binary : (t : IntType) (s : List Gate) (xs ys : List ℕ)
     → t ≢ Boolean → AreWords t t s xs ys → IsBinary bin.Sub t t s xs ys
 unfolding binary_word binary_test
-difference_is_binary facts t s xs ys other words = record {
-  value = difference_value facts t s xs ys other words;
+difference_is_binary t s xs ys other words = record {
+  value = difference_value t s xs ys other words;
   test = λ net in_net. total_test t t (λ a b. wrapped t (a -ℤ b)) net xs ys in_net.scoped;
 }
 
-pub product_is_binary : (facts : BitFacts) (t : IntType) (s : List Gate) (xs ys : List ℕ)
+pub product_is_binary : (t : IntType) (s : List Gate) (xs ys : List ℕ)
     → t ≢ Boolean → AreWords t t s xs ys → IsBinary bin.Mul t t s xs ys
 unfolding binary_word binary_test
-product_is_binary facts t s xs ys other words = record {
-  value = product_value facts t s xs ys other words;
+product_is_binary t s xs ys other words = record {
+  value = product_value t s xs ys other words;
   test = λ net in_net. total_test t t (λ a b. wrapped t (a *ℤ b)) net xs ys in_net.scoped;
 }
 
-pub and_is_binary : (facts : BitFacts) (t : IntType) (s : List Gate) (xs ys : List ℕ)
+pub and_is_binary : (t : IntType) (s : List Gate) (xs ys : List ℕ)
     → t ≢ Boolean → AreWords t t s xs ys → IsBinary bin.BitAnd t t s xs ys
 unfolding binary_word binary_test
-and_is_binary facts t s xs ys other words = record {
-  value = and_value facts t s xs ys other words;
+and_is_binary t s xs ys other words = record {
+  value = and_value t s xs ys other words;
   test = λ net in_net.
       total_test t t (λ a b. wrapped t (pos (bit_and (bits_of t a) (bits_of t b)))) net xs ys
       in_net.scoped;
 }
 
-pub or_is_binary : (facts : BitFacts) (t : IntType) (s : List Gate) (xs ys : List ℕ)
+pub or_is_binary : (t : IntType) (s : List Gate) (xs ys : List ℕ)
     → t ≢ Boolean → AreWords t t s xs ys → IsBinary bin.BitOr t t s xs ys
 unfolding binary_word binary_test
-or_is_binary facts t s xs ys other words = record {
-  value = or_value facts t s xs ys other words;
+or_is_binary t s xs ys other words = record {
+  value = or_value t s xs ys other words;
   test = λ net in_net.
       total_test t t (λ a b. wrapped t (pos (bit_or (bits_of t a) (bits_of t b)))) net xs ys
       in_net.scoped;
 }
 
-pub xor_is_binary : (facts : BitFacts) (t : IntType) (s : List Gate) (xs ys : List ℕ)
+pub xor_is_binary : (t : IntType) (s : List Gate) (xs ys : List ℕ)
     → t ≢ Boolean → AreWords t t s xs ys → IsBinary bin.BitXor t t s xs ys
 unfolding binary_word binary_test
-xor_is_binary facts t s xs ys other words = record {
-  value = xor_value facts t s xs ys other words;
+xor_is_binary t s xs ys other words = record {
+  value = xor_value t s xs ys other words;
   test = λ net in_net.
       total_test t t (λ a b. wrapped t (pos (bit_xor (bits_of t a) (bits_of t b)))) net xs ys
       in_net.scoped;
@@ -263,7 +263,7 @@ exchanged_truth t f s xs ys made truths = record {
   });
 }
 
-module _ (facts : BitFacts) (t : IntType) (s : List Gate) (scoped : IsScoped s) where
+module _ (t : IntType) (s : List Gate) (scoped : IsScoped s) where
   equal_truth : (xs ys : List ℕ) → AreBelow (vars s) xs → AreBelow (vars s) ys
       → MakesTruth t int_eq s xs ys (equal s xs ys)
   equal_truth xs ys p q =
@@ -273,7 +273,7 @@ module _ (facts : BitFacts) (t : IntType) (s : List Gate) (scoped : IsScoped s) 
         below = made.below;
         is = λ m a b holds ops.
             made.is m holds
-            ∙ words_are_equal facts t (values m xs) (values m ys) a b ops.left_range
+            ∙ words_are_equal t (values m xs) (values m ys) a b ops.left_range
             ops.right_range ops.left ops.right;
       }
 
@@ -291,7 +291,7 @@ module _ (facts : BitFacts) (t : IntType) (s : List Gate) (scoped : IsScoped s) 
             below = made.below;
             is = λ m a b holds ops.
                 made.is m holds
-                ∙ (words_compare facts).signed t (values m xs) (values m ys) a b e ops.left_range
+                ∙ (words_compare).signed t (values m xs) (values m ys) a b e ops.left_range
                 ops.right_range ops.left ops.right;
           }
       by false e =
@@ -301,7 +301,7 @@ module _ (facts : BitFacts) (t : IntType) (s : List Gate) (scoped : IsScoped s) 
             below = made.below;
             is = λ m a b holds ops.
                 made.is m holds
-                ∙ (words_compare facts).natural t (values m xs) (values m ys) a b e ops.left_range
+                ∙ (words_compare).natural t (values m xs) (values m ys) a b e ops.left_range
                 ops.right_range ops.left ops.right;
           }
 
@@ -400,13 +400,13 @@ with_true : (b : Bool) → b ≡ (b && true)
 with_true true = refl
 with_true false = refl
 
-pub comparison_ready : (facts : BitFacts) (P : (ℕ → Bool) → Type 0) (net : List Gate) (a b : Answer)
+pub comparison_ready : (P : (ℕ → Bool) → Type 0) (net : List Gate) (a b : Answer)
     (t : IntType) (v w : Option ℤ) (o : CmpOp) → IsScoped net → IsReady P net a t v
     → IsReady P net b t w → IsRanged P t v → IsRanged P t w
     → MakesReady P net (comparison_in o t net a b) ty.I32 (comparison o v w)
 unfolding comparison_in
-comparison_ready facts P net a b t v w o scoped left right left_range right_range =
-    let truths = compared_truth facts t net scoped o a.bits b.bits left.bits_below
+comparison_ready P net a b t v w o scoped left right left_range right_range =
+    let truths = compared_truth t net scoped o a.bits b.bits left.bits_below
     right.bits_below in
     let l = compared o t net a.bits b.bits in
     let ok = and_in l.net a.ok b.ok in

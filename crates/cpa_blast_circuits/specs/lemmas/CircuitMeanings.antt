@@ -7,7 +7,6 @@ use Rattle.cpa_blast_gates.specs.declared.gate.Gate.{Gate}
 use Rattle.cpa_blast_gates.specs.Nets.{IsScoped, Built}
 use Rattle.cpa_blast_gates.specs.Meanings.{Grows}
 use Rattle.cpa_blast_gates.specs.Laws.{nets_grow}
-use Rattle.cpa_blast_words.specs.Types.{BitFacts}
 use Rattle.cpa_expr.specs.declared.tree.Expr.{Expr, roll-Expr}
 use Rattle.cpa_expr.specs.declared.tree.Expr.TheVariants.{Const, Read, Un, Bin, Cmp, Cast, And, Or}
 use Rattle.cpa_expr.specs.declared.tree.Expr.TheVariants.{Not, Cond, rolls-Const, rolls-Read}
@@ -63,7 +62,7 @@ behind P s net made t v grows here = record {
   ready = here.ready;
 }
 
-module _ (facts : BitFacts) (binaries : BinariesAre) (cells : List Word) (store : List ℤ)
+module _ (binaries : BinariesAre) (cells : List Word) (store : List ℤ)
     (long : AreLong cells) (few : length cells < 2 ^ 64) where
   abbrev P : (ℕ → Bool) → Type 0
   P m = HasStore m cells store
@@ -88,12 +87,12 @@ module _ (facts : BitFacts) (binaries : BinariesAre) (cells : List Word) (store 
         (value_of (Const t n) store) _
         (at_node cells (Const t n) (Expr-F.Const t n) s (rolls-Const t n))
         (type_at_variants.constant t n) (value_at_variants.constant t n store)
-        (constant_ready facts P s t n scoped);
+        (constant_ready P s t n scoped);
     read = λ t base len index is s typed scoped below.
         let parts = (typed_at_variants.read (types_of cells) t base len index).0 typed in
         let a = circuit cells index s in
         let made = is s parts.2 scoped below in
-        let here = read_ready facts P cells store a.net a.value (type_of index) t
+        let here = read_ready P cells store a.net a.value (type_of index) t
         (value_of index store) base len made.grows.scoped
         (words_still_of s a.net cells made.grows below) long parts.1 parts.0 few made.ready
         (ranged index parts.2) (λ m has. has) in
@@ -108,7 +107,7 @@ module _ (facts : BitFacts) (binaries : BinariesAre) (cells : List Word) (store 
         let parts = (typed_at_variants.unary (types_of cells) o t arg).0 typed in
         let a = circuit cells arg s in
         let made = is s parts.2 scoped below in
-        let here = unary_ready facts P a.net a.value made.grows.scoped o t (value_of arg store)
+        let here = unary_ready P a.net a.value made.grows.scoped o t (value_of arg store)
         (other_than_bool t parts.0)
         (ready_as P a.net a.value (type_of arg) t (value_of arg store) parts.1 made.ready)
         (ranged_as arg t parts.1 parts.2) in
@@ -156,7 +155,7 @@ module _ (facts : BitFacts) (binaries : BinariesAre) (cells : List Word) (store 
         let v = value_of left store in
         let w = value_of right store in
         let both = nets_grow.on s a.net b.net first.grows second.grows in
-        let here = comparison_ready facts P b.net a.value b.value t v w o second.grows.scoped
+        let here = comparison_ready P b.net a.value b.value t v w o second.grows.scoped
         (ready_as P b.net a.value (type_of left) t v parts.0
         (still_ready P a.net b.net a.value (type_of left) v second.grows first.ready))
         (ready_as P b.net b.value (type_of right) t w parts.1 second.ready)
@@ -172,7 +171,7 @@ module _ (facts : BitFacts) (binaries : BinariesAre) (cells : List Word) (store 
         let inner = (typed_at_variants.cast (types_of cells) t arg).0 typed in
         let a = circuit cells arg s in
         let made = is s inner scoped below in
-        let here = cast_ready facts P a.net a.value made.grows.scoped (type_of arg) t
+        let here = cast_ready P a.net a.value made.grows.scoped (type_of arg) t
         (value_of arg store) made.ready (ranged arg inner) in
         made_as P s (circuit cells (Cast t arg) s) _ (type_of (Cast t arg)) t
         (value_of (Cast t arg) store) _
@@ -188,7 +187,7 @@ module _ (facts : BitFacts) (binaries : BinariesAre) (cells : List Word) (store 
         (words_still_of s a.net cells first.grows below) in
         let v = value_of left store in
         let both = nets_grow.on s a.net b.net first.grows second.grows in
-        let here = both_ready facts P b.net a.value b.value (type_of left) (type_of right) v
+        let here = both_ready P b.net a.value b.value (type_of left) (type_of right) v
         (value_of right store) second.grows.scoped
         (still_ready P a.net b.net a.value (type_of left) v second.grows first.ready)
         second.ready (ranged left parts.0) (ranged right parts.1) in
@@ -207,7 +206,7 @@ module _ (facts : BitFacts) (binaries : BinariesAre) (cells : List Word) (store 
         (words_still_of s a.net cells first.grows below) in
         let v = value_of left store in
         let both = nets_grow.on s a.net b.net first.grows second.grows in
-        let here = either_ready facts P b.net a.value b.value (type_of left) (type_of right) v
+        let here = either_ready P b.net a.value b.value (type_of left) (type_of right) v
         (value_of right store) second.grows.scoped
         (still_ready P a.net b.net a.value (type_of left) v second.grows first.ready)
         second.ready (ranged left parts.0) (ranged right parts.1) in
@@ -221,7 +220,7 @@ module _ (facts : BitFacts) (binaries : BinariesAre) (cells : List Word) (store 
         let inner = (typed_at_variants.negation (types_of cells) arg).0 typed in
         let a = circuit cells arg s in
         let made = is s inner scoped below in
-        let here = not_ready facts P a.net a.value made.grows.scoped (type_of arg)
+        let here = not_ready P a.net a.value made.grows.scoped (type_of arg)
         (value_of arg store) made.ready (ranged arg inner) in
         made_as P s (circuit cells (Not arg) s) _ (type_of (Not arg)) _
         (value_of (Not arg) store) _
@@ -243,7 +242,7 @@ module _ (facts : BitFacts) (binaries : BinariesAre) (cells : List Word) (store 
         let w = value_of yes_end store in
         let z = value_of no_end store in
         let from_a = nets_grow.on a.net b.net c.net second.grows third.grows in
-        let here = conditional_ready facts P c.net a.value b.value c.value (type_of test) t v w z
+        let here = conditional_ready P c.net a.value b.value c.value (type_of test) t v w z
         third.grows.scoped (still_ready P a.net c.net a.value (type_of test) v from_a first.ready)
         (ready_as P c.net b.value (type_of yes_end) t w parts.0
         (still_ready P b.net c.net b.value (type_of yes_end) w third.grows second.ready))

@@ -19,7 +19,7 @@ use Rattle.cpa_blast_gates.specs.Gates.{lit_value}
 use Rattle.cpa_blast_gates.specs.Nets.{Holds}
 use Rattle.cpa_blast_gates.specs.Laws.{literals_have_values}
 use Rattle.cpa_blast_words.specs.Truths.{values, number}
-use Rattle.cpa_blast_words.specs.Types.{StandsFor, BitFacts}
+use Rattle.cpa_blast_words.specs.Types.{StandsFor}
 use Rattle.cpa_blast_words.specs.Laws.{comparisons_compare, words_are_numbers, words_are_equal}
 use Rattle.cpa_blast_words.specs.lemmas.WordMeanings.{values_repeated}
 use Rattle.cpa_expr.specs.Shape.{is_arithmetic}
@@ -30,14 +30,14 @@ pub no_bits : (t : IntType) → bits_of t (pos 0) ≡ 0
 no_bits t = mod-eq_of_lt (pow_pos (width t))
 
 -- a word has a true bit where its number is nonzero
-pub nonzero : (facts : BitFacts) (t : IntType) (bs : List Bool) (n : ℤ) → IsInRange t n
+pub nonzero : (t : IntType) (bs : List Bool) (n : ℤ) → IsInRange t n
     → StandsFor t bs n → not (number bs == 0) ≡ is_nonzero n
-nonzero facts t bs n range stands =
+nonzero t bs n range stands =
     let zeros = replicate (length bs) false in
     let long = length-replicate (length bs) false in
     ap not (ap (λ k. number bs == k) (sym (words_are_numbers.falses (length bs)))
     ∙ sym (comparisons_compare.equal bs zeros (sym long))
-    ∙ words_are_equal facts t bs zeros n (pos 0) range (zero_within t) stands
+    ∙ words_are_equal t bs zeros n (pos 0) range (zero_within t) stands
     (record {
       long = long ∙ stands.long;
       is = words_are_numbers.falses (length bs) ∙ sym (no_bits t);

@@ -18,7 +18,7 @@ use Rattle.cpa_blast_gates.specs.Meanings.{Grows}
 use Rattle.cpa_blast_gates.specs.Laws.{literals_have_values, nets_grow, gates_mean_their_operators}
 use Rattle.cpa_blast_words.specs.Truths.{bit, values, number, flipped_top_bits}
 use Rattle.cpa_blast_words.specs.Words.{less, constant_word, cast_word, filling}
-use Rattle.cpa_blast_words.specs.Types.{StandsFor, BitFacts, filling_bit, cast_bits}
+use Rattle.cpa_blast_words.specs.Types.{StandsFor, filling_bit, cast_bits}
 use Rattle.cpa_blast_words.specs.Laws.{words_mean_their_operators, words_are_long}
 use Rattle.cpa_blast_words.specs.Laws.{words_are_numbers}
 use Rattle.cpa_blast_words.specs.Laws.{comparisons_compare}
@@ -69,15 +69,15 @@ top_negative : (a : ℤ) (n k low h f : ℕ) (b : Bool) → low < h → k ≡ lo
 top_negative a n k low h f true below whole flipped e is = refl
 top_negative a n k low h f false below whole flipped e is = absurd (omega (arith, ints))
 
-sign_of : (facts : BitFacts) (t : IntType) (bs : List Bool) (a : ℤ) → IsInRange t a
+sign_of : (t : IntType) (bs : List Bool) (a : ℤ) → IsInRange t a
     → StandsFor t bs a → IsSigned t bs a
-sign_of facts t bs a range stands = by (is_signed t) refl
+sign_of t bs a range stands = by (is_signed t) refl
   where
     by : (x : Bool) → is_signed t ≡ x → IsSigned t bs a
     by true e =
         let top = has_top (width t - 1) bs (stands.long ∙ width_positive t) in
         let h = 2 ^ (width t - 1) in
-        let up = moved facts t bs a e range stands in
+        let up = moved t bs a e range stands in
         let at : filling_bit t bs ≡ top.top =
         ap (λ x. if x then slice_index_or bs (length bs - 1) false else false) e ∙ top.at in
         record {
@@ -89,7 +89,7 @@ sign_of facts t bs a range stands = by (is_signed t) refl
               top.below top.whole top.flipped up is;
         }
     by false e =
-        let same = own facts t bs a e range stands in
+        let same = own t bs a e range stands in
         record {
           natural = λ n is. (
             ap (λ x. if x then slice_index_or bs (length bs - 1) false else false) e,
@@ -99,10 +99,10 @@ sign_of facts t bs a range stands = by (is_signed t) refl
         }
 
 -- a number that is not negative is that of its word
-pub natural_number : (facts : BitFacts) (t : IntType) (bs : List Bool) (a : ℤ) (n : ℕ)
+pub natural_number : (t : IntType) (bs : List Bool) (a : ℤ) (n : ℕ)
     → IsInRange t a → StandsFor t bs a → a ≡ pos n → number bs ≡ n
-natural_number facts t bs a n range stands is =
-    ((sign_of facts t bs a range stands).natural n is).1
+natural_number t bs a n range stands is =
+    ((sign_of t bs a range stands).natural n is).1
 
 -- the number and the sign tell whether the index lies inside
 inside_told : (t : IntType) (bs : List Bool) (len : ℕ) (a : ℤ) → IsSigned t bs a
@@ -145,11 +145,11 @@ pub record IsInsideTest (t : IntType) (len : ℕ) (s : List Gate) (xs : List ℕ
     pub is : (m : ℕ → Bool) (a : ℤ) → Holds m made.net → IsInRange t a
         → StandsFor t (values m xs) a → lit_value m made.value ≡ is_inside len a
 
-pub inside_is : (facts : BitFacts) (t : IntType) (len : ℕ) (s : List Gate) (xs : List ℕ)
+pub inside_is : (t : IntType) (len : ℕ) (s : List Gate) (xs : List ℕ)
     → IsScoped s → AreBelow (vars s) xs → length xs ≡ width t → len < 2 ^ 64
     → IsInsideTest t len s xs (inside t len s xs)
 unfolding inside
-inside_is facts t len s xs scoped below long small =
+inside_is t len s xs scoped below long small =
     let wide = cast_word ty.U64 ty.U64 s xs in
     let bound = constant_word 64 len in
     let l = less wide.net wide.value bound in
@@ -190,7 +190,7 @@ inside_is facts t len s xs scoped below long small =
           ∙ comparisons_compare.less false (values m wide.value) (values m bound) alike
           ∙ ap (λ n. nat_lt n (number (values m bound) + bit false)) same_low
           ∙ ap (λ n. nat_lt (number bs) n) same_high)
-          ∙ inside_told t bs len a (sign_of facts t bs a range stands);
+          ∙ inside_told t bs len a (sign_of t bs a range stands);
     }
   where
     bounded : (k len : ℕ) → k ≡ len % 2 ^ 64 → len % 2 ^ 64 ≡ len → k + bit false ≡ len

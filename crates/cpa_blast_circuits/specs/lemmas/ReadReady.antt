@@ -11,7 +11,7 @@ use Rattle.cpa_blast_gates.specs.Gates.{lit_value}
 use Rattle.cpa_blast_gates.specs.Nets.{IsScoped, and_in}
 use Rattle.cpa_blast_gates.specs.Laws.{nets_grow, gates_mean_their_operators}
 use Rattle.cpa_blast_words.specs.Truths.{values, number}
-use Rattle.cpa_blast_words.specs.Types.{StandsFor, BitFacts}
+use Rattle.cpa_blast_words.specs.Types.{StandsFor}
 use Rattle.cpa_blast_words.specs.lemmas.Columns.{still_below}
 use Rattle.cpa_blast_words.specs.lemmas.WalkMeanings.{all_still_below}
 use Rattle.cpa_expr.specs.Shape.{AreCells}
@@ -67,7 +67,7 @@ module _ (m : ℕ → Bool) (cells : List Word) (store : List ℤ) (base len : �
           )
       by false less e = absurd (cc)
 
-pub read_ready : (facts : BitFacts) (P : (ℕ → Bool) → Type 0) (cells : List Word) (store : List ℤ)
+pub read_ready : (P : (ℕ → Bool) → Type 0) (cells : List Word) (store : List ℤ)
     (s : List Gate) (index : Answer) (u t : IntType) (v : Option ℤ) (base len : ℕ) → IsScoped s
     → AreWordsOf s cells → AreLong cells → AreCells (types_of cells) base len t → 1 ≤ len
     → length cells < 2 ^ 64 → IsReady P s index u v → IsRanged P u v
@@ -75,7 +75,7 @@ pub read_ready : (facts : BitFacts) (P : (ℕ → Bool) → Type 0) (cells : Lis
     → MakesReady P s (read_in cells t base len s index) t
     (option_and_then (cell_at store base len) v)
 unfolding read_in
-read_ready facts P cells store s index u t v base len scoped below long are some few ready range
+read_ready P cells store s index u t v base len scoped below long are some few ready range
     has =
     let words = cell_bits cells base len in
     let word = picked s index.bits words in
@@ -85,7 +85,7 @@ read_ready facts P cells store s index u t v base len scoped below long are some
     let number_is = cells_number base len cells there in
     let is_word = picked_is s index.bits (width t) words scoped ready.bits_below
     (cells_below s cells base len below) (cells_alike t base len cells long are) in
-    let is_test = inside_is facts index.ty len word.net index.bits is_word.grows.scoped
+    let is_test = inside_is index.ty len word.net index.bits is_word.grows.scoped
     (all_still_below s word.net index.bits is_word.grows ready.bits_below)
     (ready.long ∙ ap width (sym ready.ty)) (omega (arith, there, few)) in
     let to_test = nets_grow.on s word.net test.net is_word.grows is_test.grows in
@@ -113,7 +113,7 @@ read_ready facts P cells store s index u t v base len scoped below long are some
             (λ n r in_range stands e.
             let found = stands_at m cells store base len t store_is are n r
             (number (values m index.bits))
-            (λ k is. natural_number facts u (values m index.bits) n k in_range stands is) e in
+            (λ k is. natural_number u (values m index.bits) n k in_range stands is) e in
             subst (λ bs. StandsFor t bs r)
             (sym (is_word.is m at_word (subst (λ i. number (values m index.bits) < i)
             (sym number_is) found.0))) found.1);

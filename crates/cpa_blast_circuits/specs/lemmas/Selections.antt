@@ -13,7 +13,6 @@ use Rattle.cpa_blast_gates.specs.Laws.{literals_have_values, nets_grow, gates_me
 use Rattle.std.proofs.lemmas.List.{length-map}
 use Rattle.cpa_blast_words.specs.Truths.{values, number}
 use Rattle.cpa_blast_words.specs.Words.{choose_word, some_bit}
-use Rattle.cpa_blast_words.specs.Types.{BitFacts}
 use Rattle.cpa_blast_words.specs.Laws.{words_mean_their_operators, words_are_long}
 use Rattle.cpa_blast_words.specs.Laws.{masks_are_bitwise}
 use Rattle.cpa_blast_words.specs.lemmas.Columns.{still_below, opposite_below}
@@ -31,12 +30,12 @@ abbrev nonzero_at : (ℕ → Bool) → List ℕ → Bool
 nonzero_at m bits = not (number (values m bits) == 0)
 
 -- it tells whether the value is nonzero
-tells : (facts : BitFacts) (m : ℕ → Bool) (t : IntType) (a : Answer) (v : Option ℤ)
+tells : (m : ℕ → Bool) (t : IntType) (a : Answer) (v : Option ℤ)
     → IsAnswer m t a v → IfSome v (IsInRange t) → IfSome v (λ n. nonzero_at m a.bits ≡ is_nonzero n)
-tells facts m t a None is range = tt
-tells facts m t a (Some n) is range = nonzero facts t (values m a.bits) n range is.bits
+tells m t a None is range = tt
+tells m t a (Some n) is range = nonzero t (values m a.bits) n range is.bits
 
-module _ (facts : BitFacts) (P : (ℕ → Bool) → Type 0) (net : List Gate) (a b : Answer)
+module _ (P : (ℕ → Bool) → Type 0) (net : List Gate) (a b : Answer)
     (t u : IntType) (v w : Option ℤ) (scoped : IsScoped net) (left : IsReady P net a t v)
     (right : IsReady P net b u w) (left_range : IsRanged P t v) (right_range : IsRanged P u w)
   where
@@ -84,8 +83,8 @@ module _ (facts : BitFacts) (P : (ℕ → Bool) → Type 0) (net : List Gate) (a
                 let one = nonzero_at m a.bits in
                 let two = nonzero_at m b.bits in
                 both_answered m t a u b (answer_of ty.I32 (flag l.value) ok.value) one two v w
-                first second (tells facts m t a v first (left_range m p))
-                (tells facts m u b w second (right_range m p))
+                first second (tells m t a v first (left_range m p))
+                (tells m u b w second (right_range m p))
                 (is_ok.is m holds ∙ ap (λ c. lit_value m a.ok && c)
                 (is_counted.is m at_counted ∙ ap (λ c. c || lit_value m b.ok)
                 (literals_have_values.negative m x.value ∙ ap not (is_x.is m at_x))))
@@ -138,8 +137,8 @@ module _ (facts : BitFacts) (P : (ℕ → Bool) → Type 0) (net : List Gate) (a
                 let one = nonzero_at m a.bits in
                 let two = nonzero_at m b.bits in
                 either_answered m t a u b (answer_of ty.I32 (flag l.value) ok.value) one two v w
-                first second (tells facts m t a v first (left_range m p))
-                (tells facts m u b w second (right_range m p))
+                first second (tells m t a v first (left_range m p))
+                (tells m u b w second (right_range m p))
                 (is_ok.is m holds ∙ ap (λ c. lit_value m a.ok && c)
                 (is_counted.is m at_counted ∙ ap (λ c. c || lit_value m b.ok) (is_x.is m at_x)))
                 (flagged l.net m l.value (one || two) at_l
@@ -148,12 +147,12 @@ module _ (facts : BitFacts) (P : (ℕ → Bool) → Type 0) (net : List Gate) (a
           };
         }
 
-pub conditional_ready : (facts : BitFacts) (P : (ℕ → Bool) → Type 0) (net : List Gate)
+pub conditional_ready : (P : (ℕ → Bool) → Type 0) (net : List Gate)
     (a first second : Answer) (u t : IntType) (v w z : Option ℤ) → IsScoped net
     → IsReady P net a u v → IsReady P net first t w → IsReady P net second t z → IsRanged P u v
     → MakesReady P net (conditional_in t net a first second) t (conditional v w z)
 unfolding conditional_in
-conditional_ready facts P net a first second u t v w z scoped test yes_end no_end range =
+conditional_ready P net a first second u t v w z scoped test yes_end no_end range =
     let x = some_bit net a.bits in
     let word = choose_word x.net x.value first.bits second.bits in
     let end = choice_in word.net x.value first.ok second.ok in
@@ -191,7 +190,7 @@ conditional_ready facts P net a first second u t v w z scoped test yes_end no_en
             ∙ sym (length-map second.bits (lit_value m) ∙ no_end.long) in
             end_answered m u t a first second (answer_of t word.value ok.value) one v w z tested
             (yes_end.is m p at_net) (no_end.is m p at_net)
-            (tells facts m u a v tested (range m p))
+            (tells m u a v tested (range m p))
             (is_ok.is m holds ∙ ap (λ c. lit_value m a.ok && c)
             (is_end.is m at_end
             ∙ ap (λ c. if c then lit_value m first.ok else lit_value m second.ok)

@@ -10,6 +10,7 @@ use Rattle.cpa_ints.specs.declared.integers.IntType.TheVariants as ty
 use Rattle.cpa_ints.specs.Integers.{width}
 use Rattle.cpa_ints.specs.Wrapping.{wrapped}
 use Rattle.cpa_ints.specs.Bits.{bits_of}
+use Rattle.cpa_ints.specs.lemmas.Bits.{bits_below}
 use Rattle.cpa_cnf.specs.Literals.{opposite}
 use Rattle.cpa_cnf.specs.Lines.{AreBelow}
 use Rattle.cpa_blast_gates.specs.declared.gate.Gate.{Gate}
@@ -19,7 +20,7 @@ use Rattle.cpa_blast_gates.specs.Laws.{literals_have_values, nets_grow}
 use Rattle.cpa_blast_words.specs.Truths.{values}
 use Rattle.cpa_blast_words.specs.Words.{negated_word, opposites, constant_word, constant_literal}
 use Rattle.cpa_blast_words.specs.Words.{cast_word, some_bit}
-use Rattle.cpa_blast_words.specs.Types.{StandsFor, BitFacts, cast_bits}
+use Rattle.cpa_blast_words.specs.Types.{StandsFor, cast_bits}
 use Rattle.cpa_blast_words.specs.Laws.{words_mean_their_operators, words_are_long, words_wrap}
 use Rattle.cpa_blast_words.specs.Laws.{words_cast}
 use Rattle.cpa_blast_words.specs.lemmas.Columns.{still_below, opposite_below}
@@ -41,7 +42,7 @@ pub constant_below : (s : List Gate) (w n : ℕ) → AreBelow (vars s) (constant
 constant_below s zero n = tt
 constant_below s (suc w) n = (literal_below s (n % 2 == 1), constant_below s w (n / 2))
 
-module _ (facts : BitFacts) (P : (ℕ → Bool) → Type 0) where
+module _ (P : (ℕ → Bool) → Type 0) where
   pub constant_ready : (s : List Gate) (t : IntType) (n : ℤ) → IsScoped s
       → MakesReady P s (built s (constant_answer t n)) t (Some n)
   constant_ready s t n scoped = record {
@@ -57,7 +58,7 @@ module _ (facts : BitFacts) (P : (ℕ → Bool) → Type 0) where
           long = length-map (constant_word (width t) (bits_of t n)) (lit_value m)
               ∙ words_are_long.constant (width t) (bits_of t n);
           is = words_mean_their_operators.constant s m (width t) (bits_of t n) holds
-              ∙ mod-eq_of_lt (facts.below t n);
+              ∙ mod-eq_of_lt (bits_below t n);
         };
       };
     };
@@ -83,7 +84,7 @@ module _ (facts : BitFacts) (P : (ℕ → Bool) → Type 0) where
                 (r.is m p (made.grows.keeps m holds)) (ranged m p) refl
                 (λ n range stands. subst (λ bs. StandsFor t bs (wrapped t (neg_ℤ n)))
                 (sym (made.is m holds))
-                ((words_wrap facts).negation t (values m a.bits) n other stands));
+                ((words_wrap).negation t (values m a.bits) n other stands));
           };
         }
     unary_ready un.Flip t v other r ranged = record {
@@ -98,7 +99,7 @@ module _ (facts : BitFacts) (P : (ℕ → Bool) → Type 0) where
             (r.is m p holds) (ranged m p) refl
             (λ n range stands. subst (λ bs. StandsFor t bs (wrapped t (neg_ℤ n -ℤ pos 1)))
             (sym (words_mean_their_operators.opposites m a.bits))
-            ((words_wrap facts).flip t (values m a.bits) n other stands));
+            ((words_wrap).flip t (values m a.bits) n other stands));
       };
     }
 
@@ -120,7 +121,7 @@ module _ (facts : BitFacts) (P : (ℕ → Bool) → Type 0) where
                 (r.is m p (made.grows.keeps m holds)) (ranged m p) refl
                 (λ n range stands. subst (λ bs. StandsFor t bs (wrapped t n))
                 (sym (made.is m holds ∙ ap (λ u. cast_bits u t (values m a.bits)) r.ty))
-                (words_cast facts s t (values m a.bits) n range stands));
+                (words_cast s t (values m a.bits) n range stands));
           };
         }
 
@@ -144,6 +145,6 @@ module _ (facts : BitFacts) (P : (ℕ → Bool) → Type 0) where
                 (ranged m p) refl
                 (λ n range stands. flagged l.net m (opposite l.value) (not (is_nonzero n)) holds
                 (literals_have_values.negative m l.value
-                ∙ ap not (made.is m holds ∙ nonzero facts s (values m a.bits) n range stands)));
+                ∙ ap not (made.is m holds ∙ nonzero s (values m a.bits) n range stands)));
           };
         }

@@ -20,8 +20,9 @@ use Rattle.cpa_ints.specs.Integers.{width, is_signed, IsInRange}
 use Rattle.cpa_ints.specs.Wrapping.{wrapped}
 use Rattle.cpa_ints.specs.Bits.{bits_of}
 use Rattle.cpa_ints.specs.lemmas.Congruence.{Same, Same-refl}
+use Rattle.cpa_ints.specs.lemmas.Bits.{bits_back}
 use Rattle.cpa_blast_words.specs.Truths.{bit, number, resized_bits}
-use Rattle.cpa_blast_words.specs.Types.{StandsFor, BitFacts, WordsCast, filling_bit}
+use Rattle.cpa_blast_words.specs.Types.{StandsFor, WordsCast, filling_bit}
 use Rattle.cpa_blast_words.specs.lemmas.Numbers.{low_number, number_append, falses_number}
 use Rattle.cpa_blast_words.specs.lemmas.Numbers.{trues_number}
 use Rattle.cpa_blast_words.specs.lemmas.AtTypes.{near, stand, stand_exact}
@@ -66,9 +67,9 @@ negative : (a : ℤ) (n low h p f : ℕ) → n ≡ low + h * bit true → f ≡ 
 negative a n low h p f whole flipped twice e = omega (arith, ints)
 
 -- a number is that of its bits, less 2 to the power of the width where it is negative
-pub by_sign : (facts : BitFacts) (t : IntType) (bs : List Bool) (a : ℤ) → IsInRange t a
+pub by_sign : (t : IntType) (bs : List Bool) (a : ℤ) → IsInRange t a
     → StandsFor t bs a → (a +ℤ pos (2 ^ width t * bit (filling_bit t bs))) ≡ pos (number bs)
-by_sign facts t bs a range stands = by (is_signed t) refl
+by_sign t bs a range stands = by (is_signed t) refl
   where
     none : (p n : ℕ) (a : ℤ) → pos n ≡ a → (a +ℤ pos (p * bit false)) ≡ pos n
     none p n a e = omega (arith, ints)
@@ -88,7 +89,7 @@ by_sign facts t bs a range stands = by (is_signed t) refl
         none (2 ^ width t) (number bs) a (not_negative a (number bs) top.low h _
         (top.whole ∙ ap (λ b. top.low + h * bit b) no)
         (top.flipped ∙ ap (λ b. top.low + h * bit (not b)) no)
-        (moved facts t bs a e range stands))
+        (moved t bs a e range stands))
     by_top_bit true e is =
         let top = has_top (width t - 1) bs (stands.long ∙ width_positive t) in
         let yes_top : top.top ≡ true = sym top.at ∙ is in
@@ -96,14 +97,14 @@ by_sign facts t bs a range stands = by (is_signed t) refl
         some (2 ^ width t) (number bs) a (negative a (number bs) top.low h (2 ^ width t) _
         (top.whole ∙ ap (λ b. top.low + h * bit b) yes_top)
         (top.flipped ∙ ap (λ b. top.low + h * bit (not b)) yes_top)
-        (halves t) (moved facts t bs a e range stands))
+        (halves t) (moved t bs a e range stands))
 
     by : (x : Bool) → is_signed t ≡ x
         → (a +ℤ pos (2 ^ width t
         * bit (if x then slice_index_or bs (length bs - 1) false else false))) ≡ pos (number bs)
     by true e = by_top_bit (slice_index_or bs (length bs - 1) false) e refl
     by false e =
-        none (2 ^ width t) (number bs) a (own facts t bs a e range stands ∙ zero_more a)
+        none (2 ^ width t) (number bs) a (own t bs a e range stands ∙ zero_more a)
 
 -- a sign stands only in front of a type with negative values
 pub signed_where : (t : IntType) (bs : List Bool) → filling_bit t bs ≡ true → is_signed t ≡ true
@@ -114,20 +115,20 @@ signed_where t bs e = by (is_signed t) e
     by true e = refl
     by false e = e
 
-module _ (facts : BitFacts) (s t : IntType) (bs : List Bool) (a : ℤ) (other : t ≢ Boolean)
+module _ (s t : IntType) (bs : List Bool) (a : ℤ) (other : t ≢ Boolean)
     (range : IsInRange s a) (stands : StandsFor s bs a) where
   narrow : width t ≤ length bs → StandsFor t (take (width t) bs) (wrapped t a)
   narrow le =
-      stand facts t a (take (width t) bs) (number bs) other (length-take-le (width t) bs le)
+      stand t a (take (width t) bs) (number bs) other (length-take-le (width t) bs le)
       (low_number (width t) bs)
       (Same-part (2 ^ width t) (2 ^ (width s - width t)) (2 ^ width s) a (pos (number bs))
       (power_split (width s) (width t) (subst (λ n. width t ≤ n) stands.long le))
-      (near facts s bs a stands))
+      (near s bs a stands))
 
   by_sign_at : (b : Bool) → filling_bit s bs ≡ b
       → (a +ℤ pos (2 ^ width s * bit b)) ≡ pos (number bs)
   by_sign_at b e =
-      ap (λ f. a +ℤ pos (2 ^ width s * bit f)) (sym e) ∙ by_sign facts s bs a range stands
+      ap (λ f. a +ℤ pos (2 ^ width s * bit f)) (sym e) ∙ by_sign s bs a range stands
 
   long : (b : Bool) → length bs < width t
       → length (bs ++ replicate (width t - length bs) b) ≡ width t
@@ -143,7 +144,7 @@ module _ (facts : BitFacts) (s t : IntType) (bs : List Bool) (a : ℤ) (other : 
       → StandsFor t (bs ++ replicate (width t - length bs) false) (wrapped t a)
   zeros lt is =
       let k = width t - length bs in
-      stand_exact facts t a (bs ++ replicate k false) (number bs) other (long false lt)
+      stand_exact t a (bs ++ replicate k false) (number bs) other (long false lt)
       (number_append bs (replicate k false)
       ∙ ap (λ n. number bs + 2 ^ length bs * n) (falses_number k)
       ∙ nothing (number bs) (2 ^ length bs))
@@ -159,7 +160,7 @@ module _ (facts : BitFacts) (s t : IntType) (bs : List Bool) (a : ℤ) (other : 
   ones lt is =
       let k = width t - length bs in
       let r = number (replicate k true) in
-      stand_exact facts t a (bs ++ replicate k true) (number bs + 2 ^ length bs * r) other
+      stand_exact t a (bs ++ replicate k true) (number bs + 2 ^ length bs * r) other
       (long true lt) (number_append bs (replicate k true))
       (sign_same a (number bs) (2 ^ length bs) (2 ^ k) r (2 ^ width t) is (trues_number k)
       (whole (width t) (length bs) lt))
@@ -207,9 +208,9 @@ one_bits a ne =
     unequal true h = absurd (h refl)
     unequal false h = refl
 
-truth_is : (facts : BitFacts) (s : IntType) (bs : List Bool) (a : ℤ) → IsInRange s a
+truth_is : (s : IntType) (bs : List Bool) (a : ℤ) → IsInRange s a
     → StandsFor s bs a → StandsFor Boolean (not (number bs == 0) ∷ []) (wrapped Boolean a)
-truth_is facts s bs a range stands =
+truth_is s bs a range stands =
     elim (cases_eq (number bs) 0) [
       | inl e ↦ record {
         long = refl;
@@ -228,9 +229,9 @@ truth_is facts s bs a range stands =
 
     back : number bs ≡ 0 → a ≡ pos 0
     back e =
-        sym (facts.back s a range) ∙ ap
+        sym (bits_back s a range) ∙ ap
         (λ n. wrapped s (pos n)) (sym stands.is ∙ e ∙ sym (no_bits s))
-        ∙ facts.back s (pos 0) (zero_within s)
+        ∙ bits_back s (pos 0) (zero_within s)
 
 other_type : (t : IntType) → (width t == 1) ≡ false → t ≢ Boolean
 other_type t e is = let one = ap (λ u. width u == 1) is in absurd (cc)
@@ -246,10 +247,10 @@ bool_type ty.U32 e = absurd (cc)
 bool_type ty.I64 e = absurd (cc)
 bool_type ty.U64 e = absurd (cc)
 
-pub cast_at_types : BitFacts → WordsCast
-cast_at_types facts s t bs a range stands =
+pub cast_at_types : WordsCast
+cast_at_types s t bs a range stands =
     cond_both (width t == 1) (not (number bs == 0) ∷ [])
     (resized_bits (width t) (filling_bit s bs) bs) (λ cs. StandsFor t cs (wrapped t a))
     (λ e. subst (λ u. StandsFor u (not (number bs == 0) ∷ []) (wrapped u a)) (sym (bool_type t e))
-    (truth_is facts s bs a range stands))
-    (λ e. resized facts s t bs a (other_type t e) range stands)
+    (truth_is s bs a range stands))
+    (λ e. resized s t bs a (other_type t e) range stands)

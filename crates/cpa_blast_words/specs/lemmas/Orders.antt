@@ -18,7 +18,7 @@ use Rattle.cpa_ints.specs.lemmas.Congruence.{Same, Same-refl, Same-sym, Same-tra
 use Rattle.cpa_ints.specs.lemmas.Congruence.{Same-unique}
 use Rattle.cpa_blast_words.specs.declared.rows.Row.TheVariants as row
 use Rattle.cpa_blast_words.specs.Truths.{bit, number, walked_carry, flipped_top_bits}
-use Rattle.cpa_blast_words.specs.Types.{StandsFor, BitFacts, WordsCompare}
+use Rattle.cpa_blast_words.specs.Types.{StandsFor, WordsCompare}
 use Rattle.cpa_blast_words.specs.lemmas.Numbers.{number_below, number_append, same_lt, less_number}
 use Rattle.cpa_blast_words.specs.lemmas.AtTypes.{near}
 
@@ -139,7 +139,7 @@ no_less xs ys e =
     nothing : (n : ℕ) → n + bit false ≡ n
     nothing n = omega arith
 
-module _ (facts : BitFacts) (t : IntType) where
+module _ (t : IntType) where
   pub own : (bs : List Bool) (a : ℤ) → is_signed t ≡ false → IsInRange t a → StandsFor t bs a
       → pos (number bs) ≡ a +ℤ pos 0
   own bs a e r s =
@@ -148,7 +148,7 @@ module _ (facts : BitFacts) (t : IntType) where
       let low = range.0 in
       let high = range.1 in
       let below : number bs < p = subst (λ n. number bs < 2 ^ n) s.long (number_below bs) in
-      let same = Same-sym p a (pos (number bs)) (near facts t bs a s) in
+      let same = Same-sym p a (pos (number bs)) (near t bs a s) in
       let is = Same-unique p (pos 0) (pos (number bs)) a (omega (arith, ints)) (omega (arith, ints))
       (omega (arith, ints)) (omega (arith, ints)) same in
       is ∙ plus_zero a
@@ -170,20 +170,20 @@ module _ (facts : BitFacts) (t : IntType) where
       let below : f < p =
       subst (λ n. f < 2 ^ n) (flipped_long bs ∙ s.long) (number_below (flipped_top_bits bs)) in
       let same = Same-trans p (a +ℤ pos h) (pos (number bs) +ℤ pos h) (pos f)
-      (Same-add p a (pos (number bs)) (pos h) (pos h) (near facts t bs a s)
+      (Same-add p a (pos (number bs)) (pos h) (pos h) (near t bs a s)
       (Same-refl p (pos h)))
       (flipped_same top.top p h top.low (number bs) f twice top.whole top.flipped) in
       Same-unique p (pos 0) (pos f) (a +ℤ pos h) (omega (arith, ints)) (omega (arith, ints))
       (omega (arith, ints)) (omega (arith, ints)) (Same-sym p (a +ℤ pos h) (pos f) same)
 
-pub compare_at_types : BitFacts → WordsCompare
-compare_at_types facts = record {
+pub compare_at_types : WordsCompare
+compare_at_types = record {
   natural = λ t xs ys a b e ra rb x y.
       no_less xs ys (x.long ∙ sym y.long)
-      ∙ moved_lt a b 0 (number xs) (number ys) (own facts t xs a e ra x) (own facts t ys b e rb y);
+      ∙ moved_lt a b 0 (number xs) (number ys) (own t xs a e ra x) (own t ys b e rb y);
   signed = λ t xs ys a b e ra rb x y.
       no_less (flipped_top_bits xs) (flipped_top_bits ys)
       (flipped_long xs ∙ x.long ∙ sym (flipped_long ys ∙ y.long))
       ∙ moved_lt a b (2 ^ (width t - 1)) (number (flipped_top_bits xs))
-      (number (flipped_top_bits ys)) (moved facts t xs a e ra x) (moved facts t ys b e rb y);
+      (number (flipped_top_bits ys)) (moved t xs a e ra x) (moved t ys b e rb y);
 }
