@@ -1,2 +1,1 @@
-pub mod Popping
 pub mod StackLaws

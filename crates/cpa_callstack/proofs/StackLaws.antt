@@ -15,7 +15,9 @@ use Rattle.cpa_model.specs.declared.automaton.Edge.{Edge}
 use Rattle.cpa_model.specs.declared.automaton.Cfa.{Cfa}
 use Rattle.cpa_model.specs.States.{state_at}
 use Rattle.cpa_model.specs.Facts.{FactHolds, Holds, IsFact}
+use Rattle.cpa_model.specs.Stacks.{stack_after}
 use Rattle.cpa_model.specs.Standing.{same_sites}
+use Rattle.cpa_model.specs.lemmas.Stacks.{stack_after-whole, stack_after-means}
 use Rattle.cpa_model.specs.StandingLaws.{same_fact-self}
 use Rattle.cpa_model.specs.Automata.{StepsAlong}
 use Rattle.cpa_model.specs.Steps.{StepsStack}
@@ -27,8 +29,7 @@ use Rattle.cpa_iface.specs.Pins.{PinsStep}
 use Rattle.cpa_iface.specs.Laws.{InitialLaws, TransferLaws, SomeHolds, CoversEdge, PinsEdge}
 use Rattle.cpa_iface.specs.Laws.{IsBounded}
 use Rattle.cpa_callstack.specs.Stacks.{callstack, with_stack, any_stack, first_stack, names_stack}
-use Rattle.cpa_callstack.specs.Stacks.{stack_after, elem_of, stacks_after, next_stacks}
-use Rattle.cpa_callstack.proofs.Popping.{stack_after-whole, stack_after-means}
+use Rattle.cpa_callstack.specs.Stacks.{elem_of, stacks_after, next_stacks}
 
 -- of facts that hold of a state, the first on the stack names its stack
 first_is : (s : State) (fs : List Fact) → AllByRecursion (FactHolds s) fs

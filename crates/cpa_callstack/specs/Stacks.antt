@@ -1,13 +1,13 @@
 -- The analysis of call stacks (this project's own).
-use Rattle.std.specs.Prelude.{ℕ, ◌==◌, Bool, true, List, [], ◌∷◌, ◌++◌, Option, None, Some}
-use Rattle.std.specs.Prelude.{option_map, codes, if◌then◌else◌}
+use Rattle.std.specs.Prelude.{ℕ, Bool, true, List, [], ◌∷◌, Option, None, Some, codes}
+use Rattle.std.specs.Prelude.{if◌then◌else◌}
 use Rattle.std.specs.List.{list_all}
 use Rattle.cpa_model.specs.declared.facts.Fact.{Fact}
 use Rattle.cpa_model.specs.declared.facts.Fact.TheVariants.{Stack}
 use Rattle.cpa_model.specs.declared.facts.Elem.{Elem}
 use Rattle.cpa_model.specs.declared.automaton.Act.{Act}
-use Rattle.cpa_model.specs.declared.automaton.Act.TheVariants.{Call, Return}
 use Rattle.cpa_model.specs.declared.automaton.Edge.{Edge}
+use Rattle.cpa_model.specs.Stacks.{stack_after}
 use Rattle.cpa_model.specs.Standing.{same_sites}
 use Rattle.cpa_iface.specs.declared.analysis.Part.TheVariants as part
 use Rattle.cpa_iface.specs.Meanings.{Meaning}
@@ -31,18 +31,6 @@ first_stack (fact ∷ facts) = first_stack facts
 abbrev pub names_stack : List ℕ → Fact → Bool
 names_stack sites (Stack own) = same_sites own sites
 names_stack sites fact = true
-
--- the stack without its top, where this site is the top
-abbrev pub popped : ℕ → List ℕ → Option (List ℕ)
-popped site [] = None
-popped site (top ∷ []) = if top == site then Some [] else None
-popped site (s ∷ next ∷ sites) = option_map (λ rest. s ∷ rest) (popped site (next ∷ sites))
-
--- the stack after the act: a call pushes its site, and a return pops it, or cannot be
-abbrev pub stack_after : Act → List ℕ → Option (List ℕ)
-stack_after (Call site) sites = Some (sites ++ site ∷ [])
-stack_after (Return site) sites = popped site sites
-stack_after act sites = Some sites
 
 -- the element of a stack that is there
 abbrev pub elem_of : Option (List ℕ) → List Elem

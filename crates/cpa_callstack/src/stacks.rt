@@ -1,15 +1,13 @@
 //! What an edge makes of an element, by `specs/Stacks.antt`.
-//! Proved with `proofs/Popping.antt`.
 
-ghost use Rattle.std.specs.Prelude.{◌≡◌, ◌++◌, ◌∷◌, [], IfOk};
-ghost use Rattle.std.specs.Prelude.{option_map};
+ghost use Rattle.std.specs.Prelude.{◌≡◌, ◌∷◌, [], Some, IfOk, option_map};
 ghost use Rattle.std.specs.List.{list_all};
+ghost use Rattle.cpa_model.specs.Stacks.{stack_after};
 ghost use Rattle.cpa_model.specs.Standing.{same_sites};
 ghost use Rattle.cpa_callstack.specs.Stacks.{with_stack, any_stack, first_stack, names_stack};
-ghost use Rattle.cpa_callstack.specs.Stacks.{popped, stack_after, elem_of, stacks_after};
-ghost use Rattle.cpa_callstack.specs.Stacks.{next_stacks};
+ghost use Rattle.cpa_callstack.specs.Stacks.{elem_of, stacks_after, next_stacks};
 
-use cpa_model::{Act, Edge, Elem, Fact, Seq};
+use cpa_model::{Act, Edge, Elem, Fact, Seq, step_stack};
 use std::alloc::{AllocError, Global};
 
 /// What the edge makes of the element.
@@ -45,14 +43,11 @@ fn all_name(facts: &[Fact], sites: &[u32]) -> bool
 fn after(alloc: Global, act: &Act, sites: &[u32]) -> Result<Vec<Elem>, AllocError>
     ensures { IfOk result (λ es. es.items ≡ elem_of (stack_after act.now sites.now)) }
 {
-    match act {
-        Act::Call { site } => pushed(alloc, sites, *site),
-        Act::Return { site } => match popped(sites, *site) {
-            None => Ok(Vec::new(alloc)),
-            Some(rest) => only(alloc, with_stack(alloc, rest)?),
-        },
-        _ => only(alloc, with_stack(alloc, sites)?),
+    let mut stack = sites.to_vec(alloc)?;
+    if !step_stack(act, &mut stack)? {
+        return Ok(Vec::new(alloc));
     }
+    only(alloc, elem_of_sites(alloc, Seq::from_vec(stack))?)
 }
 
 /// The list of one element.
@@ -90,25 +85,6 @@ fn elem_of_sites(alloc: Global, sites: Seq<u32>) -> Result<Elem, AllocError>
     let mut facts = Seq::new(alloc);
     facts.push(Fact::Stack { sites })?;
     Ok(Elem { facts })
-}
-
-/// The element of the stack with the site on its top.
-fn pushed(alloc: Global, sites: &[u32], site: u32) -> Result<Vec<Elem>, AllocError>
-    ensures { IfOk result (λ es. es.items ≡ with_stack (sites.now ++ site ∷ []) ∷ []) }
-{
-    let mut all = sites.to_vec(alloc)?;
-    all.push(site)?;
-    only(alloc, elem_of_sites(alloc, Seq::from_vec(all))?)
-}
-
-/// The stack without its top, where this site is the top.
-fn popped(sites: &[u32], site: u32) -> Option<&[u32]>
-    ensures { option_map (λ rest. rest.now) result ≡ popped site sites.now }
-{
-    match sites.split_last() {
-        Some((top, rest)) => { if *top == site { Some(rest) } else { None } }
-        None => None,
-    }
 }
 
 /// The stack that the first fact on it names.

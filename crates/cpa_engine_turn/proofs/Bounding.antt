@@ -27,11 +27,13 @@ use Rattle.cpa_engine_turn.specs.Stages.{first_cover}
 use Rattle.cpa_engine_turn.specs.Stages.{covered_or_added, Settles, SettlesAll, FollowsAll, Works}
 use Rattle.cpa_engine_turn.specs.Steps.{IsOrdered}
 use Rattle.cpa_engine_turn.specs.Turns.{AreEntries}
-use Rattle.cpa_engine_turn.proofs.Comparing.{none_joins, merged_key}
-use Rattle.cpa_engine_turn.proofs.Counting.{replacing_left, ended_left, taken_left, at_most_keys}
+use Rattle.cpa_engine_turn.proofs.Comparing.{none_joins}
+use Rattle.cpa_engine_turn.proofs.Counting.{replacing_left, ended_left, taken_left}
+use Rattle.cpa_engine_turn.specs.lemmas.Counted.{at_most_keys}
 use Rattle.cpa_engine_turn.proofs.Effects.{HasAlike, replaced_back, mild_back, gains_mildly}
-use Rattle.cpa_engine_turn.proofs.Keyed.{row_key, key_kept, adjusted_key, there_is, by_place}
-use Rattle.cpa_engine_turn.proofs.Lists.{in_push}
+use Rattle.cpa_engine_turn.specs.lemmas.Keyed.{row_key, key_kept, adjusted_key, there_is, by_place}
+use Rattle.cpa_engine_turn.specs.lemmas.Keyed.{merged_key}
+use Rattle.cpa_engine_turn.specs.lemmas.Lists.{in_push}
 use Rattle.cpa_engine_turn.proofs.Owning.{own_along, own_taken}
 use Rattle.cpa_engine_turn.proofs.Places.{each_at}
 use Rattle.cpa_engine_turn.proofs.Progress.{ordered_along}

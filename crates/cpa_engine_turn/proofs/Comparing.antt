@@ -20,13 +20,9 @@ use Rattle.cpa_composite.specs.Laws.{AgreeOnSep, WidenCovers, MergedRow, EachMer
 use Rattle.cpa_composite.specs.Ranks.{JoinNone}
 use Rattle.cpa_composite.specs.RankLaws.{stays_covers, merged_covers}
 use Rattle.cpa_engine_turn.specs.Keys.{is_key, key_of, WidenBesideKeys, CoversKey}
+use Rattle.cpa_engine_turn.specs.lemmas.Keyed.{apart, heads}
 
 -- none of them joins
-apart : (rule : MergeRule) → keeps_apart rule ≡ true → rule ≡ Sep
-apart Sep is = refl
-apart Join is = absurd (cc)
-apart Widen is = absurd (cc)
-
 one_joins_not : (c : Component) → (is_key c ≡ true) ⊎ (c.rule ≡ Widen) → c.rule ≢ Join
 one_joins_not c (inl key) join =
     let sep = apart c.rule (and_parts _ (keeps_apart c.rule) key).1 in
@@ -41,9 +37,6 @@ none_joins (c ∷ cs) all = (one_joins_not c all.0, none_joins cs all.1)
 sep_is_key : (c : Component) → (is_key c ≡ true) ⊎ (c.rule ≡ Widen) → c.rule ≡ Sep → is_key c ≡ true
 sep_is_key c (inl key) sep = key
 sep_is_key c (inr widen) sep = absurd (let wrong : Widen ≡ Sep = sym widen ∙ sep in cc)
-
-heads : {X : Type 0} (x y : X) (xs ys : List X) → x ∷ xs ≡ y ∷ ys → (x ≡ y) × (xs ≡ ys)
-heads x y xs ys same = (cc, cc)
 
 agree_by_key : (cs : List Component) (new old : List Elem) → WidenBesideKeys cs
     → key_of cs old ≡ key_of cs new → AgreeOnSep cs new old
@@ -85,29 +78,3 @@ pub merged_good : (cfa : Cfa) (cs : List Component) (successor old : List Elem)
 merged_good cfa cs successor old ps merged all a b d row same =
     merged_covers cfa cs successor old ps merged a b d row.elems.size (none_joins cs all) row.agree
     row.each
-
--- a merged row has the key of the old one
-pub merged_key : (cfa : Cfa) (cs : List Component) (successor old : List Elem)
-    (ps : List Precision) (merged : List Elem) → length successor ≡ length cs
-    → length old ≡ length cs → length ps ≡ length cs → length merged ≡ length cs
-    → EachMerged cfa cs successor old ps merged → key_of cs merged ≡ key_of cs old
-merged_key cfa [] es fs ps gs a b d size each = refl
-merged_key cfa (c ∷ cs) [] fs ps gs a b d size each = absurd (omega arith)
-merged_key cfa (c ∷ cs) (e ∷ es) [] ps gs a b d size each = absurd (omega arith)
-merged_key cfa (c ∷ cs) (e ∷ es) (f ∷ fs) [] gs a b d size each = absurd (omega arith)
-merged_key cfa (c ∷ cs) (e ∷ es) (f ∷ fs) (p ∷ ps) [] a b d size each = absurd (omega arith)
-merged_key cfa (c ∷ cs) (e ∷ es) (f ∷ fs) (p ∷ ps) (g ∷ gs) a b d size each =
-    let later : key_of cs gs ≡ key_of cs fs =
-    merged_key cfa cs es fs ps gs (omega arith) (omega arith) (omega arith) (omega arith)
-    (λ i x y q u v stands at_u at_v. each (suc i) x y q u v
-    (record { component = stands.component; elem = stands.elem; precision = stands.precision })
-    at_u at_v) in
-    ⊎_elim
-    (λ key.
-    let sep = apart c.rule (and_parts _ (keeps_apart c.rule) key).1 in
-    let first : g ≡ f =
-    (each 0 c e p f g (record { component = refl; elem = refl; precision = refl }) refl refl).sep
-    sep in
-    rw key (ap (λ (x : Elem). x ∷ key_of cs gs) first ∙ ap (λ (l : List Elem). f ∷ l) later))
-    (λ other. rw other later)
-    (cases_Bool (is_key c))

@@ -26,7 +26,7 @@ use Rattle.cpa_reached.specs.Calls.{gains, fresh, rename, renamed}
 use Rattle.cpa_reached.specs.Calls.{replacing, others, those, replaced_entries}
 use Rattle.cpa_reached.specs.Calls.{replaced}
 use Rattle.cpa_engine_turn.specs.Turns.{IsNamed, seconds}
-use Rattle.cpa_engine_turn.proofs.Lists.{in_push, in_front, last_in, in_map_of}
+use Rattle.cpa_engine_turn.specs.lemmas.Lists.{in_push, in_front, last_in, in_map_of}
 use Rattle.cpa_engine_turn.specs.Stages.{Stage, noting, adding, replacing_at}
 use Rattle.cpa_engine_turn.specs.Steps.{Does, IsOrdered}
 

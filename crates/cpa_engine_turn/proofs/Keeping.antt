@@ -17,7 +17,7 @@ use Rattle.cpa_engine_turn.specs.Turns.{IsNamed, firsts, seconds}
 use Rattle.cpa_engine_turn.specs.Journals.{brought, numbers_of, all_brought, all_taken}
 use Rattle.cpa_engine_turn.specs.Journals.{all_replaced}
 use Rattle.cpa_engine_turn.specs.Journals.{all_numbers, MayFollow, MayCome, IsJournalOf}
-use Rattle.cpa_engine_turn.proofs.Lists.{in_both, in_front, in_back, in_push, map_push}
+use Rattle.cpa_engine_turn.specs.lemmas.Lists.{in_both, in_front, in_back, in_push, map_push}
 use Rattle.cpa_engine_turn.proofs.Effects.{HasAlike}
 use Rattle.cpa_engine_turn.proofs.Progress.{CameIn}
 use Rattle.cpa_engine_turn.proofs.Turning.{Ended, ended, waits_there, alike_was, old_below}

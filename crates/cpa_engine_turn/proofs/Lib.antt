@@ -1,5 +1,4 @@
 pub mod Leaving
-pub mod Lists
 pub mod Effects
 pub mod Chains
 pub mod Progress
@@ -15,6 +14,5 @@ pub mod Beginning
 pub mod Comparing
 pub mod Owning
 pub mod Counting
-pub mod Keyed
 pub mod Bounding
 pub mod Pinning

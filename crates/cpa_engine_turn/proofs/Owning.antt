@@ -16,9 +16,9 @@ use Rattle.cpa_reached.specs.Entries.{ReachedSet}
 use Rattle.cpa_reached.specs.Calls.{gains, fresh, renamed, replacing, others, those, taken, rests}
 use Rattle.cpa_engine_turn.specs.Keys.{key_of, WidenBesideKeys, HaveOwnKeys, CoversKey, rows_of}
 use Rattle.cpa_engine_turn.proofs.Chains.{kept_along}
-use Rattle.cpa_engine_turn.proofs.Comparing.{merged_key}
+use Rattle.cpa_engine_turn.specs.lemmas.Keyed.{merged_key}
 use Rattle.cpa_engine_turn.proofs.Effects.{effect, gains_mildly}
-use Rattle.cpa_engine_turn.proofs.Lists.{in_map_of}
+use Rattle.cpa_engine_turn.specs.lemmas.Lists.{in_map_of}
 use Rattle.cpa_engine_turn.proofs.Shapes.{each_in}
 use Rattle.cpa_engine_turn.specs.Stages.{Stage, taking}
 use Rattle.cpa_engine_turn.specs.Steps.{IsOrdered, Does, Leads, GoesOn}

@@ -36,10 +36,11 @@ use Rattle.cpa_engine_turn.specs.Stages.{Stage, taking, ComparesAll, first_cover
 use Rattle.cpa_engine_turn.specs.Stages.{covered_or_added, Settles, SettlesAll, FollowsAll, Works}
 use Rattle.cpa_engine_turn.specs.Steps.{IsOrdered}
 use Rattle.cpa_engine_turn.specs.Turns.{AreEntries}
-use Rattle.cpa_engine_turn.proofs.Counting.{ended_left, taken_left, at_most_keys}
+use Rattle.cpa_engine_turn.proofs.Counting.{ended_left, taken_left}
+use Rattle.cpa_engine_turn.specs.lemmas.Counted.{at_most_states, no_ranks, apart_merged}
 use Rattle.cpa_engine_turn.proofs.Effects.{HasAlike, Alike, mild_back, gains_mildly}
-use Rattle.cpa_engine_turn.proofs.Keyed.{there_is}
-use Rattle.cpa_engine_turn.proofs.Lists.{in_push, in_map_of}
+use Rattle.cpa_engine_turn.specs.lemmas.Keyed.{there_is}
+use Rattle.cpa_engine_turn.specs.lemmas.Lists.{in_push, in_map_of}
 use Rattle.cpa_engine_turn.proofs.Progress.{ordered_along}
 use Rattle.cpa_engine_turn.proofs.Settled.{none_found}
 use Rattle.cpa_engine_turn.proofs.Shapes.{each_in, entries_along, taken_entries}
@@ -56,31 +57,6 @@ pub record PinLaws (cfa : Cfa) (cs : List Component) : Type 0 where
   pub adjust : (es : List Elem) (ps : List Precision) (reached : List Entry) (after : List Elem)
       (next : List Precision) → BindAll cfa cs ps → length es ≡ length cs → length ps ≡ length cs
       → AdjustedRow cs cfa es ps reached after next → (after ≡ es) × BindAll cfa cs next
-
--- what is kept apart is not merged
-apart_merged : (cfa : Cfa) (cs : List Component) (new old : List Elem) (ps : List Precision)
-    (merged : List Elem) → AllByRecursion (λ c. c.rule ≡ Sep) cs → length new ≡ length cs
-    → length old ≡ length cs → length ps ≡ length cs → length merged ≡ length cs
-    → EachMerged cfa cs new old ps merged → merged ≡ old
-apart_merged cfa [] es [] ps [] apart a b d size each = refl
-apart_merged cfa [] es (f ∷ fs) ps gs apart a b d size each = absurd (omega (arith, b))
-apart_merged cfa [] es [] ps (g ∷ gs) apart a b d size each = absurd (omega (arith, size))
-apart_merged cfa (c ∷ cs) [] fs ps gs apart a b d size each = absurd (omega (arith, a))
-apart_merged cfa (c ∷ cs) (e ∷ es) [] ps gs apart a b d size each = absurd (omega (arith, b))
-apart_merged cfa (c ∷ cs) (e ∷ es) (f ∷ fs) [] gs apart a b d size each = absurd (omega (arith, d))
-apart_merged cfa (c ∷ cs) (e ∷ es) (f ∷ fs) (p ∷ ps) [] apart a b d size each =
-    absurd (omega (arith, size))
-apart_merged cfa (c ∷ cs) (e ∷ es) (f ∷ fs) (p ∷ ps) (g ∷ gs) apart a b d size each =
-    let first : g ≡ f =
-    (each 0 c e p f g (record { component = refl; elem = refl; precision = refl }) refl refl).sep
-    apart.0 in
-    let later : gs ≡ fs =
-    apart_merged cfa cs es fs ps gs apart.1 (omega (arith, a)) (omega (arith, b)) (omega (arith, d))
-    (omega (arith, size))
-    (λ i x y q u v stands at_u at_v. each (suc i) x y q u v
-    (record { component = stands.component; elem = stands.elem; precision = stands.precision })
-    at_u at_v) in
-    ap (λ (x : Elem). x ∷ gs) first ∙ ap (λ (l : List Elem). f ∷ l) later
 
 -- so no comparison changes anything
 compares_nothing : (cfa : Cfa) (cs : List Component) (es : List Elem) (ps : List Precision)
@@ -101,16 +77,6 @@ compares_nothing cfa cs es ps (n ∷ ns) a b apart shaped precise are all =
     all.1 in
     compares_nothing cfa cs es ps ns all.0 b apart shaped precise
     (subst (λ (m : Stage). AreEntries cfa (length cs) m.reached.live) (sym same) are) all.2 ∙ same
-
--- nothing has a rank
-no_ranks : (cfa : Cfa) (cs : List Component) (es : List Elem)
-    → AllByRecursion (λ c. c.rule ≡ Sep) cs → row_rank cfa cs es ≡ 0
-no_ranks cfa [] es apart = refl
-no_ranks cfa (c ∷ cs) [] apart = refl
-no_ranks cfa (c ∷ cs) (e ∷ es) apart =
-    let first : rank_by c.rule (c.meaning.rank cfa e) ≡ 0 =
-    ap (λ (r : MergeRule). rank_by r (c.meaning.rank cfa e)) apart.0 in
-    let later = no_ranks cfa cs es apart.1 in omega (arith, first, later)
 
 -- a row covers itself
 covers_itself : (cs : List Component) (es : List Elem) → all_cover cs es es ≡ true
@@ -214,17 +180,6 @@ ended_pinned cfa cs states es ps edge None m b first is row binds pinned =
           e f (from e in_e) (from f in_f) same;
     }
 
-at_most_states : (cfa : Cfa) (cs : List Component) (states : List State) (r : ReachedSet)
-    → IsOrdered r → ArePinned cfa cs states r.live → length r.live ≤ length states
-at_most_states cfa cs states r ordered pinned =
-    let size : length (map (pins cs) states) ≡ length states = length-map states (pins cs) in
-    let few = at_most_keys (λ (es : List Elem). es) (map (pins cs) states) r.live
-    (λ e there. let is = pinned.each e there in
-    subst (λ (row : List Elem). IsIn row (map (pins cs) states)) (sym is.elems)
-    (in_map_of (pins cs) states is.state is.is_in))
-    pinned.once ordered.ascend in
-    omega (arith, size, few)
-
 -- one successor
 settles_pins : (cfa : Cfa) (cs : List Component) (states : List State) (limit : ℕ)
     (ps : List Precision) (edge : ℕ) (row : List Elem) (a b : Stage) → PinLaws cfa cs
@@ -254,7 +209,7 @@ settles_pins cfa cs states limit ps edge row a b laws bound less size binds many
       are = entries_along cfa cs a b leads w.are;
       pinned = pinned;
       left = ended_left cfa cs (length states) limit es qs edge o m b settles.is
-          (omega (arith, none)) (at_most_states cfa cs states b.reached ordered pinned)
+          (omega (arith, none)) (at_most_states cfa cs states b.reached.live ordered.ascend pinned)
           (subst (λ (c : Stage). turns_left cfa cs (length states) c.reached.live ≤ limit)
           (sym same)
           w.left);

@@ -19,7 +19,7 @@ use Rattle.cpa_reached.specs.Calls.{gains, fresh, rename, renamed, replacing, ot
 use Rattle.cpa_reached.specs.Calls.{replaced}
 use Rattle.cpa_reached.specs.Successors.{LiesInNamed}
 use Rattle.cpa_engine_turn.specs.Turns.{LiesInEntry}
-use Rattle.cpa_engine_turn.proofs.Lists.{in_front, last_in, in_map_of}
+use Rattle.cpa_engine_turn.specs.lemmas.Lists.{in_front, last_in, in_map_of}
 use Rattle.cpa_engine_turn.proofs.Effects.{Effect, effect, GoesOnIn, GivesWay, rename_cases}
 use Rattle.cpa_engine_turn.proofs.Effects.{mild_forth, gains_mildly}
 use Rattle.cpa_engine_turn.proofs.Chains.{kept_along}

@@ -13,7 +13,7 @@ use Rattle.cpa_reached.specs.Members.{IsIn}
 use Rattle.cpa_reached.specs.Entries.{ReachedSet, IsLive}
 use Rattle.cpa_engine_turn.specs.Turns.{IsNamed, IsFollowedBy, at_once, later, firsts, seconds}
 use Rattle.cpa_engine_turn.specs.Turns.{IsReplaced}
-use Rattle.cpa_engine_turn.proofs.Lists.{map_push, in_map_of, of_map, distinct_push}
+use Rattle.cpa_engine_turn.specs.lemmas.Lists.{map_push, in_map_of, of_map, distinct_push}
 use Rattle.cpa_engine_turn.proofs.Effects.{alike_then, HasAlike, GoesOnIn, IsNew}
 use Rattle.cpa_engine_turn.proofs.Effects.{GivesWay, IsJustAdded, IsJustPaired, Effect, effect}
 use Rattle.cpa_engine_turn.proofs.Effects.{below_next}

@@ -22,7 +22,7 @@ use Rattle.cpa_reached.specs.Calls.{at_number, rests, taken}
 use Rattle.cpa_reached.specs.Successors.{LiesInNamed, CoversSuccessors}
 use Rattle.cpa_engine_turn.specs.Turns.{AreEntries}
 use Rattle.cpa_engine_turn.specs.Turns.{IsTurn, Turned, IsTaken, Stays, IsReplaced, IsFollowedBy}
-use Rattle.cpa_engine_turn.proofs.Lists.{of_map}
+use Rattle.cpa_engine_turn.specs.lemmas.Lists.{of_map}
 use Rattle.cpa_engine_turn.proofs.Effects.{HasAlike, GoesOnIn, same_alike, effect, below_next}
 use Rattle.cpa_engine_turn.proofs.Chains.{kept_along}
 use Rattle.cpa_engine_turn.proofs.Shapes.{entries_along, taken_entries}

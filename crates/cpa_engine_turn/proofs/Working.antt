@@ -32,7 +32,7 @@ use Rattle.cpa_engine_turn.proofs.Chains.{leads_one, leads_then}
 use Rattle.cpa_engine_turn.proofs.Comparing.{stays_good, merged_good}
 use Rattle.cpa_engine_turn.proofs.Effects.{replaced_back}
 use Rattle.cpa_engine_turn.proofs.Leaving.{leaves_along}
-use Rattle.cpa_engine_turn.proofs.Lists.{in_map_of}
+use Rattle.cpa_engine_turn.specs.lemmas.Lists.{in_map_of}
 use Rattle.cpa_engine_turn.proofs.Placing.{placed_along, noted_places, added_places}
 use Rattle.cpa_engine_turn.proofs.Progress.{ordered_along, current_along}
 use Rattle.cpa_engine_turn.proofs.Settled.{found, none_found}

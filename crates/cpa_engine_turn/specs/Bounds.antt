@@ -37,6 +37,14 @@ abbrev pub KeysStep : Cfa → List Component → Edge → State → State → Ty
 KeysStep cfa cs g s t =
     AllByRecursion (λ c. is_key c ≡ true → StepsPart c.meaning.part cfa g s t) cs
 
+-- The row has the key of a state to which these parts step.
+pub record KeyStepsTo (cfa : Cfa) (cs : List Component) (g : Edge) (s : State) (row : List Elem)
+    : Type 0 where
+  pub state : State
+  pub is_state : IsStateOf cfa state
+  pub step : KeysStep cfa cs g s state
+  pub key : key_of cs row ≡ key_of cs (pins cs state)
+
 -- Where all that do not tell entries apart widen, to one height at all precisions, and steps do not
 -- lead out of the keys.
 pub record KeysBound (cfa : Cfa) (cs : List Component) (keys : List (List Elem)) : Type 0 where

@@ -5,3 +5,4 @@ pub mod Turns
 pub mod Journals
 pub mod Bounds
 pub mod Steps
+pub mod lemmas

@@ -1,2 +1,3 @@
+pub mod CarriedLemmas
 pub mod MarkLemmas
 pub mod NeededLemmas

@@ -1,9 +1,13 @@
 //! Folds over a path of an automaton, from its last edge to its first: which cells are needed
-//! along it, by `specs/Needed.antt`. Proved in `proofs/NeededLemmas.antt`.
+//! along it, by `specs/Needed.antt`, and which expressions it carries, by `specs/Carried.antt`.
+//! Proved in `proofs/NeededLemmas.antt` and `proofs/CarriedLemmas.antt`.
 #![tactic(auto)]
 
+mod carrying;
 mod marks;
 mod needed_cells;
+mod reading;
 mod stops;
 
+pub use carrying::{MAX_CARRIED_HEIGHT, MAX_CARRIED_SIZE, carried};
 pub use needed_cells::needed;

@@ -172,4 +172,5 @@ refined-laws cfa path p precision =
         appends_missing p.tracked (needed cfa path) (needed_distinct cfa path),
         record { more = []; is = sym (append-nil p.preds); whole = tt; only = tt; once = tt },
       );
+      told = refl;
     }

@@ -238,4 +238,5 @@ next_values-laws stays cfa edge e p g a sound shaped at =
           facts_few (is_tracked p) 0 after in
           let long : length after ≡ length cfa.cells = known_length cfa.cells after all in
           omega (arith, few, long)) known);
+      told = λ h ath. ap (next_values cfa p e) (same_edge cfa edge g h at ath);
     }

@@ -22,7 +22,7 @@ use Rattle.cpa_model.specs.Automata.{IsAutomaton, initial_state}
 use Rattle.cpa_iface.specs.declared.analysis.Settings.{Settings}
 use Rattle.cpa_iface.specs.declared.precisions.Precision.{Precision}
 use Rattle.cpa_iface.specs.declared.entries.Entry.{Entry}
-use Rattle.cpa_iface.specs.CommonLaws.{kept_all, kept_length, own-laws, unadjusted-laws}
+use Rattle.cpa_iface.specs.CommonLaws.{kept_all, kept_length, unadjusted-laws}
 use Rattle.cpa_iface.specs.Meanings.{IsShaped, AreShaped, IsPrecision}
 use Rattle.cpa_iface.specs.Pins.{equals_from, IsControlPin}
 use Rattle.cpa_iface.specs.Laws.{InitialLaws, FirstPrecisionLaws, StrengthenLaws, AdjustLaws}
@@ -66,6 +66,7 @@ starts-laws cfa a =
           let rank : length (facts_from (λ _. true) 0 (map Some firsts))
           ≡ length (equals_from 0 firsts) = ap length same in
           omega (arith, few, long, rank);
+      told = refl;
     }
 
 range_all : (P : ℕ → Type 0) (a n : ℕ) → ((i : ℕ) → i < a + n → P i)
@@ -96,6 +97,7 @@ precision_of-laws cfa settings = record {
         );
     no_limit = no_limit;
   };
+  told = refl;
 }
 
 some_then : {X : Type 0} {Y : Type 0} (P : X → Type 0) (Q : Y → Type 0) (f : X → Option Y)
@@ -234,7 +236,6 @@ strengthened-laws cfa own others p shaped others_shaped =
     let cells = known_cells (length cfa.cells) own.facts in
     let o = met_elems tracked others cells in
     let whole = λ (after : List (Option ℤ)). elem_of (λ _. true) after in
-    let own_case = own-laws values cfa own others p shaped in
     let known = met_elems_known cfa tracked others cells others_shaped
     (shaped_known cfa.cells cfa.points own.facts shaped) in
     record {
@@ -263,6 +264,7 @@ strengthened-laws cfa own others p shaped others_shaped =
           let long : length after ≡ length cfa.cells = known_length cfa.cells after all in
           omega (arith, few, long)) known))
           (λ _. below);
+      told = refl;
     }
 
 -- the laws of adjustment
@@ -273,7 +275,8 @@ limited-laws cfa e p reached place shaped precision =
     let kept = filter (is_kept p.limit (seen e reached place)) e.facts in
     let less : Elem = record { facts = kept } in
     cond_both (p.limit == 0) e less (λ x. AdjustLaws values cfa e p reached place x p)
-    (λ _. unadjusted-laws values cfa e p reached place shaped precision)
+    (λ none. unadjusted-laws values cfa e p reached place
+    (sym (ap (λ b. cond b e less) none), refl) shaped precision)
     (λ limits. record {
       shaped = kept_all (IsFact cfa.cells cfa.points)
           (is_kept p.limit (seen e reached place)) e.facts shaped;
@@ -286,6 +289,7 @@ limited-laws cfa e p reached place shaped precision =
           let few : length kept ≤ length e.facts =
           kept_length (is_kept p.limit (seen e reached place)) e.facts in
           omega (arith, few, below);
+      told = (sym (ap (λ b. cond b e less) limits), refl);
     })
 
 pub adjusted-laws : (cfa : Cfa) (e : Elem) (p : Precision) (reached : List Entry) (place : ℕ)

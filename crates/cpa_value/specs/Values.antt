@@ -10,11 +10,14 @@ use Rattle.cpa_model.specs.StandingLaws.{has_facts-within, has_facts-same}
 use Rattle.cpa_iface.specs.declared.analysis.Part.TheVariants as part
 use Rattle.cpa_iface.specs.declared.analysis.Settings.{Settings}
 use Rattle.cpa_iface.specs.declared.precisions.Precision.{Precision}
-use Rattle.cpa_iface.specs.Meanings.{Meaning}
-use Rattle.cpa_iface.specs.Common.{fact_count}
+use Rattle.cpa_iface.specs.Meanings.{Meaning, Replies}
+use Rattle.cpa_iface.specs.Common.{merged_facts, fact_count}
 use Rattle.cpa_iface.specs.Pins.{equals_from}
 use Rattle.cpa_path_folds.specs.Needed.{needed}
 use Rattle.cpa_value.specs.Cells.{is_tracked}
+use Rattle.cpa_value.specs.Limits.{limited}
+use Rattle.cpa_value.specs.Strengthening.{strengthened}
+use Rattle.cpa_value.specs.Transfer.{next_values}
 
 -- each cell has its start
 abbrev pub starts_of : List Cell → Elem
@@ -39,7 +42,20 @@ refined cfa path p = record {
   preds = p.preds;
 }
 
--- It is exact on the store, covers by the letter, and suggests the cells that are needed.
+-- what it answers
+abbrev pub value_replies : Replies
+value_replies = record {
+  initial = starts;
+  first_precision = precision_of;
+  transfer = λ cfa g e p. next_values cfa p e g;
+  strengthen = λ cfa own others p. strengthened (length cfa.cells) p own others;
+  merge = λ cfa rule new old p. merged_facts rule new old;
+  adjust = λ cfa e p reached place. (limited p.limit e reached place, p);
+  refine = refined;
+}
+
+-- It is exact on the store, covers by the letter, suggests the cells that are needed, and tells what
+-- it answers.
 abbrev pub values : Meaning
 values = record {
   name = codes "value";
@@ -48,6 +64,7 @@ values = record {
   height = λ cfa p. length cfa.cells;
   rank = fact_count;
   suggestion = λ cfa path. Some (record { cells = needed cfa path; preds = [] });
+  replies = Some value_replies;
   within = has_facts-within;
   same = has_facts-same;
 }

@@ -2,24 +2,7 @@
 //! `proofs/`.
 
 ghost use Rattle.std.specs.Prelude.{◌≡◌, ◌<◌, ◌^◌, Some, length, slice_get, IfOk};
-ghost use Rattle.std.specs.List.{AllByRecursion};
-ghost use Rattle.cpa_model.specs.declared.automaton.Edge.{Edge as AnEdge};
-ghost use Rattle.cpa_model.specs.Automata.{IsAutomaton};
-ghost use Rattle.cpa_iface.specs.Common.{merged_facts};
-ghost use Rattle.cpa_iface.specs.Laws.{
-  InitialLaws,
-  FirstPrecisionLaws,
-  TransferLaws,
-  StrengthenLaws,
-  MergeLaws,
-  AdjustLaws,
-  RefineLaws,
-};
-ghost use Rattle.cpa_iface.specs.Meanings.{HasPlace, IsShaped, AreShaped, IsPathOf, IsPrecision};
-ghost use Rattle.cpa_value.specs.Limits.{limited};
-ghost use Rattle.cpa_value.specs.Strengthening.{strengthened};
-ghost use Rattle.cpa_value.specs.Transfer.{next_values};
-ghost use Rattle.cpa_value.specs.Values.{values, starts, starts_of, precision_of, refined};
+ghost use Rattle.cpa_value.specs.Values.{values, starts_of};
 
 use crate::limits::limited;
 use crate::refining::{precision_of, refined};
@@ -55,11 +38,7 @@ impl Analysis for Value {
         Part::Store
     }
 
-    fn initial(&mut self, alloc: Global, cfa: &Cfa) -> Result<Elem, AllocError>
-        requires { IsAutomaton cfa.now }
-        ensures laws { IfOk result (λ e. InitialLaws values cfa.now e) }
-        ensures given { IfOk result (λ e. e ≡ starts cfa.now) }
-    {
+    fn initial(&mut self, alloc: Global, cfa: &Cfa) -> Result<Elem, AllocError> {
         starts(alloc, cfa.cells.as_slice())
     }
 
@@ -68,11 +47,7 @@ impl Analysis for Value {
         alloc: Global,
         cfa: &Cfa,
         settings: &Settings,
-    ) -> Result<Precision, AllocError>
-        requires { IsAutomaton cfa.now }
-        ensures laws { IfOk result (λ p. FirstPrecisionLaws values cfa.now settings.now p) }
-        ensures given { IfOk result (λ p. p ≡ precision_of cfa.now settings.now) }
-    {
+    ) -> Result<Precision, AllocError> {
         precision_of(alloc, cfa, settings)
     }
 
@@ -83,16 +58,7 @@ impl Analysis for Value {
         edge: u32,
         elem: &Elem,
         precision: &Precision,
-    ) -> Result<Vec<Elem>, AllocError>
-        requires automaton { IsAutomaton cfa.now }
-        requires edge { edge < length cfa.now.edges }
-        requires elem { IsShaped cfa.now elem.now }
-        requires precision { IsPrecision cfa.now precision.now }
-        ensures laws { IfOk result (λ es.
-            TransferLaws values cfa.now edge elem.now precision.now es.items) }
-        ensures given { IfOk result (λ es. (g : AnEdge) → slice_get cfa.now.edges edge ≡ Some g
-            → es.items ≡ next_values cfa.now precision.now elem.now g) }
-    {
+    ) -> Result<Vec<Elem>, AllocError> {
         edges_are_sound();
         wrap_keeps_the_range();
         next_values(alloc, cfa, precision, elem, cfa.edge(edge))
@@ -105,16 +71,7 @@ impl Analysis for Value {
         own: &Elem,
         others: &[Elem],
         precision: &Precision,
-    ) -> Result<Option<Elem>, AllocError>
-        requires automaton { IsAutomaton cfa.now }
-        requires own { IsShaped cfa.now own.now }
-        requires others { AreShaped cfa.now others.now }
-        requires precision { IsPrecision cfa.now precision.now }
-        ensures laws { IfOk result (λ e.
-            StrengthenLaws values cfa.now own.now others.now precision.now e) }
-        ensures given { IfOk result (λ e.
-            e ≡ strengthened (length cfa.now.cells) precision.now own.now others.now) }
-    {
+    ) -> Result<Option<Elem>, AllocError> {
         strengthened(alloc, cfa, own, others, precision)
     }
 
@@ -126,12 +83,7 @@ impl Analysis for Value {
         new: &Elem,
         old: &Elem,
         _precision: &Precision,
-    ) -> Result<Elem, AllocError>
-        requires { IsShaped _cfa.now old.now }
-        ensures laws { IfOk result (λ e.
-            MergeLaws values _cfa.now rule new.now old.now _precision.now e) }
-        ensures given { IfOk result (λ e. e ≡ merged_facts rule new.now old.now) }
-    {
+    ) -> Result<Elem, AllocError> {
         merge_facts(alloc, rule, new, old)
     }
 
@@ -147,16 +99,7 @@ impl Analysis for Value {
         precision: &Precision,
         reached: &[Entry],
         place: u32,
-    ) -> Result<(Elem, Precision), AllocError>
-        requires elem { IsShaped cfa.now elem.now }
-        requires precision { IsPrecision cfa.now precision.now }
-        requires reached { AllByRecursion (HasPlace cfa.now place) reached.now }
-        ensures laws { IfOk result (λ pair.
-            AdjustLaws values cfa.now elem.now precision.now reached.now place pair.0 pair.1) }
-        ensures given { IfOk result (λ pair.
-            (pair.0 ≡ limited precision.now.limit elem.now reached.now place)
-            × (pair.1 ≡ precision.now)) }
-    {
+    ) -> Result<(Elem, Precision), AllocError> {
         let kept = limited(alloc, cfa, precision.limit, elem, reached, place)?;
         Ok((kept, copy_precision(alloc, precision)?))
     }
@@ -167,13 +110,7 @@ impl Analysis for Value {
         cfa: &Cfa,
         path: &Path,
         precision: &Precision,
-    ) -> Result<Precision, AllocError>
-        requires automaton { IsAutomaton cfa.now }
-        requires path { IsPathOf cfa.now path.now }
-        requires precision { IsPrecision cfa.now precision.now }
-        ensures laws { IfOk result (λ p. RefineLaws values cfa.now path.now precision.now p) }
-        ensures given { IfOk result (λ p. p ≡ refined cfa.now path.now precision.now) }
-    {
+    ) -> Result<Precision, AllocError> {
         refined(alloc, cfa, path, precision)
     }
 }

@@ -1,4 +1,5 @@
--- A row of successors has the key of a state to which the parts step, and adjusting keeps it.
+-- Keys by places: a row of successors has the key of a state to which the parts step (`row_key`),
+-- and neither adjusting nor merging changes a key.
 use Rattle.std.proofs.Common.{◌≡◌, ℕ, zero, suc, ◌<◌, Bool, true, cond, List, [], ◌∷◌}
 use Rattle.std.proofs.Common.{length}
 use Rattle.std.proofs.Common.{Some, refl, sym, ap, ◌∙◌, subst, inl, inr, ⊎_elim, arith}
@@ -12,14 +13,16 @@ use Rattle.cpa_model.specs.declared.states.State.{State}
 use Rattle.cpa_iface.specs.declared.analysis.Part.{Part}
 use Rattle.cpa_iface.specs.declared.analysis.Part.TheVariants.{Nothing, Point, Stack, Store}
 use Rattle.cpa_iface.specs.declared.entries.Entry.{Entry}
+use Rattle.cpa_iface.specs.declared.merging.MergeRule.{MergeRule}
+use Rattle.cpa_iface.specs.declared.merging.MergeRule.TheVariants.{Sep, Join, Widen}
 use Rattle.cpa_iface.specs.declared.precisions.Precision.{Precision}
 use Rattle.cpa_iface.specs.Pins.{pin_of, StepsPart, MustBeExact}
 use Rattle.cpa_composite.specs.Comparisons.{keeps_apart}
 use Rattle.cpa_composite.specs.Components.{Component}
 use Rattle.cpa_composite.specs.Exact.{IsControl, ControlSteps, pins}
-use Rattle.cpa_composite.specs.Laws.{AdjustedRow}
+use Rattle.cpa_composite.specs.Laws.{AdjustedRow, EachMerged}
 use Rattle.cpa_reached.specs.Members.{IsIn}
-use Rattle.cpa_engine_turn.specs.Bounds.{KeysStep, KeysBound, HasKey}
+use Rattle.cpa_engine_turn.specs.Bounds.{KeysStep, KeyStepsTo, KeysBound, HasKey}
 use Rattle.cpa_engine_turn.specs.Keys.{is_control, is_key, key_of}
 
 control_part : (which : Part) → is_control which ≡ true → IsControl which
@@ -28,16 +31,16 @@ control_part Point is = inl refl
 control_part Stack is = inr refl
 control_part Store is = absurd (cc)
 
-key_control : (c : Component) → is_key c ≡ true → IsControl c.meaning.part
+pub key_control : (c : Component) → is_key c ≡ true → IsControl c.meaning.part
 key_control c is =
     control_part c.meaning.part
     (and_parts (is_control c.meaning.part) (keeps_apart c.rule) is).0
 
-heads : {X : Type 0} (x y : X) (xs ys : List X) → x ∷ xs ≡ y ∷ ys → (x ≡ y) × (xs ≡ ys)
+pub heads : {X : Type 0} (x y : X) (xs ys : List X) → x ∷ xs ≡ y ∷ ys → (x ≡ y) × (xs ≡ ys)
 heads x y xs ys same = (cc, cc)
 
 -- rows of one key have the same elements where entries are told apart
-key_at : (cs : List Component) (es fs : List Elem) → length es ≡ length cs → length fs ≡ length cs
+pub key_at : (cs : List Component) (es fs : List Elem) → length es ≡ length cs → length fs ≡ length cs
     → key_of cs es ≡ key_of cs fs → (i : ℕ) (c : Component) (e f : Elem) → slice_get cs i ≡ Some c
     → slice_get es i ≡ Some e → slice_get fs i ≡ Some f → is_key c ≡ true → e ≡ f
 key_at [] es fs many long same i c e f at at_e at_f key = absurd (cc)
@@ -63,7 +66,7 @@ key_at (d ∷ cs) (x ∷ es) (y ∷ fs) many long same (suc i) c e f at at_e at_
     key_at cs es fs (omega (arith, many)) (omega (arith, long)) later i c e f at at_e at_f key
 
 -- and the other way round
-key_by : (cs : List Component) (es fs : List Elem) → length es ≡ length cs
+pub key_by : (cs : List Component) (es fs : List Elem) → length es ≡ length cs
     → length fs ≡ length cs
     → ((i : ℕ) (c : Component) (e f : Elem) → slice_get cs i ≡ Some c → slice_get es i ≡ Some e
     → slice_get fs i ≡ Some f → is_key c ≡ true → e ≡ f)
@@ -93,11 +96,11 @@ pub by_place : {X : Type 0} (P : X → Type 0) (xs : List X)
 by_place P [] each = tt
 by_place P (x ∷ xs) each = (each 0 x refl, by_place P xs (λ i y at. each (suc i) y at))
 
-pins_size : (cs : List Component) (s : State) → length (pins cs s) ≡ length cs
+pub pins_size : (cs : List Component) (s : State) → length (pins cs s) ≡ length cs
 pins_size [] s = refl
 pins_size (c ∷ cs) s = ap suc (pins_size cs s)
 
-pin_there : (cs : List Component) (s : State) (i : ℕ) (c : Component) → slice_get cs i ≡ Some c
+pub pin_there : (cs : List Component) (s : State) (i : ℕ) (c : Component) → slice_get cs i ≡ Some c
     → slice_get (pins cs s) i ≡ Some (pin_of c.meaning.part s)
 pin_there [] s i c at = absurd (cc)
 pin_there (d ∷ cs) s zero c at =
@@ -105,17 +108,15 @@ pin_there (d ∷ cs) s zero c at =
 pin_there (d ∷ cs) s (suc i) c at = pin_there cs s i c at
 
 -- a row of successors
-pub row_key : (cfa : Cfa) (cs : List Component) (keys : List (List Elem)) (k : ℕ) (g : Edge)
-    (es row : List Elem) → KeysBound cfa cs keys → length es ≡ length cs → length row ≡ length cs
-    → slice_get cfa.edges k ≡ Some g → (has : HasKey cfa cs keys es)
-    → ControlSteps cs cfa g has.state es row → HasKey cfa cs keys row
-row_key cfa cs keys k g es row bound many long at has steps =
-    let s = has.state in
+pub row_steps : (cfa : Cfa) (cs : List Component) (g : Edge) (s : State) (es row : List Elem)
+    → length es ≡ length cs → length row ≡ length cs → key_of cs es ≡ key_of cs (pins cs s)
+    → ControlSteps cs cfa g s es row → KeyStepsTo cfa cs g s row
+row_steps cfa cs g s es row many long has steps =
     let t = steps.after in
     let pinned : (i : ℕ) (c : Component) (e : Elem) → slice_get cs i ≡ Some c
     → slice_get es i ≡ Some e → is_key c ≡ true → e ≡ pin_of c.meaning.part s =
     λ i c e at_c at_e key.
-    key_at cs es (pins cs s) many (pins_size cs s) has.key i c e (pin_of c.meaning.part s) at_c at_e
+    key_at cs es (pins cs s) many (pins_size cs s) has i c e (pin_of c.meaning.part s) at_c at_e
     (pin_there cs s i c at_c) key in
     let step : KeysStep cfa cs g s t =
     by_place (λ (c : Component). is_key c ≡ true → StepsPart c.meaning.part cfa g s t) cs
@@ -130,12 +131,21 @@ row_key cfa cs keys k g es row bound many long at has steps =
     (let inside = slice_get_within cs i c at_c in omega (arith, inside, many)) in
     let new = (steps.each i c e.0 at_c e.1 (key_control c key) (pinned i c e.0 at_c e.1 key)).1 in
     same_Some x y (sym at_x ∙ (new ∙ (sym (pin_there cs t i c at_c) ∙ at_y)))) in
+    record { state = t; is_state = steps.is_state; step = step; key = same }
+
+-- so it has one of the keys that steps do not leave
+pub row_key : (cfa : Cfa) (cs : List Component) (keys : List (List Elem)) (k : ℕ) (g : Edge)
+    (es row : List Elem) → KeysBound cfa cs keys → length es ≡ length cs → length row ≡ length cs
+    → slice_get cfa.edges k ≡ Some g → (has : HasKey cfa cs keys es)
+    → ControlSteps cs cfa g has.state es row → HasKey cfa cs keys row
+row_key cfa cs keys k g es row bound many long at has steps =
+    let to_it = row_steps cfa cs g has.state es row many long has.key steps in
     record {
-      state = t;
-      is_state = steps.is_state;
-      key = same;
-      is_in = subst (λ (j : List Elem). IsIn j keys) (sym same)
-          (bound.closed k g s t at has.is_state steps.is_state step
+      state = to_it.state;
+      is_state = to_it.is_state;
+      key = to_it.key;
+      is_in = subst (λ (j : List Elem). IsIn j keys) (sym to_it.key)
+          (bound.closed k g has.state to_it.state at has.is_state to_it.is_state to_it.step
           (subst (λ (j : List Elem). IsIn j keys) has.key has.is_in));
     }
 
@@ -166,3 +176,35 @@ adjusted_key cfa cs es ps reached after next many size row =
     let q = there_is next i (let long = row.precisions.size in omega (arith, inside, long)) in
     (row.each i c e p.0 f q.0 (record { component = at; elem = at_e; precision = p.1 }) at_f
     q.1).exact (binds c.meaning.part cfa p.0 (key_control c key)))
+
+-- merged
+pub apart : (rule : MergeRule) → keeps_apart rule ≡ true → rule ≡ Sep
+apart Sep is = refl
+apart Join is = absurd (cc)
+apart Widen is = absurd (cc)
+
+-- a merged row has the key of the old one
+pub merged_key : (cfa : Cfa) (cs : List Component) (successor old : List Elem)
+    (ps : List Precision) (merged : List Elem) → length successor ≡ length cs
+    → length old ≡ length cs → length ps ≡ length cs → length merged ≡ length cs
+    → EachMerged cfa cs successor old ps merged → key_of cs merged ≡ key_of cs old
+merged_key cfa [] es fs ps gs a b d size each = refl
+merged_key cfa (c ∷ cs) [] fs ps gs a b d size each = absurd (omega arith)
+merged_key cfa (c ∷ cs) (e ∷ es) [] ps gs a b d size each = absurd (omega arith)
+merged_key cfa (c ∷ cs) (e ∷ es) (f ∷ fs) [] gs a b d size each = absurd (omega arith)
+merged_key cfa (c ∷ cs) (e ∷ es) (f ∷ fs) (p ∷ ps) [] a b d size each = absurd (omega arith)
+merged_key cfa (c ∷ cs) (e ∷ es) (f ∷ fs) (p ∷ ps) (g ∷ gs) a b d size each =
+    let later : key_of cs gs ≡ key_of cs fs =
+    merged_key cfa cs es fs ps gs (omega arith) (omega arith) (omega arith) (omega arith)
+    (λ i x y q u v stands at_u at_v. each (suc i) x y q u v
+    (record { component = stands.component; elem = stands.elem; precision = stands.precision })
+    at_u at_v) in
+    ⊎_elim
+    (λ key.
+    let sep = apart c.rule (and_parts _ (keeps_apart c.rule) key).1 in
+    let first : g ≡ f =
+    (each 0 c e p f g (record { component = refl; elem = refl; precision = refl }) refl refl).sep
+    sep in
+    rw key (ap (λ (x : Elem). x ∷ key_of cs gs) first ∙ ap (λ (l : List Elem). f ∷ l) later))
+    (λ other. rw other later)
+    (cases_Bool (is_key c))

@@ -1,0 +1,28 @@
+//! Prints each row of the standard input with what comes of the path that it asks for. README.md
+//! says how the wanted answers were made.
+#![tactic(auto)]
+
+mod folding;
+mod judging;
+mod rows;
+
+use cases_programs::Table;
+use std::io::{self, BufRead, BufReader, BufWriter, Write};
+
+/// The program that the rows set lives from the first row to the last.
+fn main(rt: HostRuntime) -> io::Result<()> {
+    let mut table = Table::new(rt.alloc());
+    answer_all(&rt, &mut table)
+}
+
+/// Answers row by row.
+fn answer_all(rt: &HostRuntime, table: &mut Table) -> io::Result<()> {
+    let alloc = rt.alloc();
+    let mut out = BufWriter::new(alloc, io::writer(rt))?;
+    for line in BufReader::new(alloc, rt.reader())?.lines(alloc) {
+        let line = line?;
+        let printed = rows::answered(alloc, table, line.as_str())?;
+        writeln!(out, "{printed}")?;
+    }
+    out.flush()
+}

@@ -1,0 +1,4 @@
+-- What crates above may cite of the proofs.
+pub mod Lists
+pub mod Keyed
+pub mod Counted

@@ -1,0 +1,7 @@
+-- Lemmas on the definitions, which the laws' proofs and crates above cite. No definition that a
+-- contract cites stands here.
+pub mod Saturated
+pub mod Sets
+pub mod Ends
+pub mod Corners
+pub mod Orders

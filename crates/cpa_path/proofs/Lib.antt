@@ -1,0 +1,5 @@
+pub mod Along
+pub mod Linked
+pub mod Walked
+pub mod Formed
+pub mod Weighed

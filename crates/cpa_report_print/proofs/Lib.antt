@@ -1,0 +1,2 @@
+pub mod WideNumbers
+pub mod Writing

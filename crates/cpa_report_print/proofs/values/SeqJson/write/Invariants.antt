@@ -1,0 +1,16 @@
+-- What stands and what is left is the whole.
+use Rattle.std.proofs.Common.{◌≡◌, ◌++◌, List, map}
+use Rattle.std.specs.Slice.Iter.{iter_rest}
+use Rattle.json.specs.Token.{Token}
+use Rattle.serde_json.specs.View.{items_of}
+use Rattle.cpa_report_print.specs.Tokens.{items_onto}
+use Rattle.cpa_report_print.proofs.values.SeqJson.write.Given as goal
+
+abbrev pub invariant-loop-item : goal.invariant-loop-item
+invariant-loop-item g l = record {
+  before : l.writer.before ≡ l.initial.writer.before;
+  tokens :
+      (rest : List Token)
+      → l.writer.tokens ++ items_onto (items_of (map g.T.Json.json (iter_rest l.item-iterator))) rest
+      ≡ l.initial.writer.tokens ++ items_onto (items_of (map g.T.Json.json l.self)) rest
+}

@@ -1,0 +1,4 @@
+pub mod lemmas
+pub mod Reports
+pub mod Steps
+pub mod Tokens
