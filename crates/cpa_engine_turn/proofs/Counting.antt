@@ -13,7 +13,8 @@ use Rattle.cpa_iface.specs.declared.entries.Entry.{Entry}
 use Rattle.cpa_iface.specs.declared.precisions.Precision.{Precision}
 use Rattle.cpa_composite.specs.Components.{Component}
 use Rattle.cpa_composite.specs.Ranks.{row_rank, row_height}
-use Rattle.cpa_reached.specs.Members.{IsIn, Ascend}
+use Rattle.cpa_model.specs.Ascending.{AreAscending}
+use Rattle.cpa_reached.specs.Members.{IsIn}
 use Rattle.cpa_reached.specs.MemberLaws.{in_all, entry_in}
 use Rattle.cpa_reached.specs.Entries.{numbers}
 use Rattle.cpa_reached.specs.Calls.{gains, fresh, renamed, replacing, others, those, rests}
@@ -130,7 +131,7 @@ ended_left cfa cs count limit es ps edge None m b is low few before =
     (omega (arith, up, before))
 
 -- a row takes the place of an entry
-others_size : (xs : List Entry) (old : Entry) → Ascend (numbers xs) → IsIn old xs
+others_size : (xs : List Entry) (old : Entry) → AreAscending (numbers xs) → IsIn old xs
     → suc (length (others old.number xs)) ≡ length xs
 others_size [] old up there = absurd there
 others_size (x ∷ xs) old up (inl same) =
@@ -145,7 +146,7 @@ others_size (x ∷ xs) old up (inr later) =
     rw other (ap suc (others_size xs old up.1 later))
 
 replaced_size : (next : ℕ) (xs : List Entry) (old : Entry) (es : List Elem)
-    → Ascend (numbers xs) → IsIn old xs
+    → AreAscending (numbers xs) → IsIn old xs
     → length (replaced_entries next xs old.number es) ≡ length xs
 replaced_size next xs old es up there =
     let front = map (renamed old.number next) (others old.number xs) in
@@ -157,7 +158,7 @@ replaced_size next xs old es up there =
     both ∙ omega (arith, plain, one, fewer)
 
 pub replacing_left : (cfa : Cfa) (cs : List Component) (count : ℕ) (old : Entry) (es : List Elem)
-    (a : Stage) → Ascend (numbers a.reached.live) → IsIn old a.reached.live
+    (a : Stage) → AreAscending (numbers a.reached.live) → IsIn old a.reached.live
     → row_rank cfa cs es < row_rank cfa cs old.elems
     → turns_left cfa cs count (replacing_at old.number es a).reached.live
     ≤ turns_left cfa cs count a.reached.live
@@ -201,7 +202,7 @@ none_rest cfa cs n m (x ∷ xs) le above =
     rw other (omega (arith, rest))
 
 taken_due : (cfa : Cfa) (cs : List Component) (n : ℕ) (xs : List Entry) (e : Entry)
-    → Ascend (numbers xs) → IsIn e xs → e.number ≡ n → e.waiting ≡ true
+    → AreAscending (numbers xs) → IsIn e xs → e.number ≡ n → e.waiting ≡ true
     → turns_due cfa cs (at_number n rests xs) + 1 ≡ turns_due cfa cs xs
 taken_due cfa cs n [] e up there is waits = absurd there
 taken_due cfa cs n (x ∷ xs) e up (inl same) is waits =
@@ -218,7 +219,7 @@ taken_due cfa cs n (x ∷ xs) e up (inr later) is waits =
     rw other (omega (arith, rest))
 
 pub taken_left : (cfa : Cfa) (cs : List Component) (count n : ℕ) (xs : List Entry) (e : Entry)
-    → Ascend (numbers xs) → IsIn e xs → e.number ≡ n → e.waiting ≡ true
+    → AreAscending (numbers xs) → IsIn e xs → e.number ≡ n → e.waiting ≡ true
     → turns_left cfa cs count (at_number n rests xs) + 1 ≡ turns_left cfa cs count xs
 taken_left cfa cs count n xs e up there is waits =
     let size : length (at_number n rests xs) ≡ length xs =

@@ -16,10 +16,12 @@ use Rattle.cpa_iface.specs.declared.entries.Entry.{Entry}
 use Rattle.cpa_iface.specs.declared.precisions.Precision.{Precision}
 use Rattle.cpa_composite.specs.Components.{Component}
 use Rattle.cpa_composite.specs.Covers.{all_cover}
-use Rattle.cpa_reached.specs.Members.{IsIn, Ascend}
+use Rattle.cpa_model.specs.Ascending.{AreAscending}
+use Rattle.cpa_reached.specs.Members.{IsIn}
 use Rattle.cpa_reached.specs.MemberLaws.{in_map, map_in, in_append, append_front, append_back}
 use Rattle.cpa_reached.specs.MemberLaws.{in_filter, filter_in, one_entry, numbers_append, all_push}
-use Rattle.cpa_reached.specs.MemberLaws.{ascend_push, ascend_kept, all_kept, entry_in, in_all}
+use Rattle.cpa_model.specs.lemmas.Ascending.{ascending_push}
+use Rattle.cpa_reached.specs.MemberLaws.{ascend_kept, all_kept, entry_in, in_all}
 use Rattle.cpa_reached.specs.MemberLaws.{numbers_map, all_weaker}
 use Rattle.cpa_reached.specs.Entries.{ReachedSet, IsLive, numbers}
 use Rattle.cpa_reached.specs.Calls.{gains, fresh, rename, renamed}
@@ -162,7 +164,7 @@ notes_effect cfa cs a by ordered =
     let same = mild_numbers g a.reached.live mild in
     record {
       ordered = record {
-        ascend = subst Ascend (sym same) ordered.ascend;
+        ascend = subst AreAscending (sym same) ordered.ascend;
         below = subst (AllByRecursion (λ n. n < a.reached.next)) (sym same) ordered.below;
       };
       rises = omega arith;
@@ -209,8 +211,8 @@ adds_effect cfa cs a es ps edge ordered uncovered =
     let up : (n : ℕ) → n < next → n < next + 1 = λ n less. omega (arith, less) in
     record {
       ordered = record {
-        ascend = subst Ascend (sym same)
-            (ascend_push (numbers xs) next ordered.ascend ordered.below);
+        ascend = subst AreAscending (sym same)
+            (ascending_push (numbers xs) next ordered.ascend ordered.below);
         below = subst (AllByRecursion (λ n. n < next + 1)) (sym same)
             (all_push (λ n. n < next + 1) (numbers xs) next
             (all_weaker (λ n. n < next) (λ n. n < next + 1) (numbers xs) up ordered.below)
@@ -277,7 +279,7 @@ none_above n m (x ∷ xs) le above =
     let no : eqb x.number n ≡ false = ne_eqb x.number n (λ e. omega (arith, le, less, e)) in
     rw no (none_above n m xs le above.1)
 
-pub those_one : (xs : List Entry) (old : Entry) → Ascend (numbers xs) → IsIn old xs
+pub those_one : (xs : List Entry) (old : Entry) → AreAscending (numbers xs) → IsIn old xs
     → those old.number xs ≡ old ∷ []
 those_one [] old up there = absurd there
 those_one (x ∷ xs) old up (inl same) =
@@ -295,7 +297,7 @@ those_one (x ∷ xs) old up (inr later) =
     rw no (those_one xs old up.1 later)
 
 pub replaced_numbers : (next : ℕ) (xs : List Entry) (old : Entry) (es : List Elem)
-    → Ascend (numbers xs) → IsIn old xs
+    → AreAscending (numbers xs) → IsIn old xs
     → numbers (replaced_entries next xs old.number es) ≡ numbers (others old.number xs) ++ next ∷ []
 replaced_numbers next xs old es up there =
     let front = map (renamed old.number next) (others old.number xs) in
@@ -314,8 +316,8 @@ replaced_ordered r old es ordered there =
     let low = all_kept (λ n. n < next) keep r.live ordered.below in
     let up : (n : ℕ) → n < next → n < next + 1 = λ n less. omega (arith, less) in
     record {
-      ascend = subst Ascend (sym same)
-          (ascend_push (numbers (others old.number r.live)) next
+      ascend = subst AreAscending (sym same)
+          (ascending_push (numbers (others old.number r.live)) next
           (ascend_kept keep r.live ordered.ascend) low);
       below = subst (AllByRecursion (λ n. n < next + 1)) (sym same)
           (all_push (λ n. n < next + 1) (numbers (others old.number r.live)) next
@@ -326,7 +328,7 @@ replaced_ordered r old es ordered there =
 
 -- an entry after a replacement: one of another number that was there, or the new one
 pub replaced_back : (next : ℕ) (xs : List Entry) (old : Entry) (es : List Elem)
-    → Ascend (numbers xs) → IsIn old xs → (y : Entry)
+    → AreAscending (numbers xs) → IsIn old xs → (y : Entry)
     → IsIn y (replaced_entries next xs old.number es)
     → ((x : Entry) × IsIn x xs × Alike x y × (x.number ≢ old.number))
     ⊎ (y ≡ replacing next es old)

@@ -18,7 +18,8 @@ use Rattle.cpa_iface.specs.declared.precisions.Precision.{Precision}
 use Rattle.cpa_composite.specs.Components.{Component, AreElems, IsEntryOf}
 use Rattle.cpa_composite.specs.Covers.{all_cover}
 use Rattle.cpa_composite.specs.Laws.{MergedRow, AgreeOnSep, WidenCovers, EachMerged}
-use Rattle.cpa_reached.specs.Members.{IsIn, Ascend}
+use Rattle.cpa_model.specs.Ascending.{AreAscending}
+use Rattle.cpa_reached.specs.Members.{IsIn}
 use Rattle.cpa_reached.specs.MemberLaws.{in_all, entry_in}
 use Rattle.cpa_reached.specs.Entries.{ReachedSet, IsLive, IsNumbered, numbers}
 use Rattle.cpa_reached.specs.Calls.{added, replaced, used, others}
@@ -125,7 +126,7 @@ pub numbered_at : (xs ys : List Entry) (i : ℕ) (x : Entry) (n : ℕ) → ys �
 numbered_at xs ys i x n same less is at =
     number_at xs i x n less (is ∙ ap (λ (l : List Entry). get_or l i x) same) at
 
-gone_at : (xs : List Entry) (i : ℕ) (x : Entry) → Ascend (numbers xs) → i < length xs
+gone_at : (xs : List Entry) (i : ℕ) (x : Entry) → AreAscending (numbers xs) → i < length xs
     → x ≡ get_or xs i x → numbers (others x.number xs) ≡ remove (numbers xs) i
 gone_at [] i x up less is = absurd (omega (arith, less))
 gone_at (y ∷ xs) zero x up less is =

@@ -15,7 +15,8 @@ use Rattle.cpa_iface.specs.declared.entries.Entry.{Entry}
 use Rattle.cpa_iface.specs.declared.entries.Turn.{Turn}
 use Rattle.cpa_iface.specs.declared.merging.Order.{Order}
 use Rattle.cpa_composite.specs.Components.{Component}
-use Rattle.cpa_reached.specs.Members.{IsIn, Ascend}
+use Rattle.cpa_model.specs.Ascending.{AreAscending}
+use Rattle.cpa_reached.specs.Members.{IsIn}
 use Rattle.cpa_reached.specs.MemberLaws.{in_map, map_in, in_filter, one_entry, numbers_map}
 use Rattle.cpa_reached.specs.Entries.{ReachedSet, IsLive, IsNext, numbers, waiting_numbers}
 use Rattle.cpa_reached.specs.Calls.{at_number, rests, taken}
@@ -99,7 +100,7 @@ ordered_before r n ordered =
     let same : numbers (at_number n rests r.live) ≡ numbers r.live =
     numbers_map (at_rest n) r.live (rest_number n) in
     record {
-      ascend = subst Ascend same ordered.ascend;
+      ascend = subst AreAscending same ordered.ascend;
       below = subst (AllByRecursion (λ m. m < r.next)) same ordered.below;
     }
 

@@ -12,7 +12,8 @@ use Rattle.cpa_iface.specs.declared.precisions.Precision.{Precision}
 use Rattle.cpa_composite.specs.Components.{Component, AreElems, ArePrecisions}
 use Rattle.cpa_composite.specs.Covers.{all_cover}
 use Rattle.cpa_composite.specs.Laws.{MergedRow}
-use Rattle.cpa_reached.specs.Members.{IsIn, Ascend}
+use Rattle.cpa_model.specs.Ascending.{AreAscending}
+use Rattle.cpa_reached.specs.Members.{IsIn}
 use Rattle.cpa_reached.specs.Entries.{ReachedSet, IsLive, numbers}
 use Rattle.cpa_reached.specs.Calls.{closed, rename}
 use Rattle.cpa_reached.specs.Successors.{LiesInNamed}
@@ -23,7 +24,7 @@ use Rattle.cpa_engine_turn.specs.Turns.{LiesInEntry}
 
 -- Numbers ascend, and are used up.
 pub record IsOrdered (r : ReachedSet) : Type 0 where
-  pub ascend : Ascend (numbers r.live)
+  pub ascend : AreAscending (numbers r.live)
   pub below : AllByRecursion (λ n. n < r.next) (numbers r.live)
 
 abbrev pub stage : ReachedSet → Work → Stage

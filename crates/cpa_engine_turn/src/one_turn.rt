@@ -19,7 +19,7 @@ use cpa_composite::{
     Composite, control_is_followed, merging_ends, pins_are_followed, ranks_are_bounded,
 };
 use cpa_iface::{Analysis, Order};
-use cpa_model::{Cfa, edges_are_sound, edges_are_steps, initial_is_state};
+use cpa_model::{Cfa, edges_are_sound, edges_are_steps};
 use cpa_reached::Reached;
 use std::alloc::{AllocError, Global};
 
@@ -65,7 +65,6 @@ pub fn turn<A: Analysis>(
         < turns_left cfa.now (components composite.old) (length states) reached.old.live)) }
     ensures kept { components composite.new ≡ components composite.old }
 {
-    initial_is_state();
     edges_are_steps();
     edges_are_sound();
     merging_ends();

@@ -15,7 +15,8 @@ use Rattle.cpa_composite.specs.Components.{Component}
 use Rattle.cpa_composite.specs.Exact.{pins}
 use Rattle.cpa_composite.specs.Laws.{EachMerged}
 use Rattle.cpa_composite.specs.Ranks.{row_rank, rank_by}
-use Rattle.cpa_reached.specs.Members.{IsIn, Ascend}
+use Rattle.cpa_model.specs.Ascending.{AreAscending}
+use Rattle.cpa_reached.specs.Members.{IsIn}
 use Rattle.cpa_reached.specs.MemberLaws.{in_all, entry_in}
 use Rattle.cpa_reached.specs.Entries.{numbers}
 use Rattle.cpa_engine_turn.specs.Bounds.{ArePinned}
@@ -47,7 +48,7 @@ without x (y ∷ xs) (inr later) =
 pub at_most_keys : (key : List Elem → List Elem) (keys : List (List Elem)) (xs : List Entry)
     → ((e : Entry) → IsIn e xs → IsIn (key e.elems) keys)
     → ((e f : Entry) → IsIn e xs → IsIn f xs → key e.elems ≡ key f.elems → e.number ≡ f.number)
-    → Ascend (numbers xs) → length xs ≤ length keys
+    → AreAscending (numbers xs) → length xs ≤ length keys
 at_most_keys key keys [] there own up = omega arith
 at_most_keys key keys (x ∷ xs) there own up =
     let left = without (key x.elems) keys (there x (inl refl)) in
@@ -62,7 +63,7 @@ at_most_keys key keys (x ∷ xs) there own up =
     omega (arith, fewer, size)
 
 pub at_most_states : (cfa : Cfa) (cs : List Component) (states : List State) (xs : List Entry)
-    → Ascend (numbers xs) → ArePinned cfa cs states xs → length xs ≤ length states
+    → AreAscending (numbers xs) → ArePinned cfa cs states xs → length xs ≤ length states
 at_most_states cfa cs states xs up pinned =
     let size : length (map (pins cs) states) ≡ length states = length-map states (pins cs) in
     let few = at_most_keys (λ (es : List Elem). es) (map (pins cs) states) xs

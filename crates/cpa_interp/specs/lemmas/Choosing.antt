@@ -58,7 +58,7 @@ input_is cells old new cell v are here after =
     ap (λ (n : ℤ). n ∷ []) (at ∙ set_there old cell v (value_there cells old cell v are here))
 
 -- one store after a write
-assigns_one : (base len : ℕ) (index value : Option ℤ) (old xs ys : List ℤ)
+pub assigns_one : (base len : ℕ) (index value : Option ℤ) (old xs ys : List ℤ)
     → Assigns base len index value old xs → Assigns base len index value old ys → xs ≡ ys
 assigns_one base len index value old xs ys x y =
     let at = same_Some (pos x.place) (pos y.place) (sym x.index_is ∙ y.index_is) in

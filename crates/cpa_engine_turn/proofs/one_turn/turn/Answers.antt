@@ -3,7 +3,7 @@ use Rattle.cpa_composite.specs.Composites.{components}
 use Rattle.cpa_reached.specs.Entries.{ReachedSet, IsLive}
 use Rattle.cpa_engine_turn.specs.Bounds.{AreBounded, ArePinned}
 use Rattle.cpa_engine_turn.specs.Turns.{AreEntries}
-use Rattle.cpa_engine_turn.proofs.Beginning.{begins_in_state, taken_live}
+use Rattle.cpa_engine_turn.proofs.Beginning.{taken_live}
 use Rattle.cpa_engine_turn.proofs.Bounding.{turned_bound}
 use Rattle.cpa_engine_turn.proofs.Keeping.{turned_journal}
 use Rattle.cpa_engine_turn.proofs.Owning.{turned_keys}
@@ -56,8 +56,7 @@ returns-in_ok-expand_taken-in-Some-clause-covers g c = λ covers.
     c.in_ok-expand_taken-in-Some.ensures.ordered c.requires.entries in
     turned_covers c.args.cfa.now (components c.args.composite.now) c.args.order c.args.reached.now
     c.in-Some.number c.expand_taken.new.reached
-    (begins_in_state c.args.cfa.now c.requires.automaton c.initial_is_state.ensures
-    c.edges_are_steps.ensures.initial)
+    (c.edges_are_steps.ensures.state c.args.cfa.now c.requires.automaton)
     c.in-Some.ensures.next w.goes covers
 
 pub returns-in_ok-expand_taken-in-Some-clause-journal :
