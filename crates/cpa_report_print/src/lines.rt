@@ -42,11 +42,7 @@ impl Json for Line {
 }
 
 /// Writes the list of the literals.
-fn write_clause(
-    alloc: Global,
-    writer: &mut Writer,
-    clause: &Clause,
-) -> Result<(), AllocError>
+fn write_clause(alloc: Global, writer: &mut Writer, clause: &Clause) -> Result<(), AllocError>
     ensures { OnOk result (Wrote writer.old writer.new (onto (list_data literal_data clause.now))) }
 {
     writer.begin_array()?;

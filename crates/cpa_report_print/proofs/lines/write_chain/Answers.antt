@@ -4,7 +4,7 @@ use Rattle.std.proofs.lemmas.List.{drop_all}
 use Rattle.cpa_cnf.specs.declared.formula.Step.{Step}
 use Rattle.serde_json.specs.View.{items_of}
 use Rattle.cpa_report_print.specs.Reports.{number_data}
-use Rattle.cpa_report_print.proofs.Writing.{Left, one, both, closed}
+use Rattle.cpa_report_print.proofs.Writing.{one, both, closed}
 use Rattle.cpa_report_print.proofs.lines.write_chain.Goals as goal
 
 pub returns : goal.returns

@@ -18,5 +18,5 @@ invariant-loop-step l = record {
   tokens :
       (rest : List Token)
       → l.writer.tokens ++ items_onto (numbers (drop l.step-index l.steps)) rest
-      ≡ l.initial.writer.tokens ++ items_onto (numbers l.steps) rest
+      ≡ l.initial.writer.tokens ++ items_onto (numbers l.steps) rest;
 }

@@ -13,5 +13,5 @@ invariant-loop-literal l = record {
       (rest : List Token)
       → l.writer.tokens
       ++ items_onto (items_of (map literal_data (drop l.literal-index l.literal-items))) rest
-      ≡ l.initial.writer.tokens ++ items_onto (items_of (map literal_data l.literal-items)) rest
+      ≡ l.initial.writer.tokens ++ items_onto (items_of (map literal_data l.literal-items)) rest;
 }

@@ -1,4 +1,4 @@
-use Rattle.std.proofs.Common.{◌≡◌, sym, subst, List, ℕ, ℤ, ◌+◌, ◌<◌, ◌^◌, ◌∙◌, ap, arith, FitsSigned, to_z, of_z}
+use Rattle.std.proofs.Common.{sym, subst, ℤ, ◌+◌, ◌<◌, ◌^◌, ◌∙◌, ap, arith, FitsSigned}
 use Rattle.std.specs.Int.{w128}
 use Rattle.std.specs.Fmt.{signed_decimal}
 use Rattle.std.proofs.lemmas.Int.{to_z-of_z}

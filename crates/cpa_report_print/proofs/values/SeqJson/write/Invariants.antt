@@ -12,5 +12,5 @@ invariant-loop-item g l = record {
   tokens :
       (rest : List Token)
       → l.writer.tokens ++ items_onto (items_of (map g.T.Json.json (iter_rest l.item-iterator))) rest
-      ≡ l.initial.writer.tokens ++ items_onto (items_of (map g.T.Json.json l.self)) rest
+      ≡ l.initial.writer.tokens ++ items_onto (items_of (map g.T.Json.json l.self)) rest;
 }
