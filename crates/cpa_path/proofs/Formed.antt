@@ -1,7 +1,7 @@
 -- The form of a path, edge by edge, and what its law says: its models are the stores along the path
 -- (`model_stores`, `none_stores`).
 use Rattle.std.proofs.Common.{◌≡◌, ℕ, ℤ, ◌<◌, true, List, [], ◌∷◌, ◌++◌, length, map, Option, Some}
-use Rattle.std.proofs.Common.{slice_get, zero, suc, refl, sym, ap, subst, arith}
+use Rattle.std.proofs.Common.{slice_get, get_or, zero, suc, refl, sym, ap, subst, arith}
 use Rattle.std.specs.List.{AllByRecursion}
 use Rattle.cpa_model.specs.declared.automaton.Edge.{Edge}
 use Rattle.cpa_model.specs.declared.automaton.Cfa.{Cfa}
@@ -17,6 +17,15 @@ there_is : {X : Type 0} (xs : List X) (i : ℕ) → i < length xs → (x : X) ×
 there_is [] i less = absurd (omega (arith, less))
 there_is (x ∷ xs) zero less = (x, refl)
 there_is (x ∷ xs) (suc i) less = there_is xs i (omega (arith, less))
+
+-- the edge at a place of a path
+pub edge_at : (cfa : Cfa) (path : List ℕ) (i : ℕ) → i < length path
+    → AllByRecursion (λ n. n < length cfa.edges) path
+    → (g : Edge) × (slice_get cfa.edges (get_or path i 0) ≡ Some g)
+edge_at cfa [] i less inside = absurd (omega (arith, less))
+edge_at cfa (n ∷ path) zero less inside = there_is cfa.edges n inside.0
+edge_at cfa (n ∷ path) (suc i) less inside =
+    edge_at cfa path i (omega (arith, less)) inside.1
 
 -- the acts along a path fit the automaton
 pub added_fit : (cfa : Cfa)

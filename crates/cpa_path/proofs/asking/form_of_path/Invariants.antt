@@ -1,4 +1,4 @@
--- What is left makes of the form what all makes of the first one.
+-- What is left makes of the form what the path makes of the first one.
 use Rattle.std.proofs.Common.{◌≡◌, drop}
 use Rattle.cpa_edgeform_rules.specs.Forms.{form_from}
 use Rattle.cpa_path.specs.Paths.{added_along, path_form}
