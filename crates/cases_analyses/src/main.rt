@@ -10,7 +10,7 @@ mod setting;
 
 use boxes::Boxes;
 use cpa_callstack::Callstack;
-use cpa_iface::Location;
+use cpa_iface::{Location, Plain};
 use cpa_value::Value;
 use setting::Setting;
 use std::io::{self, BufRead, BufReader, BufWriter, Write};
@@ -19,8 +19,8 @@ use std::io::{self, BufRead, BufReader, BufWriter, Write};
 fn main(rt: HostRuntime) -> io::Result<()> {
     let alloc = rt.alloc();
     let mut boxes = Boxes {
-        location: Box::new(alloc, Location::new())?,
-        callstack: Box::new(alloc, Callstack::new())?,
+        location: Box::new(alloc, Plain(Location))?,
+        callstack: Box::new(alloc, Plain(Callstack))?,
         value: Box::new(alloc, Value::new())?,
     };
     let mut setting = Setting::new(alloc);

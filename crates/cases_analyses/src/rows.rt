@@ -11,7 +11,7 @@ use crate::setting::Setting;
 use cases_programs::{automaton, is_precision};
 use cases_reader::RowFault;
 use cpa_callstack::Callstack;
-use cpa_iface::{Location, Precision};
+use cpa_iface::{Location, Plain, Precision};
 use cpa_model::Cfa;
 use cpa_value::Value;
 use std::alloc::{AllocError, Global};
@@ -83,7 +83,7 @@ fn asked_of(
         Called::Location => {
             answer(
                 alloc,
-                &mut Location::new(),
+                &mut Plain(Location),
                 &mut boxes.location,
                 cfa,
                 precision,
@@ -93,7 +93,7 @@ fn asked_of(
         Called::Callstack => {
             answer(
                 alloc,
-                &mut Callstack::new(),
+                &mut Plain(Callstack),
                 &mut boxes.callstack,
                 cfa,
                 precision,

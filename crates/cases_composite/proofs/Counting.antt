@@ -44,6 +44,7 @@ count_initial cfa n small = record {
   holds = count_holds n (initial_state cfa);
   exact = λ other. absurd (other refl);
   bounded = λ p _. omega arith;
+  told = tt;
 }
 
 -- one more element
@@ -54,6 +55,7 @@ count_transfer cfa edge e p n small = record {
   covers = λ g s t at holds steps. inl (count_holds n t);
   exact = λ binds. absurd binds;
   bounded = λ _. (omega arith, tt);
+  told = tt;
 }
 
 all_states : (cfa : Cfa) (new old : Elem) (p : Precision)
@@ -66,6 +68,7 @@ all_states cfa new old p = record {
   covered = λ e. absurd (cc);
   falls = λ e. absurd (cc);
   bounded = λ _ _. omega arith;
+  told = tt;
 }
 
 the_old : (cfa : Cfa) (new old : Elem) (p : Precision) → IsShaped cfa old
@@ -78,6 +81,7 @@ the_old cfa new old p shaped = record {
   covered = λ e. absurd (cc);
   falls = λ e. absurd (cc);
   bounded = λ _ below. below;
+  told = tt;
 }
 
 -- what takes the place of an element where elements are joined

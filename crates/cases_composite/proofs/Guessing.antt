@@ -1,6 +1,7 @@
 -- That the two samples keep the laws of their calls.
 use Rattle.std.proofs.Common.{◌≡◌, ℕ, zero, suc, ◌≤◌, List, [], ◌∷◌, Some, None, refl, sym, ap}
 use Rattle.std.proofs.Common.{◌++◌, ◌∙◌, subst, inl, inr, arith}
+use Rattle.std.specs.Prelude.{IfSome}
 use Rattle.std.specs.List.{slice_get}
 use Rattle.std.proofs.lemmas.Option.{same_Some}
 use Rattle.cpa_model.specs.declared.facts.Elem.{Elem}
@@ -19,12 +20,13 @@ use Rattle.cases_composite.specs.Samples.{no_facts, blind, guess, StandsAt}
 -- an element without facts
 pub nothing_initial : (m : Meaning) (cfa : Cfa)
     → ((p : Precision) → m.rank cfa no_facts ≤ m.height cfa p) → m.part ≡ blind.part
-    → InitialLaws m cfa no_facts
-nothing_initial m cfa bounded same = record {
+    → IfSome m.replies (λ r. no_facts ≡ r.initial cfa) → InitialLaws m cfa no_facts
+nothing_initial m cfa bounded same told = record {
   shaped = tt;
   holds = tt;
   exact = λ other. absurd (other same);
   bounded = λ p _. bounded p;
+  told = told;
 }
 
 pub blind_transfer : (cfa : Cfa) (edge : ℕ) (e : Elem) (p : Precision)
@@ -34,6 +36,7 @@ blind_transfer cfa edge e p = record {
   covers = λ g s t at holds steps. inl tt;
   exact = λ binds. absurd binds;
   bounded = λ _. (omega arith, tt);
+  told = λ g at. refl;
 }
 
 one_edge : (cfa : Cfa) (edge : ℕ) (g h : Edge) → slice_get cfa.edges edge ≡ Some g
@@ -49,6 +52,7 @@ guess_transfer cfa edge e p g sound at = record {
       inr (inl (steps.to ∙ ap (λ (x : Edge). x.to) (one_edge cfa edge g h at also), tt));
   exact = λ binds. absurd binds;
   bounded = λ _. (omega arith, (omega arith, tt));
+  told = tt;
 }
 
 pub guess_drops : (cfa : Cfa) (own : Elem) (others : List Elem) (p : Precision)
@@ -58,6 +62,7 @@ guess_drops cfa own others p none = record {
   keeps = λ s state holds lies. absurd (none s holds lies);
   exact = λ binds _. absurd binds;
   bounded = λ _. tt;
+  told = tt;
 }
 
 nothing_more : {X : Type 0} (xs : List X) → xs ≡ xs ++ []
@@ -66,13 +71,15 @@ nothing_more {X} (x ∷ xs) = ap (λ (l : List X). x ∷ l) (nothing_more xs)
 
 -- to keep no suggestion, where none is told
 pub same_refined : (m : Meaning) (cfa : Cfa) (path : Path) (p : Precision)
-    → m.suggestion cfa path ≡ None → IsPrecision cfa p → RefineLaws m cfa path p p
-same_refined m cfa path p untold precision = record {
+    → m.suggestion cfa path ≡ None → IfSome m.replies (λ r. p ≡ r.refine cfa path p)
+    → IsPrecision cfa p → RefineLaws m cfa path p p
+same_refined m cfa path p untold told precision = record {
   shaped = precision;
   limit = refl;
   tracked = ([], nothing_more p.tracked);
   preds = ([], nothing_more p.preds);
   suggested = rw untold tt;
+  told = told;
 }
 
 -- a state stands at one point

@@ -13,25 +13,26 @@ use Rattle.cpa_model.specs.StandingLaws.{has_facts-within, has_facts-same}
 use Rattle.cpa_iface.specs.declared.analysis.Part.TheVariants as part
 use Rattle.cpa_iface.specs.Common.{fact_count}
 use Rattle.cpa_iface.specs.Meanings.{Meaning}
+use Rattle.cpa_iface.specs.PlainMeanings.{PlainMeaning, meaning_of}
 
 -- the element without facts
 abbrev pub no_facts : Elem
 no_facts = record { facts = [] }
 
--- exact on nothing, and tells no suggestion
-abbrev pub blind : Meaning
-blind = record {
+-- exact on nothing
+abbrev pub blinds : PlainMeaning
+blinds = record {
   name = codes "blind";
   part = part.Nothing;
-  cover = has_facts;
-  height = λ cfa p. 0;
-  rank = fact_count;
-  suggestion = λ cfa path. None;
-  within = has_facts-within;
-  same = has_facts-same;
+  beside_store = tt;
+  initial = λ cfa. no_facts;
+  next = λ e g. no_facts ∷ [];
 }
 
--- the same, of the height 1
+abbrev pub blind : Meaning
+blind = meaning_of blinds
+
+-- exact on nothing; it tells neither a suggestion nor what it answers
 abbrev pub guess : Meaning
 guess = record {
   name = codes "guess";
@@ -40,6 +41,7 @@ guess = record {
   height = λ cfa p. 1;
   rank = fact_count;
   suggestion = λ cfa path. None;
+  replies = None;
   within = has_facts-within;
   same = has_facts-same;
 }
@@ -57,6 +59,7 @@ counter = record {
   height = λ cfa p. 1;
   rank = fact_count;
   suggestion = λ cfa path. None;
+  replies = None;
   within = has_facts-within;
   same = has_facts-same;
 }

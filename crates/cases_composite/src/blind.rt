@@ -4,14 +4,11 @@
 ghost use Rattle.std.specs.Prelude.{◌≡◌};
 ghost use Rattle.cases_composite.specs.Samples.{no_facts};
 
-use cpa_iface::{
-    Analysis, Entry, MergeRule, Part, Precision, Settings, copy_precision, empty_precision,
-    merge_facts, unadjusted, unstrengthened,
-};
-use cpa_model::{Cfa, Elem, Path, Seq, has_facts};
+use cpa_iface::{Part, Steps};
+use cpa_model::{Cfa, Elem, Seq};
 use std::alloc::{AllocError, Global};
 
-/// It knows nothing, is exact on nothing, tells no suggestion and keeps none.
+/// It knows nothing, and is exact on nothing.
 #[derive(Drop)]
 pub struct Blind {
     /// How many transfers there are still, up to the one that is refused. 0 where none is.
@@ -25,10 +22,10 @@ impl Blind {
     }
 }
 
-impl Analysis for Blind {
-    ghost use Rattle.cases_composite.specs.Samples.{blind};
+impl Steps for Blind {
+    ghost use Rattle.cases_composite.specs.Samples.{blinds};
 
-    ghost meaning = { λ _. blind };
+    ghost own = { blinds };
 
     fn name(&self) -> &str {
         "blind"
@@ -42,22 +39,12 @@ impl Analysis for Blind {
         Ok(no_facts(alloc))
     }
 
-    fn first_precision(
-        &mut self,
-        alloc: Global,
-        _cfa: &Cfa,
-        _settings: &Settings,
-    ) -> Result<Precision, AllocError> {
-        Ok(empty_precision(alloc))
-    }
-
     fn transfer(
         &mut self,
         alloc: Global,
         _cfa: &Cfa,
         _edge: u32,
         _elem: &Elem,
-        _precision: &Precision,
     ) -> Result<Vec<Elem>, AllocError> {
         let left = self.left;
         self.left = left.saturating_sub(1);
@@ -67,55 +54,6 @@ impl Analysis for Blind {
         let mut successors = Vec::new(alloc);
         successors.push(no_facts(alloc))?;
         Ok(successors)
-    }
-
-    fn strengthen(
-        &mut self,
-        alloc: Global,
-        _cfa: &Cfa,
-        own: &Elem,
-        _others: &[Elem],
-        _precision: &Precision,
-    ) -> Result<Option<Elem>, AllocError> {
-        unstrengthened(alloc, own)
-    }
-
-    fn merge(
-        &mut self,
-        alloc: Global,
-        _cfa: &Cfa,
-        rule: MergeRule,
-        new: &Elem,
-        old: &Elem,
-        _precision: &Precision,
-    ) -> Result<Elem, AllocError> {
-        merge_facts(alloc, rule, new, old)
-    }
-
-    fn covered_by(&self, elem: &Elem, other: &Elem) -> bool {
-        has_facts(elem, other)
-    }
-
-    fn adjust(
-        &mut self,
-        alloc: Global,
-        _cfa: &Cfa,
-        elem: &Elem,
-        precision: &Precision,
-        _reached: &[Entry],
-        _place: u32,
-    ) -> Result<(Elem, Precision), AllocError> {
-        unadjusted(alloc, elem, precision)
-    }
-
-    fn refine(
-        &mut self,
-        alloc: Global,
-        _cfa: &Cfa,
-        _path: &Path,
-        precision: &Precision,
-    ) -> Result<Precision, AllocError> {
-        copy_precision(alloc, precision)
     }
 }
 

@@ -16,7 +16,7 @@ use blind::Blind;
 use counter::Counter;
 use cpa_callstack::Callstack;
 use cpa_composite::Handed;
-use cpa_iface::Location;
+use cpa_iface::{Location, Plain};
 use cpa_value::Value;
 use guess::Guess;
 use setting::Setting;
@@ -47,19 +47,19 @@ fn answered(alloc: Global, setting: &mut Setting, line: &str) -> Result<String, 
     let mut handed = Vec::new(alloc);
     handed.reserve(7)?;
     handed.push_reserved(Handed {
-        analysis: Box::new(alloc, Location::new())?,
+        analysis: Box::new(alloc, Plain(Location))?,
     });
     handed.push_reserved(Handed {
-        analysis: Box::new(alloc, Callstack::new())?,
+        analysis: Box::new(alloc, Plain(Callstack))?,
     });
     handed.push_reserved(Handed {
         analysis: Box::new(alloc, Value::new())?,
     });
     handed.push_reserved(Handed {
-        analysis: Box::new(alloc, Blind::new(0))?,
+        analysis: Box::new(alloc, Plain(Blind::new(0)))?,
     });
     handed.push_reserved(Handed {
-        analysis: Box::new(alloc, Blind::new(3))?,
+        analysis: Box::new(alloc, Plain(Blind::new(3)))?,
     });
     handed.push_reserved(Handed {
         analysis: Box::new(alloc, Guess)?,

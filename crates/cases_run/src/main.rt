@@ -4,7 +4,7 @@
 
 mod row;
 
-use cpa_iface::{Analysis, Location};
+use cpa_iface::{Analysis, Location, Plain};
 use cpa_outside::{MemoryInputs, MemorySink};
 use cpa_top::run;
 use row::Row;
@@ -38,7 +38,7 @@ fn answer<R: Threads + Sync>(
     let mut inputs = files(alloc, row.text, row.inputs)?;
     let mut out = MemorySink::new(alloc, ROOM, ROOM, Vec::new(alloc))?;
     let mut analyses: Vec<Box<dyn Analysis + Send>> = Vec::new(alloc);
-    analyses.push(Box::new(alloc, Location::new())?)?;
+    analyses.push(Box::new(alloc, Plain(Location))?)?;
     let status = run(rt, alloc, row.words, analyses, &mut inputs, &mut out);
     Ok((status, out))
 }

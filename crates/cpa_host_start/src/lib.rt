@@ -2,7 +2,7 @@
 //! the top call. Apart from `main`, so that a second program can show how a refusal ends.
 #![tactic(auto)]
 
-use cpa_iface::{Analysis, Location};
+use cpa_iface::{Analysis, Location, Plain};
 use cpa_outside::{FileInputs, StdoutSink, write_whole};
 use cpa_top::{Status, run};
 use std::alloc::{AllocError, Global};
@@ -48,7 +48,7 @@ pub fn start<R: Threads + Sync + Env + Files + Print + AllocGlobal>(rt: &R) -> E
         return refuse_memory(&mut out);
     };
     let mut analyses: Vec<Box<dyn Analysis + Send>> = Vec::new(alloc);
-    let Ok(location) = Box::new(alloc, Location::new()) else {
+    let Ok(location) = Box::new(alloc, Plain(Location)) else {
         return refuse_memory(&mut out);
     };
     if analyses.push(location).is_err() {

@@ -3,11 +3,8 @@
 ghost use Rattle.std.specs.Prelude.{◌≡◌};
 ghost use Rattle.tests_high.specs.Blind.{no_facts};
 
-use cpa_iface::{
-    Analysis, Entry, Location, MergeRule, Part, Precision, Settings, empty_precision, merge_facts,
-    unadjusted, unrefined, unstrengthened,
-};
-use cpa_model::{Cfa, Elem, Path, Seq, has_facts};
+use cpa_iface::{Analysis, Location, Part, Plain, Steps};
+use cpa_model::{Cfa, Elem, Seq};
 use cpa_outside::{Inputs, MemoryInputs, MemorySink, Sink};
 use cpa_top::run;
 use std::alloc::{AllocError, Global};
@@ -22,10 +19,10 @@ const RETURNS: &str = "int main(void){return 0;}";
 #[derive(Drop)]
 struct Blind;
 
-impl Analysis for Blind {
-    ghost use Rattle.tests_high.specs.Blind.{blind};
+impl Steps for Blind {
+    ghost use Rattle.tests_high.specs.Blind.{blinds};
 
-    ghost meaning = { λ _. blind };
+    ghost own = { blinds };
 
     fn name(&self) -> &str {
         "blind"
@@ -39,75 +36,16 @@ impl Analysis for Blind {
         Ok(no_facts(alloc))
     }
 
-    fn first_precision(
-        &mut self,
-        alloc: Global,
-        _cfa: &Cfa,
-        _settings: &Settings,
-    ) -> Result<Precision, AllocError> {
-        Ok(empty_precision(alloc))
-    }
-
     fn transfer(
         &mut self,
         alloc: Global,
         _cfa: &Cfa,
         _edge: u32,
         _elem: &Elem,
-        _precision: &Precision,
     ) -> Result<Vec<Elem>, AllocError> {
         let mut successors = Vec::new(alloc);
         successors.push(no_facts(alloc))?;
         Ok(successors)
-    }
-
-    fn strengthen(
-        &mut self,
-        alloc: Global,
-        _cfa: &Cfa,
-        own: &Elem,
-        _others: &[Elem],
-        _precision: &Precision,
-    ) -> Result<Option<Elem>, AllocError> {
-        unstrengthened(alloc, own)
-    }
-
-    fn merge(
-        &mut self,
-        alloc: Global,
-        _cfa: &Cfa,
-        rule: MergeRule,
-        new: &Elem,
-        old: &Elem,
-        _precision: &Precision,
-    ) -> Result<Elem, AllocError> {
-        merge_facts(alloc, rule, new, old)
-    }
-
-    fn covered_by(&self, elem: &Elem, other: &Elem) -> bool {
-        has_facts(elem, other)
-    }
-
-    fn adjust(
-        &mut self,
-        alloc: Global,
-        _cfa: &Cfa,
-        elem: &Elem,
-        precision: &Precision,
-        _reached: &[Entry],
-        _place: u32,
-    ) -> Result<(Elem, Precision), AllocError> {
-        unadjusted(alloc, elem, precision)
-    }
-
-    fn refine(
-        &mut self,
-        alloc: Global,
-        _cfa: &Cfa,
-        _path: &Path,
-        precision: &Precision,
-    ) -> Result<Precision, AllocError> {
-        unrefined(alloc, precision)
     }
 }
 
@@ -151,7 +89,7 @@ fn call<R: Threads + Sync, I: Inputs, K: Sink>(
     let words = texts(alloc, words)?;
     let mut analyses: Vec<Box<dyn Analysis + Send>> = Vec::new(alloc);
     for _ in 0..count {
-        analyses.push(Box::new(alloc, Location::new())?)?;
+        analyses.push(Box::new(alloc, Plain(Location))?)?;
     }
     Ok(run(rt, alloc, words, analyses, inputs, out))
 }
@@ -179,7 +117,7 @@ fn status_with<R: Threads + Sync>(rt: &R, alloc: Global, count: usize) -> Result
 /// The status with one analysis that is exact on nothing.
 fn status_with_blind<R: Threads + Sync>(rt: &R, alloc: Global) -> Result<u8, AllocError> {
     let mut analyses: Vec<Box<dyn Analysis + Send>> = Vec::new(alloc);
-    analyses.push(Box::new(alloc, Blind)?)?;
+    analyses.push(Box::new(alloc, Plain(Blind))?)?;
     let mut inputs = file(alloc, RETURNS.as_bytes())?;
     let mut out = MemorySink::new(alloc, 99, 99, Vec::new(alloc))?;
     let words = texts(alloc, &["verify", "p.c"])?;

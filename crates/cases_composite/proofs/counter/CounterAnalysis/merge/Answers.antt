@@ -16,7 +16,7 @@ returns-in_default c =
       laws = IfOk-weaker _ _ _ (λ (e : Elem) is.
           subst (MergeLaws counter cfa c.args.rule new old p) (sym is)
           (merged_facts-laws counter cfa c.args.rule new old p
-          (record { cover = refl; rank = refl }) c.requires.old))
+          (record { cover = refl; rank = refl; merges = λ _ _ _ _ _. tt }) c.requires.old))
           c.merge_facts.ensures;
       kept = refl;
     }

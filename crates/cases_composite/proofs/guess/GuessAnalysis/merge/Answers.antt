@@ -15,5 +15,5 @@ returns-clause-laws c =
     IfOk-weaker _ _ _ (λ (e : Elem) is.
     subst (MergeLaws guess cfa c.args.rule new old p) (sym is)
     (merged_facts-laws guess cfa c.args.rule new old p
-    (record { cover = refl; rank = refl }) c.requires.old))
+    (record { cover = refl; rank = refl; merges = λ _ _ _ _ _. tt }) c.requires.old))
     c.merge_facts.ensures
