@@ -16,7 +16,7 @@ use Rattle.cpa_model.specs.declared.automaton.Path.{Path}
 use Rattle.cpa_path_folds.specs.Along.{acts_along}
 use Rattle.cpa_path_folds.specs.declared.carrying.TheConstants.{MAX_CARRIED_SIZE}
 use Rattle.cpa_path_folds.specs.declared.carrying.TheConstants.{MAX_CARRIED_HEIGHT}
-use Rattle.cpa_path_folds.specs.declared.carrying.Carried.{Carried}
+use Rattle.cpa_path_folds.specs.declared.carrying.CarriedLists.{CarriedLists}
 
 -- ---- which cells an expression reads
 
@@ -47,7 +47,7 @@ abbrev pub with_new : Expr → List Expr → List Expr
 with_new e es = if list_any (same_expr e) es then es else es ++ e ∷ []
 
 -- both lists with the expression, if it reads a cell
-abbrev pub with_both : Expr → Carried → Carried
+abbrev pub with_both : Expr → CarriedLists → CarriedLists
 with_both e now =
     if reads_some e
     then record { present = with_new e now.present; all = with_new e now.all }
@@ -57,20 +57,20 @@ with_both e now =
 abbrev pub is_small : Expr → Bool
 is_small e = nat_le (size e) MAX_CARRIED_SIZE && nat_le (height e) MAX_CARRIED_HEIGHT
 
-abbrev pub with_small : Expr → Carried → Carried
+abbrev pub with_small : Expr → CarriedLists → CarriedLists
 with_small e now = if is_small e then with_both e now else now
 
 -- and the expressions with the value in place of the cell, one after the other
-abbrev pub with_replaced : ℕ → Expr → List Expr → Carried → Carried
+abbrev pub with_replaced : ℕ → Expr → List Expr → CarriedLists → CarriedLists
 with_replaced cell value [] now = now
 with_replaced cell value (e ∷ es) now =
     with_replaced cell value es (with_small (replaced e cell value) now)
 
 -- the present expressions that read one of len cells from base on, and without them
-abbrev pub reading : ℕ → ℕ → Carried → List Expr
+abbrev pub reading : ℕ → ℕ → CarriedLists → List Expr
 reading base len now = filter (reads_among base len) now.present
 
-abbrev pub without : ℕ → ℕ → Carried → Carried
+abbrev pub without : ℕ → ℕ → CarriedLists → CarriedLists
 without base len now =
     record now { present = filter (λ e. not (reads_among base len e)) now.present }
 
@@ -81,7 +81,7 @@ is_scalar len index = len == 1 && is_zero (out-Expr index)
 -- What is carried over an act, from what is carried behind it. A test comes to it. Where a cell is
 -- written, the expressions that read it go, and each comes again with the value in its place. An
 -- array that is written and an input take the expressions that read them away.
-abbrev pub carried_over : Act → Carried → Carried
+abbrev pub carried_over : Act → CarriedLists → CarriedLists
 carried_over (Assume test holds) now = with_both test now
 carried_over (Assign base len index value) now =
     if is_scalar len index
@@ -91,7 +91,7 @@ carried_over (Input cell) now = without cell 1 now
 carried_over _ now = now
 
 -- along acts, from the last to the first
-abbrev pub carried_along : List Act → Carried
+abbrev pub carried_along : List Act → CarriedLists
 carried_along [] = record { present = []; all = [] }
 carried_along (a ∷ acts) = carried_over a (carried_along acts)
 

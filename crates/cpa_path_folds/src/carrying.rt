@@ -26,7 +26,7 @@ pub const MAX_CARRIED_HEIGHT: u32 = 100;
 
 /// The expressions that speak of the store at a place of a path, and all that came so far.
 #[derive(Drop)]
-pub(crate) struct Carried {
+pub(crate) struct CarriedLists {
     pub(crate) present: Seq<Expr>,
     pub(crate) all: Seq<Expr>,
 }
@@ -43,16 +43,16 @@ pub fn carried(alloc: Global, cfa: &Cfa, path: &Path) -> Result<Vec<Expr>, Alloc
     ensures { IfOk result (λ es. es.items ≡ carried cfa.now path.now) }
 {
     let carried = carried_along(alloc, cfa, path.edges.as_slice())?;
-    let Carried { all, .. } = carried;
+    let CarriedLists { all, .. } = carried;
     Ok(all.into_vec())
 }
 
 /// What is carried along the edges.
-fn carried_along(alloc: Global, cfa: &Cfa, edges: &[u32]) -> Result<Carried, AllocError>
+fn carried_along(alloc: Global, cfa: &Cfa, edges: &[u32]) -> Result<CarriedLists, AllocError>
     requires edges { AllByRecursion (λ edge. edge < length cfa.now.edges) edges.now }
     ensures { IfOk result (λ c. c ≡ carried_along (acts_along cfa.now edges.now)) }
 {
-    let mut now = Carried {
+    let mut lists = CarriedLists {
         present: Seq::new(alloc),
         all: Seq::new(alloc),
     };
@@ -60,25 +60,25 @@ fn carried_along(alloc: Global, cfa: &Cfa, edges: &[u32]) -> Result<Carried, All
     while 0 < place {
         place -= 1;
         let edge = cfa.edge(edges[place]);
-        carry(alloc, &mut now, &edge.act)?;
+        carry(alloc, &mut lists, &edge.act)?;
     }
-    Ok(now)
+    Ok(lists)
 }
 
 /// Carries what is there over the act.
-fn carry(alloc: Global, now: &mut Carried, act: &Act) -> Result<(), AllocError>
-    ensures { OnOk result (now.new ≡ carried_over act.now now.old) }
+fn carry(alloc: Global, lists: &mut CarriedLists, act: &Act) -> Result<(), AllocError>
+    ensures { OnOk result (lists.new ≡ carried_over act.now lists.old) }
 {
     match act {
-        Act::Assume { test, .. } => add(alloc, now, test),
+        Act::Assume { test, .. } => add(alloc, lists, test),
         Act::Assign {
             base,
             len,
             index,
             value,
-        } => carry_over_write(alloc, now, *base, *len, index, value),
+        } => carry_over_write(alloc, lists, *base, *len, index, value),
         Act::Input { cell } => {
-            forget(alloc, now, *cell, 1);
+            forget(alloc, lists, *cell, 1);
             Ok(())
         }
         Act::Skip | Act::Call { .. } | Act::Return { .. } => Ok(()),
@@ -88,20 +88,20 @@ fn carry(alloc: Global, now: &mut Carried, act: &Act) -> Result<(), AllocError>
 /// Carries what is there over a write.
 fn carry_over_write(
     alloc: Global,
-    now: &mut Carried,
+    lists: &mut CarriedLists,
     base: u32,
     len: u32,
     index: &Expr,
     value: &Expr,
 ) -> Result<(), AllocError>
     ensures { OnOk result
-        (now.new ≡ carried_over (Act.Assign base len index.now value.now) now.old) }
+        (lists.new ≡ carried_over (Act.Assign base len index.now value.now) lists.old) }
 {
     if is_scalar(len, index) {
-        let reading = take_reading(alloc, now, base)?;
-        add_replaced(alloc, now, base, value, reading.as_slice())
+        let reading = take_reading(alloc, lists, base)?;
+        add_replaced(alloc, lists, base, value, reading.as_slice())
     } else {
-        forget(alloc, now, base, len);
+        forget(alloc, lists, base, len);
         Ok(())
     }
 }
@@ -120,31 +120,34 @@ fn is_scalar(len: u32, index: &Expr) -> bool
 }
 
 /// Takes the present expressions away that read one of `len` cells from `base` on. Takes no memory.
-fn forget(alloc: Global, now: &mut Carried, base: u32, len: u32)
-    ensures { now.new ≡ without base len now.old }
+fn forget(alloc: Global, lists: &mut CarriedLists, base: u32, len: u32)
+    ensures { lists.new ≡ without base len lists.old }
 {
-    let mut present = mem::replace(&mut now.present, Seq::new(alloc)).into_vec();
-    present.retain(|e| !reads_among(e, base, len));
-    now.present = Seq::from_vec(present);
+    let mut present = mem::replace(&mut lists.present, Seq::new(alloc)).into_vec();
+    keep_others(&mut present, base, len);
+    lists.present = Seq::from_vec(present);
+}
+
+/// Leaves those that read none of `len` cells from `base` on.
+fn keep_others(es: &mut Vec<Expr>, base: u32, len: u32)
+    ensures { es.new.items ≡ filter (λ e. not (reads_among base len e)) es.old.items }
+{
+    es.retain(|e| !reads_among(e, base, len));
 }
 
 /// Takes the present expressions out that read the cell.
-fn take_reading(alloc: Global, now: &mut Carried, cell: u32) -> Result<Vec<Expr>, AllocError>
-    ensures taken { IfOk result (λ es. es.items ≡ reading cell 1 now.old) }
-    ensures left { OnOk result (now.new ≡ without cell 1 now.old) }
+fn take_reading(alloc: Global, lists: &mut CarriedLists, cell: u32) -> Result<Vec<Expr>, AllocError>
+    ensures taken { IfOk result (λ es. es.items ≡ reading cell 1 lists.old) }
+    ensures left { OnOk result (lists.new ≡ without cell 1 lists.old) }
 {
-    let present = mem::replace(&mut now.present, Seq::new(alloc)).into_vec();
+    let present = mem::replace(&mut lists.present, Seq::new(alloc)).into_vec();
     let (reading, others) = parted(alloc, present, cell)?;
-    now.present = Seq::from_vec(others);
+    lists.present = Seq::from_vec(others);
     Ok(reading)
 }
 
 /// The expressions that read the cell, and the others.
-fn parted(
-    alloc: Global,
-    es: Vec<Expr>,
-    cell: u32,
-) -> Result<(Vec<Expr>, Vec<Expr>), AllocError>
+fn parted(alloc: Global, es: Vec<Expr>, cell: u32) -> Result<(Vec<Expr>, Vec<Expr>), AllocError>
     ensures reading { IfOk result (λ parts. parts.0.items ≡ filter (reads_among cell 1) es.items) }
     ensures others { IfOk result (λ parts. parts.1.items
         ≡ filter (λ e. not (reads_among cell 1 e)) es.items) }
@@ -155,37 +158,37 @@ fn parted(
 /// Adds each expression with the value in place of the cell, one after the other.
 fn add_replaced(
     alloc: Global,
-    now: &mut Carried,
+    lists: &mut CarriedLists,
     cell: u32,
     value: &Expr,
     es: &[Expr],
 ) -> Result<(), AllocError>
-    ensures { OnOk result (now.new ≡ with_replaced cell value.now es.now now.old) }
+    ensures { OnOk result (lists.new ≡ with_replaced cell value.now es.now lists.old) }
 {
     for e in es {
         let became = Boxed::new(alloc, replace_cell(alloc, e, cell, value)?)?;
-        add_small(alloc, now, became.get())?;
+        add_small(alloc, lists, became.get())?;
     }
     Ok(())
 }
 
 /// Adds the expression, if it is within the bounds.
-fn add_small(alloc: Global, now: &mut Carried, e: &Expr) -> Result<(), AllocError>
-    ensures { OnOk result (now.new ≡ with_small e.now now.old) }
+fn add_small(alloc: Global, lists: &mut CarriedLists, e: &Expr) -> Result<(), AllocError>
+    ensures { OnOk result (lists.new ≡ with_small e.now lists.old) }
 {
     if size(e) <= MAX_CARRIED_SIZE && height(e) <= MAX_CARRIED_HEIGHT {
-        add(alloc, now, e)?;
+        add(alloc, lists, e)?;
     }
     Ok(())
 }
 
 /// Adds the expression to both lists, if it reads a cell.
-fn add(alloc: Global, now: &mut Carried, e: &Expr) -> Result<(), AllocError>
-    ensures { OnOk result (now.new ≡ with_both e.now now.old) }
+fn add(alloc: Global, lists: &mut CarriedLists, e: &Expr) -> Result<(), AllocError>
+    ensures { OnOk result (lists.new ≡ with_both e.now lists.old) }
 {
     if reads_some(e) {
-        push_new(alloc, &mut now.present, e)?;
-        push_new(alloc, &mut now.all, e)?;
+        push_new(alloc, &mut lists.present, e)?;
+        push_new(alloc, &mut lists.all, e)?;
     }
     Ok(())
 }

@@ -5,5 +5,5 @@ use Rattle.cpa_path_folds.proofs.carrying.add_replaced.Given as goal
 
 abbrev pub invariant-loop-e : goal.invariant-loop-e
 invariant-loop-e l =
-    with_replaced l.cell l.value (drop l.e-index l.es) l.now
-    ≡ with_replaced l.cell l.value l.es l.initial.now
+    with_replaced l.cell l.value (drop l.e-index l.es) l.lists
+    ≡ with_replaced l.cell l.value l.es l.initial.lists

@@ -9,7 +9,7 @@ loop-place-preserved c =
     let inside : place - 1 < length c.args.edges.now = omega arith in
     record {
       within = omega arith;
-      now = c.in_ok-carry.ensures
+      are = c.in_ok-carry.ensures
           ∙ place_more c.args.cfa.now c.edge-edge.result.now c.args.edges.now place (place - 1) _
-          c.loop-place.now next inside refl c.edge-edge.ensures c.loop-place.invariant.now;
+          c.loop-place.lists next inside refl c.edge-edge.ensures c.loop-place.invariant.are;
     }
