@@ -66,8 +66,11 @@ run_replays P cfa of same steps path states run =
           at = at;
           arrives = record {
             states = states;
-            execution = (refl, subst (λ (s : State). IsChain (Step P) s states) same
-                (steps_on P cfa steps path first states run.takes));
+            execution = (
+              refl,
+              subst (λ (s : State). IsChain (Step P) s states) same
+                  (steps_on P cfa steps path first states run.takes),
+            );
             steps = as_many cfa path first states run.takes;
             state = ap (λ (s : State). last_of s states) same;
             taken = ap (λ (s : State). inputs_of P s states) same;

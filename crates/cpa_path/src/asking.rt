@@ -9,11 +9,7 @@ use cpa_model::Cfa;
 use std::alloc::{AllocError, Global};
 
 /// The form of the path, from the initial store on.
-pub(crate) fn form_of_path(
-    alloc: Global,
-    cfa: &Cfa,
-    path: &[u32],
-) -> Result<EdgeForm, AllocError>
+pub(crate) fn form_of_path(alloc: Global, cfa: &Cfa, path: &[u32]) -> Result<EdgeForm, AllocError>
     requires path { AllByRecursion (λ edge. edge < length cfa.now.edges) path.now }
     ensures { IfOk result (λ form. form ≡ path_form cfa.now path.now) }
 {

@@ -98,10 +98,11 @@ fn asked(alloc: Global, cfa: &Cfa, path: &[u32], learnt: u32) -> Result<Judged, 
     let query = form.query()?;
     let decided = decide(alloc, &query, learnt)?;
     match decided {
-        Decided::Model(store) => Ok(Judged::Run {
-            inputs: form.inputs_of(&store)?,
-            steps: path.len() as u64,
-        }),
+        Decided::Model(store) => {
+            let inputs = form.inputs_of(&store)?;
+            let steps = path.len() as u64;
+            Ok(Judged::Run { inputs, steps })
+        }
         Decided::NoModel(_) => Ok(Judged::NoRun),
         Decided::Learnt(lines) => Ok(Judged::Learnt { lines }),
     }

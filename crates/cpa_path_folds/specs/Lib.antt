@@ -1,3 +1,4 @@
 pub mod Along
 pub mod Needed
 pub mod Carried
+pub mod CarriedLaws

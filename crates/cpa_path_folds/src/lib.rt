@@ -4,10 +4,12 @@
 #![tactic(auto)]
 
 mod carrying;
+mod laws;
 mod marks;
 mod needed_cells;
 mod reading;
 mod stops;
 
 pub use carrying::{MAX_CARRIED_HEIGHT, MAX_CARRIED_SIZE, carried};
+pub use laws::carried_are_expressions;
 pub use needed_cells::needed;

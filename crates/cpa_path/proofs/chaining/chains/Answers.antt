@@ -37,7 +37,8 @@ returns-then-not-stepped c =
     here at.invariant in
     let none =
     sym c.in_ok-stepped.ensures.after
-    ∙ ap (λ b. cond b (Some c.step_stack.new.sites.items) None) c.if-not-stepped.true in
-    (λ yes. absurd (false≢true yes),
-    λ chains. absurd (no_calls cfa at.point (get_or xs i 0) at.calls.items (drop (i + 1) xs)
-    c.edge-edge.result.now c.edge-edge.ensures none (before.1 chains)))
+    ∙ ap (λ b. cond b (Some c.step_stack.new.sites.items) None) c.if-not-stepped.true in (
+      λ yes. absurd (false≢true yes),
+      λ chains. absurd (no_calls cfa at.point (get_or xs i 0) at.calls.items (drop (i + 1) xs)
+          c.edge-edge.result.now c.edge-edge.ensures none (before.1 chains)),
+    )

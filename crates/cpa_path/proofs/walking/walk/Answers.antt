@@ -21,8 +21,8 @@ loop-number-preserved c =
     record {
       runs = λ inputs last.
           let before = subst (λ (ns : List ℕ).
-              Runs cfa.cells (added_along cfa ns) at.store.values inputs last
-              ↔ HasStores cfa xs inputs last) here (at.invariant.runs inputs last) in
+          Runs cfa.cells (added_along cfa ns) at.store.values inputs last
+          ↔ HasStores cfa xs inputs last) here (at.invariant.runs inputs last) in
           let on = stores_on cfa n rest g c.edge.ensures at.store.values
           c.step_store-stepped.new.store.values inputs last split.0
           (c.step_store-stepped.ensures.done cfa.cells c.if-not-stepped.false) in
