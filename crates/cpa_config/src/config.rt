@@ -1,11 +1,11 @@
-//! The configuration of a run, plain data. No contract stands here: the crates that read it say
-//! what they make of it.
+//! The configuration of a run, plain data: what a text says is `IsConfig` of
+//! `specs/Configurations.antt`.
 
 use cpa_iface::{Order, Pick, Settings};
 use cpa_ints::Seq;
 
 /// What a run is asked to do.
-#[derive(Debug, Drop)]
+#[derive(Drop)]
 pub struct Config {
     /// The analyses that are used, by their places among the handed ones.
     pub picks: Seq<Pick>,
