@@ -1,5 +1,5 @@
-//! The configuration of a run, plain data. No contract stands here: the crates that read it say
-//! what they make of it.
+//! The configuration of a run, plain data: what a text says is `IsConfig` of
+//! `specs/Configurations.antt`.
 
 use cpa_iface::{Order, Pick, Settings};
 use cpa_ints::Seq;

@@ -1,0 +1,9 @@
+mod Defaults
+mod Empty
+mod FirstFaults
+mod Firsts
+mod Lists
+mod OneAnswer
+mod Picks
+mod ShownKeys
+mod Tables

@@ -1,0 +1,5 @@
+pub mod Configurations
+pub mod Laws
+pub mod Lines
+pub mod Rules
+pub mod Values
