@@ -10,3 +10,4 @@ mod taking;
 mod work;
 
 pub use one_turn::turn;
+pub use taking::copy_precisions;

@@ -18,7 +18,10 @@ use cpa_reached::Reached;
 use std::alloc::{AllocError, Global};
 
 /// Equal precisions.
-fn copy_precisions(alloc: Global, precisions: &[Precision]) -> Result<Vec<Precision>, AllocError>
+pub fn copy_precisions(
+    alloc: Global,
+    precisions: &[Precision],
+) -> Result<Vec<Precision>, AllocError>
     ensures { IfOk result (λ list. list.items ≡ precisions.now) }
 {
     let mut list = Vec::new(alloc);

@@ -12,5 +12,6 @@ mod table;
 mod tracing;
 
 pub use laws::calls_keep_cover;
+pub use pruning::is_gone as is_among;
 pub use reached::Reached;
 pub use table::NUMBERS;

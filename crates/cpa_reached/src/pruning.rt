@@ -64,7 +64,7 @@ fn below(
 }
 
 /// Whether the number is one of these, by halving.
-fn is_gone(gone: &[u32], number: u32) -> bool
+pub fn is_gone(gone: &[u32], number: u32) -> bool
     requires { AreAscending gone.now }
     ensures { result ≡ is_in number gone.now }
 {

@@ -40,7 +40,8 @@ pub heads : {X : Type 0} (x y : X) (xs ys : List X) → x ∷ xs ≡ y ∷ ys �
 heads x y xs ys same = (cc, cc)
 
 -- rows of one key have the same elements where entries are told apart
-pub key_at : (cs : List Component) (es fs : List Elem) → length es ≡ length cs → length fs ≡ length cs
+pub key_at : (cs : List Component) (es fs : List Elem) → length es ≡ length cs
+    → length fs ≡ length cs
     → key_of cs es ≡ key_of cs fs → (i : ℕ) (c : Component) (e f : Elem) → slice_get cs i ≡ Some c
     → slice_get es i ≡ Some e → slice_get fs i ≡ Some f → is_key c ≡ true → e ≡ f
 key_at [] es fs many long same i c e f at at_e at_f key = absurd (cc)

@@ -1,0 +1,6 @@
+pub mod Lines
+pub mod Chains
+pub mod Pairs
+pub mod States
+pub mod Cells
+pub mod lemmas
