@@ -1,7 +1,8 @@
 -- The bounds of what operators give for numbers of two bounds. Those of sums, differences, products
 -- and quotients are exact before they wrap; the others have what the operator gives (this project's
 -- own).
-use Rattle.std.specs.Prelude.{ℕ, ◌-◌, ◌^◌, ℤ, pos, negsuc, neg_ℤ, ◌+ℤ◌, ◌-ℤ◌, ◌*ℤ◌, int_div, int_le, int_lt}
+use Rattle.std.specs.Prelude.{ℕ, ◌-◌, ◌^◌, ℤ, pos, negsuc, neg_ℤ, ◌+ℤ◌, ◌-ℤ◌, ◌*ℤ◌, int_div, int_le}
+use Rattle.std.specs.Prelude.{int_lt}
 use Rattle.std.specs.Prelude.{unsigned_abs, Bool, ◌&&◌, if◌then◌else◌}
 use Rattle.std.specs.Int.{w128, int_max, int_min, int_div_euclid, leading_zeros, saturate_signed}
 use Rattle.cpa_ints.specs.declared.integers.IntType.{IntType}

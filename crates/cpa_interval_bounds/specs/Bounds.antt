@@ -10,6 +10,12 @@ pub record Has (b : Bounds) (n : ℤ) : Type 0 where
   pub low : b.lo ≤ℤ n
   pub high : n ≤ℤ b.hi
 
+-- there is such a number, and all of them are numbers of the type
+pub record IsOf (t : IntType) (b : Bounds) : Type 0 where
+  pub order : b.lo ≤ℤ b.hi
+  pub low : least t ≤ℤ b.lo
+  pub high : b.hi ≤ℤ greatest t
+
 abbrev pub bounds : ℤ → ℤ → Bounds
 bounds lo hi = record { lo = lo; hi = hi }
 

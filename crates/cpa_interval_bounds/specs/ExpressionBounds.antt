@@ -1,18 +1,25 @@
--- The bounds of the value of an expression, where those of the cells are given; none where it has no
--- value (this project's own).
-use Rattle.std.specs.Prelude.{List, Option, Some, option_map, option_and_then}
+-- The bounds of the value of an expression, where those of the cells are given; none where it has
+-- no value (this project's own).
+use Rattle.std.specs.Prelude.{ℤ, List, Option, Some, option_map, option_and_then}
+use Rattle.std.specs.List.{AllZip}
 use Rattle.cpa_ints.specs.declared.integers.IntType.{IntType}
-use Rattle.cpa_expr.specs.declared.tree.BinOp.{BinOp}
-use Rattle.cpa_expr.specs.declared.tree.CmpOp.{CmpOp}
 use Rattle.cpa_expr.specs.declared.tree.Expr.{Expr}
 use Rattle.cpa_expr.specs.declared.tree.Expr.TheOpen.{Expr-F}
 use Rattle.cpa_expr.specs.declared.tree.Expr.TheFolds.{fold-Expr}
 use Rattle.cpa_interval_bounds.specs.declared.bounds.Bounds.{Bounds}
-use Rattle.cpa_interval_bounds.specs.Bounds.{only, hull_where_some, fitted}
+use Rattle.cpa_interval_bounds.specs.Bounds.{IsOf, Has, only, hull_where_some, fitted}
 use Rattle.cpa_interval_bounds.specs.Arithmetic.{un_bounds, bin_bounds}
 use Rattle.cpa_interval_bounds.specs.Truths.{truths_of, numbers_of, compared, both_hold, one_holds}
 use Rattle.cpa_interval_bounds.specs.Truths.{it_fails}
 use Rattle.cpa_interval_bounds.specs.Elements.{read_bounds}
+
+-- the bounds of each cell are of its type
+abbrev pub AreOf : List IntType → List Bounds → Type 0
+AreOf = AllZip IsOf
+
+-- each value lies in the bounds of its cell
+abbrev pub LieWithin : List Bounds → List ℤ → Type 0
+LieWithin = AllZip Has
 
 -- of both operands
 abbrev pub of_both : {A : Type 0} → (Bounds → Bounds → Option A) → Option Bounds → Option Bounds
@@ -26,7 +33,8 @@ either_end test first second = option_and_then (λ a. hull_where_some first seco
 -- a node, with the bounds of each part in its place
 abbrev pub bounds_step : List Bounds → Expr-F (Option Bounds) → Option Bounds
 bounds_step cells (Expr-F.Const t n) = Some (only n)
-bounds_step cells (Expr-F.Read t base len index) = option_and_then (read_bounds cells base len) index
+bounds_step cells (Expr-F.Read t base len index) =
+    option_and_then (read_bounds cells base len) index
 bounds_step cells (Expr-F.Un o t arg) = option_map (un_bounds o t) arg
 bounds_step cells (Expr-F.Bin o t left right) =
     of_both (λ a b. Some (bin_bounds o t a b)) left right

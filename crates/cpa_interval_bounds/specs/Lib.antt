@@ -1,7 +1,9 @@
 pub mod Bounds
+pub mod Hulls
 pub mod Arithmetic
 pub mod Truths
 pub mod Cuts
 pub mod Elements
 pub mod ExpressionBounds
+pub mod Laws
 pub mod lemmas

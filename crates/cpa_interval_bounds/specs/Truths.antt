@@ -1,7 +1,7 @@
 -- Which truths the values within bounds may have, and how two compare (C11 6.5.8, 6.5.9, 6.5.13 and
 -- 6.5.14: a value holds where it is not 0, and fails where it is).
-use Rattle.std.specs.Prelude.{ℤ, pos, int_lt, int_le, Bool, true, false, not, ◌&&◌, ◌||◌, Option, None}
-use Rattle.std.specs.Prelude.{Some, if◌then◌else◌}
+use Rattle.std.specs.Prelude.{ℤ, pos, int_lt, int_le, Bool, true, false, not, ◌&&◌, ◌||◌, Option}
+use Rattle.std.specs.Prelude.{None, Some, if◌then◌else◌}
 use Rattle.std.specs.Ordering.{int_eq}
 use Rattle.cpa_expr.specs.declared.tree.CmpOp.{CmpOp}
 use Rattle.cpa_expr.specs.declared.tree.CmpOp.TheVariants as cmp

@@ -5,3 +5,9 @@ pub mod Sets
 pub mod Ends
 pub mod Corners
 pub mod Orders
+pub mod Ranges
+pub mod Operators
+pub mod TruthSets
+pub mod Reads
+pub mod ExpressionLemmas
+pub mod Hulls

@@ -1,11 +1,12 @@
-//! The bounds of what operators give for numbers of two bounds, by `specs/Arithmetic.antt`. Ends stop
-//! where 128 bits end (`saturated`), so that each function takes any bounds; this changes nothing in
-//! a type, by `specs/lemmas/Saturated.antt`.
+//! The bounds of what operators give for numbers of two bounds, by `specs/Arithmetic.antt`. Ends
+//! stop where 128 bits end (`saturated`), so that each function takes any bounds; no type sees it, by
+//! `specs/lemmas/Saturated.antt`.
 
 ghost use Rattle.std.specs.Prelude.{◌≡◌, ◌-◌, ◌^◌, ◌<◌, pos, ◌*ℤ◌, int_div};
 ghost use Rattle.std.specs.Int.{w128, saturate_signed};
 ghost use Rattle.cpa_interval_bounds.specs.Bounds.{only};
-ghost use Rattle.cpa_interval_bounds.specs.Arithmetic.{negation, sum, difference, product, quotient};
+ghost use Rattle.cpa_interval_bounds.specs.Arithmetic.{negation, sum, difference, product};
+ghost use Rattle.cpa_interval_bounds.specs.Arithmetic.{quotient};
 ghost use Rattle.cpa_interval_bounds.specs.Arithmetic.{saturated, is_from_zero, remainder};
 ghost use Rattle.cpa_interval_bounds.specs.Arithmetic.{all_ones, conjunction, disjunction};
 ghost use Rattle.cpa_interval_bounds.specs.Arithmetic.{exclusion, clamped, halved, shifted_right};

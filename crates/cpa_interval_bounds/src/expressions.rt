@@ -14,8 +14,8 @@ use crate::truths::{both_hold, compared, it_fails, numbers_of, one_holds, truths
 use cpa_expr::{BinOp, CmpOp, Expr, UnOp};
 use cpa_ints::IntType;
 
-/// The bounds of the value of the expression, where the list has those of each cell. `None` where it
-/// has no value: its evaluation surely traps.
+/// The bounds of the value of the expression, where the list has those of each cell. `None` where
+/// it has no value: its evaluation surely traps.
 pub fn bounds_of(e: &Expr, cells: &[Bounds]) -> Option<Bounds>
     ensures { result ≡ bounds_of e.now cells.now }
 {
@@ -103,11 +103,7 @@ fn of_cast(ty: IntType, arg: Option<Bounds>) -> Option<Bounds>
 }
 
 /// The hull of both ends, where the test has a value.
-fn either_end(
-    test: Option<Bounds>,
-    yes: Option<Bounds>,
-    no: Option<Bounds>,
-) -> Option<Bounds>
+fn either_end(test: Option<Bounds>, yes: Option<Bounds>, no: Option<Bounds>) -> Option<Bounds>
     ensures { result ≡ either_end test yes no }
 {
     match test {

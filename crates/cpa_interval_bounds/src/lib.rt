@@ -7,6 +7,7 @@ mod bounds;
 mod cuts;
 mod elements;
 mod expressions;
+mod laws;
 mod truths;
 
 pub use arithmetic::{bin_bounds, un_bounds};
@@ -14,4 +15,5 @@ pub use bounds::{Bounds, fitted, hull_where_some};
 pub use cuts::cut;
 pub use elements::{Places, named};
 pub use expressions::bounds_of;
+pub use laws::{bounds_are_hulls, bounds_have_the_type, bounds_have_the_value, cuts_are_hulls};
 pub use truths::{Truths, exchanged, may_compare, opposite, truths_of};

@@ -1,9 +1,8 @@
 -- What a function of two numbers gives lies in the hull of what it gives for the ends, where it
 -- rises or falls in each of them.
-use Rattle.std.proofs.Common.{◌≡◌, ◌≢◌, ℕ, suc, ◌+◌, ◌*◌, ◌/◌, ◌<◌, ◌≤◌, ℤ, pos, negsuc, neg_ℤ}
-use Rattle.std.proofs.Common.{◌*ℤ◌, ◌≤ℤ◌, ◌<ℤ◌, int_div, refl, sym, ap, ◌∙◌, subst, arith, inl, inr}
+use Rattle.std.proofs.Common.{ℤ}
+use Rattle.std.proofs.Common.{◌≤ℤ◌, arith, inl, inr}
 use Rattle.std.specs.Prelude.{◌⊎◌}
-use Rattle.std.specs.Int.{int_max, int_min}
 use Rattle.std.proofs.lemmas.Int.{ints, clamps}
 use Rattle.cpa_interval_bounds.specs.declared.bounds.Bounds.{Bounds}
 use Rattle.cpa_interval_bounds.specs.Bounds.{Has, only, hull}
@@ -53,8 +52,7 @@ further a b lo hi h =
     let low = h.low in
     let high = h.high in
     let a_low = first.low in let a_high = first.high in
-    let b_low = second.low in let b_high = second.high in
-    (
+    let b_low = second.low in let b_high = second.high in (
       record { low = omega (arith, ints); high = omega (arith, ints) },
       record { low = omega (arith, ints); high = omega (arith, ints) },
     )

@@ -1,14 +1,12 @@
 -- What the operations on bounds are as sets of numbers.
-use Rattle.std.proofs.Common.{◌≡◌, ◌≢◌, ℤ, pos, ◌≤ℤ◌, ◌<ℤ◌, Bool, true, false, refl, sym, ap, ◌∙◌}
+use Rattle.std.proofs.Common.{◌≡◌, ℤ, ◌≤ℤ◌, ◌<ℤ◌, Bool, true, false, refl, sym}
 use Rattle.std.proofs.Common.{subst, arith, cond}
-use Rattle.std.specs.Prelude.{int_le, int_lt, Option, None, Some, IfSome, IsSomeAnd}
+use Rattle.std.specs.Prelude.{int_le, int_lt, None, Some, IsSomeAnd}
 use Rattle.std.specs.Int.{int_max, int_min}
-use Rattle.std.specs.Ordering.{int_eq}
 use Rattle.std.proofs.lemmas.Int.{ints, clamps}
 use Rattle.std.proofs.lemmas.Bool.{and_parts}
-use Rattle.std.proofs.lemmas.Bool.Decides.{Decides-int_eq}
 use Rattle.cpa_interval_bounds.specs.declared.bounds.Bounds.{Bounds}
-use Rattle.cpa_interval_bounds.specs.Bounds.{Has, bounds, only, between, has, is_inside, hull, meet}
+use Rattle.cpa_interval_bounds.specs.Bounds.{Has, bounds, between, has, hull, meet}
 
 pub le_true : (a b : ℤ) → a ≤ℤ b → int_le a b ≡ true
 le_true a b h = grind (arith, ints)

@@ -1,5 +1,5 @@
 -- The ends stop where 128 bits end.
-use Rattle.std.proofs.Common.{◌≡◌, ap, ◌∙◌, FitsSigned, rules, ◌+ℤ◌, ◌-ℤ◌, pos, cond}
+use Rattle.std.proofs.Common.{ap, ◌∙◌, FitsSigned, rules, ◌+ℤ◌, pos, cond}
 use Rattle.std.specs.Int.{w128, saturate_signed}
 use Rattle.std.proofs.lemmas.Int.{to_z-of_z}
 use Rattle.cpa_interval_bounds.specs.Bounds.{between}
