@@ -102,7 +102,8 @@ fn run(
         learnt,
         told,
     };
-    push_decided(alloc, out, cfa, &form, &question)
+    let asked = form.copy()?;
+    push_decided(alloc, out, cfa, &asked, &question)
 }
 
 /// `places BEGINNING CELL : ADDITION : ..`: where the cell stands at the beginning, and after each
