@@ -10,12 +10,7 @@ use cpa_path::{carried, needed};
 use std::alloc::Global;
 
 /// `needed : EDGE ..`: the cells.
-pub fn push_needed(
-    alloc: Global,
-    out: &mut String,
-    cfa: &Cfa,
-    path: &Path,
-) -> Result<(), RowFault>
+pub fn push_needed(alloc: Global, out: &mut String, cfa: &Cfa, path: &Path) -> Result<(), RowFault>
     requires automaton { IsAutomaton cfa.now }
     requires path { IsPathOf cfa.now path.now }
 {
@@ -26,12 +21,7 @@ pub fn push_needed(
 }
 
 /// `carried : EDGE ..`: the expressions, with commas between them.
-pub fn push_carried(
-    alloc: Global,
-    out: &mut String,
-    cfa: &Cfa,
-    path: &Path,
-) -> Result<(), RowFault>
+pub fn push_carried(alloc: Global, out: &mut String, cfa: &Cfa, path: &Path) -> Result<(), RowFault>
     requires automaton { IsAutomaton cfa.now }
     requires path { IsPathOf cfa.now path.now }
 {

@@ -6,4 +6,4 @@ mod query;
 mod reads;
 
 pub use query::{MAX_HEIGHT, Query};
-pub use reads::{mark_reads, read_cells};
+pub use reads::{mark_cells, mark_reads, read_cells};

@@ -67,7 +67,7 @@ fn mark_node(marks: &mut [bool], e: &Expr)
 }
 
 /// Marks `len` cells from `base` on, as far as they are there.
-fn mark_cells(marks: &mut [bool], base: u32, len: u32)
+pub fn mark_cells(marks: &mut [bool], base: u32, len: u32)
     ensures length { length marks.new ≡ length marks.old }
     ensures marks { (cell : ℕ) → is_marked marks.new cell
         ≡ (is_marked marks.old cell

@@ -38,7 +38,7 @@ returns-in-Model c = λ gates light. (
       let model : IsModel c.in_ok-query.query values =
       subst (IsDecided c.in_ok-query.query c.args.learnt) c.in-Model.is c.in_ok-decided.ensures in
       let inputs_are =
-      c.in_ok-inputs.ensures ∙ ap (λ (f : Form). inputs_at f values) c.in_ok-form.ensures
+      c.in_ok-inputs-in-Model.ensures ∙ ap (λ (f : Form). inputs_at f values) c.in_ok-form.ensures
       in
       stores_replay P cfa (record {
         of = A;
@@ -46,7 +46,7 @@ returns-in-Model c = λ gates light. (
         state = c.edges_are_steps.ensures.state cfa c.requires.automaton;
         first = c.edges_are_steps.ensures.initial P cfa A;
         steps = λ s t. (c.edges_are_steps.ensures.steps P cfa s t A).1;
-      }) path c.in_ok-inputs.inputs.items (last_store whole values)
+      }) path c.in_ok-inputs-in-Model.inputs.items (last_store whole values)
       c.requires.wants.chains
       (subst (λ (xs : List ℤ). HasStores cfa path xs (last_store whole values)) (sym inputs_are)
       (model_stores cfa path values form

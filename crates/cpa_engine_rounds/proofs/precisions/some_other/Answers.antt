@@ -1,0 +1,31 @@
+use Rattle.std.proofs.Common.{◌≡◌, ◌∙◌, sym, refl, true, false, subst}
+use Rattle.std.specs.Bool.{IsTrue}
+use Rattle.cpa_iface.specs.declared.entries.Entry.{Entry}
+use Rattle.cpa_iface.specs.declared.precisions.Precision.{Precision}
+use Rattle.cpa_engine_rounds.specs.Precisions.{HaveAll}
+use Rattle.cpa_engine_rounds.proofs.Finding.{item_of, all_have, one_more_has}
+use Rattle.cpa_engine_rounds.proofs.precisions.some_other.Goals as goal
+
+pub returns-then-not-same_row : goal.returns-then-not-same_row
+returns-then-not-same_row c = (
+  λ wrong. absurd (cc),
+  λ all.
+      absurd (let same = c.same_row.ensures.1
+      (c.as_slice.ensures ∙ all c.entry-item.result
+      (item_of c.args.entries.now c.loop-entry.entry-index c.entry-item.result
+      c.loop-entry-test.true c.entry-item.is)) in
+      let wrong = sym c.if-not-same_row.true ∙ same in cc),
+)
+
+pub loop-entry-preserved : goal.loop-entry-preserved
+loop-entry-preserved c =
+    one_more_has c.args.precisions.now c.args.entries.now c.loop-entry.entry-index
+    c.entry-item.result c.loop-entry-test.true c.entry-item.is c.loop-entry.invariant
+    (sym c.as_slice.ensures ∙ c.same_row.ensures.0 c.if-not-same_row.false)
+
+pub returns : goal.returns
+returns c = (
+  λ _. all_have c.args.precisions.now c.args.entries.now c.loop-entry.entry-index
+      c.loop-entry-test.false c.loop-entry.invariant,
+  λ _. refl,
+)

@@ -1,0 +1,2 @@
+-- What crates above may cite of the proofs.
+pub mod Safe
