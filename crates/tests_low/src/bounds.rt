@@ -15,6 +15,6 @@ fn the_longest_text_has_its_tokens(rt: HostRuntime) -> Result<(), Fail> {
         from: 1_048_576,
         to: 1_048_576,
     };
-    assert_eq!(rt; found.last().copied(), Some(last));
+    assert!(rt; found.last().copied() == Some(last));
     Ok(())
 }
