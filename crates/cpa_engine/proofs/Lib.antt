@@ -1,0 +1,9 @@
+pub mod Beginning
+pub mod Turned
+pub mod Histories
+pub mod Starting
+pub mod Paths
+pub mod Ending
+pub mod Deciding
+pub mod Ancestors
+pub mod Errors

@@ -1,0 +1,4 @@
+pub mod Kept
+pub mod Answers
+pub mod Decided
+pub mod Searches
