@@ -5,13 +5,13 @@ ghost use Rattle.std.specs.Prelude.{◌≡◌, ◌<◌, ◌^◌, Some, length, s
 ghost use Rattle.cpa_value.specs.Values.{values, starts_of};
 
 use crate::limits::limited;
-use crate::refining::{precision_of, refined};
 use crate::strengthening::strengthened;
 use crate::transfer::next_values;
 use cpa_iface::{
     Analysis, Entry, MergeRule, Part, Precision, Settings, copy_precision, merge_facts,
 };
 use cpa_ints::wrap_keeps_the_range;
+use cpa_path_folds::{first_tracking, refined};
 use cpa_model::{Cell, Cfa, Elem, Fact, Path, Seq, edges_are_sound, has_facts};
 use std::alloc::{AllocError, Global};
 
@@ -48,7 +48,7 @@ impl Analysis for Value {
         cfa: &Cfa,
         settings: &Settings,
     ) -> Result<Precision, AllocError> {
-        precision_of(alloc, cfa, settings)
+        first_tracking(alloc, cfa, settings, settings.limit)
     }
 
     fn transfer(
