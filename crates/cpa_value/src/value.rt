@@ -11,8 +11,8 @@ use cpa_iface::{
     Analysis, Entry, MergeRule, Part, Precision, Settings, copy_precision, merge_facts,
 };
 use cpa_ints::wrap_keeps_the_range;
-use cpa_path_folds::{first_tracking, refined};
 use cpa_model::{Cell, Cfa, Elem, Fact, Path, Seq, edges_are_sound, has_facts};
+use cpa_path_folds::{first_tracking, refined};
 use std::alloc::{AllocError, Global};
 
 /// The analysis of explicit values: an element says which values some cells have. It keeps those of
