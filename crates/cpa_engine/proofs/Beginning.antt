@@ -1,15 +1,14 @@
 -- What holds of a reached set holds of what a round that begins leaves of it (`begins_standing`).
-use Rattle.std.proofs.Common.{◌≡◌, ℕ, ◌+◌, ◌*◌, ◌<◌, ◌≤◌, Bool, true, false, not, cond, eqb, List}
+use Rattle.std.proofs.Common.{◌≡◌, ℕ, ◌+◌, ◌*◌, ◌<◌, ◌≤◌, Bool, true, false, not, cond, List}
 use Rattle.std.proofs.Common.{[]}
-use Rattle.std.proofs.Common.{◌∷◌, length, map, Option, Some, None, refl, sym, ap, ◌∙◌, subst, inl}
+use Rattle.std.proofs.Common.{◌∷◌, length, map, Option, refl, sym, ap, ◌∙◌, subst, inl}
 use Rattle.std.proofs.Common.{inr, ⊎_elim, arith}
 use Rattle.std.specs.Prelude.{◌⊎◌, IfSome}
-use Rattle.std.specs.List.{AllByRecursion, filter}
+use Rattle.std.specs.List.{AllByRecursion}
 use Rattle.std.proofs.lemmas.Bool.{cond_both}
 use Rattle.cpa_model.specs.declared.automaton.Cfa.{Cfa}
 use Rattle.cpa_model.specs.declared.facts.Elem.{Elem}
 use Rattle.cpa_model.specs.declared.states.State.{State}
-use Rattle.cpa_model.specs.Automata.{EdgeStep}
 use Rattle.cpa_model.specs.Facts.{LiesIn}
 use Rattle.cpa_iface.specs.declared.analysis.Settings.{Settings}
 use Rattle.cpa_iface.specs.declared.entries.Entry.{Entry}
@@ -24,19 +23,19 @@ use Rattle.cpa_reached.specs.MemberLaws.{in_map, map_in, in_filter, in_all, entr
 use Rattle.cpa_reached.specs.MemberLaws.{ascend_kept}
 use Rattle.cpa_model.specs.Ascending.{AreAscending}
 use Rattle.cpa_reached.specs.Members.{IsIn, is_in}
-use Rattle.cpa_reached.specs.Removal.{RemovesBelow, IsBelow, is_opened, opened, left, without}
+use Rattle.cpa_reached.specs.Removal.{RemovesBelow, is_opened, opened, left, without}
 use Rattle.cpa_reached.specs.Successors.{CoversSuccessors}
-use Rattle.cpa_engine_turn.specs.Bounds.{turns_left, AreBounded, HasKey, ArePinned, IsPinned}
+use Rattle.cpa_engine_turn.specs.Bounds.{turns_left, AreBounded, HasKey, ArePinned}
 use Rattle.cpa_engine_turn.specs.Journals.{IsJournal, IsJournalOf, all_numbers, all_replaced}
-use Rattle.cpa_engine_turn.specs.Journals.{all_taken, all_brought}
-use Rattle.cpa_engine_turn.specs.Keys.{key_of, HaveOwnKeys}
-use Rattle.cpa_engine_turn.specs.Turns.{AreEntries, HasEdge}
+use Rattle.cpa_engine_turn.specs.Journals.{all_taken}
+use Rattle.cpa_engine_turn.specs.Keys.{key_of}
+use Rattle.cpa_engine_turn.specs.Turns.{HasEdge}
 use Rattle.cpa_engine_laws.specs.Lines.{KeyComes, KeyRoot, PinComes, PinRoot}
 use Rattle.cpa_engine_laws.specs.lemmas.Kept.{HasRow, row_lines}
 use Rattle.cpa_engine_laws.specs.lemmas.Working.{member_of}
 use Rattle.cpa_engine_rounds.specs.Clearing.{BeginsBelow, renewed}
 use Rattle.cpa_engine.specs.Kept.{IsExactRun}
-use Rattle.cpa_engine.specs.Searches.{Stands, KeysFrom, StatesFrom, AreLeft}
+use Rattle.cpa_engine.specs.Searches.{Stands}
 
 -- ---- what is left
 

@@ -1,29 +1,25 @@
 -- When an answer that comes of a search comes, kind by kind (`is_decided`).
-use Rattle.std.proofs.Common.{◌≡◌, ℕ, ◌+◌, ◌*◌, ◌<◌, ◌≤◌, ℤ, List, [], ◌∷◌, ◌++◌, length, Some}
-use Rattle.std.proofs.Common.{refl, sym}
-use Rattle.std.proofs.Common.{ap, ◌∙◌, subst, inl, inr, ⊎_elim, slice_get, arith}
-use Rattle.std.specs.Prelude.{◌⊎◌, ⊤}
-use Rattle.std.specs.List.{Contains}
+use Rattle.std.proofs.Common.{◌≡◌, ℕ, ◌+◌, ◌*◌, ◌≤◌, List, [], ◌∷◌, ◌++◌, length}
+use Rattle.std.proofs.Common.{sym}
+use Rattle.std.proofs.Common.{ap, ◌∙◌, subst}
 use Rattle.cpa_model.specs.declared.automaton.Cfa.{Cfa}
 use Rattle.cpa_model.specs.declared.automaton.Path.{Path}
 use Rattle.cpa_model.specs.declared.facts.Elem.{Elem}
 use Rattle.cpa_model.specs.declared.program.Cell.{Cell}
 use Rattle.cpa_model.specs.declared.program.Program.{Program}
 use Rattle.cpa_model.specs.declared.states.State.{State}
-use Rattle.cpa_model.specs.Automata.{IsAutomatonOf, IsStateOf, initial_state}
+use Rattle.cpa_model.specs.Automata.{IsAutomatonOf, IsStateOf}
 use Rattle.cpa_model.specs.Covers.{LiesInSome, CoversAutomaton}
 use Rattle.cpa_model.specs.Facts.{LiesIn}
 use Rattle.cpa_model.specs.Programs.{IsWellFormed, point_count}
-use Rattle.cpa_model.specs.States.{IsState, initial_of}
-use Rattle.cpa_model.specs.Steps.{Step, IsChain, IsExecution, IsReachable, IsError, BeginsInState}
-use Rattle.cpa_iface.specs.declared.analysis.Part.TheVariants.{Point, Store}
+use Rattle.cpa_model.specs.States.{IsState}
+use Rattle.cpa_model.specs.Steps.{Step, IsChain, IsExecution, IsReachable, BeginsInState}
+use Rattle.cpa_iface.specs.declared.analysis.Part.TheVariants.{Point}
 use Rattle.cpa_iface.specs.declared.entries.Entry.{Entry}
-use Rattle.cpa_iface.specs.Pins.{IsSettledBy}
 use Rattle.cpa_composite.specs.Components.{Component}
 use Rattle.cpa_composite.specs.Exact.{HaveEachPart, pins}
 use Rattle.cpa_composite.specs.Ranks.{row_height}
 use Rattle.cpa_config.specs.declared.config.Config.{Config}
-use Rattle.cpa_reached.specs.Members.{IsIn}
 use Rattle.cpa_engine_turn.specs.Bounds.{ArePinned}
 use Rattle.cpa_engine_turn.specs.Keys.{rows_of}
 use Rattle.cpa_engine_laws.specs.Chains.{HaveApart}
@@ -33,8 +29,8 @@ use Rattle.cpa_engine_laws.specs.lemmas.Starting.{edges_settled}
 use Rattle.cpa_engine.specs.declared.answers.Answer.{Answer}
 use Rattle.cpa_engine.specs.declared.answers.Answer.TheVariants.{True, False, Unknown}
 use Rattle.cpa_engine.specs.declared.answers.Why.TheVariants.{Turns, Rounds, Learnt, Gates, NoNew}
-use Rattle.cpa_engine.specs.Answers.{IsAnswer, IsErrorRun}
-use Rattle.cpa_engine.specs.Decided.{IsDecided, IsVerdict, ListStates, ListsStates, IsTurns}
+use Rattle.cpa_engine.specs.Answers.{IsAnswer}
+use Rattle.cpa_engine.specs.Decided.{IsDecided, IsVerdict, ListStates, ListsStates}
 use Rattle.cpa_engine.specs.Decided.{IsTrueOrTurns, HasNoError, WidenInKeys}
 use Rattle.cpa_engine.specs.Kept.{IsExactRun, IsKeptPath}
 use Rattle.cpa_engine.specs.Searches.{IsSpared, KeysFrom, StatesFrom}

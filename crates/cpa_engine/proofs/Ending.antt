@@ -1,15 +1,14 @@
 -- What a round comes to: the entries at its end are a proof (`done_proves`), and where turns are
 -- bounded they are not spent (`turns_spared`).
-use Rattle.std.proofs.Common.{◌≡◌, ℕ, ℤ, ◌+◌, ◌*◌, ◌-◌, ◌<◌, ◌≤◌, Bool, true, false, List, [], ◌∷◌}
+use Rattle.std.proofs.Common.{◌≡◌, ℕ, ℤ, ◌+◌, ◌*◌, ◌-◌, ◌≤◌, Bool, true, false, List, [], ◌∷◌}
 use Rattle.std.proofs.Common.{length, cond}
 use Rattle.std.proofs.Common.{refl, sym, ap, ◌∙◌, subst, inl, inr, ⊎_elim, arith}
-use Rattle.std.specs.Prelude.{◌⊎◌, ◌||◌}
-use Rattle.std.specs.List.{Contains, list_any}
+use Rattle.std.specs.Prelude.{◌||◌}
+use Rattle.std.specs.List.{list_any}
 use Rattle.std.proofs.lemmas.Bool.{cases_Bool}
 use Rattle.cpa_model.specs.declared.automaton.Cfa.{Cfa}
-use Rattle.cpa_model.specs.declared.facts.Elem.{Elem}
 use Rattle.cpa_model.specs.declared.states.State.{State}
-use Rattle.cpa_model.specs.Automata.{IsStateOf, initial_state}
+use Rattle.cpa_model.specs.Automata.{initial_state}
 use Rattle.cpa_model.specs.Covers.{LiesInSome, CoversAutomaton}
 use Rattle.cpa_model.specs.Facts.{LiesIn}
 use Rattle.cpa_iface.specs.declared.analysis.Settings.{Settings}
@@ -20,19 +19,18 @@ use Rattle.cpa_config.specs.declared.config.Config.{Config}
 use Rattle.cpa_reached.specs.Entries.{ReachedSet, waiting_numbers}
 use Rattle.cpa_reached.specs.Members.{IsIn}
 use Rattle.cpa_reached.specs.Successors.{CoversSuccessors}
-use Rattle.cpa_engine_turn.specs.Bounds.{turns_due, turns_left}
+use Rattle.cpa_engine_turn.specs.Bounds.{turns_due}
 use Rattle.cpa_engine_turn.specs.Keys.{rows_of}
 use Rattle.cpa_engine_laws.specs.lemmas.Bounded.{waits_due}
 use Rattle.cpa_engine_rounds.specs.Errors.{NoneErr}
 use Rattle.cpa_engine_rounds.specs.lemmas.Safe.{safe_row}
-use Rattle.cpa_engine.specs.declared.answers.Answer.{Answer}
 use Rattle.cpa_engine.specs.declared.answers.Answer.TheVariants.{True, False, Unknown}
 use Rattle.cpa_engine.specs.declared.answers.Why.{Why}
-use Rattle.cpa_engine.specs.declared.answers.Why.TheVariants.{Turns, Rounds, Learnt, Gates, NoNew}
+use Rattle.cpa_engine.specs.declared.answers.Why.TheVariants.{Turns}
 use Rattle.cpa_engine.specs.declared.search.Search.{Search}
 use Rattle.cpa_engine.specs.Answers.{IsProof, IsAnswer}
 use Rattle.cpa_engine.specs.Decided.{IsTurns, IsRounds}
-use Rattle.cpa_engine.specs.Searches.{Stands, IsDone, IsSearch, IsSpared, AreLeft}
+use Rattle.cpa_engine.specs.Searches.{IsDone, IsSearch, IsSpared, AreLeft}
 
 -- ---- what waits
 

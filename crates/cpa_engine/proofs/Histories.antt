@@ -1,10 +1,10 @@
 -- Rounds that begin: the search after a refinement (`refined_begins`), after none (`again_begins`),
 -- and before the first (`first_search`).
-use Rattle.std.proofs.Common.{◌≡◌, ℕ, zero, suc, ◌+◌, ◌*◌, ◌-◌, ◌<◌, ◌≤◌, Bool, true, false, cond}
+use Rattle.std.proofs.Common.{◌≡◌, ℕ, zero, suc, ◌+◌, ◌*◌, ◌-◌, ◌<◌, true, false, cond}
 use Rattle.std.proofs.Common.{List}
 use Rattle.std.proofs.Common.{[], ◌∷◌, ◌++◌, length, Some, slice_get, refl, sym, ap, ◌∙◌, subst}
 use Rattle.std.proofs.Common.{arith}
-use Rattle.std.specs.List.{AllByRecursion, Contains}
+use Rattle.std.specs.List.{Contains}
 use Rattle.std.proofs.lemmas.List.{length-append}
 use Rattle.std.proofs.lemmas.Option.{slice_get_within}
 use Rattle.cpa_model.specs.declared.automaton.Cfa.{Cfa}
@@ -16,16 +16,15 @@ use Rattle.cpa_iface.specs.declared.analysis.Part.TheVariants as part
 use Rattle.cpa_iface.specs.declared.analysis.Settings.{Settings}
 use Rattle.cpa_iface.specs.declared.entries.Refined.{Refined}
 use Rattle.cpa_iface.specs.declared.precisions.Precision.{Precision}
-use Rattle.cpa_iface.specs.Laws.{Extends, RefineLaws}
+use Rattle.cpa_iface.specs.Laws.{RefineLaws}
 use Rattle.cpa_iface.specs.Meanings.{Meaning}
-use Rattle.cpa_iface.specs.Pins.{MustBeExact, TracksAll}
-use Rattle.cpa_composite.specs.Components.{Component, ArePrecisions}
+use Rattle.cpa_iface.specs.Pins.{MustBeExact}
+use Rattle.cpa_composite.specs.Components.{Component}
 use Rattle.cpa_composite.specs.Exact.{BindAll}
 use Rattle.cpa_composite.specs.Laws.{InitialRow, RefinedRow}
 use Rattle.cpa_config.specs.declared.config.Config.{Config}
 use Rattle.cpa_reached.specs.Entries.{ReachedSet}
 use Rattle.cpa_engine_turn.specs.lemmas.Keyed.{there_is}
-use Rattle.cpa_engine_laws.specs.Cells.{TellCells, all_untracked}
 use Rattle.cpa_engine_laws.specs.lemmas.Growing.{refined_falls, all_few}
 use Rattle.cpa_engine_rounds.specs.Errors.{NoneErrBelow}
 use Rattle.cpa_engine.specs.declared.search.Search.{Search}

@@ -1,8 +1,7 @@
 -- What holds of the first reached set (`start_stands`): one entry, which is the first row.
-use Rattle.std.proofs.Common.{◌≡◌, ℕ, ◌+◌, ◌*◌, ◌<◌, ◌≤◌, true, List, [], ◌∷◌, length, None, refl}
+use Rattle.std.proofs.Common.{◌≡◌, ◌+◌, ◌*◌, ◌<◌, ◌≤◌, true, List, length, None, refl}
 use Rattle.std.proofs.Common.{sym}
-use Rattle.std.proofs.Common.{ap, ◌∙◌, subst, inl, inr, ⊎_elim, arith}
-use Rattle.std.specs.Prelude.{◌⊎◌}
+use Rattle.std.proofs.Common.{subst, inl, ⊎_elim, arith}
 use Rattle.cpa_model.specs.declared.automaton.Cfa.{Cfa}
 use Rattle.cpa_model.specs.declared.facts.Elem.{Elem}
 use Rattle.cpa_model.specs.declared.states.State.{State}
@@ -11,7 +10,6 @@ use Rattle.cpa_iface.specs.declared.analysis.Settings.{Settings}
 use Rattle.cpa_iface.specs.declared.entries.Entry.{Entry}
 use Rattle.cpa_iface.specs.declared.precisions.Precision.{Precision}
 use Rattle.cpa_composite.specs.Components.{Component}
-use Rattle.cpa_composite.specs.Exact.{pins}
 use Rattle.cpa_composite.specs.Laws.{InitialRow}
 use Rattle.cpa_composite.specs.Ranks.{row_height, HaveFixedHeights, IsRanked}
 use Rattle.cpa_reached.specs.Calls.{begun, fresh}
@@ -19,7 +17,6 @@ use Rattle.cpa_reached.specs.Entries.{numbers}
 use Rattle.cpa_model.specs.Ascending.{AreAscending}
 use Rattle.cpa_reached.specs.Members.{IsIn}
 use Rattle.cpa_engine_turn.specs.Bounds.{turns_left, AreBounded, HasKey, ArePinned, IsPinned}
-use Rattle.cpa_engine_turn.specs.Keys.{key_of}
 use Rattle.cpa_engine_laws.specs.Lines.{AreKeyLines, ArePinLines, KeyRoot, PinStates}
 use Rattle.cpa_engine.specs.Kept.{IsExactRun}
 use Rattle.cpa_engine.specs.Searches.{Stands}

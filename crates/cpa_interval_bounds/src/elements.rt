@@ -14,7 +14,7 @@ pub struct Places {
 }
 
 /// The places from 0 to the length less 1.
-fn places_of(len: u32) -> Bounds
+pub fn places_of(len: u32) -> Bounds
     ensures { result ≡ places_of len }
 {
     Bounds {
@@ -49,7 +49,7 @@ pub fn named(base: u32, len: u32, index: Bounds) -> Option<Places>
 }
 
 /// The bounds of the cell, where it is there.
-fn bounds_at(cells: &[Bounds], cell: usize) -> Option<Bounds>
+pub fn bounds_at(cells: &[Bounds], cell: usize) -> Option<Bounds>
     ensures { result ≡ slice_get cells.now cell }
 {
     cells.get(cell).copied()

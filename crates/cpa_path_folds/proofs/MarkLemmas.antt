@@ -11,6 +11,9 @@ range_push : (a n j : ℕ) → a + n ≡ j → range_with_len a (suc n) ≡ rang
 range_push a zero j is = let here : a ≡ j = omega (arith, is) in ap (λ k. k ∷ []) here
 range_push a (suc n) j is = ap (λ l. a ∷ l) (range_push (a + 1) n j (omega (arith, is)))
 
+pub range_more : (n : ℕ) → range_with_len 0 (n + 1) ≡ range_with_len 0 n ++ n ∷ []
+range_more n = rw add-one (range_push 0 n n (omega arith))
+
 -- those that pass a test, with one more
 pub filter_push : (p : ℕ → Bool) (n : ℕ) (passes : Bool) → p n ≡ passes
     → filter p (range_with_len 0 (n + 1)) ≡ filter p (range_with_len 0 n) ++ cond passes (n ∷ []) []

@@ -1,6 +1,6 @@
 -- The law of what a path carries: expressions over the automaton's cells. Below the statement
 -- stands its lemma.
-use Rattle.std.specs.Prelude.{◌≡◌, ℕ, ◌+◌, ◌≤◌, ◌&&◌, nat_le, ◌==◌, Bool, true, false, List, [], ◌∷◌}
+use Rattle.std.specs.Prelude.{◌≡◌, ℕ, ◌≤◌, ◌&&◌, nat_le, Bool, true, false, List, [], ◌∷◌}
 use Rattle.std.specs.Prelude.{◌++◌, Option, None, Some, slice_get, if◌then◌else◌}
 use Rattle.std.specs.List.{AllByRecursion, filter, list_any}
 use Rattle.std.proofs.Common.{refl, subst, arith}
@@ -22,7 +22,7 @@ use Rattle.cpa_model.specs.lemmas.EdgesSound.{edge_sound}
 use Rattle.cpa_model.specs.lemmas.Lists.{AllByRecursion-push}
 use Rattle.cpa_path_folds.specs.declared.carrying.CarriedLists.{CarriedLists}
 use Rattle.cpa_path_folds.specs.Along.{act_of, acts_along}
-use Rattle.cpa_path_folds.specs.Carried.{reads_some, reads_among, with_new, with_both, is_small}
+use Rattle.cpa_path_folds.specs.Carried.{reads_some, reads_among, with_new, with_both}
 use Rattle.cpa_path_folds.specs.Carried.{with_small, with_replaced, reading, without, is_scalar}
 use Rattle.cpa_path_folds.specs.Carried.{carried_over, carried_along, carried}
 

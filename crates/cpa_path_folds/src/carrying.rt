@@ -106,8 +106,9 @@ fn carry_over_write(
     }
 }
 
-/// Whether a write is to a cell that stands for itself: of one cell, at the number 0 of type int.
-fn is_scalar(len: u32, index: &Expr) -> bool
+/// Whether a write or a read is of a cell that stands for itself: of one cell, at the number 0 of
+/// type int.
+pub(crate) fn is_scalar(len: u32, index: &Expr) -> bool
     ensures { result ≡ is_scalar len index.now }
 {
     match index {

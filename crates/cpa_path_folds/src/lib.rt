@@ -8,8 +8,13 @@ mod laws;
 mod marks;
 mod needed_cells;
 mod reading;
+mod scalars;
 mod stops;
+mod tracking;
 
 pub use carrying::{MAX_CARRIED_HEIGHT, MAX_CARRIED_SIZE, carried};
 pub use laws::carried_are_expressions;
+pub use marks::is_marked;
 pub use needed_cells::needed;
+pub use scalars::{Scalar, read_of, scalar_of};
+pub use tracking::{first_tracking, refined, tracked_marks, with_cells};

@@ -13,17 +13,24 @@ use std::alloc::{AllocError, Global};
 pub(crate) fn some_marked(marks: &[bool], base: u32, len: u32) -> bool
     ensures { result ≡ list_any (is_marked marks.now) (range_with_len base len) }
 {
-    (base as usize..base as usize + len as usize).any(|cell| is_marked(marks, cell))
+    (base as usize..base as usize + len as usize).any(|cell| has_mark(marks, cell))
 }
 
-/// Whether the cell is marked. One for which there is no mark is not.
-fn is_marked(marks: &[bool], cell: usize) -> bool
-    ensures { result ≡ is_marked marks.now cell }
+/// Whether there is a mark at the place, and it is set.
+fn has_mark(marks: &[bool], place: usize) -> bool
+    ensures { result ≡ is_marked marks.now place }
 {
-    match marks.get(cell) {
+    match marks.get(place) {
         Some(mark) => *mark,
         None => false,
     }
+}
+
+/// Whether the cell is marked. One for which there is no mark is not.
+pub fn is_marked(marks: &[bool], cell: u32) -> bool
+    ensures { result ≡ is_marked marks.now cell }
+{
+    has_mark(marks, cell as usize)
 }
 
 /// The marked cells, ascending.

@@ -18,7 +18,8 @@ use Rattle.cpa_iface.specs.declared.precisions.Precision.{Precision}
 use Rattle.cpa_query.specs.Queries.{is_marked}
 use Rattle.cpa_value.specs.Acts.{after_act}
 use Rattle.cpa_value.specs.Transfer.{elems_of, next_values}
-use Rattle.cpa_value.specs.Cells.{first_value, first_known, known_cells, is_tracked, facts_from}
+use Rattle.cpa_path_folds.specs.Tracking.{is_tracked}
+use Rattle.cpa_value.specs.Cells.{first_value, first_known, known_cells, facts_from}
 
 -- the first value of facts with one behind them
 first_value-push : (fs : List Fact) (f : Fact) (cell : ℕ)
@@ -136,14 +137,6 @@ same_transfer cfa p e g cells marks es are same is =
     is
     ∙ (ap (λ t. elems_of t (after_act t g.act cells)) tests
     ∙ ap (λ l. elems_of (is_tracked p) (after_act (is_tracked p) g.act l)) are)
-
--- the numbers from a on, with one more
-pub range_push : (a n j : ℕ) → a + n ≡ j → range_with_len a (suc n) ≡ range_with_len a n ++ j ∷ []
-range_push a zero j is = let here : a ≡ j = omega (arith, is) in ap (λ k. k ∷ []) here
-range_push a (suc n) j is = ap (λ l. a ∷ l) (range_push (a + 1) n j (omega (arith, is)))
-
-pub range_more : (n : ℕ) → range_with_len 0 (n + 1) ≡ range_with_len 0 n ++ n ∷ []
-range_more n = rw add-one (range_push 0 n n (omega arith))
 
 -- the facts of values with one behind them
 equals_from-push : (n : ℕ) (vs : List ℤ) (v : ℤ) (last : ℕ) → n + length vs ≡ last

@@ -1,7 +1,6 @@
 pub mod CellLemmas
 pub mod KnownLemmas
 pub mod RangeLemmas
-pub mod ScalarLemmas
 pub mod StoreLemmas
 pub mod LearnLemmas
 pub mod ActLemmas
@@ -10,4 +9,3 @@ pub mod TransferLemmas
 pub mod LimitLemmas
 pub mod StrengthenLemmas
 pub mod ValueLaws
-pub mod RefineLemmas

@@ -5,7 +5,8 @@ use Rattle.std.specs.List.{list_any}
 use Rattle.cpa_model.specs.declared.facts.Elem.{Elem}
 use Rattle.cpa_iface.specs.declared.precisions.Precision.{Precision}
 use Rattle.cpa_query.specs.Queries.{is_marked}
-use Rattle.cpa_value.specs.Cells.{known_cells, is_tracked, elem_of}
+use Rattle.cpa_path_folds.specs.Tracking.{is_tracked}
+use Rattle.cpa_value.specs.Cells.{known_cells, elem_of}
 use Rattle.cpa_value.specs.Strengthening.{has_point, met_elems, strengthened}
 
 pub strengthened_is : (n : ℕ) (p : Precision) (own : Elem) (others : List Elem)

@@ -26,13 +26,15 @@ use Rattle.cpa_iface.specs.Meanings.{IsShaped}
 use Rattle.cpa_iface.specs.Pins.{pin_of, equals_from, PinsStep, IsSettledBy, TracksAll}
 use Rattle.cpa_iface.specs.Laws.{TransferLaws, SomeHolds, CoversEdge, PinsEdge, IsBounded}
 use Rattle.cpa_value.specs.Acts.{after_act}
-use Rattle.cpa_value.specs.Cells.{first_value, known_cells, is_tracked, facts_from, elem_of}
+use Rattle.cpa_path_folds.specs.Tracking.{is_tracked}
+use Rattle.cpa_path_folds.specs.lemmas.Appending.{tracks}
+use Rattle.cpa_value.specs.Cells.{first_value, known_cells, facts_from, elem_of}
 use Rattle.cpa_value.specs.Transfer.{elems_of, next_values}
 use Rattle.cpa_value.specs.Values.{values}
 use Rattle.cpa_value.proofs.KnownLemmas.{AgreeCells}
 use Rattle.cpa_value.proofs.RangeLemmas.{AreKnown, known_in_cell, shaped_known, facts_all}
 use Rattle.cpa_value.proofs.RangeLemmas.{facts_few}
-use Rattle.cpa_value.proofs.ScalarLemmas.{StaysInRange}
+use Rattle.cpa_path_folds.specs.lemmas.ScalarReads.{StaysInRange}
 use Rattle.cpa_value.proofs.StoreLemmas.{zip_length}
 use Rattle.cpa_value.proofs.ActLemmas.{act_gives, act_known}
 use Rattle.cpa_value.proofs.ExactLemmas.{IsExactStep, exact_act, one_step, steps_length}
@@ -138,16 +140,6 @@ pub starts_of : (cfa : Cfa) → IsAutomaton cfa
     → AllByRecursion (λ c. IsInRange c.ty c.start) cfa.cells
 starts_of cfa a = subst (AllByRecursion (λ c. IsInRange c.ty c.start))
     (sym a.automaton.cells) a.well_formed.starts
-
--- a tracked cell passes the test
-pub tracks : (cells : List ℕ) (cell k : ℕ) → k < length cells → get_or cells k cell ≡ cell
-    → list_any (λ own. own == cell) cells ≡ true
-tracks [] cell k inside at = absurd (omega arith)
-tracks (c ∷ cells) cell zero inside at =
-    or_left (c == cell) (list_any (λ own. own == cell) cells) ((Decides-eqb c cell).1 at)
-tracks (c ∷ cells) cell (suc k) inside at =
-    or_right (c == cell) (list_any (λ own. own == cell) cells)
-    (tracks cells cell k (omega (arith, inside)) at)
 
 types_length : (cs : List Cell) → length (types_of cs) ≡ length cs
 types_length [] = refl

@@ -27,11 +27,12 @@ use Rattle.cpa_iface.specs.Meanings.{IsShaped, AreShaped, IsPrecision}
 use Rattle.cpa_iface.specs.Pins.{equals_from, IsControlPin}
 use Rattle.cpa_iface.specs.Laws.{InitialLaws, FirstPrecisionLaws, StrengthenLaws, AdjustLaws}
 use Rattle.cpa_iface.specs.Laws.{IsOwnOrNone, IsBounded}
-use Rattle.cpa_value.specs.Cells.{known_cells, is_tracked, facts_from, elem_of}
+use Rattle.cpa_path_folds.specs.Tracking.{is_tracked}
+use Rattle.cpa_value.specs.Cells.{known_cells, facts_from, elem_of}
 use Rattle.cpa_value.specs.Limits.{is_kept, seen, limited}
 use Rattle.cpa_value.specs.Strengthening.{has_point, agreed, met, met_facts, met_elems}
 use Rattle.cpa_value.specs.Strengthening.{strengthened}
-use Rattle.cpa_value.specs.Values.{values, starts, precision_of}
+use Rattle.cpa_value.specs.Values.{values, starts}
 use Rattle.cpa_value.proofs.KnownLemmas.{AgreeCells}
 use Rattle.cpa_value.proofs.RangeLemmas.{AreKnown, AreKnown-set, shaped_known, facts_few}
 use Rattle.cpa_value.proofs.StoreLemmas.{agree_set, some_and, all_known}
@@ -68,37 +69,6 @@ starts-laws cfa a =
           omega (arith, few, long, rank);
       told = refl;
     }
-
-range_all : (P : ℕ → Type 0) (a n : ℕ) → ((i : ℕ) → i < a + n → P i)
-    → AllByRecursion P (range_with_len a n)
-range_all P a zero each = tt
-range_all P a (suc n) each = (
-  each a (omega arith),
-  range_all P (a + 1) n (λ i less. each i (omega (arith, less))),
-)
-
-all_or_none : (n : ℕ) (b : Bool) → AllByRecursion (λ cell. cell < n)
-    (if b then range_with_len 0 n else [])
-all_or_none n true = range_all (λ cell. cell < n) 0 n (λ i less. omega (arith, less))
-all_or_none n false = tt
-
--- the laws of the first precision
-pub precision_of-laws : (cfa : Cfa) (settings : Settings)
-    → FirstPrecisionLaws values cfa settings (precision_of cfa settings)
-precision_of-laws cfa settings = record {
-  shaped = record { tracked = all_or_none (length cfa.cells) settings.tracked_all; preds = tt };
-  exact = λ _ all no_limit. record {
-    cells = λ cell less.
-        let n = length cfa.cells in
-        subst (λ b. Contains (if b then range_with_len 0 n else []) cell) (sym all) (
-          cell,
-          (let long = length-range_with_len 0 n in omega (arith, long, less)),
-          (let at = get_or-range_with_len 0 n cell cell less in omega (arith, at)),
-        );
-    no_limit = no_limit;
-  };
-  told = refl;
-}
 
 some_then : {X : Type 0} {Y : Type 0} (P : X → Type 0) (Q : Y → Type 0) (f : X → Option Y)
     (o : Option X) → ((x : X) → P x → IfSome (f x) Q) → IfSome o P → IfSome (option_and_then f o) Q

@@ -13,7 +13,8 @@ use Rattle.cpa_expr.specs.Values.{is_nonzero}
 use Rattle.cpa_model.specs.declared.automaton.Act.{Act}
 use Rattle.cpa_model.specs.declared.automaton.Act.TheVariants as act
 use Rattle.cpa_model.specs.Standing.{same_bool}
-use Rattle.cpa_value.specs.declared.acts.Scalar.{Scalar}
+use Rattle.cpa_path_folds.specs.declared.scalars.Scalar.{Scalar}
+use Rattle.cpa_path_folds.specs.Scalars.{scalar_of, read_of}
 use Rattle.cpa_value.specs.declared.acts.ScalarValue.{ScalarValue}
 use Rattle.cpa_value.specs.declared.known.Gap.TheVariants.{Unknown, Trap}
 use Rattle.cpa_value.specs.KnownValues.{Known, known_value}
@@ -49,27 +50,6 @@ placed base len (Err gap) value cells = Some (forgotten base len cells)
 abbrev pub assigned : ℕ → ℕ → Known → Known → List (Option ℤ) → Option (List (Option ℤ))
 assigned base len index value cells =
     if is_trap index || is_trap value then None else placed base len index (ok_of value) cells
-
--- the scalar that the node reads, with its type
-abbrev pub scalar_of : Expr-F Expr → Option Scalar
-scalar_of (Expr-F.Read t base len index) =
-    if len == 1 && is_zero (out-Expr index) then Some (record { cell = base; ty = t }) else None
-scalar_of node = None
-
--- the first type holds all values of the second
-abbrev pub holds_type : IntType → IntType → Bool
-holds_type t u = int_le (least t) (least u) && int_le (greatest u) (greatest t)
-
--- the scalar, where the type holds all its values
-abbrev pub held : IntType → Option Scalar → Option Scalar
-held t None = None
-held t (Some read) = if holds_type t read.ty then Some read else None
-
--- the scalar whose value the expression has: it reads it, or converts it once to a type that holds
--- all its values
-abbrev pub read_of : Expr-F Expr → Option Scalar
-read_of (Expr-F.Cast t arg) = held t (scalar_of (out-Expr arg))
-read_of node = scalar_of node
 
 -- what the equality of a side with this says of a tracked scalar
 abbrev pub told : (ℕ → Bool) → Option Scalar → Known → Option ScalarValue

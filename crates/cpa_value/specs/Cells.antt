@@ -23,10 +23,6 @@ first_known None other = other
 abbrev pub known_cells : ℕ → List Fact → List (Option ℤ)
 known_cells n facts = map (first_value facts) (range_with_len 0 n)
 
--- the cell is tracked
-abbrev pub is_tracked : Precision → ℕ → Bool
-is_tracked p cell = list_any (λ tracked. tracked == cell) p.tracked
-
 -- a fact for each tracked cell whose value is known, in order, where the list begins with this cell
 abbrev pub facts_from : (ℕ → Bool) → ℕ → List (Option ℤ) → List Fact
 facts_from tracked cell [] = []

@@ -8,7 +8,8 @@ use Rattle.cpa_model.specs.declared.facts.Fact.{Fact}
 use Rattle.cpa_model.specs.declared.facts.Fact.TheVariants.{Within}
 use Rattle.cpa_model.specs.declared.facts.Elem.{Elem}
 use Rattle.cpa_iface.specs.declared.precisions.Precision.{Precision}
-use Rattle.cpa_value.specs.Cells.{known_cells, is_tracked, elem_of}
+use Rattle.cpa_path_folds.specs.Tracking.{is_tracked}
+use Rattle.cpa_value.specs.Cells.{known_cells, elem_of}
 
 -- the fact leaves a tracked cell one value
 abbrev pub is_point : (ℕ → Bool) → Fact → Bool

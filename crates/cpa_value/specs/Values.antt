@@ -14,7 +14,7 @@ use Rattle.cpa_iface.specs.Meanings.{Meaning, Replies}
 use Rattle.cpa_iface.specs.Common.{merged_facts, fact_count}
 use Rattle.cpa_iface.specs.Pins.{equals_from}
 use Rattle.cpa_path_folds.specs.Needed.{needed}
-use Rattle.cpa_value.specs.Cells.{is_tracked}
+use Rattle.cpa_path_folds.specs.Tracking.{first_tracking, refined}
 use Rattle.cpa_value.specs.Limits.{limited}
 use Rattle.cpa_value.specs.Strengthening.{strengthened}
 use Rattle.cpa_value.specs.Transfer.{next_values}
@@ -26,27 +26,11 @@ starts_of cells = record { facts = equals_from 0 (map (λ cell. cell.start) cell
 abbrev pub starts : Cfa → Elem
 starts cfa = starts_of cfa.cells
 
--- all cells are tracked, or none, with the limit of the settings
-abbrev pub precision_of : Cfa → Settings → Precision
-precision_of cfa settings = record {
-  tracked = if settings.tracked_all then range_with_len 0 (length cfa.cells) else [];
-  limit = settings.limit;
-  preds = [];
-}
-
--- the cells that are needed along the path are tracked, too
-abbrev pub refined : Cfa → Path → Precision → Precision
-refined cfa path p = record {
-  tracked = p.tracked ++ filter (λ cell. not (is_tracked p cell)) (needed cfa path);
-  limit = p.limit;
-  preds = p.preds;
-}
-
 -- what it answers
 abbrev pub value_replies : Replies
 value_replies = record {
   initial = starts;
-  first_precision = precision_of;
+  first_precision = λ cfa settings. first_tracking cfa settings settings.limit;
   transfer = λ cfa g e p. next_values cfa p e g;
   strengthen = λ cfa own others p. strengthened (length cfa.cells) p own others;
   merge = λ cfa rule new old p. merged_facts rule new old;

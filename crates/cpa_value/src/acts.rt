@@ -3,28 +3,19 @@
 
 ghost use Rattle.std.specs.Prelude.{◌≡◌, ◌+◌, ◌&&◌, ◌||◌, None, Some, true};
 ghost use Rattle.std.specs.Prelude.{if◌then◌else◌, slice_set};
-ghost use Rattle.cpa_ints.specs.Integers.{least, greatest};
 ghost use Rattle.cpa_expr.specs.declared.tree.Expr.{out-Expr};
-ghost use Rattle.cpa_expr.specs.Cells.{is_zero};
 ghost use Rattle.cpa_expr.specs.Values.{is_nonzero};
 ghost use Rattle.cpa_model.specs.Standing.{same_bool};
 ghost use Rattle.cpa_query.specs.Queries.{is_marked};
 ghost use Rattle.cpa_value.specs.KnownValues.{known_value};
-ghost use Rattle.cpa_value.specs.Acts.{forgotten, is_trap, written, assigned, scalar_of};
-ghost use Rattle.cpa_value.specs.Acts.{holds_type, held, read_of, told, first_told, set_told};
+ghost use Rattle.cpa_value.specs.Acts.{forgotten, is_trap, written, assigned};
+ghost use Rattle.cpa_value.specs.Acts.{told, first_told, set_told};
 ghost use Rattle.cpa_value.specs.Acts.{equated, zeroed, says_equal, learned, assumed, after_act};
 
 use crate::known::{Gap, known_value};
 use cpa_expr::{CmpOp, Expr, is_nonzero};
-use cpa_ints::{Boxed, IntType};
 use cpa_model::Act;
-
-/// A scalar that an expression reads.
-#[derive(Clone, Copy)]
-pub struct Scalar {
-    pub cell: u32,
-    pub ty: IntType,
-}
+use cpa_path_folds::{Scalar, is_marked, read_of, scalar_of};
 
 /// What a test says of a scalar.
 #[derive(Clone, Copy)]
@@ -248,85 +239,5 @@ fn zero(read: Option<Scalar>, cells: &mut [Option<i128>], tracked: &[bool])
                 put(cells, read.cell as usize, Some(0));
             }
         }
-    }
-}
-
-/// The scalar whose value the expression has.
-fn read_of(e: &Expr) -> Option<Scalar>
-    ensures { result ≡ read_of (out-Expr e.now) }
-{
-    match e {
-        Expr::Cast { ty, arg } => held(*ty, scalar_of(arg.get())),
-        _ => scalar_of(e),
-    }
-}
-
-/// The scalar, where the type holds all its values.
-fn held(ty: IntType, read: Option<Scalar>) -> Option<Scalar>
-    ensures { result ≡ held ty read }
-{
-    match read {
-        None => None,
-        Some(read) => {
-            if holds_type(ty, read.ty) {
-                Some(read)
-            } else {
-                None
-            }
-        }
-    }
-}
-
-/// Whether each value of the other type is one of this type.
-fn holds_type(ty: IntType, other: IntType) -> bool
-    ensures { result ≡ holds_type ty other }
-{
-    ty.least() <= other.least() && other.greatest() <= ty.greatest()
-}
-
-/// The scalar that the node reads.
-fn scalar_of(e: &Expr) -> Option<Scalar>
-    ensures { result ≡ scalar_of (out-Expr e.now) }
-{
-    match e {
-        Expr::Read {
-            ty,
-            base,
-            len,
-            index,
-        } => {
-            if *len == 1 && is_zero(index) {
-                Some(Scalar {
-                    cell: *base,
-                    ty: *ty,
-                })
-            } else {
-                None
-            }
-        }
-        _ => None,
-    }
-}
-
-/// Whether the expression is the number 0 of type int.
-fn is_zero(e: &Boxed<Expr>) -> bool
-    ensures { result ≡ is_zero (out-Expr e.now) }
-{
-    match e.get() {
-        Expr::Const {
-            ty: IntType::I32,
-            value,
-        } => *value == 0,
-        _ => false,
-    }
-}
-
-/// Whether the cell is marked.
-pub(crate) fn is_marked(marks: &[bool], cell: u32) -> bool
-    ensures { result ≡ is_marked marks.now cell }
-{
-    match marks.get(cell as usize) {
-        Some(mark) => *mark,
-        None => false,
     }
 }

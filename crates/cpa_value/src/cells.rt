@@ -1,16 +1,16 @@
 //! What an element says of the cells, and the element of what is known of them, by
 //! `specs/Cells.antt`.
 
-ghost use Rattle.std.specs.Prelude.{◌≡◌, ◌<◌, ◌^◌, ℕ, ◌++◌, ◌∷◌, [], None, is_none, true, false};
-ghost use Rattle.std.specs.Prelude.{◌==◌, length, IfOk, OnOk};
-ghost use Rattle.std.specs.List.{AllByRecursion, list_any, slice_index_or};
+ghost use Rattle.std.specs.Prelude.{◌≡◌, ◌<◌, ◌^◌, ℕ, ◌++◌, ◌∷◌, [], None, is_none, true};
+ghost use Rattle.std.specs.Prelude.{length, IfOk, OnOk};
+ghost use Rattle.std.specs.List.{slice_index_or};
 ghost use Rattle.cpa_query.specs.Queries.{is_marked};
-ghost use Rattle.cpa_value.specs.Cells.{first_value, first_known, known_cells, is_tracked};
+ghost use Rattle.cpa_value.specs.Cells.{first_value, first_known, known_cells};
 ghost use Rattle.cpa_value.specs.Cells.{facts_from, elem_of};
 
-use crate::acts::{is_marked, put};
-use cpa_iface::Precision;
+use crate::acts::put;
 use cpa_model::{Elem, Fact, Seq};
+use cpa_path_folds::is_marked;
 use std::alloc::{AllocError, Global};
 
 /// The known values of the first `count` cells. Of several facts on a cell the first one counts.
@@ -64,32 +64,6 @@ pub(crate) fn value_at(cells: &[Option<i128>], cell: usize) -> Option<i128>
     match cells.get(cell) {
         Some(value) => *value,
         None => None,
-    }
-}
-
-/// A mark for each cell of `count`, set where it is tracked.
-pub(crate) fn tracked_marks(
-    alloc: Global,
-    precision: &Precision,
-    count: usize,
-) -> Result<Vec<bool>, AllocError>
-    requires { AllByRecursion (λ cell. cell < count) precision.now.tracked }
-    ensures { IfOk result (λ marks.
-        (cell : ℕ) → is_marked marks.items cell ≡ is_tracked precision.now cell) }
-{
-    let mut marks = vec![in alloc; false; count]?;
-    mark_all(&mut marks, precision.tracked.as_slice());
-    Ok(marks)
-}
-
-/// Sets the marks of the cells.
-fn mark_all(marks: &mut [bool], cells: &[u32])
-    requires none { (cell : ℕ) → is_marked marks.old cell ≡ false }
-    requires within { AllByRecursion (λ cell. cell < length marks.old) cells.now }
-    ensures { (cell : ℕ) → is_marked marks.new cell ≡ list_any (λ own. own == cell) cells.now }
-{
-    for cell in cells {
-        marks[*cell as usize] = true;
     }
 }
 

@@ -6,11 +6,10 @@ mod acts;
 mod cells;
 mod known;
 mod limits;
-mod refining;
 mod strengthening;
 mod transfer;
 mod value;
 
-pub use acts::{Scalar, ScalarValue};
+pub use acts::ScalarValue;
 pub use known::{Gap, known_value};
 pub use value::Value;

@@ -11,10 +11,11 @@ ghost use Rattle.cpa_value.specs.Cells.{elem_of};
 ghost use Rattle.cpa_value.specs.Strengthening.{is_point, has_point, agreed, met, met_facts};
 ghost use Rattle.cpa_value.specs.Strengthening.{met_elems, strengthened};
 
-use crate::acts::{is_marked, put};
-use crate::cells::{elem_of_known, known_cells, tracked_marks, value_at};
+use crate::acts::put;
+use crate::cells::{elem_of_known, known_cells, value_at};
 use cpa_iface::Precision;
 use cpa_model::{Cfa, Elem, Fact, copy_elem};
+use cpa_path_folds::{is_marked, tracked_marks};
 use std::alloc::{AllocError, Global};
 
 /// The own element with what the others say of tracked cells, or `None` where a cell would have two

@@ -9,9 +9,10 @@ ghost use Rattle.cpa_value.specs.Acts.{after_act};
 ghost use Rattle.cpa_value.specs.Transfer.{elems_of, next_values};
 
 use crate::acts::do_act;
-use crate::cells::{elem_of, known_cells, tracked_marks};
+use crate::cells::{elem_of, known_cells};
 use cpa_iface::Precision;
 use cpa_model::{Act, Cfa, Edge, Elem};
+use cpa_path_folds::tracked_marks;
 use std::alloc::{AllocError, Global};
 
 /// What the edge makes of the element.

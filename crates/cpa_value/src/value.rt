@@ -5,7 +5,6 @@ ghost use Rattle.std.specs.Prelude.{◌≡◌, ◌<◌, ◌^◌, Some, length, s
 ghost use Rattle.cpa_value.specs.Values.{values, starts_of};
 
 use crate::limits::limited;
-use crate::refining::{precision_of, refined};
 use crate::strengthening::strengthened;
 use crate::transfer::next_values;
 use cpa_iface::{
@@ -13,6 +12,7 @@ use cpa_iface::{
 };
 use cpa_ints::wrap_keeps_the_range;
 use cpa_model::{Cell, Cfa, Elem, Fact, Path, Seq, edges_are_sound, has_facts};
+use cpa_path_folds::{first_tracking, refined};
 use std::alloc::{AllocError, Global};
 
 /// The analysis of explicit values: an element says which values some cells have. It keeps those of
@@ -48,7 +48,7 @@ impl Analysis for Value {
         cfa: &Cfa,
         settings: &Settings,
     ) -> Result<Precision, AllocError> {
-        precision_of(alloc, cfa, settings)
+        first_tracking(alloc, cfa, settings, settings.limit)
     }
 
     fn transfer(

@@ -30,7 +30,8 @@ pub returns-in-Run-clause-come : goal.returns-in-Run-clause-come
 returns-in-Run-clause-come g c =
     let cfa = c.args.cfa.now in
     let settings = c.args.config.now.settings in
-    let run = subst (λ (j : Judged). IsJudged cfa c.args.path.edges settings.learnt settings.gates j)
+    let path = c.args.path in
+    let run = subst (λ (j : Judged). IsJudged cfa path.edges settings.learnt settings.gates j)
     c.in-Run.is c.requires.judged in (
       λ P W of. subst (λ (inputs : List ℤ). ReplaysTo P inputs c.in-Run.steps)
           (sym c.from_vec.ensures) (run.1 P W of).replays,

@@ -2,7 +2,6 @@ use Rattle.std.proofs.Common.{List, subst}
 use Rattle.cpa_iface.specs.declared.precisions.Precision.{Precision}
 use Rattle.cpa_composite.specs.Composites.{components}
 use Rattle.cpa_engine_rounds.specs.Clearing.{BeginsBelow}
-use Rattle.cpa_engine.specs.Searches.{Stands}
 use Rattle.cpa_engine.proofs.Histories.{again_begins}
 use Rattle.cpa_engine.proofs.refining.begin_again.Goals as goal
 

@@ -1,8 +1,7 @@
-use Rattle.std.proofs.Common.{◌≡◌, ◌∙◌, List, [], ◌∷◌, ◌++◌, sym, ap, subst}
+use Rattle.std.proofs.Common.{◌∙◌, List, [], ◌∷◌, ◌++◌, ap, subst}
 use Rattle.cpa_iface.specs.declared.precisions.Precision.{Precision}
 use Rattle.cpa_composite.specs.Composites.{components}
 use Rattle.cpa_engine_rounds.specs.Clearing.{BeginsBelow}
-use Rattle.cpa_engine.specs.Searches.{Stands}
 use Rattle.cpa_engine.proofs.Histories.{item, refined_begins, refined_binds}
 use Rattle.cpa_engine.proofs.refining.begin_refined.Goals as goal
 

@@ -5,7 +5,7 @@ use Rattle.cpa_composite.specs.Composites.{components}
 use Rattle.cpa_reached.specs.Calls.{begun}
 use Rattle.cpa_reached.specs.Entries.{ReachedSet}
 use Rattle.cpa_engine.specs.Searches.{IsSearch}
-use Rattle.cpa_engine.proofs.Histories.{first_search, refined_search}
+use Rattle.cpa_engine.proofs.Histories.{refined_search, first_search}
 use Rattle.cpa_engine.proofs.search.start.Goals as goal
 
 pub returns-clause-search : goal.returns-clause-search
@@ -16,14 +16,14 @@ returns-clause-search g c =
     let es = c.in_ok-elems.elems.items in
     let ps = c.in_ok-elems.precisions.items in
     let row = c.in_ok-elems.ensures.laws in
-    let begins = c.searches_begin.ensures in
-    let newest = c.from_vec.ensures ∙ c.in_ok-newest.ensures ∙ c.deref.ensures.value in
-    let found = first_search cfa cs config (begun es ps) es ps row
-    (begins.stands cfa cs config.settings es ps c.requires row)
-    (begins.binds cfa cs config.settings es ps row) in
-    subst (λ (r : ReachedSet). IsSearch cfa cs config
-    (refined_search r c.from_vec.result c.new-2.result)) (sym c.in_ok-reached.ensures)
-    (subst (λ (ns : List Precision). IsSearch cfa cs config
-    (refined_search (begun es ps) ns c.new-2.result)) (sym newest)
-    (subst (λ (items : List Refined). IsSearch cfa cs config
-    (refined_search (begun es ps) ps items)) (sym c.new-2.ensures) found))
+    let newest : c.from_vec.result ≡ ps =
+    c.from_vec.ensures ∙ c.in_ok-newest.ensures ∙ c.deref.ensures.value in
+    subst (λ (h : List Refined). IsSearch cfa cs config
+    (refined_search c.in_ok-reached.reached c.from_vec.result h)) (sym c.new-2.ensures)
+    (subst (λ (qs : List Precision). IsSearch cfa cs config
+    (refined_search c.in_ok-reached.reached qs [])) (sym newest)
+    (subst (λ (r : ReachedSet). IsSearch cfa cs config (refined_search r ps []))
+    (sym c.in_ok-reached.ensures)
+    (first_search cfa cs config (begun es ps) es ps row
+    (c.searches_begin.ensures.stands cfa cs config.settings es ps c.requires row)
+    (c.searches_begin.ensures.binds cfa cs config.settings es ps row))))

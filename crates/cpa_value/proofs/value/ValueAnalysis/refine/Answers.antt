@@ -1,9 +1,9 @@
-use Rattle.std.proofs.Common.{sym, subst}
+use Rattle.std.proofs.Common.{refl, sym, subst}
 use Rattle.std.proofs.lemmas.Result.{IfOk-weaker}
 use Rattle.cpa_iface.specs.declared.precisions.Precision.{Precision}
 use Rattle.cpa_iface.specs.Laws.{RefineLaws}
+use Rattle.cpa_path_folds.specs.lemmas.Appending.{refined-laws}
 use Rattle.cpa_value.specs.Values.{values}
-use Rattle.cpa_value.proofs.RefineLemmas.{refined-laws}
 use Rattle.cpa_value.proofs.value.ValueAnalysis.refine.Goals as goal
 
 pub returns-clause-laws : goal.returns-clause-laws
@@ -12,4 +12,4 @@ returns-clause-laws c =
     let path = c.args.path.now in
     let p = c.args.precision.now in
     IfOk-weaker _ _ _ (λ (q : Precision) is. subst (RefineLaws values cfa path p) (sym is)
-    (refined-laws cfa path p c.requires.precision)) c.refined.ensures
+    (refined-laws values cfa path p refl refl c.requires.precision)) c.refined.ensures

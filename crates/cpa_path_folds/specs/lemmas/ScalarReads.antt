@@ -18,8 +18,8 @@ use Rattle.cpa_expr.specs.Shape.{OfParts, IsTyped, IsTypedHere}
 use Rattle.cpa_expr.specs.Values.{value_of, value_step, cell_at}
 use Rattle.cpa_expr.specs.lemmas.Layers.{value_rolled, values_in}
 use Rattle.cpa_expr.specs.lemmas.Parts.{every_iff}
-use Rattle.cpa_value.specs.declared.acts.Scalar.{Scalar}
-use Rattle.cpa_value.specs.Acts.{scalar_of, holds_type, held, read_of}
+use Rattle.cpa_path_folds.specs.declared.scalars.Scalar.{Scalar}
+use Rattle.cpa_path_folds.specs.Scalars.{scalar_of, holds_type, held, read_of}
 
 -- the value of a node
 pub value_out : (e : Expr) (values : List ℤ)

@@ -3,7 +3,7 @@ use Rattle.std.proofs.Common.{◌≡◌, ℕ, take}
 use Rattle.std.specs.Prelude.{◌==◌}
 use Rattle.std.specs.List.{list_any}
 use Rattle.cpa_query.specs.Queries.{is_marked}
-use Rattle.cpa_value.proofs.cells.mark_all.Given as goal
+use Rattle.cpa_path_folds.proofs.tracking.mark_all.Given as goal
 
 abbrev pub invariant-loop-cell : goal.invariant-loop-cell
 invariant-loop-cell l = (cell : ℕ) → is_marked l.marks cell

@@ -1,7 +1,7 @@
 -- One cell more.
 use Rattle.std.proofs.Common.{ap, sym, ◌∙◌, ◌++◌, [], ◌∷◌}
-use Rattle.cpa_value.proofs.CellLemmas.{range_more}
-use Rattle.cpa_value.proofs.refining.all_cells.Goals as goal
+use Rattle.cpa_path_folds.proofs.MarkLemmas.{range_more}
+use Rattle.cpa_path_folds.proofs.tracking.all_cells.Goals as goal
 
 pub loop-cell-preserved : goal.loop-cell-preserved
 loop-cell-preserved c =

@@ -1,21 +1,32 @@
--- That refinement keeps the laws: it appends the needed cells that are missing.
+-- That a precision with more cells, and the first one, keep the laws.
 use Rattle.std.proofs.Common.{◌≡◌, ◌≢◌, ℕ, ◌+◌, ◌<◌, ◌≤◌, ◌==◌, Bool, true, false, List, [], ◌∷◌}
-use Rattle.std.proofs.Common.{◌++◌, refl, sym, arith, length, append-nil, inl, inr}
-use Rattle.std.specs.Prelude.{zero, suc, not, ◌||◌}
+use Rattle.std.proofs.Common.{◌++◌, refl, sym, subst, arith, length, get_or, append-nil, inl, inr}
+use Rattle.std.specs.Prelude.{zero, suc, not, ◌||◌, IfSome, Some, if◌then◌else◌}
 use Rattle.std.specs.List.{AllByRecursion, filter, list_any, range_with_len, Contains}
-use Rattle.std.proofs.lemmas.Bool.{cond_both}
+use Rattle.std.proofs.lemmas.Bool.{cond_both, or_left, or_right}
 use Rattle.std.proofs.lemmas.Bool.Decides.{Decides-eqb}
 use Rattle.std.proofs.lemmas.List.Elements.{Contains-append_left, Contains-append_right}
 use Rattle.std.proofs.lemmas.List.Elements.{Contains-append_cases}
+use Rattle.std.proofs.lemmas.List.FromFn.{length-range_with_len, get_or-range_with_len}
 use Rattle.cpa_model.specs.declared.automaton.Cfa.{Cfa}
 use Rattle.cpa_model.specs.declared.automaton.Path.{Path}
+use Rattle.cpa_iface.specs.declared.analysis.Settings.{Settings}
 use Rattle.cpa_iface.specs.declared.precisions.Precision.{Precision}
-use Rattle.cpa_iface.specs.Meanings.{IsPrecision}
-use Rattle.cpa_iface.specs.Laws.{RefineLaws, AppendsMissing, AreDistinct}
+use Rattle.cpa_iface.specs.Meanings.{Meaning, IsPrecision}
+use Rattle.cpa_iface.specs.Laws.{FirstPrecisionLaws, RefineLaws, AppendsMissing, AreDistinct}
+use Rattle.cpa_iface.specs.Laws.{AppendsSuggested}
 use Rattle.cpa_path_folds.specs.Needed.{is_needed, needed}
-use Rattle.cpa_value.specs.Cells.{is_tracked}
-use Rattle.cpa_value.specs.Values.{values, refined}
-use Rattle.cpa_value.proofs.TransferLemmas.{tracks}
+use Rattle.cpa_path_folds.specs.Tracking.{is_tracked, first_tracking, refined}
+
+-- a tracked cell passes the test
+pub tracks : (cells : List ℕ) (cell k : ℕ) → k < length cells → get_or cells k cell ≡ cell
+    → list_any (λ own. own == cell) cells ≡ true
+tracks [] cell k inside at = absurd (omega arith)
+tracks (c ∷ cells) cell zero inside at =
+    or_left (c == cell) (list_any (λ own. own == cell) cells) ((Decides-eqb c cell).1 at)
+tracks (c ∷ cells) cell (suc k) inside at =
+    or_right (c == cell) (list_any (λ own. own == cell) cells)
+    (tracks cells cell k (omega (arith, inside)) at)
 
 kept_numbers : (P : ℕ → Type 0) (test : ℕ → Bool) (ns : List ℕ) → AllByRecursion P ns
     → AllByRecursion P (filter test ns)
@@ -153,10 +164,12 @@ needed_inside cfa path =
     (range_from (λ cell. cell < length cfa.cells) 0 (length cfa.cells)
     (λ i least less. omega (arith, less)))
 
--- the laws of refinement
-pub refined-laws : (cfa : Cfa) (path : Path) (p : Precision) → IsPrecision cfa p
-    → RefineLaws values cfa path p (refined cfa path p)
-refined-laws cfa path p precision =
+-- the laws of refinement, for whoever suggests the cells that are needed
+pub refined-laws : (m : Meaning) (cfa : Cfa) (path : Path) (p : Precision)
+    → m.suggestion cfa path ≡ Some (record { cells = needed cfa path; preds = [] })
+    → IfSome m.replies (λ r. refined cfa path p ≡ r.refine cfa path p) → IsPrecision cfa p
+    → RefineLaws m cfa path p (refined cfa path p)
+refined-laws m cfa path p suggests told precision =
     let more = filter (λ cell. not (is_tracked p cell)) (needed cfa path) in
     record {
       shaped = record {
@@ -168,9 +181,42 @@ refined-laws cfa path p precision =
       limit = refl;
       tracked = (more, refl);
       preds = ([], sym (append-nil p.preds));
-      suggested = (
+      suggested = subst (λ o. IfSome o (AppendsSuggested p (refined cfa path p))) (sym suggests) (
         appends_missing p.tracked (needed cfa path) (needed_distinct cfa path),
         record { more = []; is = sym (append-nil p.preds); whole = tt; only = tt; once = tt },
       );
-      told = refl;
+      told = told;
     }
+
+range_all : (P : ℕ → Type 0) (a n : ℕ) → ((i : ℕ) → i < a + n → P i)
+    → AllByRecursion P (range_with_len a n)
+range_all P a zero each = tt
+range_all P a (suc n) each = (
+  each a (omega arith),
+  range_all P (a + 1) n (λ i less. each i (omega (arith, less))),
+)
+
+all_or_none : (n : ℕ) (b : Bool) → AllByRecursion (λ cell. cell < n)
+    (if b then range_with_len 0 n else [])
+all_or_none n true = range_all (λ cell. cell < n) 0 n (λ i less. omega (arith, less))
+all_or_none n false = tt
+
+-- the laws of the first precision, where the limit is none if the settings have none
+pub first_tracking-laws : (m : Meaning) (cfa : Cfa) (settings : Settings) (limit : ℕ)
+    → (settings.limit ≡ 0 → limit ≡ 0)
+    → IfSome m.replies (λ r. first_tracking cfa settings limit ≡ r.first_precision cfa settings)
+    → FirstPrecisionLaws m cfa settings (first_tracking cfa settings limit)
+first_tracking-laws m cfa settings limit none told = record {
+  shaped = record { tracked = all_or_none (length cfa.cells) settings.tracked_all; preds = tt };
+  exact = λ _ all no_limit. record {
+    cells = λ cell less.
+        let n = length cfa.cells in
+        subst (λ b. Contains (if b then range_with_len 0 n else []) cell) (sym all) (
+          cell,
+          (let long = length-range_with_len 0 n in omega (arith, long, less)),
+          (let at = get_or-range_with_len 0 n cell cell less in omega (arith, at)),
+        );
+    no_limit = none no_limit;
+  };
+  told = told;
+}

@@ -3,7 +3,7 @@ use Rattle.std.proofs.Common.{◌≡◌, ◌++◌, take}
 use Rattle.std.specs.Prelude.{not}
 use Rattle.std.specs.List.{filter}
 use Rattle.cpa_query.specs.Queries.{is_marked}
-use Rattle.cpa_value.proofs.refining.append_unmarked.Given as goal
+use Rattle.cpa_path_folds.proofs.tracking.append_unmarked.Given as goal
 
 abbrev pub invariant-loop-cell : goal.invariant-loop-cell
 invariant-loop-cell l = l.list ≡ l.fn.list
