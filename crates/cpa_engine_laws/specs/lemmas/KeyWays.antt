@@ -151,7 +151,7 @@ module _ (cfa : Cfa) (cs : List Component) (xs : List Entry) (up : AreAscending 
       control_walks cfa cs (reverse back) on.first e.elems (initial_state cfa) (inside n back way)
       on.walks first on.root
 
-  -- K1
+  -- how points and call sites chain
   pub kept_points : AreLines (KeyComes cfa cs) (KeyRoot cfa cs) xs → (has : HaveApart cs part.Point)
       → (e : Entry) → IsIn e xs
       → ((i p : ℕ) → slice_get e.elems i ≡ Some (pin p) → Contains cfa.errors p)
