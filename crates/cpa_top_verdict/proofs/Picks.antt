@@ -34,7 +34,8 @@ are_places text handed config says =
 
 -- a pick within the analyses makes a component before the later ones
 makes_one : (ms : List Meaning) (place : ℕ) (rule : MergeRule) (later : List Component)
-    → place < length ms → length (picked_before (slice_get ms place) rule later) ≡ suc (length later)
+    → place < length ms
+    → length (picked_before (slice_get ms place) rule later) ≡ suc (length later)
 makes_one [] place rule later inside = absurd (omega (arith, inside))
 makes_one (m ∷ ms) zero rule later inside = refl
 makes_one (m ∷ ms) (suc place) rule later inside = makes_one ms place rule later (omega arith)

@@ -1,4 +1,5 @@
--- What is told of an answer (`is_told`), and what follows of the verdict (`true_text`, `error_text`).
+-- What is told of an answer (`is_told`), and what follows of the verdict (`told_true`,
+-- `told_false`).
 use Rattle.std.proofs.Common.{◌≡◌, refl, sym, ◌∙◌, ℕ, List, length, Result, Ok, Err}
 use Rattle.std.specs.Prelude.{IfOk}
 use Rattle.cpa_model.specs.declared.automaton.Cfa.{Cfa}

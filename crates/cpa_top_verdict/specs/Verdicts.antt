@@ -1,5 +1,5 @@
--- What is told of a program: the verdict of an answer, and the text of the report that says it (this
--- project's own).
+-- What is told of a program: the verdict of an answer, and the text of the report that says it
+-- (this project's own).
 use Rattle.std.specs.Prelude.{◌≡◌, List, length, map}
 use Rattle.cpa_model.specs.declared.automaton.Cfa.{Cfa}
 use Rattle.cpa_model.specs.declared.program.Program.{Program}
@@ -51,8 +51,8 @@ report_of P cfa a = record {
   body = body_of a;
 }
 
--- The verdict and the text are those of an answer on the program, by these components and under this
--- configuration.
+-- The verdict and the text are those of an answer on the program, by these components and under
+-- this configuration.
 pub record IsTold (P : Program) (cs : List Component) (config : Config) (told : Told) : Type 0
   where
     pub automaton : Cfa

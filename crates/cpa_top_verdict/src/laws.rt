@@ -34,8 +34,8 @@ pub fn true_is_safe()
     covers_are_safe();
 }
 
-/// A law: a program of which FALSE is told calls `reach_error`. Its text is the report of the inputs
-/// with which it does, and of the steps after which.
+/// A law: a program of which FALSE is told calls `reach_error`. Its text is the report of the
+/// inputs with which it does, and of the steps after which.
 pub fn false_calls_the_error()
     ensures answer { (P : Program) (cfa : Cfa) (cs : List Component) (config : Config)
         (inputs : List ℤ) (steps : ℕ) → IsWellFormed P → IsAutomatonOf P cfa

@@ -1,5 +1,5 @@
-//! A program, analyses and a configuration come to a verdict and the text of its report: `IsTold` of
-//! `specs/Verdicts.antt`; shown with `proofs/Verdicts.antt`.
+//! A program, analyses and a configuration come to a verdict and the text of its report: `IsTold`
+//! of `specs/Verdicts.antt`; shown with `proofs/Verdicts.antt`.
 ghost use Rattle.std.specs.Prelude.{length, map, IfOk};
 ghost use Rattle.cpa_model.specs.Programs.{IsWellFormed};
 ghost use Rattle.cpa_composite.specs.Components.{ArePlaces, picked};
