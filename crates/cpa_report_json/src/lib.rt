@@ -1,6 +1,6 @@
 //! Values that are one JSON value each, read from its tokens: what is promised is that a value
 //! whose tokens come next is taken, and no more, so that who reads a text prints what was read and
-//! compares. `specs/Tokens.antt` of `cpa_report_print` has the tokens, `specs/Taking.antt` the promise.
+//! compares. `onto` of `cpa_report_print` has the tokens, `specs/Taking.antt` the promise.
 #![tactic(auto)]
 
 mod fault;

@@ -31,7 +31,8 @@ mutual
   of_outline (number n) h = of_number n h
   of_outline (string s) h = refl
   of_outline (array ds) h = ap (option_map array) (of_items_outline ds h)
-  of_outline (object ms) h = ap (option_map object) (of_members_outline ms no_members h.0 ∙ ap Some h.1)
+  of_outline (object ms) h =
+      ap (option_map object) (of_members_outline ms no_members h.0 ∙ ap Some h.1)
 
   of_items_outline : (ds : Items) → ItemsArePlain ds → of_items (items_outline ds) ≡ Some ds
   of_items_outline no_items h = refl

@@ -25,7 +25,8 @@ items-preserved g c = (
       (taken g.T.FromJson.json g.T.FromJson.fits xs c.items.found c.in-Ok.item rest c.items.reader
       c.take.new.reader n took.0 took.1),
   rw c.in_ok-push.ensures.ok
-      (one_fits_more g.T.FromJson.fits c.items.found c.in-Ok.item c.items.invariant.1 c.in-Ok.ensures.fit),
+      (one_fits_more g.T.FromJson.fits c.items.found c.in-Ok.item c.items.invariant.1
+      c.in-Ok.ensures.fit),
   let less = c.in-Ok.ensures.shorter in
       let was = c.items.invariant.2 in
       let same = ap (λ (ts : List Token). length ts) c.items-test.ensures.1 in
@@ -34,7 +35,8 @@ items-preserved g c = (
 
 pub returns-in-Err-clause-took : goal.returns-in-Err-clause-took
 returns-in-Err-clause-took g c xs rest fit is =
-    let opened = c.in_ok-open_list.ensures.took (rest_of g.T.FromJson.json g.T.FromJson.fits xs rest) is in
+    let opened =
+    c.in_ok-open_list.ensures.took (rest_of g.T.FromJson.json g.T.FromJson.fits xs rest) is in
     let n =
     next g.T.FromJson.json g.T.FromJson.fits xs c.items.found rest c.items.reader
     (c.items.invariant.0 xs rest fit opened) c.items-test.ensures.0 in
@@ -43,6 +45,7 @@ returns-in-Err-clause-took g c xs rest fit is =
 
 pub returns-clause-took : goal.returns-clause-took
 returns-clause-took g c xs rest fit is =
-    let opened = c.in_ok-open_list.ensures.took (rest_of g.T.FromJson.json g.T.FromJson.fits xs rest) is in
+    let opened =
+    c.in_ok-open_list.ensures.took (rest_of g.T.FromJson.json g.T.FromJson.fits xs rest) is in
     ended g.T.FromJson.json g.T.FromJson.fits xs c.items.found rest c.items.reader
     c.take_end_array.new.self (c.items.invariant.0 xs rest fit opened) c.items-test.ensures
