@@ -6,6 +6,7 @@
 mod fault;
 mod laws;
 mod lists;
+mod numbers;
 mod steps;
 
 pub use fault::ReadFault;
