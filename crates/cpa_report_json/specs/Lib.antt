@@ -1,0 +1,3 @@
+pub mod lemmas
+pub mod Plain
+pub mod Taking
