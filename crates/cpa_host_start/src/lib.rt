@@ -2,9 +2,12 @@
 //! the top call. Apart from `main`, so that a second program can show how a refusal ends.
 #![tactic(auto)]
 
-use cpa_iface::{Analysis, Location, Plain};
+use cpa_callstack::Callstack;
+use cpa_composite::Handed;
+use cpa_iface::{Location, Plain};
 use cpa_outside::{FileInputs, StdoutSink, write_whole};
 use cpa_top::{Status, run};
+use cpa_value::Value;
 use std::alloc::{AllocError, Global};
 use std::env;
 use std::io::ErrorKind;
@@ -38,21 +41,33 @@ fn refuse_memory<R: Print>(out: &mut StdoutSink<R>) -> ExitCode {
     }
 }
 
+/// What the top call answers to the command line, over the files of the system.
+fn answer<R: Threads + Sync + Env + Files + Print + AllocGlobal>(
+    rt: &R,
+    out: &mut StdoutSink<R>,
+) -> Result<u8, AllocError> {
+    let alloc = rt.alloc();
+    let words = words(rt)?;
+    let mut analyses = Vec::new(alloc);
+    analyses.push(Handed {
+        analysis: Box::new(alloc, Plain(Location))?,
+    })?;
+    analyses.push(Handed {
+        analysis: Box::new(alloc, Plain(Callstack))?,
+    })?;
+    analyses.push(Handed {
+        analysis: Box::new(alloc, Value::new())?,
+    })?;
+    let mut inputs = FileInputs::new(rt);
+    Ok(run(rt, alloc, words, analyses, &mut inputs, out))
+}
+
 /// Does what the command line asks, over the files of the system and its standard output, and gives
 /// the status.
 pub fn start<R: Threads + Sync + Env + Files + Print + AllocGlobal>(rt: &R) -> ExitCode {
-    let alloc = rt.alloc();
-    let mut inputs = FileInputs::new(rt);
     let mut out = StdoutSink::new(rt);
-    let Ok(words) = words(rt) else {
-        return refuse_memory(&mut out);
-    };
-    let mut analyses: Vec<Box<dyn Analysis + Send>> = Vec::new(alloc);
-    let Ok(location) = Box::new(alloc, Plain(Location)) else {
-        return refuse_memory(&mut out);
-    };
-    if analyses.push(location).is_err() {
-        return refuse_memory(&mut out);
+    match answer(rt, &mut out) {
+        Ok(status) => ExitCode::from(status),
+        Err(AllocError) => refuse_memory(&mut out),
     }
-    ExitCode::from(run(rt, alloc, words, analyses, &mut inputs, &mut out))
 }

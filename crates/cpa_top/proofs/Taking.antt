@@ -1,6 +1,8 @@
 -- A file that was read, and what refuses it.
-use Rattle.std.proofs.Common.{◌≡◌, ℕ, ◌≤◌, ℤ, List, length, refl, subst, inl, inr}
-use Rattle.std.specs.Prelude.{Option, Some, None, IfSome}
+use Rattle.std.proofs.Common.{◌≡◌, ℕ, ◌≤◌, ℤ, List, [], ◌∷◌, length, refl, sym, subst, inl}
+use Rattle.std.proofs.Common.{inr}
+use Rattle.std.specs.Prelude.{Option, Some, None, IfSome, Result, Err, IfErr}
+use Rattle.std.specs.List.{AllByRecursion}
 use Rattle.std.specs.String.{string_bytes}
 use Rattle.c_lexer.specs.declared.lexer.TheConstants.{MAX_TEXT}
 use Rattle.c_program.specs.Programs.{IsTheProgram}
@@ -12,9 +14,14 @@ use Rattle.cpa_top.specs.declared.role.Role.{Role}
 use Rattle.cpa_top.specs.declared.role.Role.TheVariants as role
 use Rattle.cpa_top.specs.Answers.{Passes, HasProgram, HasInputs, IsFaultLine, NoInputs}
 use Rattle.cpa_top.specs.Calls.{Files, NoReadFailed}
-use Rattle.cpa_top.specs.Jobs.{Stage, reading, taking}
-use Rattle.cpa_top.specs.Refusals.{IsRefusedAt, IsFileRefused, IsTaken, IsTextRefused}
-use Rattle.cpa_top.specs.Refusals.{IsListRefused}
+use Rattle.cpa_top.specs.Jobs.{Stage, reading, parsing, listing, program_stages, inputs_stages}
+use Rattle.cpa_top.specs.Refusals.{IsRefusedAt, IsHalted, IsTaken, IsTextRefused, IsListRefused}
+use Rattle.cpa_top.proofs.Stages.{halts}
+
+-- what is said of an error holds of a result that is this error
+pub exits : {T : Type 0} (result : Result T Refusal) (Is : Refusal → Type 0) (r : Refusal)
+    → result ≡ Err r → Is r → IfErr result Is
+exits result Is r same is = subst (λ x. IfErr x Is) (sym same) is
 
 -- the bytes that were read are those that are told
 pub as_told : (told : Option (List ℕ)) (bytes : List ℕ) (Has : List ℕ → Type 0) → Has bytes
@@ -23,7 +30,7 @@ as_told None bytes Has has same = tt
 as_told (Some t) bytes Has has same = subst Has same has
 
 -- what holds of them gives what it implies
-told_weaker : (told : Option (List ℕ)) (Has Is : List ℕ → Type 0)
+pub told_weaker : (told : Option (List ℕ)) (Has Is : List ℕ → Type 0)
     → ((bytes : List ℕ) → Has bytes → Is bytes) → IfSome told Has → IfSome told Is
 told_weaker None Has Is from has = tt
 told_weaker (Some t) Has Is from has = from t has
@@ -33,47 +40,65 @@ pub out_of_memory : (files : Files) (stage : Stage) → NoReadFailed files
     → IsRefusedAt files stage refusal.OutOfMemory
 out_of_memory files stage steady = record { why = inl refl; reads = λ n. steady }
 
+-- few enough bytes were read
+pub was_read : (files : Files) (which : Role) (name bytes : List ℕ) → length bytes ≤ MAX_TEXT
+    → IfSome (files.bytes_of name) (λ t. bytes ≡ t) → Passes files (reading which name)
+was_read files which name bytes short same =
+    as_told (files.bytes_of name) bytes (λ b. length b ≤ MAX_TEXT) short same
+
 -- the bytes of a program are refused
+program_refused_at : (files : Files) (name bytes : List ℕ) (r : Refusal)
+    → IfSome (files.bytes_of name) (λ t. bytes ≡ t) → NoReadFailed files → IsTextRefused bytes r
+    → IsRefusedAt files (parsing name) r
+program_refused_at files name bytes (refusal.NoProgram line) same steady is = record {
+  why = inr (as_told (files.bytes_of name) bytes (IsFaultLine (string_bytes line)) is same);
+  reads = λ n. steady;
+}
+program_refused_at files name bytes refusal.OutOfMemory same steady is =
+    out_of_memory files (parsing name) steady
+program_refused_at files name bytes refusal.Usage same steady is = absurd is
+program_refused_at files name bytes (refusal.ReadFailed which) same steady is = absurd is
+program_refused_at files name bytes (refusal.TooLong which) same steady is = absurd is
+program_refused_at files name bytes (refusal.NoConfig line) same steady is = absurd is
+program_refused_at files name bytes refusal.NoInputs same steady is = absurd is
+
 pub program_refused : (files : Files) (name bytes : List ℕ) (r : Refusal)
     → length bytes ≤ MAX_TEXT → IfSome (files.bytes_of name) (λ t. bytes ≡ t)
-    → NoReadFailed files → IsTextRefused bytes r → IsFileRefused files role.Program name r
-program_refused files name bytes (refusal.NoProgram line) short same steady is = inr (
-  as_told (files.bytes_of name) bytes (λ b. length b ≤ MAX_TEXT) short same,
-  record {
-    why = inr (as_told (files.bytes_of name) bytes (IsFaultLine (string_bytes line)) is same);
-    reads = λ n. steady;
-  },
-)
-program_refused files name bytes refusal.OutOfMemory short same steady is = inr (
-  as_told (files.bytes_of name) bytes (λ b. length b ≤ MAX_TEXT) short same,
-  out_of_memory files (taking role.Program name) steady,
-)
-program_refused files name bytes refusal.Usage short same steady is = absurd is
-program_refused files name bytes (refusal.ReadFailed which) short same steady is = absurd is
-program_refused files name bytes (refusal.TooLong which) short same steady is = absurd is
-program_refused files name bytes refusal.NoInputs short same steady is = absurd is
-program_refused files name bytes refusal.Unbuilt short same steady is = absurd is
+    → NoReadFailed files → IsTextRefused bytes r → IsHalted files (program_stages name) r
+program_refused files name bytes r short same steady is =
+    halts files (reading role.Program name ∷ []) (parsing name) []
+    (was_read files role.Program name bytes short same, tt) r
+    (program_refused_at files name bytes r same steady is)
 
 -- the bytes of a list of inputs are refused
+inputs_refused_at : (files : Files) (name bytes : List ℕ) (r : Refusal)
+    → IfSome (files.bytes_of name) (λ t. bytes ≡ t) → NoReadFailed files → IsListRefused bytes r
+    → IsRefusedAt files (listing name) r
+inputs_refused_at files name bytes refusal.NoInputs same steady is = record {
+  why = inr (as_told (files.bytes_of name) bytes NoInputs is same, refl);
+  reads = λ n. steady;
+}
+inputs_refused_at files name bytes refusal.OutOfMemory same steady is =
+    out_of_memory files (listing name) steady
+inputs_refused_at files name bytes refusal.Usage same steady is = absurd is
+inputs_refused_at files name bytes (refusal.ReadFailed which) same steady is = absurd is
+inputs_refused_at files name bytes (refusal.TooLong which) same steady is = absurd is
+inputs_refused_at files name bytes (refusal.NoProgram line) same steady is = absurd is
+inputs_refused_at files name bytes (refusal.NoConfig line) same steady is = absurd is
+
 pub inputs_refused : (files : Files) (name bytes : List ℕ) (r : Refusal)
     → length bytes ≤ MAX_TEXT → IfSome (files.bytes_of name) (λ t. bytes ≡ t)
-    → NoReadFailed files → IsListRefused bytes r → IsFileRefused files role.Inputs name r
-inputs_refused files name bytes refusal.NoInputs short same steady is = inr (
-  as_told (files.bytes_of name) bytes (λ b. length b ≤ MAX_TEXT) short same,
-  record {
-    why = inr (as_told (files.bytes_of name) bytes NoInputs is same, refl);
-    reads = λ n. steady;
-  },
-)
-inputs_refused files name bytes refusal.OutOfMemory short same steady is = inr (
-  as_told (files.bytes_of name) bytes (λ b. length b ≤ MAX_TEXT) short same,
-  out_of_memory files (taking role.Inputs name) steady,
-)
-inputs_refused files name bytes refusal.Usage short same steady is = absurd is
-inputs_refused files name bytes (refusal.ReadFailed which) short same steady is = absurd is
-inputs_refused files name bytes (refusal.TooLong which) short same steady is = absurd is
-inputs_refused files name bytes (refusal.NoProgram line) short same steady is = absurd is
-inputs_refused files name bytes refusal.Unbuilt short same steady is = absurd is
+    → NoReadFailed files → IsListRefused bytes r → IsHalted files (inputs_stages name) r
+inputs_refused files name bytes r short same steady is =
+    halts files (reading role.Inputs name ∷ []) (listing name) []
+    (was_read files role.Inputs name bytes short same, tt) r
+    (inputs_refused_at files name bytes r same steady is)
+
+-- the first stage of a file is refused
+pub read_refused : (files : Files) (which : Role) (name : List ℕ) (later : List Stage)
+    (r : Refusal) → IsRefusedAt files (reading which name) r
+    → IsHalted files (reading which name ∷ later) r
+read_refused files which name later r at = halts files [] (reading which name) later tt r at
 
 -- the bytes were taken
 pub taken : (told : Option (List ℕ)) (bytes : List ℕ) (Has : List ℕ → Type 0)
@@ -88,16 +113,26 @@ taken_read files which name Has is =
     told_weaker (files.bytes_of name) (λ b. (length b ≤ MAX_TEXT) × Has b)
     (λ b. length b ≤ MAX_TEXT) (λ b h. h.0) is
 
-pub program_taken : (files : Files) (name : List ℕ) (P : Program)
+pub program_passes : (files : Files) (name : List ℕ) (P : Program)
     → IsTaken (files.bytes_of name) (λ b. IsTheProgram b P)
-    → Passes files (taking role.Program name)
-program_taken files name P is =
+    → AllByRecursion (Passes files) (program_stages name)
+program_passes files name P is = (
+  taken_read files role.Program name (λ b. IsTheProgram b P) is,
+  (
     told_weaker (files.bytes_of name) (λ b. (length b ≤ MAX_TEXT) × IsTheProgram b P) HasProgram
-    (λ b h. (P, h.1.is)) is
+        (λ b h. (P, h.1.is)) is,
+    tt,
+  ),
+)
 
-pub inputs_taken : (files : Files) (name : List ℕ) (numbers : List ℤ)
+pub inputs_pass : (files : Files) (name : List ℕ) (numbers : List ℤ)
     → IsTaken (files.bytes_of name) (λ b. IsInputs b numbers)
-    → Passes files (taking role.Inputs name)
-inputs_taken files name numbers is =
+    → AllByRecursion (Passes files) (inputs_stages name)
+inputs_pass files name numbers is = (
+  taken_read files role.Inputs name (λ b. IsInputs b numbers) is,
+  (
     told_weaker (files.bytes_of name) (λ b. (length b ≤ MAX_TEXT) × IsInputs b numbers) HasInputs
-    (λ b h. (numbers, h.1)) is
+        (λ b h. (numbers, h.1)) is,
+    tt,
+  ),
+)

@@ -1,30 +1,34 @@
--- What the words of a call ask for, and the stages that a job goes through (this project's own).
-use Rattle.std.specs.Prelude.{ℕ, List, [], ◌∷◌, codes}
+-- The stages that a job goes through before its end (this project's own).
+use Rattle.std.specs.Prelude.{ℕ, List, [], ◌∷◌, ◌++◌, Option, Some, None, map}
 use Rattle.cpa_iface.specs.Meanings.{Meaning}
+use Rattle.cpa_top_words.specs.Jobs.{Job, verify, replay}
 use Rattle.cpa_top.specs.declared.role.Role.{Role}
 use Rattle.cpa_top.specs.declared.role.Role.TheVariants as role
 
--- what is asked for, with the names of its files
-pub data Job : Type 0 where
-  verify : List ℕ → Job
-  replay : List ℕ → List ℕ → Job
-
--- the words that ask for it
-abbrev pub words_of : Job → List (List ℕ)
-words_of (verify program) = codes "verify" ∷ program ∷ []
-words_of (replay program inputs) = codes "replay" ∷ program ∷ inputs ∷ []
-
--- a stage: the handed analyses are looked at, the file of a name is read in its role, what its
--- bytes stand for is found
+-- a stage: the file of a name is read in its role; the program of its bytes is found, or the inputs
+-- that they list; for the names of the handed analyses the configuration is found, that of the
+-- named file or, without a name, that of the empty text
 pub data Stage : Type 0 where
-  choosing : List Meaning → Stage
   reading : Role → List ℕ → Stage
-  taking : Role → List ℕ → Stage
+  parsing : List ℕ → Stage
+  listing : List ℕ → Stage
+  configuring : List (List ℕ) → Option (List ℕ) → Stage
 
--- the stages of a job that comes before its end, in order
+abbrev pub names_of : List Meaning → List (List ℕ)
+names_of analyses = map (λ m. m.name) analyses
+
+abbrev pub config_stages : List (List ℕ) → Option (List ℕ) → List Stage
+config_stages names None = configuring names None ∷ []
+config_stages names (Some file) = reading role.Config file ∷ configuring names (Some file) ∷ []
+
+abbrev pub program_stages : List ℕ → List Stage
+program_stages name = reading role.Program name ∷ parsing name ∷ []
+
+abbrev pub inputs_stages : List ℕ → List Stage
+inputs_stages name = reading role.Inputs name ∷ listing name ∷ []
+
+-- the stages of a job that comes to its end, in order
 abbrev pub stages_of : List Meaning → Job → List Stage
-stages_of analyses (verify program) =
-    choosing analyses ∷ reading role.Program program ∷ taking role.Program program ∷ []
-stages_of analyses (replay program inputs) =
-    reading role.Program program ∷ taking role.Program program ∷ reading role.Inputs inputs
-    ∷ taking role.Inputs inputs ∷ []
+stages_of analyses (verify program config) =
+    config_stages (names_of analyses) config ++ program_stages program
+stages_of analyses (replay program inputs steps) = program_stages program ++ inputs_stages inputs

@@ -1,13 +1,6 @@
 pub mod Answers
-pub mod Asking
 pub mod Calls
-pub mod Explored
 pub mod Jobs
-pub mod Led
 pub mod Lines
-pub mod Listing
-pub mod Members
-pub mod Reached
 pub mod Refusals
-pub mod Reports
 pub mod Statuses

@@ -6,6 +6,8 @@ use Rattle.c_lexer.specs.declared.byte.TheConstants.{LINE_FEED}
 use Rattle.c_lexer.specs.declared.fault.Rule.{Rule}
 use Rattle.c_lexer.specs.declared.fault.Rule.TheVariants as rule
 use Rattle.c_lexer.specs.declared.fault.TextFault.{TextFault}
+use Rattle.cpa_config.specs.declared.faults.ConfigRule.{ConfigRule}
+use Rattle.cpa_config.specs.Lines.{fault_line as config_fault}
 use Rattle.cpa_interp.specs.declared.outcome.Outcome.{Outcome}
 use Rattle.cpa_interp.specs.declared.outcome.Outcome.TheVariants as outcome
 use Rattle.cpa_top.specs.declared.role.Role.{Role}
@@ -54,6 +56,10 @@ placed_line word line column =
     codes "refused text " ++ word ++ codes " at " ++ decimal line ++ codes ":" ++ decimal column
     ++ codes "\n"
 
+-- the line that refuses a configuration for a rule and a key
+abbrev pub config_line : ConfigRule → List ℕ → List ℕ
+config_line rule key = config_fault rule key ++ codes "\n"
+
 -- the line that refuses a text for a fault
 abbrev pub fault_line : List ℕ → TextFault → List ℕ
 fault_line text fault =
@@ -61,6 +67,7 @@ fault_line text fault =
     (column_behind (take fault.place text))
 
 abbrev pub role_word : Role → List ℕ
+role_word role.Config = codes "config"
 role_word role.Program = codes "program"
 role_word role.Inputs = codes "inputs"
 
@@ -75,9 +82,6 @@ inputs_line = codes "refused inputs\n"
 
 abbrev pub memory_line : List ℕ
 memory_line = codes "refused memory\n"
-
-abbrev pub unbuilt_line : List ℕ
-unbuilt_line = codes "refused unbuilt\n"
 
 abbrev pub usage_text : List ℕ
 usage_text =

@@ -7,31 +7,31 @@ use Rattle.cpa_model.specs.declared.program.Program.{Program}
 use Rattle.cpa_iface.specs.Meanings.{Meaning}
 use Rattle.cpa_interp.specs.declared.outcome.Outcome.{Outcome}
 use Rattle.cpa_interp.specs.Replays.{Replay}
+use Rattle.cpa_composite.specs.Components.{picked}
+use Rattle.cpa_config.specs.declared.config.Config.{Config}
+use Rattle.cpa_top_verdict.specs.declared.reporting.Told.{Told}
+use Rattle.cpa_top_verdict.specs.Verdicts.{IsTold}
+use Rattle.cpa_top_words.specs.Jobs.{Job}
 use Rattle.cpa_top.specs.declared.answers.Conclusion.{Conclusion}
 use Rattle.cpa_top.specs.declared.refusal.Refusal.{Refusal}
 use Rattle.cpa_top.specs.declared.refusal.Refusal.TheVariants as refusal
-use Rattle.cpa_top.specs.declared.replay_job.TheConstants.{MAX_STEPS}
-use Rattle.cpa_top.specs.declared.report.Report.{Report}
-use Rattle.cpa_top.specs.declared.role.Role.{Role}
 use Rattle.cpa_top.specs.declared.status.Status.{Status}
 use Rattle.cpa_top.specs.declared.status.Status.TheVariants as status
-use Rattle.cpa_top.specs.Answers.{Passes, Refuses, Stops, Ends, IsShortOfMemory, IsFaultLine}
-use Rattle.cpa_top.specs.Answers.{NoInputs, IsSafeReport}
+use Rattle.cpa_top.specs.Answers.{Refuses, Stops, Ends, IsShortOfMemory}
+use Rattle.cpa_top.specs.Answers.{IsFaultLine, IsConfigLine, NoInputs}
 use Rattle.cpa_top.specs.Calls.{Files, Output, NoReadFailed, IsWhole, IsCutOff}
-use Rattle.cpa_top.specs.Jobs.{Job, Stage, reading, taking}
+use Rattle.cpa_top.specs.Jobs.{Stage, stages_of}
 use Rattle.cpa_top.specs.Lines.{usage_text, read_line, long_line, inputs_line, memory_line}
-use Rattle.cpa_top.specs.Lines.{unbuilt_line, outcome_line}
-use Rattle.cpa_top.specs.Led.{LeadsToError}
-use Rattle.cpa_top.specs.Reports.{report_text}
-use Rattle.cpa_top.specs.Statuses.{code_of, outcome_status}
+use Rattle.cpa_top.specs.Lines.{outcome_line}
+use Rattle.cpa_top.specs.Statuses.{code_of, outcome_status, verdict_status}
 
 abbrev pub refusal_status : Refusal → Status
 refusal_status refusal.Usage = status.Usage
 refusal_status (refusal.ReadFailed which) = status.ReadFailed
 refusal_status (refusal.TooLong which) = status.TooLong
 refusal_status (refusal.NoProgram line) = status.NoProgram
+refusal_status (refusal.NoConfig line) = status.NoConfig
 refusal_status refusal.NoInputs = status.NoInputs
-refusal_status refusal.Unbuilt = status.Unbuilt
 refusal_status refusal.OutOfMemory = status.OutOfMemory
 
 abbrev pub refusal_line : Refusal → List ℕ
@@ -39,8 +39,8 @@ refusal_line refusal.Usage = usage_text
 refusal_line (refusal.ReadFailed which) = read_line which
 refusal_line (refusal.TooLong which) = long_line which
 refusal_line (refusal.NoProgram line) = string_bytes line
+refusal_line (refusal.NoConfig line) = string_bytes line
 refusal_line refusal.NoInputs = inputs_line
-refusal_line refusal.Unbuilt = unbuilt_line
 refusal_line refusal.OutOfMemory = memory_line
 
 abbrev pub status_of : Result Conclusion Refusal → Status
@@ -48,7 +48,7 @@ status_of (Ok conclusion) = conclusion.status
 status_of (Err refused) = refusal_status refused
 
 abbrev pub text_of : Result Conclusion Refusal → List ℕ
-text_of (Ok conclusion) = string_bytes conclusion.text
+text_of (Ok conclusion) = conclusion.text.items
 text_of (Err refused) = refusal_line refused
 
 -- the refusal may come at the stage
@@ -57,13 +57,13 @@ pub record IsRefusedAt (files : Files) (stage : Stage) (refused : Refusal) : Typ
       ⊎ Refuses files (refusal_status refused) (refusal_line refused) stage
   pub reads : refusal_status refused ≢ status.ReadFailed → NoReadFailed files
 
--- it may come at a stage of the file of this name
-abbrev pub IsFileRefused : Files → Role → List ℕ → Refusal → Type 0
-IsFileRefused files which name refused =
-    IsRefusedAt files (reading which name) refused
-    ⊎ (Passes files (reading which name) × IsRefusedAt files (taking which name) refused)
+-- it may come at one of these stages, all earlier ones of which pass
+pub record IsHalted (files : Files) (stages : List Stage) (refused : Refusal) : Type 0 where
+  pub why : (refused ≡ refusal.OutOfMemory)
+      ⊎ Stops files stages (refusal_status refused) (refusal_line refused)
+  pub reads : refusal_status refused ≢ status.ReadFailed → NoReadFailed files
 
--- the file of this name was read, where its bytes are told, and they are as is said
+-- the bytes are few enough, where they are told, and they are as is said
 abbrev pub IsTaken : Option (List ℕ) → (List ℕ → Type 0) → Type 0
 IsTaken told Has = IfSome told (λ bytes. (length bytes ≤ MAX_TEXT) × Has bytes)
 
@@ -79,28 +79,33 @@ IsListRefused bytes refusal.NoInputs = NoInputs bytes
 IsListRefused bytes refusal.OutOfMemory = Unit {0}
 IsListRefused bytes _ = ⊥
 
--- what comes of a program on inputs
-pub record IsOutcome (P : Program) (inputs : List ℤ) (conclusion : Conclusion) : Type 0 where
-  pub outcome : Outcome
-  pub replay : Replay P inputs MAX_STEPS outcome
-  pub status : conclusion.status ≡ outcome_status outcome
-  pub line : string_bytes conclusion.text ≡ outcome_line outcome
+-- the bytes of a configuration are refused
+abbrev pub IsConfigRefused : List (List ℕ) → List ℕ → Refusal → Type 0
+IsConfigRefused names bytes (refusal.NoConfig line) = IsConfigLine names (string_bytes line) bytes
+IsConfigRefused names bytes refusal.OutOfMemory = Unit {0}
+IsConfigRefused names bytes _ = ⊥
 
--- what comes of a program whose automaton was explored
-abbrev pub IsVerdict : ℕ → Program → Result Conclusion Refusal → Type 0
-IsVerdict count P (Ok conclusion) =
-    (conclusion.status ≡ status.Holds) × (report : Report)
-    × (string_bytes conclusion.text ≡ report_text report) × (report.text ≡ P.text_len)
-    × IsSafeReport count P report
-IsVerdict count P (Err refusal.Unbuilt) = LeadsToError P
-IsVerdict count P (Err refusal.OutOfMemory) = Unit {0}
-IsVerdict count P (Err _) = ⊥
+-- what comes of a program on inputs in so many steps
+pub record IsOutcome (steps : ℕ) (P : Program) (inputs : List ℤ) (conclusion : Conclusion) : Type 0
+  where
+    pub outcome : Outcome
+    pub replay : Replay P inputs steps outcome
+    pub status : conclusion.status ≡ outcome_status outcome
+    pub line : conclusion.text.items ≡ outcome_line outcome
+
+-- the verdict on a program by the analyses that the configuration picks
+pub record IsConcluded (analyses : List Meaning) (config : Config) (P : Program)
+    (conclusion : Conclusion) : Type 0 where
+  pub told : Told
+  pub tells : IsTold P (picked analyses config.picks) config told
+  pub status : conclusion.status ≡ verdict_status told.verdict
+  pub text_is : conclusion.text.items ≡ told.text.items
 
 -- what the job comes to, before it is written
 pub record IsDone (files : Files) (analyses : List Meaning) (job : Job)
     (result : Result Conclusion Refusal) : Type 0 where
   pub rule : IsShortOfMemory (status_of result) (text_of result)
-      ⊎ (Stops files analyses job (status_of result) (text_of result)
+      ⊎ (Stops files (stages_of analyses job) (status_of result) (text_of result)
       ⊎ Ends files analyses job (status_of result) (text_of result))
   pub reads : status_of result ≢ status.ReadFailed → NoReadFailed files
 

@@ -7,42 +7,44 @@ ghost use Rattle.cpa_top.specs.Calls.{call_of, files_of, output_of};
 ghost use Rattle.cpa_top.specs.Refusals.{status_of, text_of, IsDelivered};
 
 use crate::Status;
-use crate::asking::{Job, job_of};
 use crate::refusal::Refusal;
 use crate::replay_job::replay;
 use crate::verify_job::verify;
 use cpa_iface::Analysis;
 use cpa_outside::{Inputs, Sink, write_whole};
+use cpa_top_words::{Job, WordsError, read_words};
 use std::alloc::Global;
 
 /// What a job comes to, and what is written of it.
 #[derive(Drop)]
 pub(crate) struct Conclusion {
     pub(crate) status: Status,
-    pub(crate) text: String,
+    pub(crate) text: Vec<u8>,
 }
 
 /// What the call comes to, before anything is written.
-pub(crate) fn answer<I: Inputs>(
+pub(crate) fn answer<A: Analysis, I: Inputs>(
     alloc: Global,
     words: &[String],
-    analyses: Vec<Box<dyn Analysis + Send>>,
+    analyses: Vec<A>,
     inputs: &mut I,
 ) -> Result<Conclusion, Refusal>
     ensures { MayAnswer
-        (call_of (map string_bytes words.now) (map (λ b. meaning b) analyses.items)
+        (call_of (map string_bytes words.now) (map A.meaning analyses.items)
         (files_of (I.bytes_of inputs.old) (I.faults_of inputs.old) (I.faults_of inputs.new)))
         (status_of result) (text_of result) }
 {
-    match job_of(words) {
-        Some(Job::Verify { program }) => verify(alloc, program, analyses, inputs),
-        Some(
+    match read_words(alloc, words) {
+        Ok(Job::Verify { program, config }) => verify(alloc, program, config, analyses, inputs),
+        Ok(
             Job::Replay {
                 program,
                 inputs: list,
+                steps,
             },
-        ) => replay(alloc, program, list, inputs),
-        None => Err(Refusal::Usage),
+        ) => replay(alloc, program, list, steps, inputs),
+        Err(WordsError::Refused) => Err(Refusal::Usage),
+        Err(WordsError::OutOfMemory) => Err(Refusal::OutOfMemory),
     }
 }
 
@@ -57,12 +59,12 @@ fn status(answer: &Result<Conclusion, Refusal>) -> Status
 }
 
 /// The text of an answer.
-fn text(answer: &Result<Conclusion, Refusal>) -> &str
+fn text(answer: &Result<Conclusion, Refusal>) -> &[u8]
     ensures { result.now ≡ text_of answer.now }
 {
     match answer {
-        Ok(conclusion) => conclusion.text.as_str(),
-        Err(refusal) => refusal.line(),
+        Ok(conclusion) => conclusion.text.as_slice(),
+        Err(refusal) => refusal.line().as_bytes(),
     }
 }
 
@@ -72,7 +74,7 @@ pub(crate) fn deliver<K: Sink>(answer: &Result<Conclusion, Refusal>, out: &mut K
         (output_of (K.written out.old) (K.written out.new) (K.faults out.old) (K.faults out.new))
         result }
 {
-    let status = match write_whole(out, text(answer).as_bytes()) {
+    let status = match write_whole(out, text(answer)) {
         Ok(()) => status(answer),
         Err(_) => Status::WriteFailed,
     };

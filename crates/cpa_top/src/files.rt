@@ -1,4 +1,4 @@
-//! The files of a job: read, and taken for what they stand for (`IsTaken`, `IsFileRefused` of
+//! The files of a job: read, and taken for what they stand for (`IsTaken`, `IsHalted` of
 //! `specs/Refusals.antt`); shown in `proofs/Taking.antt`.
 ghost use Rattle.std.specs.Prelude.{◌≡◌, ◌<◌, ◌≤◌, ◌^◌, length, IfOk, IfErr, IfSome, OnOk};
 ghost use Rattle.c_lexer.specs.declared.lexer.TheConstants.{MAX_TEXT};
@@ -8,8 +8,8 @@ ghost use Rattle.cpa_top_inputs.specs.Inputs.{IsInputs};
 ghost use Rattle.cpa_top.specs.declared.refusal.Refusal.TheVariants.{OutOfMemory};
 ghost use Rattle.cpa_top.specs.Answers.{NoInputs};
 ghost use Rattle.cpa_top.specs.Calls.{files_of};
-ghost use Rattle.cpa_top.specs.Jobs.{reading};
-ghost use Rattle.cpa_top.specs.Refusals.{IsRefusedAt, IsFileRefused, IsTaken, IsTextRefused};
+ghost use Rattle.cpa_top.specs.Jobs.{reading, program_stages, inputs_stages};
+ghost use Rattle.cpa_top.specs.Refusals.{IsRefusedAt, IsHalted, IsTaken, IsTextRefused};
 ghost use Rattle.cpa_top.specs.Refusals.{IsListRefused};
 
 use crate::Role;
@@ -23,7 +23,7 @@ use cpa_top_inputs::{InputsError, read_inputs};
 use std::alloc::Global;
 
 /// The bytes of a file, of which there may be as many as a program has.
-fn read_file<I: Inputs>(
+pub(crate) fn read_file<I: Inputs>(
     alloc: Global,
     inputs: &mut I,
     role: Role,
@@ -85,9 +85,9 @@ pub(crate) fn take_program<I: Inputs>(
         IsTaken (I.bytes_of inputs.old name.now) (λ bytes. IsTheProgram bytes program)) }
     ensures well_formed { IfOk result (λ program. IsWellFormed program) }
     ensures reads { OnOk result (I.faults_of inputs.new ≡ I.faults_of inputs.old) }
-    ensures refused { IfErr result (λ refusal. IsFileRefused
+    ensures refused { IfErr result (IsHalted
         (files_of (I.bytes_of inputs.old) (I.faults_of inputs.old) (I.faults_of inputs.new))
-        Role.Program name.now refusal) }
+        (program_stages name.now)) }
 {
     let bytes = read_file(alloc, inputs, Role::Program, name)?;
     program_of(alloc, bytes.as_slice())
@@ -104,9 +104,9 @@ pub(crate) fn take_inputs<I: Inputs>(
         IsTaken (I.bytes_of inputs.old name.now) (λ bytes. IsInputs bytes numbers.items)) }
     ensures few { IfOk result (λ numbers. length numbers.items < 2 ^ 32) }
     ensures reads { OnOk result (I.faults_of inputs.new ≡ I.faults_of inputs.old) }
-    ensures refused { IfErr result (λ refusal. IsFileRefused
+    ensures refused { IfErr result (IsHalted
         (files_of (I.bytes_of inputs.old) (I.faults_of inputs.old) (I.faults_of inputs.new))
-        Role.Inputs name.now refusal) }
+        (inputs_stages name.now)) }
 {
     let bytes = read_file(alloc, inputs, Role::Inputs, name)?;
     numbers_of(alloc, bytes.as_slice())

@@ -3,21 +3,16 @@
 #![tactic(auto)]
 
 mod answers;
-mod asking;
-mod explore;
+mod configuring;
 mod files;
-mod members;
 mod place;
 mod refusal;
 mod replay_job;
-mod report;
 mod role;
 mod status;
 mod top;
 mod verify_job;
 
-pub use replay_job::MAX_STEPS;
-pub use report::{Body, Listed, Report};
 pub use role::Role;
 pub use status::Status;
 pub use top::run;

@@ -18,10 +18,10 @@ pub(crate) enum Refusal {
     TooLong { role: Role },
     /// The bytes of the program's file stand for no program; the line names their fault.
     NoProgram { line: String },
+    /// The bytes of the configuration's file give no configuration; the line names the rule.
+    NoConfig { line: String },
     /// The bytes of the inputs' file are no list of inputs.
     NoInputs,
-    /// What is asked for is not built.
-    Unbuilt,
     OutOfMemory,
 }
 
@@ -51,8 +51,8 @@ impl Refusal {
             Refusal::ReadFailed { .. } => Status::ReadFailed,
             Refusal::TooLong { .. } => Status::TooLong,
             Refusal::NoProgram { .. } => Status::NoProgram,
+            Refusal::NoConfig { .. } => Status::NoConfig,
             Refusal::NoInputs => Status::NoInputs,
-            Refusal::Unbuilt => Status::Unbuilt,
             Refusal::OutOfMemory => Status::OutOfMemory,
         }
     }
@@ -63,17 +63,18 @@ impl Refusal {
     {
         match self {
             Refusal::Usage => USAGE,
+            Refusal::ReadFailed { role: Role::Config } => "refused read config\n",
             Refusal::ReadFailed {
                 role: Role::Program,
             } => "refused read program\n",
             Refusal::ReadFailed { role: Role::Inputs } => "refused read inputs\n",
+            Refusal::TooLong { role: Role::Config } => "refused long config\n",
             Refusal::TooLong {
                 role: Role::Program,
             } => "refused long program\n",
             Refusal::TooLong { role: Role::Inputs } => "refused long inputs\n",
-            Refusal::NoProgram { line } => line.as_str(),
+            Refusal::NoProgram { line } | Refusal::NoConfig { line } => line.as_str(),
             Refusal::NoInputs => "refused inputs\n",
-            Refusal::Unbuilt => "refused unbuilt\n",
             Refusal::OutOfMemory => "refused memory\n",
         }
     }

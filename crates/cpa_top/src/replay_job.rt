@@ -6,7 +6,7 @@ ghost use Rattle.cpa_model.specs.Programs.{IsWellFormed};
 ghost use Rattle.cpa_iface.specs.Meanings.{Meaning};
 ghost use Rattle.cpa_interp.specs.Replays.{Replay};
 ghost use Rattle.cpa_top.specs.Calls.{files_of};
-ghost use Rattle.cpa_top.specs.Jobs.{replay};
+ghost use Rattle.cpa_top_words.specs.Jobs.{replay};
 ghost use Rattle.cpa_top.specs.Lines.{outcome_line};
 ghost use Rattle.cpa_top.specs.Refusals.{IsDone, IsOutcome};
 ghost use Rattle.cpa_top.specs.Statuses.{outcome_status};
@@ -20,9 +20,6 @@ use cpa_interp::Outcome;
 use cpa_model::Program;
 use cpa_outside::Inputs;
 use std::alloc::{AllocError, Global};
-
-/// The most steps that a replay makes.
-pub const MAX_STEPS: u64 = 1_000_000;
 
 /// The status of an outcome.
 fn outcome_status(outcome: Outcome) -> Status
@@ -52,40 +49,51 @@ fn outcome_line(alloc: Global, outcome: Outcome) -> Result<String, AllocError>
 }
 
 /// The outcome of the program on the inputs.
-fn outcome(alloc: Global, program: &Program, inputs: &[i128]) -> Result<Outcome, AllocError>
+fn outcome(
+    alloc: Global,
+    program: &Program,
+    inputs: &[i128],
+    steps: u64,
+) -> Result<Outcome, AllocError>
     requires well_formed { IsWellFormed program.now }
     requires few { length inputs.now < 2 ^ 32 }
-    ensures { IfOk result (λ outcome. Replay program.now inputs.now MAX_STEPS outcome) }
+    ensures { IfOk result (λ outcome. Replay program.now inputs.now steps outcome) }
 {
     let cfa = build(alloc, program)?;
-    cpa_interp::replay(alloc, &cfa, inputs, MAX_STEPS)
+    cpa_interp::replay(alloc, &cfa, inputs, steps)
 }
 
 /// What comes of the program on the inputs.
-fn conclude(alloc: Global, program: &Program, inputs: &[i128]) -> Result<Conclusion, AllocError>
+fn conclude(
+    alloc: Global,
+    program: &Program,
+    inputs: &[i128],
+    steps: u64,
+) -> Result<Conclusion, AllocError>
     requires well_formed { IsWellFormed program.now }
     requires few { length inputs.now < 2 ^ 32 }
-    ensures { IfOk result (λ conclusion. IsOutcome program.now inputs.now conclusion) }
+    ensures { IfOk result (λ conclusion. IsOutcome steps program.now inputs.now conclusion) }
 {
-    let outcome = outcome(alloc, program, inputs)?;
+    let outcome = outcome(alloc, program, inputs, steps)?;
     Ok(Conclusion {
         status: outcome_status(outcome),
-        text: outcome_line(alloc, outcome)?,
+        text: outcome_line(alloc, outcome)?.into_bytes(),
     })
 }
 
-/// Replays the program of the first name on the inputs of the second.
+/// Replays the program of the first name on the inputs of the second, in so many steps at most.
 pub(crate) fn replay<I: Inputs>(
     alloc: Global,
     program: &str,
     list: &str,
+    steps: u64,
     inputs: &mut I,
 ) -> Result<Conclusion, Refusal>
     ensures { (analyses : List Meaning) → IsDone
         (files_of (I.bytes_of inputs.old) (I.faults_of inputs.old) (I.faults_of inputs.new))
-        analyses (replay program.now list.now) result }
+        analyses (replay program.now list.now steps) result }
 {
     let program = take_program(alloc, inputs, program)?;
     let numbers = take_inputs(alloc, inputs, list)?;
-    Ok(conclude(alloc, &program, numbers.as_slice())?)
+    Ok(conclude(alloc, &program, numbers.as_slice(), steps)?)
 }

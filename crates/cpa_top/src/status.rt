@@ -8,9 +8,9 @@ ghost use Rattle.cpa_top.specs.Statuses.{code_of};
 pub enum Status {
     /// TRUE; a replay that ends or traps.
     Holds,
-    /// A replay that calls `reach_error`.
+    /// FALSE; a replay that calls `reach_error`.
     Fails,
-    /// A replay without an outcome: the inputs or the steps do not suffice.
+    /// UNKNOWN; a replay without an outcome: the inputs or the steps do not suffice.
     Unknown,
     /// The words ask for nothing.
     Usage,
@@ -20,13 +20,14 @@ pub enum Status {
     TooLong,
     /// The bytes of the program's file stand for no program.
     NoProgram,
+    /// The bytes of the configuration's file give no configuration, or no file is named and the
+    /// handed analyses have no default.
+    NoConfig,
     /// The bytes of the inputs' file are no list of inputs.
     NoInputs,
     /// The answer was not written whole.
     WriteFailed,
     OutOfMemory,
-    /// What is asked for is not built.
-    Unbuilt,
 }
 
 impl Status {
@@ -42,10 +43,10 @@ impl Status {
             Status::ReadFailed => 4,
             Status::TooLong => 5,
             Status::NoProgram => 6,
+            Status::NoConfig => 7,
             Status::NoInputs => 8,
             Status::WriteFailed => 9,
             Status::OutOfMemory => 10,
-            Status::Unbuilt => 11,
         }
     }
 }

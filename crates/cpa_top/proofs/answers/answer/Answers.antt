@@ -1,14 +1,17 @@
-use Rattle.std.proofs.Common.{◌≡◌, map, subst}
+use Rattle.std.proofs.Common.{refl, map, subst}
 use Rattle.std.specs.String.{string_bytes}
-use Rattle.cpa_top.specs.declared.asking.Job.{Job as Asked}
-use Rattle.cpa_top.specs.Asking.{job_of}
-use Rattle.cpa_top.specs.Jobs.{replay, words_of}
-use Rattle.cpa_top.proofs.Answering.{may_answer}
+use Rattle.cpa_top_words.specs.Jobs.{replay, meant, Asks}
+use Rattle.cpa_top.proofs.Answering.{may_answer, may_tell_usage}
 use Rattle.cpa_top.proofs.answers.answer.Goals as goal
 
-pub returns-in-Some-Replay : goal.returns-in-Some-Replay
-returns-in-Some-Replay g c =
-    let some = c.in-Some-Replay in
-    let asked = subst (λ (j : Asked). map string_bytes c.args.words.now ≡ words_of (job_of j))
-    some.field-0-is some.ensures.some in
-    may_answer _ (replay some.program.now some.list.now) c.replay.result asked (c.replay.ensures _)
+pub returns-in-Ok-Replay : goal.returns-in-Ok-Replay
+returns-in-Ok-Replay g c =
+    let job = c.in-Ok-Replay in
+    may_answer _ (replay job.program.now job.list.now job.steps) c.replay.result
+    (subst (λ j. Asks (map string_bytes c.args.words.now) (meant j)) job.field-0-is
+    job.ensures.asked)
+    (c.replay.ensures _)
+
+pub returns-in-Err-Refused : goal.returns-in-Err-Refused
+returns-in-Err-Refused g c =
+    may_tell_usage _ (c.in-Err-Refused.ensures.refused c.in-Err-Refused.field-0-is) refl

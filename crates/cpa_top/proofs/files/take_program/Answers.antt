@@ -1,9 +1,17 @@
-use Rattle.std.proofs.Common.{subst}
-use Rattle.std.proofs.lemmas.Result.{IfErr-weaker}
+use Rattle.std.proofs.Common.{sym, subst}
+use Rattle.std.proofs.lemmas.Result.{IfErr-weaker, err_from_is_err_and}
 use Rattle.cpa_top.specs.declared.refusal.Refusal.{Refusal}
-use Rattle.cpa_top.specs.Refusals.{IsTextRefused}
-use Rattle.cpa_top.proofs.Taking.{program_refused}
+use Rattle.cpa_top.specs.declared.role.Role.TheVariants as role
+use Rattle.cpa_top.specs.Refusals.{IsRefusedAt, IsTextRefused}
+use Rattle.cpa_top.proofs.Taking.{program_refused, read_refused, exits}
 use Rattle.cpa_top.proofs.files.take_program.Goals as goal
+
+pub returns-in_err-bytes-clause-refused : goal.returns-in_err-bytes-clause-refused
+returns-in_err-bytes-clause-refused g c =
+    let p = err_from_is_err_and c.from_residual.result c.from_residual.ensures.1 in
+    exits c.from_residual.result _ p.0 p.1
+    (read_refused _ role.Program c.args.name.now _ p.0
+    (subst (IsRefusedAt _ _) (sym p.2) c.in_err-bytes.ensures.refused))
 
 pub returns-clause-refused : goal.returns-clause-refused
 returns-clause-refused g c =

@@ -1,0 +1,25 @@
+use Rattle.std.proofs.Common.{arith}
+use Rattle.cpa_top.specs.Answers.{IsSafeText, IsCalledText, IsUnknownText}
+use Rattle.cpa_top.proofs.Headline.{written, safe_text, called_text, unknown_text}
+use Rattle.cpa_top.proofs.top.run.Goals as goal
+
+pub returns-clause-safe : goal.returns-clause-safe
+returns-clause-safe g c = λ is name file asked.
+    written c.words_ask_for_one_job.ensures 0 (omega arith) _ _ _ _ _ name file IsSafeText
+    (safe_text c.true_is_safe.ensures.told c.picks_are_places.ensures.places
+    c.picks_are_places.ensures.components _ _ _)
+    (rw c.as_slice.ensures.value at c.answer-answer.ensures)
+    c.deliver.ensures is asked
+
+pub returns-clause-called : goal.returns-clause-called
+returns-clause-called g c = λ is name file asked.
+    written c.words_ask_for_one_job.ensures 1 (omega arith) _ _ _ _ _ name file IsCalledText
+    (called_text c.false_calls_the_error.ensures.told _ _ _) (rw c.as_slice.ensures.value at c.answer-answer.ensures)
+    c.deliver.ensures is
+    asked
+
+pub returns-clause-unknown : goal.returns-clause-unknown
+returns-clause-unknown g c = λ is name file asked.
+    written c.words_ask_for_one_job.ensures 2 (omega arith) _ _ _ _ _ name file IsUnknownText
+    (unknown_text _ _ _) (rw c.as_slice.ensures.value at c.answer-answer.ensures)
+    c.deliver.ensures is asked

@@ -1,0 +1,75 @@
+-- What the plain words of each subcommand ask for (`customary`): what clap promises computes, once
+-- it is told that a name is no option (`IsName`).
+use Rattle.std.proofs.Common.{◌≡◌, ℕ, List, [], ◌∷◌, Some, None, Bool, true, false, refl, codes}
+use Rattle.std.specs.Prelude.{◌==◌, ◌&&◌, if◌then◌else◌}
+use Rattle.std.specs.Str.{bytes_eq}
+use Rattle.clap.specs.Words.{fault_of}
+use Rattle.clap.specs.Lexer.{long_of, short_of}
+use Rattle.clap.proofs.OnLiterals.{clap_on_literals}
+use Rattle.cpa_top_words.specs.Commands.{cpaverify}
+use Rattle.cpa_top_words.specs.Jobs.{asked_by, verify, replay}
+use Rattle.cpa_top_words.specs.Laws.{AskAsIsCustomary, IsPlain}
+
+-- the word is no option, and not `--`
+record IsName (word : List ℕ) : Type 0 where
+  long : long_of word ≡ None
+  short : short_of word ≡ None
+  ends : bytes_eq word (45 ∷ 45 ∷ []) ≡ false
+
+apart : (b c : Bool) (rest : List ℕ) → (if b then Some rest else None) ≡ None → (b && c) ≡ false
+apart false c rest e = refl
+apart true c rest e = absurd (cc)
+
+ends_not : (word : List ℕ) → IsPlain word → bytes_eq word (45 ∷ 45 ∷ []) ≡ false
+ends_not [] e = refl
+ends_not (x ∷ xs) e = apart (x == 45) _ xs e
+
+named : (word : List ℕ) → IsPlain word → IsName word
+named word e = record { long = rw e refl; short = rw e refl; ends = ends_not word e }
+
+verify_taken : (program : List ℕ) → IsName program
+    → fault_of cpaverify (codes "verify" ∷ program ∷ []) ≡ []
+unfolding clap_on_literals
+verify_taken program is = rw (is.ends, is.long, is.short) refl
+
+verify_asked : (program : List ℕ) → IsName program
+    → asked_by (codes "verify" ∷ program ∷ []) ≡ Some (verify program None)
+unfolding clap_on_literals
+verify_asked program is = rw (is.ends, is.long, is.short) refl
+
+configured_taken : (program config : List ℕ) → IsName program → IsName config
+    → fault_of cpaverify (codes "verify" ∷ program ∷ codes "--config" ∷ config ∷ []) ≡ []
+unfolding clap_on_literals
+configured_taken program config p c = rw (p.ends, p.long, p.short, c.ends, c.long, c.short) refl
+
+configured_asked : (program config : List ℕ) → IsName program → IsName config
+    → asked_by (codes "verify" ∷ program ∷ codes "--config" ∷ config ∷ [])
+    ≡ Some (verify program (Some config))
+unfolding clap_on_literals
+configured_asked program config p c = rw (p.ends, p.long, p.short, c.ends, c.long, c.short) refl
+
+replay_taken : (program inputs : List ℕ) → IsName program → IsName inputs
+    → fault_of cpaverify (codes "replay" ∷ program ∷ inputs ∷ []) ≡ []
+unfolding clap_on_literals
+replay_taken program inputs p i = rw (p.ends, p.long, p.short, i.ends, i.long, i.short) refl
+
+replay_asked : (program inputs : List ℕ) → IsName program → IsName inputs
+    → asked_by (codes "replay" ∷ program ∷ inputs ∷ []) ≡ Some (replay program inputs 1000000)
+unfolding clap_on_literals
+replay_asked program inputs p i = rw (p.ends, p.long, p.short, i.ends, i.long, i.short) refl
+
+pub customary : AskAsIsCustomary
+customary = record {
+  verifies = λ program e. record {
+    taken = verify_taken program (named program e);
+    asked = verify_asked program (named program e);
+  };
+  configures = λ program config e f. record {
+    taken = configured_taken program config (named program e) (named config f);
+    asked = configured_asked program config (named program e) (named config f);
+  };
+  replays = λ program inputs e f. record {
+    taken = replay_taken program inputs (named program e) (named inputs f);
+    asked = replay_asked program inputs (named program e) (named inputs f);
+  };
+}

@@ -1,0 +1,2 @@
+pub mod CustomaryWords
+pub mod TakenWords

@@ -1,0 +1,45 @@
+-- The command by which the words are read (this project's own), as the data that clap's promises
+-- speak of.
+use Rattle.std.specs.Prelude.{Some, codes, true}
+use Rattle.clap.specs.Words.{App, Rule, new_app, new_rule, with_rule, with_subcommand}
+use Rattle.clap.specs.Simple.{on_top}
+use Rattle.clap.specs.declared.builder.value_parser.ValueParser.TheVariants as vp
+
+-- PROGRAM, a word that must be there
+abbrev pub program_rule : Rule
+program_rule = record (new_rule (codes "PROGRAM")) { required = true }
+
+-- INPUTS, a word that must be there
+abbrev pub inputs_rule : Rule
+inputs_rule = record (new_rule (codes "INPUTS")) { required = true }
+
+-- --config FILE
+abbrev pub config_rule : Rule
+config_rule = record (new_rule (codes "config")) { long = Some (codes "config") }
+
+-- --steps N, a number of 64 bits
+abbrev pub steps_rule : Rule
+steps_rule = record (new_rule (codes "steps")) {
+  long = Some (codes "steps");
+  parser = Some (vp.Unsigned 0 18446744073709551615);
+}
+
+-- verify PROGRAM [--config FILE]
+abbrev pub verify_command : App
+verify_command = with_rule (with_rule (new_app (codes "verify")) program_rule) config_rule
+
+-- replay PROGRAM INPUTS [--steps N]
+abbrev pub replay_command : App
+replay_command =
+    with_rule (with_rule (with_rule (new_app (codes "replay")) program_rule) inputs_rule) steps_rule
+
+-- without subcommands: the words begin behind the program's own name, and must name a subcommand
+abbrev pub top_command : App
+top_command = on_top (λ s. record s {
+  no_binary_name = true;
+  disable_help_subcommand = true;
+  subcommand_required = true;
+}) (new_app (codes "cpaverify"))
+
+abbrev pub cpaverify : App
+cpaverify = with_subcommand (with_subcommand top_command verify_command.top) replay_command.top

@@ -1,0 +1,62 @@
+-- What words ask for (this project's own), by what clap promises for the command `cpaverify`: that
+-- it takes the words, and what it finds for the subcommand that they name.
+use Rattle.std.specs.Prelude.{◌≡◌, ℕ, List, [], Option, Some, None, codes, if◌then◌else◌}
+use Rattle.std.specs.Prelude.{option_map, unwrap_or, false}
+use Rattle.std.specs.Option.{option_map_or}
+use Rattle.std.specs.Str.{bytes_eq}
+use Rattle.std.specs.Str.Parse.{digits_value, without_leading_plus}
+use Rattle.clap.specs.Words.{Row, fault_of, first_of, one_of, subcommand_of}
+use Rattle.clap.specs.ValueTests.{accepts}
+use Rattle.clap.specs.declared.builder.value_parser.ValueParser.TheVariants as vp
+use Rattle.cpa_top_words.specs.Commands.{cpaverify}
+use Rattle.cpa_top_words.specs.declared.job.Job.{Job as Held}
+use Rattle.cpa_top_words.specs.declared.job.Job.TheVariants as held
+use Rattle.cpa_top_words.specs.declared.job.TheConstants.{STEPS}
+
+-- to verify a program, by a configuration where one is named; to replay a program on inputs, in at
+-- most so many steps. Names of files are the bytes given
+pub data Job : Type 0 where
+  verify : List ℕ → Option (List ℕ) → Job
+  replay : List ℕ → List ℕ → ℕ → Job
+
+-- ---- what clap finds
+
+-- the name of a file that the command requires: clap takes no words without it
+abbrev pub name_of : List ℕ → List Row → List ℕ
+name_of id rows = unwrap_or (first_of id rows) []
+
+-- the number that a text is: clap takes no text that is none
+abbrev pub number_of : List ℕ → ℕ
+number_of text = if accepts false (vp.Unsigned 0 18446744073709551615) text
+    then digits_value 10 (without_leading_plus text) else STEPS
+
+abbrev pub steps_of : List Row → ℕ
+steps_of rows = option_map_or number_of (one_of (codes "steps") rows) STEPS
+
+-- the job of a subcommand with what clap finds for it
+abbrev pub job_of : List ℕ → List Row → Option Job
+job_of name rows = if bytes_eq name (codes "verify")
+    then Some (verify (name_of (codes "PROGRAM") rows) (first_of (codes "config") rows))
+    else (if bytes_eq name (codes "replay")
+    then Some (replay (name_of (codes "PROGRAM") rows) (name_of (codes "INPUTS") rows)
+    (steps_of rows))
+    else None)
+
+abbrev pub asked_by : List (List ℕ) → Option Job
+asked_by words = option_map_or (λ p. job_of p.0 p.1) (subcommand_of cpaverify words) None
+
+-- ---- what words ask for
+
+-- the words ask for the job: clap takes them, and finds it
+pub record Asks (words : List (List ℕ)) (job : Job) : Type 0 where
+  pub taken : fault_of cpaverify words ≡ []
+  pub asked : asked_by words ≡ Some job
+
+-- the words ask for nothing
+abbrev pub IsNoJob : List (List ℕ) → Type 0
+IsNoJob words = (job : Job) → Asks words job → ⊥
+
+-- the job that the code holds
+abbrev pub meant : Held → Job
+meant (held.Verify program config) = verify program.now (option_map (λ s. s.now) config)
+meant (held.Replay program inputs steps) = replay program.now inputs.now steps

@@ -1,0 +1,24 @@
+-- Laws of words: which words ask for a job, and for which.
+use Rattle.std.specs.Prelude.{◌≡◌, ℕ, List, [], ◌∷◌, Some, None, codes}
+use Rattle.clap.specs.Words.{fault_of}
+use Rattle.clap.specs.Lexer.{strip_byte}
+use Rattle.cpa_top_words.specs.Commands.{cpaverify}
+use Rattle.cpa_top_words.specs.Jobs.{Asks, Job, verify, replay}
+
+-- where clap takes the words, they ask for a job
+abbrev pub AskForAJobWhereTaken : List (List ℕ) → Type 0
+AskForAJobWhereTaken words = fault_of cpaverify words ≡ [] → (job : Job) × Asks words job
+
+-- the name does not begin with a `-`
+abbrev pub IsPlain : List ℕ → Type 0
+IsPlain name = strip_byte 45 name ≡ None
+
+-- what the words of a subcommand ask for, without options and with a configuration
+pub record AskAsIsCustomary : Type 0 where
+  pub verifies : (program : List ℕ) → IsPlain program
+      → Asks (codes "verify" ∷ program ∷ []) (verify program None)
+  pub configures : (program config : List ℕ) → IsPlain program → IsPlain config
+      → Asks (codes "verify" ∷ program ∷ codes "--config" ∷ config ∷ [])
+      (verify program (Some config))
+  pub replays : (program inputs : List ℕ) → IsPlain program → IsPlain inputs
+      → Asks (codes "replay" ∷ program ∷ inputs ∷ []) (replay program inputs 1000000)

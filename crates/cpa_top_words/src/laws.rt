@@ -1,0 +1,19 @@
+//! Laws of words (`specs/Laws.antt`). Each function does nothing: its contract is the law.
+ghost use Rattle.std.specs.Prelude.{◌≡◌, ℕ, List};
+ghost use Rattle.cpa_top_words.specs.Jobs.{Asks, Job};
+ghost use Rattle.cpa_top_words.specs.Laws.{AskForAJobWhereTaken, AskAsIsCustomary};
+
+/// Words ask for one job at most.
+pub fn words_ask_for_one_job()
+    ensures { (words : List (List ℕ)) (j k : Job) → Asks words j → Asks words k → j ≡ k }
+{}
+
+/// Words that clap takes ask for a job.
+pub fn taken_words_ask_for_a_job()
+    ensures { (words : List (List ℕ)) → AskForAJobWhereTaken words }
+{}
+
+/// What the plain words of each subcommand ask for.
+pub fn customary_words_ask()
+    ensures { AskAsIsCustomary }
+{}

@@ -1,0 +1,12 @@
+//! What the words of a command line ask for, by what clap promises for one command: `Asks` of
+//! `specs/Jobs.antt`.
+#![tactic(auto)]
+
+mod command;
+mod job;
+mod laws;
+mod reading;
+
+pub use job::{Job, STEPS, WordsError};
+pub use laws::{customary_words_ask, taken_words_ask_for_a_job, words_ask_for_one_job};
+pub use reading::read_words;

@@ -1,0 +1,116 @@
+//! The job of a list of words, over what clap promises (`Asks` of `specs/Jobs.antt`).
+//! `proofs/TakenWords.antt` has that words which clap takes ask for a job.
+ghost use Rattle.std.specs.Prelude.{◌≡◌, [], ◌⊎◌, IfOk, IfErr, Some, None, map, true, option_map};
+ghost use Rattle.std.specs.String.{string_bytes};
+ghost use Rattle.clap.specs.Words.{takes, fault_of, found_of, rows_of, kind_of};
+ghost use Rattle.clap.specs.Words.{subcommand_of, subcommand_rows_of};
+ghost use Rattle.clap.specs.declared.error.ErrorKind.TheVariants.{OutOfMemory};
+ghost use Rattle.cpa_top_words.specs.Commands.{cpaverify};
+ghost use Rattle.cpa_top_words.specs.Jobs.{Asks, IsNoJob, asked_by, job_of, meant, name_of};
+ghost use Rattle.cpa_top_words.specs.Jobs.{steps_of};
+ghost use Rattle.cpa_top_words.specs.declared.job.WordsError.TheVariants.{Refused};
+
+use crate::command::whole_command;
+use crate::{Job, STEPS, WordsError};
+use clap::error::ErrorKind;
+use clap::{ArgMatches, Error};
+use std::alloc::Global;
+
+/// What an error of clap is: of the words, or of memory.
+fn fault_of(error: &Error) -> WordsError
+    ensures { result ≡ Refused → kind_of error.now ≡ OutOfMemory → ⊥ }
+{
+    match error.kind() {
+        ErrorKind::OutOfMemory => WordsError::OutOfMemory,
+        _ => WordsError::Refused,
+    }
+}
+
+/// What clap finds in the words.
+fn matches_of<'a>(alloc: Global, words: &'a [String]) -> Result<ArgMatches<'a>, WordsError>
+    ensures found { IfOk result (λ matches. subcommand_rows_of matches
+        ≡ subcommand_of cpaverify (map string_bytes words.entry.now)) }
+    ensures taken { IfOk result (λ matches. fault_of cpaverify (map string_bytes words.entry.now)
+        ≡ []) }
+    ensures refused { IfErr result (λ error. error ≡ Refused
+        → takes cpaverify (map string_bytes words.entry.now) ≡ true → ⊥) }
+    ensures fault { IfErr result (λ error. error ≡ Refused
+        → fault_of cpaverify (map string_bytes words.entry.now) ≡ [] → ⊥) }
+{
+    let Ok(command) = whole_command(alloc) else {
+        return Err(WordsError::OutOfMemory);
+    };
+    match command.try_get_matches_from(words) {
+        Ok(matches) => Ok(matches),
+        Err(error) => Err(fault_of(&error)),
+    }
+}
+
+/// The number of steps that the words name, else `STEPS`.
+fn steps_of(matches: &ArgMatches<'_>) -> u64
+    ensures { result ≡ steps_of (rows_of (found_of matches.now)) }
+{
+    match matches.get_one::<u64>("steps") {
+        Some(steps) => steps,
+        None => STEPS,
+    }
+}
+
+/// The name of a file that the command requires.
+fn name_of<'a>(matches: &ArgMatches<'a>, id: &'static str) -> &'a str
+    ensures { result.now ≡ name_of id.entry.now (rows_of (found_of matches.now)) }
+{
+    matches.get_str(id).unwrap_or("")
+}
+
+/// The job of a subcommand with what clap found for it.
+fn job_of<'a>(name: &str, matches: &ArgMatches<'a>) -> Option<Job<'a>>
+    ensures { option_map meant result ≡ job_of name.now (rows_of (found_of matches.now)) }
+{
+    if name == "verify" {
+        Some(Job::Verify {
+            program: name_of(matches, "PROGRAM"),
+            config: matches.get_str("config"),
+        })
+    } else if name == "replay" {
+        Some(Job::Replay {
+            program: name_of(matches, "PROGRAM"),
+            inputs: name_of(matches, "INPUTS"),
+            steps: steps_of(matches),
+        })
+    } else {
+        None
+    }
+}
+
+/// The job of the words, where clap takes them and names a subcommand that has one.
+fn job_in<'a>(alloc: Global, words: &'a [String]) -> Result<Job<'a>, WordsError>
+    ensures job { IfOk result (λ job. asked_by (map string_bytes words.entry.now)
+        ≡ Some (meant job)) }
+    ensures taken { IfOk result (λ job. fault_of cpaverify (map string_bytes words.entry.now)
+        ≡ []) }
+    ensures refused { IfErr result (λ error. error ≡ Refused
+        → (fault_of cpaverify (map string_bytes words.entry.now) ≡ [] → ⊥)
+        ⊎ (asked_by (map string_bytes words.entry.now) ≡ None)) }
+{
+    let matches = matches_of(alloc, words)?;
+    match matches.subcommand() {
+        Some((name, of_it)) => match job_of(name, of_it) {
+            Some(job) => Ok(job),
+            None => Err(WordsError::Refused),
+        },
+        None => Err(WordsError::Refused),
+    }
+}
+
+/// What the words ask for. They come without the program's own name.
+pub fn read_words<'a>(alloc: Global, words: &'a [String]) -> Result<Job<'a>, WordsError>
+    ensures asked { IfOk result (λ job. Asks (map string_bytes words.entry.now) (meant job)) }
+    ensures refused { IfErr result (λ error. error ≡ Refused
+        → IsNoJob (map string_bytes words.entry.now)) }
+{
+    match job_in(alloc, words) {
+        Ok(job) => Ok(job),
+        Err(error) => Err(error),
+    }
+}
