@@ -3,7 +3,8 @@
 #![tactic(auto)]
 
 use cpa_callstack::Callstack;
-use cpa_iface::{Analysis, Location, Plain};
+use cpa_composite::Handed;
+use cpa_iface::{Location, Plain};
 use cpa_outside::{FileInputs, MemorySink};
 use cpa_top::run;
 use cpa_value::Value;
@@ -32,10 +33,16 @@ fn answer<R: Threads + Sync + Files>(
 ) -> Result<(u8, MemorySink), AllocError> {
     let mut inputs = FileInputs::new(rt);
     let mut out = MemorySink::new(alloc, ROOM, ROOM, Vec::new(alloc))?;
-    let mut analyses: Vec<Box<dyn Analysis + Send>> = Vec::new(alloc);
-    analyses.push(Box::new(alloc, Plain(Location))?)?;
-    analyses.push(Box::new(alloc, Plain(Callstack))?)?;
-    analyses.push(Box::new(alloc, Value::new())?)?;
+    let mut analyses = Vec::new(alloc);
+    analyses.push(Handed {
+        analysis: Box::new(alloc, Plain(Location))?,
+    })?;
+    analyses.push(Handed {
+        analysis: Box::new(alloc, Plain(Callstack))?,
+    })?;
+    analyses.push(Handed {
+        analysis: Box::new(alloc, Value::new())?,
+    })?;
     let status = run(rt, alloc, words, analyses, &mut inputs, &mut out);
     Ok((status, out))
 }

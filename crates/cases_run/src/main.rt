@@ -5,7 +5,8 @@
 mod row;
 
 use cpa_callstack::Callstack;
-use cpa_iface::{Analysis, Location, Plain};
+use cpa_composite::Handed;
+use cpa_iface::{Location, Plain};
 use cpa_outside::{MemoryInputs, MemorySink};
 use cpa_top::run;
 use cpa_value::Value;
@@ -23,12 +24,18 @@ fn answer<R: Threads + Sync>(
 ) -> Result<(u8, MemorySink), AllocError> {
     let mut inputs = MemoryInputs::new(alloc, row.files, row.failing_reads)?;
     let mut out = MemorySink::new(alloc, row.room, row.most, row.failing_writes)?;
-    let mut analyses: Vec<Box<dyn Analysis + Send>> = Vec::new(alloc);
+    let mut analyses = Vec::new(alloc);
     for name in &row.handed {
         match name.as_str() {
-            "location" => analyses.push(Box::new(alloc, Plain(Location))?)?,
-            "callstack" => analyses.push(Box::new(alloc, Plain(Callstack))?)?,
-            "value" => analyses.push(Box::new(alloc, Value::new())?)?,
+            "location" => analyses.push(Handed {
+                analysis: Box::new(alloc, Plain(Location))?,
+            })?,
+            "callstack" => analyses.push(Handed {
+                analysis: Box::new(alloc, Plain(Callstack))?,
+            })?,
+            "value" => analyses.push(Handed {
+                analysis: Box::new(alloc, Value::new())?,
+            })?,
             _ => {}
         }
     }
