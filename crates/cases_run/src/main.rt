@@ -4,43 +4,53 @@
 
 mod row;
 
-use cpa_iface::{Analysis, Location, Plain};
+use cpa_callstack::Callstack;
+use cpa_composite::Handed;
+use cpa_iface::{Location, Plain};
 use cpa_outside::{MemoryInputs, MemorySink};
 use cpa_top::run;
+use cpa_value::Value;
 use row::Row;
 use std::alloc::{AllocError, Global};
 use std::io::{self, BufRead, BufReader, BufWriter, Write};
 use std::thread::Threads;
 
-/// The most bytes that an answer may have.
-const ROOM: usize = 1_000_000;
-
-/// The file `p.c`, and beside it `i.json` where its bytes are there.
-fn files(
-    alloc: Global,
-    text: Vec<u8>,
-    inputs: Option<Vec<u8>>,
-) -> Result<MemoryInputs, AllocError> {
-    let mut files = Vec::new(alloc);
-    files.push((String::from_str(alloc, "p.c")?, text))?;
-    if let Some(bytes) = inputs {
-        files.push((String::from_str(alloc, "i.json")?, bytes))?;
-    }
-    MemoryInputs::new(alloc, files, Vec::new(alloc))
-}
-
-/// The status of the call, and the sink with what it wrote.
+/// The status of the call, and the sink with what it wrote. A name that no analysis has is passed
+/// over.
 fn answer<R: Threads + Sync>(
     rt: &R,
     alloc: Global,
     row: Row,
 ) -> Result<(u8, MemorySink), AllocError> {
-    let mut inputs = files(alloc, row.text, row.inputs)?;
-    let mut out = MemorySink::new(alloc, ROOM, ROOM, Vec::new(alloc))?;
-    let mut analyses: Vec<Box<dyn Analysis + Send>> = Vec::new(alloc);
-    analyses.push(Box::new(alloc, Plain(Location))?)?;
+    let mut inputs = MemoryInputs::new(alloc, row.files, row.failing_reads)?;
+    let mut out = MemorySink::new(alloc, row.room, row.most, row.failing_writes)?;
+    let mut analyses = Vec::new(alloc);
+    for name in &row.handed {
+        match name.as_str() {
+            "location" => analyses.push(Handed {
+                analysis: Box::new(alloc, Plain(Location))?,
+            })?,
+            "callstack" => analyses.push(Handed {
+                analysis: Box::new(alloc, Plain(Callstack))?,
+            })?,
+            "value" => analyses.push(Handed {
+                analysis: Box::new(alloc, Value::new())?,
+            })?,
+            _ => {}
+        }
+    }
     let status = run(rt, alloc, row.words, analyses, &mut inputs, &mut out);
     Ok((status, out))
+}
+
+/// The front of a text, with an end to its line where it is cut.
+fn show<W: Write>(out: &mut W, text: &[u8], shown: usize) -> io::Result<()> {
+    if text.len() <= shown {
+        out.write_all(text)
+    } else {
+        out.write_all(&text[..shown])?;
+        out.write_all(b"\n")
+    }
 }
 
 /// Each row is a run of its own: no file and no analysis is used twice.
@@ -49,9 +59,10 @@ fn main(rt: HostRuntime) -> io::Result<()> {
     let mut out = BufWriter::new(alloc, io::writer(&rt))?;
     for line in BufReader::new(alloc, rt.reader())?.lines(alloc) {
         let (name, row) = Row::parse(alloc, line?.as_str())?;
+        let shown = row.shown;
         let (status, sink) = answer(&rt, alloc, row)?;
         writeln!(out, "{name}: status {status}")?;
-        out.write_all(sink.written())?;
+        show(&mut out, sink.written(), shown)?;
     }
     out.flush()
 }

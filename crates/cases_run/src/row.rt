@@ -1,64 +1,112 @@
-//! A row of the table, by tabs: its name, the words of the call, how many blanks stand before the
-//! text of the file `p.c`, and that text; for a file `i.json` two such columns more.
+//! A row of the table, by tabs: its name, the words of the call, and then what stands outside of it,
+//! a column `KEY=VALUE` each. README.md lists the keys.
 
 use std::alloc::{AllocError, Global};
 
-/// A call of the program on one file or on two.
+/// As many bytes as a sink has room for, or takes at once, and as are shown, where a row says
+/// nothing of it.
+const ROOM: usize = 1_000_000;
+
+/// The list that is handed in where a row does not name one.
+const HANDED: &str = "location,callstack,value";
+
+/// A call of the program, and the files, the faults and the sink that it meets.
 #[derive(Drop)]
 pub struct Row {
     pub words: Vec<String>,
-    pub text: Vec<u8>,
-    pub inputs: Option<Vec<u8>>,
+    pub handed: Vec<String>,
+    pub files: Vec<(String, Vec<u8>)>,
+    pub failing_reads: Vec<u32>,
+    pub failing_writes: Vec<u32>,
+    pub room: usize,
+    pub most: usize,
+    pub shown: usize,
+    blanks: usize,
 }
 
 impl Row {
-    /// The name and the row that a line spells. In a text `\n` is a line feed, `\t` is a tab, and a
-    /// backslash before any other byte is that byte. Columns that are not there are empty.
+    /// The name and the row that a line spells.
     pub fn parse(alloc: Global, line: &str) -> Result<(String, Row), AllocError> {
-        let (name, rest) = column(line);
-        let (words, rest) = column(rest);
-        let (blanks, rest) = column(rest);
-        let (text, rest) = column(rest);
-        let row = Row {
-            words: split(alloc, words)?,
-            text: bytes(alloc, blanks, text)?,
-            inputs: inputs(alloc, rest)?,
-        };
+        let (name, rest) = line.split_once('\t').unwrap_or((line, ""));
+        let (words, rest) = rest.split_once('\t').unwrap_or((rest, ""));
+        let mut row = Row::of_words(alloc, words)?;
+        if !rest.is_empty() {
+            for column in rest.split('\t') {
+                row.take(alloc, column)?;
+            }
+        }
         Ok((String::from_str(alloc, name)?, row))
     }
-}
 
-/// The first column, and those behind it.
-fn column(line: &str) -> (&str, &str) {
-    line.split_once('\t').unwrap_or((line, ""))
-}
-
-/// The bytes of the second file, where its columns are there.
-fn inputs(alloc: Global, columns: &str) -> Result<Option<Vec<u8>>, AllocError> {
-    if columns.is_empty() {
-        return Ok(None);
+    /// A call on no file, over an outside that has room and never fails.
+    fn of_words(alloc: Global, words: &str) -> Result<Row, AllocError> {
+        Ok(Row {
+            words: split(alloc, words, ' ')?,
+            handed: split(alloc, HANDED, ',')?,
+            files: Vec::new(alloc),
+            failing_reads: Vec::new(alloc),
+            failing_writes: Vec::new(alloc),
+            room: ROOM,
+            most: ROOM,
+            shown: ROOM,
+            blanks: 0,
+        })
     }
-    let (blanks, text) = column(columns);
-    Ok(Some(bytes(alloc, blanks, text)?))
+
+    /// Adds what a column says.
+    fn take(&mut self, alloc: Global, column: &str) -> Result<(), AllocError> {
+        let (key, value) = column.split_once('=').unwrap_or((column, ""));
+        match key {
+            "handed" => self.handed = split(alloc, value, ',')?,
+            "reads" => self.failing_reads = numbers(alloc, value)?,
+            "writes" => self.failing_writes = numbers(alloc, value)?,
+            "room" => self.room = number(value),
+            "most" => self.most = number(value),
+            "shown" => self.shown = number(value),
+            "blanks" => self.blanks = number(value),
+            name => self.add_file(alloc, name, value)?,
+        }
+        Ok(())
+    }
+
+    /// A file of this name, of so many blanks as an earlier column says and then what the text
+    /// spells.
+    fn add_file(&mut self, alloc: Global, name: &str, text: &str) -> Result<(), AllocError> {
+        let mut bytes = vec![in alloc; b' '; self.blanks]?;
+        push_unescaped(&mut bytes, text.as_bytes())?;
+        self.files.push((String::from_str(alloc, name)?, bytes))?;
+        self.blanks = 0;
+        Ok(())
+    }
 }
 
-/// The bytes of a file: so many blanks, then what the text spells.
-fn bytes(alloc: Global, blanks: &str, text: &str) -> Result<Vec<u8>, AllocError> {
-    let mut all = vec![in alloc; b' '; blanks.parse::<usize>().unwrap_or(0)]?;
-    push_unescaped(&mut all, text.as_bytes())?;
+/// The number that a text spells, 0 where it spells none.
+fn number(text: &str) -> usize {
+    text.parse::<usize>().unwrap_or(0)
+}
+
+/// The numbers between the commas of a text.
+fn numbers(alloc: Global, text: &str) -> Result<Vec<u32>, AllocError> {
+    let mut all = Vec::new(alloc);
+    for word in text.split(',') {
+        all.push(word.parse::<u32>().unwrap_or(0))?;
+    }
     Ok(all)
 }
 
-/// The words of a line.
-fn split(alloc: Global, line: &str) -> Result<Vec<String>, AllocError> {
-    let mut words = Vec::new(alloc);
-    for word in line.split_whitespace() {
-        words.push(String::from_str(alloc, word)?)?;
+/// The parts of a text between marks, but for empty ones.
+fn split(alloc: Global, text: &str, mark: char) -> Result<Vec<String>, AllocError> {
+    let mut parts = Vec::new(alloc);
+    for part in text.split(mark) {
+        if !part.is_empty() {
+            parts.push(String::from_str(alloc, part)?)?;
+        }
     }
-    Ok(words)
+    Ok(parts)
 }
 
-/// Adds the bytes that a text of the table spells.
+/// Adds the bytes that a text of the table spells: `\n` is a line feed, `\t` is a tab, and a
+/// backslash before any other byte is that byte.
 fn push_unescaped(out: &mut Vec<u8>, text: &[u8]) -> Result<(), AllocError> {
     let mut escaped = false;
     for byte in text {

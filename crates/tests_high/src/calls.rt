@@ -3,7 +3,7 @@
 ghost use Rattle.std.specs.Prelude.{◌≡◌};
 ghost use Rattle.tests_high.specs.Blind.{no_facts};
 
-use cpa_iface::{Analysis, Location, Part, Plain, Steps};
+use cpa_iface::{Location, Part, Plain, Steps};
 use cpa_model::{Cfa, Elem, Seq};
 use cpa_outside::{Inputs, MemoryInputs, MemorySink, Sink};
 use cpa_top::run;
@@ -87,9 +87,9 @@ fn call<R: Threads + Sync, I: Inputs, K: Sink>(
     out: &mut K,
 ) -> Result<u8, AllocError> {
     let words = texts(alloc, words)?;
-    let mut analyses: Vec<Box<dyn Analysis + Send>> = Vec::new(alloc);
+    let mut analyses = Vec::new(alloc);
     for _ in 0..count {
-        analyses.push(Box::new(alloc, Plain(Location))?)?;
+        analyses.push(Plain(Location))?;
     }
     Ok(run(rt, alloc, words, analyses, inputs, out))
 }
@@ -116,8 +116,8 @@ fn status_with<R: Threads + Sync>(rt: &R, alloc: Global, count: usize) -> Result
 
 /// The status with one analysis that is exact on nothing.
 fn status_with_blind<R: Threads + Sync>(rt: &R, alloc: Global) -> Result<u8, AllocError> {
-    let mut analyses: Vec<Box<dyn Analysis + Send>> = Vec::new(alloc);
-    analyses.push(Box::new(alloc, Plain(Blind))?)?;
+    let mut analyses = Vec::new(alloc);
+    analyses.push(Plain(Blind))?;
     let mut inputs = file(alloc, RETURNS.as_bytes())?;
     let mut out = MemorySink::new(alloc, 999, 999, Vec::new(alloc))?;
     let words = texts(alloc, &["verify", "p.c"])?;

@@ -1,0 +1,1 @@
+int main(void){int x=__VERIFIER_nondet_int();if(x>5&&x<7)reach_error();return 0;}

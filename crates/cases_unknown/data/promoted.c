@@ -1,0 +1,1 @@
+int main(void){if(-1<1u)reach_error();return 0;}
