@@ -1,0 +1,5 @@
+pub mod Numbers
+pub mod Widening
+pub mod Steps
+pub mod Laws
+pub mod lemmas
