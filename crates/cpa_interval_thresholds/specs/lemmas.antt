@@ -1,3 +1,0 @@
--- Lemmas on the definitions, which the law's proof and crates above cite. No definition that a
--- contract cites stands here.
-pub mod Falls
