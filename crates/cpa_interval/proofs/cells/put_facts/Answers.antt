@@ -1,0 +1,15 @@
+-- One fact more.
+use Rattle.std.proofs.Common.{◌≡◌, ◌+◌, ◌-◌, arith}
+use Rattle.cpa_interval.proofs.LoopLemmas.{put_more}
+use Rattle.cpa_interval.proofs.cells.put_facts.Goals as goal
+
+pub loop-place-preserved : goal.loop-place-preserved
+loop-place-preserved c =
+    let place = c.loop-place.place in
+    let next : place ≡ (place - 1) + 1 = omega arith in
+    record {
+      within = omega arith;
+      puts = put_more c.args.facts.now c.args.all.now c.loop-place.all c.put_fact.new.all place
+          (place - 1) c.fact_at.result.now next c.fact_at.ensures c.loop-place.invariant.puts
+          c.put_fact.ensures;
+    }

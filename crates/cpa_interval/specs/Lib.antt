@@ -1,0 +1,14 @@
+pub mod Cells
+pub mod Cuts
+pub mod Acts
+pub mod Transfer
+pub mod Strengthening
+pub mod Covers
+pub mod Merging
+pub mod Ranks
+pub mod Intervals
+pub mod lemmas
+pub mod Numbers
+pub mod Widening
+pub mod Steps
+pub mod WideningLaws
