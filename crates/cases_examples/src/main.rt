@@ -5,6 +5,7 @@
 use cpa_callstack::Callstack;
 use cpa_composite::Handed;
 use cpa_iface::{Location, Plain};
+use cpa_interval::Interval;
 use cpa_outside::{FileInputs, MemorySink};
 use cpa_top::run;
 use cpa_value::Value;
@@ -42,6 +43,9 @@ fn answer<R: Threads + Sync + Files>(
     })?;
     analyses.push(Handed {
         analysis: Box::new(alloc, Value::new())?,
+    })?;
+    analyses.push(Handed {
+        analysis: Box::new(alloc, Interval::new())?,
     })?;
     let status = run(rt, alloc, words, analyses, &mut inputs, &mut out);
     Ok((status, out))

@@ -5,6 +5,7 @@
 use cpa_callstack::Callstack;
 use cpa_composite::Handed;
 use cpa_iface::{Location, Plain};
+use cpa_interval::Interval;
 use cpa_outside::{FileInputs, StdoutSink, write_whole};
 use cpa_top::{Status, run};
 use cpa_value::Value;
@@ -57,6 +58,9 @@ fn answer<R: Threads + Sync + Env + Files + Print + AllocGlobal>(
     })?;
     analyses.push(Handed {
         analysis: Box::new(alloc, Value::new())?,
+    })?;
+    analyses.push(Handed {
+        analysis: Box::new(alloc, Interval::new())?,
     })?;
     let mut inputs = FileInputs::new(rt);
     Ok(run(rt, alloc, words, analyses, &mut inputs, out))
