@@ -9,4 +9,5 @@ pub struct Boxes {
     pub location: Box<dyn Analysis + Send>,
     pub callstack: Box<dyn Analysis + Send>,
     pub value: Box<dyn Analysis + Send>,
+    pub interval: Box<dyn Analysis + Send>,
 }

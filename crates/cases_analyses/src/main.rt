@@ -11,6 +11,7 @@ mod setting;
 use boxes::Boxes;
 use cpa_callstack::Callstack;
 use cpa_iface::{Location, Plain};
+use cpa_interval::Interval;
 use cpa_value::Value;
 use setting::Setting;
 use std::io::{self, BufRead, BufReader, BufWriter, Write};
@@ -22,6 +23,7 @@ fn main(rt: HostRuntime) -> io::Result<()> {
         location: Box::new(alloc, Plain(Location))?,
         callstack: Box::new(alloc, Plain(Callstack))?,
         value: Box::new(alloc, Value::new())?,
+        interval: Box::new(alloc, Interval::new())?,
     };
     let mut setting = Setting::new(alloc);
     answer_all(&rt, &mut boxes, &mut setting)

@@ -14,6 +14,7 @@ pub enum Called {
     Location,
     Callstack,
     Value,
+    Interval,
 }
 
 /// Which call it is, with what it takes beside elements.
@@ -69,6 +70,8 @@ fn called_of(word: &str) -> Result<Called, RowFault> {
         Ok(Called::Callstack)
     } else if word == "value" {
         Ok(Called::Value)
+    } else if word == "interval" {
+        Ok(Called::Interval)
     } else {
         Err(RowFault::Unreadable)
     }

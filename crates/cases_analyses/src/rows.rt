@@ -12,6 +12,7 @@ use cases_programs::{automaton, is_precision};
 use cases_reader::RowFault;
 use cpa_callstack::Callstack;
 use cpa_iface::{Location, Plain, Precision};
+use cpa_interval::Interval;
 use cpa_model::Cfa;
 use cpa_value::Value;
 use std::alloc::{AllocError, Global};
@@ -105,6 +106,16 @@ fn asked_of(
                 alloc,
                 &mut Value::new(),
                 &mut boxes.value,
+                cfa,
+                precision,
+                question,
+            )
+        }
+        Called::Interval => {
+            answer(
+                alloc,
+                &mut Interval::new(),
+                &mut boxes.interval,
                 cfa,
                 precision,
                 question,
