@@ -1,2 +1,3 @@
 pub mod Guessing
 pub mod Counting
+pub mod Growing

@@ -1,7 +1,8 @@
--- Three analyses for rows: one that knows nothing, one that guesses, and one that counts (this
--- project's own).
-use Rattle.std.specs.Prelude.{◌≡◌, ℕ, pos, [], ◌∷◌, None, codes}
-use Rattle.cpa_ints.specs.declared.integers.IntType.TheVariants.{U32}
+-- Four analyses for rows: one that knows nothing, one that guesses, one that counts, and one that
+-- asks for more after each path (this project's own).
+use Rattle.std.specs.Prelude.{◌≡◌, ℕ, pos, [], ◌∷◌, ◌++◌, None, codes}
+use Rattle.cpa_ints.specs.declared.integers.IntType.TheVariants.{I32, U32}
+use Rattle.cpa_expr.specs.declared.tree.Expr.{Expr}
 use Rattle.cpa_expr.specs.declared.tree.Expr.TheVariants.{Const}
 use Rattle.cpa_expr.specs.Values.{is_nonzero}
 use Rattle.cpa_model.specs.declared.facts.Fact.TheVariants.{Truth}
@@ -11,6 +12,7 @@ use Rattle.cpa_model.specs.Facts.{Holds}
 use Rattle.cpa_model.specs.Standing.{has_facts}
 use Rattle.cpa_model.specs.StandingLaws.{has_facts-within, has_facts-same}
 use Rattle.cpa_iface.specs.declared.analysis.Part.TheVariants as part
+use Rattle.cpa_iface.specs.declared.precisions.Precision.{Precision}
 use Rattle.cpa_iface.specs.Common.{fact_count}
 use Rattle.cpa_iface.specs.Meanings.{Meaning}
 use Rattle.cpa_iface.specs.PlainMeanings.{PlainMeaning, meaning_of}
@@ -63,6 +65,28 @@ counter = record {
   within = has_facts-within;
   same = has_facts-same;
 }
+
+-- exact on nothing; it tells neither a suggestion nor what it answers
+abbrev pub eager : Meaning
+eager = record {
+  name = codes "eager";
+  part = part.Nothing;
+  cover = has_facts;
+  height = λ cfa p. 1;
+  rank = fact_count;
+  suggestion = λ cfa path. None;
+  replies = None;
+  within = has_facts-within;
+  same = has_facts-same;
+}
+
+-- the number 1
+abbrev pub one : Expr
+one = Const I32 (pos 1)
+
+-- the precision with one more predicate
+abbrev pub longer_by_one : Precision → Precision
+longer_by_one p = record { tracked = p.tracked; limit = p.limit; preds = p.preds ++ one ∷ [] }
 
 -- all states of the element stand at the point
 abbrev pub StandsAt : Elem → ℕ → Type 0

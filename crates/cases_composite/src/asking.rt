@@ -6,6 +6,7 @@ ghost use Rattle.cpa_model.specs.Automata.{IsAutomaton};
 ghost use Rattle.cpa_composite.specs.Components.{AreElems, ArePrecisions};
 ghost use Rattle.cpa_composite.specs.Composites.{components};
 
+use crate::analysing::push_analysis;
 use crate::exploring::explore;
 use crate::questions::{Call, Question};
 use cases_programs::{are_elems, are_precisions, is_path};
@@ -49,6 +50,9 @@ pub fn push_answer<A: Analysis>(
             settings,
             turns,
         } => explore(alloc, out, composite, cfa, settings, *order, *turns),
+        Call::Analyse { config, is_whole } => {
+            push_analysis(alloc, out, composite, cfa, config, *is_whole)
+        }
         _ => {
             if !precisions_fit(precisions, count, cfa) {
                 return Err(RowFault::Unreadable);
@@ -85,7 +89,9 @@ fn push_at<A: Analysis>(
         Call::Covered => push_covered(out, composite, count, elems),
         Call::Adjust => push_adjust(alloc, out, composite, count, cfa, precisions, elems),
         Call::Refine { path } => push_refine(alloc, out, composite, cfa, precisions, path),
-        Call::Initial { .. } | Call::Explore { .. } => Err(RowFault::Unreadable),
+        Call::Initial { .. } | Call::Explore { .. } | Call::Analyse { .. } => {
+            Err(RowFault::Unreadable)
+        }
     }
 }
 

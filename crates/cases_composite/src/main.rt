@@ -1,10 +1,12 @@
 //! Prints each row of the standard input with what a composite answers to the call that it names,
-//! or with the turns that it names. README.md says how the wanted answers were made.
+//! or with the turns or the whole analysis that it names. README.md says how the wanted answers were made.
 #![tactic(auto)]
 
+mod analysing;
 mod asking;
 mod blind;
 mod counter;
+mod eager;
 mod exploring;
 mod guess;
 mod picking;
@@ -18,6 +20,7 @@ use cpa_callstack::Callstack;
 use cpa_composite::Handed;
 use cpa_iface::{Location, Plain};
 use cpa_value::Value;
+use eager::Eager;
 use guess::Guess;
 use setting::Setting;
 use std::alloc::{AllocError, Global};
@@ -45,7 +48,7 @@ fn answer_all(rt: &HostRuntime, setting: &mut Setting) -> io::Result<()> {
 /// one asked.
 fn answered(alloc: Global, setting: &mut Setting, line: &str) -> Result<String, AllocError> {
     let mut handed = Vec::new(alloc);
-    handed.reserve(7)?;
+    handed.reserve(8)?;
     handed.push_reserved(Handed {
         analysis: Box::new(alloc, Plain(Location))?,
     });
@@ -66,6 +69,9 @@ fn answered(alloc: Global, setting: &mut Setting, line: &str) -> Result<String, 
     });
     handed.push_reserved(Handed {
         analysis: Box::new(alloc, Counter::new())?,
+    });
+    handed.push_reserved(Handed {
+        analysis: Box::new(alloc, Eager)?,
     });
     rows::answered(alloc, handed, setting, line)
 }

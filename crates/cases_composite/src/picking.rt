@@ -11,7 +11,7 @@ use std::alloc::Global;
 
 /// The analyses that may be picked, by their places: `failing` is a blind one whose third transfer
 /// is refused for want of memory.
-const NAMES: [&str; 7] = [
+const NAMES: [&str; 8] = [
     "location",
     "callstack",
     "value",
@@ -19,11 +19,12 @@ const NAMES: [&str; 7] = [
     "failing",
     "guess",
     "counter",
+    "eager",
 ];
 
 /// The picks that the words name, two words each.
 pub fn picks_of(alloc: Global, text: &str) -> Result<Vec<Pick>, RowFault>
-    ensures { IfOk result (λ picks. ArePlaces 7 picks.items) }
+    ensures { IfOk result (λ picks. ArePlaces 8 picks.items) }
 {
     let mut words: Vec<&str> = Vec::new(alloc);
     for word in text.split_whitespace() {
@@ -43,7 +44,7 @@ pub fn picks_of(alloc: Global, text: &str) -> Result<Vec<Pick>, RowFault>
 
 /// The pick of an analysis by its name, with the rule of its merging.
 fn pick_of(name: &str, rule: &str) -> Result<Pick, RowFault>
-    ensures { IfOk result (λ pick. pick.place < 7) }
+    ensures { IfOk result (λ pick. pick.place < 8) }
 {
     let place = place_of(name)?;
     let rule = rule_of_word(rule)?;
@@ -52,9 +53,9 @@ fn pick_of(name: &str, rule: &str) -> Result<Pick, RowFault>
 
 /// The place of the name among `NAMES`.
 fn place_of(name: &str) -> Result<u32, RowFault>
-    ensures { IfOk result (λ place. place < 7) }
+    ensures { IfOk result (λ place. place < 8) }
 {
-    for place in 0..7 {
+    for place in 0..8 {
         if NAMES[place as usize] == name {
             return Ok(place);
         }

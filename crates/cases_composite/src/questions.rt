@@ -3,8 +3,9 @@
 
 use cases_programs::{elems_of, next_settings, rest_indices};
 use cases_reader::{RowFault, end_row, next_index, next_word};
+use cpa_config::Config;
 use cpa_iface::{Order, Settings};
-use cpa_model::{Elem, Path};
+use cpa_model::{Elem, Path, Seq};
 use std::alloc::Global;
 use std::str::SplitWhitespace;
 
@@ -35,6 +36,12 @@ pub enum Call {
         order: Order,
         settings: Settings,
         turns: u32,
+    },
+    /// `analyse first all LIMIT TURNS ROUNDS LEARNT GATES`, with `last` and `none`, too; or
+    /// `verdict` in the place of `analyse`, which tells no more than the verdict
+    Analyse {
+        config: Config,
+        is_whole: bool,
     },
 }
 
@@ -71,6 +78,8 @@ fn call_of(alloc: Global, words: &mut SplitWhitespace<'_>) -> Result<Call, RowFa
         Ok(Call::Refine { path })
     } else if word == "explore" {
         explore_of(words)
+    } else if word == "analyse" || word == "verdict" {
+        analyse_of(alloc, words, word == "analyse")
     } else {
         bare_call(word)
     }
@@ -99,6 +108,35 @@ fn explore_of(words: &mut SplitWhitespace<'_>) -> Result<Call, RowFault> {
         settings,
         turns,
     })
+}
+
+/// `ORDER SETTINGS TURNS ROUNDS LEARNT GATES`: a whole analysis with this configuration, whose picks
+/// are not read.
+fn analyse_of(
+    alloc: Global,
+    words: &mut SplitWhitespace<'_>,
+    is_whole: bool,
+) -> Result<Call, RowFault> {
+    let order = order_of(next_word(words)?)?;
+    let settings = next_settings(words)?;
+    let turns = next_word(words)?.parse::<u64>()?;
+    let rounds = next_index(words)?;
+    let learnt = next_index(words)?;
+    let gates = next_word(words)?.parse::<u64>()?;
+    let settings = Settings {
+        tracked_all: settings.tracked_all,
+        limit: settings.limit,
+        learnt,
+        gates,
+    };
+    let config = Config {
+        picks: Seq::new(alloc),
+        order,
+        turns,
+        rounds,
+        settings,
+    };
+    Ok(Call::Analyse { config, is_whole })
 }
 
 /// `first` or `last`: which waiting entry is taken.

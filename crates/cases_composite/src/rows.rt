@@ -20,7 +20,7 @@ pub fn answered<A: Analysis>(
     setting: &mut Setting,
     line: &str,
 ) -> Result<String, AllocError>
-    requires { length handed.items ≡ 7 }
+    requires { length handed.items ≡ 8 }
 {
     let mut out = String::from_str(alloc, line)?;
     if line.is_empty() || line.starts_with("#") {
@@ -46,7 +46,7 @@ fn answer<A: Analysis>(
     setting: &mut Setting,
     line: &str,
 ) -> Result<String, RowFault>
-    requires { length handed.items ≡ 7 }
+    requires { length handed.items ≡ 8 }
 {
     if setting.set(alloc, line)? {
         return Ok(String::new(alloc));
@@ -62,7 +62,7 @@ fn asked<A: Analysis>(
     setting: &Setting,
     question: &Question,
 ) -> Result<String, RowFault>
-    requires { length handed.items ≡ 7 }
+    requires { length handed.items ≡ 8 }
 {
     let cfa = automaton(alloc, &setting.table)?;
     let picks = picks_of(alloc, setting.picks.as_str())?;

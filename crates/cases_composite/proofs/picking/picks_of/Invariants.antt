@@ -4,7 +4,7 @@ use Rattle.cpa_composite.specs.Components.{ArePlaces}
 use Rattle.cases_composite.proofs.picking.picks_of.Given as goal
 
 abbrev pub invariant-loop-rest : goal.invariant-loop-rest
-invariant-loop-rest l = ArePlaces 7 l.picks.items
+invariant-loop-rest l = ArePlaces 8 l.picks.items
 
 abbrev pub decreases-loop-rest : goal.decreases-loop-rest
 decreases-loop-rest l = length l.rest
