@@ -59,7 +59,11 @@ pub config_passes : (files : Files) (names : List (List ℕ)) (file : Option (Li
     (config : Config)
     → IsTaken (config_bytes files.bytes_of file) (λ b. Configures b names config)
     → AllByRecursion (Passes files) (config_stages names file)
-config_passes files names None config is = ((config, is.1), tt)
+config_passes files names None config is = (
+  told_weaker (Some []) (λ b. (length b ≤ MAX_TEXT) × Configures b names config)
+      (HasConfig names) (λ b h. (config, h.1)) is,
+  tt,
+)
 config_passes files names (Some file) config is = (
   taken_read files role.Config file (λ b. Configures b names config) is,
   (

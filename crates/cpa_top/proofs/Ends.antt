@@ -2,7 +2,7 @@
 use Rattle.std.proofs.Common.{◌≡◌, ℕ, ℤ, List, [], ◌∷◌, ◌++◌, length, map, sym, ap, ◌∙◌}
 use Rattle.std.proofs.Common.{subst, inl, inr}
 use Rattle.std.proofs.lemmas.List.{length-map}
-use Rattle.std.specs.Prelude.{Option, Some, None, IfSome, Ok, Err}
+use Rattle.std.specs.Prelude.{Option, Ok, Err}
 use Rattle.std.specs.List.{AllByRecursion}
 use Rattle.c_program.specs.Programs.{IsTheProgram}
 use Rattle.cpa_config.specs.declared.config.Config.{Config}
@@ -14,7 +14,7 @@ use Rattle.cpa_top_words.specs.Jobs.{Job, verify, replay}
 use Rattle.cpa_top.specs.declared.answers.Conclusion.{Conclusion}
 use Rattle.cpa_top.specs.declared.refusal.Refusal.{Refusal}
 use Rattle.cpa_top.specs.Answers.{IsVerified, IsReplayed, config_bytes}
-use Rattle.cpa_top.specs.Calls.{Files, NoReadFailed}
+use Rattle.cpa_top.specs.Calls.{Files, NoReadFailed, HoldsOf}
 use Rattle.cpa_top.specs.Jobs.{names_of, config_stages, program_stages, inputs_stages}
 use Rattle.cpa_top.specs.Refusals.{IsTaken, IsOutcome, IsConcluded, IsHalted, IsDone}
 use Rattle.cpa_top.proofs.Configurations.{config_passes}
@@ -50,18 +50,24 @@ module _ (files : Files) (analyses : List Meaning) where
   replayed : (told list : Option (List ℕ)) (steps : ℕ) (P : Program) (numbers : List ℤ)
       (c : Conclusion) → IsTaken told (λ b. IsTheProgram b P)
       → IsTaken list (λ b. IsInputs b numbers) → IsOutcome steps P numbers c
-      → IfSome told (λ b. IfSome list (λ l. IsReplayed steps b l c.status c.text.items))
-  replayed None list steps P numbers c is are came = tt
-  replayed (Some b) None steps P numbers c is are came = tt
-  replayed (Some b) (Some l) steps P numbers c is are came = record {
-    program = P;
-    is = is.1;
-    inputs = numbers;
-    are = are.1;
-    outcome = came.outcome;
-    replay = came.replay;
-    status = came.status;
-    line_is = came.line;
+      → HoldsOf told (λ b. HoldsOf list (λ l. IsReplayed steps b l c.status c.text.items))
+  replayed told list steps P numbers c is are came = record {
+    bytes = is.bytes;
+    same = is.same;
+    holds = record {
+      bytes = are.bytes;
+      same = are.same;
+      holds = record {
+        program = P;
+        is = is.holds.1;
+        inputs = numbers;
+        are = are.holds.1;
+        outcome = came.outcome;
+        replay = came.replay;
+        status = came.status;
+        line_is = came.line;
+      };
+    };
   }
 
   pub replay_ends : (name list : List ℕ) (steps : ℕ) (P : Program) (numbers : List ℤ)
@@ -110,18 +116,24 @@ module _ (files : Files) (analyses : List Meaning) where
   verified : (said told : Option (List ℕ)) (config : Config) (P : Program) (c : Conclusion)
       → IsTaken said (λ b. Configures b (names_of analyses) config)
       → IsTaken told (λ b. IsTheProgram b P) → IsConcluded analyses config P c
-      → IfSome said (λ s. IfSome told (λ b. IsVerified analyses s b c.status c.text.items))
-  verified None told config P c configures is came = tt
-  verified (Some s) None config P c configures is came = tt
-  verified (Some s) (Some b) config P c configures is came = record {
-    config = config;
-    configures = configures.1;
-    program = P;
-    is = is.1;
-    told = came.told;
-    tells = came.tells;
-    status = came.status;
-    text_is = came.text_is;
+      → HoldsOf said (λ s. HoldsOf told (λ b. IsVerified analyses s b c.status c.text.items))
+  verified said told config P c configures is came = record {
+    bytes = configures.bytes;
+    same = configures.same;
+    holds = record {
+      bytes = is.bytes;
+      same = is.same;
+      holds = record {
+        config = config;
+        configures = configures.holds.1;
+        program = P;
+        is = is.holds.1;
+        told = came.told;
+        tells = came.tells;
+        status = came.status;
+        text_is = came.text_is;
+      };
+    };
   }
 
   pub verify_ends : (name : List ℕ) (file : Option (List ℕ)) (names : List (List ℕ))

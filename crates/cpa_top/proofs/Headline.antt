@@ -2,7 +2,7 @@
 use Rattle.std.proofs.Common.{◌≡◌, ℕ, ◌≤◌, List, length, map, refl, sym, ap, ◌∙◌, subst, ⊎_elim}
 use Rattle.std.proofs.Common.{arith}
 use Rattle.std.proofs.lemmas.List.{length-map}
-use Rattle.std.specs.Prelude.{Option, Some, None, IfSome}
+use Rattle.std.specs.Prelude.{Option}
 use Rattle.cpa_model.specs.declared.program.Program.{Program}
 use Rattle.cpa_model.specs.Programs.{IsWellFormed}
 use Rattle.cpa_iface.specs.declared.merging.Pick.{Pick}
@@ -27,7 +27,7 @@ use Rattle.cpa_top.specs.declared.status.Status.TheVariants as status
 use Rattle.cpa_top.specs.Answers.{MayAnswer, DoesJob, Stops, Ends, Refuses, Concludes, IsWritten}
 use Rattle.cpa_top.specs.Answers.{IsShortOfMemory, IsUsage, IsVerified, config_bytes}
 use Rattle.cpa_top.specs.Answers.{IsSafeText, IsCalledText, IsUnknownText}
-use Rattle.cpa_top.specs.Calls.{Call, Files, Output}
+use Rattle.cpa_top.specs.Calls.{Call, Files, Output, HoldsOf}
 use Rattle.cpa_top.specs.Jobs.{Stage, reading, parsing, listing, configuring, stages_of, names_of}
 use Rattle.cpa_top.specs.Refusals.{IsDelivered}
 use Rattle.cpa_top.specs.Statuses.{code_of, verdict_status}
@@ -216,11 +216,17 @@ concluded one_job call with text name file few asked may =
 
 -- what holds of two texts gives what it implies
 both_weaker : (first second : Option (List ℕ)) (Has Is : List ℕ → List ℕ → Type 0)
-    → ((s b : List ℕ) → Has s b → Is s b) → IfSome first (λ s. IfSome second (Has s))
-    → IfSome first (λ s. IfSome second (Is s))
-both_weaker None second Has Is from has = tt
-both_weaker (Some s) None Has Is from has = tt
-both_weaker (Some s) (Some b) Has Is from has = from s b has
+    → ((s b : List ℕ) → Has s b → Is s b) → HoldsOf first (λ s. HoldsOf second (Has s))
+    → HoldsOf first (λ s. HoldsOf second (Is s))
+both_weaker first second Has Is from has = record {
+  bytes = has.bytes;
+  same = has.same;
+  holds = record {
+    bytes = has.holds.bytes;
+    same = has.holds.same;
+    holds = from has.bytes has.holds.bytes has.holds.holds;
+  };
+}
 
 -- where the call answers the number of a verdict, its text was written whole
 pub written : AskForOneJob → (k : ℕ) → k ≤ 2 → (call : Call) (output : Output) (with : Status)

@@ -1,7 +1,7 @@
 -- A file that was read, and what refuses it.
 use Rattle.std.proofs.Common.{◌≡◌, ℕ, ◌≤◌, ℤ, List, [], ◌∷◌, length, refl, sym, subst, inl}
 use Rattle.std.proofs.Common.{inr}
-use Rattle.std.specs.Prelude.{Option, Some, None, IfSome, Result, Err, IfErr}
+use Rattle.std.specs.Prelude.{Option, IfSome, Result, Err, IfErr}
 use Rattle.std.specs.List.{AllByRecursion}
 use Rattle.std.specs.String.{string_bytes}
 use Rattle.c_lexer.specs.declared.lexer.TheConstants.{MAX_TEXT}
@@ -13,7 +13,7 @@ use Rattle.cpa_top.specs.declared.refusal.Refusal.TheVariants as refusal
 use Rattle.cpa_top.specs.declared.role.Role.{Role}
 use Rattle.cpa_top.specs.declared.role.Role.TheVariants as role
 use Rattle.cpa_top.specs.Answers.{Passes, HasProgram, HasInputs, IsFaultLine, NoInputs}
-use Rattle.cpa_top.specs.Calls.{Files, NoReadFailed}
+use Rattle.cpa_top.specs.Calls.{Files, NoReadFailed, HoldsOf}
 use Rattle.cpa_top.specs.Jobs.{Stage, reading, parsing, listing, program_stages, inputs_stages}
 use Rattle.cpa_top.specs.Refusals.{IsRefusedAt, IsHalted, IsTaken, IsTextRefused, IsListRefused}
 use Rattle.cpa_top.proofs.Stages.{halts}
@@ -25,15 +25,14 @@ exits result Is r same is = subst (λ x. IfErr x Is) (sym same) is
 
 -- the bytes that were read are those that are told
 pub as_told : (told : Option (List ℕ)) (bytes : List ℕ) (Has : List ℕ → Type 0) → Has bytes
-    → IfSome told (λ t. bytes ≡ t) → IfSome told Has
-as_told None bytes Has has same = tt
-as_told (Some t) bytes Has has same = subst Has same has
+    → IfSome told (λ t. bytes ≡ t) → HoldsOf told Has
+as_told told bytes Has has same = record { bytes = bytes; same = same; holds = has }
 
 -- what holds of them gives what it implies
 pub told_weaker : (told : Option (List ℕ)) (Has Is : List ℕ → Type 0)
-    → ((bytes : List ℕ) → Has bytes → Is bytes) → IfSome told Has → IfSome told Is
-told_weaker None Has Is from has = tt
-told_weaker (Some t) Has Is from has = from t has
+    → ((bytes : List ℕ) → Has bytes → Is bytes) → HoldsOf told Has → HoldsOf told Is
+told_weaker told Has Is from has =
+    record { bytes = has.bytes; same = has.same; holds = from has.bytes has.holds }
 
 -- want of memory may come at any stage
 pub out_of_memory : (files : Files) (stage : Stage) → NoReadFailed files

@@ -28,6 +28,7 @@ use Rattle.cpa_top_words.specs.Jobs.{Job, verify, replay, Asks, IsNoJob}
 use Rattle.cpa_top.specs.declared.status.Status.{Status}
 use Rattle.cpa_top.specs.declared.status.Status.TheVariants as status
 use Rattle.cpa_top.specs.Calls.{Call, Files, Output, NoReadFailed, IsWhole, IsCutOff}
+use Rattle.cpa_top.specs.Calls.{HoldsOf}
 use Rattle.cpa_top.specs.Jobs.{Stage, reading, parsing, listing, configuring}
 use Rattle.cpa_top.specs.Jobs.{stages_of, names_of}
 use Rattle.cpa_top.specs.Lines.{fault_line, config_line, read_line, long_line, inputs_line}
@@ -54,14 +55,15 @@ HasInputs bytes = (numbers : List ℤ) × IsInputs bytes numbers
 abbrev pub HasConfig : List (List ℕ) → List ℕ → Type 0
 HasConfig names bytes = (config : Config) × Configures bytes names config
 
--- The stage gives nothing to refuse, where the bytes of its file are told.
+-- The stage gives nothing to refuse: the bytes of its file, which are those that are told where they
+-- are told, are few enough, or stand for what they are read as.
 abbrev pub Passes : Files → Stage → Type 0
 Passes files (reading which name) =
-    IfSome (files.bytes_of name) (λ bytes. length bytes ≤ MAX_TEXT)
-Passes files (parsing name) = IfSome (files.bytes_of name) HasProgram
-Passes files (listing name) = IfSome (files.bytes_of name) HasInputs
+    HoldsOf (files.bytes_of name) (λ bytes. length bytes ≤ MAX_TEXT)
+Passes files (parsing name) = HoldsOf (files.bytes_of name) HasProgram
+Passes files (listing name) = HoldsOf (files.bytes_of name) HasInputs
 Passes files (configuring names file) =
-    IfSome (config_bytes files.bytes_of file) (HasConfig names)
+    HoldsOf (config_bytes files.bytes_of file) (HasConfig names)
 
 -- the bytes stand for no program, and the line names their fault
 abbrev pub IsFaultLine : List ℕ → List ℕ → Type 0
@@ -79,18 +81,18 @@ IsConfigLine names line bytes =
     (rule : ConfigRule) × (key : List ℕ) × RefusesConfig bytes names rule key
     × (line ≡ config_line rule key)
 
--- The stage is refused with this status and this line, where the bytes of its file are told.
+-- The stage is refused with this status and this line, for the bytes of its file.
 abbrev pub Refuses : Files → Status → List ℕ → Stage → Type 0
 Refuses files status.ReadFailed line (reading which name) =
     Rose (files.before name) (files.after name) × (line ≡ read_line which)
 Refuses files status.TooLong line (reading which name) =
     IfSome (files.bytes_of name) (λ bytes. MAX_TEXT < length bytes) × (line ≡ long_line which)
 Refuses files status.NoProgram line (parsing name) =
-    IfSome (files.bytes_of name) (IsFaultLine line)
+    HoldsOf (files.bytes_of name) (IsFaultLine line)
 Refuses files status.NoInputs line (listing name) =
-    IfSome (files.bytes_of name) NoInputs × (line ≡ inputs_line)
+    HoldsOf (files.bytes_of name) NoInputs × (line ≡ inputs_line)
 Refuses files status.NoConfig line (configuring names file) =
-    IfSome (config_bytes files.bytes_of file) (IsConfigLine names line)
+    HoldsOf (config_bytes files.bytes_of file) (IsConfigLine names line)
 Refuses files _ line _ = ⊥
 
 -- One of these stages is refused, and no earlier one is.
@@ -130,14 +132,15 @@ pub record IsReplayed (steps : ℕ) (bytes list : List ℕ) (with : Status) (lin
     pub status : with ≡ outcome_status outcome
     pub line_is : line ≡ outcome_line outcome
 
--- What the job comes to, over the bytes of its files where they are told.
+-- What the job comes to, over the bytes of its files, which are those that are told where they are
+-- told.
 abbrev pub Concludes : Files → List Meaning → Job → Status → List ℕ → Type 0
 Concludes files analyses (verify name file) with text =
-    IfSome (config_bytes files.bytes_of file) (λ said.
-    IfSome (files.bytes_of name) (λ bytes. IsVerified analyses said bytes with text))
+    HoldsOf (config_bytes files.bytes_of file) (λ said.
+    HoldsOf (files.bytes_of name) (λ bytes. IsVerified analyses said bytes with text))
 Concludes files analyses (replay name inputs steps) with text =
-    IfSome (files.bytes_of name) (λ bytes.
-    IfSome (files.bytes_of inputs) (λ list. IsReplayed steps bytes list with text))
+    HoldsOf (files.bytes_of name) (λ bytes.
+    HoldsOf (files.bytes_of inputs) (λ list. IsReplayed steps bytes list with text))
 
 -- The job passes all its stages, and comes to its end.
 pub record Ends (files : Files) (analyses : List Meaning) (job : Job) (with : Status)
@@ -213,10 +216,10 @@ pub record IsUnknownText (analyses : List Meaning) (said bytes text : List ℕ) 
   pub report : text ≡ report_text (report_of program automaton (answer.Unknown why))
 
 -- A text was written whole that is as is said of a verdict, over the bytes of the configuration and
--- of the named program, where they are told.
+-- of the named program, which are those that are told where they are told.
 pub record IsWritten (call : Call) (output : Output) (name : List ℕ) (file : Option (List ℕ))
     (Is : List Meaning → List ℕ → List ℕ → List ℕ → Type 0) : Type 0 where
   pub text : List ℕ
   pub whole : IsWhole output text
-  pub is : IfSome (config_bytes call.files.bytes_of file) (λ said.
-      IfSome (call.files.bytes_of name) (λ bytes. Is call.analyses said bytes text))
+  pub is : HoldsOf (config_bytes call.files.bytes_of file) (λ said.
+      HoldsOf (call.files.bytes_of name) (λ bytes. Is call.analyses said bytes text))

@@ -1,5 +1,5 @@
 -- What a call of the program is given and what it leaves (this project's own).
-use Rattle.std.specs.Prelude.{◌≡◌, ℕ, List, Option}
+use Rattle.std.specs.Prelude.{◌≡◌, ℕ, List, Option, IfSome}
 use Rattle.cpa_iface.specs.Meanings.{Meaning}
 use Rattle.cpa_outside.specs.Outside.{Rose, grown, GrewByPrefix}
 
@@ -52,3 +52,9 @@ pub record IsWhole (output : Output) (text : List ℕ) : Type 0 where
 pub record IsCutOff (output : Output) (text : List ℕ) : Type 0 where
   pub written : GrewByPrefix output.written_before text output.written_after
   pub faults : Rose output.faults_before output.faults_after
+
+-- It holds of some bytes: of those that are told, where they are told.
+pub record HoldsOf (told : Option (List ℕ)) (Has : List ℕ → Type 0) : Type 0 where
+  pub bytes : List ℕ
+  pub same : IfSome told (λ t. bytes ≡ t)
+  pub holds : Has bytes

@@ -1,5 +1,5 @@
 -- What the code answers before anything is written, and when it may (this project's own).
-use Rattle.std.specs.Prelude.{◌≡◌, ◌≢◌, ◌⊎◌, ℕ, ◌≤◌, ℤ, List, length, Option, IfSome, Result}
+use Rattle.std.specs.Prelude.{◌≡◌, ◌≢◌, ◌⊎◌, ℕ, ◌≤◌, ℤ, List, length, Option, Result}
 use Rattle.std.specs.Prelude.{Ok, Err}
 use Rattle.std.specs.String.{string_bytes}
 use Rattle.c_lexer.specs.declared.lexer.TheConstants.{MAX_TEXT}
@@ -19,7 +19,7 @@ use Rattle.cpa_top.specs.declared.status.Status.{Status}
 use Rattle.cpa_top.specs.declared.status.Status.TheVariants as status
 use Rattle.cpa_top.specs.Answers.{Refuses, Stops, Ends, IsShortOfMemory}
 use Rattle.cpa_top.specs.Answers.{IsFaultLine, IsConfigLine, NoInputs}
-use Rattle.cpa_top.specs.Calls.{Files, Output, NoReadFailed, IsWhole, IsCutOff}
+use Rattle.cpa_top.specs.Calls.{Files, Output, NoReadFailed, IsWhole, IsCutOff, HoldsOf}
 use Rattle.cpa_top.specs.Jobs.{Stage, stages_of}
 use Rattle.cpa_top.specs.Lines.{usage_text, read_line, long_line, inputs_line, memory_line}
 use Rattle.cpa_top.specs.Lines.{outcome_line}
@@ -63,9 +63,9 @@ pub record IsHalted (files : Files) (stages : List Stage) (refused : Refusal) : 
       ⊎ Stops files stages (refusal_status refused) (refusal_line refused)
   pub reads : refusal_status refused ≢ status.ReadFailed → NoReadFailed files
 
--- the bytes are few enough, where they are told, and they are as is said
+-- the bytes are few enough, and they are as is said
 abbrev pub IsTaken : Option (List ℕ) → (List ℕ → Type 0) → Type 0
-IsTaken told Has = IfSome told (λ bytes. (length bytes ≤ MAX_TEXT) × Has bytes)
+IsTaken told Has = HoldsOf told (λ bytes. (length bytes ≤ MAX_TEXT) × Has bytes)
 
 -- the bytes of a program are refused
 abbrev pub IsTextRefused : List ℕ → Refusal → Type 0
