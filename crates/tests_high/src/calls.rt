@@ -213,20 +213,20 @@ fn ifs(alloc: Global, count: usize) -> Result<String, AllocError> {
     Ok(text)
 }
 
-/// A program whose report has ten thousand entries, too many for a row.
+/// A program whose report has five thousand entries, too many for a row.
 #[test]
 fn many_statements(rt: HostRuntime) -> Result<(), Fail> {
-    let text = ifs(rt.alloc(), 2_000)?;
+    let text = ifs(rt.alloc(), 1_000)?;
     let (status, out) = verify_text(&rt, rt.alloc(), text.as_bytes(), 999_999)?;
     assert_eq!(rt; status, 0);
     // Each if takes a cell, five points and six edges; main's block, result and exit come besides.
     assert!(rt;
         out.written()
-            .starts_with(b"TRUE\n{\"cells\":2001,\"edges\":12002,")
+            .starts_with(b"TRUE\n{\"cells\":1001,\"edges\":6002,")
     );
     assert!(rt;
         out.written()
-            .ends_with(b",\"points\":10003,\"text\":68016}\n")
+            .ends_with(b",\"points\":5003,\"text\":34016}\n")
     );
     Ok(())
 }
