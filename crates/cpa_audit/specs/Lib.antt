@@ -1,0 +1,2 @@
+pub mod LeastBad
+pub mod Cuts
