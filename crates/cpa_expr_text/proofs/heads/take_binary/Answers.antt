@@ -1,0 +1,14 @@
+use Rattle.std.proofs.Common.{◌≡◌, ap}
+use Rattle.cpa_expr_text.specs.declared.heads.Head.TheVariants as head
+use Rattle.cpa_expr_text.specs.declared.heads.Two.TheVariants as two
+use Rattle.cpa_expr_text.specs.Reading.{texts}
+use Rattle.cpa_expr_text.proofs.Behind.{binary_behind}
+use Rattle.cpa_expr_text.proofs.heads.take_binary.Goals as goal
+
+pub returns-clause-read : goal.returns-clause-read
+returns-clause-read c h us at is =
+    binary_behind c.args.op (texts c.args.words.now) us
+    (λ k. (head.Two (two.Bin c.args.op c.in_ok-ty.ty) ≡ k) × (texts c.in_ok-ty.rest.now ≡ us))
+    (λ t front.
+    let took = c.in_ok-ty.ensures t us front in
+    (ap (λ x. head.Two (two.Bin c.args.op x)) took.0, took.1)) h at is
