@@ -8,3 +8,5 @@ mod bounds;
 mod faults;
 #[cfg(test)]
 mod files;
+#[cfg(test)]
+mod gates;
