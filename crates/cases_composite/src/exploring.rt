@@ -4,6 +4,7 @@
 ghost use Rattle.std.specs.Prelude.{length, IfOk};
 ghost use Rattle.cpa_model.specs.Automata.{IsAutomaton};
 ghost use Rattle.cpa_composite.specs.Composites.{components};
+ghost use Rattle.cpa_engine_turn.specs.Keys.{HasPlaces};
 ghost use Rattle.cpa_engine_turn.specs.Turns.{AreEntries};
 
 use cases_reader::RowFault;
@@ -14,7 +15,7 @@ use cpa_model::{Cfa, push_list};
 use cpa_reached::Reached;
 use std::alloc::{AllocError, Global};
 
-/// The reached set of the initial state alone.
+/// The reached set of the initial state alone, indexed by what tells entries apart.
 fn begin<A: Analysis>(
     alloc: Global,
     cfa: &Cfa,
@@ -22,11 +23,15 @@ fn begin<A: Analysis>(
     settings: &Settings,
 ) -> Result<Reached, AllocError>
     requires { IsAutomaton cfa.now }
-    ensures { IfOk result (λ reached.
+    ensures entries { IfOk result (λ reached.
         AreEntries cfa.now (length (components composite.new)) reached.live) }
+    ensures places { IfOk result (HasPlaces (components composite.new)) }
 {
     let (elems, precisions) = composite.initial(alloc, cfa, settings)?;
-    Reached::new(alloc, elems, precisions)
+    let places = composite.key_places(alloc)?;
+    let mut reached = Reached::new(alloc, elems, precisions)?;
+    reached.index_by(&places)?;
+    Ok(reached)
 }
 
 /// At most so many turns. True where something still waits.
@@ -40,6 +45,7 @@ fn turns<A: Analysis>(
 ) -> Result<bool, AllocError>
     requires automaton { IsAutomaton cfa.now }
     requires entries { AreEntries cfa.now (length (components composite.old)) reached.old.live }
+    requires places { HasPlaces (components composite.old) reached.old }
 {
     for _turn in 0..count {
         if !turn(alloc, cfa, composite, reached, order)? {

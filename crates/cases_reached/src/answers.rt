@@ -5,13 +5,14 @@ ghost use Rattle.std.specs.Prelude.{◌≡◌, ◌==◌, IsTrue};
 ghost use Rattle.std.specs.List.{list_any};
 ghost use Rattle.cpa_reached.specs.Entries.{IsLive};
 
-use crate::printing::{push_entries, push_path, push_turns, push_waiting};
+use crate::printing::{push_entries, push_key, push_path, push_some, push_turns, push_waiting};
 use crate::reading::{elems_of, end, order_of, pairs_of, precisions_of};
 use cases_reader::{
     RowFault, end_parts, end_row, indices_of, next_index, next_part, next_word, push_word,
 };
 use cpa_iface::{Entry, Turn};
-use cpa_reached::Reached;
+use cpa_model::Seq;
+use cpa_reached::{Key, Reached};
 use std::alloc::Global;
 use std::mem;
 use std::str::{Split, SplitWhitespace};
@@ -31,6 +32,9 @@ pub fn push_answer(
         "replace" => replace(alloc, out, reached, &mut words, &mut parts),
         "refine" => refine(alloc, out, reached, &mut words, &mut parts),
         "turn" => turn(alloc, out, reached, &mut words, &mut parts),
+        "index" => index_by(alloc, out, reached, &mut words, &mut parts),
+        "key" => key(alloc, out, reached, &mut words, &mut parts),
+        "under" => under(alloc, out, reached, &mut words, &mut parts),
         word => {
             end_parts(&mut parts)?;
             push_without_parts(alloc, out, reached, word, &mut words)
@@ -176,6 +180,46 @@ fn turn(
         replaced,
     })?;
     done(out)
+}
+
+/// `index : PLACE ..`: the elements at these places are keys from now on.
+fn index_by(
+    alloc: Global,
+    out: &mut String,
+    reached: &mut Reached,
+    words: &mut SplitWhitespace<'_>,
+    parts: &mut Split<'_, char>,
+) -> Result<(), RowFault> {
+    let places = indices_of(alloc, next_part(parts)?)?;
+    end(words, parts)?;
+    reached.index_by(places.as_slice())?;
+    done(out)
+}
+
+/// `key : POINT ..`: the elements of the key of a row.
+fn key(
+    alloc: Global,
+    out: &mut String,
+    reached: &Reached,
+    words: &mut SplitWhitespace<'_>,
+    parts: &mut Split<'_, char>,
+) -> Result<(), RowFault> {
+    let elems = elems_of(alloc, next_part(parts)?)?;
+    end(words, parts)?;
+    push_key(out, &reached.key_of(elems.as_slice())?)
+}
+
+/// `under : POINT ..`: the numbers under the key of these elements; `none` where there is none.
+fn under(
+    alloc: Global,
+    out: &mut String,
+    reached: &Reached,
+    words: &mut SplitWhitespace<'_>,
+    parts: &mut Split<'_, char>,
+) -> Result<(), RowFault> {
+    let elems = Seq::from_vec(elems_of(alloc, next_part(parts)?)?);
+    end(words, parts)?;
+    push_some(out, reached.under(&Key { elems }))
 }
 
 /// `take first` or `take last`: the entry that is next in the order; `none` where none waits.

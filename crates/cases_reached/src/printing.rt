@@ -4,6 +4,7 @@
 use cases_reader::{RowFault, push_word};
 use cpa_iface::{Entry, Precision, Turn};
 use cpa_model::{Path, push_list};
+use cpa_reached::Key;
 use std::alloc::Global;
 
 /// Each entry, a comma between two.
@@ -83,10 +84,22 @@ pub fn push_waiting(alloc: Global, out: &mut String, entries: &[Entry]) -> Resul
             numbers.push(entry.number)?;
         }
     }
+    push_some(out, numbers.as_slice())
+}
+
+/// The numbers, each behind a space; `none` where there is none.
+pub fn push_some(out: &mut String, numbers: &[u32]) -> Result<(), RowFault> {
     if numbers.is_empty() {
         push_word(out, "none")?;
     }
-    push_numbers(out, numbers.as_slice())
+    push_numbers(out, numbers)
+}
+
+/// The elements of a key, as those of an entry.
+pub fn push_key(out: &mut String, key: &Key) -> Result<(), RowFault> {
+    out.push_str(" ")?;
+    push_list(out, key.elems.as_slice())?;
+    Ok(())
 }
 
 /// Each row of the journal, a comma between two; `none` where there is none.

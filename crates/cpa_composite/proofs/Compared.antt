@@ -17,29 +17,13 @@ use Rattle.cpa_composite.specs.Components.{IsPicked}
 use Rattle.cpa_composite.specs.Covers.{all_cover}
 use Rattle.cpa_composite.specs.Comparisons.{keeps_apart, same_elem, same_row, agree}
 use Rattle.cpa_composite.specs.Laws.{AgreeOnSep, is_longer, some_longer}
-use Rattle.cpa_composite.specs.RankLaws.{elem_means, elem_self}
+use Rattle.cpa_reached_key.specs.RowLaws.{same_elem-means, same_elem-self, same_row-decides}
 use Rattle.cpa_composite.proofs.Placed.{there_is}
 use Rattle.cpa_composite.proofs.Picking.{picked_at, picked_later}
 
--- rows that are the same to the letter are equal
-pub row_means : (es fs : List Elem) → same_row es fs ≡ true → es ≡ fs
-row_means [] [] h = refl
-row_means [] (f ∷ fs) h = absurd (cc)
-row_means (e ∷ es) [] h = absurd (cc)
-row_means (e ∷ es) (f ∷ fs) h =
-    let p = and_parts (same_elem e f) (same_row es fs) h in
-    let a = elem_means e f p.0 in let b = row_means es fs p.1 in cc
-
-row_self : (es : List Elem) → same_row es es ≡ true
-row_self [] = refl
-row_self (e ∷ es) =
-    ap (λ (b : Bool). b && same_row es es) (elem_self e) ∙ row_self es
-
--- and others are not
+-- rows that are not the same to the letter are not equal
 pub row_differs : (es fs : List Elem) → same_row es fs ≡ false → es ≡ fs → ⊥
-row_differs es fs h same =
-    both_ways (same_row es fs) h
-    (subst (λ (l : List Elem). same_row es l ≡ true) same (row_self es))
+row_differs es fs h same = both_ways (same_row es fs) h ((same_row-decides es fs).1 same)
 
 -- an analysis that keeps its elements apart
 apart_fails : (r : MergeRule) (b : Bool) → (not (keeps_apart r) || b) ≡ false
@@ -59,7 +43,7 @@ agree_means ms (p ∷ picks) within (d ∷ new) (g ∷ old) h zero c e f at a b 
     let same : same_elem d g ≡ true =
     subst (λ (r : MergeRule). (not (keeps_apart r) || same_elem d g) ≡ true) (is.rule ∙ sep)
     both.0 in
-    sym (same_Some d e a) ∙ (elem_means d g same ∙ same_Some g f b)
+    sym (same_Some d e a) ∙ (same_elem-means d g same ∙ same_Some g f b)
 agree_means ms (p ∷ picks) within (d ∷ new) (g ∷ old) h (suc i) c e f at a b sep =
     let both = and_parts (not (keeps_apart p.rule) || same_elem d g) (agree picks new old) h in
     agree_means ms picks within.1 new old both.1 i c e f
@@ -80,7 +64,7 @@ agree_fails ms (p ∷ picks) within (d ∷ new) (g ∷ old) h all =
           (ap (λ (o : Option Meaning). slice_get (picked_before o p.rule (picked ms picks)) 0)
           there.1) refl refl apart.0 in
           both_ways (same_elem d g) apart.1
-          (subst (λ (f : Elem). same_elem d f ≡ true) same (elem_self d))
+          (subst (λ (f : Elem). same_elem d f ≡ true) same (same_elem-self d))
       | inr wrong ↦
           agree_fails ms picks within.1 new old wrong (λ i c e f at a b sep.
           all (suc i) c e f (picked_later ms p picks within.0 i ∙ at) a b sep)

@@ -4,6 +4,7 @@ pub mod Composites
 pub mod Covers
 pub mod CoverLaws
 pub mod Comparisons
+pub mod Keys
 pub mod Laws
 pub mod Steps
 pub mod Exact

@@ -3,46 +3,26 @@
 use Rattle.std.specs.Prelude.{◌≡◌, ◌≢◌, ℕ, suc, ◌+◌, ◌<◌, Bool, true, ◌&&◌, List}
 use Rattle.std.specs.Prelude.{[], ◌∷◌, length, refl, ◌⊎◌}
 use Rattle.std.proofs.Common.{sym, ap, ◌∙◌, subst, inl, inr, ⊎_elim, arith}
-use Rattle.std.proofs.lemmas.Bool.{and_parts, both_ways, cases_Bool}
-use Rattle.cpa_model.specs.declared.facts.Fact.{Fact}
+use Rattle.std.proofs.lemmas.Bool.{both_ways, cases_Bool}
 use Rattle.cpa_model.specs.declared.facts.Elem.{Elem}
 use Rattle.cpa_model.specs.declared.automaton.Cfa.{Cfa}
-use Rattle.cpa_model.specs.Standing.{same_fact}
-use Rattle.cpa_model.specs.StandingLaws.{same_fact-means, same_fact-self}
 use Rattle.cpa_iface.specs.declared.merging.MergeRule.{MergeRule}
 use Rattle.cpa_iface.specs.declared.merging.MergeRule.TheVariants.{Sep, Join, Widen}
 use Rattle.cpa_iface.specs.declared.precisions.Precision.{Precision}
 use Rattle.cpa_iface.specs.Laws.{MergeLaws}
 use Rattle.cpa_composite.specs.Components.{Component}
-use Rattle.cpa_composite.specs.Comparisons.{same_facts, same_elem}
+use Rattle.cpa_reached_key.specs.Rows.{same_elem}
+use Rattle.cpa_reached_key.specs.RowLaws.{same_elem-means, same_elem-self}
 use Rattle.cpa_composite.specs.Covers.{all_cover}
 use Rattle.cpa_composite.specs.Laws.{EachMerged, MergedRow, AgreeOnSep, WidenCovers}
 use Rattle.cpa_composite.specs.Ranks.{rank_by, row_rank, JoinNone}
 
-facts_mean : (fs gs : List Fact) → same_facts fs gs ≡ true → fs ≡ gs
-facts_mean [] [] h = refl
-facts_mean [] (g ∷ gs) h = absurd (cc)
-facts_mean (f ∷ fs) [] h = absurd (cc)
-facts_mean (f ∷ fs) (g ∷ gs) h =
-    let p = and_parts (same_fact f g) (same_facts fs gs) h in
-    let a = same_fact-means f g p.0 in let b = facts_mean fs gs p.1 in cc
-
-facts_self : (fs : List Fact) → same_facts fs fs ≡ true
-facts_self [] = refl
-facts_self (f ∷ fs) = ap (λ (b : Bool). b && same_facts fs fs) (same_fact-self f) ∙ facts_self fs
-
-pub elem_means : (e f : Elem) → same_elem e f ≡ true → e ≡ f
-elem_means e f h = ap (λ (fs : List Fact). record { facts = fs }) (facts_mean e.facts f.facts h)
-
-pub elem_self : (e : Elem) → same_elem e e ≡ true
-elem_self e = facts_self e.facts
-
 -- an element is another one or not
 pub elem_is : (e f : Elem) → (e ≡ f) ⊎ (e ≢ f)
 elem_is e f =
-    ⊎_elim (λ yes. inl (elem_means e f yes))
+    ⊎_elim (λ yes. inl (same_elem-means e f yes))
     (λ no. inr (λ same. both_ways (same_elem e f) no
-    (subst (λ (x : Elem). same_elem e x ≡ true) same (elem_self e))))
+    (subst (λ (x : Elem). same_elem e x ≡ true) same (same_elem-self e))))
     (cases_Bool (same_elem e f))
 
 rule_cases : {P : Type 0} (r : MergeRule) → (r ≡ Sep → P) → (r ≡ Join → P) → (r ≡ Widen → P) → P

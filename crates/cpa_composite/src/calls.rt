@@ -15,6 +15,7 @@ ghost use Rattle.cpa_composite.specs.Laws.{EachMerged, EachRefined, some_longer}
 use crate::{choosing, comparing, rows};
 use cpa_iface::{Analysis, Entry, Pick, Precision, Settings};
 use cpa_model::{Cfa, Elem, Path};
+use cpa_reached_key::same_row;
 use std::alloc::{AllocError, Global};
 
 /// What each analysis begins with.
@@ -67,7 +68,7 @@ fn other_row(merged: Vec<Elem>, old: &[Elem]) -> Option<Vec<Elem>>
         (row.items ≡ merged.items) × (merged.items ≢ old.now)) }
     ensures none { IfNone result (merged.items ≡ old.now) }
 {
-    if comparing::same_row(&merged, old) {
+    if same_row(&merged, old) {
         return None;
     }
     Some(merged)

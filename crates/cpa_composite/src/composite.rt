@@ -9,7 +9,7 @@ ghost use Rattle.cpa_composite.specs.Components.{picked, ArePlaces, AreElems};
 ghost use Rattle.cpa_composite.specs.Components.{ArePrecisions, IsEntryOf};
 ghost use Rattle.cpa_composite.specs.Picks.{places-prop};
 
-use crate::{calls, rows};
+use crate::{calls, keys, rows};
 use cpa_iface::{Analysis, Entry, Pick, Precision, Settings};
 use cpa_model::{Cfa, Elem, Path};
 use std::alloc::{AllocError, Global};
@@ -25,6 +25,7 @@ pub struct Composite<A: Analysis> {
 impl<A: Analysis> Composite<A> {
     ghost use Rattle.cpa_composite.specs.Composites.{components};
     ghost use Rattle.cpa_composite.specs.Covers.{all_cover, IsWithinRow};
+    ghost use Rattle.cpa_composite.specs.Keys.{key_places};
     ghost use Rattle.cpa_composite.specs.Laws.{InitialRow, SuccessorRows, MergedRow, AdjustedRow};
     ghost use Rattle.cpa_composite.specs.Laws.{RefinedRow, AgreeOnSep, WidenCovers};
     ghost use Rattle.cpa_composite.specs.Laws.{SuggestionsStand, EachMerged, EachRefined};
@@ -36,6 +37,14 @@ impl<A: Analysis> Composite<A> {
         ensures size { length (components result) ≡ length picks.items }
     {
         Composite { handed, picks }
+    }
+
+    /// The numbers of the picks that are exact on the point or on the stack and keep their elements
+    /// apart, counted from 0, ascending. By their elements entries are told apart.
+    pub fn key_places(&self, alloc: Global) -> Result<Vec<u32>, AllocError>
+        ensures { IfOk result (λ places. places.items ≡ key_places (components self.now)) }
+    {
+        keys::key_places(&self.handed, &self.picks, alloc)
     }
 
     /// The element and the precision of each analysis to begin with.

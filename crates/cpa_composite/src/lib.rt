@@ -8,6 +8,7 @@ mod choosing;
 mod comparing;
 mod composite;
 mod handed;
+mod keys;
 mod laws;
 mod rows;
 

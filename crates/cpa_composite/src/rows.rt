@@ -132,7 +132,7 @@ pub(crate) fn merges<A: Analysis>(
 }
 
 /// A place as a number of 32 bits. One that is beyond them counts as want of memory.
-fn number_of(place: usize) -> Result<u32, AllocError>
+pub(crate) fn number_of(place: usize) -> Result<u32, AllocError>
     ensures { IfOk result (λ number. number ≡ place) }
 {
     if place > u32::MAX as usize {

@@ -260,6 +260,7 @@ begins_standing cfa cs settings pivot newest old new laws numbered precise binds
             subst (λ (o : Option (ℕ × ℕ)). IfSome o (λ p. p.1 < length cfa.edges)) (sym was.parent)
             (member_of (HasEdge cfa) xs was.entry stands.entries.edges was.is_in));
       };
+      places = begins.places ∙ stands.places;
       covers = begins_covering cfa pivot newest old new laws.removes begins numbered.ascend
           stands.covers;
       began = numbers ys;

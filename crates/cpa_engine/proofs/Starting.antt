@@ -10,9 +10,10 @@ use Rattle.cpa_iface.specs.declared.analysis.Settings.{Settings}
 use Rattle.cpa_iface.specs.declared.entries.Entry.{Entry}
 use Rattle.cpa_iface.specs.declared.precisions.Precision.{Precision}
 use Rattle.cpa_composite.specs.Components.{Component}
+use Rattle.cpa_composite.specs.Keys.{key_places}
 use Rattle.cpa_composite.specs.Laws.{InitialRow}
 use Rattle.cpa_composite.specs.Ranks.{row_height, HaveFixedHeights, IsRanked}
-use Rattle.cpa_reached.specs.Calls.{begun, fresh}
+use Rattle.cpa_reached.specs.Calls.{begun, indexed, fresh}
 use Rattle.cpa_reached.specs.Entries.{numbers}
 use Rattle.cpa_model.specs.Ascending.{AreAscending}
 use Rattle.cpa_reached.specs.Members.{IsIn}
@@ -41,9 +42,9 @@ first es ps = fresh 0 es ps None
 
 pub start_stands : (cfa : Cfa) (cs : List Component) (settings : Settings) (es : List Elem)
     (ps : List Precision) → StartLaws cfa cs settings es ps → InitialRow cs cfa settings es ps
-    → Stands cfa cs settings (begun es ps)
+    → Stands cfa cs settings (indexed (begun es ps) (key_places cs))
 start_stands cfa cs settings es ps laws row =
-    let r = begun es ps in
+    let r = indexed (begun es ps) (key_places cs) in
     let x = first es ps in
     let key : KeyRoot cfa cs es = laws.lines.roots x (inl refl) refl in
     let one : (P : Entry → Type 0) → P x → (e : Entry) → IsIn e r.live → P e =
@@ -55,6 +56,7 @@ start_stands cfa cs settings es ps laws row =
         each = (record { elems = row.elems; precisions = row.precisions }, tt);
         edges = (tt, tt);
       };
+      places = refl;
       covers = record {
         start = record { entry = x; is_in = inl refl; root = refl; lies = row.holds };
         successors = λ e s t there rests lies step.

@@ -31,6 +31,7 @@ pub record TurnKeeps (cfa : Cfa) (cs : List Component) (order : Order) (old new 
     : Type 0 where
   pub turned : Turned cfa cs order old new
   pub entries : AreEntries cfa (length cs) new.live
+  pub places : new.places ≡ old.places
   pub covers : CoversSuccessors cfa old.live → CoversSuccessors cfa new.live
   pub journal : (began : List ℕ) → IsJournalOf began old → IsJournalOf began new
   pub keys : WidenBesideKeys cs → HaveOwnKeys cs old.live → HaveOwnKeys cs new.live
@@ -58,6 +59,7 @@ turn_stands cfa cs settings order old new keeps stands =
     let more = one_row_more cfa cs order old new keeps.turned in
     record {
       entries = keeps.entries;
+      places = keeps.places ∙ stands.places;
       covers = keeps.covers stands.covers;
       began = stands.began;
       journal = keeps.journal stands.began stands.journal;

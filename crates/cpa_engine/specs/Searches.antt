@@ -10,6 +10,7 @@ use Rattle.cpa_iface.specs.declared.analysis.Settings.{Settings}
 use Rattle.cpa_iface.specs.declared.entries.Entry.{Entry}
 use Rattle.cpa_composite.specs.Components.{Component, ArePrecisions}
 use Rattle.cpa_composite.specs.Exact.{BindAll, pins}
+use Rattle.cpa_composite.specs.Keys.{key_places}
 use Rattle.cpa_composite.specs.Ranks.{row_height}
 use Rattle.cpa_config.specs.declared.config.Config.{Config}
 use Rattle.cpa_reached.specs.Entries.{ReachedSet, IsNumbered, numbers, waiting_numbers}
@@ -50,10 +51,11 @@ pub record StatesFrom (cfa : Cfa) (cs : List Component) (settings : Settings)
 abbrev pub AreLeft : Cfa → List Component → ℕ → ReachedSet → ℕ → Type 0
 AreLeft cfa cs count r limit = turns_left cfa cs count r.live + length r.journal ≤ limit
 
--- What holds of the reached set.
+-- What holds of the reached set, which is indexed by the elements that tell entries apart.
 pub record Stands (cfa : Cfa) (cs : List Component) (settings : Settings) (r : ReachedSet) : Type 0
   where
     pub entries : AreEntries cfa (length cs) r.live
+    pub places : r.places ≡ key_places cs
     pub covers : CoversSuccessors cfa r.live
     pub began : List ℕ
     pub journal : IsJournalOf began r

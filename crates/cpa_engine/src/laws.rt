@@ -10,11 +10,12 @@ ghost use Rattle.cpa_iface.specs.declared.analysis.Settings.{Settings};
 ghost use Rattle.cpa_iface.specs.declared.precisions.Precision.{Precision};
 ghost use Rattle.cpa_composite.specs.Components.{Component, ArePrecisions};
 ghost use Rattle.cpa_composite.specs.Exact.{BindAll};
+ghost use Rattle.cpa_composite.specs.Keys.{key_places};
 ghost use Rattle.cpa_composite.specs.Laws.{InitialRow};
 ghost use Rattle.cpa_config.specs.declared.config.Config.{Config};
 ghost use Rattle.cpa_path.specs.Judgements.{WantsSolver};
 ghost use Rattle.cpa_path.specs.Paths.{HasNoRun};
-ghost use Rattle.cpa_reached.specs.Calls.{begun};
+ghost use Rattle.cpa_reached.specs.Calls.{begun, indexed};
 ghost use Rattle.cpa_reached.specs.Entries.{ReachedSet, IsNumbered};
 ghost use Rattle.cpa_reached.specs.Paths.{IsPathTo};
 ghost use Rattle.cpa_engine_rounds.specs.Clearing.{BeginsBelow};
@@ -43,11 +44,12 @@ pub(crate) fn error_paths_are_kept()
     paths_are_kept();
 }
 
-/// A law: of the first entry alone all holds that lasts between turns.
+/// A law: of the first entry alone, indexed by what tells entries apart, all holds that lasts
+/// between turns.
 pub(crate) fn searches_begin()
     ensures stands { (cfa : Cfa) (cs : List Component) (settings : Settings) (es : List Elem)
         (ps : List Precision) → IsAutomaton cfa → InitialRow cs cfa settings es ps
-        → Stands cfa cs settings (begun es ps) }
+        → Stands cfa cs settings (indexed (begun es ps) (key_places cs)) }
     ensures binds { (cfa : Cfa) (cs : List Component) (settings : Settings) (es : List Elem)
         (ps : List Precision) → InitialRow cs cfa settings es ps → IsExactRun cs settings
         → BindAll cfa cs ps }

@@ -42,7 +42,8 @@ pub(crate) enum Came {
     Again,
 }
 
-/// The search before its first round: the first entry waits.
+/// The search before its first round: the first entry waits. Entries are indexed by the elements
+/// that tell them apart.
 pub(crate) fn start<A: Analysis>(
     alloc: Global,
     cfa: &Cfa,
@@ -57,7 +58,9 @@ pub(crate) fn start<A: Analysis>(
     searches_begin();
     let (elems, precisions) = composite.initial(alloc, cfa, &config.settings)?;
     let newest = copy_precisions(alloc, &precisions)?;
-    let reached = Reached::new(alloc, elems, precisions)?;
+    let places = composite.key_places(alloc)?;
+    let mut reached = Reached::new(alloc, elems, precisions)?;
+    reached.index_by(&places)?;
     Ok(Search {
         reached,
         newest: Seq::from_vec(newest),

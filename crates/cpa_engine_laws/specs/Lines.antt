@@ -1,6 +1,6 @@
 -- What an entry has of its parent, where its elements are pins: of points and stacks, by which
 -- entries are told apart, or of whole states (this project's own).
-use Rattle.std.specs.Prelude.{◌≡◌, ℕ, List, slice_get, Some, None}
+use Rattle.std.specs.Prelude.{◌≡◌, ℕ, List, length, slice_get, Some, None}
 use Rattle.std.specs.List.{AllByRecursion}
 use Rattle.cpa_model.specs.declared.automaton.Cfa.{Cfa}
 use Rattle.cpa_model.specs.declared.automaton.Edge.{Edge}
@@ -16,6 +16,12 @@ use Rattle.cpa_composite.specs.Exact.{AreExact, BindAll, HaveEachPart, pins}
 use Rattle.cpa_reached.specs.Members.{IsIn}
 use Rattle.cpa_engine_turn.specs.Bounds.{KeyStepsTo}
 use Rattle.cpa_engine_turn.specs.Keys.{key_of}
+
+-- The row has an item for each component, and the key of a state.
+pub record HasStateKey (cs : List Component) (es : List Elem) : Type 0 where
+  pub size : length es ≡ length cs
+  pub state : State
+  pub key : key_of cs es ≡ key_of cs (pins cs state)
 
 -- An entry without parent has a first row, and each other one stands to its parent as its edge
 -- says.

@@ -11,3 +11,4 @@ pub mod Bounded
 pub mod Telling
 pub mod Growing
 pub mod Starting
+pub mod Covering

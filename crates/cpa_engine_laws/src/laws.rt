@@ -2,7 +2,7 @@
 //! shown in `specs/lemmas`.
 
 ghost use Rattle.std.specs.Prelude.{◌≡◌, ℕ, ◌+◌, ◌*◌, ◌<◌, ◌≤◌, List, [], length, Some, slice_get};
-ghost use Rattle.std.specs.Prelude.{true};
+ghost use Rattle.std.specs.Prelude.{true, IsTrue};
 ghost use Rattle.std.specs.List.{Contains};
 ghost use Rattle.cpa_model.specs.declared.automaton.Cfa.{Cfa};
 ghost use Rattle.cpa_model.specs.declared.automaton.Path.{Path};
@@ -17,11 +17,12 @@ ghost use Rattle.cpa_iface.specs.declared.analysis.Settings.{Settings};
 ghost use Rattle.cpa_iface.specs.declared.entries.Entry.{Entry};
 ghost use Rattle.cpa_iface.specs.declared.merging.Order.{Order};
 ghost use Rattle.cpa_iface.specs.declared.precisions.Precision.{Precision};
-ghost use Rattle.cpa_iface.specs.Meanings.{IsPathOf};
-ghost use Rattle.cpa_iface.specs.Pins.{pin};
+ghost use Rattle.cpa_iface.specs.Meanings.{Meaning, IsPathOf};
+ghost use Rattle.cpa_iface.specs.Pins.{pin, pin_of};
 ghost use Rattle.cpa_composite.specs.Components.{Component};
-ghost use Rattle.cpa_composite.specs.Exact.{HaveEachPart, pins};
-ghost use Rattle.cpa_composite.specs.Laws.{InitialRow, RefinedRow};
+ghost use Rattle.cpa_composite.specs.Exact.{IsControl, HaveEachPart, pins};
+ghost use Rattle.cpa_composite.specs.Keys.{is_key};
+ghost use Rattle.cpa_composite.specs.Laws.{InitialRow, MergedRow, RefinedRow};
 ghost use Rattle.cpa_composite.specs.Ranks.{row_height, HaveFixedHeights};
 ghost use Rattle.cpa_reached.specs.Calls.{begun};
 ghost use Rattle.cpa_reached.specs.Entries.{ReachedSet, IsNumbered, numbers, waiting_numbers};
@@ -30,12 +31,14 @@ ghost use Rattle.cpa_reached.specs.Members.{IsIn};
 ghost use Rattle.cpa_reached.specs.Paths.{IsPathTo};
 ghost use Rattle.cpa_engine_turn.specs.Bounds.{turns_due, turns_left, KeysBound, AreBounded};
 ghost use Rattle.cpa_engine_turn.specs.Bounds.{StatesBound, ArePinned};
-ghost use Rattle.cpa_engine_turn.specs.Keys.{is_key, key_of, WidenBesideKeys, HaveOwnKeys};
+ghost use Rattle.cpa_engine_turn.specs.Keys.{key_of, WidenBesideKeys, HaveOwnKeys, HasPlaces};
+ghost use Rattle.cpa_engine_turn.specs.Stages.{fellows, first_cover};
 ghost use Rattle.cpa_engine_turn.specs.Turns.{AreEntries, Turned};
 ghost use Rattle.cpa_engine_laws.specs.Cells.{TellCells, all_untracked};
 ghost use Rattle.cpa_engine_laws.specs.Chains.{HaveApart, PointsChain, SitesChain, WalksTo};
 ghost use Rattle.cpa_engine_laws.specs.Chains.{StepsBy, AreSettled, RunsToInput};
 ghost use Rattle.cpa_engine_laws.specs.Lines.{AreKeyLines, ArePinLines, KeyRoot, PinStates};
+ghost use Rattle.cpa_engine_laws.specs.Lines.{HasStateKey};
 ghost use Rattle.cpa_engine_laws.specs.Pairs.{ArePairs, pair_keys};
 ghost use Rattle.cpa_engine_laws.specs.States.{AreReachable, HasNoInput};
 
@@ -89,6 +92,22 @@ pub fn keys_tell()
     ensures control { (cfa : Cfa) (cs : List Component) (s t : State) → HaveApart cs part.Point
         → HaveApart cs part.Stack → key_of cs (pins cs s) ≡ key_of cs (pins cs t)
         → (s.point ≡ t.point) × (s.stack ≡ t.stack) }
+{}
+
+/// A law: nothing is lost where a row is compared with the entries of its key alone. A pin of the
+/// point or of the stack is covered by no other one, so the first entry that covers a row is the
+/// first one under its key; and rows that merge have one key.
+pub fn keys_lose_nothing()
+    ensures pins { (m : Meaning) (s t : State) → IsControl m.part
+        → IsTrue (m.cover (pin_of m.part s) (pin_of m.part t))
+        → pin_of m.part s ≡ pin_of m.part t }
+    ensures covers { (cs : List Component) (r : ReachedSet) (es : List Elem) → HasPlaces cs r
+        → HasStateKey cs es → ((e : Entry) → IsIn e r.live → HasStateKey cs e.elems)
+        → first_cover cs es (fellows r es) ≡ first_cover cs es r.live }
+    ensures merges { (cfa : Cfa) (cs : List Component) (new old : List Elem)
+        (ps : List Precision) (merged : List Elem) → length new ≡ length cs
+        → length old ≡ length cs → MergedRow cs cfa new old ps merged
+        → key_of cs new ≡ key_of cs old }
 {}
 
 /// A law: where each part of a state has its component, the pins of a state hold of no other one.

@@ -5,6 +5,6 @@
 mod laws;
 
 pub use laws::{
-    keys_tell, lines_are_kept, lines_begin, pairs_bound_turns, paths_are_kept, pins_tell,
-    refinements_are_few, states_bound_turns, turns_are_bounded,
+    keys_lose_nothing, keys_tell, lines_are_kept, lines_begin, pairs_bound_turns, paths_are_kept,
+    pins_tell, refinements_are_few, states_bound_turns, turns_are_bounded,
 };

@@ -15,7 +15,7 @@ renewed gone pivot newest e =
     if is_opened gone pivot e then with_precisions newest (opened e) else e
 
 -- A round begins below the pivot: exactly its strict descendants are gone, and the journal is
--- empty.
+-- empty. Numbers and places are as before.
 pub record BeginsBelow (pivot : ℕ) (newest : List Precision) (old new : ReachedSet) : Type 0 where
   pub gone : List ℕ
   pub all : (n : ℕ) → IsBelow old.live pivot n → is_in n gone ≡ true
@@ -23,3 +23,4 @@ pub record BeginsBelow (pivot : ℕ) (newest : List Precision) (old new : Reache
   pub live : new.live ≡ map (renewed gone pivot newest) (without gone old.live)
   pub journal : new.journal ≡ []
   pub next : new.next ≡ old.next
+  pub places : new.places ≡ old.places

@@ -80,6 +80,7 @@ fn renew(
         ≡ map (with_newest found.now newest.now) reached.old.live) }
     ensures journal { reached.new.journal ≡ reached.old.journal }
     ensures next { reached.new.next ≡ reached.old.next }
+    ensures places { reached.new.places ≡ reached.old.places }
 {
     for number in found {
         let precisions = copy_precisions(alloc, newest)?;

@@ -21,9 +21,9 @@ use Rattle.cpa_reached.specs.Members.{IsIn}
 use Rattle.cpa_reached.specs.Entries.{ReachedSet, IsNext, numbers}
 use Rattle.cpa_reached.specs.Calls.{taken, gains, fresh}
 use Rattle.cpa_engine_turn.specs.Bounds.{turns_left, KeysBound, HasKey, AreBounded}
-use Rattle.cpa_engine_turn.specs.Keys.{key_of}
+use Rattle.cpa_engine_turn.specs.Keys.{key_of, HasPlaces}
 use Rattle.cpa_engine_turn.specs.Stages.{Stage, taking, Compares, ComparesAll}
-use Rattle.cpa_engine_turn.specs.Stages.{first_cover}
+use Rattle.cpa_engine_turn.specs.Stages.{first_cover, fellows}
 use Rattle.cpa_engine_turn.specs.Stages.{covered_or_added, Settles, SettlesAll, FollowsAll, Works}
 use Rattle.cpa_engine_turn.specs.Steps.{IsOrdered}
 use Rattle.cpa_engine_turn.specs.Turns.{AreEntries}
@@ -36,7 +36,7 @@ use Rattle.cpa_engine_turn.specs.lemmas.Keyed.{merged_key}
 use Rattle.cpa_engine_turn.specs.lemmas.Lists.{in_push}
 use Rattle.cpa_engine_turn.proofs.Owning.{own_along, own_taken}
 use Rattle.cpa_engine_turn.proofs.Places.{each_at}
-use Rattle.cpa_engine_turn.proofs.Progress.{ordered_along}
+use Rattle.cpa_engine_turn.proofs.Progress.{ordered_along, fits_along}
 use Rattle.cpa_engine_turn.proofs.Shapes.{each_in, entries_along, taken_entries}
 use Rattle.cpa_engine_turn.proofs.Turning.{waits_there, was_there, ordered_before}
 use Rattle.cpa_engine_turn.proofs.Working.{compares_lead, settles_lead}
@@ -71,6 +71,7 @@ record Within (cfa : Cfa) (cs : List Component) (keys : List (List Elem)) (limit
     : Type 0 where
   ordered : IsOrdered a.reached
   are : AreEntries cfa (length cs) a.reached.live
+  fits : HasPlaces cs a.reached
   bounded : AreBounded cfa cs keys a.reached.live
   left : turns_left cfa cs (length keys) a.reached.live ≤ limit
 
@@ -118,6 +119,7 @@ compares_within cfa cs keys limit es ps n a b laws bound shaped precise fits (in
     record {
       ordered = ordered_along cfa cs a b leads w.ordered;
       are = entries_along cfa cs a b leads w.are;
+      fits = fits_along cfa cs a b leads w.fits;
       bounded = record {
         own = own_along cfa cs a b bound.widen leads w.ordered w.bounded.own;
         keyed = all_along (HasKey cfa cs keys) xs b.reached.live replaces.elems from
@@ -180,7 +182,7 @@ settles_within cfa cs keys limit ps edge row a b laws bound less precise fits se
     let qs = settles.precisions in
     let m = settles.compared in
     let adjusted = settles.adjusted in
-    let o = first_cover cs es m.reached.live in
+    let o = first_cover cs es (fellows m.reached es) in
     let new : Fits cfa cs keys es = record {
       size = adjusted.elems.size;
       key = key_kept cfa cs keys row es
@@ -192,9 +194,9 @@ settles_within cfa cs keys limit ps edge row a b laws bound less precise fits se
           adjusted;
     } in
     let middle : Within cfa cs keys limit m =
-    all_compares_within cfa cs keys limit es qs (numbers a.reached.live) a m laws bound
+    all_compares_within cfa cs keys limit es qs (numbers (fellows a.reached es)) a m laws bound
     adjusted.elems adjusted.precisions new settles.compares w in
-    let leads = settles_lead cfa cs ps edge row a b less w.are w.ordered settles in
+    let leads = settles_lead cfa cs ps edge row a b less w.are w.ordered w.fits settles in
     let ordered = ordered_along cfa cs a b leads w.ordered in
     let own = own_along cfa cs a b bound.widen leads w.ordered w.bounded.own in
     let from = ended_from cfa es qs edge o m b settles.is in
@@ -204,6 +206,7 @@ settles_within cfa cs keys limit ps edge row a b laws bound less precise fits se
     record {
       ordered = ordered;
       are = entries_along cfa cs a b leads w.are;
+      fits = fits_along cfa cs a b leads w.fits;
       bounded = record {
         own = own;
         keyed = keyed;
@@ -286,9 +289,9 @@ pub record Bounded (cfa : Cfa) (cs : List Component) (keys : List (List Elem))
 pub turned_bound : (cfa : Cfa) (cs : List Component) (order : Order) (r : ReachedSet) (n : ℕ)
     (new : ReachedSet) (keys : List (List Elem)) → Laws cfa cs → KeysBound cfa cs keys
     → IsNext order r.live n → IsOrdered (taken n r) → AreEntries cfa (length cs) r.live
-    → Works cfa cs n (taken n r) new → AreBounded cfa cs keys r.live
+    → HasPlaces cs r → Works cfa cs n (taken n r) new → AreBounded cfa cs keys r.live
     → Bounded cfa cs keys r.live new.live
-turned_bound cfa cs order r n new keys laws bound next ordered are works bounded =
+turned_bound cfa cs order r n new keys laws bound next ordered are fits works bounded =
     let limit = turns_left cfa cs (length keys) (taken n r).live in
     let waiting = waits_there r.live n next.waits in
     let x = works.entry in
@@ -303,7 +306,13 @@ turned_bound cfa cs order r n new keys laws bound next ordered are works bounded
       key = first.keyed x works.is_in;
       ranked = first.ranked x works.is_in;
     }) edges.follows
-    (record { ordered = ordered; are = entries; bounded = first; left = omega arith }) in
+    (record {
+      ordered = ordered;
+      are = entries;
+      fits = fits;
+      bounded = first;
+      left = omega arith;
+    }) in
     let less = taken_left cfa cs (length keys) n r.live waiting.entry
     (ordered_before r n ordered).ascend
     waiting.is_in waiting.is waiting.waiting in

@@ -3,23 +3,23 @@
 -- it when all were compared (`compares_good`).
 use Rattle.std.proofs.Common.{◌≡◌, ◌≢◌, zero, suc, Bool, true, cond}
 use Rattle.std.proofs.Common.{List}
-use Rattle.std.proofs.Common.{[], ◌∷◌, length, refl, sym, ap, ◌∙◌}
+use Rattle.std.proofs.Common.{[], ◌∷◌, length, sym, ap, ◌∙◌}
 use Rattle.std.proofs.Common.{subst}
-use Rattle.std.proofs.Common.{inl, inr, ⊎_elim, arith}
+use Rattle.std.proofs.Common.{inl, inr, ⊎_elim}
 use Rattle.std.specs.Prelude.{◌⊎◌}
 use Rattle.std.proofs.lemmas.Bool.{cases_Bool, and_parts}
 use Rattle.std.proofs.lemmas.Option.{same_Some}
 use Rattle.cpa_model.specs.declared.automaton.Cfa.{Cfa}
 use Rattle.cpa_model.specs.declared.facts.Elem.{Elem}
-use Rattle.cpa_iface.specs.declared.merging.MergeRule.{MergeRule}
 use Rattle.cpa_iface.specs.declared.merging.MergeRule.TheVariants.{Sep, Join, Widen}
 use Rattle.cpa_iface.specs.declared.precisions.Precision.{Precision}
 use Rattle.cpa_composite.specs.Comparisons.{keeps_apart}
 use Rattle.cpa_composite.specs.Components.{Component}
-use Rattle.cpa_composite.specs.Laws.{AgreeOnSep, WidenCovers, MergedRow, EachMerged}
+use Rattle.cpa_composite.specs.Keys.{is_key}
+use Rattle.cpa_composite.specs.Laws.{AgreeOnSep, WidenCovers, MergedRow}
 use Rattle.cpa_composite.specs.Ranks.{JoinNone}
 use Rattle.cpa_composite.specs.RankLaws.{stays_covers, merged_covers}
-use Rattle.cpa_engine_turn.specs.Keys.{is_key, key_of, WidenBesideKeys, CoversKey}
+use Rattle.cpa_engine_turn.specs.Keys.{key_of, WidenBesideKeys, CoversKey}
 use Rattle.cpa_engine_turn.specs.lemmas.Keyed.{apart, heads}
 
 -- none of them joins

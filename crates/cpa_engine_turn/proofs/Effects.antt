@@ -27,6 +27,7 @@ use Rattle.cpa_reached.specs.Entries.{ReachedSet, IsLive, numbers}
 use Rattle.cpa_reached.specs.Calls.{gains, fresh, rename, renamed}
 use Rattle.cpa_reached.specs.Calls.{replacing, others, those, replaced_entries}
 use Rattle.cpa_reached.specs.Calls.{replaced}
+use Rattle.cpa_engine_turn.specs.Keys.{key_of}
 use Rattle.cpa_engine_turn.specs.Turns.{IsNamed, seconds}
 use Rattle.cpa_engine_turn.specs.lemmas.Lists.{in_push, in_front, last_in, in_map_of}
 use Rattle.cpa_engine_turn.specs.Stages.{Stage, noting, adding, replacing_at}
@@ -81,12 +82,12 @@ pub record GivesWay (cfa : Cfa) (b : Stage) (x : Entry) : Type 0 where
   pub pair : IsIn (x.number, entry.number) b.row.replaced
   pub holds : (s : State) → IsStateOf cfa s → LiesIn s x.elems → LiesIn s entry.elems
 
--- a number that was added just now, whose entry nothing covers that was there
+-- a number that was added just now, whose entry nothing of its key covers that was there
 pub record IsJustAdded (cs : List Component) (a b : Stage) (n : ℕ) : Type 0 where
   pub number : n ≡ a.reached.next
   pub rises : a.reached.next < b.reached.next
   pub uncovered : (y x : Entry) → IsIn y b.reached.live → y.number ≡ n → IsIn x a.reached.live
-      → all_cover cs y.elems x.elems ≡ false
+      → key_of cs y.elems ≡ key_of cs x.elems → all_cover cs y.elems x.elems ≡ false
 
 -- a pair that was noted just now
 pub record IsJustPaired (a b : Stage) (p : ℕ × ℕ) : Type 0 where
@@ -185,7 +186,8 @@ notes_effect cfa cs a by ordered =
 -- `add`
 adds_effect : (cfa : Cfa) (cs : List Component) (a : Stage) (es : List Elem) (ps : List Precision)
     (edge : ℕ) → IsOrdered a.reached
-    → ((e : Entry) → IsIn e a.reached.live → all_cover cs es e.elems ≡ false)
+    → ((e : Entry) → IsIn e a.reached.live → key_of cs es ≡ key_of cs e.elems
+    → all_cover cs es e.elems ≡ false)
     → Effect cfa cs a (adding es ps edge a)
 adds_effect cfa cs a es ps edge ordered uncovered =
     let next = a.reached.next in
@@ -241,8 +243,8 @@ adds_effect cfa cs a es ps edge ordered uncovered =
                 in
                 let number = old.alike.number in
                 omega (arith, low, number, is, is_n)))
-                (λ is_new. subst (λ (z : Entry). all_cover cs z.elems x.elems ≡ false) is_new
-                (uncovered x in_x))
+                (λ is_new. subst (λ (z : Entry). key_of cs z.elems ≡ key_of cs x.elems
+                → all_cover cs z.elems x.elems ≡ false) is_new (uncovered x in_x))
                 (from y in_y);
           })) (in_push a.row.added next n there);
       still_added = λ n there. in_front a.row.added (next ∷ []) n there;

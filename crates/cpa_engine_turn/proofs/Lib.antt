@@ -8,6 +8,7 @@ pub mod Shapes
 pub mod Turning
 pub mod Keeping
 pub mod Settled
+pub mod Fellows
 pub mod Places
 pub mod Working
 pub mod Beginning

@@ -53,17 +53,19 @@ gained_keyed cs n by xs y there =
 
 -- a row that nothing covers has another key
 other_key : (cs : List Component) (es : List Elem) (xs : List Entry) (x : Entry)
-    → AllByRecursion (CoversKey cs es) (rows_of xs) → IsIn x xs → all_cover cs es x.elems ≡ false
+    → AllByRecursion (CoversKey cs es) (rows_of xs) → IsIn x xs
+    → (key_of cs es ≡ key_of cs x.elems → all_cover cs es x.elems ≡ false)
     → key_of cs x.elems ≢ key_of cs es
 other_key cs es xs x compared there uncovered same =
-    both_ways (all_cover cs es x.elems) uncovered
+    both_ways (all_cover cs es x.elems) (uncovered (sym same))
     (each_in (CoversKey cs es) (rows_of xs) x.elems compared
     (in_map_of (λ (e : Entry). e.elems) xs x there) same)
 
 adds_own : (cfa : Cfa) (cs : List Component) (a : Stage) (adds_next : ℕ) (es : List Elem)
     (new : Entry) → new.number ≡ adds_next → new.elems ≡ es
     → AllByRecursion (CoversKey cs es) (rows_of a.reached.live)
-    → ((e : Entry) → IsIn e a.reached.live → all_cover cs es e.elems ≡ false)
+    → ((e : Entry) → IsIn e a.reached.live → key_of cs es ≡ key_of cs e.elems
+    → all_cover cs es e.elems ≡ false)
     → HaveOwnKeys cs a.reached.live
     → HaveOwnKeys cs (map (λ (x : Entry). cond (eqb x.number a.current) (gains adds_next x) x)
     a.reached.live ++ new ∷ [])

@@ -9,7 +9,6 @@ use Rattle.std.proofs.Common.{inl, inr, ⊎_elim, arith}
 use Rattle.std.specs.Prelude.{◌⊎◌}
 use Rattle.std.specs.List.{slice_get, AllByRecursion}
 use Rattle.std.proofs.lemmas.Bool.{both_ways, cond_both}
-use Rattle.std.proofs.lemmas.List.{length-map}
 use Rattle.cpa_model.specs.declared.automaton.Cfa.{Cfa}
 use Rattle.cpa_model.specs.declared.automaton.Edge.{Edge}
 use Rattle.cpa_model.specs.declared.facts.Elem.{Elem}
@@ -17,7 +16,6 @@ use Rattle.cpa_model.specs.declared.states.State.{State}
 use Rattle.cpa_model.specs.Automata.{IsStateOf, StepsAlong}
 use Rattle.cpa_iface.specs.declared.analysis.Part.TheVariants.{Store}
 use Rattle.cpa_iface.specs.declared.entries.Entry.{Entry}
-use Rattle.cpa_iface.specs.declared.merging.MergeRule.{MergeRule}
 use Rattle.cpa_iface.specs.declared.merging.MergeRule.TheVariants.{Sep}
 use Rattle.cpa_iface.specs.declared.merging.Order.{Order}
 use Rattle.cpa_iface.specs.declared.precisions.Precision.{Precision}
@@ -25,14 +23,15 @@ use Rattle.cpa_iface.specs.Pins.{IsSettledBy}
 use Rattle.cpa_composite.specs.Components.{Component, AreElems, ArePrecisions, IsEntryOf}
 use Rattle.cpa_composite.specs.Covers.{all_cover}
 use Rattle.cpa_composite.specs.Exact.{AreExact, BindAll, HaveEachPart, pins}
-use Rattle.cpa_composite.specs.Laws.{SuccessorRows, AdjustedRow, EachMerged}
-use Rattle.cpa_composite.specs.Ranks.{row_rank, rank_by}
+use Rattle.cpa_composite.specs.Laws.{SuccessorRows, AdjustedRow}
 use Rattle.cpa_reached.specs.Members.{IsIn}
 use Rattle.cpa_reached.specs.Entries.{ReachedSet, IsNext, numbers}
 use Rattle.cpa_reached.specs.Calls.{taken, gains, fresh, rests}
 use Rattle.cpa_reached.specs.MemberLaws.{in_map}
 use Rattle.cpa_engine_turn.specs.Bounds.{turns_left, StatesBound, IsPinned, ArePinned}
-use Rattle.cpa_engine_turn.specs.Stages.{Stage, taking, ComparesAll, first_cover}
+use Rattle.cpa_reached_key.specs.Rows.{picked}
+use Rattle.cpa_engine_turn.specs.Keys.{HasPlaces}
+use Rattle.cpa_engine_turn.specs.Stages.{Stage, taking, ComparesAll, first_cover, fellows}
 use Rattle.cpa_engine_turn.specs.Stages.{covered_or_added, Settles, SettlesAll, FollowsAll, Works}
 use Rattle.cpa_engine_turn.specs.Steps.{IsOrdered}
 use Rattle.cpa_engine_turn.specs.Turns.{AreEntries}
@@ -40,8 +39,9 @@ use Rattle.cpa_engine_turn.proofs.Counting.{ended_left, taken_left}
 use Rattle.cpa_engine_turn.specs.lemmas.Counted.{at_most_states, no_ranks, apart_merged}
 use Rattle.cpa_engine_turn.proofs.Effects.{HasAlike, Alike, mild_back, gains_mildly}
 use Rattle.cpa_engine_turn.specs.lemmas.Keyed.{there_is}
-use Rattle.cpa_engine_turn.specs.lemmas.Lists.{in_push, in_map_of}
-use Rattle.cpa_engine_turn.proofs.Progress.{ordered_along}
+use Rattle.cpa_engine_turn.specs.lemmas.Lists.{in_push}
+use Rattle.cpa_engine_turn.proofs.Fellows.{same_fellow}
+use Rattle.cpa_engine_turn.proofs.Progress.{ordered_along, fits_along}
 use Rattle.cpa_engine_turn.proofs.Settled.{none_found}
 use Rattle.cpa_engine_turn.proofs.Shapes.{each_in, entries_along, taken_entries}
 use Rattle.cpa_engine_turn.proofs.Turning.{waits_there, ordered_before}
@@ -90,6 +90,7 @@ record PinsWithin (cfa : Cfa) (cs : List Component) (states : List State) (limit
     : Type 0 where
   ordered : IsOrdered a.reached
   are : AreEntries cfa (length cs) a.reached.live
+  fits : HasPlaces cs a.reached
   pinned : ArePinned cfa cs states a.reached.live
   left : turns_left cfa cs (length states) a.reached.live ≤ limit
 
@@ -132,7 +133,7 @@ once_more xs new once other e f (inr is) (inr too) same =
 -- what comes of a successor that is covered or added
 ended_pinned : (cfa : Cfa) (cs : List Component) (states : List State) (es : List Elem)
     (ps : List Precision) (edge : ℕ) (o : Option ℕ) (m b : Stage)
-    → first_cover cs es m.reached.live ≡ o → b ≡ covered_or_added es ps edge o m
+    → first_cover cs es (fellows m.reached es) ≡ o → b ≡ covered_or_added es ps edge o m
     → IsRowOf cfa cs states es → BindAll cfa cs ps → ArePinned cfa cs states m.reached.live
     → ArePinned cfa cs states b.reached.live
 ended_pinned cfa cs states es ps edge (Some by) m b first is row binds pinned =
@@ -175,7 +176,9 @@ ended_pinned cfa cs states es ps edge None m b first is row binds pinned =
       once = λ e f in_e in_f same.
           once_more m.reached.live new pinned.once
           (λ x there equal.
-          both_ways (all_cover cs es x.elems) (none_found cs es m.reached.live first x there)
+          both_ways (all_cover cs es x.elems)
+          (none_found cs es (fellows m.reached es) first x
+          (same_fellow m.reached es x (ap (picked m.reached.places) equal) there))
           (subst (λ (fs : List Elem). all_cover cs es fs ≡ true) (sym equal) (covers_itself cs es)))
           e f (from e in_e) (from f in_f) same;
     }
@@ -194,10 +197,10 @@ settles_pins cfa cs states limit ps edge row a b laws bound less size binds many
     let adjusted = settles.adjusted in
     let kept = laws.adjust row ps a.reached.live es qs binds many size adjusted in
     let same : m ≡ a =
-    compares_nothing cfa cs es qs (numbers a.reached.live) a m bound.apart adjusted.elems
+    compares_nothing cfa cs es qs (numbers (fellows a.reached es)) a m bound.apart adjusted.elems
     adjusted.precisions w.are settles.compares in
-    let o = first_cover cs es m.reached.live in
-    let leads = settles_lead cfa cs ps edge row a b less w.are w.ordered settles in
+    let o = first_cover cs es (fellows m.reached es) in
+    let leads = settles_lead cfa cs ps edge row a b less w.are w.ordered w.fits settles in
     let ordered = ordered_along cfa cs a b leads w.ordered in
     let new : IsRowOf cfa cs states es = subst (IsRowOf cfa cs states) (sym kept.0) is in
     let pinned : ArePinned cfa cs states b.reached.live =
@@ -207,6 +210,7 @@ settles_pins cfa cs states limit ps edge row a b laws bound less size binds many
     record {
       ordered = ordered;
       are = entries_along cfa cs a b leads w.are;
+      fits = fits_along cfa cs a b leads w.fits;
       pinned = pinned;
       left = ended_left cfa cs (length states) limit es qs edge o m b settles.is
           (omega (arith, none)) (at_most_states cfa cs states b.reached.live ordered.ascend pinned)
@@ -328,9 +332,9 @@ pub record Pinned (cfa : Cfa) (cs : List Component) (states : List State) (old n
 pub turned_pins : (cfa : Cfa) (cs : List Component) (order : Order) (r : ReachedSet) (n : ℕ)
     (new : ReachedSet) (states : List State) → PinLaws cfa cs → StatesBound cfa cs states
     → IsNext order r.live n → IsOrdered (taken n r) → AreEntries cfa (length cs) r.live
-    → Works cfa cs n (taken n r) new → ArePinned cfa cs states r.live
+    → HasPlaces cs r → Works cfa cs n (taken n r) new → ArePinned cfa cs states r.live
     → Pinned cfa cs states r.live new.live
-turned_pins cfa cs order r n new states laws bound next ordered are works pinned =
+turned_pins cfa cs order r n new states laws bound next ordered are fits works pinned =
     let limit = turns_left cfa cs (length states) (taken n r).live in
     let waiting = waits_there r.live n next.waits in
     let x = works.entry in
@@ -347,7 +351,13 @@ turned_pins cfa cs order r n new states laws bound next ordered are works pinned
       is_in = is.is_in;
       is = is.elems;
     }) edges.follows
-    (record { ordered = ordered; are = entries; pinned = first; left = omega arith }) in
+    (record {
+      ordered = ordered;
+      are = entries;
+      fits = fits;
+      pinned = first;
+      left = omega arith;
+    }) in
     let less = taken_left cfa cs (length states) n r.live waiting.entry
     (ordered_before r n ordered).ascend waiting.is_in waiting.is waiting.waiting in
     let left = last.left in

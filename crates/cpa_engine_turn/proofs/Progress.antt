@@ -1,7 +1,7 @@
 -- The turn so far: what holds of each stage, whatever the entries were when the turn began
 -- (`so_far_along`).
 use Rattle.std.proofs.Common.{◌≡◌, ℕ, ◌<◌, ◌≤◌, true, false, List, [], ◌∷◌, ◌++◌}
-use Rattle.std.proofs.Common.{refl, sym, ◌∙◌, subst, inl, inr, ⊎_elim, arith}
+use Rattle.std.proofs.Common.{refl, sym, ap, ◌∙◌, subst, inl, inr, ⊎_elim, arith}
 use Rattle.std.specs.Prelude.{◌⊎◌}
 use Rattle.cpa_model.specs.declared.automaton.Cfa.{Cfa}
 use Rattle.cpa_model.specs.Facts.{LiesIn}
@@ -11,6 +11,7 @@ use Rattle.cpa_composite.specs.Components.{Component}
 use Rattle.cpa_composite.specs.Covers.{all_cover}
 use Rattle.cpa_reached.specs.Members.{IsIn}
 use Rattle.cpa_reached.specs.Entries.{ReachedSet, IsLive}
+use Rattle.cpa_engine_turn.specs.Keys.{key_of, HasPlaces}
 use Rattle.cpa_engine_turn.specs.Turns.{IsNamed, IsFollowedBy, at_once, later, firsts, seconds}
 use Rattle.cpa_engine_turn.specs.Turns.{IsReplaced}
 use Rattle.cpa_engine_turn.specs.lemmas.Lists.{map_push, in_map_of, of_map, distinct_push}
@@ -40,7 +41,8 @@ pub record SoFar (cfa : Cfa) (cs : List Component) (old : List Entry) (start : �
   pub gone : (n : ℕ) → IsIn n (firsts m.row.replaced) → IsLive m.reached.live n → ⊥
   pub once : AreDistinct (firsts m.row.replaced)
   pub uncovered : (e f : Entry) → IsIn e m.reached.live → IsIn e.number m.row.added
-      → IsIn f m.reached.live → f.number < e.number → all_cover cs e.elems f.elems ≡ false
+      → IsIn f m.reached.live → f.number < e.number → key_of cs e.elems ≡ key_of cs f.elems
+      → all_cover cs e.elems f.elems ≡ false
   pub current : IsLive m.reached.live m.current
   pub stands : (m.current ≡ m.row.taken) ⊎ (start ≤ m.current)
 
@@ -248,18 +250,20 @@ so_far_step cfa cs old start a b so e = record {
         → IsIn f b.reached.live → f.number < y.number → HasAlike a.reached.live y ⊎ IsNew a b y
         → HasAlike a.reached.live f ⊎ IsNew a b f
         → IsIn y.number a.row.added ⊎ IsJustAdded cs a b y.number
-        → all_cover cs y.elems f.elems ≡ false
+        → key_of cs y.elems ≡ key_of cs f.elems → all_cover cs y.elems f.elems ≡ false
     uncovered_still y f in_y is_added in_f less (inl has) (inl also) (inl was) =
         let old_y = has.alike.number in
         let old_f = also.alike.number in
         let r = so.uncovered has.entry also.entry has.is_in
         (subst (λ (n : ℕ). IsIn n a.row.added) old_y was) also.is_in
         (omega (arith, less, old_y, old_f)) in
-        subst (λ es. all_cover cs es f.elems ≡ false) (sym has.alike.elems)
-        (subst (λ fs. all_cover cs has.entry.elems fs ≡ false) (sym also.alike.elems) r)
+        subst (λ es. key_of cs es ≡ key_of cs f.elems → all_cover cs es f.elems ≡ false)
+        (sym has.alike.elems)
+        (subst (λ fs. key_of cs has.entry.elems ≡ key_of cs fs
+        → all_cover cs has.entry.elems fs ≡ false) (sym also.alike.elems) r)
     uncovered_still y f in_y is_added in_f less (inl has) (inl also) (inr just) =
-        subst (λ fs. all_cover cs y.elems fs ≡ false) (sym also.alike.elems)
-        (just.uncovered y also.entry in_y refl also.is_in)
+        subst (λ fs. key_of cs y.elems ≡ key_of cs fs → all_cover cs y.elems fs ≡ false)
+        (sym also.alike.elems) (just.uncovered y also.entry in_y refl also.is_in)
     uncovered_still y f in_y is_added in_f less (inl has) (inr new) was =
         absurd (
         let low = below_next a.reached has.entry so.ordered has.is_in in
@@ -270,8 +274,8 @@ so_far_step cfa cs old start a b so e = record {
         let r = so.brought y.number (inl was) in
         let up = r.1 in let next = is.number in omega (arith, up, next))
     uncovered_still y f in_y is_added in_f less (inr is) (inl also) (inr just) =
-        subst (λ fs. all_cover cs y.elems fs ≡ false) (sym also.alike.elems)
-        (just.uncovered y also.entry in_y refl also.is_in)
+        subst (λ fs. key_of cs y.elems ≡ key_of cs fs → all_cover cs y.elems fs ≡ false)
+        (sym also.alike.elems) (just.uncovered y also.entry in_y refl also.is_in)
     uncovered_still y f in_y is_added in_f less (inr is) (inr new) was =
         absurd (let next = is.number in let also = new.number in omega (arith, next, also, less))
 
@@ -292,6 +296,35 @@ pub ordered_along : (cfa : Cfa) (cs : List Component) (a b : Stage) → Leads cf
 ordered_along cfa cs a b leads ordered =
     kept_along cfa cs (λ (m : Stage). IsOrdered m.reached)
     (λ m c o does. (effect cfa cs m c o does).ordered) a b leads ordered
+
+-- the places by which the entries are indexed, along a chain
+does_places : (cfa : Cfa) (cs : List Component) (a b : Stage) → Does cfa cs a b
+    → b.reached.places ≡ a.reached.places
+does_places cfa cs a b (inl notes) = ap (λ (m : Stage). m.reached.places) notes.is
+does_places cfa cs a b (inr (inl adds)) = ap (λ (m : Stage). m.reached.places) adds.is
+does_places cfa cs a b (inr (inr replaces)) = ap (λ (m : Stage). m.reached.places) replaces.is
+
+pub places_along : (cfa : Cfa) (cs : List Component) (a b : Stage) → Leads cfa cs a b
+    → b.reached.places ≡ a.reached.places
+places_along cfa cs a b leads =
+    kept_along cfa cs (λ (m : Stage). m.reached.places ≡ a.reached.places)
+    (λ m c same does. does_places cfa cs m c does ∙ same) a b leads refl
+
+pub fits_by : (cs : List Component) (r s : ReachedSet) → s.places ≡ r.places → HasPlaces cs r
+    → HasPlaces cs s
+fits_by cs r s same fits = ⊎_elim (λ none. inl (same ∙ none)) (λ all. inr (same ∙ all)) fits
+
+pub fits_along : (cfa : Cfa) (cs : List Component) (a b : Stage) → Leads cfa cs a b
+    → HasPlaces cs a.reached → HasPlaces cs b.reached
+fits_along cfa cs a b leads fits =
+    fits_by cs a.reached b.reached (places_along cfa cs a b leads) fits
+
+-- under components that mean the same
+pub fits_on : (cfa : Cfa) (cs ds : List Component) (a b : Stage) → ds ≡ cs → Leads cfa cs a b
+    → HasPlaces cs a.reached → HasPlaces ds b.reached
+fits_on cfa cs ds a b same leads fits =
+    subst (λ (es : List Component). HasPlaces es b.reached) (sym same)
+    (fits_along cfa cs a b leads fits)
 
 record HasBoth (m : Stage) : Type 0 where
   ordered : IsOrdered m.reached

@@ -1,16 +1,15 @@
 -- What the calls on one successor do, as steps of `specs/Stages.antt`.
 use Rattle.std.specs.declared.vec.Vec.{Vec}
 use Rattle.std.specs.declared.alloc.Global.{Global}
-use Rattle.std.proofs.Common.{◌≡◌, ℕ, zero, suc, ◌<◌, true, false, eqb}
+use Rattle.std.proofs.Common.{◌≡◌, ℕ, ◌<◌, true, false, eqb}
 use Rattle.std.proofs.Common.{List}
-use Rattle.std.proofs.Common.{[], ◌∷◌, ◌++◌, length, get_or, Option, Some, None, refl, sym, ap}
+use Rattle.std.proofs.Common.{[], ◌∷◌, ◌++◌, length, Option, Some, None, refl, sym, ap}
 use Rattle.std.proofs.Common.{◌∙◌}
 use Rattle.std.proofs.Common.{subst, inl, inr, ⊎_elim, arith}
 use Rattle.std.specs.Prelude.{IfSome, IfNone}
-use Rattle.std.specs.List.{AllByRecursion, find, slice_get, remove}
+use Rattle.std.specs.List.{AllByRecursion, find}
 use Rattle.std.specs.Option.{option_map}
-use Rattle.std.proofs.lemmas.Bool.{cond_both, eq-eqb, ne_eqb}
-use Rattle.std.proofs.lemmas.Option.{same_Some}
+use Rattle.std.proofs.lemmas.Bool.{cond_both, ne_eqb}
 use Rattle.cpa_model.specs.declared.automaton.Cfa.{Cfa}
 use Rattle.cpa_model.specs.declared.facts.Elem.{Elem}
 use Rattle.cpa_iface.specs.declared.entries.Entry.{Entry}
@@ -18,32 +17,15 @@ use Rattle.cpa_iface.specs.declared.precisions.Precision.{Precision}
 use Rattle.cpa_composite.specs.Components.{Component, AreElems, IsEntryOf}
 use Rattle.cpa_composite.specs.Covers.{all_cover}
 use Rattle.cpa_composite.specs.Laws.{MergedRow, AgreeOnSep, WidenCovers, EachMerged}
-use Rattle.cpa_model.specs.Ascending.{AreAscending}
 use Rattle.cpa_reached.specs.Members.{IsIn}
-use Rattle.cpa_reached.specs.MemberLaws.{in_all, entry_in}
-use Rattle.cpa_reached.specs.Entries.{ReachedSet, IsLive, IsNumbered, numbers}
+use Rattle.cpa_reached.specs.Entries.{ReachedSet, numbers}
 use Rattle.cpa_reached.specs.Calls.{added, replaced, used, others}
 use Rattle.cpa_engine_turn.specs.declared.work.Work.{Work}
-use Rattle.cpa_engine_turn.specs.Stages.{Stage, Compares, ComparesAll, first_cover}
+use Rattle.cpa_engine_turn.specs.Stages.{Stage, replacing_at, Compares, ComparesAll, first_cover}
 use Rattle.cpa_engine_turn.specs.Stages.{covered_or_added}
-use Rattle.cpa_engine_turn.specs.Steps.{stage, with_added, with_replaced, MovesOn}
+use Rattle.cpa_engine_turn.specs.Steps.{stage, with_added, with_replaced}
 use Rattle.cpa_engine_turn.specs.Turns.{AreEntries}
-use Rattle.cpa_engine_turn.proofs.Effects.{replaced_numbers}
 use Rattle.cpa_engine_turn.proofs.Shapes.{each_in}
-
--- the entry at a place is one of the list
-in_at : (xs : List Entry) (i : ℕ) (x : Entry) → i < length xs → x ≡ get_or xs i x → IsIn x xs
-in_at [] i x less is = absurd (omega arith)
-in_at (y ∷ xs) zero x less is = inl (sym is)
-in_at (y ∷ xs) (suc i) x less is = inr (in_at xs i x (omega arith) is)
-
-pub placed_in : (xs ys : List Entry) (i : ℕ) (x : Entry) → ys ≡ xs → i < length xs
-    → x ≡ get_or ys i x → IsIn x xs
-placed_in xs ys i x same less is =
-    in_at xs i x less (is ∙ ap (λ (l : List Entry). get_or l i x) same)
-
-pub live_in_place : (xs : List Entry) (x : Entry) → IsIn x xs → IsLive xs x.number
-live_in_place xs x there = record { entry = x; is_in = there; is = refl }
 
 -- with the entry of a number gone there is one entry less
 pub all_others : (n m : ℕ) (xs : List Entry) → AllByRecursion (λ k. m < k) (numbers xs) → m ≡ n
@@ -94,18 +76,10 @@ none_found cs es (x ∷ xs) is e there =
     (λ behind. none_found cs es xs later e behind) there)
     is
 
-pub covering_live : (cs : List Component) (es : List Elem) (xs : List Entry) (n : ℕ)
-    → Covering cs es xs n → IsLive xs n
-covering_live cs es xs n c = record { entry = c.entry; is_in = c.is_in; is = c.number }
-
-pub found_in : (cs : List Component) (es fs : List Elem) (xs ys : List Entry) (n : ℕ)
-    (o : Option ℕ) → fs ≡ es → ys ≡ xs
-    → o ≡ option_map (λ (e : Entry). e.number) (find (λ (e : Entry). all_cover cs fs e.elems) ys)
-    → o ≡ Some n → Covering cs es xs n
-found_in cs es fs xs ys n o same_es same_xs is some =
-    subst (λ (zs : List Entry). Covering cs es zs n) same_xs
-    (subst (λ (gs : List Elem). Covering cs gs ys n) same_es
-    (found cs fs ys n (sym is ∙ some)))
+pub found_in : (cs : List Component) (es fs : List Elem) (xs : List Entry) (n : ℕ)
+    (o : Option ℕ) → fs ≡ es → o ≡ first_cover cs fs xs → o ≡ Some n → Covering cs es xs n
+found_in cs es fs xs n o same is some =
+    subst (λ (gs : List Elem). Covering cs gs xs n) same (found cs fs xs n (sym is ∙ some))
 
 pub old_shaped : (cfa : Cfa) (cs : List Component) (xs : List Entry) (x : Entry) (old : List Elem)
     → AreEntries cfa (length cs) xs → IsIn x xs → old ≡ x.elems → AreElems cfa (length cs) old
@@ -113,71 +87,37 @@ old_shaped cfa cs xs x old are there same =
     subst (AreElems cfa (length cs)) (sym same)
     (each_in (IsEntryOf cfa (length cs)) xs x are.each there).elems
 
--- the number of the entry at a place
-number_at : (xs : List Entry) (i : ℕ) (x : Entry) (n : ℕ) → i < length xs → x ≡ get_or xs i x
-    → slice_get (numbers xs) i ≡ Some n → x.number ≡ n
-number_at [] i x n less is at = absurd (omega arith)
-number_at (y ∷ xs) zero x n less is at =
-    ap (λ (z : Entry). z.number) is ∙ same_Some y.number n at
-number_at (y ∷ xs) (suc i) x n less is at = number_at xs i x n (omega arith) is at
-
-pub numbered_at : (xs ys : List Entry) (i : ℕ) (x : Entry) (n : ℕ) → ys ≡ xs → i < length xs
-    → x ≡ get_or ys i x → slice_get (numbers xs) i ≡ Some n → x.number ≡ n
-numbered_at xs ys i x n same less is at =
-    number_at xs i x n less (is ∙ ap (λ (l : List Entry). get_or l i x) same) at
-
-gone_at : (xs : List Entry) (i : ℕ) (x : Entry) → AreAscending (numbers xs) → i < length xs
-    → x ≡ get_or xs i x → numbers (others x.number xs) ≡ remove (numbers xs) i
-gone_at [] i x up less is = absurd (omega (arith, less))
-gone_at (y ∷ xs) zero x up less is =
-    let number : y.number ≡ x.number = ap (λ (z : Entry). z.number) (sym is) in
-    let yes : eqb y.number x.number ≡ true = eq-eqb y.number x.number number in
-    rw yes (ap numbers (all_others x.number y.number xs up.0 number))
-gone_at (y ∷ xs) (suc i) x up less is =
-    let there : IsIn x xs = in_at xs i x (omega (arith, less)) is in
-    let above : y.number < x.number =
-    in_all (λ m. y.number < m) (numbers xs) x.number up.0 (entry_in x xs there) in
-    let other : eqb y.number x.number ≡ false =
-    ne_eqb y.number x.number (λ e. omega (arith, above, e)) in
-    rw other (ap (λ (l : List ℕ). y.number ∷ l)
-    (gone_at xs i x up.1 (omega (arith, less)) is))
+-- the row that a merge gave
+pub merged_row : (cfa : Cfa) (cs : List Component) (x : Entry) (successor old : List Elem)
+    (ps : List Precision) (o : Option (Vec Elem Global)) (merged : Vec Elem Global)
+    → old ≡ x.elems → o ≡ Some merged
+    → IfSome o (λ m. MergedRow cs cfa successor old ps m.items)
+    → MergedRow cs cfa successor x.elems ps merged.items
+merged_row cfa cs x successor old ps o merged same some row =
+    subst (λ es. MergedRow cs cfa successor es ps merged.items) same
+    (subst (λ (p : Option (Vec Elem Global)).
+    IfSome p (λ m. MergedRow cs cfa successor old ps m.items)) some row)
 
 -- one comparison: what a merge gave has taken the place of the entry
 pub merged_compares : (cfa : Cfa) (cs : List Component) (r new : ReachedSet) (w v : Work)
     (x : Entry) (successor old : List Elem) (ps : List Precision) (o : Option (Vec Elem Global))
-    (merged : Vec Elem Global) (next n : ℕ) → IsIn x r.live → old ≡ x.elems → o ≡ Some merged
+    (merged : Vec Elem Global) (next k n : ℕ) → IsIn x r.live → x.number ≡ k → k ≡ n
+    → old ≡ x.elems → o ≡ Some merged
     → IfSome o (λ m. MergedRow cs cfa successor old ps m.items) → next ≡ r.next
-    → new ≡ replaced r x.number merged.items → v ≡ with_replaced x.number next w → x.number ≡ n
+    → new ≡ replaced r k merged.items → v ≡ with_replaced k next w
     → Compares cfa cs successor ps n (stage r w) (stage new v)
-merged_compares cfa cs r new w v x successor old ps o merged next n there same some row is_next is
-    is_v number = inr (record {
+merged_compares cfa cs r new w v x successor old ps o merged next k n there is_k is_n same some row
+    is_next is is_v = inr (record {
       entry = x;
       is_in = there;
-      number = number;
+      number = is_k ∙ is_n;
       elems = merged.items;
-      merged = subst (λ es. MergedRow cs cfa successor es ps merged.items) same
-          (subst (λ (p : Option (Vec Elem Global)).
-          IfSome p (λ m. MergedRow cs cfa successor old ps m.items)) some row);
+      merged = merged_row cfa cs x successor old ps o merged same some row;
       is = ap (λ (s : ReachedSet). stage s v) is
-          ∙ ap (λ (u : Work). stage (replaced r x.number merged.items) u)
-          (is_v ∙ ap (λ (k : ℕ). with_replaced x.number k w) is_next);
+          ∙ (ap (λ (u : Work). stage (replaced r k merged.items) u)
+          (is_v ∙ ap (λ (j : ℕ). with_replaced k j w) is_next)
+          ∙ ap (λ (j : ℕ). replacing_at j merged.items (stage r w)) (sym is_k));
     })
-
-pub merged_moves : (r new : ReachedSet) (xs : List Entry) (i : ℕ) (x : Entry) (es : List Elem)
-    → IsNumbered r → xs ≡ r.live → i < length r.live → x ≡ get_or xs i x
-    → new ≡ replaced r x.number es → MovesOn (numbers r.live) (numbers new.live) i i
-merged_moves r new xs i x es numbered same less is made =
-    let is_x : x ≡ get_or r.live i x = is ∙ ap (λ (l : List Entry). get_or l i x) same in
-    record {
-      step = inr (
-        refl,
-        r.next,
-        ap (λ (s : ReachedSet). numbers s.live) made
-            ∙ (replaced_numbers r.next r.live x es numbered.ascend (in_at r.live i x less is_x)
-            ∙ ap (λ (ns : List ℕ). ns ++ r.next ∷ []) (gone_at r.live i x numbered.ascend less
-            is_x)),
-      );
-    }
 
 -- or it stays
 pub left_compares : (cfa : Cfa) (cs : List Component) (r : ReachedSet) (w : Work) (x : Entry)
@@ -212,26 +152,24 @@ compares_push cfa cs es ps (k ∷ ns) n a m b all one =
 -- the successor is covered, or added
 pub covered_is : (cs : List Component) (r new : ReachedSet) (w : Work) (by : ℕ) (es : List Elem)
     (ps : List Precision) (edge : ℕ) (o : Option ℕ) (fs : List Elem) (xs : List Entry) → fs ≡ es
-    → xs ≡ r.live → o ≡ first_cover cs fs xs → o ≡ Some by → new ≡ used r w.current by
-    → stage new w ≡ covered_or_added es ps edge (first_cover cs es r.live) (stage r w)
-covered_is cs r new w by es ps edge o fs xs same_es same_xs is some made =
+    → o ≡ first_cover cs fs xs → o ≡ Some by → new ≡ used r w.current by
+    → stage new w ≡ covered_or_added es ps edge (first_cover cs es xs) (stage r w)
+covered_is cs r new w by es ps edge o fs xs same is some made =
     ap (λ (s : ReachedSet). stage s w) made
     ∙ ap (λ (p : Option ℕ). covered_or_added es ps edge p (stage r w))
-    (sym some ∙ (is ∙ (ap (λ (gs : List Elem). first_cover cs gs xs) same_es
-    ∙ ap (λ (ys : List Entry). first_cover cs es ys) same_xs)))
+    (sym some ∙ (is ∙ ap (λ (gs : List Elem). first_cover cs gs xs) same))
 
 pub added_is : (cs : List Component) (r new : ReachedSet) (w v : Work) (n : ℕ) (es : List Elem)
     (ps : List Precision) (edge : ℕ) (o : Option ℕ) (fs : List Elem) (xs : List Entry) → fs ≡ es
-    → xs ≡ r.live → o ≡ first_cover cs fs xs → o ≡ None → n ≡ r.next
+    → o ≡ first_cover cs fs xs → o ≡ None → n ≡ r.next
     → new ≡ added r es ps (w.current, edge) → v ≡ with_added n w
-    → stage new v ≡ covered_or_added es ps edge (first_cover cs es r.live) (stage r w)
-added_is cs r new w v n es ps edge o fs xs same_es same_xs is none next made is_v =
+    → stage new v ≡ covered_or_added es ps edge (first_cover cs es xs) (stage r w)
+added_is cs r new w v n es ps edge o fs xs same is none next made is_v =
     ap (λ (s : ReachedSet). stage s v) made
     ∙ (ap (λ (u : Work). stage (added r es ps (w.current, edge)) u)
     (is_v ∙ ap (λ (k : ℕ). with_added k w) next)
     ∙ ap (λ (p : Option ℕ). covered_or_added es ps edge p (stage r w))
-    (sym none ∙ (is ∙ (ap (λ (gs : List Elem). first_cover cs gs xs) same_es
-    ∙ ap (λ (ys : List Entry). first_cover cs es ys) same_xs))))
+    (sym none ∙ (is ∙ ap (λ (gs : List Elem). first_cover cs gs xs) same)))
 
 -- comparisons under equal components, elements and precisions
 pub compares_under : (cfa : Cfa) (ds cs : List Component) (fs es : List Elem)

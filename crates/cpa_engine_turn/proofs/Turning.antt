@@ -27,7 +27,7 @@ use Rattle.cpa_engine_turn.specs.lemmas.Lists.{of_map}
 use Rattle.cpa_engine_turn.proofs.Effects.{HasAlike, GoesOnIn, same_alike, effect, below_next}
 use Rattle.cpa_engine_turn.proofs.Chains.{kept_along}
 use Rattle.cpa_engine_turn.proofs.Shapes.{entries_along, taken_entries}
-use Rattle.cpa_engine_turn.proofs.Progress.{SoFar, CameIn, so_far_along}
+use Rattle.cpa_engine_turn.proofs.Progress.{SoFar, CameIn, so_far_along, places_along}
 use Rattle.cpa_engine_turn.proofs.Waiting.{CoversBut, covers_along, taken_covers, covers_last}
 use Rattle.cpa_engine_turn.specs.Stages.{Stage, taking, Works}
 use Rattle.cpa_engine_turn.specs.Steps.{Leads, IsPlaced, GoesOn, IsOrdered}
@@ -264,7 +264,7 @@ is_turn cfa cs r n last end placed =
           (λ named. inr named)
           ((so.first m there).1);
       once = so.once;
-      uncovered = λ e f in_e is_added in_f less key. so.uncovered e f in_e is_added in_f less;
+      uncovered = so.uncovered;
     }
 
 pub turned : (cfa : Cfa) (cs : List Component) (order : Order) (r : ReachedSet) (n : ℕ)
@@ -282,6 +282,13 @@ turned cfa cs order r n new next goes works =
       closed = ap (λ (s : ReachedSet). s.journal) goes.closed
           ∙ ap (λ (rows : List Turn). rows ++ last.row ∷ []) end.journal;
     }
+
+-- the places by which the entries are indexed
+pub turned_places : (cfa : Cfa) (cs : List Component) (r : ReachedSet) (n : ℕ) (new : ReachedSet)
+    → GoesOn cfa cs n (taken n r) new → new.places ≡ r.places
+turned_places cfa cs r n new goes =
+    ap (λ (s : ReachedSet). s.places) goes.closed
+    ∙ places_along cfa cs (taking (taken n r) n) goes.last goes.leads
 
 -- what stands for the taken entry and waits no longer is that entry
 own_covered : (cfa : Cfa) (cs : List Component) (r : ReachedSet) (n : ℕ) (last : Stage)

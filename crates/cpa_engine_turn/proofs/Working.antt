@@ -22,8 +22,10 @@ use Rattle.cpa_reached.specs.Members.{IsIn}
 use Rattle.cpa_reached.specs.MemberLaws.{one_entry}
 use Rattle.cpa_reached.specs.Entries.{ReachedSet, numbers}
 use Rattle.cpa_reached.specs.Calls.{taken}
-use Rattle.cpa_engine_turn.specs.Keys.{WidenBesideKeys, CoversKey, rows_of}
+use Rattle.cpa_reached_key.specs.Rows.{picked}
+use Rattle.cpa_engine_turn.specs.Keys.{WidenBesideKeys, CoversKey, rows_of, HasPlaces}
 use Rattle.cpa_engine_turn.specs.Stages.{Stage, taking, noting, Compares, ComparesAll, first_cover}
+use Rattle.cpa_engine_turn.specs.Stages.{fellows}
 use Rattle.cpa_engine_turn.specs.Stages.{covered_or_added, Settles, SettlesAll, Follows, FollowsAll}
 use Rattle.cpa_engine_turn.specs.Stages.{Works}
 use Rattle.cpa_engine_turn.specs.Steps.{IsOrdered, Leads, stays, IsPlaced, HasCurrent, GoesOn}
@@ -32,9 +34,10 @@ use Rattle.cpa_engine_turn.proofs.Chains.{leads_one, leads_then}
 use Rattle.cpa_engine_turn.proofs.Comparing.{stays_good, merged_good}
 use Rattle.cpa_engine_turn.proofs.Effects.{replaced_back}
 use Rattle.cpa_engine_turn.proofs.Leaving.{leaves_along}
-use Rattle.cpa_engine_turn.specs.lemmas.Lists.{in_map_of}
+use Rattle.cpa_engine_turn.specs.lemmas.Picked.{in_under}
+use Rattle.cpa_engine_turn.proofs.Fellows.{fellow, known}
 use Rattle.cpa_engine_turn.proofs.Placing.{placed_along, noted_places, added_places}
-use Rattle.cpa_engine_turn.proofs.Progress.{ordered_along, current_along}
+use Rattle.cpa_engine_turn.proofs.Progress.{ordered_along, fits_along, current_along}
 use Rattle.cpa_engine_turn.proofs.Settled.{found, none_found}
 use Rattle.cpa_engine_turn.proofs.Shapes.{each_in, entries_along, taken_entries}
 
@@ -131,18 +134,23 @@ rows_good cs es (x ∷ xs) each =
 -- what is covered or added
 ends_lead : (cfa : Cfa) (cs : List Component) (es : List Elem) (ps : List Precision) (edge : ℕ)
     (o : Option ℕ) (m b : Stage) → AreElems cfa (length cs) es → ArePrecisions cfa (length cs) ps
-    → edge < length cfa.edges → first_cover cs es m.reached.live ≡ o
+    → edge < length cfa.edges → AreEntries cfa (length cs) m.reached.live
+    → HasPlaces cs m.reached → first_cover cs es (fellows m.reached es) ≡ o
     → b ≡ covered_or_added es ps edge o m
     → (WidenBesideKeys cs → AllByRecursion (CoversKey cs es) (rows_of m.reached.live))
     → Leads cfa cs m b
-ends_lead cfa cs es ps edge (Some by) m b shaped precise less first is compared =
-    let c = found cs es m.reached.live by first in
+ends_lead cfa cs es ps edge (Some by) m b shaped precise less are fits first is compared =
+    let c = found cs es (fellows m.reached es) by first in
     leads_one cfa cs m b (inl (record {
       by = by;
-      live = record { entry = c.entry; is_in = c.is_in; is = c.number };
+      live = record {
+        entry = c.entry;
+        is_in = (in_under m.reached (picked m.reached.places es) c.entry c.is_in).0;
+        is = c.number;
+      };
       is = is;
     }))
-ends_lead cfa cs es ps edge None m b shaped precise less first is compared =
+ends_lead cfa cs es ps edge None m b shaped precise less are fits first is compared =
     leads_one cfa cs m b (inr (inl (record {
       elems = es;
       precisions = ps;
@@ -150,7 +158,10 @@ ends_lead cfa cs es ps edge None m b shaped precise less first is compared =
       are_elems = shaped;
       are_precisions = precise;
       is_edge = less;
-      uncovered = none_found cs es m.reached.live first;
+      uncovered = λ e there key. none_found cs es (fellows m.reached es) first e
+          (fellow cs m.reached es e fits shaped.size
+          (each_in (IsEntryOf cfa (length cs)) m.reached.live e are.each there).elems.size
+          (sym key) there);
       compared = compared;
       is = is;
     })))
@@ -158,37 +169,38 @@ ends_lead cfa cs es ps edge None m b shaped precise less first is compared =
 ends_placed : (cfa : Cfa) (cs : List Component) (es : List Elem) (ps : List Precision) (edge : ℕ)
     (o : Option ℕ) (m b : Stage) (t : State) → length es ≡ length cs
     → AreEntries cfa (length cs) m.reached.live → HasCurrent m → LiesIn t es
-    → first_cover cs es m.reached.live ≡ o → b ≡ covered_or_added es ps edge o m → IsPlaced t b
+    → first_cover cs es (fellows m.reached es) ≡ o → b ≡ covered_or_added es ps edge o m
+    → IsPlaced t b
 ends_placed cfa cs es ps edge (Some by) m b t size are current lies first is =
-    let c = found cs es m.reached.live by first in
-    let shape = each_in (IsEntryOf cfa (length cs)) m.reached.live c.entry are.each c.is_in in
-    let there : LiesIn t c.entry.elems =
+    let c = found cs es (fellows m.reached es) by first in
+    let there = (in_under m.reached (picked m.reached.places es) c.entry c.is_in).0 in
+    let shape = each_in (IsEntryOf cfa (length cs)) m.reached.live c.entry are.each there in
+    let within : LiesIn t c.entry.elems =
     cover_within cs es c.entry.elems size shape.elems.size c.covers t lies in
     subst (IsPlaced t) (ap (λ (k : ℕ). noting k m) c.number ∙ sym is)
-    (noted_places t m c.entry c.is_in current there)
+    (noted_places t m c.entry there current within)
 ends_placed cfa cs es ps edge None m b t size are current lies first is =
     subst (IsPlaced t) (sym is) (added_places t m es ps edge current lies)
 
 -- one successor
 pub settles_lead : (cfa : Cfa) (cs : List Component) (ps : List Precision) (edge : ℕ)
     (row : List Elem) (a b : Stage) → edge < length cfa.edges
-    → AreEntries cfa (length cs) a.reached.live → IsOrdered a.reached
+    → AreEntries cfa (length cs) a.reached.live → IsOrdered a.reached → HasPlaces cs a.reached
     → Settles cfa cs ps edge row a b → Leads cfa cs a b
-settles_lead cfa cs ps edge row a b less are ordered settles =
+settles_lead cfa cs ps edge row a b less are ordered fits settles =
     let es = settles.elems in
     let qs = settles.precisions in
     let m = settles.compared in
     let shaped = settles.adjusted.elems in
     let precise = settles.adjusted.precisions in
-    let first = all_compares_lead cfa cs es qs (numbers a.reached.live) a m shaped precise are
-    settles.compares in
+    let ns = numbers (fellows a.reached es) in
+    let first = all_compares_lead cfa cs es qs ns a m shaped precise are settles.compares in
     leads_then cfa cs a m b first
-    (ends_lead cfa cs es qs edge (first_cover cs es m.reached.live) m b shaped precise less refl
-    settles.is
+    (ends_lead cfa cs es qs edge (first_cover cs es (fellows m.reached es)) m b shaped precise less
+    (entries_along cfa cs a m first are) (fits_along cfa cs a m first fits) refl settles.is
     (λ all. rows_good cs es m.reached.live
-    (compares_good cfa cs es qs (numbers a.reached.live) a m all shaped precise are ordered
-    settles.compares
-    (λ x there. inl (in_map_of (λ (e : Entry). e.number) a.reached.live x there)))))
+    (compares_good cfa cs es qs ns a m all shaped precise are ordered settles.compares
+    (λ x there. known cfa cs a.reached es x fits shaped.size are there))))
 
 settles_placed : (cfa : Cfa) (cs : List Component) (ps : List Precision) (edge : ℕ)
     (row : List Elem) (a b : Stage) (t : State) → AreEntries cfa (length cs) a.reached.live
@@ -197,9 +209,9 @@ settles_placed : (cfa : Cfa) (cs : List Component) (ps : List Precision) (edge :
 settles_placed cfa cs ps edge row a b t are ordered current state lies settles =
     let es = settles.elems in
     let m = settles.compared in
-    let first = all_compares_lead cfa cs es settles.precisions (numbers a.reached.live) a m
+    let first = all_compares_lead cfa cs es settles.precisions (numbers (fellows a.reached es)) a m
     settles.adjusted.elems settles.adjusted.precisions are settles.compares in
-    ends_placed cfa cs es settles.precisions edge (first_cover cs es m.reached.live) m b t
+    ends_placed cfa cs es settles.precisions edge (first_cover cs es (fellows m.reached es)) m b t
     settles.adjusted.elems.size (entries_along cfa cs a m first are)
     (current_along cfa cs a m first ordered current) (settles.adjusted.covers t state lies) refl
     settles.is
@@ -207,68 +219,76 @@ settles_placed cfa cs ps edge row a b t are ordered current state lies settles =
 -- all rows of an edge
 pub all_settles_lead : (cfa : Cfa) (cs : List Component) (ps : List Precision) (edge : ℕ)
     (rows : List (List Elem)) (a b : Stage) → edge < length cfa.edges
-    → AreEntries cfa (length cs) a.reached.live → IsOrdered a.reached
+    → AreEntries cfa (length cs) a.reached.live → IsOrdered a.reached → HasPlaces cs a.reached
     → SettlesAll cfa cs ps edge rows a b → Leads cfa cs a b
-all_settles_lead cfa cs ps edge [] a b less are ordered is = stays b is
-all_settles_lead cfa cs ps edge (row ∷ rows) a b less are ordered all =
-    let first = settles_lead cfa cs ps edge row a all.0 less are ordered all.1 in
+all_settles_lead cfa cs ps edge [] a b less are ordered fits is = stays b is
+all_settles_lead cfa cs ps edge (row ∷ rows) a b less are ordered fits all =
+    let first = settles_lead cfa cs ps edge row a all.0 less are ordered fits all.1 in
     leads_then cfa cs a all.0 b first
     (all_settles_lead cfa cs ps edge rows all.0 b less (entries_along cfa cs a all.0 first are)
-    (ordered_along cfa cs a all.0 first ordered) all.2)
+    (ordered_along cfa cs a all.0 first ordered) (fits_along cfa cs a all.0 first fits)
+    all.2)
 
 rows_placed : (cfa : Cfa) (cs : List Component) (ps : List Precision) (edge : ℕ)
     (rows : List (List Elem)) (a b : Stage) (t : State) → edge < length cfa.edges
-    → AreEntries cfa (length cs) a.reached.live → IsOrdered a.reached → HasCurrent a
-    → IsStateOf cfa t → LiesInSome t rows → SettlesAll cfa cs ps edge rows a b → IsPlaced t b
-rows_placed cfa cs ps edge [] a b t less are ordered current state lies is = absurd lies
-rows_placed cfa cs ps edge (row ∷ rows) a b t less are ordered current state lies all =
+    → AreEntries cfa (length cs) a.reached.live → IsOrdered a.reached → HasPlaces cs a.reached
+    → HasCurrent a → IsStateOf cfa t → LiesInSome t rows → SettlesAll cfa cs ps edge rows a b
+    → IsPlaced t b
+rows_placed cfa cs ps edge [] a b t less are ordered fits current state lies is = absurd lies
+rows_placed cfa cs ps edge (row ∷ rows) a b t less are ordered fits current state lies all =
     let m = all.0 in
-    let first = settles_lead cfa cs ps edge row a m less are ordered all.1 in
+    let first = settles_lead cfa cs ps edge row a m less are ordered fits all.1 in
     let next_are = entries_along cfa cs a m first are in
     let next_ordered = ordered_along cfa cs a m first ordered in
+    let next_fits = fits_along cfa cs a m first fits in
     ⊎_elim
     (λ here. placed_along cfa cs m b t state
-    (all_settles_lead cfa cs ps edge rows m b less next_are next_ordered all.2) next_ordered
+    (all_settles_lead cfa cs ps edge rows m b less next_are next_ordered next_fits all.2)
+    next_ordered
     (settles_placed cfa cs ps edge row a m t are ordered current state here all.1))
-    (λ later. rows_placed cfa cs ps edge rows m b t less next_are next_ordered
+    (λ later. rows_placed cfa cs ps edge rows m b t less next_are next_ordered next_fits
     (current_along cfa cs a m first ordered current) state later all.2)
     lies
 
 -- all edges
 edges_lead : (cfa : Cfa) (cs : List Component) (es : List Elem) (ps : List Precision)
     (first count : ℕ) (a b : Stage) → first + count ≤ length cfa.edges
-    → AreEntries cfa (length cs) a.reached.live → IsOrdered a.reached
+    → AreEntries cfa (length cs) a.reached.live → IsOrdered a.reached → HasPlaces cs a.reached
     → FollowsAll cfa cs es ps first count a b → Leads cfa cs a b
-edges_lead cfa cs es ps first zero a b less are ordered is = stays b is
-edges_lead cfa cs es ps first (suc count) a b less are ordered all =
+edges_lead cfa cs es ps first zero a b less are ordered fits is = stays b is
+edges_lead cfa cs es ps first (suc count) a b less are ordered fits all =
     let m = all.0 in
-    let front = edges_lead cfa cs es ps first count a m (omega (arith, less)) are ordered all.1 in
+    let front =
+    edges_lead cfa cs es ps first count a m (omega (arith, less)) are ordered fits all.1 in
     leads_then cfa cs a m b front
     (all_settles_lead cfa cs ps (first + count) all.2.rows m b (omega (arith, less))
-    (entries_along cfa cs a m front are) (ordered_along cfa cs a m front ordered) all.2.settles)
+    (entries_along cfa cs a m front are) (ordered_along cfa cs a m front ordered)
+    (fits_along cfa cs a m front fits) all.2.settles)
 
 edges_placed : (cfa : Cfa) (cs : List Component) (es : List Elem) (ps : List Precision)
     (first count : ℕ) (a b : Stage) (k : ℕ) (g : Edge) (s t : State)
     → first + count ≤ length cfa.edges → AreEntries cfa (length cs) a.reached.live
-    → IsOrdered a.reached → HasCurrent a → first ≤ k → k < first + count
-    → slice_get cfa.edges k ≡ Some g → LiesIn s es → StepsAlong cfa g s t
+    → IsOrdered a.reached → HasPlaces cs a.reached → HasCurrent a → first ≤ k
+    → k < first + count → slice_get cfa.edges k ≡ Some g → LiesIn s es → StepsAlong cfa g s t
     → FollowsAll cfa cs es ps first count a b → IsPlaced t b
-edges_placed cfa cs es ps first zero a b k g s t less are ordered current low high at lies step is =
-    absurd (omega (arith, low, high))
-edges_placed cfa cs es ps first (suc count) a b k g s t less are ordered current low high at lies
-    step all =
+edges_placed cfa cs es ps first zero a b k g s t less are ordered fits current low high at lies
+    step is = absurd (omega (arith, low, high))
+edges_placed cfa cs es ps first (suc count) a b k g s t less are ordered fits current low high at
+    lies step all =
     let m = all.0 in
-    let front = edges_lead cfa cs es ps first count a m (omega (arith, less)) are ordered all.1 in
+    let front =
+    edges_lead cfa cs es ps first count a m (omega (arith, less)) are ordered fits all.1 in
     let next_are = entries_along cfa cs a m front are in
     let next_ordered = ordered_along cfa cs a m front ordered in
+    let next_fits = fits_along cfa cs a m front fits in
     ⊎_elim
     (λ earlier. placed_along cfa cs m b t step.after
     (all_settles_lead cfa cs ps (first + count) all.2.rows m b (omega (arith, less)) next_are
-    next_ordered all.2.settles) next_ordered
-    (edges_placed cfa cs es ps first count a m k g s t (omega (arith, less)) are ordered current low
-    earlier at lies step all.1))
+    next_ordered next_fits all.2.settles) next_ordered
+    (edges_placed cfa cs es ps first count a m k g s t (omega (arith, less)) are ordered fits
+    current low earlier at lies step all.1))
     (λ same. rows_placed cfa cs ps (first + count) all.2.rows m b t (omega (arith, less)) next_are
-    next_ordered (current_along cfa cs a m front ordered current) step.after
+    next_ordered next_fits (current_along cfa cs a m front ordered current) step.after
     (all.2.successors.covers g s t
     (ap (λ (j : ℕ). slice_get cfa.edges j) (sym same) ∙ at) lies step) all.2.settles)
     (below_or_last k (first + count) (omega (arith, high)))
@@ -282,8 +302,9 @@ edges_placed cfa cs es ps first (suc count) a b k g s t less are ordered current
         (below_or_last j n (omega (arith, low)))
 
 pub goes_on_from : (cfa : Cfa) (cs : List Component) (n : ℕ) (r new : ReachedSet) → IsOrdered r
-    → AreEntries cfa (length cs) r.live → Works cfa cs n r new → GoesOn cfa cs n r new
-goes_on_from cfa cs n r new ordered are works =
+    → AreEntries cfa (length cs) r.live → HasPlaces cs r → Works cfa cs n r new
+    → GoesOn cfa cs n r new
+goes_on_from cfa cs n r new ordered are fits works =
     let x = works.entry in
     let edges = works.expands in
     let a = taking r n in
@@ -292,7 +313,7 @@ goes_on_from cfa cs n r new ordered are works =
       ordered = ordered;
       last = works.last;
       leads = edges_lead cfa cs x.elems x.precisions edges.first edges.count a works.last
-          edges.within are ordered edges.follows;
+          edges.within are ordered fits edges.follows;
       placed = λ e s t there number lies steps.
           let same : e ≡ x =
           one_entry r.live e x ordered.ascend there works.is_in (number ∙ sym works.number) in
@@ -301,7 +322,7 @@ goes_on_from cfa cs n r new ordered are works =
           let range = leaves_along cfa x.elems edges.first edges.count edges.edges place.0 steps.0 s
           place.1 here steps.2.from in
           edges_placed cfa cs x.elems x.precisions edges.first edges.count a works.last place.0
-          steps.0 s t edges.within are ordered current range.0 range.1 place.1 here steps.2
+          steps.0 s t edges.within are ordered fits current range.0 range.1 place.1 here steps.2
           edges.follows;
       closed = works.closed;
     }
@@ -333,12 +354,12 @@ follows_push cfa cs es ps first edge (suc count) a m b low is all one =
 -- the edges so far lead here
 pub so_far_lead : (cfa : Cfa) (cs : List Component) (es : List Elem) (ps : List Precision)
     (first edge : ℕ) (a b : Stage) → first ≤ edge → edge ≤ length cfa.edges
-    → AreEntries cfa (length cs) a.reached.live → IsOrdered a.reached
+    → AreEntries cfa (length cs) a.reached.live → IsOrdered a.reached → HasPlaces cs a.reached
     → ((count : ℕ) → first + count ≡ edge → FollowsAll cfa cs es ps first count a b)
     → Leads cfa cs a b
-so_far_lead cfa cs es ps first edge a b low high are ordered follows =
+so_far_lead cfa cs es ps first edge a b low high are ordered fits follows =
     let same : first + (edge - first) ≡ edge = omega (arith, low) in
-    edges_lead cfa cs es ps first (edge - first) a b (omega (arith, same, high)) are ordered
+    edges_lead cfa cs es ps first (edge - first) a b (omega (arith, same, high)) are ordered fits
     (follows (edge - first) same)
 
 -- The work of a turn after the taking, both ways.
@@ -348,12 +369,12 @@ pub record Worked (cfa : Cfa) (cs : List Component) (n : ℕ) (r new : ReachedSe
 
 pub works_after : (cfa : Cfa) (cs : List Component) (n : ℕ) (r now new : ReachedSet)
     → now ≡ taken n r → Works cfa cs n now new → IsOrdered now
-    → AreEntries cfa (length cs) r.live → Worked cfa cs n r new
-works_after cfa cs n r now new is works ordered are =
+    → AreEntries cfa (length cs) r.live → HasPlaces cs r → Worked cfa cs n r new
+works_after cfa cs n r now new is works ordered are fits =
     let after : Works cfa cs n (taken n r) new =
     subst (λ (s : ReachedSet). Works cfa cs n s new) is works in
     record {
       works = after;
       goes = goes_on_from cfa cs n (taken n r) new (subst IsOrdered is ordered)
-          (taken_entries cfa (length cs) n r.live are) after;
+          (taken_entries cfa (length cs) n r.live are) fits after;
     }

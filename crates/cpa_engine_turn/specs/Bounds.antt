@@ -15,9 +15,10 @@ use Rattle.cpa_iface.specs.declared.merging.MergeRule.TheVariants.{Sep}
 use Rattle.cpa_iface.specs.Pins.{StepsPart, IsSettledBy}
 use Rattle.cpa_composite.specs.Components.{Component}
 use Rattle.cpa_composite.specs.Exact.{AreExact, BindAll, HaveEachPart, pins}
+use Rattle.cpa_composite.specs.Keys.{is_key}
 use Rattle.cpa_composite.specs.Ranks.{row_rank, row_height, HaveFixedHeights, IsRanked}
 use Rattle.cpa_reached.specs.Members.{IsIn}
-use Rattle.cpa_engine_turn.specs.Keys.{is_key, key_of, WidenBesideKeys, HaveOwnKeys}
+use Rattle.cpa_engine_turn.specs.Keys.{key_of, WidenBesideKeys, HaveOwnKeys}
 
 -- how many turns the entries are good for: the ranks of each, and one where it waits
 abbrev pub turns_due : Cfa → List Component → List Entry → ℕ

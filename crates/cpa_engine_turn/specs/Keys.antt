@@ -1,33 +1,26 @@
 -- Keys: the elements by which entries are told apart, and entries that have a key of their own
 -- (this project's own).
-use Rattle.std.specs.Prelude.{◌≡◌, ℕ, Bool, true, false, ◌&&◌, List, [], ◌∷◌, ◌++◌, map, length}
+use Rattle.std.specs.Prelude.{◌≡◌, ℕ, true, List, [], ◌∷◌, ◌++◌, map, length}
 use Rattle.std.specs.Prelude.{if◌then◌else◌, ◌⊎◌, IsTrue}
 use Rattle.std.specs.List.{AllByRecursion}
 use Rattle.cpa_model.specs.declared.facts.Elem.{Elem}
-use Rattle.cpa_iface.specs.declared.analysis.Part.{Part}
-use Rattle.cpa_iface.specs.declared.analysis.Part.TheVariants as part
 use Rattle.cpa_iface.specs.declared.entries.Entry.{Entry}
 use Rattle.cpa_iface.specs.declared.merging.MergeRule.TheVariants.{Widen}
-use Rattle.cpa_composite.specs.Comparisons.{keeps_apart}
 use Rattle.cpa_composite.specs.Components.{Component}
 use Rattle.cpa_composite.specs.Covers.{all_cover}
+use Rattle.cpa_composite.specs.Keys.{is_key, key_places}
 use Rattle.cpa_reached.specs.Members.{IsIn}
+use Rattle.cpa_reached.specs.Entries.{ReachedSet}
 
-abbrev pub is_control : Part → Bool
-is_control part.Nothing = false
-is_control part.Point = true
-is_control part.Stack = true
-is_control part.Store = false
-
--- it is exact on the point or on the stack, and keeps its elements apart
-abbrev pub is_key : Component → Bool
-is_key c = is_control c.meaning.part && keeps_apart c.rule
-
--- the elements of those
+-- the elements of the components that are exact on the point or on the stack and keep theirs apart
 abbrev pub key_of : List Component → List Elem → List Elem
 key_of [] es = []
 key_of (c ∷ cs) [] = []
 key_of (c ∷ cs) (e ∷ es) = if is_key c then e ∷ key_of cs es else key_of cs es
+
+-- the entries are indexed by the places of those elements, or by none
+abbrev pub HasPlaces : List Component → ReachedSet → Type 0
+HasPlaces cs r = (r.places ≡ []) ⊎ (r.places ≡ key_places cs)
 
 -- all others widen
 abbrev pub WidenBesideKeys : List Component → Type 0

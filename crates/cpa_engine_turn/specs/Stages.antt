@@ -3,7 +3,7 @@
 -- this project's own.
 use Rattle.std.specs.Prelude.{◌≡◌, ℕ, zero, suc, ◌+◌, ◌≤◌, List, [], ◌∷◌, ◌++◌, length, ◌⊎◌}
 use Rattle.std.specs.Prelude.{Option, Some, None}
-use Rattle.std.specs.List.{find}
+use Rattle.std.specs.List.{find, filter}
 use Rattle.std.specs.Option.{option_map}
 use Rattle.cpa_model.specs.declared.automaton.Cfa.{Cfa}
 use Rattle.cpa_model.specs.declared.facts.Elem.{Elem}
@@ -17,6 +17,7 @@ use Rattle.cpa_composite.specs.Laws.{EachMerged}
 use Rattle.cpa_reached.specs.Members.{IsIn}
 use Rattle.cpa_reached.specs.Entries.{ReachedSet, numbers}
 use Rattle.cpa_reached.specs.Calls.{added, replaced, used, closed, rename}
+use Rattle.cpa_reached_key.specs.Rows.{same_row, picked}
 use Rattle.cpa_engine_turn.specs.Points.{first_point, AreEdgesFrom}
 
 -- The reached set, the row so far, and the number that stands for the taken entry.
@@ -88,6 +89,14 @@ ComparesAll cfa cs successor ps [] a b = b ≡ a
 ComparesAll cfa cs successor ps (n ∷ ns) a b =
     (m : Stage) × Compares cfa cs successor ps n a m × ComparesAll cfa cs successor ps ns m b
 
+-- the entries under a key: those that have these elements at the places of the index
+abbrev pub under : ReachedSet → List Elem → List Entry
+under r key = filter (λ e. same_row (picked r.places e.elems) key) r.live
+
+-- the entries under the key of the row
+abbrev pub fellows : ReachedSet → List Elem → List Entry
+fellows r row = under r (picked r.places row)
+
 -- the number of the first entry that covers the row
 abbrev pub first_cover : List Component → List Elem → List Entry → Option ℕ
 first_cover cs es xs = option_map (λ e. e.number) (find (λ e. all_cover cs es e.elems) xs)
@@ -98,16 +107,16 @@ covered_or_added es ps edge (Some by) a = noting by a
 covered_or_added es ps edge None a = adding es ps edge a
 
 -- One row of successors by an edge is adjusted in view of the entries that are there, compared with
--- each of these in order of numbers, then covered or added.
+-- each of those under its key in order of numbers, then covered by one of them or added.
 pub record Settles (cfa : Cfa) (cs : List Component) (ps : List Precision) (edge : ℕ)
     (row : List Elem) (a b : Stage) : Type 0 where
   pub elems : List Elem
   pub precisions : List Precision
   pub adjusted : AdjustedRow cs cfa row ps a.reached.live elems precisions
   pub compared : Stage
-  pub compares : ComparesAll cfa cs elems precisions (numbers a.reached.live) a compared
-  pub is : b ≡ covered_or_added elems precisions edge (first_cover cs elems compared.reached.live)
-      compared
+  pub compares : ComparesAll cfa cs elems precisions (numbers (fellows a.reached elems)) a compared
+  pub is : b ≡ covered_or_added elems precisions edge
+      (first_cover cs elems (fellows compared.reached elems)) compared
 
 -- each of these rows, one after the other
 abbrev pub SettlesAll : Cfa → List Component → List Precision → ℕ → List (List Elem) → Stage

@@ -18,7 +18,7 @@ use Rattle.cpa_reached.specs.Entries.{ReachedSet, IsLive, numbers}
 use Rattle.cpa_reached.specs.Calls.{closed, rename}
 use Rattle.cpa_reached.specs.Successors.{LiesInNamed}
 use Rattle.cpa_engine_turn.specs.declared.work.Work.{Work}
-use Rattle.cpa_engine_turn.specs.Keys.{WidenBesideKeys, CoversKey, rows_of}
+use Rattle.cpa_engine_turn.specs.Keys.{key_of, WidenBesideKeys, CoversKey, rows_of}
 use Rattle.cpa_engine_turn.specs.Stages.{Stage, taking, noting, adding, replacing_at}
 use Rattle.cpa_engine_turn.specs.Turns.{LiesInEntry}
 
@@ -64,7 +64,7 @@ pub record NotesUse (a b : Stage) : Type 0 where
   pub live : IsLive a.reached.live by
   pub is : b ≡ noting by a
 
--- A row of elements that no live entry covers is added.
+-- A row of elements that no live entry of its key covers is added.
 pub record AddsRow (cfa : Cfa) (cs : List Component) (a b : Stage) : Type 0 where
   pub elems : List Elem
   pub precisions : List Precision
@@ -72,7 +72,8 @@ pub record AddsRow (cfa : Cfa) (cs : List Component) (a b : Stage) : Type 0 wher
   pub are_elems : AreElems cfa (length cs) elems
   pub are_precisions : ArePrecisions cfa (length cs) precisions
   pub is_edge : edge < length cfa.edges
-  pub uncovered : (e : Entry) → IsIn e a.reached.live → all_cover cs elems e.elems ≡ false
+  pub uncovered : (e : Entry) → IsIn e a.reached.live → key_of cs elems ≡ key_of cs e.elems
+      → all_cover cs elems e.elems ≡ false
   pub compared : WidenBesideKeys cs → AllByRecursion (CoversKey cs elems) (rows_of a.reached.live)
   pub is : b ≡ adding elems precisions edge a
 

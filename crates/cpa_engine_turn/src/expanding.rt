@@ -5,6 +5,7 @@ ghost use Rattle.std.specs.Prelude.{◌≡◌, ◌<◌, length, OnOk};
 ghost use Rattle.cpa_model.specs.Automata.{IsAutomaton};
 ghost use Rattle.cpa_composite.specs.Components.{AreElems, ArePrecisions};
 ghost use Rattle.cpa_composite.specs.Composites.{components};
+ghost use Rattle.cpa_engine_turn.specs.Keys.{HasPlaces};
 ghost use Rattle.cpa_engine_turn.specs.Stages.{Follows, Expands};
 ghost use Rattle.cpa_engine_turn.specs.Steps.{stage, IsOrdered, HasCurrent};
 ghost use Rattle.cpa_engine_turn.specs.Turns.{AreEntries};
@@ -31,6 +32,7 @@ fn follow<A: Analysis>(
 ) -> Result<(), AllocError>
     requires automaton { IsAutomaton cfa.now }
     requires entries { AreEntries cfa.now (length (components composite.old)) reached.old.live }
+    requires places { HasPlaces (components composite.old) reached.old }
     requires ordered { IsOrdered reached.old }
     requires current { HasCurrent (stage reached.old work.old) }
     requires edge { edge < length cfa.now.edges }
@@ -59,6 +61,7 @@ pub(crate) fn expand<A: Analysis>(
 ) -> Result<(), AllocError>
     requires automaton { IsAutomaton cfa.now }
     requires entries { AreEntries cfa.now (length (components composite.old)) reached.old.live }
+    requires places { HasPlaces (components composite.old) reached.old }
     requires ordered { IsOrdered reached.old }
     requires current { HasCurrent (stage reached.old work.old) }
     requires elems { AreElems cfa.now (length (components composite.old)) elems.now }

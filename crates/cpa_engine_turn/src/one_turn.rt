@@ -11,7 +11,7 @@ ghost use Rattle.cpa_reached.specs.Successors.{CoversSuccessors};
 ghost use Rattle.cpa_engine_turn.specs.Bounds.{turns_left, KeysBound, AreBounded};
 ghost use Rattle.cpa_engine_turn.specs.Bounds.{StatesBound, ArePinned};
 ghost use Rattle.cpa_engine_turn.specs.Journals.{IsJournalOf};
-ghost use Rattle.cpa_engine_turn.specs.Keys.{WidenBesideKeys, HaveOwnKeys};
+ghost use Rattle.cpa_engine_turn.specs.Keys.{WidenBesideKeys, HaveOwnKeys, HasPlaces};
 ghost use Rattle.cpa_engine_turn.specs.Turns.{AreEntries, Turned};
 
 use crate::taking::expand_taken;
@@ -24,7 +24,8 @@ use cpa_reached::Reached;
 use std::alloc::{AllocError, Global};
 
 /// One turn on the entry that is next in the order, which is closed in the journal. False where
-/// nothing waits. After want of memory the reached set is only to be dropped.
+/// nothing waits. A successor is compared with the entries of its key alone: all of them where the
+/// reached set is indexed by no places. After want of memory it is only to be dropped.
 pub fn turn<A: Analysis>(
     alloc: Global,
     cfa: &Cfa,
@@ -34,12 +35,14 @@ pub fn turn<A: Analysis>(
 ) -> Result<bool, AllocError>
     requires automaton { IsAutomaton cfa.now }
     requires entries { AreEntries cfa.now (length (components composite.old)) reached.old.live }
+    requires places { HasPlaces (components composite.old) reached.old }
     ensures turned { IfOk result (λ goes. IsTrue goes →
         Turned cfa.now (components composite.old) order reached.old reached.new) }
     ensures done { IfOk result (λ goes. goes ≡ false →
         (waiting_numbers reached.old.live ≡ []) × (reached.new ≡ reached.old)) }
     ensures entries { OnOk result
         (AreEntries cfa.now (length (components composite.old)) reached.new.live) }
+    ensures places { OnOk result (reached.new.places ≡ reached.old.places) }
     ensures covers { CoversSuccessors cfa.now reached.old.live
         → OnOk result (CoversSuccessors cfa.now reached.new.live) }
     ensures journal { (began : List ℕ) → IsJournalOf began reached.old

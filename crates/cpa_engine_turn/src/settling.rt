@@ -1,5 +1,5 @@
-//! One successor: it is adjusted, merged into the live entries, and noted as covered or added. Each
-//! clause is a definition of `specs/Stages.antt`.
+//! One successor: it is adjusted, merged into the live entries of its key, and noted as covered or
+//! added. Each clause is a definition of `specs/Stages.antt`.
 
 ghost use Rattle.std.specs.Prelude.{◌≡◌, ℕ, ◌<◌, length, map, Some, slice_get, IfOk, OnOk};
 ghost use Rattle.std.specs.List.{AllByRecursion};
@@ -7,7 +7,8 @@ ghost use Rattle.cpa_model.specs.Automata.{IsAutomaton};
 ghost use Rattle.cpa_composite.specs.Components.{AreElems, ArePrecisions};
 ghost use Rattle.cpa_composite.specs.Composites.{components};
 ghost use Rattle.cpa_reached.specs.Entries.{numbers};
-ghost use Rattle.cpa_engine_turn.specs.Stages.{Compares, ComparesAll, first_cover};
+ghost use Rattle.cpa_engine_turn.specs.Keys.{HasPlaces};
+ghost use Rattle.cpa_engine_turn.specs.Stages.{Compares, ComparesAll, under, first_cover};
 ghost use Rattle.cpa_engine_turn.specs.Stages.{covered_or_added};
 ghost use Rattle.cpa_engine_turn.specs.Stages.{Settles, SettlesAll};
 ghost use Rattle.cpa_engine_turn.specs.Steps.{stage, IsOrdered, HasCurrent, MovesOn};
@@ -15,39 +16,41 @@ ghost use Rattle.cpa_engine_turn.specs.Turns.{AreEntries};
 
 use crate::work::Work;
 use cpa_composite::Composite;
-use cpa_iface::{Analysis, Entry, Precision};
+use cpa_iface::{Analysis, Precision};
 use cpa_model::{Cfa, Elem};
 use cpa_reached::Reached;
+use cpa_reached_key::Key;
 use std::alloc::{AllocError, Global};
 
-/// Merges the successor into the live entry at a place. The place of the next one: the same, where
-/// what the merge gives took the place of that entry, as the last one.
+/// Merges the successor into the entry at a place under the key. The place of the next one: the
+/// same, where what the merge gives took the place of that entry, as the last one.
 fn merge_at<A: Analysis>(
     alloc: Global,
     cfa: &Cfa,
     composite: &mut Composite<A>,
     reached: &mut Reached,
     work: &mut Work,
+    key: &Key,
     place: usize,
     successor: &[Elem],
     precisions: &[Precision],
 ) -> Result<usize, AllocError>
     requires automaton { IsAutomaton cfa.now }
     requires entries { AreEntries cfa.now (length (components composite.old)) reached.old.live }
-    requires place { place < length reached.old.live }
+    requires places { HasPlaces (components composite.old) reached.old }
+    requires place { place < length (under reached.old key.now.elems) }
     requires successor { AreElems cfa.now (length (components composite.old)) successor.now }
     requires precisions { ArePrecisions cfa.now (length (components composite.old))
         precisions.now }
-    ensures compares { (n : ℕ) → slice_get (numbers reached.old.live) place ≡ Some n
-        → OnOk result (Compares cfa.now (components composite.old) successor.now precisions.now n
-        (stage reached.old work.old) (stage reached.new work.new)) }
-    ensures moves { IfOk result
-        (MovesOn (numbers reached.old.live) (numbers reached.new.live) place) }
+    ensures compares { (n : ℕ) → slice_get (numbers (under reached.old key.now.elems)) place
+        ≡ Some n → OnOk result (Compares cfa.now (components composite.old) successor.now
+        precisions.now n (stage reached.old work.old) (stage reached.new work.new)) }
+    ensures moves { IfOk result (MovesOn (numbers (under reached.old key.now.elems))
+        (numbers (under reached.new key.now.elems)) place) }
     ensures kept { components composite.new ≡ components composite.old }
 {
-    let entry = &reached.live()[place];
-    let number = entry.number;
-    let old = entry.elems.as_slice();
+    let number = reached.under(key)[place];
+    let old = reached.entry(number).elems.as_slice();
     match composite.merge(alloc, cfa, successor, old, precisions)? {
         Some(merged) => {
             let next = reached.replace(number, merged)?;
@@ -58,53 +61,64 @@ fn merge_at<A: Analysis>(
     }
 }
 
-/// Merges the successor into each entry that is live now, in order of numbers.
+/// Merges the successor into each entry that stands under the key now, in order of numbers.
 fn compare<A: Analysis>(
     alloc: Global,
     cfa: &Cfa,
     composite: &mut Composite<A>,
     reached: &mut Reached,
     work: &mut Work,
+    key: &Key,
     successor: &[Elem],
     precisions: &[Precision],
 ) -> Result<(), AllocError>
     requires automaton { IsAutomaton cfa.now }
     requires entries { AreEntries cfa.now (length (components composite.old)) reached.old.live }
+    requires places { HasPlaces (components composite.old) reached.old }
     requires successor { AreElems cfa.now (length (components composite.old)) successor.now }
     requires precisions { ArePrecisions cfa.now (length (components composite.old))
         precisions.now }
     ensures compares { OnOk result (ComparesAll cfa.now (components composite.old) successor.now
-        precisions.now (numbers reached.old.live) (stage reached.old work.old)
+        precisions.now (numbers (under reached.old key.now.elems)) (stage reached.old work.old)
         (stage reached.new work.new)) }
     ensures kept { components composite.new ≡ components composite.old }
 {
     let mut place = 0;
-    for _compared in 0..reached.live().len() {
+    for _compared in 0..reached.under(key).len() {
         let next = merge_at(
-            alloc, cfa, composite, reached, work, place, successor, precisions,
+            alloc, cfa, composite, reached, work, key, place, successor, precisions,
         )?;
         place = next;
     }
     Ok(())
 }
 
-/// The number of the first entry that covers the elements.
-fn covering<A: Analysis>(composite: &Composite<A>, entries: &[Entry], elems: &[Elem]) -> Option<u32>
-    ensures { result ≡ first_cover (components composite.now) elems.now entries.now }
+/// The number of the first entry under the key that covers the elements.
+fn covering<A: Analysis>(
+    composite: &Composite<A>,
+    reached: &Reached,
+    key: &Key,
+    elems: &[Elem],
+) -> Option<u32>
+    ensures { result ≡ first_cover (components composite.now) elems.now
+        (under reached.now key.now.elems) }
 {
-    for entry in entries {
+    for number in reached.under(key) {
+        let entry = reached.entry(*number);
         if composite.covered_by(elems, entry.elems.as_slice()) {
-            return Some(entry.number);
+            return Some(*number);
         }
     }
     None
 }
 
-/// Notes the first live entry that covers the successor as a use, or else adds the successor.
+/// Notes the first entry under the key that covers the successor as a use, or else adds the
+/// successor.
 fn cover_or_add<A: Analysis>(
     composite: &Composite<A>,
     reached: &mut Reached,
     work: &mut Work,
+    key: &Key,
     edge: u32,
     successor: Vec<Elem>,
     precisions: Vec<Precision>,
@@ -112,9 +126,9 @@ fn cover_or_add<A: Analysis>(
     requires current { HasCurrent (stage reached.old work.old) }
     ensures { OnOk result (stage reached.new work.new ≡ covered_or_added successor.items
         precisions.items edge (first_cover (components composite.now) successor.items
-        reached.old.live) (stage reached.old work.old)) }
+        (under reached.old key.now.elems)) (stage reached.old work.old)) }
 {
-    match covering(composite, reached.live(), &successor) {
+    match covering(composite, reached, key, &successor) {
         Some(by) => reached.note_use(work.current, by),
         None => {
             let number = reached.add(successor, precisions, (work.current, edge))?;
@@ -136,6 +150,7 @@ fn settle<A: Analysis>(
 ) -> Result<(), AllocError>
     requires automaton { IsAutomaton cfa.now }
     requires entries { AreEntries cfa.now (length (components composite.old)) reached.old.live }
+    requires places { HasPlaces (components composite.old) reached.old }
     requires ordered { IsOrdered reached.old }
     requires current { HasCurrent (stage reached.old work.old) }
     requires successor { AreElems cfa.now (length (components composite.old)) successor.now }
@@ -147,8 +162,18 @@ fn settle<A: Analysis>(
 {
     let live = reached.live();
     let (elems, precisions) = composite.adjust(alloc, cfa, successor, precisions, live)?;
-    compare(alloc, cfa, composite, reached, work, &elems, &precisions)?;
-    cover_or_add(composite, reached, work, edge, elems, precisions)
+    let key = reached.key_of(&elems)?;
+    compare(
+        alloc,
+        cfa,
+        composite,
+        reached,
+        work,
+        &key,
+        &elems,
+        &precisions,
+    )?;
+    cover_or_add(composite, reached, work, &key, edge, elems, precisions)
 }
 
 /// The successors by an edge, one after another.
@@ -164,6 +189,7 @@ pub(crate) fn settle_all<A: Analysis>(
 ) -> Result<(), AllocError>
     requires automaton { IsAutomaton cfa.now }
     requires entries { AreEntries cfa.now (length (components composite.old)) reached.old.live }
+    requires places { HasPlaces (components composite.old) reached.old }
     requires ordered { IsOrdered reached.old }
     requires current { HasCurrent (stage reached.old work.old) }
     requires edge { edge < length cfa.now.edges }

@@ -5,6 +5,7 @@ ghost use Rattle.std.specs.Prelude.{◌≡◌, length, IfOk, OnOk};
 ghost use Rattle.cpa_model.specs.Automata.{IsAutomaton};
 ghost use Rattle.cpa_composite.specs.Composites.{components};
 ghost use Rattle.cpa_reached.specs.Entries.{IsLive};
+ghost use Rattle.cpa_engine_turn.specs.Keys.{HasPlaces};
 ghost use Rattle.cpa_engine_turn.specs.Stages.{Works};
 ghost use Rattle.cpa_engine_turn.specs.Steps.{IsOrdered};
 ghost use Rattle.cpa_engine_turn.specs.Turns.{AreEntries};
@@ -42,6 +43,7 @@ pub(crate) fn expand_taken<A: Analysis>(
 ) -> Result<(), AllocError>
     requires automaton { IsAutomaton cfa.now }
     requires entries { AreEntries cfa.now (length (components composite.old)) reached.old.live }
+    requires places { HasPlaces (components composite.old) reached.old }
     requires live { IsLive reached.old.live number }
     ensures works { OnOk result
         (Works cfa.now (components composite.old) number reached.old reached.new) }

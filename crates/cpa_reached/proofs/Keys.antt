@@ -1,8 +1,8 @@
 -- What stands in an ascending list at the place of a number, and what a write there does
--- (`written`).
-use Rattle.std.proofs.Common.{◌≡◌, ℕ, zero, suc, ◌<◌, ◌≤◌, true, false, eqb, not}
-use Rattle.std.proofs.Common.{List, [], ◌∷◌, length, get_or, map, Some, slice_get}
-use Rattle.std.proofs.Common.{refl, sym, ap, subst, inl, inr, ⊎_elim, arith}
+-- (`written`, `taken_back`).
+use Rattle.std.proofs.Common.{◌≡◌, ℕ, zero, suc, ◌<◌, ◌≤◌, true, false, eqb}
+use Rattle.std.proofs.Common.{List, [], ◌∷◌, ◌++◌, length, get_or, map, Some, slice_get, cond}
+use Rattle.std.proofs.Common.{refl, sym, ap, ◌∙◌, subst, inl, inr, ⊎_elim, arith}
 use Rattle.std.proofs.Math.ListN.{set}
 use Rattle.std.specs.List.{AllByRecursion}
 use Rattle.std.proofs.lemmas.Bool.{eq-eqb, ne_eqb, eqb-true, or_cases}
@@ -11,6 +11,7 @@ use Rattle.cpa_iface.specs.declared.entries.Entry.{Entry}
 use Rattle.cpa_reached.specs.declared.links.Link.{Link}
 use Rattle.cpa_model.specs.Ascending.{AreAscending}
 use Rattle.cpa_reached.specs.Members.{IsIn, is_in}
+use Rattle.cpa_reached.specs.Calls.{at_number, gains}
 use Rattle.cpa_reached.specs.Entries.{numbers}
 use Rattle.cpa_reached.specs.MemberLaws.{in_all, entry_in}
 use Rattle.cpa_reached.specs.Kept.{at_key, link_numbers, depth_of}
@@ -122,3 +123,26 @@ written key (y ∷ ys) (suc i) n f d x up at is =
     let above : key y < n = at_all (λ m. key y < m) (map key ys) i n up.0 at in
     let no : eqb (key y) n ≡ false = ne_eqb _ _ (λ e. omega arith) in
     rw no (ap (λ t. y ∷ t) (written key ys i n f d x up.1 at is))
+
+-- Where an entry has just gained a use, and its last use goes, the entries are as before.
+pub taken_back : (xs : List Entry) (n by i : ℕ) (d there : Entry) (rest : List ℕ)
+    → AreAscending (numbers xs) → slice_get (numbers xs) i ≡ Some n
+    → there ≡ get_or (at_number n (gains by) xs) i d
+    → ((ns : List ℕ) (k : ℕ) → there.uses ≡ ns ++ k ∷ [] → rest ≡ ns)
+    → set (at_number n (gains by) xs) i (record there { uses = rest }) ≡ xs
+taken_back [] n by i d there rest up at is goes = absurd (cc)
+taken_back (y ∷ ys) n by zero d there rest up at is goes =
+    let same : y.number ≡ n = same_Some _ _ at in
+    let yes : eqb y.number n ≡ true = eq-eqb _ _ same in
+    let later : at_number n (gains by) ys ≡ ys =
+    untouched (λ (e : Entry). e.number) n (gains by) ys
+    (subst (λ (k : ℕ). AllByRecursion (λ m. k < m) (numbers ys)) same up.0) in
+    let here : there ≡ gains by y = is ∙ ap (λ b. cond b (gains by y) y) yes in
+    let were : rest ≡ y.uses = goes y.uses by (ap (λ (e : Entry). e.uses) here) in
+    ap (λ (e : Entry). record e { uses = rest } ∷ at_number n (gains by) ys) here
+    ∙ (ap (λ (us : List ℕ). record y { uses = us } ∷ at_number n (gains by) ys) were
+    ∙ ap (λ (t : List Entry). y ∷ t) later)
+taken_back (y ∷ ys) n by (suc i) d there rest up at is goes =
+    let above : y.number < n = at_all (λ m. y.number < m) (numbers ys) i n up.0 at in
+    let no : eqb y.number n ≡ false = ne_eqb _ _ (λ e. omega arith) in
+    rw no (ap (λ t. y ∷ t) (taken_back ys n by i d there rest up.1 at is goes))

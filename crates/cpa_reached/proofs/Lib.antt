@@ -8,3 +8,5 @@ pub mod Renamed
 pub mod Climbing
 pub mod Pruned
 pub mod Views
+pub mod Entering
+pub mod Keying

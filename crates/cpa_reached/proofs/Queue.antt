@@ -3,11 +3,11 @@
 use Rattle.std.proofs.Common.{◌≡◌, ℕ, zero, suc, ◌<◌, ◌≤◌, true, false, eqb}
 use Rattle.std.proofs.Common.{List, [], ◌∷◌, ◌++◌, length, get_or, Option, Some, None, Result}
 use Rattle.std.proofs.Common.{Ok, Err, refl, sym, ap, subst, inl, inr, ⊎_elim, arith}
-use Rattle.std.specs.List.{AllByRecursion}
+use Rattle.std.specs.List.{AllByRecursion, remove}
 use Rattle.std.specs.List.Sorted.{IsBinarySearchResult}
 use Rattle.std.specs.Option.{option_to_list, IfSome}
 use Rattle.std.specs.Ordering.{nat_cmp}
-use Rattle.std.specs.Result.{is_ok}
+use Rattle.std.specs.Result.{is_ok, MatchResult}
 use Rattle.std.proofs.lemmas.Bool.{eq-eqb, ne_eqb, eqb-true, or_cases, cases_Bool, cases_lt}
 use Rattle.std.proofs.lemmas.List.Sorted.{searched}
 use Rattle.cpa_model.specs.Ascending.{AreAscending}
@@ -15,6 +15,7 @@ use Rattle.cpa_model.specs.lemmas.Ascending.{ascending_by_place}
 use Rattle.cpa_reached.specs.Members.{IsIn, is_in}
 use Rattle.cpa_reached.specs.Tables.{but}
 use Rattle.cpa_reached.specs.MemberLaws.{or_left, or_right, all_weaker}
+use Rattle.cpa_reached.specs.SuccessorLaws.{or_false}
 
 but_above : (n : ℕ) (ns : List ℕ) → AllByRecursion (λ m. n < m) ns → but n ns ≡ ns
 but_above n [] above = refl
@@ -112,3 +113,38 @@ found_exactly ns n (Err i) up h =
     (cases_lt r.0 i)))
     (λ no. sym no)
     (cases_Bool (is_in n ns))
+
+-- all but the number at a place, and all but one that is not there
+but_is_remove : (ns : List ℕ) (i n : ℕ) → AreAscending ns → i < length ns → get_or ns i 0 ≡ n
+    → but n ns ≡ remove ns i
+but_is_remove [] i n up less at = absurd (omega arith)
+but_is_remove (m ∷ ns) zero n up less at =
+    let same : m ≡ n = at in
+    rw (eq-eqb m n same)
+    (but_above n ns (subst (λ (j : ℕ). AllByRecursion (λ k. j < k) ns) same up.0))
+but_is_remove (m ∷ ns) (suc i) n up less at =
+    let above : m < get_or ns i 0 = all_at (λ k. m < k) ns i up.0 (omega arith) in
+    let no : eqb m n ≡ false = ne_eqb _ _ (λ e. omega (arith, above, at)) in
+    rw no (ap (λ t. m ∷ t) (but_is_remove ns i n up.1 (omega arith) at))
+  where
+    all_at : (P : ℕ → Type 0) (ks : List ℕ) (j : ℕ) → AllByRecursion P ks → j < length ks
+        → P (get_or ks j 0)
+    all_at P [] j all inside = absurd (omega arith)
+    all_at P (k ∷ ks) zero all inside = all.0
+    all_at P (k ∷ ks) (suc j) all inside = all_at P ks j all.1 (omega arith)
+
+but_absent : (n : ℕ) (ns : List ℕ) → is_in n ns ≡ false → but n ns ≡ ns
+but_absent n [] absent = refl
+but_absent n (m ∷ ns) absent =
+    let parts = or_false (eqb m n) (is_in n ns) absent in
+    rw parts.0 (ap (λ t. m ∷ t) (but_absent n ns parts.1))
+
+-- So what a search by halving finds is what is to be taken out.
+pub but_found : (ns : List ℕ) (n : ℕ) (r : Result ℕ ℕ) → AreAscending ns
+    → IsBinarySearchResult (λ m. nat_cmp m n) ns r
+    → MatchResult r (λ i. (i < length ns) × (remove ns i ≡ but n ns)) (λ i. ns ≡ but n ns)
+but_found ns n (Ok i) up h =
+    let at : (i < length ns) × (get_or ns i 0 ≡ n) =
+    searched ns n (Ok i) h (ascending_by_place ns up) in
+    (at.0, sym (but_is_remove ns i n up at.0 at.1))
+but_found ns n (Err i) up h = sym (but_absent n ns (sym (found_exactly ns n (Err i) up h)))

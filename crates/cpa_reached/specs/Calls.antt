@@ -55,7 +55,7 @@ those n xs = filter (λ e. e.number == n) xs
 
 -- `new`
 abbrev pub begun : List Elem → List Precision → ReachedSet
-begun es ps = record { live = fresh 0 es ps None ∷ []; journal = []; next = 1 }
+begun es ps = record { live = fresh 0 es ps None ∷ []; journal = []; next = 1; places = [] }
 
 -- `take_next`
 abbrev pub taken : ℕ → ReachedSet → ReachedSet
@@ -90,6 +90,10 @@ used r n by = record r { live = at_number n (gains by) r.live }
 -- `set_precisions`
 abbrev pub refined : ReachedSet → ℕ → List Precision → ReachedSet
 refined r n ps = record r { live = at_number n (with_precisions ps) r.live }
+
+-- `index_by`
+abbrev pub indexed : ReachedSet → List ℕ → ReachedSet
+indexed r places = record r { places = places }
 
 -- `close_turn`
 abbrev pub closed : ReachedSet → Turn → ReachedSet

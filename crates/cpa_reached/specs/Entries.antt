@@ -10,11 +10,12 @@ use Rattle.cpa_model.specs.Ascending.{AreAscending}
 use Rattle.cpa_reached.specs.Members.{IsIn}
 
 -- The entries that are there, in order of numbers; an entry says itself whether it waits. The rows
--- of the journal, and the number that comes next.
+-- of the journal, the number that comes next, and the places whose elements are an entry's key.
 pub record ReachedSet : Type 0 where
   pub live : List Entry
   pub journal : List Turn
   pub next : ℕ
+  pub places : List ℕ
 
 abbrev pub numbers : List Entry → List ℕ
 numbers xs = map (λ e. e.number) xs

@@ -3,8 +3,10 @@ pub mod Entries
 pub mod MemberLaws
 pub mod Calls
 pub mod Removal
+pub mod Keyed
 pub mod Paths
 pub mod Successors
 pub mod SuccessorLaws
 pub mod Kept
+pub mod Indexes
 pub mod Tables

@@ -229,7 +229,7 @@ none_gone gone (u ∷ uses) n none (inl same) =
 none_gone gone (u ∷ uses) n none (inr later) =
     none_gone gone uses n (or_false (is_in u gone) (list_any (λ k. is_in k gone) uses) none).1 later
 
-left_elems : (gone : List ℕ) (pivot : ℕ) (e : Entry) → (left gone pivot e).elems ≡ e.elems
+pub left_elems : (gone : List ℕ) (pivot : ℕ) (e : Entry) → (left gone pivot e).elems ≡ e.elems
 left_elems gone pivot e =
     cond_both (is_opened gone pivot e) (opened e) e (λ y. y.elems ≡ e.elems) (λ _. refl) (λ _. refl)
 

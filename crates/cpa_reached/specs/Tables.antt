@@ -2,10 +2,19 @@
 use Rattle.std.specs.Prelude.{ℕ, not, ◌==◌, List}
 use Rattle.std.specs.List.{filter}
 use Rattle.cpa_reached.specs.declared.table.Table.{Table}
+use Rattle.cpa_reached.specs.Indexes.{IsIndex}
 use Rattle.cpa_reached.specs.Kept.{IsKept}
 
 abbrev pub IsKeptTable : Table → Type 0
 IsKeptTable t = IsKept t.entries.items t.links.items t.waiting.items t.next
+
+-- the index is that of the entries
+abbrev pub IsIndexedTable : Table → Type 0
+IsIndexedTable t = IsIndex t.places t.entries.items t.index.entries
+
+pub record IsWholeTable (t : Table) : Type 0 where
+  pub kept : IsKeptTable t
+  pub indexed : IsIndexedTable t
 
 -- this number is taken out of the waiting ones
 abbrev pub but : ℕ → List ℕ → List ℕ

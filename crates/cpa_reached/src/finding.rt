@@ -1,9 +1,9 @@
 //! How an entry is found by its number, by halving, and changed in its place. Each function is a
 //! word of `specs/Calls.antt`.
 
-ghost use Rattle.std.specs.Prelude.{◌≡◌, ℕ, ◌<◌, ◌≤◌, false, Some, length, slice_get};
-ghost use Rattle.std.specs.Prelude.{slice_index_or, vec_capacity, OnOk, OnErr, IfSome, IfNone};
-ghost use Rattle.std.specs.Prelude.{IsTrue, ◌↔◌};
+ghost use Rattle.std.specs.Prelude.{◌≡◌, ℕ, ◌<◌, ◌≤◌, false, List, [], ◌∷◌, ◌++◌, Some, length};
+ghost use Rattle.std.specs.Prelude.{slice_get, slice_index_or, vec_capacity, OnOk, OnErr, IfSome};
+ghost use Rattle.std.specs.Prelude.{IfNone, IsTrue, ◌↔◌};
 ghost use Rattle.std.specs.List.Sorted.{IsNonDecreasingBy};
 ghost use Rattle.cpa_iface.specs.declared.entries.Entry.{Entry as AnEntry};
 ghost use Rattle.cpa_model.specs.Ascending.{AreAscending};
@@ -13,7 +13,8 @@ ghost use Rattle.cpa_reached.specs.Calls.{at_number, rests, gains, with_precisio
 
 use cpa_iface::{Entry, Precision};
 use cpa_ints::Seq;
-use std::alloc::AllocError;
+use std::alloc::{AllocError, Global};
+use std::mem;
 
 /// How many entries have lower numbers.
 fn first_from(entries: &[Entry], number: u32) -> usize
@@ -100,6 +101,27 @@ pub(crate) fn gain(entries: &mut Vec<Entry>, number: u32, by: u32) -> Result<(),
 {
     let at = place(entries, number);
     entries[at].uses.push(by)
+}
+
+/// The last of some numbers goes.
+fn take_back(items: &mut Seq<u32>, alloc: Global)
+    ensures { (ns : List ℕ) (n : ℕ) → items.old ≡ ns ++ n ∷ [] → items.new ≡ ns }
+{
+    let mut rest = mem::replace(items, Seq::new(alloc)).into_vec();
+    rest.pop();
+    *items = Seq::from_vec(rest);
+}
+
+/// Takes back a use that was just noted. It takes no memory.
+pub(crate) fn lose(entries: &mut Vec<Entry>, alloc: Global, number: u32)
+    requires ascend { AreAscending (numbers entries.old.items) }
+    requires live { IsLive entries.old.items number }
+    ensures items { (xs : List AnEntry) (by : ℕ)
+        → entries.old.items ≡ at_number number (gains by) xs → entries.new.items ≡ xs }
+    ensures capacity { vec_capacity entries.new ≡ vec_capacity entries.old }
+{
+    let at = place(entries, number);
+    take_back(&mut entries[at].uses, alloc);
 }
 
 /// The entry of this number has these precisions in place of its own.

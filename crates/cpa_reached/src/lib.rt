@@ -3,6 +3,7 @@
 #![tactic(auto)]
 
 mod finding;
+mod index;
 mod laws;
 mod links;
 mod pruning;
@@ -11,6 +12,7 @@ mod renaming;
 mod table;
 mod tracing;
 
+pub use cpa_reached_key::Key;
 pub use laws::calls_keep_cover;
 pub use pruning::is_gone as is_among;
 pub use reached::Reached;

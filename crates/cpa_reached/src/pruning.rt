@@ -8,9 +8,10 @@ ghost use Rattle.cpa_reached.specs.Members.{is_in};
 ghost use Rattle.cpa_reached.specs.Entries.{IsLive, waiting_numbers};
 ghost use Rattle.cpa_reached.specs.Removal.{IsBelow, is_opened, left, without, RemovesBelow};
 ghost use Rattle.cpa_reached.specs.Kept.{IsTree, waits_after, without_links};
-ghost use Rattle.cpa_reached.specs.Tables.{IsKeptTable};
+ghost use Rattle.cpa_reached.specs.Tables.{IsKeptTable, IsIndexedTable};
 
 use crate::finding::place;
+use crate::index::index_left;
 use crate::links::{Link, depth_at};
 use crate::table::Table;
 use crate::tracing::parent;
@@ -155,18 +156,23 @@ fn leave_all(entries: &mut Vec<Entry>, alloc: Global, gone: &[u32], pivot: u32)
 /// All memory is taken before the first change, so that where it runs out nothing has changed.
 pub(crate) fn remove_below(table: &mut Table, pivot: u32) -> Result<(), AllocError>
     requires kept { IsKeptTable table.old }
+    requires indexed { IsIndexedTable table.old }
     requires pivot { IsLive table.old.entries.items pivot }
     ensures kept { IsKeptTable table.new }
+    ensures indexed { IsIndexedTable table.new }
     ensures ok { OnOk result
         (RemovesBelow pivot table.old.entries.items table.new.entries.items) }
     ensures err { OnErr result (table.new.entries.items ≡ table.old.entries.items) }
     ensures next { table.new.next ≡ table.old.next }
+    ensures places { table.new.places ≡ table.old.places }
 {
     let gone = below(&table.entries, &table.links, table.alloc, pivot)?;
     let waiting = waiting_after(&table.entries, table.alloc, &gone, pivot)?;
+    let index = index_left(table.alloc, table.places.as_slice(), &table.entries, &gone)?;
     drop_entries(&mut table.entries, &gone);
     drop_links(&mut table.links, &gone);
     leave_all(&mut table.entries, table.alloc, &gone, pivot);
     table.waiting = waiting;
+    table.index = index;
     Ok(())
 }

@@ -5,15 +5,18 @@ ghost use Rattle.std.specs.Prelude.{◌≡◌, [], IfOk, OnOk, OnErr, IfSome, If
 ghost use Rattle.cpa_reached.specs.Entries.{IsLive, IsNext, IsNumbered, waiting_numbers};
 ghost use Rattle.cpa_reached.specs.Members.{IsIn};
 ghost use Rattle.cpa_reached.specs.Calls.{begun, taken, added, replaced, used, refined, closed};
-ghost use Rattle.cpa_reached.specs.Calls.{restarted};
+ghost use Rattle.cpa_reached.specs.Calls.{restarted, indexed};
 ghost use Rattle.cpa_reached.specs.Removal.{RemovesBelow};
+ghost use Rattle.cpa_reached.specs.Keyed.{keyed};
 ghost use Rattle.cpa_reached.specs.Paths.{IsPathTo};
+ghost use Rattle.cpa_reached_key.specs.Rows.{picked};
 
 use crate::table::{self, Table};
-use crate::{finding, pruning, tracing};
+use crate::{finding, index, pruning, tracing};
 use cpa_iface::{Entry, Order, Precision, Turn};
 use cpa_ints::Seq;
 use cpa_model::{Elem, Path};
+use cpa_reached_key::{self, Key};
 use std::alloc::{AllocError, Global};
 use std::marker::Model;
 
@@ -34,15 +37,16 @@ impl Model for Reached {
 
     ghost coded = { Prim.hlevel (codes, e.the_row.coded) };
 
-    ghost use Rattle.cpa_reached.specs.Tables.{IsKeptTable};
+    ghost use Rattle.cpa_reached.specs.Tables.{IsWholeTable};
 
     ghost view = { λ r. record {
       live = r.table.entries.items;
       journal = r.journal.items;
       next = r.table.next;
+      places = r.table.places;
     } };
 
-    ghost invariant = { λ r. IsKeptTable r.table };
+    ghost invariant = { λ r. IsWholeTable r.table };
 }
 
 impl Reached {
@@ -113,6 +117,7 @@ impl Reached {
         ensures live { OnOk result (RemovesBelow pivot self.old.live self.new.live) }
         ensures journal { self.new.journal ≡ self.old.journal }
         ensures next { self.new.next ≡ self.old.next }
+        ensures places { self.new.places ≡ self.old.places }
         ensures err { OnErr result (self.new ≡ self.old) }
     {
         pruning::remove_below(&mut self.table, pivot)
@@ -140,6 +145,30 @@ impl Reached {
         ensures { self.new ≡ restarted self.old }
     {
         self.journal.clear();
+    }
+
+    /// From now on the elements at these places are an entry's key. Without this call there are no
+    /// places, and all entries have one key.
+    pub fn index_by(&mut self, places: &[u32]) -> Result<(), AllocError>
+        ensures ok { OnOk result (self.new ≡ indexed self.old places.now) }
+        ensures err { OnErr result (self.new ≡ self.old) }
+    {
+        table::index_by(&mut self.table, places)
+    }
+
+    /// The key of a row: its elements at the places, as far as it has so many.
+    pub fn key_of(&self, elems: &[Elem]) -> Result<Key, AllocError>
+        ensures { IfOk result (λ key. key.elems ≡ picked self.now.places elems.now) }
+    {
+        cpa_reached_key::key_of(self.table.alloc, self.table.places.as_slice(), elems)
+    }
+
+    /// The numbers of the entries that have the key, ascending. Takes no memory.
+    pub fn under(&self, key: &Key) -> &[u32]
+        ensures numbers { result.now ≡ keyed self.now.places key.now.elems self.now.live }
+        ensures numbered { IsNumbered self.now }
+    {
+        index::under(&self.table.index, key)
     }
 
     /// The entries, in order of numbers. Takes no memory.

@@ -19,11 +19,12 @@ use Rattle.cpa_composite.specs.Comparisons.{keeps_apart}
 use Rattle.cpa_iface.specs.declared.merging.Order.{Order}
 use Rattle.cpa_composite.specs.Components.{Component, AreElems}
 use Rattle.cpa_composite.specs.Exact.{ControlSteps, pins}
+use Rattle.cpa_composite.specs.Keys.{is_control}
 use Rattle.cpa_composite.specs.Laws.{InitialRow, SuccessorRows}
 use Rattle.cpa_reached.specs.Calls.{begun}
 use Rattle.cpa_reached.specs.Entries.{ReachedSet, IsNumbered}
 use Rattle.cpa_engine_turn.specs.Bounds.{KeyStepsTo}
-use Rattle.cpa_engine_turn.specs.Keys.{is_control, key_of}
+use Rattle.cpa_engine_turn.specs.Keys.{key_of}
 use Rattle.cpa_engine_turn.specs.lemmas.Keyed.{row_steps, adjusted_key, merged_key, there_is}
 use Rattle.cpa_engine_turn.specs.lemmas.Keyed.{key_by, pins_size, pin_there}
 use Rattle.cpa_engine_turn.specs.Turns.{AreEntries, Turned}

@@ -26,12 +26,13 @@ use Rattle.cpa_iface.specs.declared.entries.Entry.{Entry}
 use Rattle.cpa_iface.specs.Pins.{pin, pin_of, StepsPart}
 use Rattle.cpa_composite.specs.Components.{Component}
 use Rattle.cpa_composite.specs.Exact.{IsControl, pins}
+use Rattle.cpa_composite.specs.Keys.{is_key}
 use Rattle.cpa_model.specs.Ascending.{AreAscending}
 use Rattle.cpa_reached.specs.Members.{IsIn}
 use Rattle.cpa_reached.specs.Entries.{numbers}
 use Rattle.cpa_reached.specs.Paths.{LeadsBack, IsPathTo}
 use Rattle.cpa_engine_turn.specs.Bounds.{KeysStep}
-use Rattle.cpa_engine_turn.specs.Keys.{is_key, key_of, HaveOwnKeys}
+use Rattle.cpa_engine_turn.specs.Keys.{key_of, HaveOwnKeys}
 use Rattle.cpa_engine_turn.specs.Points.{point_in}
 use Rattle.cpa_engine_turn.specs.lemmas.Keyed.{key_at, key_control, pins_size, pin_there}
 use Rattle.cpa_engine_turn.specs.lemmas.Lists.{in_map_of, of_map}

@@ -23,12 +23,13 @@ use Rattle.cpa_iface.specs.Pins.{pin, pin_of, StepsPart}
 use Rattle.cpa_composite.specs.Comparisons.{keeps_apart}
 use Rattle.cpa_composite.specs.Components.{Component}
 use Rattle.cpa_composite.specs.Exact.{pins}
+use Rattle.cpa_composite.specs.Keys.{is_control, is_key}
 use Rattle.cpa_model.specs.Ascending.{AreAscending}
 use Rattle.cpa_reached.specs.Members.{IsIn}
 use Rattle.cpa_reached.specs.Entries.{numbers}
 use Rattle.cpa_reached.specs.Paths.{LeadsBack, IsPathTo}
 use Rattle.cpa_engine_turn.specs.Bounds.{KeysStep}
-use Rattle.cpa_engine_turn.specs.Keys.{is_control, is_key, key_of}
+use Rattle.cpa_engine_turn.specs.Keys.{key_of}
 use Rattle.cpa_engine_turn.specs.Turns.{AreEntries}
 use Rattle.cpa_engine_turn.specs.lemmas.Keyed.{key_at, pins_size, pin_there, there_is}
 use Rattle.cpa_engine_laws.specs.Chains.{HaveApart, WalksTo, PointsChain, SitesChain}

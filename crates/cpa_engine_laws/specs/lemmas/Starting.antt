@@ -6,16 +6,15 @@ use Rattle.cpa_model.specs.declared.automaton.Act.{Act}
 use Rattle.cpa_model.specs.declared.automaton.Act.TheVariants as act
 use Rattle.cpa_model.specs.declared.automaton.Cfa.{Cfa}
 use Rattle.cpa_model.specs.declared.automaton.Edge.{Edge}
-use Rattle.cpa_model.specs.declared.program.Cell.{Cell}
 use Rattle.cpa_model.specs.declared.program.Program.{Program}
 use Rattle.cpa_model.specs.declared.program.Stmt.{Stmt}
 use Rattle.cpa_model.specs.declared.program.Stmt.TheVariants as stmt
 use Rattle.cpa_model.specs.declared.states.State.{State}
-use Rattle.cpa_model.specs.Automata.{IsAutomaton, IsAutomatonOf, IsStateOf, initial_state}
+use Rattle.cpa_model.specs.Automata.{IsAutomatonOf, initial_state}
 use Rattle.cpa_model.specs.Automata.{EdgeStep, StepsAlong}
-use Rattle.cpa_model.specs.Programs.{IsStmt, IsWellFormed, point_count}
-use Rattle.cpa_model.specs.States.{IsState, initial_of}
-use Rattle.cpa_model.specs.Steps.{BeginsInState, Step, IsChain, IsExecution, IsReachable}
+use Rattle.cpa_model.specs.Programs.{IsStmt}
+use Rattle.cpa_model.specs.States.{initial_of}
+use Rattle.cpa_model.specs.Steps.{Step, IsChain, IsExecution, IsReachable}
 use Rattle.cpa_model.specs.Steps.{Moves, MovesAt, at_statement, at_exit}
 use Rattle.cpa_model.specs.lemmas.Lists.{in_list}
 use Rattle.cpa_iface.specs.declared.analysis.Part.TheVariants.{Store}

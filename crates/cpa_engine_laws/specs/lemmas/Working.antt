@@ -21,7 +21,7 @@ use Rattle.cpa_reached.specs.Calls.{rename}
 use Rattle.cpa_reached.specs.Calls.{at_number, gains, taken}
 use Rattle.cpa_engine_turn.specs.Stages.{Stage, taking, noting, adding, replacing_at, Compares}
 use Rattle.cpa_engine_turn.specs.Stages.{ComparesAll}
-use Rattle.cpa_engine_turn.specs.Stages.{first_cover, covered_or_added, SettlesAll}
+use Rattle.cpa_engine_turn.specs.Stages.{fellows, first_cover, covered_or_added, SettlesAll}
 use Rattle.cpa_engine_turn.specs.Stages.{FollowsAll, Works}
 use Rattle.cpa_engine_turn.specs.Turns.{AreEntries, HasEdge, Turned}
 use Rattle.cpa_engine_laws.specs.Lines.{AreLines}
@@ -315,11 +315,11 @@ module _ (cfa : Cfa) (cs : List Component) (R : ℕ → List Elem → List Elem 
       (there 0 row refl) s.adjusted in
       let one = laws.each edge rows (place + 0) row a.reached.live s.elems s.precisions less made
       (there 0 row refl) s.adjusted in
-      let middle = all_compares_lined es ps s.elems s.precisions (numbers a.reached.live) a
-      s.compared laws s.adjusted.elems.size s.adjusted.precisions.size s.compares at in
+      let middle = all_compares_lined es ps s.elems s.precisions
+      (numbers (fellows a.reached s.elems)) a s.compared laws s.adjusted.elems.size s.adjusted.precisions.size s.compares at in
       let first = ended_lined es s.elems s.precisions edge
-      (first_cover cs s.elems s.compared.reached.live) s.compared all.0 s.adjusted.elems.size comes
-      one s.is middle in
+      (first_cover cs s.elems (fellows s.compared.reached s.elems)) s.compared all.0
+      s.adjusted.elems.size comes one s.is middle in
       settles_lined es ps edge rows left (place + 1) all.0 b laws less made
       (λ k next at_k.
       let same : place + 1 + k ≡ place + suc k = omega arith in

@@ -1,6 +1,6 @@
 -- Entries with keys of their own are no more than the keys (`at_most_keys`), those of pins no more
 -- than the states (`at_most_states`), and where all are kept apart nothing merges or has a rank.
-use Rattle.std.proofs.Common.{◌≡◌, ◌≢◌, ℕ, suc, ◌+◌, ◌<◌, ◌≤◌, List, [], ◌∷◌, length, map, refl}
+use Rattle.std.proofs.Common.{◌≡◌, ◌≢◌, suc, ◌<◌, ◌≤◌, List, [], ◌∷◌, length, map, refl}
 use Rattle.std.proofs.Common.{sym}
 use Rattle.std.proofs.Common.{ap, ◌∙◌, subst, inl, inr, ⊎_elim, arith}
 use Rattle.std.specs.List.{AllByRecursion}

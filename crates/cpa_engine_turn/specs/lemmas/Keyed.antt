@@ -20,10 +20,11 @@ use Rattle.cpa_iface.specs.Pins.{pin_of, StepsPart, MustBeExact}
 use Rattle.cpa_composite.specs.Comparisons.{keeps_apart}
 use Rattle.cpa_composite.specs.Components.{Component}
 use Rattle.cpa_composite.specs.Exact.{IsControl, ControlSteps, pins}
+use Rattle.cpa_composite.specs.Keys.{is_control, is_key}
 use Rattle.cpa_composite.specs.Laws.{AdjustedRow, EachMerged}
 use Rattle.cpa_reached.specs.Members.{IsIn}
 use Rattle.cpa_engine_turn.specs.Bounds.{KeysStep, KeyStepsTo, KeysBound, HasKey}
-use Rattle.cpa_engine_turn.specs.Keys.{is_control, is_key, key_of}
+use Rattle.cpa_engine_turn.specs.Keys.{key_of}
 
 control_part : (which : Part) → is_control which ≡ true → IsControl which
 control_part Nothing is = absurd (cc)

@@ -1,12 +1,13 @@
 use Rattle.std.proofs.Common.{◌≡◌, List, true, false, refl, sym, subst}
 use Rattle.cpa_model.specs.declared.facts.Elem.{Elem}
-use Rattle.cpa_composite.specs.Comparisons.{same_row}
-use Rattle.cpa_composite.proofs.Compared.{row_means, row_differs}
+use Rattle.cpa_reached_key.specs.Rows.{same_row}
+use Rattle.cpa_reached_key.specs.RowLaws.{same_row-means}
+use Rattle.cpa_composite.proofs.Compared.{row_differs}
 use Rattle.cpa_composite.proofs.calls.other_row.Goals as goal
 
 pub returns-then-same_row-clause-none : goal.returns-then-same_row-clause-none
 returns-then-same_row-clause-none c =
-    row_means c.args.merged.items c.args.old.now
+    same_row-means c.args.merged.items c.args.old.now
     (subst (λ (l : List Elem). same_row l c.args.old.now ≡ true) c.deref.ensures.value
     (sym c.if-same_row.ensures))
 

@@ -1,9 +1,12 @@
-use Rattle.std.proofs.Common.{◌<◌, ◌≤◌, ℕ, List, subst}
+use Rattle.std.proofs.Common.{◌<◌, ◌≤◌, ℕ, List, inr, subst}
 use Rattle.cpa_iface.specs.declared.entries.Entry.{Entry}
 use Rattle.cpa_composite.specs.Composites.{components}
 use Rattle.cpa_reached.specs.Members.{IsIn}
 use Rattle.cpa_engine.proofs.Turned.{TurnKeeps, turn_stands, turn_checked}
 use Rattle.cpa_engine.proofs.round.go_on.Goals as goal
+
+pub turn-requires-clause-places : goal.turn-requires-clause-places
+turn-requires-clause-places g c = inr c.requires.search.stands.places
 
 pub returns-then-goes-clause-search : goal.returns-then-goes-clause-search
 returns-then-goes-clause-search g c =
@@ -23,6 +26,7 @@ returns-then-goes-clause-search g c =
     record {
       turned = turned;
       entries = e.entries;
+      places = e.places;
       covers = e.covers;
       journal = e.journal;
       keys = e.keys;

@@ -1,8 +1,8 @@
-use Rattle.std.proofs.Common.{List, ℕ, sym, subst, ap, ◌∙◌, map}
-use Rattle.std.specs.List.{filter, AllByRecursion}
+use Rattle.std.proofs.Common.{List, ap, ◌∙◌}
+use Rattle.std.specs.List.{filter}
 use Rattle.cpa_iface.specs.declared.entries.Entry.{Entry}
-use Rattle.cpa_reached.specs.Entries.{ReachedSet, IsLive, numbers}
-use Rattle.cpa_engine_rounds.specs.Opening.{uses_some, is_reopened, with_newest}
+use Rattle.cpa_reached.specs.Entries.{ReachedSet, numbers}
+use Rattle.cpa_engine_rounds.specs.Opening.{uses_some, is_reopened}
 use Rattle.cpa_engine_rounds.proofs.Reopening.{reopened_exactly, users_ascend, found_live}
 use Rattle.cpa_engine_rounds.proofs.clearing.begin_round.Goals as goal
 
@@ -44,4 +44,6 @@ returns c =
       journal = ap (λ (r : ReachedSet). r.journal) c.start_round.ensures;
       next = ap (λ (r : ReachedSet). r.next) c.start_round.ensures ∙ c.in_ok-renew.ensures.next
           ∙ c.in_ok-remove_below.ensures.next;
+      places = ap (λ (r : ReachedSet). r.places) c.start_round.ensures
+          ∙ c.in_ok-renew.ensures.places ∙ c.in_ok-remove_below.ensures.places;
     }

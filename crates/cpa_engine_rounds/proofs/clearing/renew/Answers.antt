@@ -24,4 +24,5 @@ loop-number-preserved c =
           (ap (λ (r : ReachedSet). r.live) c.set_precisions.ensures);
       journal = ap (λ (r : ReachedSet). r.journal) c.set_precisions.ensures ∙ l.invariant.journal;
       next = ap (λ (r : ReachedSet). r.next) c.set_precisions.ensures ∙ l.invariant.next;
+      places = ap (λ (r : ReachedSet). r.places) c.set_precisions.ensures ∙ l.invariant.places;
     }

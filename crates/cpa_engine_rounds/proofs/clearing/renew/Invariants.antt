@@ -8,4 +8,5 @@ invariant-loop-number l = record {
       ≡ map (with_newest (take l.number-index l.found) l.newest) l.initial.reached.live;
   journal : l.reached.journal ≡ l.initial.reached.journal;
   next : l.reached.next ≡ l.initial.reached.next;
+  places : l.reached.places ≡ l.initial.reached.places;
 }

@@ -3,7 +3,7 @@ use Rattle.cpa_composite.specs.Components.{Component}
 use Rattle.cpa_composite.specs.Composites.{components}
 use Rattle.cpa_engine_turn.specs.Stages.{Stage, Follows}
 use Rattle.cpa_engine_turn.specs.Steps.{stage}
-use Rattle.cpa_engine_turn.proofs.Progress.{ordered_along, current_along}
+use Rattle.cpa_engine_turn.proofs.Progress.{ordered_along, current_along, fits_on}
 use Rattle.cpa_engine_turn.proofs.Shapes.{entries_on}
 use Rattle.cpa_engine_turn.proofs.Working.{so_far_lead, follows_none, follows_push}
 use Rattle.cpa_engine_turn.proofs.expanding.expand.Goals as goal
@@ -29,7 +29,21 @@ follow-requires-clause-entries g c =
     entries_on cfa cs (components at.composite) a b at.invariant.kept
     (so_far_lead cfa cs c.args.elems.now c.args.precisions.now c.edges_from-first.result.0 at.edge
     a b at.invariant.low (omega (arith, within, less)) c.requires.entries c.requires.ordered
-    at.invariant.follows) c.requires.entries
+    c.requires.places at.invariant.follows) c.requires.entries
+
+pub follow-requires-clause-places : goal.follow-requires-clause-places
+follow-requires-clause-places g c =
+    let at = c.loop-edge in
+    let cfa = c.args.cfa.now in
+    let cs = components c.args.composite.now in
+    let a : Stage = stage c.args.reached.now c.args.work.now in
+    let b : Stage = stage at.reached at.work in
+    let within = c.edges_from-first.ensures.within in
+    let less = c.loop-edge-test.true in
+    fits_on cfa cs (components at.composite) a b at.invariant.kept
+    (so_far_lead cfa cs c.args.elems.now c.args.precisions.now c.edges_from-first.result.0 at.edge
+    a b at.invariant.low (omega (arith, within, less)) c.requires.entries c.requires.ordered
+    c.requires.places at.invariant.follows) c.requires.places
 
 pub follow-requires-clause-ordered : goal.follow-requires-clause-ordered
 follow-requires-clause-ordered g c =
@@ -43,7 +57,7 @@ follow-requires-clause-ordered g c =
     ordered_along cfa cs a b
     (so_far_lead cfa cs c.args.elems.now c.args.precisions.now c.edges_from-first.result.0 at.edge
     a b at.invariant.low (omega (arith, within, less)) c.requires.entries c.requires.ordered
-    at.invariant.follows) c.requires.ordered
+    c.requires.places at.invariant.follows) c.requires.ordered
 
 pub follow-requires-clause-current : goal.follow-requires-clause-current
 follow-requires-clause-current g c =
@@ -57,7 +71,7 @@ follow-requires-clause-current g c =
     current_along cfa cs a b
     (so_far_lead cfa cs c.args.elems.now c.args.precisions.now c.edges_from-first.result.0 at.edge
     a b at.invariant.low (omega (arith, within, less)) c.requires.entries c.requires.ordered
-    at.invariant.follows) c.requires.ordered c.requires.current
+    c.requires.places at.invariant.follows) c.requires.ordered c.requires.current
 
 pub loop-edge-preserved : goal.loop-edge-preserved
 loop-edge-preserved g c =

@@ -2,6 +2,7 @@ use Rattle.std.proofs.Common.{length, sym, subst}
 use Rattle.cpa_composite.specs.Composites.{components}
 use Rattle.cpa_reached.specs.Entries.{ReachedSet, IsLive}
 use Rattle.cpa_engine_turn.specs.Bounds.{AreBounded, ArePinned}
+use Rattle.cpa_engine_turn.specs.Keys.{HasPlaces}
 use Rattle.cpa_engine_turn.specs.Turns.{AreEntries}
 use Rattle.cpa_engine_turn.proofs.Beginning.{taken_live}
 use Rattle.cpa_engine_turn.proofs.Bounding.{turned_bound}
@@ -10,6 +11,7 @@ use Rattle.cpa_engine_turn.proofs.Owning.{turned_keys}
 use Rattle.cpa_engine_turn.proofs.Pinning.{turned_pins}
 use Rattle.cpa_engine_turn.proofs.Shapes.{taken_entries}
 use Rattle.cpa_engine_turn.proofs.Turning.{turned, turned_covers, turned_entries}
+use Rattle.cpa_engine_turn.proofs.Turning.{turned_places}
 use Rattle.cpa_engine_turn.proofs.Working.{works_after}
 use Rattle.cpa_engine_turn.proofs.one_turn.turn.Goals as goal
 
@@ -19,6 +21,11 @@ expand_taken-requires-clause-entries g c =
     subst (λ (r : ReachedSet). AreEntries c.args.cfa.now count r.live)
     (sym c.in-Some.ensures.taken)
     (taken_entries c.args.cfa.now count c.in-Some.number c.args.reached.now.live c.requires.entries)
+
+pub expand_taken-requires-clause-places : goal.expand_taken-requires-clause-places
+expand_taken-requires-clause-places g c =
+    subst (HasPlaces (components c.args.composite.now)) (sym c.in-Some.ensures.taken)
+    c.requires.places
 
 pub expand_taken-requires-clause-live : goal.expand_taken-requires-clause-live
 expand_taken-requires-clause-live g c =
@@ -34,7 +41,7 @@ returns-in_ok-expand_taken-in-Some-clause-turned g c = λ goes.
     let n = c.in-Some.number in
     let w = works_after cfa cs n r c.take_next.new.self c.expand_taken.new.reached
     c.in-Some.ensures.taken c.in_ok-expand_taken-in-Some.ensures.works
-    c.in_ok-expand_taken-in-Some.ensures.ordered c.requires.entries in
+    c.in_ok-expand_taken-in-Some.ensures.ordered c.requires.entries c.requires.places in
     turned cfa cs c.args.order r n c.expand_taken.new.reached c.in-Some.ensures.next w.goes w.works
 
 pub returns-in_ok-expand_taken-in-Some-clause-entries :
@@ -43,9 +50,19 @@ returns-in_ok-expand_taken-in-Some-clause-entries g c =
     let w = works_after c.args.cfa.now (components c.args.composite.now) c.in-Some.number
     c.args.reached.now c.take_next.new.self c.expand_taken.new.reached
     c.in-Some.ensures.taken c.in_ok-expand_taken-in-Some.ensures.works
-    c.in_ok-expand_taken-in-Some.ensures.ordered c.requires.entries in
+    c.in_ok-expand_taken-in-Some.ensures.ordered c.requires.entries c.requires.places in
     turned_entries c.args.cfa.now (components c.args.composite.now) c.args.reached.now
     c.in-Some.number c.expand_taken.new.reached w.goes c.requires.entries
+
+pub returns-in_ok-expand_taken-in-Some-clause-places :
+    goal.returns-in_ok-expand_taken-in-Some-clause-places
+returns-in_ok-expand_taken-in-Some-clause-places g c =
+    let w = works_after c.args.cfa.now (components c.args.composite.now) c.in-Some.number
+    c.args.reached.now c.take_next.new.self c.expand_taken.new.reached
+    c.in-Some.ensures.taken c.in_ok-expand_taken-in-Some.ensures.works
+    c.in_ok-expand_taken-in-Some.ensures.ordered c.requires.entries c.requires.places in
+    turned_places c.args.cfa.now (components c.args.composite.now) c.args.reached.now
+    c.in-Some.number c.expand_taken.new.reached w.goes
 
 pub returns-in_ok-expand_taken-in-Some-clause-covers :
     goal.returns-in_ok-expand_taken-in-Some-clause-covers
@@ -53,7 +70,7 @@ returns-in_ok-expand_taken-in-Some-clause-covers g c = λ covers.
     let w = works_after c.args.cfa.now (components c.args.composite.now) c.in-Some.number
     c.args.reached.now c.take_next.new.self c.expand_taken.new.reached
     c.in-Some.ensures.taken c.in_ok-expand_taken-in-Some.ensures.works
-    c.in_ok-expand_taken-in-Some.ensures.ordered c.requires.entries in
+    c.in_ok-expand_taken-in-Some.ensures.ordered c.requires.entries c.requires.places in
     turned_covers c.args.cfa.now (components c.args.composite.now) c.args.order c.args.reached.now
     c.in-Some.number c.expand_taken.new.reached
     (c.edges_are_steps.ensures.state c.args.cfa.now c.requires.automaton)
@@ -65,7 +82,7 @@ returns-in_ok-expand_taken-in-Some-clause-journal g c = λ began of.
     let w = works_after c.args.cfa.now (components c.args.composite.now) c.in-Some.number
     c.args.reached.now c.take_next.new.self c.expand_taken.new.reached
     c.in-Some.ensures.taken c.in_ok-expand_taken-in-Some.ensures.works
-    c.in_ok-expand_taken-in-Some.ensures.ordered c.requires.entries in
+    c.in_ok-expand_taken-in-Some.ensures.ordered c.requires.entries c.requires.places in
     turned_journal c.args.cfa.now (components c.args.composite.now) c.args.order
     c.args.reached.now c.in-Some.number c.expand_taken.new.reached began c.in-Some.ensures.next
     w.goes of
@@ -76,7 +93,7 @@ returns-in_ok-expand_taken-in-Some-clause-keys g c = λ all own.
     let w = works_after c.args.cfa.now (components c.args.composite.now) c.in-Some.number
     c.args.reached.now c.take_next.new.self c.expand_taken.new.reached
     c.in-Some.ensures.taken c.in_ok-expand_taken-in-Some.ensures.works
-    c.in_ok-expand_taken-in-Some.ensures.ordered c.requires.entries in
+    c.in_ok-expand_taken-in-Some.ensures.ordered c.requires.entries c.requires.places in
     turned_keys c.args.cfa.now (components c.args.composite.now) c.args.reached.now
     c.in-Some.number c.expand_taken.new.reached all w.goes own
 
@@ -88,7 +105,7 @@ returns-in_ok-expand_taken-in-Some-clause-bound g c = λ keys bound bounded.
     let w = works_after cfa cs c.in-Some.number c.args.reached.now c.take_next.new.self
     c.expand_taken.new.reached c.in-Some.ensures.taken
     c.in_ok-expand_taken-in-Some.ensures.works
-    c.in_ok-expand_taken-in-Some.ensures.ordered c.requires.entries in
+    c.in_ok-expand_taken-in-Some.ensures.ordered c.requires.entries c.requires.places in
     let b = turned_bound cfa cs c.args.order c.args.reached.now c.in-Some.number
     c.expand_taken.new.reached keys
     (record {
@@ -100,7 +117,8 @@ returns-in_ok-expand_taken-in-Some-clause-bound g c = λ keys bound bounded.
       control = c.control_is_followed.ensures.steps cs cfa;
       edges = λ k e at. c.edges_are_sound.ensures cfa k e c.requires.automaton at;
     })
-    bound c.in-Some.ensures.next w.goes.ordered c.requires.entries w.works bounded in
+    bound c.in-Some.ensures.next w.goes.ordered c.requires.entries c.requires.places w.works
+    bounded in
     (b.bounded, λ goes. b.fewer)
 
 pub returns-in_ok-expand_taken-in-Some-clause-pins :
@@ -111,7 +129,7 @@ returns-in_ok-expand_taken-in-Some-clause-pins g c = λ states bound pinned.
     let w = works_after cfa cs c.in-Some.number c.args.reached.now c.take_next.new.self
     c.expand_taken.new.reached c.in-Some.ensures.taken
     c.in_ok-expand_taken-in-Some.ensures.works
-    c.in_ok-expand_taken-in-Some.ensures.ordered c.requires.entries in
+    c.in_ok-expand_taken-in-Some.ensures.ordered c.requires.entries c.requires.places in
     let b = turned_pins cfa cs c.args.order c.args.reached.now c.in-Some.number
     c.expand_taken.new.reached states
     (record {
@@ -120,7 +138,8 @@ returns-in_ok-expand_taken-in-Some-clause-pins g c = λ states bound pinned.
           binds size laws at settled state;
       adjust = c.pins_are_followed.ensures.adjust cs cfa;
     })
-    bound c.in-Some.ensures.next w.goes.ordered c.requires.entries w.works pinned in
+    bound c.in-Some.ensures.next w.goes.ordered c.requires.entries c.requires.places w.works
+    pinned in
     (b.pinned, λ goes. b.fewer)
 
 pub returns-in-None-clause-bound : goal.returns-in-None-clause-bound

@@ -2,37 +2,42 @@ use Rattle.std.proofs.Common.{◌≡◌}
 use Rattle.std.proofs.lemmas.Result.{on_ok_weaker}
 use Rattle.cpa_composite.specs.Composites.{components}
 use Rattle.cpa_reached.specs.Calls.{used}
+use Rattle.cpa_engine_turn.specs.Stages.{under}
 use Rattle.cpa_engine_turn.specs.Steps.{with_added}
-use Rattle.cpa_engine_turn.proofs.Settled.{found_in, covering_live, covered_is, added_is}
+use Rattle.cpa_engine_turn.proofs.Fellows.{live_cover}
+use Rattle.cpa_engine_turn.proofs.Settled.{found_in, covered_is, added_is}
 use Rattle.cpa_engine_turn.proofs.settling.cover_or_add.Goals as goal
 
 pub note_use-requires-clause-by : goal.note_use-requires-clause-by
 note_use-requires-clause-by g c =
     let cs = components c.args.composite.now in
-    covering_live cs c.args.successor.items c.args.reached.now.live c.in-Some.by
-    (found_in cs c.args.successor.items c.deref.result.now c.args.reached.now.live c.live.result.now
-    c.in-Some.by c.covering.result c.deref.ensures.value c.live.ensures.live c.covering.ensures
-    c.in-Some.is)
+    let es = c.args.successor.items in
+    let r = c.args.reached.now in
+    let key = c.args.key.now.elems in
+    live_cover cs r key es c.in-Some.by
+    (found_in cs es c.deref.result.now (under r key) c.in-Some.by c.covering.result
+    c.deref.ensures.value c.covering.ensures c.in-Some.is)
 
 pub returns-in-Some : goal.returns-in-Some
 returns-in-Some g c =
     let cs = components c.args.composite.now in
+    let r = c.args.reached.now in
     on_ok_weaker _
-    (λ (is : c.note_use.new.self ≡ used c.args.reached.now c.args.work.now.current c.in-Some.by).
-    covered_is cs c.args.reached.now c.note_use.new.self c.args.work.now c.in-Some.by
-    c.args.successor.items c.args.precisions.items c.args.edge c.covering.result
-    c.deref.result.now c.live.result.now c.deref.ensures.value c.live.ensures.live
-    c.covering.ensures c.in-Some.is is)
+    (λ (is : c.note_use.new.self ≡ used r c.args.work.now.current c.in-Some.by).
+    covered_is cs r c.note_use.new.self c.args.work.now c.in-Some.by c.args.successor.items
+    c.args.precisions.items c.args.edge c.covering.result c.deref.result.now
+    (under r c.args.key.now.elems) c.deref.ensures.value c.covering.ensures c.in-Some.is is)
     c.note_use.ensures.ok
 
 pub returns-in_ok-number-in-None : goal.returns-in_ok-number-in-None
 returns-in_ok-number-in-None g c =
     let cs = components c.args.composite.now in
+    let r = c.args.reached.now in
     on_ok_weaker _
     (λ (is : c.note_added.new.self ≡ with_added c.in_ok-number-in-None.number c.args.work.now).
-    added_is cs c.args.reached.now c.add.new.self c.args.work.now c.note_added.new.self
+    added_is cs r c.add.new.self c.args.work.now c.note_added.new.self
     c.in_ok-number-in-None.number c.args.successor.items c.args.precisions.items c.args.edge
-    c.covering.result c.deref.result.now c.live.result.now c.deref.ensures.value
-    c.live.ensures.live c.covering.ensures c.in-None.is c.in_ok-number-in-None.ensures.number
+    c.covering.result c.deref.result.now (under r c.args.key.now.elems) c.deref.ensures.value
+    c.covering.ensures c.in-None.is c.in_ok-number-in-None.ensures.number
     c.in_ok-number-in-None.ensures.ok is)
     c.note_added.ensures

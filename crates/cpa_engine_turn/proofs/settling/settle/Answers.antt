@@ -1,13 +1,16 @@
-use Rattle.std.proofs.Common.{◌≡◌, List, ap, ◌∙◌, subst}
+use Rattle.std.proofs.Common.{◌≡◌, List, sym, ap, ◌∙◌, subst}
 use Rattle.std.proofs.lemmas.Result.{on_ok_weaker}
+use Rattle.cpa_model.specs.declared.facts.Elem.{Elem}
 use Rattle.cpa_iface.specs.declared.entries.Entry.{Entry}
 use Rattle.cpa_composite.specs.Components.{Component}
 use Rattle.cpa_composite.specs.Composites.{components}
 use Rattle.cpa_composite.specs.Laws.{AdjustedRow}
+use Rattle.cpa_reached_key.specs.Rows.{picked}
 use Rattle.cpa_reached.specs.Entries.{numbers}
-use Rattle.cpa_engine_turn.specs.Stages.{Stage, first_cover, covered_or_added}
+use Rattle.cpa_engine_turn.specs.Stages.{Stage, ComparesAll, under, fellows, first_cover}
+use Rattle.cpa_engine_turn.specs.Stages.{covered_or_added}
 use Rattle.cpa_engine_turn.specs.Steps.{stage}
-use Rattle.cpa_engine_turn.proofs.Progress.{current_along}
+use Rattle.cpa_engine_turn.proofs.Progress.{current_along, places_along}
 use Rattle.cpa_engine_turn.proofs.Settled.{compares_under}
 use Rattle.cpa_engine_turn.proofs.Working.{all_compares_lead}
 use Rattle.cpa_engine_turn.proofs.settling.settle.Goals as goal
@@ -18,16 +21,16 @@ cover_or_add-requires g c =
     let cs = components c.args.composite.now in
     let es = c.in_ok-elems.elems.items in
     let qs = c.in_ok-elems.precisions.items in
-    let ns = numbers c.args.reached.now.live in
+    let ns = numbers (under c.args.reached.now c.in_ok-key.key.elems) in
     let a : Stage = stage c.args.reached.now c.args.work.now in
     let b : Stage = stage c.compare.new.reached c.compare.new.work in
     record {
       current = current_along cfa cs a b
           (all_compares_lead cfa cs es qs ns a b c.in_ok-elems.ensures.laws.elems
           c.in_ok-elems.ensures.laws.precisions c.requires.entries
-          (compares_under cfa (components c.adjust.new.self) cs c.deref.result.now es
-          c.deref-2.result.now qs ns a b c.adjust.ensures.kept c.deref.ensures.value
-          c.deref-2.ensures.value c.in_ok-compare.ensures.compares))
+          (compares_under cfa (components c.adjust.new.self) cs c.deref-2.result.now es
+          c.deref-3.result.now qs ns a b c.adjust.ensures.kept c.deref-2.ensures.value
+          c.deref-3.ensures.value c.in_ok-compare.ensures.compares))
           c.requires.ordered c.requires.current;
     }
 
@@ -38,23 +41,38 @@ returns-clause-settles g c =
     let ds = components c.compare.new.composite in
     let es = c.in_ok-elems.elems.items in
     let qs = c.in_ok-elems.precisions.items in
-    let ns = numbers c.args.reached.now.live in
-    let a : Stage = stage c.args.reached.now c.args.work.now in
+    let r = c.args.reached.now in
+    let key = c.in_ok-key.key.elems in
+    let a : Stage = stage r c.args.work.now in
     let b : Stage = stage c.compare.new.reached c.compare.new.work in
     let m : Stage = stage c.cover_or_add.new.reached c.cover_or_add.new.work in
+    let all : ComparesAll cfa cs es qs (numbers (under r key)) a b =
+    compares_under cfa (components c.adjust.new.self) cs c.deref-2.result.now es
+    c.deref-3.result.now qs (numbers (under r key)) a b c.adjust.ensures.kept
+    c.deref-2.ensures.value c.deref-3.ensures.value c.in_ok-compare.ensures.compares in
+    let is_key : key ≡ picked r.places es =
+    c.in_ok-key.ensures ∙ ap (picked r.places) c.deref.ensures.value in
+    let places : b.reached.places ≡ r.places =
+    places_along cfa cs a b (all_compares_lead cfa cs es qs (numbers (under r key)) a b
+    c.in_ok-elems.ensures.laws.elems c.in_ok-elems.ensures.laws.precisions c.requires.entries
+    all) in
+    let still : under b.reached key ≡ fellows b.reached es =
+    ap (under b.reached) (is_key ∙ ap (λ ps. picked ps es) (sym places)) in
     on_ok_weaker _
-    (λ (is : m ≡ covered_or_added es qs c.args.edge (first_cover ds es b.reached.live) b).
+    (λ (is : m ≡ covered_or_added es qs c.args.edge (first_cover ds es (under b.reached key)) b).
     record {
       elems = es;
       precisions = qs;
       adjusted = subst (λ (xs : List Entry). AdjustedRow cs cfa c.args.successor.now
           c.args.precisions.now xs es qs) c.live-live.ensures.live c.in_ok-elems.ensures.laws;
       compared = b;
-      compares = compares_under cfa (components c.adjust.new.self) cs c.deref.result.now es
-          c.deref-2.result.now qs ns a b c.adjust.ensures.kept c.deref.ensures.value
-          c.deref-2.ensures.value c.in_ok-compare.ensures.compares;
+      compares = subst (λ (k : List Elem). ComparesAll cfa cs es qs (numbers (under r k)) a b)
+          is_key all;
       is = is
-          ∙ ap (λ (bs : List Component). covered_or_added es qs c.args.edge
-          (first_cover bs es b.reached.live) b) (c.compare.ensures.kept ∙ c.adjust.ensures.kept);
+          ∙ (ap (λ (bs : List Component). covered_or_added es qs c.args.edge
+          (first_cover bs es (under b.reached key)) b)
+          (c.compare.ensures.kept ∙ c.adjust.ensures.kept)
+          ∙ ap (λ (xs : List Entry). covered_or_added es qs c.args.edge (first_cover cs es xs) b)
+          still);
     })
     c.cover_or_add.ensures

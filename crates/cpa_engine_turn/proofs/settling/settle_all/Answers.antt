@@ -12,7 +12,7 @@ use Rattle.cpa_composite.specs.Composites.{components}
 use Rattle.cpa_engine_turn.specs.Stages.{Stage, Settles, SettlesAll}
 use Rattle.cpa_engine_turn.specs.Steps.{stage}
 use Rattle.cpa_engine_turn.proofs.Places.{each_at, take_push, take_whole}
-use Rattle.cpa_engine_turn.proofs.Progress.{ordered_along, current_along}
+use Rattle.cpa_engine_turn.proofs.Progress.{ordered_along, current_along, fits_on}
 use Rattle.cpa_engine_turn.proofs.Shapes.{entries_on}
 use Rattle.cpa_engine_turn.proofs.Working.{all_settles_lead, settles_push}
 use Rattle.cpa_engine_turn.proofs.settling.settle_all.Goals as goal
@@ -31,7 +31,21 @@ settle-requires-clause-entries g c =
     entries_on cfa cs (components at.composite) a b at.invariant.kept
     (all_settles_lead cfa cs c.args.precisions.now c.args.edge
     (take at.successor-index (map items c.args.successors.now)) a b c.requires.edge
-    c.requires.entries c.requires.ordered at.invariant.settles) c.requires.entries
+    c.requires.entries c.requires.ordered c.requires.places at.invariant.settles) c.requires.entries
+
+pub settle-requires-clause-places : goal.settle-requires-clause-places
+settle-requires-clause-places g c =
+    let items : Vec Elem Global → List Elem = λ l. l.items in
+    let cfa = c.args.cfa.now in
+    let at = c.loop-successor in
+    let cs = components c.args.composite.now in
+    let a : Stage = stage c.args.reached.now c.args.work.now in
+    let b : Stage = stage at.reached at.work in
+    fits_on cfa cs (components at.composite) a b at.invariant.kept
+    (all_settles_lead cfa cs c.args.precisions.now c.args.edge
+    (take at.successor-index (map items c.args.successors.now)) a b c.requires.edge
+    c.requires.entries c.requires.ordered c.requires.places at.invariant.settles)
+    c.requires.places
 
 pub settle-requires-clause-ordered : goal.settle-requires-clause-ordered
 settle-requires-clause-ordered g c =
@@ -44,7 +58,7 @@ settle-requires-clause-ordered g c =
     ordered_along cfa cs a b
     (all_settles_lead cfa cs c.args.precisions.now c.args.edge
     (take at.successor-index (map items c.args.successors.now)) a b c.requires.edge
-    c.requires.entries c.requires.ordered at.invariant.settles) c.requires.ordered
+    c.requires.entries c.requires.ordered c.requires.places at.invariant.settles) c.requires.ordered
 
 pub settle-requires-clause-current : goal.settle-requires-clause-current
 settle-requires-clause-current g c =
@@ -57,7 +71,7 @@ settle-requires-clause-current g c =
     current_along cfa cs a b
     (all_settles_lead cfa cs c.args.precisions.now c.args.edge
     (take at.successor-index (map items c.args.successors.now)) a b c.requires.edge
-    c.requires.entries c.requires.ordered at.invariant.settles) c.requires.ordered
+    c.requires.entries c.requires.ordered c.requires.places at.invariant.settles) c.requires.ordered
     c.requires.current
 
 pub settle-requires-clause-successor : goal.settle-requires-clause-successor

@@ -1,4 +1,4 @@
-use Rattle.std.proofs.Common.{false, ⊎_elim}
+use Rattle.std.proofs.Common.{⊎_elim}
 use Rattle.std.proofs.lemmas.Bool.{cases_Bool, iff_false}
 use Rattle.cpa_reached.specs.Members.{is_in}
 use Rattle.cpa_reached.specs.Entries.{numbers}

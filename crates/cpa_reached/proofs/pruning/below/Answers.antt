@@ -1,4 +1,4 @@
-use Rattle.std.proofs.Common.{◌+◌, true, List, [], drop, refl, subst, inl}
+use Rattle.std.proofs.Common.{◌+◌, List, drop, refl, subst, inl}
 use Rattle.std.proofs.Common.{arith}
 use Rattle.std.proofs.lemmas.Bool.{both_ways}
 use Rattle.cpa_iface.specs.declared.entries.Entry.{Entry}

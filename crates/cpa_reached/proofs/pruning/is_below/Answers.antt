@@ -1,4 +1,4 @@
-use Rattle.std.proofs.Common.{◌≡◌, ◌<◌, ◌≤◌, true, eqb-true, arith}
+use Rattle.std.proofs.Common.{◌≡◌, ◌<◌, ◌≤◌, eqb-true, arith}
 use Rattle.std.proofs.lemmas.Bool.{eq-eqb}
 use Rattle.cpa_reached.specs.Kept.{depth_of}
 use Rattle.cpa_reached.proofs.Climbing.{depth_read, deeper, climbs_more, climbed}

@@ -1,4 +1,4 @@
-use Rattle.std.proofs.Common.{ℕ, List, [], map, take, get_or, sym, ap, ◌∙◌}
+use Rattle.std.proofs.Common.{ℕ, List, map, take, get_or, sym, ap, ◌∙◌}
 use Rattle.std.proofs.Common.{subst}
 use Rattle.std.proofs.lemmas.List.{take_more}
 use Rattle.cpa_model.specs.Ascending.{AreAscending}

@@ -1,4 +1,5 @@
-use Rattle.std.proofs.Common.{◌≡◌, ◌+◌, ◌<◌, ◌≤◌, ◌^◌, sym, ◌∙◌, arith}
+use Rattle.std.proofs.Common.{rules, ◌≡◌, ◌+◌, ◌<◌, ◌≤◌, ◌^◌, refl, sym, ◌∙◌, arith}
+use Rattle.cpa_reached_key.specs.Rows.{picked}
 use Rattle.cpa_reached.specs.Entries.{IsLive}
 use Rattle.cpa_reached.specs.Kept.{depth_of}
 use Rattle.cpa_reached.proofs.Adding.{kept_added}
@@ -7,16 +8,32 @@ use Rattle.cpa_reached.proofs.Keeping.{shallow_above}
 use Rattle.cpa_reached.proofs.Tying.{named_there}
 use Rattle.cpa_reached.proofs.table.add.Goals as goal
 
-pub returns-in_err-gain-clause-kept : goal.returns-in_err-gain-clause-kept
-returns-in_err-gain-clause-kept c = rw c.in_err-gain.ensures.err c.in_ok-list_namer.ensures.kept
+pub adopt-requires-clause-ascend : goal.adopt-requires-clause-ascend
+adopt-requires-clause-ascend c = c.in_ok-list_namer.ensures.kept.tree.ascend
+
+pub adopt-requires-clause-indexed : goal.adopt-requires-clause-indexed
+adopt-requires-clause-indexed c =
+    let namer = c.in_ok-list_namer.ensures in
+    let room = c.in_ok-reserve.ensures in
+    rw (namer.entries, namer.index, namer.places, room.entries, room.index, room.places)
+    c.requires.indexed
+
+pub adopt-requires-clause-parent : goal.adopt-requires-clause-parent
+adopt-requires-clause-parent c =
+    rw (c.in_ok-list_namer.ensures.entries, c.in_ok-reserve.ensures.entries) c.requires.parent
+
+pub returns-in_err-adopt-clause-kept : goal.returns-in_err-adopt-clause-kept
+returns-in_err-adopt-clause-kept c =
+    let adopts = c.in_err-adopt.ensures in
+    rw (adopts.err, adopts.links, adopts.waiting, adopts.next) c.in_ok-list_namer.ensures.kept
 
 pub overflow_add-depth : goal.overflow_add-depth
 overflow_add-depth c =
     let t = c.list_namer.new.table in
     let p = c.args.parent.0 in
     let kept = c.in_ok-list_namer.ensures.kept in
-    let at = rw c.deref.ensures.value at c.place-above.ensures.at in
-    let read = rw c.deref-2.ensures.value at c.depth_at-depth.ensures in
+    let at = rw c.deref-2.ensures.value at c.place-above.ensures.at in
+    let read = rw c.deref-3.ensures.value at c.depth_at-depth.ensures in
     let depth : c.depth_at-depth.result ≡ depth_of p t.links.items =
     depth_read t.entries.items t.links.items c.place-above.result p c.depth_at-depth.result
     kept.tree at read in
@@ -37,8 +54,8 @@ returns-clause-kept c =
     let t = c.list_namer.new.table in
     let p = c.args.parent.0 in
     let kept = c.in_ok-list_namer.ensures.kept in
-    let at = rw c.deref.ensures.value at c.place-above.ensures.at in
-    let read = rw c.deref-2.ensures.value at c.depth_at-depth.ensures in
+    let at = rw c.deref-2.ensures.value at c.place-above.ensures.at in
+    let read = rw c.deref-3.ensures.value at c.depth_at-depth.ensures in
     let depth : c.depth_at-depth.result ≡ depth_of p t.links.items =
     depth_read t.entries.items t.links.items c.place-above.result p c.depth_at-depth.result
     kept.tree at read in
@@ -52,16 +69,28 @@ returns-clause-kept c =
     let listed = rw number at c.in_ok-list_namer.ensures.named in
     rw (
       c.push_reserved.ensures.items,
-      c.in_ok-gain.ensures.ok,
+      c.in_ok-adopt.ensures.ok,
       c.from_vec.ensures,
       c.from_vec-2.ensures,
       c.new.ensures,
       c.push_reserved-2.ensures.items,
+      c.in_ok-adopt.ensures.links,
       depth,
       c.in_ok-push.ensures.ok,
       c.new-namers.ensures,
       c.push_back_reserved.ensures.items,
+      c.in_ok-adopt.ensures.waiting,
+      c.in_ok-adopt.ensures.next,
       number,
     )
     (kept_added t.entries.items t.links.items t.waiting.items t.next c.args.elems.items
     c.args.precisions.items c.args.parent fits live listed kept)
+
+pub returns-clause-indexed : goal.returns-clause-indexed
+returns-clause-indexed c =
+    let t = c.list_namer.new.table in
+    let namer = c.in_ok-list_namer.ensures in
+    let room = c.in_ok-reserve.ensures in
+    let key : picked t.places c.args.elems.items ≡ c.in_ok-key.key.elems = search rules in
+    rw (c.push_reserved.ensures.items, c.in_ok-adopt.ensures.places)
+    (c.in_ok-adopt.ensures.indexed _ refl (rw c.from_vec.ensures key))

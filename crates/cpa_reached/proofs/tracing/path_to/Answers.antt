@@ -1,4 +1,4 @@
-use Rattle.std.proofs.Common.{[], arith}
+use Rattle.std.proofs.Common.{arith}
 use Rattle.std.proofs.lemmas.List.{reverse-reverse}
 use Rattle.cpa_reached.proofs.Climbing.{traces_more, traced}
 use Rattle.cpa_reached.proofs.tracing.path_to.Goals as goal

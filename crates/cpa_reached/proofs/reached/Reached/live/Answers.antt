@@ -8,4 +8,4 @@ returns-clause-numbered c =
     let i = c.self.inside in
     subst (λ (r : ReachedSet). IsNumbered r) c.self.view_is
     (numbered i.table.entries.items i.table.links.items i.table.waiting.items i.journal.items
-    i.table.next c.self.invariant)
+    i.table.next i.table.places c.self.invariant.kept)

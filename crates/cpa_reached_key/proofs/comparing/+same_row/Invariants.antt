@@ -1,5 +1,5 @@
 use Rattle.std.proofs.Common.{length}
-use Rattle.cpa_composite.proofs.comparing.+same_row.Given as goal
+use Rattle.cpa_reached_key.proofs.comparing.+same_row.Given as goal
 
 abbrev pub decreases-same_row : goal.decreases-same_row
 decreases-same_row l = length l.elems.now
