@@ -33,6 +33,7 @@ fn line_of(alloc: Global, job: Job<'_>) -> Result<String, AllocError> {
             inputs,
             steps,
         } => format!(in alloc; "replay \"{program}\" on \"{inputs}\" in {steps}"),
+        Job::Bench { count } => format!(in alloc; "bench {count}"),
     }
 }
 

@@ -30,6 +30,7 @@ config_refused_at files names file bytes (refusal.NoConfig line) same steady is 
 config_refused_at files names file bytes refusal.OutOfMemory same steady is =
     out_of_memory files (configuring names file) steady
 config_refused_at files names file bytes refusal.Usage same steady is = absurd is
+config_refused_at files names file bytes refusal.LacksAnalysis same steady is = absurd is
 config_refused_at files names file bytes (refusal.ReadFailed which) same steady is = absurd is
 config_refused_at files names file bytes (refusal.TooLong which) same steady is = absurd is
 config_refused_at files names file bytes (refusal.NoProgram line) same steady is = absurd is

@@ -28,7 +28,8 @@ use Rattle.cpa_top.specs.Answers.{MayAnswer, DoesJob, Stops, Ends, Refuses, Conc
 use Rattle.cpa_top.specs.Answers.{IsShortOfMemory, IsUsage, IsVerified, config_bytes}
 use Rattle.cpa_top.specs.Answers.{IsSafeText, IsCalledText, IsUnknownText}
 use Rattle.cpa_top.specs.Calls.{Call, Files, Output, HoldsOf}
-use Rattle.cpa_top.specs.Jobs.{Stage, reading, parsing, listing, configuring, stages_of, names_of}
+use Rattle.cpa_top.specs.Jobs.{Stage, reading, parsing, listing, configuring, picking, composing}
+use Rattle.cpa_top.specs.Jobs.{stages_of, names_of}
 use Rattle.cpa_top.specs.Refusals.{IsDelivered}
 use Rattle.cpa_top.specs.Statuses.{code_of, verdict_status}
 
@@ -65,10 +66,10 @@ PicksMakeComponents =
 
 -- ---- what the number of a verdict says
 
-abbrev number_of : Verdict → ℕ
+abbrev pub number_of : Verdict → ℕ
 number_of v = code_of (verdict_status v)
 
-unknown_number : (w : Why) → number_of (verdict_of (body_of_why w)) ≡ 2
+pub unknown_number : (w : Why) → number_of (verdict_of (body_of_why w)) ≡ 2
 unknown_number (why.Turns journal) = refl
 unknown_number (why.Rounds path history) = refl
 unknown_number (why.Learnt path lines) = refl
@@ -175,14 +176,20 @@ refused_number files status.Holds line (reading which name) h few = h
 refused_number files status.Holds line (parsing name) h few = h
 refused_number files status.Holds line (listing name) h few = h
 refused_number files status.Holds line (configuring names file) h few = h
+refused_number files status.Holds line (picking names) h few = h
+refused_number files status.Holds line (composing functions) h few = h
 refused_number files status.Fails line (reading which name) h few = h
 refused_number files status.Fails line (parsing name) h few = h
 refused_number files status.Fails line (listing name) h few = h
 refused_number files status.Fails line (configuring names file) h few = h
+refused_number files status.Fails line (picking names) h few = h
+refused_number files status.Fails line (composing functions) h few = h
 refused_number files status.Unknown line (reading which name) h few = h
 refused_number files status.Unknown line (parsing name) h few = h
 refused_number files status.Unknown line (listing name) h few = h
 refused_number files status.Unknown line (configuring names file) h few = h
+refused_number files status.Unknown line (picking names) h few = h
+refused_number files status.Unknown line (composing functions) h few = h
 refused_number files status.Usage line stage h few = absurd (omega (arith, few))
 refused_number files status.ReadFailed line stage h few = absurd (omega (arith, few))
 refused_number files status.TooLong line stage h few = absurd (omega (arith, few))
@@ -193,11 +200,10 @@ refused_number files status.WriteFailed line stage h few = absurd (omega (arith,
 refused_number files status.OutOfMemory line stage h few = absurd (omega (arith, few))
 
 -- what was asked for came to its end
-concluded : AskForOneJob → (call : Call) (with : Status) (text name : List ℕ)
-    (file : Option (List ℕ)) → code_of with ≤ 2 → Asks call.words (verify name file)
-    → MayAnswer call with text
-    → Concludes call.files call.analyses (verify name file) with text
-concluded one_job call with text name file few asked may =
+pub concluded : AskForOneJob → (call : Call) (with : Status) (text : List ℕ) (asked_for : Job)
+    → code_of with ≤ 2 → Asks call.words asked_for → MayAnswer call with text
+    → Concludes call.files call.analyses asked_for with text
+concluded one_job call with text asked_for few asked may =
     ⊎_elim
     (λ (usage : IsUsage call.words with text).
     absurd (let three = ap code_of usage.status in omega (arith, three, few)))
@@ -209,7 +215,7 @@ concluded one_job call with text name file few asked may =
     absurd (refused_number call.files with text stop.stage stop.refused few))
     (λ (end : Ends call.files call.analyses does.job with text).
     subst (λ (j : Job). Concludes call.files call.analyses j with text)
-    (one_job call.words does.job (verify name file) does.asked asked) end.concludes)
+    (one_job call.words does.job asked_for does.asked asked) end.concludes)
     does.done)
     more)
     may.rule
@@ -248,7 +254,8 @@ written one_job k few call output with text code name file Is from may delivered
           (λ said bytes. IsVerified call.analyses said bytes with text)
           (λ said bytes. Is call.analyses said bytes text)
           (λ said bytes v. from said bytes number v)
-          (concluded one_job call with text name file (omega (arith, number, few)) asked may);
+          (concluded one_job call with text (verify name file) (omega (arith, number, few)) asked
+          may);
     })
     (λ cut. absurd (let nine = cut.1 in omega (arith, nine, is, few)))
     delivered

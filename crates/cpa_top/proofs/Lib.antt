@@ -1,7 +1,9 @@
 pub mod Answering
+pub mod Benches
 pub mod Configurations
 pub mod Ends
 pub mod Headline
+pub mod Measurements
 pub mod Places
 pub mod Stages
 pub mod Taking

@@ -56,6 +56,7 @@ program_refused_at files name bytes (refusal.NoProgram line) same steady is = re
 program_refused_at files name bytes refusal.OutOfMemory same steady is =
     out_of_memory files (parsing name) steady
 program_refused_at files name bytes refusal.Usage same steady is = absurd is
+program_refused_at files name bytes refusal.LacksAnalysis same steady is = absurd is
 program_refused_at files name bytes (refusal.ReadFailed which) same steady is = absurd is
 program_refused_at files name bytes (refusal.TooLong which) same steady is = absurd is
 program_refused_at files name bytes (refusal.NoConfig line) same steady is = absurd is
@@ -80,6 +81,7 @@ inputs_refused_at files name bytes refusal.NoInputs same steady is = record {
 inputs_refused_at files name bytes refusal.OutOfMemory same steady is =
     out_of_memory files (listing name) steady
 inputs_refused_at files name bytes refusal.Usage same steady is = absurd is
+inputs_refused_at files name bytes refusal.LacksAnalysis same steady is = absurd is
 inputs_refused_at files name bytes (refusal.ReadFailed which) same steady is = absurd is
 inputs_refused_at files name bytes (refusal.TooLong which) same steady is = absurd is
 inputs_refused_at files name bytes (refusal.NoProgram line) same steady is = absurd is

@@ -6,7 +6,9 @@ use Rattle.c_lexer.specs.declared.lexer.TheConstants.{MAX_TEXT}
 use Rattle.c_lexer.specs.declared.fault.TextFault.{TextFault}
 use Rattle.cpa_model.specs.declared.program.Program.{Program}
 use Rattle.cpa_model.specs.declared.automaton.Cfa.{Cfa}
+use Rattle.cpa_model.specs.declared.facts.Elem.{Elem}
 use Rattle.cpa_model.specs.Automata.{IsAutomatonOf}
+use Rattle.cpa_model.specs.Covers.{IsCover, IsSafe}
 use Rattle.cpa_iface.specs.Meanings.{Meaning}
 use Rattle.cpa_outside.specs.Outside.{Rose}
 use Rattle.cpa_interp.specs.declared.outcome.Outcome.{Outcome}
@@ -19,20 +21,25 @@ use Rattle.cpa_config.specs.Configurations.{Configures, Refuses as RefusesConfig
 use Rattle.cpa_engine.specs.declared.answers.Answer.TheVariants as answer
 use Rattle.cpa_engine.specs.declared.answers.Why.{Why}
 use Rattle.cpa_engine.specs.Answers.{IsWhy}
+use Rattle.cpa_report_print.specs.declared.report.Verdict.TheVariants as verdict
 use Rattle.cpa_report_print.specs.Reports.{report_text}
+use Rattle.cpa_top_bench.specs.declared.measuring.Measured.{Measured}
+use Rattle.cpa_top_bench.specs.Configurations.{IsBenchConfig, LacksOne}
+use Rattle.cpa_top_bench.specs.Measurements.{IsMeasured, bench_line}
+use Rattle.cpa_top_bench.specs.Texts.{bench_text}
 use Rattle.cpa_top_inputs.specs.Inputs.{IsInputs}
 use Rattle.cpa_top_verdict.specs.declared.reporting.Told.{Told}
 use Rattle.cpa_top_verdict.specs.Reports.{IsSafeReport, IsErrorReport, IsTextOf}
 use Rattle.cpa_top_verdict.specs.Verdicts.{IsTold, report_of}
-use Rattle.cpa_top_words.specs.Jobs.{Job, verify, replay, Asks, IsNoJob}
+use Rattle.cpa_top_words.specs.Jobs.{Job, verify, replay, bench, Asks, IsNoJob}
 use Rattle.cpa_top.specs.declared.status.Status.{Status}
 use Rattle.cpa_top.specs.declared.status.Status.TheVariants as status
 use Rattle.cpa_top.specs.Calls.{Call, Files, Output, NoReadFailed, IsWhole, IsCutOff}
 use Rattle.cpa_top.specs.Calls.{HoldsOf}
-use Rattle.cpa_top.specs.Jobs.{Stage, reading, parsing, listing, configuring}
+use Rattle.cpa_top.specs.Jobs.{Stage, reading, parsing, listing, configuring, picking, composing}
 use Rattle.cpa_top.specs.Jobs.{stages_of, names_of}
 use Rattle.cpa_top.specs.Lines.{fault_line, config_line, read_line, long_line, inputs_line}
-use Rattle.cpa_top.specs.Lines.{memory_line, usage_text, outcome_line}
+use Rattle.cpa_top.specs.Lines.{lacking_line, memory_line, usage_text, outcome_line}
 use Rattle.cpa_top.specs.Statuses.{code_of, outcome_status, verdict_status}
 
 -- ---- stages
@@ -55,6 +62,10 @@ HasInputs bytes = (numbers : List ℤ) × IsInputs bytes numbers
 abbrev pub HasConfig : List (List ℕ) → List ℕ → Type 0
 HasConfig names bytes = (config : Config) × Configures bytes names config
 
+-- the analyses of a measurement are among the names
+abbrev pub HasBenchConfig : List (List ℕ) → Type 0
+HasBenchConfig names = (config : Config) × IsBenchConfig names config
+
 -- The stage gives nothing to refuse: the bytes of its file, which are those that are told where they
 -- are told, are few enough, or stand for what they are read as.
 abbrev pub Passes : Files → Stage → Type 0
@@ -64,6 +75,8 @@ Passes files (parsing name) = HoldsOf (files.bytes_of name) HasProgram
 Passes files (listing name) = HoldsOf (files.bytes_of name) HasInputs
 Passes files (configuring names file) =
     HoldsOf (config_bytes files.bytes_of file) (HasConfig names)
+Passes files (picking names) = HasBenchConfig names
+Passes files (composing functions) = HasProgram (bench_text functions)
 
 -- the bytes stand for no program, and the line names their fault
 abbrev pub IsFaultLine : List ℕ → List ℕ → Type 0
@@ -93,6 +106,9 @@ Refuses files status.NoInputs line (listing name) =
     HoldsOf (files.bytes_of name) NoInputs × (line ≡ inputs_line)
 Refuses files status.NoConfig line (configuring names file) =
     HoldsOf (config_bytes files.bytes_of file) (IsConfigLine names line)
+Refuses files status.NoConfig line (picking names) = LacksOne names × (line ≡ lacking_line)
+Refuses files status.NoProgram line (composing functions) =
+    IsFaultLine line (bench_text functions)
 Refuses files _ line _ = ⊥
 
 -- One of these stages is refused, and no earlier one is.
@@ -132,6 +148,19 @@ pub record IsReplayed (steps : ℕ) (bytes list : List ℕ) (with : Status) (lin
     pub status : with ≡ outcome_status outcome
     pub line_is : line ≡ outcome_line outcome
 
+-- The status and the line are those of what is counted of the text of a measurement of so many
+-- functions, by location, callstack and value of the handed analyses.
+pub record IsMeasuredBy (analyses : List Meaning) (functions : ℕ) (with : Status) (line : List ℕ)
+    : Type 0 where
+  pub config : Config
+  pub configures : IsBenchConfig (names_of analyses) config
+  pub program : Program
+  pub is : IsTheProgram (bench_text functions) program
+  pub measured : Measured
+  pub measures : IsMeasured program (picked analyses config.picks) config measured
+  pub status : with ≡ verdict_status measured.verdict
+  pub line_is : line ≡ bench_line functions measured
+
 -- What the job comes to, over the bytes of its files, which are those that are told where they are
 -- told.
 abbrev pub Concludes : Files → List Meaning → Job → Status → List ℕ → Type 0
@@ -141,6 +170,7 @@ Concludes files analyses (verify name file) with text =
 Concludes files analyses (replay name inputs steps) with text =
     HoldsOf (files.bytes_of name) (λ bytes.
     HoldsOf (files.bytes_of inputs) (λ list. IsReplayed steps bytes list with text))
+Concludes files analyses (bench functions) with text = IsMeasuredBy analyses functions with text
 
 -- The job passes all its stages, and comes to its end.
 pub record Ends (files : Files) (analyses : List Meaning) (job : Job) (with : Status)
@@ -214,6 +244,33 @@ pub record IsUnknownText (analyses : List Meaning) (said bytes text : List ℕ) 
   pub why : Why
   pub says : IsWhy automaton (picked analyses config.picks) config why
   pub report : text ≡ report_text (report_of program automaton (answer.Unknown why))
+
+-- TRUE of a measurement: the line has the counts of the automaton of its text's one program, and of
+-- entries that cover this program, so that no execution calls reach_error.
+pub record IsSafeLine (functions : ℕ) (line : List ℕ) : Type 0 where
+  pub program : Program
+  pub is : IsTheProgram (bench_text functions) program
+  pub automaton : Cfa
+  pub edges : IsAutomatonOf program automaton
+  pub entries : List (List Elem)
+  pub cover : IsCover program entries
+  pub safe : IsSafe program entries
+  pub line_is : line ≡ bench_line functions (record {
+    points = automaton.points;
+    edges = length automaton.edges;
+    entries = length entries;
+    verdict = verdict.True;
+  })
+
+-- The line of a measurement of so many functions was written whole, and the number is that of its
+-- verdict.
+pub record IsLineWritten (call : Call) (output : Output) (functions code : ℕ) : Type 0 where
+  pub with : Status
+  pub line : List ℕ
+  pub whole : IsWhole output line
+  pub code_is : code ≡ code_of with
+  pub is : IsMeasuredBy call.analyses functions with line
+  pub safe : code ≡ 0 → IsSafeLine functions line
 
 -- A text was written whole that is as is said of a verdict, over the bytes of the configuration and
 -- of the named program, which are those that are told where they are told.

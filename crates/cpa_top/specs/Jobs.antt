@@ -1,18 +1,21 @@
 -- The stages that a job goes through before its end (this project's own).
 use Rattle.std.specs.Prelude.{ℕ, List, [], ◌∷◌, ◌++◌, Option, Some, None, map}
 use Rattle.cpa_iface.specs.Meanings.{Meaning}
-use Rattle.cpa_top_words.specs.Jobs.{Job, verify, replay}
+use Rattle.cpa_top_words.specs.Jobs.{Job, verify, replay, bench}
 use Rattle.cpa_top.specs.declared.role.Role.{Role}
 use Rattle.cpa_top.specs.declared.role.Role.TheVariants as role
 
 -- a stage: the file of a name is read in its role; the program of its bytes is found, or the inputs
 -- that they list; for the names of the handed analyses the configuration is found, that of the
--- named file or, without a name, that of the empty text
+-- named file or, without a name, that of the empty text; the analyses of a measurement are found
+-- among these names, and the program of the text of one
 pub data Stage : Type 0 where
   reading : Role → List ℕ → Stage
   parsing : List ℕ → Stage
   listing : List ℕ → Stage
   configuring : List (List ℕ) → Option (List ℕ) → Stage
+  picking : List (List ℕ) → Stage
+  composing : ℕ → Stage
 
 abbrev pub names_of : List Meaning → List (List ℕ)
 names_of analyses = map (λ m. m.name) analyses
@@ -32,3 +35,4 @@ abbrev pub stages_of : List Meaning → Job → List Stage
 stages_of analyses (verify program config) =
     config_stages (names_of analyses) config ++ program_stages program
 stages_of analyses (replay program inputs steps) = program_stages program ++ inputs_stages inputs
+stages_of analyses (bench functions) = picking (names_of analyses) ∷ composing functions ∷ []

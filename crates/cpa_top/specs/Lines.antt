@@ -60,6 +60,10 @@ placed_line word line column =
 abbrev pub config_line : ConfigRule → List ℕ → List ℕ
 config_line rule key = config_fault rule key ++ codes "\n"
 
+-- the line that refuses a list of analyses that lacks one of a measurement
+abbrev pub lacking_line : List ℕ
+lacking_line = codes "refused config C4 analyses\n"
+
 -- the line that refuses a text for a fault
 abbrev pub fault_line : List ℕ → TextFault → List ℕ
 fault_line text fault =

@@ -9,6 +9,9 @@ use Rattle.cpa_interp.specs.declared.outcome.Outcome.{Outcome}
 use Rattle.cpa_interp.specs.Replays.{Replay}
 use Rattle.cpa_composite.specs.Components.{picked}
 use Rattle.cpa_config.specs.declared.config.Config.{Config}
+use Rattle.cpa_top_bench.specs.declared.measuring.Measured.{Measured}
+use Rattle.cpa_top_bench.specs.Configurations.{LacksOne}
+use Rattle.cpa_top_bench.specs.Measurements.{IsMeasured, bench_line}
 use Rattle.cpa_top_verdict.specs.declared.reporting.Told.{Told}
 use Rattle.cpa_top_verdict.specs.Verdicts.{IsTold}
 use Rattle.cpa_top_words.specs.Jobs.{Job}
@@ -22,7 +25,7 @@ use Rattle.cpa_top.specs.Answers.{IsFaultLine, IsConfigLine, NoInputs}
 use Rattle.cpa_top.specs.Calls.{Files, Output, NoReadFailed, IsWhole, IsCutOff, HoldsOf}
 use Rattle.cpa_top.specs.Jobs.{Stage, stages_of}
 use Rattle.cpa_top.specs.Lines.{usage_text, read_line, long_line, inputs_line, memory_line}
-use Rattle.cpa_top.specs.Lines.{outcome_line}
+use Rattle.cpa_top.specs.Lines.{lacking_line, outcome_line}
 use Rattle.cpa_top.specs.Statuses.{code_of, outcome_status, verdict_status}
 
 abbrev pub refusal_status : Refusal → Status
@@ -31,6 +34,7 @@ refusal_status (refusal.ReadFailed which) = status.ReadFailed
 refusal_status (refusal.TooLong which) = status.TooLong
 refusal_status (refusal.NoProgram line) = status.NoProgram
 refusal_status (refusal.NoConfig line) = status.NoConfig
+refusal_status refusal.LacksAnalysis = status.NoConfig
 refusal_status refusal.NoInputs = status.NoInputs
 refusal_status refusal.OutOfMemory = status.OutOfMemory
 
@@ -40,6 +44,7 @@ refusal_line (refusal.ReadFailed which) = read_line which
 refusal_line (refusal.TooLong which) = long_line which
 refusal_line (refusal.NoProgram line) = string_bytes line
 refusal_line (refusal.NoConfig line) = string_bytes line
+refusal_line refusal.LacksAnalysis = lacking_line
 refusal_line refusal.NoInputs = inputs_line
 refusal_line refusal.OutOfMemory = memory_line
 
@@ -85,6 +90,12 @@ IsConfigRefused names bytes (refusal.NoConfig line) = IsConfigLine names (string
 IsConfigRefused names bytes refusal.OutOfMemory = Unit {0}
 IsConfigRefused names bytes _ = ⊥
 
+-- an analysis of a measurement is not handed in
+abbrev pub IsLackRefused : List (List ℕ) → Refusal → Type 0
+IsLackRefused names refusal.LacksAnalysis = LacksOne names
+IsLackRefused names refusal.OutOfMemory = Unit {0}
+IsLackRefused names _ = ⊥
+
 -- what comes of a program on inputs in so many steps
 pub record IsOutcome (steps : ℕ) (P : Program) (inputs : List ℤ) (conclusion : Conclusion) : Type 0
   where
@@ -100,6 +111,14 @@ pub record IsConcluded (analyses : List Meaning) (config : Config) (P : Program)
   pub tells : IsTold P (picked analyses config.picks) config told
   pub status : conclusion.status ≡ verdict_status told.verdict
   pub text_is : conclusion.text.items ≡ told.text.items
+
+-- what is counted of the program of a measurement of so many functions
+pub record IsCounted (functions : ℕ) (analyses : List Meaning) (config : Config) (P : Program)
+    (conclusion : Conclusion) : Type 0 where
+  pub measured : Measured
+  pub measures : IsMeasured P (picked analyses config.picks) config measured
+  pub status : conclusion.status ≡ verdict_status measured.verdict
+  pub line : conclusion.text.items ≡ bench_line functions measured
 
 -- what the job comes to, before it is written
 pub record IsDone (files : Files) (analyses : List Meaning) (job : Job)

@@ -7,12 +7,13 @@ ghost use Rattle.cpa_top.specs.Calls.{call_of, files_of, output_of};
 ghost use Rattle.cpa_top.specs.Refusals.{status_of, text_of, IsDelivered};
 
 use crate::Status;
+use crate::bench_job::bench;
 use crate::refusal::Refusal;
 use crate::replay_job::replay;
 use crate::verify_job::verify;
 use cpa_iface::Analysis;
 use cpa_outside::{Inputs, Sink, write_whole};
-use cpa_top_words::{Job, WordsError, read_words};
+use cpa_top_words::{Job, WordsError, read_words, words_ask_for_small_benches};
 use std::alloc::Global;
 
 /// What a job comes to, and what is written of it.
@@ -34,6 +35,7 @@ pub(crate) fn answer<A: Analysis, I: Inputs>(
         (files_of (I.bytes_of inputs.old) (I.faults_of inputs.old) (I.faults_of inputs.new)))
         (status_of result) (text_of result) }
 {
+    words_ask_for_small_benches();
     match read_words(alloc, words) {
         Ok(Job::Verify { program, config }) => verify(alloc, program, config, analyses, inputs),
         Ok(
@@ -43,6 +45,7 @@ pub(crate) fn answer<A: Analysis, I: Inputs>(
                 steps,
             },
         ) => replay(alloc, program, list, steps, inputs),
+        Ok(Job::Bench { count }) => bench(alloc, count, analyses),
         Err(WordsError::Refused) => Err(Refusal::Usage),
         Err(WordsError::OutOfMemory) => Err(Refusal::OutOfMemory),
     }

@@ -47,7 +47,7 @@ pub(crate) fn read_file<I: Inputs>(
 }
 
 /// The program that the bytes stand for.
-fn program_of(alloc: Global, bytes: &[u8]) -> Result<Program, Refusal>
+pub(crate) fn program_of(alloc: Global, bytes: &[u8]) -> Result<Program, Refusal>
     requires { length bytes.now ≤ MAX_TEXT }
     ensures program { IfOk result (λ program. IsTheProgram bytes.now program) }
     ensures refused { IfErr result (λ refusal. IsTextRefused bytes.now refusal) }

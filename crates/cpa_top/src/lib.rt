@@ -3,6 +3,7 @@
 #![tactic(auto)]
 
 mod answers;
+mod bench_job;
 mod configuring;
 mod files;
 mod place;
@@ -13,6 +14,7 @@ mod status;
 mod top;
 mod verify_job;
 
+pub use cpa_top_bench::bench_text;
 pub use role::Role;
 pub use status::Status;
 pub use top::run;

@@ -20,6 +20,8 @@ pub(crate) enum Refusal {
     NoProgram { line: String },
     /// The bytes of the configuration's file give no configuration; the line names the rule.
     NoConfig { line: String },
+    /// An analysis that a measurement uses is not handed in.
+    LacksAnalysis,
     /// The bytes of the inputs' file are no list of inputs.
     NoInputs,
     OutOfMemory,
@@ -51,7 +53,7 @@ impl Refusal {
             Refusal::ReadFailed { .. } => Status::ReadFailed,
             Refusal::TooLong { .. } => Status::TooLong,
             Refusal::NoProgram { .. } => Status::NoProgram,
-            Refusal::NoConfig { .. } => Status::NoConfig,
+            Refusal::NoConfig { .. } | Refusal::LacksAnalysis => Status::NoConfig,
             Refusal::NoInputs => Status::NoInputs,
             Refusal::OutOfMemory => Status::OutOfMemory,
         }
@@ -74,6 +76,7 @@ impl Refusal {
             } => "refused long program\n",
             Refusal::TooLong { role: Role::Inputs } => "refused long inputs\n",
             Refusal::NoProgram { line } | Refusal::NoConfig { line } => line.as_str(),
+            Refusal::LacksAnalysis => "refused config C4 analyses\n",
             Refusal::NoInputs => "refused inputs\n",
             Refusal::OutOfMemory => "refused memory\n",
         }

@@ -1,9 +1,9 @@
 //! The one public call. Its clauses are the headline, in the words of `specs/Answers.antt`.
 //! Proved with `proofs/Headline.antt`, over what the other modules promise.
-ghost use Rattle.std.specs.Prelude.{◌≡◌, ℕ, List, Option, map};
+ghost use Rattle.std.specs.Prelude.{◌≡◌, ◌≤◌, ℕ, List, Option, map};
 ghost use Rattle.std.specs.String.{string_bytes};
-ghost use Rattle.cpa_top_words.specs.Jobs.{verify, Asks};
-ghost use Rattle.cpa_top.specs.Answers.{Answers, IsWritten};
+ghost use Rattle.cpa_top_words.specs.Jobs.{verify, bench, Asks};
+ghost use Rattle.cpa_top.specs.Answers.{Answers, IsWritten, IsLineWritten};
 ghost use Rattle.cpa_top.specs.Answers.{IsSafeText, IsCalledText, IsUnknownText};
 ghost use Rattle.cpa_top.specs.Calls.{call_of, files_of, output_of};
 
@@ -18,8 +18,8 @@ use std::thread::Threads;
 /// Does what the words ask, and answers the number of its status (`Status`).
 ///
 /// The words are those after the program's own name. The commands today are
-/// `verify PROGRAM [--config FILE]`, by the handed analyses that the configuration picks, and
-/// `replay PROGRAM INPUTS [--steps N]`. All output goes to `out` in one `write_whole`. Analyses of
+/// `verify PROGRAM [--config FILE]`, by the handed analyses that the configuration picks,
+/// `replay PROGRAM INPUTS [--steps N]` and `bench N`. All output goes to `out` in one `write_whole`. Analyses of
 /// several types are handed in as one type, `Handed` of `cpa_composite`.
 pub fn run<R: Threads + Sync, A: Analysis, I: Inputs, K: Sink>(
     _rt: &R,
@@ -50,6 +50,14 @@ pub fn run<R: Threads + Sync, A: Analysis, I: Inputs, K: Sink>(
         (files_of (I.bytes_of inputs.old) (I.faults_of inputs.old) (I.faults_of inputs.new)))
         (output_of (K.written out.old) (K.written out.new) (K.faults out.old) (K.faults out.new))
         name file IsUnknownText }
+    // bench: the line has the counts and the verdict of an answer on the text of a measurement; where
+    // it is TRUE, no execution of this text calls reach_error.
+    ensures measured { result ≤ 2 → (functions : ℕ) →
+        Asks (map string_bytes words.items) (bench functions) → IsLineWritten
+        (call_of (map string_bytes words.items) (map A.meaning analyses.items)
+        (files_of (I.bytes_of inputs.old) (I.faults_of inputs.old) (I.faults_of inputs.new)))
+        (output_of (K.written out.old) (K.written out.new) (K.faults out.old) (K.faults out.new))
+        functions result }
     // Each status has its cause and its text.
     ensures answers { Answers
         (call_of (map string_bytes words.items) (map A.meaning analyses.items)

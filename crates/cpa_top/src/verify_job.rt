@@ -24,7 +24,10 @@ use cpa_top_verdict::tell;
 use std::alloc::{AllocError, Global};
 
 /// The names of the handed analyses, in order.
-fn names_of<A: Analysis>(alloc: Global, analyses: &[A]) -> Result<Vec<String>, AllocError>
+pub(crate) fn names_of<A: Analysis>(
+    alloc: Global,
+    analyses: &[A],
+) -> Result<Vec<String>, AllocError>
     ensures { IfOk result (λ names. map string_bytes names.items
         ≡ names_of (map A.meaning analyses.now)) }
 {
@@ -36,7 +39,7 @@ fn names_of<A: Analysis>(alloc: Global, analyses: &[A]) -> Result<Vec<String>, A
 }
 
 /// The status of a verdict.
-fn verdict_status(verdict: Verdict) -> Status
+pub(crate) fn verdict_status(verdict: Verdict) -> Status
     ensures { result ≡ verdict_status verdict }
 {
     match verdict {

@@ -2,11 +2,13 @@
 //! `specs/Verdicts.antt`. What follows of a verdict is `specs/Reports.antt`, as laws.
 #![tactic(auto)]
 
+mod analysing;
 mod bodies;
 mod laws;
 mod reporting;
 mod telling;
 
+pub use analysing::answer_on;
 pub use laws::{false_calls_the_error, picks_are_places, true_is_safe};
 pub use reporting::Told;
 pub use telling::tell;

@@ -5,11 +5,10 @@ ghost use Rattle.cpa_model.specs.Programs.{IsWellFormed};
 ghost use Rattle.cpa_composite.specs.Components.{ArePlaces, picked};
 ghost use Rattle.cpa_top_verdict.specs.Verdicts.{IsTold};
 
+use crate::analysing::answer_on;
 use crate::reporting::{Told, told_of};
 use cfa_build::build;
-use cpa_composite::Composite;
 use cpa_config::Config;
-use cpa_engine::analyse;
 use cpa_iface::Analysis;
 use cpa_model::Program;
 use std::alloc::{AllocError, Global};
@@ -27,9 +26,7 @@ pub fn tell<A: Analysis>(
     ensures { IfOk result (IsTold program.now
         (picked (map A.meaning analyses.items) config.now.picks) config.now) }
 {
-    let picks = Vec::from_slice(alloc, config.picks.as_slice())?;
-    let mut composite = Composite::new(analyses, picks);
     let cfa = build(alloc, program)?;
-    let answer = analyse(alloc, &cfa, &mut composite, config)?;
+    let answer = answer_on(alloc, &cfa, analyses, config)?;
     told_of(alloc, program, &cfa, answer)
 }

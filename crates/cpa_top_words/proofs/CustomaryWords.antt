@@ -1,14 +1,19 @@
 -- What the plain words of each subcommand ask for (`customary`): what clap promises computes, once
 -- it is told that a name is no option (`IsName`).
-use Rattle.std.proofs.Common.{◌≡◌, ℕ, List, [], ◌∷◌, Some, None, Bool, true, false, refl, codes}
-use Rattle.std.specs.Prelude.{◌==◌, ◌&&◌, if◌then◌else◌}
+use Rattle.std.proofs.Common.{◌≡◌, ◌∙◌, ap, ℕ, List, [], ◌∷◌, Some, None, Bool, true, false, refl}
+use Rattle.std.proofs.Common.{codes, arith}
+use Rattle.std.specs.Prelude.{◌==◌, ◌&&◌, if◌then◌else◌, decimal}
+use Rattle.std.proofs.lemmas.Fmt.{decimal_is_IsNumeral}
 use Rattle.std.specs.Str.{bytes_eq}
 use Rattle.clap.specs.Words.{fault_of}
 use Rattle.clap.specs.Lexer.{long_of, short_of}
+use Rattle.clap.specs.ValueTests.{accepts}
+use Rattle.clap.specs.declared.builder.value_parser.ValueParser.TheVariants as vp
 use Rattle.clap.proofs.OnLiterals.{clap_on_literals}
 use Rattle.cpa_top_words.specs.Commands.{cpaverify}
-use Rattle.cpa_top_words.specs.Jobs.{asked_by, verify, replay}
+use Rattle.cpa_top_words.specs.Jobs.{asked_by, count_in, verify, replay, bench}
 use Rattle.cpa_top_words.specs.Laws.{AskAsIsCustomary, IsPlain}
+use Rattle.cpa_top_words.proofs.Benches.{numeral_is_plain, small_is_taken, small_is_counted}
 
 -- the word is no option, and not `--`
 record IsName (word : List ℕ) : Type 0 where
@@ -58,6 +63,16 @@ replay_asked : (program inputs : List ℕ) → IsName program → IsName inputs
 unfolding clap_on_literals
 replay_asked program inputs p i = rw (p.ends, p.long, p.short, i.ends, i.long, i.short) refl
 
+bench_taken : (text : List ℕ) → IsName text → accepts false (vp.Unsigned 0 100) text ≡ true
+    → fault_of cpaverify (codes "bench" ∷ text ∷ []) ≡ []
+unfolding clap_on_literals
+bench_taken text is small = rw (is.ends, is.long, is.short, small) refl
+
+bench_asked : (text : List ℕ) → IsName text
+    → asked_by (codes "bench" ∷ text ∷ []) ≡ Some (bench (count_in text))
+unfolding clap_on_literals
+bench_asked text is = rw (is.ends, is.long, is.short) refl
+
 pub customary : AskAsIsCustomary
 customary = record {
   verifies = λ program e. record {
@@ -72,4 +87,12 @@ customary = record {
     taken = replay_taken program inputs (named program e) (named inputs f);
     asked = replay_asked program inputs (named program e) (named inputs f);
   };
+  benches = λ n few.
+      let is =
+      named (decimal n) (numeral_is_plain (decimal n) (decimal_is_IsNumeral n (omega arith)).0) in
+      record {
+        taken = bench_taken (decimal n) is (small_is_taken n few);
+        asked =
+            bench_asked (decimal n) is ∙ ap (λ (m : ℕ). Some (bench m)) (small_is_counted n few);
+      };
 }

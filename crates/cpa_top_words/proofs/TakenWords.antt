@@ -44,27 +44,36 @@ named w e =
 
 -- ---- its name has a job
 
-picked : (a b : Bool) (x y : Shape) (words : List Text) (p : Text × List Row)
-    → option_map (λ s. rows_at s words) (if a then Some x else (if b then Some y else None)) ≡ Some p
-    → (p.0 ≡ x.name) ⊎ (p.0 ≡ y.name)
-picked true b x y words p e =
-    let same : rows_at x words ≡ p = cc in inl (ap (λ (q : Text × List Row). q.0) (sym same))
-picked false true x y words p e =
-    let same : rows_at y words ≡ p = cc in inr (ap (λ (q : Text × List Row). q.0) (sym same))
-picked false false x y words p e = absurd (cc)
+abbrev IsOneOf : Text → Text → Text → Text → Type 0
+IsOneOf x y z name = (name ≡ x) ⊎ ((name ≡ y) ⊎ (name ≡ z))
 
-job_named : (name : Text) (rows : List Row) → (name ≡ codes "verify") ⊎ (name ≡ codes "replay")
-    → is_some (job_of name rows) ≡ true
+abbrev IsCommand : Text → Type 0
+IsCommand = IsOneOf (codes "verify") (codes "replay") (codes "bench")
+
+picked : (a b c : Bool) (x y z : Shape) (words : List Text) (p : Text × List Row)
+    → option_map (λ s. rows_at s words)
+    (if a then Some x else (if b then Some y else (if c then Some z else None))) ≡ Some p
+    → IsOneOf x.name y.name z.name p.0
+picked true b c x y z words p e =
+    let same : rows_at x words ≡ p = cc in inl (ap (λ (q : Text × List Row). q.0) (sym same))
+picked false true c x y z words p e =
+    let same : rows_at y words ≡ p = cc in inr (inl (ap (λ (q : Text × List Row). q.0) (sym same)))
+picked false false true x y z words p e =
+    let same : rows_at z words ≡ p = cc in inr (inr (ap (λ (q : Text × List Row). q.0) (sym same)))
+picked false false false x y z words p e = absurd (cc)
+
+job_named : (name : Text) (rows : List Row) → IsCommand name → is_some (job_of name rows) ≡ true
 job_named name rows (inl e) = rw e refl
-job_named name rows (inr e) = rw e refl
+job_named name rows (inr (inl e)) = rw e refl
+job_named name rows (inr (inr e)) = rw e refl
 
 stopped : (stop : Option (Text × List Text)) (p : Text × List Row)
-    → entered (built cpaverify) stop ≡ Some p → (p.0 ≡ codes "verify") ⊎ (p.0 ≡ codes "replay")
+    → entered (built cpaverify) stop ≡ Some p → IsCommand p.0
 stopped None p e = absurd (cc)
-stopped (Some q) p e = picked _ _ _ _ q.1 p e
+stopped (Some q) p e = picked _ _ _ _ _ _ q.1 p e
 
 told : (o : Option (Text × List Row)) → is_some o ≡ true
-    → ((p : Text × List Row) → o ≡ Some p → (p.0 ≡ codes "verify") ⊎ (p.0 ≡ codes "replay"))
+    → ((p : Text × List Row) → o ≡ Some p → IsCommand p.0)
     → is_some (option_map_or (λ p. job_of p.0 p.1) o None) ≡ true
 told None some f = absurd (cc)
 told (Some p) some f = job_named p.0 p.1 (f p refl)

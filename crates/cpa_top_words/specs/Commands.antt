@@ -24,6 +24,13 @@ steps_rule = record (new_rule (codes "steps")) {
   parser = Some (vp.Unsigned 0 18446744073709551615);
 }
 
+-- N, a number of at most 100 that must be there
+abbrev pub count_rule : Rule
+count_rule = record (new_rule (codes "N")) {
+  required = true;
+  parser = Some (vp.Unsigned 0 100);
+}
+
 -- verify PROGRAM [--config FILE]
 abbrev pub verify_command : App
 verify_command = with_rule (with_rule (new_app (codes "verify")) program_rule) config_rule
@@ -32,6 +39,10 @@ verify_command = with_rule (with_rule (new_app (codes "verify")) program_rule) c
 abbrev pub replay_command : App
 replay_command =
     with_rule (with_rule (with_rule (new_app (codes "replay")) program_rule) inputs_rule) steps_rule
+
+-- bench N
+abbrev pub bench_command : App
+bench_command = with_rule (new_app (codes "bench")) count_rule
 
 -- without subcommands: the words begin behind the program's own name, and must name a subcommand
 abbrev pub top_command : App
@@ -42,4 +53,7 @@ top_command = on_top (λ s. record s {
 }) (new_app (codes "cpaverify"))
 
 abbrev pub cpaverify : App
-cpaverify = with_subcommand (with_subcommand top_command verify_command.top) replay_command.top
+cpaverify =
+    with_subcommand
+    (with_subcommand (with_subcommand top_command verify_command.top) replay_command.top)
+    bench_command.top

@@ -14,10 +14,12 @@ use Rattle.cpa_top_words.specs.declared.job.Job.TheVariants as held
 use Rattle.cpa_top_words.specs.declared.job.TheConstants.{STEPS}
 
 -- to verify a program, by a configuration where one is named; to replay a program on inputs, in at
--- most so many steps. Names of files are the bytes given
+-- most so many steps; to verify the text of a measurement of so many functions. Names of files are
+-- the bytes given
 pub data Job : Type 0 where
   verify : List ℕ → Option (List ℕ) → Job
   replay : List ℕ → List ℕ → ℕ → Job
+  bench : ℕ → Job
 
 -- ---- what clap finds
 
@@ -33,6 +35,14 @@ number_of text = if accepts false (vp.Unsigned 0 18446744073709551615) text
 abbrev pub steps_of : List Row → ℕ
 steps_of rows = option_map_or number_of (one_of (codes "steps") rows) STEPS
 
+-- the number of functions that a text is: clap takes no text that is none or a larger one
+abbrev pub count_in : List ℕ → ℕ
+count_in text = if accepts false (vp.Unsigned 0 100) text
+    then digits_value 10 (without_leading_plus text) else 0
+
+abbrev pub count_of : List Row → ℕ
+count_of rows = option_map_or count_in (one_of (codes "N") rows) 0
+
 -- the job of a subcommand with what clap finds for it
 abbrev pub job_of : List ℕ → List Row → Option Job
 job_of name rows = if bytes_eq name (codes "verify")
@@ -40,7 +50,7 @@ job_of name rows = if bytes_eq name (codes "verify")
     else (if bytes_eq name (codes "replay")
     then Some (replay (name_of (codes "PROGRAM") rows) (name_of (codes "INPUTS") rows)
     (steps_of rows))
-    else None)
+    else (if bytes_eq name (codes "bench") then Some (bench (count_of rows)) else None))
 
 abbrev pub asked_by : List (List ℕ) → Option Job
 asked_by words = option_map_or (λ p. job_of p.0 p.1) (subcommand_of cpaverify words) None
@@ -60,3 +70,4 @@ IsNoJob words = (job : Job) → Asks words job → ⊥
 abbrev pub meant : Held → Job
 meant (held.Verify program config) = verify program.now (option_map (λ s. s.now) config)
 meant (held.Replay program inputs steps) = replay program.now inputs.now steps
+meant (held.Bench count) = bench count

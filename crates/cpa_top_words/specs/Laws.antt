@@ -1,9 +1,10 @@
 -- Laws of words: which words ask for a job, and for which.
-use Rattle.std.specs.Prelude.{◌≡◌, ℕ, List, [], ◌∷◌, Some, None, codes}
+use Rattle.std.specs.Prelude.{◌≡◌, ℕ, ◌≤◌, List, [], ◌∷◌, Some, None, codes, decimal}
 use Rattle.clap.specs.Words.{fault_of}
 use Rattle.clap.specs.Lexer.{strip_byte}
 use Rattle.cpa_top_words.specs.Commands.{cpaverify}
-use Rattle.cpa_top_words.specs.Jobs.{Asks, Job, verify, replay}
+use Rattle.cpa_top_words.specs.Jobs.{Asks, Job, verify, replay, bench}
+use Rattle.cpa_top_words.specs.declared.job.TheConstants.{MAX_BENCH}
 
 -- where clap takes the words, they ask for a job
 abbrev pub AskForAJobWhereTaken : List (List ℕ) → Type 0
@@ -22,3 +23,4 @@ pub record AskAsIsCustomary : Type 0 where
       (verify program (Some config))
   pub replays : (program inputs : List ℕ) → IsPlain program → IsPlain inputs
       → Asks (codes "replay" ∷ program ∷ inputs ∷ []) (replay program inputs 1000000)
+  pub benches : (n : ℕ) → n ≤ MAX_BENCH → Asks (codes "bench" ∷ decimal n ∷ []) (bench n)

@@ -2,7 +2,8 @@
 //! `specs/Commands.antt`.
 ghost use Rattle.std.specs.Prelude.{◌≡◌, IfOk};
 ghost use Rattle.clap.specs.Words.{app_of};
-ghost use Rattle.cpa_top_words.specs.Commands.{cpaverify, replay_command, verify_command};
+ghost use Rattle.cpa_top_words.specs.Commands.{bench_command, cpaverify, replay_command};
+ghost use Rattle.cpa_top_words.specs.Commands.{verify_command};
 
 use clap::{Arg, Command, value_parser};
 use std::alloc::{AllocError, Global};
@@ -31,16 +32,28 @@ fn replay_command<'a>(alloc: Global) -> Result<Command<'a>, AllocError>
         .arg(steps)
 }
 
+/// `bench N`.
+fn bench_command<'a>(alloc: Global) -> Result<Command<'a>, AllocError>
+    ensures { IfOk result (λ command. app_of command ≡ bench_command) }
+{
+    let count = Arg::new(alloc, "N")
+        .required(true)
+        .value_parser(value_parser!(u64).range(..=100));
+    Command::new(alloc, "bench").arg(count)
+}
+
 /// The whole command. The words come without the program's own name.
 pub(crate) fn whole_command<'a>(alloc: Global) -> Result<Command<'a>, AllocError>
     ensures { IfOk result (λ command. app_of command ≡ cpaverify) }
 {
     let verify = verify_command(alloc)?;
     let replay = replay_command(alloc)?;
+    let bench = bench_command(alloc)?;
     Command::new(alloc, "cpaverify")
         .no_binary_name(true)
         .disable_help_subcommand(true)
         .subcommand_required(true)
         .subcommand(verify)?
-        .subcommand(replay)
+        .subcommand(replay)?
+        .subcommand(bench)
 }

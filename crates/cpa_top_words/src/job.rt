@@ -29,7 +29,15 @@ pub enum Job<'a> {
         /// The greatest number of steps.
         steps: u64,
     },
+    /// To verify the text of a measurement.
+    Bench {
+        /// How many functions it has, at most `MAX_BENCH`.
+        count: u32,
+    },
 }
 
 /// The steps of a replay whose words name no number.
 pub const STEPS: u64 = 1_000_000;
+
+/// The most functions of a measurement.
+pub const MAX_BENCH: u32 = 100;

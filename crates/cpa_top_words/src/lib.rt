@@ -7,6 +7,9 @@ mod job;
 mod laws;
 mod reading;
 
-pub use job::{Job, STEPS, WordsError};
-pub use laws::{customary_words_ask, taken_words_ask_for_a_job, words_ask_for_one_job};
+pub use job::{Job, MAX_BENCH, STEPS, WordsError};
+pub use laws::{
+    customary_words_ask, taken_words_ask_for_a_job, words_ask_for_one_job,
+    words_ask_for_small_benches,
+};
 pub use reading::read_words;

@@ -7,11 +7,11 @@ ghost use Rattle.clap.specs.Words.{subcommand_of, subcommand_rows_of};
 ghost use Rattle.clap.specs.declared.error.ErrorKind.TheVariants.{OutOfMemory};
 ghost use Rattle.cpa_top_words.specs.Commands.{cpaverify};
 ghost use Rattle.cpa_top_words.specs.Jobs.{Asks, IsNoJob, asked_by, job_of, meant, name_of};
-ghost use Rattle.cpa_top_words.specs.Jobs.{steps_of};
+ghost use Rattle.cpa_top_words.specs.Jobs.{count_of, steps_of};
 ghost use Rattle.cpa_top_words.specs.declared.job.WordsError.TheVariants.{Refused};
 
 use crate::command::whole_command;
-use crate::{Job, STEPS, WordsError};
+use crate::{Job, MAX_BENCH, STEPS, WordsError};
 use clap::error::ErrorKind;
 use clap::{ArgMatches, Error};
 use std::alloc::Global;
@@ -56,6 +56,16 @@ fn steps_of(matches: &ArgMatches<'_>) -> u64
     }
 }
 
+/// The number of functions that the command requires. Clap takes no words whose number is larger.
+fn count_of(matches: &ArgMatches<'_>) -> u32
+    ensures { result ≡ count_of (rows_of (found_of matches.now)) }
+{
+    match matches.get_one::<u64>("N") {
+        Some(count) if count <= u64::from(MAX_BENCH) => count as u32,
+        _ => 0,
+    }
+}
+
 /// The name of a file that the command requires.
 fn name_of<'a>(matches: &ArgMatches<'a>, id: &'static str) -> &'a str
     ensures { result.now ≡ name_of id.entry.now (rows_of (found_of matches.now)) }
@@ -77,6 +87,10 @@ fn job_of<'a>(name: &str, matches: &ArgMatches<'a>) -> Option<Job<'a>>
             program: name_of(matches, "PROGRAM"),
             inputs: name_of(matches, "INPUTS"),
             steps: steps_of(matches),
+        })
+    } else if name == "bench" {
+        Some(Job::Bench {
+            count: count_of(matches),
         })
     } else {
         None

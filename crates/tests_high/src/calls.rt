@@ -17,7 +17,7 @@ const RETURNS: &str = "int main(void){return 0;}";
 
 /// An analysis that knows nothing and is exact on nothing.
 #[derive(Drop)]
-struct Blind;
+pub(crate) struct Blind;
 
 impl Steps for Blind {
     ghost use Rattle.tests_high.specs.Blind.{blinds};
@@ -59,7 +59,7 @@ fn no_facts(alloc: Global) -> Elem
 }
 
 /// The words of a call, as texts.
-fn texts(alloc: Global, words: &[&str]) -> Result<Vec<String>, AllocError> {
+pub(crate) fn texts(alloc: Global, words: &[&str]) -> Result<Vec<String>, AllocError> {
     let mut texts = Vec::new(alloc);
     for word in words {
         texts.push(String::from_str(alloc, word)?)?;

@@ -1,6 +1,7 @@
 use Rattle.std.proofs.Common.{arith}
 use Rattle.cpa_top.specs.Answers.{IsSafeText, IsCalledText, IsUnknownText}
 use Rattle.cpa_top.proofs.Headline.{written, safe_text, called_text, unknown_text}
+use Rattle.cpa_top.proofs.Measurements.{line_written}
 use Rattle.cpa_top.proofs.top.run.Goals as goal
 
 pub returns-clause-safe : goal.returns-clause-safe
@@ -23,3 +24,8 @@ returns-clause-unknown g c = λ is name file asked.
     written c.words_ask_for_one_job.ensures 2 (omega arith) _ _ _ _ _ name file IsUnknownText
     (unknown_text _ _ _) (rw c.as_slice.ensures.value at c.answer-answer.ensures)
     c.deliver.ensures is asked
+
+pub returns-clause-measured : goal.returns-clause-measured
+returns-clause-measured g c = λ few functions asked.
+    line_written c.words_ask_for_one_job.ensures c.true_is_safe.ensures.answer _ _ _ _ _ functions
+    (rw c.as_slice.ensures.value at c.answer-answer.ensures) c.deliver.ensures few asked

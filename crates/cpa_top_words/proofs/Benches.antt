@@ -1,0 +1,84 @@
+-- The number of functions of a measurement: what texts it is read from (`small_is_counted`), and
+-- that it is small (`benches_are_small`).
+use Rattle.std.proofs.Common.{◌≡◌, refl, sym, ap, subst, ◌∙◌, ℕ, ◌<◌, ◌≤◌, List, [], ◌∷◌, length}
+use Rattle.std.proofs.Common.{Option, Some, None, Bool, true, false, codes, arith, cond}
+use Rattle.std.specs.Prelude.{◌==◌, decimal, drop, if◌then◌else◌}
+use Rattle.std.proofs.lemmas.Bool.{ne_eqb}
+use Rattle.std.proofs.lemmas.Fmt.{decimal_is_IsNumeral}
+use Rattle.std.proofs.lemmas.Str.Parse.{digit_from_value}
+use Rattle.std.specs.Option.{option_map_or}
+use Rattle.std.specs.Str.Parse.{IsNumeral, digits_value, without_leading_plus}
+use Rattle.clap.specs.Words.{Row, Text, one_of, subcommand_of}
+use Rattle.clap.specs.ValueTests.{accepts}
+use Rattle.clap.specs.Values.{IsUnsignedIn}
+use Rattle.clap.specs.declared.builder.value_parser.ValueParser.TheVariants as vp
+use Rattle.clap.proofs.ValueTestLemmas.{accepts-Accepts, Accepts-accepts}
+use Rattle.cpa_top_words.specs.Commands.{cpaverify}
+use Rattle.cpa_top_words.specs.Jobs.{Job, verify, replay, bench, asked_by, count_in, job_of}
+use Rattle.cpa_top_words.specs.Laws.{IsPlain}
+
+-- ---- of numerals
+
+pub numeral_is_plain : (ds : List ℕ) → IsNumeral 10 ds → IsPlain ds
+numeral_is_plain [] h = refl
+numeral_is_plain (c ∷ cs) h =
+    rw (ne_eqb c 45 (λ e. let digit = digit_from_value c h.1.0 in omega (arith, e, digit))) refl
+
+without_plus : (ds : List ℕ) → IsNumeral 10 ds → without_leading_plus ds ≡ ds
+without_plus [] h = refl
+without_plus (c ∷ cs) h =
+    ap (λ (b : Bool). drop (cond b 1 0) (c ∷ cs))
+    (ne_eqb c 43 (λ e. let digit = digit_from_value c h.1.0 in omega (arith, e, digit)))
+
+pub small_is_taken : (n : ℕ) → n ≤ 100 → accepts false (vp.Unsigned 0 100) (decimal n) ≡ true
+small_is_taken n few =
+    let is = decimal_is_IsNumeral n (omega arith) in
+    let value = is.1 in
+    let numeral : IsNumeral 10 (without_leading_plus (decimal n)) =
+    rw (without_plus (decimal n) is.0) is.0 in
+    let same : digits_value 10 (without_leading_plus (decimal n)) ≡ n =
+    rw (without_plus (decimal n) is.0) is.1 in
+    Accepts-accepts false (vp.Unsigned 0 100) (decimal n)
+    (numeral, omega (arith, same, few), omega arith, omega (arith, same, few))
+
+pub small_is_counted : (n : ℕ) → n ≤ 100 → count_in (decimal n) ≡ n
+small_is_counted n few =
+    let is = decimal_is_IsNumeral n (omega arith) in
+    rw (small_is_taken n few, without_plus (decimal n) is.0) is.1
+
+-- ---- of every text
+
+small_or_none : (b : Bool) (text : List ℕ) → accepts false (vp.Unsigned 0 100) text ≡ b
+    → (if b then digits_value 10 (without_leading_plus text) else 0) ≤ 100
+small_or_none true text e = let is = accepts-Accepts false (vp.Unsigned 0 100) text e in is.3
+small_or_none false text e = omega arith
+
+count_is_small : (text : List ℕ) → count_in text ≤ 100
+count_is_small text = small_or_none _ text refl
+
+found_is_small : (text : Option (List ℕ)) → option_map_or count_in text 0 ≤ 100
+found_is_small None = omega arith
+found_is_small (Some text) = count_is_small text
+
+-- the job of a subcommand is a measurement of so many functions
+measures : (a b c : Bool) (program program_2 inputs : List ℕ) (config : Option (List ℕ))
+    (steps m n : ℕ) → m ≤ 100
+    → (if a then Some (verify program config)
+    else (if b then Some (replay program_2 inputs steps)
+    else (if c then Some (bench m) else None))) ≡ Some (bench n)
+    → n ≤ 100
+measures true b c p q i config steps m n few e = absurd (cc)
+measures false true c p q i config steps m n few e = absurd (cc)
+measures false false true p q i config steps m n few e =
+    let same : m ≡ n = cc in omega (arith, few, same)
+measures false false false p q i config steps m n few e = absurd (cc)
+
+small : (found : Option (Text × List Row)) (n : ℕ)
+    → option_map_or (λ p. job_of p.0 p.1) found None ≡ Some (bench n) → n ≤ 100
+small None n e = absurd (cc)
+small (Some p) n e =
+    measures _ _ _ _ _ _ _ _ _ n (found_is_small (one_of (codes "N") p.1)) e
+
+pub benches_are_small : (words : List (List ℕ)) (n : ℕ) → asked_by words ≡ Some (bench n)
+    → n ≤ 100
+benches_are_small words n e = small (subcommand_of cpaverify words) n e
