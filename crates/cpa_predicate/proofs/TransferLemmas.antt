@@ -1,0 +1,199 @@
+-- What is found of one predicate after the other.
+use Rattle.std.proofs.Common.{◌≡◌, ℕ, Bool, List, [], ◌∷◌, ◌++◌, refl, sym, ap, ◌∙◌, subst}
+use Rattle.std.proofs.Common.{arith, append-nil, length}
+use Rattle.std.proofs.Common.{get_or, take}
+use Rattle.std.specs.Prelude.{◌+◌, ◌<◌, zero, suc, Option, None, Some, slice_get}
+use Rattle.std.proofs.lemmas.List.{take_more}
+use Rattle.std.specs.List.{Contains}
+use Rattle.std.proofs.lemmas.List.{append_assoc}
+use Rattle.cpa_expr.specs.declared.tree.Expr.{Expr}
+use Rattle.cpa_model.specs.declared.facts.Fact.{Fact}
+use Rattle.cpa_model.specs.declared.facts.Elem.{Elem}
+use Rattle.cpa_model.specs.declared.automaton.Edge.{Edge}
+use Rattle.cpa_model.specs.declared.automaton.Cfa.{Cfa}
+use Rattle.cpa_model.specs.Expressions.{IsExpr}
+use Rattle.cpa_edgeform_rules.specs.Forms.{Form}
+use Rattle.cpa_edgeform_rules.specs.Laws.{FormsAreRuns}
+use Rattle.cpa_edgeform_rules.specs.Stores.{FailingIsNotHolding, StepsTakeInputs}
+use Rattle.cpa_query.specs.Queries.{IsQuery}
+use Rattle.cpa_solver.specs.Decisions.{HasNoModel}
+use Rattle.cpa_predicate.specs.declared.asking.Budgets.{Budgets}
+use Rattle.cpa_predicate.specs.Steps.{NeverSteps}
+use Rattle.cpa_predicate.specs.Questions.{Question, steps, lacks, step_form, lacking, form_asked}
+use Rattle.cpa_predicate.specs.Questions.{IsOpen, IsFound, IsUndecided, IsStep, IsBeyond}
+use Rattle.cpa_predicate.specs.Questions.{SomeBeyond, Spends}
+use Rattle.cpa_predicate.specs.Transfer.{fact_of, IsTruthAfter, AreTruthsAfter, IsCartesian}
+use Rattle.cpa_predicate.proofs.BudgetLemmas.{undecided_since, undecided_until, both_spent}
+use Rattle.cpa_predicate.proofs.BudgetLemmas.{beyond_before}
+use Rattle.cpa_predicate.proofs.StepLemmas.{step_asked, never_steps, no_step}
+use Rattle.cpa_predicate.proofs.StepLemmas.{lack_asked, has_after, no_lack}
+use Rattle.cpa_model.specs.Acts.{IsActOf}
+use Rattle.cpa_model.specs.Automata.{IsAutomaton}
+use Rattle.cpa_model.specs.Facts.{IsElem}
+
+module _ (O Q : Question → Type 0) (cfa : Cfa) (e : Elem) (g : Edge)
+    (wider : (question : Question) → O question → Q question) where
+  pub truth_wider : (p : Expr) (truth : Option Bool) → IsTruthAfter O cfa e g p truth
+      → IsTruthAfter Q cfa e g p truth
+  truth_wider p None is = λ holds has. wider (lacks p holds) (is holds has)
+  truth_wider p (Some holds) is = is
+
+  pub truths_wider : (preds : List Expr) (facts : List Fact)
+      → AreTruthsAfter O cfa e g preds facts → AreTruthsAfter Q cfa e g preds facts
+  truths_wider [] facts are = are
+  truths_wider (p ∷ preds) facts (truth, others, is, split, rest) =
+      (truth, others, truth_wider p truth is, split, truths_wider preds others rest)
+
+  pub cartesian_wider : (preds : List Expr) (es : List Elem) → IsCartesian O cfa e g preds es
+      → IsCartesian Q cfa e g preds es
+  cartesian_wider preds [] is = is
+  cartesian_wider preds (after ∷ []) is =
+      (λ never. wider steps (is.0 never), truths_wider preds after.facts is.1)
+  cartesian_wider preds (x ∷ y ∷ es) is = is
+
+module _ (O : Question → Type 0) (cfa : Cfa) (e : Elem) (g : Edge) where
+  -- one predicate more
+  pub truths_push : (preds : List Expr) (facts : List Fact) (p : Expr) (truth : Option Bool)
+      → AreTruthsAfter O cfa e g preds facts → IsTruthAfter O cfa e g p truth
+      → AreTruthsAfter O cfa e g (preds ++ p ∷ []) (facts ++ fact_of p truth)
+  truths_push [] facts p truth are is =
+      (truth, [], is, ap (λ fs. fs ++ fact_of p truth) are ∙ sym (append-nil (fact_of p truth)), refl)
+  truths_push (q ∷ preds) facts p truth (own, others, here, split, rest) is = (
+    own,
+    others ++ fact_of p truth,
+    here,
+    ap (λ fs. fs ++ fact_of p truth) split ∙ append_assoc (fact_of q own) others (fact_of p truth),
+    truths_push preds others p truth rest is,
+  )
+
+module _ (cfa : Cfa) (e : Elem) (g : Edge) (form : Form) (step : IsStep cfa e g form)
+    (p : Expr) (typed : IsExpr cfa.cells p)
+    (forms : FormsAreRuns) (takes : StepsTakeInputs) (fails : FailingIsNotHolding) where
+  pub asked_of : (holds : Bool) → IsQuery (lacking p holds form).query
+  asked_of holds = subst (λ (f : Form). IsQuery (lacking p holds f).query) (sym step.is)
+      (lack_asked cfa e g step.automaton step.act step.elem forms takes p holds typed fails)
+
+  -- what is found of the form is known of the predicate
+  pub found_is : (b c : Budgets) (truth : Option Bool) → IsFound b c form p truth
+      → IsTruthAfter (IsOpen b c cfa e g) cfa e g p truth
+  found_is b c (Some holds) found =
+      has_after cfa e g step.automaton step.act step.elem forms takes p holds typed fails
+      (subst (λ (f : Form). HasNoModel (lacking p holds f).query) step.is found)
+  found_is b c None found = λ holds has.
+      subst (λ (f : Form). IsUndecided b c (lacking p holds f)) step.is
+      (found holds
+      (subst (λ (f : Form). HasNoModel (lacking p holds f).query) (sym step.is)
+      (no_lack cfa e g step.automaton step.act step.elem forms takes p holds typed fails has)))
+
+  -- a question about the form is one about the predicate
+  pub some_beyond : (b : Budgets) → ((holds : Bool) × IsBeyond b (lacking p holds form))
+      → SomeBeyond b cfa e g (p ∷ [])
+  some_beyond b (holds, beyond) = (
+    lacks p holds,
+    (0, omega arith, refl),
+    subst (λ (f : Form). IsBeyond b (lacking p holds f)) step.is beyond,
+  )
+
+-- ---- one predicate more
+
+module _ (a b c : Budgets) (cfa : Cfa) (e : Elem) (g : Edge) (preds : List Expr) where
+  -- a question on one of the predicates is one on all of them
+  on_all : (i : ℕ) (p : Expr) (C : Type 0) → i < length preds → p ≡ get_or preds i p
+      → Spends a b C → SomeBeyond b cfa e g (p ∷ []) → SomeBeyond a cfa e g preds
+  on_all i p C inside item s (steps, on, beyond) =
+      (steps, tt, beyond_before a b C (step_form cfa e g) s beyond)
+  on_all i p C inside item s (lacks r holds, on, beyond) = (
+    lacks r holds,
+    here on,
+    beyond_before a b C (lacking r holds (step_form cfa e g)) s beyond,
+  )
+    where
+      here : Contains (p ∷ []) r → Contains preds r
+      here (zero, less, at) =
+          (i, inside, subst (λ x. get_or preds i x ≡ x) at (sym item))
+      here (suc k, less, at) = absurd (omega (arith, less))
+
+  pub one_more : (i : ℕ) (p : Expr) (facts new : List Fact) (truth : Option Bool)
+      → i < length preds → p ≡ get_or preds i p
+      → (AreTruthsAfter (IsOpen a b cfa e g) cfa e g (take i preds) facts
+      × Spends a b (SomeBeyond a cfa e g preds))
+      → IsTruthAfter (IsOpen b c cfa e g) cfa e g p truth
+      → Spends b c (SomeBeyond b cfa e g (p ∷ []))
+      → new ≡ facts ++ fact_of p truth
+      → AreTruthsAfter (IsOpen a c cfa e g) cfa e g (take (i + 1) preds) new
+      × Spends a c (SomeBeyond a cfa e g preds)
+  one_more i p facts new truth inside item (are, s) is t pushed = (
+    subst (λ ps. AreTruthsAfter (IsOpen a c cfa e g) cfa e g ps new)
+        (sym (take_more preds i p inside ∙ ap (λ x. take i preds ++ x ∷ []) (sym item)))
+        (subst (AreTruthsAfter (IsOpen a c cfa e g) cfa e g (take i preds ++ p ∷ [])) (sym pushed)
+        (truths_push (IsOpen a c cfa e g) cfa e g (take i preds) facts p truth
+        (truths_wider (IsOpen a b cfa e g) (IsOpen a c cfa e g) cfa e g
+        (λ q. undecided_until a b c (form_asked cfa e g q) t.grows) (take i preds) facts are)
+        (truth_wider (IsOpen b c cfa e g) (IsOpen a c cfa e g) cfa e g
+        (λ q. undecided_since a b c (SomeBeyond a cfa e g preds) (form_asked cfa e g q) s t.grows)
+        p truth is))),
+    both_spent a b c (SomeBeyond a cfa e g preds) (SomeBeyond b cfa e g (p ∷ []))
+        (SomeBeyond a cfa e g preds) s t (λ x. x)
+        (on_all i p (SomeBeyond a cfa e g preds) inside item s),
+  )
+
+  -- what was spent where the next one is not answered
+  pub one_spent : (i : ℕ) (p : Expr) → i < length preds → p ≡ get_or preds i p
+      → Spends a b (SomeBeyond a cfa e g preds) → Spends b c (SomeBeyond b cfa e g (p ∷ []))
+      → Spends a c (SomeBeyond a cfa e g preds)
+  one_spent i p inside item s t =
+      both_spent a b c (SomeBeyond a cfa e g preds) (SomeBeyond b cfa e g (p ∷ []))
+      (SomeBeyond a cfa e g preds) s t (λ x. x)
+      (on_all i p (SomeBeyond a cfa e g preds) inside item s)
+
+-- ---- the whole
+
+pub there_is : {X : Type 0} (xs : List X) (i : ℕ) → i < length xs
+    → (x : X) × (slice_get xs i ≡ Some x)
+there_is [] i less = absurd (omega (arith, less))
+there_is (x ∷ xs) zero less = (x, refl)
+there_is (x ∷ xs) (suc i) less = there_is xs i (omega (arith, less))
+
+module _ (a b : Budgets) (cfa : Cfa) (e : Elem) (g : Edge) (preds : List Expr) (form : Form)
+    (is : form ≡ step_form cfa e g) where
+  pub step_beyond : IsBeyond a form → SomeBeyond a cfa e g preds
+  step_beyond beyond = (steps, tt, subst (IsBeyond a) is beyond)
+
+  -- what was spent on the step, and on the predicates behind it
+  pub all_spent : (c : Budgets) (h : Edge) → h ≡ g → Spends a b (IsBeyond a form)
+      → Spends b c (SomeBeyond b cfa e h preds) → Spends a c (SomeBeyond a cfa e g preds)
+  all_spent c h same s t =
+      both_spent a b c (IsBeyond a form) (SomeBeyond b cfa e g preds)
+      (SomeBeyond a cfa e g preds) s
+      (subst (λ (x : Edge). Spends b c (SomeBeyond b cfa e x preds)) same t) step_beyond
+      (λ (q, on, beyond).
+      (q, on, beyond_before a b (IsBeyond a form) (form_asked cfa e g q) s beyond))
+
+  module _ (auto : IsAutomaton cfa) (act : IsActOf cfa g.act)
+      (shaped : IsElem cfa.cells cfa.points e) (forms : FormsAreRuns) (takes : StepsTakeInputs)
+    where
+      pub form_asks : IsQuery form.query
+      form_asks = subst (λ (f : Form). IsQuery f.query) (sym is)
+          (step_asked cfa e g auto act shaped forms takes)
+
+      pub leads_nowhere : HasNoModel form.query → NeverSteps cfa e g
+      leads_nowhere none =
+          never_steps cfa e g auto act shaped forms takes
+          (subst (λ (f : Form). HasNoModel f.query) is none)
+
+      pub leads_on : (c : Budgets) (h : Edge) (after : Elem) → h ≡ g
+          → Spends a b (IsBeyond a form) → Spends b c (SomeBeyond b cfa e h preds)
+          → (HasNoModel form.query → IsUndecided a b form)
+          → AreTruthsAfter (IsOpen b c cfa e h) cfa e h preds after.facts
+          → IsCartesian (IsOpen a c cfa e g) cfa e g preds (after ∷ [])
+      leads_on c h after same s t undecided are = (
+        λ never. undecided_until a b c (step_form cfa e g) t.grows
+            (subst (IsUndecided a b) is
+            (undecided (subst (λ (f : Form). HasNoModel f.query) (sym is)
+            (no_step cfa e g auto act shaped forms takes never)))),
+        truths_wider (IsOpen b c cfa e g) (IsOpen a c cfa e g) cfa e g
+            (λ q. undecided_since a b c (IsBeyond a form) (form_asked cfa e g q) s t.grows)
+            preds after.facts
+            (subst (λ (x : Edge). AreTruthsAfter (IsOpen b c cfa e x) cfa e x preds after.facts)
+            same are),
+      )

@@ -1,0 +1,59 @@
+-- Where the step's query has no model, the edge leads nowhere; else the predicates come behind it.
+use Rattle.std.proofs.Common.{◌++◌, ◌∷◌, [], List, sym, ap, ◌∙◌, subst}
+use Rattle.std.proofs.lemmas.Option.{same_Some}
+use Rattle.cpa_model.specs.declared.facts.Elem.{Elem}
+use Rattle.cpa_predicate.specs.Questions.{IsOpen}
+use Rattle.cpa_predicate.specs.Transfer.{IsCartesian}
+use Rattle.cpa_predicate.proofs.TransferLemmas.{all_spent, leads_nowhere}
+use Rattle.cpa_predicate.proofs.TransferLemmas.{leads_on}
+use Rattle.cpa_predicate.proofs.transfer.successors.Goals as goal
+
+pub returns-in_err-after-clause-spends : goal.returns-in_err-after-clause-spends
+returns-in_err-after-clause-spends c = λ g at.
+    all_spent c.args.asker.now c.leads_nowhere.new.asker c.args.cfa.now c.args.elem.now g
+    c.args.preds.now c.in_ok-step.step (c.in_ok-step.ensures g at) c.truths_after.new.asker
+    c.edge-along.result.now (same_Some _ _ (sym c.edge-along.ensures ∙ at)) c.leads_nowhere.ensures.spends
+    c.truths_after.ensures.spends
+
+pub returns-in_err-push-clause-spends : goal.returns-in_err-push-clause-spends
+returns-in_err-push-clause-spends c = λ g at.
+    all_spent c.args.asker.now c.leads_nowhere.new.asker c.args.cfa.now c.args.elem.now g
+    c.args.preds.now c.in_ok-step.step (c.in_ok-step.ensures g at) c.truths_after.new.asker
+    c.edge-along.result.now (same_Some _ _ (sym c.edge-along.ensures ∙ at)) c.leads_nowhere.ensures.spends
+    c.truths_after.ensures.spends
+
+pub returns-then-never-clause-known : goal.returns-then-never-clause-known
+returns-then-never-clause-known c = λ g at.
+    let cfa = c.args.cfa.now in
+    let e = c.args.elem.now in
+    subst (IsCartesian (IsOpen c.args.asker.now c.leads_nowhere.new.asker cfa e g) cfa e g
+    c.args.preds.now) (sym c.new-successors.ensures.items)
+    (leads_nowhere c.args.asker.now c.leads_nowhere.new.asker cfa e g c.args.preds.now
+    c.in_ok-step.step (c.in_ok-step.ensures g at) c.requires.automaton
+    (c.edges_are_sound.ensures cfa c.args.edge g c.requires.automaton at).act c.requires.elem
+    c.forms_are_runs.ensures c.steps_take_inputs.ensures
+    (c.in_ok-never.ensures.yes c.if-never.true))
+
+pub returns-clause-known : goal.returns-clause-known
+returns-clause-known c = λ g at.
+    let cfa = c.args.cfa.now in
+    let e = c.args.elem.now in
+    let after = c.in_ok-after.after in
+    subst (IsCartesian (IsOpen c.args.asker.now c.truths_after.new.asker cfa e g) cfa e g
+    c.args.preds.now)
+    (sym (c.in_ok-push.ensures.items
+    ∙ ap (λ (es : List Elem). es ++ after ∷ []) c.new-successors.ensures.items))
+    (leads_on c.args.asker.now c.leads_nowhere.new.asker cfa e g c.args.preds.now
+    c.in_ok-step.step (c.in_ok-step.ensures g at) c.requires.automaton
+    (c.edges_are_sound.ensures cfa c.args.edge g c.requires.automaton at).act c.requires.elem
+    c.forms_are_runs.ensures c.steps_take_inputs.ensures c.truths_after.new.asker
+    c.edge-along.result.now after (same_Some _ _ (sym c.edge-along.ensures ∙ at)) c.leads_nowhere.ensures.spends
+    c.truths_after.ensures.spends (c.in_ok-never.ensures.no c.if-never.false)
+    c.in_ok-after.ensures.truths)
+
+pub returns-clause-spends : goal.returns-clause-spends
+returns-clause-spends c = λ g at.
+    all_spent c.args.asker.now c.leads_nowhere.new.asker c.args.cfa.now c.args.elem.now g
+    c.args.preds.now c.in_ok-step.step (c.in_ok-step.ensures g at) c.truths_after.new.asker
+    c.edge-along.result.now (same_Some _ _ (sym c.edge-along.ensures ∙ at)) c.leads_nowhere.ensures.spends
+    c.truths_after.ensures.spends

@@ -1,0 +1,7 @@
+-- The edge leads to each store so far.
+use Rattle.std.specs.List.{AllByRecursion}
+use Rattle.cpa_predicate.specs.Steps.{IsAfter}
+use Rattle.cpa_predicate.proofs.witnesses.stores_behind.Given as goal
+
+abbrev pub invariant-loop-store : goal.invariant-loop-store
+invariant-loop-store l = AllByRecursion (IsAfter l.cfa l.elem l.edge) l.found.items

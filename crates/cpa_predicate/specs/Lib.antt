@@ -1,0 +1,6 @@
+pub mod Steps
+pub mod Questions
+pub mod Transfer
+pub mod Standing
+pub mod Refining
+pub mod Predicates

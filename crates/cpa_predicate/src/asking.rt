@@ -1,0 +1,212 @@
+//! Questions to the solver within budgets, by `specs/Questions.antt`.
+
+ghost use Rattle.std.specs.Prelude.{◌≡◌, ◌∷◌, [], IsTrue, true, false, Bool, IfOk};
+ghost use Rattle.cpa_model.specs.declared.facts.Fact.TheVariants.{Truth};
+ghost use Rattle.cpa_query.specs.Queries.{IsQuery};
+ghost use Rattle.cpa_solver.specs.Decisions.{HasNoModel};
+ghost use Rattle.cpa_predicate.specs.Questions.{IsAnswered, IsUndecided, IsBeyond, Spends};
+ghost use Rattle.cpa_predicate.specs.Questions.{lacking, IsFound};
+ghost use Rattle.cpa_predicate.specs.Predicates.{default_budgets};
+
+use cpa_edgeform::EdgeForm;
+use cpa_expr::copy;
+use cpa_iface::{DEFAULT_GATES, DEFAULT_LEARNT};
+use cpa_model::{Elem, Expr, Fact, Seq, Store};
+use cpa_solver::{Decided, decide};
+use std::alloc::{AllocError, Global};
+use std::marker::Model;
+use std::mem;
+
+/// How many stores are kept.
+const KEPT: usize = 32;
+
+/// What a question to the solver may cost, and how many were not decided for it.
+#[derive(Clone, Copy)]
+pub struct Budgets {
+    /// The most lines that a search may learn.
+    pub learnt: u32,
+    /// The most that a query may weigh.
+    pub gates: u64,
+    /// How many questions were not decided. It stops at the greatest `u64`.
+    pub spent: u64,
+}
+
+/// What asks: the budgets, and stores from which edges led on, the first of models that were found.
+/// Contracts see the budgets alone, since nothing is promised of the stores: whoever uses one looks
+/// at it anew.
+#[derive(Drop)]
+pub(crate) struct Asker {
+    pub(crate) budgets: Budgets,
+    stores: Option<Vec<Store>>,
+}
+
+impl Model for Asker {
+    ghost use Rattle.cpa_predicate.specs.declared.asking.Budgets.{Budgets};
+
+    ghost Value = { Budgets };
+
+    ghost view = { λ a. a.budgets };
+}
+
+impl Asker {
+    /// The budgets before any settings are given, and no store. Takes no memory.
+    pub(crate) fn new() -> Asker
+        ensures { result ≡ default_budgets }
+    {
+        Asker {
+            budgets: Budgets {
+                learnt: DEFAULT_LEARNT,
+                gates: DEFAULT_GATES,
+                spent: 0,
+            },
+            stores: None,
+        }
+    }
+
+    /// The stores that are kept, the oldest first.
+    pub(crate) fn stores(&self) -> &[Store] {
+        match &self.stores {
+            Some(stores) => stores.as_slice(),
+            None => &[],
+        }
+    }
+
+    /// Keeps a store, in the place of the oldest one where there are many.
+    fn keep(&mut self, alloc: Global, store: Store) -> Result<(), AllocError>
+        ensures { self.new ≡ self.old }
+    {
+        let mut stores = match mem::replace(&mut self.stores, None) {
+            Some(stores) => stores,
+            None => Vec::new(alloc),
+        };
+        if stores.len() >= KEPT {
+            stores.remove(0);
+        }
+        stores.push(store)?;
+        self.stores = Some(stores);
+        Ok(())
+    }
+}
+
+/// Whether a query has a model.
+#[derive(Drop)]
+enum Answer {
+    Never,
+    Sometimes(Store),
+    Undecided,
+}
+
+/// Asks whether the form's query has a model, unless it weighs too much.
+fn ask(alloc: Global, budgets: Budgets, form: &EdgeForm) -> Result<Answer, AllocError>
+    requires { IsQuery form.now.query }
+    ensures { IfOk result (IsAnswered budgets form.now) }
+{
+    if budgets.gates < form.weight() {
+        return Ok(Answer::Undecided);
+    }
+    let query = form.query()?;
+    let decided = decide(alloc, &query, budgets.learnt)?;
+    match decided {
+        Decided::Model(store) => Ok(Answer::Sometimes(store)),
+        Decided::NoModel(_) => Ok(Answer::Never),
+        Decided::Learnt(_) => Ok(Answer::Undecided),
+    }
+}
+
+/// Whether it is found that the form's query has no model. A question that is not decided counts;
+/// of a model that is found the first store is kept.
+pub(crate) fn is_never(
+    alloc: Global,
+    asker: &mut Asker,
+    form: &EdgeForm,
+) -> Result<bool, AllocError>
+    requires { IsQuery form.now.query }
+    ensures yes { IfOk result (λ never. IsTrue never → HasNoModel form.now.query) }
+    ensures no { IfOk result (λ never. never ≡ false → HasNoModel form.now.query
+        → IsUndecided asker.old asker.new form.now) }
+    ensures spends { Spends asker.old asker.new (IsBeyond asker.old form.now) }
+{
+    let answer = ask(alloc, asker.budgets, form)?;
+    match answer {
+        Answer::Never => Ok(true),
+        Answer::Sometimes(store) => {
+            let (first, _) = form.stores_of(&store)?;
+            asker.keep(alloc, first)?;
+            Ok(false)
+        }
+        Answer::Undecided => {
+            asker.budgets.spent = asker.budgets.spent.saturating_add(1);
+            Ok(false)
+        }
+    }
+}
+
+/// The one element that says that the predicate has this truth.
+fn truth_alone(alloc: Global, p: &Expr, holds: bool) -> Result<Vec<Elem>, AllocError>
+    ensures { IfOk result (λ es. es.items ≡ (record { facts = Truth p.now holds ∷ [] }) ∷ []) }
+{
+    let mut facts = Seq::new(alloc);
+    facts.push(Fact::Truth {
+        expr: copy(alloc, p)?,
+        holds,
+    })?;
+    let mut elems = Vec::new(alloc);
+    elems.push(Elem { facts })?;
+    Ok(elems)
+}
+
+/// Whether it is found that the predicate has this truth wherever the step leads. Nothing is asked
+/// where that is refuted.
+fn is_always(
+    alloc: Global,
+    asker: &mut Asker,
+    step: &EdgeForm,
+    p: &Expr,
+    holds: bool,
+    refuted: bool,
+) -> Result<bool, AllocError>
+    requires asked { IsQuery (lacking p.now holds step.now).query }
+    requires refuted { IsTrue refuted → HasNoModel (lacking p.now holds step.now).query → ⊥ }
+    ensures yes { IfOk result (λ always. IsTrue always
+        → HasNoModel (lacking p.now holds step.now).query) }
+    ensures no { IfOk result (λ always. always ≡ false
+        → HasNoModel (lacking p.now holds step.now).query
+        → IsUndecided asker.old asker.new (lacking p.now holds step.now)) }
+    ensures spends { Spends asker.old asker.new
+        (IsBeyond asker.old (lacking p.now holds step.now)) }
+{
+    if refuted {
+        return Ok(false);
+    }
+    let truth = truth_alone(alloc, p, holds)?;
+    let mut form = step.copy()?;
+    form.fails_now(truth.as_slice())?;
+    is_never(alloc, asker, &form)
+}
+
+/// The truth that the predicate has wherever the step leads, where it is found. Which truths are
+/// refuted is known before.
+pub(crate) fn found_truth(
+    alloc: Global,
+    asker: &mut Asker,
+    step: &EdgeForm,
+    p: &Expr,
+    lacks_true: bool,
+    lacks_false: bool,
+) -> Result<Option<bool>, AllocError>
+    requires asked { (holds : Bool) → IsQuery (lacking p.now holds step.now).query }
+    requires lacks_true { IsTrue lacks_true
+        → HasNoModel (lacking p.now true step.now).query → ⊥ }
+    requires lacks_false { IsTrue lacks_false
+        → HasNoModel (lacking p.now false step.now).query → ⊥ }
+    ensures found { IfOk result (IsFound asker.old asker.new step.now p.now) }
+    ensures spends { Spends asker.old asker.new
+        ((holds : Bool) × IsBeyond asker.old (lacking p.now holds step.now)) }
+{
+    let holds = is_always(alloc, asker, step, p, true, lacks_true)?;
+    if holds {
+        return Ok(Some(true));
+    }
+    let fails = is_always(alloc, asker, step, p, false, lacks_false)?;
+    Ok(if fails { Some(false) } else { None })
+}

@@ -1,0 +1,15 @@
+//! The analysis of Cartesian predicates: an element gives the truths of some expressions, each found
+//! by itself by questions to the solver (`specs/Transfer.antt`). That it keeps the laws of an
+//! analysis is shown in `proofs/`.
+#![tactic(auto)]
+
+mod asking;
+mod predicate;
+mod refining;
+mod standing;
+mod steps;
+mod transfer;
+mod witnesses;
+
+pub use asking::Budgets;
+pub use predicate::Predicate;

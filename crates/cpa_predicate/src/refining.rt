@@ -1,0 +1,56 @@
+//! The precision after a path that has no run, by `specs/Refining.antt`.
+
+ghost use Rattle.std.specs.Prelude.{◌≡◌, ◌<◌, length, IfOk, OnOk};
+ghost use Rattle.std.specs.List.{AllByRecursion, list_any};
+ghost use Rattle.cpa_expr.specs.Equality.{same_expr};
+ghost use Rattle.cpa_path_folds.specs.Carried.{with_new};
+ghost use Rattle.cpa_predicate.specs.Refining.{with_missing, with_carried};
+
+use cpa_expr::{copy, same_expr};
+use cpa_iface::{Precision, copy_precision};
+use cpa_model::{Cfa, Expr, Path, Seq};
+use cpa_path_folds::carried;
+use std::alloc::{AllocError, Global};
+
+/// Whether the list holds the expression.
+fn holds(es: &[Expr], e: &Expr) -> bool
+    ensures { result ≡ list_any (same_expr e.now) es.now }
+{
+    es.iter().any(|other| same_expr(e, other))
+}
+
+/// Adds a copy of the expression at the end, if the list does not hold it.
+fn push_new(alloc: Global, es: &mut Seq<Expr>, e: &Expr) -> Result<(), AllocError>
+    ensures { OnOk result (es.new ≡ with_new e.now es.old) }
+{
+    if !holds(es.as_slice(), e) {
+        es.push(copy(alloc, e)?)?;
+    }
+    Ok(())
+}
+
+/// Adds a copy of each expression that the list does not hold.
+fn push_missing(alloc: Global, es: &mut Seq<Expr>, more: &[Expr]) -> Result<(), AllocError>
+    ensures { OnOk result (es.new ≡ with_missing more.now es.old) }
+{
+    for e in more {
+        push_new(alloc, es, e)?;
+    }
+    Ok(())
+}
+
+/// The precision with the expressions that the path carries as predicates, too.
+pub(crate) fn with_carried(
+    alloc: Global,
+    cfa: &Cfa,
+    path: &Path,
+    precision: &Precision,
+) -> Result<Precision, AllocError>
+    requires { AllByRecursion (λ edge. edge < length cfa.now.edges) path.now.edges }
+    ensures { IfOk result (λ p. p ≡ with_carried cfa.now path.now precision.now) }
+{
+    let carried = carried(alloc, cfa, path)?;
+    let mut refined = copy_precision(alloc, precision)?;
+    push_missing(alloc, &mut refined.preds, carried.as_slice())?;
+    Ok(refined)
+}

@@ -1,0 +1,181 @@
+//! Stores from which an edge leads on. Where one of those that are kept is one, no question is
+//! needed for it (`specs/Steps.antt`).
+
+ghost use Rattle.std.specs.Prelude.{◌≡◌, ◌↔◌, ℤ, IsTrue, false, List, Some, IfOk, IfSome, IsSomeAnd};
+ghost use Rattle.std.specs.Prelude.{slice_get, pos};
+ghost use Rattle.std.specs.List.{AllByRecursion};
+ghost use Rattle.cpa_ints.specs.Integers.{IsInRange};
+ghost use Rattle.cpa_expr.specs.Cells.{AreValues};
+ghost use Rattle.cpa_model.specs.Expressions.{types_of};
+ghost use Rattle.cpa_model.specs.Steps.{StepsStore};
+ghost use Rattle.cpa_edgeform_rules.specs.Runs.{StoreHolds, StoreFactHolds};
+ghost use Rattle.cpa_solver.specs.Decisions.{HasNoModel};
+ghost use Rattle.cpa_predicate.specs.Questions.{IsStep, IsUndecided, IsBeyond, Spends};
+ghost use Rattle.cpa_predicate.specs.Steps.{is_truth, truths, IsAfter, SomeLacks};
+
+use crate::asking::{Asker, is_never};
+use cpa_edgeform::EdgeForm;
+use cpa_edgeform_rules::{forms_are_runs, steps_take_inputs};
+use cpa_interp::{assign, put};
+use cpa_model::{Act, Cell, Cfa, Edge, Elem, Expr, Fact, Seq, Store, has_truth};
+use std::alloc::{AllocError, Global};
+
+/// Whether each of the numbers is a value of its cell's type.
+fn are_values(cells: &[Cell], values: &[i128]) -> bool
+    ensures { IsTrue result → AreValues (types_of cells.now) values.now }
+{
+    let mut rest = values;
+    for cell in cells {
+        match rest {
+            [value, behind @ ..] => {
+                if !cell.ty.contains(*value) {
+                    return false;
+                }
+                rest = behind;
+            }
+            [] => return false,
+        }
+    }
+    rest.is_empty()
+}
+
+/// Whether the fact, if it is on a predicate's truth, holds of the store.
+fn truth_holds(fact: &Fact, store: &Store) -> bool
+    ensures { IsTrue result → IsTrue (is_truth fact.now)
+        → StoreFactHolds store.now.values fact.now }
+{
+    match fact {
+        Fact::Truth { expr, holds } => has_truth(expr, *holds, store),
+        _ => true,
+    }
+}
+
+/// Whether the predicates of the element have their truths on the store.
+fn has_truths(elem: &Elem, store: &Store) -> bool
+    ensures { IsTrue result → StoreHolds store.now.values (truths elem.now) }
+{
+    for fact in &elem.facts {
+        if !truth_holds(fact, store) {
+            return false;
+        }
+    }
+    true
+}
+
+/// Whether 0 is a value of the cell.
+fn takes_zero(cells: &[Cell], cell: u32) -> bool
+    ensures { IsTrue result → IsSomeAnd (slice_get cells.now cell) (λ c. IsInRange c.ty (pos 0)) }
+{
+    match cells.get(cell as usize) {
+        Some(found) => found.ty.contains(0),
+        None => false,
+    }
+}
+
+/// Does what the act does to the store, where it can be done; an input gives 0.
+fn step(alloc: Global, cells: &[Cell], act: &Act, store: &mut Store) -> bool
+    ensures { IsTrue result → StepsStore cells.now act.now store.old.values store.new.values }
+{
+    match act {
+        Act::Assume { test, holds } => has_truth(test, *holds, store),
+        Act::Assign {
+            base,
+            len,
+            index,
+            value,
+        } => assign(alloc, store, *base, *len, index, value),
+        Act::Input { cell } => {
+            put(alloc, store, *cell as usize, 0);
+            takes_zero(cells, *cell)
+        }
+        _ => true,
+    }
+}
+
+/// A store with the same values.
+fn copy_of(alloc: Global, store: &Store) -> Result<Store, AllocError>
+    ensures { IfOk result (λ s. s.values ≡ store.now.values) }
+{
+    let values = store.values.as_slice().to_vec(alloc)?;
+    Ok(Store {
+        values: Seq::from_vec(values),
+    })
+}
+
+/// The store to which the edge leads from this one, where the predicates of the element have their
+/// truths on it.
+fn behind(
+    alloc: Global,
+    cfa: &Cfa,
+    edge: &Edge,
+    elem: &Elem,
+    store: &Store,
+) -> Result<Option<Store>, AllocError>
+    ensures { IfOk result (λ found. IfSome found (IsAfter cfa.now elem.now edge.now)) }
+{
+    if !has_truths(elem, store) || !are_values(cfa.cells.as_slice(), store.values.as_slice()) {
+        return Ok(None);
+    }
+    let mut new = copy_of(alloc, store)?;
+    let steps = step(alloc, cfa.cells.as_slice(), &edge.act, &mut new);
+    Ok(if steps { Some(new) } else { None })
+}
+
+/// The stores to which the edge leads from those of the given ones on which the predicates of the
+/// element have their truths.
+pub(crate) fn stores_behind(
+    alloc: Global,
+    cfa: &Cfa,
+    edge: &Edge,
+    elem: &Elem,
+    stores: &[Store],
+) -> Result<Vec<Store>, AllocError>
+    ensures { IfOk result (λ found.
+        AllByRecursion (IsAfter cfa.now elem.now edge.now) found.items) }
+{
+    let mut found = Vec::new(alloc);
+    for store in stores {
+        if let Some(new) = behind(alloc, cfa, edge, elem, store)? {
+            found.push(new)?;
+        }
+    }
+    Ok(found)
+}
+
+/// Whether the expression has not this truth on one of the stores.
+pub(crate) fn some_lacks(p: &Expr, holds: bool, stores: &[Store]) -> bool
+    ensures { IsTrue result → SomeLacks p.now holds stores.now }
+{
+    for store in stores {
+        if !has_truth(p, holds, store) {
+            return true;
+        }
+    }
+    false
+}
+
+/// Whether it is found that the edge leads nowhere from the stores on which the predicates of the
+/// element have their truths. Nothing is asked where a store is known to which it leads.
+pub(crate) fn leads_nowhere(
+    alloc: Global,
+    asker: &mut Asker,
+    _cfa: &Cfa,
+    _edge: &Edge,
+    _elem: &Elem,
+    form: &EdgeForm,
+    behind: &[Store],
+) -> Result<bool, AllocError>
+    requires step { IsStep _cfa.now _elem.now _edge.now form.now }
+    requires behind { AllByRecursion (IsAfter _cfa.now _elem.now _edge.now) behind.now }
+    ensures yes { IfOk result (λ never. IsTrue never → HasNoModel form.now.query) }
+    ensures no { IfOk result (λ never. never ≡ false → HasNoModel form.now.query
+        → IsUndecided asker.old asker.new form.now) }
+    ensures spends { Spends asker.old asker.new (IsBeyond asker.old form.now) }
+{
+    forms_are_runs();
+    steps_take_inputs();
+    match behind {
+        [_, ..] => Ok(false),
+        [] => is_never(alloc, asker, form),
+    }
+}
