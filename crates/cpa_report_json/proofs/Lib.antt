@@ -1,1 +1,4 @@
+pub mod Ascents
+pub mod Chains
+pub mod Parts
 pub mod Takings

@@ -1,3 +1,4 @@
 pub mod lemmas
+pub mod Fits
 pub mod Plain
 pub mod Taking

@@ -1,6 +1,6 @@
 -- JSON values whose compact text is read back: no float is in them, their numbers have 64 bits, and
 -- the keys of an object ascend (what serde_json keeps of a value).
-use Rattle.std.specs.Prelude.{◌≡◌, ℕ, ◌^◌, ◌<◌, pos, negsuc, ⊤}
+use Rattle.std.specs.Prelude.{◌≡◌, ◌^◌, ◌<◌, pos, negsuc, ⊤}
 use Rattle.serde_json.specs.Data.{Num, unsigned, negative, float, Data, null, boolean, number}
 use Rattle.serde_json.specs.Data.{string, array, object, Items, no_items, item, Members, no_members}
 use Rattle.serde_json.specs.Data.{member, put}

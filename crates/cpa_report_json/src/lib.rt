@@ -3,13 +3,19 @@
 //! compares. `onto` of `cpa_report_print` has the tokens, `specs/Taking.antt` the promise.
 #![tactic(auto)]
 
+mod entries;
+mod facts;
 mod fault;
 mod laws;
+mod lines;
 mod lists;
 mod numbers;
+mod reports;
 mod steps;
+mod values;
 
 pub use fault::ReadFault;
 pub use laws::texts_are_read_back;
 pub use lists::{FromJson, take_list, take_member};
+pub use reports::take_report;
 pub use steps::{close_list, close_object, open_list, open_object, take_number, take_text};

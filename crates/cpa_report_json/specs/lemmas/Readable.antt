@@ -1,5 +1,5 @@
 -- The compact text of a plain value is read by serde_json as that value.
-use Rattle.std.proofs.Common.{◌≡◌, suc, ◌≤◌, max, pos, negsuc, [], ◌++◌, Some, option_map}
+use Rattle.std.proofs.Common.{◌≡◌, suc, ◌≤◌, max, pos, negsuc, [], Some, option_map}
 use Rattle.std.proofs.Common.{refl, sym, ap, ap₂, ◌∙◌, append-nil, arith}
 use Rattle.json.specs.Lex.{tokens}
 use Rattle.json.specs.Json as json
@@ -11,7 +11,7 @@ use Rattle.json.proofs.Printed.Trees.{value-json_tokens, ArePrintable-json_token
 use Rattle.serde_json.specs.Data.{Num, unsigned, negative, float, Data, null, boolean, number}
 use Rattle.serde_json.specs.Data.{string, array, object, Items, no_items, item, Members, no_members}
 use Rattle.serde_json.specs.Data.{member, put, depth, items_depth, members_depth}
-use Rattle.serde_json.specs.Read.{number_of, of_json, of_items, of_members, max_depth, read}
+use Rattle.serde_json.specs.Read.{of_json, of_items, of_members, max_depth, read}
 use Rattle.serde_json.specs.Written.{outline, items_outline, members_outline, compact_text}
 use Rattle.serde_json.proofs.Numbers.{number_of-decimal, number_of-negative}
 use Rattle.serde_json.proofs.Texts.{print-outline}

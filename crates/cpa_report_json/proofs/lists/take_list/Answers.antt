@@ -1,5 +1,4 @@
-use Rattle.std.proofs.Common.{◌≡◌, ◌++◌, ◌∷◌, ◌∙◌, List, [], ap, sym, length, arith}
-use Rattle.std.specs.List.{AllByRecursion}
+use Rattle.std.proofs.Common.{◌∙◌, List, ap, length, arith}
 use Rattle.json.specs.Token.{Token}
 use Rattle.cpa_report_json.proofs.Takings.{begun, ended, next, taken, rest_of, one_fits_more}
 use Rattle.cpa_report_json.proofs.lists.take_list.Goals as goal

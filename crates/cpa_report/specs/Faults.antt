@@ -1,0 +1,62 @@
+-- What a text is as a report of a program, and which rule it breaks (this project's own). The rules
+-- are tried in the order P1, P6, P2, P3, P5, P4.
+use Rattle.std.specs.Prelude.{◌≡◌, ℕ, ◌==◌, false, List, ◌++◌, Some, IsUtf8, ⊤}
+use Rattle.std.specs.List.{list_any}
+use Rattle.serde_json.specs.Data.{Data}
+use Rattle.serde_json.specs.Read.{read}
+use Rattle.cpa_model.specs.declared.automaton.Cfa.{Cfa}
+use Rattle.cpa_report_json.specs.Fits.{IsLow, ReportFitsBy}
+use Rattle.cpa_report_print.specs.Reports.{report_text, verdict_of, verdict_words, with_feed}
+use Rattle.cpa_report_print.specs.declared.report.Report.{Report}
+use Rattle.cpa_report_print.specs.declared.report.Verdict.{Verdict}
+use Rattle.cpa_report.specs.Ranges.{Counts, IsBodyIn}
+use Rattle.cpa_report.specs.declared.fault.ReportError.{ReportError}
+use Rattle.cpa_report.specs.declared.fault.ReportError.TheVariants as error
+use Rattle.cpa_report.specs.declared.fault.ReportRule.{ReportRule}
+use Rattle.cpa_report.specs.declared.fault.ReportRule.TheVariants.{P1, P2, P3, P4, P5, P6}
+
+-- the text is the line of the verdict and one line more
+pub record IsLined (text : List ℕ) (verdict : Verdict) (line : List ℕ) : Type 0 where
+  pub spelled : text ≡ with_feed (verdict_words verdict) ++ with_feed line
+  pub one : list_any (λ b. b == 10) line ≡ false
+
+-- the line is JSON that serde_json reads
+pub record IsJson (line : List ℕ) : Type 0 where
+  pub utf8 : IsUtf8 line
+  pub value : Data
+  pub read : read line ≡ Some value
+
+-- the text is that of the report, which is of the verdict
+pub record IsTold (text : List ℕ) (verdict : Verdict) (r : Report) : Type 0 where
+  pub fit : ReportFitsBy IsLow r
+  pub kind : verdict_of r.body ≡ verdict
+  pub spelled : text ≡ report_text r
+
+-- and it speaks of the program
+pub record IsFound (text : List ℕ) (cfa : Cfa) (verdict : Verdict) (r : Report) : Type 0 where
+  pub told : IsTold text verdict r
+  pub counts : Counts cfa r
+  pub inside : IsBodyIn cfa r.body
+
+abbrev pub Breaks : List ℕ → Cfa → Verdict → ReportRule → Type 0
+-- it has not the form of two lines
+Breaks text cfa take P1 = (verdict : Verdict) (line : List ℕ) → IsLined text verdict line → ⊥
+-- its verdict is another
+Breaks text cfa take P6 =
+    (verdict : Verdict) × (line : List ℕ) × IsLined text verdict line × (verdict ≡ take → ⊥)
+-- its second line is no JSON
+Breaks text cfa take P2 = (line : List ℕ) × IsLined text take line × (IsJson line → ⊥)
+-- it is the text of no report
+Breaks text cfa take P3 =
+    (line : List ℕ) × IsLined text take line × IsJson line
+    × ((r : Report) → IsTold text take r → ⊥)
+-- it is that of a report with other counts than the program's
+Breaks text cfa take P5 = (r : Report) × IsTold text take r × (Counts cfa r → ⊥)
+-- it is that of a report which names what the program lacks
+Breaks text cfa take P4 =
+    (r : Report) × IsTold text take r × Counts cfa r × (IsBodyIn cfa r.body → ⊥)
+
+-- want of memory says nothing
+abbrev pub IsRefused : List ℕ → Cfa → Verdict → ReportError → Type 0
+IsRefused text cfa take (error.Fault rule) = Breaks text cfa take rule
+IsRefused text cfa take error.OutOfMemory = ⊤

@@ -1,0 +1,104 @@
+//! A report from its text, or the first rule that the text breaks.
+ghost use Rattle.std.specs.Prelude.{◌≡◌, ◌↔◌, IsTrue, IfOk, IfErr, MatchOption, MatchBool, List, ℕ};
+ghost use Rattle.cpa_report.specs.Faults.{IsLined, IsJson, IsTold, IsFound, Breaks, IsRefused};
+ghost use Rattle.cpa_report.specs.declared.fault.ReportRule.TheVariants as rule;
+ghost use Rattle.cpa_report_print.specs.declared.report.Report.{Report as AReport};
+ghost use Rattle.cpa_report_print.specs.declared.report.Verdict.{Verdict as AVerdict};
+
+use crate::fault::{ReportError, ReportRule};
+use crate::ranges::{has_counts, is_body_in};
+use crate::telling::told;
+use cpa_model::Cfa;
+use cpa_report_print::{Report, Verdict};
+use serde_json::Value;
+use std::alloc::{AllocError, Global};
+
+/// The end of a line.
+const FEED: u8 = b'\n';
+
+/// Every verdict.
+const VERDICTS: [Verdict; 8] = [
+    Verdict::True,
+    Verdict::False,
+    Verdict::Turns,
+    Verdict::Rounds,
+    Verdict::Learnt,
+    Verdict::Gates,
+    Verdict::NoNew,
+    Verdict::Proof,
+];
+
+/// The line behind that of the verdict, where the text is these two.
+fn line_behind(text: &[u8], verdict: Verdict) -> Option<&[u8]>
+    ensures { MatchOption result ((line : List ℕ) → IsLined text.now verdict line → ⊥)
+        (λ line. IsLined text.now verdict line.now) }
+{
+    let behind = text.strip_prefix(verdict.words().as_bytes())?;
+    let line = behind.strip_prefix(b"\n")?.strip_suffix(b"\n")?;
+    if line.contains(&FEED) {
+        None
+    } else {
+        Some(line)
+    }
+}
+
+/// Whether the text is the line of some verdict and one line more.
+fn has_verdict(text: &[u8]) -> bool
+    ensures yes { IsTrue result → (verdict : AVerdict) × (line : List ℕ)
+        × IsLined text.now verdict line }
+    ensures no { (verdict : AVerdict) (line : List ℕ) → IsLined text.now verdict line
+        → IsTrue result }
+{
+    for verdict in VERDICTS {
+        if line_behind(text, verdict).is_some() {
+            return true;
+        }
+    }
+    false
+}
+
+/// Whether the line is JSON that `serde_json` reads.
+fn is_json(alloc: Global, line: &[u8]) -> Result<bool, AllocError>
+    ensures { IfOk result (λ is. IsTrue is ↔ IsJson line.now) }
+{
+    match Value::from_slice(alloc, line) {
+        Ok(_) => Ok(true),
+        Err(error) if error.is_memory() => Err(AllocError),
+        Err(_) => Ok(false),
+    }
+}
+
+/// The report of the verdict whose text it is, which speaks of the program: no other report has
+/// this text. Else the first rule that the text breaks.
+///
+/// Time is linear in the text's length but for sorted clauses. Where the text is no report's, a
+/// value of `serde_json` is made of its second line.
+pub fn read(alloc: Global, text: &[u8], cfa: &Cfa, take: Verdict) -> Result<Report, ReportError>
+    ensures found { IfOk result (IsFound text.now cfa.now take) }
+    ensures one { IfOk result (λ r. (s : AReport) → IsTold text.now take s → s ≡ r) }
+    ensures refused { IfErr result (IsRefused text.now cfa.now take) }
+{
+    let Some(line) = line_behind(text, take) else {
+        let rule = if has_verdict(text) {
+            ReportRule::P6
+        } else {
+            ReportRule::P1
+        };
+        return Err(ReportError::Fault(rule));
+    };
+    let Some(report) = told(alloc, text, line, take)? else {
+        let rule = if is_json(alloc, line)? {
+            ReportRule::P3
+        } else {
+            ReportRule::P2
+        };
+        return Err(ReportError::Fault(rule));
+    };
+    if !has_counts(&report, cfa) {
+        return Err(ReportError::Fault(ReportRule::P5));
+    }
+    if !is_body_in(&report.body, cfa) {
+        return Err(ReportError::Fault(ReportRule::P4));
+    }
+    Ok(report)
+}
