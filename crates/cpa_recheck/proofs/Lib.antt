@@ -1,0 +1,4 @@
+mod Asked
+mod Stacked
+mod Broken
+mod Shown
