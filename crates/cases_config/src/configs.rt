@@ -62,12 +62,20 @@ fn names_of(alloc: Global, row: &str) -> Result<Vec<String>, AllocError> {
     Ok(names)
 }
 
-/// The configuration of a written text for these names, or its refusal.
-pub(crate) fn answer(alloc: Global, names: &str, row: &str) -> Result<String, AllocError> {
+/// The configuration, for these names, of a comment of so many bytes `#` and a written text behind
+/// it, or its refusal.
+pub(crate) fn answer(
+    alloc: Global,
+    names: &str,
+    comment: usize,
+    row: &str,
+) -> Result<String, AllocError> {
     let names = names_of(alloc, names)?;
-    let Some(text) = bytes_of(alloc, row)? else {
+    let Some(written) = bytes_of(alloc, row)? else {
         return String::from_str(alloc, "no text");
     };
+    let mut text = vec![in alloc; b'#'; comment]?;
+    text.extend_from_slice(&written)?;
     match cpa_config::read(alloc, &text, &names) {
         Ok(config) => line_of(alloc, &config),
         Err(ConfigError::Fault(fault)) => format!(in alloc; "{fault}"),

@@ -9,15 +9,25 @@ use std::alloc::{AllocError, Global};
 use std::io;
 use std::io::{BufRead, BufReader};
 
-/// The answer to a row: `config`, the names of the handed analyses, `|` and the text.
+/// The answer to a row: `config` or `comment N`, the names of the handed analyses, `|` and the text,
+/// which in a row of the second form stands behind a comment of N bytes.
 fn answer(alloc: Global, row: &str) -> Result<String, AllocError> {
-    match row.split_once(" |") {
-        Some((front, text)) => match front.split_once(' ').unwrap_or((front, "")) {
-            ("config", names) => configs::answer(alloc, names, text),
-            _ => String::from_str(alloc, "no row"),
-        },
-        None => String::from_str(alloc, "no row"),
+    if let Some((front, text)) = row.split_once(" |") {
+        let (word, rest) = first_word(front);
+        if word == "config" {
+            return configs::answer(alloc, rest, 0, text);
+        }
+        let (count, names) = first_word(rest);
+        if let ("comment", Ok(bytes)) = (word, count.parse::<usize>()) {
+            return configs::answer(alloc, names, bytes, text);
+        }
     }
+    String::from_str(alloc, "no row")
+}
+
+/// A text up to its first blank, and what stands behind it.
+fn first_word(text: &str) -> (&str, &str) {
+    text.split_once(' ').unwrap_or((text, ""))
 }
 
 /// Whether a line is a heading of rows, or nothing.

@@ -6,6 +6,7 @@ mod expression_rows;
 mod number_rows;
 mod operator_rows;
 mod row;
+mod text_rows;
 
 use cases_reader::RowFault;
 use std::alloc::{AllocError, Global};

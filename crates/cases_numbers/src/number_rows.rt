@@ -1,9 +1,11 @@
 //! Rows on numbers and types: what the public calls of `cpa_ints` answer.
 //! Proved safe by the checker alone.
 
-use cases_reader::{RowFault, TYPES, next_number, next_type, push_number, push_word, yes_or_no};
+use cases_reader::{
+    RowFault, TYPES, next_number, next_type, next_word, push_number, push_word, yes_or_no,
+};
 use cpa_expr::type_word;
-use cpa_ints::{common, promote, wrap};
+use cpa_ints::{DataModel, common, promote, wrap};
 use std::str::SplitWhitespace;
 
 /// The answer of a row on types and numbers, where the word names one.
@@ -18,6 +20,7 @@ pub fn answer(
         "commons" => commons(out, words)?,
         "limits" => limits(out, words)?,
         "contains" => contains(out, words)?,
+        "longs" => longs(out, words)?,
         _ => return Ok(false),
     }
     Ok(true)
@@ -62,4 +65,15 @@ fn contains(out: &mut String, words: &mut SplitWhitespace<'_>) -> Result<(), Row
     let ty = next_type(words)?;
     let number = next_number(words)?;
     Ok(push_word(out, yes_or_no(ty.contains(number)))?)
+}
+
+/// `longs M`: the types `long` and `unsigned long` of the data model `lp64` or `ilp32`.
+fn longs(out: &mut String, words: &mut SplitWhitespace<'_>) -> Result<(), RowFault> {
+    let model = match next_word(words)? {
+        "lp64" => DataModel::Lp64,
+        "ilp32" => DataModel::Ilp32,
+        _ => return Err(RowFault::Unreadable),
+    };
+    push_word(out, type_word(model.long()))?;
+    Ok(push_word(out, type_word(model.ulong()))?)
 }

@@ -1,13 +1,16 @@
 //! A row: the word of its call, what the call takes, and behind colons the expressions that it is
-//! asked of.
+//! asked of, or behind a bar a text.
 
-use crate::{expression_rows, number_rows, operator_rows};
+use crate::{expression_rows, number_rows, operator_rows, text_rows};
 use cases_reader::{RowFault, end_row, next_word};
 use std::alloc::Global;
 
 /// The answer of a row, its words each behind a space.
 pub fn answer(alloc: Global, row: &str) -> Result<String, RowFault> {
     let mut out = String::new(alloc);
+    if text_rows::answer(alloc, &mut out, row)? {
+        return Ok(out);
+    }
     let mut parts = row.split(':');
     let mut words = parts.next().unwrap_or("").split_whitespace();
     let word = next_word(&mut words)?;

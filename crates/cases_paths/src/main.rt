@@ -1,10 +1,17 @@
-//! Prints each row of the standard input with what comes of the path that it asks for. README.md
-//! says how the wanted answers were made.
+//! Prints each row of the standard input with what it asks of a program: replays, facts, edges and
+//! paths. README.md says how the wanted answers were made.
 #![tactic(auto)]
 
+mod additions;
+mod asking;
+mod edge_rows;
+mod facts;
 mod folding;
 mod judging;
+mod path_rows;
+mod replay_rows;
 mod rows;
+mod runs;
 
 use cases_programs::Table;
 use std::io::{self, BufRead, BufReader, BufWriter, Write};

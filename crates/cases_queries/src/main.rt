@@ -2,10 +2,14 @@
 //! is proved of a row but that its answer comes: what is right, the file `stdout` says.
 #![tactic(auto)]
 
+mod clause_rows;
+mod formulas;
 mod operator_rows;
 mod queries;
 mod query_rows;
 mod row;
+mod search_rows;
+mod words;
 
 use cases_reader::RowFault;
 use std::alloc::{AllocError, Global};

@@ -1,7 +1,7 @@
-//! A row: the word of its call and what the call takes, and behind colons expressions.
-//! Proved safe by the checker alone.
+//! A row: the word of its call and what the call takes, and behind colons expressions, clauses,
+//! formulas and lines. Proved safe by the checker alone.
 
-use crate::{operator_rows, query_rows};
+use crate::{clause_rows, operator_rows, query_rows, search_rows};
 use cases_reader::{RowFault, next_word};
 use std::alloc::Global;
 
@@ -12,7 +12,9 @@ pub fn answer(alloc: Global, row: &str) -> Result<String, RowFault> {
     let mut words = parts.next().unwrap_or("").split_whitespace();
     let word = next_word(&mut words)?;
     let known = operator_rows::answer(alloc, &mut out, word, &mut words)?
-        || query_rows::answer(alloc, &mut out, word, &mut words, &mut parts)?;
+        || query_rows::answer(alloc, &mut out, word, &mut words, &mut parts)?
+        || clause_rows::answer(alloc, &mut out, word, &mut words, &mut parts)?
+        || search_rows::answer(alloc, &mut out, word, &mut words, &mut parts)?;
     if !known || parts.next().is_some() {
         return Err(RowFault::Unreadable);
     }

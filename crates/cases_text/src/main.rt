@@ -2,9 +2,14 @@
 //! safety alone; what the answers must be is `stdout`, which README.md says how it was made.
 #![tactic(auto)]
 
+mod checks;
+mod programs;
+mod spelling;
 mod tokens;
 mod trees;
+mod words;
 
+use programs::Spelled;
 use std::alloc::{AllocError, Global};
 use std::io;
 use std::io::{BufRead, BufReader};
@@ -15,6 +20,12 @@ fn answer(alloc: Global, row: &str) -> Result<String, AllocError> {
     match row.split_once(' ').unwrap_or((row, "")) {
         ("tokens", text) => tokens::answer(alloc, text),
         ("tree", text) => trees::answer(alloc, text),
+        ("check", text) => checks::soundness(alloc, text),
+        ("type", expression) => checks::expression_type(alloc, expression),
+        ("start", declaration) => checks::first_start(alloc, declaration),
+        ("cells", text) => checks::cells(alloc, text),
+        ("core", text) => programs::program(alloc, text, Spelled::Statements),
+        ("edges", text) => programs::program(alloc, text, Spelled::Edges),
         _ => String::from_str(alloc, "no row"),
     }
 }

@@ -1,12 +1,12 @@
 //! The start of the program: the words of the command line, the analyses and the outside, handed to
-//! the top call. Apart from `main`, so that a second program can show how a refusal ends.
+//! the top call. Apart from `main`, so that rows can show what the program answers to many words.
 #![tactic(auto)]
 
 use cpa_callstack::Callstack;
 use cpa_composite::Handed;
 use cpa_iface::{Location, Plain};
 use cpa_interval::Interval;
-use cpa_outside::{FileInputs, StdoutSink, write_whole};
+use cpa_outside::{FileInputs, Sink, StdoutSink, write_whole};
 use cpa_top::{Status, run};
 use cpa_value::Value;
 use std::alloc::{AllocError, Global};
@@ -42,13 +42,13 @@ fn refuse_memory<R: Print>(out: &mut StdoutSink<R>) -> ExitCode {
     }
 }
 
-/// What the top call answers to the command line, over the files of the system.
-fn answer<R: Threads + Sync + Env + Files + Print + AllocGlobal>(
+/// The status of what the top call answers to these words, over the files of the system.
+pub fn answer<R: Threads + Sync + Files + AllocGlobal, K: Sink>(
     rt: &R,
-    out: &mut StdoutSink<R>,
+    words: Vec<String>,
+    out: &mut K,
 ) -> Result<u8, AllocError> {
     let alloc = rt.alloc();
-    let words = words(rt)?;
     let mut analyses = Vec::new(alloc);
     analyses.push(Handed {
         analysis: Box::new(alloc, Plain(Location))?,
@@ -66,11 +66,20 @@ fn answer<R: Threads + Sync + Env + Files + Print + AllocGlobal>(
     Ok(run(rt, alloc, words, analyses, &mut inputs, out))
 }
 
+/// The status of the command line's answer.
+fn answer_to_words<R: Threads + Sync + Env + Files + Print + AllocGlobal>(
+    rt: &R,
+    out: &mut StdoutSink<R>,
+) -> Result<u8, AllocError> {
+    let words = words(rt)?;
+    answer(rt, words, out)
+}
+
 /// Does what the command line asks, over the files of the system and its standard output, and gives
 /// the status.
 pub fn start<R: Threads + Sync + Env + Files + Print + AllocGlobal>(rt: &R) -> ExitCode {
     let mut out = StdoutSink::new(rt);
-    match answer(rt, &mut out) {
+    match answer_to_words(rt, &mut out) {
         Ok(status) => ExitCode::from(status),
         Err(AllocError) => refuse_memory(&mut out),
     }
