@@ -1,2 +1,4 @@
 pub mod SourceFacts
 mod Tables
+pub mod KindFacts
+pub mod HashFacts

@@ -1,3 +1,5 @@
 pub mod Spelling
 pub mod Symbols
+pub mod Kinds
+pub mod Hashes
 pub mod Sources

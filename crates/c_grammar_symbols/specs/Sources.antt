@@ -12,7 +12,9 @@ use Rattle.c_grammar_symbols.specs.declared.words.Terminal.{Terminal}
 use Rattle.c_grammar_symbols.specs.contracts.words.Terminal as terminal
 use Rattle.c_grammar_symbols.specs.declared.symbol.Symbol.{Symbol}
 use Rattle.c_grammar_symbols.specs.declared.symbol.Symbol.TheVariants as symbol
+use Rattle.c_grammar_symbols.specs.declared.kind.SymbolKind.{SymbolKind}
 use Rattle.c_grammar_symbols.specs.Symbols.{Leaf, symbol_of}
+use Rattle.c_grammar_symbols.specs.Kinds.{kinds_of}
 
 -- the end, which stands wherever no token does
 abbrev pub nowhere : Leaf
@@ -27,6 +29,11 @@ pub record IsSource (text : List ℕ) (tokens : List Token) : Type 0 where
   pub within : (i : ℕ) (token : Token) → slice_get tokens i ≡ Some token →
       (token.from ≤ token.to) × (token.to ≤ length text)
   pub ends : EndsOnce text tokens
+
+-- what stands beside the tokens is the kinds of their symbols
+pub record IsKept (text : List ℕ) (tokens : List Token) (kinds : List SymbolKind) : Type 0 where
+  pub source : IsSource text tokens
+  pub kinds_are : kinds ≡ kinds_of text tokens
 
 -- two terminals are one
 abbrev pub same_terminal : Terminal → Terminal → Bool

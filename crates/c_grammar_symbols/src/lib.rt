@@ -2,7 +2,9 @@
 //! reader sees them.
 #![tactic(auto)]
 
+mod kind;
 mod laws;
+mod lookup;
 mod operators;
 mod source;
 mod symbol;

@@ -1,45 +1,56 @@
 //! The tokens of a text as a reader sees them: symbols, bytes and places by number. Contracts see
-//! them as the list of `Leaf`s.
-ghost use Rattle.std.specs.Prelude.{◌≡◌, ◌≢◌, ◌+◌, ◌<◌, ◌≤◌, length, Some, IsTrue, MatchResult};
+//! them as the list of `Leaf`s. The symbol of each token is found once and kept beside it, since a
+//! reader asks for it at each level of the grammar.
+ghost use Rattle.std.specs.Prelude.{◌≡◌, ◌≢◌, ◌+◌, ◌<◌, ◌≤◌, length, Some, IsTrue, IfOk};
+ghost use Rattle.std.specs.Prelude.{MatchResult};
 ghost use Rattle.std.specs.List.{slice_get};
 ghost use Rattle.c_lexer.specs.Lexemes.{bytes_at};
+ghost use Rattle.c_grammar_symbols.specs.Kinds.{kind_of, kinds_of};
 ghost use Rattle.c_grammar_symbols.specs.Symbols.{symbol_of, leaves};
-ghost use Rattle.c_grammar_symbols.specs.Sources.{leaf_at, is, is_terminal, IsSource, GoesOn};
+ghost use Rattle.c_grammar_symbols.specs.Sources.{leaf_at, is, IsSource, GoesOn};
 ghost use Rattle.c_grammar_symbols.specs.Sources.{Takes, Lacks};
 ghost use Rattle.c_grammar_symbols.specs.declared.symbol.Symbol.TheVariants.{End};
 
+use crate::kind::SymbolKind;
 use crate::symbol::{Symbol, classify};
 use crate::words::Terminal;
 use c_grammar_forms::ReadError;
 use c_lexer::Token;
+use std::alloc::{AllocError, Global};
 use std::marker::Model;
 
-/// The tokens of a text, with the text.
+/// The tokens of a text, with the text and what the tokens stand for.
 #[derive(Drop)]
 pub struct Source<'a> {
     text: &'a [u8],
     tokens: &'a [Token],
+    kinds: Vec<SymbolKind>,
 }
 
 impl<'a> Model for Source<'a> {
     ghost use Rattle.std.specs.Prelude.{List};
     ghost use Rattle.c_grammar_symbols.specs.Symbols.{Leaf, leaves};
-    ghost use Rattle.c_grammar_symbols.specs.Sources.{IsSource};
+    ghost use Rattle.c_grammar_symbols.specs.Sources.{IsKept};
 
     ghost Value = { List Leaf };
 
     ghost view = { λ s. leaves s.text.now s.tokens.now };
 
-    ghost invariant = { λ s. IsSource s.text.now s.tokens.now };
+    ghost invariant = { λ s. IsKept s.text.now s.tokens.now s.kinds.items };
 }
 
 impl<'a> Source<'a> {
-    /// The tokens of this text.
-    pub fn new(text: &'a [u8], tokens: &'a [Token]) -> Source<'a>
+    /// The tokens of this text. One pass; two bytes of memory for each token.
+    pub fn new(alloc: Global, text: &'a [u8], tokens: &'a [Token]) -> Result<Source<'a>, AllocError>
         requires { IsSource text.now tokens.now }
-        ensures { result ≡ leaves text.now tokens.now }
+        ensures { IfOk result (λ source. source ≡ leaves text.now tokens.now) }
     {
-        Source { text, tokens }
+        let kinds = kinds_of(alloc, text, tokens)?;
+        Ok(Source {
+            text,
+            tokens,
+            kinds,
+        })
     }
 
     /// What the token at this place stands for.
@@ -48,7 +59,27 @@ impl<'a> Source<'a> {
         ensures value { result ≡ symbol_of (leaf_at self.now at) }
         ensures more { result ≢ End → GoesOn self.now at }
     {
+        match self.kind_at(at).symbol() {
+            Some(symbol) => symbol,
+            None => self.classified_at(at),
+        }
+    }
+
+    /// The kind of the symbol of the token at this place.
+    fn kind_at(&self, at: usize) -> SymbolKind
+        requires { at < length self.now }
+        ensures value { result ≡ kind_of (symbol_of (leaf_at self.now at)) }
+        ensures more { symbol_of (leaf_at self.now at) ≢ End → GoesOn self.now at }
+    {
         let _count = self.tokens.len();
+        self.kinds[at]
+    }
+
+    /// What the token at this place stands for, found from its bytes.
+    fn classified_at(&self, at: usize) -> Symbol
+        requires { at < length self.now }
+        ensures { result ≡ symbol_of (leaf_at self.now at) }
+    {
         let token = token_at(self.tokens, at);
         classify(token.kind, bytes_of(self.text, token))
     }
@@ -75,7 +106,7 @@ impl<'a> Source<'a> {
         ensures value { result ≡ is terminal (leaf_at self.now at) }
         ensures more { IsTrue result → GoesOn self.now at }
     {
-        is_terminal(terminal, self.symbol(at))
+        self.kind_at(at).is_terminal(terminal)
     }
 
     /// The place behind this terminal, which is to stand here.
@@ -91,14 +122,17 @@ impl<'a> Source<'a> {
     }
 }
 
-/// Whether the symbol is this terminal.
-fn is_terminal(terminal: Terminal, symbol: Symbol) -> bool
-    ensures { result ≡ is_terminal terminal symbol }
+/// The kind of each token's symbol, in order.
+fn kinds_of(alloc: Global, text: &[u8], tokens: &[Token]) -> Result<Vec<SymbolKind>, AllocError>
+    requires { IsSource text.now tokens.now }
+    ensures { IfOk result (λ kinds. kinds.items ≡ kinds_of text.now tokens.now) }
 {
-    match symbol {
-        Symbol::Terminal(found) => found == terminal,
-        _ => false,
+    let mut kinds = Vec::with_capacity(alloc, tokens.len())?;
+    for token in tokens {
+        let symbol = classify(token.kind, bytes_of(text, *token));
+        kinds.push(SymbolKind::of(symbol))?;
     }
+    Ok(kinds)
 }
 
 /// The token at this place.

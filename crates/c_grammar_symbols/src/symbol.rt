@@ -1,9 +1,9 @@
 //! What a token stands for in the grammar: `symbol_of` of `specs/Symbols.antt`.
 //! Proved by the checker alone.
 ghost use Rattle.std.specs.Prelude.{◌≡◌};
-ghost use Rattle.c_grammar_symbols.specs.Symbols.{spelling_of, word_spelled, mark_spelled};
-ghost use Rattle.c_grammar_symbols.specs.Symbols.{symbol_spelled};
+ghost use Rattle.c_grammar_symbols.specs.Symbols.{spelling_of, symbol_spelled};
 
+use crate::lookup::{mark_spelled, word_spelled};
 use crate::operators::{AssignmentOperator, BinaryOperator, StepOperator};
 use crate::words::{OutsideWord, SpecifierWord, StorageWord, StrayMark, Terminal, TypeWord};
 use c_lexer::TokenKind;
@@ -158,28 +158,6 @@ pub fn spelling(symbol: Symbol) -> &'static [u8]
         | Symbol::Character { .. }
         | Symbol::Text => b"",
     }
-}
-
-/// The word of the table that is spelled so.
-#[tactic(auto, unfolding(crate::specs::Symbols::word_spelled))]
-fn word_spelled(bytes: &[u8]) -> Option<Symbol>
-    ensures { result ≡ word_spelled bytes.now }
-{
-    WORDS
-        .iter()
-        .copied()
-        .find(|symbol| spelling(*symbol) == bytes)
-}
-
-/// The mark of the table that is spelled so.
-#[tactic(auto, unfolding(crate::specs::Symbols::mark_spelled))]
-fn mark_spelled(bytes: &[u8]) -> Option<Symbol>
-    ensures { result ≡ mark_spelled bytes.now }
-{
-    MARKS
-        .iter()
-        .copied()
-        .find(|symbol| spelling(*symbol) == bytes)
 }
 
 /// The symbol of a token of this kind that is spelled so.

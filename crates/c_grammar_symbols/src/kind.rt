@@ -1,0 +1,81 @@
+//! Symbols without the values of constants, which a source keeps in two bytes for each token.
+//! `kind_of` and `symbol_of_kind` are those of `specs/Kinds.antt`. Proved by the checker alone.
+ghost use Rattle.std.specs.Prelude.{◌≡◌};
+ghost use Rattle.c_grammar_symbols.specs.Kinds.{kind_of, symbol_of_kind, kind_is_terminal};
+
+use crate::operators::{AssignmentOperator, BinaryOperator, StepOperator};
+use crate::symbol::Symbol;
+use crate::words::{OutsideWord, SpecifierWord, StorageWord, StrayMark, Terminal, TypeWord};
+
+/// What a token stands for in the grammar, but for the type and the value of a constant.
+#[derive(Clone, Copy, PartialEq, Eq)]
+pub(crate) enum SymbolKind {
+    End,
+    Name,
+    /// An integer or a character constant.
+    Constant,
+    Text,
+    Terminal(Terminal),
+    Binary(BinaryOperator),
+    Assign(AssignmentOperator),
+    Step(StepOperator),
+    Storage(StorageWord),
+    Specifier(SpecifierWord),
+    TypeWord(TypeWord),
+    Outside(OutsideWord),
+    Stray(StrayMark),
+}
+
+impl SymbolKind {
+    /// The symbol without the value of a constant.
+    pub(crate) fn of(symbol: Symbol) -> SymbolKind
+        ensures { result ≡ kind_of symbol }
+    {
+        match symbol {
+            Symbol::End => SymbolKind::End,
+            Symbol::Name => SymbolKind::Name,
+            Symbol::Number { .. } | Symbol::Character { .. } => SymbolKind::Constant,
+            Symbol::Text => SymbolKind::Text,
+            Symbol::Terminal(terminal) => SymbolKind::Terminal(terminal),
+            Symbol::Binary(operator) => SymbolKind::Binary(operator),
+            Symbol::Assign(operator) => SymbolKind::Assign(operator),
+            Symbol::Step(operator) => SymbolKind::Step(operator),
+            Symbol::Storage(word) => SymbolKind::Storage(word),
+            Symbol::Specifier(word) => SymbolKind::Specifier(word),
+            Symbol::TypeWord(word) => SymbolKind::TypeWord(word),
+            Symbol::Outside(word) => SymbolKind::Outside(word),
+            Symbol::Stray(mark) => SymbolKind::Stray(mark),
+        }
+    }
+
+    /// The symbol, unless it is a constant.
+    pub(crate) fn symbol(self) -> Option<Symbol>
+        ensures { result ≡ symbol_of_kind self }
+    {
+        match self {
+            SymbolKind::Constant => None,
+            SymbolKind::End => Some(Symbol::End),
+            SymbolKind::Name => Some(Symbol::Name),
+            SymbolKind::Text => Some(Symbol::Text),
+            SymbolKind::Terminal(terminal) => Some(Symbol::Terminal(terminal)),
+            SymbolKind::Binary(operator) => Some(Symbol::Binary(operator)),
+            SymbolKind::Assign(operator) => Some(Symbol::Assign(operator)),
+            SymbolKind::Step(operator) => Some(Symbol::Step(operator)),
+            SymbolKind::Storage(word) => Some(Symbol::Storage(word)),
+            SymbolKind::Specifier(word) => Some(Symbol::Specifier(word)),
+            SymbolKind::TypeWord(word) => Some(Symbol::TypeWord(word)),
+            SymbolKind::Outside(word) => Some(Symbol::Outside(word)),
+            SymbolKind::Stray(mark) => Some(Symbol::Stray(mark)),
+        }
+    }
+
+    /// Whether it is this terminal.
+    pub(crate) fn is_terminal(self, terminal: Terminal) -> bool
+        ensures { result ≡ kind_is_terminal terminal self }
+    {
+        match self {
+            SymbolKind::Terminal(found) => found == terminal,
+            _ => false,
+        }
+    }
+}
