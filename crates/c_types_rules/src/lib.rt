@@ -6,6 +6,7 @@ mod counting;
 mod first;
 mod kinds;
 mod known;
+mod laws;
 mod meaning;
 mod parts;
 mod typed;
@@ -17,6 +18,7 @@ pub use kinds::{
     as_kind, binary_type, cast_kind, ends_kind, kind_of_words, unary_type, value_kind,
 };
 pub use known::{KNOWN, KnownFunction, known_function};
+pub use laws::{known_functions_are_found, limits};
 pub use meaning::{
     Constant, Declared, Entry, Form, Function, Kind, Meaning, Object, ParameterType, Part, Role,
 };

@@ -2,18 +2,18 @@
 use Rattle.c_parser.proofs.Whole.{whole, refused}
 use Rattle.c_parser.proofs.texts.parse.Goals as goal
 
-pub new-source-requires : goal.new-source-requires
-new-source-requires c =
+pub new-requires : goal.new-requires
+new-requires c =
     c.tokens_are_a_source.ensures c.args.text.now c.args.tokens.now c.requires
 
 pub returns-in-Ok-clause-tree : goal.returns-in-Ok-clause-tree
 returns-in-Ok-clause-tree c =
     whole c.args.text.now c.args.tokens.now (c.tokens_are_a_source.ensures _ _ c.requires)
-    _ c.in-Ok.end (rw c.new-source.ensures at c.in-Ok.ensures)
-    (rw c.new-source.ensures at c.place-length.ensures)
+    _ c.in-Ok.end (rw c.in_ok-source.ensures at c.in-Ok.ensures)
+    (rw c.in_ok-source.ensures at c.place-length.ensures)
 
 pub returns-in-Err-clause-fault : goal.returns-in-Err-clause-fault
 returns-in-Err-clause-fault c =
-    rw (c.fault_of.ensures, c.new-source.ensures)
+    rw (c.fault_of.ensures, c.in_ok-source.ensures)
     (refused c.args.text.now c.args.tokens.now (c.tokens_are_a_source.ensures _ _ c.requires)
-    c.in-Err.error (rw c.new-source.ensures at c.in-Err.ensures))
+    c.in-Err.error (rw c.in_ok-source.ensures at c.in-Err.ensures))
