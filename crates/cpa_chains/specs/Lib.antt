@@ -1,0 +1,4 @@
+pub mod Sides
+pub mod Partials
+pub mod Interpolants
+pub mod Tables
