@@ -139,7 +139,7 @@ safe : (cfa : Cfa) (cs : List Component) (config : Config) (a : Answer) (P : Pro
     → HaveApart cs Point → IsTrueOrTurns a
 safe cfa cs config (True entries) P is W of none has = tt
 safe cfa cs config (False inputs steps) P is W of none has =
-    let run = (is P W of).replay in absurd (none run.at.state.point run.comes.0)
+    let run = (is.calls P W of).replay in absurd (none run.at.state.point run.comes.0)
 safe cfa cs config (Unknown (Turns journal)) P is W of none has = tt
 safe cfa cs config (Unknown (Rounds path history)) P is W of none has =
     absurd (no_error_kept cfa cs config P path of none has is.refuted.kept)

@@ -1,19 +1,20 @@
 -- What a round comes to: the entries at its end are a proof (`done_proves`), and where turns are
 -- bounded they are not spent (`turns_spared`).
-use Rattle.std.proofs.Common.{◌≡◌, ℕ, ℤ, ◌+◌, ◌*◌, ◌-◌, ◌≤◌, Bool, true, false, List, [], ◌∷◌}
+use Rattle.std.proofs.Common.{◌≡◌, ℕ, ℤ, ◌+◌, ◌*◌, ◌-◌, ◌<◌, ◌≤◌, Bool, true, false, List, [], ◌∷◌}
 use Rattle.std.proofs.Common.{length, cond}
 use Rattle.std.proofs.Common.{refl, sym, ap, ◌∙◌, subst, inl, inr, ⊎_elim, arith}
-use Rattle.std.specs.Prelude.{◌||◌}
+use Rattle.std.specs.Prelude.{◌||◌, ◌⊎◌}
 use Rattle.std.specs.List.{list_any}
 use Rattle.std.proofs.lemmas.Bool.{cases_Bool}
 use Rattle.cpa_model.specs.declared.automaton.Cfa.{Cfa}
+use Rattle.cpa_model.specs.declared.automaton.Path.{Path}
 use Rattle.cpa_model.specs.declared.states.State.{State}
 use Rattle.cpa_model.specs.Automata.{initial_state}
 use Rattle.cpa_model.specs.Covers.{LiesInSome, CoversAutomaton}
 use Rattle.cpa_model.specs.Facts.{LiesIn}
-use Rattle.cpa_iface.specs.declared.analysis.Settings.{Settings}
 use Rattle.cpa_iface.specs.declared.entries.Entry.{Entry}
 use Rattle.cpa_composite.specs.Components.{Component}
+use Rattle.cpa_composite.specs.Laws.{SuggestionsStand}
 use Rattle.cpa_composite.specs.Ranks.{row_height}
 use Rattle.cpa_config.specs.declared.config.Config.{Config}
 use Rattle.cpa_reached.specs.Entries.{ReachedSet, waiting_numbers}
@@ -22,15 +23,19 @@ use Rattle.cpa_reached.specs.Successors.{CoversSuccessors}
 use Rattle.cpa_engine_turn.specs.Bounds.{turns_due}
 use Rattle.cpa_engine_turn.specs.Keys.{rows_of}
 use Rattle.cpa_engine_laws.specs.lemmas.Bounded.{waits_due}
+use Rattle.cpa_engine_laws.specs.Cells.{all_untracked}
 use Rattle.cpa_engine_rounds.specs.Errors.{NoneErr}
+use Rattle.cpa_engine_rounds.specs.Precisions.{HaveAll}
 use Rattle.cpa_engine_rounds.specs.lemmas.Safe.{safe_row}
 use Rattle.cpa_engine.specs.declared.answers.Answer.TheVariants.{True, False, Unknown}
 use Rattle.cpa_engine.specs.declared.answers.Why.{Why}
-use Rattle.cpa_engine.specs.declared.answers.Why.TheVariants.{Turns}
+use Rattle.cpa_engine.specs.declared.answers.Why.TheVariants.{Turns, Rounds, NoNew}
 use Rattle.cpa_engine.specs.declared.search.Search.{Search}
 use Rattle.cpa_engine.specs.Answers.{IsProof, IsAnswer}
 use Rattle.cpa_engine.specs.Decided.{IsTurns, IsRounds}
-use Rattle.cpa_engine.specs.Searches.{IsDone, IsSearch, IsSpared, AreLeft}
+use Rattle.cpa_engine.specs.Kept.{IsRefuted}
+use Rattle.cpa_engine.specs.Rounds.{LeadsToError}
+use Rattle.cpa_engine.specs.Searches.{IsDone, IsAllTaken, IsSearch, IsSpared, AreLeft, position}
 
 -- ---- what waits
 
@@ -102,17 +107,22 @@ covers_all cfa xs covers none safe = record {
       let e = row_of xs s lies in safe_row cfa e.0.elems s (safe e.0 e.1) e.2 error;
 }
 
-pub done_proves : (cfa : Cfa) (cs : List Component) (settings : Settings) (r : ReachedSet)
-    → IsDone cfa cs settings r → IsProof cfa cs r.live
-done_proves cfa cs settings r done = record {
-  covers = covers_all cfa r.live done.stands.covers done.none_wait done.none_err;
+pub done_proves : (cfa : Cfa) (cs : List Component) (config : Config) (s : Search)
+    → IsDone cfa cs config s → IsProof cfa cs config s.reached.live
+done_proves cfa cs config s done = record {
+  covers = covers_all cfa s.reached.live done.stands.covers done.none_wait done.none_err;
   shaped = done.stands.entries;
   ascend = done.ascend;
+  end = position s;
+  comes = done.comes;
+  are = refl;
+  none_wait = done.none_wait;
+  none_err = done.none_err;
 }
 
-pub done_spares : (cfa : Cfa) (cs : List Component) (config : Config) (r : ReachedSet)
-    → IsDone cfa cs config.settings r → IsSpared cfa cs config (True r.live)
-done_spares cfa cs config r done = record {
+pub done_spares : (cfa : Cfa) (cs : List Component) (config : Config) (s : Search)
+    → IsDone cfa cs config s → IsSpared cfa cs config (True s.reached.live)
+done_spares cfa cs config s done = record {
   keys = λ keys is enough turns. turns;
   states = λ states is enough turns. turns;
   listed = λ states is. (done.stands.pinned states is).0;
@@ -156,24 +166,82 @@ never_spent cfa cs count turns limit r left all enough waits =
     by room due rows turns limit left all enough one = omega (arith, left, all, enough, one)
 
 pub turns_spared : (cfa : Cfa) (cs : List Component) (config : Config) (s : Search)
-    → IsSearch cfa cs config s → length s.reached.journal ≡ config.turns
-    → (waiting_numbers s.reached.live ≡ [] → ⊥)
-    → IsSpared cfa cs config (Unknown (Turns s.reached.journal))
-turns_spared cfa cs config s search all waits = record {
-  keys = λ keys is enough turns. never_spent cfa cs (length keys) config.turns
-      (length keys * (1 + row_height cfa cs)) s.reached (search.stands.counted keys is).1 all enough
-      waits;
-  states = λ states is enough turns. never_spent cfa cs (length states) config.turns
-      (length states) s.reached (search.stands.pinned states is).1 all enough waits;
-  listed = λ states is. tt;
-  rounds = λ tell enough rounds. rounds;
-}
+    → IsAllTaken cfa cs config s → IsSpared cfa cs config (Unknown (Turns s.reached.journal))
+turns_spared cfa cs config s taken =
+    let stands = taken.within.stands in
+    record {
+      keys = λ keys is enough turns. never_spent cfa cs (length keys) config.turns
+          (length keys * (1 + row_height cfa cs)) s.reached (stands.counted keys is).1 taken.all
+          enough taken.waits;
+      states = λ states is enough turns. never_spent cfa cs (length states) config.turns
+          (length states) s.reached (stands.pinned states is).1 taken.all enough taken.waits;
+      listed = λ states is. tt;
+      rounds = λ tell enough rounds. rounds;
+    }
 
 pub turns_answer : (cfa : Cfa) (cs : List Component) (config : Config) (s : Search)
-    → IsSearch cfa cs config s → length s.reached.journal ≡ config.turns
-    → IsAnswer cfa cs config (Unknown (Turns s.reached.journal))
-turns_answer cfa cs config s search all = record {
-  all = all;
-  began = search.stands.began;
-  journal = search.stands.journal.journal;
+    → IsAllTaken cfa cs config s → IsAnswer cfa cs config (Unknown (Turns s.reached.journal))
+turns_answer cfa cs config s taken = record {
+  all = taken.all;
+  began = taken.within.stands.began;
+  journal = taken.within.stands.journal.journal;
+  end = position s;
+  comes = taken.within.comes;
+  are = refl;
+  waits = taken.waits;
+  none_err = taken.none_err;
 }
+
+-- ---- paths without a run
+
+pub rounds_answer : (cfa : Cfa) (cs : List Component) (config : Config) (s : Search) (path : Path)
+    → IsSearch cfa cs config s → LeadsToError cfa s.reached path
+    → IsRefuted cfa cs config.settings path → length s.history ≡ config.rounds
+    → IsAnswer cfa cs config (Unknown (Rounds path s.history))
+    × IsSpared cfa cs config (Unknown (Rounds path s.history))
+rounds_answer cfa cs config s path search leads refuted all = (
+  record {
+    refuted = refuted;
+    all = all;
+    newest = s.newest;
+    lead = search.came.lead;
+    end = position s;
+    found = record { comes = search.comes; leads = leads };
+    are = refl;
+  },
+  record {
+    keys = λ keys is enough turns. turns;
+    states = λ states is enough turns. turns;
+    listed = λ states is. tt;
+    rounds = λ tell enough rounds.
+        let few = search.came.cells tell in
+        absurd (too_few (length s.history) (all_untracked (length cfa.cells) s.newest)
+        (length cs * length cfa.cells) config.rounds few all enough);
+  },
+)
+  where
+    too_few : (made left most rounds : ℕ) → made + left ≤ most → made ≡ rounds → most < rounds → ⊥
+    too_few made left most rounds few all enough = omega (arith, few, all, enough)
+
+pub new_answer : (cfa : Cfa) (cs : List Component) (config : Config) (s : Search) (path : Path)
+    → IsSearch cfa cs config s → LeadsToError cfa s.reached path
+    → IsRefuted cfa cs config.settings path → SuggestionsStand cfa path cs s.newest
+    → length s.history < config.rounds → (s.again ≡ true) ⊎ HaveAll s.newest s.reached.live
+    → IsAnswer cfa cs config (Unknown (NoNew path s.newest))
+    × IsSpared cfa cs config (Unknown (NoNew path s.newest))
+new_answer cfa cs config s path search leads refuted stand fewer none_other = (
+  record {
+    refuted = refuted;
+    precisions = search.came.precisions;
+    stand = stand;
+    history = s.history;
+    lead = search.came.lead;
+    fewer = fewer;
+    end = position s;
+    found = record { comes = search.comes; leads = leads };
+    are = refl;
+    made = refl;
+    none_other = none_other;
+  },
+  why_spared cfa cs config (NoNew path s.newest) (λ none. none) (λ none. none),
+)

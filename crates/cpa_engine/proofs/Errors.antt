@@ -56,7 +56,14 @@ pub least_some : (cfa : Cfa) (r : ReachedSet) (o : Option ℕ) → IsNumbered r
 least_some cfa r None numbered is = tt
 least_some cfa r (Some n) numbered is =
     let at = some_errs cfa r.live n (sym is) in
-    record { numbered = numbered; entry = at.0; is_in = at.1; number = at.2; errs = at.3 }
+    record {
+      numbered = numbered;
+      least = sym is;
+      entry = at.0;
+      is_in = at.1;
+      number = at.2;
+      errs = at.3;
+    }
 
 pub least_none : (cfa : Cfa) (xs : List Entry) (o : Option ℕ) → o ≡ first_error cfa xs
     → IfNone o (NoneErr cfa xs)

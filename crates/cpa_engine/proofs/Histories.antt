@@ -21,16 +21,19 @@ use Rattle.cpa_iface.specs.Meanings.{Meaning}
 use Rattle.cpa_iface.specs.Pins.{MustBeExact}
 use Rattle.cpa_composite.specs.Components.{Component}
 use Rattle.cpa_composite.specs.Exact.{BindAll}
+use Rattle.cpa_composite.specs.Keys.{key_places}
 use Rattle.cpa_composite.specs.Laws.{InitialRow, RefinedRow}
 use Rattle.cpa_config.specs.declared.config.Config.{Config}
+use Rattle.cpa_reached.specs.Calls.{begun, indexed}
 use Rattle.cpa_reached.specs.Entries.{ReachedSet}
 use Rattle.cpa_engine_turn.specs.lemmas.Keyed.{there_is}
 use Rattle.cpa_engine_laws.specs.lemmas.Growing.{refined_falls, all_few}
 use Rattle.cpa_engine_rounds.specs.Errors.{NoneErrBelow}
 use Rattle.cpa_engine.specs.declared.search.Search.{Search}
-use Rattle.cpa_engine.specs.Answers.{IsRefuted, AreRefinements, newest_after, LeadTo}
-use Rattle.cpa_engine.specs.Kept.{IsExactRun}
-use Rattle.cpa_engine.specs.Searches.{Stands, CameBy, IsSearch, rounds_left}
+use Rattle.cpa_engine.specs.Answers.{AreRefinements, newest_after, LeadTo}
+use Rattle.cpa_engine.specs.Kept.{IsExactRun, IsRefuted}
+use Rattle.cpa_engine.specs.Rounds.{BeginsAgain, BeginsRefined, at_first, by_refinement, once_more}
+use Rattle.cpa_engine.specs.Searches.{Stands, CameBy, IsSearch, position, rounds_left}
 
 -- ---- a history with one refinement more
 
@@ -142,25 +145,31 @@ none_below cfa r e there less = absurd (omega (arith, less))
 pub refined_begins : (cfa : Cfa) (cs : List Component) (config : Config) (s : Search)
     (r : ReachedSet) (path : Path) (longer newest : List Precision) (history : List Refined)
     → IsSearch cfa cs config s → Stands cfa cs config.settings r → r.journal ≡ []
+    → BeginsRefined cfa cs config (position s)
+    (position (refined_search r longer (s.history ++ item path longer ∷ [])))
     → IsRefuted cfa cs config.settings path → RefinedRow cs cfa path s.newest longer
     → length s.history < config.rounds → newest ≡ longer
     → history ≡ s.history ++ item path longer ∷ []
     → IsSearch cfa cs config (refined_search r newest history) × (r.journal ≡ [])
     × (rounds_left config (refined_search r newest history) < rounds_left config s)
-refined_begins cfa cs config s r path longer newest history search stands none refuted row more
-    is_new is_more =
+refined_begins cfa cs config s r path longer newest history search stands none begins refuted row
+    more is_new is_more =
+    let longest = s.history ++ item path longer ∷ [] in
     let one = more_size s.history (item path longer) in
     let size : length history ≡ length s.history + 1 =
-    ap (λ (h : List Refined). length h) is_more ∙ one in (
-      record {
-        stands = stands;
-        came = subst (λ (ps : List Precision). CameBy cfa cs config (refined_search r ps history))
-            (sym is_new)
-            (subst (λ (h : List Refined). CameBy cfa cs config (refined_search r longer h))
-            (sym is_more) (refined_came cfa cs config s r path longer search.came refuted row
-            more));
-        checked = none_below cfa r;
-      },
+    ap (λ (h : List Refined). length h) is_more ∙ one in
+    let is : IsSearch cfa cs config (refined_search r longer longest) =
+    record {
+      stands = stands;
+      came = refined_came cfa cs config s r path longer search.came refuted row more;
+      comes = by_refinement (position s) (position (refined_search r longer longest)) search.comes
+          begins;
+      checked = none_below cfa r;
+    } in (
+      subst (λ (ps : List Precision). IsSearch cfa cs config (refined_search r ps history))
+          (sym is_new)
+          (subst (λ (h : List Refined). IsSearch cfa cs config (refined_search r longer h))
+          (sym is_more) is),
       none,
       fewer_rounds config.rounds (length history) (length s.history) (cond s.again 0 1) size more,
     )
@@ -172,32 +181,35 @@ again_search r s = record s { reached = r; again = true; checked = 0 }
 
 pub again_begins : (cfa : Cfa) (cs : List Component) (config : Config) (s : Search)
     (r : ReachedSet) → IsSearch cfa cs config s → Stands cfa cs config.settings r
-    → r.journal ≡ [] → s.again ≡ false
+    → r.journal ≡ [] → BeginsAgain cfa cs config (position s) (position (again_search r s))
     → IsSearch cfa cs config (again_search r s) × (r.journal ≡ [])
     × (rounds_left config (again_search r s) < rounds_left config s)
-again_begins cfa cs config s r search stands none first = (
-  record {
-    stands = stands;
-    came = record {
-      lead = search.came.lead;
-      within = search.came.within;
-      precisions = search.came.precisions;
-      binds = search.came.binds;
-      cells = search.came.cells;
-    };
-    checked = none_below cfa r;
-  },
-  none,
-  rw first (omega arith),
-)
+again_begins cfa cs config s r search stands none begins =
+    let first = begins.first in (
+      record {
+        stands = stands;
+        came = record {
+          lead = search.came.lead;
+          within = search.came.within;
+          precisions = search.came.precisions;
+          binds = search.came.binds;
+          cells = search.came.cells;
+        };
+        comes = once_more (position s) (position (again_search r s)) search.comes begins;
+        checked = none_below cfa r;
+      },
+      none,
+      rw first (omega arith),
+    )
 
 -- ---- before the first
 
 pub first_search : (cfa : Cfa) (cs : List Component) (config : Config) (r : ReachedSet)
     (es : List Elem) (newest : List Precision) → InitialRow cs cfa config.settings es newest
-    → Stands cfa cs config.settings r → (IsExactRun cs config.settings → BindAll cfa cs newest)
+    → r ≡ indexed (begun es newest) (key_places cs) → Stands cfa cs config.settings r
+    → (IsExactRun cs config.settings → BindAll cfa cs newest)
     → IsSearch cfa cs config (refined_search r newest [])
-first_search cfa cs config r es newest row stands binds = record {
+first_search cfa cs config r es newest row first stands binds = record {
   stands = stands;
   came = record {
     lead = record {
@@ -215,5 +227,7 @@ first_search cfa cs config r es newest row stands binds = record {
         let same = ap (λ (n : ℕ). n * length cfa.cells) row.precisions.size in
         omega (arith, few, same);
   };
+  comes = at_first (position (refined_search r newest []))
+      (record { elems = es; row = row; reached = first; history = refl; again = refl });
   checked = none_below cfa r;
 }

@@ -14,6 +14,7 @@ use Rattle.cpa_engine_turn.specs.Keys.{WidenBesideKeys}
 use Rattle.cpa_engine_laws.specs.Chains.{HaveApart, PointsChain, SitesChain, RunsToInput}
 use Rattle.cpa_engine_laws.specs.Lines.{PinStates}
 use Rattle.cpa_engine_laws.specs.Pairs.{ArePairs}
+use Rattle.cpa_path.specs.Paths.{HasNoRun}
 
 -- The components pin whole states, and the settings ask for each cell and no limit.
 pub record IsExactRun (cs : List Component) (settings : Settings) : Type 0 where
@@ -39,3 +40,9 @@ pub record IsKeptPath (cfa : Cfa) (cs : List Component) (settings : Settings) (p
   -- where all is exact, it has an input, and the edges before the first one are those of an
   -- execution
   pub inputs : IsExactRun cs settings → RunsToInput cfa path.edges
+
+-- A kept path along which there is no run.
+pub record IsRefuted (cfa : Cfa) (cs : List Component) (settings : Settings) (path : Path)
+    : Type 0 where
+  pub no_run : HasNoRun cfa path.edges
+  pub kept : IsKeptPath cfa cs settings path

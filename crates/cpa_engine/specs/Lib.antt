@@ -1,4 +1,5 @@
 pub mod Kept
+pub mod Rounds
 pub mod Answers
 pub mod Decided
 pub mod Searches

@@ -1,7 +1,7 @@
 -- What holds between turns, and what a part of a round comes to. Nothing here is promised to a
 -- caller.
 use Rattle.std.specs.Prelude.{◌≡◌, ℕ, ◌+◌, ◌*◌, ◌-◌, ◌<◌, ◌≤◌, true, List, [], length, ⊤}
-use Rattle.std.specs.Prelude.{if◌then◌else◌}
+use Rattle.std.specs.Prelude.{if◌then◌else◌, Some}
 use Rattle.cpa_model.specs.declared.automaton.Cfa.{Cfa}
 use Rattle.cpa_model.specs.declared.facts.Elem.{Elem}
 use Rattle.cpa_model.specs.declared.states.State.{State}
@@ -23,7 +23,7 @@ use Rattle.cpa_engine_turn.specs.Keys.{key_of, WidenBesideKeys, HaveOwnKeys}
 use Rattle.cpa_engine_turn.specs.Turns.{AreEntries}
 use Rattle.cpa_engine_laws.specs.Cells.{TellCells, all_untracked}
 use Rattle.cpa_engine_laws.specs.Lines.{AreKeyLines, ArePinLines}
-use Rattle.cpa_engine_rounds.specs.Errors.{may_err, NoneErr, NoneErrBelow}
+use Rattle.cpa_engine_rounds.specs.Errors.{may_err, first_error, NoneErr, NoneErrBelow}
 use Rattle.cpa_engine.specs.declared.answers.Answer.{Answer}
 use Rattle.cpa_engine.specs.declared.answers.Answer.TheVariants.{True}
 use Rattle.cpa_engine.specs.declared.search.Came.{Came}
@@ -32,6 +32,7 @@ use Rattle.cpa_engine.specs.declared.search.Search.{Search}
 use Rattle.cpa_engine.specs.Answers.{IsAnswer, LeadTo}
 use Rattle.cpa_engine.specs.Decided.{IsTurns, IsRounds}
 use Rattle.cpa_engine.specs.Kept.{IsExactRun}
+use Rattle.cpa_engine.specs.Rounds.{Position, ComesTo}
 
 -- ---- the reached set
 
@@ -68,15 +69,21 @@ pub record Stands (cfa : Cfa) (cs : List Component) (settings : Settings) (r : R
     pub pinned : (states : List State) → StatesFrom cfa cs settings states
         → ArePinned cfa cs states r.live × AreLeft cfa cs (length states) r (length states)
 
--- An entry of this number is there, and may be an error.
+-- The first entry that may be an error has this number.
 pub record IsErrorAt (cfa : Cfa) (r : ReachedSet) (n : ℕ) : Type 0 where
   pub numbered : IsNumbered r
+  pub least : first_error cfa r.live ≡ Some n
   pub entry : Entry
   pub is_in : IsIn entry r.live
   pub number : entry.number ≡ n
   pub errs : may_err cfa entry.elems ≡ true
 
 -- ---- the search
+
+-- where it stands
+abbrev pub position : Search → Position
+position s =
+    record { reached = s.reached; newest = s.newest; history = s.history; again = s.again }
 
 -- How the newest precisions came.
 pub record CameBy (cfa : Cfa) (cs : List Component) (config : Config) (s : Search) : Type 0 where
@@ -91,6 +98,7 @@ pub record CameBy (cfa : Cfa) (cs : List Component) (config : Config) (s : Searc
 pub record IsSearch (cfa : Cfa) (cs : List Component) (config : Config) (s : Search) : Type 0 where
   pub stands : Stands cfa cs config.settings s.reached
   pub came : CameBy cfa cs config s
+  pub comes : ComesTo cfa cs config (position s)
   pub checked : NoneErrBelow cfa s.checked s.reached.live
 
 -- how many rounds may still begin
@@ -114,19 +122,25 @@ pub record IsSpared (cfa : Cfa) (cs : List Component) (config : Config) (a : Ans
   pub rounds : TellCells cfa cs → length cs * length cfa.cells < config.rounds → IsRounds a → ⊥
 
 -- Nothing waits, and no entry may be an error.
-pub record IsDone (cfa : Cfa) (cs : List Component) (settings : Settings) (r : ReachedSet) : Type 0
+pub record IsDone (cfa : Cfa) (cs : List Component) (config : Config) (s : Search) : Type 0 where
+  pub stands : Stands cfa cs config.settings s.reached
+  pub comes : ComesTo cfa cs config (position s)
+  pub ascend : AreAscending (numbers s.reached.live)
+  pub none_wait : waiting_numbers s.reached.live ≡ []
+  pub none_err : NoneErr cfa s.reached.live
+
+-- All turns of the round are taken, an entry waits, and none may be an error.
+pub record IsAllTaken (cfa : Cfa) (cs : List Component) (config : Config) (s : Search) : Type 0
   where
-    pub stands : Stands cfa cs settings r
-    pub ascend : AreAscending (numbers r.live)
-    pub none_wait : waiting_numbers r.live ≡ []
-    pub none_err : NoneErr cfa r.live
+    pub within : IsSearch cfa cs config s
+    pub all : length s.reached.journal ≡ config.turns
+    pub waits : waiting_numbers s.reached.live ≡ [] → ⊥
+    pub none_err : NoneErr cfa s.reached.live
 
 -- where so many rounds might begin before
 abbrev pub IsCome : Cfa → List Component → Config → ℕ → Search → Came → Type 0
 IsCome cfa cs config left s (Decided a) = IsAnswer cfa cs config a × IsSpared cfa cs config a
-IsCome cfa cs config left s Safe = IsDone cfa cs config.settings s.reached
-IsCome cfa cs config left s Spent =
-    IsSearch cfa cs config s × (length s.reached.journal ≡ config.turns)
-    × (waiting_numbers s.reached.live ≡ [] → ⊥)
+IsCome cfa cs config left s Safe = IsDone cfa cs config s
+IsCome cfa cs config left s Spent = IsAllTaken cfa cs config s
 IsCome cfa cs config left s Again =
     IsSearch cfa cs config s × (s.reached.journal ≡ []) × (rounds_left config s < left)

@@ -1,13 +1,16 @@
 //! What comes of a path that has no run: precisions grow and a round begins below a pivot, or it
 //! begins again at the root, or the analysis gives up.
 
-ghost use Rattle.std.specs.Prelude.{◌≡◌, ◌<◌, ◌≤◌, ℕ, false, List, ◌∷◌, drop, length, IfOk};
+ghost use Rattle.std.specs.Prelude.{◌≡◌, ◌<◌, ◌≤◌, ℕ, true, false, List, ◌∷◌, drop, length, IfOk};
+ghost use Rattle.std.specs.Prelude.{◌⊎◌, IsTrue};
 ghost use Rattle.cpa_model.specs.Automata.{IsAutomaton};
 ghost use Rattle.cpa_composite.specs.Composites.{components};
 ghost use Rattle.cpa_composite.specs.Laws.{RefinedRow, SuggestionsStand};
 ghost use Rattle.cpa_reached.specs.Entries.{IsLive};
-ghost use Rattle.cpa_reached.specs.Paths.{LeadsBack};
-ghost use Rattle.cpa_engine.specs.Answers.{IsRefuted};
+ghost use Rattle.cpa_reached.specs.Paths.{IsPathTo, LeadsBack};
+ghost use Rattle.cpa_engine_rounds.specs.Precisions.{HaveAll};
+ghost use Rattle.cpa_engine.specs.Kept.{IsRefuted};
+ghost use Rattle.cpa_engine.specs.Rounds.{IsParent, LeadsToError, LeadsUp};
 ghost use Rattle.cpa_engine.specs.Searches.{IsSearch, IsCome, rounds_left, IsErrorAt};
 
 use crate::answers::{Answer, Why};
@@ -33,6 +36,7 @@ fn all_refined<A: Analysis>(
     path: Path,
 ) -> Came
     requires search { IsSearch cfa.now (components composite.now) config.now search.old }
+    requires leads { LeadsToError cfa.now search.old.reached path }
     requires refuted { IsRefuted cfa.now (components composite.now) config.now.settings path }
     requires all { length search.old.history ≡ config.now.rounds }
     ensures { IsCome cfa.now (components composite.now) config.now
@@ -53,6 +57,9 @@ fn parent(reached: &Reached, number: u32) -> u32
     ensures back { (edge : ℕ) (edges : List ℕ)
         → LeadsBack reached.now.live number (edge ∷ edges)
         → LeadsBack reached.now.live result edges }
+    ensures up { (edge : ℕ) (edges : List ℕ)
+        → LeadsBack reached.now.live number (edge ∷ edges)
+        → IsParent reached.now.live number result }
 {
     match reached.entry(number).parent {
         Some((parent, _)) => parent,
@@ -66,6 +73,8 @@ fn ancestor(reached: &Reached, number: u32, above: usize) -> u32
     ensures live { IsLive reached.now.live result }
     ensures back { (edges : List ℕ) → LeadsBack reached.now.live number edges
         → above ≤ length edges → LeadsBack reached.now.live result (drop above edges) }
+    ensures up { (edges : List ℕ) → LeadsBack reached.now.live number edges
+        → above ≤ length edges → LeadsUp reached.now.live number above result }
 {
     let mut at = number;
     for _edge in 0..above {
@@ -89,6 +98,7 @@ fn begin_refined<A: Analysis>(
     requires automaton { IsAutomaton cfa.now }
     requires search { IsSearch cfa.now (components composite.now) config.now search.old }
     requires found { IsErrorAt cfa.now search.old.reached number }
+    requires path { IsPathTo search.old.reached.live number path.edges }
     requires refuted { IsRefuted cfa.now (components composite.now) config.now.settings path }
     requires refined { RefinedRow (components composite.now) cfa.now path search.old.newest
         longer.items }
@@ -124,7 +134,13 @@ fn begin_again<A: Analysis>(
     requires automaton { IsAutomaton cfa.now }
     requires search { IsSearch cfa.now (components composite.now) config.now search.old }
     requires found { IsErrorAt cfa.now search.old.reached number }
+    requires path { IsPathTo search.old.reached.live number path.now.edges }
+    requires refuted { IsRefuted cfa.now (components composite.now) config.now.settings path.now }
+    requires stand { SuggestionsStand cfa.now path.now (components composite.now)
+        search.old.newest }
+    requires more { length search.old.history < config.now.rounds }
     requires first { search.old.again ≡ false }
+    requires other { HaveAll search.old.newest search.old.reached.live → ⊥ }
     ensures { IfOk result (IsCome cfa.now (components composite.now) config.now
         (rounds_left config.now search.old) search.new) }
 {
@@ -146,9 +162,12 @@ fn no_new<A: Analysis>(
     path: Path,
 ) -> Came
     requires search { IsSearch cfa.now (components composite.now) config.now search.old }
+    requires leads { LeadsToError cfa.now search.old.reached path }
     requires refuted { IsRefuted cfa.now (components composite.now) config.now.settings path }
     requires stand { SuggestionsStand cfa.now path (components composite.now) search.old.newest }
     requires more { length search.old.history < config.now.rounds }
+    requires none_other { (search.old.again ≡ true)
+        ⊎ HaveAll search.old.newest search.old.reached.live }
     ensures { IsCome cfa.now (components composite.now) config.now
         (rounds_left config.now search.old) search.new result }
 {
@@ -158,6 +177,17 @@ fn no_new<A: Analysis>(
             why: Why::NoNew { path, precisions },
         },
     }
+}
+
+/// Whether a round may begin again at the root: none did so with these newest precisions, and some
+/// entry has others.
+fn may_begin_again(search: &Search) -> bool
+    ensures first { IsTrue result → search.now.again ≡ false }
+    ensures other { IsTrue result → HaveAll search.now.newest search.now.reached.live → ⊥ }
+    ensures none_other { result ≡ false
+        → (search.now.again ≡ true) ⊎ HaveAll search.now.newest search.now.reached.live }
+{
+    !search.again && some_other(search.reached.live(), search.newest.as_slice())
 }
 
 /// Where no analysis lengthens its precision.
@@ -173,13 +203,14 @@ fn unrefined<A: Analysis>(
     requires automaton { IsAutomaton cfa.now }
     requires search { IsSearch cfa.now (components composite.now) config.now search.old }
     requires found { IsErrorAt cfa.now search.old.reached number }
+    requires path { IsPathTo search.old.reached.live number path.edges }
     requires refuted { IsRefuted cfa.now (components composite.now) config.now.settings path }
     requires stand { SuggestionsStand cfa.now path (components composite.now) search.old.newest }
     requires more { length search.old.history < config.now.rounds }
     ensures { IfOk result (IsCome cfa.now (components composite.now) config.now
         (rounds_left config.now search.old) search.new) }
 {
-    if !search.again && some_other(search.reached.live(), search.newest.as_slice()) {
+    if may_begin_again(search) {
         return begin_again(alloc, cfa, composite, config, search, number, &path);
     }
     Ok(no_new(alloc, cfa, composite, config, search, path))
@@ -198,6 +229,7 @@ pub(crate) fn refuted<A: Analysis>(
     requires automaton { IsAutomaton cfa.now }
     requires search { IsSearch cfa.now (components composite.old) config.now search.old }
     requires found { IsErrorAt cfa.now search.old.reached number }
+    requires path { IsPathTo search.old.reached.live number path.edges }
     requires refuted { IsRefuted cfa.now (components composite.old) config.now.settings path }
     ensures come { IfOk result (IsCome cfa.now (components composite.old) config.now
         (rounds_left config.now search.old) search.new) }

@@ -1,6 +1,6 @@
 //! One round: turn after turn, until something is come to.
 
-ghost use Rattle.std.specs.Prelude.{◌≡◌, ◌+◌, [], length, IfOk, IfSome, IfNone};
+ghost use Rattle.std.specs.Prelude.{◌≡◌, ◌+◌, ◌<◌, [], length, IfOk, IfSome, IfNone};
 ghost use Rattle.std.specs.List.{list_any};
 ghost use Rattle.cpa_model.specs.Automata.{IsAutomaton};
 ghost use Rattle.cpa_composite.specs.Composites.{components};
@@ -29,6 +29,7 @@ fn go_on<A: Analysis>(
     requires automaton { IsAutomaton cfa.now }
     requires search { IsSearch cfa.now (components composite.old) config.now search.old }
     requires none { NoneErr cfa.now search.old.reached.live }
+    requires room { length search.old.reached.journal < config.now.turns }
     ensures come { IfOk result (λ o. IfSome o (IsCome cfa.now (components composite.old)
         config.now (rounds_left config.now search.old) search.new)) }
     ensures search { IfOk result (λ o. IfNone o
@@ -55,6 +56,7 @@ fn advance<A: Analysis>(
 ) -> Result<Option<Came>, AllocError>
     requires automaton { IsAutomaton cfa.now }
     requires search { IsSearch cfa.now (components composite.old) config.now search.old }
+    requires room { length search.old.reached.journal < config.now.turns }
     ensures come { IfOk result (λ o. IfSome o (IsCome cfa.now (components composite.old)
         config.now (rounds_left config.now search.old) search.new)) }
     ensures search { IfOk result (λ o. IfNone o

@@ -10,6 +10,7 @@ use Rattle.cpa_model.specs.Covers.{CoversAutomaton, IsCover, IsSafe}
 use Rattle.cpa_iface.specs.declared.entries.Entry.{Entry}
 use Rattle.cpa_iface.specs.Meanings.{AreShaped}
 use Rattle.cpa_composite.specs.Components.{Component, IsEntryOf}
+use Rattle.cpa_config.specs.declared.config.Config.{Config}
 use Rattle.cpa_engine.specs.declared.answers.Answer.TheVariants.{True}
 use Rattle.cpa_engine.specs.Answers.{IsProof}
 use Rattle.cpa_top_verdict.specs.Reports.{IsSafeReport}
@@ -49,10 +50,10 @@ still_one_each cfa count (e ∷ entries) all =
 abbrev pub SafeBy : Program → Cfa → Type 0
 SafeBy P cfa = (rows : List (List Elem)) → CoversAutomaton cfa rows → IsCover P rows × IsSafe P rows
 
-pub safe_report : (P : Program) (cfa : Cfa) (cs : List Component) (entries : List Entry)
-    → SafeBy P cfa → IsAutomatonOf P cfa → IsProof cfa cs entries
+pub safe_report : (P : Program) (cfa : Cfa) (cs : List Component) (config : Config)
+    (entries : List Entry) → SafeBy P cfa → IsAutomatonOf P cfa → IsProof cfa cs config entries
     → IsSafeReport (length cs) P (report_of P cfa (True entries))
-safe_report P cfa cs entries shown of proves =
+safe_report P cfa cs config entries shown of proves =
     let rows = sym (same_rows entries) in
     let shows = shown (map (λ e. e.elems) entries) proves.covers in
     record {

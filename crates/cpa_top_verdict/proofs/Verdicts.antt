@@ -48,7 +48,8 @@ true_text : (P : Program) (cs : List Component) (config : Config) (cfa : Cfa) (a
     → text ≡ report_text (report_of P cfa a) → verdict_of (body_of a) ≡ verdict.True
     → IsTextOf (IsSafeReport (length cs) P) text
 true_text P cs config cfa (answer.True entries) text shown of says spelled is =
-    (report_of P cfa (answer.True entries), spelled, safe_report P cfa cs entries shown of says)
+    let shows = safe_report P cfa cs config entries shown of says in
+    (report_of P cfa (answer.True entries), spelled, shows)
 true_text P cs config cfa (answer.False inputs steps) text shown of says spelled is = absurd (cc)
 true_text P cs config cfa (answer.Unknown (why.Turns journal)) text shown of says spelled is =
     absurd (cc)
@@ -84,7 +85,7 @@ error_text P cs config cfa (answer.False inputs steps) text well of says spelled
     inputs = inputs;
     steps = steps;
     body_is = refl;
-    replays = says P well of;
+    replays = says.calls P well of;
   },
 )
 error_text P cs config cfa (answer.Unknown (why.Turns journal)) text well of says spelled is =

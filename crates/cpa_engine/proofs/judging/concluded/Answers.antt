@@ -3,12 +3,12 @@ use Rattle.cpa_blast.specs.Formulas.{formula}
 use Rattle.cpa_cnf.specs.declared.formula.Line.{Line}
 use Rattle.cpa_composite.specs.Composites.{components}
 use Rattle.cpa_path.specs.Judgements.{IsJudged}
-use Rattle.cpa_path.specs.Paths.{ReplaysTo, path_form}
+use Rattle.cpa_path.specs.Paths.{ReplaysTo, ReplaysAlong, path_form}
 use Rattle.cpa_path.specs.declared.judging.Judged.{Judged}
 use Rattle.cpa_sat.specs.Outcomes.{IsSpent}
 use Rattle.cpa_engine.specs.declared.answers.Why.TheVariants as why
 use Rattle.cpa_engine.specs.declared.search.Came.{Came}
-use Rattle.cpa_engine.specs.Searches.{IsCome, rounds_left}
+use Rattle.cpa_engine.specs.Searches.{IsCome, position, rounds_left}
 use Rattle.cpa_engine.proofs.Ending.{false_spared, why_spared}
 use Rattle.cpa_engine.proofs.judging.concluded.Goals as goal
 
@@ -33,8 +33,24 @@ returns-in-Run-clause-come g c =
     let path = c.args.path in
     let run = subst (λ (j : Judged). IsJudged cfa path.edges settings.learnt settings.gates j)
     c.in-Run.is c.requires.judged in (
-      λ P W of. subst (λ (inputs : List ℤ). ReplaysTo P inputs c.in-Run.steps)
-          (sym c.from_vec.ensures) (run.1 P W of).replays,
+      record {
+        calls = λ P W of. subst (λ (inputs : List ℤ). ReplaysTo P inputs c.in-Run.steps)
+            (sym c.from_vec.ensures) (run.1 P W of).replays;
+        end = position c.args.search.now;
+        path = path;
+        found = record {
+          comes = c.requires.search.comes;
+          leads = record {
+            number = c.args.number;
+            least = c.requires.found.least;
+            way = c.requires.path;
+          };
+        };
+        each_edge = run.0;
+        along = λ P W of. subst
+            (λ (inputs : List ℤ). ReplaysAlong P cfa path.edges inputs c.in-Run.steps)
+            (sym c.from_vec.ensures) (run.1 P W of);
+      },
       false_spared cfa (components c.args.composite.now) c.args.config.now c.from_vec.result
           c.in-Run.steps,
     )
@@ -59,6 +75,15 @@ returns-in-Learnt-clause-come g c =
         kept = c.error_paths_are_kept.ensures cfa cs settings s.reached c.args.number path
             c.requires.automaton c.requires.search.stands c.requires.found c.requires.path
             (inr judged.0);
+        end = position s;
+        found = record {
+          comes = c.requires.search.comes;
+          leads = record {
+            number = c.args.number;
+            least = c.requires.found.least;
+            way = c.requires.path;
+          };
+        };
       },
       why_spared cfa cs config (why.Learnt path c.from_vec-in-Learnt.result) (λ none. none)
           (λ none. none),
@@ -83,6 +108,15 @@ returns-in-Gates-clause-come g c =
         kept = c.error_paths_are_kept.ensures cfa cs settings s.reached c.args.number path
             c.requires.automaton c.requires.search.stands c.requires.found c.requires.path
             (inr judged.0);
+        end = position s;
+        found = record {
+          comes = c.requires.search.comes;
+          leads = record {
+            number = c.args.number;
+            least = c.requires.found.least;
+            way = c.requires.path;
+          };
+        };
       },
       why_spared cfa cs config (why.Gates path c.in-Gates.weight) (λ none. none) (λ none. none),
     )

@@ -1,7 +1,10 @@
-use Rattle.std.proofs.Common.{◌<◌, ◌≤◌, ℕ, List, inr, subst}
+use Rattle.std.proofs.Common.{◌<◌, ◌≤◌, ℕ, List, inr, refl, sym, subst}
 use Rattle.cpa_iface.specs.declared.entries.Entry.{Entry}
 use Rattle.cpa_composite.specs.Composites.{components}
+use Rattle.cpa_reached.specs.Entries.{ReachedSet}
 use Rattle.cpa_reached.specs.Members.{IsIn}
+use Rattle.cpa_engine.specs.Rounds.{by_turn}
+use Rattle.cpa_engine.specs.Searches.{IsDone, position}
 use Rattle.cpa_engine.proofs.Turned.{TurnKeeps, turn_stands, turn_checked}
 use Rattle.cpa_engine.proofs.round.go_on.Goals as goal
 
@@ -16,6 +19,7 @@ returns-then-goes-clause-search g c =
     let old = c.args.search.now.reached in
     let new = c.turn.new.reached in
     let search = c.requires.search in
+    let at = position c.args.search.now in
     let is = c.if-goes.true in
     let e = c.in_ok-goes.ensures in
     let turned = e.turned is in
@@ -47,8 +51,33 @@ returns-then-goes-clause-search g c =
         binds = search.came.binds;
         cells = search.came.cells;
       };
+      comes = by_turn at (record at { reached = new }) search.comes
+          (record {
+            none_err = c.requires.none;
+            fewer = c.requires.room;
+            turned = turned;
+            same = refl;
+          });
       checked = turn_checked cfa cs config.settings config.order old new c.beyond-search.result
           keeps search.stands c.requires.none
           (subst (λ (xs : List Entry). (n : ℕ) → ((e : Entry) → IsIn e xs → e.number < n)
           → c.beyond-search.result ≤ n) c.live.ensures.live c.beyond-search.ensures.least);
     }
+
+pub returns-else-goes-clause-come : goal.returns-else-goes-clause-come
+returns-else-goes-clause-come g c =
+    let cfa = c.args.cfa.now in
+    let cs = components c.args.composite.now in
+    let config = c.args.config.now in
+    let s = c.args.search.now in
+    let done = c.in_ok-goes.ensures.done c.if-goes.false in
+    let is : IsDone cfa cs config (record s { checked = c.beyond-search.result }) =
+    record {
+      stands = c.requires.search.stands;
+      comes = c.requires.search.comes;
+      ascend = c.live.ensures.numbered.ascend;
+      none_wait = done.0;
+      none_err = c.requires.none;
+    } in
+    subst (λ (r : ReachedSet). IsDone cfa cs config
+    (record s { reached = r; checked = c.beyond-search.result })) (sym done.1) is

@@ -1,4 +1,4 @@
-use Rattle.std.proofs.Common.{◌≡◌, ◌∙◌, ℕ, List, [], sym, ap, subst}
+use Rattle.std.proofs.Common.{◌≡◌, ◌∙◌, ℕ, List, [], refl, sym, ap, subst}
 use Rattle.cpa_iface.specs.declared.entries.Refined.{Refined}
 use Rattle.cpa_iface.specs.declared.precisions.Precision.{Precision}
 use Rattle.cpa_composite.specs.Components.{Component}
@@ -33,6 +33,6 @@ returns-clause-search g c =
     (refined_search c.index_by.new.self qs [])) (sym newest)
     (subst (λ (r : ReachedSet). IsSearch cfa cs config (refined_search r ps []))
     (sym begins)
-    (first_search cfa cs config (indexed (begun es ps) (key_places cs)) es ps row
+    (first_search cfa cs config (indexed (begun es ps) (key_places cs)) es ps row refl
     (c.searches_begin.ensures.stands cfa cs config.settings es ps c.requires row)
     (c.searches_begin.ensures.binds cfa cs config.settings es ps row))))

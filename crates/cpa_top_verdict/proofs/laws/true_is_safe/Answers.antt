@@ -4,7 +4,7 @@ use Rattle.cpa_top_verdict.proofs.laws.true_is_safe.Goals as goal
 
 pub returns-clause-answer : goal.returns-clause-answer
 returns-clause-answer c = λ P cfa cs config entries well of proves.
-    safe_report P cfa cs entries
+    safe_report P cfa cs config entries
     (λ rows covers. let cover = (c.covers_are_safe.ensures.agree P cfa rows of).0 covers in
     (cover, c.covers_are_safe.ensures.safe P rows well cover))
     of proves
