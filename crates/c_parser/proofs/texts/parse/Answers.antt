@@ -12,8 +12,8 @@ returns-in-Ok-clause-tree c =
     _ c.in-Ok.end (rw c.in_ok-source.ensures at c.in-Ok.ensures)
     (rw c.in_ok-source.ensures at c.place-length.ensures)
 
-pub returns-in-Err-clause-fault : goal.returns-in-Err-clause-fault
-returns-in-Err-clause-fault c =
+pub returns-clause-fault : goal.returns-clause-fault
+returns-clause-fault c =
     rw (c.fault_of.ensures, c.in_ok-source.ensures)
     (refused c.args.text.now c.args.tokens.now (c.tokens_are_a_source.ensures _ _ c.requires)
     c.in-Err.error (rw c.in_ok-source.ensures at c.in-Err.ensures))
