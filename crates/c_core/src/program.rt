@@ -3,10 +3,10 @@
 ghost use Rattle.std.specs.Prelude.{IfOk};
 ghost use Rattle.c_core_rules.specs.Programs.{IsCore};
 
-use c_core_numbers::numbered_bodies;
 use c_core_trees::text_trees;
 use c_types_rules::TypedUnit;
 use cpa_model::Program;
+use cpa_model_trees::numbered_bodies;
 use std::alloc::{AllocError, Global};
 
 /// The program that a typed text is. More than 2^32 cells or statements are want of memory.

@@ -7,7 +7,7 @@ use Rattle.c_types_rules.specs.declared.meaning.Function.{Function}
 use Rattle.c_types_rules.specs.declared.meaning.Meaning.TheVariants as meaning
 use Rattle.c_types_rules.specs.declared.meaning.Object.{Object}
 use Rattle.c_types_rules.specs.declared.typed.TypedExpression.{TypedExpression}
-use Rattle.c_core_rules.specs.declared.tree.Head.TheVariants as head
+use Rattle.cpa_model_trees.specs.declared.tree.Head.TheVariants as head
 use Rattle.c_core_rules.specs.declared.tree.Valued.{Valued}
 use Rattle.c_core_rules.specs.Values.{int}
 use Rattle.c_core_rules.specs.Trees.{leaf, pure}

@@ -6,13 +6,13 @@ use Rattle.std.proofs.lemmas.List.{at_drop_more, at_drop_all}
 use Rattle.c_types_rules.specs.declared.typed.TypedExpression.{TypedExpression}
 use Rattle.c_core_rules.specs.declared.tree.Valued.{Valued}
 use Rattle.c_core_rules.specs.Values.{int}
-use Rattle.c_core_rules.specs.Trees.{Trees, valued}
+use Rattle.cpa_model_trees.specs.Numbering.{Trees}
+use Rattle.c_core_rules.specs.Trees.{valued}
 use Rattle.c_core_rules.specs.Cells.{Taken, Made, each}
 use Rattle.c_core_rules.specs.Expressions.{Frames, rows, comma_used, comma_unused}
 use Rattle.c_core_expressions.specs.declared.usage.Usage.{Usage}
 use Rattle.c_core_expressions.specs.declared.usage.Usage.TheVariants.{Used, Unused}
-use Rattle.c_core_expressions.specs.Rows.{by_usage, lowered, used_by, comma_of}
-use Rattle.c_core_expressions.specs.Rows.{comma_behind}
+use Rattle.c_core_expressions.specs.Rows.{by_usage, lowered, used_by, comma_of, comma_behind}
 
 -- items of which the last is used, or none
 pub comma_first : (frames : Frames) (usage : Usage) (items : List TypedExpression)

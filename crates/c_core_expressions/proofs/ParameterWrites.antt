@@ -5,7 +5,8 @@ use Rattle.cpa_expr.specs.declared.tree.Expr.{Expr}
 use Rattle.c_types_rules.specs.declared.meaning.Object.{Object}
 use Rattle.c_types_rules.specs.Counts.{cells_of}
 use Rattle.c_core_rules.specs.Values.{cell_at}
-use Rattle.c_core_rules.specs.Trees.{Trees, set}
+use Rattle.cpa_model_trees.specs.Numbering.{Trees}
+use Rattle.c_core_rules.specs.Trees.{set}
 use Rattle.c_core_rules.specs.Expressions.{passed, cells_from}
 
 pub pass_step : (before : Trees) (n : ℕ) (objects : List Object) (o : Object) (xs vs : List Expr)

@@ -1,7 +1,7 @@
 -- E and D of a typed expression as one rule, by whether the value is used, and the rules of its
 -- parts (`c_core_rules`, `specs/Expressions.antt`).
-use Rattle.std.specs.Prelude.{ℕ, [], ◌∷◌, ◌++◌, List, map, take, length, Bool, true, false}
-use Rattle.std.specs.Prelude.{Option, None, Some, unwrap_or, slice_get}
+use Rattle.std.specs.Prelude.{ℕ, [], ◌∷◌, ◌++◌, List, map, take, length, Bool, true, false, Option}
+use Rattle.std.specs.Prelude.{None, Some, unwrap_or, slice_get}
 use Rattle.cpa_ints.specs.declared.integers.IntType.{IntType}
 use Rattle.c_grammar_symbols.specs.declared.operators.BinaryOperator.{BinaryOperator}
 use Rattle.c_grammar_symbols.specs.declared.operators.StepOperator.{StepOperator}
@@ -18,19 +18,19 @@ use Rattle.c_types_rules.specs.declared.typed.TypedExpression.TheOpen.{TypedExpr
 use Rattle.c_types_rules.specs.declared.typed.TypedExpression.TheOpen.{TypedSuffix-F}
 use Rattle.c_types_rules.specs.declared.typed.TypedSuffix.{TypedSuffix}
 use Rattle.c_types_rules.specs.Known.{known_result}
-use Rattle.c_core_rules.specs.declared.tree.Head.TheVariants as head
+use Rattle.cpa_model_trees.specs.declared.tree.Head.TheVariants as head
 use Rattle.c_core_rules.specs.declared.tree.Place.{Place}
 use Rattle.c_core_rules.specs.declared.tree.Valued.{Valued}
 use Rattle.c_core_rules.specs.Values.{int, element}
-use Rattle.c_core_rules.specs.Trees.{Trees, choice, leaf, valued}
+use Rattle.cpa_model_trees.specs.Numbering.{Trees}
+use Rattle.c_core_rules.specs.Trees.{choice, leaf, valued}
 use Rattle.c_core_rules.specs.Cells.{Rule, gives, then_by, located}
 use Rattle.c_core_rules.specs.Acts.{hold_all, signed, cast_to, chosen, dropped_value}
 use Rattle.c_core_rules.specs.Places.{changed, incremented, stepped}
 use Rattle.c_core_rules.specs.Expressions.{Frames, Rows, ReadSuffix, rows_step, read_suffix, rows}
 use Rattle.c_core_rules.specs.Expressions.{suffixed, chained, Target, no_target, element_target}
 use Rattle.c_core_rules.specs.Expressions.{comma_used, comma_unused, call_used, call_unused}
-use Rattle.c_core_rules.specs.Expressions.{called_with, first_unused, taken_in, no_value}
-use Rattle.c_core_rules.specs.Expressions.{name_used}
+use Rattle.c_core_rules.specs.Expressions.{called_with, first_unused, taken_in, no_value, name_used}
 use Rattle.c_core_expressions.specs.declared.usage.Usage.{Usage}
 use Rattle.c_core_expressions.specs.declared.usage.Usage.TheVariants.{Used, Unused}
 

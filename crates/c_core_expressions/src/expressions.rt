@@ -16,11 +16,12 @@ use crate::usage::{
     Usage, cast_for, changed_for, chosen_for, element_behind, finished, incremented_for, name_for,
     signed_for, statements_of, stepped_for, usage_of_ends, voided,
 };
-use c_core_rules::{CoreTree, Place, Valued};
+use c_core_rules::{Place, Valued};
 use c_core_values::{Cells, constant, fixed_if, int, joined, linked, pure};
 use c_grammar_symbols::BinaryOperator;
 use c_types_rules::{Kind, Meaning, TypedExpression, TypedSuffix, operator_of};
 use cpa_ints::{IntType, Seq};
+use cpa_model_trees::CoreTree;
 use std::alloc::AllocError;
 
 /// An expression whose value is used.

@@ -3,11 +3,11 @@
 ghost use Rattle.std.specs.Prelude.{◌≡◌, ◌+◌, IfOk};
 ghost use Rattle.c_core_rules.specs.Expressions.{passed, cells_from};
 
-use c_core_rules::CoreTree;
 use c_core_values::{cell_at, set};
 use c_types_rules::{Object, cells_of};
 use cpa_expr::Expr;
 use cpa_ints::Seq;
+use cpa_model_trees::CoreTree;
 use std::alloc::{AllocError, Global};
 
 /// The cell behind so many others.

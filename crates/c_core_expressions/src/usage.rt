@@ -9,7 +9,7 @@ ghost use Rattle.c_core_expressions.specs.Rows.{name_for, element_behind, signed
 ghost use Rattle.c_core_expressions.specs.Rows.{changed_for, incremented_for, stepped_for};
 ghost use Rattle.c_core_expressions.specs.Rows.{usage_of_ends, chosen_for};
 
-use c_core_rules::{CoreTree, Place, Valued};
+use c_core_rules::{Place, Valued};
 use c_core_values::{
     Cells, cast_to, cell_at, changed, choice, chosen, dropped_value, element, incremented, int,
     pure, scalar, signed, stepped, with,
@@ -19,6 +19,7 @@ use c_grammar_tree::UnaryOperator;
 use c_types_rules::{Kind, Meaning};
 use cpa_expr::Expr;
 use cpa_ints::{IntType, Seq};
+use cpa_model_trees::CoreTree;
 use std::alloc::{AllocError, Global};
 
 /// Whether the value of an expression is used: E of the rules where it is, D where it is not.

@@ -18,7 +18,8 @@ use Rattle.c_core_rules.specs.declared.tree.Location.{Location}
 use Rattle.c_core_rules.specs.declared.tree.Valued.{Valued}
 use Rattle.c_core_rules.specs.Values.{conv, is_constant, scalar, first_index, truth_of, int}
 use Rattle.c_core_rules.specs.Values.{cell_at, chosen_value, promote}
-use Rattle.c_core_rules.specs.Trees.{Trees, valued, set, choice}
+use Rattle.cpa_model_trees.specs.Numbering.{Trees}
+use Rattle.c_core_rules.specs.Trees.{valued, set, choice}
 use Rattle.c_core_rules.specs.Cells as core
 use Rattle.c_core_rules.specs.Acts as acts
 use Rattle.c_types_rules.specs.Counts.{Size, both, one}

@@ -9,13 +9,14 @@ use Rattle.c_types_rules.specs.declared.typed.Global.{Global}
 use Rattle.c_types_rules.specs.declared.typed.TypedUnit.{TypedUnit}
 use Rattle.c_types_rules.specs.Counts.{Size, Made, Heads, text_rule}
 use Rattle.c_types_rules.specs.Sound as sound
-use Rattle.c_core_rules.specs.declared.tree.CoreTree.{CoreTree}
+use Rattle.cpa_model_trees.specs.declared.tree.CoreTree.{CoreTree}
 use Rattle.c_core_rules.specs.Cells.{nothing_taken}
-use Rattle.c_core_rules.specs.Programs.{IsCore, frames_of, text_core, statements, numbered_bodies}
+use Rattle.c_core_rules.specs.Programs.{IsCore, frames_of, text_core}
+use Rattle.cpa_model_trees.specs.Numbering.{statements, numbered_bodies}
 use Rattle.c_core_laws.specs.Sizes.{IsCounted, stmt_height}
 use Rattle.c_core_laws.proofs.Following.{counted_by}
 use Rattle.c_core_laws.proofs.TextCounted.{text_at, heads_same, of_texts}
-use Rattle.c_core_laws.specs.lemmas.BodyCounts.{numbers_length}
+use Rattle.cpa_model_trees.specs.lemmas.Nodes.{numbers_length}
 use Rattle.c_core_laws.proofs.ProgramCounted.{bodies_sized}
 
 pub text_counted : (unit : TypedUnit) →
@@ -41,14 +42,14 @@ core_counted unit P is =
     record {
       cells = ap (map (λ (cell : Cell). cell.ty)) is.cells ∙ ap (λ (m : Made Size). m.cells) e;
       points =
-          ap (λ (all : List Stmt). length all + length P.bodies) is.stmts
-          ∙ ap (λ (bodies : List ℕ). length stmts + length bodies) is.bodies
+          ap (λ (all : List Stmt). length all + length P.bodies) is.trees.stmts
+          ∙ ap (λ (bodies : List ℕ). length stmts + length bodies) is.trees.bodies
           ∙ ap (λ n. length stmts + n) (numbers_length 0 sizes
           ∙ length-map trees (λ (tree : CoreTree). length (statements tree)))
           ∙ ap (λ (s : Size). s.points) (bodies_sized 0 trees)
           ∙ ap (λ (m : Made Size). m.made.points) e;
       tallest =
-          ap (λ (all : List Stmt). greatest (map stmt_height all)) is.stmts
+          ap (λ (all : List Stmt). greatest (map stmt_height all)) is.trees.stmts
           ∙ no_more (greatest (map stmt_height stmts))
           ∙ ap (λ (s : Size). s.tallest) (bodies_sized 0 trees)
           ∙ ap (λ (m : Made Size). m.made.tallest) e;

@@ -1,17 +1,16 @@
 -- A rule that follows a count: what it makes is counted, whatever is taken before it.
 
-use Rattle.std.proofs.Common.{◌≡◌, ℕ, max, List, []}
-use Rattle.std.proofs.Common.{◌++◌, map, ap, sym, ◌∙◌, append_assoc, pos}
+use Rattle.std.proofs.Common.{◌≡◌, ℕ, max, List, [], ◌++◌, map, ap, sym, ◌∙◌, append_assoc, pos}
 use Rattle.std.proofs.lemmas.List.{map-append, append-nil}
 use Rattle.cpa_ints.specs.declared.integers.IntType.{IntType}
 use Rattle.cpa_expr.specs.Shape.{type_of, height}
-use Rattle.c_core_rules.specs.declared.tree.CoreTree.{CoreTree}
-use Rattle.c_core_rules.specs.declared.tree.CoreTree.TheOpen.{CoreTree-F}
-use Rattle.c_core_rules.specs.declared.tree.CoreTree.TheFolds.{fold-CoreTree}
-use Rattle.c_core_rules.specs.declared.tree.Head.{Head}
-use Rattle.c_core_rules.specs.declared.tree.Head.TheVariants as head
+use Rattle.cpa_model_trees.specs.declared.tree.CoreTree.{CoreTree}
+use Rattle.cpa_model_trees.specs.declared.tree.CoreTree.TheOpen.{CoreTree-F}
+use Rattle.cpa_model_trees.specs.declared.tree.CoreTree.TheFolds.{fold-CoreTree}
+use Rattle.cpa_model_trees.specs.declared.tree.Head.{Head}
+use Rattle.cpa_model_trees.specs.declared.tree.Head.TheVariants as head
 use Rattle.c_core_rules.specs.declared.tree.Valued.{Valued}
-use Rattle.c_core_rules.specs.Trees.{Trees}
+use Rattle.cpa_model_trees.specs.Numbering.{Trees}
 use Rattle.c_core_rules.specs.Values.{is_constant}
 use Rattle.cpa_model.specs.declared.program.Cell.{Cell}
 use Rattle.c_core_rules.specs.Cells.{Taken}

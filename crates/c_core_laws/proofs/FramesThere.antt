@@ -1,9 +1,8 @@
 -- The cells of the result and of the parameters of each function are there.
 use Rattle.std.proofs.Common.{◌≡◌, ℕ, zero, suc, ◌+◌, List, [], ◌∷◌, ◌++◌, map, length, Option}
-use Rattle.std.proofs.Common.{None, Some}
-use Rattle.std.proofs.Common.{ℤ}
+use Rattle.std.proofs.Common.{None, Some, ℤ, slice_get, refl, ap, sym, ◌∙◌, subst, arith}
+use Rattle.std.proofs.Common.{append_assoc, replicate}
 use Rattle.std.specs.Prelude.{unsigned_abs}
-use Rattle.std.proofs.Common.{slice_get, refl, ap, sym, ◌∙◌, subst, arith, append_assoc, replicate}
 use Rattle.std.specs.List.{AllByRecursion}
 use Rattle.std.proofs.lemmas.List.{map-append, length-map, append-nil, length-append}
 use Rattle.std.proofs.lemmas.Option.{none-some, same_Some}
@@ -30,7 +29,7 @@ use Rattle.c_core_rules.specs.Programs.{frames_of, text_core}
 use Rattle.c_core_laws.specs.Starts.{begins, AreScalars, FrameStands}
 use Rattle.c_core_laws.proofs.Following.{Extends, extended, zero_cell, types}
 use Rattle.c_core_laws.proofs.Rules.{ordered}
-use Rattle.c_core_laws.proofs.Numbered.{get_left, get_right}
+use Rattle.cpa_model_trees.specs.lemmas.Numbered.{get_left, get_right}
 use Rattle.c_core_laws.proofs.StatementsCounted.{taking_types, receiving_follows}
 use Rattle.c_core_laws.proofs.TextCounted.{each_item, functions_follow}
 use Rattle.c_core_laws.proofs.LaidOut.{open_text, laid_out}

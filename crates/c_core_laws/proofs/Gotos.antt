@@ -1,21 +1,22 @@
 -- The labels of the tree of a function, and the gotos in it.
 use Rattle.std.proofs.Common.{◌≡◌, ℕ, zero, suc, ◌+◌, ◌<◌, List, [], ◌∷◌, ◌++◌, map, length, Some}
-use Rattle.std.proofs.Common.{slice_get, refl, ap, sym, ◌∙◌, subst, arith, inl, inr}
-use Rattle.std.proofs.Common.{length-append, append_assoc}
+use Rattle.std.proofs.Common.{slice_get, refl, ap, sym, ◌∙◌, subst, arith, inl, inr, length-append}
+use Rattle.std.proofs.Common.{append_assoc}
 use Rattle.std.specs.Prelude.{◌⊎◌}
 use Rattle.std.specs.List.{AllByRecursion}
 use Rattle.std.proofs.lemmas.Option.{none-some, same_Some}
-use Rattle.c_core_rules.specs.declared.tree.CoreTree.{CoreTree, roll-CoreTree}
-use Rattle.c_core_rules.specs.declared.tree.CoreTree.TheOpen.{CoreTree-F}
-use Rattle.c_core_rules.specs.declared.tree.CoreTree.TheFolds.{map-CoreTree, ind-CoreTree}
-use Rattle.c_core_rules.specs.declared.tree.Head.{Head}
-use Rattle.c_core_rules.specs.declared.tree.Head.TheVariants as head
-use Rattle.c_core_rules.specs.Trees.{Trees}
-use Rattle.c_core_rules.specs.Programs.{Placed, joined, statements, label_here, labels_from}
+use Rattle.cpa_model_trees.specs.declared.tree.CoreTree.{CoreTree, roll-CoreTree}
+use Rattle.cpa_model_trees.specs.declared.tree.CoreTree.TheOpen.{CoreTree-F}
+use Rattle.cpa_model_trees.specs.declared.tree.CoreTree.TheFolds.{map-CoreTree, ind-CoreTree}
+use Rattle.cpa_model_trees.specs.declared.tree.Head.{Head}
+use Rattle.cpa_model_trees.specs.declared.tree.Head.TheVariants as head
+use Rattle.cpa_model_trees.specs.Numbering.{Trees, Placed, joined, statements, label_here}
+use Rattle.cpa_model_trees.specs.Numbering.{labels_from}
 use Rattle.c_core_laws.specs.Jumps.{Jumps, all_jumps, head_jumps, node_jumps, tree_jumps}
-use Rattle.c_core_laws.proofs.Shapes.{HasParts, node_of, open_statements}
+use Rattle.cpa_model_trees.specs.Shapes.{HasParts}
+use Rattle.cpa_model_trees.specs.lemmas.Nodes.{node_of, open_statements}
 use Rattle.c_core_laws.proofs.Jumping.{open_jumps}
-use Rattle.c_core_laws.proofs.Numbered.{get_split, Behind, lengths}
+use Rattle.cpa_model_trees.specs.lemmas.Numbered.{get_split, Behind, lengths}
 use Rattle.c_core_laws.proofs.ProgramTrees.{AllFit, fit_left, fit_right}
 
 -- where the labels of statements stand

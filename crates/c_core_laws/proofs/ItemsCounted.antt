@@ -1,6 +1,6 @@
 -- Every item of a block follows its count.
-use Rattle.std.proofs.Common.{◌≡◌, ℕ, List, [], ◌∷◌, ◌++◌, map, None, Some, refl, ap, sym}
-use Rattle.std.proofs.Common.{◌∙◌, subst}
+use Rattle.std.proofs.Common.{◌≡◌, ℕ, List, [], ◌∷◌, ◌++◌, map, None, Some, refl, ap, sym, ◌∙◌}
+use Rattle.std.proofs.Common.{subst}
 use Rattle.cpa_expr.specs.Shape.{height}
 use Rattle.c_types_rules.specs.declared.typed.TypedExpression.{TypedExpression}
 use Rattle.c_types_rules.specs.declared.typed.TypedItem.{TypedItem, roll-TypedItem}
@@ -10,12 +10,13 @@ use Rattle.c_types_rules.specs.declared.typed.TypedItem.TheFolds.{ind-TypedItem}
 use Rattle.c_types_rules.specs.declared.typed.TypedStatement.{TypedStatement, roll-TypedStatement}
 use Rattle.c_types_rules.specs.Counts.{Size, both, one, empty}
 use Rattle.c_types_rules.specs.Counts as counts
-use Rattle.c_core_rules.specs.declared.tree.CoreTree.{CoreTree}
-use Rattle.c_core_rules.specs.declared.tree.CoreTree.TheVariants.{Node}
-use Rattle.c_core_rules.specs.declared.tree.Head.{Head}
-use Rattle.c_core_rules.specs.declared.tree.Head.TheVariants as head
+use Rattle.cpa_model_trees.specs.declared.tree.CoreTree.{CoreTree}
+use Rattle.cpa_model_trees.specs.declared.tree.CoreTree.TheVariants.{Node}
+use Rattle.cpa_model_trees.specs.declared.tree.Head.{Head}
+use Rattle.cpa_model_trees.specs.declared.tree.Head.TheVariants as head
 use Rattle.c_core_rules.specs.declared.tree.Location.{Location}
-use Rattle.c_core_rules.specs.Trees.{Trees, leaf, block, choice, repeated}
+use Rattle.cpa_model_trees.specs.Numbering.{Trees}
+use Rattle.c_core_rules.specs.Trees.{leaf, block, choice, repeated}
 use Rattle.c_core_rules.specs.Cells as core
 use Rattle.c_core_rules.specs.Expressions as rows
 use Rattle.c_core_rules.specs.Statements as statement

@@ -1,24 +1,23 @@
 -- The labels and jumps of trees, by how they are put together.
-use Rattle.std.proofs.Common.{◌≡◌, ℕ, ◌+◌, Bool, true, false, ◌||◌, List, [], ◌∷◌}
-use Rattle.std.proofs.Common.{◌++◌, map, length}
-use Rattle.std.proofs.Common.{refl, ap, sym, ◌∙◌, subst, arith, append_assoc, add_assoc}
+use Rattle.std.proofs.Common.{◌≡◌, ℕ, ◌+◌, Bool, true, false, ◌||◌, List, [], ◌∷◌, ◌++◌, map}
+use Rattle.std.proofs.Common.{length, refl, ap, sym, ◌∙◌, subst, arith, append_assoc, add_assoc}
 use Rattle.std.specs.List.{AllByRecursion}
 use Rattle.std.proofs.lemmas.List.{append-nil}
 use Rattle.cpa_expr.specs.declared.tree.Expr.{Expr}
-use Rattle.c_core_rules.specs.declared.tree.CoreTree.{CoreTree, roll-CoreTree}
-use Rattle.c_core_rules.specs.declared.tree.CoreTree.TheOpen.{CoreTree-F}
-use Rattle.c_core_rules.specs.declared.tree.CoreTree.TheVariants.{Node, rolls-Node}
-use Rattle.c_core_rules.specs.declared.tree.CoreTree.TheFolds.{map-CoreTree, ind-CoreTree}
-use Rattle.c_core_rules.specs.declared.tree.CoreTree.TheFolds.{fold-roll-CoreTree}
-use Rattle.c_core_rules.specs.declared.tree.Head.{Head}
-use Rattle.c_core_rules.specs.declared.tree.Head.TheVariants as head
-use Rattle.c_core_rules.specs.Trees.{Trees, leaf, block, choice, repeated}
-use Rattle.c_core_rules.specs.Programs.{Placed, joined, node_statements, statements}
-use Rattle.c_core_laws.specs.Jumps.{Jumps, no_jumps, then_jumps, all_jumps, in_loop}
-use Rattle.c_core_laws.specs.Jumps.{head_jumps, node_jumps, tree_jumps}
-use Rattle.c_core_laws.proofs.Shapes.{HasParts, IsPlain, PlacedFits, Shaped, AllShaped}
-use Rattle.c_core_laws.proofs.Shapes.{open_statements}
-use Rattle.c_core_laws.proofs.Shapes as shapes
+use Rattle.cpa_model_trees.specs.declared.tree.CoreTree.{CoreTree, roll-CoreTree}
+use Rattle.cpa_model_trees.specs.declared.tree.CoreTree.TheOpen.{CoreTree-F}
+use Rattle.cpa_model_trees.specs.declared.tree.CoreTree.TheVariants.{Node, rolls-Node}
+use Rattle.cpa_model_trees.specs.declared.tree.CoreTree.TheFolds.{map-CoreTree, ind-CoreTree}
+use Rattle.cpa_model_trees.specs.declared.tree.CoreTree.TheFolds.{fold-roll-CoreTree}
+use Rattle.cpa_model_trees.specs.declared.tree.Head.{Head}
+use Rattle.cpa_model_trees.specs.declared.tree.Head.TheVariants as head
+use Rattle.cpa_model_trees.specs.Numbering.{Trees, Placed, joined, node_statements, statements}
+use Rattle.c_core_rules.specs.Trees.{leaf, block, choice, repeated}
+use Rattle.c_core_laws.specs.Jumps.{Jumps, no_jumps, then_jumps, all_jumps, in_loop, head_jumps}
+use Rattle.c_core_laws.specs.Jumps.{node_jumps, tree_jumps}
+use Rattle.cpa_model_trees.specs.Shapes.{HasParts, PlacedFits, Shaped, AllShaped, Anything}
+use Rattle.c_core_laws.proofs.Shapes.{IsPlain}
+use Rattle.cpa_model_trees.specs.lemmas.Nodes.{open_statements, append_shaped, shaped_node}
 
 pub jumps_is : (a b : Jumps) → a.labels ≡ b.labels → a.gotos ≡ b.gotos → a.loose ≡ b.loose → a ≡ b
 jumps_is a b l g o =
@@ -162,14 +161,8 @@ plain_quiet (t ∷ trees) h =
     ∙ none_then (trees_jumps trees) ∙ plain_quiet trees h.1
 
 -- any head
-abbrev pub Anything : Head → Type 0
-Anything h = Unit {0}
-
 abbrev pub AllAny : Trees → Type 0
 AllAny trees = AllShaped Anything trees
-
-pub anything : (h : Head) → IsPlain h → Anything h
-anything h is = tt
 
 fits_weaker : (placed : List Placed) → Plain placed → AllByRecursion (PlacedFits Anything) placed
 fits_weaker [] h = tt
@@ -198,7 +191,7 @@ has_plain trees h = record { shaped = plain_any trees h; are = plain_quiet trees
 pub has_append : (a b : Jumps) (xs ys : Trees) → Has a xs → Has b ys →
     Has (then_jumps a b) (xs ++ ys)
 has_append a b xs ys h k = record {
-  shaped = shapes.append_shaped Anything anything xs ys h.shaped k.shaped;
+  shaped = append_shaped Anything xs ys h.shaped k.shaped;
   are = joined_jumps xs ys ∙ ap (λ (c : Jumps). then_jumps c (trees_jumps ys)) h.are
       ∙ ap (then_jumps a) k.are;
 }
@@ -214,7 +207,7 @@ plain_then a xs ys h k =
 pub node_has : (h : Head) (parts : Trees) (a : Jumps) → HasParts h (length parts) →
     Has a parts → TreeHas (head_jumps h a) (Node h parts)
 node_has h parts a has k = record {
-  shaped = shapes.shaped_node Anything anything h parts has tt k.shaped;
+  shaped = shaped_node Anything h parts has tt k.shaped;
   are = node_jumping h parts ∙ ap (head_jumps h) k.are;
 }
 

@@ -1,7 +1,7 @@
 -- Every statement, and every text, makes trees whose nodes have the parts of their heads, with the
 -- labels and jumps of the typed text.
 use Rattle.std.proofs.Common.{◌≡◌, ℕ, zero, suc, ◌+◌, ◌-◌, List, [], ◌∷◌, ◌++◌, map, length, Option}
-use Rattle.std.proofs.Common.{None, Some, refl, sym, subst, pos}
+use Rattle.std.proofs.Common.{None, Some, refl, sym, subst, pos, Bool, true, false, ap, ◌∙◌, arith}
 use Rattle.cpa_ints.specs.declared.integers.IntType.{IntType}
 use Rattle.cpa_expr.specs.declared.tree.Expr.TheVariants.{Const}
 use Rattle.c_types_rules.specs.declared.meaning.Kind.{Kind}
@@ -17,44 +17,43 @@ use Rattle.c_types_rules.specs.declared.typed.TypedItem.{TypedItem, roll-TypedIt
 use Rattle.c_types_rules.specs.declared.typed.TypedItem.TheOpen.{TypedItem-F, TypedStatement-F}
 use Rattle.c_types_rules.specs.declared.typed.TypedItem.TheFolds.{map-TypedItem, map-TypedStatement}
 use Rattle.c_types_rules.specs.declared.typed.TypedItem.TheFolds.{ind-TypedItem}
+use Rattle.c_types_rules.specs.declared.typed.TypedItem.TheFolds.{fold-TypedStatement}
+use Rattle.c_types_rules.specs.declared.typed.TypedItem.TheFolds.{fold-roll-TypedItem}
+use Rattle.c_types_rules.specs.declared.typed.TypedItem.TheFolds.{fold-roll-TypedStatement}
 use Rattle.c_types_rules.specs.declared.typed.TypedStatement.{TypedStatement, roll-TypedStatement}
 use Rattle.c_types_rules.specs.declared.typed.TypedFunction.{TypedFunction}
 use Rattle.c_types_rules.specs.declared.typed.TypedUnit.{TypedUnit}
 use Rattle.c_types_rules.specs.declared.typed.Global.{Global}
 use Rattle.c_types_rules.specs.Types.{object_type}
 use Rattle.c_types_rules.specs.Counts.{cells_of}
-use Rattle.c_core_rules.specs.declared.tree.CoreTree.{CoreTree}
-use Rattle.c_core_rules.specs.declared.tree.CoreTree.TheVariants.{Node}
-use Rattle.c_core_rules.specs.declared.tree.Head.{Head}
-use Rattle.c_core_rules.specs.declared.tree.Head.TheVariants as head
+use Rattle.cpa_model_trees.specs.declared.tree.CoreTree.{CoreTree}
+use Rattle.cpa_model_trees.specs.declared.tree.CoreTree.TheVariants.{Node}
+use Rattle.cpa_model_trees.specs.declared.tree.Head.{Head}
+use Rattle.cpa_model_trees.specs.declared.tree.Head.TheVariants as head
 use Rattle.c_core_rules.specs.declared.tree.Location.{Location}
 use Rattle.c_core_rules.specs.Values.{cell_at}
-use Rattle.c_core_rules.specs.Trees.{Trees, leaf, block, choice, repeated, set}
+use Rattle.cpa_model_trees.specs.Numbering.{Trees}
+use Rattle.c_core_rules.specs.Trees.{leaf, block, choice, repeated, set}
 use Rattle.c_core_rules.specs.Cells.{nothing_taken}
 use Rattle.c_core_rules.specs.Cells as core
 use Rattle.c_core_rules.specs.Expressions as rows
 use Rattle.c_core_rules.specs.Statements as statement
 use Rattle.c_core_rules.specs.Programs.{text_core, frames_of}
-use Rattle.c_types_rules.specs.declared.typed.TypedItem.TheFolds.{fold-TypedStatement}
-use Rattle.c_types_rules.specs.declared.typed.TypedItem.TheFolds.{fold-roll-TypedItem}
-use Rattle.c_types_rules.specs.declared.typed.TypedItem.TheFolds.{fold-roll-TypedStatement}
-use Rattle.std.proofs.Common.{Bool, true, false, ap, ◌∙◌, arith}
 use Rattle.std.proofs.lemmas.List.{append-nil}
 use Rattle.c_core_laws.specs.Jumps.{Jumps, no_jumps, then_jumps, all_jumps, labelled, in_loop, goto}
-use Rattle.c_core_laws.specs.Jumps.{leaving, statement_jumps, item_layer_jumps}
-use Rattle.c_core_laws.specs.Jumps.{item_jumps, function_jumps, tree_jumps}
+use Rattle.c_core_laws.specs.Jumps.{leaving, statement_jumps, item_layer_jumps, item_jumps}
+use Rattle.c_core_laws.specs.Jumps.{function_jumps, tree_jumps}
 use Rattle.c_core_laws.specs.lemmas.CoreItems.{core_statement, open_core_item, open_core_statement}
-use Rattle.c_core_laws.proofs.Shapes.{Makes, makes, makes_then, makes_freshly, makes_at}
-use Rattle.c_core_laws.proofs.Shapes.{EachMakes, none_makes, more_make}
-use Rattle.c_core_laws.proofs.ShapedRows.{AllShaped, set_shaped}
-use Rattle.c_core_laws.proofs.ShapedRows.{leaf_shaped, append_shaped, push_shaped, makes_ordered}
+use Rattle.c_core_laws.proofs.Shapes.{Makes, makes, makes_then, makes_freshly, makes_at, EachMakes}
+use Rattle.c_core_laws.proofs.Shapes.{none_makes, more_make}
+use Rattle.c_core_laws.proofs.ShapedRows.{AllShaped, set_shaped, leaf_shaped, append_shaped}
+use Rattle.c_core_laws.proofs.ShapedRows.{push_shaped, makes_ordered}
 use Rattle.c_core_laws.proofs.ShapedExpressions.{expression_makes}
 use Rattle.c_core_laws.proofs.ItemsCounted.{for_tree}
 use Rattle.c_core_laws.proofs.TextCounted.{function_from}
 use Rattle.c_core_laws.proofs.Jumping.{Has, TreeHas, has_none, has_plain, has_append, has_one}
 use Rattle.c_core_laws.proofs.Jumping.{plain_then, leaf_has, block_has, choice_has, loop_has}
-use Rattle.c_core_laws.proofs.Jumping.{node_has}
-use Rattle.c_core_laws.proofs.Jumping.{jumps_is, AllAny}
+use Rattle.c_core_laws.proofs.Jumping.{node_has, jumps_is, AllAny}
 
 -- anything
 abbrev pub Any : {S : Type 0} → S → Type 0

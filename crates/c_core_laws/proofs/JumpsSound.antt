@@ -11,18 +11,19 @@ use Rattle.cpa_model.specs.lemmas.Trees.{one_function, in_function_inside}
 use Rattle.c_grammar_tree.specs.declared.item.Unit.{Unit as UnitTree}
 use Rattle.c_types_rules.specs.declared.typed.TypedUnit.{TypedUnit}
 use Rattle.c_types_rules.specs.Sound.{Sound, typed_unit}
-use Rattle.c_core_rules.specs.declared.tree.CoreTree.{CoreTree}
-use Rattle.c_core_rules.specs.declared.tree.Head.{Head}
-use Rattle.c_core_rules.specs.declared.tree.Head.TheVariants as head
-use Rattle.c_core_rules.specs.Programs.{Placed, statements, stmt_of, part, labels_from, IsCore}
-use Rattle.c_core_rules.specs.Programs.{text_core, numbers_from}
+use Rattle.cpa_model_trees.specs.declared.tree.CoreTree.{CoreTree}
+use Rattle.cpa_model_trees.specs.declared.tree.Head.{Head}
+use Rattle.cpa_model_trees.specs.declared.tree.Head.TheVariants as head
+use Rattle.cpa_model_trees.specs.Numbering.{Placed, statements, stmt_of, part, labels_from}
+use Rattle.cpa_model_trees.specs.Numbering.{numbers_from}
+use Rattle.c_core_rules.specs.Programs.{IsCore, text_core}
 use Rattle.c_core_laws.specs.Jumps.{tree_jumps, JumpIsSound}
 use Rattle.c_core_laws.specs.Standing.{IsOfTree}
-use Rattle.c_core_laws.proofs.Shapes.{Shaped}
-use Rattle.c_core_laws.proofs.Jumping.{Anything}
+use Rattle.cpa_model_trees.specs.Shapes.{Shaped, Anything}
 use Rattle.c_core_laws.proofs.JumpsKept.{text_keeps}
 use Rattle.cpa_model.specs.lemmas.EdgesSound.{all_at}
-use Rattle.c_core_laws.proofs.Numbered.{none_first, lengths_are, core_numbered}
+use Rattle.cpa_model_trees.specs.lemmas.Numbered.{none_first, lengths_are}
+use Rattle.c_core_laws.proofs.Numbered.{core_numbered}
 use Rattle.c_core_laws.proofs.ProgramTrees.{PlacedAt, AllFit, spreads, TreeStands, tree_stands}
 use Rattle.c_core_laws.proofs.ProgramTrees.{InTree, in_tree, tree_stmt}
 use Rattle.c_core_laws.proofs.Loops.{leaves, IsInLoop, loops_in}
@@ -57,7 +58,7 @@ stands_in unit P is n s at =
     let r : InTree 0 trees n s = in_tree unit P is n s at in
     let t : TreeStands P r.function r.tree = tree_stands unit P is r.function r.tree r.is_tree in
     let bodies : P.bodies ≡ numbers_from 0 (map length (map statements trees)) =
-    is.bodies ∙ ap (numbers_from 0) (sym (lengths_are trees)) in
+    is.trees.bodies ∙ ap (numbers_from 0) (sym (lengths_are trees)) in
     let same : t.first ≡ r.first =
     same_Some t.first r.first
     (sym t.body ∙ ap (λ (all : List ℕ). slice_get all r.function) bodies ∙ r.body) in

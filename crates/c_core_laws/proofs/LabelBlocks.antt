@@ -1,7 +1,7 @@
 -- The labelled blocks of a function's tree are those of its labels, in order (`blocks_are`).
 use Rattle.std.proofs.Common.{◌≡◌, ℕ, suc, ◌+◌, Bool, false, List, [], ◌∷◌, ◌++◌, map, length}
-use Rattle.std.proofs.Common.{Option, None, Some, refl, ap, sym, ◌∙◌, subst, arith}
-use Rattle.std.proofs.Common.{length-append, append_assoc}
+use Rattle.std.proofs.Common.{Option, None, Some, refl, ap, sym, ◌∙◌, subst, arith, length-append}
+use Rattle.std.proofs.Common.{append_assoc}
 use Rattle.std.specs.Prelude.{unwrap_or}
 use Rattle.std.specs.List.{AllByRecursion, flat_map, range_with_len}
 use Rattle.std.proofs.lemmas.List.{append-nil}
@@ -17,34 +17,36 @@ use Rattle.c_types_rules.specs.declared.typed.TypedItem.TheFolds.{fold-roll-Type
 use Rattle.c_types_rules.specs.declared.typed.TypedStatement.{TypedStatement, roll-TypedStatement}
 use Rattle.c_types_rules.specs.declared.typed.TypedFunction.{TypedFunction}
 use Rattle.c_types_rules.specs.Types.{object_type}
-use Rattle.c_core_rules.specs.declared.tree.CoreTree.{CoreTree}
-use Rattle.c_core_rules.specs.declared.tree.CoreTree.TheVariants.{Node}
-use Rattle.c_core_rules.specs.declared.tree.Head.{Head}
-use Rattle.c_core_rules.specs.declared.tree.Head.TheVariants as head
+use Rattle.cpa_model_trees.specs.declared.tree.CoreTree.{CoreTree}
+use Rattle.cpa_model_trees.specs.declared.tree.CoreTree.TheVariants.{Node}
+use Rattle.cpa_model_trees.specs.declared.tree.Head.{Head}
+use Rattle.cpa_model_trees.specs.declared.tree.Head.TheVariants as head
 use Rattle.c_core_rules.specs.declared.tree.Location.{Location}
 use Rattle.c_core_rules.specs.Values.{cell_at}
-use Rattle.c_core_rules.specs.Trees.{Trees, leaf, block, choice, repeated}
+use Rattle.cpa_model_trees.specs.Numbering.{Trees, Placed, joined, statements, label_here}
+use Rattle.cpa_model_trees.specs.Numbering.{labels_from, part}
+use Rattle.c_core_rules.specs.Trees.{leaf, block, choice, repeated}
 use Rattle.c_core_rules.specs.Cells.{Taken}
 use Rattle.c_core_rules.specs.Cells as core
 use Rattle.c_core_rules.specs.Expressions as rows
 use Rattle.c_core_rules.specs.Statements as statement
-use Rattle.c_core_rules.specs.Programs.{Placed, joined, statements, label_here, labels_from, part}
 use Rattle.c_core_laws.specs.Jumps.{Jumps}
 use Rattle.c_core_laws.specs.Labels.{Label, Labelled, labels_step, item_labels_step}
 use Rattle.c_core_laws.specs.Labels.{labelled_statement, labelled_item, with_labels}
 use Rattle.c_core_laws.specs.Labels.{function_labels, AreInOrder, IsBlockOf, core_statement}
 use Rattle.c_core_laws.specs.lemmas.CoreItems.{open_core_item, open_core_statement}
-use Rattle.c_core_laws.specs.lemmas.Nodes.{node_placed}
-use Rattle.c_core_laws.proofs.Shapes.{Makes, makes, makes_then, joined_fit}
+use Rattle.cpa_model_trees.specs.lemmas.Nodes.{node_placed, joined_fit}
+use Rattle.c_core_laws.proofs.Shapes.{Makes, makes, makes_then}
 use Rattle.c_core_laws.proofs.ShapedExpressions.{expression_makes}
 use Rattle.c_core_laws.proofs.ItemsCounted.{for_tree}
 use Rattle.c_core_laws.proofs.TextCounted.{function_from}
-use Rattle.c_core_laws.proofs.Jumping.{Has, has_plain, trees_jumps, Anything, anything}
+use Rattle.c_core_laws.proofs.Jumping.{Has, has_plain, trees_jumps}
+use Rattle.cpa_model_trees.specs.Shapes.{Anything}
 use Rattle.c_core_laws.proofs.JumpsKept.{Loose, any_makes, makes_weaker, unused_makes, left_makes}
 use Rattle.c_core_laws.proofs.JumpsKept.{started_makes, returned_makes, each_declared}
 use Rattle.c_core_laws.proofs.JumpsKept.{resulting_makes}
 use Rattle.c_core_laws.proofs.ShapedRows.{AllShaped, makes_ordered}
-use Rattle.c_core_laws.proofs.Numbered.{get_right}
+use Rattle.cpa_model_trees.specs.lemmas.Numbered.{get_right}
 use Rattle.c_core_laws.proofs.Gotos.{labels_append, forest_marked, each_marked}
 
 -- the statements of trees, one behind the other
@@ -75,7 +77,7 @@ many_has : (loose : Bool) (trees : Trees) →
 unfolding trees_jumps
 many_has loose trees h = record {
   are = λ n.
-      forest_marked trees (each_marked trees) n (joined_fit Anything anything trees h.shaped)
+      forest_marked trees (each_marked trees) n (joined_fit Anything trees h.shaped)
       ∙ ap (λ (a : Jumps). a.labels) h.are;
 }
 

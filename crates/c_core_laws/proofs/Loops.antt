@@ -8,18 +8,19 @@ use Rattle.std.specs.List.{AllByRecursion}
 use Rattle.std.proofs.lemmas.Option.{none-some, same_Some, slice_get_within}
 use Rattle.cpa_model.specs.declared.program.Program.{Program}
 use Rattle.cpa_model.specs.Programs.{IsStmt, InLoop, loop_nearest, loop_further, is_loop}
-use Rattle.c_core_rules.specs.declared.tree.CoreTree.{CoreTree, roll-CoreTree}
-use Rattle.c_core_rules.specs.declared.tree.CoreTree.TheOpen.{CoreTree-F}
-use Rattle.c_core_rules.specs.declared.tree.CoreTree.TheFolds.{map-CoreTree, ind-CoreTree}
-use Rattle.c_core_rules.specs.declared.tree.Head.{Head}
-use Rattle.c_core_rules.specs.declared.tree.Head.TheVariants as head
-use Rattle.c_core_rules.specs.Trees.{Trees}
-use Rattle.c_core_rules.specs.Programs.{Placed, joined, statements, numbers_from, stmt_of}
+use Rattle.cpa_model_trees.specs.declared.tree.CoreTree.{CoreTree, roll-CoreTree}
+use Rattle.cpa_model_trees.specs.declared.tree.CoreTree.TheOpen.{CoreTree-F}
+use Rattle.cpa_model_trees.specs.declared.tree.CoreTree.TheFolds.{map-CoreTree, ind-CoreTree}
+use Rattle.cpa_model_trees.specs.declared.tree.Head.{Head}
+use Rattle.cpa_model_trees.specs.declared.tree.Head.TheVariants as head
+use Rattle.cpa_model_trees.specs.Numbering.{Trees, Placed, joined, statements, numbers_from}
+use Rattle.cpa_model_trees.specs.Numbering.{stmt_of}
 use Rattle.c_core_laws.specs.Jumps.{Jumps, all_jumps, head_jumps, node_jumps, tree_jumps}
-use Rattle.c_core_laws.proofs.Shapes.{HasParts, node_of, open_statements}
-use Rattle.c_core_laws.specs.lemmas.BodyCounts.{numbers_length}
+use Rattle.cpa_model_trees.specs.Shapes.{HasParts}
+use Rattle.cpa_model_trees.specs.lemmas.Nodes.{node_of, open_statements, numbers_length}
 use Rattle.c_core_laws.proofs.Jumping.{open_jumps}
-use Rattle.c_core_laws.proofs.Numbered.{get_split, Behind, one_further, nothing_further, lengths}
+use Rattle.cpa_model_trees.specs.lemmas.Numbered.{get_split, Behind, one_further, nothing_further}
+use Rattle.cpa_model_trees.specs.lemmas.Numbered.{lengths}
 use Rattle.c_core_laws.proofs.ProgramTrees.{PlacedAt, placed_left, placed_right, placed_tail}
 use Rattle.c_core_laws.proofs.ProgramTrees.{placed_root, AllFit, fit_left, fit_right, part_at}
 

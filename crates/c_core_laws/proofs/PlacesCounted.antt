@@ -1,6 +1,6 @@
 -- Assignments follow the counts.
-use Rattle.std.proofs.Common.{◌≡◌, ℕ, max, Bool, true, false, if◌then◌else◌, [], ◌∷◌}
-use Rattle.std.proofs.Common.{◌++◌, Option, None, Some, refl, ap, ◌∙◌, arith, pos}
+use Rattle.std.proofs.Common.{◌≡◌, ℕ, max, Bool, true, false, if◌then◌else◌, [], ◌∷◌, ◌++◌, Option}
+use Rattle.std.proofs.Common.{None, Some, refl, ap, ◌∙◌, arith, pos}
 use Rattle.std.specs.Prelude.{is_some}
 use Rattle.cpa_ints.specs.declared.integers.IntType.{IntType}
 use Rattle.cpa_ints.specs.declared.integers.IntType.TheVariants as ty
@@ -16,29 +16,25 @@ use Rattle.c_types_rules.specs.declared.meaning.Meaning.TheVariants as meaning
 use Rattle.c_core_rules.specs.declared.tree.Location.{Location}
 use Rattle.c_core_rules.specs.declared.tree.Valued.{Valued}
 use Rattle.c_core_rules.specs.Values.{is_constant, scalar, element, first_index, int, cell_at}
-use Rattle.c_core_rules.specs.Trees.{Trees, valued, pure, set, write}
+use Rattle.cpa_model_trees.specs.Numbering.{Trees}
+use Rattle.c_core_rules.specs.Trees.{valued, pure, set, write}
 use Rattle.c_core_rules.specs.Cells.{Taken, location_in}
 use Rattle.c_core_rules.specs.Cells as core
 use Rattle.c_core_rules.specs.Acts as acts
 use Rattle.c_core_rules.specs.Places as places
-use Rattle.c_core_rules.specs.Expressions.{placed, assigning, incrementing, stepping}
-use Rattle.c_core_rules.specs.Expressions.{scalar_target, element_target, no_target}
+use Rattle.c_core_rules.specs.Expressions.{placed, assigning, incrementing, stepping, scalar_target}
+use Rattle.c_core_rules.specs.Expressions.{element_target, no_target}
 use Rattle.c_core_rules.specs.Expressions as rows
-use Rattle.c_types_rules.specs.Counts.{Size, Counted, empty, both, one, type_named}
-use Rattle.c_types_rules.specs.Counts.{operator_of}
+use Rattle.c_types_rules.specs.Counts.{Size, Counted, empty, both, one, type_named, operator_of}
 use Rattle.c_types_rules.specs.Counts as counts
 use Rattle.c_core_laws.proofs.Sums.{size_is, both_assoc, empty_both}
-use Rattle.c_core_laws.proofs.Heights.{first_height, element_height, element_type}
-use Rattle.c_core_laws.proofs.Heights.{constant_element, tall, int_type_is, int_height}
-use Rattle.c_core_laws.proofs.Heights.{constant_const}
-use Rattle.c_core_laws.proofs.Following.{Follows, View, of_values}
-use Rattle.c_core_laws.proofs.Following.{seen}
-use Rattle.c_core_laws.proofs.Following.{trees_size, given}
+use Rattle.c_core_laws.proofs.Heights.{first_height, element_height, element_type, constant_element}
+use Rattle.c_core_laws.proofs.Heights.{tall, int_type_is, int_height, constant_const}
+use Rattle.c_core_laws.proofs.Following.{Follows, View, of_values, seen, trees_size, given}
 use Rattle.c_core_laws.proofs.Sized.{behind_sized, write_sized, joined_sized, none_sized}
 use Rattle.c_core_laws.proofs.Rules.{seen_is, followed, recounted, freshly}
-use Rattle.c_core_laws.proofs.ActsCounted.{operated_seen}
-use Rattle.c_core_laws.proofs.ActsCounted.{fixed_follows}
-use Rattle.c_core_laws.proofs.ActsCounted.{held_before_follows, set_own, scalar_seen}
+use Rattle.c_core_laws.proofs.ActsCounted.{operated_seen, fixed_follows, held_before_follows}
+use Rattle.c_core_laws.proofs.ActsCounted.{set_own, scalar_seen}
 
 -- what a name stands for has its type
 pub location_type : (taken : Taken) (found : Option Meaning) →

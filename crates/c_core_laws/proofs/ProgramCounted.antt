@@ -4,18 +4,18 @@ use Rattle.std.proofs.Common.{sym, ◌∙◌, subst, arith, length-append}
 use Rattle.cpa_expr.specs.Shape.{greatest}
 use Rattle.cpa_model.specs.declared.program.Stmt.{Stmt}
 use Rattle.c_types_rules.specs.Counts.{Size, both, one, empty, joined_sizes}
-use Rattle.c_core_rules.specs.declared.tree.CoreTree.{CoreTree, roll-CoreTree}
-use Rattle.c_core_rules.specs.declared.tree.CoreTree.TheOpen.{CoreTree-F}
-use Rattle.c_core_rules.specs.declared.tree.CoreTree.TheFolds.{map-CoreTree, ind-CoreTree}
-use Rattle.c_core_rules.specs.declared.tree.CoreTree.TheFolds.{fold-roll-CoreTree}
-use Rattle.c_core_rules.specs.declared.tree.Head.{Head}
-use Rattle.c_core_rules.specs.declared.tree.Head.TheVariants as head
-use Rattle.c_core_rules.specs.Trees.{Trees}
-use Rattle.c_core_rules.specs.Programs.{Placed, joined, node_statements, statements, numbers_from}
-use Rattle.c_core_rules.specs.Programs.{stmt_of, labels_from, numbered, numbered_bodies}
+use Rattle.cpa_model_trees.specs.declared.tree.CoreTree.{CoreTree, roll-CoreTree}
+use Rattle.cpa_model_trees.specs.declared.tree.CoreTree.TheOpen.{CoreTree-F}
+use Rattle.cpa_model_trees.specs.declared.tree.CoreTree.TheFolds.{map-CoreTree, ind-CoreTree}
+use Rattle.cpa_model_trees.specs.declared.tree.CoreTree.TheFolds.{fold-roll-CoreTree}
+use Rattle.cpa_model_trees.specs.declared.tree.Head.{Head}
+use Rattle.cpa_model_trees.specs.declared.tree.Head.TheVariants as head
+use Rattle.cpa_model_trees.specs.Numbering.{Trees, Placed, joined, node_statements, statements}
+use Rattle.cpa_model_trees.specs.Numbering.{numbers_from, stmt_of, labels_from, numbered}
+use Rattle.cpa_model_trees.specs.Numbering.{numbered_bodies}
 use Rattle.c_core_laws.specs.Sizes.{stmt_height}
 use Rattle.c_core_laws.proofs.Sums.{size_is, both_assoc, empty_both}
-use Rattle.c_core_laws.proofs.Shapes.{open_statements}
+use Rattle.cpa_model_trees.specs.lemmas.Nodes.{open_statements}
 use Rattle.c_core_laws.proofs.Following.{head_height, node_size, tree_size}
 use Rattle.c_core_laws.proofs.TextCounted.{text_size, function_size}
 

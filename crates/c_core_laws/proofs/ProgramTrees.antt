@@ -10,19 +10,19 @@ use Rattle.cpa_model.specs.declared.program.Program.{Program}
 use Rattle.cpa_model.specs.Programs.{IsStmt, IsBody, IsPart, after_part}
 use Rattle.cpa_model.specs.lemmas.Parts.{part_of_place}
 use Rattle.c_types_rules.specs.declared.typed.TypedUnit.{TypedUnit}
-use Rattle.c_core_rules.specs.declared.tree.CoreTree.{CoreTree, roll-CoreTree}
-use Rattle.c_core_rules.specs.declared.tree.CoreTree.TheOpen.{CoreTree-F}
-use Rattle.c_core_rules.specs.declared.tree.CoreTree.TheFolds.{map-CoreTree, ind-CoreTree}
-use Rattle.c_core_rules.specs.declared.tree.Head.{Head}
-use Rattle.c_core_rules.specs.Trees.{Trees}
-use Rattle.c_core_rules.specs.Programs.{Placed, joined, statements, numbers_from, stmt_of}
-use Rattle.c_core_rules.specs.Programs.{labels_from, numbered, numbered_bodies, IsCore, text_core}
-use Rattle.c_core_laws.proofs.Shapes.{HasParts, PlacedFits, parts_are, node_of, open_statements}
-use Rattle.c_core_laws.specs.lemmas.BodyCounts.{numbers_length}
-use Rattle.c_core_laws.proofs.Jumping.{Anything}
-use Rattle.c_core_laws.proofs.Numbered.{get_left, get_right, get_split, Behind, none_first}
-use Rattle.c_core_laws.proofs.Numbered.{one_further, nothing_further, lengths, lengths_are}
-use Rattle.c_core_laws.proofs.Numbered.{IsPlaced, numbered_at, numbered_length}
+use Rattle.cpa_model_trees.specs.declared.tree.CoreTree.{CoreTree, roll-CoreTree}
+use Rattle.cpa_model_trees.specs.declared.tree.CoreTree.TheOpen.{CoreTree-F}
+use Rattle.cpa_model_trees.specs.declared.tree.CoreTree.TheFolds.{map-CoreTree, ind-CoreTree}
+use Rattle.cpa_model_trees.specs.declared.tree.Head.{Head}
+use Rattle.cpa_model_trees.specs.Numbering.{Trees, Placed, joined, statements, numbers_from}
+use Rattle.cpa_model_trees.specs.Numbering.{stmt_of, labels_from, numbered, numbered_bodies}
+use Rattle.c_core_rules.specs.Programs.{IsCore, text_core}
+use Rattle.cpa_model_trees.specs.Shapes.{HasParts, PlacedFits, Anything}
+use Rattle.cpa_model_trees.specs.lemmas.Nodes.{parts_are, node_of, open_statements, numbers_length}
+use Rattle.cpa_model_trees.specs.lemmas.Numbered.{get_left, get_right, get_split, Behind}
+use Rattle.cpa_model_trees.specs.lemmas.Numbered.{none_first, one_further, nothing_further, lengths}
+use Rattle.cpa_model_trees.specs.lemmas.Numbered.{lengths_are, IsPlaced, numbered_at}
+use Rattle.cpa_model_trees.specs.lemmas.Numbered.{numbered_length}
 
 -- these statements stand in the program from a number on, in a function with these labels
 pub record PlacedAt (P : Program) (labels : List ℕ) (first : ℕ) (placed : List Placed) : Type 0
@@ -247,11 +247,11 @@ tree_stands unit P is k t at =
       first = r.skipped;
       body =
           ap (λ (bodies : List ℕ). slice_get bodies k)
-          (is.bodies ∙ ap (numbers_from 0) (sym (lengths_are trees)))
+          (is.trees.bodies ∙ ap (numbers_from 0) (sym (lengths_are trees)))
           ∙ r.body ∙ ap (λ m. Some m) here;
       placed = record {
         at = λ i p e.
-            ap (λ (all : List Stmt). slice_get all (r.skipped + i)) is.stmts ∙ r.at i p e
+            ap (λ (all : List Stmt). slice_get all (r.skipped + i)) is.trees.stmts ∙ r.at i p e
             ∙ ap (λ m. Some (tree_stmt t m i p)) here;
       };
     }
@@ -327,4 +327,4 @@ pub in_tree : (unit : TypedUnit) (P : Program) → IsCore unit P → (n : ℕ) (
     IsStmt P n s → InTree 0 (text_core unit).made n s
 in_tree unit P is n s at =
     in_some_tree 0 (text_core unit).made n s
-    (ap (λ (all : List Stmt). slice_get all n) (sym is.stmts) ∙ at)
+    (ap (λ (all : List Stmt). slice_get all n) (sym is.trees.stmts) ∙ at)

@@ -1,8 +1,6 @@
 -- Each form of an expression follows its count.
-use Rattle.std.proofs.Common.{◌≡◌, ℕ, zero, suc, ◌-◌, true, false}
-use Rattle.std.proofs.Common.{List, [], ◌∷◌, ◌++◌, map, Option, None, Some, refl, ap, sym, ◌∙◌}
-use Rattle.std.proofs.Common.{subst}
-use Rattle.std.proofs.Common.{arith, ℤ, ◌==◌}
+use Rattle.std.proofs.Common.{◌≡◌, ℕ, zero, suc, ◌-◌, true, false, List, [], ◌∷◌, ◌++◌, map, Option}
+use Rattle.std.proofs.Common.{None, Some, refl, ap, sym, ◌∙◌, subst, arith, ℤ, ◌==◌}
 use Rattle.std.specs.Prelude.{unwrap_or}
 use Rattle.std.proofs.lemmas.Bool.{ne_eqb}
 use Rattle.cpa_ints.specs.declared.integers.IntType.{IntType}
@@ -21,11 +19,12 @@ use Rattle.c_types_rules.specs.declared.meaning.Meaning.{Meaning}
 use Rattle.c_types_rules.specs.declared.meaning.Meaning.TheVariants as meaning
 use Rattle.c_types_rules.specs.Types.{object_type}
 use Rattle.c_types_rules.specs.declared.typed.TypedExpression.TheOpen.{TypedSuffix-F}
-use Rattle.c_core_rules.specs.declared.tree.Head.TheVariants as head
+use Rattle.cpa_model_trees.specs.declared.tree.Head.TheVariants as head
 use Rattle.c_core_rules.specs.declared.tree.Location.{Location}
 use Rattle.c_core_rules.specs.declared.tree.Valued.{Valued}
 use Rattle.c_core_rules.specs.Values.{scalar, element, cell_at}
-use Rattle.c_core_rules.specs.Trees.{Trees, leaf, choice, valued, pure, set, input}
+use Rattle.cpa_model_trees.specs.Numbering.{Trees}
+use Rattle.c_core_rules.specs.Trees.{leaf, choice, valued, pure, set, input}
 use Rattle.c_core_rules.specs.Cells.{location_in}
 use Rattle.c_core_rules.specs.Cells as core
 use Rattle.c_core_rules.specs.Acts as acts
@@ -33,18 +32,15 @@ use Rattle.c_core_rules.specs.Expressions as rows
 use Rattle.c_types_rules.specs.Counts.{Size, Counted, empty, both, one, type_named}
 use Rattle.c_types_rules.specs.Counts as counts
 use Rattle.c_core_laws.proofs.Heights.{constant_const, tall}
-use Rattle.c_core_laws.proofs.Following.{Follows, of_values, of_trees, seen}
-use Rattle.c_core_laws.proofs.Following.{trees_size, given}
+use Rattle.c_core_laws.proofs.Following.{Follows, of_values, of_trees, seen, trees_size, given}
 use Rattle.c_core_laws.proofs.Sized.{behind_sized, joined_sized, none_sized, more_sized, only_sized}
 use Rattle.c_core_laws.proofs.Sized.{leaf_sized, choice_sized}
-use Rattle.c_core_laws.proofs.Rules.{seen_is, followed, freshly}
-use Rattle.c_core_laws.proofs.Rules.{EachFollows, no_rule, one_more, each_followed}
-use Rattle.c_core_laws.proofs.ActsCounted.{scalar_seen, set_tall, hold_all_follows}
-use Rattle.c_core_laws.proofs.ActsCounted.{linked_follows, chosen_follows, dropped_follows}
-use Rattle.c_core_laws.proofs.ActsCounted.{cast_seen}
+use Rattle.c_core_laws.proofs.Rules.{seen_is, followed, freshly, EachFollows, no_rule, one_more}
+use Rattle.c_core_laws.proofs.Rules.{each_followed}
+use Rattle.c_core_laws.proofs.ActsCounted.{scalar_seen, set_tall, hold_all_follows, linked_follows}
+use Rattle.c_core_laws.proofs.ActsCounted.{chosen_follows, dropped_follows, cast_seen}
 use Rattle.c_core_laws.proofs.PlacesCounted.{SameTarget, same_scalar, same_element, same_none}
-use Rattle.c_core_laws.proofs.PlacesCounted.{location_type, element_seen, at_each}
-use Rattle.c_core_laws.proofs.PlacesCounted.{int_follows}
+use Rattle.c_core_laws.proofs.PlacesCounted.{location_type, element_seen, at_each, int_follows}
 use Rattle.c_core_laws.proofs.PlacesCounted.{incrementing_follows, stepping_follows}
 
 pub record FollowsRows (r : rows.Rows) (c : counts.Rows) : Type 0 where

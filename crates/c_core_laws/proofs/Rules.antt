@@ -8,12 +8,12 @@ use Rattle.c_core_rules.specs.declared.tree.Valued.{Valued}
 use Rattle.cpa_model.specs.declared.program.Cell.{Cell}
 use Rattle.c_core_rules.specs.declared.tree.Location.{Location}
 use Rattle.c_core_rules.specs.Values.{is_constant, cell_at}
-use Rattle.c_core_rules.specs.Trees.{Trees}
+use Rattle.cpa_model_trees.specs.Numbering.{Trees}
 use Rattle.c_core_rules.specs.Cells as core
 use Rattle.c_types_rules.specs.Counts.{Size, Counted, empty, both}
 use Rattle.c_types_rules.specs.Counts as counts
-use Rattle.c_core_laws.proofs.Following.{Follows, View, extended, of_trees, types, seen}
-use Rattle.c_core_laws.proofs.Following.{trees_size, given}
+use Rattle.c_core_laws.proofs.Following.{Follows, View, extended, of_trees, types, seen, trees_size}
+use Rattle.c_core_laws.proofs.Following.{given}
 use Rattle.c_core_laws.proofs.Sized.{joined_sized, none_sized}
 
 pub made_is : {T : Type 0} (a b : counts.Made T) → a.cells ≡ b.cells → a.made ≡ b.made → a ≡ b

@@ -1,6 +1,6 @@
 -- The rules of expressions make trees whose nodes have the parts of their heads.
-use Rattle.std.proofs.Common.{Bool, true, if◌then◌else◌, ◌&&◌, List, [], ◌∷◌}
-use Rattle.std.proofs.Common.{◌++◌, map, Option, None, Some, refl}
+use Rattle.std.proofs.Common.{Bool, true, if◌then◌else◌, ◌&&◌, List, [], ◌∷◌, ◌++◌, map, Option}
+use Rattle.std.proofs.Common.{None, Some, refl}
 use Rattle.std.specs.List.{AllByRecursion}
 use Rattle.std.specs.Prelude.{is_some, unwrap_or}
 use Rattle.cpa_ints.specs.declared.integers.IntType.TheVariants as ty
@@ -23,27 +23,30 @@ use Rattle.c_types_rules.specs.Types.{object_type}
 use Rattle.c_types_rules.specs.Known.{known_result}
 use Rattle.c_types_rules.specs.declared.typed.TypedExpression.TheOpen.{TypedSuffix-F}
 use Rattle.c_types_rules.specs.Counts.{operator_of}
-use Rattle.c_core_rules.specs.declared.tree.Head.TheVariants as head
+use Rattle.cpa_model_trees.specs.declared.tree.Head.TheVariants as head
 use Rattle.c_core_rules.specs.declared.tree.Location.{Location}
 use Rattle.c_core_rules.specs.declared.tree.Place.{Place}
 use Rattle.c_core_rules.specs.declared.tree.Place.TheVariants as place
 use Rattle.c_core_rules.specs.declared.tree.Valued.{Valued}
 use Rattle.c_core_rules.specs.Values.{is_constant, scalar, element, first_index, truth_of, int}
-use Rattle.c_core_rules.specs.Values.{cell_at}
-use Rattle.c_core_rules.specs.Values.{chosen_value}
-use Rattle.c_core_rules.specs.Trees.{Trees, leaf, choice, valued, pure, set, write, input}
+use Rattle.c_core_rules.specs.Values.{cell_at, chosen_value}
+use Rattle.cpa_model_trees.specs.Numbering.{Trees}
+use Rattle.c_core_rules.specs.Trees.{leaf, choice, valued, pure, set, write, input}
 use Rattle.c_core_rules.specs.Cells.{location_in}
 use Rattle.c_core_rules.specs.Cells as core
 use Rattle.c_core_rules.specs.Acts as acts
 use Rattle.c_core_rules.specs.Places as places
 use Rattle.c_core_rules.specs.Expressions as rows
 use Rattle.c_core_rules.specs.Expressions.{scalar_target, element_target, no_target}
-use Rattle.c_core_rules.specs.declared.tree.CoreTree.{CoreTree}
-use Rattle.c_core_rules.specs.declared.tree.Head.{Head}
-use Rattle.c_core_laws.proofs.Shapes.{HasParts, IsPlain, Makes, makes, makes_then, makes_either}
+use Rattle.cpa_model_trees.specs.declared.tree.CoreTree.{CoreTree}
+use Rattle.cpa_model_trees.specs.declared.tree.Head.{Head}
+use Rattle.cpa_model_trees.specs.Shapes.{HasParts}
+use Rattle.c_core_laws.proofs.Shapes.{IsPlain, Makes, makes, makes_then, makes_either}
 use Rattle.c_core_laws.proofs.Shapes.{makes_freshly, makes_at, makes_each, EachMakes, none_makes}
 use Rattle.c_core_laws.proofs.Shapes.{more_make}
 use Rattle.c_core_laws.proofs.Shapes as shapes
+use Rattle.cpa_model_trees.specs.Shapes as trees
+use Rattle.cpa_model_trees.specs.lemmas.Nodes as nodes
 
 -- plain trees: the heads are plain
 
@@ -51,7 +54,7 @@ own : (h : Head) → IsPlain h → IsPlain h
 own h is = is
 
 abbrev pub Shaped : CoreTree → Type 0
-Shaped t = shapes.Shaped IsPlain t
+Shaped t = trees.Shaped IsPlain t
 
 abbrev pub AllShaped : Trees → Type 0
 AllShaped trees = AllByRecursion Shaped trees
@@ -73,10 +76,10 @@ choice_shaped : (test : Expr) (first second : Trees) → AllShaped first → All
 choice_shaped = shapes.choice_shaped IsPlain own
 
 pub append_shaped : (xs ys : Trees) → AllShaped xs → AllShaped ys → AllShaped (xs ++ ys)
-append_shaped = shapes.append_shaped IsPlain own
+append_shaped = nodes.append_shaped IsPlain
 
 pub push_shaped : (xs : Trees) (t : CoreTree) → AllShaped xs → Shaped t → AllShaped (xs ++ t ∷ [])
-push_shaped = shapes.push_shaped IsPlain own
+push_shaped = nodes.push_shaped IsPlain
 
 pub makes_ordered : {rules : List (core.Rule Trees)} → EachMakes AllShaped rules →
     Makes AllShaped (core.in_order rules)

@@ -1,61 +1,18 @@
--- Trees whose nodes have as many parts as their heads have, and rules that make such trees.
-use Rattle.std.proofs.Common.{◌≡◌, ℕ, Bool, true, false, if◌then◌else◌, List, [], ◌∷◌, ◌++◌, map}
-use Rattle.std.proofs.Common.{length, refl, sym, ◌∙◌, subst, arith}
+-- The trees that the rules make have nodes with as many parts as their heads ask for.
+use Rattle.std.proofs.Common.{Bool, true, false, if◌then◌else◌, List, [], ◌∷◌, ◌++◌, length, refl}
 use Rattle.std.specs.List.{AllByRecursion}
-use Rattle.std.proofs.lemmas.List.{length-map}
 use Rattle.cpa_ints.specs.declared.integers.IntType.{IntType}
 use Rattle.cpa_expr.specs.declared.tree.Expr.{Expr}
-use Rattle.cpa_model.specs.Programs.{parts_of}
-use Rattle.cpa_model.specs.lemmas.Parts.{firsts_items}
-use Rattle.c_core_rules.specs.declared.tree.CoreTree.{CoreTree, roll-CoreTree}
-use Rattle.c_core_rules.specs.declared.tree.CoreTree.TheOpen.{CoreTree-F}
-use Rattle.c_core_rules.specs.declared.tree.CoreTree.TheVariants.{Node}
-use Rattle.c_core_rules.specs.declared.tree.CoreTree.TheFolds.{fold-roll-CoreTree, map-CoreTree}
-use Rattle.c_core_rules.specs.declared.tree.Head.{Head}
-use Rattle.c_core_rules.specs.declared.tree.Head.TheVariants as head
+use Rattle.cpa_model_trees.specs.declared.tree.Head.{Head}
+use Rattle.cpa_model_trees.specs.declared.tree.Head.TheVariants as head
 use Rattle.c_core_rules.specs.declared.tree.Location.{Location}
 use Rattle.c_core_rules.specs.Values.{cell_at, conv, first_index}
-use Rattle.c_core_rules.specs.Trees.{Trees, leaf, block, choice, repeated, write, set}
+use Rattle.cpa_model_trees.specs.Numbering.{Trees}
+use Rattle.c_core_rules.specs.Trees.{leaf, block, choice, repeated, write, set}
 use Rattle.c_core_rules.specs.Cells.{Taken}
 use Rattle.c_core_rules.specs.Cells as core
-use Rattle.c_core_rules.specs.Programs.{Placed, joined, node_statements, statements, stmt_of, part}
-use Rattle.c_core_laws.specs.lemmas.Nodes.{node_placed}
-
--- so many parts belong to a head
-abbrev pub HasParts : Head → ℕ → Type 0
-HasParts head.Block n = Unit {0}
-HasParts head.Labeled n = Unit {0}
-HasParts (head.If test) n = n ≡ 2
-HasParts head.Loop n = n ≡ 2
-HasParts _ n = n ≡ 0
-
-two_parts : (numbers : List ℕ) → length numbers ≡ 2 →
-    part numbers 0 ∷ part numbers 1 ∷ [] ≡ numbers
-two_parts [] is = absurd (omega (arith, is))
-two_parts (a ∷ []) is = absurd (omega (arith, is))
-two_parts (a ∷ b ∷ []) is = refl
-two_parts (a ∷ b ∷ c ∷ more) is = absurd (omega (arith, is))
-
-no_part : (numbers : List ℕ) → length numbers ≡ 0 → [] ≡ numbers
-no_part [] is = refl
-no_part (a ∷ more) is = absurd (omega (arith, is))
-
--- the parts of a statement are those that it is made of
-pub parts_are : (labels : List ℕ) (h : Head) (numbers : List ℕ) → HasParts h (length numbers) →
-    parts_of (stmt_of labels h numbers) ≡ numbers
-parts_are labels head.Block numbers has = firsts_items numbers
-parts_are labels head.Labeled numbers has = firsts_items numbers
-parts_are labels (head.If test) numbers has = two_parts numbers has
-parts_are labels head.Loop numbers has = two_parts numbers has
-parts_are labels (head.Assign base len index value) numbers has = no_part numbers has
-parts_are labels (head.Input cell) numbers has = no_part numbers has
-parts_are labels (head.Call function) numbers has = no_part numbers has
-parts_are labels (head.Goto label) numbers has = no_part numbers has
-parts_are labels head.Break numbers has = no_part numbers has
-parts_are labels head.Continue numbers has = no_part numbers has
-parts_are labels head.Leave numbers has = no_part numbers has
-parts_are labels head.Stop numbers has = no_part numbers has
-parts_are labels head.Error numbers has = no_part numbers has
+use Rattle.cpa_model_trees.specs.Shapes.{HasParts, Shaped, AllShaped}
+use Rattle.cpa_model_trees.specs.lemmas.Nodes.{shaped_node}
 
 -- a head that is no label, no loop and no jump
 abbrev pub IsPlain : Head → Type 0
@@ -67,51 +24,9 @@ IsPlain head.Continue = ⊥
 IsPlain head.Leave = ⊥
 IsPlain _ = Unit {0}
 
--- so many parts, and a head of this kind
-abbrev pub PlacedFits : (Head → Type 0) → Placed → Type 0
-PlacedFits H p = HasParts p.head (length p.sizes) × H p.head
-
--- each statement of a tree has the parts of its head, which is of this kind
-pub record Shaped (H : Head → Type 0) (t : CoreTree) : Type 0 where
-  pub all : AllByRecursion (PlacedFits H) (statements t)
-
-abbrev pub AllShaped : (Head → Type 0) → Trees → Type 0
-AllShaped H trees = AllByRecursion (Shaped H) trees
-
--- the statements of a tree, opened at its node
-abbrev pub node_of : CoreTree-F CoreTree → List Placed
-node_of x = node_statements (map-CoreTree CoreTree (List Placed) statements x)
-
-pub open_statements : (x : CoreTree-F CoreTree) → statements (roll-CoreTree x) ≡ node_of x
-unfolding statements
-open_statements x = fold-roll-CoreTree (List Placed) node_statements x
-
 module _ (H : Head → Type 0) (plain : (h : Head) → IsPlain h → H h) where
-  fits_append : (a b : List Placed) → AllByRecursion (PlacedFits H) a →
-      AllByRecursion (PlacedFits H) b → AllByRecursion (PlacedFits H) (a ++ b)
-  fits_append [] b h k = k
-  fits_append (p ∷ a) b h k = (h.0, fits_append a b h.1 k)
-
-  pub joined_fit : (trees : Trees) → AllShaped H trees →
-      AllByRecursion (PlacedFits H) (joined (map statements trees))
-  joined_fit [] h = tt
-  joined_fit (t ∷ trees) h =
-      fits_append (statements t) (joined (map statements trees)) h.0.all (joined_fit trees h.1)
-
-  pub shaped_node : (h : Head) (parts : Trees) → HasParts h (length parts) → H h →
-      AllShaped H parts → Shaped H (Node h parts)
-  shaped_node h parts has is all =
-      let sizes : List ℕ = map length (map statements parts) in
-      let many : length sizes ≡ length parts =
-      length-map (map statements parts) (λ (placed : List Placed). length placed)
-      ∙ length-map parts statements in
-      record {
-        all = subst (AllByRecursion (PlacedFits H)) (sym (node_placed h parts))
-            ((subst (HasParts h) (sym many) has, is), joined_fit parts all);
-      }
-
   pub leaf_shaped : (h : Head) → HasParts h 0 → H h → Shaped H (leaf h)
-  leaf_shaped h has is = shaped_node h [] has is tt
+  leaf_shaped h has is = shaped_node H h [] has is tt
 
   pub set_shaped : (place : Location) (v : Expr) → Shaped H (set place v)
   set_shaped place v =
@@ -124,27 +39,19 @@ module _ (H : Head → Type 0) (plain : (h : Head) → IsPlain h → H h) where
       leaf_shaped h refl (plain h tt)
 
   pub block_shaped : (items : Trees) → AllShaped H items → Shaped H (block items)
-  block_shaped items all = shaped_node head.Block items tt (plain head.Block tt) all
+  block_shaped items all = shaped_node H head.Block items tt (plain head.Block tt) all
 
   pub choice_shaped : (test : Expr) (first second : Trees) → AllShaped H first →
       AllShaped H second → Shaped H (choice test first second)
   choice_shaped test first second a b =
-      shaped_node (head.If test) (block first ∷ block second ∷ []) refl (plain (head.If test) tt)
+      shaped_node H (head.If test) (block first ∷ block second ∷ []) refl (plain (head.If test) tt)
       (block_shaped first a, (block_shaped second b, tt))
 
   pub repeated_shaped : (body step : Trees) → H head.Loop → AllShaped H body →
       AllShaped H step → Shaped H (repeated body step)
   repeated_shaped body step is a b =
-      shaped_node head.Loop (block body ∷ block step ∷ []) refl is
+      shaped_node H head.Loop (block body ∷ block step ∷ []) refl is
       (block_shaped body a, (block_shaped step b, tt))
-
-  pub append_shaped : (xs ys : Trees) → AllShaped H xs → AllShaped H ys → AllShaped H (xs ++ ys)
-  append_shaped [] ys a b = b
-  append_shaped (t ∷ xs) ys a b = (a.0, append_shaped xs ys a.1 b)
-
-  pub push_shaped : (xs : Trees) (t : CoreTree) → AllShaped H xs → Shaped H t →
-      AllShaped H (xs ++ t ∷ [])
-  push_shaped xs t a b = append_shaped xs (t ∷ []) a (b, tt)
 
 -- what a rule makes, whatever is taken before it
 pub record Makes {S : Type 0} (P : S → Type 0) (rule : core.Rule S) : Type 0 where

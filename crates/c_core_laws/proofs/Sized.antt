@@ -1,21 +1,20 @@
 -- How large trees are, by how they are put together.
-use Rattle.std.proofs.Common.{◌≡◌, ◌≤◌, max, [], ◌∷◌, ◌++◌}
-use Rattle.std.proofs.Common.{◌==◌, refl, ap, sym, ◌∙◌, arith}
+use Rattle.std.proofs.Common.{◌≡◌, ◌≤◌, max, [], ◌∷◌, ◌++◌, ◌==◌, refl, ap, sym, ◌∙◌, arith}
 use Rattle.std.proofs.lemmas.Bool.{ne_eqb}
 use Rattle.cpa_expr.specs.declared.tree.Expr.{Expr}
 use Rattle.cpa_expr.specs.Shape.{type_of, height}
-use Rattle.c_core_rules.specs.declared.tree.CoreTree.{CoreTree, out-CoreTree, roll-CoreTree}
-use Rattle.c_core_rules.specs.declared.tree.CoreTree.TheViews.{roll-out-CoreTree}
-use Rattle.c_core_rules.specs.declared.tree.CoreTree.TheVariants.{Node, rolls-Node}
-use Rattle.c_core_rules.specs.declared.tree.CoreTree.TheOpen.{CoreTree-F}
-use Rattle.c_core_rules.specs.declared.tree.CoreTree.TheFolds.{fold-roll-CoreTree}
-use Rattle.c_core_rules.specs.declared.tree.Head.{Head}
-use Rattle.c_core_rules.specs.declared.tree.Head.TheVariants as head
+use Rattle.cpa_model_trees.specs.declared.tree.CoreTree.{CoreTree, out-CoreTree, roll-CoreTree}
+use Rattle.cpa_model_trees.specs.declared.tree.CoreTree.TheViews.{roll-out-CoreTree}
+use Rattle.cpa_model_trees.specs.declared.tree.CoreTree.TheVariants.{Node, rolls-Node}
+use Rattle.cpa_model_trees.specs.declared.tree.CoreTree.TheOpen.{CoreTree-F}
+use Rattle.cpa_model_trees.specs.declared.tree.CoreTree.TheFolds.{fold-roll-CoreTree}
+use Rattle.cpa_model_trees.specs.declared.tree.Head.{Head}
+use Rattle.cpa_model_trees.specs.declared.tree.Head.TheVariants as head
 use Rattle.c_core_rules.specs.declared.tree.Location.{Location}
 use Rattle.c_core_rules.specs.Values.{conv, first_index}
 use Rattle.c_core_rules.specs.Acts.{is_nil}
 use Rattle.c_core_rules.specs.Trees as tree
-use Rattle.c_core_rules.specs.Trees.{Trees}
+use Rattle.cpa_model_trees.specs.Numbering.{Trees}
 use Rattle.c_types_rules.specs.Counts.{Size, empty, one, both, converted_height, looped}
 use Rattle.c_types_rules.specs.Counts as counts
 use Rattle.c_core_laws.proofs.Sums.{both_assoc, empty_both, both_empty}

@@ -20,7 +20,7 @@ use Rattle.c_types_rules.specs.declared.typed.TypedForStart.{TypedForStart}
 use Rattle.c_types_rules.specs.declared.typed.TypedForStart.TheVariants as start
 use Rattle.c_types_rules.specs.Counts.{empty, both, one, cells_of}
 use Rattle.c_types_rules.specs.Counts as counts
-use Rattle.c_core_rules.specs.declared.tree.Head.TheVariants as head
+use Rattle.cpa_model_trees.specs.declared.tree.Head.TheVariants as head
 use Rattle.c_core_rules.specs.declared.tree.Location.{Location}
 use Rattle.c_core_rules.specs.Values.{cell_at}
 use Rattle.c_core_rules.specs.Trees.{leaf, choice, set, input}

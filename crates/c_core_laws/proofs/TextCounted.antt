@@ -1,7 +1,5 @@
 -- A text follows its count.
-use Rattle.std.proofs.Common.{◌≡◌, ℕ, ◌+◌, List, [], ◌∷◌, ◌++◌, map, length, refl, ap}
-use Rattle.std.proofs.Common.{sym}
-use Rattle.std.proofs.Common.{◌∙◌}
+use Rattle.std.proofs.Common.{◌≡◌, ℕ, ◌+◌, List, [], ◌∷◌, ◌++◌, map, length, refl, ap, sym, ◌∙◌}
 use Rattle.std.proofs.lemmas.List.{length-map}
 use Rattle.cpa_ints.specs.declared.integers.IntType.{IntType}
 use Rattle.c_types_rules.specs.declared.meaning.Object.{Object}
@@ -13,10 +11,11 @@ use Rattle.c_types_rules.specs.Counts.{Size, both, one, empty, cells_of, joined_
 use Rattle.c_types_rules.specs.Counts as counts
 use Rattle.c_types_rules.specs.Sound as sound
 use Rattle.cpa_model.specs.declared.program.Cell.{Cell}
-use Rattle.c_core_rules.specs.declared.tree.CoreTree.{CoreTree}
+use Rattle.cpa_model_trees.specs.declared.tree.CoreTree.{CoreTree}
 use Rattle.c_core_rules.specs.declared.tree.Location.{Location}
 use Rattle.c_core_rules.specs.Values.{cell_at}
-use Rattle.c_core_rules.specs.Trees.{Trees, block}
+use Rattle.cpa_model_trees.specs.Numbering.{Trees}
+use Rattle.c_core_rules.specs.Trees.{block}
 use Rattle.c_core_rules.specs.Cells.{Taken}
 use Rattle.c_core_rules.specs.Cells as core
 use Rattle.c_core_rules.specs.Expressions as rows
@@ -25,14 +24,12 @@ use Rattle.c_core_rules.specs.Statements as statement
 use Rattle.c_core_rules.specs.Programs.{frames_of}
 use Rattle.c_core_laws.specs.Starts.{begins}
 use Rattle.c_core_laws.proofs.Following.{Follows, View, of_trees, trees_size, tree_size, given}
-use Rattle.c_core_laws.proofs.Following.{types}
-use Rattle.c_core_laws.proofs.Following.{counted_by}
+use Rattle.c_core_laws.proofs.Following.{types, counted_by}
 use Rattle.c_core_laws.proofs.Sized.{joined_sized, block_sized}
 use Rattle.c_core_laws.proofs.Rules.{followed, ordered, EachFollows, no_rule, one_more}
 use Rattle.c_core_laws.proofs.PlacesCounted.{at_each}
 use Rattle.c_core_laws.proofs.RowsCounted.{frame_heads}
-use Rattle.c_core_laws.proofs.StatementsCounted.{taking_types, resulting_follows}
-use Rattle.c_core_laws.proofs.StatementsCounted.{receiving_follows}
+use Rattle.c_core_laws.proofs.StatementsCounted.{taking_types, resulting_follows, receiving_follows}
 use Rattle.c_core_laws.proofs.ItemsCounted.{item_follows}
 
 -- the size of a function's tree, with its exit

@@ -6,11 +6,11 @@ use Rattle.c_types_rules.specs.declared.typed.TypedItem.{TypedItem}
 use Rattle.c_types_rules.specs.declared.typed.TypedItem.TheOpen.{TypedItem-F, TypedStatement-F}
 use Rattle.c_types_rules.specs.declared.typed.TypedItem.TheFolds.{fold-TypedItem}
 use Rattle.c_types_rules.specs.declared.typed.TypedFunction.{TypedFunction}
-use Rattle.c_core_rules.specs.declared.tree.CoreTree.{CoreTree}
-use Rattle.c_core_rules.specs.declared.tree.CoreTree.TheOpen.{CoreTree-F}
-use Rattle.c_core_rules.specs.declared.tree.CoreTree.TheFolds.{fold-CoreTree}
-use Rattle.c_core_rules.specs.declared.tree.Head.{Head}
-use Rattle.c_core_rules.specs.declared.tree.Head.TheVariants as head
+use Rattle.cpa_model_trees.specs.declared.tree.CoreTree.{CoreTree}
+use Rattle.cpa_model_trees.specs.declared.tree.CoreTree.TheOpen.{CoreTree-F}
+use Rattle.cpa_model_trees.specs.declared.tree.CoreTree.TheFolds.{fold-CoreTree}
+use Rattle.cpa_model_trees.specs.declared.tree.Head.{Head}
+use Rattle.cpa_model_trees.specs.declared.tree.Head.TheVariants as head
 use Rattle.cpa_model.specs.declared.program.Stmt.{Stmt}
 use Rattle.cpa_model.specs.declared.program.Stmt.TheVariants as stmt
 use Rattle.cpa_model.specs.declared.program.Program.{Program}

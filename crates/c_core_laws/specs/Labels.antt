@@ -9,15 +9,14 @@ use Rattle.c_types_rules.specs.declared.typed.TypedItem.TheFolds.{fold-TypedStat
 use Rattle.c_types_rules.specs.declared.typed.TypedItem.TheFolds.{map-TypedStatement}
 use Rattle.c_types_rules.specs.declared.typed.TypedStatement.{TypedStatement, roll-TypedStatement}
 use Rattle.c_types_rules.specs.declared.typed.TypedFunction.{TypedFunction}
-use Rattle.c_core_rules.specs.declared.tree.CoreTree.{CoreTree}
-use Rattle.c_core_rules.specs.declared.tree.CoreTree.TheVariants.{Node}
-use Rattle.c_core_rules.specs.declared.tree.Head.TheVariants as head
+use Rattle.cpa_model_trees.specs.declared.tree.CoreTree.{CoreTree}
+use Rattle.cpa_model_trees.specs.declared.tree.CoreTree.TheVariants.{Node}
+use Rattle.cpa_model_trees.specs.declared.tree.Head.TheVariants as head
 use Rattle.c_core_rules.specs.declared.tree.Location.{Location}
-use Rattle.c_core_rules.specs.Trees.{Trees}
+use Rattle.cpa_model_trees.specs.Numbering.{Trees, Placed, statements, labels_from, part}
 use Rattle.c_core_rules.specs.Cells.{Rule, Taken}
 use Rattle.c_core_rules.specs.Expressions.{Frames}
 use Rattle.c_core_rules.specs.Statements.{item_step, statement_step}
-use Rattle.c_core_rules.specs.Programs.{Placed, statements, labels_from, part}
 
 -- a label: its number, and the statement behind it
 pub record Label : Type 0 where

@@ -4,8 +4,9 @@ use Rattle.cpa_model.specs.declared.program.Stmt.{Stmt}
 use Rattle.cpa_model.specs.declared.program.Program.{Program}
 use Rattle.cpa_model.specs.Programs.{InFunction}
 use Rattle.c_types_rules.specs.declared.typed.TypedUnit.{TypedUnit}
-use Rattle.c_core_rules.specs.declared.tree.CoreTree.{CoreTree}
-use Rattle.c_core_rules.specs.Programs.{Placed, statements, stmt_of, text_core}
+use Rattle.cpa_model_trees.specs.declared.tree.CoreTree.{CoreTree}
+use Rattle.cpa_model_trees.specs.Numbering.{Placed, statements, stmt_of}
+use Rattle.c_core_rules.specs.Programs.{text_core}
 
 -- the statement s of number n stands in a function, and is one of those of its tree
 pub record IsOfTree (unit : TypedUnit) (P : Program) (n : ℕ) (s : Stmt) : Type 0 where

@@ -8,4 +8,3 @@ pub mod Entries
 pub mod MadeValues
 pub mod ObjectCells
 pub mod BodyCounts
-pub mod Nodes

@@ -13,7 +13,8 @@ use Rattle.c_grammar_tree.specs.declared.expression.UnaryOperator.{UnaryOperator
 use Rattle.c_core_rules.specs.declared.tree.Valued.{Valued}
 use Rattle.c_core_rules.specs.Values.{conv, operator_value, signed_value, chosen_value, truth_of}
 use Rattle.c_core_rules.specs.Values.{int, scalar, is_constant}
-use Rattle.c_core_rules.specs.Trees.{Trees, choice, set, valued}
+use Rattle.cpa_model_trees.specs.Numbering.{Trees}
+use Rattle.c_core_rules.specs.Trees.{choice, set, valued}
 use Rattle.c_core_rules.specs.Cells.{Rule, gives, then_by, fresh}
 
 abbrev pub is_nil : {A : Type 0} → List A → Bool

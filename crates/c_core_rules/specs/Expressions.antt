@@ -1,7 +1,7 @@
 -- The core of an expression (C11 6.5, from left to right), a rule for each form: E, its statements
 -- and the pure value behind them, where the value is used; D, its statements, where it is not.
-use Rattle.std.specs.Prelude.{ℕ, ◌+◌, slice_get, Bool, true, false, if◌then◌else◌, List, []}
-use Rattle.std.specs.Prelude.{◌∷◌, ◌++◌, map, Option, None, Some, unwrap_or, is_some}
+use Rattle.std.specs.Prelude.{ℕ, ◌+◌, slice_get, Bool, true, false, if◌then◌else◌, List, [], ◌∷◌}
+use Rattle.std.specs.Prelude.{◌++◌, map, Option, None, Some, unwrap_or, is_some}
 use Rattle.cpa_ints.specs.declared.integers.IntType.TheVariants as ty
 use Rattle.cpa_expr.specs.declared.tree.Expr.{Expr}
 use Rattle.cpa_expr.specs.declared.tree.Expr.TheVariants.{Const}
@@ -24,13 +24,14 @@ use Rattle.c_types_rules.specs.declared.typed.TypedFunction.{TypedFunction}
 use Rattle.c_types_rules.specs.Types.{object_type}
 use Rattle.c_types_rules.specs.Known.{known_result}
 use Rattle.c_types_rules.specs.Counts.{cells_of, operator_of, is_void}
-use Rattle.c_core_rules.specs.declared.tree.Head.TheVariants as head
+use Rattle.cpa_model_trees.specs.declared.tree.Head.TheVariants as head
 use Rattle.c_core_rules.specs.declared.tree.Location.{Location}
 use Rattle.c_core_rules.specs.declared.tree.Place.{Place}
 use Rattle.c_core_rules.specs.declared.tree.Place.TheVariants as place
 use Rattle.c_core_rules.specs.declared.tree.Valued.{Valued}
 use Rattle.c_core_rules.specs.Values.{int, element, scalar, cell_at}
-use Rattle.c_core_rules.specs.Trees.{Trees, leaf, choice, set, input, valued, pure}
+use Rattle.cpa_model_trees.specs.Numbering.{Trees}
+use Rattle.c_core_rules.specs.Trees.{leaf, choice, set, input, valued, pure}
 use Rattle.c_core_rules.specs.Cells.{Rule, gives, then_by, each, in_order, fresh, located}
 use Rattle.c_core_rules.specs.Cells.{scalar_place}
 use Rattle.c_core_rules.specs.Acts.{hold_all, statements_of, values_of, linked, signed, cast_to}

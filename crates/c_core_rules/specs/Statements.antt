@@ -1,7 +1,7 @@
 -- The core of statements and declarations (C11 6.7.9, 6.8), a rule for each form: the list of core
 -- statements that a statement becomes, which is put into the block around it.
-use Rattle.std.specs.Prelude.{ℕ, ◌+◌, ◌-◌, suc, zero, pos, List, [], ◌∷◌, ◌++◌, map, length}
-use Rattle.std.specs.Prelude.{Option, None, Some}
+use Rattle.std.specs.Prelude.{ℕ, ◌+◌, ◌-◌, suc, zero, pos, List, [], ◌∷◌, ◌++◌, map, length, Option}
+use Rattle.std.specs.Prelude.{None, Some}
 use Rattle.cpa_ints.specs.declared.integers.IntType.{IntType}
 use Rattle.cpa_expr.specs.declared.tree.Expr.TheVariants.{Const}
 use Rattle.c_types_rules.specs.declared.meaning.Kind.{Kind}
@@ -20,15 +20,15 @@ use Rattle.c_types_rules.specs.declared.typed.TypedFunction.{TypedFunction}
 use Rattle.c_types_rules.specs.declared.typed.Global.{Global}
 use Rattle.c_types_rules.specs.Types.{object_type}
 use Rattle.c_types_rules.specs.Counts.{cells_of}
-use Rattle.c_core_rules.specs.declared.tree.CoreTree.{CoreTree}
-use Rattle.c_core_rules.specs.declared.tree.CoreTree.TheVariants.{Node}
-use Rattle.c_core_rules.specs.declared.tree.Head.TheVariants as head
+use Rattle.cpa_model_trees.specs.declared.tree.CoreTree.{CoreTree}
+use Rattle.cpa_model_trees.specs.declared.tree.CoreTree.TheVariants.{Node}
+use Rattle.cpa_model_trees.specs.declared.tree.Head.TheVariants as head
 use Rattle.c_core_rules.specs.declared.tree.Location.{Location}
 use Rattle.c_core_rules.specs.declared.tree.Valued.{Valued}
 use Rattle.c_core_rules.specs.Values.{cell_at}
-use Rattle.c_core_rules.specs.Trees.{Trees, leaf, block, choice, repeated, set, input}
-use Rattle.c_core_rules.specs.Cells.{Rule, gives, then_by, each, in_order, next_cell, fresh}
-use Rattle.c_core_rules.specs.Cells.{taking}
+use Rattle.cpa_model_trees.specs.Numbering.{Trees}
+use Rattle.c_core_rules.specs.Trees.{leaf, block, choice, repeated, set, input}
+use Rattle.c_core_rules.specs.Cells.{Rule, gives, then_by, each, in_order, next_cell, fresh, taking}
 use Rattle.c_core_rules.specs.Expressions.{Frames, rows}
 
 -- e; (6.8.3p2)

@@ -1,16 +1,14 @@
--- Trees of core statements (this project's own).
-use Rattle.std.specs.Prelude.{ℕ, List, [], ◌∷◌}
+-- The trees of core statements that the rules make (this project's own).
+use Rattle.std.specs.Prelude.{ℕ, [], ◌∷◌}
 use Rattle.cpa_expr.specs.declared.tree.Expr.{Expr}
-use Rattle.c_core_rules.specs.declared.tree.CoreTree.{CoreTree}
-use Rattle.c_core_rules.specs.declared.tree.CoreTree.TheVariants.{Node}
-use Rattle.c_core_rules.specs.declared.tree.Head.{Head}
-use Rattle.c_core_rules.specs.declared.tree.Head.TheVariants as head
+use Rattle.cpa_model_trees.specs.declared.tree.CoreTree.{CoreTree}
+use Rattle.cpa_model_trees.specs.declared.tree.CoreTree.TheVariants.{Node}
+use Rattle.cpa_model_trees.specs.declared.tree.Head.{Head}
+use Rattle.cpa_model_trees.specs.declared.tree.Head.TheVariants as head
+use Rattle.cpa_model_trees.specs.Numbering.{Trees}
 use Rattle.c_core_rules.specs.declared.tree.Location.{Location}
 use Rattle.c_core_rules.specs.declared.tree.Valued.{Valued}
 use Rattle.c_core_rules.specs.Values.{conv, first_index}
-
-abbrev pub Trees : Type 0
-Trees = List CoreTree
 
 -- a statement without parts
 abbrev pub leaf : Head → CoreTree

@@ -1,52 +1,9 @@
-//! Trees of core statements, and what the rules give for an expression. The rules are in
+//! What the rules give for an expression, over trees of core statements. The rules are in
 //! `specs/Expressions.antt` and `specs/Statements.antt`. The types have no functions to prove.
 
 use cpa_expr::Expr;
 use cpa_ints::{IntType, Seq};
-
-/// A core statement without its parts. Cells and functions are named by number, a label by its
-/// number among those of its function.
-#[derive(Drop)]
-pub enum Head {
-    /// The parts in order.
-    Block,
-    /// The same, as a label's statement: the n-th of these in a function has the label n.
-    Labeled,
-    /// The first part where the test is nonzero, the second where it is zero.
-    If {
-        test: Expr,
-    },
-    /// The first part, then the second, and again without end.
-    Loop,
-    /// Writes `value` into the cell `base` + `index`, where the index is below `len`.
-    Assign {
-        base: u32,
-        len: u32,
-        index: Expr,
-        value: Expr,
-    },
-    /// Gives the cell any value of its type.
-    Input {
-        cell: u32,
-    },
-    Call {
-        function: u32,
-    },
-    Goto {
-        label: u32,
-    },
-    Break,
-    Continue,
-    Leave,
-    Stop,
-    Error,
-}
-
-/// A core statement with its parts.
-#[derive(Drop)]
-pub enum CoreTree {
-    Node { head: Head, parts: Seq<CoreTree> },
-}
+use cpa_model_trees::CoreTree;
 
 /// An expression: core statements, and the pure value behind them.
 #[derive(Drop)]

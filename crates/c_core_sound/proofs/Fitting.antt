@@ -10,18 +10,18 @@ use Rattle.cpa_expr.specs.declared.tree.Expr.{Expr}
 use Rattle.cpa_expr.specs.Shape.{type_of, AreCells, IsTyped}
 use Rattle.cpa_model.specs.declared.program.Cell.{Cell}
 use Rattle.cpa_model.specs.Expressions.{types_of}
-use Rattle.c_core_rules.specs.declared.tree.CoreTree.{CoreTree}
-use Rattle.c_core_rules.specs.declared.tree.CoreTree.TheVariants.{Node}
-use Rattle.c_core_rules.specs.declared.tree.Head.{Head}
-use Rattle.c_core_rules.specs.declared.tree.Head.TheVariants as head
+use Rattle.cpa_model_trees.specs.declared.tree.CoreTree.{CoreTree}
+use Rattle.cpa_model_trees.specs.declared.tree.CoreTree.TheVariants.{Node}
+use Rattle.cpa_model_trees.specs.declared.tree.Head.{Head}
+use Rattle.cpa_model_trees.specs.declared.tree.Head.TheVariants as head
 use Rattle.c_core_rules.specs.declared.tree.Location.{Location}
 use Rattle.c_core_rules.specs.Values.{cell_at, conv, first_index}
-use Rattle.c_core_rules.specs.Trees.{Trees, leaf, block, choice, repeated, write, set}
+use Rattle.cpa_model_trees.specs.Numbering.{Trees, Placed, joined, statements}
+use Rattle.c_core_rules.specs.Trees.{leaf, block, choice, repeated, write, set}
 use Rattle.c_core_rules.specs.Cells.{Taken}
 use Rattle.c_core_rules.specs.Cells as core
-use Rattle.c_core_rules.specs.Programs.{Placed, joined, statements}
 use Rattle.c_core_laws.specs.lemmas.MadeValues.{conv_type}
-use Rattle.c_core_laws.specs.lemmas.Nodes.{node_placed}
+use Rattle.cpa_model_trees.specs.lemmas.Nodes.{node_placed}
 use Rattle.c_core_sound.proofs.TypedValues.{PlaceFits, conv_typed, zero_typed, cell_fits}
 use Rattle.cpa_ints.specs.declared.integers.IntType.TheVariants as ty
 

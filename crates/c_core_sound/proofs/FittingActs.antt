@@ -1,6 +1,5 @@
 -- The rules on values and of assignments make well typed trees and values of such ones.
-use Rattle.std.proofs.Common.{Bool, if◌then◌else◌, ◌&&◌, List, [], ◌∷◌, ◌++◌}
-use Rattle.std.proofs.Common.{Option, None, Some}
+use Rattle.std.proofs.Common.{Bool, if◌then◌else◌, ◌&&◌, List, [], ◌∷◌, ◌++◌, Option, None, Some}
 use Rattle.std.specs.List.{AllByRecursion}
 use Rattle.cpa_ints.specs.declared.integers.IntType.TheVariants as ty
 use Rattle.cpa_ints.specs.Conversions.{common_type}
@@ -16,7 +15,8 @@ use Rattle.c_core_rules.specs.declared.tree.Place.TheVariants as place
 use Rattle.c_core_rules.specs.declared.tree.Valued.{Valued}
 use Rattle.c_core_rules.specs.Values.{is_constant, scalar, element, first_index, truth_of, int}
 use Rattle.c_core_rules.specs.Values.{chosen_value}
-use Rattle.c_core_rules.specs.Trees.{Trees, choice, valued, pure, set, write}
+use Rattle.cpa_model_trees.specs.Numbering.{Trees}
+use Rattle.c_core_rules.specs.Trees.{choice, valued, pure, set, write}
 use Rattle.c_core_rules.specs.Cells as core
 use Rattle.c_core_rules.specs.Acts as acts
 use Rattle.c_core_rules.specs.Places as places

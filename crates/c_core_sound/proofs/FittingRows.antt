@@ -1,7 +1,7 @@
 -- The rules of expressions make well typed trees and values, where the names in them stand for what
 -- is there.
-use Rattle.std.proofs.Common.{◌≡◌, ℕ, ◌≤◌, Bool, true, List, [], ◌∷◌, ◌++◌}
-use Rattle.std.proofs.Common.{Option, Some, ap, sym, subst}
+use Rattle.std.proofs.Common.{◌≡◌, ℕ, ◌≤◌, Bool, true, List, [], ◌∷◌, ◌++◌, Option, Some, ap, sym}
+use Rattle.std.proofs.Common.{subst}
 use Rattle.std.specs.List.{AllByRecursion}
 use Rattle.std.specs.Prelude.{is_some, unwrap_or}
 use Rattle.cpa_ints.specs.declared.integers.IntType.{IntType}
@@ -21,12 +21,13 @@ use Rattle.c_types_rules.specs.declared.meaning.Meaning.TheVariants as meaning
 use Rattle.c_types_rules.specs.Types.{object_type}
 use Rattle.c_types_rules.specs.Known.{known_result}
 use Rattle.c_types_rules.specs.Counts.{cells_of, operator_of}
-use Rattle.c_core_rules.specs.declared.tree.Head.TheVariants as head
+use Rattle.cpa_model_trees.specs.declared.tree.Head.TheVariants as head
 use Rattle.c_core_rules.specs.declared.tree.Location.{Location}
 use Rattle.c_core_rules.specs.declared.tree.Place.TheVariants as place
 use Rattle.c_core_rules.specs.declared.tree.Valued.{Valued}
 use Rattle.c_core_rules.specs.Values.{scalar, element, int, cell_at}
-use Rattle.c_core_rules.specs.Trees.{Trees, leaf, choice, valued, pure, input}
+use Rattle.cpa_model_trees.specs.Numbering.{Trees}
+use Rattle.c_core_rules.specs.Trees.{leaf, choice, valued, pure, input}
 use Rattle.c_core_rules.specs.Cells.{Taken, location_in}
 use Rattle.c_core_rules.specs.Cells as core
 use Rattle.c_core_rules.specs.Acts as acts
@@ -37,8 +38,7 @@ use Rattle.c_core_sound.proofs.TypedValues.{PlaceFits, first_fits, scalar_typed,
 use Rattle.c_core_sound.proofs.TypedValues.{conv_typed, one_typed, signed_typed, cell_below}
 use Rattle.c_core_sound.proofs.Fitting.{Ground, World, TreesFit, append_fits, push_fits, leaf_fits}
 use Rattle.c_core_sound.proofs.Fitting.{choice_fits, set_fits, Fits, fits_gives, fits_then}
-use Rattle.c_core_sound.proofs.Fitting.{fits_weaker, fits_freshly, fits_at, EachFits}
-use Rattle.c_core_sound.proofs.Fitting.{fits_each}
+use Rattle.c_core_sound.proofs.Fitting.{fits_weaker, fits_freshly, fits_at, EachFits, fits_each}
 use Rattle.c_core_sound.proofs.FittingActs.{Good, AllGood, good, hold_all_fits, all_statements}
 use Rattle.c_core_sound.proofs.FittingActs.{all_values, linked_fits, chosen_fits, dropped_fits}
 use Rattle.c_core_sound.proofs.FittingActs.{fixed_if_fits, FitPlace, changed_fits, stepped_fits}

@@ -2,16 +2,14 @@
 use Rattle.std.proofs.Common.{◌≡◌, sym, ap, ◌∙◌}
 use Rattle.c_types_rules.specs.declared.typed.TypedItem.{TypedItem, roll-TypedItem}
 use Rattle.c_types_rules.specs.declared.typed.TypedItem.TheOpen.{TypedItem-F, TypedStatement-F}
-use Rattle.c_types_rules.specs.declared.typed.TypedItem.TheFolds.{map-TypedItem}
-use Rattle.c_types_rules.specs.declared.typed.TypedItem.TheFolds.{map-TypedStatement}
+use Rattle.c_types_rules.specs.declared.typed.TypedItem.TheFolds.{map-TypedItem, map-TypedStatement}
 use Rattle.c_types_rules.specs.declared.typed.TypedStatement.{TypedStatement, roll-TypedStatement}
 use Rattle.c_core_rules.specs.declared.tree.Location.{Location}
-use Rattle.c_core_rules.specs.Trees.{Trees}
+use Rattle.cpa_model_trees.specs.Numbering.{Trees}
 use Rattle.c_core_rules.specs.Cells.{Rule}
 use Rattle.c_core_rules.specs.Expressions.{Frames}
 use Rattle.c_core_rules.specs.Statements.{item_rule, item_step, statement_step}
-use Rattle.c_core_laws.specs.lemmas.CoreItems.{core_statement, open_core_item}
-use Rattle.c_core_laws.specs.lemmas.CoreItems.{open_core_statement}
+use Rattle.c_core_laws.specs.lemmas.CoreItems.{core_statement, open_core_item, open_core_statement}
 
 pub opened : (frames : Frames) (place : Location) (s : TypedStatement)
     (x : TypedStatement-F TypedItem TypedStatement) → roll-TypedStatement x ≡ s →

@@ -1,7 +1,6 @@
 -- Each form of an expression in which no rule is broken has a well typed core.
-use Rattle.std.proofs.Common.{◌≡◌, ℕ, Bool, true, false, not, if◌then◌else◌, List, [], ◌∷◌}
-use Rattle.std.proofs.Common.{map, length, Option, None, Some, refl, ap, sym, ◌∙◌, subst, ℤ, inl}
-use Rattle.std.proofs.Common.{inr}
+use Rattle.std.proofs.Common.{◌≡◌, ℕ, Bool, true, false, not, if◌then◌else◌, List, [], ◌∷◌, map}
+use Rattle.std.proofs.Common.{length, Option, None, Some, refl, ap, sym, ◌∙◌, subst, ℤ, inl, inr}
 use Rattle.std.specs.Prelude.{◌⊎◌, is_some}
 use Rattle.std.specs.List.{AllByRecursion, flat_map}
 use Rattle.cpa_ints.specs.declared.integers.IntType.{IntType}
@@ -16,21 +15,18 @@ use Rattle.c_types_rules.specs.declared.meaning.Meaning.TheVariants as meaning
 use Rattle.c_types_rules.specs.declared.meaning.Form.{Form}
 use Rattle.c_types_rules.specs.declared.meaning.Form.TheVariants.{Bare, Element, Plain}
 use Rattle.c_types_rules.specs.declared.meaning.Part.{Part}
-use Rattle.c_types_rules.specs.declared.meaning.Role.TheVariants.{Valued, Changed, Indexed}
-use Rattle.c_types_rules.specs.declared.meaning.Role.TheVariants.{Called}
+use Rattle.c_types_rules.specs.declared.meaning.Role.TheVariants.{Valued, Changed, Indexed, Called}
 use Rattle.c_types_rules.specs.Known.{known_result}
 use Rattle.c_types_rules.specs.Parts.{with_value, with_values, named_kind, element_kind}
-use Rattle.c_types_rules.specs.Parts.{result_kind}
-use Rattle.c_types_rules.specs.Parts.{element_form, element_of, result_of, changed_kind}
-use Rattle.c_types_rules.specs.Parts.{is_changeable}
-use Rattle.c_types_rules.specs.Expressions.{named, taken, given, Reading, used, parts_of}
-use Rattle.c_types_rules.specs.Expressions.{trees_of, ReadSuffix, suffix_part, suffix_uses}
-use Rattle.c_types_rules.specs.Expressions.{suffix_typed}
+use Rattle.c_types_rules.specs.Parts.{result_kind, element_form, element_of, result_of}
+use Rattle.c_types_rules.specs.Parts.{changed_kind, is_changeable}
+use Rattle.c_types_rules.specs.Expressions.{named, taken, given, Reading, used, parts_of, trees_of}
+use Rattle.c_types_rules.specs.Expressions.{ReadSuffix, suffix_part, suffix_uses, suffix_typed}
 use Rattle.c_types_rules.specs.Expressions.{suffixed}
 use Rattle.c_types_rules.specs.ExpressionRules.{use_faults, names_function, names_array}
 use Rattle.c_types_rules.specs.ExpressionRules.{misused_array, void_value}
 use Rattle.c_types_rules.specs.Items.{Call}
-use Rattle.c_core_rules.specs.declared.tree.CoreTree.{CoreTree}
+use Rattle.cpa_model_trees.specs.declared.tree.CoreTree.{CoreTree}
 use Rattle.c_core_rules.specs.declared.tree.Valued.{Valued as CoreValued}
 use Rattle.c_core_rules.specs.Cells as core
 use Rattle.c_core_rules.specs.Expressions as rows
@@ -44,11 +40,9 @@ use Rattle.c_core_sound.proofs.FittingRows.{called_unused_fits, known_unused_fit
 use Rattle.c_core_sound.proofs.FittingRows.{stepping_fits, incrementing_fits}
 use Rattle.c_core_laws.specs.lemmas.CoreLayers.{core_suffix}
 use Rattle.c_core_sound.proofs.Opened.{open_index, open_call, open_step, open_skipped}
-use Rattle.c_core_sound.proofs.ReadParts.{unbroken, UseFits, UsesFit}
-use Rattle.c_core_sound.proofs.ReadParts.{uses_left}
-use Rattle.c_core_sound.proofs.ReadParts.{uses_right, MeaningFits, FormFits, IsName, of_function}
-use Rattle.c_core_sound.proofs.ReadParts.{of_array, HasKind, Reads, no_two, broken_left, at_place}
-use Rattle.c_core_sound.proofs.ReadParts.{Taken}
+use Rattle.c_core_sound.proofs.ReadParts.{unbroken, UseFits, UsesFit, uses_left, uses_right}
+use Rattle.c_core_sound.proofs.ReadParts.{MeaningFits, FormFits, IsName, of_function, of_array}
+use Rattle.c_core_sound.proofs.ReadParts.{HasKind, Reads, no_two, broken_left, at_place, Taken}
 use Rattle.c_core_sound.proofs.ReadParts.{is_value, is_changed}
 
 pub no_Some : {A : Type 0} (x : A) → None ≡ Some x → ⊥

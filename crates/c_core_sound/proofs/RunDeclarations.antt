@@ -27,17 +27,16 @@ use Rattle.c_types_rules.specs.Counts.{cells_of}
 use Rattle.c_types_rules.specs.Expressions.{reading}
 use Rattle.c_types_rules.specs.ExpressionRules.{broken, uses_faults}
 use Rattle.c_types_rules.specs.Declarations.{items_of, object_of, local_entry, length_faults}
-use Rattle.c_types_rules.specs.Declarations.{length_uses}
-use Rattle.c_types_rules.specs.Declarations.{void_object, kind_of, typed_items}
+use Rattle.c_types_rules.specs.Declarations.{length_uses, void_object, kind_of, typed_items}
 use Rattle.c_types_rules.specs.Statements.{Around, Site, Walk, declares, evaluates}
-use Rattle.c_types_rules.specs.Statements.{declaring_behind}
-use Rattle.c_types_rules.specs.Statements.{declarator_walk, in_order}
+use Rattle.c_types_rules.specs.Statements.{declaring_behind, declarator_walk, in_order}
 use Rattle.c_types_rules.specs.StatementRules.{site_faults, declared_twice}
 use Rattle.c_types_rules.specs.TypedStatements.{typed_declarator, typed_declarators}
 use Rattle.c_core_rules.specs.declared.tree.Location.{Location}
-use Rattle.c_core_rules.specs.declared.tree.Head.TheVariants as head
+use Rattle.cpa_model_trees.specs.declared.tree.Head.TheVariants as head
 use Rattle.c_core_rules.specs.Values.{cell_at}
-use Rattle.c_core_rules.specs.Trees.{Trees, set}
+use Rattle.cpa_model_trees.specs.Numbering.{Trees}
+use Rattle.c_core_rules.specs.Trees.{set}
 use Rattle.c_core_rules.specs.Cells.{Taken, cells_with, begun}
 use Rattle.c_core_rules.specs.Cells as core
 use Rattle.c_core_rules.specs.Expressions as rows

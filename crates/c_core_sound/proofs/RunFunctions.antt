@@ -1,7 +1,7 @@
 -- A function in which no rule is broken makes a well typed tree (`function_runs`).
-use Rattle.std.proofs.Common.{◌≡◌, ℕ, ◌+◌, ◌<◌, ◌≤◌, true, false, List, [], ◌∷◌, ◌++◌, map}
-use Rattle.std.proofs.Common.{length, Option, None, Some, refl, ap, sym, ◌∙◌, subst, arith, inl}
-use Rattle.std.proofs.Common.{slice_get, pos}
+use Rattle.std.proofs.Common.{◌≡◌, ℕ, ◌+◌, ◌<◌, ◌≤◌, true, false, List, [], ◌∷◌, ◌++◌, map, length}
+use Rattle.std.proofs.Common.{Option, None, Some, refl, ap, sym, ◌∙◌, subst, arith, inl, slice_get}
+use Rattle.std.proofs.Common.{pos}
 use Rattle.std.proofs.lemmas.List.{length-map}
 use Rattle.cpa_ints.specs.declared.integers.IntType.{IntType}
 use Rattle.cpa_expr.specs.declared.tree.Expr.TheVariants.{Const}
@@ -20,10 +20,11 @@ use Rattle.c_types_rules.specs.Types.{object_type}
 use Rattle.c_types_rules.specs.Declarations.{is_void_kind, parameter_object, local_entry}
 use Rattle.c_types_rules.specs.Statements.{Around, Walk, in_order, receiving, receiving_behind}
 use Rattle.c_types_rules.specs.TypedStatements.{grown, walk_in, parameter_objects}
-use Rattle.c_core_rules.specs.declared.tree.CoreTree.{CoreTree}
+use Rattle.cpa_model_trees.specs.declared.tree.CoreTree.{CoreTree}
 use Rattle.c_core_rules.specs.declared.tree.Location.{Location}
 use Rattle.c_core_rules.specs.Values.{cell_at}
-use Rattle.c_core_rules.specs.Trees.{Trees, block}
+use Rattle.cpa_model_trees.specs.Numbering.{Trees}
+use Rattle.c_core_rules.specs.Trees.{block}
 use Rattle.c_core_rules.specs.Cells.{Taken}
 use Rattle.c_core_rules.specs.Cells as core
 use Rattle.c_core_rules.specs.Expressions as rows
@@ -31,15 +32,14 @@ use Rattle.c_core_rules.specs.Statements as statement
 use Rattle.c_core_sound.specs.Whole.{all_whole, whole_block_item}
 use Rattle.c_core_sound.proofs.TypedValues.{PlaceFits, cell_fits, zero_typed}
 use Rattle.c_core_sound.proofs.Fitting.{Ground, TreeFits, TreesFit, append_fits, block_fits}
-use Rattle.c_core_sound.proofs.Fitting.{set_fits}
-use Rattle.c_core_sound.proofs.Fitting.{Extends, Within, extends_both, within_before, extends_none}
-use Rattle.c_core_sound.proofs.Fitting.{pushed, get_behind}
+use Rattle.c_core_sound.proofs.Fitting.{set_fits, Extends, Within, extends_both, within_before}
+use Rattle.c_core_sound.proofs.Fitting.{extends_none, pushed, get_behind}
 use Rattle.c_core_sound.proofs.Running.{Known, known_push, Below, below_push, below_higher, Runs}
-use Rattle.c_core_sound.proofs.FittingRows.{Begins}
 use Rattle.c_core_sound.proofs.Running.{known_kept, runs_then, runs_gives, runs_weaker}
+use Rattle.c_core_sound.proofs.FittingRows.{Begins}
 use Rattle.c_core_sound.proofs.Sites.{SitesFit, FunctionsFit, functions_push}
-use Rattle.c_core_sound.proofs.RunDeclarations.{Ready, taken_extends, taken_begins}
-use Rattle.c_core_sound.proofs.RunDeclarations.{begun_other, apart_of}
+use Rattle.c_core_sound.proofs.RunDeclarations.{Ready, taken_extends, taken_begins, begun_other}
+use Rattle.c_core_sound.proofs.RunDeclarations.{apart_of}
 use Rattle.c_core_sound.proofs.RunStatements.{Returns, items_walk, items_typed, items_rise}
 use Rattle.c_core_sound.proofs.RunStatements.{items_run, all_run, no_more, two_steps}
 

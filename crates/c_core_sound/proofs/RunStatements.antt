@@ -1,6 +1,6 @@
 -- Every item of a block in which no rule is broken makes well typed trees (`item_runs`).
-use Rattle.std.proofs.Common.{◌≡◌, ℕ, ◌≤◌, Bool, true, false, ◌&&◌, List, [], ◌∷◌, ◌++◌}
-use Rattle.std.proofs.Common.{map, Option, None, Some, refl, ap, sym, ◌∙◌, subst, arith}
+use Rattle.std.proofs.Common.{◌≡◌, ℕ, ◌≤◌, Bool, true, false, ◌&&◌, List, [], ◌∷◌, ◌++◌, map}
+use Rattle.std.proofs.Common.{Option, None, Some, refl, ap, sym, ◌∙◌, subst, arith}
 use Rattle.std.specs.Prelude.{is_some}
 use Rattle.std.specs.List.{AllByRecursion}
 use Rattle.c_lexer.specs.declared.fault.Rule.TheVariants as rule
@@ -29,20 +29,20 @@ use Rattle.c_types_rules.specs.Names.{Text}
 use Rattle.c_types_rules.specs.ExpressionRules.{broken, at_if}
 use Rattle.c_types_rules.specs.Declarations.{is_void_kind}
 use Rattle.c_types_rules.specs.Statements.{Around, Site, Act, Walk, doing, followed, in_order}
-use Rattle.c_types_rules.specs.Statements.{scoped}
-use Rattle.c_types_rules.specs.Statements.{looped, inner, loop, left_by, evaluating, start_walk}
-use Rattle.c_types_rules.specs.Statements.{declaration_walk, evaluates, leaves, returns}
+use Rattle.c_types_rules.specs.Statements.{scoped, looped, inner, loop, left_by, evaluating}
+use Rattle.c_types_rules.specs.Statements.{start_walk, declaration_walk, evaluates, leaves, returns}
 use Rattle.c_types_rules.specs.StatementRules.{agree}
 use Rattle.c_types_rules.specs.TypedStatements.{Grown, grown, grown_item, grown_statement}
-use Rattle.c_types_rules.specs.TypedStatements.{typed_in_order}
-use Rattle.c_types_rules.specs.TypedStatements.{typed_expression, typed_optional, typed_for_start}
-use Rattle.c_types_rules.specs.TypedStatements.{typed_declarators, label_number, walk_in}
-use Rattle.c_core_rules.specs.declared.tree.CoreTree.TheVariants.{Node}
-use Rattle.c_core_rules.specs.declared.tree.Head.{Head}
-use Rattle.c_core_rules.specs.declared.tree.Head.TheVariants as head
+use Rattle.c_types_rules.specs.TypedStatements.{typed_in_order, typed_expression, typed_optional}
+use Rattle.c_types_rules.specs.TypedStatements.{typed_for_start, typed_declarators, label_number}
+use Rattle.c_types_rules.specs.TypedStatements.{walk_in}
+use Rattle.cpa_model_trees.specs.declared.tree.CoreTree.TheVariants.{Node}
+use Rattle.cpa_model_trees.specs.declared.tree.Head.{Head}
+use Rattle.cpa_model_trees.specs.declared.tree.Head.TheVariants as head
 use Rattle.c_core_rules.specs.declared.tree.Location.{Location}
 use Rattle.c_core_rules.specs.declared.tree.Valued.{Valued as CoreValued}
-use Rattle.c_core_rules.specs.Trees.{Trees, leaf, block, choice, repeated}
+use Rattle.cpa_model_trees.specs.Numbering.{Trees}
+use Rattle.c_core_rules.specs.Trees.{leaf, block, choice, repeated}
 use Rattle.c_core_rules.specs.Cells as core
 use Rattle.c_core_rules.specs.Expressions as rows
 use Rattle.c_core_rules.specs.Statements as statement
@@ -50,18 +50,16 @@ use Rattle.c_core_laws.specs.lemmas.CoreItems.{core_statement}
 use Rattle.c_core_laws.specs.lemmas.SameWalk.{grown_of, open_grown_item, open_grown_statement}
 use Rattle.c_core_laws.specs.lemmas.Faults.{none_left, not_broken}
 use Rattle.c_core_sound.specs.Whole.{is_whole, all_whole, whole_optional, whole_start}
-use Rattle.c_core_sound.specs.Whole.{whole_statement}
-use Rattle.c_core_sound.specs.Whole.{whole_item_layer, whole_block_item}
+use Rattle.c_core_sound.specs.Whole.{whole_statement, whole_item_layer, whole_block_item}
 use Rattle.c_core_sound.proofs.TypedValues.{PlaceFits}
 use Rattle.c_core_sound.proofs.Fitting.{Ground, HeadFits, TreesFit, append_fits, push_fits}
-use Rattle.c_core_sound.proofs.Fitting.{leaf_fits}
-use Rattle.c_core_sound.proofs.Fitting.{block_fits, choice_fits, repeated_fits, node_fits}
-use Rattle.c_core_sound.proofs.Fitting.{fits_gives, fits_then, fits_weaker}
+use Rattle.c_core_sound.proofs.Fitting.{leaf_fits, block_fits, choice_fits, repeated_fits}
+use Rattle.c_core_sound.proofs.Fitting.{node_fits, fits_gives, fits_then, fits_weaker}
 use Rattle.c_core_sound.proofs.FittingActs.{Good}
 use Rattle.c_core_sound.proofs.FittingRows.{GoodRule, TreesRule}
 use Rattle.c_core_sound.proofs.ReadExpressions.{and_left, and_right}
-use Rattle.c_core_sound.proofs.Running.{world, Runs, runs_gives, runs_weaker, runs_then}
-use Rattle.c_core_sound.proofs.Running.{runs_fits, runs_scoped, runs_inner, runs_loop, below_higher}
+use Rattle.c_core_sound.proofs.Running.{world, Runs, runs_gives, runs_weaker, runs_then, runs_fits}
+use Rattle.c_core_sound.proofs.Running.{runs_scoped, runs_inner, runs_loop, below_higher}
 use Rattle.c_core_sound.proofs.Sites.{SiteFits, SitesFit, sites_left, sites_right, value_rule}
 use Rattle.c_core_sound.proofs.Sites.{trees_rule}
 use Rattle.c_core_sound.proofs.RunDeclarations.{Ready, initialized_fits, declaration_runs}

@@ -31,16 +31,15 @@ use Rattle.c_types_rules.specs.Statements.{Around, Site, Walk, in_order, receivi
 use Rattle.c_types_rules.specs.StatementRules.{site_faults, act_uses, jump_faults}
 use Rattle.c_types_rules.specs.TypedStatements.{grown, walk_in, typed_function}
 use Rattle.c_types_rules.specs.Items.{Before, Call, listed, around_body, function_behind}
-use Rattle.c_types_rules.specs.Items.{global_behind}
-use Rattle.c_types_rules.specs.Items.{globals_behind, globals_faults, global_faults, head_faults}
-use Rattle.c_types_rules.specs.Items.{body_sites, body_faults, item_behind, item_faults}
-use Rattle.c_types_rules.specs.Items.{items_faults}
-use Rattle.c_types_rules.specs.Items.{item_calls, items_calls, site_calls, use_calls, called_body}
+use Rattle.c_types_rules.specs.Items.{global_behind, globals_behind, globals_faults, global_faults}
+use Rattle.c_types_rules.specs.Items.{head_faults, body_sites, body_faults, item_behind}
+use Rattle.c_types_rules.specs.Items.{item_faults, items_faults, item_calls, items_calls}
+use Rattle.c_types_rules.specs.Items.{site_calls, use_calls, called_body}
 use Rattle.c_types_rules.specs.Recursion.{Among, Calls}
 use Rattle.c_types_rules.specs.Sound.{items_behind, functions_of}
-use Rattle.c_core_rules.specs.declared.tree.CoreTree.{CoreTree}
+use Rattle.cpa_model_trees.specs.declared.tree.CoreTree.{CoreTree}
 use Rattle.c_core_rules.specs.Values.{cell_at}
-use Rattle.c_core_rules.specs.Trees.{Trees}
+use Rattle.cpa_model_trees.specs.Numbering.{Trees}
 use Rattle.c_core_rules.specs.Cells.{Taken}
 use Rattle.c_core_rules.specs.Cells as core
 use Rattle.c_core_rules.specs.Expressions as rows
@@ -51,17 +50,16 @@ use Rattle.c_core_sound.specs.Whole.{all_whole, whole_block_item, whole_declarat
 use Rattle.c_core_sound.specs.Whole.{whole_length, is_whole}
 use Rattle.c_core_sound.proofs.TypedValues.{PlaceFits}
 use Rattle.c_core_sound.proofs.Fitting.{Ground, TreeFits, Extends, Within, extends_none}
-use Rattle.c_core_sound.proofs.Fitting.{extends_both}
-use Rattle.c_core_sound.proofs.Fitting.{within_before}
+use Rattle.c_core_sound.proofs.Fitting.{extends_both, within_before}
 use Rattle.c_core_sound.proofs.FittingRows.{Begins, FunctionFits}
 use Rattle.c_core_sound.proofs.ReadExpressions.{and_left, and_right}
 use Rattle.c_core_sound.proofs.Running.{DeclaredBegins, DeclaredBelow, below_higher, Known, Runs}
 use Rattle.c_core_sound.proofs.Sites.{SitesFit, sites_right, FunctionsFit, DeclaredFits}
 use Rattle.c_core_sound.proofs.RunFunctions.{function_runs, function_rises, last_of}
 use Rattle.c_core_sound.proofs.FileNames.{Alike, Lasting, Lasts, lasts_self, lasts_both}
-use Rattle.c_core_sound.proofs.FileNames.{global_lasts}
-use Rattle.c_core_sound.proofs.FileNames.{function_lasts, FileScope, global_scope, function_scope}
-use Rattle.c_core_sound.proofs.FileNames.{Stay, global_stays, function_stays, HasNumber}
+use Rattle.c_core_sound.proofs.FileNames.{global_lasts, function_lasts, FileScope, global_scope}
+use Rattle.c_core_sound.proofs.FileNames.{function_scope, Stay, global_stays, function_stays}
+use Rattle.c_core_sound.proofs.FileNames.{HasNumber}
 
 -- the names of file scope, from item to item
 

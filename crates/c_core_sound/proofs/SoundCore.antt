@@ -37,22 +37,20 @@ use Rattle.c_types_rules.specs.StatementRules.{jump_faults, site_faults}
 use Rattle.c_types_rules.specs.Statements.{walk_of}
 use Rattle.c_types_rules.specs.TypedStatements.{grown}
 use Rattle.c_types_rules.specs.Items.{Before, Call, text_of, items_faults, items_calls}
-use Rattle.c_types_rules.specs.Items.{nothing_before}
-use Rattle.c_types_rules.specs.Items.{body_sites, globals_faults, head_faults, item_behind}
-use Rattle.c_types_rules.specs.Items.{item_faults}
-use Rattle.c_types_rules.specs.Items.{listed}
+use Rattle.c_types_rules.specs.Items.{nothing_before, body_sites, globals_faults, head_faults}
+use Rattle.c_types_rules.specs.Items.{item_behind, item_faults, listed}
 use Rattle.c_types_rules.specs.Recursion.{Among, Calls, Through}
 use Rattle.c_types_rules.specs.Recursion as recursion
 use Rattle.c_types_rules.specs.Sound.{Sound, typed_unit, typed_parts, unit_globals, unit_functions}
 use Rattle.c_types_rules.specs.Sound.{unit_calls, items_behind, starts_of}
-use Rattle.c_core_rules.specs.declared.tree.CoreTree.{CoreTree}
-use Rattle.c_core_rules.specs.declared.tree.Head.{Head}
-use Rattle.c_core_rules.specs.declared.tree.Head.TheVariants as head
-use Rattle.c_core_rules.specs.Trees.{Trees}
+use Rattle.cpa_model_trees.specs.declared.tree.CoreTree.{CoreTree}
+use Rattle.cpa_model_trees.specs.declared.tree.Head.{Head}
+use Rattle.cpa_model_trees.specs.declared.tree.Head.TheVariants as head
+use Rattle.cpa_model_trees.specs.Numbering.{Trees, Placed, statements, stmt_of}
 use Rattle.c_core_rules.specs.Cells.{Made, each, nothing_taken}
 use Rattle.c_core_rules.specs.Expressions.{Frame, Frames, frame_at}
 use Rattle.c_core_rules.specs.Statements.{function_rule, receiving_globals}
-use Rattle.c_core_rules.specs.Programs.{IsCore, Placed, statements, stmt_of, text_core, frames_of}
+use Rattle.c_core_rules.specs.Programs.{IsCore, text_core, frames_of}
 use Rattle.c_core_laws.specs.Sizes.{stmt_height}
 use Rattle.c_core_laws.specs.Starts.{FrameStands}
 use Rattle.c_core_laws.specs.Standing.{IsOfTree}

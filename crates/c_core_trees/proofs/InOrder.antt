@@ -1,8 +1,8 @@
 -- Rules in order, the first made and the others left.
-use Rattle.std.proofs.Common.{◌≡◌, ◌<◌, ◌≤◌, ℕ, ◌+◌, List, [], ◌∷◌, map, length, get_or, drop}
-use Rattle.std.proofs.Common.{◌++◌, refl, ap, sym, ◌∙◌, append_assoc, append-nil}
+use Rattle.std.proofs.Common.{◌≡◌, ◌<◌, ◌≤◌, ℕ, ◌+◌, List, [], ◌∷◌, map, length, get_or, drop, ◌++◌}
+use Rattle.std.proofs.Common.{refl, ap, sym, ◌∙◌, append_assoc, append-nil}
 use Rattle.std.proofs.lemmas.List.{at_drop_more, at_drop_all}
-use Rattle.c_core_rules.specs.Trees.{Trees}
+use Rattle.cpa_model_trees.specs.Numbering.{Trees}
 use Rattle.c_types_rules.specs.declared.typed.TypedFunction.{TypedFunction}
 use Rattle.c_core_rules.specs.Cells.{Taken, Made, Rule, each, in_order}
 use Rattle.c_core_rules.specs.Expressions.{Frames}

@@ -13,10 +13,11 @@ use Rattle.c_types_rules.specs.declared.typed.TypedItem.TheFolds.{fold-roll-Type
 use Rattle.c_types_rules.specs.declared.typed.TypedItem.TheFolds.{fold-roll-TypedStatement}
 use Rattle.c_types_rules.specs.declared.typed.TypedStatement.{TypedStatement, roll-TypedStatement}
 use Rattle.c_types_rules.specs.declared.typed.TypedStatement.TheVariants as tree
-use Rattle.c_core_rules.specs.declared.tree.CoreTree.TheVariants.{Node}
-use Rattle.c_core_rules.specs.declared.tree.Head.TheVariants as head
+use Rattle.cpa_model_trees.specs.declared.tree.CoreTree.TheVariants.{Node}
+use Rattle.cpa_model_trees.specs.declared.tree.Head.TheVariants as head
 use Rattle.c_core_rules.specs.declared.tree.Location.{Location}
-use Rattle.c_core_rules.specs.Trees.{Trees, leaf, block, choice, repeated}
+use Rattle.cpa_model_trees.specs.Numbering.{Trees}
+use Rattle.c_core_rules.specs.Trees.{leaf, block, choice, repeated}
 use Rattle.c_core_rules.specs.Cells.{Taken, Rule, gives, then_by, in_order}
 use Rattle.c_core_rules.specs.Expressions.{Frames, rows}
 use Rattle.c_core_rules.specs.Statements.{some_unused, started, left_unless, returned, declaration}

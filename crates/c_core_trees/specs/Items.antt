@@ -6,11 +6,12 @@ use Rattle.c_types_rules.specs.declared.typed.TypedForStart.{TypedForStart}
 use Rattle.c_types_rules.specs.declared.typed.TypedItem.TheFolds.{fold-TypedStatement}
 use Rattle.c_types_rules.specs.declared.typed.TypedStatement.{TypedStatement}
 use Rattle.c_core_rules.specs.declared.tree.Location.{Location}
-use Rattle.c_core_rules.specs.Trees.{Trees, block, repeated}
+use Rattle.cpa_model_trees.specs.Numbering.{Trees}
+use Rattle.c_core_rules.specs.Trees.{block, repeated}
 use Rattle.c_core_rules.specs.Cells.{Rule, gives, then_by, in_order}
 use Rattle.c_core_rules.specs.Expressions.{Frames, rows}
-use Rattle.c_core_rules.specs.Statements.{some_unused, started, leaving, left_unless}
-use Rattle.c_core_rules.specs.Statements.{item_step, statement_step}
+use Rattle.c_core_rules.specs.Statements.{some_unused, started, leaving, left_unless, item_step}
+use Rattle.c_core_rules.specs.Statements.{statement_step}
 
 -- a statement of a function with its result in this place
 unfoldable pub statement_rule : Frames → Location → TypedStatement → Rule Trees

@@ -9,11 +9,11 @@ ghost use Rattle.c_core_values.specs.Found.{so_far};
 
 use crate::statements::in_order;
 use c_core_expressions::Frames;
-use c_core_rules::CoreTree;
 use c_core_values::{Cells, block, cell_at, constant, joined, list_of, set};
 use c_types_rules::{Global, Kind, Object, TypedFunction};
 use cpa_ints::Seq;
 use cpa_model::Cell;
+use cpa_model_trees::CoreTree;
 use std::alloc::{AllocError, Global as Memory};
 
 /// The core of a text, in trees.

@@ -7,13 +7,13 @@ ghost use Rattle.c_core_rules.specs.Statements.{initialized_each, initializing, 
 ghost use Rattle.c_core_rules.specs.Statements.{declaration, started, leaving, left_unless};
 ghost use Rattle.c_core_rules.specs.Statements.{returned, item_rule};
 ghost use Rattle.c_core_rules.specs.Trees.{set, block, repeated};
-ghost use Rattle.c_core_rules.specs.declared.tree.CoreTree.TheVariants.{Node};
-ghost use Rattle.c_core_rules.specs.declared.tree.Head.TheVariants as head;
+ghost use Rattle.cpa_model_trees.specs.declared.tree.CoreTree.TheVariants.{Node};
+ghost use Rattle.cpa_model_trees.specs.declared.tree.Head.TheVariants as head;
 ghost use Rattle.c_core_values.specs.Found.{so_far};
 ghost use Rattle.c_core_trees.specs.Items.{statement_rule, left, do_behind, for_front, for_behind};
 
 use c_core_expressions::{Frames, cell_behind, chosen_unused, unused, used};
-use c_core_rules::{CoreTree, Head, Location, Valued};
+use c_core_rules::{Location, Valued};
 use c_core_values::{
     Cells, block, cell_at, constant, input, joined, leaf, list_of, repeated, set, with,
 };
@@ -22,6 +22,7 @@ use c_types_rules::{
     TypedStatement, cells_of,
 };
 use cpa_ints::{IntType, Seq};
+use cpa_model_trees::{CoreTree, Head};
 use std::alloc::{AllocError, Global};
 
 /// An expression that may be left out, its value not used.

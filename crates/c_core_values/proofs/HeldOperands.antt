@@ -1,11 +1,10 @@
 -- Operands, the first held or not and the others left (`hold_kept`), and their parts.
-use Rattle.std.proofs.Common.{◌≡◌, ℕ, ◌+◌, ◌-◌, ◌==◌, Bool, true, false, List, [], ◌∷◌, ◌++◌}
-use Rattle.std.proofs.Common.{refl, ap, sym, ◌∙◌, arith, append_assoc, not}
-use Rattle.std.proofs.Common.{if◌then◌else◌}
+use Rattle.std.proofs.Common.{◌≡◌, ℕ, ◌+◌, ◌-◌, ◌==◌, Bool, true, false, List, [], ◌∷◌, ◌++◌, refl}
+use Rattle.std.proofs.Common.{ap, sym, ◌∙◌, arith, append_assoc, not, if◌then◌else◌}
 use Rattle.std.proofs.lemmas.Bool.Decides.{nat_tests}
 use Rattle.cpa_expr.specs.declared.tree.Expr.{Expr}
 use Rattle.c_core_rules.specs.declared.tree.Valued.{Valued}
-use Rattle.c_core_rules.specs.Trees.{Trees}
+use Rattle.cpa_model_trees.specs.Numbering.{Trees}
 use Rattle.c_core_rules.specs.Cells.{Taken, Made, Rule, gives}
 use Rattle.c_core_rules.specs.Acts.{is_pure, held, hold_all, have_statements, statements_of}
 use Rattle.c_core_rules.specs.Acts.{values_of}

@@ -17,11 +17,12 @@ use crate::values::{int, scalar};
 use c_core_operators::{
     both, chosen_value, conv, either, is_constant, operator_value, signed_value, truth_of,
 };
-use c_core_rules::{CoreTree, Location, Valued};
+use c_core_rules::{Location, Valued};
 use c_grammar_symbols::BinaryOperator;
 use c_grammar_tree::UnaryOperator;
 use cpa_expr::{Expr, type_of};
 use cpa_ints::{IntType, Seq, common};
+use cpa_model_trees::CoreTree;
 use std::alloc::{AllocError, Global};
 
 /// Whether no statement stands before a value.

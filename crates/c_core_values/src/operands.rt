@@ -8,9 +8,10 @@ ghost use Rattle.c_core_values.specs.Found.{so_far};
 use crate::acts::{held, is_pure};
 use crate::cells::Cells;
 use crate::trees::joined;
-use c_core_rules::{CoreTree, Valued};
+use c_core_rules::Valued;
 use cpa_expr::Expr;
 use cpa_ints::Seq;
+use cpa_model_trees::CoreTree;
 use std::alloc::{AllocError, Global};
 
 /// How many of these have statements.

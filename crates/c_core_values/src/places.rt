@@ -5,19 +5,19 @@ ghost use Rattle.c_core_rules.specs.Trees.{write, pure, valued};
 ghost use Rattle.c_core_rules.specs.Values.{element, int};
 ghost use Rattle.c_core_rules.specs.Acts.{operated, held, held_before};
 ghost use Rattle.c_core_rules.specs.Places.{written, set_scalar, fixed_if, set_element, assigned};
-ghost use Rattle.c_core_rules.specs.Places.{updated_at};
-ghost use Rattle.c_core_rules.specs.Places.{updated, changed, step_operator, incremented};
-ghost use Rattle.c_core_rules.specs.Places.{stepped_at, stepped};
+ghost use Rattle.c_core_rules.specs.Places.{updated_at, updated, changed, step_operator};
+ghost use Rattle.c_core_rules.specs.Places.{incremented, stepped_at, stepped};
 ghost use Rattle.c_core_values.specs.Found.{so_far};
 
 use crate::acts::{fixed, followed, held, held_before, operated, statements_of};
 use crate::cells::Cells;
 use crate::trees::{joined, pure, with, write};
 use crate::values::{element, int};
-use c_core_rules::{CoreTree, Location, Place, Valued};
+use c_core_rules::{Location, Place, Valued};
 use c_grammar_symbols::{BinaryOperator, StepOperator};
 use cpa_expr::{Expr, copy};
 use cpa_ints::Seq;
+use cpa_model_trees::CoreTree;
 use std::alloc::{AllocError, Global};
 
 /// The place with a copy of its index, read.

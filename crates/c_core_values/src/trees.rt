@@ -5,9 +5,10 @@ ghost use Rattle.c_core_rules.specs.Trees.{leaf, block, choice, repeated, write,
 
 use crate::values::int;
 use c_core_operators::conv;
-use c_core_rules::{CoreTree, Head, Location, Valued};
+use c_core_rules::{Location, Valued};
 use cpa_expr::Expr;
 use cpa_ints::Seq;
+use cpa_model_trees::{CoreTree, Head};
 use std::alloc::{AllocError, Global};
 
 /// A list of one statement.

@@ -2,13 +2,12 @@
 use Rattle.std.proofs.Common.{◌≡◌}
 use Rattle.c_types_rules.specs.declared.typed.TypedItem.{TypedItem, roll-TypedItem}
 use Rattle.c_types_rules.specs.declared.typed.TypedItem.TheOpen.{TypedItem-F, TypedStatement-F}
-use Rattle.c_types_rules.specs.declared.typed.TypedItem.TheFolds.{map-TypedItem}
-use Rattle.c_types_rules.specs.declared.typed.TypedItem.TheFolds.{map-TypedStatement}
+use Rattle.c_types_rules.specs.declared.typed.TypedItem.TheFolds.{map-TypedItem, map-TypedStatement}
 use Rattle.c_types_rules.specs.declared.typed.TypedItem.TheFolds.{fold-roll-TypedItem}
 use Rattle.c_types_rules.specs.declared.typed.TypedItem.TheFolds.{fold-roll-TypedStatement}
 use Rattle.c_types_rules.specs.declared.typed.TypedStatement.{TypedStatement, roll-TypedStatement}
 use Rattle.c_core_rules.specs.declared.tree.Location.{Location}
-use Rattle.c_core_rules.specs.Trees.{Trees}
+use Rattle.cpa_model_trees.specs.Numbering.{Trees}
 use Rattle.c_core_rules.specs.Cells.{Rule}
 use Rattle.c_core_rules.specs.Expressions.{Frames}
 use Rattle.c_core_rules.specs.Statements.{item_rule, item_step, statement_step}

@@ -1,36 +1,23 @@
 -- Numbered statements of trees one behind the other: a node is its own statement and those of its
 -- parts (`node_*`), a row its first tree and the others (`row_*`).
-use Rattle.std.proofs.Common.{◌≡◌, ℕ, suc, ◌+◌, List, [], ◌∷◌, ◌++◌, map, length, refl, ap, sym}
-use Rattle.std.proofs.Common.{◌<◌, ◌≤◌, ◌*◌, get_or, drop, ◌∙◌, arith, append_assoc, set}
-use Rattle.std.proofs.Common.{length-append}
+use Rattle.std.proofs.Common.{◌≡◌, ℕ, suc, ◌+◌, List, [], ◌∷◌, ◌++◌, length, refl, ap, sym, ◌<◌}
+use Rattle.std.proofs.Common.{◌≤◌, ◌*◌, get_or, drop, ◌∙◌, arith, append_assoc, set, length-append}
 use Rattle.std.proofs.lemmas.List.{at_drop_more}
 use Rattle.cpa_model.specs.declared.program.Stmt.{Stmt}
-use Rattle.c_core_rules.specs.declared.tree.CoreTree.{CoreTree, roll-CoreTree}
-use Rattle.c_core_rules.specs.declared.tree.CoreTree.TheVariants as tree
-use Rattle.c_core_rules.specs.declared.tree.CoreTree.TheOpen.{CoreTree-F}
-use Rattle.c_core_rules.specs.declared.tree.CoreTree.TheFolds.{fold-CoreTree, map-CoreTree}
-use Rattle.c_core_rules.specs.declared.tree.CoreTree.TheFolds.{fold-roll-CoreTree}
-use Rattle.c_core_rules.specs.declared.tree.Head.{Head}
-use Rattle.c_core_rules.specs.Programs.{Placed, statements, node_statements, numbers_from, stmt_of}
-use Rattle.c_core_rules.specs.Programs.{label_here, labels_from, numbered, numbered_bodies}
-use Rattle.c_core_numbers.specs.Rows.{row_of, sizes_of}
-
-opened : (t : CoreTree) (x : CoreTree-F CoreTree) → roll-CoreTree x ≡ t →
-    statements t ≡ node_statements (map-CoreTree CoreTree (List Placed) statements x)
-unfolding statements
-opened t x is =
-    ap (fold-CoreTree (List Placed) node_statements) (sym is)
-    ∙ fold-roll-CoreTree (List Placed) node_statements x
-
-sizes_map : (parts : List CoreTree) → map length (map statements parts) ≡ sizes_of parts
-sizes_map [] = refl
-sizes_map (t ∷ parts) = ap (λ ns. length (statements t) ∷ ns) (sizes_map parts)
+use Rattle.cpa_model_trees.specs.declared.tree.CoreTree.{CoreTree}
+use Rattle.cpa_model_trees.specs.declared.tree.CoreTree.TheVariants as tree
+use Rattle.cpa_model_trees.specs.declared.tree.Head.{Head}
+use Rattle.cpa_model_trees.specs.Numbering.{Placed, statements, numbers_from, stmt_of, label_here}
+use Rattle.cpa_model_trees.specs.Numbering.{labels_from, numbered, numbered_bodies}
+use Rattle.cpa_model_trees.specs.Rows.{row_of, sizes_of}
+use Rattle.cpa_model_trees.specs.lemmas.Nodes.{node_placed}
+use Rattle.cpa_model_trees.specs.lemmas.Numbered.{lengths_are, numbered_length, numbered_append}
 
 node_is : (h : Head) (parts : List CoreTree) →
     statements (tree.Node h parts) ≡ record { head = h; sizes = sizes_of parts } ∷ row_of parts
 node_is h parts =
-    opened (tree.Node h parts) (CoreTree-F.Node h parts) (tree.rolls-Node h parts)
-    ∙ ap (λ ns. record { head = h; sizes = ns } ∷ row_of parts) (sizes_map parts)
+    node_placed h parts ∙ ap (λ ns. record { head = h; sizes = ns } ∷ row_of parts)
+    (lengths_are parts)
 
 pub node_labels : (h : Head) (parts : List CoreTree) (n : ℕ) →
     labels_from n (statements (tree.Node h parts))
@@ -60,22 +47,6 @@ labels_append n (x ∷ xs) ys =
     ∙ sym (append_assoc (label_here x.head n) (labels_from (n + 1) xs)
     (labels_from (n + 1 + length xs) ys))
     ∙ ap (λ k. (label_here x.head n ++ labels_from (n + 1) xs) ++ labels_from k ys) e
-
-pub numbered_length : (labels : List ℕ) (n : ℕ) (xs : List Placed) →
-    length (numbered labels n xs) ≡ length xs
-numbered_length labels n [] = refl
-numbered_length labels n (x ∷ xs) = ap suc (numbered_length labels (n + 1) xs)
-
-pub numbered_append : (labels : List ℕ) (n : ℕ) (xs ys : List Placed) →
-    numbered labels n (xs ++ ys)
-    ≡ numbered labels n xs ++ numbered labels (n + length xs) ys
-numbered_append labels n [] ys =
-    let e : n ≡ n + 0 = omega arith in ap (λ k. numbered labels k ys) e
-numbered_append labels n (x ∷ xs) ys =
-    let e : n + 1 + length xs ≡ n + suc (length xs) = omega arith in
-    let one = stmt_of labels x.head (numbers_from (n + 1) x.sizes) in
-    ap (λ ss. one ∷ ss) (numbered_append labels (n + 1) xs ys)
-    ∙ ap (λ k. one ∷ (numbered labels (n + 1) xs ++ numbered labels k ys)) e
 
 set_behind : (before : List Stmt) (old new : Stmt) (rest : List Stmt) →
     set (before ++ old ∷ rest) (length before) new ≡ before ++ new ∷ rest

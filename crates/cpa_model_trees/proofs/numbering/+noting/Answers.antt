@@ -1,10 +1,10 @@
 -- The labels of trees, one behind the other.
 use Rattle.std.proofs.Common.{◌≡◌, ◌++◌, arith}
 use Rattle.std.proofs.lemmas.Result.{on_ok_weaker}
-use Rattle.c_core_rules.specs.Programs.{labels_from}
-use Rattle.c_core_numbers.specs.Rows.{row_of}
-use Rattle.c_core_numbers.proofs.NumberedRows.{note_kept, node_noted}
-use Rattle.c_core_numbers.proofs.numbering.+noting.Goals as goal
+use Rattle.cpa_model_trees.specs.Numbering.{labels_from}
+use Rattle.cpa_model_trees.specs.Rows.{row_of}
+use Rattle.cpa_model_trees.proofs.NumberedRows.{note_kept, node_noted}
+use Rattle.cpa_model_trees.proofs.numbering.+noting.Goals as goal
 
 pub note_row-loop-tree-preserved : goal.note_row-loop-tree-preserved
 note_row-loop-tree-preserved t c =

@@ -1,7 +1,7 @@
--- Trees one behind the other (`c_core_rules`, `specs/Programs.antt`).
+-- Trees one behind the other.
 use Rattle.std.specs.Prelude.{ℕ, List, length, map}
-use Rattle.c_core_rules.specs.declared.tree.CoreTree.{CoreTree}
-use Rattle.c_core_rules.specs.Programs.{Placed, statements, joined}
+use Rattle.cpa_model_trees.specs.declared.tree.CoreTree.{CoreTree}
+use Rattle.cpa_model_trees.specs.Numbering.{Placed, statements, joined}
 
 -- the statements of trees, in the order of the trees
 abbrev pub row_of : List CoreTree → List Placed

@@ -1,7 +1,7 @@
 -- The statements of functions, one behind the other.
 use Rattle.std.specs.Vec.Iter.{into_iter_items}
-use Rattle.c_core_numbers.proofs.NumberedRows.{bodies_kept}
-use Rattle.c_core_numbers.proofs.numbering.numbered_bodies.Goals as goal
+use Rattle.cpa_model_trees.proofs.NumberedRows.{bodies_kept}
+use Rattle.cpa_model_trees.proofs.numbering.numbered_bodies.Goals as goal
 
 pub loop-tree-preserved : goal.loop-tree-preserved
 loop-tree-preserved c =

@@ -1,13 +1,14 @@
-//! Numbers for the statements of trees (`numbered_bodies` of `c_core_rules`): a function's labels,
+//! Numbers for the statements of trees (`specs/Numbering.antt`): a function's labels,
 //! then its statements, each before its parts. Shown in `proofs/NumberedRows.antt`.
 ghost use Rattle.std.specs.Prelude.{◌≡◌, ◌<◌, ◌+◌, ◌++◌, ◌∷◌, [], length, set, IfOk, OnOk};
 ghost use Rattle.cpa_model.specs.declared.program.Stmt.TheVariants as stmt;
-ghost use Rattle.c_core_rules.specs.declared.tree.CoreTree.TheVariants.{Node};
-ghost use Rattle.c_core_rules.specs.Programs.{statements, numbers_from, part, stmt_of, label_here};
-ghost use Rattle.c_core_rules.specs.Programs.{labels_from, numbered, numbered_bodies};
-ghost use Rattle.c_core_numbers.specs.Rows.{sizes_of, row_of};
+ghost use Rattle.cpa_model_trees.specs.declared.tree.CoreTree.TheVariants.{Node};
+ghost use Rattle.cpa_model_trees.specs.Numbering.{statements, numbers_from, part, stmt_of};
+ghost use Rattle.cpa_model_trees.specs.Numbering.{label_here, labels_from, numbered};
+ghost use Rattle.cpa_model_trees.specs.Numbering.{numbered_bodies};
+ghost use Rattle.cpa_model_trees.specs.Rows.{sizes_of, row_of};
 
-use c_core_rules::{CoreTree, Head};
+use crate::{CoreTree, Head};
 use cpa_ints::Seq;
 use cpa_model::Stmt;
 use std::alloc::{AllocError, Global};

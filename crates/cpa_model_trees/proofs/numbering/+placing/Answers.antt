@@ -1,8 +1,8 @@
 -- The statements of trees, one behind the other.
 use Rattle.std.proofs.Common.{◌∙◌}
 use Rattle.std.specs.Vec.Iter.{into_iter_items}
-use Rattle.c_core_numbers.proofs.NumberedRows.{placed_kept, less_left, root_placed}
-use Rattle.c_core_numbers.proofs.numbering.+placing.Goals as goal
+use Rattle.cpa_model_trees.proofs.NumberedRows.{placed_kept, less_left, root_placed}
+use Rattle.cpa_model_trees.proofs.numbering.+placing.Goals as goal
 
 pub place_row-loop-tree-preserved : goal.place_row-loop-tree-preserved
 place_row-loop-tree-preserved t c =

@@ -1,9 +1,9 @@
 -- The statements and bodies so far, and those of the functions that are left.
 use Rattle.std.proofs.Common.{◌≡◌, ◌++◌, length}
 use Rattle.std.specs.Vec.Iter.{into_iter_items}
-use Rattle.c_core_rules.specs.Programs.{numbers_from, numbered_bodies}
-use Rattle.c_core_numbers.specs.Rows.{sizes_of}
-use Rattle.c_core_numbers.proofs.numbering.numbered_bodies.Given as goal
+use Rattle.cpa_model_trees.specs.Numbering.{numbers_from, numbered_bodies}
+use Rattle.cpa_model_trees.specs.Rows.{sizes_of}
+use Rattle.cpa_model_trees.proofs.numbering.numbered_bodies.Given as goal
 
 abbrev pub invariant-loop-tree : goal.invariant-loop-tree
 invariant-loop-tree l = record {

@@ -1,8 +1,8 @@
 -- The labels so far and those of the trees that are left.
 use Rattle.std.proofs.Common.{◌≡◌, ◌+◌, ◌++◌, drop, length}
-use Rattle.c_core_rules.specs.Programs.{labels_from}
-use Rattle.c_core_numbers.specs.Rows.{row_of}
-use Rattle.c_core_numbers.proofs.numbering.+noting.Given as goal
+use Rattle.cpa_model_trees.specs.Numbering.{labels_from}
+use Rattle.cpa_model_trees.specs.Rows.{row_of}
+use Rattle.cpa_model_trees.proofs.numbering.+noting.Given as goal
 
 abbrev pub invariant-note_row-loop-tree : goal.invariant-note_row-loop-tree
 invariant-note_row-loop-tree l = record {

@@ -2,9 +2,9 @@
 -- numbers so far, and those of the trees that are left.
 use Rattle.std.proofs.Common.{◌≡◌, ◌+◌, ◌*◌, ◌≤◌, ◌++◌, length}
 use Rattle.std.specs.Vec.Iter.{into_iter_items}
-use Rattle.c_core_rules.specs.Programs.{statements, numbers_from, numbered}
-use Rattle.c_core_numbers.specs.Rows.{row_of, sizes_of}
-use Rattle.c_core_numbers.proofs.numbering.+placing.Given as goal
+use Rattle.cpa_model_trees.specs.Numbering.{statements, numbers_from, numbered}
+use Rattle.cpa_model_trees.specs.Rows.{row_of, sizes_of}
+use Rattle.cpa_model_trees.proofs.numbering.+placing.Given as goal
 
 abbrev pub decreases-place : goal.decreases-place
 decreases-place l = 3 * length (statements l.tree)

@@ -1,0 +1,5 @@
+pub mod Numbering
+pub mod Shapes
+pub mod Rows
+pub mod Laws
+pub mod lemmas

@@ -1,0 +1,4 @@
+-- Lemmas on the definitions, which the laws' proofs and crates above cite. No definition that a
+-- contract cites stands here.
+pub mod Nodes
+pub mod Numbered
