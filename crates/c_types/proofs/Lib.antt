@@ -5,5 +5,3 @@ pub mod Listed
 pub mod Typed
 pub mod Next
 pub mod Numbers
-pub mod ErasedExpressions
-pub mod ErasedStatements

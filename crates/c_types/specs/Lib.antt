@@ -2,4 +2,3 @@ pub mod Firsts
 pub mod Blocks
 pub mod Outcomes
 pub mod Starts
-pub mod Erasing

@@ -1,8 +1,6 @@
-//! The check of a text (`IsChecked` of `specs/Sound.antt` of `c_types_rules`,
-//! `specs/Erasing.antt`). Proved with `proofs/ErasedStatements`.
-ghost use Rattle.std.specs.Prelude.{◌≡◌, IfOk};
+//! The check of a text (`IsChecked` of `specs/Sound.antt` of `c_types_rules`). Proved by the checker
+//! alone, over `outcome`.
 ghost use Rattle.c_types_rules.specs.Sound.{IsChecked};
-ghost use Rattle.c_types.specs.Erasing.{erased_functions, bare_functions};
 
 use crate::outcome::{Outcome, find_outcome};
 use c_grammar_tree::Unit;
@@ -13,8 +11,6 @@ use std::alloc::Global;
 /// The typed tree of a text that breaks no rule of names and types, or its first broken rule.
 pub fn check(alloc: Global, unit: &Unit) -> Result<TypedUnit, TextError>
     ensures checked { IsChecked unit.now result }
-    ensures erased { IfOk result (λ typed. erased_functions typed.functions
-        ≡ bare_functions unit.now.items) }
 {
     match find_outcome(alloc, unit) {
         Ok(Outcome::Sound(typed)) => Ok(typed),
