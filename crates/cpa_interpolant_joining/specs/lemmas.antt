@@ -1,0 +1,4 @@
+-- Lemmas on the definitions, which the law's proof cites. No definition that a contract cites
+-- stands here.
+pub mod Literals
+pub mod Clauses
