@@ -4,11 +4,9 @@ use Rattle.std.proofs.Common.{◌<◌, ◌≤◌, ◌-◌, ◌^◌, refl, ◌∙
 use Rattle.std.specs.Prelude.{◌⊎◌, Bool, true, false, None}
 use Rattle.std.proofs.lemmas.Bool.{cases_lt}
 use Rattle.cpa_expr.specs.declared.tree.Expr.{Expr}
-use Rattle.cpa_sat.specs.Outcomes.{IsSpent}
-use Rattle.cpa_blast.specs.Formulas.{formula}
 use Rattle.cpa_edgeform_rules.specs.Forms.{Form}
 use Rattle.cpa_predicate.specs.declared.asking.Budgets.{Budgets}
-use Rattle.cpa_predicate.specs.Questions.{IsBeyond, IsUndecided, Spends, IsFound}
+use Rattle.cpa_predicate.specs.Questions.{OutlastsSearch, IsBeyond, IsUndecided, Spends, IsFound}
 use Rattle.cpa_predicate.specs.Questions.{lacking}
 use Rattle.cpa_solver.specs.Decisions.{HasNoModel}
 
@@ -24,8 +22,8 @@ nothing_spent b C = record {
 pub beyond_before : (b c : Budgets) (C : Type 0) (form : Form) → Spends b c C → IsBeyond c form
     → IsBeyond b form
 beyond_before b c C form s (inl heavy) = inl (subst (λ n. n < form.weight) s.gates heavy)
-beyond_before b c C form s (inr (lines, spent)) =
-    inr (lines, subst (λ n. IsSpent (formula form.query) n lines) s.learnt spent)
+beyond_before b c C form s (inr outlasts) =
+    inr (subst (λ n. OutlastsSearch n form.query) s.learnt outlasts)
 
 pub both_spent : (a b c : Budgets) (C D E : Type 0) → Spends a b C → Spends b c D → (C → E)
     → (D → E) → Spends a c E

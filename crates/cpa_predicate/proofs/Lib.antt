@@ -5,3 +5,4 @@ pub mod TransferLemmas
 pub mod WitnessLemmas
 pub mod RefiningLemmas
 pub mod PredicateLaws
+pub mod FindingLemmas

@@ -2,11 +2,12 @@
 use Rattle.std.proofs.Common.{◌≡◌, ℕ, Bool, List, [], ◌∷◌, ◌++◌, refl, sym, ap, ◌∙◌, subst}
 use Rattle.std.proofs.Common.{arith, append-nil, length}
 use Rattle.std.proofs.Common.{get_or, take}
-use Rattle.std.specs.Prelude.{◌+◌, ◌<◌, zero, suc, Option, None, Some, slice_get}
+use Rattle.std.specs.Prelude.{◌+◌, ◌<◌, ◌≤◌, zero, suc, Option, None, Some, slice_get}
 use Rattle.std.proofs.lemmas.List.{take_more}
-use Rattle.std.specs.List.{Contains}
+use Rattle.std.specs.List.{Contains, AllByRecursion}
 use Rattle.std.proofs.lemmas.List.{append_assoc}
 use Rattle.cpa_expr.specs.declared.tree.Expr.{Expr}
+use Rattle.cpa_expr.specs.declared.tree.Store.{Store}
 use Rattle.cpa_model.specs.declared.facts.Fact.{Fact}
 use Rattle.cpa_model.specs.declared.facts.Elem.{Elem}
 use Rattle.cpa_model.specs.declared.automaton.Edge.{Edge}
@@ -18,13 +19,15 @@ use Rattle.cpa_edgeform_rules.specs.Stores.{FailingIsNotHolding, StepsTakeInputs
 use Rattle.cpa_query.specs.Queries.{IsQuery}
 use Rattle.cpa_solver.specs.Decisions.{HasNoModel}
 use Rattle.cpa_predicate.specs.declared.asking.Budgets.{Budgets}
-use Rattle.cpa_predicate.specs.Steps.{NeverSteps}
+use Rattle.cpa_predicate.specs.Steps.{NeverSteps, IsAfter}
+use Rattle.cpa_predicate.specs.Predicates.{no_facts}
 use Rattle.cpa_predicate.specs.Questions.{Question, steps, lacks, step_form, lacking, form_asked}
 use Rattle.cpa_predicate.specs.Questions.{IsOpen, IsFound, IsUndecided, IsStep, IsBeyond}
 use Rattle.cpa_predicate.specs.Questions.{SomeBeyond, Spends}
 use Rattle.cpa_predicate.specs.Transfer.{fact_of, IsTruthAfter, AreTruthsAfter, IsCartesian}
 use Rattle.cpa_predicate.proofs.BudgetLemmas.{undecided_since, undecided_until, both_spent}
 use Rattle.cpa_predicate.proofs.BudgetLemmas.{beyond_before}
+use Rattle.cpa_predicate.proofs.WitnessLemmas.{first_step}
 use Rattle.cpa_predicate.proofs.StepLemmas.{step_asked, never_steps, no_step}
 use Rattle.cpa_predicate.proofs.StepLemmas.{lack_asked, has_after, no_lack}
 use Rattle.cpa_model.specs.Acts.{IsActOf}
@@ -197,3 +200,13 @@ module _ (a b : Budgets) (cfa : Cfa) (e : Elem) (g : Edge) (preds : List Expr) (
             (subst (λ (x : Edge). AreTruthsAfter (IsOpen b c cfa e x) cfa e x preds after.facts)
             same are),
       )
+
+-- without predicates a store to which the edge leads is all that is asked
+pub settled : (O : Question → Type 0) (cfa : Cfa) (e : Elem) (g h : Edge) (preds : List Expr)
+    (xs : List Store) → h ≡ g → preds ≡ [] → 1 ≤ length xs → AllByRecursion (IsAfter cfa e h) xs
+    → IsCartesian O cfa e g preds (no_facts ∷ [])
+settled O cfa e g h preds xs same none some all =
+    let found = first_step cfa e g xs some
+    (subst (λ (x : Edge). AllByRecursion (IsAfter cfa e x) xs) same all) in
+    subst (λ (ps : List Expr). IsCartesian O cfa e g ps (no_facts ∷ [])) (sym none)
+    (λ never. absurd (never found.0 found.1 found.2), refl)

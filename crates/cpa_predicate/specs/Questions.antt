@@ -1,6 +1,8 @@
 -- What is asked of the solver about an edge, and when a question stays undecided (this project's
 -- own).
-use Rattle.std.specs.Prelude.{◌≡◌, ◌≤◌, ◌<◌, ◌-◌, ◌^◌, ◌⊎◌, ℤ, Bool, false, List, [], ◌∷◌, ⊤, Option, None, Some}
+use Rattle.std.specs.Prelude.{◌≡◌, ℕ, ◌≤◌, ◌<◌, ◌-◌, ◌^◌, ◌⊎◌, ℤ, Bool, false, List, [], ◌∷◌, ⊤}
+use Rattle.std.specs.Prelude.{Option, None, Some}
+use Rattle.std.specs.Coded.{Π_prop, →_prop}
 use Rattle.std.specs.List.{Contains}
 use Rattle.cpa_expr.specs.declared.tree.Expr.{Expr}
 use Rattle.cpa_model.specs.declared.facts.Fact.TheVariants.{Truth}
@@ -11,7 +13,7 @@ use Rattle.cpa_model.specs.Acts.{IsActOf}
 use Rattle.cpa_model.specs.Automata.{IsAutomaton}
 use Rattle.cpa_model.specs.Facts.{IsElem}
 use Rattle.cpa_cnf.specs.declared.formula.Line.{Line}
-use Rattle.cpa_query.specs.Queries.{IsModel}
+use Rattle.cpa_query.specs.declared.query.Query.{Query}
 use Rattle.cpa_sat.specs.Outcomes.{IsSpent}
 use Rattle.cpa_blast.specs.Formulas.{formula}
 use Rattle.cpa_edgeform_rules.specs.Runs.{taken, holding, failing}
@@ -47,17 +49,37 @@ abbrev pub IsOn : List Expr → Question → Type 0
 IsOn preds steps = ⊤
 IsOn preds (lacks p holds) = Contains preds p
 
--- The budgets do not do for the form's query: it weighs more than they allow, or as many good lines
--- as they allow stand over its formula, none empty, different from each other and from its clauses.
-abbrev pub IsBeyond : Budgets → Form → Type 0
-IsBeyond b form =
-    (b.gates < form.weight) ⊎ ((lines : List Line) × IsSpent (formula form.query) b.learnt lines)
+-- So many good lines stand over the query's formula, none empty, different from each other and from
+-- its clauses: a search that may learn no more need not decide it.
+abbrev pub OutlastsSearch : ℕ → Query → Type 0
+OutlastsSearch learnt q = (lines : List Line) × IsSpent (formula q) learnt lines
 
--- the answer is right
+-- the budgets do not do for the form's query: it weighs more than they allow, or outlasts the search
+abbrev pub IsBeyond : Budgets → Form → Type 0
+IsBeyond b form = (b.gates < form.weight) ⊎ OutlastsSearch b.learnt form.query
+
+-- the answer settles the query: it has no model, or it has one
+abbrev pub IsSettledBy : Query → Answer → Type 0
+IsSettledBy q Never = HasNoModel q
+IsSettledBy q Sometimes = HasNoModel q → ⊥
+IsSettledBy q Undecided = ⊥
+
+-- a fact that has at most one proof, as a fact that is kept beside a query has to be
+pub IsSettledBy-prop : (q : Query) (answer : Answer) → IsProp (IsSettledBy q answer)
+IsSettledBy-prop q Never = Π_prop (λ values. →_prop (λ x y. absurd x))
+IsSettledBy-prop q Sometimes = →_prop (λ x y. absurd x)
+IsSettledBy-prop q Undecided = λ x y. absurd x
+
+-- the answer to a query is right, of a search that may learn so many lines
+abbrev pub IsAnswerTo : Query → ℕ → Answer → Type 0
+IsAnswerTo q learnt Never = HasNoModel q
+IsAnswerTo q learnt Sometimes = HasNoModel q → ⊥
+IsAnswerTo q learnt Undecided = OutlastsSearch learnt q
+
+-- and the answer to the form's query, within the budgets
 abbrev pub IsAnswered : Budgets → Form → Answer → Type 0
-IsAnswered b form Never = HasNoModel form.query
-IsAnswered b form (Sometimes store) = IsModel form.query store.values
 IsAnswered b form Undecided = IsBeyond b form
+IsAnswered b form answer = IsAnswerTo form.query b.learnt answer
 
 -- What asking makes of the budgets: they stay, and the count of undecided questions never falls,
 -- and rises only where there is a cause.

@@ -1,17 +1,21 @@
 //! Questions to the solver within budgets, by `specs/Questions.antt`.
 
-ghost use Rattle.std.specs.Prelude.{◌≡◌, ◌∷◌, [], IsTrue, true, false, Bool, IfOk};
+ghost use Rattle.std.specs.Prelude.{◌≡◌, ℕ, ◌∷◌, [], IsTrue, true, false, Bool, IfOk, IfSome};
 ghost use Rattle.cpa_model.specs.declared.facts.Fact.TheVariants.{Truth};
+ghost use Rattle.cpa_query.specs.declared.query.Query.{Query as AQuery};
 ghost use Rattle.cpa_query.specs.Queries.{IsQuery};
-ghost use Rattle.cpa_solver.specs.Decisions.{HasNoModel};
-ghost use Rattle.cpa_predicate.specs.Questions.{IsAnswered, IsUndecided, IsBeyond, Spends};
+ghost use Rattle.cpa_solver.specs.Decisions.{HasNoModel, IsDecided};
+ghost use Rattle.cpa_predicate.specs.Questions.{IsSettledBy, IsAnswerTo, IsAnswered};
+ghost use Rattle.cpa_predicate.specs.Questions.{IsUndecided, IsBeyond, Spends};
 ghost use Rattle.cpa_predicate.specs.Questions.{lacking, IsFound};
 ghost use Rattle.cpa_predicate.specs.Predicates.{default_budgets};
 
+use crate::findings::{Finding, Findings};
 use cpa_edgeform::EdgeForm;
 use cpa_expr::copy;
 use cpa_iface::{DEFAULT_GATES, DEFAULT_LEARNT};
 use cpa_model::{Elem, Expr, Fact, Seq, Store};
+use cpa_query::Query;
 use cpa_solver::{Decided, decide};
 use std::alloc::{AllocError, Global};
 use std::marker::Model;
@@ -31,13 +35,14 @@ pub struct Budgets {
     pub spent: u64,
 }
 
-/// What asks: the budgets, and stores from which edges led on, the first of models that were found.
-/// Contracts see the budgets alone, since nothing is promised of the stores: whoever uses one looks
-/// at it anew.
+/// What asks: the budgets, stores from which edges led on, the first of models that were found, and
+/// what was found out of queries. Contracts see the budgets alone, since nothing is promised of the
+/// stores: whoever uses one looks at it anew. A finding is right by itself.
 #[derive(Drop)]
 pub(crate) struct Asker {
     pub(crate) budgets: Budgets,
     stores: Option<Vec<Store>>,
+    findings: Option<Findings>,
 }
 
 impl Model for Asker {
@@ -49,7 +54,7 @@ impl Model for Asker {
 }
 
 impl Asker {
-    /// The budgets before any settings are given, and no store. Takes no memory.
+    /// The budgets before any settings are given, and nothing kept. Takes no memory.
     pub(crate) fn new() -> Asker
         ensures { result ≡ default_budgets }
     {
@@ -60,6 +65,7 @@ impl Asker {
                 spent: 0,
             },
             stores: None,
+            findings: None,
         }
     }
 
@@ -72,7 +78,7 @@ impl Asker {
     }
 
     /// Keeps a store, in the place of the oldest one where there are many.
-    fn keep(&mut self, alloc: Global, store: Store) -> Result<(), AllocError>
+    fn keep_store(&mut self, alloc: Global, store: Store) -> Result<(), AllocError>
         ensures { self.new ≡ self.old }
     {
         let mut stores = match mem::replace(&mut self.stores, None) {
@@ -86,35 +92,114 @@ impl Asker {
         self.stores = Some(stores);
         Ok(())
     }
+
+    /// The answer that is kept to the query.
+    fn answer_to(&self, query: &Query) -> Option<Answer>
+        ensures { IfSome result (IsSettledBy query.now) }
+    {
+        match &self.findings {
+            Some(findings) => findings.answer_to(query),
+            None => None,
+        }
+    }
+
+    /// Keeps a finding.
+    fn keep_finding(&mut self, alloc: Global, finding: Finding) -> Result<(), AllocError>
+        ensures { self.new ≡ self.old }
+    {
+        let mut findings = match mem::replace(&mut self.findings, None) {
+            Some(findings) => findings,
+            None => Findings::new(alloc),
+        };
+        findings.keep(finding)?;
+        self.findings = Some(findings);
+        Ok(())
+    }
 }
 
 /// Whether a query has a model.
-#[derive(Drop)]
-enum Answer {
+#[derive(Clone, Copy, Drop)]
+pub(crate) enum Answer {
     Never,
-    Sometimes(Store),
+    Sometimes,
     Undecided,
 }
 
-/// Asks whether the form's query has a model, unless it weighs too much.
-fn ask(alloc: Global, budgets: Budgets, form: &EdgeForm) -> Result<Answer, AllocError>
-    requires { IsQuery form.now.query }
-    ensures { IfOk result (IsAnswered budgets form.now) }
+/// The answer that a decision gives.
+fn answer_of(decided: &Decided) -> Answer
+    ensures { (q : AQuery) (learnt : ℕ) → IsDecided q learnt decided.now
+        → IsAnswerTo q learnt result }
 {
-    if budgets.gates < form.weight() {
-        return Ok(Answer::Undecided);
-    }
-    let query = form.query()?;
-    let decided = decide(alloc, &query, budgets.learnt)?;
     match decided {
-        Decided::Model(store) => Ok(Answer::Sometimes(store)),
-        Decided::NoModel(_) => Ok(Answer::Never),
-        Decided::Learnt(_) => Ok(Answer::Undecided),
+        Decided::Model(_) => Answer::Sometimes,
+        Decided::NoModel(_) => Answer::Never,
+        Decided::Learnt(_) => Answer::Undecided,
     }
 }
 
-/// Whether it is found that the form's query has no model. A question that is not decided counts;
-/// of a model that is found the first store is kept.
+/// Of a model of the form's query the first store is kept.
+fn keep_first(
+    alloc: Global,
+    asker: &mut Asker,
+    form: &EdgeForm,
+    decided: &Decided,
+) -> Result<(), AllocError>
+    ensures { asker.new ≡ asker.old }
+{
+    if let Decided::Model(store) = decided {
+        let (first, _) = form.stores_of(store)?;
+        asker.keep_store(alloc, first)?;
+    }
+    Ok(())
+}
+
+/// Puts the form's query to the solver, and keeps what it decides.
+fn find_out(
+    alloc: Global,
+    asker: &mut Asker,
+    form: &EdgeForm,
+    query: Query,
+) -> Result<Answer, AllocError>
+    requires asked { IsQuery query }
+    ensures answer { IfOk result (IsAnswerTo query asker.old.learnt) }
+    ensures budgets { asker.new ≡ asker.old }
+{
+    let learnt = asker.budgets.learnt;
+    let decided = decide(alloc, &query, learnt)?;
+    keep_first(alloc, asker, form, &decided)?;
+    match answer_of(&decided) {
+        Answer::Never => {
+            let answer = Answer::Never;
+            asker.keep_finding(alloc, Finding { query, answer })?;
+            Ok(answer)
+        }
+        Answer::Sometimes => {
+            let answer = Answer::Sometimes;
+            asker.keep_finding(alloc, Finding { query, answer })?;
+            Ok(answer)
+        }
+        Answer::Undecided => Ok(Answer::Undecided),
+    }
+}
+
+/// Asks whether the form's query has a model, unless it weighs too much. What was found out before
+/// is not asked again.
+fn ask(alloc: Global, asker: &mut Asker, form: &EdgeForm) -> Result<Answer, AllocError>
+    requires { IsQuery form.now.query }
+    ensures answered { IfOk result (IsAnswered asker.old form.now) }
+    ensures budgets { asker.new ≡ asker.old }
+{
+    if asker.budgets.gates < form.weight() {
+        return Ok(Answer::Undecided);
+    }
+    let query = form.query()?;
+    match asker.answer_to(&query) {
+        Some(answer) => Ok(answer),
+        None => find_out(alloc, asker, form, query),
+    }
+}
+
+/// Whether it is found that the form's query has no model. A question that is not decided counts.
 pub(crate) fn is_never(
     alloc: Global,
     asker: &mut Asker,
@@ -126,14 +211,9 @@ pub(crate) fn is_never(
         → IsUndecided asker.old asker.new form.now) }
     ensures spends { Spends asker.old asker.new (IsBeyond asker.old form.now) }
 {
-    let answer = ask(alloc, asker.budgets, form)?;
-    match answer {
+    match ask(alloc, asker, form)? {
         Answer::Never => Ok(true),
-        Answer::Sometimes(store) => {
-            let (first, _) = form.stores_of(&store)?;
-            asker.keep(alloc, first)?;
-            Ok(false)
-        }
+        Answer::Sometimes => Ok(false),
         Answer::Undecided => {
             asker.budgets.spent = asker.budgets.spent.saturating_add(1);
             Ok(false)

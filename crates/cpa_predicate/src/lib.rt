@@ -4,6 +4,7 @@
 #![tactic(auto)]
 
 mod asking;
+mod findings;
 mod predicate;
 mod refining;
 mod standing;

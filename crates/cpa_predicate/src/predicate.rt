@@ -15,12 +15,12 @@ ghost use Rattle.cpa_predicate.specs.Transfer.{IsCartesian, NoneOpen};
 
 use crate::asking::Asker;
 use crate::refining::with_carried;
-use crate::transfer::successors;
+use crate::transfer::{no_facts, successors};
 use cpa_iface::{
     Analysis, Entry, MergeRule, Part, Precision, Settings, empty_precision, merge_facts,
     unadjusted, unstrengthened,
 };
-use cpa_model::{Cfa, Elem, Path, Seq, edges_are_sound, has_facts};
+use cpa_model::{Cfa, Elem, Path, edges_are_sound, has_facts};
 use cpa_path_folds::carried_are_expressions;
 use std::alloc::{AllocError, Global};
 use std::marker::Model;
@@ -207,14 +207,5 @@ impl Analysis for Predicate {
     {
         carried_are_expressions();
         with_carried(alloc, cfa, path, precision)
-    }
-}
-
-/// The element without facts. Takes no memory.
-fn no_facts(alloc: Global) -> Elem
-    ensures { result ≡ no_facts }
-{
-    Elem {
-        facts: Seq::new(alloc),
     }
 }

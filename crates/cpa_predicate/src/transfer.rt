@@ -1,11 +1,13 @@
 //! What is known of predicates behind an edge, by `specs/Transfer.antt`.
 
-ghost use Rattle.std.specs.Prelude.{◌≡◌, ◌<◌, ◌∷◌, ◌++◌, [], length, slice_get, Some, IfOk, OnOk};
+ghost use Rattle.std.specs.Prelude.{◌≡◌, ◌<◌, ◌≤◌, ◌∷◌, ◌++◌, [], length, slice_get, Some};
+ghost use Rattle.std.specs.Prelude.{IsTrue, IfOk, OnOk};
 ghost use Rattle.std.specs.List.{AllByRecursion};
 ghost use Rattle.cpa_model.specs.declared.automaton.Edge.{Edge as AnEdge};
 ghost use Rattle.cpa_model.specs.Automata.{IsAutomaton};
 ghost use Rattle.cpa_model.specs.Expressions.{IsExpr};
 ghost use Rattle.cpa_iface.specs.Meanings.{IsShaped};
+ghost use Rattle.cpa_predicate.specs.Predicates.{no_facts};
 ghost use Rattle.cpa_predicate.specs.Questions.{IsStep, Spends, SomeBeyond, IsOpen};
 ghost use Rattle.cpa_predicate.specs.Steps.{IsAfter};
 ghost use Rattle.cpa_predicate.specs.Transfer.{IsTruthAfter, AreTruthsAfter, IsCartesian, fact_of};
@@ -102,6 +104,34 @@ fn truths_after(
     Ok(Elem { facts })
 }
 
+/// Whether no predicate is to be looked at, and a store is known to which the edge leads.
+fn is_settled(preds: &[Expr], behind: &[Store]) -> bool
+    ensures { IsTrue result → (preds.now ≡ []) × (1 ≤ length behind.now) }
+{
+    match (preds, behind) {
+        ([], [_, ..]) => true,
+        _ => false,
+    }
+}
+
+/// The element without facts. Takes no memory.
+pub(crate) fn no_facts(alloc: Global) -> Elem
+    ensures { result ≡ no_facts }
+{
+    Elem {
+        facts: Seq::new(alloc),
+    }
+}
+
+/// The element without facts alone.
+fn no_truths(alloc: Global) -> Result<Vec<Elem>, AllocError>
+    ensures { IfOk result (λ es. es.items ≡ no_facts ∷ []) }
+{
+    let mut elems = Vec::new(alloc);
+    elems.push(no_facts(alloc))?;
+    Ok(elems)
+}
+
 /// The element of the truths that the predicates have wherever the edge leads, if it leads anywhere.
 pub(crate) fn successors(
     alloc: Global,
@@ -125,10 +155,15 @@ pub(crate) fn successors(
     forms_are_runs();
     steps_take_inputs();
     let mut successors = Vec::new(alloc);
-    let step = step_form(alloc, cfa, edge, elem)?;
     let along = cfa.edge(edge);
-    let behind = stores_behind(alloc, cfa, along, elem, asker.stores())?;
+    let behind = stores_behind(alloc, cfa, along, elem, asker.stores(), preds.is_empty())?;
     let behind = behind.as_slice();
+    let settled = is_settled(preds, behind);
+    if settled {
+        let elems = no_truths(alloc)?;
+        return Ok(elems);
+    }
+    let step = step_form(alloc, cfa, edge, elem)?;
     let never = leads_nowhere(alloc, asker, cfa, along, elem, &step, behind)?;
     if never {
         return Ok(successors);

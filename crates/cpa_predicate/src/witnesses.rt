@@ -122,13 +122,14 @@ fn behind(
 }
 
 /// The stores to which the edge leads from those of the given ones on which the predicates of the
-/// element have their truths.
+/// element have their truths, or the first of them where one does.
 pub(crate) fn stores_behind(
     alloc: Global,
     cfa: &Cfa,
     edge: &Edge,
     elem: &Elem,
     stores: &[Store],
+    one_does: bool,
 ) -> Result<Vec<Store>, AllocError>
     ensures { IfOk result (λ found.
         AllByRecursion (IsAfter cfa.now elem.now edge.now) found.items) }
@@ -137,6 +138,9 @@ pub(crate) fn stores_behind(
     for store in stores {
         if let Some(new) = behind(alloc, cfa, edge, elem, store)? {
             found.push(new)?;
+            if one_does {
+                return Ok(found);
+            }
         }
     }
     Ok(found)

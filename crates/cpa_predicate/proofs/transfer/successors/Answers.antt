@@ -1,11 +1,16 @@
 -- Where the step's query has no model, the edge leads nowhere; else the predicates come behind it.
-use Rattle.std.proofs.Common.{◌++◌, ◌∷◌, [], List, sym, ap, ◌∙◌, subst}
+use Rattle.std.proofs.Common.{◌≡◌, ◌++◌, ◌∷◌, [], List, sym, ap, ◌∙◌, subst}
+use Rattle.std.specs.Prelude.{slice_get, Some}
 use Rattle.std.proofs.lemmas.Option.{same_Some}
 use Rattle.cpa_model.specs.declared.facts.Elem.{Elem}
+use Rattle.cpa_model.specs.declared.automaton.Edge.{Edge}
+use Rattle.std.specs.List.{AllByRecursion}
+use Rattle.cpa_predicate.specs.Predicates.{no_facts}
 use Rattle.cpa_predicate.specs.Questions.{IsOpen}
+use Rattle.cpa_predicate.specs.Steps.{IsAfter}
 use Rattle.cpa_predicate.specs.Transfer.{IsCartesian}
 use Rattle.cpa_predicate.proofs.TransferLemmas.{all_spent, leads_nowhere}
-use Rattle.cpa_predicate.proofs.TransferLemmas.{leads_on}
+use Rattle.cpa_predicate.proofs.TransferLemmas.{leads_on, settled}
 use Rattle.cpa_predicate.proofs.transfer.successors.Goals as goal
 
 pub returns-in_err-after-clause-spends : goal.returns-in_err-after-clause-spends
@@ -57,3 +62,18 @@ returns-clause-spends c = λ g at.
     c.args.preds.now c.in_ok-step.step (c.in_ok-step.ensures g at) c.truths_after.new.asker
     c.edge-along.result.now (same_Some _ _ (sym c.edge-along.ensures ∙ at)) c.leads_nowhere.ensures.spends
     c.truths_after.ensures.spends
+
+pub returns-then-settled-clause-known : goal.returns-then-settled-clause-known
+returns-then-settled-clause-known c =
+    let cfa = c.args.cfa.now in
+    let e = c.args.elem.now in
+    let ps = c.args.preds.now in
+    let along = c.edge-along.result.now in
+    let found = c.is_settled-settled.ensures c.if-settled.true in
+    let O = λ (g : Edge). IsOpen c.args.asker.now c.args.asker.now cfa e g in
+    λ g at.
+    subst (λ (items : List Elem). IsCartesian (O g) cfa e g ps items) (sym c.in_ok-elems.ensures)
+    (settled (O g) cfa e g along ps c.as_slice-behind.result.now
+    (same_Some _ _ (sym c.edge-along.ensures ∙ at)) found.0 found.1
+    (subst (AllByRecursion (IsAfter cfa e along)) (sym c.as_slice-behind.ensures.value)
+    c.in_ok-behind.ensures))
