@@ -1,0 +1,153 @@
+-- Declarations and the parts of statements are alike under frames of the same types.
+use Rattle.std.proofs.Common.{ℕ, zero, suc, ◌+◌, ◌-◌, List, [], ◌∷◌, ◌++◌, map, length, Option}
+use Rattle.std.proofs.Common.{None, Some, refl, ℤ, pos}
+use Rattle.cpa_ints.specs.declared.integers.IntType.{IntType}
+use Rattle.cpa_expr.specs.declared.tree.Expr.TheVariants.{Const}
+use Rattle.c_types_rules.specs.declared.meaning.Kind.{Kind}
+use Rattle.c_types_rules.specs.declared.meaning.Kind.TheVariants.{Void, Value}
+use Rattle.c_types_rules.specs.declared.meaning.Object.{Object}
+use Rattle.c_types_rules.specs.declared.typed.TypedExpression.{TypedExpression}
+use Rattle.c_types_rules.specs.declared.typed.TypedInitializer.{TypedInitializer}
+use Rattle.c_types_rules.specs.declared.typed.TypedInitializer.TheVariants as initializer
+use Rattle.c_types_rules.specs.declared.typed.TypedDeclarator.{TypedDeclarator}
+use Rattle.c_types_rules.specs.declared.typed.TypedForStart.{TypedForStart}
+use Rattle.c_types_rules.specs.declared.typed.TypedForStart.TheVariants as start
+use Rattle.c_types_rules.specs.Counts.{cells_of}
+use Rattle.cpa_model_trees.specs.declared.tree.Head.TheVariants as head
+use Rattle.c_core_rules.specs.declared.tree.Location.{Location}
+use Rattle.c_core_rules.specs.Values.{cell_at}
+use Rattle.c_core_rules.specs.Trees.{leaf, set}
+use Rattle.c_core_rules.specs.Cells.{gives, taking, cells_with}
+use Rattle.c_core_rules.specs.Expressions.{Frames}
+use Rattle.c_core_rules.specs.Statements as statement
+use Rattle.c_core_rules_laws.specs.Alike.{Alike, SameTrees, SameLocation, SameFrames}
+use Rattle.c_core_rules_laws.specs.Alike.{Pairwise, none, more}
+use Rattle.c_core_rules_laws.specs.lemmas.Values.{value_self}
+use Rattle.c_core_rules_laws.specs.lemmas.Statements.{trees_self, same_append, same_more, same_set}
+use Rattle.c_core_rules_laws.specs.lemmas.Statements.{same_input}
+use Rattle.c_core_rules_laws.specs.lemmas.Runs.{alike_gives, alike_then, alike_order, alike_fresh}
+use Rattle.c_core_rules_laws.specs.lemmas.Acts.{same_stored, same_split}
+use Rattle.c_core_rules_laws.specs.lemmas.Expressions.{alike_expression}
+
+-- anything and anything
+abbrev pub Any : {T : Type 0} → T → T → Type 0
+Any x y = Unit {0}
+
+-- an object takes its cells
+pub alike_taking : (object : Object) (values : List ℤ) →
+    Alike Any (taking object values) (taking object values)
+alike_taking object values = record {
+  runs = λ a b. record {
+    added = cells_with object.ty (cells_of object) values;
+    adds = refl;
+    adds_too = refl;
+    made = tt;
+  };
+}
+
+same_inputs : (m n count : ℕ) → SameTrees (statement.inputs m count) (statement.inputs n count)
+same_inputs m n zero = trees_self []
+same_inputs m n (suc count) = same_more (same_input m n) (same_inputs (m + 1) (n + 1) count)
+
+-- cells of one type
+pub same_cell : (t : IntType) (m n : ℕ) → SameLocation (cell_at t m) (cell_at t n)
+same_cell t m n = record { type = refl }
+
+same_zeros : (t : IntType) (m n count : ℕ) →
+    SameTrees (statement.zeros t m count) (statement.zeros t n count)
+same_zeros t m n zero = trees_self []
+same_zeros t m n (suc count) =
+    same_more (same_set (cell_at t m) (cell_at t n) (same_cell t m n)
+    (value_self (Const t (pos 0)))) (same_zeros t (m + 1) (n + 1) count)
+
+-- a function begins with its result, and its parameters take their cells
+pub alike_resulting : (kind : Kind) →
+    Alike SameTrees (statement.resulting kind) (statement.resulting kind)
+alike_resulting Void = alike_gives (trees_self [])
+alike_resulting (Value t) =
+    alike_then (λ place. gives (set place (Const t (pos 0)) ∷ []))
+    (λ place. gives (set place (Const t (pos 0)) ∷ [])) (alike_fresh t t refl)
+    (λ a b at. alike_gives (same_set a b at (value_self (Const t (pos 0)))))
+
+pub alike_receiving : (objects : List Object) →
+    Alike Any (statement.receiving objects) (statement.receiving objects)
+alike_receiving [] = alike_gives tt
+alike_receiving (object ∷ objects) =
+    alike_then (λ first. statement.receiving objects) (λ first. statement.receiving objects)
+    (alike_taking object []) (λ x y is. alike_receiving objects)
+
+module _ (F G : Frames) (same : SameFrames F G) where
+  pub alike_unused : (e : Option TypedExpression) →
+      Alike SameTrees (statement.some_unused F e) (statement.some_unused G e)
+  alike_unused None = alike_gives (trees_self [])
+  alike_unused (Some e) = (alike_expression F G same e).unused
+
+  pub alike_initialized : (a b : Location) (e : TypedExpression) → SameLocation a b →
+      Alike SameTrees (statement.initialized F a e) (statement.initialized G b e)
+  alike_initialized a b e at =
+      alike_then (λ v. gives (v.statements ++ set a v.value ∷ []))
+      (λ v. gives (v.statements ++ set b v.value ∷ [])) (alike_expression F G same e).used
+      (λ x y is. alike_gives (same_stored a b is at))
+
+  each_initialized : (t : IntType) (m n : ℕ) (items : List TypedExpression) →
+      Pairwise (Alike SameTrees) (statement.initialized_each F t m items)
+      (statement.initialized_each G t n items)
+  each_initialized t m n [] = none
+  each_initialized t m n (item ∷ items) =
+      more (alike_initialized (cell_at t m) (cell_at t n) item (same_cell t m n))
+      (each_initialized t (m + 1) (n + 1) items)
+
+  pub alike_initializing : (object : Object) (given : Option TypedInitializer) (m n : ℕ) →
+      Alike SameTrees (statement.initializing F object given m)
+      (statement.initializing G object given n)
+  alike_initializing object None m n = alike_gives (same_inputs m n (cells_of object))
+  alike_initializing object (Some (initializer.Scalar value)) m n =
+      alike_initialized (cell_at object.ty m) (cell_at object.ty n) value (same_cell object.ty m n)
+  alike_initializing object (Some (initializer.List items)) m n =
+      let count = cells_of object - length items in
+      let first = statement.zeros object.ty (m + length items) count in
+      let second = statement.zeros object.ty (n + length items) count in
+      alike_then (λ before. gives (before ++ first)) (λ before. gives (before ++ second))
+      (alike_order (each_initialized object.ty m n items))
+      (λ x y is. alike_gives
+      (same_append is (same_zeros object.ty (m + length items) (n + length items) count)))
+
+  alike_declared : (declarator : TypedDeclarator) →
+      Alike SameTrees (statement.declared F declarator) (statement.declared G declarator)
+  alike_declared declarator =
+      alike_then (statement.initializing F declarator.object declarator.initializer)
+      (statement.initializing G declarator.object declarator.initializer)
+      (alike_taking declarator.object [])
+      (λ m n is. alike_initializing declarator.object declarator.initializer m n)
+
+  each_declared : (declarators : List TypedDeclarator) →
+      Pairwise (Alike SameTrees) (map (statement.declared F) declarators)
+      (map (statement.declared G) declarators)
+  each_declared [] = none
+  each_declared (declarator ∷ declarators) =
+      more (alike_declared declarator) (each_declared declarators)
+
+  pub alike_declaration : (declarators : List TypedDeclarator) →
+      Alike SameTrees (statement.declaration F declarators) (statement.declaration G declarators)
+  alike_declaration declarators = alike_order (each_declared declarators)
+
+  pub alike_started : (first : TypedForStart) →
+      Alike SameTrees (statement.started F first) (statement.started G first)
+  alike_started (start.Declaration declarators) = alike_declaration declarators
+  alike_started (start.Expression expression) = alike_unused expression
+
+  pub alike_left : (test : Option TypedExpression) →
+      Alike SameTrees (statement.left_unless F test) (statement.left_unless G test)
+  alike_left None = alike_gives (trees_self [])
+  alike_left (Some test) =
+      alike_then (λ v. gives (statement.leaving v)) (λ v. gives (statement.leaving v))
+      (alike_expression F G same test).used
+      (λ x y is. alike_gives (same_split is (trees_self []) (trees_self (leaf head.Break ∷ []))))
+
+  pub alike_returned : (a b : Location) (value : Option TypedExpression) → SameLocation a b →
+      Alike SameTrees (statement.returned F a value) (statement.returned G b value)
+  alike_returned a b None at = alike_gives (trees_self (leaf head.Leave ∷ []))
+  alike_returned a b (Some value) at =
+      alike_then (λ before. gives (before ++ leaf head.Leave ∷ []))
+      (λ before. gives (before ++ leaf head.Leave ∷ [])) (alike_initialized a b value at)
+      (λ x y is. alike_gives (same_append is (trees_self (leaf head.Leave ∷ []))))

@@ -1,0 +1,208 @@
+-- Every item of a block is alike under frames of the same types, its result in a cell of one type.
+use Rattle.std.proofs.Common.{◌≡◌, List, [], ◌∷◌, ◌++◌, map, None, Some, refl, sym, subst}
+use Rattle.c_types_rules.specs.declared.typed.TypedItem.{TypedItem, roll-TypedItem}
+use Rattle.c_types_rules.specs.declared.typed.TypedItem.TheOpen.{TypedItem-F, TypedStatement-F}
+use Rattle.c_types_rules.specs.declared.typed.TypedItem.TheFolds.{map-TypedItem, map-TypedStatement}
+use Rattle.c_types_rules.specs.declared.typed.TypedItem.TheFolds.{ind-TypedItem}
+use Rattle.c_types_rules.specs.declared.typed.TypedStatement.{TypedStatement, roll-TypedStatement}
+use Rattle.cpa_model_trees.specs.declared.tree.CoreTree.{CoreTree}
+use Rattle.cpa_model_trees.specs.declared.tree.CoreTree.TheVariants.{Node}
+use Rattle.cpa_model_trees.specs.declared.tree.Head.{Head}
+use Rattle.cpa_model_trees.specs.declared.tree.Head.TheVariants as head
+use Rattle.cpa_model_trees.specs.Numbering.{Trees}
+use Rattle.c_core_rules.specs.declared.tree.Location.{Location}
+use Rattle.c_core_rules.specs.declared.tree.Valued.{Valued}
+use Rattle.c_core_rules.specs.Trees.{leaf, block, choice, repeated}
+use Rattle.c_core_rules.specs.Cells.{Rule, gives, then_by}
+use Rattle.c_core_rules.specs.Expressions.{Frames}
+use Rattle.c_core_rules.specs.Statements.{item_rule, item_step, statement_step, as_one}
+use Rattle.c_core_rules_laws.specs.Alike.{Alike, SameValued, SameTrees, SameLocation, SameFrames}
+use Rattle.c_core_rules_laws.specs.Alike.{Pairwise, none, more}
+use Rattle.c_core_rules_laws.specs.lemmas.Layers.{statement_rule, open_item, open_statement}
+use Rattle.c_core_rules_laws.specs.lemmas.Statements.{trees_self, same_append, same_node}
+use Rattle.c_core_rules_laws.specs.lemmas.Statements.{same_block}
+use Rattle.c_core_rules_laws.specs.lemmas.Statements.{same_repeated}
+use Rattle.c_core_rules_laws.specs.lemmas.Runs.{alike_gives, alike_then, alike_order}
+use Rattle.c_core_rules_laws.specs.lemmas.Acts.{same_split}
+use Rattle.c_core_rules_laws.specs.lemmas.Expressions.{alike_expression}
+use Rattle.c_core_rules_laws.specs.lemmas.Declarations.{alike_unused, alike_declaration}
+use Rattle.c_core_rules_laws.specs.lemmas.Declarations.{alike_started, alike_left, alike_returned}
+
+alike_leaf : (h : Head) → Alike SameTrees (gives (leaf h ∷ [])) (gives (leaf h ∷ []))
+alike_leaf h = alike_gives (trees_self (leaf h ∷ []))
+
+-- what a rule makes as one statement around it
+alike_one : (make : Trees → CoreTree) {r s : Rule Trees} →
+    ((xs ys : Trees) → SameTrees xs ys → SameTrees (make xs ∷ []) (make ys ∷ [])) →
+    Alike SameTrees r s → Alike SameTrees (as_one make r) (as_one make s)
+alike_one make keeps h =
+    alike_then (λ inside. gives (make inside ∷ [])) (λ inside. gives (make inside ∷ [])) h
+    (λ xs ys is. alike_gives (keeps xs ys is))
+
+alike_if_form : {t u : Rule Valued} {p q r s : Rule Trees} → Alike SameValued t u →
+    Alike SameTrees p q → Alike SameTrees r s →
+    Alike SameTrees
+    (then_by t (λ v. then_by p (λ a. then_by r (λ b.
+    gives (v.statements ++ choice v.value a b ∷ [])))))
+    (then_by u (λ v. then_by q (λ a. then_by s (λ b.
+    gives (v.statements ++ choice v.value a b ∷ [])))))
+alike_if_form {p = p} {q = q} {r = r} {s = s} test first second =
+    alike_then
+    (λ v. then_by p (λ a. then_by r (λ b. gives (v.statements ++ choice v.value a b ∷ []))))
+    (λ v. then_by q (λ a. then_by s (λ b. gives (v.statements ++ choice v.value a b ∷ [])))) test
+    (λ v w is. alike_then
+    (λ a. then_by r (λ b. gives (v.statements ++ choice v.value a b ∷ [])))
+    (λ a. then_by s (λ b. gives (w.statements ++ choice w.value a b ∷ []))) first
+    (λ a b one. alike_then (λ c. gives (v.statements ++ choice v.value a c ∷ []))
+    (λ c. gives (w.statements ++ choice w.value b c ∷ [])) second
+    (λ c d two. alike_gives (same_split is one two))))
+
+alike_while : {p q r s : Rule Trees} → Alike SameTrees p q → Alike SameTrees r s →
+    Alike SameTrees
+    (then_by p (λ front. then_by r (λ inside. gives (repeated (front ++ inside) [] ∷ []))))
+    (then_by q (λ front. then_by s (λ inside. gives (repeated (front ++ inside) [] ∷ []))))
+alike_while {r = r} {s = s} test body =
+    alike_then (λ front. then_by r (λ inside. gives (repeated (front ++ inside) [] ∷ [])))
+    (λ front. then_by s (λ inside. gives (repeated (front ++ inside) [] ∷ []))) test
+    (λ x y is. alike_then (λ inside. gives (repeated (x ++ inside) [] ∷ []))
+    (λ inside. gives (repeated (y ++ inside) [] ∷ [])) body
+    (λ v w are. alike_gives (same_repeated (same_append is are) (trees_self []))))
+
+alike_do : {p q r s : Rule Trees} → Alike SameTrees p q → Alike SameTrees r s →
+    Alike SameTrees
+    (then_by p (λ inside. then_by r (λ behind. gives (repeated inside behind ∷ []))))
+    (then_by q (λ inside. then_by s (λ behind. gives (repeated inside behind ∷ []))))
+alike_do {r = r} {s = s} body test =
+    alike_then (λ inside. then_by r (λ behind. gives (repeated inside behind ∷ [])))
+    (λ inside. then_by s (λ behind. gives (repeated inside behind ∷ []))) body
+    (λ x y is. alike_then (λ behind. gives (repeated x behind ∷ []))
+    (λ behind. gives (repeated y behind ∷ [])) test
+    (λ v w are. alike_gives (same_repeated is are)))
+
+-- a for, by its parts
+abbrev for_form : Trees → Trees → Trees → Trees → Trees
+for_form before front inside behind =
+    block (before ++ repeated (front ++ inside) behind ∷ []) ∷ []
+
+alike_for : {m n p q r s t u : Rule Trees} → Alike SameTrees m n → Alike SameTrees p q →
+    Alike SameTrees r s → Alike SameTrees t u →
+    Alike SameTrees
+    (then_by m (λ before. then_by p (λ front. then_by r (λ inside. then_by t (λ behind.
+    gives (for_form before front inside behind))))))
+    (then_by n (λ before. then_by q (λ front. then_by s (λ inside. then_by u (λ behind.
+    gives (for_form before front inside behind))))))
+alike_for {p = p} {q = q} {r = r} {s = s} {t = t} {u = u} first test body step =
+    alike_then
+    (λ before. then_by p (λ front. then_by r (λ inside. then_by t (λ behind.
+    gives (for_form before front inside behind)))))
+    (λ before. then_by q (λ front. then_by s (λ inside. then_by u (λ behind.
+    gives (for_form before front inside behind))))) first
+    (λ a b one. alike_then
+    (λ front. then_by r (λ inside. then_by t (λ behind. gives (for_form a front inside behind))))
+    (λ front. then_by s (λ inside. then_by u (λ behind. gives (for_form b front inside behind))))
+    test
+    (λ c d two. alike_then
+    (λ inside. then_by t (λ behind. gives (for_form a c inside behind)))
+    (λ inside. then_by u (λ behind. gives (for_form b d inside behind))) body
+    (λ v w three. alike_then (λ behind. gives (for_form a c v behind))
+    (λ behind. gives (for_form b d w behind)) step
+    (λ x y four. alike_gives (same_block
+    (same_append one (same_repeated (same_append two three) four)))))))
+
+module _ (F G : Frames) (same : SameFrames F G) (place other : Location)
+    (at : SameLocation place other) where
+  abbrev pub ItemIsAlike : TypedItem → Type 0
+  ItemIsAlike item = Alike SameTrees (item_rule F place item) (item_rule G other item)
+
+  abbrev StatementIsAlike : TypedStatement → Type 0
+  StatementIsAlike s = Alike SameTrees (statement_rule F place s) (statement_rule G other s)
+
+  abbrev HeldItem : Type 0
+  HeldItem = (item : TypedItem) × ItemIsAlike item
+
+  abbrev HeldStatement : Type 0
+  HeldStatement = (s : TypedStatement) × StatementIsAlike s
+
+  abbrev bare_item : TypedItem-F HeldItem HeldStatement → TypedItem-F TypedItem TypedStatement
+  bare_item y = map-TypedItem HeldItem HeldStatement TypedItem TypedStatement (λ e. e.0)
+      (λ e. e.0) y
+
+  abbrev bare : TypedStatement-F HeldItem HeldStatement → TypedStatement-F TypedItem TypedStatement
+  bare y = map-TypedStatement HeldItem HeldStatement TypedItem TypedStatement (λ e. e.0)
+      (λ e. e.0) y
+
+  abbrev item_of : Frames → Location → TypedItem-F HeldItem HeldStatement → Rule Trees
+  item_of frames cell y = item_step frames (map-TypedItem TypedItem TypedStatement (Rule Trees)
+      (Rule Trees) (item_rule frames cell) (statement_rule frames cell) (bare_item y))
+
+  abbrev layer_of : Frames → Location → TypedStatement-F HeldItem HeldStatement → Rule Trees
+  layer_of frames cell y = statement_step frames cell (map-TypedStatement TypedItem
+      TypedStatement (Rule Trees) (Rule Trees) (item_rule frames cell)
+      (statement_rule frames cell) (bare y))
+
+  each_held : (held : List HeldItem) →
+      Pairwise (Alike SameTrees) (map (item_rule F place) (map (λ e. e.0) held))
+      (map (item_rule G other) (map (λ e. e.0) held))
+  each_held [] = none
+  each_held (item ∷ held) = more item.1 (each_held held)
+
+  layer : (y : TypedStatement-F HeldItem HeldStatement) →
+      Alike SameTrees (layer_of F place y) (layer_of G other y)
+  layer (TypedStatement-F.Block items) =
+      alike_one block (λ xs ys is. same_block is) (alike_order (each_held items))
+  layer (TypedStatement-F.Expression expression) = alike_unused F G same expression
+  layer (TypedStatement-F.If test first None) =
+      alike_if_form (alike_expression F G same test).used first.1 (alike_gives (trees_self []))
+  layer (TypedStatement-F.If test first (Some second)) =
+      alike_if_form (alike_expression F G same test).used first.1 second.1
+  layer (TypedStatement-F.While test body) =
+      alike_while (alike_left F G same (Some test)) body.1
+  layer (TypedStatement-F.Do body test) =
+      alike_do body.1 (alike_left F G same (Some test))
+  layer (TypedStatement-F.For first test step body) =
+      alike_for (alike_started F G same first) (alike_left F G same test) body.1
+      (alike_unused F G same step)
+  layer (TypedStatement-F.Goto label) = alike_leaf (head.Goto label)
+  layer TypedStatement-F.Break = alike_leaf head.Break
+  layer TypedStatement-F.Continue = alike_leaf head.Continue
+  layer (TypedStatement-F.Return value) = alike_returned F G same place other value at
+  layer (TypedStatement-F.Labeled label body) =
+      alike_one (Node head.Labeled) (λ xs ys is. same_node head.Labeled head.Labeled refl is) body.1
+
+  item_layer : (y : TypedItem-F HeldItem HeldStatement) →
+      Alike SameTrees (item_of F place y) (item_of G other y)
+  item_layer (TypedItem-F.Declaration declarators) = alike_declaration F G same declarators
+  item_layer (TypedItem-F.Statement body) = body.1
+
+  at_statement : (y : TypedStatement-F HeldItem HeldStatement)
+      (x : TypedStatement-F TypedItem TypedStatement) → bare y ≡ x →
+      StatementIsAlike (roll-TypedStatement x)
+  at_statement y x is =
+      subst (λ (z : TypedStatement-F TypedItem TypedStatement).
+      StatementIsAlike (roll-TypedStatement z)) is
+      (subst (λ (r : Rule Trees). Alike SameTrees r
+      (statement_rule G other (roll-TypedStatement (bare y))))
+      (sym (open_statement F place (bare y)))
+      (subst (λ (s : Rule Trees). Alike SameTrees (layer_of F place y) s)
+      (sym (open_statement G other (bare y))) (layer y)))
+
+  at_item : (y : TypedItem-F HeldItem HeldStatement)
+      (x : TypedItem-F TypedItem TypedStatement) → bare_item y ≡ x →
+      ItemIsAlike (roll-TypedItem x)
+  at_item y x is =
+      subst (λ (z : TypedItem-F TypedItem TypedStatement). ItemIsAlike (roll-TypedItem z)) is
+      (subst (λ (r : Rule Trees). Alike SameTrees r (item_rule G other (roll-TypedItem
+      (bare_item y))))
+      (sym (open_item F place (bare_item y)))
+      (subst (λ (s : Rule Trees). Alike SameTrees (item_of F place y) s)
+      (sym (open_item G other (bare_item y))) (item_layer y)))
+
+  pub alike_item : (item : TypedItem) → ItemIsAlike item
+  alike_item =
+      ind-TypedItem ItemIsAlike StatementIsAlike (λ x y is. at_item y x is)
+      (λ x y is. at_statement y x is)
+
+  pub each_item : (items : List TypedItem) →
+      Pairwise (Alike SameTrees) (map (item_rule F place) items) (map (item_rule G other) items)
+  each_item [] = none
+  each_item (item ∷ items) = more (alike_item item) (each_item items)

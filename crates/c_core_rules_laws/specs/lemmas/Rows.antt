@@ -1,0 +1,383 @@
+-- Each form of an expression is alike where its parts are, whatever cells the functions have.
+use Rattle.std.proofs.Common.{ℕ, zero, suc, Bool, true, List, [], ◌∷◌}
+use Rattle.std.proofs.Common.{◌++◌, map, Option, None, Some, refl, subst, ℤ}
+use Rattle.std.specs.Prelude.{unwrap_or, is_some, slice_get}
+use Rattle.cpa_ints.specs.declared.integers.IntType.{IntType}
+use Rattle.cpa_expr.specs.declared.tree.Expr.{Expr}
+use Rattle.cpa_expr.specs.declared.tree.Expr.TheVariants.{Const}
+use Rattle.c_grammar_symbols.specs.declared.operators.BinaryOperator.{BinaryOperator}
+use Rattle.c_grammar_symbols.specs.declared.operators.AssignmentOperator.{AssignmentOperator}
+use Rattle.c_grammar_symbols.specs.declared.operators.StepOperator.{StepOperator}
+use Rattle.c_types_rules.specs.declared.known.KnownFunction.{KnownFunction}
+use Rattle.c_types_rules.specs.declared.known.KnownFunction.TheVariants as known
+use Rattle.c_types_rules.specs.declared.meaning.Kind.{Kind}
+use Rattle.c_types_rules.specs.declared.meaning.Kind.TheVariants.{Void, Value}
+use Rattle.c_types_rules.specs.declared.meaning.Function.{Function}
+use Rattle.c_types_rules.specs.declared.meaning.Meaning.{Meaning}
+use Rattle.c_types_rules.specs.declared.meaning.Meaning.TheVariants as meaning
+use Rattle.c_types_rules.specs.Types.{object_type}
+use Rattle.c_types_rules.specs.Known.{known_result}
+use Rattle.c_types_rules.specs.Counts.{operator_of}
+use Rattle.c_types_rules.specs.declared.typed.TypedExpression.TheOpen.{TypedSuffix-F}
+use Rattle.cpa_model_trees.specs.declared.tree.Head.TheVariants as head
+use Rattle.cpa_model_trees.specs.Numbering.{Trees}
+use Rattle.c_core_rules.specs.declared.tree.Location.{Location}
+use Rattle.c_core_rules.specs.declared.tree.Place.TheVariants.{Scalar, Element}
+use Rattle.c_core_rules.specs.declared.tree.Valued.{Valued}
+use Rattle.c_core_rules.specs.Values.{scalar, element, cell_at, int}
+use Rattle.c_core_rules.specs.Trees.{leaf, choice, input, valued, pure}
+use Rattle.c_core_rules.specs.Cells.{Rule, gives, then_by, located}
+use Rattle.c_core_rules.specs.Acts.{hold_all, linked, cast_to}
+use Rattle.c_core_rules.specs.Acts.{chosen, dropped_value}
+use Rattle.c_core_rules.specs.Places.{fixed_if, changed, incremented, stepped}
+use Rattle.c_core_rules.specs.Expressions.{Frame, Frames, Rows, ReadSuffix, Target, frame_at}
+use Rattle.c_core_rules.specs.Expressions.{no_frame}
+use Rattle.c_core_rules.specs.Expressions as rows
+use Rattle.c_core_rules_laws.specs.Alike.{Alike, AlikeRows, AlikeTarget, SameValue, SameValued}
+use Rattle.c_core_rules_laws.specs.Alike.{SameTrees, SameLocation, SameFrame, SameFrames, Pairwise}
+use Rattle.c_core_rules_laws.specs.Alike.{none, more, scalars, elements, neither}
+use Rattle.c_core_rules_laws.specs.lemmas.Values.{value_self, same_scalar, same_read}
+use Rattle.c_core_rules_laws.specs.lemmas.Statements.{trees_self, same_append, same_more, same_set}
+use Rattle.c_core_rules_laws.specs.lemmas.Statements.{same_input, same_valued, valued_self}
+use Rattle.c_core_rules_laws.specs.lemmas.Runs.{alike_gives, alike_then, alike_each, alike_order}
+use Rattle.c_core_rules_laws.specs.lemmas.Runs.{alike_fresh, alike_located, alike_scalar_place}
+use Rattle.c_core_rules_laws.specs.lemmas.Acts.{alike_hold_all, same_statements, same_values}
+use Rattle.c_core_rules_laws.specs.lemmas.Acts.{alike_linked, alike_chosen, alike_dropped}
+use Rattle.c_core_rules_laws.specs.lemmas.Acts.{same_split, same_cast_to}
+use Rattle.c_core_rules_laws.specs.lemmas.Places.{SamePlace, scalar_places, element_places}
+use Rattle.c_core_rules_laws.specs.lemmas.Places.{no_places}
+use Rattle.c_core_rules_laws.specs.lemmas.Places.{same_as_pure, alike_fixed_if, alike_changed}
+use Rattle.c_core_rules_laws.specs.lemmas.Places.{alike_incremented, alike_stepped}
+
+pub drops : {r s : Rule Valued} → Alike SameValued r s →
+    Alike SameTrees (rows.dropped r) (rows.dropped s)
+drops h = alike_then dropped_value dropped_value h (λ x y is. alike_dropped is)
+
+pub only : {r s : Rule Valued} → Alike SameValued r s →
+    Alike SameTrees (rows.only_statements r) (rows.only_statements s)
+only h =
+    alike_then (λ v. gives v.statements) (λ v. gives v.statements) h
+    (λ x y is. alike_gives is.statements)
+
+valueless : {r s : Rule Trees} → Alike SameTrees r s →
+    Alike SameValued (rows.valueless r) (rows.valueless s)
+valueless h =
+    alike_then (λ before. gives (valued before rows.no_value))
+    (λ before. gives (valued before rows.no_value)) h
+    (λ x y is. alike_gives (same_valued is (value_self rows.no_value)))
+
+-- an expression that is no left side and no name
+pub alike_plain : {r s : Rule Valued} → Alike SameValued r s →
+    AlikeRows (rows.plain r) (rows.plain s)
+alike_plain h = record { used = h; unused = drops h; target = neither; names = refl }
+
+pub alike_act : {r s : Rule Valued} {p q : Rule Trees} → Alike SameValued r s →
+    Alike SameTrees p q → AlikeRows (rows.act r p) (rows.act s q)
+alike_act h k = record { used = h; unused = k; target = neither; names = refl }
+
+-- names and elements
+
+name_used : (found : Option Meaning) →
+    Alike SameValued (rows.name_used found) (rows.name_used found)
+name_used found =
+    alike_then (λ place. gives (pure (scalar place))) (λ place. gives (pure (scalar place)))
+    (alike_scalar_place found)
+    (λ a b at. alike_gives (same_as_pure (same_scalar a b at)))
+
+pub alike_name : (found : Option Meaning) → AlikeRows (rows.name_rows found) (rows.name_rows found)
+alike_name found = record {
+  used = name_used found;
+  unused = drops (name_used found);
+  target = scalars found;
+  names = refl;
+}
+
+element_used : (found : Option Meaning) {i j : Rule Valued} → Alike SameValued i j →
+    Alike SameValued (rows.element_used found i) (rows.element_used found j)
+element_used found h =
+    alike_then
+    (λ i. then_by (located found) (λ place. gives (valued i.statements (element place i.value))))
+    (λ i. then_by (located found) (λ place. gives (valued i.statements (element place i.value)))) h
+    (λ x y is. alike_then (λ place. gives (valued x.statements (element place x.value)))
+    (λ place. gives (valued y.statements (element place y.value))) (alike_located found)
+    (λ a b at. alike_gives (same_valued is.statements (same_read a b at is.value))))
+
+alike_element : (found : Option Meaning) {i j : Rule Valued} → Alike SameValued i j →
+    AlikeRows (rows.element_rows found i) (rows.element_rows found j)
+alike_element found h = record {
+  used = element_used found h;
+  unused = drops (element_used found h);
+  target = elements found h;
+  names = refl;
+}
+
+-- left sides
+
+alike_placed : (fixes : Bool) {t u : Target} → AlikeTarget t u →
+    Alike SamePlace (rows.placed fixes t) (rows.placed fixes u)
+alike_placed fixes (scalars found) =
+    alike_then (λ location. gives (Scalar location)) (λ location. gives (Scalar location))
+    (alike_scalar_place found) (λ a b at. alike_gives (scalar_places a b at))
+alike_placed fixes (elements found h) =
+    alike_then
+    (λ i. then_by (fixed_if fixes i) (λ kept.
+    then_by (located found) (λ location. gives (Element location kept))))
+    (λ i. then_by (fixed_if fixes i) (λ kept.
+    then_by (located found) (λ location. gives (Element location kept)))) h
+    (λ x y is. alike_then
+    (λ kept. then_by (located found) (λ location. gives (Element location kept)))
+    (λ kept. then_by (located found) (λ location. gives (Element location kept)))
+    (alike_fixed_if fixes is)
+    (λ k l kept. alike_then (λ location. gives (Element location k))
+    (λ location. gives (Element location l)) (alike_located found)
+    (λ a b at. alike_gives (element_places a b at kept))))
+alike_placed fixes neither = alike_gives no_places
+
+pub alike_assigning : (keeps : Bool) (operator : AssignmentOperator) {t u : Target}
+    {r s : Rule Valued} → AlikeTarget t u → Alike SameValued r s →
+    Alike SameValued (rows.assigning keeps operator t r) (rows.assigning keeps operator u s)
+alike_assigning keeps operator {r = r} {s = s} left right =
+    alike_then (λ place. then_by r (λ v. changed keeps (operator_of operator) place v))
+    (λ place. then_by s (λ v. changed keeps (operator_of operator) place v))
+    (alike_placed (is_some (operator_of operator)) left)
+    (λ p q at. alike_then (λ v. changed keeps (operator_of operator) p v)
+    (λ v. changed keeps (operator_of operator) q v) right
+    (λ v w is. alike_changed keeps (operator_of operator) at is))
+
+pub alike_incrementing : (operator : StepOperator) {t u : Target} → AlikeTarget t u →
+    Alike SameValued (rows.incrementing operator t) (rows.incrementing operator u)
+alike_incrementing operator h =
+    alike_then (incremented operator) (incremented operator) (alike_placed true h)
+    (λ p q at. alike_incremented operator at)
+
+alike_stepping : (operator : StepOperator) {t u : Target} → AlikeTarget t u →
+    Alike SameValued (rows.stepping operator t) (rows.stepping operator u)
+alike_stepping operator h =
+    alike_then (stepped operator) (stepped operator) (alike_placed true h)
+    (λ p q at. alike_stepped operator at)
+
+-- calls
+
+same_passed : {ks bs : List Location} {vs ws : List Expr} → Pairwise SameLocation ks bs →
+    Pairwise SameValue vs ws → SameTrees (rows.passed ks vs) (rows.passed bs ws)
+same_passed none none = trees_self []
+same_passed none (more is all) = trees_self []
+same_passed (more at places) none = trees_self []
+same_passed (more {x = a} {y = b} at places) (more is all) =
+    same_more (same_set a b at is) (same_passed places all)
+
+-- one of these, or another where there is none
+or_else : {T : Type 0} {Same : T → T → Type 0} {xs ys : List T} (x y : T) → Same x y →
+    Pairwise Same xs ys → (n : ℕ) →
+    Same (unwrap_or (slice_get xs n) x) (unwrap_or (slice_get ys n) y)
+or_else x y other none n = other
+or_else x y other (more is all) zero = is
+or_else x y other (more is all) (suc n) = or_else x y other all n
+
+frame_self : SameFrame no_frame no_frame
+frame_self = record { result = record { type = refl }; parameters = none }
+
+frames_at : {F G : Frames} → SameFrames F G → (body : ℕ) →
+    SameFrame (frame_at F body) (frame_at G body)
+frames_at same body = or_else no_frame no_frame frame_self same body
+
+same_called : (function : Function) {F G : Frames} {vs ws : List Valued} → SameFrames F G →
+    Pairwise SameValued vs ws →
+    SameValued (rows.called_with F function vs) (rows.called_with G function ws)
+same_called function {F = F} {G = G} same all =
+    let body = unwrap_or function.body 0 in
+    let frames = frames_at same body in
+    let t = object_type function.result in
+    same_valued
+    (same_append (same_statements all)
+    (same_append (same_passed frames.parameters (same_values all)) (trees_self (leaf
+    (head.Call body) ∷ []))))
+    (same_scalar (cell_at t (frame_at F body).result_cell.base)
+    (cell_at t (frame_at G body).result_cell.base) (record { type = refl }))
+
+alike_called : (function : Function) {F G : Frames} {rs ss : List (Rule Valued)} →
+    SameFrames F G → Pairwise (Alike SameValued) rs ss →
+    Alike SameValued (rows.called F function rs) (rows.called G function ss)
+alike_called function {F = F} {G = G} same all =
+    alike_then
+    (λ vs. then_by (hold_all vs) (λ operands. gives (rows.called_with F function operands)))
+    (λ vs. then_by (hold_all vs) (λ operands. gives (rows.called_with G function operands)))
+    (alike_each all)
+    (λ vs ws are. alike_then (λ operands. gives (rows.called_with F function operands))
+    (λ operands. gives (rows.called_with G function operands)) (alike_hold_all are)
+    (λ xs ys held. alike_gives (same_called function same held)))
+
+each_used : {rs ss : List Rows} → Pairwise AlikeRows rs ss →
+    Pairwise (Alike SameValued) (map (λ row. row.used) rs) (map (λ row. row.used) ss)
+each_used none = none
+each_used (more h all) = more h.used (each_used all)
+
+first_unused : {rs ss : List Rows} → Pairwise AlikeRows rs ss →
+    Alike SameTrees (rows.first_unused rs) (rows.first_unused ss)
+first_unused none = alike_gives (trees_self [])
+first_unused (more h all) = h.unused
+
+taken_in : (function : KnownFunction) →
+    Alike SameValued (rows.taken_in function) (rows.taken_in function)
+taken_in function =
+    let t = object_type (known_result function) in
+    alike_then (λ place. gives (valued (input place.base ∷ []) (scalar place)))
+    (λ place. gives (valued (input place.base ∷ []) (scalar place))) (alike_fresh t t refl)
+    (λ a b at. alike_gives (same_valued (same_input a.base b.base) (same_scalar a b at)))
+
+known_unused : (function : KnownFunction) {rs ss : List Rows} → Pairwise AlikeRows rs ss →
+    Alike SameTrees (rows.known_unused function rs) (rows.known_unused function ss)
+known_unused known.ReachError all = alike_gives (trees_self (leaf head.Error ∷ []))
+known_unused known.Abort all = alike_gives (trees_self (leaf head.Stop ∷ []))
+known_unused known.AssertFail all = alike_gives (trees_self (leaf head.Stop ∷ []))
+known_unused known.Exit all =
+    alike_then (λ before. gives (before ++ leaf head.Stop ∷ []))
+    (λ before. gives (before ++ leaf head.Stop ∷ [])) (first_unused all)
+    (λ x y is. alike_gives (same_append is (trees_self (leaf head.Stop ∷ []))))
+known_unused known.InputBool all = only (taken_in known.InputBool)
+known_unused known.InputChar all = only (taken_in known.InputChar)
+known_unused known.InputUnsignedChar all = only (taken_in known.InputUnsignedChar)
+known_unused known.InputShort all = only (taken_in known.InputShort)
+known_unused known.InputUnsignedShort all = only (taken_in known.InputUnsignedShort)
+known_unused known.InputInt all = only (taken_in known.InputInt)
+known_unused known.InputUnsigned all = only (taken_in known.InputUnsigned)
+known_unused known.InputLong all = only (taken_in known.InputLong)
+known_unused known.InputUnsignedLong all = only (taken_in known.InputUnsignedLong)
+known_unused known.InputLongLong all = only (taken_in known.InputLongLong)
+known_unused known.InputUnsignedLongLong all = only (taken_in known.InputUnsignedLongLong)
+
+-- by what it gives
+abbrev used_by : Kind → KnownFunction → List Rows → Rule Valued
+used_by kind function arguments = elim kind [
+  | Void ↦ rows.valueless (rows.known_unused function arguments)
+  | Value t ↦ rows.taken_in function
+]
+
+known_used_by : (kind : Kind) (function : KnownFunction) {rs ss : List Rows} →
+    Pairwise AlikeRows rs ss →
+    Alike SameValued (used_by kind function rs) (used_by kind function ss)
+known_used_by Void function all = valueless (known_unused function all)
+known_used_by (Value t) function all = taken_in function
+
+no_call : Alike SameValued (gives (pure (int 0))) (gives (pure (int 0)))
+no_call = alike_gives (valued_self (pure (int 0)))
+
+alike_call : {F G : Frames} (found : Option Meaning) {rs ss : List Rows} → SameFrames F G →
+    Pairwise AlikeRows rs ss →
+    AlikeRows (rows.call_rows F found rs) (rows.call_rows G found ss)
+alike_call None same all = alike_act no_call (only no_call)
+alike_call (Some (meaning.Object object)) same all = alike_act no_call (only no_call)
+alike_call (Some (meaning.Function function)) same all =
+    alike_act (alike_called function same (each_used all))
+    (only (alike_called function same (each_used all)))
+alike_call (Some (meaning.Known function)) same all =
+    alike_act (known_used_by (known_result function) function all) (known_unused function all)
+
+-- suffixes
+pub data SameSuffix : ReadSuffix → ReadSuffix → Type 0 where
+  same_index : {r s : Rows} (kind : Option Kind) (place : ℕ) → AlikeRows r s
+      → SameSuffix (TypedSuffix-F.Index r kind place) (TypedSuffix-F.Index s kind place)
+  same_call : {rs ss : List Rows} (kind : Option Kind) (place : ℕ) → Pairwise AlikeRows rs ss
+      → SameSuffix (TypedSuffix-F.Call rs kind place) (TypedSuffix-F.Call ss kind place)
+  same_step : (operator : StepOperator) (kind : Option Kind) (place : ℕ)
+      → SameSuffix (TypedSuffix-F.Step operator kind place) (TypedSuffix-F.Step operator kind place)
+  same_skipped : (kind : Option Kind) (place : ℕ)
+      → SameSuffix (TypedSuffix-F.Skipped kind place) (TypedSuffix-F.Skipped kind place)
+
+alike_suffix : {F G : Frames} {r s : Rows} {a b : ReadSuffix} → SameFrames F G → AlikeRows r s →
+    SameSuffix a b → AlikeRows (rows.suffix_rows F r a) (rows.suffix_rows G s b)
+alike_suffix {r = r} same h (same_index {r = i} {s = j} kind place index) =
+    subst (λ found. AlikeRows (rows.element_rows r.names i.used) (rows.element_rows found j.used))
+    h.names (alike_element r.names index.used)
+alike_suffix {F = F} {G = G} {r = r} same h (same_call {rs = rs} {ss = ss} kind place all) =
+    subst (λ found. AlikeRows (rows.call_rows F r.names rs) (rows.call_rows G found ss)) h.names
+    (alike_call r.names same all)
+alike_suffix same h (same_step operator kind place) =
+    alike_act (alike_stepping operator h.target) (only (alike_incrementing operator h.target))
+alike_suffix {F = F} {G = G} {r = r} same h (same_skipped kind place) =
+    subst (λ found. AlikeRows (rows.call_rows F r.names []) (rows.call_rows G found [])) h.names
+    (alike_call r.names same none)
+
+pub alike_suffixed : {F G : Frames} {ks bs : List ReadSuffix} → SameFrames F G →
+    Pairwise SameSuffix ks bs → {r s : Rows} → AlikeRows r s →
+    AlikeRows (rows.suffixed F r ks) (rows.suffixed G s bs)
+alike_suffixed same none h = h
+alike_suffixed same (more is all) h = alike_suffixed same all (alike_suffix same h is)
+
+-- chains
+pub data SameLink : BinaryOperator × Rows → BinaryOperator × Rows → Type 0 where
+  link : (operator : BinaryOperator) {r s : Rows} → AlikeRows r s
+      → SameLink (operator, r) (operator, s)
+
+pub alike_chained : {ks bs : List (BinaryOperator × Rows)} → Pairwise SameLink ks bs →
+    {r s : Rule Valued} → Alike SameValued r s →
+    Alike SameValued (rows.chained r ks) (rows.chained s bs)
+alike_chained none h = h
+alike_chained (more (link operator {r = p} {s = q} right) all) h =
+    alike_chained all (alike_then (λ v. then_by p.used (λ w. linked operator v w))
+    (λ v. then_by q.used (λ w. linked operator v w)) h
+    (λ v w is. alike_then (λ x. linked operator v x) (λ x. linked operator w x) right.used
+    (λ x y are. alike_linked operator is are)))
+
+-- commas
+pub alike_comma : {rs ss : List Rows} → Pairwise AlikeRows rs ss →
+    Alike SameValued (rows.comma_used rs) (rows.comma_used ss)
+alike_comma none = no_call
+alike_comma (more h none) = h.used
+alike_comma (more h (more {x = r} {y = s} {xs = rs} {ys = ss} k all)) =
+    alike_then
+    (λ before. then_by (rows.comma_used (r ∷ rs))
+    (λ v. gives (valued (before ++ v.statements) v.value)))
+    (λ before. then_by (rows.comma_used (s ∷ ss))
+    (λ v. gives (valued (before ++ v.statements) v.value))) h.unused
+    (λ x y is. alike_then (λ v. gives (valued (x ++ v.statements) v.value))
+    (λ v. gives (valued (y ++ v.statements) v.value)) (alike_comma (more k all))
+    (λ v w are. alike_gives (same_valued (same_append is are.statements) are.value)))
+
+each_unused : {rs ss : List Rows} → Pairwise AlikeRows rs ss →
+    Pairwise (Alike SameTrees) (map (λ row. row.unused) rs) (map (λ row. row.unused) ss)
+each_unused none = none
+each_unused (more h all) = more h.unused (each_unused all)
+
+pub alike_commas : {rs ss : List Rows} → Pairwise AlikeRows rs ss →
+    Alike SameTrees (rows.comma_unused rs) (rows.comma_unused ss)
+alike_commas all = alike_order (each_unused all)
+
+-- conditionals
+pub alike_void : {p q v w x y : Rows} → AlikeRows p q → AlikeRows v w → AlikeRows x y →
+    Alike SameTrees (rows.void_choice p v x) (rows.void_choice q w y)
+alike_void {v = v} {w = w} {x = x} {y = y} test first second =
+    alike_then
+    (λ t. then_by v.unused (λ a. then_by x.unused (λ b.
+    gives (t.statements ++ choice t.value a b ∷ []))))
+    (λ t. then_by w.unused (λ a. then_by y.unused (λ b.
+    gives (t.statements ++ choice t.value a b ∷ [])))) test.used
+    (λ s t is. alike_then
+    (λ a. then_by x.unused (λ b. gives (s.statements ++ choice s.value a b ∷ [])))
+    (λ a. then_by y.unused (λ b. gives (t.statements ++ choice t.value a b ∷ []))) first.unused
+    (λ a b one. alike_then (λ c. gives (s.statements ++ choice s.value a c ∷ []))
+    (λ c. gives (t.statements ++ choice t.value b c ∷ [])) second.unused
+    (λ c d two. alike_gives (same_split is one two))))
+
+pub alike_conditional : {p q v w x y : Rows} → AlikeRows p q → AlikeRows v w → AlikeRows x y →
+    Alike SameValued (rows.conditional p v x) (rows.conditional q w y)
+alike_conditional {v = v} {w = w} {x = x} {y = y} test first second =
+    alike_then (λ t. then_by v.used (λ a. then_by x.used (λ b. chosen t a b)))
+    (λ t. then_by w.used (λ a. then_by y.used (λ b. chosen t a b))) test.used
+    (λ s t is. alike_then (λ a. then_by x.used (λ b. chosen s a b))
+    (λ a. then_by y.used (λ b. chosen t a b)) first.used
+    (λ a b one. alike_then (λ c. chosen s a c) (λ c. chosen t b c) second.used
+    (λ c d two. alike_chosen is one two)))
+
+-- casts
+pub alike_cast : (kind : Option Kind) {r s : Rows} → AlikeRows r s →
+    AlikeRows (rows.cast_rows kind r) (rows.cast_rows kind s)
+alike_cast None h = alike_act (valueless h.unused) h.unused
+alike_cast (Some Void) h = alike_act (valueless h.unused) h.unused
+alike_cast (Some (Value t)) h =
+    alike_plain (alike_then (λ v. gives (cast_to t v)) (λ v. gives (cast_to t v)) h.used
+    (λ x y is. alike_gives (same_cast_to t is)))
+
+pub alike_number : (t : IntType) (n : ℤ) →
+    AlikeRows (rows.plain (gives (pure (Const t n)))) (rows.plain (gives (pure (Const t n))))
+alike_number t n = alike_plain (alike_gives (valued_self (pure (Const t n))))
