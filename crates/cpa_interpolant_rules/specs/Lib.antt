@@ -1,0 +1,4 @@
+pub mod Stores
+pub mod Interpolants
+pub mod lemmas
+pub mod Laws
