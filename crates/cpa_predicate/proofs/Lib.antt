@@ -6,3 +6,4 @@ pub mod WitnessLemmas
 pub mod RefiningLemmas
 pub mod PredicateLaws
 pub mod FindingLemmas
+pub mod KnownLemmas

@@ -1,11 +1,10 @@
 -- What is found of one predicate after the other.
 use Rattle.std.proofs.Common.{◌≡◌, ℕ, Bool, List, [], ◌∷◌, ◌++◌, refl, sym, ap, ◌∙◌, subst}
-use Rattle.std.proofs.Common.{arith, append-nil, length}
+use Rattle.std.proofs.Common.{arith, length}
 use Rattle.std.proofs.Common.{get_or, take}
 use Rattle.std.specs.Prelude.{◌+◌, ◌<◌, ◌≤◌, zero, suc, Option, None, Some, slice_get}
 use Rattle.std.proofs.lemmas.List.{take_more}
 use Rattle.std.specs.List.{Contains, AllByRecursion}
-use Rattle.std.proofs.lemmas.List.{append_assoc}
 use Rattle.cpa_expr.specs.declared.tree.Expr.{Expr}
 use Rattle.cpa_expr.specs.declared.tree.Store.{Store}
 use Rattle.cpa_model.specs.declared.facts.Fact.{Fact}
@@ -20,11 +19,11 @@ use Rattle.cpa_query.specs.Queries.{IsQuery}
 use Rattle.cpa_solver.specs.Decisions.{HasNoModel}
 use Rattle.cpa_predicate.specs.declared.asking.Budgets.{Budgets}
 use Rattle.cpa_predicate.specs.Steps.{NeverSteps, IsAfter}
-use Rattle.cpa_predicate.specs.Predicates.{no_facts}
 use Rattle.cpa_predicate.specs.Questions.{Question, steps, lacks, step_form, lacking, form_asked}
 use Rattle.cpa_predicate.specs.Questions.{IsOpen, IsFound, IsUndecided, IsStep, IsBeyond}
 use Rattle.cpa_predicate.specs.Questions.{SomeBeyond, Spends}
-use Rattle.cpa_predicate.specs.Transfer.{fact_of, IsTruthAfter, AreTruthsAfter, IsCartesian}
+use Rattle.cpa_predicate.specs.Transfer.{IsTruthAfter, AreTruths, IsOutcome, AreTruthsAfter}
+use Rattle.cpa_predicate.specs.Transfer.{IsCartesian, facts_of, elems_of}
 use Rattle.cpa_predicate.proofs.BudgetLemmas.{undecided_since, undecided_until, both_spent}
 use Rattle.cpa_predicate.proofs.BudgetLemmas.{beyond_before}
 use Rattle.cpa_predicate.proofs.WitnessLemmas.{first_step}
@@ -41,7 +40,21 @@ module _ (O Q : Question → Type 0) (cfa : Cfa) (e : Elem) (g : Edge)
   truth_wider p None is = λ holds has. wider (lacks p holds) (is holds has)
   truth_wider p (Some holds) is = is
 
-  pub truths_wider : (preds : List Expr) (facts : List Fact)
+  all_wider : (preds : List Expr) (truths : List (Option Bool))
+      → AreTruths O cfa e g preds truths → AreTruths Q cfa e g preds truths
+  all_wider [] [] are = are
+  all_wider [] (truth ∷ truths) are = are
+  all_wider (p ∷ preds) [] are = are
+  all_wider (p ∷ preds) (truth ∷ truths) are =
+      (truth_wider p truth are.0, all_wider preds truths are.1)
+
+  pub outcome_wider : (preds : List Expr) (outcome : Option (List (Option Bool)))
+      → IsOutcome O cfa e g preds outcome → IsOutcome Q cfa e g preds outcome
+  outcome_wider preds None is = is
+  outcome_wider preds (Some truths) is =
+      (λ never. wider steps (is.0 never), all_wider preds truths is.1)
+
+  truths_wider : (preds : List Expr) (facts : List Fact)
       → AreTruthsAfter O cfa e g preds facts → AreTruthsAfter Q cfa e g preds facts
   truths_wider [] facts are = are
   truths_wider (p ∷ preds) facts (truth, others, is, split, rest) =
@@ -56,18 +69,29 @@ module _ (O Q : Question → Type 0) (cfa : Cfa) (e : Elem) (g : Edge)
 
 module _ (O : Question → Type 0) (cfa : Cfa) (e : Elem) (g : Edge) where
   -- one predicate more
-  pub truths_push : (preds : List Expr) (facts : List Fact) (p : Expr) (truth : Option Bool)
-      → AreTruthsAfter O cfa e g preds facts → IsTruthAfter O cfa e g p truth
-      → AreTruthsAfter O cfa e g (preds ++ p ∷ []) (facts ++ fact_of p truth)
-  truths_push [] facts p truth are is =
-      (truth, [], is, ap (λ fs. fs ++ fact_of p truth) are ∙ sym (append-nil (fact_of p truth)), refl)
-  truths_push (q ∷ preds) facts p truth (own, others, here, split, rest) is = (
-    own,
-    others ++ fact_of p truth,
-    here,
-    ap (λ fs. fs ++ fact_of p truth) split ∙ append_assoc (fact_of q own) others (fact_of p truth),
-    truths_push preds others p truth rest is,
-  )
+  truths_push : (preds : List Expr) (truths : List (Option Bool)) (p : Expr)
+      (truth : Option Bool) → AreTruths O cfa e g preds truths → IsTruthAfter O cfa e g p truth
+      → AreTruths O cfa e g (preds ++ p ∷ []) (truths ++ truth ∷ [])
+  truths_push [] [] p truth are is = (is, tt)
+  truths_push [] (own ∷ truths) p truth are is = absurd are
+  truths_push (q ∷ preds) [] p truth are is = absurd are
+  truths_push (q ∷ preds) (own ∷ truths) p truth are is =
+      (are.0, truths_push preds truths p truth are.1 is)
+
+  -- the elements of an outcome say what it says
+  facts_are : (preds : List Expr) (truths : List (Option Bool))
+      → AreTruths O cfa e g preds truths
+      → AreTruthsAfter O cfa e g preds (facts_of preds truths)
+  facts_are [] [] are = refl
+  facts_are [] (truth ∷ truths) are = absurd are
+  facts_are (p ∷ preds) [] are = absurd are
+  facts_are (p ∷ preds) (truth ∷ truths) are =
+      (truth, facts_of preds truths, are.0, refl, facts_are preds truths are.1)
+
+  pub cartesian : (preds : List Expr) (outcome : Option (List (Option Bool)))
+      → IsOutcome O cfa e g preds outcome → IsCartesian O cfa e g preds (elems_of preds outcome)
+  cartesian preds None never = never
+  cartesian preds (Some truths) (leads, are) = (leads, facts_are preds truths are)
 
 module _ (cfa : Cfa) (e : Elem) (g : Edge) (form : Form) (step : IsStep cfa e g form)
     (p : Expr) (typed : IsExpr cfa.cells p)
@@ -116,22 +140,22 @@ module _ (a b c : Budgets) (cfa : Cfa) (e : Elem) (g : Edge) (preds : List Expr)
           (i, inside, subst (λ x. get_or preds i x ≡ x) at (sym item))
       here (suc k, less, at) = absurd (omega (arith, less))
 
-  pub one_more : (i : ℕ) (p : Expr) (facts new : List Fact) (truth : Option Bool)
+  pub one_more : (i : ℕ) (p : Expr) (truths new : List (Option Bool)) (truth : Option Bool)
       → i < length preds → p ≡ get_or preds i p
-      → (AreTruthsAfter (IsOpen a b cfa e g) cfa e g (take i preds) facts
+      → (AreTruths (IsOpen a b cfa e g) cfa e g (take i preds) truths
       × Spends a b (SomeBeyond a cfa e g preds))
       → IsTruthAfter (IsOpen b c cfa e g) cfa e g p truth
       → Spends b c (SomeBeyond b cfa e g (p ∷ []))
-      → new ≡ facts ++ fact_of p truth
-      → AreTruthsAfter (IsOpen a c cfa e g) cfa e g (take (i + 1) preds) new
+      → new ≡ truths ++ truth ∷ []
+      → AreTruths (IsOpen a c cfa e g) cfa e g (take (i + 1) preds) new
       × Spends a c (SomeBeyond a cfa e g preds)
-  one_more i p facts new truth inside item (are, s) is t pushed = (
-    subst (λ ps. AreTruthsAfter (IsOpen a c cfa e g) cfa e g ps new)
+  one_more i p truths new truth inside item (are, s) is t pushed = (
+    subst (λ ps. AreTruths (IsOpen a c cfa e g) cfa e g ps new)
         (sym (take_more preds i p inside ∙ ap (λ x. take i preds ++ x ∷ []) (sym item)))
-        (subst (AreTruthsAfter (IsOpen a c cfa e g) cfa e g (take i preds ++ p ∷ [])) (sym pushed)
-        (truths_push (IsOpen a c cfa e g) cfa e g (take i preds) facts p truth
-        (truths_wider (IsOpen a b cfa e g) (IsOpen a c cfa e g) cfa e g
-        (λ q. undecided_until a b c (form_asked cfa e g q) t.grows) (take i preds) facts are)
+        (subst (AreTruths (IsOpen a c cfa e g) cfa e g (take i preds ++ p ∷ [])) (sym pushed)
+        (truths_push (IsOpen a c cfa e g) cfa e g (take i preds) truths p truth
+        (all_wider (IsOpen a b cfa e g) (IsOpen a c cfa e g) cfa e g
+        (λ q. undecided_until a b c (form_asked cfa e g q) t.grows) (take i preds) truths are)
         (truth_wider (IsOpen b c cfa e g) (IsOpen a c cfa e g) cfa e g
         (λ q. undecided_since a b c (SomeBeyond a cfa e g preds) (form_asked cfa e g q) s t.grows)
         p truth is))),
@@ -184,29 +208,28 @@ module _ (a b : Budgets) (cfa : Cfa) (e : Elem) (g : Edge) (preds : List Expr) (
           never_steps cfa e g auto act shaped forms takes
           (subst (λ (f : Form). HasNoModel f.query) is none)
 
-      pub leads_on : (c : Budgets) (h : Edge) (after : Elem) → h ≡ g
+      pub leads_on : (c : Budgets) (h : Edge) (truths : List (Option Bool)) → h ≡ g
           → Spends a b (IsBeyond a form) → Spends b c (SomeBeyond b cfa e h preds)
           → (HasNoModel form.query → IsUndecided a b form)
-          → AreTruthsAfter (IsOpen b c cfa e h) cfa e h preds after.facts
-          → IsCartesian (IsOpen a c cfa e g) cfa e g preds (after ∷ [])
-      leads_on c h after same s t undecided are = (
+          → AreTruths (IsOpen b c cfa e h) cfa e h preds truths
+          → IsOutcome (IsOpen a c cfa e g) cfa e g preds (Some truths)
+      leads_on c h truths same s t undecided are = (
         λ never. undecided_until a b c (step_form cfa e g) t.grows
             (subst (IsUndecided a b) is
             (undecided (subst (λ (f : Form). HasNoModel f.query) (sym is)
             (no_step cfa e g auto act shaped forms takes never)))),
-        truths_wider (IsOpen b c cfa e g) (IsOpen a c cfa e g) cfa e g
+        all_wider (IsOpen b c cfa e g) (IsOpen a c cfa e g) cfa e g
             (λ q. undecided_since a b c (IsBeyond a form) (form_asked cfa e g q) s t.grows)
-            preds after.facts
-            (subst (λ (x : Edge). AreTruthsAfter (IsOpen b c cfa e x) cfa e x preds after.facts)
-            same are),
+            preds truths
+            (subst (λ (x : Edge). AreTruths (IsOpen b c cfa e x) cfa e x preds truths) same are),
       )
 
 -- without predicates a store to which the edge leads is all that is asked
 pub settled : (O : Question → Type 0) (cfa : Cfa) (e : Elem) (g h : Edge) (preds : List Expr)
     (xs : List Store) → h ≡ g → preds ≡ [] → 1 ≤ length xs → AllByRecursion (IsAfter cfa e h) xs
-    → IsCartesian O cfa e g preds (no_facts ∷ [])
+    → IsOutcome O cfa e g preds (Some [])
 settled O cfa e g h preds xs same none some all =
     let found = first_step cfa e g xs some
     (subst (λ (x : Edge). AllByRecursion (IsAfter cfa e x) xs) same all) in
-    subst (λ (ps : List Expr). IsCartesian O cfa e g ps (no_facts ∷ [])) (sym none)
-    (λ never. absurd (never found.0 found.1 found.2), refl)
+    subst (λ (ps : List Expr). IsOutcome O cfa e g ps (Some [])) (sym none)
+    (λ never. absurd (never found.0 found.1 found.2), tt)

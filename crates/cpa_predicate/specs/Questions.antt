@@ -1,6 +1,6 @@
 -- What is asked of the solver about an edge, and when a question stays undecided (this project's
 -- own).
-use Rattle.std.specs.Prelude.{◌≡◌, ℕ, ◌≤◌, ◌<◌, ◌-◌, ◌^◌, ◌⊎◌, ℤ, Bool, false, List, [], ◌∷◌, ⊤}
+use Rattle.std.specs.Prelude.{◌≡◌, ℕ, ◌≤◌, ◌<◌, ◌-◌, ◌^◌, ◌⊎◌, Bool, false, List, [], ◌∷◌, ⊤}
 use Rattle.std.specs.Prelude.{Option, None, Some}
 use Rattle.std.specs.Coded.{Π_prop, →_prop}
 use Rattle.std.specs.List.{Contains}

@@ -9,12 +9,16 @@ ghost use Rattle.cpa_predicate.specs.Questions.{IsSettledBy, IsAnswerTo, IsAnswe
 ghost use Rattle.cpa_predicate.specs.Questions.{IsUndecided, IsBeyond, Spends};
 ghost use Rattle.cpa_predicate.specs.Questions.{lacking, IsFound};
 ghost use Rattle.cpa_predicate.specs.Predicates.{default_budgets};
+ghost use Rattle.cpa_predicate.specs.Transfer.{IsOutcome, NoneOpen};
 
-use crate::findings::{Finding, Findings};
+use crate::findings::{Finding, query_fingerprint};
+use crate::fingerprints::step_fingerprint;
+use crate::known::{Known, Outcome, known_step};
+use crate::table::Table;
 use cpa_edgeform::EdgeForm;
 use cpa_expr::copy;
 use cpa_iface::{DEFAULT_GATES, DEFAULT_LEARNT};
-use cpa_model::{Elem, Expr, Fact, Seq, Store};
+use cpa_model::{Cfa, Edge, Elem, Expr, Fact, Seq, Store};
 use cpa_query::Query;
 use cpa_solver::{Decided, decide};
 use std::alloc::{AllocError, Global};
@@ -35,14 +39,16 @@ pub struct Budgets {
     pub spent: u64,
 }
 
-/// What asks: the budgets, stores from which edges led on, the first of models that were found, and
-/// what was found out of queries. Contracts see the budgets alone, since nothing is promised of the
-/// stores: whoever uses one looks at it anew. A finding is right by itself.
+/// What asks: the budgets, stores from which edges led on, the first of models that were found, what
+/// was found out of queries, and the steps whose outcome is known. Contracts see the budgets alone,
+/// since nothing is promised of the stores: whoever uses one looks at it anew. A finding, and an
+/// outcome, is right by itself.
 #[derive(Drop)]
 pub(crate) struct Asker {
     pub(crate) budgets: Budgets,
     stores: Option<Vec<Store>>,
-    findings: Option<Findings>,
+    findings: Option<Table<Finding>>,
+    steps: Option<Table<Known>>,
 }
 
 impl Model for Asker {
@@ -66,7 +72,15 @@ impl Asker {
             },
             stores: None,
             findings: None,
+            steps: None,
         }
+    }
+
+    /// The budgets as they stand.
+    pub(crate) fn budgets(&self) -> Budgets
+        ensures { result ≡ self.now }
+    {
+        self.budgets
     }
 
     /// The stores that are kept, the oldest first.
@@ -97,10 +111,8 @@ impl Asker {
     fn answer_to(&self, query: &Query) -> Option<Answer>
         ensures { IfSome result (IsSettledBy query.now) }
     {
-        match &self.findings {
-            Some(findings) => findings.answer_to(query),
-            None => None,
-        }
+        let finding = self.findings.as_ref()?.get(query_fingerprint(query))?;
+        finding.answer_to(query)
     }
 
     /// Keeps a finding.
@@ -109,10 +121,49 @@ impl Asker {
     {
         let mut findings = match mem::replace(&mut self.findings, None) {
             Some(findings) => findings,
-            None => Findings::new(alloc),
+            None => Table::new(alloc),
         };
-        findings.keep(finding)?;
+        findings.keep(query_fingerprint(&finding.query), finding)?;
         self.findings = Some(findings);
+        Ok(())
+    }
+
+    /// The outcome that is kept of the step along the edge.
+    pub(crate) fn outcome_of(
+        &self,
+        cfa: &Cfa,
+        edge: &Edge,
+        elem: &Elem,
+        preds: &[Expr],
+    ) -> Option<&Outcome>
+        ensures { IfSome result (λ outcome.
+            IsOutcome NoneOpen cfa.now elem.now edge.now preds.now outcome.now) }
+    {
+        let fingerprint = step_fingerprint(&edge.act, elem, preds);
+        let known = self.steps.as_ref()?.get(fingerprint)?;
+        known.outcome_of(cfa, edge, elem, preds)
+    }
+
+    /// Keeps the outcome of the step along the edge.
+    pub(crate) fn keep_outcome(
+        &mut self,
+        alloc: Global,
+        cfa: &Cfa,
+        edge: &Edge,
+        elem: &Elem,
+        preds: &[Expr],
+        outcome: &Outcome,
+    ) -> Result<(), AllocError>
+        requires { IsOutcome NoneOpen cfa.now elem.now edge.now preds.now outcome.now }
+        ensures { self.new ≡ self.old }
+    {
+        let known = known_step(alloc, cfa, edge, elem, preds, outcome)?;
+        let mut steps = match mem::replace(&mut self.steps, None) {
+            Some(steps) => steps,
+            None => Table::new(alloc),
+        };
+        steps.keep(step_fingerprint(&edge.act, elem, preds), known)?;
+        self.steps = Some(steps);
         Ok(())
     }
 }

@@ -5,10 +5,13 @@
 
 mod asking;
 mod findings;
+mod fingerprints;
+mod known;
 mod predicate;
 mod refining;
 mod standing;
 mod steps;
+mod table;
 mod transfer;
 mod witnesses;
 

@@ -1,7 +1,7 @@
 //! What is known of predicates behind an edge, by `specs/Transfer.antt`.
 
-ghost use Rattle.std.specs.Prelude.{◌≡◌, ◌<◌, ◌≤◌, ◌∷◌, ◌++◌, [], length, slice_get, Some};
-ghost use Rattle.std.specs.Prelude.{IsTrue, IfOk, OnOk};
+ghost use Rattle.std.specs.Prelude.{◌≡◌, ◌<◌, ◌≤◌, ◌-◌, ◌^◌, ◌∷◌, ◌++◌, []};
+ghost use Rattle.std.specs.Prelude.{length, slice_get, Some, IsTrue, IfOk, OnOk};
 ghost use Rattle.std.specs.List.{AllByRecursion};
 ghost use Rattle.cpa_model.specs.declared.automaton.Edge.{Edge as AnEdge};
 ghost use Rattle.cpa_model.specs.Automata.{IsAutomaton};
@@ -10,9 +10,11 @@ ghost use Rattle.cpa_iface.specs.Meanings.{IsShaped};
 ghost use Rattle.cpa_predicate.specs.Predicates.{no_facts};
 ghost use Rattle.cpa_predicate.specs.Questions.{IsStep, Spends, SomeBeyond, IsOpen};
 ghost use Rattle.cpa_predicate.specs.Steps.{IsAfter};
-ghost use Rattle.cpa_predicate.specs.Transfer.{IsTruthAfter, AreTruthsAfter, IsCartesian, fact_of};
+ghost use Rattle.cpa_predicate.specs.Transfer.{IsTruthAfter, AreTruths, IsOutcome};
+ghost use Rattle.cpa_predicate.specs.Transfer.{IsCartesian, fact_of, facts_of, elems_of};
 
-use crate::asking::{Asker, found_truth};
+use crate::asking::{Asker, Budgets, found_truth};
+use crate::known::Outcome;
 use crate::standing::standing_truth;
 use crate::steps::step_form;
 use crate::witnesses::{leads_nowhere, some_lacks, stores_behind};
@@ -58,6 +60,121 @@ fn truth_after(
     }
 }
 
+/// The truths that predicates have wherever the edge leads.
+fn truths_after(
+    alloc: Global,
+    asker: &mut Asker,
+    cfa: &Cfa,
+    edge: &Edge,
+    elem: &Elem,
+    step: &EdgeForm,
+    behind: &[Store],
+    preds: &[Expr],
+) -> Result<Seq<Option<bool>>, AllocError>
+    requires step { IsStep cfa.now elem.now edge.now step.now }
+    requires behind { AllByRecursion (IsAfter cfa.now elem.now edge.now) behind.now }
+    requires preds { AllByRecursion (IsExpr cfa.now.cells) preds.now }
+    ensures truths { IfOk result (AreTruths
+        (IsOpen asker.old asker.new cfa.now elem.now edge.now)
+        cfa.now elem.now edge.now preds.now) }
+    ensures spends { Spends asker.old asker.new
+        (SomeBeyond asker.old cfa.now elem.now edge.now preds.now) }
+{
+    let mut truths = Seq::new(alloc);
+    for p in preds {
+        let truth = truth_after(alloc, asker, cfa, edge, elem, step, behind, p)?;
+        truths.push(truth)?;
+    }
+    Ok(truths)
+}
+
+/// Whether no predicate is to be looked at, and a store is known to which the edge leads.
+fn is_settled(preds: &[Expr], behind: &[Store]) -> bool
+    ensures { IsTrue result → (preds.now ≡ []) × (1 ≤ length behind.now) }
+{
+    match (preds, behind) {
+        ([], [_, ..]) => true,
+        _ => false,
+    }
+}
+
+/// What is found of the step along the edge.
+fn outcome_of(
+    alloc: Global,
+    asker: &mut Asker,
+    cfa: &Cfa,
+    edge: u32,
+    elem: &Elem,
+    preds: &[Expr],
+) -> Result<Outcome, AllocError>
+    requires automaton { IsAutomaton cfa.now }
+    requires edge { edge < length cfa.now.edges }
+    requires elem { IsShaped cfa.now elem.now }
+    requires preds { AllByRecursion (IsExpr cfa.now.cells) preds.now }
+    ensures outcome { IfOk result (λ outcome. (g : AnEdge) → slice_get cfa.now.edges edge ≡ Some g
+        → IsOutcome (IsOpen asker.old asker.new cfa.now elem.now g) cfa.now elem.now g
+        preds.now outcome) }
+    ensures spends { (g : AnEdge) → slice_get cfa.now.edges edge ≡ Some g
+        → Spends asker.old asker.new (SomeBeyond asker.old cfa.now elem.now g preds.now) }
+{
+    edges_are_sound();
+    forms_are_runs();
+    steps_take_inputs();
+    let along = cfa.edge(edge);
+    let behind = stores_behind(alloc, cfa, along, elem, asker.stores(), preds.is_empty())?;
+    let behind = behind.as_slice();
+    let settled = is_settled(preds, behind);
+    if settled {
+        let none = Seq::new(alloc);
+        return Ok(Some(none));
+    }
+    let step = step_form(alloc, cfa, edge, elem)?;
+    let never = leads_nowhere(alloc, asker, cfa, along, elem, &step, behind)?;
+    if never {
+        return Ok(None);
+    }
+    let truths = truths_after(alloc, asker, cfa, along, elem, &step, behind, preds)?;
+    Ok(Some(truths))
+}
+
+/// Whether the count says that all that was asked in between was decided.
+fn all_decided(before: Budgets, after: Budgets) -> bool
+    ensures { IsTrue result → (after.spent ≡ before.spent) × (before.spent < 2 ^ 64 - 1) }
+{
+    after.spent == before.spent && before.spent < u64::MAX
+}
+
+/// Keeps the outcome of the step, if all that was asked since `before` was decided.
+fn keep_decided(
+    alloc: Global,
+    asker: &mut Asker,
+    before: Budgets,
+    cfa: &Cfa,
+    edge: &Edge,
+    elem: &Elem,
+    preds: &[Expr],
+    outcome: &Outcome,
+) -> Result<(), AllocError>
+    requires { IsOutcome (IsOpen before asker.old cfa.now elem.now edge.now) cfa.now elem.now
+        edge.now preds.now outcome.now }
+    ensures { asker.new ≡ asker.old }
+{
+    let decided = all_decided(before, asker.budgets());
+    if decided {
+        asker.keep_outcome(alloc, cfa, edge, elem, preds, outcome)?;
+    }
+    Ok(())
+}
+
+/// The element without facts. Takes no memory.
+pub(crate) fn no_facts(alloc: Global) -> Elem
+    ensures { result ≡ no_facts }
+{
+    Elem {
+        facts: Seq::new(alloc),
+    }
+}
+
 /// Adds the fact on the predicate, where its truth is known.
 fn push_truth(
     alloc: Global,
@@ -76,59 +193,32 @@ fn push_truth(
     Ok(())
 }
 
-/// The truths that predicates have wherever the edge leads.
-fn truths_after(
-    alloc: Global,
-    asker: &mut Asker,
-    cfa: &Cfa,
-    edge: &Edge,
-    elem: &Elem,
-    step: &EdgeForm,
-    behind: &[Store],
-    preds: &[Expr],
-) -> Result<Elem, AllocError>
-    requires step { IsStep cfa.now elem.now edge.now step.now }
-    requires behind { AllByRecursion (IsAfter cfa.now elem.now edge.now) behind.now }
-    requires preds { AllByRecursion (IsExpr cfa.now.cells) preds.now }
-    ensures truths { IfOk result (λ after. AreTruthsAfter
-        (IsOpen asker.old asker.new cfa.now elem.now edge.now)
-        cfa.now elem.now edge.now preds.now after.facts) }
-    ensures spends { Spends asker.old asker.new
-        (SomeBeyond asker.old cfa.now elem.now edge.now preds.now) }
+/// The element of the truths of the predicates, one for each.
+fn elem_of(alloc: Global, preds: &[Expr], truths: &[Option<bool>]) -> Result<Elem, AllocError>
+    ensures { IfOk result (λ e. e.facts ≡ facts_of preds.now truths.now) }
 {
     let mut facts = Seq::new(alloc);
+    let mut rest = truths;
     for p in preds {
-        let truth = truth_after(alloc, asker, cfa, edge, elem, step, behind, p)?;
-        push_truth(alloc, &mut facts, p, truth)?;
+        match rest {
+            [truth, behind @ ..] => {
+                push_truth(alloc, &mut facts, p, *truth)?;
+                rest = behind;
+            }
+            [] => return Ok(Elem { facts }),
+        }
     }
     Ok(Elem { facts })
 }
 
-/// Whether no predicate is to be looked at, and a store is known to which the edge leads.
-fn is_settled(preds: &[Expr], behind: &[Store]) -> bool
-    ensures { IsTrue result → (preds.now ≡ []) × (1 ≤ length behind.now) }
-{
-    match (preds, behind) {
-        ([], [_, ..]) => true,
-        _ => false,
-    }
-}
-
-/// The element without facts. Takes no memory.
-pub(crate) fn no_facts(alloc: Global) -> Elem
-    ensures { result ≡ no_facts }
-{
-    Elem {
-        facts: Seq::new(alloc),
-    }
-}
-
-/// The element without facts alone.
-fn no_truths(alloc: Global) -> Result<Vec<Elem>, AllocError>
-    ensures { IfOk result (λ es. es.items ≡ no_facts ∷ []) }
+/// The elements behind a step with this outcome.
+fn elems_of(alloc: Global, preds: &[Expr], outcome: &Outcome) -> Result<Vec<Elem>, AllocError>
+    ensures { IfOk result (λ es. es.items ≡ elems_of preds.now outcome.now) }
 {
     let mut elems = Vec::new(alloc);
-    elems.push(no_facts(alloc))?;
+    if let Some(truths) = outcome {
+        elems.push(elem_of(alloc, preds, truths.as_slice())?)?;
+    }
     Ok(elems)
 }
 
@@ -151,24 +241,14 @@ pub(crate) fn successors(
     ensures spends { (g : AnEdge) → slice_get cfa.now.edges edge ≡ Some g
         → Spends asker.old asker.new (SomeBeyond asker.old cfa.now elem.now g preds.now) }
 {
-    edges_are_sound();
-    forms_are_runs();
-    steps_take_inputs();
-    let mut successors = Vec::new(alloc);
     let along = cfa.edge(edge);
-    let behind = stores_behind(alloc, cfa, along, elem, asker.stores(), preds.is_empty())?;
-    let behind = behind.as_slice();
-    let settled = is_settled(preds, behind);
-    if settled {
-        let elems = no_truths(alloc)?;
+    if let Some(outcome) = asker.outcome_of(cfa, along, elem, preds) {
+        let elems = elems_of(alloc, preds, outcome)?;
         return Ok(elems);
     }
-    let step = step_form(alloc, cfa, edge, elem)?;
-    let never = leads_nowhere(alloc, asker, cfa, along, elem, &step, behind)?;
-    if never {
-        return Ok(successors);
-    }
-    let after = truths_after(alloc, asker, cfa, along, elem, &step, behind, preds)?;
-    successors.push(after)?;
-    Ok(successors)
+    let before = asker.budgets();
+    let outcome = outcome_of(alloc, asker, cfa, edge, elem, preds)?;
+    keep_decided(alloc, asker, before, cfa, along, elem, preds, &outcome)?;
+    let elems = elems_of(alloc, preds, &outcome)?;
+    Ok(elems)
 }

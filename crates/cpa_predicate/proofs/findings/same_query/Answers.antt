@@ -1,5 +1,5 @@
 -- Two tests of lists, item by item.
-use Rattle.std.proofs.Common.{◌≡◌, IsTrue, true, sym, ◌∙◌}
+use Rattle.std.proofs.Common.{sym, ◌∙◌}
 use denote.Enum.Bare.{same_true}
 use Rattle.cpa_ints.specs.contracts.integers.IntType as int_type
 use Rattle.cpa_predicate.proofs.FindingLemmas.{pointwise_is, queries_are, wanted_is}

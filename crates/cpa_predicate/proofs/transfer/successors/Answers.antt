@@ -1,79 +1,34 @@
--- Where the step's query has no model, the edge leads nowhere; else the predicates come behind it.
-use Rattle.std.proofs.Common.{◌≡◌, ◌++◌, ◌∷◌, [], List, sym, ap, ◌∙◌, subst}
-use Rattle.std.specs.Prelude.{slice_get, Some}
+-- What is known, or found out, is given.
+use Rattle.std.proofs.Common.{sym, ◌∙◌, subst}
 use Rattle.std.proofs.lemmas.Option.{same_Some}
-use Rattle.cpa_model.specs.declared.facts.Elem.{Elem}
-use Rattle.cpa_model.specs.declared.automaton.Edge.{Edge}
-use Rattle.std.specs.List.{AllByRecursion}
-use Rattle.cpa_predicate.specs.Predicates.{no_facts}
+use Rattle.cpa_predicate.specs.declared.asking.Budgets.{Budgets}
 use Rattle.cpa_predicate.specs.Questions.{IsOpen}
-use Rattle.cpa_predicate.specs.Steps.{IsAfter}
-use Rattle.cpa_predicate.specs.Transfer.{IsCartesian}
-use Rattle.cpa_predicate.proofs.TransferLemmas.{all_spent, leads_nowhere}
-use Rattle.cpa_predicate.proofs.TransferLemmas.{leads_on, settled}
+use Rattle.cpa_predicate.specs.Transfer.{IsOutcome}
+use Rattle.cpa_predicate.proofs.KnownLemmas.{given, recalled}
 use Rattle.cpa_predicate.proofs.transfer.successors.Goals as goal
 
-pub returns-in_err-after-clause-spends : goal.returns-in_err-after-clause-spends
-returns-in_err-after-clause-spends c = λ g at.
-    all_spent c.args.asker.now c.leads_nowhere.new.asker c.args.cfa.now c.args.elem.now g
-    c.args.preds.now c.in_ok-step.step (c.in_ok-step.ensures g at) c.truths_after.new.asker
-    c.edge-along.result.now (same_Some _ _ (sym c.edge-along.ensures ∙ at)) c.leads_nowhere.ensures.spends
-    c.truths_after.ensures.spends
-
-pub returns-in_err-push-clause-spends : goal.returns-in_err-push-clause-spends
-returns-in_err-push-clause-spends c = λ g at.
-    all_spent c.args.asker.now c.leads_nowhere.new.asker c.args.cfa.now c.args.elem.now g
-    c.args.preds.now c.in_ok-step.step (c.in_ok-step.ensures g at) c.truths_after.new.asker
-    c.edge-along.result.now (same_Some _ _ (sym c.edge-along.ensures ∙ at)) c.leads_nowhere.ensures.spends
-    c.truths_after.ensures.spends
-
-pub returns-then-never-clause-known : goal.returns-then-never-clause-known
-returns-then-never-clause-known c = λ g at.
+pub keep_decided-requires : goal.keep_decided-requires
+keep_decided-requires c =
     let cfa = c.args.cfa.now in
     let e = c.args.elem.now in
-    subst (IsCartesian (IsOpen c.args.asker.now c.leads_nowhere.new.asker cfa e g) cfa e g
-    c.args.preds.now) (sym c.new-successors.ensures.items)
-    (leads_nowhere c.args.asker.now c.leads_nowhere.new.asker cfa e g c.args.preds.now
-    c.in_ok-step.step (c.in_ok-step.ensures g at) c.requires.automaton
-    (c.edges_are_sound.ensures cfa c.args.edge g c.requires.automaton at).act c.requires.elem
-    c.forms_are_runs.ensures c.steps_take_inputs.ensures
-    (c.in_ok-never.ensures.yes c.if-never.true))
+    let along = c.edge-along.result.now in
+    subst (λ (b : Budgets). IsOutcome (IsOpen b c.outcome_of-2.new.asker cfa e along) cfa e
+    along c.args.preds.now c.in_ok-outcome.outcome) (sym c.budgets-before.ensures)
+    (c.in_ok-outcome.ensures.outcome along c.edge-along.ensures)
+
+pub returns-in-Some-clause-known : goal.returns-in-Some-clause-known
+returns-in-Some-clause-known c = λ g at.
+    recalled (IsOpen c.args.asker.now c.args.asker.now c.args.cfa.now c.args.elem.now g)
+    c.args.cfa.now c.args.elem.now g c.args.preds.now c.in-Some.outcome.now _
+    c.in_ok-elems.ensures c.edge-along.result.now (same_Some _ _ (sym c.edge-along.ensures ∙ at))
+    c.in-Some.ensures
 
 pub returns-clause-known : goal.returns-clause-known
 returns-clause-known c = λ g at.
     let cfa = c.args.cfa.now in
     let e = c.args.elem.now in
-    let after = c.in_ok-after.after in
-    subst (IsCartesian (IsOpen c.args.asker.now c.truths_after.new.asker cfa e g) cfa e g
-    c.args.preds.now)
-    (sym (c.in_ok-push.ensures.items
-    ∙ ap (λ (es : List Elem). es ++ after ∷ []) c.new-successors.ensures.items))
-    (leads_on c.args.asker.now c.leads_nowhere.new.asker cfa e g c.args.preds.now
-    c.in_ok-step.step (c.in_ok-step.ensures g at) c.requires.automaton
-    (c.edges_are_sound.ensures cfa c.args.edge g c.requires.automaton at).act c.requires.elem
-    c.forms_are_runs.ensures c.steps_take_inputs.ensures c.truths_after.new.asker
-    c.edge-along.result.now after (same_Some _ _ (sym c.edge-along.ensures ∙ at)) c.leads_nowhere.ensures.spends
-    c.truths_after.ensures.spends (c.in_ok-never.ensures.no c.if-never.false)
-    c.in_ok-after.ensures.truths)
-
-pub returns-clause-spends : goal.returns-clause-spends
-returns-clause-spends c = λ g at.
-    all_spent c.args.asker.now c.leads_nowhere.new.asker c.args.cfa.now c.args.elem.now g
-    c.args.preds.now c.in_ok-step.step (c.in_ok-step.ensures g at) c.truths_after.new.asker
-    c.edge-along.result.now (same_Some _ _ (sym c.edge-along.ensures ∙ at)) c.leads_nowhere.ensures.spends
-    c.truths_after.ensures.spends
-
-pub returns-then-settled-clause-known : goal.returns-then-settled-clause-known
-returns-then-settled-clause-known c =
-    let cfa = c.args.cfa.now in
-    let e = c.args.elem.now in
-    let ps = c.args.preds.now in
-    let along = c.edge-along.result.now in
-    let found = c.is_settled-settled.ensures c.if-settled.true in
-    let O = λ (g : Edge). IsOpen c.args.asker.now c.args.asker.now cfa e g in
-    λ g at.
-    subst (λ (items : List Elem). IsCartesian (O g) cfa e g ps items) (sym c.in_ok-elems.ensures)
-    (settled (O g) cfa e g along ps c.as_slice-behind.result.now
-    (same_Some _ _ (sym c.edge-along.ensures ∙ at)) found.0 found.1
-    (subst (AllByRecursion (IsAfter cfa e along)) (sym c.as_slice-behind.ensures.value)
-    c.in_ok-behind.ensures))
+    given (IsOpen c.args.asker.now c.keep_decided.new.asker cfa e g) cfa e g c.args.preds.now
+    c.in_ok-outcome.outcome _ c.in_ok-elems-2.ensures
+    (subst (λ (b : Budgets). IsOutcome (IsOpen c.args.asker.now b cfa e g) cfa e g
+    c.args.preds.now c.in_ok-outcome.outcome) (sym c.keep_decided.ensures)
+    (c.in_ok-outcome.ensures.outcome g at))
