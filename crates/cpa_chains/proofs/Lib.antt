@@ -6,3 +6,4 @@ pub mod Interpolation
 pub mod Noting
 pub mod Filling
 pub mod Joining
+pub mod Halving

@@ -27,7 +27,7 @@ fn joint(table: &[bool], step: Step) -> Joint
 }
 
 /// Adds the joints of the steps, for which there is room.
-fn fill(table: &[bool], steps: &[Step], joints: &mut Vec<Joint>)
+pub(crate) fn fill(table: &[bool], steps: &[Step], joints: &mut Vec<Joint>)
     requires pivots { AllByRecursion (λ step. step.pivot < length table.now) steps.now }
     requires room { vec_len joints.old + length steps.now ≤ vec_capacity joints.old }
     ensures { joints.new.items ≡ joints.old.items ++ map (joint_by table.now) steps.now }

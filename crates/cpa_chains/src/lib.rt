@@ -5,6 +5,7 @@
 mod clauses;
 mod folding;
 mod laws;
+mod parallel;
 mod partial;
 mod sides;
 mod values;
@@ -12,5 +13,6 @@ mod values;
 pub use clauses::leaves;
 pub use folding::partials;
 pub use laws::two_lists_are_sides;
+pub use parallel::partials_par;
 pub use partial::{Joint, Leaf, Partial};
 pub use values::last_value;
