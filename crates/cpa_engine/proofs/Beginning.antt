@@ -34,6 +34,7 @@ use Rattle.cpa_engine_laws.specs.Lines.{KeyComes, KeyRoot, PinComes, PinRoot}
 use Rattle.cpa_engine_laws.specs.lemmas.Kept.{HasRow, row_lines}
 use Rattle.cpa_engine_laws.specs.lemmas.Working.{member_of}
 use Rattle.cpa_engine_rounds.specs.Clearing.{BeginsBelow, renewed}
+use Rattle.cpa_engine_rounds.specs.Errors.{may_err, NoneErrBelow}
 use Rattle.cpa_engine.specs.Kept.{IsExactRun}
 use Rattle.cpa_engine.specs.Searches.{Stands}
 
@@ -97,6 +98,15 @@ all_of : {X : Type 0} (P : X → Type 0) (xs : List X) → ((x : X) → IsIn x x
     → AllByRecursion P xs
 all_of P [] each = tt
 all_of P (x ∷ xs) each = (each x (inl refl), all_of P xs (λ y there. each y (inr there)))
+
+-- entries that were no errors are none still
+pub begins_checked : (cfa : Cfa) (pivot : ℕ) (newest : List Precision) (old new : ReachedSet)
+    (checked : ℕ) → BeginsBelow pivot newest old new → NoneErrBelow cfa checked old.live
+    → NoneErrBelow cfa checked new.live
+begins_checked cfa pivot newest old new checked begins none y there less =
+    let was = left_of pivot newest old new begins y there in
+    let number : y.number ≡ was.entry.number = was.number in
+    ap (may_err cfa) was.elems ∙ none was.entry was.is_in (omega (arith, number, less))
 
 -- ---- covered successors
 

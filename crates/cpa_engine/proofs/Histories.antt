@@ -29,6 +29,7 @@ use Rattle.cpa_reached.specs.Entries.{ReachedSet}
 use Rattle.cpa_engine_turn.specs.lemmas.Keyed.{there_is}
 use Rattle.cpa_engine_laws.specs.lemmas.Growing.{refined_falls, all_few}
 use Rattle.cpa_engine_rounds.specs.Errors.{NoneErrBelow}
+use Rattle.cpa_engine.proofs.Beginning.{begins_checked}
 use Rattle.cpa_engine.specs.declared.search.Search.{Search}
 use Rattle.cpa_engine.specs.Answers.{AreRefinements, newest_after, LeadTo}
 use Rattle.cpa_engine.specs.Kept.{IsExactRun, IsRefuted}
@@ -102,13 +103,13 @@ refined_binds cfa cs path old new many row binds i c q at at_q =
 
 -- ---- after a refinement
 
-abbrev pub refined_search : ReachedSet → List Precision → List Refined → Search
-refined_search r newest history = record {
+abbrev pub refined_search : ℕ → ReachedSet → List Precision → List Refined → Search
+refined_search checked r newest history = record {
   reached = r;
   newest = newest;
   history = history;
   again = false;
-  checked = 0;
+  checked = checked;
 }
 
 more_size : (h : List Refined) (r : Refined) → length (h ++ r ∷ []) ≡ length h + 1
@@ -118,7 +119,7 @@ refined_came : (cfa : Cfa) (cs : List Component) (config : Config) (s : Search) 
     (path : Path) (longer : List Precision) → CameBy cfa cs config s
     → IsRefuted cfa cs config.settings path → RefinedRow cs cfa path s.newest longer
     → length s.history < config.rounds
-    → CameBy cfa cs config (refined_search r longer (s.history ++ item path longer ∷ []))
+    → CameBy cfa cs config (refined_search s.checked r longer (s.history ++ item path longer ∷ []))
 refined_came cfa cs config s r path longer came refuted row more =
     let one = more_size s.history (item path longer) in
     record {
@@ -139,36 +140,34 @@ fewer_rounds : (rounds now was : ℕ) (n : ℕ) → now ≡ was + 1 → was < ro
     → (rounds - now) * 2 + 1 < (rounds - was) * 2 + n
 fewer_rounds rounds now was n is less = omega (arith, is, less)
 
-none_below : (cfa : Cfa) (r : ReachedSet) → NoneErrBelow cfa 0 r.live
-none_below cfa r e there less = absurd (omega (arith, less))
-
 pub refined_begins : (cfa : Cfa) (cs : List Component) (config : Config) (s : Search)
     (r : ReachedSet) (path : Path) (longer newest : List Precision) (history : List Refined)
     → IsSearch cfa cs config s → Stands cfa cs config.settings r → r.journal ≡ []
     → BeginsRefined cfa cs config (position s)
-    (position (refined_search r longer (s.history ++ item path longer ∷ [])))
+    (position (refined_search s.checked r longer (s.history ++ item path longer ∷ [])))
     → IsRefuted cfa cs config.settings path → RefinedRow cs cfa path s.newest longer
     → length s.history < config.rounds → newest ≡ longer
     → history ≡ s.history ++ item path longer ∷ []
-    → IsSearch cfa cs config (refined_search r newest history) × (r.journal ≡ [])
-    × (rounds_left config (refined_search r newest history) < rounds_left config s)
+    → IsSearch cfa cs config (refined_search s.checked r newest history) × (r.journal ≡ [])
+    × (rounds_left config (refined_search s.checked r newest history) < rounds_left config s)
 refined_begins cfa cs config s r path longer newest history search stands none begins refuted row
     more is_new is_more =
     let longest = s.history ++ item path longer ∷ [] in
     let one = more_size s.history (item path longer) in
     let size : length history ≡ length s.history + 1 =
     ap (λ (h : List Refined). length h) is_more ∙ one in
-    let is : IsSearch cfa cs config (refined_search r longer longest) =
+    let is : IsSearch cfa cs config (refined_search s.checked r longer longest) =
     record {
       stands = stands;
       came = refined_came cfa cs config s r path longer search.came refuted row more;
-      comes = by_refinement (position s) (position (refined_search r longer longest)) search.comes
+      comes = by_refinement (position s) (position (refined_search s.checked r longer longest)) search.comes
           begins;
-      checked = none_below cfa r;
+      checked = begins_checked cfa begins.pivot longer s.reached r s.checked begins.begins
+          search.checked;
     } in (
-      subst (λ (ps : List Precision). IsSearch cfa cs config (refined_search r ps history))
+      subst (λ (ps : List Precision). IsSearch cfa cs config (refined_search s.checked r ps history))
           (sym is_new)
-          (subst (λ (h : List Refined). IsSearch cfa cs config (refined_search r longer h))
+          (subst (λ (h : List Refined). IsSearch cfa cs config (refined_search s.checked r longer h))
           (sym is_more) is),
       none,
       fewer_rounds config.rounds (length history) (length s.history) (cond s.again 0 1) size more,
@@ -177,7 +176,7 @@ refined_begins cfa cs config s r path longer newest history search stands none b
 -- ---- after none
 
 abbrev pub again_search : ReachedSet → Search → Search
-again_search r s = record s { reached = r; again = true; checked = 0 }
+again_search r s = record s { reached = r; again = true }
 
 pub again_begins : (cfa : Cfa) (cs : List Component) (config : Config) (s : Search)
     (r : ReachedSet) → IsSearch cfa cs config s → Stands cfa cs config.settings r
@@ -196,7 +195,8 @@ again_begins cfa cs config s r search stands none begins =
           cells = search.came.cells;
         };
         comes = once_more (position s) (position (again_search r s)) search.comes begins;
-        checked = none_below cfa r;
+        checked = begins_checked cfa begins.root s.newest s.reached r s.checked begins.begins
+            search.checked;
       },
       none,
       rw first (omega arith),
@@ -204,11 +204,14 @@ again_begins cfa cs config s r search stands none begins =
 
 -- ---- before the first
 
+none_below : (cfa : Cfa) (r : ReachedSet) → NoneErrBelow cfa 0 r.live
+none_below cfa r e there less = absurd (omega (arith, less))
+
 pub first_search : (cfa : Cfa) (cs : List Component) (config : Config) (r : ReachedSet)
     (es : List Elem) (newest : List Precision) → InitialRow cs cfa config.settings es newest
     → r ≡ indexed (begun es newest) (key_places cs) → Stands cfa cs config.settings r
     → (IsExactRun cs config.settings → BindAll cfa cs newest)
-    → IsSearch cfa cs config (refined_search r newest [])
+    → IsSearch cfa cs config (refined_search 0 r newest [])
 first_search cfa cs config r es newest row first stands binds = record {
   stands = stands;
   came = record {
@@ -227,7 +230,7 @@ first_search cfa cs config r es newest row first stands binds = record {
         let same = ap (λ (n : ℕ). n * length cfa.cells) row.precisions.size in
         omega (arith, few, same);
   };
-  comes = at_first (position (refined_search r newest []))
+  comes = at_first (position (refined_search 0 r newest []))
       (record { elems = es; row = row; reached = first; history = refl; again = refl });
   checked = none_below cfa r;
 }

@@ -117,7 +117,6 @@ fn begin_refined<A: Analysis>(
     })?;
     search.newest = Seq::from_vec(newest);
     search.again = false;
-    search.checked = 0;
     Ok(Came::Again)
 }
 
@@ -148,7 +147,6 @@ fn begin_again<A: Analysis>(
     let root = ancestor(&search.reached, number, path.edges.len());
     begin_round(alloc, &mut search.reached, root, search.newest.as_slice())?;
     search.again = true;
-    search.checked = 0;
     Ok(Came::Again)
 }
 

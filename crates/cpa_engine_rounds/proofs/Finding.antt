@@ -1,6 +1,6 @@
 -- The first entry that may be an error, where those before a place are none (`skips`), and numbers
 -- that ascend.
-use Rattle.std.proofs.Common.{◌≡◌, ℕ, zero, suc, ◌+◌, ◌-◌, ◌<◌, ◌≤◌, Bool, true, false, cond}
+use Rattle.std.proofs.Common.{◌≡◌, ℕ, zero, suc, ◌+◌, ◌-◌, ◌<◌, ◌≤◌, Bool, false, cond}
 use Rattle.std.proofs.Common.{get_or, List}
 use Rattle.std.proofs.Common.{[], ◌∷◌, drop, take, length, refl, sym, ap, ◌∙◌, subst, inl, inr}
 use Rattle.std.proofs.Common.{arith}
@@ -11,7 +11,6 @@ use Rattle.std.specs.Option.{option_map}
 use Rattle.cpa_model.specs.declared.automaton.Cfa.{Cfa}
 use Rattle.cpa_iface.specs.declared.entries.Entry.{Entry}
 use Rattle.cpa_reached.specs.Entries.{numbers}
-use Rattle.cpa_reached.specs.MemberLaws.{in_all, entry_in}
 use Rattle.cpa_model.specs.Ascending.{AreAscending}
 use Rattle.cpa_reached.specs.Members.{IsIn}
 use Rattle.cpa_iface.specs.declared.precisions.Precision.{Precision}

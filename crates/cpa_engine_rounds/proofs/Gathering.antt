@@ -1,52 +1,19 @@
--- Numbers gathered along a list, and entries by number.
-use Rattle.std.proofs.Common.{◌≡◌, ℕ, zero, suc, ◌+◌, ◌<◌, ◌≤◌, Bool, true, false, not, cond, eqb}
+-- Precisions that entries get one after the other, by number.
+use Rattle.std.proofs.Common.{◌≡◌, ℕ, zero, suc, ◌+◌, ◌<◌, Bool, true, false, cond, eqb}
 use Rattle.std.proofs.Common.{get_or}
-use Rattle.std.proofs.Common.{List, [], ◌∷◌, ◌++◌, take, map, length, refl, sym, ap, ◌∙◌, subst}
-use Rattle.std.proofs.Common.{inl}
-use Rattle.std.proofs.Common.{inr, ⊎_elim, arith}
-use Rattle.std.specs.Prelude.{◌⊎◌, ◌||◌, ◌&&◌}
-use Rattle.std.specs.List.{filter, list_any, AllByRecursion}
+use Rattle.std.proofs.Common.{List, [], ◌∷◌, ◌++◌, take, map, length, refl, sym, ap, ◌∙◌}
+use Rattle.std.proofs.Common.{⊎_elim, arith}
+use Rattle.std.specs.Prelude.{◌||◌}
+use Rattle.std.specs.List.{AllByRecursion}
 use Rattle.std.proofs.lemmas.Bool.{cases_Bool, cond_both, eq-eqb, eqb-true}
-use Rattle.std.proofs.lemmas.List.{take_more, take_all}
+use Rattle.std.proofs.lemmas.List.{take_more}
 use Rattle.cpa_iface.specs.declared.entries.Entry.{Entry}
 use Rattle.cpa_iface.specs.declared.precisions.Precision.{Precision}
 use Rattle.cpa_reached.specs.Calls.{at_number, with_precisions}
-use Rattle.cpa_reached.specs.Entries.{IsLive, numbers}
-use Rattle.cpa_reached.specs.MemberLaws.{numbers_append, map_in}
-use Rattle.cpa_reached.specs.Members.{IsIn, is_in}
+use Rattle.cpa_reached.specs.Entries.{IsLive}
+use Rattle.cpa_reached.specs.MemberLaws.{map_in}
+use Rattle.cpa_reached.specs.Members.{is_in}
 use Rattle.cpa_engine_rounds.specs.Opening.{with_newest}
-
--- one entry more
-filter_append : (t : Entry → Bool) (xs ys : List Entry)
-    → filter t (xs ++ ys) ≡ filter t xs ++ filter t ys
-filter_append t [] ys = refl
-filter_append t (x ∷ xs) ys =
-    ⊎_elim
-    (λ yes. rw yes (ap (λ (zs : List Entry). x ∷ zs) (filter_append t xs ys)))
-    (λ other. rw other (filter_append t xs ys))
-    (cases_Bool (t x))
-
-filter_one : (t : Entry → Bool) (e : Entry)
-    → numbers (filter t (e ∷ [])) ≡ cond (t e) (e.number ∷ []) []
-filter_one t e =
-    ⊎_elim (λ yes. rw yes refl) (λ other. rw other refl) (cases_Bool (t e))
-
-pub gathers_more : (t : Entry → Bool) (xs : List Entry) (i : ℕ) (e : Entry) (b : Bool)
-    (old new : List ℕ) → i < length xs → e ≡ get_or xs i e → b ≡ t e
-    → old ≡ numbers (filter t (take i xs)) → new ≡ old ++ cond b (e.number ∷ []) []
-    → new ≡ numbers (filter t (take (i + 1) xs))
-gathers_more t xs i e b old new less at is so_far more =
-    let one : take (i + 1) xs ≡ take i xs ++ e ∷ [] =
-    take_more xs i e less ∙ ap (λ (y : Entry). take i xs ++ y ∷ []) (sym at) in
-    more
-    ∙ ap (λ (ns : List ℕ). ns ++ cond b (e.number ∷ []) []) so_far
-    ∙ ap (λ (c : Bool). numbers (filter t (take i xs)) ++ cond c (e.number ∷ []) []) is
-    ∙ ap (λ (ns : List ℕ). numbers (filter t (take i xs)) ++ ns) (sym (filter_one t e))
-    ∙ sym (numbers_append (filter t (take i xs)) (filter t (e ∷ [])))
-    ∙ ap (λ (ys : List Entry). numbers ys) (sym (filter_append t (take i xs) (e ∷ [])))
-    ∙ ap (λ (ys : List Entry). numbers (filter t ys)) (sym one)
-
--- ---- precisions by number
 
 eqb_sym : (a b : ℕ) → eqb a b ≡ eqb b a
 eqb_sym a b =

@@ -1,10 +1,8 @@
 -- Which cells are newly kept, place by place (`newly_more`).
 use Rattle.std.proofs.Common.{◌≡◌, ℕ, zero, suc, ◌+◌, ◌<◌, ◌≤◌, Bool, true, false, not, get_or, min}
-use Rattle.std.proofs.Common.{List, [], ◌∷◌, take, length, refl, sym, ap, ◌∙◌, subst, arith}
-use Rattle.std.specs.Prelude.{◌||◌, ◌&&◌, nat_lt}
-use Rattle.std.specs.List.{list_any}
+use Rattle.std.proofs.Common.{List, [], ◌∷◌, take, length, refl, sym, ap, ◌∙◌, arith}
+use Rattle.std.specs.Prelude.{◌||◌, ◌&&◌}
 use Rattle.cpa_iface.specs.declared.precisions.Precision.{Precision}
-use Rattle.cpa_reached.specs.Members.{is_in}
 use Rattle.cpa_engine_rounds.specs.Pivots.{keeps_newly, is_new}
 
 -- what is tracked newly, where marks go no further than the cells

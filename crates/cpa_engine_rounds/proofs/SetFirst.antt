@@ -1,12 +1,11 @@
 -- Which cells are set before they are read, act by act (`set_more`), and the acts before a write.
-use Rattle.std.proofs.Common.{◌≡◌, ℕ, zero, suc, ◌+◌, ◌<◌, ◌≤◌, Bool, true, false, not, cond}
+use Rattle.std.proofs.Common.{◌≡◌, ℕ, zero, suc, ◌+◌, ◌<◌, Bool, true, false, not, cond}
 use Rattle.std.proofs.Common.{get_or}
-use Rattle.std.proofs.Common.{List, [], ◌∷◌, ◌++◌, take, drop, length, Some, refl, sym, ap, ◌∙◌}
-use Rattle.std.proofs.Common.{subst}
+use Rattle.std.proofs.Common.{List, [], ◌∷◌, ◌++◌, take, length, Some, refl, sym, ap, ◌∙◌}
 use Rattle.std.proofs.Common.{arith}
 use Rattle.std.specs.Prelude.{◌||◌, ◌&&◌, nat_lt, slice_get, Option, None}
-use Rattle.std.specs.List.{list_any, list_all, prefix_len, range_with_len, AllByRecursion}
-use Rattle.std.proofs.lemmas.List.{take_more, drop_more, length-append}
+use Rattle.std.specs.List.{list_any, list_all, range_with_len, AllByRecursion}
+use Rattle.std.proofs.lemmas.List.{take_more}
 use Rattle.cpa_model.specs.declared.automaton.Act.{Act}
 use Rattle.cpa_model.specs.declared.automaton.Act.TheVariants as act
 use Rattle.cpa_model.specs.declared.automaton.Cfa.{Cfa}

@@ -1,6 +1,6 @@
 -- Which entries may be errors: those that the analyses do not place elsewhere (CAV 2007, section 2:
 -- the reached set against the error location).
-use Rattle.std.specs.Prelude.{◌≡◌, ℕ, ◌<◌, Bool, true, false, not, List, Option}
+use Rattle.std.specs.Prelude.{◌≡◌, ℕ, ◌<◌, Bool, false, not, List, Option}
 use Rattle.std.specs.List.{list_any, find}
 use Rattle.std.specs.Option.{option_map}
 use Rattle.cpa_model.specs.declared.automaton.Cfa.{Cfa}

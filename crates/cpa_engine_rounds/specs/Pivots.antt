@@ -1,7 +1,7 @@
 -- From where a round begins after a refinement: before the first edge that writes a cell that is
 -- newly kept (lazy abstraction, POPL 2002, section 2, on cells; the choice of the pivot is this
 -- project's own).
-use Rattle.std.specs.Prelude.{◌≡◌, ℕ, ◌==◌, ◌<◌, nat_lt, Bool, true, false, not, ◌&&◌, ◌||◌, List}
+use Rattle.std.specs.Prelude.{ℕ, ◌==◌, nat_lt, Bool, false, not, ◌&&◌, ◌||◌, List}
 use Rattle.std.specs.Prelude.{[]}
 use Rattle.std.specs.Prelude.{◌∷◌, length, if◌then◌else◌, drop}
 use Rattle.std.specs.List.{list_any, list_all, range_with_len, prefix_len}

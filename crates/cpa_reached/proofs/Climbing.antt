@@ -1,17 +1,14 @@
--- The way up by parents: that it gives the path (`traced`), and that it comes to the pivot from
--- below it alone (`climbed`).
+-- The way up by parents: that it gives the path (`traced`).
 use Rattle.std.proofs.Common.{◌≡◌, ℕ, ◌+◌, ◌<◌, ◌≤◌, true, List}
-use Rattle.std.proofs.Common.{[], ◌∷◌, ◌++◌, Option, Some, None, slice_get, refl, sym, ap, ◌∙◌}
+use Rattle.std.proofs.Common.{[], ◌∷◌, ◌++◌, Option, Some, None, slice_get, refl, sym}
 use Rattle.std.proofs.Common.{subst, inl, inr, ◌⊎◌, ⊎_elim, append_assoc, append-nil, arith}
-use Rattle.std.proofs.lemmas.Option.{same_Some}
 use Rattle.cpa_iface.specs.declared.entries.Entry.{Entry}
 use Rattle.cpa_reached.specs.declared.links.Link.{Link}
-use Rattle.cpa_model.specs.Ascending.{AreAscending}
 use Rattle.cpa_reached.specs.Members.{IsIn, is_in}
 use Rattle.cpa_reached.specs.Entries.{numbers, IsLive}
 use Rattle.cpa_reached.specs.Paths.{LeadsBack}
-use Rattle.cpa_reached.specs.Removal.{IsBelow, child, further}
-use Rattle.cpa_reached.specs.MemberLaws.{in_live, one_entry}
+use Rattle.cpa_reached.specs.Removal.{IsBelow}
+use Rattle.cpa_reached.specs.MemberLaws.{in_live}
 use Rattle.cpa_reached.specs.Kept.{IsTied, IsTree, HasParent, link_numbers, depth_of}
 use Rattle.cpa_reached.proofs.Tying.{named_there}
 
@@ -94,87 +91,6 @@ traced xs ls entry at edges done depth tree so_far over =
 -- at the pivot, or below it
 abbrev pub IsUnder : List Entry → ℕ → ℕ → Type 0
 IsUnder xs pivot n = (n ≡ pivot) ⊎ IsBelow xs pivot n
-
-pub record Climbs (xs : List Entry) (ls : List Link) (pivot number at done depth : ℕ) : Type 0 where
-  pub live : IsLive xs at
-  pub deep : depth_of at ls + done ≡ depth
-  pub up : IsUnder xs pivot at → IsUnder xs pivot number
-  pub down : IsUnder xs pivot number → IsUnder xs pivot at
-
--- what lies below lies deeper
-pub deeper : (xs : List Entry) (ls : List Link) (pivot n : ℕ) → IsTree xs ls → IsBelow xs pivot n
-    → depth_of pivot ls < depth_of n ls
-deeper xs ls pivot n tree (child m edge e there is has) =
-    let tied : IsTied ls n e.parent e.uses =
-    subst (λ (k : ℕ). IsTied ls k e.parent e.uses) is (tree.tied e there) in
-    let own : depth_of n ls ≡ depth_of pivot ls + 1 = tied.depth pivot edge has in omega arith
-deeper xs ls pivot n tree (further m p edge e there is has below) =
-    let tied : IsTied ls n e.parent e.uses =
-    subst (λ (k : ℕ). IsTied ls k e.parent e.uses) is (tree.tied e there) in
-    let own : depth_of n ls ≡ depth_of p ls + 1 = tied.depth p edge has in
-    let above : depth_of pivot ls < depth_of p ls = deeper xs ls pivot p tree below in omega arith
-
-pub climbs_none : (xs : List Entry) (ls : List Link) (pivot number depth : ℕ) → IsLive xs number
-    → depth ≡ depth_of number ls → Climbs xs ls pivot number number 0 depth
-climbs_none xs ls pivot number depth live deep =
-    record { live = live; deep = omega arith; up = λ h. h; down = λ h. h }
-
-below_parent : (xs : List Entry) (pivot n p edge : ℕ) (e : Entry) → AreAscending (numbers xs)
-    → IsIn e xs → e.number ≡ n → e.parent ≡ Some (p, edge) → IsBelow xs pivot n → IsUnder xs pivot p
-below_parent xs pivot n p edge e up there is has (child m g d in_d is_d has_d) =
-    let same : e ≡ d = one_entry xs e d up there in_d (is ∙ sym is_d) in
-    inl (ap (λ (q : ℕ × ℕ). q.0)
-    (same_Some (p, edge) (pivot, g) (sym has ∙ ap (λ (y : Entry). y.parent) same ∙ has_d)))
-below_parent xs pivot n p edge e up there is has (further m q g d in_d is_d has_d below) =
-    let same : e ≡ d = one_entry xs e d up there in_d (is ∙ sym is_d) in
-    let parents : q ≡ p =
-    ap (λ (r : ℕ × ℕ). r.0)
-    (same_Some (q, g) (p, edge) (sym has_d ∙ ap (λ (y : Entry). y.parent) (sym same) ∙ has)) in
-    inr (subst (λ (k : ℕ). IsBelow xs pivot k) parents below)
-
-pub climbs_more : (xs : List Entry) (ls : List Link) (pivot number at done depth : ℕ)
-    (above : ℕ × ℕ) → IsTree xs ls
-    → Climbs xs ls pivot number at done depth → depth_of pivot ls + done < depth
-    → ((e : Entry) → IsIn e xs → e.number ≡ at → e.parent ≡ Some above)
-    → Climbs xs ls pivot number above.0 (done + 1) depth
-climbs_more xs ls pivot number at done depth above tree so_far left is =
-    let live = so_far.live in
-    let has : live.entry.parent ≡ Some (above.0, above.1) = is live.entry live.is_in live.is in
-    let lower : depth_of at ls ≡ depth_of above.0 ls + 1 =
-    (tied_live xs ls at tree live).depth above.0 above.1 has in
-    let deep : depth_of at ls + done ≡ depth = so_far.deep in
-    record {
-      live = parent_live xs ls at above.0 above.1 tree live has;
-      deep = omega arith;
-      up = λ under. so_far.up (⊎_elim
-          (λ same. inr (child at above.1 live.entry live.is_in live.is
-          (has ∙ ap (λ (k : ℕ). Some (k, above.1)) same)))
-          (λ below. inr (further at above.0 above.1 live.entry live.is_in live.is has below))
-          under);
-      down = λ under. ⊎_elim
-          (λ same. absurd (let e : depth_of at ls ≡ depth_of pivot ls =
-          ap (λ (k : ℕ). depth_of k ls) same in omega arith))
-          (λ below. below_parent xs pivot at above.0 above.1 live.entry tree.ascend live.is_in
-          live.is has below)
-          (so_far.down under);
-    }
-
--- As deep as the pivot, the way up is at the pivot where it came from below it, and nowhere else.
-pub climbed : (xs : List Entry) (ls : List Link) (pivot number at done depth : ℕ) → IsTree xs ls
-    → Climbs xs ls pivot number at done depth → depth ≡ depth_of pivot ls + done
-    → depth ≡ depth_of number ls → 0 < done
-    → (at ≡ pivot → IsBelow xs pivot number) × (IsBelow xs pivot number → at ≡ pivot)
-climbed xs ls pivot number at done depth tree so_far here own moved = (
-  λ same. ⊎_elim
-      (λ is. absurd (let e : depth_of number ls ≡ depth_of pivot ls =
-      ap (λ (k : ℕ). depth_of k ls) is in omega arith))
-      (λ below. below) (so_far.up (inl same)),
-  λ below. ⊎_elim (λ same. same)
-      (λ lower. absurd (
-      let d : depth_of pivot ls < depth_of at ls = deeper xs ls pivot at tree lower in
-      let e : depth_of at ls + done ≡ depth = so_far.deep in omega arith))
-      (so_far.down (inr below)),
-)
 
 -- the depth that is read at the place of a number
 pub depth_read : (xs : List Entry) (ls : List Link) (p n r : ℕ) → IsTree xs ls

@@ -142,7 +142,7 @@ HaveKey places n key xs =
     (e : Entry) → IsIn e xs → e.number ≡ n → picked places e.elems ≡ key
 
 -- an entry less
-keyed_but : (places : List ℕ) (row key : List Elem) (n : ℕ) (xs : List Entry)
+pub keyed_but : (places : List ℕ) (row key : List Elem) (n : ℕ) (xs : List Entry)
     → HaveKey places n key xs
     → keyed places row (others n xs) ≡ dropped (same_row key row) n (keyed places row xs)
 keyed_but places row key n [] all =

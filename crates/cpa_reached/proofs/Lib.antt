@@ -10,3 +10,7 @@ pub mod Pruned
 pub mod Views
 pub mod Entering
 pub mod Keying
+pub mod Choosing
+pub mod Lowering
+pub mod Reopened
+pub mod Leaving

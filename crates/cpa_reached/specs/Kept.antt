@@ -1,6 +1,6 @@
 -- What a reached set keeps beside its entries, and what holds of it. Nothing here is promised to a
 -- caller.
-use Rattle.std.specs.Prelude.{◌≡◌, ℕ, ◌+◌, ◌≤◌, ◌^◌, ◌<◌, ◌==◌, Bool, true, not, ◌&&◌, List, []}
+use Rattle.std.specs.Prelude.{◌≡◌, ℕ, ◌+◌, ◌≤◌, ◌^◌, ◌<◌, ◌==◌, Bool, true, false, not, ◌&&◌, List, []}
 use Rattle.std.specs.Prelude.{◌∷◌, ◌++◌, map, Option, Some, None, if◌then◌else◌}
 use Rattle.std.specs.List.{AllByRecursion, filter, list_any}
 use Rattle.cpa_iface.specs.declared.entries.Entry.{Entry}
@@ -9,7 +9,7 @@ use Rattle.cpa_model.specs.Ascending.{AreAscending}
 use Rattle.cpa_reached.specs.Members.{IsIn, is_in}
 use Rattle.cpa_reached.specs.Entries.{numbers, waiting_numbers}
 use Rattle.cpa_reached.specs.Calls.{renamed}
-use Rattle.cpa_reached.specs.Removal.{left}
+use Rattle.cpa_reached.specs.Removal.{is_opened, left, opened}
 
 -- the item of this key becomes what f makes of it
 abbrev pub at_key : {X : Type 0} → (X → ℕ) → ℕ → (X → X) → List X → List X
@@ -81,6 +81,22 @@ pub record HasParent (xs : List Entry) (n : ℕ) : Type 0 where
   pub is : entry.number ≡ n
   pub parent : ℕ × ℕ
   pub has : entry.parent ≡ Some parent
+
+-- the parent is one of these
+abbrev pub parent_in : List ℕ → Option (ℕ × ℕ) → Bool
+parent_in ns None = false
+parent_in ns (Some p) = is_in p.0 ns
+
+abbrev pub has_parent_in : List ℕ → Entry → Bool
+has_parent_in ns e = parent_in ns e.parent
+
+-- it is kept, and waits again
+abbrev pub waits_again : List ℕ → ℕ → Entry → Bool
+waits_again gone pivot e = not (is_in e.number gone) && is_opened gone pivot e
+
+-- the entries of these numbers wait, and use nothing
+abbrev pub opened_among : List ℕ → Entry → Entry
+opened_among ns e = if is_in e.number ns then opened e else e
 
 -- it is kept, and waits afterwards
 abbrev pub waits_after : List ℕ → ℕ → Entry → Bool

@@ -4,7 +4,7 @@ use Rattle.std.specs.Prelude.{◌≡◌, ℕ, ◌<◌, Bool, true, false, ◌||�
 use Rattle.std.specs.Prelude.{List, [], ◌∷◌, ◌++◌, map, refl, ◌⊎◌}
 use Rattle.std.proofs.Common.{eqb, sym, ap, ◌∙◌, subst, inl, inr, ⊎_elim, arith}
 use Rattle.std.specs.List.{AllByRecursion, filter}
-use Rattle.std.proofs.lemmas.Bool.{eq-eqb, ne_eqb, eqb-true, or_cases, cond_both}
+use Rattle.std.proofs.lemmas.Bool.{cases_Bool, eq-eqb, ne_eqb, eqb-true, or_cases, cond_both}
 use Rattle.cpa_iface.specs.declared.entries.Entry.{Entry}
 use Rattle.cpa_model.specs.Ascending.{AreAscending}
 use Rattle.cpa_reached.specs.Members.{IsIn, is_in}
@@ -176,3 +176,35 @@ ascend_kept keep (x ∷ xs) up =
     cond_both (keep x) (x ∷ filter keep xs) (filter keep xs) (λ t. AreAscending (numbers t))
     (λ _. (all_kept (λ m. x.number < m) keep xs up.0, ascend_kept keep xs up.1))
     (λ _. ascend_kept keep xs up.1)
+
+-- a number is gathered exactly where its entry passes the test
+pub by_number : (t : Entry → Bool) (xs : List Entry) → AreAscending (numbers xs) → (e : Entry)
+    → IsIn e xs
+    → is_in e.number (numbers (filter t xs)) ≡ t e
+by_number t xs up e there =
+    ⊎_elim
+    (λ (yes : t e ≡ true). entry_in e (filter t xs) (filter_in t xs e there yes) ∙ sym yes)
+    (λ (other : t e ≡ false).
+    ⊎_elim
+    (λ (found : is_in e.number (numbers (filter t xs)) ≡ true).
+    let live = in_live (filter t xs) e.number found in
+    let was = in_filter t xs live.entry live.is_in in
+    let same = one_entry xs live.entry e up was.0 there live.is in
+    absurd (let wrong : t e ≡ true = subst (λ (y : Entry). t y ≡ true) same was.1 in
+    cc (wrong, other)))
+    (λ (none : is_in e.number (numbers (filter t xs)) ≡ false). none ∙ sym other)
+    (cases_Bool (is_in e.number (numbers (filter t xs)))))
+    (cases_Bool (t e))
+
+-- the entries that pass a test are there
+pub live_filtered : (t : Entry → Bool) (xs : List Entry)
+    → AllByRecursion (IsLive xs) (numbers (filter t xs))
+live_filtered t xs = each (filter t xs) (λ e there. (in_filter t xs e there).0)
+  where
+    each : (ys : List Entry) → ((e : Entry) → IsIn e ys → IsIn e xs)
+        → AllByRecursion (IsLive xs) (numbers ys)
+    each [] there = tt
+    each (y ∷ ys) there = (
+      record { entry = y; is_in = there y (inl refl); is = refl },
+      each ys (λ e in_e. there e (inr in_e)),
+    )

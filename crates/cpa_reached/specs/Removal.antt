@@ -35,3 +35,8 @@ pub record RemovesBelow (pivot : ℕ) (old new : List Entry) : Type 0 where
   pub all : (n : ℕ) → IsBelow old pivot n → is_in n gone ≡ true
   pub only : (n : ℕ) → is_in n gone ≡ true → IsBelow old pivot n
   pub is : new ≡ map (left gone pivot) (without gone old)
+
+-- the numbers of exactly the strict descendants of the pivot
+pub record AreBelow (pivot : ℕ) (xs : List Entry) (ns : List ℕ) : Type 0 where
+  pub all : (n : ℕ) → IsBelow xs pivot n → is_in n ns ≡ true
+  pub only : (n : ℕ) → is_in n ns ≡ true → IsBelow xs pivot n

@@ -3,13 +3,10 @@
 
 ghost use Rattle.std.specs.Prelude.{◌≡◌, List, [], ◌∷◌, ◌++◌, if◌then◌else◌, IfOk, OnOk, OnErr};
 ghost use Rattle.cpa_model.specs.declared.facts.Elem.{Elem as AnElem};
-ghost use Rattle.cpa_model.specs.Ascending.{AreAscending};
 ghost use Rattle.cpa_reached_key.specs.Rows.{same_row};
 ghost use Rattle.cpa_reached.specs.Indexes.{numbers_at, IsIndex};
-ghost use Rattle.cpa_reached.specs.Removal.{without};
 ghost use Rattle.cpa_reached.specs.Tables.{but};
 
-use crate::pruning::is_gone;
 use cpa_iface::Entry;
 use cpa_reached_key::{Key, key_of};
 use indexmap::IndexMap;
@@ -71,23 +68,18 @@ pub(crate) fn leave(index: &mut IndexMap<Key, Vec<u32>>, key: &Key, number: u32)
     }
 }
 
-/// A new table of what is left once the entries of these numbers are gone.
-pub(crate) fn index_left(
+/// A new table of these entries.
+pub(crate) fn index_of(
     alloc: Global,
     places: &[u32],
     entries: &[Entry],
-    gone: &[u32],
 ) -> Result<IndexMap<Key, Vec<u32>>, AllocError>
-    requires { AreAscending gone.now }
-    ensures { IfOk result (λ index.
-        IsIndex places.now (without gone.now entries.now) index.entries) }
+    ensures { IfOk result (λ index. IsIndex places.now entries.now index.entries) }
 {
     let mut index = IndexMap::new(alloc);
     for entry in entries {
-        if !is_gone(gone, entry.number) {
-            let key = key_of(alloc, places, entry.elems.as_slice())?;
-            enter(&mut index, alloc, key, entry.number)?;
-        }
+        let key = key_of(alloc, places, entry.elems.as_slice())?;
+        enter(&mut index, alloc, key, entry.number)?;
     }
     Ok(index)
 }

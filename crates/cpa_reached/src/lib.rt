@@ -5,7 +5,9 @@
 mod finding;
 mod index;
 mod laws;
+mod levels;
 mod links;
+mod opening;
 mod pruning;
 mod reached;
 mod renaming;
@@ -14,6 +16,5 @@ mod tracing;
 
 pub use cpa_reached_key::Key;
 pub use laws::calls_keep_cover;
-pub use pruning::is_gone as is_among;
 pub use reached::Reached;
 pub use table::NUMBERS;

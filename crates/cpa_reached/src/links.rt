@@ -1,10 +1,12 @@
 //! What is kept of each entry beside it: how deep it lies, and who names it. `specs/Kept.antt` says
 //! what holds of it.
 
-ghost use Rattle.std.specs.Prelude.{◌≡◌, ℕ, ◌<◌, Some, length, slice_get, vec_capacity, vec_len};
+ghost use Rattle.std.specs.Prelude.{◌≡◌, ℕ, ◌<◌, true, Some, length, slice_get, vec_capacity, vec_len};
 ghost use Rattle.std.specs.Prelude.{OnOk, OnErr};
 ghost use Rattle.cpa_model.specs.Ascending.{AreAscending};
 ghost use Rattle.cpa_reached.specs.Kept.{at_link, lists, link_numbers, depth_of};
+ghost use Rattle.cpa_reached.specs.Kept.{is_named_by};
+ghost use Rattle.cpa_reached.specs.Members.{is_in};
 
 use cpa_ints::Seq;
 use std::alloc::AllocError;
@@ -41,4 +43,14 @@ pub(crate) fn depth_at(links: &[Link], place: usize) -> u32
         → result ≡ depth_of n links.now }
 {
     links[place].depth
+}
+
+/// The numbers of those that are listed as naming the entry at this place.
+pub(crate) fn namers_at(links: &[Link], place: usize) -> &[u32]
+    requires ascend { AreAscending (link_numbers links.now) }
+    requires within { place < length links.now }
+    ensures { (n m : ℕ) → slice_get (link_numbers links.now) place ≡ Some n
+        → is_named_by links.now n m ≡ true → is_in m result.now ≡ true }
+{
+    links[place].namers.as_slice()
 }

@@ -1,12 +1,13 @@
 //! The reached set: its calls, each of which does exactly what a definition of `specs/` says. What
 //! is kept beside the entries stands in `specs/Kept.antt`, and in no contract here.
 
-ghost use Rattle.std.specs.Prelude.{◌≡◌, [], IfOk, OnOk, OnErr, IfSome, IfNone};
-ghost use Rattle.cpa_reached.specs.Entries.{IsLive, IsNext, IsNumbered, waiting_numbers};
+ghost use Rattle.std.specs.Prelude.{◌≡◌, ℕ, [], List, IfOk, OnOk, OnErr, IfSome, IfNone};
+ghost use Rattle.std.specs.List.{filter};
+ghost use Rattle.cpa_reached.specs.Entries.{IsLive, IsNext, IsNumbered, numbers, waiting_numbers};
 ghost use Rattle.cpa_reached.specs.Members.{IsIn};
 ghost use Rattle.cpa_reached.specs.Calls.{begun, taken, added, replaced, used, refined, closed};
 ghost use Rattle.cpa_reached.specs.Calls.{restarted, indexed};
-ghost use Rattle.cpa_reached.specs.Removal.{RemovesBelow};
+ghost use Rattle.cpa_reached.specs.Removal.{AreBelow, RemovesBelow, is_opened, without};
 ghost use Rattle.cpa_reached.specs.Keyed.{keyed};
 ghost use Rattle.cpa_reached.specs.Paths.{IsPathTo};
 ghost use Rattle.cpa_reached_key.specs.Rows.{picked};
@@ -111,10 +112,14 @@ impl Reached {
     }
 
     /// What lies strictly below the pivot goes. The pivot, and each entry that used what goes,
-    /// waits and uses nothing.
-    pub fn remove_below(&mut self, pivot: u32) -> Result<(), AllocError>
+    /// waits and uses nothing; their numbers are given, ascending.
+    pub fn remove_below(&mut self, pivot: u32) -> Result<Vec<u32>, AllocError>
         requires { IsLive self.old.live pivot }
         ensures live { OnOk result (RemovesBelow pivot self.old.live self.new.live) }
+        ensures opened { (gone : List ℕ) → AreBelow pivot self.old.live gone
+            → IfOk result (λ opened. opened.items ≡ numbers (filter (is_opened gone pivot)
+            (without gone self.old.live))) }
+        ensures numbered { IsNumbered self.old }
         ensures journal { self.new.journal ≡ self.old.journal }
         ensures next { self.new.next ≡ self.old.next }
         ensures places { self.new.places ≡ self.old.places }

@@ -17,7 +17,7 @@ ghost use Rattle.cpa_reached.specs.Kept.{is_named_by};
 ghost use Rattle.cpa_reached.specs.Tables.{IsKeptTable, IsIndexedTable, but};
 
 use crate::finding::{entry, gain, lose, parent_of, place, put_precisions, rest};
-use crate::index::{enter, index_left, leave};
+use crate::index::{enter, index_of, leave};
 use crate::links::{Link, depth_at, name_at};
 use crate::renaming::{rename_among, renumber, succeed};
 use cpa_iface::{Entry, Order, Precision};
@@ -115,7 +115,7 @@ pub(crate) fn begin(
     })?;
     let mut waiting = VecDeque::new(alloc);
     waiting.push_back(0)?;
-    let index = index_left(alloc, &[], &entries, &[])?;
+    let index = index_of(alloc, &[], &entries)?;
     Ok(Table {
         entries,
         links,
@@ -392,7 +392,7 @@ pub(crate) fn index_by(table: &mut Table, places: &[u32]) -> Result<(), AllocErr
     ensures err { OnErr result (table.new.places ≡ table.old.places) }
 {
     let kept = places.to_vec(table.alloc)?;
-    let index = index_left(table.alloc, places, &table.entries, &[])?;
+    let index = index_of(table.alloc, places, &table.entries)?;
     table.places = Seq::from_vec(kept);
     table.index = index;
     Ok(())

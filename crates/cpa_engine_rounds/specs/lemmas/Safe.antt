@@ -2,7 +2,7 @@
 use Rattle.std.proofs.Common.{◌≡◌, ℕ, zero, suc, Bool, true, false, not, List, [], ◌∷◌, Some, refl}
 use Rattle.std.proofs.Common.{sym}
 use Rattle.std.proofs.Common.{ap, ◌∙◌, subst, inl, inr, ⊎_elim, slice_get}
-use Rattle.std.specs.Prelude.{◌⊎◌, ◌||◌, IsTrue, ◌↔◌}
+use Rattle.std.specs.Prelude.{◌||◌, IsTrue, ◌↔◌}
 use Rattle.std.specs.List.{AllByRecursion, Contains, list_any}
 use Rattle.std.proofs.lemmas.Bool.{cases_Bool, or_cases}
 use Rattle.std.proofs.lemmas.Option.{same_Some}
@@ -11,7 +11,7 @@ use Rattle.cpa_model.specs.declared.facts.Fact.{Fact}
 use Rattle.cpa_model.specs.declared.facts.Fact.TheVariants.{At, Stack, Equals, Within, Truth}
 use Rattle.cpa_model.specs.declared.facts.Elem.{Elem}
 use Rattle.cpa_model.specs.declared.states.State.{State}
-use Rattle.cpa_model.specs.Facts.{FactHolds, Holds, LiesIn}
+use Rattle.cpa_model.specs.Facts.{FactHolds, LiesIn}
 use Rattle.cpa_model.specs.lemmas.Lists.{in_list, place_of}
 use Rattle.cpa_iface.specs.Pins.{pin}
 use Rattle.cpa_reached.specs.Members.{IsIn, is_in}

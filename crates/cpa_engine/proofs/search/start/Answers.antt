@@ -28,10 +28,10 @@ returns-clause-search g c =
     ∙ (ap (λ (r : ReachedSet). indexed r c.deref-2.result.now) c.in_ok-reached.ensures
     ∙ ap (λ (ns : List ℕ). indexed (begun es ps) ns) places) in
     subst (λ (h : List Refined). IsSearch cfa cs config
-    (refined_search c.index_by.new.self c.from_vec.result h)) (sym c.new-2.ensures)
+    (refined_search 0 c.index_by.new.self c.from_vec.result h)) (sym c.new-2.ensures)
     (subst (λ (qs : List Precision). IsSearch cfa cs config
-    (refined_search c.index_by.new.self qs [])) (sym newest)
-    (subst (λ (r : ReachedSet). IsSearch cfa cs config (refined_search r ps []))
+    (refined_search 0 c.index_by.new.self qs [])) (sym newest)
+    (subst (λ (r : ReachedSet). IsSearch cfa cs config (refined_search 0 r ps []))
     (sym begins)
     (first_search cfa cs config (indexed (begun es ps) (key_places cs)) es ps row refl
     (c.searches_begin.ensures.stands cfa cs config.settings es ps c.requires row)

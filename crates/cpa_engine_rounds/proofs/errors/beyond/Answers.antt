@@ -1,4 +1,4 @@
-use Rattle.std.proofs.Common.{◌≡◌, ◌≤◌, ◌+◌, ◌-◌, ◌<◌, ◌∙◌, sym, length, arith, false}
+use Rattle.std.proofs.Common.{◌-◌, ◌∙◌, sym, length, arith}
 use Rattle.std.specs.Prelude.{slice_index_or}
 use Rattle.cpa_engine_rounds.proofs.Finding.{below_last, item_in, last_place}
 use Rattle.cpa_engine_rounds.proofs.errors.beyond.Goals as goal

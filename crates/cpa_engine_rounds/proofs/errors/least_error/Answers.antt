@@ -1,4 +1,4 @@
-use Rattle.std.proofs.Common.{◌≡◌, List, false, ap, ◌∙◌, sym, ◌<◌, arith, drop}
+use Rattle.std.proofs.Common.{List, ap, ◌∙◌, sym, arith}
 use Rattle.std.specs.Prelude.{slice_index_or}
 use Rattle.cpa_iface.specs.declared.entries.Entry.{Entry}
 use Rattle.cpa_engine_rounds.specs.Errors.{first_error}

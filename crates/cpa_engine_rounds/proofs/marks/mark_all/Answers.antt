@@ -1,4 +1,4 @@
-use Rattle.std.proofs.Common.{◌≡◌, ◌∙◌, ◌||◌, ◌&&◌, eqb, get_or, ap, refl, length}
+use Rattle.std.proofs.Common.{◌∙◌, ◌||◌, ◌&&◌, eqb, get_or, ap, refl, length}
 use Rattle.std.specs.Prelude.{nat_lt}
 use Rattle.cpa_query.specs.Queries.{is_marked}
 use Rattle.cpa_engine_rounds.proofs.MarkLemmas.{one_more}

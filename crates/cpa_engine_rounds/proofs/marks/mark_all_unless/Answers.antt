@@ -1,4 +1,4 @@
-use Rattle.std.proofs.Common.{◌≡◌, ◌∙◌, ◌||◌, ◌&&◌, not, eqb, get_or, ap, refl, length, take, arith}
+use Rattle.std.proofs.Common.{◌∙◌, ◌||◌, ◌&&◌, not, eqb, get_or, ap, refl, length}
 use Rattle.std.specs.Prelude.{nat_lt}
 use Rattle.std.specs.List.{list_any}
 use Rattle.cpa_query.specs.Queries.{is_marked}

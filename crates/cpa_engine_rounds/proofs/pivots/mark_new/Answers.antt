@@ -1,5 +1,5 @@
-use Rattle.std.proofs.Common.{◌≡◌, ◌∙◌, ◌||◌, ◌&&◌, ℕ, ap, sym, length, take, min, ◌≤◌, refl}
-use Rattle.std.proofs.Common.{subst, arith}
+use Rattle.std.proofs.Common.{◌∙◌, ◌||◌, ◌&&◌, ℕ, ap, sym, length, take, ◌≤◌}
+use Rattle.std.proofs.Common.{subst}
 use Rattle.std.specs.Prelude.{nat_lt}
 use Rattle.cpa_query.specs.Queries.{is_marked}
 use Rattle.cpa_engine_rounds.specs.Pivots.{is_new, keeps_newly}

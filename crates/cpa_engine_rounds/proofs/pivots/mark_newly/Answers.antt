@@ -1,4 +1,4 @@
-use Rattle.std.proofs.Common.{ℕ, Bool, List, ◌∙◌, ◌||◌, ◌&&◌, not, ap, sym, length, drop}
+use Rattle.std.proofs.Common.{ℕ, Bool, List, ◌∙◌, ◌||◌, ◌&&◌, not, ap, length, drop}
 use Rattle.std.specs.Prelude.{nat_lt}
 use Rattle.std.specs.List.{list_any}
 use Rattle.cpa_expr.specs.declared.tree.Expr.{Expr}

@@ -1,8 +1,8 @@
-use Rattle.std.proofs.Common.{◌≡◌, ◌∙◌, ◌||◌, ◌&&◌, ap, length}
+use Rattle.std.proofs.Common.{◌∙◌, ◌||◌, ◌&&◌, ap, length}
 use Rattle.std.specs.Prelude.{nat_lt}
 use Rattle.cpa_expr.specs.Cells.{may_read}
 use Rattle.cpa_query.specs.Queries.{is_marked}
-use Rattle.cpa_engine_rounds.proofs.MarkLemmas.{one_more, none_more}
+use Rattle.cpa_engine_rounds.proofs.MarkLemmas.{one_more}
 use Rattle.cpa_engine_rounds.proofs.pivots.mark_preds.Goals as goal
 
 pub loop-pred-preserved : goal.loop-pred-preserved

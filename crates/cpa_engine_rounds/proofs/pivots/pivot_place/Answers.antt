@@ -1,4 +1,4 @@
-use Rattle.std.proofs.Common.{◌≡◌, ◌∙◌, ◌&&◌, ◌||◌, not, ℕ, Bool, List, ap, sym, length, cond}
+use Rattle.std.proofs.Common.{◌∙◌, ◌&&◌, ◌||◌, not, ℕ, Bool, List, ap, sym, length}
 use Rattle.std.specs.Prelude.{nat_lt}
 use Rattle.std.specs.List.{list_all, range_with_len}
 use Rattle.cpa_query.specs.Queries.{is_marked}

@@ -1,8 +1,4 @@
-use Rattle.std.proofs.Common.{◌≡◌, ◌∙◌, sym, refl, true, false, subst}
-use Rattle.std.specs.Bool.{IsTrue}
-use Rattle.cpa_iface.specs.declared.entries.Entry.{Entry}
-use Rattle.cpa_iface.specs.declared.precisions.Precision.{Precision}
-use Rattle.cpa_engine_rounds.specs.Precisions.{HaveAll}
+use Rattle.std.proofs.Common.{◌∙◌, sym, refl}
 use Rattle.cpa_engine_rounds.proofs.Finding.{item_of, all_have, one_more_has}
 use Rattle.cpa_engine_rounds.proofs.precisions.some_other.Goals as goal
 

@@ -1,12 +1,22 @@
 use Rattle.std.proofs.Common.{arith}
-use Rattle.std.proofs.lemmas.List.Edits.{map_over_more}
-use Rattle.cpa_reached.specs.Removal.{left}
+use Rattle.cpa_reached.proofs.Leaving.{leaves_all, leaves_more, leaves_none}
 use Rattle.cpa_reached.proofs.pruning.leave_all.Goals as goal
 
+pub loop-place-init : goal.loop-place-init
+loop-place-init c = λ places xs index keys.
+    leaves_none places xs c.args.index.now.entries index
+
 pub loop-place-preserved : goal.loop-place-preserved
-loop-place-preserved c =
-    rw c.leave.ensures
-    (map_over_more (left c.args.gone.now c.args.pivot) c.args.entries.now.items
-    c.loop-place.entries.items c.loop-place.place c.index_mut.result.now
-    (omega (arith, c.loop-place-test.true, c.len-place-end.ensures, c.args.entries.now.ok.0))
-    c.loop-place.invariant c.index_mut.ensures.value)
+loop-place-preserved c = λ places xs index keys.
+    let l = c.loop-place in
+    leaves_more places xs c.args.gone.now c.args.keys.now l.place c.index-keys-place.result
+    l.index.entries c.leave.new.index.entries
+    c.loop-place-test.true c.index-keys-place.is
+    (λ row. c.leave.ensures row) keys (l.invariant places xs index keys)
+
+pub returns : goal.returns
+returns c = λ places xs index keys.
+    let l = c.loop-place in
+    leaves_all places xs c.args.gone.now l.place l.index.entries
+    (omega (arith, c.loop-place-test.false))
+    (l.invariant places xs index keys)
