@@ -33,6 +33,16 @@ fn line_of(alloc: Global, job: Job<'_>) -> Result<String, AllocError> {
             inputs,
             steps,
         } => format!(in alloc; "replay \"{program}\" on \"{inputs}\" in {steps}"),
+        Job::Recheck {
+            program,
+            report,
+            config: None,
+        } => format!(in alloc; "recheck \"{program}\" with \"{report}\""),
+        Job::Recheck {
+            program,
+            report,
+            config: Some(config),
+        } => format!(in alloc; "recheck \"{program}\" with \"{report}\" by \"{config}\""),
         Job::Bench { count } => format!(in alloc; "bench {count}"),
     }
 }

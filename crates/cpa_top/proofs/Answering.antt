@@ -1,5 +1,5 @@
 -- From what a job comes to, to what the call may answer.
-use Rattle.std.proofs.Common.{◌≡◌, List, refl, inl, inr, ⊎_elim}
+use Rattle.std.proofs.Common.{refl, inl, inr, ⊎_elim}
 use Rattle.std.specs.Prelude.{Result, Err}
 use Rattle.cpa_top_words.specs.Jobs.{Job, Asks, IsNoJob}
 use Rattle.cpa_top.specs.declared.answers.Conclusion.{Conclusion}

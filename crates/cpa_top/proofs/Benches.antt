@@ -29,6 +29,7 @@ module _ (files : Files) (steady : NoReadFailed files) where
   lacks_at names (refusal.NoProgram line) is = absurd is
   lacks_at names (refusal.NoConfig line) is = absurd is
   lacks_at names refusal.NoInputs is = absurd is
+  lacks_at names (refusal.NoReport rule) is = absurd is
 
   -- the text stands for no program
   composed_at : (functions : ℕ) (r : Refusal) → IsTextRefused (bench_text functions) r
@@ -43,6 +44,7 @@ module _ (files : Files) (steady : NoReadFailed files) where
   composed_at functions (refusal.NoConfig line) is = absurd is
   composed_at functions refusal.LacksAnalysis is = absurd is
   composed_at functions refusal.NoInputs is = absurd is
+  composed_at functions (refusal.NoReport rule) is = absurd is
 
   module _ (analyses : List Meaning) (functions : ℕ) (names : List (List ℕ))
       (same : names ≡ names_of analyses) where

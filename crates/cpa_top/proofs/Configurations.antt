@@ -35,6 +35,7 @@ config_refused_at files names file bytes (refusal.ReadFailed which) same steady 
 config_refused_at files names file bytes (refusal.TooLong which) same steady is = absurd is
 config_refused_at files names file bytes (refusal.NoProgram line) same steady is = absurd is
 config_refused_at files names file bytes refusal.NoInputs same steady is = absurd is
+config_refused_at files names file bytes (refusal.NoReport rule) same steady is = absurd is
 
 -- those of a named file
 pub config_refused : (files : Files) (names : List (List ℕ)) (file bytes : List ℕ) (r : Refusal)
@@ -66,7 +67,7 @@ config_passes files names None config is = (
   tt,
 )
 config_passes files names (Some file) config is = (
-  taken_read files role.Config file (λ b. Configures b names config) is,
+  taken_read files role.Config file (λ b. Configures b names config) refl is,
   (
     told_weaker (files.bytes_of file) (λ b. (length b ≤ MAX_TEXT) × Configures b names config)
         (HasConfig names) (λ b h. (config, h.1)) is,

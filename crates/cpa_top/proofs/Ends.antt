@@ -1,16 +1,15 @@
 -- From what is concluded of a program to what the job comes to.
-use Rattle.std.proofs.Common.{◌≡◌, ℕ, ℤ, List, [], ◌∷◌, ◌++◌, length, map, sym, ap, ◌∙◌}
-use Rattle.std.proofs.Common.{subst, inl, inr}
+use Rattle.std.proofs.Common.{◌≡◌, ℕ, ℤ, List, length, map, sym, ap, ◌∙◌}
+use Rattle.std.proofs.Common.{subst, inr}
 use Rattle.std.proofs.lemmas.List.{length-map}
 use Rattle.std.specs.Prelude.{Option, Ok, Err}
-use Rattle.std.specs.List.{AllByRecursion}
 use Rattle.c_program.specs.Programs.{IsTheProgram}
 use Rattle.cpa_config.specs.declared.config.Config.{Config}
 use Rattle.cpa_config.specs.Configurations.{Configures}
 use Rattle.cpa_iface.specs.Meanings.{Meaning}
 use Rattle.cpa_model.specs.declared.program.Program.{Program}
 use Rattle.cpa_top_inputs.specs.Inputs.{IsInputs}
-use Rattle.cpa_top_words.specs.Jobs.{Job, verify, replay}
+use Rattle.cpa_top_words.specs.Jobs.{verify, replay}
 use Rattle.cpa_top.specs.declared.answers.Conclusion.{Conclusion}
 use Rattle.cpa_top.specs.declared.refusal.Refusal.{Refusal}
 use Rattle.cpa_top.specs.Answers.{IsVerified, IsReplayed, config_bytes}
@@ -95,7 +94,7 @@ module _ (files : Files) (analyses : List Meaning) where
       (halts_in_front files (config_stages (names_of analyses) file) (program_stages name) r
       (subst (λ (ns : List (List ℕ)). IsHalted files (config_stages ns file) r) same halted))
 
-  configured : (file : Option (List ℕ)) (names : List (List ℕ)) (config : Config)
+  pub configured : (file : Option (List ℕ)) (names : List (List ℕ)) (config : Config)
       → names ≡ names_of analyses
       → IsTaken (config_bytes files.bytes_of file) (λ b. Configures b names config)
       → IsTaken (config_bytes files.bytes_of file) (λ b. Configures b (names_of analyses) config)

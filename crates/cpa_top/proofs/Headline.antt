@@ -1,5 +1,5 @@
 -- The headline: what a call that is asked to verify has written where it answers 0, 1 or 2.
-use Rattle.std.proofs.Common.{◌≡◌, ℕ, ◌≤◌, List, length, map, refl, sym, ap, ◌∙◌, subst, ⊎_elim}
+use Rattle.std.proofs.Common.{◌≡◌, ℕ, ◌≤◌, List, length, refl, sym, ap, ◌∙◌, subst, ⊎_elim}
 use Rattle.std.proofs.Common.{arith}
 use Rattle.std.proofs.lemmas.List.{length-map}
 use Rattle.std.specs.Prelude.{Option}
@@ -21,15 +21,15 @@ use Rattle.cpa_report_print.specs.Reports.{report_text, verdict_of}
 use Rattle.cpa_top_verdict.specs.declared.reporting.Told.{Told}
 use Rattle.cpa_top_verdict.specs.Reports.{IsSafeReport, IsErrorReport, IsTextOf}
 use Rattle.cpa_top_verdict.specs.Verdicts.{IsTold, body_of, body_of_why, report_of}
-use Rattle.cpa_top_words.specs.Jobs.{Job, verify, replay, Asks}
+use Rattle.cpa_top_words.specs.Jobs.{Job, verify, Asks}
 use Rattle.cpa_top.specs.declared.status.Status.{Status}
 use Rattle.cpa_top.specs.declared.status.Status.TheVariants as status
 use Rattle.cpa_top.specs.Answers.{MayAnswer, DoesJob, Stops, Ends, Refuses, Concludes, IsWritten}
 use Rattle.cpa_top.specs.Answers.{IsShortOfMemory, IsUsage, IsVerified, config_bytes}
 use Rattle.cpa_top.specs.Answers.{IsSafeText, IsCalledText, IsUnknownText}
 use Rattle.cpa_top.specs.Calls.{Call, Files, Output, HoldsOf}
-use Rattle.cpa_top.specs.Jobs.{Stage, reading, parsing, listing, configuring, picking, composing}
-use Rattle.cpa_top.specs.Jobs.{stages_of, names_of}
+use Rattle.cpa_top.specs.Jobs.{Stage, reading, parsing, listing, matching, configuring, picking}
+use Rattle.cpa_top.specs.Jobs.{composing, stages_of, names_of}
 use Rattle.cpa_top.specs.Refusals.{IsDelivered}
 use Rattle.cpa_top.specs.Statuses.{code_of, verdict_status}
 
@@ -175,18 +175,21 @@ refused_number : (files : Files) (with : Status) (line : List ℕ) (stage : Stag
 refused_number files status.Holds line (reading which name) h few = h
 refused_number files status.Holds line (parsing name) h few = h
 refused_number files status.Holds line (listing name) h few = h
+refused_number files status.Holds line (matching name report) h few = h
 refused_number files status.Holds line (configuring names file) h few = h
 refused_number files status.Holds line (picking names) h few = h
 refused_number files status.Holds line (composing functions) h few = h
 refused_number files status.Fails line (reading which name) h few = h
 refused_number files status.Fails line (parsing name) h few = h
 refused_number files status.Fails line (listing name) h few = h
+refused_number files status.Fails line (matching name report) h few = h
 refused_number files status.Fails line (configuring names file) h few = h
 refused_number files status.Fails line (picking names) h few = h
 refused_number files status.Fails line (composing functions) h few = h
 refused_number files status.Unknown line (reading which name) h few = h
 refused_number files status.Unknown line (parsing name) h few = h
 refused_number files status.Unknown line (listing name) h few = h
+refused_number files status.Unknown line (matching name report) h few = h
 refused_number files status.Unknown line (configuring names file) h few = h
 refused_number files status.Unknown line (picking names) h few = h
 refused_number files status.Unknown line (composing functions) h few = h
@@ -196,6 +199,7 @@ refused_number files status.TooLong line stage h few = absurd (omega (arith, few
 refused_number files status.NoProgram line stage h few = absurd (omega (arith, few))
 refused_number files status.NoConfig line stage h few = absurd (omega (arith, few))
 refused_number files status.NoInputs line stage h few = absurd (omega (arith, few))
+refused_number files status.NoReport line stage h few = absurd (omega (arith, few))
 refused_number files status.WriteFailed line stage h few = absurd (omega (arith, few))
 refused_number files status.OutOfMemory line stage h few = absurd (omega (arith, few))
 

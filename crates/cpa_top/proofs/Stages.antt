@@ -22,6 +22,14 @@ moved told was counts before after stages r same steady is =
     subst (λ (x : List ℕ → Option (List ℕ)). IsHalted (files_of x before after) stages r) same
     (subst (λ (x : List ℕ → ℕ). IsHalted (files_of told x after) stages r) steady is)
 
+pub moved_at : (told was : List ℕ → Option (List ℕ)) (counts before after : List ℕ → ℕ)
+    (stage : Stage) (r : Refusal) → told ≡ was → counts ≡ before
+    → IsRefusedAt (files_of told counts after) stage r
+    → IsRefusedAt (files_of was before after) stage r
+moved_at told was counts before after stage r same steady is =
+    subst (λ (x : List ℕ → Option (List ℕ)). IsRefusedAt (files_of x before after) stage r) same
+    (subst (λ (x : List ℕ → ℕ). IsRefusedAt (files_of told x after) stage r) steady is)
+
 -- stages pass one after another
 pub all_pass : (files : Files) (front back : List Stage) → AllByRecursion (Passes files) front
     → AllByRecursion (Passes files) back → AllByRecursion (Passes files) (front ++ back)

@@ -15,6 +15,7 @@ use Rattle.cpa_top.specs.declared.role.Role.TheVariants as role
 use Rattle.cpa_top.specs.Answers.{Passes, HasProgram, HasInputs, IsFaultLine, NoInputs}
 use Rattle.cpa_top.specs.Calls.{Files, NoReadFailed, HoldsOf}
 use Rattle.cpa_top.specs.Jobs.{Stage, reading, parsing, listing, program_stages, inputs_stages}
+use Rattle.cpa_top.specs.Jobs.{limit_of}
 use Rattle.cpa_top.specs.Refusals.{IsRefusedAt, IsHalted, IsTaken, IsTextRefused, IsListRefused}
 use Rattle.cpa_top.proofs.Stages.{halts}
 
@@ -40,10 +41,11 @@ pub out_of_memory : (files : Files) (stage : Stage) → NoReadFailed files
 out_of_memory files stage steady = record { why = inl refl; reads = λ n. steady }
 
 -- few enough bytes were read
-pub was_read : (files : Files) (which : Role) (name bytes : List ℕ) → length bytes ≤ MAX_TEXT
+pub was_read : (files : Files) (which : Role) (name bytes : List ℕ)
+    → length bytes ≤ limit_of which
     → IfSome (files.bytes_of name) (λ t. bytes ≡ t) → Passes files (reading which name)
 was_read files which name bytes short same =
-    as_told (files.bytes_of name) bytes (λ b. length b ≤ MAX_TEXT) short same
+    as_told (files.bytes_of name) bytes (λ b. length b ≤ limit_of which) short same
 
 -- the bytes of a program are refused
 program_refused_at : (files : Files) (name bytes : List ℕ) (r : Refusal)
@@ -61,6 +63,7 @@ program_refused_at files name bytes (refusal.ReadFailed which) same steady is = 
 program_refused_at files name bytes (refusal.TooLong which) same steady is = absurd is
 program_refused_at files name bytes (refusal.NoConfig line) same steady is = absurd is
 program_refused_at files name bytes refusal.NoInputs same steady is = absurd is
+program_refused_at files name bytes (refusal.NoReport rule) same steady is = absurd is
 
 pub program_refused : (files : Files) (name bytes : List ℕ) (r : Refusal)
     → length bytes ≤ MAX_TEXT → IfSome (files.bytes_of name) (λ t. bytes ≡ t)
@@ -86,6 +89,7 @@ inputs_refused_at files name bytes (refusal.ReadFailed which) same steady is = a
 inputs_refused_at files name bytes (refusal.TooLong which) same steady is = absurd is
 inputs_refused_at files name bytes (refusal.NoProgram line) same steady is = absurd is
 inputs_refused_at files name bytes (refusal.NoConfig line) same steady is = absurd is
+inputs_refused_at files name bytes (refusal.NoReport rule) same steady is = absurd is
 
 pub inputs_refused : (files : Files) (name bytes : List ℕ) (r : Refusal)
     → length bytes ≤ MAX_TEXT → IfSome (files.bytes_of name) (λ t. bytes ≡ t)
@@ -109,16 +113,17 @@ taken told bytes Has short same has =
 
 -- a file that was taken passes both of its stages
 pub taken_read : (files : Files) (which : Role) (name : List ℕ) (Has : List ℕ → Type 0)
-    → IsTaken (files.bytes_of name) Has → Passes files (reading which name)
-taken_read files which name Has is =
+    → MAX_TEXT ≡ limit_of which → IsTaken (files.bytes_of name) Has
+    → Passes files (reading which name)
+taken_read files which name Has limit is =
     told_weaker (files.bytes_of name) (λ b. (length b ≤ MAX_TEXT) × Has b)
-    (λ b. length b ≤ MAX_TEXT) (λ b h. h.0) is
+    (λ b. length b ≤ limit_of which) (λ b h. subst (λ (n : ℕ). length b ≤ n) limit h.0) is
 
 pub program_passes : (files : Files) (name : List ℕ) (P : Program)
     → IsTaken (files.bytes_of name) (λ b. IsTheProgram b P)
     → AllByRecursion (Passes files) (program_stages name)
 program_passes files name P is = (
-  taken_read files role.Program name (λ b. IsTheProgram b P) is,
+  taken_read files role.Program name (λ b. IsTheProgram b P) refl is,
   (
     told_weaker (files.bytes_of name) (λ b. (length b ≤ MAX_TEXT) × IsTheProgram b P) HasProgram
         (λ b h. (P, h.1.is)) is,
@@ -130,7 +135,7 @@ pub inputs_pass : (files : Files) (name : List ℕ) (numbers : List ℤ)
     → IsTaken (files.bytes_of name) (λ b. IsInputs b numbers)
     → AllByRecursion (Passes files) (inputs_stages name)
 inputs_pass files name numbers is = (
-  taken_read files role.Inputs name (λ b. IsInputs b numbers) is,
+  taken_read files role.Inputs name (λ b. IsInputs b numbers) refl is,
   (
     told_weaker (files.bytes_of name) (λ b. (length b ≤ MAX_TEXT) × IsInputs b numbers) HasInputs
         (λ b h. (numbers, h.1)) is,

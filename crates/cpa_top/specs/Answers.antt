@@ -1,8 +1,7 @@
 -- What a call of the program may answer, and why (this project's own).
-use Rattle.std.specs.Prelude.{◌≡◌, ◌≢◌, ◌⊎◌, ℕ, ◌<◌, ◌≤◌, ℤ, List, [], ◌∷◌, ◌++◌, length, map}
+use Rattle.std.specs.Prelude.{◌≡◌, ◌≢◌, ◌⊎◌, ℕ, ◌<◌, ◌≤◌, ℤ, List, [], ◌∷◌, ◌++◌, length}
 use Rattle.std.specs.Prelude.{Option, Some, None, IfSome}
 use Rattle.std.specs.List.{AllByRecursion}
-use Rattle.c_lexer.specs.declared.lexer.TheConstants.{MAX_TEXT}
 use Rattle.c_lexer.specs.declared.fault.TextFault.{TextFault}
 use Rattle.cpa_model.specs.declared.program.Program.{Program}
 use Rattle.cpa_model.specs.declared.automaton.Cfa.{Cfa}
@@ -28,19 +27,24 @@ use Rattle.cpa_top_bench.specs.Configurations.{IsBenchConfig, LacksOne}
 use Rattle.cpa_top_bench.specs.Measurements.{IsMeasured, bench_line}
 use Rattle.cpa_top_bench.specs.Texts.{bench_text}
 use Rattle.cpa_top_inputs.specs.Inputs.{IsInputs}
+use Rattle.cpa_report.specs.declared.fault.ReportRule.{ReportRule}
+use Rattle.cpa_top_recheck.specs.declared.finding.Rechecked.{Rechecked}
+use Rattle.cpa_top_recheck.specs.Findings.{IsConfirmation, IsRefutation, IsUndecided}
+use Rattle.cpa_top_recheck.specs.Lines.{report_line}
+use Rattle.cpa_top_recheck.specs.Rechecks.{HasReport, BreaksFor, IsRechecked}
 use Rattle.cpa_top_verdict.specs.declared.reporting.Told.{Told}
 use Rattle.cpa_top_verdict.specs.Reports.{IsSafeReport, IsErrorReport, IsTextOf}
 use Rattle.cpa_top_verdict.specs.Verdicts.{IsTold, report_of}
-use Rattle.cpa_top_words.specs.Jobs.{Job, verify, replay, bench, Asks, IsNoJob}
+use Rattle.cpa_top_words.specs.Jobs.{Job, verify, replay, recheck, bench, Asks, IsNoJob}
 use Rattle.cpa_top.specs.declared.status.Status.{Status}
 use Rattle.cpa_top.specs.declared.status.Status.TheVariants as status
 use Rattle.cpa_top.specs.Calls.{Call, Files, Output, NoReadFailed, IsWhole, IsCutOff}
 use Rattle.cpa_top.specs.Calls.{HoldsOf}
-use Rattle.cpa_top.specs.Jobs.{Stage, reading, parsing, listing, configuring, picking, composing}
-use Rattle.cpa_top.specs.Jobs.{stages_of, names_of}
+use Rattle.cpa_top.specs.Jobs.{Stage, reading, parsing, listing, matching, configuring, picking}
+use Rattle.cpa_top.specs.Jobs.{composing, limit_of, stages_of, names_of}
 use Rattle.cpa_top.specs.Lines.{fault_line, config_line, read_line, long_line, inputs_line}
 use Rattle.cpa_top.specs.Lines.{lacking_line, memory_line, usage_text, outcome_line}
-use Rattle.cpa_top.specs.Statuses.{code_of, outcome_status, verdict_status}
+use Rattle.cpa_top.specs.Statuses.{code_of, finding_status, outcome_status, verdict_status}
 
 -- ---- stages
 
@@ -58,6 +62,10 @@ HasProgram bytes = (P : Program) × IsProgram bytes P
 abbrev pub HasInputs : List ℕ → Type 0
 HasInputs bytes = (numbers : List ℤ) × IsInputs bytes numbers
 
+-- the text is that of a TRUE report of the one program of the bytes
+abbrev pub HasReportOf : List ℕ → List ℕ → Type 0
+HasReportOf bytes text = (P : Program) × IsTheProgram bytes P × HasReport P text
+
 -- the bytes give some configuration for the names
 abbrev pub HasConfig : List (List ℕ) → List ℕ → Type 0
 HasConfig names bytes = (config : Config) × Configures bytes names config
@@ -70,9 +78,12 @@ HasBenchConfig names = (config : Config) × IsBenchConfig names config
 -- are told, are few enough, or stand for what they are read as.
 abbrev pub Passes : Files → Stage → Type 0
 Passes files (reading which name) =
-    HoldsOf (files.bytes_of name) (λ bytes. length bytes ≤ MAX_TEXT)
+    HoldsOf (files.bytes_of name) (λ bytes. length bytes ≤ limit_of which)
 Passes files (parsing name) = HoldsOf (files.bytes_of name) HasProgram
 Passes files (listing name) = HoldsOf (files.bytes_of name) HasInputs
+Passes files (matching name report) =
+    HoldsOf (files.bytes_of name) (λ bytes.
+    HoldsOf (files.bytes_of report) (λ text. HasReportOf bytes text))
 Passes files (configuring names file) =
     HoldsOf (config_bytes files.bytes_of file) (HasConfig names)
 Passes files (picking names) = HasBenchConfig names
@@ -88,6 +99,13 @@ IsFaultLine line bytes =
 abbrev pub NoInputs : List ℕ → Type 0
 NoInputs bytes = (numbers : List ℤ) → IsInputs bytes numbers → ⊥
 
+-- the text is that of no TRUE report of the one program of the bytes, and the line names the rule
+-- that it breaks
+abbrev pub IsReportLine : List ℕ → List ℕ → List ℕ → Type 0
+IsReportLine line bytes text =
+    (P : Program) × IsTheProgram bytes P × (rule : ReportRule) × BreaksFor P text rule
+    × (line ≡ report_line rule)
+
 -- the bytes give no configuration for the names, and the line names the rule and the key
 abbrev pub IsConfigLine : List (List ℕ) → List ℕ → List ℕ → Type 0
 IsConfigLine names line bytes =
@@ -99,11 +117,15 @@ abbrev pub Refuses : Files → Status → List ℕ → Stage → Type 0
 Refuses files status.ReadFailed line (reading which name) =
     Rose (files.before name) (files.after name) × (line ≡ read_line which)
 Refuses files status.TooLong line (reading which name) =
-    IfSome (files.bytes_of name) (λ bytes. MAX_TEXT < length bytes) × (line ≡ long_line which)
+    IfSome (files.bytes_of name) (λ bytes. limit_of which < length bytes)
+    × (line ≡ long_line which)
 Refuses files status.NoProgram line (parsing name) =
     HoldsOf (files.bytes_of name) (IsFaultLine line)
 Refuses files status.NoInputs line (listing name) =
     HoldsOf (files.bytes_of name) NoInputs × (line ≡ inputs_line)
+Refuses files status.NoReport line (matching name report) =
+    HoldsOf (files.bytes_of name) (λ bytes.
+    HoldsOf (files.bytes_of report) (λ text. IsReportLine line bytes text))
 Refuses files status.NoConfig line (configuring names file) =
     HoldsOf (config_bytes files.bytes_of file) (IsConfigLine names line)
 Refuses files status.NoConfig line (picking names) = LacksOne names × (line ≡ lacking_line)
@@ -148,6 +170,19 @@ pub record IsReplayed (steps : ℕ) (bytes list : List ℕ) (with : Status) (lin
     pub status : with ≡ outcome_status outcome
     pub line_is : line ≡ outcome_line outcome
 
+-- The status and the text are those of what comes of the entries of the TRUE report of the one
+-- program of the bytes, checked again within what the configuration allows.
+pub record IsRecheckedBy (analyses : List Meaning) (said bytes list : List ℕ) (with : Status)
+    (text : List ℕ) : Type 0 where
+  pub config : Config
+  pub configures : Configures said (names_of analyses) config
+  pub program : Program
+  pub is : IsTheProgram bytes program
+  pub told : Rechecked
+  pub tells : IsRechecked program config.settings list told
+  pub status : with ≡ finding_status told.finding
+  pub text_is : text ≡ told.text.items
+
 -- The status and the line are those of what is counted of the text of a measurement of so many
 -- functions, by location, callstack and value of the handed analyses.
 pub record IsMeasuredBy (analyses : List Meaning) (functions : ℕ) (with : Status) (line : List ℕ)
@@ -170,6 +205,11 @@ Concludes files analyses (verify name file) with text =
 Concludes files analyses (replay name inputs steps) with text =
     HoldsOf (files.bytes_of name) (λ bytes.
     HoldsOf (files.bytes_of inputs) (λ list. IsReplayed steps bytes list with text))
+Concludes files analyses (recheck name report file) with text =
+    HoldsOf (config_bytes files.bytes_of file) (λ said.
+    HoldsOf (files.bytes_of name) (λ bytes.
+    HoldsOf (files.bytes_of report) (λ list.
+    IsRecheckedBy analyses said bytes list with text)))
 Concludes files analyses (bench functions) with text = IsMeasuredBy analyses functions with text
 
 -- The job passes all its stages, and comes to its end.
@@ -280,3 +320,37 @@ pub record IsWritten (call : Call) (output : Output) (name : List ℕ) (file : O
   pub whole : IsWhole output text
   pub is : HoldsOf (config_bytes call.files.bytes_of file) (λ said.
       HoldsOf (call.files.bytes_of name) (λ bytes. Is call.analyses said bytes text))
+
+-- ---- rechecks, in the words of the headline
+
+-- CONFIRMED: the entries of the report, which is one of the one program of the bytes, are a cover of
+-- it.
+pub record IsConfirmedText (analyses : List Meaning) (said bytes list text : List ℕ) : Type 0 where
+  pub program : Program
+  pub is : IsTheProgram bytes program
+  pub shows : IsConfirmation program list text
+
+-- REFUSED: the state of the text breaks the obligation that it names of the entries of the report.
+pub record IsRefutedText (analyses : List Meaning) (said bytes list text : List ℕ) : Type 0 where
+  pub program : Program
+  pub is : IsTheProgram bytes program
+  pub shows : IsRefutation program list text
+
+-- UNKNOWN: what the configuration allows was spent on the obligation that the text names.
+pub record IsUndecidedText (analyses : List Meaning) (said bytes list text : List ℕ) : Type 0 where
+  pub config : Config
+  pub configures : Configures said (names_of analyses) config
+  pub program : Program
+  pub is : IsTheProgram bytes program
+  pub shows : IsUndecided program config.settings list text
+
+-- A text was written whole that is as is said of a recheck, over the bytes of the configuration, of
+-- the named program and of its report, which are those that are told where they are told.
+pub record AreRechecked (call : Call) (output : Output) (name list : List ℕ)
+    (file : Option (List ℕ)) (Is : List Meaning → List ℕ → List ℕ → List ℕ → List ℕ → Type 0)
+    : Type 0 where
+  pub text : List ℕ
+  pub whole : IsWhole output text
+  pub is : HoldsOf (config_bytes call.files.bytes_of file) (λ said.
+      HoldsOf (call.files.bytes_of name) (λ bytes.
+      HoldsOf (call.files.bytes_of list) (λ report. Is call.analyses said bytes report text)))

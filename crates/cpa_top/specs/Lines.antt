@@ -10,6 +10,7 @@ use Rattle.cpa_config.specs.declared.faults.ConfigRule.{ConfigRule}
 use Rattle.cpa_config.specs.Lines.{fault_line as config_fault}
 use Rattle.cpa_interp.specs.declared.outcome.Outcome.{Outcome}
 use Rattle.cpa_interp.specs.declared.outcome.Outcome.TheVariants as outcome
+use Rattle.cpa_top_recheck.specs.Lines.{numbered_line}
 use Rattle.cpa_top.specs.declared.role.Role.{Role}
 use Rattle.cpa_top.specs.declared.role.Role.TheVariants as role
 
@@ -74,6 +75,7 @@ abbrev pub role_word : Role → List ℕ
 role_word role.Config = codes "config"
 role_word role.Program = codes "program"
 role_word role.Inputs = codes "inputs"
+role_word role.Report = codes "report"
 
 abbrev pub read_line : Role → List ℕ
 read_line which = codes "refused read " ++ role_word which ++ codes "\n"
@@ -94,10 +96,6 @@ usage_text =
     ++ codes "       cpaverify recheck PROGRAM REPORT [--config FILE] [--proof] [--workers N]\n"
     ++ codes "       cpaverify audit PROGRAM PROOF [--workers N]\n"
     ++ codes "       cpaverify bench N\n"
-
--- a word and a number
-abbrev pub numbered_line : List ℕ → ℕ → List ℕ
-numbered_line word n = word ++ decimal n ++ codes "\n"
 
 -- what comes of a replay
 abbrev pub outcome_line : Outcome → List ℕ

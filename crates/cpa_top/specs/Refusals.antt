@@ -12,6 +12,9 @@ use Rattle.cpa_config.specs.declared.config.Config.{Config}
 use Rattle.cpa_top_bench.specs.declared.measuring.Measured.{Measured}
 use Rattle.cpa_top_bench.specs.Configurations.{LacksOne}
 use Rattle.cpa_top_bench.specs.Measurements.{IsMeasured, bench_line}
+use Rattle.cpa_top_recheck.specs.declared.finding.Rechecked.{Rechecked}
+use Rattle.cpa_top_recheck.specs.Lines.{report_line}
+use Rattle.cpa_top_recheck.specs.Rechecks.{BreaksFor, IsRechecked}
 use Rattle.cpa_top_verdict.specs.declared.reporting.Told.{Told}
 use Rattle.cpa_top_verdict.specs.Verdicts.{IsTold}
 use Rattle.cpa_top_words.specs.Jobs.{Job}
@@ -26,7 +29,7 @@ use Rattle.cpa_top.specs.Calls.{Files, Output, NoReadFailed, IsWhole, IsCutOff, 
 use Rattle.cpa_top.specs.Jobs.{Stage, stages_of}
 use Rattle.cpa_top.specs.Lines.{usage_text, read_line, long_line, inputs_line, memory_line}
 use Rattle.cpa_top.specs.Lines.{lacking_line, outcome_line}
-use Rattle.cpa_top.specs.Statuses.{code_of, outcome_status, verdict_status}
+use Rattle.cpa_top.specs.Statuses.{code_of, finding_status, outcome_status, verdict_status}
 
 abbrev pub refusal_status : Refusal → Status
 refusal_status refusal.Usage = status.Usage
@@ -36,6 +39,7 @@ refusal_status (refusal.NoProgram line) = status.NoProgram
 refusal_status (refusal.NoConfig line) = status.NoConfig
 refusal_status refusal.LacksAnalysis = status.NoConfig
 refusal_status refusal.NoInputs = status.NoInputs
+refusal_status (refusal.NoReport rule) = status.NoReport
 refusal_status refusal.OutOfMemory = status.OutOfMemory
 
 abbrev pub refusal_line : Refusal → List ℕ
@@ -46,6 +50,7 @@ refusal_line (refusal.NoProgram line) = string_bytes line
 refusal_line (refusal.NoConfig line) = string_bytes line
 refusal_line refusal.LacksAnalysis = lacking_line
 refusal_line refusal.NoInputs = inputs_line
+refusal_line (refusal.NoReport rule) = report_line rule
 refusal_line refusal.OutOfMemory = memory_line
 
 abbrev pub status_of : Result Conclusion Refusal → Status
@@ -84,6 +89,12 @@ IsListRefused bytes refusal.NoInputs = NoInputs bytes
 IsListRefused bytes refusal.OutOfMemory = Unit {0}
 IsListRefused bytes _ = ⊥
 
+-- the text of a report of the program is refused
+abbrev pub IsReportRefused : Program → List ℕ → Refusal → Type 0
+IsReportRefused P text (refusal.NoReport rule) = BreaksFor P text rule
+IsReportRefused P text refusal.OutOfMemory = Unit {0}
+IsReportRefused P text _ = ⊥
+
 -- the bytes of a configuration are refused
 abbrev pub IsConfigRefused : List (List ℕ) → List ℕ → Refusal → Type 0
 IsConfigRefused names bytes (refusal.NoConfig line) = IsConfigLine names (string_bytes line) bytes
@@ -110,6 +121,14 @@ pub record IsConcluded (analyses : List Meaning) (config : Config) (P : Program)
   pub told : Told
   pub tells : IsTold P (picked analyses config.picks) config told
   pub status : conclusion.status ≡ verdict_status told.verdict
+  pub text_is : conclusion.text.items ≡ told.text.items
+
+-- what comes of the entries of the text of a report, checked again
+pub record IsChecked (config : Config) (P : Program) (text : List ℕ) (conclusion : Conclusion)
+    : Type 0 where
+  pub told : Rechecked
+  pub tells : IsRechecked P config.settings text told
+  pub status : conclusion.status ≡ finding_status told.finding
   pub text_is : conclusion.text.items ≡ told.text.items
 
 -- what is counted of the program of a measurement of so many functions

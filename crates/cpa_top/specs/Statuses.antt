@@ -1,10 +1,12 @@
--- The number of each status, and that of a verdict and of an outcome of a replay (this project's
--- own).
+-- The number of each status, and that of a verdict, of an outcome of a replay and of a finding of a
+-- recheck (this project's own).
 use Rattle.std.specs.Prelude.{ℕ}
 use Rattle.cpa_interp.specs.declared.outcome.Outcome.{Outcome}
 use Rattle.cpa_interp.specs.declared.outcome.Outcome.TheVariants as outcome
 use Rattle.cpa_report_print.specs.declared.report.Verdict.{Verdict}
 use Rattle.cpa_report_print.specs.declared.report.Verdict.TheVariants as verdict
+use Rattle.cpa_top_recheck.specs.declared.finding.Finding.{Finding}
+use Rattle.cpa_top_recheck.specs.declared.finding.Finding.TheVariants as finding
 use Rattle.cpa_top.specs.declared.status.Status.{Status}
 use Rattle.cpa_top.specs.declared.status.Status.TheVariants as status
 
@@ -18,6 +20,7 @@ code_of status.TooLong = 5
 code_of status.NoProgram = 6
 code_of status.NoConfig = 7
 code_of status.NoInputs = 8
+code_of status.NoReport = 8
 code_of status.WriteFailed = 9
 code_of status.OutOfMemory = 10
 
@@ -29,6 +32,12 @@ outcome_status (outcome.Trapped point) = status.Holds
 outcome_status (outcome.InputsShort point) = status.Unknown
 outcome_status (outcome.BadInput place) = status.Unknown
 outcome_status outcome.StepsSpent = status.Unknown
+
+-- that of a finding of a recheck
+abbrev pub finding_status : Finding → Status
+finding_status finding.Confirmed = status.Holds
+finding_status finding.Refused = status.Fails
+finding_status finding.Open = status.Unknown
 
 -- that of a verdict
 abbrev pub verdict_status : Verdict → Status

@@ -8,6 +8,7 @@ ghost use Rattle.cpa_top.specs.Refusals.{status_of, text_of, IsDelivered};
 
 use crate::Status;
 use crate::bench_job::bench;
+use crate::recheck_job::recheck;
 use crate::refusal::Refusal;
 use crate::replay_job::replay;
 use crate::verify_job::verify;
@@ -15,6 +16,7 @@ use cpa_iface::Analysis;
 use cpa_outside::{Inputs, Sink, write_whole};
 use cpa_top_words::{Job, WordsError, read_words, words_ask_for_small_benches};
 use std::alloc::Global;
+use std::thread::Threads;
 
 /// What a job comes to, and what is written of it.
 #[derive(Drop)]
@@ -24,7 +26,8 @@ pub(crate) struct Conclusion {
 }
 
 /// What the call comes to, before anything is written.
-pub(crate) fn answer<A: Analysis, I: Inputs>(
+pub(crate) fn answer<R: Threads + Sync, A: Analysis, I: Inputs>(
+    rt: &R,
     alloc: Global,
     words: &[String],
     analyses: Vec<A>,
@@ -45,6 +48,13 @@ pub(crate) fn answer<A: Analysis, I: Inputs>(
                 steps,
             },
         ) => replay(alloc, program, list, steps, inputs),
+        Ok(
+            Job::Recheck {
+                program,
+                report,
+                config,
+            },
+        ) => recheck(rt, alloc, program, report, config, analyses, inputs),
         Ok(Job::Bench { count }) => bench(alloc, count, analyses),
         Err(WordsError::Refused) => Err(Refusal::Usage),
         Err(WordsError::OutOfMemory) => Err(Refusal::OutOfMemory),

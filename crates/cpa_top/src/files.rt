@@ -8,21 +8,21 @@ ghost use Rattle.cpa_top_inputs.specs.Inputs.{IsInputs};
 ghost use Rattle.cpa_top.specs.declared.refusal.Refusal.TheVariants.{OutOfMemory};
 ghost use Rattle.cpa_top.specs.Answers.{NoInputs};
 ghost use Rattle.cpa_top.specs.Calls.{files_of};
-ghost use Rattle.cpa_top.specs.Jobs.{reading, program_stages, inputs_stages};
+ghost use Rattle.cpa_top.specs.Jobs.{limit_of, reading, program_stages, inputs_stages};
 ghost use Rattle.cpa_top.specs.Refusals.{IsRefusedAt, IsHalted, IsTaken, IsTextRefused};
 ghost use Rattle.cpa_top.specs.Refusals.{IsListRefused};
 
 use crate::Role;
 use crate::place::fault_line;
 use crate::refusal::Refusal;
-use c_lexer::{MAX_TEXT, TextError};
+use c_lexer::TextError;
 use c_program::program;
 use cpa_model::Program;
 use cpa_outside::{Inputs, ReadFault};
 use cpa_top_inputs::{InputsError, read_inputs};
 use std::alloc::Global;
 
-/// The bytes of a file, of which there may be as many as a program has.
+/// The bytes of a file, of which there may be as many as its role allows.
 pub(crate) fn read_file<I: Inputs>(
     alloc: Global,
     inputs: &mut I,
@@ -32,13 +32,13 @@ pub(crate) fn read_file<I: Inputs>(
     ensures told { I.bytes_of inputs.new ≡ I.bytes_of inputs.old }
     ensures bytes { IfOk result (λ bytes.
         IfSome (I.bytes_of inputs.old name.now) (λ told. bytes.items ≡ told)) }
-    ensures within { IfOk result (λ bytes. length bytes.items ≤ MAX_TEXT) }
+    ensures within { IfOk result (λ bytes. length bytes.items ≤ limit_of role) }
     ensures reads { OnOk result (I.faults_of inputs.new ≡ I.faults_of inputs.old) }
     ensures refused { IfErr result (λ refusal. IsRefusedAt
         (files_of (I.bytes_of inputs.old) (I.faults_of inputs.old) (I.faults_of inputs.new))
         (reading role name.now) refusal) }
 {
-    match inputs.read(alloc, name, MAX_TEXT) {
+    match inputs.read(alloc, name, role.limit()) {
         Ok(bytes) => Ok(bytes),
         Err(ReadFault::Failed) => Err(Refusal::ReadFailed { role }),
         Err(ReadFault::TooLong) => Err(Refusal::TooLong { role }),

@@ -7,6 +7,7 @@ mod bench_job;
 mod configuring;
 mod files;
 mod place;
+mod recheck_job;
 mod refusal;
 mod replay_job;
 mod role;
@@ -15,6 +16,6 @@ mod top;
 mod verify_job;
 
 pub use cpa_top_bench::bench_text;
-pub use role::Role;
+pub use role::{MAX_REPORT, Role};
 pub use status::Status;
 pub use top::run;

@@ -2,9 +2,12 @@
 //! alone.
 ghost use Rattle.std.specs.Prelude.{◌≡◌};
 ghost use Rattle.cpa_top.specs.declared.refusal.Refusal.TheVariants.{OutOfMemory};
+ghost use Rattle.cpa_top.specs.Lines.{long_line, read_line};
 ghost use Rattle.cpa_top.specs.Refusals.{refusal_status, refusal_line};
+ghost use Rattle.cpa_top_recheck.specs.Lines.{report_line};
 
 use crate::{Role, Status};
+use cpa_top_recheck::ReportRule;
 use std::alloc::AllocError;
 
 /// Why a call is refused.
@@ -24,6 +27,8 @@ pub(crate) enum Refusal {
     LacksAnalysis,
     /// The bytes of the inputs' file are no list of inputs.
     NoInputs,
+    /// The bytes of the report's file break the rule.
+    NoReport { rule: ReportRule },
     OutOfMemory,
 }
 
@@ -43,6 +48,44 @@ const USAGE: &str = "usage: cpaverify verify PROGRAM [--config FILE]
        cpaverify bench N
 ";
 
+/// The line that refuses a report.
+fn report_line(rule: ReportRule) -> &'static str
+    ensures { result.now ≡ report_line rule }
+{
+    match rule {
+        ReportRule::P1 => "refused report P1\n",
+        ReportRule::P2 => "refused report P2\n",
+        ReportRule::P3 => "refused report P3\n",
+        ReportRule::P4 => "refused report P4\n",
+        ReportRule::P5 => "refused report P5\n",
+        ReportRule::P6 => "refused report P6\n",
+    }
+}
+
+/// The line that says that the file in this role was not read.
+fn read_line(role: Role) -> &'static str
+    ensures { result.now ≡ read_line role }
+{
+    match role {
+        Role::Config => "refused read config\n",
+        Role::Program => "refused read program\n",
+        Role::Inputs => "refused read inputs\n",
+        Role::Report => "refused read report\n",
+    }
+}
+
+/// The line that says that the file in this role is too long.
+fn long_line(role: Role) -> &'static str
+    ensures { result.now ≡ long_line role }
+{
+    match role {
+        Role::Config => "refused long config\n",
+        Role::Program => "refused long program\n",
+        Role::Inputs => "refused long inputs\n",
+        Role::Report => "refused long report\n",
+    }
+}
+
 impl Refusal {
     /// The status with which the call ends.
     pub(crate) fn status(&self) -> Status
@@ -55,6 +98,7 @@ impl Refusal {
             Refusal::NoProgram { .. } => Status::NoProgram,
             Refusal::NoConfig { .. } | Refusal::LacksAnalysis => Status::NoConfig,
             Refusal::NoInputs => Status::NoInputs,
+            Refusal::NoReport { .. } => Status::NoReport,
             Refusal::OutOfMemory => Status::OutOfMemory,
         }
     }
@@ -65,19 +109,12 @@ impl Refusal {
     {
         match self {
             Refusal::Usage => USAGE,
-            Refusal::ReadFailed { role: Role::Config } => "refused read config\n",
-            Refusal::ReadFailed {
-                role: Role::Program,
-            } => "refused read program\n",
-            Refusal::ReadFailed { role: Role::Inputs } => "refused read inputs\n",
-            Refusal::TooLong { role: Role::Config } => "refused long config\n",
-            Refusal::TooLong {
-                role: Role::Program,
-            } => "refused long program\n",
-            Refusal::TooLong { role: Role::Inputs } => "refused long inputs\n",
+            Refusal::ReadFailed { role } => read_line(*role),
+            Refusal::TooLong { role } => long_line(*role),
             Refusal::NoProgram { line } | Refusal::NoConfig { line } => line.as_str(),
             Refusal::LacksAnalysis => "refused config C4 analyses\n",
             Refusal::NoInputs => "refused inputs\n",
+            Refusal::NoReport { rule } => report_line(*rule),
             Refusal::OutOfMemory => "refused memory\n",
         }
     }

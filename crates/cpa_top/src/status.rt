@@ -6,11 +6,12 @@ ghost use Rattle.cpa_top.specs.Statuses.{code_of};
 /// How the program ends.
 #[derive(Clone, Copy, PartialEq, Eq)]
 pub enum Status {
-    /// TRUE; a replay that ends or traps.
+    /// TRUE; CONFIRMED; a replay that ends or traps.
     Holds,
-    /// FALSE; a replay that calls `reach_error`.
+    /// FALSE; REFUSED; a replay that calls `reach_error`.
     Fails,
-    /// UNKNOWN; a replay without an outcome: the inputs or the steps do not suffice.
+    /// UNKNOWN, of a recheck too; a replay without an outcome: the inputs or the steps do not
+    /// suffice.
     Unknown,
     /// The words ask for nothing.
     Usage,
@@ -25,6 +26,8 @@ pub enum Status {
     NoConfig,
     /// The bytes of the inputs' file are no list of inputs.
     NoInputs,
+    /// The bytes of the report's file are no TRUE report of the program.
+    NoReport,
     /// The answer was not written whole.
     WriteFailed,
     OutOfMemory,
@@ -44,7 +47,7 @@ impl Status {
             Status::TooLong => 5,
             Status::NoProgram => 6,
             Status::NoConfig => 7,
-            Status::NoInputs => 8,
+            Status::NoInputs | Status::NoReport => 8,
             Status::WriteFailed => 9,
             Status::OutOfMemory => 10,
         }

@@ -2,14 +2,16 @@
 //! Proved with `proofs/Headline.antt`, over what the other modules promise.
 ghost use Rattle.std.specs.Prelude.{◌≡◌, ◌≤◌, ℕ, List, Option, map};
 ghost use Rattle.std.specs.String.{string_bytes};
-ghost use Rattle.cpa_top_words.specs.Jobs.{verify, bench, Asks};
-ghost use Rattle.cpa_top.specs.Answers.{Answers, IsWritten, IsLineWritten};
+ghost use Rattle.cpa_top_words.specs.Jobs.{verify, recheck, bench, Asks};
+ghost use Rattle.cpa_top.specs.Answers.{Answers, IsWritten, IsLineWritten, AreRechecked};
 ghost use Rattle.cpa_top.specs.Answers.{IsSafeText, IsCalledText, IsUnknownText};
+ghost use Rattle.cpa_top.specs.Answers.{IsConfirmedText, IsRefutedText, IsUndecidedText};
 ghost use Rattle.cpa_top.specs.Calls.{call_of, files_of, output_of};
 
 use crate::answers::{answer, deliver};
 use cpa_iface::Analysis;
 use cpa_outside::{Inputs, Sink};
+use cpa_top_recheck::checks_tell;
 use cpa_top_verdict::{false_calls_the_error, picks_are_places, true_is_safe};
 use cpa_top_words::words_ask_for_one_job;
 use std::alloc::Global;
@@ -19,10 +21,11 @@ use std::thread::Threads;
 ///
 /// The words are those after the program's own name. The commands today are
 /// `verify PROGRAM [--config FILE]`, by the handed analyses that the configuration picks,
-/// `replay PROGRAM INPUTS [--steps N]` and `bench N`. All output goes to `out` in one `write_whole`. Analyses of
-/// several types are handed in as one type, `Handed` of `cpa_composite`.
+/// `replay PROGRAM INPUTS [--steps N]`, `recheck PROGRAM REPORT [--config FILE]`, which asks no
+/// analysis, and `bench N`. All output goes to `out` in one `write_whole`. Analyses of several types
+/// are handed in as one type, `Handed` of `cpa_composite`.
 pub fn run<R: Threads + Sync, A: Analysis, I: Inputs, K: Sink>(
-    _rt: &R,
+    rt: &R,
     alloc: Global,
     words: Vec<String>,
     analyses: Vec<A>,
@@ -50,6 +53,29 @@ pub fn run<R: Threads + Sync, A: Analysis, I: Inputs, K: Sink>(
         (files_of (I.bytes_of inputs.old) (I.faults_of inputs.old) (I.faults_of inputs.new)))
         (output_of (K.written out.old) (K.written out.new) (K.faults out.old) (K.faults out.new))
         name file IsUnknownText }
+    // CONFIRMED: the entries of the report are a cover of the program, so no execution calls
+    // reach_error.
+    ensures confirmed { result ≡ 0 → (name list : List ℕ) (file : Option (List ℕ)) →
+        Asks (map string_bytes words.items) (recheck name list file) → AreRechecked
+        (call_of (map string_bytes words.items) (map A.meaning analyses.items)
+        (files_of (I.bytes_of inputs.old) (I.faults_of inputs.old) (I.faults_of inputs.new)))
+        (output_of (K.written out.old) (K.written out.new) (K.faults out.old) (K.faults out.new))
+        name list file IsConfirmedText }
+    // REFUSED: the printed state breaks the least obligation of the entries that is not met, so they
+    // are no cover, and those of no TRUE answer on the program.
+    ensures refuted { result ≡ 1 → (name list : List ℕ) (file : Option (List ℕ)) →
+        Asks (map string_bytes words.items) (recheck name list file) → AreRechecked
+        (call_of (map string_bytes words.items) (map A.meaning analyses.items)
+        (files_of (I.bytes_of inputs.old) (I.faults_of inputs.old) (I.faults_of inputs.new)))
+        (output_of (K.written out.old) (K.written out.new) (K.faults out.old) (K.faults out.new))
+        name list file IsRefutedText }
+    // UNKNOWN of a recheck: a budget was spent on the named obligation, and all lesser ones are met.
+    ensures undecided { result ≡ 2 → (name list : List ℕ) (file : Option (List ℕ)) →
+        Asks (map string_bytes words.items) (recheck name list file) → AreRechecked
+        (call_of (map string_bytes words.items) (map A.meaning analyses.items)
+        (files_of (I.bytes_of inputs.old) (I.faults_of inputs.old) (I.faults_of inputs.new)))
+        (output_of (K.written out.old) (K.written out.new) (K.faults out.old) (K.faults out.new))
+        name list file IsUndecidedText }
     // bench: the line has the counts and the verdict of an answer on the text of a measurement; where
     // it is TRUE, no execution of this text calls reach_error.
     ensures measured { result ≤ 2 → (functions : ℕ) →
@@ -69,6 +95,7 @@ pub fn run<R: Threads + Sync, A: Analysis, I: Inputs, K: Sink>(
     picks_are_places();
     true_is_safe();
     false_calls_the_error();
-    let answer = answer(alloc, words.as_slice(), analyses, inputs);
+    checks_tell();
+    let answer = answer(rt, alloc, words.as_slice(), analyses, inputs);
     deliver(&answer, out)
 }

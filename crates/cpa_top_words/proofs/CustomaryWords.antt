@@ -11,7 +11,7 @@ use Rattle.clap.specs.ValueTests.{accepts}
 use Rattle.clap.specs.declared.builder.value_parser.ValueParser.TheVariants as vp
 use Rattle.clap.proofs.OnLiterals.{clap_on_literals}
 use Rattle.cpa_top_words.specs.Commands.{cpaverify}
-use Rattle.cpa_top_words.specs.Jobs.{asked_by, count_in, verify, replay, bench}
+use Rattle.cpa_top_words.specs.Jobs.{asked_by, count_in, verify, replay, recheck, bench}
 use Rattle.cpa_top_words.specs.Laws.{AskAsIsCustomary, IsPlain}
 use Rattle.cpa_top_words.proofs.Benches.{numeral_is_plain, small_is_taken, small_is_counted}
 
@@ -63,6 +63,32 @@ replay_asked : (program inputs : List ℕ) → IsName program → IsName inputs
 unfolding clap_on_literals
 replay_asked program inputs p i = rw (p.ends, p.long, p.short, i.ends, i.long, i.short) refl
 
+recheck_taken : (program report : List ℕ) → IsName program → IsName report
+    → fault_of cpaverify (codes "recheck" ∷ program ∷ report ∷ []) ≡ []
+unfolding clap_on_literals
+recheck_taken program report p r = rw (p.ends, p.long, p.short, r.ends, r.long, r.short) refl
+
+recheck_asked : (program report : List ℕ) → IsName program → IsName report
+    → asked_by (codes "recheck" ∷ program ∷ report ∷ []) ≡ Some (recheck program report None)
+unfolding clap_on_literals
+recheck_asked program report p r = rw (p.ends, p.long, p.short, r.ends, r.long, r.short) refl
+
+recheck_taken_so : (program report config : List ℕ) → IsName program → IsName report
+    → IsName config
+    → fault_of cpaverify (codes "recheck" ∷ program ∷ report ∷ codes "--config" ∷ config ∷ [])
+    ≡ []
+unfolding clap_on_literals
+recheck_taken_so program report config p r c =
+    rw (p.ends, p.long, p.short, r.ends, r.long, r.short, c.ends, c.long, c.short) refl
+
+recheck_asked_so : (program report config : List ℕ) → IsName program → IsName report
+    → IsName config
+    → asked_by (codes "recheck" ∷ program ∷ report ∷ codes "--config" ∷ config ∷ [])
+    ≡ Some (recheck program report (Some config))
+unfolding clap_on_literals
+recheck_asked_so program report config p r c =
+    rw (p.ends, p.long, p.short, r.ends, r.long, r.short, c.ends, c.long, c.short) refl
+
 bench_taken : (text : List ℕ) → IsName text → accepts false (vp.Unsigned 0 100) text ≡ true
     → fault_of cpaverify (codes "bench" ∷ text ∷ []) ≡ []
 unfolding clap_on_literals
@@ -86,6 +112,16 @@ customary = record {
   replays = λ program inputs e f. record {
     taken = replay_taken program inputs (named program e) (named inputs f);
     asked = replay_asked program inputs (named program e) (named inputs f);
+  };
+  rechecks = λ program report e f. record {
+    taken = recheck_taken program report (named program e) (named report f);
+    asked = recheck_asked program report (named program e) (named report f);
+  };
+  rechecks_so = λ program report config e f h. record {
+    taken = recheck_taken_so program report config (named program e) (named report f)
+        (named config h);
+    asked = recheck_asked_so program report config (named program e) (named report f)
+        (named config h);
   };
   benches = λ n few.
       let is =

@@ -44,33 +44,39 @@ named w e =
 
 -- ---- its name has a job
 
-abbrev IsOneOf : Text → Text → Text → Text → Type 0
-IsOneOf x y z name = (name ≡ x) ⊎ ((name ≡ y) ⊎ (name ≡ z))
+abbrev IsOneOf : Text → Text → Text → Text → Text → Type 0
+IsOneOf x y z u name = (name ≡ x) ⊎ ((name ≡ y) ⊎ ((name ≡ z) ⊎ (name ≡ u)))
 
 abbrev IsCommand : Text → Type 0
-IsCommand = IsOneOf (codes "verify") (codes "replay") (codes "bench")
+IsCommand = IsOneOf (codes "verify") (codes "replay") (codes "recheck") (codes "bench")
 
-picked : (a b c : Bool) (x y z : Shape) (words : List Text) (p : Text × List Row)
+picked : (a b c d : Bool) (x y z u : Shape) (words : List Text) (p : Text × List Row)
     → option_map (λ s. rows_at s words)
-    (if a then Some x else (if b then Some y else (if c then Some z else None))) ≡ Some p
-    → IsOneOf x.name y.name z.name p.0
-picked true b c x y z words p e =
+    (if a then Some x
+    else (if b then Some y else (if c then Some z else (if d then Some u else None)))) ≡ Some p
+    → IsOneOf x.name y.name z.name u.name p.0
+picked true b c d x y z u words p e =
     let same : rows_at x words ≡ p = cc in inl (ap (λ (q : Text × List Row). q.0) (sym same))
-picked false true c x y z words p e =
+picked false true c d x y z u words p e =
     let same : rows_at y words ≡ p = cc in inr (inl (ap (λ (q : Text × List Row). q.0) (sym same)))
-picked false false true x y z words p e =
-    let same : rows_at z words ≡ p = cc in inr (inr (ap (λ (q : Text × List Row). q.0) (sym same)))
-picked false false false x y z words p e = absurd (cc)
+picked false false true d x y z u words p e =
+    let same : rows_at z words ≡ p = cc in
+    inr (inr (inl (ap (λ (q : Text × List Row). q.0) (sym same))))
+picked false false false true x y z u words p e =
+    let same : rows_at u words ≡ p = cc in
+    inr (inr (inr (ap (λ (q : Text × List Row). q.0) (sym same))))
+picked false false false false x y z u words p e = absurd (cc)
 
 job_named : (name : Text) (rows : List Row) → IsCommand name → is_some (job_of name rows) ≡ true
 job_named name rows (inl e) = rw e refl
 job_named name rows (inr (inl e)) = rw e refl
-job_named name rows (inr (inr e)) = rw e refl
+job_named name rows (inr (inr (inl e))) = rw e refl
+job_named name rows (inr (inr (inr e))) = rw e refl
 
 stopped : (stop : Option (Text × List Text)) (p : Text × List Row)
     → entered (built cpaverify) stop ≡ Some p → IsCommand p.0
 stopped None p e = absurd (cc)
-stopped (Some q) p e = picked _ _ _ _ _ _ q.1 p e
+stopped (Some q) p e = picked _ _ _ _ _ _ _ _ q.1 p e
 
 told : (o : Option (Text × List Row)) → is_some o ≡ true
     → ((p : Text × List Row) → o ≡ Some p → IsCommand p.0)

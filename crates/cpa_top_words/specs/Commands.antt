@@ -13,6 +13,10 @@ program_rule = record (new_rule (codes "PROGRAM")) { required = true }
 abbrev pub inputs_rule : Rule
 inputs_rule = record (new_rule (codes "INPUTS")) { required = true }
 
+-- REPORT, a word that must be there
+abbrev pub report_rule : Rule
+report_rule = record (new_rule (codes "REPORT")) { required = true }
+
 -- --config FILE
 abbrev pub config_rule : Rule
 config_rule = record (new_rule (codes "config")) { long = Some (codes "config") }
@@ -40,6 +44,12 @@ abbrev pub replay_command : App
 replay_command =
     with_rule (with_rule (with_rule (new_app (codes "replay")) program_rule) inputs_rule) steps_rule
 
+-- recheck PROGRAM REPORT [--config FILE]
+abbrev pub recheck_command : App
+recheck_command =
+    with_rule (with_rule (with_rule (new_app (codes "recheck")) program_rule) report_rule)
+    config_rule
+
 -- bench N
 abbrev pub bench_command : App
 bench_command = with_rule (new_app (codes "bench")) count_rule
@@ -55,5 +65,7 @@ top_command = on_top (λ s. record s {
 abbrev pub cpaverify : App
 cpaverify =
     with_subcommand
+    (with_subcommand
     (with_subcommand (with_subcommand top_command verify_command.top) replay_command.top)
+    recheck_command.top)
     bench_command.top

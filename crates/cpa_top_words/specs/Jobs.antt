@@ -14,11 +14,12 @@ use Rattle.cpa_top_words.specs.declared.job.Job.TheVariants as held
 use Rattle.cpa_top_words.specs.declared.job.TheConstants.{STEPS}
 
 -- to verify a program, by a configuration where one is named; to replay a program on inputs, in at
--- most so many steps; to verify the text of a measurement of so many functions. Names of files are
--- the bytes given
+-- most so many steps; to recheck the report of a program, by a configuration where one is named; to
+-- verify the text of a measurement of so many functions. Names of files are the bytes given
 pub data Job : Type 0 where
   verify : List ℕ → Option (List ℕ) → Job
   replay : List ℕ → List ℕ → ℕ → Job
+  recheck : List ℕ → List ℕ → Option (List ℕ) → Job
   bench : ℕ → Job
 
 -- ---- what clap finds
@@ -50,7 +51,10 @@ job_of name rows = if bytes_eq name (codes "verify")
     else (if bytes_eq name (codes "replay")
     then Some (replay (name_of (codes "PROGRAM") rows) (name_of (codes "INPUTS") rows)
     (steps_of rows))
-    else (if bytes_eq name (codes "bench") then Some (bench (count_of rows)) else None))
+    else (if bytes_eq name (codes "recheck")
+    then Some (recheck (name_of (codes "PROGRAM") rows) (name_of (codes "REPORT") rows)
+    (first_of (codes "config") rows))
+    else (if bytes_eq name (codes "bench") then Some (bench (count_of rows)) else None)))
 
 abbrev pub asked_by : List (List ℕ) → Option Job
 asked_by words = option_map_or (λ p. job_of p.0 p.1) (subcommand_of cpaverify words) None
@@ -70,4 +74,6 @@ IsNoJob words = (job : Job) → Asks words job → ⊥
 abbrev pub meant : Held → Job
 meant (held.Verify program config) = verify program.now (option_map (λ s. s.now) config)
 meant (held.Replay program inputs steps) = replay program.now inputs.now steps
+meant (held.Recheck program report config) =
+    recheck program.now report.now (option_map (λ s. s.now) config)
 meant (held.Bench count) = bench count

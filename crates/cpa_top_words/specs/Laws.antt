@@ -3,7 +3,7 @@ use Rattle.std.specs.Prelude.{◌≡◌, ℕ, ◌≤◌, List, [], ◌∷◌, So
 use Rattle.clap.specs.Words.{fault_of}
 use Rattle.clap.specs.Lexer.{strip_byte}
 use Rattle.cpa_top_words.specs.Commands.{cpaverify}
-use Rattle.cpa_top_words.specs.Jobs.{Asks, Job, verify, replay, bench}
+use Rattle.cpa_top_words.specs.Jobs.{Asks, Job, verify, replay, recheck, bench}
 use Rattle.cpa_top_words.specs.declared.job.TheConstants.{MAX_BENCH}
 
 -- where clap takes the words, they ask for a job
@@ -23,4 +23,10 @@ pub record AskAsIsCustomary : Type 0 where
       (verify program (Some config))
   pub replays : (program inputs : List ℕ) → IsPlain program → IsPlain inputs
       → Asks (codes "replay" ∷ program ∷ inputs ∷ []) (replay program inputs 1000000)
+  pub rechecks : (program report : List ℕ) → IsPlain program → IsPlain report
+      → Asks (codes "recheck" ∷ program ∷ report ∷ []) (recheck program report None)
+  pub rechecks_so : (program report config : List ℕ) → IsPlain program → IsPlain report
+      → IsPlain config
+      → Asks (codes "recheck" ∷ program ∷ report ∷ codes "--config" ∷ config ∷ [])
+      (recheck program report (Some config))
   pub benches : (n : ℕ) → n ≤ MAX_BENCH → Asks (codes "bench" ∷ decimal n ∷ []) (bench n)

@@ -2,8 +2,8 @@
 //! `specs/Commands.antt`.
 ghost use Rattle.std.specs.Prelude.{◌≡◌, IfOk};
 ghost use Rattle.clap.specs.Words.{app_of};
-ghost use Rattle.cpa_top_words.specs.Commands.{bench_command, cpaverify, replay_command};
-ghost use Rattle.cpa_top_words.specs.Commands.{verify_command};
+ghost use Rattle.cpa_top_words.specs.Commands.{bench_command, cpaverify, recheck_command};
+ghost use Rattle.cpa_top_words.specs.Commands.{replay_command, verify_command};
 
 use clap::{Arg, Command, value_parser};
 use std::alloc::{AllocError, Global};
@@ -32,6 +32,19 @@ fn replay_command<'a>(alloc: Global) -> Result<Command<'a>, AllocError>
         .arg(steps)
 }
 
+/// `recheck PROGRAM REPORT [--config FILE]`.
+fn recheck_command<'a>(alloc: Global) -> Result<Command<'a>, AllocError>
+    ensures { IfOk result (λ command. app_of command ≡ recheck_command) }
+{
+    let program = Arg::new(alloc, "PROGRAM").required(true);
+    let report = Arg::new(alloc, "REPORT").required(true);
+    let config = Arg::new(alloc, "config").long("config");
+    Command::new(alloc, "recheck")
+        .arg(program)?
+        .arg(report)?
+        .arg(config)
+}
+
 /// `bench N`.
 fn bench_command<'a>(alloc: Global) -> Result<Command<'a>, AllocError>
     ensures { IfOk result (λ command. app_of command ≡ bench_command) }
@@ -48,6 +61,7 @@ pub(crate) fn whole_command<'a>(alloc: Global) -> Result<Command<'a>, AllocError
 {
     let verify = verify_command(alloc)?;
     let replay = replay_command(alloc)?;
+    let recheck = recheck_command(alloc)?;
     let bench = bench_command(alloc)?;
     Command::new(alloc, "cpaverify")
         .no_binary_name(true)
@@ -55,5 +69,6 @@ pub(crate) fn whole_command<'a>(alloc: Global) -> Result<Command<'a>, AllocError
         .subcommand_required(true)
         .subcommand(verify)?
         .subcommand(replay)?
+        .subcommand(recheck)?
         .subcommand(bench)
 }

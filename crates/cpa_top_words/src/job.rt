@@ -29,6 +29,15 @@ pub enum Job<'a> {
         /// The greatest number of steps.
         steps: u64,
     },
+    /// To recheck the entries of a TRUE report.
+    Recheck {
+        /// The file of the C text.
+        program: &'a str,
+        /// The file of the report.
+        report: &'a str,
+        /// The file of the configuration, where one is named.
+        config: Option<&'a str>,
+    },
     /// To verify the text of a measurement.
     Bench {
         /// How many functions it has, at most `MAX_BENCH`.

@@ -1,8 +1,9 @@
 //! The job of a list of words, over what clap promises (`Asks` of `specs/Jobs.antt`).
 //! `proofs/TakenWords.antt` has that words which clap takes ask for a job.
 ghost use Rattle.std.specs.Prelude.{◌≡◌, [], ◌⊎◌, IfOk, IfErr, Some, None, map, true, option_map};
+ghost use Rattle.std.specs.Prelude.{codes};
 ghost use Rattle.std.specs.String.{string_bytes};
-ghost use Rattle.clap.specs.Words.{takes, fault_of, found_of, rows_of, kind_of};
+ghost use Rattle.clap.specs.Words.{takes, fault_of, first_of, found_of, rows_of, kind_of};
 ghost use Rattle.clap.specs.Words.{subcommand_of, subcommand_rows_of};
 ghost use Rattle.clap.specs.declared.error.ErrorKind.TheVariants.{OutOfMemory};
 ghost use Rattle.cpa_top_words.specs.Commands.{cpaverify};
@@ -73,6 +74,14 @@ fn name_of<'a>(matches: &ArgMatches<'a>, id: &'static str) -> &'a str
     matches.get_str(id).unwrap_or("")
 }
 
+/// The name of the configuration's file, where one is named.
+fn config_of<'a>(matches: &ArgMatches<'a>) -> Option<&'a str>
+    ensures { option_map (λ s. s.now) result
+        ≡ first_of (codes "config") (rows_of (found_of matches.now)) }
+{
+    matches.get_str("config")
+}
+
 /// The job of a subcommand with what clap found for it.
 fn job_of<'a>(name: &str, matches: &ArgMatches<'a>) -> Option<Job<'a>>
     ensures { option_map meant result ≡ job_of name.now (rows_of (found_of matches.now)) }
@@ -80,13 +89,19 @@ fn job_of<'a>(name: &str, matches: &ArgMatches<'a>) -> Option<Job<'a>>
     if name == "verify" {
         Some(Job::Verify {
             program: name_of(matches, "PROGRAM"),
-            config: matches.get_str("config"),
+            config: config_of(matches),
         })
     } else if name == "replay" {
         Some(Job::Replay {
             program: name_of(matches, "PROGRAM"),
             inputs: name_of(matches, "INPUTS"),
             steps: steps_of(matches),
+        })
+    } else if name == "recheck" {
+        Some(Job::Recheck {
+            program: name_of(matches, "PROGRAM"),
+            report: name_of(matches, "REPORT"),
+            config: config_of(matches),
         })
     } else if name == "bench" {
         Some(Job::Bench {

@@ -2,7 +2,8 @@ use Rattle.std.proofs.Common.{rules, ap, ap₂, sym, refl, ◌∙◌, ◌≡◌,
 use Rattle.std.specs.Prelude.{◌&&◌, not}
 use Rattle.std.proofs.lemmas.Result.{IfOk-weaker}
 use Rattle.clap.specs.Words.{App, app_of, with_subcommand}
-use Rattle.cpa_top_words.specs.Commands.{replay_command, top_command, verify_command}
+use Rattle.cpa_top_words.specs.Commands.{recheck_command, replay_command}
+use Rattle.cpa_top_words.specs.Commands.{top_command, verify_command}
 use Rattle.cpa_top_words.proofs.command.whole_command.Goals as goal
 
 -- a plain command has no global argument
@@ -26,6 +27,12 @@ returns c =
     ≡ with_subcommand (with_subcommand top_command verify_command.top) replay_command.top =
     c.in_ok-subcommand-2.ensures.shape (third_false _ _ _ _ (ap plain c.in_ok-replay.ensures))
     ∙ ap₂ with_subcommand first (ap (λ (a : App). a.top) c.in_ok-replay.ensures) in
-    IfOk-weaker c.subcommand-3.result _ _ (λ r adds.
+    let third : app_of c.in_ok-subcommand-3.field-0
+    ≡ with_subcommand
+    (with_subcommand (with_subcommand top_command verify_command.top) replay_command.top)
+    recheck_command.top =
+    c.in_ok-subcommand-3.ensures.shape (third_false _ _ _ _ (ap plain c.in_ok-recheck.ensures))
+    ∙ ap₂ with_subcommand second (ap (λ (a : App). a.top) c.in_ok-recheck.ensures) in
+    IfOk-weaker c.subcommand-4.result _ _ (λ r adds.
     adds.shape (third_false _ _ _ _ (ap plain c.in_ok-bench.ensures))
-    ∙ ap₂ with_subcommand second (ap (λ (a : App). a.top) c.in_ok-bench.ensures)) c.subcommand-3.ensures
+    ∙ ap₂ with_subcommand third (ap (λ (a : App). a.top) c.in_ok-bench.ensures)) c.subcommand-4.ensures

@@ -1,0 +1,69 @@
+-- What comes of the text of a TRUE report of a program whose entries are checked again (this
+-- project's own).
+use Rattle.std.specs.Prelude.{◌≡◌, ℕ, List, ⊤}
+use Rattle.cpa_iface.specs.declared.analysis.Settings.{Settings}
+use Rattle.cpa_model.specs.declared.automaton.Cfa.{Cfa}
+use Rattle.cpa_model.specs.declared.program.Program.{Program}
+use Rattle.cpa_model.specs.Automata.{IsAutomatonOf}
+use Rattle.cpa_recheck.specs.declared.checking.Budget.{Budget}
+use Rattle.cpa_recheck.specs.declared.rechecking.Checked.{Checked}
+use Rattle.cpa_recheck.specs.declared.rechecking.Checked.TheVariants as checked
+use Rattle.cpa_recheck.specs.Checks.{IsChecked, entries_in}
+use Rattle.cpa_report.specs.Faults.{Breaks, IsFound, IsTold}
+use Rattle.cpa_report.specs.declared.fault.ReportError.{ReportError}
+use Rattle.cpa_report.specs.declared.fault.ReportError.TheVariants as error
+use Rattle.cpa_report.specs.declared.fault.ReportRule.{ReportRule}
+use Rattle.cpa_report_print.specs.declared.report.Report.{Report}
+use Rattle.cpa_report_print.specs.declared.report.Verdict.TheVariants as verdict
+use Rattle.cpa_top_recheck.specs.declared.finding.Finding.{Finding}
+use Rattle.cpa_top_recheck.specs.declared.finding.Finding.TheVariants as finding
+use Rattle.cpa_top_recheck.specs.declared.finding.Rechecked.{Rechecked}
+use Rattle.cpa_top_recheck.specs.Lines.{checked_text}
+
+-- ---- the text
+
+-- the text is that of a TRUE report which speaks of the program
+pub record HasReport (P : Program) (text : List ℕ) : Type 0 where
+  pub automaton : Cfa
+  pub is : IsAutomatonOf P automaton
+  pub report : Report
+  pub found : IsFound text automaton verdict.True report
+
+-- the text breaks the rule as that of a TRUE report of the program, and none that is tried before
+pub record BreaksFor (P : Program) (text : List ℕ) (rule : ReportRule) : Type 0 where
+  pub automaton : Cfa
+  pub is : IsAutomatonOf P automaton
+  pub breaks : Breaks text automaton verdict.True rule
+
+-- want of memory says nothing
+abbrev pub IsReportRefused : Program → List ℕ → ReportError → Type 0
+IsReportRefused P text (error.Fault rule) = BreaksFor P text rule
+IsReportRefused P text error.OutOfMemory = ⊤
+
+-- ---- the entries
+
+-- which of the three a check comes to
+abbrev pub finding_of : Checked → Finding
+finding_of (checked.Confirmed logs) = finding.Confirmed
+finding_of (checked.Refused number state next) = finding.Refused
+finding_of (checked.Learnt number lines) = finding.Open
+finding_of (checked.Gates number weight) = finding.Open
+
+-- what may be spent on an obligation, by one thread
+abbrev pub budget_of : Settings → Budget
+budget_of settings =
+    record { learnt = settings.learnt; gates = settings.gates; workers = 1 }
+
+-- The text is that of one TRUE report, which speaks of the program, and what is told is what comes
+-- of a check of its entries.
+pub record IsRechecked (P : Program) (settings : Settings) (text : List ℕ) (told : Rechecked)
+    : Type 0 where
+  pub automaton : Cfa
+  pub is : IsAutomatonOf P automaton
+  pub report : Report
+  pub found : IsFound text automaton verdict.True report
+  pub one : (other : Report) → IsTold text verdict.True other → other ≡ report
+  pub checked : Checked
+  pub says : IsChecked automaton (entries_in report.body) (budget_of settings) checked
+  pub finding : told.finding ≡ finding_of checked
+  pub text_is : told.text.items ≡ checked_text checked
