@@ -128,6 +128,13 @@ impl Asker {
         Ok(())
     }
 
+    /// Lets go of all steps: what is known of them was found within other budgets.
+    pub(crate) fn forget_steps(&mut self)
+        ensures { self.new ≡ self.old }
+    {
+        self.steps = None;
+    }
+
     /// The outcome that is kept of the step along the edge.
     pub(crate) fn outcome_of(
         &self,

@@ -93,6 +93,7 @@ impl Analysis for Predicate {
     {
         self.asker.budgets.learnt = settings.learnt;
         self.asker.budgets.gates = settings.gates;
+        self.asker.forget_steps();
         Ok(empty_precision(alloc))
     }
 
