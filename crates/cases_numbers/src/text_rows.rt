@@ -1,13 +1,13 @@
-//! Rows on the texts of expressions: what `read` of `cpa_expr_text` answers.
+//! Rows on the texts of expressions: what `read` and `is_expr_text` of `cpa_expr_text` answer.
 //! Proved safe by the checker alone.
 
 use cases_reader::{RowFault, bytes_of, push_number, push_word};
 use cpa_expr::{height, push_expr};
-use cpa_expr_text::read;
+use cpa_expr_text::{is_expr_text, read};
 use std::alloc::Global;
 
-/// The answer of a row on a text, where it is one: `read |TEXT`, and `nested N |TEXT`. The text is
-/// all that stands behind the bar, each blank counts.
+/// The answer of a row on a text, where it is one: `read |TEXT`, `nested N |TEXT`, `text |TEXT` and
+/// `text nested N |TEXT`. The text is all that stands behind the bar, each blank counts.
 pub fn answer(alloc: Global, out: &mut String, row: &str) -> Result<bool, RowFault> {
     let Some((front, written)) = row.split_once(" |") else {
         return Ok(false);
@@ -15,16 +15,18 @@ pub fn answer(alloc: Global, out: &mut String, row: &str) -> Result<bool, RowFau
     let text = text_of(alloc, written)?;
     if front == "read" {
         push_read(alloc, out, text.as_str())?;
-        return Ok(true);
+    } else if front == "text" {
+        push_is_text(alloc, out, text.as_str())?;
+    } else if let Some(count) = front.strip_prefix("nested ") {
+        let whole = negated(alloc, count, text.as_str())?;
+        push_height(alloc, out, whole.as_str())?;
+    } else if let Some(count) = front.strip_prefix("text nested ") {
+        let whole = negated(alloc, count, text.as_str())?;
+        push_is_text(alloc, out, whole.as_str())?;
+    } else {
+        return Ok(false);
     }
-    match front.strip_prefix("nested ") {
-        Some(count) => {
-            let count = count.parse::<u32>().map_err(|_| RowFault::Unreadable)?;
-            push_nested(alloc, out, count, text.as_str())?;
-            Ok(true)
-        }
-        None => Ok(false),
-    }
+    Ok(true)
 }
 
 /// The text that a row writes.
@@ -45,17 +47,33 @@ fn push_read(alloc: Global, out: &mut String, text: &str) -> Result<(), RowFault
     Ok(())
 }
 
-/// `nested`: how high the expression is whose text stands behind so many negations; `none` where it
-/// is no expression's.
-fn push_nested(alloc: Global, out: &mut String, count: u32, text: &str) -> Result<(), RowFault> {
+/// The text behind so many negations.
+fn negated(alloc: Global, count: &str, text: &str) -> Result<String, RowFault> {
+    let count = count.parse::<u32>().map_err(|_| RowFault::Unreadable)?;
     let mut whole = String::new(alloc);
     for _ in 0..count {
         whole.push_str("not ")?;
     }
     whole.push_str(text)?;
-    match read(alloc, whole.as_str())? {
+    Ok(whole)
+}
+
+/// `nested`: how high the expression is whose text it is; `none` where it is no expression's.
+fn push_height(alloc: Global, out: &mut String, text: &str) -> Result<(), RowFault> {
+    match read(alloc, text)? {
         Some(expr) => push_number(out, i128::from(height(expr.get())))?,
         None => push_word(out, "none")?,
     }
+    Ok(())
+}
+
+/// `text`: whether it is the text of an expression of any height.
+fn push_is_text(alloc: Global, out: &mut String, text: &str) -> Result<(), RowFault> {
+    let word = if is_expr_text(alloc, text)? {
+        "yes"
+    } else {
+        "no"
+    };
+    push_word(out, word)?;
     Ok(())
 }

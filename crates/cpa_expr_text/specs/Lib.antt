@@ -1,2 +1,4 @@
+pub mod Due
 pub mod Kinds
+pub mod Laws
 pub mod Reading

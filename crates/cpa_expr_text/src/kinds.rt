@@ -64,7 +64,7 @@ pub(crate) const TYPES: [IntType; 9] = [
 ];
 
 /// The first word of a node of the kind.
-fn kind_word(kind: Kind) -> &'static str
+pub(crate) fn kind_word(kind: Kind) -> &'static str
     ensures { result.now ≡ kind_word kind }
 {
     match kind {

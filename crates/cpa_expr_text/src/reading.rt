@@ -14,7 +14,7 @@ use cpa_ints::Boxed;
 use std::alloc::{AllocError, Global};
 
 /// The pieces of the text between its spaces.
-fn words_of(alloc: Global, text: &str) -> Result<Vec<&str>, AllocError>
+pub(crate) fn words_of(alloc: Global, text: &str) -> Result<Vec<&str>, AllocError>
     ensures { IfOk result (λ words. texts words.items ≡ slice_split (λ b. b == 32) text.now) }
 {
     text.split(' ').collect(alloc)
