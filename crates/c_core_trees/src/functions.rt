@@ -53,7 +53,7 @@ fn receiving(cells: &mut Cells, objects: &[Object]) -> Result<(), AllocError>
 }
 
 /// The cells of globals.
-fn receiving_globals(cells: &mut Cells, globals: &[Global]) -> Result<(), AllocError>
+pub fn receiving_globals(cells: &mut Cells, globals: &[Global]) -> Result<(), AllocError>
     ensures { OnOk result (so_far cells.new
         ≡ (receiving_globals globals.now (so_far cells.old)).taken) }
 {
@@ -64,7 +64,7 @@ fn receiving_globals(cells: &mut Cells, globals: &[Global]) -> Result<(), AllocE
 }
 
 /// A function.
-fn function_tree(
+pub fn function_tree(
     cells: &mut Cells,
     frames: &Frames,
     function: &TypedFunction,

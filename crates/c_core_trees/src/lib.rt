@@ -5,4 +5,4 @@
 mod functions;
 mod statements;
 
-pub use functions::{TextTrees, text_trees};
+pub use functions::{TextTrees, function_tree, receiving_globals, text_trees};

@@ -1,0 +1,6 @@
+mod DeclaredCells
+mod Measured
+mod Rests
+mod TakenCells
+mod LaidOut
+mod OneLayout

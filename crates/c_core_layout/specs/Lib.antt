@@ -1,0 +1,5 @@
+pub mod ObjectCells
+pub mod Measures
+pub mod Rests
+pub mod Layouts
+pub mod Laws

@@ -1,0 +1,13 @@
+//! The layout of a typed text: which cells its core has, and where those of each function begin; or
+//! that its core is larger than a program may be. The rules are those of `c_core_rules`.
+#![tactic(auto)]
+
+mod declared;
+mod fault;
+mod laws;
+mod placing;
+mod sizes;
+
+pub use fault::CoreError;
+pub use laws::{cores_have_their_layout, there_is_one_layout};
+pub use placing::{TextLayout, layout};
