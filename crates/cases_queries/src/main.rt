@@ -4,6 +4,7 @@
 
 mod clause_rows;
 mod formulas;
+mod interpolant_rows;
 mod operator_rows;
 mod queries;
 mod query_rows;
@@ -15,25 +16,26 @@ use cases_reader::RowFault;
 use std::alloc::{AllocError, Global};
 use std::io;
 use std::io::{BufRead, BufReader};
+use std::thread::Threads;
 
 /// Each row is answered from itself alone.
 fn main(rt: HostRuntime) -> io::Result<()> {
     let alloc = rt.alloc();
     for line in BufReader::new(alloc, rt.reader())?.lines(alloc) {
         let line = line?;
-        let printed = answered(alloc, line.as_str())?;
+        let printed = answered(&rt, alloc, line.as_str())?;
         println!(rt; "{printed}")?;
     }
     Ok(())
 }
 
 /// A row with its answer. An empty line and a remark stay as they are.
-fn answered(alloc: Global, line: &str) -> Result<String, AllocError> {
+fn answered<R: Threads + Sync>(rt: &R, alloc: Global, line: &str) -> Result<String, AllocError> {
     let mut out = String::from_str(alloc, line)?;
     if line.is_empty() || line.starts_with("#") {
         return Ok(out);
     }
-    match row::answer(alloc, line) {
+    match row::answer(rt, alloc, line) {
         Ok(answer) => {
             write!(out, " ={answer}")?;
             Ok(out)

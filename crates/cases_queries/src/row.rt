@@ -1,12 +1,13 @@
 //! A row: the word of its call and what the call takes, and behind colons expressions, clauses,
 //! formulas and lines. Proved safe by the checker alone.
 
-use crate::{clause_rows, operator_rows, query_rows, search_rows};
+use crate::{clause_rows, interpolant_rows, operator_rows, query_rows, search_rows};
 use cases_reader::{RowFault, next_word};
 use std::alloc::Global;
+use std::thread::Threads;
 
 /// The answer of a row, its words each behind a space.
-pub fn answer(alloc: Global, row: &str) -> Result<String, RowFault> {
+pub fn answer<R: Threads + Sync>(rt: &R, alloc: Global, row: &str) -> Result<String, RowFault> {
     let mut out = String::new(alloc);
     let mut parts = row.split(':');
     let mut words = parts.next().unwrap_or("").split_whitespace();
@@ -14,7 +15,8 @@ pub fn answer(alloc: Global, row: &str) -> Result<String, RowFault> {
     let known = operator_rows::answer(alloc, &mut out, word, &mut words)?
         || query_rows::answer(alloc, &mut out, word, &mut words, &mut parts)?
         || clause_rows::answer(alloc, &mut out, word, &mut words, &mut parts)?
-        || search_rows::answer(alloc, &mut out, word, &mut words, &mut parts)?;
+        || search_rows::answer(alloc, &mut out, word, &mut words, &mut parts)?
+        || interpolant_rows::answer(rt, alloc, &mut out, word, &mut words, &mut parts)?;
     if !known || parts.next().is_some() {
         return Err(RowFault::Unreadable);
     }
