@@ -1,7 +1,7 @@
 -- The JSON value of a report that fits has no float, numbers of 64 bits and keys in order, so the
 -- tokens of its line are its own.
 use Rattle.std.proofs.Common.{◌≡◌, ℕ, ◌<◌, ◌^◌, ◌+◌, ◌/◌, ◌%◌, ℤ, pos, negsuc, Bool, true, false}
-use Rattle.std.proofs.Common.{List, [], ◌∷◌, ◌++◌, refl, sym, ◌∙◌, arith}
+use Rattle.std.proofs.Common.{List, [], ◌∷◌, ◌++◌, refl, sym, ap, ◌∙◌, arith}
 use Rattle.std.specs.Prelude.{◌==◌, if◌then◌else◌}
 use Rattle.std.specs.List.{AllByRecursion, flat_map}
 use Rattle.std.proofs.lemmas.List.{append_cancel_left, append_cancel_right}
@@ -17,6 +17,7 @@ use Rattle.cpa_iface.specs.declared.precisions.Precision.{Precision}
 use Rattle.cpa_model.specs.declared.facts.Elem.{Elem}
 use Rattle.cpa_model.specs.declared.facts.Fact.{Fact}
 use Rattle.cpa_model.specs.declared.facts.Fact.TheVariants.{At, Stack, Equals, Within, Truth}
+use Rattle.cpa_report.specs.Faults.{IsTold}
 use Rattle.cpa_report_json.specs.Fits.{IsWhole, AreSmall, FactFits, ElemFits, ListedFits, PairFits}
 use Rattle.cpa_report_json.specs.Fits.{TurnFits, PrecisionFits, RefinedFits}
 use Rattle.cpa_report_json.specs.Fits.{LiteralFits, StepFits, LineFits, BodyFits}
@@ -35,6 +36,7 @@ use Rattle.cpa_report_print.specs.declared.report.Body.{Body}
 use Rattle.cpa_report_print.specs.declared.report.Body.TheVariants as body
 use Rattle.cpa_report_print.specs.declared.report.Listed.{Listed}
 use Rattle.cpa_report_print.specs.declared.report.Report.{Report}
+use Rattle.cpa_report_print.specs.declared.report.Verdict.{Verdict}
 use Rattle.cpa_report_print.specs.lemmas.Onto.{onto_alone}
 
 module _ {X : Type 0} (data_of : X → Data) (Fits : X → Type 0)
@@ -142,7 +144,7 @@ module _ (E : Expr → Type 0) where
   one : IsPlain (number_data 1)
   one = omega arith
 
-  told_plain : (t p c e : ℕ) (b : Body) → t < 2 ^ 32 → p < 2 ^ 32 → c < 2 ^ 32 → e < 2 ^ 32
+  pub told_plain : (t p c e : ℕ) (b : Body) → t < 2 ^ 32 → p < 2 ^ 32 → c < 2 ^ 32 → e < 2 ^ 32
       → BodyFits E b → IsPlain (report_data (told t p c e b))
   told_plain t p c e (body.True entries) ht hp hc he h = (
     (
@@ -301,3 +303,11 @@ same_line r line e =
     append_cancel_right line (compact_text (report_data r)) (10 ∷ [])
     (append_cancel_left (with_feed (verdict_words (verdict_of r.body))) (with_feed line)
     (with_feed (compact_text (report_data r))) e)
+
+-- and so has a text of a report that is told so
+pub line_of_told : (text line : List ℕ) (verdict : Verdict) (r : Report)
+    → text ≡ with_feed (verdict_words verdict) ++ with_feed line → IsTold text verdict r
+    → line ≡ compact_text (report_data r)
+line_of_told text line verdict r is told =
+    same_line r line
+    (ap (λ v. with_feed (verdict_words v) ++ with_feed line) told.kind ∙ sym is ∙ told.spelled)

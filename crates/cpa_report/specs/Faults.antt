@@ -1,11 +1,12 @@
 -- What a text is as a report of a program, and which rule it breaks (this project's own). The rules
--- are tried in the order P1, P6, P2, P3, P5, P4.
+-- are tried in the order P1, P6, P2, P3, P5, P4. Expressions of a report may have any height: one
+-- of more than MAX_HEIGHT levels is none of the program's.
 use Rattle.std.specs.Prelude.{◌≡◌, ℕ, ◌==◌, false, List, ◌++◌, Some, IsUtf8, ⊤}
 use Rattle.std.specs.List.{list_any}
 use Rattle.serde_json.specs.Data.{Data}
 use Rattle.serde_json.specs.Read.{read}
 use Rattle.cpa_model.specs.declared.automaton.Cfa.{Cfa}
-use Rattle.cpa_report_json.specs.Fits.{IsLow, ReportFitsBy}
+use Rattle.cpa_report_json.specs.Fits.{IsLow, ReportFits, ReportFitsBy}
 use Rattle.cpa_report_print.specs.Reports.{report_text, verdict_of, verdict_words, with_feed}
 use Rattle.cpa_report_print.specs.declared.report.Report.{Report}
 use Rattle.cpa_report_print.specs.declared.report.Verdict.{Verdict}
@@ -26,15 +27,16 @@ pub record IsJson (line : List ℕ) : Type 0 where
   pub value : Data
   pub read : read line ≡ Some value
 
--- the text is that of the report, which is of the verdict
+-- the text is that of the report, whose numbers fit their fields, and which is of the verdict
 pub record IsTold (text : List ℕ) (verdict : Verdict) (r : Report) : Type 0 where
-  pub fit : ReportFitsBy IsLow r
+  pub fit : ReportFits r
   pub kind : verdict_of r.body ≡ verdict
   pub spelled : text ≡ report_text r
 
--- and it speaks of the program
+-- and it speaks of the program, with no expression of more than MAX_HEIGHT levels
 pub record IsFound (text : List ℕ) (cfa : Cfa) (verdict : Verdict) (r : Report) : Type 0 where
   pub told : IsTold text verdict r
+  pub low : ReportFitsBy IsLow r
   pub counts : Counts cfa r
   pub inside : IsBodyIn cfa r.body
 
@@ -52,7 +54,7 @@ Breaks text cfa take P3 =
     × ((r : Report) → IsTold text take r → ⊥)
 -- it is that of a report with other counts than the program's
 Breaks text cfa take P5 = (r : Report) × IsTold text take r × (Counts cfa r → ⊥)
--- it is that of a report which names what the program lacks
+-- it is that of a report which names what the program lacks, or an expression that is too high
 Breaks text cfa take P4 =
     (r : Report) × IsTold text take r × Counts cfa r × (IsBodyIn cfa r.body → ⊥)
 

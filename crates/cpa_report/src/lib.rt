@@ -3,6 +3,7 @@
 #![tactic(auto)]
 
 mod fault;
+mod lowering;
 mod ranges;
 mod reading;
 mod telling;

@@ -1,13 +1,17 @@
 //! A report from its text, or the first rule that the text breaks.
-ghost use Rattle.std.specs.Prelude.{◌≡◌, ◌↔◌, IsTrue, IfOk, IfErr, MatchOption, MatchBool, List, ℕ};
+ghost use Rattle.std.specs.Prelude.{◌≡◌, ◌↔◌, IsTrue, IfOk, IfErr, MatchOption, List, ℕ, IsUtf8};
 ghost use Rattle.cpa_report.specs.Faults.{IsLined, IsJson, IsTold, IsFound, Breaks, IsRefused};
+ghost use Rattle.cpa_report.specs.Heights.{HasNoLow, IsLineLike};
+ghost use Rattle.cpa_report.specs.declared.fault.ReportError.TheVariants.{OutOfMemory};
 ghost use Rattle.cpa_report.specs.declared.fault.ReportRule.TheVariants as rule;
 ghost use Rattle.cpa_report_print.specs.declared.report.Report.{Report as AReport};
 ghost use Rattle.cpa_report_print.specs.declared.report.Verdict.{Verdict as AVerdict};
 
 use crate::fault::{ReportError, ReportRule};
+use crate::lowering::told_high;
 use crate::ranges::{has_counts, is_body_in};
 use crate::telling::told;
+use cpa_expr_text::a_text_is_of_one_expression;
 use cpa_model::Cfa;
 use cpa_report_print::{Report, Verdict};
 use serde_json::Value;
@@ -68,16 +72,54 @@ fn is_json(alloc: Global, line: &[u8]) -> Result<bool, AllocError>
     }
 }
 
+/// The rule that a text breaks whose line is that of a report with the counts of this one, and with
+/// an expression that is too high.
+fn high_rule(low: &Report, cfa: &Cfa) -> ReportRule
+    ensures { (text line : List ℕ) (take : AVerdict) → IsLined text take line
+        → HasNoLow text take line → IsUtf8 line → IsLineLike line take low.now
+        → Breaks text cfa.now take result }
+{
+    if has_counts(low, cfa) {
+        ReportRule::P4
+    } else {
+        ReportRule::P5
+    }
+}
+
+/// The rule that a text with this line breaks, where it is that of no report with low expressions.
+fn unread_rule(
+    alloc: Global,
+    line: &[u8],
+    cfa: &Cfa,
+    take: Verdict,
+) -> Result<ReportRule, AllocError>
+    ensures { (text : List ℕ) → IsLined text take line.now → HasNoLow text take line.now
+        → IfOk result (Breaks text cfa.now take) }
+{
+    if let Some(low) = told_high(alloc, line, take)? {
+        return Ok(high_rule(&low, cfa));
+    }
+    if is_json(alloc, line)? {
+        Ok(ReportRule::P3)
+    } else {
+        Ok(ReportRule::P2)
+    }
+}
+
 /// The report of the verdict whose text it is, which speaks of the program: no other report has
 /// this text. Else the first rule that the text breaks.
 ///
-/// Time is linear in the text's length but for sorted clauses. Where the text is no report's, a
-/// value of `serde_json` is made of its second line.
+/// Time is linear in the text's length but for sorted clauses. Where the text is no report's with
+/// low expressions, its second line is read again with such ones in place of all; where it is no
+/// report's at all, a value of `serde_json` is made of it.
 pub fn read(alloc: Global, text: &[u8], cfa: &Cfa, take: Verdict) -> Result<Report, ReportError>
     ensures found { IfOk result (IsFound text.now cfa.now take) }
     ensures one { IfOk result (λ r. (s : AReport) → IsTold text.now take s → s ≡ r) }
     ensures refused { IfErr result (IsRefused text.now cfa.now take) }
+    ensures back { (r : AReport) → IsFound text.now cfa.now take r
+        → IfErr result (λ e. e ≡ OutOfMemory) }
 {
+    a_text_is_of_one_expression();
     let Some(line) = line_behind(text, take) else {
         let rule = if has_verdict(text) {
             ReportRule::P6
@@ -87,11 +129,7 @@ pub fn read(alloc: Global, text: &[u8], cfa: &Cfa, take: Verdict) -> Result<Repo
         return Err(ReportError::Fault(rule));
     };
     let Some(report) = told(alloc, text, line, take)? else {
-        let rule = if is_json(alloc, line)? {
-            ReportRule::P3
-        } else {
-            ReportRule::P2
-        };
+        let rule = unread_rule(alloc, line, cfa, take)?;
         return Err(ReportError::Fault(rule));
     };
     if !has_counts(&report, cfa) {

@@ -1,9 +1,10 @@
 //! The report whose text a text is. A reader promises completeness alone, so what was read is
 //! printed and compared. Proved with `proofs/Plainness.antt`.
-ghost use Rattle.std.specs.Prelude.{◌≡◌, ◌↔◌, IsTrue, IfOk, IfSome, Some, IsUtf8};
-ghost use Rattle.cpa_report.specs.Faults.{IsLined, IsTold};
+ghost use Rattle.std.specs.Prelude.{◌≡◌, ◌↔◌, ◌++◌, IsTrue, IfOk, IfSome, Some, IsUtf8};
+ghost use Rattle.cpa_report.specs.Faults.{IsTold};
 ghost use Rattle.cpa_report_json.specs.Fits.{IsLow, ReportFitsBy};
 ghost use Rattle.cpa_report_print.specs.Reports.{report_data, report_text, verdict_of};
+ghost use Rattle.cpa_report_print.specs.Reports.{verdict_words, with_feed};
 ghost use Rattle.cpa_report_print.specs.declared.report.Report.{Report as AReport};
 ghost use Rattle.serde_json.specs.Written.{compact_text};
 
@@ -38,17 +39,19 @@ fn is_text(alloc: Global, text: &[u8], report: &Report) -> Result<bool, AllocErr
     Ok(spelled.as_slice() == text)
 }
 
-/// The report of the verdict whose text it is, if there is one. The text's second line is given.
+/// The report of the verdict whose text it is and whose expressions are low, if there is one. The
+/// text's second line is given.
 pub(crate) fn told(
     alloc: Global,
     text: &[u8],
     line: &[u8],
     verdict: Verdict,
 ) -> Result<Option<Report>, AllocError>
-    requires { IsLined text.now verdict line.now }
+    requires { text.now ≡ with_feed (verdict_words verdict) ++ with_feed line.now }
     ensures found { IfOk result (λ found. IfSome found (IsTold text.now verdict)) }
+    ensures low { IfOk result (λ found. IfSome found (ReportFitsBy IsLow)) }
     ensures every { IsUtf8 line.now → IfOk result (λ found. (r : AReport)
-        → IsTold text.now verdict r → found ≡ Some r) }
+        → IsTold text.now verdict r → ReportFitsBy IsLow r → found ≡ Some r) }
     ensures utf8 { IfOk result (λ found. IfSome found (λ r. IsUtf8 line.now)) }
 {
     let Ok(line) = str::from_utf8(line) else {
