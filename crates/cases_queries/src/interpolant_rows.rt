@@ -1,7 +1,7 @@
 //! Rows on interpolants: the partials of a refutation by one thread and by several, the expression
 //! of the last one, and formulas joined. Proved safe with `proofs/interpolant_rows/`.
 
-ghost use Rattle.std.specs.Prelude.{IsTrue, IfOk};
+ghost use Rattle.std.specs.Prelude.{◌≡◌, ◌-◌, [], Some, map, length, slice_get, IsTrue, IfOk};
 ghost use Rattle.cpa_cnf.specs.Lines.{IsRefutation};
 
 use crate::formulas::{are_below, formula, line};
@@ -10,6 +10,7 @@ use cases_reader::{RowFault, end_row, next_index, next_part, next_word, push_wor
 use cpa_audit::NoGate;
 use cpa_chains::{Partial, partials, partials_par};
 use cpa_cnf::{Cnf, Line, Marks, check_line};
+use cpa_expr::push_expr;
 use cpa_interpolant_bits::Bit;
 use cpa_interpolant_conditions::interpolant;
 use cpa_interpolant_joining::join;
@@ -57,7 +58,7 @@ fn sides(alloc: Global, word: &str) -> Result<Vec<bool>, AllocError> {
 }
 
 /// `VARS SIDES : FORMULA : LINE : LINE ..`
-fn chains(
+fn read_chains(
     alloc: Global,
     words: &mut SplitWhitespace<'_>,
     parts: &mut Split<'_, char>,
@@ -87,7 +88,10 @@ fn is_refutation(alloc: Global, cnf: &Cnf, log: &[Line]) -> Result<bool, AllocEr
 }
 
 /// Whether the last line has no literal.
-fn ends_empty(log: &[Line]) -> bool {
+fn ends_empty(log: &[Line]) -> bool
+    ensures { IsTrue result
+        → slice_get (map (λ line. line.clause) log.now) (length log.now - 1) ≡ Some [] }
+{
     match log.last() {
         Some(line) => line.clause.is_empty(),
         None => false,
@@ -104,7 +108,7 @@ fn all_partials<R: Threads + Sync>(
     parts: &mut Split<'_, char>,
 ) -> Result<(), RowFault> {
     let workers = next_index(words)?;
-    let chains = chains(alloc, words, parts)?;
+    let chains = read_chains(alloc, words, parts)?;
     push_partials(out, &some_partials(rt, alloc, workers, &chains)?)
 }
 
@@ -168,7 +172,7 @@ fn expression(
     words: &mut SplitWhitespace<'_>,
     parts: &mut Split<'_, char>,
 ) -> Result<(), RowFault> {
-    let chains = chains(alloc, words, parts)?;
+    let chains = read_chains(alloc, words, parts)?;
     let cnf = &chains.cnf;
     let sides = &chains.sides;
     let log = &chains.log;
@@ -177,7 +181,10 @@ fn expression(
     }
     let bits = bits(alloc, cnf.vars)?;
     match interpolant(alloc, cnf, sides, log, &bits)? {
-        Some(expression) => Ok(write!(out, " {expression}")?),
+        Some(expression) => {
+            out.push_str(" ")?;
+            Ok(push_expr(out, expression.get())?)
+        }
         None => Ok(push_word(out, "large")?),
     }
 }
