@@ -14,9 +14,11 @@ use Rattle.cpa_expr.specs.Cells.{AreValues}
 use Rattle.cpa_interval_bounds.specs.declared.bounds.Bounds.{Bounds}
 use Rattle.cpa_interval_bounds.specs.Bounds.{IsOf, Has, bounds}
 use Rattle.cpa_interval_bounds.specs.ExpressionBounds.{AreOf, LieWithin}
-use Rattle.cpa_interval.specs.Cells.{with_fact, with_facts, cell_bounds, ranges_of}
-use Rattle.cpa_interval.proofs.ZipLemmas.{set_within, set_of, type_at, ranges_are, ranges_lie}
-use Rattle.cpa_interval.proofs.ZipLemmas.{as_many, types_length}
+use Rattle.cpa_interval.specs.Cells.{with_fact, with_facts, cell_bounds}
+use Rattle.cpa_interval_acts.specs.Cells.{ranges_of}
+use Rattle.cpa_interval_acts.specs.lemmas.ZipLemmas.{set_within, set_of, type_at, ranges_are}
+use Rattle.cpa_interval_acts.specs.lemmas.ZipLemmas.{ranges_lie}
+use Rattle.cpa_interval_acts.specs.lemmas.ZipLemmas.{as_many, types_length}
 
 -- ---- of a state
 

@@ -24,10 +24,11 @@ use Rattle.cpa_interval_bounds.specs.ExpressionBounds.{AreOf, LieWithin}
 use Rattle.cpa_interval_bounds.specs.lemmas.Ranges.{range_of-is}
 use Rattle.cpa_interval.specs.Steps.{steps, one_where}
 use Rattle.cpa_interval.specs.lemmas.Falls.{few}
-use Rattle.cpa_interval.specs.Cells.{ranges_of, with_fact, with_facts, cell_bounds, is_whole}
+use Rattle.cpa_interval.specs.Cells.{with_fact, with_facts, cell_bounds, is_whole}
+use Rattle.cpa_interval_acts.specs.Cells.{ranges_of}
 use Rattle.cpa_interval.specs.Cells.{fact_of, facts_from}
 use Rattle.cpa_interval.specs.Ranks.{steps_along, same_facts, is_regular, rank_along}
-use Rattle.cpa_interval.proofs.ZipLemmas.{some_value, type_in, type_of_cell}
+use Rattle.cpa_interval_acts.specs.lemmas.ZipLemmas.{some_value, type_in, type_of_cell}
 
 -- what holds of the fact of each cell holds of all facts of the cells
 pub facts_all : (P : Fact → Type 0) (kept : ℕ → Bool) (n : ℕ) (cs : List Cell) (bs : List Bounds)

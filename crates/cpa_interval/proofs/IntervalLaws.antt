@@ -36,10 +36,10 @@ use Rattle.cpa_interval_bounds.specs.ExpressionBounds.{AreOf, LieWithin}
 use Rattle.cpa_interval_bounds.specs.lemmas.Ranges.{only-is}
 use Rattle.cpa_interval.specs.Numbers.{near}
 use Rattle.cpa_interval.specs.Steps.{distinct}
-use Rattle.cpa_interval.specs.Acts.{after_act}
+use Rattle.cpa_interval_acts.specs.Acts.{after_act}
 use Rattle.cpa_interval.specs.Cells.{cell_bounds, elem_of, elem_of_all, facts_from}
 use Rattle.cpa_interval.specs.Covers.{covers, has_covered}
-use Rattle.cpa_interval.specs.Cuts.{cut_cell}
+use Rattle.cpa_interval_acts.specs.Cuts.{cut_cell}
 use Rattle.cpa_interval.specs.Intervals.{intervals, starts_of}
 use Rattle.cpa_interval.specs.Merging.{merged, merged_all, merged_along, is_kept, numbers_for}
 use Rattle.cpa_interval.specs.Ranks.{rank, height, rank_along}
@@ -47,12 +47,13 @@ use Rattle.cpa_interval.specs.Strengthening.{has_bound, met_cell, met, met_facts
 use Rattle.cpa_interval.specs.Strengthening.{strengthened}
 use Rattle.cpa_interval.specs.Transfer.{elems_of, next_intervals}
 use Rattle.cpa_interval.specs.lemmas.CoverLaws.{covers-within, covers-same}
-use Rattle.cpa_interval.proofs.ZipLemmas.{as_many, types_length}
+use Rattle.cpa_interval_acts.specs.lemmas.ZipLemmas.{as_many, types_length}
 use Rattle.cpa_interval.proofs.CellLemmas.{cells_lie, cells_are}
 use Rattle.cpa_interval.proofs.ElemLemmas.{facts_hold, facts_shaped, rank_few, kept_bounds}
 use Rattle.cpa_interval.proofs.ElemLemmas.{kept_facts, kept_length}
-use Rattle.cpa_interval.proofs.CutLemmas.{Lies, Are, lies_then, are_then, cut_lies, cut_are}
-use Rattle.cpa_interval.proofs.ActLemmas.{act_lies, act_are}
+use Rattle.cpa_interval_acts.specs.lemmas.CutLemmas.{Lies, Are, lies_then, are_then, cut_lies}
+use Rattle.cpa_interval_acts.specs.lemmas.CutLemmas.{cut_are}
+use Rattle.cpa_interval_acts.specs.lemmas.ActLemmas.{act_lies, act_are}
 use Rattle.cpa_interval.proofs.MergeLemmas.{merged_are, merged_lies, widened_hold, covered_all}
 use Rattle.cpa_interval.proofs.MergeLemmas.{rank_falls}
 

@@ -1,9 +1,5 @@
-pub mod ZipLemmas
 pub mod CellLemmas
 pub mod ElemLemmas
-pub mod CutLemmas
-pub mod AssumeLemmas
-pub mod ActLemmas
 pub mod LoopLemmas
 pub mod MergeLemmas
 pub mod IntervalLaws

@@ -16,7 +16,7 @@ use Rattle.cpa_iface.specs.declared.precisions.Precision.{Precision}
 use Rattle.cpa_path_folds.specs.Tracking.{is_tracked}
 use Rattle.cpa_query.specs.Queries.{is_marked}
 use Rattle.cpa_interval_bounds.specs.declared.bounds.Bounds.{Bounds}
-use Rattle.cpa_interval.specs.Acts.{after_act}
+use Rattle.cpa_interval_acts.specs.Acts.{after_act}
 use Rattle.cpa_interval.specs.Cells.{with_fact, with_facts, cell_bounds, fact_of, facts_from}
 use Rattle.cpa_interval.specs.Cells.{elem_of_all}
 use Rattle.cpa_interval.specs.Merging.{merged_bounds, merged_along, merged_all, is_kept}

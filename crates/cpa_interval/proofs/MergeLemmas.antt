@@ -26,14 +26,15 @@ use Rattle.cpa_interval_bounds.specs.lemmas.Reads.{cell_is}
 use Rattle.cpa_interval.specs.Widening.{widened}
 use Rattle.cpa_interval.specs.Steps.{distinct, steps, one_where}
 use Rattle.cpa_interval.specs.WideningLaws.{widening_ends}
-use Rattle.cpa_interval.specs.Cells.{ranges_of, with_facts, cell_bounds, is_whole, facts_from}
+use Rattle.cpa_interval.specs.Cells.{with_facts, cell_bounds, is_whole, facts_from}
+use Rattle.cpa_interval_acts.specs.Cells.{ranges_of}
 use Rattle.cpa_interval.specs.Covers.{says, has_covered}
 use Rattle.cpa_interval.specs.Merging.{merged_bounds, merged_along}
 use Rattle.cpa_interval.specs.Ranks.{steps_along, same_facts, is_regular, rank_along}
-use Rattle.cpa_interval.proofs.ZipLemmas.{type_in, type_of_cell, as_many, types_length}
+use Rattle.cpa_interval_acts.specs.lemmas.ZipLemmas.{type_in, type_of_cell, as_many, types_length}
 use Rattle.cpa_interval.proofs.CellLemmas.{cells_are}
 use Rattle.cpa_interval.proofs.ElemLemmas.{facts_all, same_facts-means, rank_is}
-use Rattle.cpa_interval.proofs.ActLemmas.{set_same, set_other, told_apart}
+use Rattle.cpa_interval_acts.specs.lemmas.ActLemmas.{set_same, set_other, told_apart}
 
 -- ---- merged bounds
 

@@ -1,7 +1,7 @@
 -- What an element says of the cells (CAV 2007, section 2, for intervals: this project's own). A
 -- list of bounds has those of each cell.
 use Rattle.std.specs.Prelude.{ℕ, ◌+◌, Bool, true, not, ◌&&◌, if◌then◌else◌, List, [], ◌∷◌, ◌++◌}
-use Rattle.std.specs.Prelude.{map, slice_set}
+use Rattle.std.specs.Prelude.{slice_set}
 use Rattle.std.specs.Ordering.{int_eq}
 use Rattle.cpa_ints.specs.declared.integers.IntType.{IntType}
 use Rattle.cpa_ints.specs.Integers.{least, greatest}
@@ -10,11 +10,8 @@ use Rattle.cpa_model.specs.declared.facts.Fact.{Fact}
 use Rattle.cpa_model.specs.declared.facts.Fact.TheVariants.{Within}
 use Rattle.cpa_model.specs.declared.facts.Elem.{Elem}
 use Rattle.cpa_interval_bounds.specs.declared.bounds.Bounds.{Bounds}
-use Rattle.cpa_interval_bounds.specs.Bounds.{bounds, range_of}
-
--- all numbers of the type of each cell
-abbrev pub ranges_of : List Cell → List Bounds
-ranges_of = map (λ c. range_of c.ty)
+use Rattle.cpa_interval_bounds.specs.Bounds.{bounds}
+use Rattle.cpa_interval_acts.specs.Cells.{ranges_of}
 
 -- the bounds with those that the fact gives its cell
 abbrev pub with_fact : Fact → List Bounds → List Bounds

@@ -1,6 +1,4 @@
 pub mod Cells
-pub mod Cuts
-pub mod Acts
 pub mod Transfer
 pub mod Strengthening
 pub mod Covers

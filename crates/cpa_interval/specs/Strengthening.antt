@@ -13,7 +13,7 @@ use Rattle.cpa_path_folds.specs.Tracking.{is_tracked}
 use Rattle.cpa_interval_bounds.specs.declared.bounds.Bounds.{Bounds}
 use Rattle.cpa_interval_bounds.specs.Bounds.{bounds, only}
 use Rattle.cpa_interval.specs.Cells.{cell_bounds, elem_of_all}
-use Rattle.cpa_interval.specs.Cuts.{cut_cell}
+use Rattle.cpa_interval_acts.specs.Cuts.{cut_cell}
 
 -- the fact gives a cell bounds
 abbrev pub is_bound : Fact → Bool

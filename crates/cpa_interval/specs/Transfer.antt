@@ -8,7 +8,7 @@ use Rattle.cpa_iface.specs.declared.precisions.Precision.{Precision}
 use Rattle.cpa_path_folds.specs.Tracking.{is_tracked}
 use Rattle.cpa_interval_bounds.specs.declared.bounds.Bounds.{Bounds}
 use Rattle.cpa_interval.specs.Cells.{cell_bounds, elem_of}
-use Rattle.cpa_interval.specs.Acts.{after_act}
+use Rattle.cpa_interval_acts.specs.Acts.{after_act}
 
 -- the element of the cells that are kept, or none
 abbrev pub elems_of : (ℕ → Bool) → List Cell → Option (List Bounds) → List Elem

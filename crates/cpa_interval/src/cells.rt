@@ -1,12 +1,13 @@
 //! What an element says of the cells, and the element of the bounds of cells, by
 //! `specs/Cells.antt`. Proved with `proofs/CellLemmas.antt`.
 
-ghost use Rattle.std.specs.Prelude.{◌≡◌, ◌<◌, ◌^◌, ◌++◌, true, length, slice_get, slice_set, Some};
+ghost use Rattle.std.specs.Prelude.{◌≡◌, ◌<◌, ◌^◌, ◌++◌, true, length, slice_get, Some};
 ghost use Rattle.std.specs.Prelude.{IfOk, OnOk};
 ghost use Rattle.cpa_query.specs.Queries.{is_marked};
-ghost use Rattle.cpa_interval.specs.Cells.{ranges_of, with_fact, with_facts, cell_bounds, is_whole};
+ghost use Rattle.cpa_interval.specs.Cells.{with_fact, with_facts, cell_bounds, is_whole};
 ghost use Rattle.cpa_interval.specs.Cells.{fact_of, elem_of, elem_of_all};
 
+use cpa_interval_acts::{put, ranges_of};
 use cpa_interval_bounds::Bounds;
 use cpa_ints::IntType;
 use cpa_model::{Cell, Elem, Fact, Seq};
@@ -24,17 +25,6 @@ pub(crate) fn cell_bounds(
 {
     let mut all = ranges_of(alloc, cells)?;
     put_facts(&mut all, facts);
-    Ok(all)
-}
-
-/// All numbers of the type of each cell.
-fn ranges_of(alloc: Global, cells: &[Cell]) -> Result<Vec<Bounds>, AllocError>
-    ensures { IfOk result (λ all. all.items ≡ ranges_of cells.now) }
-{
-    let mut all = Vec::new(alloc);
-    for cell in cells {
-        all.push(Bounds::range_of(cell.ty))?;
-    }
     Ok(all)
 }
 
@@ -63,15 +53,6 @@ fn put_fact(all: &mut [Bounds], fact: &Fact)
 {
     if let Fact::Within { cell, lo, hi } = fact {
         put(all, *cell as usize, Bounds { lo: *lo, hi: *hi });
-    }
-}
-
-/// The bounds for the cell, if it is there.
-pub(crate) fn put(all: &mut [Bounds], cell: usize, own: Bounds)
-    ensures { all.new ≡ slice_set all.old cell own }
-{
-    if cell < all.len() {
-        all[cell] = own;
     }
 }
 

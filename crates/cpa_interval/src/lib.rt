@@ -2,10 +2,8 @@
 //! (`specs/Intervals.antt`). That it keeps the laws of an analysis is shown in `proofs/`.
 #![tactic(auto)]
 
-mod acts;
 mod cells;
 mod covers;
-mod cuts;
 mod interval;
 mod merging;
 mod numbers;

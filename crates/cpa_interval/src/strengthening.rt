@@ -11,9 +11,9 @@ ghost use Rattle.cpa_interval.specs.Strengthening.{is_bound, has_bound, met_cell
 ghost use Rattle.cpa_interval.specs.Strengthening.{met_elems, strengthened};
 
 use crate::cells::{cell_bounds, elem_of_all};
-use crate::cuts::cut_cell;
 use cpa_expr::CmpOp;
 use cpa_iface::Precision;
+use cpa_interval_acts::cut_cell;
 use cpa_interval_bounds::Bounds;
 use cpa_model::{Cell, Cfa, Elem, Fact, copy_elem};
 use cpa_path_folds::{is_marked, tracked_marks};

@@ -4,12 +4,12 @@ ghost use Rattle.std.specs.Prelude.{◌≡◌, ◌<◌, ◌^◌, [], ◌∷◌, 
 ghost use Rattle.cpa_model.specs.Automata.{IsAutomaton};
 ghost use Rattle.cpa_iface.specs.Meanings.{IsPrecision};
 ghost use Rattle.cpa_query.specs.Queries.{is_marked};
-ghost use Rattle.cpa_interval.specs.Acts.{after_act};
+ghost use Rattle.cpa_interval_acts.specs.Acts.{after_act};
 ghost use Rattle.cpa_interval.specs.Transfer.{elems_of, next_intervals};
 
-use crate::acts::do_act;
 use crate::cells::{cell_bounds, elem_of};
 use cpa_iface::Precision;
+use cpa_interval_acts::do_act;
 use cpa_interval_bounds::Bounds;
 use cpa_model::{Act, Cell, Cfa, Edge, Elem};
 use cpa_path_folds::tracked_marks;

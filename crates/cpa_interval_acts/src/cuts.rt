@@ -4,8 +4,8 @@
 ghost use Rattle.std.specs.Prelude.{◌≡◌, None, Some, if◌then◌else◌};
 ghost use Rattle.cpa_expr.specs.declared.tree.Expr.{out-Expr};
 ghost use Rattle.cpa_interval_bounds.specs.ExpressionBounds.{bounds_of};
-ghost use Rattle.cpa_interval.specs.Cuts.{cut_at, cut_cell, fits, fitting, side_of, cut_side};
-ghost use Rattle.cpa_interval.specs.Cuts.{cut_both, where_holds, compared_node, decided, assumed};
+ghost use Rattle.cpa_interval_acts.specs.Cuts.{cut_at, cut_cell, fits, fitting, side_of, cut_side};
+ghost use Rattle.cpa_interval_acts.specs.Cuts.{cut_both, where_holds, compared_node, decided, assumed};
 
 use crate::cells::put;
 use cpa_expr::{CmpOp, Expr};
@@ -93,7 +93,7 @@ pub(crate) fn cut_side(op: CmpOp, e: &Expr, other: Bounds, all: &mut [Bounds]) -
 }
 
 /// Cuts the bounds of a cell.
-pub(crate) fn cut_cell(op: CmpOp, cell: u32, other: Bounds, all: &mut [Bounds]) -> bool
+pub fn cut_cell(op: CmpOp, cell: u32, other: Bounds, all: &mut [Bounds]) -> bool
     ensures { (if result then Some all.new else None) ≡ cut_cell op cell other all.old }
 {
     match bounds_at(all, cell as usize) {

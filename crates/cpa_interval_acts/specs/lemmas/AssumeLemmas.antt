@@ -18,8 +18,10 @@ use Rattle.cpa_expr.specs.lemmas.Parts.{by_parts, every_rolled}
 use Rattle.cpa_path_folds.specs.lemmas.ScalarReads.{StaysInRange}
 use Rattle.cpa_interval_bounds.specs.declared.bounds.Bounds.{Bounds}
 use Rattle.cpa_interval_bounds.specs.ExpressionBounds.{AreOf, LieWithin}
-use Rattle.cpa_interval.specs.Cuts.{Assumed, decided, assume_step, assumed, after_node, both_after}
-use Rattle.cpa_interval.proofs.CutLemmas.{Lies, Are, lies_then, are_then, decided_lies, decided_are}
+use Rattle.cpa_interval_acts.specs.Cuts.{Assumed, decided, assume_step, assumed, after_node}
+use Rattle.cpa_interval_acts.specs.Cuts.{both_after}
+use Rattle.cpa_interval_acts.specs.lemmas.CutLemmas.{Lies, Are, lies_then, are_then, decided_lies}
+use Rattle.cpa_interval_acts.specs.lemmas.CutLemmas.{decided_are}
 
 abbrev assuming : Expr → Assumed
 assuming = fold-Expr Assumed assume_step

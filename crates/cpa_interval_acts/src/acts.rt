@@ -3,8 +3,8 @@
 
 ghost use Rattle.std.specs.Prelude.{◌≡◌, ◌+◌, ◌<◌, ◌^◌, None, Some, slice_get, if◌then◌else◌};
 ghost use Rattle.cpa_interval_bounds.specs.ExpressionBounds.{bounds_of};
-ghost use Rattle.cpa_interval.specs.Acts.{joined_at, joined_from, stored, placed, written, indexed};
-ghost use Rattle.cpa_interval.specs.Acts.{assigned, freed, after_act};
+ghost use Rattle.cpa_interval_acts.specs.Acts.{joined_at, joined_from, stored, placed, written, indexed};
+ghost use Rattle.cpa_interval_acts.specs.Acts.{assigned, freed, after_act};
 
 use crate::cells::put;
 use crate::cuts::{assume, cut_side};
@@ -13,7 +13,7 @@ use cpa_interval_bounds::{Bounds, Places, bounds_at, bounds_of, named, places_of
 use cpa_model::{Act, Cell};
 
 /// What the act makes of the bounds, and whether it can be done.
-pub(crate) fn do_act(cells: &[Cell], act: &Act, all: &mut [Bounds]) -> bool
+pub fn do_act(cells: &[Cell], act: &Act, all: &mut [Bounds]) -> bool
     ensures { (if result then Some all.new else None) ≡ after_act cells.now act.now all.old }
 {
     match act {

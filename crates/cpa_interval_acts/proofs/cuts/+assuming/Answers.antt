@@ -1,7 +1,8 @@
 -- Tests that are asked as a whole.
 use Rattle.std.proofs.Common.{sym, ◌∙◌}
-use Rattle.cpa_interval.proofs.AssumeLemmas.{and_decided, or_decided, assumed_whole, plain_whole}
-use Rattle.cpa_interval.proofs.cuts.+assuming.Goals as goal
+use Rattle.cpa_interval_acts.specs.lemmas.AssumeLemmas.{and_decided, or_decided, assumed_whole}
+use Rattle.cpa_interval_acts.specs.lemmas.AssumeLemmas.{plain_whole}
+use Rattle.cpa_interval_acts.proofs.cuts.+assuming.Goals as goal
 
 pub returns-else-holds : goal.returns-else-holds
 returns-else-holds t c =

@@ -33,13 +33,14 @@ use Rattle.cpa_interval_bounds.specs.lemmas.Sets.{hull_left, hull_right}
 use Rattle.cpa_interval_bounds.specs.lemmas.Ranges.{range_of-is, hull-is}
 use Rattle.cpa_interval_bounds.specs.lemmas.Reads.{AreInside, named_inside, Names, named_has}
 use Rattle.cpa_interval_bounds.specs.lemmas.TruthSets.{SomeHas}
-use Rattle.cpa_interval.specs.Cuts.{cut_side}
-use Rattle.cpa_interval.specs.Acts.{joined_at, joined_from, stored, placed, written, indexed}
-use Rattle.cpa_interval.specs.Acts.{assigned, freed, after_act}
-use Rattle.cpa_interval.proofs.ZipLemmas.{set_within, both_set, value_set, set_of, value_in}
-use Rattle.cpa_interval.proofs.ZipLemmas.{type_in, type_of_cell, some_type}
-use Rattle.cpa_interval.proofs.CutLemmas.{Lies, Are, are_then, side_lies, side_are}
-use Rattle.cpa_interval.proofs.AssumeLemmas.{assumed_are, assumed_lies}
+use Rattle.cpa_interval_acts.specs.Cuts.{cut_side}
+use Rattle.cpa_interval_acts.specs.Acts.{joined_at, joined_from, stored, placed, written, indexed}
+use Rattle.cpa_interval_acts.specs.Acts.{assigned, freed, after_act}
+use Rattle.cpa_interval_acts.specs.lemmas.ZipLemmas.{set_within, both_set, value_set, set_of}
+use Rattle.cpa_interval_acts.specs.lemmas.ZipLemmas.{value_in}
+use Rattle.cpa_interval_acts.specs.lemmas.ZipLemmas.{type_in, type_of_cell, some_type}
+use Rattle.cpa_interval_acts.specs.lemmas.CutLemmas.{Lies, Are, are_then, side_lies, side_are}
+use Rattle.cpa_interval_acts.specs.lemmas.AssumeLemmas.{assumed_are, assumed_lies}
 
 -- ---- several cells
 

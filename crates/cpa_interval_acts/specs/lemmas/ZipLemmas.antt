@@ -11,7 +11,7 @@ use Rattle.cpa_interval_bounds.specs.declared.bounds.Bounds.{Bounds}
 use Rattle.cpa_interval_bounds.specs.Bounds.{IsOf, Has, range_of}
 use Rattle.cpa_interval_bounds.specs.ExpressionBounds.{AreOf, LieWithin}
 use Rattle.cpa_interval_bounds.specs.lemmas.Ranges.{range_of-is}
-use Rattle.cpa_interval.specs.Cells.{ranges_of}
+use Rattle.cpa_interval_acts.specs.Cells.{ranges_of}
 
 -- bounds that have the cell's value
 pub set_within : (bs : List Bounds) (vs : List ℤ) (k : ℕ) (b : Bounds) → LieWithin bs vs

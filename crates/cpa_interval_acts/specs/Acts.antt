@@ -11,7 +11,7 @@ use Rattle.cpa_interval_bounds.specs.declared.elements.Places.{Places}
 use Rattle.cpa_interval_bounds.specs.Bounds.{range_of, hull}
 use Rattle.cpa_interval_bounds.specs.Elements.{places_of, named}
 use Rattle.cpa_interval_bounds.specs.ExpressionBounds.{bounds_of}
-use Rattle.cpa_interval.specs.Cuts.{cut_side, assumed}
+use Rattle.cpa_interval_acts.specs.Cuts.{cut_side, assumed}
 
 -- ---- writes
 

@@ -31,9 +31,11 @@ use Rattle.cpa_interval_bounds.specs.lemmas.Sets.{has_means}
 use Rattle.cpa_interval_bounds.specs.lemmas.TruthSets.{SomeHas, cut_has, truth_of_number}
 use Rattle.cpa_interval_bounds.specs.lemmas.TruthSets.{opposite_holds, exchanged_holds}
 use Rattle.cpa_interval_bounds.specs.lemmas.Hulls.{cut_hull}
-use Rattle.cpa_interval.specs.Cuts.{cut_at, cut_cell, fits, fitting, side_of, cut_where, cut_side}
-use Rattle.cpa_interval.specs.Cuts.{cut_both, where_holds, compared_node, decided}
-use Rattle.cpa_interval.proofs.ZipLemmas.{set_within, set_of, value_in, some_value, type_in}
+use Rattle.cpa_interval_acts.specs.Cuts.{cut_at, cut_cell, fits, fitting, side_of, cut_where}
+use Rattle.cpa_interval_acts.specs.Cuts.{cut_side}
+use Rattle.cpa_interval_acts.specs.Cuts.{cut_both, where_holds, compared_node, decided}
+use Rattle.cpa_interval_acts.specs.lemmas.ZipLemmas.{set_within, set_of, value_in, some_value}
+use Rattle.cpa_interval_acts.specs.lemmas.ZipLemmas.{type_in}
 
 -- bounds are left, and they have the values
 abbrev pub Lies : List ℤ → Option (List Bounds) → Type 0

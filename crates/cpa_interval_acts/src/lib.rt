@@ -1,0 +1,13 @@
+//! What tests and acts make of the bounds of cells. The definitions stand in `specs/`, what they mean
+//! in `laws`.
+#![tactic(auto)]
+
+mod acts;
+mod cells;
+mod cuts;
+mod laws;
+
+pub use acts::do_act;
+pub use cells::{put, ranges_of};
+pub use cuts::cut_cell;
+pub use laws::bounds_follow_acts;
