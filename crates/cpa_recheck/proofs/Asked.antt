@@ -15,11 +15,13 @@ use Rattle.cpa_model.specs.declared.automaton.Cfa.{Cfa}
 use Rattle.cpa_edgeform_rules.specs.Runs.{taken, holding, failing}
 use Rattle.cpa_edgeform_rules.specs.Forms.{Form, begun, form_of, with_added}
 use Rattle.cpa_recheck_obligations.specs.declared.spots.Spot.{Spot}
-use Rattle.cpa_recheck_obligations.specs.Spots.{spot_of, spots_of}
+use Rattle.cpa_recheck_obligations.specs.declared.listing.Obligation.TheVariants.{Begins, Leads}
+use Rattle.cpa_recheck_obligations.specs.Spots.{spot_of, spot_of_parts, spots_of}
 use Rattle.cpa_recheck_obligations.specs.Obligations.{candidates}
-use Rattle.cpa_recheck_obligations.specs.Forms.{behind, edge_at, entry_at, rivals, target}
+use Rattle.cpa_recheck_obligations.specs.Forms.{behind, edge_at, entry_at, rivals, start_of, target}
 use Rattle.cpa_recheck_obligations.specs.lemmas.Asking.{edge_is}
 use Rattle.cpa_recheck_obligations.specs.lemmas.Standing.{all_candidates}
+use Rattle.cpa_recheck.specs.Rivals.{AreRivals}
 
 pub candidates_below : (xs : List Elem) (spot : Spot)
     → AllByRecursion (λ n. n < length xs) (candidates (spots_of xs) spot)
@@ -42,15 +44,53 @@ spot_here xs spots x o are at =
     let found = mapped spot_of (slice_get xs x) o here in
     ap spot_of (get_or_from_slice_get xs x found.0 (record { facts = [] }) found.1) ∙ found.2
 
--- where the entry or the edge leads nowhere, nothing is a candidate
-pub rivals_at : (cfa : Cfa) (xs : List Elem) (x g : ℕ) (edge : Edge) (o then : Option Spot)
+target_at : (cfa : Cfa) (xs : List Elem) (x g : ℕ) (edge : Edge) (o then : Option Spot)
     → spot_of (entry_at xs x) ≡ o → slice_get cfa.edges g ≡ Some edge
-    → option_and_then (behind edge) o ≡ then
-    → rivals xs (target cfa xs x g) ≡ rivals xs then
-rivals_at cfa xs x g edge o then here at is =
-    ap (rivals xs)
-    (ap (option_and_then (behind (edge_at cfa g))) here
-    ∙ (ap (λ (e : Edge). option_and_then (behind e) o) (edge_is cfa g edge at) ∙ is))
+    → option_and_then (behind edge) o ≡ then → target cfa xs x g ≡ then
+target_at cfa xs x g edge o then here at is =
+    ap (option_and_then (behind (edge_at cfa g))) here
+    ∙ (ap (λ (e : Edge). option_and_then (behind e) o) (edge_is cfa g edge at) ∙ is)
+
+-- ---- rivals
+
+pub start_rivals : (cfa : Cfa) (xs : List Elem) (spots : List (Option Spot)) (numbers sites : List ℕ)
+    → spots ≡ spots_of xs → sites ≡ []
+    → numbers ≡ candidates spots (spot_of_parts (Some cfa.start) (Some sites))
+    → AreRivals cfa xs Begins numbers
+start_rivals cfa xs spots numbers sites are none is =
+    let all = is ∙ (ap (λ (l : List (Option Spot)). candidates l
+    (spot_of_parts (Some cfa.start) (Some sites))) are
+    ∙ ap (λ l. candidates (spots_of xs) (spot_of_parts (Some cfa.start) (Some l))) none) in
+    record {
+      same = ap (map (entry_at xs)) all;
+      below = subst (AllByRecursion (λ n. n < length xs)) (sym all)
+          (candidates_below xs (start_of cfa));
+    }
+
+-- where the entry or the edge leads nowhere, there is no rival
+pub no_rivals : (cfa : Cfa) (xs : List Elem) (spots : List (Option Spot)) (x g : ℕ) (edge : Edge)
+    (o : Option Spot) (numbers : List ℕ) → spots ≡ spots_of xs → slice_get spots x ≡ Some o
+    → slice_get cfa.edges g ≡ Some edge → option_and_then (behind edge) o ≡ None → numbers ≡ []
+    → AreRivals cfa xs (Leads x g) numbers
+no_rivals cfa xs spots x g edge o numbers are at is none empty =
+    let goes = target_at cfa xs x g edge o None (spot_here xs spots x o are at) is none in
+    record {
+      same = ap (map (entry_at xs)) empty ∙ sym (ap (rivals xs) goes);
+      below = subst (AllByRecursion (λ n. n < length xs)) (sym empty) tt;
+    }
+
+pub some_rivals : (cfa : Cfa) (xs : List Elem) (spots : List (Option Spot)) (x g : ℕ) (edge : Edge)
+    (o : Option Spot) (then : Spot) (numbers : List ℕ) → spots ≡ spots_of xs
+    → slice_get spots x ≡ Some o → slice_get cfa.edges g ≡ Some edge
+    → option_and_then (behind edge) o ≡ Some then → numbers ≡ candidates spots then
+    → AreRivals cfa xs (Leads x g) numbers
+some_rivals cfa xs spots x g edge o then numbers are at is goes all =
+    let there = target_at cfa xs x g edge o (Some then) (spot_here xs spots x o are at) is goes in
+    let found = all ∙ ap (λ (l : List (Option Spot)). candidates l then) are in
+    record {
+      same = ap (map (entry_at xs)) found ∙ sym (ap (rivals xs) there);
+      below = subst (AllByRecursion (λ n. n < length xs)) (sym found) (candidates_below xs then);
+    }
 
 -- ---- forms, call by call
 

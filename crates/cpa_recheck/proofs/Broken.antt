@@ -1,5 +1,5 @@
 -- A model of an obligation's query, read off its form, is a state that breaks the obligation.
-use Rattle.std.proofs.Common.{◌≡◌, ℕ, ◌<◌, ℤ, List, [], map, Option, Some, None, slice_get, sym, ap}
+use Rattle.std.proofs.Common.{◌≡◌, ℕ, ◌<◌, ℤ, List, [], Option, Some, None, slice_get, sym, ap}
 use Rattle.std.proofs.Common.{◌∙◌, subst}
 use Rattle.std.specs.Prelude.{IfSome}
 use Rattle.std.specs.List.{AllByRecursion}

@@ -1,9 +1,9 @@
 -- What the answer to an obligation's query says of it, and what the answers to all of them say of
 -- the entries.
-use Rattle.std.proofs.Common.{◌≡◌, ℕ, ◌+◌, ◌<◌, ◌≤◌, ℤ, List, [], ◌∷◌, ◌++◌, map}
+use Rattle.std.proofs.Common.{◌≡◌, ℕ, ◌+◌, ◌<◌, ◌≤◌, List, [], ◌∷◌, ◌++◌, map}
 use Rattle.std.proofs.Common.{length, take, Some}
-use Rattle.std.proofs.Common.{slice_get, refl, sym, ap, ◌∙◌, subst}
-use Rattle.std.specs.List.{AllByRecursion, AllZip, flat_map}
+use Rattle.std.proofs.Common.{slice_get, refl, sym, ap, ◌∙◌, subst, arith, zero-add}
+use Rattle.std.specs.List.{AllByRecursion, AllZip}
 use Rattle.std.proofs.lemmas.List.{take_all, take_more}
 use Rattle.std.proofs.lemmas.Option.{get_or_from_slice_get, slice_get_within}
 use Rattle.cpa_cnf.specs.declared.formula.Line.{Line}
@@ -17,20 +17,28 @@ use Rattle.cpa_query.specs.Queries.{IsModel, IsQuery}
 use Rattle.cpa_sat.specs.Outcomes.{IsRefutedWithin, IsSpent}
 use Rattle.cpa_blast.specs.Formulas.{formula}
 use Rattle.cpa_edgeform_rules.specs.Forms.{Form}
-use Rattle.cpa_edgeform_rules.specs.lemmas.Lists.{zip_more}
+use Rattle.cpa_edgeform_rules.specs.lemmas.Lists.{all_both, zip_more}
 use Rattle.cpa_solver.specs.Decisions.{HasNoModel}
 use Rattle.cpa_recheck_obligations.specs.declared.listing.Obligation.{Obligation}
 use Rattle.cpa_recheck_obligations.specs.Spots.{as_one, joined}
 use Rattle.cpa_recheck_obligations.specs.Obligations.{obligations}
 use Rattle.cpa_recheck_obligations.specs.Meeting.{IsMet}
-use Rattle.cpa_recheck_obligations.specs.Forms.{form_at}
-use Rattle.cpa_recheck_obligations.specs.Laws.{AreShapedFor, UnmodelledIsMet, form_is}
+use Rattle.cpa_recheck_obligations.specs.Forms.{form_at, IsRunless}
+use Rattle.cpa_recheck_obligations.specs.Laws.{AreShapedFor, RunlessIsMet, UnmodelledIsMet}
+use Rattle.cpa_recheck_obligations.specs.Laws.{form_is}
 use Rattle.cpa_recheck_obligations.specs.Laws.{obligations_are_covers}
 use Rattle.cpa_recheck_obligations.specs.lemmas.Places.{all_flat, all_map, all_so}
 use Rattle.cpa_recheck.specs.declared.checking.Budget.{Budget}
 use Rattle.cpa_recheck.specs.declared.checking.Why.{Why}
 use Rattle.cpa_recheck.specs.declared.checking.Why.TheVariants as why
-use Rattle.cpa_recheck.specs.Checks.{IsShown, StopsAt, StopsIn, IsConfirmed}
+use Rattle.cpa_recheck.specs.declared.checking.Keeping.{Keeping}
+use Rattle.cpa_recheck.specs.declared.checking.Keeping.TheVariants.{Refutations, Nothing}
+use Rattle.cpa_recheck.specs.declared.checking.Settled.{Settled}
+use Rattle.cpa_recheck.specs.declared.checking.Settled.TheVariants as settled
+use Rattle.cpa_recheck.specs.declared.checking.Part.{Part}
+use Rattle.cpa_recheck.specs.declared.checking.Part.TheVariants as part
+use Rattle.cpa_recheck.specs.Checks.{IsShown, StopsAt, StopsIn, IsConfirmed, IsMetWithin, IsSpared}
+use Rattle.cpa_recheck.specs.Checks.{IsSettled, IsSettledFor, IsPart, IsWalk, AreMet}
 
 pub may_ask : (cfa : Cfa) (entries : List Elem) (o : Obligation) (form : Form) (query : Query)
     → IsAutomaton cfa → AreShapedFor cfa entries → form ≡ form_at cfa entries o
@@ -134,3 +142,93 @@ shaped_one cfa es shaped =
     (all_so (AreShaped cfa) (λ elems. IsElem cfa.cells cfa.points (joined elems))
     (λ elems each. all_flat (IsFact cfa.cells cfa.points) (λ (e : Elem). e.facts) elems each) es
     shaped)
+
+-- ---- what is met within the budget
+
+-- a refutation within the lines that are allowed shows that a line is allowed
+pub within : (cfa : Cfa) (es : List (List Elem)) (budget : Budget) (keeping : Keeping)
+    (o : Obligation) (s : Settled) → (form_at cfa (as_one es) o).weight ≤ budget.gates
+    → IsSettled cfa es budget o s → IsSettledFor cfa es budget keeping o s
+within cfa es budget keeping o (settled.Shown lines) light shown =
+    let some = shown.refuted.some in
+    let most = shown.refuted.within in (
+      record { met = shown.met; light = light; allowed = omega (arith, some, most) },
+      λ kept. shown,
+    )
+within cfa es budget keeping o (settled.Open reason) light stops = stops
+
+pub spared : (cfa : Cfa) (xs : List Elem) (es : List (List Elem)) (budget : Budget)
+    (keeping : Keeping) (o : Obligation) (log : List Line) → RunlessIsMet → xs ≡ as_one es
+    → (form_at cfa xs o).weight ≤ budget.gates → IsSpared cfa xs budget keeping o
+    → IsMetWithin cfa es budget o × (keeping ≡ Refutations → IsShown cfa es budget.learnt o log)
+spared cfa xs es budget keeping o log law are light is = (
+  record {
+    met = law cfa es o (subst (λ (l : List Elem). IsRunless cfa l o) are is.runless);
+    light = subst (λ (l : List Elem). (form_at cfa l o).weight ≤ budget.gates) are light;
+    allowed = is.allowed;
+  },
+  λ kept. absurd (kept_not keeping kept is.nothing),
+)
+  where
+    kept_not : (k : Keeping) → k ≡ Refutations → k ≡ Nothing → ⊥
+    kept_not k a b = let both = sym a ∙ b in absurd (cc)
+
+-- one item more
+pub one_more : {A : Type 0} (P : A → Type 0) (run : List A) (i : ℕ) (o : A)
+    → slice_get run i ≡ Some o → AllByRecursion P (take i run) → P o
+    → AllByRecursion P (take (i + 1) run)
+one_more P run i o at before here =
+    subst (AllByRecursion P)
+    (ap (λ x. take i run ++ x ∷ []) (sym (get_or_from_slice_get run i o o at))
+    ∙ sym (take_more run i o (slice_get_within run i o at)))
+    (all_both P (take i run) (o ∷ []) before (here, tt))
+
+pub all_before : {A : Type 0} (P : A → Type 0) (run : List A) (i : ℕ) → length run ≤ i
+    → AllByRecursion P (take i run) → AllByRecursion P run
+all_before {A} P run i le h =
+    subst (λ (l : List A). AllByRecursion P l) (take_all i run le) h
+
+-- of a walk that keeps refutations
+pub part_of : (cfa : Cfa) (es : List (List Elem)) (budget : Budget) (first : ℕ)
+    (os : List Obligation) (found : Part) → IsWalk cfa es budget Refutations first os found
+    → IsPart cfa es budget first os found
+part_of cfa es budget first os (part.Whole logs) walk = walk.1 refl
+part_of cfa es budget first os (part.Stopped number reason) walk = (walk.0, walk.1, walk.2)
+
+pub stopped_at : (cfa : Cfa) (es : List (List Elem)) (budget : Budget) (os : List Obligation)
+    (i : ℕ) (o : Obligation) (reason : Why) → slice_get os i ≡ Some o
+    → AllByRecursion (IsMetWithin cfa es budget) (take i os) → StopsAt cfa es budget o reason
+    → StopsIn cfa es budget os i reason
+stopped_at cfa es budget os i o reason at before stops = record {
+  obligation = o;
+  is = at;
+  lesser = all_so (IsMetWithin cfa es budget) (IsMet cfa es) (λ o met. met.met) (take i os) before;
+  stops = stops;
+}
+
+-- ---- of all obligations
+
+pub are_met : (cfa : Cfa) (es : List (List Elem)) (budget : Budget) (count : ℕ)
+    → count ≡ length (obligations cfa (as_one es))
+    → AllByRecursion (IsMetWithin cfa es budget) (obligations cfa (as_one es))
+    → AreMet cfa es budget count
+are_met cfa es budget count is all = record {
+  count_is = is;
+  within = all;
+  cover = (obligations_are_covers cfa es).0
+      (all_so (IsMetWithin cfa es budget) (IsMet cfa es) (λ o met. met.met)
+      (obligations cfa (as_one es)) all);
+}
+
+-- the place of the first obligation is 0
+pub from_zero : (cfa : Cfa) (es : List (List Elem)) (budget : Budget) (os : List Obligation)
+    (number : ℕ) (reason : Why)
+    → ((place : ℕ) × (number ≡ 0 + place) × StopsIn cfa es budget os place reason
+    × AllByRecursion (IsMetWithin cfa es budget) (take place os))
+    → StopsIn cfa es budget os number reason
+    × AllByRecursion (IsMetWithin cfa es budget) (take number os)
+from_zero cfa es budget os number reason at =
+    let here = sym (at.1 ∙ zero-add at.0) in (
+      subst (λ n. StopsIn cfa es budget os n reason) here at.2,
+      subst (λ n. AllByRecursion (IsMetWithin cfa es budget) (take n os)) here at.3,
+    )

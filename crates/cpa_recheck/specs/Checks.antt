@@ -1,6 +1,7 @@
 -- What a check of a reached set has found (this project's own): each obligation refuted, or the
 -- least one that is not shown to hold, and why.
 use Rattle.std.specs.Prelude.{◌≡◌, ℕ, ◌+◌, ◌<◌, ◌≤◌, ⊤, List, [], Some, slice_get, take, map}
+use Rattle.std.specs.Prelude.{length}
 use Rattle.std.specs.List.{AllByRecursion, AllZip}
 use Rattle.cpa_cnf.specs.declared.formula.Line.{Line}
 use Rattle.cpa_model.specs.declared.facts.Elem.{Elem}
@@ -12,17 +13,21 @@ use Rattle.cpa_recheck_obligations.specs.declared.listing.Obligation.{Obligation
 use Rattle.cpa_recheck_obligations.specs.Spots.{as_one}
 use Rattle.cpa_recheck_obligations.specs.Obligations.{obligations}
 use Rattle.cpa_recheck_obligations.specs.Meeting.{IsMet, Breaks}
-use Rattle.cpa_recheck_obligations.specs.Forms.{form_at}
+use Rattle.cpa_recheck_obligations.specs.Forms.{form_at, IsRunless}
 use Rattle.cpa_report_print.specs.declared.report.Listed.{Listed}
 use Rattle.cpa_report_print.specs.declared.report.Body.{Body}
 use Rattle.cpa_report_print.specs.declared.report.Body.TheVariants as body
 use Rattle.cpa_recheck.specs.declared.checking.Budget.{Budget}
+use Rattle.cpa_recheck.specs.declared.checking.Keeping.{Keeping}
+use Rattle.cpa_recheck.specs.declared.checking.Keeping.TheVariants.{Refutations, Nothing}
 use Rattle.cpa_recheck.specs.declared.checking.Why.{Why}
 use Rattle.cpa_recheck.specs.declared.checking.Why.TheVariants as why
 use Rattle.cpa_recheck.specs.declared.checking.Settled.{Settled}
 use Rattle.cpa_recheck.specs.declared.checking.Settled.TheVariants as settled
 use Rattle.cpa_recheck.specs.declared.checking.Part.{Part}
 use Rattle.cpa_recheck.specs.declared.checking.Part.TheVariants as part
+use Rattle.cpa_recheck.specs.declared.rechecking.Confirmation.{Confirmation}
+use Rattle.cpa_recheck.specs.declared.rechecking.Confirmation.TheVariants as confirmation
 use Rattle.cpa_recheck.specs.declared.rechecking.Checked.{Checked}
 use Rattle.cpa_recheck.specs.declared.rechecking.Checked.TheVariants as checked
 
@@ -31,6 +36,21 @@ pub record IsShown (cfa : Cfa) (entries : List (List Elem)) (learnt : ℕ) (o : 
     (log : List Line) : Type 0 where
   pub refuted : IsRefutedWithin (formula (form_at cfa (as_one entries) o).query) learnt log
   pub met : IsMet cfa entries o
+
+-- the obligation is met, weighs no more than is allowed, and a line may be written about it: so it
+-- is met within the budget, whether or not its query was asked
+pub record IsMetWithin (cfa : Cfa) (entries : List (List Elem)) (budget : Budget)
+    (o : Obligation) : Type 0 where
+  pub met : IsMet cfa entries o
+  pub light : (form_at cfa (as_one entries) o).weight ≤ budget.gates
+  pub allowed : 0 < budget.learnt
+
+-- no query is asked: no refutation is kept, a line may be written, and no run meets what is asked
+pub record IsSpared (cfa : Cfa) (xs : List Elem) (budget : Budget) (keeping : Keeping)
+    (o : Obligation) : Type 0 where
+  pub nothing : keeping ≡ Nothing
+  pub allowed : 0 < budget.learnt
+  pub runless : IsRunless cfa xs o
 
 -- Why an obligation is not shown to hold: a state breaks it, with its successor for an edge; as
 -- many lines as were allowed did not decide its query; or it weighs more than was allowed.
@@ -48,6 +68,13 @@ IsSettled cfa entries budget o (settled.Shown lines) =
     IsShown cfa entries budget.learnt o lines.items
 IsSettled cfa entries budget o (settled.Open reason) = StopsAt cfa entries budget o reason
 
+-- the same where a refutation is kept, or nothing
+abbrev pub IsSettledFor : Cfa → List (List Elem) → Budget → Keeping → Obligation → Settled → Type 0
+IsSettledFor cfa entries budget keeping o (settled.Shown lines) =
+    IsMetWithin cfa entries budget o
+    × (keeping ≡ Refutations → IsShown cfa entries budget.learnt o lines.items)
+IsSettledFor cfa entries budget keeping o (settled.Open reason) = StopsAt cfa entries budget o reason
+
 -- the obligation at this place of a list is not shown to hold, and all before it are met
 pub record StopsIn (cfa : Cfa) (entries : List (List Elem)) (budget : Budget)
     (os : List Obligation) (place : ℕ) (reason : Why) : Type 0 where
@@ -63,6 +90,16 @@ IsPart cfa entries budget first os (part.Whole logs) =
     AllZip (IsShown cfa entries budget.learnt) os (map (λ log. log.items) logs.items)
 IsPart cfa entries budget first os (part.Stopped number reason) =
     (place : ℕ) × (number ≡ first + place) × StopsIn cfa entries budget os place reason
+
+-- the same where refutations are kept, or nothing; what comes before is met within the budget
+abbrev pub IsWalk : Cfa → List (List Elem) → Budget → Keeping → ℕ → List Obligation → Part → Type 0
+IsWalk cfa entries budget keeping first os (part.Whole logs) =
+    AllByRecursion (IsMetWithin cfa entries budget) os
+    × (keeping ≡ Refutations → AllZip (IsShown cfa entries budget.learnt) os
+    (map (λ log. log.items) logs.items))
+IsWalk cfa entries budget keeping first os (part.Stopped number reason) =
+    (place : ℕ) × (number ≡ first + place) × StopsIn cfa entries budget os place reason
+    × AllByRecursion (IsMetWithin cfa entries budget) (take place os)
 
 -- ---- the whole list
 
@@ -92,3 +129,23 @@ IsChecked cfa entries budget (checked.Learnt number lines) =
     StopsIn cfa entries budget (obligations cfa (as_one entries)) number (why.Learnt lines)
 IsChecked cfa entries budget (checked.Gates number weight) =
     StopsIn cfa entries budget (obligations cfa (as_one entries)) number (why.Gates weight)
+
+-- ---- without refutations
+
+-- each obligation of the entries is met within the budget, so many there are, and the entries are a
+-- cover
+pub record AreMet (cfa : Cfa) (entries : List (List Elem)) (budget : Budget)
+    (count : ℕ) : Type 0 where
+  pub count_is : count ≡ length (obligations cfa (as_one entries))
+  pub within : AllByRecursion (IsMetWithin cfa entries budget) (obligations cfa (as_one entries))
+  pub cover : CoversAutomaton cfa entries
+
+-- What a check that keeps no refutation comes to: they are a cover, each obligation met within the
+-- budget; or the obligation of this number is not shown to hold, for this reason, and all lesser
+-- ones are met within the budget.
+abbrev pub IsConfirming : Cfa → List (List Elem) → Budget → Confirmation → Type 0
+IsConfirming cfa entries budget (confirmation.Confirmed count) = AreMet cfa entries budget count
+IsConfirming cfa entries budget (confirmation.Stopped number reason) =
+    StopsIn cfa entries budget (obligations cfa (as_one entries)) number reason
+    × AllByRecursion (IsMetWithin cfa entries budget)
+    (take number (obligations cfa (as_one entries)))

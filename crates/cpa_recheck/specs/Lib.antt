@@ -1,2 +1,4 @@
 pub mod Checks
 pub mod Stacks
+pub mod Rivals
+pub mod Walks

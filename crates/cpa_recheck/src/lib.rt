@@ -8,5 +8,5 @@ mod checking;
 mod rechecking;
 mod stacks;
 
-pub use checking::{Budget, Part, Why, check_run};
-pub use rechecking::{Checked, recheck};
+pub use checking::{Budget, Keeping, Part, Why, check_run};
+pub use rechecking::{Checked, Confirmation, confirm, recheck};

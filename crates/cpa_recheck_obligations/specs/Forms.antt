@@ -1,6 +1,6 @@
 -- What is asked of a solver about an obligation (this project's own): whether there are stores that
 -- break it.
-use Rattle.std.specs.Prelude.{◌≡◌, ◌<◌, ℕ, Bool, true, false, List, [], ◌∷◌, map}
+use Rattle.std.specs.Prelude.{◌≡◌, ◌<◌, ℕ, ℤ, Bool, true, false, List, [], ◌∷◌, map}
 use Rattle.std.specs.Prelude.{slice_index_or, Option, None, Some, IfSome, option_and_then}
 use Rattle.std.specs.Prelude.{option_map}
 use Rattle.std.specs.List.{AllByRecursion}
@@ -10,7 +10,8 @@ use Rattle.cpa_model.specs.declared.automaton.Edge.{Edge}
 use Rattle.cpa_model.specs.declared.automaton.Cfa.{Cfa}
 use Rattle.cpa_model.specs.Automata.{edge_of}
 use Rattle.cpa_model.specs.Steps.{StepsStack}
-use Rattle.cpa_edgeform_rules.specs.Runs.{Added, taken, holding, failing}
+use Rattle.cpa_edgeform_rules.specs.Runs.{Added, taken, holding, failing, Runs}
+use Rattle.cpa_edgeform_rules.specs.Runs.{Begins as BeginsAt}
 use Rattle.cpa_edgeform_rules.specs.Forms.{Form, form_of}
 use Rattle.cpa_recheck_obligations.specs.declared.listing.Obligation.{Obligation}
 use Rattle.cpa_recheck_obligations.specs.declared.listing.Obligation.TheVariants.{Begins, Leads}
@@ -43,6 +44,12 @@ abbrev pub rivals : List Elem → Option Spot → List Elem
 rivals xs None = []
 rivals xs (Some spot) = map (entry_at xs) (candidates (spots_of xs) spot)
 
+-- the entries in which what the obligation speaks of may lie
+abbrev pub rivals_of : Cfa → List Elem → Obligation → List Elem
+rivals_of cfa xs Begins = rivals xs (Some (start_of cfa))
+rivals_of cfa xs (Leads x g) = rivals xs (target cfa xs x g)
+rivals_of cfa xs (Avoids x p) = []
+
 -- the facts of the entry on the store hold, the edge is taken, each candidate fails
 abbrev pub added : Cfa → List Elem → Obligation → List Added
 added cfa xs Begins = failing (rivals xs (Some (start_of cfa))) ∷ []
@@ -59,6 +66,12 @@ is_begins _ = false
 -- a model exactly where stores break the obligation, and its weight is the obligation's.
 abbrev pub form_at : Cfa → List Elem → Obligation → Form
 form_at cfa xs o = form_of cfa.cells (is_begins o) (added cfa xs o)
+
+-- no run of stores meets what is asked about the obligation
+abbrev pub IsRunless : Cfa → List Elem → Obligation → Type 0
+IsRunless cfa xs o =
+    (first inputs last : List ℤ) → BeginsAt cfa.cells (is_begins o) first
+    → Runs cfa.cells (added cfa xs o) first inputs last → ⊥
 
 -- Stacks before and after the edge for a state of an entry: where the entry says a stack it is that
 -- one, and where it says none, the stack after the edge is one that no entry says.

@@ -23,8 +23,9 @@ use Rattle.cpa_recheck_obligations.specs.Obligations.{obligations, IsObligationO
 use Rattle.cpa_recheck_obligations.specs.Meeting.{IsMet, Breaks}
 use Rattle.cpa_recheck_obligations.specs.lemmas.Standing.{one_holds, holds_one}
 use Rattle.cpa_recheck_obligations.specs.lemmas.Covers.{obligations_cover, obligations_named}
-use Rattle.cpa_recheck_obligations.specs.lemmas.Asking.{all_fit, unmodelled_met}
-use Rattle.cpa_recheck_obligations.specs.Forms.{added, form_at, entry_at, is_begins, AreStacksFor}
+use Rattle.cpa_recheck_obligations.specs.lemmas.Asking.{all_fit, runless_met, unmodelled_met}
+use Rattle.cpa_recheck_obligations.specs.Forms.{added, form_at, entry_at, is_begins, IsRunless}
+use Rattle.cpa_recheck_obligations.specs.Forms.{AreStacksFor}
 
 -- an entry as one element holds of exactly the states that lie in the entry
 abbrev pub EntriesAreOne : Type 0
@@ -73,6 +74,15 @@ AddedFit =
 
 pub added_fit : AddedFit
 added_fit cfa xs o is shaped = all_fit cfa xs shaped (λ n edge at. edge_sound cfa n edge is at) o
+
+-- where no run of stores meets what is asked about an obligation, it is met without a query
+abbrev pub RunlessIsMet : Type 0
+RunlessIsMet =
+    (cfa : Cfa) (entries : List (List Elem)) (o : Obligation) → IsRunless cfa (as_one entries) o
+    → IsMet cfa entries o
+
+pub runless_is_met : RunlessIsMet
+runless_is_met cfa entries o none = runless_met cfa entries o none
 
 -- where the query of an obligation has no model, it is met
 abbrev pub UnmodelledIsMet : Type 0

@@ -3,7 +3,7 @@
 
 ghost use Rattle.cpa_recheck_obligations.specs.Laws.{EntriesAreOne, ObligationsAreCovers};
 ghost use Rattle.cpa_recheck_obligations.specs.Laws.{BrokenIsUnmet, AddedFit, UnmodelledIsMet};
-ghost use Rattle.cpa_recheck_obligations.specs.Laws.{ObligationsAreNamed, ModelsBreak};
+ghost use Rattle.cpa_recheck_obligations.specs.Laws.{ObligationsAreNamed, ModelsBreak, RunlessIsMet};
 
 use cpa_model::{automata_are_small, steps_keep_states};
 
@@ -37,6 +37,13 @@ pub fn obligations_are_named()
 #[tactic(auto, using(crate::specs::Laws::added_fit))]
 pub fn added_fit()
     ensures { AddedFit }
+{}
+
+/// An obligation is met where no run of stores meets what is asked about it: so it may be settled
+/// without a query.
+#[tactic(auto, using(crate::specs::Laws::runless_is_met))]
+pub fn runless_is_met()
+    ensures { RunlessIsMet }
 {}
 
 /// An obligation whose query has no model is met.

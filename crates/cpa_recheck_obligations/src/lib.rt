@@ -10,7 +10,7 @@ mod table;
 
 pub use laws::{
     added_fit, broken_is_unmet, entries_are_one, models_break, obligations_are_covers,
-    obligations_are_named, unmodelled_is_met,
+    obligations_are_named, runless_is_met, unmodelled_is_met,
 };
 pub use listing::{Obligation, obligations};
 pub use spots::{Spot, joined, spot_of};

@@ -7,8 +7,8 @@ use Rattle.cpa_model.specs.declared.automaton.Cfa.{Cfa}
 use Rattle.cpa_model.specs.declared.program.Program.{Program}
 use Rattle.cpa_model.specs.Automata.{IsAutomaton, IsAutomatonOf}
 use Rattle.cpa_model.specs.Programs.{IsWellFormed}
-use Rattle.cpa_recheck.specs.declared.rechecking.Checked.{Checked}
-use Rattle.cpa_recheck.specs.Checks.{IsChecked, IsTrueBody, entries_in}
+use Rattle.cpa_recheck.specs.declared.rechecking.Confirmation.{Confirmation}
+use Rattle.cpa_recheck.specs.Checks.{IsConfirming, IsTrueBody, entries_in}
 use Rattle.cpa_report.specs.Faults.{IsFound, IsRefused, IsTold}
 use Rattle.cpa_report.specs.Ranges.{IsBodyIn, IsListedIn}
 use Rattle.cpa_report.specs.declared.fault.ReportError.{ReportError}
@@ -62,10 +62,10 @@ refused_for P cfa text error.OutOfMemory of refused = tt
 
 -- what is told of a check of its entries
 pub is_rechecked : (P : Program) (cfa : Cfa) (settings : Settings) (text : List ℕ)
-    (report : Report) (c : Checked) (told : Rechecked) → IsAutomatonOf P cfa
+    (report : Report) (c : Confirmation) (told : Rechecked) → IsAutomatonOf P cfa
     → IsFound text cfa verdict.True report
     → ((other : Report) → IsTold text verdict.True other → other ≡ report)
-    → IsChecked cfa (entries_in report.body) (budget_of settings) c
+    → IsConfirming cfa (entries_in report.body) (budget_of settings) c
     → told.finding ≡ finding_of c → told.text.items ≡ checked_text c
     → IsRechecked P settings text told
 is_rechecked P cfa settings text report c told of found one says finding spelled = record {

@@ -3,10 +3,7 @@
 use Rattle.std.proofs.Common.{◌≡◌, ◌↔◌, ℕ, zero, suc, ◌<◌, List, [], ◌∷◌, map, ap, sym, ◌∙◌}
 use Rattle.std.proofs.Common.{Some, slice_get, refl, subst, inl, inr}
 use Rattle.std.specs.List.{AllByRecursion}
-use Rattle.std.proofs.Common.{Vec, Global, codes}
-use Rattle.std.proofs.lemmas.List.{length-map}
-use Rattle.std.proofs.lemmas.Slice.Zip.{AllZip-long}
-use Rattle.cpa_cnf.specs.declared.formula.Line.{Line}
+use Rattle.std.proofs.Common.{codes}
 use Rattle.cpa_iface.specs.declared.analysis.Settings.{Settings}
 use Rattle.cpa_model.specs.declared.automaton.Cfa.{Cfa}
 use Rattle.cpa_model.specs.declared.facts.Elem.{Elem}
@@ -14,9 +11,10 @@ use Rattle.cpa_model.specs.declared.program.Program.{Program}
 use Rattle.cpa_model.specs.Automata.{IsAutomatonOf}
 use Rattle.cpa_model.specs.Covers.{CoversAutomaton, IsCover, IsSafe}
 use Rattle.cpa_model.specs.Programs.{IsWellFormed}
-use Rattle.cpa_recheck.specs.declared.rechecking.Checked.{Checked}
-use Rattle.cpa_recheck.specs.declared.rechecking.Checked.TheVariants as checked
-use Rattle.cpa_recheck.specs.Checks.{IsChecked, IsShown, entries_in}
+use Rattle.cpa_recheck.specs.declared.checking.Why.TheVariants as why
+use Rattle.cpa_recheck.specs.declared.rechecking.Confirmation.{Confirmation}
+use Rattle.cpa_recheck.specs.declared.rechecking.Confirmation.TheVariants as checked
+use Rattle.cpa_recheck.specs.Checks.{IsConfirming, entries_in}
 use Rattle.cpa_recheck_obligations.specs.Laws.{BrokenIsUnmet, ObligationsAreCovers}
 use Rattle.cpa_recheck_obligations.specs.Meeting.{IsMet}
 use Rattle.cpa_recheck_obligations.specs.Obligations.{obligations}
@@ -61,80 +59,83 @@ module _ (P : Program) (settings : Settings) (text line : List ℕ) (cfa : Cfa)
     (entries : List (List Elem)) (is : Lists P text cfa entries) where
   -- ---- CONFIRMED
 
-  confirmed : CoversAgree → CoversAreSafe → IsWellFormed P → (c : Checked)
-      → IsChecked cfa entries (budget_of settings) c → finding_of c ≡ finding.Confirmed
+  confirmed : CoversAgree → CoversAreSafe → IsWellFormed P → (c : Confirmation)
+      → IsConfirming cfa entries (budget_of settings) c → finding_of c ≡ finding.Confirmed
       → line ≡ checked_text c → IsConfirmation P text line
-  confirmed agree safe well (checked.Confirmed logs) says found spelled =
+  confirmed agree safe well (checked.Confirmed count) says found spelled =
       let cover = (agree P cfa entries is.edges).0 says.cover in
-      let lines = map (λ (log : Vec Line Global). log.items) logs.items in
       record {
         automaton = cfa;
         entries = entries;
         lists = is;
         cover = cover;
         safe = safe P entries well cover;
-        line_is =
-            spelled
-            ∙ ap (numbered_line (codes "CONFIRMED "))
-            (sym (length-map logs.items (λ (log : Vec Line Global). log.items))
-            ∙ AllZip-long (IsShown cfa entries settings.learnt)
-            (obligations cfa (as_one entries)) lines says.logs_are);
+        line_is = spelled ∙ ap (numbered_line (codes "CONFIRMED ")) says.count_is;
       }
-  confirmed agree safe well (checked.Refused number state next) says found spelled = absurd (cc)
-  confirmed agree safe well (checked.Learnt number lines) says found spelled = absurd (cc)
-  confirmed agree safe well (checked.Gates number weight) says found spelled = absurd (cc)
+  confirmed agree safe well (checked.Stopped number (why.Refused state next)) says found spelled =
+      absurd (cc)
+  confirmed agree safe well (checked.Stopped number (why.Learnt lines)) says found spelled =
+      absurd (cc)
+  confirmed agree safe well (checked.Stopped number (why.Gates weight)) says found spelled =
+      absurd (cc)
 
   -- ---- where it stops
 
-  refused : CoversAgree → ObligationsAreCovers → BrokenIsUnmet → (c : Checked)
-      → IsChecked cfa entries (budget_of settings) c → finding_of c ≡ finding.Refused
+  refused : CoversAgree → ObligationsAreCovers → BrokenIsUnmet → (c : Confirmation)
+      → IsConfirming cfa entries (budget_of settings) c → finding_of c ≡ finding.Refused
       → line ≡ checked_text c → IsRefutation P text line
-  refused agree covers unmet (checked.Refused number state next) says found spelled =
-      let not_met = unmet cfa entries says.obligation state next says.stops in
+  refused agree covers unmet (checked.Stopped number (why.Refused state next)) says found spelled =
+      let stop = says.0 in
+      let not_met = unmet cfa entries stop.obligation state next stop.stops in
       record {
         automaton = cfa;
         entries = entries;
         lists = is;
         number = number;
-        obligation = says.obligation;
-        least = record { is = says.is; lesser = says.lesser };
+        obligation = stop.obligation;
+        least = record { is = stop.is; lesser = stop.lesser };
         state = state;
         next = next;
-        breaks = says.stops;
+        breaks = stop.stops;
         unmet = not_met;
         no_cover = λ cover.
             not_met (holds_at (IsMet cfa entries) (obligations cfa (as_one entries)) number
-            says.obligation says.is
+            stop.obligation stop.is
             ((covers cfa entries).1 ((agree P cfa entries is.edges).1 cover)));
         line_is = spelled;
       }
-  refused agree covers unmet (checked.Confirmed logs) says found spelled = absurd (cc)
-  refused agree covers unmet (checked.Learnt number lines) says found spelled = absurd (cc)
-  refused agree covers unmet (checked.Gates number weight) says found spelled = absurd (cc)
+  refused agree covers unmet (checked.Confirmed count) says found spelled = absurd (cc)
+  refused agree covers unmet (checked.Stopped number (why.Learnt lines)) says found spelled =
+      absurd (cc)
+  refused agree covers unmet (checked.Stopped number (why.Gates weight)) says found spelled =
+      absurd (cc)
 
-  open_for : (c : Checked) → IsChecked cfa entries (budget_of settings) c
+  open_for : (c : Confirmation) → IsConfirming cfa entries (budget_of settings) c
       → finding_of c ≡ finding.Open → line ≡ checked_text c → IsUndecided P settings text line
-  open_for (checked.Learnt number lines) says found spelled = record {
-    automaton = cfa;
-    entries = entries;
-    lists = is;
-    number = number;
-    obligation = says.obligation;
-    least = record { is = says.is; lesser = says.lesser };
-    spent = inl (lines.items, says.stops.0, says.stops.1, spelled);
-  }
-  open_for (checked.Gates number weight) says found spelled = record {
-    automaton = cfa;
-    entries = entries;
-    lists = is;
-    number = number;
-    obligation = says.obligation;
-    least = record { is = says.is; lesser = says.lesser };
-    spent =
-        inr (subst (λ (w : ℕ). settings.gates < w) says.stops.0 says.stops.1, spelled);
-  }
-  open_for (checked.Confirmed logs) says found spelled = absurd (cc)
-  open_for (checked.Refused number state next) says found spelled = absurd (cc)
+  open_for (checked.Stopped number (why.Learnt lines)) says found spelled =
+      let stop = says.0 in
+      record {
+        automaton = cfa;
+        entries = entries;
+        lists = is;
+        number = number;
+        obligation = stop.obligation;
+        least = record { is = stop.is; lesser = stop.lesser };
+        spent = inl (lines.items, stop.stops.0, stop.stops.1, spelled);
+      }
+  open_for (checked.Stopped number (why.Gates weight)) says found spelled =
+      let stop = says.0 in
+      record {
+        automaton = cfa;
+        entries = entries;
+        lists = is;
+        number = number;
+        obligation = stop.obligation;
+        least = record { is = stop.is; lesser = stop.lesser };
+        spent = inr (subst (λ (w : ℕ). settings.gates < w) stop.stops.0 stop.stops.1, spelled);
+      }
+  open_for (checked.Confirmed count) says found spelled = absurd (cc)
+  open_for (checked.Stopped number (why.Refused state next)) says found spelled = absurd (cc)
 
 -- ---- what is told
 

@@ -1,7 +1,9 @@
 -- The lines of a recheck (this project's own).
-use Rattle.std.specs.Prelude.{ℕ, List, ◌++◌, length, codes, decimal}
-use Rattle.cpa_recheck.specs.declared.rechecking.Checked.{Checked}
-use Rattle.cpa_recheck.specs.declared.rechecking.Checked.TheVariants as checked
+use Rattle.std.specs.Prelude.{ℕ, List, ◌++◌, codes, decimal}
+use Rattle.cpa_recheck.specs.declared.checking.Why.{Why}
+use Rattle.cpa_recheck.specs.declared.checking.Why.TheVariants as why
+use Rattle.cpa_recheck.specs.declared.rechecking.Confirmation.{Confirmation}
+use Rattle.cpa_recheck.specs.declared.rechecking.Confirmation.TheVariants as checked
 use Rattle.cpa_report.specs.declared.fault.ReportRule.{ReportRule}
 use Rattle.cpa_report.specs.declared.fault.ReportRule.TheVariants.{P1, P2, P3, P4, P5, P6}
 use Rattle.cpa_report_print.specs.Reports.{break_text}
@@ -10,14 +12,19 @@ use Rattle.cpa_report_print.specs.Reports.{break_text}
 abbrev pub numbered_line : List ℕ → ℕ → List ℕ
 numbered_line word n = word ++ decimal n ++ codes "\n"
 
--- what comes of the obligations: how many there are, all of which hold; or the number of the least
--- that is not shown to hold, and where a state breaks it that state, and its successor for an edge
-abbrev pub checked_text : Checked → List ℕ
-checked_text (checked.Confirmed logs) = numbered_line (codes "CONFIRMED ") (length logs.items)
-checked_text (checked.Refused number state next) =
+-- the number of the least obligation that is not shown to hold, and where a state breaks it that
+-- state, and its successor for an edge
+abbrev pub stopped_text : ℕ → Why → List ℕ
+stopped_text number (why.Refused state next) =
     numbered_line (codes "REFUSED ") number ++ break_text state next
-checked_text (checked.Learnt number lines) = numbered_line (codes "UNKNOWN learnt ") number
-checked_text (checked.Gates number weight) = numbered_line (codes "UNKNOWN gates ") number
+stopped_text number (why.Learnt lines) = numbered_line (codes "UNKNOWN learnt ") number
+stopped_text number (why.Gates weight) = numbered_line (codes "UNKNOWN gates ") number
+
+-- what comes of the obligations: how many there are, all of which hold; or the least that is not
+-- shown to hold
+abbrev pub checked_text : Confirmation → List ℕ
+checked_text (checked.Confirmed count) = numbered_line (codes "CONFIRMED ") count
+checked_text (checked.Stopped number reason) = stopped_text number reason
 
 -- the word of a rule
 abbrev pub rule_word : ReportRule → List ℕ

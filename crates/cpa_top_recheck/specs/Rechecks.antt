@@ -6,9 +6,11 @@ use Rattle.cpa_model.specs.declared.automaton.Cfa.{Cfa}
 use Rattle.cpa_model.specs.declared.program.Program.{Program}
 use Rattle.cpa_model.specs.Automata.{IsAutomatonOf}
 use Rattle.cpa_recheck.specs.declared.checking.Budget.{Budget}
-use Rattle.cpa_recheck.specs.declared.rechecking.Checked.{Checked}
-use Rattle.cpa_recheck.specs.declared.rechecking.Checked.TheVariants as checked
-use Rattle.cpa_recheck.specs.Checks.{IsChecked, entries_in}
+use Rattle.cpa_recheck.specs.declared.checking.Why.{Why}
+use Rattle.cpa_recheck.specs.declared.checking.Why.TheVariants as why
+use Rattle.cpa_recheck.specs.declared.rechecking.Confirmation.{Confirmation}
+use Rattle.cpa_recheck.specs.declared.rechecking.Confirmation.TheVariants as checked
+use Rattle.cpa_recheck.specs.Checks.{IsConfirming, entries_in}
 use Rattle.cpa_report.specs.Faults.{Breaks, IsFound, IsTold}
 use Rattle.cpa_report.specs.declared.fault.ReportError.{ReportError}
 use Rattle.cpa_report.specs.declared.fault.ReportError.TheVariants as error
@@ -42,12 +44,16 @@ IsReportRefused P text error.OutOfMemory = ⊤
 
 -- ---- the entries
 
+-- where an obligation is not shown to hold
+abbrev pub finding_at : Why → Finding
+finding_at (why.Refused state next) = finding.Refused
+finding_at (why.Learnt lines) = finding.Open
+finding_at (why.Gates weight) = finding.Open
+
 -- which of the three a check comes to
-abbrev pub finding_of : Checked → Finding
-finding_of (checked.Confirmed logs) = finding.Confirmed
-finding_of (checked.Refused number state next) = finding.Refused
-finding_of (checked.Learnt number lines) = finding.Open
-finding_of (checked.Gates number weight) = finding.Open
+abbrev pub finding_of : Confirmation → Finding
+finding_of (checked.Confirmed count) = finding.Confirmed
+finding_of (checked.Stopped number reason) = finding_at reason
 
 -- what may be spent on an obligation, by one thread
 abbrev pub budget_of : Settings → Budget
@@ -63,7 +69,7 @@ pub record IsRechecked (P : Program) (settings : Settings) (text : List ℕ) (to
   pub report : Report
   pub found : IsFound text automaton verdict.True report
   pub one : (other : Report) → IsTold text verdict.True other → other ≡ report
-  pub checked : Checked
-  pub says : IsChecked automaton (entries_in report.body) (budget_of settings) checked
+  pub checked : Confirmation
+  pub says : IsConfirming automaton (entries_in report.body) (budget_of settings) checked
   pub finding : told.finding ≡ finding_of checked
   pub text_is : told.text.items ≡ checked_text checked

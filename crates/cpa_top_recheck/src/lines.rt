@@ -1,10 +1,10 @@
 //! The lines of a recheck: `checked_text` of `specs/Lines.antt`.
 ghost use Rattle.std.specs.Prelude.{◌≡◌, ◌++◌, IfOk, option_map, codes};
 ghost use Rattle.cpa_report_print.specs.Reports.{break_text};
-ghost use Rattle.cpa_top_recheck.specs.Lines.{checked_text, numbered_line};
+ghost use Rattle.cpa_top_recheck.specs.Lines.{checked_text, numbered_line, stopped_text};
 
 use cpa_model::State;
-use cpa_recheck::Checked;
+use cpa_recheck::{Confirmation, Why};
 use cpa_report::print_break;
 use std::alloc::{AllocError, Global};
 
@@ -31,22 +31,25 @@ fn refused_text(
     Ok(text)
 }
 
+/// The lines of an obligation that is not shown to hold.
+fn stopped_text(alloc: Global, obligation: u32, why: &Why) -> Result<Vec<u8>, AllocError>
+    ensures { IfOk result (λ text. text.items ≡ stopped_text obligation why.now) }
+{
+    match why {
+        Why::Refused { state, next } => refused_text(alloc, obligation, state, next.as_ref()),
+        Why::Learnt { .. } => numbered_line(alloc, "UNKNOWN learnt ", obligation as usize),
+        Why::Gates { .. } => numbered_line(alloc, "UNKNOWN gates ", obligation as usize),
+    }
+}
+
 /// The lines of a check.
-pub(crate) fn checked_text(alloc: Global, checked: &Checked) -> Result<Vec<u8>, AllocError>
+pub(crate) fn checked_text(alloc: Global, checked: &Confirmation) -> Result<Vec<u8>, AllocError>
     ensures { IfOk result (λ text. text.items ≡ checked_text checked.now) }
 {
     match checked {
-        Checked::Confirmed { logs } => numbered_line(alloc, "CONFIRMED ", logs.len()),
-        Checked::Refused {
-            obligation,
-            state,
-            next,
-        } => refused_text(alloc, *obligation, state, next.as_ref()),
-        Checked::Learnt { obligation, .. } => {
-            numbered_line(alloc, "UNKNOWN learnt ", *obligation as usize)
+        Confirmation::Confirmed { obligations } => {
+            numbered_line(alloc, "CONFIRMED ", *obligations)
         }
-        Checked::Gates { obligation, .. } => {
-            numbered_line(alloc, "UNKNOWN gates ", *obligation as usize)
-        }
+        Confirmation::Stopped { obligation, why } => stopped_text(alloc, *obligation, why),
     }
 }

@@ -3,7 +3,7 @@
 ghost use Rattle.std.specs.Prelude.{◌≡◌, IfOk, IfErr};
 ghost use Rattle.cpa_model.specs.Automata.{IsAutomaton};
 ghost use Rattle.cpa_model.specs.Programs.{IsWellFormed};
-ghost use Rattle.cpa_recheck.specs.Checks.{IsChecked, IsTrueBody, entries_in};
+ghost use Rattle.cpa_recheck.specs.Checks.{IsConfirming, IsTrueBody, entries_in};
 ghost use Rattle.cpa_report.specs.Ranges.{IsBodyIn};
 ghost use Rattle.cpa_report_print.specs.Reports.{verdict_of};
 ghost use Rattle.cpa_report_print.specs.declared.report.Verdict.TheVariants as verdict;
@@ -17,7 +17,7 @@ use cfa_build::build;
 use cpa_audit::NoGate;
 use cpa_iface::Settings;
 use cpa_model::{Cfa, Program};
-use cpa_recheck::{Budget, Checked, recheck};
+use cpa_recheck::{Budget, Confirmation, confirm};
 use cpa_report::{Report, ReportError, Verdict, read};
 use std::alloc::{AllocError, Global};
 use std::thread::Threads;
@@ -30,23 +30,23 @@ fn check_report<R: Threads + Sync>(
     cfa: &Cfa,
     report: &Report,
     settings: &Settings,
-) -> Result<Checked, AllocError>
+) -> Result<Confirmation, AllocError>
     requires automaton { IsAutomaton cfa.now }
     requires verdict { verdict_of report.now.body ≡ verdict.True }
     requires inside { IsBodyIn cfa.now report.now.body }
     ensures { IfOk result
-        (IsChecked cfa.now (entries_in report.now.body) (budget_of settings.now)) }
+        (IsConfirming cfa.now (entries_in report.now.body) (budget_of settings.now)) }
 {
     let budget = Budget {
         learnt: settings.learnt,
         gates: settings.gates,
         workers: 1,
     };
-    recheck(rt, alloc, cfa, report, &budget, &NoGate)
+    confirm(rt, alloc, cfa, report, &budget, &NoGate)
 }
 
 /// What is told of a check.
-fn told(alloc: Global, checked: &Checked) -> Result<Rechecked, AllocError>
+fn told(alloc: Global, checked: &Confirmation) -> Result<Rechecked, AllocError>
     ensures finding { IfOk result (λ told. told.finding ≡ finding_of checked.now) }
     ensures text { IfOk result (λ told. told.text.items ≡ checked_text checked.now) }
 {

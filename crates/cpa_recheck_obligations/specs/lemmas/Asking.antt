@@ -1,4 +1,5 @@
--- An obligation whose query has no model is met (`unmodelled_met`).
+-- An obligation is met where no run of stores meets what is asked about it (`runless_met`), and so
+-- where its query has no model (`unmodelled_met`).
 use Rattle.std.proofs.Common.{◌≡◌, ℕ, zero, suc, ℤ, Bool, true, false, List, [], ◌∷◌, ◌++◌, map, get_or}
 use Rattle.std.proofs.Common.{Option, Some, None, slice_get, ◌⊎◌, inl, inr, refl, sym, ap, ◌∙◌, subst}
 use Rattle.std.specs.Prelude.{IfSome, option_map, option_and_then}
@@ -21,7 +22,7 @@ use Rattle.cpa_model.specs.lemmas.EdgesSound.{all_at}
 use Rattle.cpa_model.specs.lemmas.Stacks.{stack_after-whole}
 use Rattle.cpa_query.specs.Queries.{IsModel}
 use Rattle.cpa_edgeform_rules.specs.Runs.{Added, taken, holding, failing, StoreHolds, StoreFails}
-use Rattle.cpa_edgeform_rules.specs.Runs.{Begins as BeginsAt, Runs}
+use Rattle.cpa_edgeform_rules.specs.Runs.{Runs}
 use Rattle.cpa_edgeform_rules.specs.Laws.{IsAddedOf, IsFormOf}
 use Rattle.cpa_edgeform_rules.specs.Stores.{failing_is_not_holding, holding_has_two_parts}
 use Rattle.cpa_edgeform_rules.specs.Stores.{steps_take_inputs}
@@ -33,7 +34,7 @@ use Rattle.cpa_recheck_obligations.specs.Spots.{joined, as_one, StandsAt, spot_o
 use Rattle.cpa_recheck_obligations.specs.Spots.{spots_of}
 use Rattle.cpa_recheck_obligations.specs.Obligations.{stack_behind, candidates}
 use Rattle.cpa_recheck_obligations.specs.Forms.{entry_at, edge_at, start_of, behind, target, rivals}
-use Rattle.cpa_recheck_obligations.specs.Forms.{added, is_begins, form_at}
+use Rattle.cpa_recheck_obligations.specs.Forms.{added, is_begins, form_at, IsRunless}
 use Rattle.cpa_recheck_obligations.specs.Meeting.{IsMet}
 use Rattle.cpa_recheck_obligations.specs.lemmas.Places.{all_map, map_all, all_so, all_of}
 use Rattle.cpa_recheck_obligations.specs.lemmas.Standing.{one_holds, holds_one, control_at}
@@ -224,19 +225,14 @@ pub target_is : (cfa : Cfa) (xs : List Elem) (x g : ℕ) (edge : Edge) (spot : S
 target_is cfa xs x g edge spot at is =
     ap (option_and_then (behind (edge_at cfa g))) at ∙ ap (λ (e : Edge). behind e spot) is
 
--- ---- queries without a model
+-- ---- what no run meets
 
 module _ (cfa : Cfa) (entries : List (List Elem)) where
-  abbrev pub HasNone : Obligation → Type 0
-  HasNone o =
-      (values : List ℤ) → IsModel (form_at cfa (as_one entries) o).query values → ⊥
+  abbrev HasNoRun : Obligation → Type 0
+  HasNoRun = IsRunless cfa (as_one entries)
 
-  abbrev pub FormIs : Obligation → Type 0
-  FormIs o =
-      IsFormOf cfa (is_begins o) (added cfa (as_one entries) o) (form_at cfa (as_one entries) o)
-
-  begins_met : FormIs Begins → HasNone Begins → IsMet cfa entries Begins
-  begins_met form none = by (lies_or_fails entries s (start_of cfa) at)
+  begins_met : HasNoRun Begins → IsMet cfa entries Begins
+  begins_met none = by (lies_or_fails entries s (start_of cfa) at)
     where
       s : State
       s = initial_state cfa
@@ -250,13 +246,11 @@ module _ (cfa : Cfa) (entries : List (List Elem)) where
           → LiesInSome s entries
       by (inl lies) = lies
       by (inr fails) =
-          let model = form.model s.store.values [] s.store.values refl
-          (s.store.values, [], [], (fails, refl, refl), refl, (refl, refl)) in
-          absurd (none model.0 model.1)
+          absurd (none s.store.values [] s.store.values refl
+          (s.store.values, [], [], (fails, refl, refl), refl, (refl, refl)))
 
-  leads_met : (x g : ℕ) → FormIs (Leads x g) → HasNone (Leads x g)
-      → IsMet cfa entries (Leads x g)
-  leads_met x g form none entry edge s t entry_at_x edge_at_g lies along =
+  leads_met : (x g : ℕ) → HasNoRun (Leads x g) → IsMet cfa entries (Leads x g)
+  leads_met x g none entry edge s t entry_at_x edge_at_g lies along =
       let spot = lies_at_spot s entry lies in
       let then = stands_behind edge spot.0 s t spot.2 along.to along.stack in
       let whole = entry_is (as_one entries) x (joined entry) (one_at entries x entry entry_at_x) in
@@ -298,22 +292,33 @@ module _ (cfa : Cfa) (entries : List (List Elem)) where
               (last, [], [], (fail, refl, refl), refl, (refl, refl)),
             ),
           ) in
-          let model = form.model from stepped.0 last along.before.store run in
-          absurd (none model.0 model.1)
+          absurd (none from stepped.0 last along.before.store run)
 
-  avoids_met : (x p : ℕ) → FormIs (Avoids x p) → HasNone (Avoids x p)
-      → IsMet cfa entries (Avoids x p)
-  avoids_met x p form none entry s entry_at_x state point lies =
+  avoids_met : (x p : ℕ) → HasNoRun (Avoids x p) → IsMet cfa entries (Avoids x p)
+  avoids_met x p none entry s entry_at_x state point lies =
       let xs = as_one entries in
       let from = s.store.values in
       let whole = entry_is xs x (joined entry) (one_at entries x entry entry_at_x) in
       let held = ((holding_has_two_parts.holds (joined entry) s).0 (holds_one entry s lies)).1 in
       let first = subst (StoreHolds from) (sym whole) held in
-      let model = form.model from [] from state.store
-      (from, [], [], (first, refl, refl), refl, (refl, refl)) in
-      none model.0 model.1
+      none from [] from state.store (from, [], [], (first, refl, refl), refl, (refl, refl))
+
+  pub runless_met : (o : Obligation) → HasNoRun o → IsMet cfa entries o
+  runless_met Begins none = begins_met none
+  runless_met (Leads x g) none = leads_met x g none
+  runless_met (Avoids x p) none = avoids_met x p none
+
+  -- ---- queries without a model
+
+  abbrev pub HasNone : Obligation → Type 0
+  HasNone o =
+      (values : List ℤ) → IsModel (form_at cfa (as_one entries) o).query values → ⊥
+
+  abbrev pub FormIs : Obligation → Type 0
+  FormIs o =
+      IsFormOf cfa (is_begins o) (added cfa (as_one entries) o) (form_at cfa (as_one entries) o)
 
   pub unmodelled_met : (o : Obligation) → FormIs o → HasNone o → IsMet cfa entries o
-  unmodelled_met Begins form none = begins_met form none
-  unmodelled_met (Leads x g) form none = leads_met x g form none
-  unmodelled_met (Avoids x p) form none = avoids_met x p form none
+  unmodelled_met o form none =
+      runless_met o (λ first inputs last begins run.
+      let model = form.model first inputs last begins run in none model.0 model.1)

@@ -7,6 +7,9 @@ use Rattle.cpa_recheck_obligations.specs.Forms.{edge_at, entry_at, rivals, targe
 use Rattle.cpa_recheck.proofs.Asked.{led}
 use Rattle.cpa_recheck.proofs.asking.leads.Goals as goal
 
+pub chosen-requires : goal.chosen-requires
+chosen-requires c = c.requires.rivals.below
+
 pub returns : goal.returns
 returns c =
     let xs = c.args.entries.now in
@@ -22,4 +25,4 @@ returns c =
     c.in_ok-fails_now.ensures.ok
     (c.index-entries-entry.is
     ∙ get_or_default xs x elem (record { facts = [] }) c.requires.entry)
-    (c.deref.ensures.value ∙ c.in_ok-failing.ensures)
+    (c.deref.ensures.value ∙ (c.in_ok-failing.ensures ∙ c.requires.rivals.same))

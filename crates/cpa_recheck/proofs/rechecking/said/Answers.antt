@@ -1,4 +1,4 @@
-use Rattle.std.proofs.Common.{◌∙◌, List, Vec, Global, map, subst, sym, zero-add}
+use Rattle.std.proofs.Common.{◌∙◌, Vec, Global, map, subst, sym, zero-add}
 use Rattle.cpa_cnf.specs.declared.formula.Line.{Line}
 use Rattle.cpa_recheck_obligations.specs.Obligations.{obligations}
 use Rattle.cpa_recheck_obligations.specs.Spots.{as_one}

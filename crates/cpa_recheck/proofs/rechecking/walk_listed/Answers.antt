@@ -3,10 +3,10 @@ use Rattle.cpa_report_print.specs.declared.report.Listed.{Listed}
 use Rattle.cpa_recheck_obligations.specs.Laws.{AreShapedFor}
 use Rattle.cpa_recheck_obligations.specs.Spots.{as_one}
 use Rattle.cpa_recheck.proofs.Shown.{shaped_one}
-use Rattle.cpa_recheck.proofs.rechecking.check_listed.Goals as goal
+use Rattle.cpa_recheck.proofs.rechecking.walk_listed.Goals as goal
 
-pub check_entries-requires-clause-shaped : goal.check_entries-requires-clause-shaped
-check_entries-requires-clause-shaped c =
+pub walk_entries-requires-clause-shaped : goal.walk_entries-requires-clause-shaped
+walk_entries-requires-clause-shaped c =
     let cfa = c.args.cfa.now in
     let are = c.deref.ensures.value ∙ (c.in_ok-entries.ensures
     ∙ ap (λ (l : List Listed). as_one (map (λ (entry : Listed). entry.elems) l))
@@ -18,4 +18,4 @@ returns c =
     let are = c.deref.ensures.value ∙ (c.in_ok-entries.ensures
     ∙ ap (λ (l : List Listed). as_one (map (λ (entry : Listed). entry.elems) l))
     c.as_slice.ensures) in
-    c.check_entries.ensures (map (λ (entry : Listed). entry.elems) c.args.listed.now) are
+    c.in_ok-walked.ensures (map (λ (entry : Listed). entry.elems) c.args.listed.now) are

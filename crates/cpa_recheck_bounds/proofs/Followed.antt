@@ -1,0 +1,136 @@
+-- The bounds that an element's facts leave have the values of each store on which it holds.
+use Rattle.std.proofs.Common.{◌≡◌, ℕ, ℤ, ◌≤ℤ◌, Bool, true, false, List, [], ◌∷◌, map, refl, sym, subst}
+use Rattle.std.proofs.Common.{arith}
+use Rattle.std.specs.Prelude.{Option, None, Some, slice_get, IsSomeAnd, if◌then◌else◌}
+use Rattle.std.specs.Prelude.{option_and_then}
+use Rattle.std.specs.List.{AllByRecursion}
+use Rattle.std.proofs.lemmas.Int.{ints}
+use Rattle.std.proofs.lemmas.Bool.Decides.{Decides-int_eq}
+use Rattle.cpa_expr.specs.declared.tree.CmpOp.TheVariants as cmp
+use Rattle.cpa_model.specs.declared.program.Cell.{Cell}
+use Rattle.cpa_model.specs.declared.facts.Fact.{Fact}
+use Rattle.cpa_model.specs.declared.facts.Fact.TheVariants.{At, Stack, Equals, Within, Truth}
+use Rattle.cpa_model.specs.declared.facts.Elem.{Elem}
+use Rattle.cpa_model.specs.declared.automaton.Act.{Act}
+use Rattle.cpa_model.specs.declared.automaton.Act.TheVariants.{Skip, Assign, Assume, Input, Call}
+use Rattle.cpa_model.specs.declared.automaton.Act.TheVariants.{Return}
+use Rattle.cpa_model.specs.declared.automaton.Cfa.{Cfa}
+use Rattle.cpa_model.specs.Acts.{IsActOf}
+use Rattle.cpa_model.specs.Expressions.{types_of}
+use Rattle.cpa_model.specs.Facts.{IsFact, IsElem}
+use Rattle.cpa_model.specs.Steps.{StepsStore}
+use Rattle.cpa_edgeform_rules.specs.Runs.{StoreFactHolds, StoreHolds}
+use Rattle.cpa_interval_bounds.specs.declared.bounds.Bounds.{Bounds}
+use Rattle.cpa_interval_bounds.specs.Bounds.{Has, bounds, only}
+use Rattle.cpa_interval_bounds.specs.ExpressionBounds.{AreOf, LieWithin}
+use Rattle.cpa_interval_acts.specs.Acts.{after_act}
+use Rattle.cpa_interval_acts.specs.Cells.{ranges_of}
+use Rattle.cpa_interval_acts.specs.Laws.{BoundsFollowActs}
+use Rattle.cpa_interval_acts.specs.lemmas.CutLemmas.{Lies, Are, lies_then, are_then, cut_lies}
+use Rattle.cpa_interval_acts.specs.lemmas.CutLemmas.{cut_are}
+use Rattle.cpa_interval_acts.specs.lemmas.ZipLemmas.{ranges_are, ranges_lie}
+use Rattle.cpa_recheck_bounds.specs.Cutting.{cut_by, cut_by_all, followed}
+use Rattle.cpa_recheck_bounds.specs.Saying.{AreFoundBehind, AreSaid, keeps_store}
+
+some_bound : (lo hi : ℤ) (o : Option ℤ) → IsSomeAnd o (λ v. (lo ≤ℤ v) × (v ≤ℤ hi))
+    → (v : ℤ) × (o ≡ Some v) × Has (bounds lo hi) v
+some_bound lo hi None h = absurd h
+some_bound lo hi (Some v) h = (v, refl, record { low = h.0; high = h.1 })
+
+cut_by_lies : (store : List ℤ) (fact : Fact) (all : List Bounds) → StoreFactHolds store fact
+    → LieWithin all store → Lies store (cut_by fact all)
+cut_by_lies store (Equals cell v) all holds lie =
+    cut_lies cmp.Eq cell (only v) all store v v lie holds
+    (record { low = omega (arith, ints); high = omega (arith, ints) }) ((Decides-int_eq v v).1 refl)
+cut_by_lies store (Within cell lo hi) all holds lie =
+    let it = some_bound lo hi (slice_get store cell) holds in
+    cut_lies cmp.Eq cell (bounds lo hi) all store it.0 it.0 lie it.1 it.2
+    ((Decides-int_eq it.0 it.0).1 refl)
+cut_by_lies store (At p) all holds lie = lie
+cut_by_lies store (Stack sites) all holds lie = lie
+cut_by_lies store (Truth e h) all holds lie = lie
+
+cut_by_are : (cells : List Cell) (points : ℕ) (fact : Fact) (all : List Bounds)
+    → IsFact cells points fact → AreOf (types_of cells) all
+    → Are (types_of cells) (cut_by fact all)
+cut_by_are cells points (Equals cell v) all is are =
+    cut_are (types_of cells) cmp.Eq cell (only v) all are (omega (arith, ints))
+cut_by_are cells points (Within cell lo hi) all is are =
+    cut_are (types_of cells) cmp.Eq cell (bounds lo hi) all are is.2
+cut_by_are cells points (At p) all is are = are
+cut_by_are cells points (Stack sites) all is are = are
+cut_by_are cells points (Truth e h) all is are = are
+
+all_lie : (store : List ℤ) (facts : List Fact) (all : List Bounds)
+    → AllByRecursion (StoreFactHolds store) facts → LieWithin all store
+    → Lies store (cut_by_all facts all)
+all_lie store [] all holds lie = lie
+all_lie store (fact ∷ facts) all holds lie =
+    lies_then store (cut_by fact all) (cut_by_all facts) (cut_by_lies store fact all holds.0 lie)
+    (λ left lies. all_lie store facts left holds.1 lies)
+
+all_are : (cells : List Cell) (points : ℕ) (facts : List Fact) (all : List Bounds)
+    → AllByRecursion (IsFact cells points) facts → AreOf (types_of cells) all
+    → Are (types_of cells) (cut_by_all facts all)
+all_are cells points [] all is are = are
+all_are cells points (fact ∷ facts) all is are =
+    are_then (types_of cells) (cut_by fact all) (cut_by_all facts)
+    (cut_by_are cells points fact all is.0 are)
+    (λ left of. all_are cells points facts left is.1 of)
+
+-- what a call leaves in place, where it says whether something is left
+some_left : (done : Bool) (left : List Bounds) (o : Option (List Bounds)) (store : List ℤ)
+    → (if done then Some left else None) ≡ o → Lies store o
+    → (done ≡ true) × LieWithin left store
+some_left true left o store is lies = (refl, subst (Lies store) (sym is) lies)
+some_left false left o store is lies = absurd (subst (Lies store) (sym is) lies)
+
+-- an act that keeps stores keeps this one
+same_store : (cells : List Cell) (a : Act) (old new : List ℤ) → keeps_store a ≡ true
+    → StepsStore cells a old new → new ≡ old
+same_store cells Skip old new keeps steps = steps
+same_store cells (Assign base len index value) old new keeps steps = absurd (cc)
+same_store cells (Assume test holds) old new keeps steps = steps.1
+same_store cells (Input cell) old new keeps steps = absurd (cc)
+same_store cells (Call site) old new keeps steps = steps
+same_store cells (Return site) old new keeps steps = steps
+
+-- what is said behind the act is found there; where no bounds are left, the act leads nowhere
+pub found : (law : BoundsFollowActs) (cfa : Cfa) (elem : Elem) (act : Act)
+    (first last : List Bounds) (others : List Elem) (done : Bool) → IsActOf cfa act
+    → IsElem cfa.cells cfa.points elem → first ≡ ranges_of cfa.cells
+    → (if done then Some last else None) ≡ followed cfa.cells elem.facts act first
+    → (done ≡ true → AreSaid last elem (keeps_store act) others)
+    → AreFoundBehind cfa elem act others
+found law cfa elem act first last others done sound shaped begins is said old new values holds
+    steps fail =
+    said left.0 new left.1
+    (λ keeps. subst (λ s. StoreHolds s elem) (sym (same_store cfa.cells act old new keeps steps))
+    holds) fail
+  where
+    cut_lies_here : Lies old (cut_by_all elem.facts first)
+    cut_lies_here =
+        all_lie old elem.facts first holds
+        (subst (λ l. LieWithin l old) (sym begins) (ranges_lie cfa.cells old values))
+
+    cut_are_here : Are (types_of cfa.cells) (cut_by_all elem.facts first)
+    cut_are_here =
+        all_are cfa.cells cfa.points elem.facts first shaped
+        (subst (AreOf (types_of cfa.cells)) (sym begins) (ranges_are cfa.cells))
+
+    behind : (o : Option (List Bounds)) → Lies old o → Are (types_of cfa.cells) o
+        → Lies new (option_and_then (after_act cfa.cells act) o)
+    behind None lies are = absurd lies
+    behind (Some cut) lies are = law.lie cfa act cut old new sound are lies steps
+
+    left : (done ≡ true) × LieWithin last new
+    left =
+        some_left done last (followed cfa.cells elem.facts act first) new is
+        (behind (cut_by_all elem.facts first) cut_lies_here cut_are_here)
+
+-- the bounds of the starts have them
+pub starts_lie : (cells : List Cell)
+    → LieWithin (map (λ (c : Cell). only c.start) cells) (map (λ (c : Cell). c.start) cells)
+starts_lie [] = tt
+starts_lie (c ∷ cells) =
+    (record { low = omega (arith, ints); high = omega (arith, ints) }, starts_lie cells)

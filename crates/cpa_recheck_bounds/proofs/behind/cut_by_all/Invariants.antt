@@ -1,0 +1,8 @@
+-- What is left gives what the whole gives.
+use Rattle.std.proofs.Common.{◌≡◌, drop}
+use Rattle.cpa_recheck_bounds.specs.Cutting.{cut_by_all}
+use Rattle.cpa_recheck_bounds.proofs.behind.cut_by_all.Given as goal
+
+abbrev pub invariant-loop-fact : goal.invariant-loop-fact
+invariant-loop-fact l =
+    cut_by_all l.facts l.fn.all ≡ cut_by_all (drop l.fact-index l.facts) l.all

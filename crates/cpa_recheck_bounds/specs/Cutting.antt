@@ -1,0 +1,26 @@
+-- What the facts of an element leave of the bounds of cells (this project's own).
+use Rattle.std.specs.Prelude.{List, [], ◌∷◌, Option, Some, option_and_then}
+use Rattle.cpa_expr.specs.declared.tree.CmpOp.TheVariants as cmp
+use Rattle.cpa_model.specs.declared.facts.Fact.{Fact}
+use Rattle.cpa_model.specs.declared.facts.Fact.TheVariants.{Equals, Within}
+use Rattle.cpa_model.specs.declared.program.Cell.{Cell}
+use Rattle.cpa_model.specs.declared.automaton.Act.{Act}
+use Rattle.cpa_interval_bounds.specs.declared.bounds.Bounds.{Bounds}
+use Rattle.cpa_interval_bounds.specs.Bounds.{bounds, only}
+use Rattle.cpa_interval_acts.specs.Acts.{after_act}
+use Rattle.cpa_interval_acts.specs.Cuts.{cut_cell}
+
+-- the numbers that the fact leaves of its cell; nothing where it leaves none
+abbrev pub cut_by : Fact → List Bounds → Option (List Bounds)
+cut_by (Equals cell value) all = cut_cell cmp.Eq cell (only value) all
+cut_by (Within cell lo hi) all = cut_cell cmp.Eq cell (bounds lo hi) all
+cut_by fact all = Some all
+
+-- what all facts leave
+abbrev pub cut_by_all : List Fact → List Bounds → Option (List Bounds)
+cut_by_all [] all = Some all
+cut_by_all (fact ∷ facts) all = option_and_then (cut_by_all facts) (cut_by fact all)
+
+-- and then the act
+abbrev pub followed : List Cell → List Fact → Act → List Bounds → Option (List Bounds)
+followed cells facts act all = option_and_then (after_act cells act) (cut_by_all facts all)

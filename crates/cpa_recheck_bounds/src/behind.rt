@@ -1,0 +1,87 @@
+//! The bounds that cells have behind an act, where an element holds before it. Proved with
+//! `proofs/Followed.antt`.
+
+ghost use Rattle.std.specs.Prelude.{◌≡◌, None, Some, map, IfOk, IsTrue, if◌then◌else◌};
+ghost use Rattle.cpa_model.specs.Acts.{IsActOf};
+ghost use Rattle.cpa_model.specs.Facts.{IsElem};
+ghost use Rattle.cpa_interval_acts.specs.Cells.{ranges_of};
+ghost use Rattle.cpa_interval_bounds.specs.Bounds.{only};
+ghost use Rattle.cpa_recheck_obligations.specs.Forms.{entry_at};
+ghost use Rattle.cpa_recheck_bounds.specs.Cutting.{cut_by, cut_by_all, followed};
+ghost use Rattle.cpa_recheck_bounds.specs.Saying.{AreFoundBehind};
+
+use crate::saying::{are_said, keeps_store};
+use cpa_expr::CmpOp;
+use cpa_interval_acts::{bounds_follow_acts, cut_cell, do_act};
+use cpa_interval_bounds::Bounds;
+use cpa_model::{Act, Cell, Cfa, Elem, Fact};
+use std::alloc::{AllocError, Global};
+
+/// Leaves of the bounds of a cell what the fact says of it, and says whether some number is left.
+fn cut_by(all: &mut [Bounds], fact: &Fact) -> bool
+    ensures { (if result then Some all.new else None) ≡ cut_by fact.now all.old }
+{
+    match fact {
+        Fact::Equals { cell, value } => cut_cell(CmpOp::Eq, *cell, Bounds::only(*value), all),
+        Fact::Within { cell, lo, hi } => {
+            cut_cell(CmpOp::Eq, *cell, Bounds { lo: *lo, hi: *hi }, all)
+        }
+        _ => true,
+    }
+}
+
+/// The same of all facts.
+fn cut_by_all(all: &mut [Bounds], facts: &[Fact]) -> bool
+    ensures { (if result then Some all.new else None) ≡ cut_by_all facts.now all.old }
+{
+    for fact in facts {
+        if !cut_by(all, fact) {
+            return false;
+        }
+    }
+    true
+}
+
+/// Leaves of the bounds what the facts say, and then makes of them what the act does; says whether
+/// some are left.
+fn follow(cells: &[Cell], facts: &[Fact], act: &Act, all: &mut [Bounds]) -> bool
+    ensures { (if result then Some all.new else None)
+        ≡ followed cells.now facts.now act.now all.old }
+{
+    cut_by_all(all, facts) && do_act(cells, act, all)
+}
+
+/// Whether the bounds show that each store to which the act leads from one on which the element
+/// holds is one on which an entry of these numbers holds. At first they are those of the types.
+pub(crate) fn are_found_behind(
+    cfa: &Cfa,
+    elem: &Elem,
+    act: &Act,
+    all: &mut [Bounds],
+    entries: &[Elem],
+    numbers: &[u32],
+) -> bool
+    requires act { IsActOf cfa.now act.now }
+    requires shaped { IsElem cfa.now.cells cfa.now.points elem.now }
+    requires ranges { all.old ≡ ranges_of cfa.now.cells }
+    ensures { IsTrue result → AreFoundBehind cfa.now elem.now act.now
+        (map (entry_at entries.now) numbers.now) }
+{
+    bounds_follow_acts();
+    if follow(cfa.cells.as_slice(), elem.facts.as_slice(), act, all) {
+        are_said(all, elem, keeps_store(act), entries, numbers)
+    } else {
+        true
+    }
+}
+
+/// The bounds of cells at the initial store: its values alone.
+pub(crate) fn bounds_at_start(alloc: Global, cells: &[Cell]) -> Result<Vec<Bounds>, AllocError>
+    ensures { IfOk result (λ all. all.items ≡ map (λ cell. only cell.start) cells.now) }
+{
+    let mut all = Vec::new(alloc);
+    for cell in cells {
+        all.push(Bounds::only(cell.start))?;
+    }
+    Ok(all)
+}

@@ -1,0 +1,10 @@
+//! Obligations that bounds of cells settle without a query. The
+//! definitions stand in `specs/`; what is settled is met by the law `runless_is_met` of
+//! `cpa_recheck_obligations`.
+#![tactic(auto)]
+
+mod behind;
+mod saying;
+mod settling;
+
+pub use settling::is_settled;
