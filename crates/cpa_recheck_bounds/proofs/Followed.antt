@@ -7,6 +7,8 @@ use Rattle.std.specs.List.{AllByRecursion}
 use Rattle.std.proofs.lemmas.Int.{ints}
 use Rattle.std.proofs.lemmas.Bool.Decides.{Decides-int_eq}
 use Rattle.cpa_expr.specs.declared.tree.CmpOp.TheVariants as cmp
+use Rattle.cpa_ints.specs.declared.integers.IntType.{IntType}
+use Rattle.cpa_expr.specs.Cells.{AreValues}
 use Rattle.cpa_model.specs.declared.program.Cell.{Cell}
 use Rattle.cpa_model.specs.declared.facts.Fact.{Fact}
 use Rattle.cpa_model.specs.declared.facts.Fact.TheVariants.{At, Stack, Equals, Within, Truth}
@@ -29,7 +31,14 @@ use Rattle.cpa_interval_acts.specs.Laws.{BoundsFollowActs}
 use Rattle.cpa_interval_acts.specs.lemmas.CutLemmas.{Lies, Are, lies_then, are_then, cut_lies}
 use Rattle.cpa_interval_acts.specs.lemmas.CutLemmas.{cut_are}
 use Rattle.cpa_interval_acts.specs.lemmas.ZipLemmas.{ranges_are, ranges_lie}
-use Rattle.cpa_recheck_bounds.specs.Cutting.{cut_by, cut_by_all, followed}
+use Rattle.cpa_path_folds.specs.declared.scalars.Scalar.{Scalar}
+use Rattle.cpa_path_folds.specs.Scalars.{read_of}
+use Rattle.cpa_path_folds.specs.lemmas.ScalarReads.{StaysInRange, read_value}
+use Rattle.cpa_expr.specs.declared.tree.Expr.{out-Expr}
+use Rattle.cpa_expr.specs.Values.{compares, is_nonzero, value_of}
+use Rattle.std.specs.Ordering.{int_eq}
+use Rattle.std.proofs.Common.{not, pos}
+use Rattle.cpa_recheck_bounds.specs.Cutting.{cut_by, cut_by_all, cut_by_test, cut_scalar, followed}
 use Rattle.cpa_recheck_bounds.specs.Saying.{AreFoundBehind, AreSaid, keeps_store}
 
 some_bound : (lo hi : ℤ) (o : Option ℤ) → IsSomeAnd o (λ v. (lo ≤ℤ v) × (v ≤ℤ hi))
@@ -95,14 +104,79 @@ same_store cells (Input cell) old new keeps steps = absurd (cc)
 same_store cells (Call site) old new keeps steps = steps
 same_store cells (Return site) old new keeps steps = steps
 
+-- ---- a test that reads a scalar
+
+zero_then : (v : ℤ) → is_nonzero v ≡ false → compares cmp.Eq v (pos 0) ≡ true
+zero_then v is = by (int_eq v (pos 0)) is
+  where
+    by : (b : Bool) → not b ≡ false → b ≡ true
+    by true h = refl
+    by false h = absurd (cc)
+
+scalar_lies : (store : List ℤ) (holds : Bool) (read : Scalar) (all : List Bounds) (v : ℤ)
+    → slice_get store read.cell ≡ Some v → is_nonzero v ≡ holds → LieWithin all store
+    → Lies store (cut_scalar holds (Some read) all)
+scalar_lies store true read all v at is lie =
+    cut_lies cmp.Ne read.cell (only (pos 0)) all store v (pos 0) lie at
+    (record { low = omega (arith, ints); high = omega (arith, ints) }) is
+scalar_lies store false read all v at is lie =
+    cut_lies cmp.Eq read.cell (only (pos 0)) all store v (pos 0) lie at
+    (record { low = omega (arith, ints); high = omega (arith, ints) }) (zero_then v is)
+
+scalar_are : (ts : List IntType) (holds : Bool) (o : Option Scalar) (all : List Bounds)
+    → AreOf ts all → Are ts (cut_scalar holds o all)
+scalar_are ts true None all are = are
+scalar_are ts false None all are = are
+scalar_are ts true (Some read) all are =
+    cut_are ts cmp.Ne read.cell (only (pos 0)) all are (omega (arith, ints))
+scalar_are ts false (Some read) all are =
+    cut_are ts cmp.Eq read.cell (only (pos 0)) all are (omega (arith, ints))
+
+truth_at : (o p : Option ℤ) (holds : Bool) → o ≡ p → IsSomeAnd o (λ a. is_nonzero a ≡ holds)
+    → (v : ℤ) × (p ≡ Some v) × (is_nonzero v ≡ holds)
+truth_at None p holds same h = absurd h
+truth_at (Some a) p holds same h = (a, sym same, h)
+
+test_lies : (stays : StaysInRange) (cfa : Cfa) (store new : List ℤ) (a : Act) (all : List Bounds)
+    → IsActOf cfa a → AreValues (types_of cfa.cells) store → StepsStore cfa.cells a store new
+    → LieWithin all store → Lies store (cut_by_test a all)
+test_lies stays cfa store new (Assume test holds) all sound values steps lie =
+    by (read_of (out-Expr test)) refl
+  where
+    by : (o : Option Scalar) → read_of (out-Expr test) ≡ o → Lies store (cut_scalar holds o all)
+    by None is = none holds
+      where
+        none : (h : Bool) → Lies store (cut_scalar h None all)
+        none true = lie
+        none false = lie
+    by (Some read) is =
+        let scalar = read_value stays (types_of cfa.cells) store test read values sound.typed is in
+        let found = truth_at (value_of test store) (slice_get store read.cell) holds scalar.value_is
+        steps.0 in
+        scalar_lies store holds read all found.0 found.1 found.2 lie
+test_lies stays cfa store new Skip all sound values steps lie = lie
+test_lies stays cfa store new (Assign base len index value) all sound values steps lie = lie
+test_lies stays cfa store new (Input cell) all sound values steps lie = lie
+test_lies stays cfa store new (Call site) all sound values steps lie = lie
+test_lies stays cfa store new (Return site) all sound values steps lie = lie
+
+test_are : (ts : List IntType) (a : Act) (all : List Bounds) → AreOf ts all
+    → Are ts (cut_by_test a all)
+test_are ts (Assume test holds) all are = scalar_are ts holds (read_of (out-Expr test)) all are
+test_are ts Skip all are = are
+test_are ts (Assign base len index value) all are = are
+test_are ts (Input cell) all are = are
+test_are ts (Call site) all are = are
+test_are ts (Return site) all are = are
+
 -- what is said behind the act is found there; where no bounds are left, the act leads nowhere
-pub found : (law : BoundsFollowActs) (cfa : Cfa) (elem : Elem) (act : Act)
+pub found : (law : BoundsFollowActs) (stays : StaysInRange) (cfa : Cfa) (elem : Elem) (act : Act)
     (first last : List Bounds) (others : List Elem) (done : Bool) → IsActOf cfa act
     → IsElem cfa.cells cfa.points elem → first ≡ ranges_of cfa.cells
     → (if done then Some last else None) ≡ followed cfa.cells elem.facts act first
     → (done ≡ true → AreSaid last elem (keeps_store act) others)
     → AreFoundBehind cfa elem act others
-found law cfa elem act first last others done sound shaped begins is said old new values holds
+found law stays cfa elem act first last others done sound shaped begins is said old new values holds
     steps fail =
     said left.0 new left.1
     (λ keeps. subst (λ s. StoreHolds s elem) (sym (same_store cfa.cells act old new keeps steps))
@@ -118,6 +192,17 @@ found law cfa elem act first last others done sound shaped begins is said old ne
         all_are cfa.cells cfa.points elem.facts first shaped
         (subst (AreOf (types_of cfa.cells)) (sym begins) (ranges_are cfa.cells))
 
+    tested_lies : Lies old (option_and_then (cut_by_test act) (cut_by_all elem.facts first))
+    tested_lies =
+        lies_then old (cut_by_all elem.facts first) (cut_by_test act) cut_lies_here
+        (λ left lie. test_lies stays cfa old new act left sound values steps lie)
+
+    tested_are : Are (types_of cfa.cells)
+        (option_and_then (cut_by_test act) (cut_by_all elem.facts first))
+    tested_are =
+        are_then (types_of cfa.cells) (cut_by_all elem.facts first) (cut_by_test act) cut_are_here
+        (λ left are. test_are (types_of cfa.cells) act left are)
+
     behind : (o : Option (List Bounds)) → Lies old o → Are (types_of cfa.cells) o
         → Lies new (option_and_then (after_act cfa.cells act) o)
     behind None lies are = absurd lies
@@ -126,7 +211,8 @@ found law cfa elem act first last others done sound shaped begins is said old ne
     left : (done ≡ true) × LieWithin last new
     left =
         some_left done last (followed cfa.cells elem.facts act first) new is
-        (behind (cut_by_all elem.facts first) cut_lies_here cut_are_here)
+        (behind (option_and_then (cut_by_test act) (cut_by_all elem.facts first)) tested_lies
+        tested_are)
 
 -- the bounds of the starts have them
 pub starts_lie : (cells : List Cell)

@@ -1,10 +1,15 @@
 -- What the facts of an element leave of the bounds of cells (this project's own).
-use Rattle.std.specs.Prelude.{List, [], ◌∷◌, Option, Some, option_and_then}
+use Rattle.std.specs.Prelude.{pos, Bool, true, false, List, [], ◌∷◌, Option, None, Some}
+use Rattle.std.specs.Prelude.{option_and_then}
 use Rattle.cpa_expr.specs.declared.tree.CmpOp.TheVariants as cmp
+use Rattle.cpa_expr.specs.declared.tree.Expr.{out-Expr}
 use Rattle.cpa_model.specs.declared.facts.Fact.{Fact}
 use Rattle.cpa_model.specs.declared.facts.Fact.TheVariants.{Equals, Within}
 use Rattle.cpa_model.specs.declared.program.Cell.{Cell}
 use Rattle.cpa_model.specs.declared.automaton.Act.{Act}
+use Rattle.cpa_model.specs.declared.automaton.Act.TheVariants as act
+use Rattle.cpa_path_folds.specs.declared.scalars.Scalar.{Scalar}
+use Rattle.cpa_path_folds.specs.Scalars.{read_of}
 use Rattle.cpa_interval_bounds.specs.declared.bounds.Bounds.{Bounds}
 use Rattle.cpa_interval_bounds.specs.Bounds.{bounds, only}
 use Rattle.cpa_interval_acts.specs.Acts.{after_act}
@@ -21,6 +26,18 @@ abbrev pub cut_by_all : List Fact → List Bounds → Option (List Bounds)
 cut_by_all [] all = Some all
 cut_by_all (fact ∷ facts) all = option_and_then (cut_by_all facts) (cut_by fact all)
 
+-- a scalar that is to be nonzero, or zero
+abbrev pub cut_scalar : Bool → Option Scalar → List Bounds → Option (List Bounds)
+cut_scalar holds None all = Some all
+cut_scalar true (Some read) all = cut_cell cmp.Ne read.cell (only (pos 0)) all
+cut_scalar false (Some read) all = cut_cell cmp.Eq read.cell (only (pos 0)) all
+
+-- what a test leaves that reads a scalar; any other test is left to the act
+abbrev pub cut_by_test : Act → List Bounds → Option (List Bounds)
+cut_by_test (act.Assume test holds) all = cut_scalar holds (read_of (out-Expr test)) all
+cut_by_test other all = Some all
+
 -- and then the act
 abbrev pub followed : List Cell → List Fact → Act → List Bounds → Option (List Bounds)
-followed cells facts act all = option_and_then (after_act cells act) (cut_by_all facts all)
+followed cells facts a all =
+    option_and_then (after_act cells a) (option_and_then (cut_by_test a) (cut_by_all facts all))

@@ -7,14 +7,17 @@ ghost use Rattle.cpa_model.specs.Facts.{IsElem};
 ghost use Rattle.cpa_interval_acts.specs.Cells.{ranges_of};
 ghost use Rattle.cpa_interval_bounds.specs.Bounds.{only};
 ghost use Rattle.cpa_recheck_obligations.specs.Forms.{entry_at};
-ghost use Rattle.cpa_recheck_bounds.specs.Cutting.{cut_by, cut_by_all, followed};
+ghost use Rattle.cpa_recheck_bounds.specs.Cutting.{cut_by, cut_by_all, cut_by_test, cut_scalar};
+ghost use Rattle.cpa_recheck_bounds.specs.Cutting.{followed};
 ghost use Rattle.cpa_recheck_bounds.specs.Saying.{AreFoundBehind};
 
 use crate::saying::{are_said, keeps_store};
 use cpa_expr::CmpOp;
 use cpa_interval_acts::{bounds_follow_acts, cut_cell, do_act};
 use cpa_interval_bounds::Bounds;
+use cpa_ints::wrap_keeps_the_range;
 use cpa_model::{Act, Cell, Cfa, Elem, Fact};
+use cpa_path_folds::{Scalar, read_of};
 use std::alloc::{AllocError, Global};
 
 /// Leaves of the bounds of a cell what the fact says of it, and says whether some number is left.
@@ -42,13 +45,39 @@ fn cut_by_all(all: &mut [Bounds], facts: &[Fact]) -> bool
     true
 }
 
+/// Leaves of a scalar the numbers that are nonzero, or zero.
+fn cut_scalar(all: &mut [Bounds], read: Option<Scalar>, holds: bool) -> bool
+    ensures { (if result then Some all.new else None) ≡ cut_scalar holds read all.old }
+{
+    match read {
+        None => true,
+        Some(read) => {
+            if holds {
+                cut_cell(CmpOp::Ne, read.cell, Bounds::only(0), all)
+            } else {
+                cut_cell(CmpOp::Eq, read.cell, Bounds::only(0), all)
+            }
+        }
+    }
+}
+
+/// Leaves of the bounds what a test says that reads a scalar.
+fn cut_by_test(all: &mut [Bounds], act: &Act) -> bool
+    ensures { (if result then Some all.new else None) ≡ cut_by_test act.now all.old }
+{
+    match act {
+        Act::Assume { test, holds } => cut_scalar(all, read_of(test), *holds),
+        _ => true,
+    }
+}
+
 /// Leaves of the bounds what the facts say, and then makes of them what the act does; says whether
 /// some are left.
 fn follow(cells: &[Cell], facts: &[Fact], act: &Act, all: &mut [Bounds]) -> bool
     ensures { (if result then Some all.new else None)
         ≡ followed cells.now facts.now act.now all.old }
 {
-    cut_by_all(all, facts) && do_act(cells, act, all)
+    cut_by_all(all, facts) && cut_by_test(all, act) && do_act(cells, act, all)
 }
 
 /// Whether the bounds show that each store to which the act leads from one on which the element
@@ -68,7 +97,10 @@ pub(crate) fn are_found_behind(
         (map (entry_at entries.now) numbers.now) }
 {
     bounds_follow_acts();
-    if follow(cfa.cells.as_slice(), elem.facts.as_slice(), act, all) {
+    wrap_keeps_the_range();
+    let cells = cfa.cells.as_slice();
+    let facts = elem.facts.as_slice();
+    if follow(cells, facts, act, all) {
         are_said(all, elem, keeps_store(act), entries, numbers)
     } else {
         true
