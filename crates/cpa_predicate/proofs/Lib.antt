@@ -1,5 +1,6 @@
 pub mod StepLemmas
 pub mod StandingLemmas
+pub mod NearLemmas
 pub mod BudgetLemmas
 pub mod TransferLemmas
 pub mod WitnessLemmas

@@ -5,6 +5,8 @@ use Rattle.std.specs.Coded.{×_prop, Π_prop, →_prop, Unit-prop, Coded-set, co
 use Rattle.cpa_ints.specs.declared.integers.IntType.{IntType}
 use Rattle.cpa_expr.specs.declared.tree.Expr.{Expr}
 use Rattle.cpa_expr.specs.Values.{value_of, is_nonzero}
+use Rattle.cpa_model.specs.declared.facts.Fact.{Fact}
+use Rattle.cpa_model.specs.declared.facts.Fact.TheVariants.{Truth}
 use Rattle.cpa_model.specs.declared.facts.Elem.{Elem}
 use Rattle.cpa_model.specs.declared.automaton.Act.{Act}
 use Rattle.cpa_model.specs.declared.automaton.Edge.{Edge}
@@ -12,15 +14,26 @@ use Rattle.cpa_model.specs.declared.automaton.Cfa.{Cfa}
 use Rattle.cpa_model.specs.Expressions.{types_of}
 use Rattle.cpa_predicate.specs.Transfer.{NoneOpen, IsTruthAfter, AreTruths, IsOutcome}
 
--- the edge does this act, and is one of an automaton with cells of these types
-pub record IsLike (types : List IntType) (act : Act) (cfa : Cfa) (g : Edge) : Type 0 where
+-- the truths that facts say of predicates, in their order
+abbrev pub told : List Fact → List (Expr × Bool)
+told [] = []
+told (Truth expr holds ∷ facts) = (expr, holds) ∷ told facts
+told (fact ∷ facts) = told facts
+
+-- the edge does this act, in an automaton with cells of these types, and the element says these
+-- truths
+pub record IsLike (types : List IntType) (act : Act) (truths : List (Expr × Bool)) (cfa : Cfa)
+    (e : Elem) (g : Edge) : Type 0 where
   pub cells : types_of cfa.cells ≡ types
   pub does : g.act ≡ act
+  pub says : told e.facts ≡ truths
 
--- the outcome of each such step from the element, all of whose questions were decided
-abbrev pub IsKnown : List IntType → Act → Elem → List Expr → Option (List (Option Bool)) → Type 0
-IsKnown types act e preds outcome =
-    (cfa : Cfa) (g : Edge) → IsLike types act cfa g → IsOutcome NoneOpen cfa e g preds outcome
+-- the outcome of each such step, all of whose questions were decided
+abbrev pub IsKnown : List IntType → Act → List (Expr × Bool) → List Expr
+    → Option (List (Option Bool)) → Type 0
+IsKnown types act truths preds outcome =
+    (cfa : Cfa) (e : Elem) (g : Edge) → IsLike types act truths cfa e g
+    → IsOutcome NoneOpen cfa e g preds outcome
 
 -- ---- what is kept beside its step has to have at most one proof
 
@@ -48,7 +61,8 @@ module _ (cfa : Cfa) (e : Elem) (g : Edge) where
   one_outcome preds (Some truths) =
       ×_prop (→_prop (λ x y. absurd x)) (all_truths preds truths)
 
-pub IsKnown-prop : (types : List IntType) (act : Act) (e : Elem) (preds : List Expr)
-    (outcome : Option (List (Option Bool))) → IsProp (IsKnown types act e preds outcome)
-IsKnown-prop types act e preds outcome =
-    Π_prop (λ cfa. Π_prop (λ g. →_prop (one_outcome cfa e g preds outcome)))
+pub IsKnown-prop : (types : List IntType) (act : Act) (truths : List (Expr × Bool))
+    (preds : List Expr) (outcome : Option (List (Option Bool)))
+    → IsProp (IsKnown types act truths preds outcome)
+IsKnown-prop types act truths preds outcome =
+    Π_prop (λ cfa. Π_prop (λ e. Π_prop (λ g. →_prop (one_outcome cfa e g preds outcome))))

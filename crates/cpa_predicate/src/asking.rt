@@ -26,7 +26,7 @@ use std::marker::Model;
 use std::mem;
 
 /// How many stores are kept.
-const KEPT: usize = 32;
+const KEPT: usize = 64;
 
 /// What a question to the solver may cost, and how many were not decided for it.
 #[derive(Clone, Copy)]
@@ -91,10 +91,13 @@ impl Asker {
         }
     }
 
-    /// Keeps a store, in the place of the oldest one where there are many.
-    fn keep_store(&mut self, alloc: Global, store: Store) -> Result<(), AllocError>
+    /// Keeps a store that is not there, in the place of the oldest one where there are many.
+    pub(crate) fn keep_store(&mut self, alloc: Global, store: Store) -> Result<(), AllocError>
         ensures { self.new ≡ self.old }
     {
+        if holds_store(self.stores(), &store) {
+            return Ok(());
+        }
         let mut stores = match mem::replace(&mut self.stores, None) {
             Some(stores) => stores,
             None => Vec::new(alloc),
@@ -173,6 +176,16 @@ impl Asker {
         self.steps = Some(steps);
         Ok(())
     }
+}
+
+/// Whether a store with these values is among the stores.
+fn holds_store(stores: &[Store], store: &Store) -> bool {
+    for kept in stores {
+        if kept.values == store.values {
+            return true;
+        }
+    }
+    false
 }
 
 /// Whether a query has a model.
@@ -293,6 +306,21 @@ fn truth_alone(alloc: Global, p: &Expr, holds: bool) -> Result<Vec<Elem>, AllocE
     Ok(elems)
 }
 
+/// The step, behind which the predicate has not this truth.
+fn lacking_form(
+    alloc: Global,
+    step: &EdgeForm,
+    p: &Expr,
+    holds: bool,
+) -> Result<EdgeForm, AllocError>
+    ensures { IfOk result (λ form. form ≡ lacking p.now holds step.now) }
+{
+    let truth = truth_alone(alloc, p, holds)?;
+    let mut form = step.copy()?;
+    form.fails_now(truth.as_slice())?;
+    Ok(form)
+}
+
 /// Whether it is found that the predicate has this truth wherever the step leads. Nothing is asked
 /// where that is refuted.
 fn is_always(
@@ -316,10 +344,58 @@ fn is_always(
     if refuted {
         return Ok(false);
     }
-    let truth = truth_alone(alloc, p, holds)?;
-    let mut form = step.copy()?;
-    form.fails_now(truth.as_slice())?;
+    let form = lacking_form(alloc, step, p, holds)?;
     is_never(alloc, asker, &form)
+}
+
+/// Whether it is found that the predicate has this truth wherever the step leads. A question that
+/// is not decided does not count, and nothing is asked where that is refuted.
+fn is_surely(
+    alloc: Global,
+    asker: &mut Asker,
+    step: &EdgeForm,
+    p: &Expr,
+    holds: bool,
+    refuted: bool,
+) -> Result<bool, AllocError>
+    requires asked { IsQuery (lacking p.now holds step.now).query }
+    ensures yes { IfOk result (λ always. IsTrue always
+        → HasNoModel (lacking p.now holds step.now).query) }
+    ensures budgets { asker.new ≡ asker.old }
+{
+    if refuted {
+        return Ok(false);
+    }
+    let form = lacking_form(alloc, step, p, holds)?;
+    match ask(alloc, asker, &form)? {
+        Answer::Never => Ok(true),
+        Answer::Sometimes | Answer::Undecided => Ok(false),
+    }
+}
+
+/// A truth that the predicate has wherever the step leads, where it is found. No question counts.
+pub(crate) fn sure_truth(
+    alloc: Global,
+    asker: &mut Asker,
+    step: &EdgeForm,
+    p: &Expr,
+    lacks_true: bool,
+    lacks_false: bool,
+) -> Result<Option<bool>, AllocError>
+    requires asked { (holds : Bool) → IsQuery (lacking p.now holds step.now).query }
+    ensures found { IfOk result (λ truth. IfSome truth (λ holds.
+        HasNoModel (lacking p.now holds step.now).query)) }
+    ensures budgets { asker.new ≡ asker.old }
+{
+    let holds = is_surely(alloc, asker, step, p, true, lacks_true)?;
+    if holds {
+        return Ok(Some(true));
+    }
+    let fails = is_surely(alloc, asker, step, p, false, lacks_false)?;
+    if fails {
+        return Ok(Some(false));
+    }
+    Ok(None)
 }
 
 /// The truth that the predicate has wherever the step leads, where it is found. Which truths are

@@ -1,28 +1,30 @@
 //! Steps whose outcome is known, since all that was asked about them was decided. What is kept of a
 //! step is right for each step like it, in whichever automaton (`specs/Known.antt`).
 
-ghost use Rattle.std.specs.Prelude.{◌≡◌, IsTrue, IfOk, IfSome};
+ghost use Rattle.std.specs.Prelude.{◌≡◌, ◌∷◌, List, IsTrue, IfOk, IfSome};
 ghost use Rattle.cpa_model.specs.Expressions.{types_of};
-ghost use Rattle.cpa_predicate.specs.Known.{IsKnown, IsKnown-prop};
+ghost use Rattle.cpa_model.specs.declared.facts.Fact.{Fact as AFact};
+ghost use Rattle.cpa_predicate.specs.Known.{told, IsKnown, IsKnown-prop};
 ghost use Rattle.cpa_predicate.specs.Transfer.{IsOutcome, NoneOpen};
 
 use cpa_expr::{copy, same_expr};
 use cpa_ints::IntType;
-use cpa_model::{Act, Cell, Cfa, Edge, Elem, Expr, Fact, Seq, copy_elem, same_fact};
+use cpa_model::{Act, Cell, Cfa, Edge, Elem, Expr, Fact, Seq};
 use std::alloc::{AllocError, Global};
 
 /// What is found of a step: the truths of the predicates behind it, or that it leads nowhere.
 pub(crate) type Outcome = Option<Seq<Option<bool>>>;
 
-/// A step by an act from an element, in an automaton with cells of some types, and its outcome.
+/// A step by an act from an element that says some truths of predicates, in an automaton with cells
+/// of some types, and its outcome.
 #[derive(Drop)]
 pub(crate) struct Known {
     types: Seq<IntType>,
     act: Act,
-    elem: Elem,
+    truths: Seq<(Expr, bool)>,
     preds: Seq<Expr>,
     outcome: Option<Seq<Option<bool>>>,
-    ghost is_right: { IsKnown types act elem preds outcome } by { IsKnown-prop types act elem preds outcome },
+    ghost is_right: { IsKnown types act truths preds outcome } by { IsKnown-prop types act truths preds outcome },
 }
 
 /// Whether the cells have these types.
@@ -78,20 +80,38 @@ fn same_act(a: &Act, b: &Act) -> bool
     }
 }
 
-/// Whether the two have the same facts in the same order.
-fn same_facts(facts: &[Fact], others: &[Fact]) -> bool
-    ensures { IsTrue result → facts.now ≡ others.now }
+/// What is left of the truths behind the one that the fact says, if it says one. Nothing where it
+/// says another one than the first.
+fn behind_said<'a>(fact: &Fact, truths: &'a [(Expr, bool)]) -> Option<&'a [(Expr, bool)]>
+    ensures { IfSome result (λ rest. (facts : List AFact) → told facts ≡ rest.now
+        → told (fact.now ∷ facts) ≡ truths.now) }
 {
-    let mut rest = others;
-    for fact in facts {
-        match rest {
-            [other, behind @ ..] => {
-                if !same_fact(fact, other) {
-                    return false;
+    match fact {
+        Fact::Truth { expr, holds } => match truths {
+            [first, rest @ ..] => {
+                if same_expr(expr, &first.0) && *holds == first.1 {
+                    Some(rest)
+                } else {
+                    None
                 }
-                rest = behind;
             }
-            [] => return false,
+            [] => None,
+        },
+        Fact::At { .. } | Fact::Stack { .. } | Fact::Equals { .. } | Fact::Within { .. } => {
+            Some(truths)
+        }
+    }
+}
+
+/// Whether these are the truths that the facts say, in their order.
+fn say(facts: &[Fact], truths: &[(Expr, bool)]) -> bool
+    ensures { IsTrue result → told facts.now ≡ truths.now }
+{
+    let mut rest = truths;
+    for fact in facts {
+        match behind_said(fact, rest) {
+            Some(behind) => rest = behind,
+            None => return false,
         }
     }
     rest.is_empty()
@@ -142,6 +162,19 @@ fn types_of(alloc: Global, cells: &[Cell]) -> Result<Seq<IntType>, AllocError>
     Ok(types)
 }
 
+/// The truths that the facts say of predicates.
+fn told(alloc: Global, facts: &[Fact]) -> Result<Seq<(Expr, bool)>, AllocError>
+    ensures { IfOk result (λ truths. truths ≡ told facts.now) }
+{
+    let mut truths = Seq::new(alloc);
+    for fact in facts {
+        if let Fact::Truth { expr, holds } = fact {
+            truths.push((copy(alloc, expr)?, *holds))?;
+        }
+    }
+    Ok(truths)
+}
+
 /// Copies of the predicates.
 fn copy_preds(alloc: Global, preds: &[Expr]) -> Result<Seq<Expr>, AllocError>
     ensures { IfOk result (λ ps. ps ≡ preds.now) }
@@ -177,12 +210,12 @@ pub(crate) fn known_step(
     let types = types_of(alloc, cfa.cells.as_slice())?;
     let preds = copy_preds(alloc, preds)?;
     let outcome = copy_outcome(alloc, outcome)?;
-    let elem = copy_elem(alloc, elem)?;
+    let truths = told(alloc, elem.facts.as_slice())?;
     let act = copy_act(alloc, &edge.act)?;
     Ok(Known {
         types,
         act,
-        elem,
+        truths,
         preds,
         outcome,
     })
@@ -191,11 +224,11 @@ pub(crate) fn known_step(
 /// Whether what is known is of the step along the edge.
 fn is_of(known: &Known, cfa: &Cfa, edge: &Edge, elem: &Elem, preds: &[Expr]) -> bool
     ensures { IsTrue result → (types_of cfa.now.cells ≡ known.now.types)
-        × (edge.now.act ≡ known.now.act) × (elem.now.facts ≡ known.now.elem.facts)
+        × (edge.now.act ≡ known.now.act) × (told elem.now.facts ≡ known.now.truths)
         × (preds.now ≡ known.now.preds) }
 {
     same_act(&edge.act, &known.act)
-        && same_facts(elem.facts.as_slice(), known.elem.facts.as_slice())
+        && say(elem.facts.as_slice(), known.truths.as_slice())
         && same_preds(preds, known.preds.as_slice())
         && have_types(cfa.cells.as_slice(), known.types.as_slice())
 }

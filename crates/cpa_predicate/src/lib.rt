@@ -7,6 +7,7 @@ mod asking;
 mod findings;
 mod fingerprints;
 mod known;
+mod nearness;
 mod predicate;
 mod refining;
 mod standing;

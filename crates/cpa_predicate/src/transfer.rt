@@ -1,7 +1,7 @@
 //! What is known of predicates behind an edge, by `specs/Transfer.antt`.
 
 ghost use Rattle.std.specs.Prelude.{◌≡◌, ◌<◌, ◌≤◌, ◌-◌, ◌^◌, ◌∷◌, ◌++◌, []};
-ghost use Rattle.std.specs.Prelude.{length, slice_get, Some, IsTrue, IfOk, OnOk};
+ghost use Rattle.std.specs.Prelude.{length, slice_get, Some, IsTrue, IfOk, IfSome, OnOk};
 ghost use Rattle.std.specs.List.{AllByRecursion};
 ghost use Rattle.cpa_model.specs.declared.automaton.Edge.{Edge as AnEdge};
 ghost use Rattle.cpa_model.specs.Automata.{IsAutomaton};
@@ -9,33 +9,212 @@ ghost use Rattle.cpa_model.specs.Expressions.{IsExpr};
 ghost use Rattle.cpa_iface.specs.Meanings.{IsShaped};
 ghost use Rattle.cpa_predicate.specs.Predicates.{no_facts};
 ghost use Rattle.cpa_predicate.specs.Questions.{IsStep, Spends, SomeBeyond, IsOpen};
-ghost use Rattle.cpa_predicate.specs.Steps.{IsAfter};
+ghost use Rattle.cpa_predicate.specs.Steps.{HasAfter, IsAfter};
 ghost use Rattle.cpa_predicate.specs.Transfer.{IsTruthAfter, AreTruths, IsOutcome};
 ghost use Rattle.cpa_predicate.specs.Transfer.{IsCartesian, fact_of, facts_of, elems_of};
 
-use crate::asking::{Asker, Budgets, found_truth};
+use crate::asking::{Asker, Budgets, found_truth, sure_truth};
 use crate::known::Outcome;
+use crate::nearness::{near_cells, near_truths};
 use crate::standing::standing_truth;
 use crate::steps::step_form;
-use crate::witnesses::{leads_nowhere, some_lacks, stores_behind};
+use crate::witnesses::{leads_nowhere, mixed_lacking, some_lacks, stores_behind};
 use cpa_edgeform::EdgeForm;
 use cpa_edgeform_rules::{failing_is_not_holding, forms_are_runs, steps_take_inputs};
 use cpa_expr::{copy, value_depends_on_what_is_read};
 use cpa_model::{Cfa, Edge, Elem, Expr, Fact, Seq, Store, edges_are_sound};
 use std::alloc::{AllocError, Global};
 
-/// The truth that the predicate has wherever the edge leads. One that stands in the element is not
-/// asked for, where the edge writes no cell that the predicate may read.
-fn truth_after(
+/// The truth that the predicate has wherever the edge leads, where it follows from the truths of the
+/// element that have to do with it.
+fn near_truth(
+    alloc: Global,
+    asker: &mut Asker,
+    cfa: &Cfa,
+    edge: u32,
+    elem: &Elem,
+    p: &Expr,
+    refuted: Refuted,
+) -> Result<Option<bool>, AllocError>
+    requires automaton { IsAutomaton cfa.now }
+    requires edge { edge < length cfa.now.edges }
+    requires elem { IsShaped cfa.now elem.now }
+    requires predicate { IsExpr cfa.now.cells p.now }
+    ensures truth { IfOk result (λ truth. (g : AnEdge) → slice_get cfa.now.edges edge ≡ Some g
+        → IfSome truth (HasAfter cfa.now elem.now g p.now)) }
+    ensures budgets { asker.new ≡ asker.old }
+{
+    edges_are_sound();
+    forms_are_runs();
+    failing_is_not_holding();
+    steps_take_inputs();
+    if refuted.is_true && refuted.is_false {
+        return Ok(None);
+    }
+    let along = cfa.edge(edge);
+    let near = near_truths(alloc, cfa.cells.len(), elem, &along.act, p)?;
+    let step = step_form(alloc, cfa, edge, &near)?;
+    let truth = sure_truth(alloc, asker, &step, p, refuted.is_true, refuted.is_false)?;
+    Ok(truth)
+}
+
+/// Which truths of a predicate some store to which the edge leads is known to lack. Nothing is
+/// promised of it.
+#[derive(Clone, Copy)]
+struct Refuted {
+    is_true: bool,
+    is_false: bool,
+}
+
+/// Whether this truth of the predicate is refuted, if need be by a store that comes of those that are
+/// kept. It is kept, too.
+fn keep_refuting(
+    alloc: Global,
+    asker: &mut Asker,
+    cfa: &Cfa,
+    edge: &Edge,
+    elem: &Elem,
+    marks: &[bool],
+    p: &Expr,
+    holds: bool,
+    refuted: bool,
+) -> Result<bool, AllocError>
+    ensures { asker.new ≡ asker.old }
+{
+    if refuted {
+        return Ok(true);
+    }
+    let lacking = mixed_lacking(alloc, cfa, edge, elem, asker.stores(), marks, p, holds)?;
+    match lacking {
+        Some(store) => {
+            asker.keep_store(alloc, store)?;
+            Ok(true)
+        }
+        None => Ok(false),
+    }
+}
+
+/// Which truths of the predicate are refuted, if need be by stores that come of those that are kept.
+fn look_further(
+    alloc: Global,
+    asker: &mut Asker,
+    cfa: &Cfa,
+    edge: &Edge,
+    elem: &Elem,
+    p: &Expr,
+    refuted: Refuted,
+) -> Result<Refuted, AllocError>
+    ensures { asker.new ≡ asker.old }
+{
+    if refuted.is_true && refuted.is_false {
+        return Ok(refuted);
+    }
+    let marks = near_cells(alloc, cfa.cells.len(), &edge.act, p)?;
+    let is_true = keep_refuting(
+        alloc,
+        asker,
+        cfa,
+        edge,
+        elem,
+        &marks,
+        p,
+        true,
+        refuted.is_true,
+    )?;
+    let is_false = keep_refuting(
+        alloc,
+        asker,
+        cfa,
+        edge,
+        elem,
+        &marks,
+        p,
+        false,
+        refuted.is_false,
+    )?;
+    Ok(Refuted { is_true, is_false })
+}
+
+/// The truth that the predicate has wherever the edge leads, found from the whole element where the
+/// stores to which it leads do not refute it.
+fn whole_truth(
     alloc: Global,
     asker: &mut Asker,
     cfa: &Cfa,
     edge: &Edge,
     elem: &Elem,
     step: &EdgeForm,
+    p: &Expr,
+) -> Result<Option<bool>, AllocError>
+    requires step { IsStep cfa.now elem.now edge.now step.now }
+    requires predicate { IsExpr cfa.now.cells p.now }
+    ensures truth { IfOk result (IsTruthAfter
+        (IsOpen asker.old asker.new cfa.now elem.now edge.now)
+        cfa.now elem.now edge.now p.now) }
+    ensures spends { Spends asker.old asker.new
+        (SomeBeyond asker.old cfa.now elem.now edge.now (p.now ∷ [])) }
+{
+    forms_are_runs();
+    failing_is_not_holding();
+    steps_take_inputs();
+    let stores = stores_behind(alloc, cfa, edge, elem, asker.stores(), false)?;
+    let behind = stores.as_slice();
+    let lacks_true = some_lacks(p, true, behind);
+    let lacks_false = some_lacks(p, false, behind);
+    found_truth(alloc, asker, step, p, lacks_true, lacks_false)
+}
+
+/// The truth that the predicate has wherever the edge leads. Where not both are refuted by stores
+/// that come of those that are kept, what has to do with it is asked first, and the whole element
+/// then.
+fn asked_truth(
+    alloc: Global,
+    asker: &mut Asker,
+    cfa: &Cfa,
+    number: u32,
+    edge: &Edge,
+    elem: &Elem,
+    step: &EdgeForm,
+    p: &Expr,
+    refuted: Refuted,
+) -> Result<Option<bool>, AllocError>
+    requires number { number < length cfa.now.edges }
+    requires at { slice_get cfa.now.edges number ≡ Some edge.now }
+    requires step { IsStep cfa.now elem.now edge.now step.now }
+    requires predicate { IsExpr cfa.now.cells p.now }
+    ensures truth { IfOk result (IsTruthAfter
+        (IsOpen asker.old asker.new cfa.now elem.now edge.now)
+        cfa.now elem.now edge.now p.now) }
+    ensures spends { Spends asker.old asker.new
+        (SomeBeyond asker.old cfa.now elem.now edge.now (p.now ∷ [])) }
+{
+    let refuted = look_further(alloc, asker, cfa, edge, elem, p, refuted)?;
+    let near = near_truth(alloc, asker, cfa, number, elem, p, refuted)?;
+    match near {
+        Some(holds) => Ok(Some(holds)),
+        None => {
+            look_further(alloc, asker, cfa, edge, elem, p, refuted)?;
+            whole_truth(alloc, asker, cfa, edge, elem, step, p)
+        }
+    }
+}
+
+/// The truth that the predicate has wherever the edge leads. One that stands in the element is not
+/// asked for, where the edge writes no cell that the predicate may read, and neither is one that is
+/// refuted by a store to which the edge leads.
+fn truth_after(
+    alloc: Global,
+    asker: &mut Asker,
+    cfa: &Cfa,
+    number: u32,
+    edge: &Edge,
+    elem: &Elem,
+    step: &EdgeForm,
     behind: &[Store],
     p: &Expr,
 ) -> Result<Option<bool>, AllocError>
+    requires number { number < length cfa.now.edges }
+    requires at { slice_get cfa.now.edges number ≡ Some edge.now }
     requires step { IsStep cfa.now elem.now edge.now step.now }
     requires behind { AllByRecursion (IsAfter cfa.now elem.now edge.now) behind.now }
     requires predicate { IsExpr cfa.now.cells p.now }
@@ -49,13 +228,19 @@ fn truth_after(
     failing_is_not_holding();
     steps_take_inputs();
     value_depends_on_what_is_read();
-    let _automaton = cfa;
     match standing_truth(elem, p, &edge.act) {
         Some(holds) => Ok(Some(holds)),
         None => {
             let lacks_true = some_lacks(p, true, behind);
             let lacks_false = some_lacks(p, false, behind);
-            found_truth(alloc, asker, step, p, lacks_true, lacks_false)
+            if lacks_true && lacks_false {
+                return found_truth(alloc, asker, step, p, lacks_true, lacks_false);
+            }
+            let refuted = Refuted {
+                is_true: lacks_true,
+                is_false: lacks_false,
+            };
+            asked_truth(alloc, asker, cfa, number, edge, elem, step, p, refuted)
         }
     }
 }
@@ -65,12 +250,15 @@ fn truths_after(
     alloc: Global,
     asker: &mut Asker,
     cfa: &Cfa,
+    number: u32,
     edge: &Edge,
     elem: &Elem,
     step: &EdgeForm,
     behind: &[Store],
     preds: &[Expr],
 ) -> Result<Seq<Option<bool>>, AllocError>
+    requires number { number < length cfa.now.edges }
+    requires at { slice_get cfa.now.edges number ≡ Some edge.now }
     requires step { IsStep cfa.now elem.now edge.now step.now }
     requires behind { AllByRecursion (IsAfter cfa.now elem.now edge.now) behind.now }
     requires preds { AllByRecursion (IsExpr cfa.now.cells) preds.now }
@@ -82,7 +270,7 @@ fn truths_after(
 {
     let mut truths = Seq::new(alloc);
     for p in preds {
-        let truth = truth_after(alloc, asker, cfa, edge, elem, step, behind, p)?;
+        let truth = truth_after(alloc, asker, cfa, number, edge, elem, step, behind, p)?;
         truths.push(truth)?;
     }
     Ok(truths)
@@ -133,7 +321,9 @@ fn outcome_of(
     if never {
         return Ok(None);
     }
-    let truths = truths_after(alloc, asker, cfa, along, elem, &step, behind, preds)?;
+    let stores = stores_behind(alloc, cfa, along, elem, asker.stores(), false)?;
+    let behind = stores.as_slice();
+    let truths = truths_after(alloc, asker, cfa, edge, along, elem, &step, behind, preds)?;
     Ok(Some(truths))
 }
 
@@ -144,7 +334,28 @@ fn all_decided(before: Budgets, after: Budgets) -> bool
     after.spent == before.spent && before.spent < u64::MAX
 }
 
-/// Keeps the outcome of the step, if all that was asked since `before` was decided.
+/// Keeps stores to which the edge leads from those that are kept: the predicates of the element
+/// behind it have their truths on them.
+fn keep_behind(
+    alloc: Global,
+    asker: &mut Asker,
+    cfa: &Cfa,
+    edge: &Edge,
+    elem: &Elem,
+) -> Result<(), AllocError>
+    ensures { asker.new ≡ asker.old }
+{
+    let mut behind = stores_behind(alloc, cfa, edge, elem, asker.stores(), false)?;
+    if let Some(last) = behind.pop() {
+        asker.keep_store(alloc, last)?;
+    }
+    if let Some(other) = behind.pop() {
+        asker.keep_store(alloc, other)?;
+    }
+    Ok(())
+}
+
+/// Keeps stores behind the step, and its outcome, if all that was asked since `before` was decided.
 fn keep_decided(
     alloc: Global,
     asker: &mut Asker,
@@ -159,6 +370,7 @@ fn keep_decided(
         edge.now preds.now outcome.now }
     ensures { asker.new ≡ asker.old }
 {
+    keep_behind(alloc, asker, cfa, edge, elem)?;
     let decided = all_decided(before, asker.budgets());
     if decided {
         asker.keep_outcome(alloc, cfa, edge, elem, preds, outcome)?;

@@ -158,6 +158,57 @@ pub(crate) fn some_lacks(p: &Expr, holds: bool, stores: &[Store]) -> bool
     false
 }
 
+/// The first of the stores on which the predicates of the element have their truths.
+fn first_with_truths<'a>(elem: &Elem, stores: &'a [Store]) -> Option<&'a Store> {
+    for store in stores {
+        if has_truths(elem, store) {
+            return Some(store);
+        }
+    }
+    None
+}
+
+/// The store with the values of another one in the cells that are marked.
+fn mixed(alloc: Global, store: &Store, other: &Store, marks: &[bool]) -> Result<Store, AllocError> {
+    let mut values = store.values.as_slice().to_vec(alloc)?;
+    for (place, value) in other.values.as_slice().iter().enumerate() {
+        if place < values.len() && place < marks.len() && marks[place] {
+            values[place] = *value;
+        }
+    }
+    Ok(Store {
+        values: Seq::from_vec(values),
+    })
+}
+
+/// A store on which the predicates of the element have their truths, and from which the edge leads to
+/// one on which the expression has not this truth, if one comes of the stores: it has the values of
+/// the newest one that serves in the marked cells, and else those of one on which the predicates
+/// have their truths.
+pub(crate) fn mixed_lacking(
+    alloc: Global,
+    cfa: &Cfa,
+    edge: &Edge,
+    elem: &Elem,
+    stores: &[Store],
+    marks: &[bool],
+    p: &Expr,
+    holds: bool,
+) -> Result<Option<Store>, AllocError> {
+    let Some(own) = first_with_truths(elem, stores) else {
+        return Ok(None);
+    };
+    for other in stores.iter().rev() {
+        let store = mixed(alloc, own, other, marks)?;
+        if let Some(new) = behind(alloc, cfa, edge, elem, &store)? {
+            if !has_truth(p, holds, &new) {
+                return Ok(Some(store));
+            }
+        }
+    }
+    Ok(None)
+}
+
 /// Whether it is found that the edge leads nowhere from the stores on which the predicates of the
 /// element have their truths. Nothing is asked where a store is known to which it leads.
 pub(crate) fn leads_nowhere(

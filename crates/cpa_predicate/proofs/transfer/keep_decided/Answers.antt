@@ -1,5 +1,5 @@
 -- Where the count did not rise, and can rise, no question stays open.
-use Rattle.std.proofs.Common.{◌≡◌, ◌<◌, ◌-◌, ◌^◌, subst}
+use Rattle.std.proofs.Common.{◌≡◌, ◌<◌, ◌-◌, ◌^◌, ◌∙◌, subst}
 use Rattle.cpa_predicate.specs.declared.asking.Budgets.{Budgets}
 use Rattle.cpa_predicate.proofs.KnownLemmas.{decided}
 use Rattle.cpa_predicate.proofs.transfer.keep_decided.Goals as goal
@@ -9,5 +9,5 @@ keep_outcome-requires c =
     decided c.args.cfa.now c.args.elem.now c.args.edge.now c.args.before c.args.asker.now
     c.args.preds.now c.args.outcome.now
     (subst (λ (b : Budgets). (b.spent ≡ c.args.before.spent) × (c.args.before.spent < 2 ^ 64 - 1))
-    c.budgets.ensures (c.all_decided-decided.ensures c.if-decided.true))
+    (c.budgets.ensures ∙ c.keep_behind.ensures) (c.all_decided-decided.ensures c.if-decided.true))
     c.requires

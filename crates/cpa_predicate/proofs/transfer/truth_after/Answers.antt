@@ -35,16 +35,16 @@ returns-in-Some-clause-truth c =
     c.args.edge.now c.in-Some.holds c.value_depends_on_what_is_read.ensures c.requires.step.act
     c.in-Some.ensures.said c.in-Some.ensures.unread
 
-pub returns-in-None-clause-truth : goal.returns-in-None-clause-truth
-returns-in-None-clause-truth c =
+pub returns-then-lacks_false-clause-truth : goal.returns-then-lacks_false-clause-truth
+returns-then-lacks_false-clause-truth c =
     IfOk-weaker _ _ _ (λ (truth : Option Bool) found.
     found_is c.args.cfa.now c.args.elem.now c.args.edge.now c.args.step.now c.requires.step
     c.args.p.now c.requires.predicate c.forms_are_runs.ensures c.steps_take_inputs.ensures
     c.failing_is_not_holding.ensures c.args.asker.now c.found_truth.new.asker truth found)
     c.found_truth.ensures.found
 
-pub returns-in-None-clause-spends : goal.returns-in-None-clause-spends
-returns-in-None-clause-spends c =
+pub returns-then-lacks_false-clause-spends : goal.returns-then-lacks_false-clause-spends
+returns-then-lacks_false-clause-spends c =
     caused _ _ _ _ c.found_truth.ensures.spends
     (some_beyond c.args.cfa.now c.args.elem.now c.args.edge.now c.args.step.now c.requires.step
     c.args.p.now c.requires.predicate c.forms_are_runs.ensures c.steps_take_inputs.ensures
