@@ -2,7 +2,7 @@
 use Rattle.std.proofs.Common.{◌≡◌, ℕ, ℤ, ◌≤ℤ◌, Bool, true, false, List, [], ◌∷◌, map, refl, sym, subst}
 use Rattle.std.proofs.Common.{arith}
 use Rattle.std.specs.Prelude.{Option, None, Some, slice_get, IsSomeAnd, if◌then◌else◌}
-use Rattle.std.specs.Prelude.{option_and_then}
+use Rattle.std.specs.Prelude.{IfSome}
 use Rattle.std.specs.List.{AllByRecursion}
 use Rattle.std.proofs.lemmas.Int.{ints}
 use Rattle.std.proofs.lemmas.Bool.Decides.{Decides-int_eq}
@@ -38,7 +38,11 @@ use Rattle.cpa_expr.specs.declared.tree.Expr.{out-Expr}
 use Rattle.cpa_expr.specs.Values.{compares, is_nonzero, value_of}
 use Rattle.std.specs.Ordering.{int_eq}
 use Rattle.std.proofs.Common.{not, pos}
-use Rattle.cpa_recheck_bounds.specs.Cutting.{cut_by, cut_by_all, cut_by_test, cut_scalar, followed}
+use Rattle.cpa_recheck_bounds.specs.declared.exact.Written.{Written}
+use Rattle.cpa_recheck_bounds.specs.Cutting.{cut_by, cut_by_all, cut_by_test, cut_scalar, stepped}
+use Rattle.cpa_recheck_bounds.specs.Cutting.{tested}
+use Rattle.cpa_recheck_bounds.specs.Exact.{HasIfThere, cut_written, lows_of}
+use Rattle.cpa_recheck_bounds.proofs.Exactly.{written_lies}
 use Rattle.cpa_recheck_bounds.specs.Saying.{AreFoundBehind, AreSaid, keeps_store}
 
 some_bound : (lo hi : ℤ) (o : Option ℤ) → IsSomeAnd o (λ v. (lo ≤ℤ v) × (v ≤ℤ hi))
@@ -169,50 +173,80 @@ test_are ts (Input cell) all are = are
 test_are ts (Call site) all are = are
 test_are ts (Return site) all are = are
 
+-- ---- behind the act
+
+module _ (stays : StaysInRange) (cfa : Cfa) (elem : Elem) (act : Act) (first mid : List Bounds)
+    (known : Bool) (sound : IsActOf cfa act) (shaped : IsElem cfa.cells cfa.points elem)
+    (begins : first ≡ ranges_of cfa.cells)
+    (knows : (if known then Some mid else None) ≡ tested elem.facts act first) (old new : List ℤ)
+    (values : AreValues (types_of cfa.cells) old) (holds : StoreHolds old elem)
+    (steps : StepsStore cfa.cells act old new) where
+  tested_lies : Lies old (tested elem.facts act first)
+  tested_lies =
+      lies_then old (cut_by_all elem.facts first) (cut_by_test act)
+      (all_lie old elem.facts first holds
+      (subst (λ l. LieWithin l old) (sym begins) (ranges_lie cfa.cells old values)))
+      (λ left lie. test_lies stays cfa old new act left sound values steps lie)
+
+  tested_are : Are (types_of cfa.cells) (tested elem.facts act first)
+  tested_are =
+      are_then (types_of cfa.cells) (cut_by_all elem.facts first) (cut_by_test act)
+      (all_are cfa.cells cfa.points elem.facts first shaped
+      (subst (AreOf (types_of cfa.cells)) (sym begins) (ranges_are cfa.cells)))
+      (λ left are. test_are (types_of cfa.cells) act left are)
+
+  mid_is : (known ≡ true) × LieWithin mid old
+  mid_is = some_left known mid (tested elem.facts act first) old knows tested_lies
+
+  of_left : (b : Bool) → (if b then Some mid else None) ≡ tested elem.facts act first
+      → b ≡ true → AreOf (types_of cfa.cells) mid
+  of_left true is there = subst (Are (types_of cfa.cells)) (sym is) tested_are
+  of_left false is there = absurd (cc)
+
+  mid_are : AreOf (types_of cfa.cells) mid
+  mid_are = of_left known knows mid_is.0
+
+  stepped_lies : (law : BoundsFollowActs) (written : Option Written)
+      → IfSome written (HasIfThere new) → Lies new (stepped cfa.cells act written mid)
+  stepped_lies law written has =
+      lies_then new (after_act cfa.cells act mid) (cut_written written)
+      (law.lie cfa act mid old new sound mid_are mid_is.1 steps)
+      (λ left lie. written_lies new written left has lie)
+
+-- where the facts and the test leave no bounds, the act leads nowhere
+pub none_known : (stays : StaysInRange) (cfa : Cfa) (elem : Elem) (act : Act)
+    (first mid : List Bounds) (others : List Elem) (known : Bool) → IsActOf cfa act
+    → IsElem cfa.cells cfa.points elem → first ≡ ranges_of cfa.cells
+    → (if known then Some mid else None) ≡ tested elem.facts act first → known ≡ false
+    → AreFoundBehind cfa elem act others
+none_known stays cfa elem act first mid others known sound shaped begins knows none old new values
+    holds steps fail =
+    let is = (mid_is stays cfa elem act first mid known sound shaped begins knows old new values
+    holds steps).0 in
+    absurd (cc)
+
 -- what is said behind the act is found there; where no bounds are left, the act leads nowhere
 pub found : (law : BoundsFollowActs) (stays : StaysInRange) (cfa : Cfa) (elem : Elem) (act : Act)
-    (first last : List Bounds) (others : List Elem) (done : Bool) → IsActOf cfa act
-    → IsElem cfa.cells cfa.points elem → first ≡ ranges_of cfa.cells
-    → (if done then Some last else None) ≡ followed cfa.cells elem.facts act first
+    (first mid last : List Bounds) (others : List Elem) (written : Option Written)
+    (lows : List ℤ) (known done : Bool) → IsActOf cfa act → IsElem cfa.cells cfa.points elem
+    → first ≡ ranges_of cfa.cells
+    → (if known then Some mid else None) ≡ tested elem.facts act first
+    → ((cells : List Cell) (old new : List ℤ) → LieWithin mid old → lows ≡ lows_of mid
+    → StepsStore cells act old new → IfSome written (HasIfThere new))
+    → lows ≡ lows_of mid
+    → (if done then Some last else None) ≡ stepped cfa.cells act written mid
     → (done ≡ true → AreSaid last elem (keeps_store act) others)
     → AreFoundBehind cfa elem act others
-found law stays cfa elem act first last others done sound shaped begins is said old new values holds
-    steps fail =
+found law stays cfa elem act first mid last others written lows known done sound shaped begins
+    knows writes are is said old new values holds steps fail =
+    let lie = (mid_is stays cfa elem act first mid known sound shaped begins knows old new values
+    holds steps).1 in
+    let left = some_left done last (stepped cfa.cells act written mid) new is
+    (stepped_lies stays cfa elem act first mid known sound shaped begins knows old new values holds
+    steps law written (writes cfa.cells old new lie are steps)) in
     said left.0 new left.1
     (λ keeps. subst (λ s. StoreHolds s elem) (sym (same_store cfa.cells act old new keeps steps))
     holds) fail
-  where
-    cut_lies_here : Lies old (cut_by_all elem.facts first)
-    cut_lies_here =
-        all_lie old elem.facts first holds
-        (subst (λ l. LieWithin l old) (sym begins) (ranges_lie cfa.cells old values))
-
-    cut_are_here : Are (types_of cfa.cells) (cut_by_all elem.facts first)
-    cut_are_here =
-        all_are cfa.cells cfa.points elem.facts first shaped
-        (subst (AreOf (types_of cfa.cells)) (sym begins) (ranges_are cfa.cells))
-
-    tested_lies : Lies old (option_and_then (cut_by_test act) (cut_by_all elem.facts first))
-    tested_lies =
-        lies_then old (cut_by_all elem.facts first) (cut_by_test act) cut_lies_here
-        (λ left lie. test_lies stays cfa old new act left sound values steps lie)
-
-    tested_are : Are (types_of cfa.cells)
-        (option_and_then (cut_by_test act) (cut_by_all elem.facts first))
-    tested_are =
-        are_then (types_of cfa.cells) (cut_by_all elem.facts first) (cut_by_test act) cut_are_here
-        (λ left are. test_are (types_of cfa.cells) act left are)
-
-    behind : (o : Option (List Bounds)) → Lies old o → Are (types_of cfa.cells) o
-        → Lies new (option_and_then (after_act cfa.cells act) o)
-    behind None lies are = absurd lies
-    behind (Some cut) lies are = law.lie cfa act cut old new sound are lies steps
-
-    left : (done ≡ true) × LieWithin last new
-    left =
-        some_left done last (followed cfa.cells elem.facts act first) new is
-        (behind (option_and_then (cut_by_test act) (cut_by_all elem.facts first)) tested_lies
-        tested_are)
 
 -- the bounds of the starts have them
 pub starts_lie : (cells : List Cell)

@@ -1,3 +1,4 @@
 pub mod Followed
 pub mod Said
 pub mod Settled
+pub mod Exactly

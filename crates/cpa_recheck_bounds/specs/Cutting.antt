@@ -14,6 +14,8 @@ use Rattle.cpa_interval_bounds.specs.declared.bounds.Bounds.{Bounds}
 use Rattle.cpa_interval_bounds.specs.Bounds.{bounds, only}
 use Rattle.cpa_interval_acts.specs.Acts.{after_act}
 use Rattle.cpa_interval_acts.specs.Cuts.{cut_cell}
+use Rattle.cpa_recheck_bounds.specs.declared.exact.Written.{Written}
+use Rattle.cpa_recheck_bounds.specs.Exact.{cut_written}
 
 -- the numbers that the fact leaves of its cell; nothing where it leaves none
 abbrev pub cut_by : Fact → List Bounds → Option (List Bounds)
@@ -37,7 +39,10 @@ abbrev pub cut_by_test : Act → List Bounds → Option (List Bounds)
 cut_by_test (act.Assume test holds) all = cut_scalar holds (read_of (out-Expr test)) all
 cut_by_test other all = Some all
 
--- and then the act
-abbrev pub followed : List Cell → List Fact → Act → List Bounds → Option (List Bounds)
-followed cells facts a all =
-    option_and_then (after_act cells a) (option_and_then (cut_by_test a) (cut_by_all facts all))
+-- what the facts leave, and then the test
+abbrev pub tested : List Fact → Act → List Bounds → Option (List Bounds)
+tested facts a all = option_and_then (cut_by_test a) (cut_by_all facts all)
+
+-- what the act makes of it, where it is known which cell it writes and what
+abbrev pub stepped : List Cell → Act → Option Written → List Bounds → Option (List Bounds)
+stepped cells a written all = option_and_then (cut_written written) (after_act cells a all)

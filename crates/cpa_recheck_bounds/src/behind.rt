@@ -8,9 +8,10 @@ ghost use Rattle.cpa_interval_acts.specs.Cells.{ranges_of};
 ghost use Rattle.cpa_interval_bounds.specs.Bounds.{only};
 ghost use Rattle.cpa_recheck_obligations.specs.Forms.{entry_at};
 ghost use Rattle.cpa_recheck_bounds.specs.Cutting.{cut_by, cut_by_all, cut_by_test, cut_scalar};
-ghost use Rattle.cpa_recheck_bounds.specs.Cutting.{followed};
+ghost use Rattle.cpa_recheck_bounds.specs.Cutting.{stepped, tested};
 ghost use Rattle.cpa_recheck_bounds.specs.Saying.{AreFoundBehind};
 
+use crate::exact::{Written, cut_written, lows_of, written_by};
 use crate::saying::{are_said, keeps_store};
 use cpa_expr::CmpOp;
 use cpa_interval_acts::{bounds_follow_acts, cut_cell, do_act};
@@ -71,39 +72,51 @@ fn cut_by_test(all: &mut [Bounds], act: &Act) -> bool
     }
 }
 
-/// Leaves of the bounds what the facts say, and then makes of them what the act does; says whether
-/// some are left.
-fn follow(cells: &[Cell], facts: &[Fact], act: &Act, all: &mut [Bounds]) -> bool
-    ensures { (if result then Some all.new else None)
-        ≡ followed cells.now facts.now act.now all.old }
+/// Leaves of the bounds what the facts say, and then what a test says; says whether some are left.
+fn know(all: &mut [Bounds], facts: &[Fact], act: &Act) -> bool
+    ensures { (if result then Some all.new else None) ≡ tested facts.now act.now all.old }
 {
-    cut_by_all(all, facts) && cut_by_test(all, act) && do_act(cells, act, all)
+    cut_by_all(all, facts) && cut_by_test(all, act)
+}
+
+/// Makes of the bounds what the act does, and leaves the cell that is written its value.
+fn step(cells: &[Cell], act: &Act, written: Option<Written>, all: &mut [Bounds]) -> bool
+    ensures { (if result then Some all.new else None)
+        ≡ stepped cells.now act.now written all.old }
+{
+    do_act(cells, act, all) && cut_written(all, written)
 }
 
 /// Whether the bounds show that each store to which the act leads from one on which the element
 /// holds is one on which an entry of these numbers holds. At first they are those of the types.
 pub(crate) fn are_found_behind(
+    alloc: Global,
     cfa: &Cfa,
     elem: &Elem,
     act: &Act,
     all: &mut [Bounds],
     entries: &[Elem],
     numbers: &[u32],
-) -> bool
+) -> Result<bool, AllocError>
     requires act { IsActOf cfa.now act.now }
     requires shaped { IsElem cfa.now.cells cfa.now.points elem.now }
     requires ranges { all.old ≡ ranges_of cfa.now.cells }
-    ensures { IsTrue result → AreFoundBehind cfa.now elem.now act.now
-        (map (entry_at entries.now) numbers.now) }
+    ensures { IfOk result (λ is. IsTrue is → AreFoundBehind cfa.now elem.now act.now
+        (map (entry_at entries.now) numbers.now)) }
 {
     bounds_follow_acts();
     wrap_keeps_the_range();
     let cells = cfa.cells.as_slice();
     let facts = elem.facts.as_slice();
-    if follow(cells, facts, act, all) {
-        are_said(all, elem, keeps_store(act), entries, numbers)
+    if !know(all, facts, act) {
+        return Ok(true);
+    }
+    let lows = lows_of(alloc, all)?;
+    let written = written_by(act, all, &lows);
+    if step(cells, act, written, all) {
+        Ok(are_said(all, elem, keeps_store(act), entries, numbers))
     } else {
-        true
+        Ok(true)
     }
 }
 

@@ -4,6 +4,7 @@
 #![tactic(auto)]
 
 mod behind;
+mod exact;
 mod saying;
 mod settling;
 

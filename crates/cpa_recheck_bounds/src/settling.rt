@@ -50,7 +50,7 @@ fn leads(
     let elem = &entries[entry as usize];
     let act = &cfa.edge(edge).act;
     let mut all = ranges_of(alloc, cfa.cells.as_slice())?;
-    let is = are_found_behind(cfa, elem, act, &mut all, entries, numbers);
+    let is = are_found_behind(alloc, cfa, elem, act, &mut all, entries, numbers)?;
     Ok(is)
 }
 

@@ -2,34 +2,55 @@ use Rattle.std.proofs.Common.{rules, ◌∙◌, List, ap, map}
 use Rattle.cpa_model.specs.declared.facts.Fact.{Fact}
 use Rattle.cpa_model.specs.declared.program.Cell.{Cell}
 use Rattle.cpa_recheck_obligations.specs.Forms.{entry_at}
-use Rattle.cpa_recheck_bounds.specs.Cutting.{followed}
-use Rattle.cpa_recheck_bounds.proofs.Followed.{found}
+use Rattle.cpa_recheck_bounds.specs.Cutting.{stepped, tested}
+use Rattle.cpa_recheck_bounds.proofs.Followed.{found, none_known}
 use Rattle.cpa_recheck_bounds.proofs.behind.are_found_behind.Goals as goal
 
-pub returns-then-follow : goal.returns-then-follow
-returns-then-follow c = λ is.
+pub returns-then-not-know : goal.returns-then-not-know
+returns-then-not-know c = λ is.
     let cfa = c.args.cfa.now in
+    let elem = c.args.elem.now in
     let act = c.args.act.now in
     let all = c.args.all.now in
-    found c.bounds_follow_acts.ensures c.wrap_keeps_the_range.ensures.stays cfa c.args.elem.now act
-    all c.follow.new.all (map (entry_at c.args.entries.now) c.args.numbers.now) c.follow.result
-    c.requires.act c.requires.shaped c.requires.ranges
-    (c.follow.ensures
-    ∙ (ap (λ (cells : List Cell). followed cells c.as_slice-facts.result.now act all)
-    c.as_slice-cells.ensures
-    ∙ ap (λ (facts : List Fact). followed cfa.cells facts act all) c.as_slice-facts.ensures))
+    let others = map (entry_at c.args.entries.now) c.args.numbers.now in
+    none_known c.wrap_keeps_the_range.ensures.stays cfa elem act all c.know.new.all others
+    c.know.result c.requires.act c.requires.shaped c.requires.ranges
+    (c.know.ensures
+    ∙ ap (λ (facts : List Fact). tested facts act all) c.as_slice-facts.ensures)
+    (search rules)
+
+pub returns-then-step : goal.returns-then-step
+returns-then-step c = λ is.
+    let cfa = c.args.cfa.now in
+    let elem = c.args.elem.now in
+    let act = c.args.act.now in
+    let all = c.args.all.now in
+    let others = map (entry_at c.args.entries.now) c.args.numbers.now in
+    found c.bounds_follow_acts.ensures c.wrap_keeps_the_range.ensures.stays cfa elem act all
+    c.know.new.all c.step.new.all others c.written_by-written.result c.in_ok-lows.lows.values
+    c.know.result c.step.result c.requires.act c.requires.shaped c.requires.ranges
+    (c.know.ensures
+    ∙ ap (λ (facts : List Fact). tested facts act all) c.as_slice-facts.ensures)
+    c.written_by-written.ensures c.in_ok-lows.ensures
+    (c.step.ensures
+    ∙ ap (λ (cells : List Cell). stepped cells act c.written_by-written.result c.know.new.all)
+    c.as_slice-cells.ensures)
     (λ done. search rules)
 
-pub returns-else-follow : goal.returns-else-follow
-returns-else-follow c = λ is.
+pub returns : goal.returns
+returns c = λ is.
     let cfa = c.args.cfa.now in
+    let elem = c.args.elem.now in
     let act = c.args.act.now in
     let all = c.args.all.now in
-    found c.bounds_follow_acts.ensures c.wrap_keeps_the_range.ensures.stays cfa c.args.elem.now act
-    all c.follow.new.all (map (entry_at c.args.entries.now) c.args.numbers.now) c.follow.result
-    c.requires.act c.requires.shaped c.requires.ranges
-    (c.follow.ensures
-    ∙ (ap (λ (cells : List Cell). followed cells c.as_slice-facts.result.now act all)
-    c.as_slice-cells.ensures
-    ∙ ap (λ (facts : List Fact). followed cfa.cells facts act all) c.as_slice-facts.ensures))
-    (λ done. absurd (cc (done, c.if-follow.false)))
+    let others = map (entry_at c.args.entries.now) c.args.numbers.now in
+    found c.bounds_follow_acts.ensures c.wrap_keeps_the_range.ensures.stays cfa elem act all
+    c.know.new.all c.step.new.all others c.written_by-written.result c.in_ok-lows.lows.values
+    c.know.result c.step.result c.requires.act c.requires.shaped c.requires.ranges
+    (c.know.ensures
+    ∙ ap (λ (facts : List Fact). tested facts act all) c.as_slice-facts.ensures)
+    c.written_by-written.ensures c.in_ok-lows.ensures
+    (c.step.ensures
+    ∙ ap (λ (cells : List Cell). stepped cells act c.written_by-written.result c.know.new.all)
+    c.as_slice-cells.ensures)
+    (λ done. absurd (cc (done, c.if-step.false)))

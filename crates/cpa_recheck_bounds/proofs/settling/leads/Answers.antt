@@ -16,4 +16,4 @@ returns c = λ is.
     (sym (c.index-entries-entry.is
     ∙ get_or_default xs x elem (record { facts = [] }) c.requires.entry))
     (edge_is cfa c.args.edge c.edge.result.now c.edge.ensures) c.requires.numbers
-    (c.are_found_behind-is.ensures is)
+    (c.in_ok-is.ensures is)

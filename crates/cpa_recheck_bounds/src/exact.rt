@@ -1,0 +1,133 @@
+//! Values of expressions that bounds of cells determine, by `specs/Exact.antt`. Proved with
+//! `proofs/Exactly.antt`.
+
+ghost use Rattle.std.specs.Prelude.{◌≡◌, ℕ, ℤ, List, None, Some, IfOk, IfSome, IsTrue, pos, ◌+◌};
+ghost use Rattle.std.specs.Prelude.{slice_get, length, if◌then◌else◌};
+ghost use Rattle.cpa_expr.specs.Values.{value_of};
+ghost use Rattle.cpa_model.specs.declared.program.Cell.{Cell as ACell};
+ghost use Rattle.cpa_model.specs.Steps.{StepsStore};
+ghost use Rattle.cpa_interval_bounds.specs.ExpressionBounds.{LieWithin};
+ghost use Rattle.cpa_recheck_bounds.specs.Exact.{AreFixedBelow, HasIfThere, cut_written, has_one};
+ghost use Rattle.cpa_recheck_bounds.specs.Exact.{is_fixed, lows_of};
+
+use cpa_expr::{CmpOp, Expr, Store, may_read, value, value_depends_on_what_is_read};
+use cpa_interval_acts::cut_cell;
+use cpa_interval_bounds::{Bounds, bounds_at};
+use cpa_model::{Act, Seq};
+use std::alloc::{AllocError, Global};
+
+/// A cell, and the value that it has.
+#[derive(Clone, Copy)]
+pub(crate) struct Written {
+    pub cell: u32,
+    pub value: i128,
+}
+
+/// The lower end.
+fn low_of(own: &Bounds) -> i128
+    ensures { result ≡ own.now.lo }
+{
+    own.lo
+}
+
+/// The lower ends, as a store.
+pub(crate) fn lows_of(alloc: Global, all: &[Bounds]) -> Result<Store, AllocError>
+    ensures { IfOk result (λ store. store.values ≡ lows_of all.now) }
+{
+    let mut values = Seq::new(alloc);
+    for own in all {
+        values.push(low_of(own))?;
+    }
+    Ok(Store { values })
+}
+
+/// Whether the cell has one number, if it is there.
+fn has_one(all: &[Bounds], cell: u32) -> bool
+    ensures { result ≡ has_one (slice_get all.now cell) }
+{
+    match bounds_at(all, cell as usize) {
+        None => true,
+        Some(own) => own.lo == own.hi,
+    }
+}
+
+/// Whether the expression does not read the cell, or it has one number.
+fn is_fixed(e: &Expr, all: &[Bounds], cell: u32) -> bool
+    ensures { result ≡ is_fixed e.now all.now cell }
+{
+    !may_read(e, cell) || has_one(all, cell)
+}
+
+/// Whether each cell that the expression may read has one number.
+fn are_fixed(e: &Expr, all: &[Bounds]) -> bool
+    ensures { IsTrue result → AreFixedBelow e.now all.now (length all.now) }
+{
+    if all.len() > u32::MAX as usize {
+        return false;
+    }
+    for cell in 0..all.len() {
+        if !is_fixed(e, all, cell as u32) {
+            return false;
+        }
+    }
+    true
+}
+
+/// The value that the expression has on each store within the bounds, where they determine it.
+fn exact_value(e: &Expr, all: &[Bounds], lows: &Store) -> Option<i128>
+    ensures { (store : List ℤ) → LieWithin all.now store → lows.now.values ≡ lows_of all.now
+        → IfSome result (λ v. value_of e.now store ≡ Some v) }
+{
+    value_depends_on_what_is_read();
+    if are_fixed(e, all) {
+        value(e, lows)
+    } else {
+        None
+    }
+}
+
+/// The cell at this place behind the base, and its value.
+fn written_at(base: u32, index: Option<i128>, own: Option<i128>) -> Option<Written>
+    ensures { (place : ℕ) (w : ℤ) → IfSome index (λ i. i ≡ pos place) → IfSome own (λ v. v ≡ w)
+        → IfSome result (λ x. (x.cell ≡ base + place) × (x.value ≡ w)) }
+{
+    match (index, own) {
+        (Some(index), Some(own)) => {
+            let place = u32::try_from(index).ok()?;
+            let cell = base.checked_add(place)?;
+            Some(Written { cell, value: own })
+        }
+        _ => None,
+    }
+}
+
+/// The cell that the act writes, and the value that it gives it, where the bounds determine both.
+pub(crate) fn written_by(act: &Act, all: &[Bounds], lows: &Store) -> Option<Written>
+    ensures { (cells : List ACell) (old new : List ℤ) → LieWithin all.now old
+        → lows.now.values ≡ lows_of all.now → StepsStore cells act.now old new
+        → IfSome result (HasIfThere new) }
+{
+    match act {
+        Act::Assign {
+            base,
+            index,
+            value,
+            ..
+        } => written_at(
+            *base,
+            exact_value(index, all, lows),
+            exact_value(value, all, lows),
+        ),
+        _ => None,
+    }
+}
+
+/// Leaves the cell the value that it has.
+pub(crate) fn cut_written(all: &mut [Bounds], written: Option<Written>) -> bool
+    ensures { (if result then Some all.new else None) ≡ cut_written written all.old }
+{
+    match written {
+        None => true,
+        Some(own) => cut_cell(CmpOp::Eq, own.cell, Bounds::only(own.value), all),
+    }
+}
