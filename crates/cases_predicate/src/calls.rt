@@ -56,7 +56,7 @@ pub fn answer(
     }
     let settings = session.settings;
     let precision = &session.precision;
-    let predicate = &mut session.predicate;
+    let predicate = &mut *session.predicate;
     match &call {
         Call::Means => push_meaning(out, predicate),
         Call::Initial => push_elem(out, &predicate.initial(alloc, &cfa)?),

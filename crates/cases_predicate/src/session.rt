@@ -6,23 +6,24 @@ use cases_reader::{RowFault, end_row, next_index, next_number, next_word, whole_
 use cpa_iface::{Precision, Settings, empty_precision};
 use cpa_model::{Expr, Seq};
 use cpa_predicate::Predicate;
-use std::alloc::Global;
+use std::alloc::{AllocError, Global};
 use std::str::{Split, SplitWhitespace};
 
 /// What the rows have set, and the analysis that they call.
 #[derive(Drop)]
 pub struct Session {
-    pub predicate: Predicate,
+    pub predicate: Box<Predicate>,
     pub table: Table,
     pub precision: Precision,
     pub settings: Settings,
 }
 
 impl Session {
-    /// No program, no predicates, and an analysis that was given no settings. It takes no memory.
-    pub fn new(alloc: Global) -> Session {
-        Session {
-            predicate: Predicate::new(),
+    /// No program, no predicates, and an analysis that was given no settings.
+    pub fn new(alloc: Global) -> Result<Session, AllocError> {
+        let predicate = Box::new(alloc, Predicate::new())?;
+        Ok(Session {
+            predicate,
             table: Table::new(alloc),
             precision: empty_precision(alloc),
             settings: Settings {
@@ -31,7 +32,7 @@ impl Session {
                 learnt: 0,
                 gates: 0,
             },
-        }
+        })
     }
 
     /// Sets what a row names, and says whether it names something: `predicates : PREDICATE : ..`,
@@ -46,7 +47,7 @@ impl Session {
             Ok(true)
         } else if word == "new" {
             end_row(&mut words)?;
-            self.predicate = Predicate::new();
+            *self.predicate = Predicate::new();
             Ok(true)
         } else if word == "settings" {
             let settings = settings_of(&mut words)?;
