@@ -11,7 +11,7 @@ use Rattle.cpa_expr.specs.declared.tree.CmpOp.TheVariants as cmp
 use Rattle.cpa_expr.specs.declared.tree.Expr.{Expr}
 use Rattle.cpa_expr.specs.Cells.{may_read}
 use Rattle.cpa_expr.specs.Laws.{DependsOnWhatIsRead}
-use Rattle.cpa_expr.specs.Values.{value_of}
+use Rattle.cpa_expr.specs.Values.{is_nonzero, value_of}
 use Rattle.cpa_interval_bounds.specs.declared.bounds.Bounds.{Bounds}
 use Rattle.cpa_interval_bounds.specs.Bounds.{Has, only}
 use Rattle.cpa_interval_bounds.specs.ExpressionBounds.{LieWithin}
@@ -117,3 +117,14 @@ written_lies new (Some w) all has lie = by (slice_get all w.cell) refl
         (cut_lies cmp.Eq w.cell (only w.value) all new there.0 w.value lie there.1
         (record { low = omega (arith, ints); high = omega (arith, ints) })
         ((Decides-int_eq there.0 w.value).1 (has there.0 there.1)))
+
+-- ---- a test
+
+-- a test whose value is known, and which comes out so, has no other value
+pub other_truth : (o p : Option ℤ) (holds result : Bool) → IfSome o (λ v. p ≡ Some v)
+    → IsSomeAnd p (λ v. is_nonzero v ≡ holds)
+    → ((v : ℤ) → IfSome o (λ own. own ≡ v) → is_nonzero v ≡ holds → result ≡ false)
+    → result ≡ false
+other_truth o None holds result knows truth told = absurd truth
+other_truth o (Some v) holds result knows truth told =
+    told v (same_number o (Some v) v refl knows) truth

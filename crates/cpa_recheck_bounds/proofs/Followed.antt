@@ -225,6 +225,21 @@ none_known stays cfa elem act first mid others known sound shaped begins knows n
     holds steps).0 in
     absurd (cc)
 
+-- where the test does not come out so on any store within the bounds, the act leads nowhere
+pub refuted : (stays : StaysInRange) (cfa : Cfa) (elem : Elem) (act : Act) (first mid : List Bounds)
+    (others : List Elem) (lows : List ℤ) (known refutes : Bool) → IsActOf cfa act
+    → IsElem cfa.cells cfa.points elem → first ≡ ranges_of cfa.cells
+    → (if known then Some mid else None) ≡ tested elem.facts act first
+    → ((cells : List Cell) (old new : List ℤ) → LieWithin mid old → lows ≡ lows_of mid
+    → StepsStore cells act old new → refutes ≡ false)
+    → lows ≡ lows_of mid → refutes ≡ true → AreFoundBehind cfa elem act others
+refuted stays cfa elem act first mid others lows known refutes sound shaped begins knows never are
+    is old new values holds steps fail =
+    let lie = (mid_is stays cfa elem act first mid known sound shaped begins knows old new values
+    holds steps).1 in
+    let not_so = never cfa.cells old new lie are steps in
+    absurd (cc)
+
 -- what is said behind the act is found there; where no bounds are left, the act leads nowhere
 pub found : (law : BoundsFollowActs) (stays : StaysInRange) (cfa : Cfa) (elem : Elem) (act : Act)
     (first mid last : List Bounds) (others : List Elem) (written : Option Written)

@@ -11,7 +11,7 @@ ghost use Rattle.cpa_recheck_bounds.specs.Cutting.{cut_by, cut_by_all, cut_by_te
 ghost use Rattle.cpa_recheck_bounds.specs.Cutting.{stepped, tested};
 ghost use Rattle.cpa_recheck_bounds.specs.Saying.{AreFoundBehind};
 
-use crate::exact::{Written, cut_written, lows_of, written_by};
+use crate::exact::{Written, cut_written, is_refuted, lows_of, written_by};
 use crate::saying::{are_said, keeps_store};
 use cpa_expr::CmpOp;
 use cpa_interval_acts::{bounds_follow_acts, cut_cell, do_act};
@@ -112,6 +112,9 @@ pub(crate) fn are_found_behind(
         return Ok(true);
     }
     let lows = lows_of(alloc, all)?;
+    if is_refuted(act, all, &lows) {
+        return Ok(true);
+    }
     let written = written_by(act, all, &lows);
     if step(cells, act, written, all) {
         Ok(are_said(all, elem, keeps_store(act), entries, numbers))

@@ -2,8 +2,8 @@
 //! `proofs/Exactly.antt`.
 
 ghost use Rattle.std.specs.Prelude.{◌≡◌, ℕ, ℤ, List, None, Some, IfOk, IfSome, IsTrue, pos, ◌+◌};
-ghost use Rattle.std.specs.Prelude.{slice_get, length, if◌then◌else◌};
-ghost use Rattle.cpa_expr.specs.Values.{value_of};
+ghost use Rattle.std.specs.Prelude.{slice_get, length, if◌then◌else◌, false};
+ghost use Rattle.cpa_expr.specs.Values.{is_nonzero, value_of};
 ghost use Rattle.cpa_model.specs.declared.program.Cell.{Cell as ACell};
 ghost use Rattle.cpa_model.specs.Steps.{StepsStore};
 ghost use Rattle.cpa_interval_bounds.specs.ExpressionBounds.{LieWithin};
@@ -119,6 +119,29 @@ pub(crate) fn written_by(act: &Act, all: &[Bounds], lows: &Store) -> Option<Writ
             exact_value(value, all, lows),
         ),
         _ => None,
+    }
+}
+
+/// Whether this is the value of a test that does not come out so.
+fn is_other(value: Option<i128>, holds: bool) -> bool
+    ensures { (v : ℤ) → IfSome value (λ own. own ≡ v) → is_nonzero v ≡ holds → result ≡ false }
+{
+    match value {
+        Some(value) => (value != 0) != holds,
+        None => false,
+    }
+}
+
+/// Whether the bounds determine that the test of the act does not come out so: then it leads
+/// nowhere.
+pub(crate) fn is_refuted(act: &Act, all: &[Bounds], lows: &Store) -> bool
+    ensures { (cells : List ACell) (old new : List ℤ) → LieWithin all.now old
+        → lows.now.values ≡ lows_of all.now → StepsStore cells act.now old new
+        → result ≡ false }
+{
+    match act {
+        Act::Assume { test, holds } => is_other(exact_value(test, all, lows), *holds),
+        _ => false,
     }
 }
 
