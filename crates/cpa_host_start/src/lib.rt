@@ -7,6 +7,7 @@ use cpa_composite::Handed;
 use cpa_iface::{Location, Plain};
 use cpa_interval::Interval;
 use cpa_outside::{FileInputs, Sink, StdoutSink, write_whole};
+use cpa_predicate::Predicate;
 use cpa_top::{Status, run};
 use cpa_value::Value;
 use std::alloc::{AllocError, Global};
@@ -61,6 +62,9 @@ pub fn answer<R: Threads + Sync + Files + AllocGlobal, K: Sink>(
     })?;
     analyses.push(Handed {
         analysis: Box::new(alloc, Interval::new())?,
+    })?;
+    analyses.push(Handed {
+        analysis: Box::new(alloc, Predicate::new())?,
     })?;
     let mut inputs = FileInputs::new(rt);
     Ok(run(rt, alloc, words, analyses, &mut inputs, out))

@@ -1,0 +1,1 @@
+int main(void){int x=__VERIFIER_nondet_int();int y=x;if(x!=y)reach_error();return 0;}
