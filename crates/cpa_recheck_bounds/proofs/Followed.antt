@@ -43,7 +43,8 @@ use Rattle.cpa_recheck_bounds.specs.Cutting.{cut_by, cut_by_all, cut_by_test, cu
 use Rattle.cpa_recheck_bounds.specs.Cutting.{tested}
 use Rattle.cpa_recheck_bounds.specs.Exact.{HasIfThere, cut_written, lows_of}
 use Rattle.cpa_recheck_bounds.proofs.Exactly.{written_lies}
-use Rattle.cpa_recheck_bounds.specs.Saying.{AreFoundBehind, AreSaid, keeps_store}
+use Rattle.cpa_recheck_bounds.specs.Saying.{AreFoundBehind, AreSaid}
+use Rattle.cpa_recheck_bounds.specs.Standing.{AreLeft}
 
 some_bound : (lo hi : ℤ) (o : Option ℤ) → IsSomeAnd o (λ v. (lo ≤ℤ v) × (v ≤ℤ hi))
     → (v : ℤ) × (o ≡ Some v) × Has (bounds lo hi) v
@@ -97,16 +98,6 @@ some_left : (done : Bool) (left : List Bounds) (o : Option (List Bounds)) (store
     → (done ≡ true) × LieWithin left store
 some_left true left o store is lies = (refl, subst (Lies store) (sym is) lies)
 some_left false left o store is lies = absurd (subst (Lies store) (sym is) lies)
-
--- an act that keeps stores keeps this one
-same_store : (cells : List Cell) (a : Act) (old new : List ℤ) → keeps_store a ≡ true
-    → StepsStore cells a old new → new ≡ old
-same_store cells Skip old new keeps steps = steps
-same_store cells (Assign base len index value) old new keeps steps = absurd (cc)
-same_store cells (Assume test holds) old new keeps steps = steps.1
-same_store cells (Input cell) old new keeps steps = absurd (cc)
-same_store cells (Call site) old new keeps steps = steps
-same_store cells (Return site) old new keeps steps = steps
 
 -- ---- a test that reads a scalar
 
@@ -242,7 +233,7 @@ refuted stays cfa elem act first mid others lows known refutes sound shaped begi
 
 -- what is said behind the act is found there; where no bounds are left, the act leads nowhere
 pub found : (law : BoundsFollowActs) (stays : StaysInRange) (cfa : Cfa) (elem : Elem) (act : Act)
-    (first mid last : List Bounds) (others : List Elem) (written : Option Written)
+    (first mid last : List Bounds) (left : Elem) (others : List Elem) (written : Option Written)
     (lows : List ℤ) (known done : Bool) → IsActOf cfa act → IsElem cfa.cells cfa.points elem
     → first ≡ ranges_of cfa.cells
     → (if known then Some mid else None) ≡ tested elem.facts act first
@@ -250,18 +241,17 @@ pub found : (law : BoundsFollowActs) (stays : StaysInRange) (cfa : Cfa) (elem : 
     → StepsStore cells act old new → IfSome written (HasIfThere new))
     → lows ≡ lows_of mid
     → (if done then Some last else None) ≡ stepped cfa.cells act written mid
-    → (done ≡ true → AreSaid last elem (keeps_store act) others)
+    → (done ≡ true → AreLeft act elem left × AreSaid last left others)
     → AreFoundBehind cfa elem act others
-found law stays cfa elem act first mid last others written lows known done sound shaped begins
+found law stays cfa elem act first mid last left others written lows known done sound shaped begins
     knows writes are is said old new values holds steps fail =
     let lie = (mid_is stays cfa elem act first mid known sound shaped begins knows old new values
     holds steps).1 in
-    let left = some_left done last (stepped cfa.cells act written mid) new is
+    let there = some_left done last (stepped cfa.cells act written mid) new is
     (stepped_lies stays cfa elem act first mid known sound shaped begins knows old new values holds
     steps law written (writes cfa.cells old new lie are steps)) in
-    said left.0 new left.1
-    (λ keeps. subst (λ s. StoreHolds s elem) (sym (same_store cfa.cells act old new keeps steps))
-    holds) fail
+    let it = said there.0 in
+    it.1 new there.1 (it.0 cfa.cells old new holds steps) fail
 
 -- the bounds of the starts have them
 pub starts_lie : (cells : List Cell)

@@ -2,3 +2,4 @@ pub mod Followed
 pub mod Said
 pub mod Settled
 pub mod Exactly
+pub mod Stood

@@ -78,52 +78,50 @@ same_holds store fact (own ∷ facts) is all =
     by (inl same) next = subst (StoreFactHolds store) (sym (same_fact-means fact own same)) all.0
     by (inr later) next = next later
 
-module _ (all : List Bounds) (elem : Elem) (kept : Bool) (store : List ℤ)
-    (lie : LieWithin all store) (holds : kept ≡ true → StoreHolds store elem) where
-  said_holds : (fact : Fact) → says all elem kept fact ≡ true → StoreFactHolds store fact
+module _ (all : List Bounds) (elem : Elem) (store : List ℤ) (lie : LieWithin all store)
+    (holds : StoreHolds store elem) where
+  said_holds : (fact : Fact) → says all elem fact ≡ true → StoreFactHolds store fact
   said_holds (At p) is = tt
   said_holds (Stack sites) is = tt
   said_holds (Equals cell v) is =
       equals (slice_get store cell) v (among all store cell (only v) lie is)
   said_holds (Within cell lo hi) is =
       within (slice_get store cell) lo hi (among all store cell (bounds lo hi) lie is)
-  said_holds (Truth e h) is =
-      let both = and_parts kept (list_any (same_fact (Truth e h)) elem.facts) is in
-      same_holds store (Truth e h) elem.facts both.1 (holds both.0)
+  said_holds (Truth e h) is = same_holds store (Truth e h) elem.facts is holds
 
-  all_hold : (facts : List Fact) → list_all (says all elem kept) facts ≡ true
+  all_hold : (facts : List Fact) → list_all (says all elem) facts ≡ true
       → AllByRecursion (StoreFactHolds store) facts
   all_hold [] is = tt
   all_hold (fact ∷ facts) is =
-      let both = and_parts (says all elem kept fact) (list_all (says all elem kept) facts) is in
+      let both = and_parts (says all elem fact) (list_all (says all elem) facts) is in
       (said_holds fact both.0, all_hold facts both.1)
 
-  entry_holds : (xs : List Elem) (n : ℕ) → says_all all elem kept (slice_get xs n) ≡ true
+  entry_holds : (xs : List Elem) (n : ℕ) → says_all all elem (slice_get xs n) ≡ true
       → StoreHolds store (entry_at xs n)
   entry_holds xs n = by (slice_get xs n) refl
     where
-      by : (o : Option Elem) → slice_get xs n ≡ o → says_all all elem kept o ≡ true
+      by : (o : Option Elem) → slice_get xs n ≡ o → says_all all elem o ≡ true
           → StoreHolds store (entry_at xs n)
       by None at is = absurd (cc)
       by (Some other) at is =
           subst (StoreHolds store) (sym (entry_is xs n other at)) (all_hold other.facts is)
 
-  none_fails : (xs : List Elem) (numbers : List ℕ) → says_some all elem kept xs numbers ≡ true
+  none_fails : (xs : List Elem) (numbers : List ℕ) → says_some all elem xs numbers ≡ true
       → AllByRecursion (StoreFails store) (map (entry_at xs) numbers) → ⊥
   none_fails xs [] is fail = absurd (cc)
   none_fails xs (n ∷ numbers) is fail =
-      by (either (says_all all elem kept (slice_get xs n)) (says_some all elem kept xs numbers) is)
+      by (either (says_all all elem (slice_get xs n)) (says_some all elem xs numbers) is)
       (λ later. none_fails xs numbers later fail.1)
     where
-      by : (says_all all elem kept (slice_get xs n) ≡ true)
-          ⊎ (says_some all elem kept xs numbers ≡ true)
-          → (says_some all elem kept xs numbers ≡ true → ⊥) → ⊥
+      by : (says_all all elem (slice_get xs n) ≡ true)
+          ⊎ (says_some all elem xs numbers ≡ true)
+          → (says_some all elem xs numbers ≡ true → ⊥) → ⊥
       by (inl here) next =
           (failing_is_not_holding.fails store (entry_at xs n)).0 fail.0 (entry_holds xs n here)
       by (inr later) next = next later
 
-pub are_said : (all : List Bounds) (elem : Elem) (kept : Bool) (xs : List Elem) (numbers : List ℕ)
-    → says_some all elem kept xs numbers ≡ true
-    → AreSaid all elem kept (map (entry_at xs) numbers)
-are_said all elem kept xs numbers is store lie holds fail =
-    none_fails all elem kept store lie holds xs numbers is fail
+pub are_said : (all : List Bounds) (elem : Elem) (xs : List Elem) (numbers : List ℕ)
+    → says_some all elem xs numbers ≡ true
+    → AreSaid all elem (map (entry_at xs) numbers)
+are_said all elem xs numbers is store lie holds fail =
+    none_fails all elem store lie holds xs numbers is fail

@@ -1,5 +1,5 @@
 -- Where bounds say one of the rivals, no run of stores meets what is asked about the obligation.
-use Rattle.std.proofs.Common.{◌≡◌, ℕ, false, List, map, sym, ap, subst}
+use Rattle.std.proofs.Common.{◌≡◌, ℕ, List, [], map, sym, ap, subst}
 use Rattle.std.specs.List.{AllByRecursion}
 use Rattle.cpa_model.specs.declared.program.Cell.{Cell}
 use Rattle.cpa_model.specs.declared.facts.Elem.{Elem}
@@ -7,7 +7,7 @@ use Rattle.cpa_model.specs.declared.automaton.Act.{Act}
 use Rattle.cpa_model.specs.declared.automaton.Edge.{Edge}
 use Rattle.cpa_model.specs.declared.automaton.Cfa.{Cfa}
 use Rattle.cpa_model.specs.Steps.{StepsStore}
-use Rattle.cpa_edgeform_rules.specs.Runs.{StoreHolds, StoreFails}
+use Rattle.cpa_edgeform_rules.specs.Runs.{StoreFactHolds, StoreHolds, StoreFails}
 use Rattle.cpa_edgeform_rules.specs.Stores.{steps_take_inputs}
 use Rattle.cpa_interval_bounds.specs.declared.bounds.Bounds.{Bounds}
 use Rattle.cpa_interval_bounds.specs.ExpressionBounds.{LieWithin}
@@ -16,10 +16,12 @@ use Rattle.cpa_recheck_obligations.specs.Forms.{edge_at, entry_at, IsRunless, ri
 use Rattle.cpa_recheck_bounds.specs.Saying.{AreFoundBehind, AreSaid}
 
 pub begins_runless : (cfa : Cfa) (xs others : List Elem) (all : List Bounds) (elem : Elem)
-    → LieWithin all (map (λ (c : Cell). c.start) cfa.cells) → AreSaid all elem false others
+    → elem.facts ≡ [] → LieWithin all (map (λ (c : Cell). c.start) cfa.cells)
+    → AreSaid all elem others
     → others ≡ rivals_of cfa xs Begins → IsRunless cfa xs Begins
-begins_runless cfa xs others all elem lie said same first inputs last begins run =
-    said first (subst (LieWithin all) (sym begins) lie) (λ none. absurd (cc))
+begins_runless cfa xs others all elem none lie said same first inputs last begins run =
+    said first (subst (LieWithin all) (sym begins) lie)
+    (subst (AllByRecursion (StoreFactHolds first)) (sym none) tt)
     (subst (AllByRecursion (StoreFails first)) (sym same) run.3.0)
 
 -- a rival is found behind the edge

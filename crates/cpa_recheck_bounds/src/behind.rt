@@ -12,7 +12,8 @@ ghost use Rattle.cpa_recheck_bounds.specs.Cutting.{stepped, tested};
 ghost use Rattle.cpa_recheck_bounds.specs.Saying.{AreFoundBehind};
 
 use crate::exact::{Written, cut_written, is_refuted, lows_of, written_by};
-use crate::saying::{are_said, keeps_store};
+use crate::saying::are_said;
+use crate::standing::standing;
 use cpa_expr::CmpOp;
 use cpa_interval_acts::{bounds_follow_acts, cut_cell, do_act};
 use cpa_interval_bounds::Bounds;
@@ -117,7 +118,8 @@ pub(crate) fn are_found_behind(
     }
     let written = written_by(act, all, &lows);
     if step(cells, act, written, all) {
-        Ok(are_said(all, elem, keeps_store(act), entries, numbers))
+        let left = standing(alloc, elem, act)?;
+        Ok(are_said(all, &left, entries, numbers))
     } else {
         Ok(true)
     }

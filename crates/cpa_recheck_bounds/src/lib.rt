@@ -7,5 +7,6 @@ mod behind;
 mod exact;
 mod saying;
 mod settling;
+mod standing;
 
 pub use settling::is_settled;

@@ -25,7 +25,7 @@ fn begins(alloc: Global, cfa: &Cfa, entries: &[Elem], numbers: &[u32]) -> Result
     let nothing = Elem {
         facts: Seq::new(alloc),
     };
-    Ok(are_said(&all, &nothing, false, entries, numbers))
+    Ok(are_said(&all, &nothing, entries, numbers))
 }
 
 /// Whether an entry of these numbers is said behind the edge.

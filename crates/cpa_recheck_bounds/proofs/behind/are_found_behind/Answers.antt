@@ -41,7 +41,7 @@ returns-then-step c = λ is.
     let all = c.args.all.now in
     let others = map (entry_at c.args.entries.now) c.args.numbers.now in
     found c.bounds_follow_acts.ensures c.wrap_keeps_the_range.ensures.stays cfa elem act all
-    c.know.new.all c.step.new.all others c.written_by-written.result c.in_ok-lows.lows.values
+    c.know.new.all c.step.new.all c.in_ok-left.left others c.written_by-written.result c.in_ok-lows.lows.values
     c.know.result c.step.result c.requires.act c.requires.shaped c.requires.ranges
     (c.know.ensures
     ∙ ap (λ (facts : List Fact). tested facts act all) c.as_slice-facts.ensures)
@@ -49,7 +49,7 @@ returns-then-step c = λ is.
     (c.step.ensures
     ∙ ap (λ (cells : List Cell). stepped cells act c.written_by-written.result c.know.new.all)
     c.as_slice-cells.ensures)
-    (λ done. search rules)
+    (λ done. (c.in_ok-left.ensures, c.are_said.ensures is))
 
 pub returns : goal.returns
 returns c = λ is.
@@ -59,7 +59,7 @@ returns c = λ is.
     let all = c.args.all.now in
     let others = map (entry_at c.args.entries.now) c.args.numbers.now in
     found c.bounds_follow_acts.ensures c.wrap_keeps_the_range.ensures.stays cfa elem act all
-    c.know.new.all c.step.new.all others c.written_by-written.result c.in_ok-lows.lows.values
+    c.know.new.all c.step.new.all elem others c.written_by-written.result c.in_ok-lows.lows.values
     c.know.result c.step.result c.requires.act c.requires.shaped c.requires.ranges
     (c.know.ensures
     ∙ ap (λ (facts : List Fact). tested facts act all) c.as_slice-facts.ensures)

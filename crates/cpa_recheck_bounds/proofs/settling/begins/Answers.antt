@@ -15,6 +15,6 @@ returns c = λ is.
     let starts = map (λ (cell : Cell). cell.start) cfa.cells in
     let all = c.deref.ensures.value ∙ (c.in_ok-all.ensures
     ∙ ap (map (λ (cell : Cell). only cell.start)) c.as_slice.ensures) in
-    begins_runless cfa xs (map (entry_at xs) c.args.numbers.now) c.deref.result.now _
+    begins_runless cfa xs (map (entry_at xs) c.args.numbers.now) c.deref.result.now _ c.new.ensures
     (subst (λ (l : List Bounds). LieWithin l starts) (sym all) (starts_lie cfa.cells))
     (c.are_said.ensures is) c.requires
