@@ -1,0 +1,3 @@
+pub mod Touching
+pub mod lemmas
+pub mod Laws
