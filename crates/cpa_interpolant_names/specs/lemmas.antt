@@ -1,0 +1,3 @@
+-- Lemmas on the definitions, which the law's proof cites. No definition that a contract cites
+-- stands here.
+pub mod Writing
