@@ -1,0 +1,124 @@
+-- The law of cuts. Below the statement, its lemma.
+use Rattle.std.specs.Prelude.{◌≡◌, ℕ, ◌<◌, ◌^◌, true, false, List, [], ◌∷◌, ◌++◌, length, map}
+use Rattle.std.specs.Prelude.{replicate, Some, slice_get}
+use Rattle.std.specs.List.{AllByRecursion}
+use Rattle.std.proofs.Common.{refl, sym, ap, ◌∙◌}
+use Rattle.std.proofs.lemmas.List.{length-map}
+use Rattle.std.proofs.lemmas.Option.{slice_get_within}
+use Rattle.cpa_ints.specs.declared.integers.IntType.{IntType}
+use Rattle.cpa_cnf.specs.declared.formula.Line.{Line}
+use Rattle.cpa_expr.specs.declared.tree.Expr.{Expr}
+use Rattle.cpa_blast_circuits.specs.Laws.{CircuitsHaveValues}
+use Rattle.cpa_blast.specs.Formulas.{formula}
+use Rattle.cpa_model.specs.declared.program.Cell.{Cell}
+use Rattle.cpa_model.specs.declared.automaton.Act.{Act}
+use Rattle.cpa_model.specs.declared.automaton.Cfa.{Cfa}
+use Rattle.cpa_model.specs.Acts.{IsActOf}
+use Rattle.cpa_model.specs.Automata.{IsAutomaton}
+use Rattle.cpa_model.specs.Expressions.{types_of, IsExpr}
+use Rattle.cpa_edgeform_rules.specs.Runs.{Added}
+use Rattle.cpa_edgeform_rules.specs.Forms.{Form, begun, form_of}
+use Rattle.cpa_edgeform_rules.specs.Laws.{IsAddedOf, forms_are_runs}
+use Rattle.cpa_edgeform_rules.specs.Additions.{further_calls_add_behind}
+use Rattle.cpa_edgeform_renaming.specs.lemmas.Longer.{get_front}
+use Rattle.cpa_chains.specs.Sides.{clauses_on}
+use Rattle.cpa_chains.specs.Interpolants.{IsInterpolant}
+use Rattle.cpa_chains.specs.Partials.{partials_of}
+use Rattle.cpa_interpolant_joining.specs.Joining.{renamed_clause}
+use Rattle.cpa_interpolant_names.specs.Meetings.{names_of}
+use Rattle.cpa_interpolant_places.specs.Touching.{IsGone}
+use Rattle.cpa_interpolant_places.specs.Laws.{places_stand_apart}
+use Rattle.cpa_interpolant_rules.specs.Interpolants.{IsNext}
+use Rattle.cpa_interpolant_cuts.specs.Cuts.{added_before, added_behind, before_cut, behind_cut}
+use Rattle.cpa_interpolant_cuts.specs.Cuts.{meetings_of, formula_of, sides_at, expr_of}
+use Rattle.cpa_interpolant_cuts.specs.lemmas.Meet.{AreParts}
+use Rattle.cpa_interpolant_cuts.specs.lemmas.Sharing.{HasSides}
+use Rattle.cpa_interpolant_cuts.specs.lemmas.Next.{next}
+
+-- a cut of a path of an automaton, behind an expression over its cells and an edge, before these
+-- edges; the queries of its parts have as many cells as a list in memory may have
+pub record IsCut (cfa : Cfa) (e : Expr) (a : Act) (acts : List Act) : Type 0 where
+  pub automaton : IsAutomaton cfa
+  pub expr : IsExpr cfa.cells e
+  pub act : IsActOf cfa a
+  pub behind : AllByRecursion (IsActOf cfa) acts
+  pub few_before : length (before_cut cfa.cells e a).query.cells < 2 ^ 64
+  pub few_behind : length (behind_cut cfa.cells acts).query.cells < 2 ^ 64
+
+-- Where the last partial of lines is an interpolant of the two sides of a cut's joined formula, its
+-- expression is the next interpolant of the path: every step by the edge leads to it from a store
+-- where the expression before is nonzero, from it no run goes along the edges behind, it reads
+-- only what both parts have in common, and it never traps.
+abbrev pub CutsInterpolate : Type 0
+CutsInterpolate =
+    (cfa : Cfa) (e : Expr) (a : Act) (acts : List Act) (log : List Line) → IsCut cfa e a acts
+    → IsInterpolant (formula_of cfa.cells (before_cut cfa.cells e a) (behind_cut cfa.cells acts))
+    (sides_at (before_cut cfa.cells e a) (behind_cut cfa.cells acts))
+    (partials_of (formula_of cfa.cells (before_cut cfa.cells e a) (behind_cut cfa.cells acts))
+    (sides_at (before_cut cfa.cells e a) (behind_cut cfa.cells acts)) log)
+    → IsNext cfa.cells a acts e
+    (expr_of cfa.cells (before_cut cfa.cells e a) (behind_cut cfa.cells acts) log)
+
+-- ---- the lemma
+
+-- what is said of two lists of clauses, one of each side
+pub record ListsAreSides : Type 0 where
+  pub first : (front back : List (List ℕ)) → clauses_on true
+      (replicate (length front) true ++ replicate (length back) false) (front ++ back) ≡ front
+  pub second : (front back : List (List ℕ)) → clauses_on false
+      (replicate (length front) true ++ replicate (length back) false) (front ++ back) ≡ back
+
+has_sides : ListsAreSides → (cells : List Cell) (A B : Form) → HasSides cells A B
+has_sides lists cells A B =
+    let ns = names_of (formula B.query).vars (meetings_of cells A B) in
+    let more = map (renamed_clause (formula A.query).vars ns) (formula B.query).clauses in
+    let long = length-map (formula B.query).clauses (renamed_clause (formula A.query).vars ns) in
+    record {
+      before = ap (λ n. clauses_on true (replicate (length (formula A.query).clauses) true
+          ++ replicate n false) ((formula A.query).clauses ++ more)) (sym long)
+          ∙ lists.first (formula A.query).clauses more;
+      behind = ap (λ n. clauses_on false (replicate (length (formula A.query).clauses) true
+          ++ replicate n false) ((formula A.query).clauses ++ more)) (sym long)
+          ∙ lists.second (formula A.query).clauses more;
+    }
+
+all_taken : (cfa : Cfa) (acts : List Act) → AllByRecursion (IsActOf cfa) acts
+    → AllByRecursion (IsAddedOf cfa) (added_behind acts)
+all_taken cfa [] are = tt
+all_taken cfa (a ∷ acts) are = (are.0, all_taken cfa acts are.1)
+
+all_gone : (acts : List Act) → AllByRecursion IsGone (added_behind acts)
+all_gone [] = tt
+all_gone (a ∷ acts) = (tt, all_gone acts)
+
+-- the cells of the program stand in front
+start_there : (cells : List Cell) (added : List Added) (c : ℕ) (t : IntType)
+    → slice_get (types_of cells) c ≡ Some t
+    → slice_get (form_of cells false added).query.cells c ≡ Some t
+start_there cells added c t ty =
+    let more = further_calls_add_behind (begun cells false) added in
+    ap (λ ts. slice_get ts c) more.cells_are
+    ∙ (get_front (types_of cells) more.cells c (slice_get_within (types_of cells) c t ty) ∙ ty)
+
+pub cuts_interpolate : CircuitsHaveValues → ListsAreSides → CutsInterpolate
+cuts_interpolate circuits lists cfa e a acts log cut inter =
+    let A = before_cut cfa.cells e a in
+    let B = behind_cut cfa.cells acts in
+    let first : AllByRecursion (IsAddedOf cfa) (added_before e a) =
+    ((cut.expr, tt), (cut.act, tt)) in
+    let second = all_taken cfa acts cut.behind in
+    let form_before = forms_are_runs cfa false (added_before e a) cut.automaton first in
+    let form_behind = forms_are_runs cfa false (added_behind acts) cut.automaton second in
+    let places_before = places_stand_apart cfa (added_before e a) cut.automaton first
+    (tt, (tt, tt)) in
+    let places_behind = places_stand_apart cfa (added_behind acts) cut.automaton second
+    (all_gone acts) in
+    let are : AreParts cfa.cells A B = record {
+      before = record { asked = form_before.asked; few = cut.few_before };
+      behind = record { asked = form_behind.asked; few = cut.few_behind };
+      ty = places_before.ty;
+      apart = places_before.apart;
+      start = start_there cfa.cells (added_behind acts);
+    } in
+    next circuits cfa.cells cfa refl e a acts A B form_before form_behind places_before
+    places_behind are (has_sides lists cfa.cells A B) log inter

@@ -1,0 +1,5 @@
+-- Lemmas on the definitions, which the law's proof cites. No definition that a contract cites
+-- stands here.
+pub mod Meet
+pub mod Sharing
+pub mod Next

@@ -1,0 +1,8 @@
+//! One cut of a path: the formulas of the part before it and of the part behind it, joined on the
+//! bits of the cells, and what the expression of their interpolant is along the path. Definitions
+//! and their law alone; no code is run here.
+#![tactic(auto)]
+
+mod laws;
+
+pub use laws::cuts_interpolate;
