@@ -1,13 +1,17 @@
 -- The law of cuts. Below the statement, its lemma.
-use Rattle.std.specs.Prelude.{◌≡◌, ℕ, ◌<◌, ◌^◌, true, false, List, [], ◌∷◌, ◌++◌, length, map}
+use Rattle.std.specs.Prelude.{◌≡◌, ℕ, ◌<◌, ◌^◌, ℤ, Bool, true, false, List, [], ◌∷◌, ◌++◌}
+use Rattle.std.specs.Prelude.{length, map}
 use Rattle.std.specs.Prelude.{replicate, Some, slice_get}
 use Rattle.std.specs.List.{AllByRecursion}
-use Rattle.std.proofs.Common.{refl, sym, ap, ◌∙◌}
+use Rattle.std.proofs.Common.{refl, sym, ap, ◌∙◌, subst, arith}
 use Rattle.std.proofs.lemmas.List.{length-map}
 use Rattle.std.proofs.lemmas.Option.{slice_get_within}
 use Rattle.cpa_ints.specs.declared.integers.IntType.{IntType}
+use Rattle.cpa_ints.specs.Integers.{IsInRange}
+use Rattle.cpa_cnf.specs.Models.{IsModel as IsTruth}
 use Rattle.cpa_cnf.specs.declared.formula.Line.{Line}
 use Rattle.cpa_expr.specs.declared.tree.Expr.{Expr}
+use Rattle.cpa_expr.specs.Shape.{IsTyped}
 use Rattle.cpa_blast_circuits.specs.Laws.{CircuitsHaveValues}
 use Rattle.cpa_blast.specs.Formulas.{formula}
 use Rattle.cpa_model.specs.declared.program.Cell.{Cell}
@@ -16,9 +20,11 @@ use Rattle.cpa_model.specs.declared.automaton.Cfa.{Cfa}
 use Rattle.cpa_model.specs.Acts.{IsActOf}
 use Rattle.cpa_model.specs.Automata.{IsAutomaton}
 use Rattle.cpa_model.specs.Expressions.{types_of, IsExpr}
-use Rattle.cpa_edgeform_rules.specs.Runs.{Added}
+use Rattle.cpa_edgeform_rules.specs.Runs.{Added, Runs}
 use Rattle.cpa_edgeform_rules.specs.Forms.{Form, begun, form_of}
-use Rattle.cpa_edgeform_rules.specs.Laws.{IsAddedOf, forms_are_runs}
+use Rattle.cpa_edgeform_rules.specs.Laws.{IsAddedOf, IsFormOf, forms_are_runs, starts_fit, added_fits}
+use Rattle.cpa_edgeform_rules.specs.lemmas.Calls.{places_long}
+use Rattle.cpa_edgeform_rules.specs.lemmas.Formed.{formed}
 use Rattle.cpa_edgeform_rules.specs.Additions.{further_calls_add_behind}
 use Rattle.cpa_edgeform_renaming.specs.lemmas.Longer.{get_front}
 use Rattle.cpa_chains.specs.Sides.{clauses_on}
@@ -27,13 +33,16 @@ use Rattle.cpa_chains.specs.Partials.{partials_of}
 use Rattle.cpa_interpolant_joining.specs.Joining.{renamed_clause}
 use Rattle.cpa_interpolant_names.specs.Meetings.{names_of}
 use Rattle.cpa_interpolant_places.specs.Touching.{IsGone}
-use Rattle.cpa_interpolant_places.specs.Laws.{places_stand_apart}
+use Rattle.cpa_interpolant_places.specs.Laws.{ArePlaces, places_stand_apart}
+use Rattle.cpa_interpolant_rules.specs.Stores.{IsStore}
 use Rattle.cpa_interpolant_rules.specs.Interpolants.{IsNext}
 use Rattle.cpa_interpolant_cuts.specs.Cuts.{added_before, added_behind, before_cut, behind_cut}
 use Rattle.cpa_interpolant_cuts.specs.Cuts.{meetings_of, formula_of, sides_at, expr_of}
 use Rattle.cpa_interpolant_cuts.specs.lemmas.Meet.{AreParts}
 use Rattle.cpa_interpolant_cuts.specs.lemmas.Sharing.{HasSides}
 use Rattle.cpa_interpolant_cuts.specs.lemmas.Next.{next}
+use Rattle.cpa_interpolant_cuts.specs.lemmas.Typing.{typed}
+use Rattle.cpa_interpolant_cuts.specs.lemmas.Through.{through, modelled}
 
 -- a cut of a path of an automaton, behind an expression over its cells and an edge, before these
 -- edges; the queries of its parts have as many cells as a list in memory may have
@@ -58,6 +67,27 @@ CutsInterpolate =
     (sides_at (before_cut cfa.cells e a) (behind_cut cfa.cells acts)) log)
     → IsNext cfa.cells a acts e
     (expr_of cfa.cells (before_cut cfa.cells e a) (behind_cut cfa.cells acts) log)
+
+-- The expression is well typed over the cells of the program, whatever lines it is made of.
+abbrev pub CutsAreTyped : Type 0
+CutsAreTyped =
+    (cfa : Cfa) (e : Expr) (a : Act) (acts : List Act) (log : List Line) → IsCut cfa e a acts
+    → IsTyped (types_of cfa.cells)
+    (expr_of cfa.cells (before_cut cfa.cells e a) (behind_cut cfa.cells acts) log)
+
+-- The models of a cut's joined formula are the runs through the cut, from any store on: one that
+-- meets the part before it and then the part behind it is there where the formula has a model.
+pub record CutsAreRuns : Type 0 where
+  pub run : (cfa : Cfa) (e : Expr) (a : Act) (acts : List Act) (truths : List Bool)
+      → IsCut cfa e a acts
+      → IsTruth (formula_of cfa.cells (before_cut cfa.cells e a) (behind_cut cfa.cells acts))
+      truths → (first inputs last : List ℤ) × IsStore cfa.cells first
+      × Runs cfa.cells (added_before e a ++ added_behind acts) first inputs last
+  pub model : (cfa : Cfa) (e : Expr) (a : Act) (acts : List Act) (first inputs last : List ℤ)
+      → IsCut cfa e a acts → IsStore cfa.cells first
+      → Runs cfa.cells (added_before e a ++ added_behind acts) first inputs last
+      → (truths : List Bool) × IsTruth
+      (formula_of cfa.cells (before_cut cfa.cells e a) (behind_cut cfa.cells acts)) truths
 
 -- ---- the lemma
 
@@ -100,10 +130,34 @@ start_there cells added c t ty =
     ap (λ ts. slice_get ts c) more.cells_are
     ∙ (get_front (types_of cells) more.cells c (slice_get_within (types_of cells) c t ty) ∙ ty)
 
-pub cuts_interpolate : CircuitsHaveValues → ListsAreSides → CutsInterpolate
-cuts_interpolate circuits lists cfa e a acts log cut inter =
-    let A = before_cut cfa.cells e a in
-    let B = behind_cut cfa.cells acts in
+-- each cell of the program has a place
+places_are_long : (cfa : Cfa) (added : List Added) → IsAutomaton cfa
+    → AllByRecursion (IsAddedOf cfa) added
+    → length (form_of cfa.cells false added).places ≡ length cfa.cells
+places_are_long cfa added is are =
+    let cells = cfa.cells in
+    let same = is.automaton.cells in
+    let few_cells = is.well_formed.few_cells in
+    let long = length-map cells (λ (c : Cell). c.ty) in
+    let count = ap length same in
+    let few : length (types_of cells) < 2 ^ 63 = omega (arith, few_cells, long, count) in
+    let starts = starts_fit cells (subst (AllByRecursion (λ (c : Cell). IsInRange c.ty c.start))
+    (sym same) is.well_formed.starts) in
+    let form = formed cells cfa.points few starts false added (added_fits cfa few added are) in
+    sym (places_long cells (form_of cells false added) form.fitted) ∙ long
+
+-- what holds of the two parts of a cut
+pub record IsMade (cfa : Cfa) (e : Expr) (a : Act) (acts : List Act) (A B : Form) : Type 0 where
+  pub form_before : IsFormOf cfa false (added_before e a) A
+  pub form_behind : IsFormOf cfa false (added_behind acts) B
+  pub places_before : ArePlaces cfa.cells (added_before e a) A
+  pub places_behind : ArePlaces cfa.cells (added_behind acts) B
+  pub are : AreParts cfa.cells A B
+  pub long : length A.places ≡ length cfa.cells
+
+made : (cfa : Cfa) (e : Expr) (a : Act) (acts : List Act) → IsCut cfa e a acts
+    → IsMade cfa e a acts (before_cut cfa.cells e a) (behind_cut cfa.cells acts)
+made cfa e a acts cut =
     let first : AllByRecursion (IsAddedOf cfa) (added_before e a) =
     ((cut.expr, tt), (cut.act, tt)) in
     let second = all_taken cfa acts cut.behind in
@@ -111,14 +165,43 @@ cuts_interpolate circuits lists cfa e a acts log cut inter =
     let form_behind = forms_are_runs cfa false (added_behind acts) cut.automaton second in
     let places_before = places_stand_apart cfa (added_before e a) cut.automaton first
     (tt, (tt, tt)) in
-    let places_behind = places_stand_apart cfa (added_behind acts) cut.automaton second
-    (all_gone acts) in
-    let are : AreParts cfa.cells A B = record {
-      before = record { asked = form_before.asked; few = cut.few_before };
-      behind = record { asked = form_behind.asked; few = cut.few_behind };
-      ty = places_before.ty;
-      apart = places_before.apart;
-      start = start_there cfa.cells (added_behind acts);
-    } in
-    next circuits cfa.cells cfa refl e a acts A B form_before form_behind places_before
-    places_behind are (has_sides lists cfa.cells A B) log inter
+    record {
+      form_before = form_before;
+      form_behind = form_behind;
+      places_before = places_before;
+      places_behind = places_stand_apart cfa (added_behind acts) cut.automaton second
+          (all_gone acts);
+      are = record {
+        before = record { asked = form_before.asked; few = cut.few_before };
+        behind = record { asked = form_behind.asked; few = cut.few_behind };
+        ty = places_before.ty;
+        apart = places_before.apart;
+        start = start_there cfa.cells (added_behind acts);
+      };
+      long = places_are_long cfa (added_before e a) cut.automaton first;
+    }
+
+pub cuts_interpolate : CircuitsHaveValues → ListsAreSides → CutsInterpolate
+cuts_interpolate circuits lists cfa e a acts log cut inter =
+    let A = before_cut cfa.cells e a in
+    let B = behind_cut cfa.cells acts in
+    let is = made cfa e a acts cut in
+    next circuits cfa.cells cfa refl e a acts A B is.form_before is.form_behind is.places_before
+    is.places_behind is.are (has_sides lists cfa.cells A B) log inter
+
+pub cuts_are_typed : CircuitsHaveValues → CutsAreTyped
+cuts_are_typed circuits cfa e a acts log cut =
+    let is = made cfa e a acts cut in
+    typed circuits cfa.cells (before_cut cfa.cells e a) (behind_cut cfa.cells acts) is.are log
+
+pub cuts_are_runs : CircuitsHaveValues → CutsAreRuns
+cuts_are_runs circuits = record {
+  run = λ cfa e a acts truths cut model.
+      let is = made cfa e a acts cut in
+      through circuits cfa e a acts (before_cut cfa.cells e a) (behind_cut cfa.cells acts)
+      is.form_before is.form_behind is.are is.long truths model;
+  model = λ cfa e a acts first inputs last cut begins run.
+      let is = made cfa e a acts cut in
+      modelled circuits cfa e a acts (before_cut cfa.cells e a) (behind_cut cfa.cells acts)
+      is.form_before is.form_behind is.are is.long first inputs last begins run;
+}

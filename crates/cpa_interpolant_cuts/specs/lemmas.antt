@@ -3,3 +3,5 @@
 pub mod Meet
 pub mod Sharing
 pub mod Next
+pub mod Typing
+pub mod Through

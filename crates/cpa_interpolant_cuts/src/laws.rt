@@ -1,7 +1,7 @@
-//! The law of cuts, stated in specs/Laws. The function does nothing: its contract is the law. Proved
-//! in specs/lemmas.
+//! The laws of cuts, stated in specs/Laws. Each function does nothing: its contract is the law.
+//! Proved in specs/lemmas.
 
-ghost use Rattle.cpa_interpolant_cuts.specs.Laws.{CutsInterpolate};
+ghost use Rattle.cpa_interpolant_cuts.specs.Laws.{CutsInterpolate, CutsAreRuns, CutsAreTyped};
 
 use cpa_blast_circuits::circuits_have_values;
 use cpa_chains::two_lists_are_sides;
@@ -13,4 +13,18 @@ pub fn cuts_interpolate()
 {
     circuits_have_values();
     two_lists_are_sides();
+}
+
+/// The expression of a cut is well typed over the cells of the program.
+pub fn cuts_are_typed()
+    ensures { CutsAreTyped }
+{
+    circuits_have_values();
+}
+
+/// The models of a cut's joined formula are the runs of stores through the cut.
+pub fn cuts_are_runs()
+    ensures { CutsAreRuns }
+{
+    circuits_have_values();
 }

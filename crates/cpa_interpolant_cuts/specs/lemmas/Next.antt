@@ -73,13 +73,13 @@ at_most ty.U64 = omega arith
 narrow : (t : IntType) (j : ℕ) → j < width t → j < 64
 narrow t j h = let most = at_most t in omega (arith, h, most)
 
-same_index : (xs ys : List ℤ) (i k : ℕ) → slice_get xs i ≡ slice_get ys k
+pub same_index : (xs ys : List ℤ) (i k : ℕ) → slice_get xs i ≡ slice_get ys k
     → slice_index_or xs i (pos 0) ≡ slice_index_or ys k (pos 0)
 same_index xs ys i k e =
     sym (unwrap_or-slice_get xs i (pos 0))
     ∙ (ap (λ o. unwrap_or o (pos 0)) e ∙ unwrap_or-slice_get ys k (pos 0))
 
-get_taken : (n : ℕ) (xs : List ℤ) (c : ℕ) → c < length (take n xs)
+pub get_taken : (n : ℕ) (xs : List ℤ) (c : ℕ) → c < length (take n xs)
     → slice_get (take n xs) c ≡ slice_get xs c
 get_taken zero xs c h = absurd (omega (arith, h))
 get_taken (suc n) [] c h = absurd (omega (arith, h))
