@@ -7,24 +7,24 @@ ghost use Rattle.cpa_model.specs.declared.facts.Elem.{Elem as AnElem};
 ghost use Rattle.cpa_recheck_obligations.specs.Forms.{entry_at, form_at};
 ghost use Rattle.cpa_recheck_obligations.specs.Obligations.{IsObligationOf};
 ghost use Rattle.cpa_recheck_obligations.specs.Spots.{spots_of};
+ghost use Rattle.cpa_recheck_obligations.specs.Tables.{IsTableOf};
 ghost use Rattle.cpa_recheck.specs.Rivals.{AreRivals};
 
 use cpa_edgeform::EdgeForm;
 use cpa_model::{Cfa, Elem, Seq, copy_elem};
-use cpa_recheck_obligations::{Obligation, Spot, behind, candidates};
+use cpa_recheck_obligations::{Obligation, Spot, Table, behind, candidates};
 use std::alloc::{AllocError, Global};
 
 /// The numbers of the entries in which the initial state may lie.
-fn rivals_at_start(alloc: Global, cfa: &Cfa, spots: &[Option<Spot>]) -> Result<Vec<u32>, AllocError>
-    requires { length spots.now < 2 ^ 32 }
-    ensures { (xs : List AnElem) → spots.now ≡ spots_of xs
+fn rivals_at_start(alloc: Global, cfa: &Cfa, table: &Table) -> Result<Vec<u32>, AllocError>
+    ensures { (xs : List AnElem) → IsTableOf (spots_of xs) table.now.numbers.entries
         → IfOk result (λ numbers. AreRivals cfa.now xs Obligation.Begins numbers.items) }
 {
     let start = Spot {
         point: Some(cfa.start),
         stack: Some(Seq::new(alloc)),
     };
-    let numbers = candidates(alloc, spots, &start)?;
+    let numbers = candidates(alloc, table, &start)?;
     Ok(numbers)
 }
 
@@ -33,12 +33,13 @@ fn rivals_behind(
     alloc: Global,
     cfa: &Cfa,
     spots: &[Option<Spot>],
+    table: &Table,
     entry: u32,
     edge: u32,
 ) -> Result<Vec<u32>, AllocError>
-    requires few { length spots.now < 2 ^ 32 }
     requires entry { entry < length spots.now }
     requires edge { edge < length cfa.now.edges }
+    requires table { IsTableOf spots.now table.now.numbers.entries }
     ensures { (xs : List AnElem) → spots.now ≡ spots_of xs
         → IfOk result (λ numbers.
         AreRivals cfa.now xs (Obligation.Leads entry edge) numbers.items) }
@@ -51,7 +52,7 @@ fn rivals_behind(
             match then {
                 None => Ok(Vec::new(alloc)),
                 Some(then) => {
-                    let numbers = candidates(alloc, spots, &then)?;
+                    let numbers = candidates(alloc, table, &then)?;
                     Ok(numbers)
                 }
             }
@@ -64,17 +65,20 @@ pub(crate) fn rivals_of(
     alloc: Global,
     cfa: &Cfa,
     spots: &[Option<Spot>],
+    table: &Table,
     obligation: Obligation,
 ) -> Result<Vec<u32>, AllocError>
-    requires few { length spots.now < 2 ^ 32 }
+    requires table { IsTableOf spots.now table.now.numbers.entries }
     requires named { (xs : List AnElem) × (spots.now ≡ spots_of xs)
         × IsObligationOf cfa.now xs obligation }
     ensures { (xs : List AnElem) → spots.now ≡ spots_of xs
         → IfOk result (λ numbers. AreRivals cfa.now xs obligation numbers.items) }
 {
     match obligation {
-        Obligation::Begins => rivals_at_start(alloc, cfa, spots),
-        Obligation::Leads { entry, edge } => rivals_behind(alloc, cfa, spots, entry, edge),
+        Obligation::Begins => rivals_at_start(alloc, cfa, table),
+        Obligation::Leads { entry, edge } => {
+            rivals_behind(alloc, cfa, spots, table, entry, edge)
+        }
         Obligation::Avoids { .. } => Ok(Vec::new(alloc)),
     }
 }

@@ -12,17 +12,19 @@ ghost use Rattle.cpa_recheck_obligations.specs.Spots.{as_one, spots_of};
 ghost use Rattle.cpa_recheck_obligations.specs.Forms.{form_at};
 ghost use Rattle.cpa_recheck.specs.Checks.{IsPart, IsSettled, IsSettledFor, IsSpared, IsWalk};
 ghost use Rattle.cpa_recheck.specs.Rivals.{AreRivals};
+ghost use Rattle.cpa_recheck.specs.Surveys.{IsSurveyOf};
 ghost use Rattle.cpa_recheck_weights.specs.Weights.{weights_of};
 
 use crate::asking::{form_of, rivals_of};
 use crate::breaking::broken;
+use crate::surveying::{Survey, survey_of};
 use cpa_cnf::Line;
 use cpa_edgeform::EdgeForm;
 use cpa_edgeform_rules::forms_are_runs;
 use cpa_model::{Cfa, Elem, State};
 use cpa_recheck_bounds::is_settled;
 use cpa_recheck_obligations::{Obligation, Spot, added_fit, runless_is_met, unmodelled_is_met};
-use cpa_recheck_weights::{weigh, weights_of};
+use cpa_recheck_weights::weigh;
 use cpa_solver::{Decided, decide};
 use std::alloc::{AllocError, Global};
 
@@ -127,23 +129,22 @@ fn check_one(
     cfa: &Cfa,
     entries: &[Elem],
     spots: &[Option<Spot>],
-    weights: &[u64],
+    survey: &Survey,
     obligation: Obligation,
     budget: &Budget,
     keeping: Keeping,
 ) -> Result<Settled, AllocError>
     requires automaton { IsAutomaton cfa.now }
     requires shaped { AreShapedFor cfa.now entries.now }
-    requires few { length spots.now < 2 ^ 32 }
     requires spots { spots.now ≡ spots_of entries.now }
-    requires weights { weights.now ≡ weights_of cfa.now.cells entries.now }
+    requires survey { IsSurveyOf cfa.now entries.now spots.now survey.now }
     requires named { IsObligationOf cfa.now entries.now obligation }
     ensures { (es : List (List AnElem)) → entries.now ≡ as_one es
         → IfOk result (IsSettledFor cfa.now es budget.now keeping obligation) }
 {
     runless_is_met();
-    let numbers = rivals_of(alloc, cfa, spots, obligation)?;
-    let weight = weight_of(cfa, entries, weights, &numbers, obligation);
+    let numbers = rivals_of(alloc, cfa, spots, &survey.table, obligation)?;
+    let weight = weight_of(cfa, entries, &survey.weights, &numbers, obligation);
     if budget.gates < weight {
         return Ok(Settled::Open {
             why: Why::Gates { weight },
@@ -216,7 +217,7 @@ pub(crate) fn walk(
     cfa: &Cfa,
     entries: &[Elem],
     spots: &[Option<Spot>],
-    weights: &[u64],
+    survey: &Survey,
     run: &[Obligation],
     first: u32,
     budget: &Budget,
@@ -224,9 +225,8 @@ pub(crate) fn walk(
 ) -> Result<Part, AllocError>
     requires automaton { IsAutomaton cfa.now }
     requires shaped { AreShapedFor cfa.now entries.now }
-    requires few { length spots.now < 2 ^ 32 }
     requires spots { spots.now ≡ spots_of entries.now }
-    requires weights { weights.now ≡ weights_of cfa.now.cells entries.now }
+    requires survey { IsSurveyOf cfa.now entries.now spots.now survey.now }
     requires named { AllByRecursion (IsObligationOf cfa.now entries.now) run.now }
     requires numbers { first + length run.now ≤ 2 ^ 32 }
     ensures { (es : List (List AnElem)) → entries.now ≡ as_one es
@@ -236,7 +236,7 @@ pub(crate) fn walk(
     for place in 0..run.len() {
         let obligation = obligation_at(run, place);
         let settled = check_one(
-            alloc, cfa, entries, spots, weights, obligation, budget, keeping,
+            alloc, cfa, entries, spots, survey, obligation, budget, keeping,
         )?;
         match settled {
             Settled::Shown { lines } => logs.push(lines)?,
@@ -271,13 +271,13 @@ pub fn check_run(
     ensures { (es : List (List AnElem)) → entries.now ≡ as_one es
         → IfOk result (IsPart cfa.now es budget.now first run.now) }
 {
-    let weights = weights_of(alloc, cfa.cells.as_slice(), entries)?;
+    let survey = survey_of(alloc, cfa, entries, spots)?;
     let part = walk(
         alloc,
         cfa,
         entries,
         spots,
-        &weights,
+        &survey,
         run,
         first,
         budget,

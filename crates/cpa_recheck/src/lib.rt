@@ -7,6 +7,7 @@ mod breaking;
 mod checking;
 mod rechecking;
 mod stacks;
+mod surveying;
 
 pub use checking::{Budget, Keeping, Part, Why, check_run};
 pub use rechecking::{Checked, Confirmation, confirm, recheck};

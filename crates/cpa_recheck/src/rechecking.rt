@@ -17,11 +17,11 @@ ghost use Rattle.cpa_recheck.specs.Checks.{entries_in, IsConfirming};
 ghost use Rattle.cpa_recheck.specs.Walks.{IsWalked};
 
 use crate::checking::{Budget, Keeping, Part, Why, walk};
+use crate::surveying::survey_of;
 use cpa_audit::Gate;
 use cpa_cnf::Line;
 use cpa_model::{Cfa, Elem, Seq, State};
 use cpa_recheck_obligations::{joined, obligations, obligations_are_named, spots_of};
-use cpa_recheck_weights::weights_of;
 use cpa_report_print::{Body, Listed, Report};
 use std::alloc::{AllocError, Global};
 use std::thread::Threads;
@@ -102,9 +102,9 @@ fn walk_entries(
     if count > u32::MAX as usize {
         return Err(AllocError);
     }
-    let weights = weights_of(alloc, cfa.cells.as_slice(), entries)?;
+    let survey = survey_of(alloc, cfa, entries, &spots)?;
     let part = walk(
-        alloc, cfa, entries, &spots, &weights, &list, 0, budget, keeping,
+        alloc, cfa, entries, &spots, &survey, &list, 0, budget, keeping,
     )?;
     Ok(Walked { count, part })
 }

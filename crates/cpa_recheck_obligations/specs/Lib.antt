@@ -1,5 +1,8 @@
 pub mod Spots
+pub mod Writes
+pub mod SpotLaws
 pub mod Obligations
+pub mod Tables
 pub mod Meeting
 pub mod Forms
 pub mod Laws

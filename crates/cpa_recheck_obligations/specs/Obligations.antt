@@ -1,7 +1,7 @@
 -- The obligations of a list of entries: the facts that together make it a cover, cut by entry, edge
 -- and error point (of a cover: CAV 2007, section 2; the cuts and their order: this project's own).
 -- Entries are elements here, each the facts of all elements of an entry.
-use Rattle.std.specs.Prelude.{◌≡◌, ◌+◌, ◌&&◌, ℕ, Bool, true, false, List, [], ◌∷◌, ◌++◌, map, is_some}
+use Rattle.std.specs.Prelude.{◌≡◌, ◌+◌, ◌&&◌, ℕ, Bool, false, List, [], ◌∷◌, ◌++◌, map, is_some}
 use Rattle.std.specs.Prelude.{Option, None, Some, option_map, slice_get, if◌then◌else◌, ⊤, IsTrue}
 use Rattle.std.specs.List.{Contains, filter, flat_map}
 use Rattle.cpa_model.specs.declared.facts.Elem.{Elem}

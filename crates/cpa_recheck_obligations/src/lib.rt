@@ -15,4 +15,4 @@ pub use laws::{
 pub use listing::{Obligation, obligations};
 pub use spots::{Spot, joined, spot_of};
 pub use stepping::behind;
-pub use table::{candidates, spots_of};
+pub use table::{Table, candidates, spots_of, table_of};

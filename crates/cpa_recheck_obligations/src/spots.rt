@@ -1,13 +1,17 @@
 //! Where a state may stand for an entry to hold of it, and entries as one element, by
 //! `specs/Spots.antt`. Proved with `proofs/spots/`.
 
-ghost use Rattle.std.specs.Prelude.{◌≡◌, ◌++◌, None, Some, IfOk, OnOk, if◌then◌else◌};
+ghost use Rattle.std.specs.Prelude.{◌≡◌, ◌++◌, None, Some, IfOk, OnOk, if◌then◌else◌, fold};
 ghost use Rattle.cpa_model.specs.Standing.{same_sites};
-ghost use Rattle.cpa_recheck_obligations.specs.Spots.{joined, spot_of, noted, permits};
-ghost use Rattle.cpa_recheck_obligations.specs.Spots.{permits_stack, same_point, same_stack};
+ghost use Rattle.cpa_recheck_obligations.specs.SpotLaws.{same_spot-equiv, same_spot-per};
+ghost use Rattle.cpa_recheck_obligations.specs.SpotLaws.{spot_writes-alike};
+ghost use Rattle.cpa_recheck_obligations.specs.Spots.{joined, spot_of, spot_of_parts, noted, permits};
+ghost use Rattle.cpa_recheck_obligations.specs.Spots.{permits_stack, same_point, same_spot, same_stack};
+ghost use Rattle.cpa_recheck_obligations.specs.Writes.{point_writes, spot_writes, stack_writes};
 
 use cpa_model::{Elem, Fact, Seq, copy_fact};
 use std::alloc::{AllocError, Global};
+use std::hash::{Hash, Hasher};
 
 /// A point and a stack of call sites, as far as facts say them.
 #[derive(Drop)]
@@ -15,6 +19,75 @@ pub struct Spot {
     pub point: Option<u32>,
     /// The call sites from the bottom to the top.
     pub stack: Option<Seq<u32>>,
+}
+
+/// Spots are equal where the same point is said, or none, and the same stack, or none.
+impl PartialEq for Spot {
+    ghost eq = { same_spot };
+
+    ghost laws = { same_spot-per };
+
+    fn eq(&self, other: &Self) -> bool {
+        same_point(self.point, other.point) && same_stack(&self.stack, &other.stack)
+    }
+}
+
+impl Eq for Spot {
+    ghost laws = { same_spot-equiv };
+}
+
+/// A hash is fed the point, if one is said.
+fn feed_point<H: Hasher>(point: Option<u32>, state: &mut H)
+    ensures { state.new ≡ fold H.write state.old (point_writes point) }
+{
+    match point {
+        None => {}
+        Some(point) => point.hash(state),
+    }
+}
+
+/// A hash is fed the sites of the stack, if one is said.
+fn feed_stack<H: Hasher>(stack: &Option<Seq<u32>>, state: &mut H)
+    ensures { state.new ≡ fold H.write state.old (stack_writes stack.now) }
+{
+    match stack {
+        None => {}
+        Some(sites) => sites.as_slice().hash(state),
+    }
+}
+
+/// Equal spots feed a hash alike.
+impl Hash for Spot {
+    ghost hash_input = { spot_writes };
+
+    ghost respects_eq = { spot_writes-alike.fed };
+
+    fn hash<H: Hasher>(&self, state: &mut H) {
+        feed_point(self.point, state);
+        feed_stack(&self.stack, state);
+    }
+}
+
+/// The stack of call sites, if one is said.
+fn copy_stack(alloc: Global, stack: &Option<Seq<u32>>) -> Result<Option<Seq<u32>>, AllocError>
+    ensures { IfOk result (λ copy. copy ≡ stack.now) }
+{
+    match stack {
+        None => Ok(None),
+        Some(sites) => Ok(Some(Seq::from_vec(sites.as_slice().to_vec(alloc)?))),
+    }
+}
+
+/// The spot with this point and this stack.
+pub(crate) fn spot_with(
+    alloc: Global,
+    point: Option<u32>,
+    stack: &Option<Seq<u32>>,
+) -> Result<Spot, AllocError>
+    ensures { IfOk result (λ spot. spot ≡ spot_of_parts point stack.now) }
+{
+    let stack = copy_stack(alloc, stack)?;
+    Ok(Spot { point, stack })
 }
 
 /// The elements of an entry as one, which has all their facts.
@@ -124,7 +197,7 @@ fn permits_stack(said: &Option<Seq<u32>>, sites: &Seq<u32>) -> bool
 }
 
 /// Whether the same point is said, or none.
-pub(crate) fn same_point(a: Option<u32>, b: Option<u32>) -> bool
+fn same_point(a: Option<u32>, b: Option<u32>) -> bool
     ensures { result ≡ same_point a b }
 {
     match (a, b) {
@@ -135,7 +208,7 @@ pub(crate) fn same_point(a: Option<u32>, b: Option<u32>) -> bool
 }
 
 /// Whether the same stack is said, or none.
-pub(crate) fn same_stack(a: &Option<Seq<u32>>, b: &Option<Seq<u32>>) -> bool
+fn same_stack(a: &Option<Seq<u32>>, b: &Option<Seq<u32>>) -> bool
     ensures { result ≡ same_stack a.now b.now }
 {
     match (a, b) {

@@ -1,6 +1,6 @@
 -- An obligation is met where no run of stores meets what is asked about it (`runless_met`), and so
 -- where its query has no model (`unmodelled_met`).
-use Rattle.std.proofs.Common.{◌≡◌, ℕ, zero, suc, ℤ, Bool, true, false, List, [], ◌∷◌, ◌++◌, map, get_or}
+use Rattle.std.proofs.Common.{◌≡◌, ℕ, zero, suc, ℤ, List, [], ◌∷◌, get_or}
 use Rattle.std.proofs.Common.{Option, Some, None, slice_get, ◌⊎◌, inl, inr, refl, sym, ap, ◌∙◌, subst}
 use Rattle.std.specs.Prelude.{IfSome, option_map, option_and_then}
 use Rattle.std.specs.List.{AllByRecursion}
@@ -13,15 +13,13 @@ use Rattle.cpa_model.specs.declared.automaton.Act.TheVariants.{Skip}
 use Rattle.cpa_model.specs.declared.automaton.Edge.{Edge}
 use Rattle.cpa_model.specs.declared.automaton.Cfa.{Cfa}
 use Rattle.cpa_model.specs.Acts.{IsEdgeOf}
-use Rattle.cpa_model.specs.Automata.{StepsAlong, IsStateOf, IsAutomaton, initial_state, edge_of}
+use Rattle.cpa_model.specs.Automata.{initial_state, edge_of}
 use Rattle.cpa_model.specs.Covers.{LiesInSome}
-use Rattle.cpa_model.specs.Expressions.{types_of}
-use Rattle.cpa_model.specs.Facts.{Holds, IsElem, LiesIn}
+use Rattle.cpa_model.specs.Facts.{Holds, IsElem}
 use Rattle.cpa_model.specs.Steps.{StepsStack}
-use Rattle.cpa_model.specs.lemmas.EdgesSound.{all_at}
 use Rattle.cpa_model.specs.lemmas.Stacks.{stack_after-whole}
 use Rattle.cpa_query.specs.Queries.{IsModel}
-use Rattle.cpa_edgeform_rules.specs.Runs.{Added, taken, holding, failing, StoreHolds, StoreFails}
+use Rattle.cpa_edgeform_rules.specs.Runs.{taken, holding, failing, StoreHolds, StoreFails}
 use Rattle.cpa_edgeform_rules.specs.Runs.{Runs}
 use Rattle.cpa_edgeform_rules.specs.Laws.{IsAddedOf, IsFormOf}
 use Rattle.cpa_edgeform_rules.specs.Stores.{failing_is_not_holding, holding_has_two_parts}
@@ -36,7 +34,7 @@ use Rattle.cpa_recheck_obligations.specs.Obligations.{stack_behind, candidates}
 use Rattle.cpa_recheck_obligations.specs.Forms.{entry_at, edge_at, start_of, behind, target, rivals}
 use Rattle.cpa_recheck_obligations.specs.Forms.{added, is_begins, form_at, IsRunless}
 use Rattle.cpa_recheck_obligations.specs.Meeting.{IsMet}
-use Rattle.cpa_recheck_obligations.specs.lemmas.Places.{all_map, map_all, all_so, all_of}
+use Rattle.cpa_recheck_obligations.specs.lemmas.Places.{all_map, all_of}
 use Rattle.cpa_recheck_obligations.specs.lemmas.Standing.{one_holds, holds_one, control_at}
 use Rattle.cpa_recheck_obligations.specs.lemmas.Standing.{Includes, all_candidates}
 use Rattle.cpa_recheck_obligations.specs.lemmas.Covers.{some_in, one_at, lies_at_spot}

@@ -1,21 +1,20 @@
 -- A model of an obligation's query is a state that breaks the obligation (`begins_broken`,
 -- `leads_broken`, `avoids_broken`).
-use Rattle.std.proofs.Common.{◌≡◌, ℕ, ◌<◌, ℤ, true, false, List, [], ◌∷◌, Option, Some, None}
+use Rattle.std.proofs.Common.{◌≡◌, ℕ, ◌<◌, ℤ, true, List, Option, Some, None}
 use Rattle.std.proofs.Common.{slice_get, ◌⊎◌, inl, inr, refl, sym, ap, ◌∙◌, subst}
-use Rattle.std.specs.Prelude.{IfSome, option_map, is_some, IsTrue}
+use Rattle.std.specs.Prelude.{IfSome, option_map, is_some}
 use Rattle.std.specs.List.{AllByRecursion}
 use Rattle.std.proofs.lemmas.Bool.{and_parts}
 use Rattle.cpa_model.specs.declared.facts.Elem.{Elem}
 use Rattle.cpa_model.specs.declared.states.State.{State}
-use Rattle.cpa_model.specs.declared.program.Program.{Program}
 use Rattle.cpa_model.specs.declared.automaton.Act.{Act}
 use Rattle.cpa_model.specs.declared.automaton.Edge.{Edge}
 use Rattle.cpa_model.specs.declared.automaton.Cfa.{Cfa}
 use Rattle.cpa_model.specs.Acts.{IsEdgeOf}
-use Rattle.cpa_model.specs.Automata.{StepsAlong, IsStateOf, IsAutomaton, initial_state}
+use Rattle.cpa_model.specs.Automata.{IsStateOf, IsAutomaton, initial_state}
 use Rattle.cpa_model.specs.Covers.{LiesInSome}
-use Rattle.cpa_model.specs.Facts.{Holds, LiesIn}
-use Rattle.cpa_model.specs.Programs.{IsWellFormed, point_count}
+use Rattle.cpa_model.specs.Facts.{LiesIn}
+use Rattle.cpa_model.specs.Programs.{point_count}
 use Rattle.cpa_model.specs.States.{IsState, state_at}
 use Rattle.cpa_model.specs.Steps.{Moves, StepsApart, StepsKeepStates, StepsStack, StepsStore}
 use Rattle.cpa_model.specs.lemmas.EdgesSound.{all_at}
@@ -32,9 +31,9 @@ use Rattle.cpa_recheck_obligations.specs.declared.spots.Spot.{Spot}
 use Rattle.cpa_recheck_obligations.specs.Spots.{joined, as_one, StandsAt, spot_of_parts, spot_of}
 use Rattle.cpa_recheck_obligations.specs.Spots.{spots_of, permits}
 use Rattle.cpa_recheck_obligations.specs.Obligations.{stack_behind, candidates, IsObligationOf}
-use Rattle.cpa_recheck_obligations.specs.Forms.{entry_at, start_of, behind, target, rivals, form_at}
+use Rattle.cpa_recheck_obligations.specs.Forms.{entry_at, start_of, rivals, form_at}
 use Rattle.cpa_recheck_obligations.specs.Forms.{edge_at, AreStacksFor}
-use Rattle.cpa_recheck_obligations.specs.Meeting.{Breaks, LeadsOut, Reaches}
+use Rattle.cpa_recheck_obligations.specs.Meeting.{Breaks}
 use Rattle.cpa_recheck_obligations.specs.lemmas.Places.{map_all}
 use Rattle.cpa_recheck_obligations.specs.lemmas.Standing.{one_holds, holds_one, control_at}
 use Rattle.cpa_recheck_obligations.specs.lemmas.Standing.{Includes, at_candidates, permits_back}

@@ -1,6 +1,6 @@
 -- All obligations are met exactly where the entries are a cover (`obligations_cover`).
-use Rattle.std.proofs.Common.{◌≡◌, ℕ, zero, suc, ◌+◌, ◌&&◌, Bool, true, false, List, [], ◌∷◌, ◌++◌}
-use Rattle.std.proofs.Common.{map, Option, Some, None, slice_get, ◌⊎◌, inl, inr, refl, sym, ap, ◌∙◌}
+use Rattle.std.proofs.Common.{◌≡◌, ℕ, zero, suc, ◌+◌, ◌&&◌, Bool, true, false, List, [], ◌∷◌}
+use Rattle.std.proofs.Common.{map, Option, Some, None, slice_get, inl, inr, refl, sym, ap, ◌∙◌}
 use Rattle.std.proofs.Common.{subst, arith, zero-add}
 use Rattle.std.specs.Prelude.{◌↔◌, IfSome, is_some, option_map, cond}
 use Rattle.std.specs.List.{AllByRecursion, Contains, filter}
@@ -10,21 +10,20 @@ use Rattle.cpa_model.specs.declared.states.State.{State}
 use Rattle.cpa_model.specs.declared.automaton.Act.{Act}
 use Rattle.cpa_model.specs.declared.automaton.Edge.{Edge}
 use Rattle.cpa_model.specs.declared.automaton.Cfa.{Cfa}
-use Rattle.cpa_model.specs.Automata.{StepsAlong, EdgeStep, IsStateOf}
+use Rattle.cpa_model.specs.Automata.{StepsAlong}
 use Rattle.cpa_model.specs.Covers.{LiesInSome, CoversAutomaton}
-use Rattle.cpa_model.specs.Facts.{Holds, LiesIn}
-use Rattle.cpa_model.specs.Stacks.{stack_after}
+use Rattle.cpa_model.specs.Facts.{LiesIn}
 use Rattle.cpa_model.specs.Steps.{StepsStack}
 use Rattle.cpa_model.specs.lemmas.Lists.{place_of, in_list}
 use Rattle.cpa_model.specs.lemmas.Stacks.{stack_after-whole}
 use Rattle.cpa_edgeform_rules.specs.Stores.{holding_has_two_parts}
 use Rattle.cpa_edgeform_rules.specs.lemmas.Lists.{all_both, all_parts}
 use Rattle.cpa_recheck_obligations.specs.declared.listing.Obligation.{Obligation}
-use Rattle.cpa_recheck_obligations.specs.declared.listing.Obligation.TheVariants.{Begins, Leads}
+use Rattle.cpa_recheck_obligations.specs.declared.listing.Obligation.TheVariants.{Leads}
 use Rattle.cpa_recheck_obligations.specs.declared.listing.Obligation.TheVariants.{Avoids}
 use Rattle.cpa_recheck_obligations.specs.declared.spots.Spot.{Spot}
 use Rattle.cpa_recheck_obligations.specs.Spots.{joined, as_one, StandsAt, permits, spot_of, spots_of}
-use Rattle.cpa_recheck_obligations.specs.Obligations.{places_from, stack_behind, leaves, edges_of}
+use Rattle.cpa_recheck_obligations.specs.Obligations.{stack_behind, leaves, edges_of}
 use Rattle.cpa_recheck_obligations.specs.Obligations.{errors_of, own, own_from, obligations}
 use Rattle.cpa_recheck_obligations.specs.Obligations.{IsObligationOf}
 use Rattle.cpa_recheck_obligations.specs.Meeting.{IsMet}

@@ -1,11 +1,10 @@
 -- A state stands at the spot of an element exactly where the element's facts on the point and on
 -- the stack hold of it; the candidates of a spot are the entries whose spot includes it.
-use Rattle.std.proofs.Common.{◌≡◌, ℕ, ◌+◌, ◌==◌, ◌&&◌, Bool, true, false, List, [], ◌∷◌, map}
-use Rattle.std.proofs.Common.{Option, Some, None, slice_get, refl, sym, ap, ◌∙◌, subst, arith}
+use Rattle.std.proofs.Common.{◌≡◌, ℕ, Bool, true, false, List, [], ◌∷◌, map}
+use Rattle.std.proofs.Common.{Option, Some, None, slice_get, refl, sym, ap, ◌∙◌, subst}
 use Rattle.std.proofs.Common.{zero-add}
 use Rattle.std.specs.Prelude.{IfSome, option_and_then, if◌then◌else◌}
-use Rattle.std.specs.List.{AllByRecursion, flat_map}
-use Rattle.std.proofs.lemmas.Bool.{and_parts}
+use Rattle.std.specs.List.{AllByRecursion}
 use Rattle.std.proofs.lemmas.Bool.Decides.{Decides-eqb}
 use Rattle.cpa_model.specs.declared.facts.Fact.{Fact}
 use Rattle.cpa_model.specs.declared.facts.Fact.TheVariants.{At, Stack, Equals, Within, Truth}
@@ -13,12 +12,13 @@ use Rattle.cpa_model.specs.declared.facts.Elem.{Elem}
 use Rattle.cpa_model.specs.declared.states.State.{State}
 use Rattle.cpa_model.specs.Facts.{FactHolds, Holds, LiesIn}
 use Rattle.cpa_model.specs.Standing.{same_sites}
-use Rattle.cpa_model.specs.StandingLaws.{same_fact-means, same_fact-self}
+use Rattle.cpa_model.specs.StandingLaws.{same_fact-self}
 use Rattle.cpa_edgeform_rules.specs.Stores.{ControlFactHolds, ControlHolds}
 use Rattle.cpa_recheck_obligations.specs.declared.spots.Spot.{Spot}
 use Rattle.cpa_recheck_obligations.specs.Spots.{joined, StandsAt, spot_of_parts, permits}
 use Rattle.cpa_recheck_obligations.specs.Spots.{permits_stack, spot_from, anywhere, spot_of}
-use Rattle.cpa_recheck_obligations.specs.Spots.{same_point, same_stack, same_spot}
+use Rattle.cpa_recheck_obligations.specs.SpotLaws.{same_sites-means, same_spot-means}
+use Rattle.cpa_recheck_obligations.specs.SpotLaws.{same_spot-self}
 use Rattle.cpa_recheck_obligations.specs.Obligations.{said_or_not, around, is_at, under, candidates}
 use Rattle.cpa_recheck_obligations.specs.lemmas.Places.{all_flat, flat_all, map_all, all_map}
 use Rattle.cpa_recheck_obligations.specs.lemmas.Places.{all_places, at_places, all_so}
@@ -32,9 +32,6 @@ pub holds_one : (elems : List Elem) (s : State) → LiesIn s elems → Holds (jo
 holds_one elems s h = all_flat (FactHolds s) (λ (e : Elem). e.facts) elems h
 
 -- ---- what a spot allows
-
-same_sites-means : (s t : List ℕ) → same_sites s t ≡ true → s ≡ t
-same_sites-means s t h = let e = same_fact-means (Stack s) (Stack t) h in cc
 
 pub permits_true : (o : Option ℕ) (q p : ℕ) → IfSome o (λ own. q ≡ own) → q ≡ p
     → permits o p ≡ true
@@ -196,38 +193,6 @@ around_only spot =
     (λ stack with_it. record { point = at; stack = with_it }) (said_or_not spot.stack)
     (said_only spot.stack)))
     (said_or_not spot.point) (said_only spot.point))
-
-same_point-means : (a b : Option ℕ) → same_point a b ≡ true → a ≡ b
-same_point-means None None h = refl
-same_point-means (Some p) (Some q) h = ap Some ((Decides-eqb p q).0 h)
-same_point-means None (Some q) h = absurd (cc)
-same_point-means (Some p) None h = absurd (cc)
-
-same_point-self : (a : Option ℕ) → same_point a a ≡ true
-same_point-self None = refl
-same_point-self (Some p) = (Decides-eqb p p).1 refl
-
-same_stack-means : (a b : Option (List ℕ)) → same_stack a b ≡ true → a ≡ b
-same_stack-means None None h = refl
-same_stack-means (Some s) (Some t) h = ap Some (same_sites-means s t h)
-same_stack-means None (Some t) h = absurd (cc)
-same_stack-means (Some s) None h = absurd (cc)
-
-same_stack-self : (a : Option (List ℕ)) → same_stack a a ≡ true
-same_stack-self None = refl
-same_stack-self (Some s) = same_fact-self (Stack s)
-
--- spots that pass the test are equal, and each passes it with itself
-pub same_spot-means : (a b : Spot) → same_spot a b ≡ true → a ≡ b
-same_spot-means a b h =
-    let parts = and_parts (same_point a.point b.point) (same_stack a.stack b.stack) h in
-    let point = same_point-means a.point b.point parts.0 in
-    let stack = same_stack-means a.stack b.stack parts.1 in
-    ap (λ p. spot_of_parts p a.stack) point ∙ ap (λ s. spot_of_parts b.point s) stack
-
-pub same_spot-self : (a : Spot) → same_spot a a ≡ true
-same_spot-self a =
-    ap (λ b. b && same_stack a.stack a.stack) (same_point-self a.point) ∙ same_stack-self a.stack
 
 module _ (Q : ℕ → Type 0) (spots : List (Option Spot)) (spot : Spot) where
   -- what holds of each entry whose spot includes this one holds of each candidate

@@ -17,4 +17,4 @@ returns-in_ok-numbers-in-Some-then c = λ xs are.
     c.edge.ensures
     (ap (option_and_then (behind edge)) c.in-Some.is
     ∙ (sym c.in_ok-then-in-Some.ensures ∙ c.in-Some-then.is))
-    c.in_ok-numbers-in-Some-then.ensures
+    (c.in_ok-numbers-in-Some-then.ensures spots c.requires.table)

@@ -1,6 +1,5 @@
-use Rattle.std.proofs.Common.{◌≡◌, ◌+◌, ◌++◌, ◌∙◌, ℕ, List, [], ◌∷◌, map, drop, ap, sym, subst, true, arith}
+use Rattle.std.proofs.Common.{◌≡◌, ◌+◌, ◌++◌, ◌∙◌, map, drop, ap, sym, arith}
 use Rattle.std.proofs.lemmas.List.{append-nil}
-use Rattle.cpa_recheck_obligations.specs.declared.listing.Obligation.{Obligation}
 use Rattle.cpa_recheck_obligations.specs.declared.listing.Obligation.TheVariants.{Leads}
 use Rattle.cpa_recheck_obligations.specs.Obligations.{edges_of, leaves, places_from}
 use Rattle.cpa_recheck_obligations.proofs.Passing.{ended, passed, skipped, taken}
