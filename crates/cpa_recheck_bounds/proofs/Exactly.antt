@@ -64,7 +64,7 @@ module _ (e : Expr) (all : List Bounds) (store : List ℤ) (lie : LieWithin all 
           ∙ sym (slice_get-map (λ (b : Bounds). b.lo) all cell
           ∙ ap (option_map (λ (b : Bounds). b.lo)) at)
 
-  exact : DependsOnWhatIsRead → (lows : List ℤ) → lows ≡ lows_of all
+  pub exact : DependsOnWhatIsRead → (lows : List ℤ) → lows ≡ lows_of all
       → value_of e store ≡ value_of e lows
   exact law lows are =
       law e store lows (λ cell reads. agrees cell reads

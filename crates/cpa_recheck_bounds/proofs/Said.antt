@@ -1,16 +1,19 @@
 -- What is said of an element shows that it holds on each store within the bounds.
-use Rattle.std.proofs.Common.{◌≡◌, ℕ, ℤ, ◌≤ℤ◌, Bool, true, false, ◌||◌, List, [], ◌∷◌, map}
-use Rattle.std.proofs.Common.{refl, sym, ap, subst, arith, inl, inr, ◌⊎◌}
+use Rattle.std.proofs.Common.{◌≡◌, ℕ, zero, suc, ℤ, ◌≤ℤ◌, Bool, true, false, ◌||◌, List, []}
+use Rattle.std.proofs.Common.{◌∷◌, map, length, refl, sym, ap, subst, arith, inl, inr, ◌⊎◌}
 use Rattle.std.specs.Prelude.{Option, None, Some, slice_get, IsSomeAnd}
-use Rattle.std.specs.List.{AllByRecursion, list_all, list_any}
+use Rattle.std.specs.List.{AllByRecursion, list_any}
 use Rattle.std.proofs.lemmas.Int.{ints}
 use Rattle.std.proofs.lemmas.Bool.{and_parts}
+use Rattle.cpa_expr.specs.declared.tree.Expr.{Expr}
+use Rattle.cpa_expr.specs.Laws.{DependsOnWhatIsRead}
+use Rattle.cpa_expr.specs.Values.{HasTruth, is_nonzero}
 use Rattle.cpa_model.specs.declared.facts.Fact.{Fact}
 use Rattle.cpa_model.specs.declared.facts.Fact.TheVariants.{At, Stack, Equals, Within, Truth}
 use Rattle.cpa_model.specs.declared.facts.Elem.{Elem}
 use Rattle.cpa_model.specs.Standing.{same_fact}
 use Rattle.cpa_model.specs.StandingLaws.{same_fact-means}
-use Rattle.cpa_edgeform_rules.specs.Runs.{StoreFactHolds, StoreHolds, StoreFails}
+use Rattle.cpa_edgeform_rules.specs.Runs.{StoreFactHolds, StoreHolds}
 use Rattle.cpa_edgeform_rules.specs.Stores.{failing_is_not_holding}
 use Rattle.cpa_interval_bounds.specs.declared.bounds.Bounds.{Bounds}
 use Rattle.cpa_interval_bounds.specs.Bounds.{Has, bounds, only, is_inside, has}
@@ -18,8 +21,9 @@ use Rattle.cpa_interval_bounds.specs.ExpressionBounds.{LieWithin}
 use Rattle.cpa_interval_bounds.specs.lemmas.Sets.{has_means}
 use Rattle.cpa_interval_acts.specs.lemmas.ZipLemmas.{some_value}
 use Rattle.cpa_recheck_obligations.specs.Forms.{entry_at}
-use Rattle.cpa_recheck_obligations.specs.lemmas.Asking.{entry_is}
-use Rattle.cpa_recheck_bounds.specs.Saying.{is_among, says, says_all, says_some, AreSaid}
+use Rattle.cpa_recheck_bounds.specs.Exact.{AreFixedBelow, lows_of}
+use Rattle.cpa_recheck_bounds.specs.Saying.{is_among, bounds_say, IsSaid, AreAllSaid, AreSaid}
+use Rattle.cpa_recheck_bounds.proofs.Exactly.{exact}
 
 either : (a b : Bool) → (a || b) ≡ true → (a ≡ true) ⊎ (b ≡ true)
 either true b h = inl refl
@@ -64,7 +68,7 @@ within None lo hi h = absurd h
 within (Some v) lo hi h = (h.low, h.high)
 
 -- a fact that is the same as one of those that hold
-same_holds : (store : List ℤ) (fact : Fact) (facts : List Fact)
+pub same_holds : (store : List ℤ) (fact : Fact) (facts : List Fact)
     → list_any (same_fact fact) facts ≡ true → AllByRecursion (StoreFactHolds store) facts
     → StoreFactHolds store fact
 same_holds store fact [] is all = absurd (cc)
@@ -78,50 +82,38 @@ same_holds store fact (own ∷ facts) is all =
     by (inl same) next = subst (StoreFactHolds store) (sym (same_fact-means fact own same)) all.0
     by (inr later) next = next later
 
-module _ (all : List Bounds) (elem : Elem) (store : List ℤ) (lie : LieWithin all store)
-    (holds : StoreHolds store elem) where
-  said_holds : (fact : Fact) → says all elem fact ≡ true → StoreFactHolds store fact
-  said_holds (At p) is = tt
-  said_holds (Stack sites) is = tt
-  said_holds (Equals cell v) is =
-      equals (slice_get store cell) v (among all store cell (only v) lie is)
-  said_holds (Within cell lo hi) is =
-      within (slice_get store cell) lo hi (among all store cell (bounds lo hi) lie is)
-  said_holds (Truth e h) is = same_holds store (Truth e h) elem.facts is holds
+pub said_by_bounds : (all : List Bounds) (elem : Elem) (fact : Fact) → bounds_say all fact ≡ true
+    → IsSaid all elem fact
+said_by_bounds all elem (At p) is store lie holds = tt
+said_by_bounds all elem (Stack sites) is store lie holds = tt
+said_by_bounds all elem (Equals cell v) is store lie holds =
+    equals (slice_get store cell) v (among all store cell (only v) lie is)
+said_by_bounds all elem (Within cell lo hi) is store lie holds =
+    within (slice_get store cell) lo hi (among all store cell (bounds lo hi) lie is)
+said_by_bounds all elem (Truth e h) is store lie holds = absurd (cc)
 
-  all_hold : (facts : List Fact) → list_all (says all elem) facts ≡ true
-      → AllByRecursion (StoreFactHolds store) facts
-  all_hold [] is = tt
-  all_hold (fact ∷ facts) is =
-      let both = and_parts (says all elem fact) (list_all (says all elem) facts) is in
-      (said_holds fact both.0, all_hold facts both.1)
+-- the value on the lower ends is that on each store within the bounds
+pub known_truth : (e : Expr) (h : Bool) (all : List Bounds) (lows store : List ℤ)
+    → DependsOnWhatIsRead → AreFixedBelow e all (length all) → HasTruth lows e h
+    → lows ≡ lows_of all → LieWithin all store → HasTruth store e h
+known_truth e h all lows store law fixed has are lie =
+    subst (λ o. IsSomeAnd o (λ v. is_nonzero v ≡ h))
+    (sym (exact e all store lie fixed law lows are)) has
 
-  entry_holds : (xs : List Elem) (n : ℕ) → says_all all elem (slice_get xs n) ≡ true
-      → StoreHolds store (entry_at xs n)
-  entry_holds xs n = by (slice_get xs n) refl
-    where
-      by : (o : Option Elem) → slice_get xs n ≡ o → says_all all elem o ≡ true
-          → StoreHolds store (entry_at xs n)
-      by None at is = absurd (cc)
-      by (Some other) at is =
-          subst (StoreHolds store) (sym (entry_is xs n other at)) (all_hold other.facts is)
+-- what is left of the facts gives all of them
+abbrev pub GivesAll : List Bounds → Elem → List Fact → List Fact → Type 0
+GivesAll all elem facts rest =
+    (store : List ℤ) → LieWithin all store → StoreHolds store elem
+    → AllByRecursion (StoreFactHolds store) rest → AllByRecursion (StoreFactHolds store) facts
 
-  none_fails : (xs : List Elem) (numbers : List ℕ) → says_some all elem xs numbers ≡ true
-      → AllByRecursion (StoreFails store) (map (entry_at xs) numbers) → ⊥
-  none_fails xs [] is fail = absurd (cc)
-  none_fails xs (n ∷ numbers) is fail =
-      by (either (says_all all elem (slice_get xs n)) (says_some all elem xs numbers) is)
-      (λ later. none_fails xs numbers later fail.1)
-    where
-      by : (says_all all elem (slice_get xs n) ≡ true)
-          ⊎ (says_some all elem xs numbers ≡ true)
-          → (says_some all elem xs numbers ≡ true → ⊥) → ⊥
-      by (inl here) next =
-          (failing_is_not_holding.fails store (entry_at xs n)).0 fail.0 (entry_holds xs n here)
-      by (inr later) next = next later
-
-pub are_said : (all : List Bounds) (elem : Elem) (xs : List Elem) (numbers : List ℕ)
-    → says_some all elem xs numbers ≡ true
+-- one of the others holds where the one at a place does
+pub said_here : (all : List Bounds) (elem : Elem) (xs : List Elem) (numbers : List ℕ) (i n : ℕ)
+    → slice_get numbers i ≡ Some n → AreAllSaid all elem (entry_at xs n)
     → AreSaid all elem (map (entry_at xs) numbers)
-are_said all elem xs numbers is store lie holds fail =
-    none_fails all elem store lie holds xs numbers is fail
+said_here all elem xs [] i n at said store lie holds fail = absurd (cc)
+said_here all elem xs (m ∷ numbers) zero n at said store lie holds fail =
+    let same : n ≡ m = cc in
+    (failing_is_not_holding.fails store (entry_at xs m)).0 fail.0
+    (subst (λ k. StoreHolds store (entry_at xs k)) same (said store lie holds))
+said_here all elem xs (m ∷ numbers) (suc i) n at said store lie holds fail =
+    said_here all elem xs numbers i n at said store lie holds fail.1

@@ -1,22 +1,25 @@
--- An expression has the same truth before and behind an act that writes no cell which it may read.
+-- An expression has the same truth before and behind an act that writes no cell which it may read;
+-- the truth that an act tests holds behind it, and an element that says the other one bars it.
 use Rattle.std.proofs.Common.{◌≡◌, ◌≢◌, ℕ, ◌+◌, ◌==◌, not, ℤ, Bool, true, false, List, [], ◌∷◌, ◌++◌}
 use Rattle.std.proofs.Common.{refl, sym, ap, ◌∙◌, subst, arith}
-use Rattle.std.specs.Prelude.{zero, suc, slice_get, slice_set, IsSomeAnd}
-use Rattle.std.specs.List.{AllByRecursion}
+use Rattle.std.specs.Prelude.{zero, suc, slice_get, slice_set, IsSomeAnd, Option, None, Some}
+use Rattle.std.specs.List.{AllByRecursion, list_any}
 use Rattle.std.proofs.lemmas.Bool.Decides.{Decides-eqb}
 use Rattle.cpa_expr.specs.declared.tree.Expr.{Expr}
 use Rattle.cpa_expr.specs.Cells.{may_read, AgreesWhereRead}
 use Rattle.cpa_expr.specs.Laws.{DependsOnWhatIsRead}
-use Rattle.cpa_expr.specs.Values.{is_nonzero}
+use Rattle.cpa_expr.specs.Values.{HasTruth, is_nonzero, value_of}
 use Rattle.cpa_model.specs.declared.automaton.Act.{Act}
 use Rattle.cpa_model.specs.declared.automaton.Act.TheVariants as act
 use Rattle.cpa_model.specs.declared.facts.Fact.{Fact}
 use Rattle.cpa_model.specs.declared.facts.Fact.TheVariants.{Truth}
 use Rattle.cpa_model.specs.declared.facts.Elem.{Elem}
 use Rattle.cpa_model.specs.declared.program.Cell.{Cell}
+use Rattle.cpa_model.specs.Standing.{same_fact}
 use Rattle.cpa_model.specs.Steps.{StepsStore}
 use Rattle.cpa_edgeform_rules.specs.Runs.{StoreFactHolds, StoreHolds}
-use Rattle.cpa_recheck_bounds.specs.Standing.{Spares, Stands}
+use Rattle.cpa_recheck_bounds.specs.Standing.{AreTested, IsBarred, Spares, Stands}
+use Rattle.cpa_recheck_bounds.proofs.Said.{same_holds}
 
 -- a write leaves the other cells
 set_other : (vs : List ℤ) (k j : ℕ) (v : ℤ) → j ≢ k
@@ -94,3 +97,24 @@ takes_in a elem left last rest fact under is stands cells old new holds step =
     let both = under cells old new holds step in
     let here = subst (AllByRecursion (StoreFactHolds old)) is both.1 in
     (one_more new left fact both.0 (stands cells old new here.0 step), here.1)
+
+-- the truth of a test holds behind it
+pub test_holds : (e : Expr) (holds : Bool) (facts : List Fact) → facts ≡ Truth e holds ∷ []
+    → AreTested (act.Assume e holds) facts
+test_holds e holds facts is cells old new step =
+    subst (AllByRecursion (StoreFactHolds new)) (sym is)
+    (subst (λ s. HasTruth s e holds) (sym step.1) step.0, tt)
+
+both_truths : (o : Option ℤ) (holds : Bool) → IsSomeAnd o (λ v. is_nonzero v ≡ holds)
+    → IsSomeAnd o (λ v. is_nonzero v ≡ not holds) → ⊥
+both_truths None holds one other = one
+both_truths (Some v) true one other = absurd (cc)
+both_truths (Some v) false one other = absurd (cc)
+
+-- an element that says the other truth of the test
+pub barred : (e : Expr) (holds : Bool) (elem : Elem)
+    → list_any (same_fact (Truth e (not holds))) elem.facts ≡ true
+    → IsBarred (act.Assume e holds) elem
+barred e holds elem is cells old new has step =
+    both_truths (value_of e old) holds step.0
+    (same_holds old (Truth e (not holds)) elem.facts is has)

@@ -1,7 +1,6 @@
 -- What bounds of cells say of the facts of an element (this project's own).
-use Rattle.std.specs.Prelude.{ℕ, ℤ, Bool, true, false, List, Option, None, Some}
-use Rattle.std.specs.Prelude.{slice_get}
-use Rattle.std.specs.List.{AllByRecursion, list_all, list_any}
+use Rattle.std.specs.Prelude.{ℤ, Bool, true, false, List, Option, None, Some, slice_get}
+use Rattle.std.specs.List.{AllByRecursion}
 use Rattle.cpa_expr.specs.Cells.{AreValues}
 use Rattle.cpa_model.specs.declared.facts.Fact.{Fact}
 use Rattle.cpa_model.specs.declared.facts.Fact.TheVariants.{At, Stack, Equals, Within, Truth}
@@ -10,8 +9,7 @@ use Rattle.cpa_model.specs.declared.automaton.Act.{Act}
 use Rattle.cpa_model.specs.declared.automaton.Cfa.{Cfa}
 use Rattle.cpa_model.specs.Expressions.{types_of}
 use Rattle.cpa_model.specs.Steps.{StepsStore}
-use Rattle.cpa_model.specs.Standing.{same_fact}
-use Rattle.cpa_edgeform_rules.specs.Runs.{StoreHolds, StoreFails}
+use Rattle.cpa_edgeform_rules.specs.Runs.{StoreFactHolds, StoreHolds, StoreFails}
 use Rattle.cpa_interval_bounds.specs.declared.bounds.Bounds.{Bounds}
 use Rattle.cpa_interval_bounds.specs.Bounds.{bounds, only, is_inside}
 use Rattle.cpa_interval_bounds.specs.ExpressionBounds.{LieWithin}
@@ -21,23 +19,23 @@ abbrev pub is_among : Bounds → Option Bounds → Bool
 is_among other None = false
 is_among other (Some own) = is_inside own other
 
--- the bounds say the fact, or it is one of the element's
-abbrev pub says : List Bounds → Elem → Fact → Bool
-says all elem (At point) = true
-says all elem (Stack sites) = true
-says all elem (Equals cell value) = is_among (only value) (slice_get all cell)
-says all elem (Within cell lo hi) = is_among (bounds lo hi) (slice_get all cell)
-says all elem (Truth expr holds) = list_any (same_fact (Truth expr holds)) elem.facts
+-- the bounds say the fact; of truths they say none
+abbrev pub bounds_say : List Bounds → Fact → Bool
+bounds_say all (At point) = true
+bounds_say all (Stack sites) = true
+bounds_say all (Equals cell value) = is_among (only value) (slice_get all cell)
+bounds_say all (Within cell lo hi) = is_among (bounds lo hi) (slice_get all cell)
+bounds_say all (Truth expr holds) = false
 
--- the bounds say each fact of the other element
-abbrev pub says_all : List Bounds → Elem → Option Elem → Bool
-says_all all elem None = false
-says_all all elem (Some other) = list_all (says all elem) other.facts
+-- The fact holds on each store within the bounds on which the element does.
+abbrev pub IsSaid : List Bounds → Elem → Fact → Type 0
+IsSaid all elem fact =
+    (store : List ℤ) → LieWithin all store → StoreHolds store elem → StoreFactHolds store fact
 
--- they do so of one of the elements with these numbers
-abbrev pub says_some : List Bounds → Elem → List Elem → List ℕ → Bool
-says_some all elem xs numbers =
-    list_any (λ n. says_all all elem (slice_get xs n)) numbers
+-- So does the other element.
+abbrev pub AreAllSaid : List Bounds → Elem → Elem → Type 0
+AreAllSaid all elem other =
+    (store : List ℤ) → LieWithin all store → StoreHolds store elem → StoreHolds store other
 
 -- On each store within the bounds on which the element holds, one of the others holds.
 abbrev pub AreSaid : List Bounds → Elem → List Elem → Type 0

@@ -1,6 +1,7 @@
 -- Facts that an act leaves true (this project's own): those on the truth of expressions that read no
--- cell which it may write.
+-- cell which it may write, and the truth that it tests.
 use Rattle.std.specs.Prelude.{◌≡◌, ◌≤◌, ◌<◌, ◌+◌, ℕ, ℤ, false, List}
+use Rattle.std.specs.List.{AllByRecursion}
 use Rattle.cpa_expr.specs.declared.tree.Expr.{Expr}
 use Rattle.cpa_expr.specs.Cells.{may_read}
 use Rattle.cpa_model.specs.declared.facts.Fact.{Fact}
@@ -26,6 +27,17 @@ abbrev pub Stands : Act → Fact → Type 0
 Stands a fact =
     (cells : List Cell) (old new : List ℤ) → StoreFactHolds old fact → StepsStore cells a old new
     → StoreFactHolds new fact
+
+-- the facts hold behind the act, whatever holds before it
+abbrev pub AreTested : Act → List Fact → Type 0
+AreTested a facts =
+    (cells : List Cell) (old new : List ℤ) → StepsStore cells a old new
+    → AllByRecursion (StoreFactHolds new) facts
+
+-- the act leads nowhere from a store on which the element holds
+abbrev pub IsBarred : Act → Elem → Type 0
+IsBarred a elem =
+    (cells : List Cell) (old new : List ℤ) → StoreHolds old elem → StepsStore cells a old new → ⊥
 
 -- where the element holds before the act, the other one holds behind it
 abbrev pub AreLeft : Act → Elem → Elem → Type 0

@@ -13,7 +13,7 @@ ghost use Rattle.cpa_recheck_bounds.specs.Saying.{AreFoundBehind};
 
 use crate::exact::{Written, cut_written, is_refuted, lows_of, written_by};
 use crate::saying::are_said;
-use crate::standing::standing;
+use crate::standing::{is_barred, standing};
 use cpa_expr::CmpOp;
 use cpa_interval_acts::{bounds_follow_acts, cut_cell, do_act};
 use cpa_interval_bounds::Bounds;
@@ -109,6 +109,9 @@ pub(crate) fn are_found_behind(
     wrap_keeps_the_range();
     let cells = cfa.cells.as_slice();
     let facts = elem.facts.as_slice();
+    if is_barred(elem, act) {
+        return Ok(true);
+    }
     if !know(all, facts, act) {
         return Ok(true);
     }
@@ -119,7 +122,8 @@ pub(crate) fn are_found_behind(
     let written = written_by(act, all, &lows);
     if step(cells, act, written, all) {
         let left = standing(alloc, elem, act)?;
-        Ok(are_said(all, &left, entries, numbers))
+        let after = lows_of(alloc, all)?;
+        Ok(are_said(all, &after, &left, entries, numbers))
     } else {
         Ok(true)
     }

@@ -59,7 +59,7 @@ fn is_fixed(e: &Expr, all: &[Bounds], cell: u32) -> bool
 }
 
 /// Whether each cell that the expression may read has one number.
-fn are_fixed(e: &Expr, all: &[Bounds]) -> bool
+pub(crate) fn are_fixed(e: &Expr, all: &[Bounds]) -> bool
     ensures { IsTrue result → AreFixedBelow e.now all.now (length all.now) }
 {
     if all.len() > u32::MAX as usize {

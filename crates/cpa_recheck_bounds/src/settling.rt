@@ -8,6 +8,7 @@ ghost use Rattle.cpa_recheck_obligations.specs.Laws.{AreShapedFor};
 ghost use Rattle.cpa_recheck_obligations.specs.Obligations.{IsObligationOf};
 
 use crate::behind::{are_found_behind, bounds_at_start};
+use crate::exact::lows_of;
 use crate::saying::are_said;
 use cpa_interval_acts::ranges_of;
 use cpa_model::{Cfa, Elem, Seq, edges_are_sound};
@@ -25,7 +26,8 @@ fn begins(alloc: Global, cfa: &Cfa, entries: &[Elem], numbers: &[u32]) -> Result
     let nothing = Elem {
         facts: Seq::new(alloc),
     };
-    Ok(are_said(&all, &nothing, entries, numbers))
+    let lows = lows_of(alloc, &all)?;
+    Ok(are_said(&all, &lows, &nothing, entries, numbers))
 }
 
 /// Whether an entry of these numbers is said behind the edge.

@@ -1,11 +1,12 @@
-//! The facts of an element that an act leaves true, by `specs/Standing.antt`. Proved with
-//! `proofs/Stood.antt`.
+//! The facts of an element that an act leaves true, with the one that it tests, by
+//! `specs/Standing.antt`. Proved with `proofs/Stood.antt`.
 
-ghost use Rattle.std.specs.Prelude.{◌≡◌, ◌≤◌, ◌<◌, ◌+◌, ℕ, false, IfOk, IsTrue};
+ghost use Rattle.std.specs.Prelude.{◌≡◌, ◌∷◌, [], ◌≤◌, ◌<◌, ◌+◌, ℕ, false, IfOk, IsTrue};
 ghost use Rattle.cpa_expr.specs.Cells.{may_read};
-ghost use Rattle.cpa_recheck_bounds.specs.Standing.{AreLeft, Spares, Stands};
+ghost use Rattle.cpa_recheck_bounds.specs.Standing.{AreLeft, AreTested, IsBarred, Spares, Stands};
 
-use cpa_expr::{Expr, may_read, value_depends_on_what_is_read};
+use crate::saying::says_truth;
+use cpa_expr::{Expr, copy, may_read, value_depends_on_what_is_read};
 use cpa_model::{Act, Elem, Fact, Seq, copy_fact};
 use std::alloc::{AllocError, Global};
 
@@ -55,15 +56,51 @@ fn stands(act: &Act, fact: &Fact) -> bool
     }
 }
 
-/// The facts of the element on the truth of expressions that the act leaves as they are.
+/// This truth of the expression, as the one fact.
+fn truth_alone(alloc: Global, e: &Expr, holds: bool) -> Result<Seq<Fact>, AllocError>
+    ensures { IfOk result (λ facts. facts ≡ Fact.Truth e.now holds ∷ []) }
+{
+    let mut facts = Seq::new(alloc);
+    facts.push(Fact::Truth {
+        expr: copy(alloc, e)?,
+        holds,
+    })?;
+    Ok(facts)
+}
+
+/// The truth that the act tests, if it is a test.
+fn tested(alloc: Global, act: &Act) -> Result<Seq<Fact>, AllocError>
+    ensures { IfOk result (AreTested act.now) }
+{
+    match act {
+        Act::Assume { test, holds } => {
+            let facts = truth_alone(alloc, test, *holds)?;
+            Ok(facts)
+        }
+        _ => Ok(Seq::new(alloc)),
+    }
+}
+
+/// The truth that the act tests, and the facts of the element on the truth of expressions that the
+/// act leaves as they are.
 pub(crate) fn standing(alloc: Global, elem: &Elem, act: &Act) -> Result<Elem, AllocError>
     ensures { IfOk result (AreLeft act.now elem.now) }
 {
-    let mut facts = Seq::new(alloc);
+    let mut facts = tested(alloc, act)?;
     for fact in &elem.facts {
         if stands(act, fact) {
             facts.push(copy_fact(alloc, fact)?)?;
         }
     }
     Ok(Elem { facts })
+}
+
+/// Whether the element says that the test of the act does not come out so: then it leads nowhere.
+pub(crate) fn is_barred(elem: &Elem, act: &Act) -> bool
+    ensures { IsTrue result → IsBarred act.now elem.now }
+{
+    match act {
+        Act::Assume { test, holds } => says_truth(elem, test, !*holds),
+        _ => false,
+    }
 }

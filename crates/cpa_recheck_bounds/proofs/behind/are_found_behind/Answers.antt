@@ -6,6 +6,10 @@ use Rattle.cpa_recheck_bounds.specs.Cutting.{stepped, tested}
 use Rattle.cpa_recheck_bounds.proofs.Followed.{found, none_known, refuted}
 use Rattle.cpa_recheck_bounds.proofs.behind.are_found_behind.Goals as goal
 
+pub returns-then-is_barred : goal.returns-then-is_barred
+returns-then-is_barred c = λ is old new values holds steps fail.
+    c.is_barred.ensures c.if-is_barred.true c.args.cfa.now.cells old new holds steps
+
 pub returns-then-not-know : goal.returns-then-not-know
 returns-then-not-know c = λ is.
     let cfa = c.args.cfa.now in
@@ -49,7 +53,7 @@ returns-then-step c = λ is.
     (c.step.ensures
     ∙ ap (λ (cells : List Cell). stepped cells act c.written_by-written.result c.know.new.all)
     c.as_slice-cells.ensures)
-    (λ done. (c.in_ok-left.ensures, c.are_said.ensures is))
+    (λ done. (c.in_ok-left.ensures, c.are_said.ensures is c.in_ok-after.ensures))
 
 pub returns : goal.returns
 returns c = λ is.
