@@ -1,31 +1,23 @@
-//! The program of core statements that a typed text is (`IsCore` of `c_core_rules`,
-//! `specs/Programs.antt`): its trees, numbered. Proved by the checker alone.
+//! The program of core statements that a typed text is (`IsCore` of `c_core_checked`,
+//! `specs/Texts.antt`): its trees, numbered. Proved by the checker alone.
 ghost use Rattle.std.specs.Prelude.{IfOk};
-ghost use Rattle.c_core_rules.specs.Programs.{IsCore};
+ghost use Rattle.c_core_checked.specs.Texts.{IsCore};
 
-use c_core_trees::text_trees;
-use c_types_rules::TypedUnit;
+use c_core_checked::TypedText;
 use cpa_model::Program;
 use cpa_model_trees::numbered_bodies;
 use std::alloc::{AllocError, Global};
 
-/// The program that a typed text is. More than 2^32 cells or statements are want of memory.
-#[tactic(auto, unfolding(c_core_rules::specs::Programs::text_core))]
-pub fn core(alloc: Global, unit: TypedUnit) -> Result<Program, AllocError>
-    ensures built { IfOk result (λ program. IsCore unit program) }
+/// The program that a typed text is. More than 2^32 statements are want of memory.
+pub fn core(alloc: Global, typed: TypedText) -> Result<Program, AllocError>
+    ensures built { IfOk result (λ program. IsCore typed program) }
 {
-    let text = text_trees(
-        alloc,
-        unit.globals.as_slice(),
-        unit.functions.as_slice(),
-        unit.first_cells.as_slice(),
-    )?;
-    let numbered = numbered_bodies(alloc, text.trees)?;
+    let numbered = numbered_bodies(alloc, typed.trees.into_vec())?;
     Ok(Program {
-        cells: text.cells,
+        cells: typed.cells,
         bodies: numbered.bodies,
-        main: unit.main,
+        main: typed.main,
         stmts: numbered.stmts,
-        text_len: unit.length,
+        text_len: typed.text_len,
     })
 }

@@ -14,25 +14,26 @@ use Rattle.c_types_rules.specs.declared.meaning.Kind.TheVariants.{Void, Value}
 use Rattle.c_types_rules.specs.declared.meaning.Object.{Object}
 use Rattle.c_types_rules.specs.declared.typed.Global.{Global}
 use Rattle.c_types_rules.specs.declared.typed.TypedFunction.{TypedFunction}
-use Rattle.c_types_rules.specs.Names.{Text}
 use Rattle.c_types_rules.specs.Types.{object_type}
 use Rattle.c_types_rules.specs.Counts.{cells_of}
-use Rattle.c_types_rules.specs.Sound.{typed_parts}
 use Rattle.c_core_rules.specs.declared.tree.Location.{Location}
 use Rattle.c_core_rules.specs.Values.{cell_at}
-use Rattle.c_core_rules.specs.Cells.{Taken, taking, each, in_order, nothing_taken}
+use Rattle.c_core_rules.specs.Cells.{Taken, taking, cells_with, each, in_order, nothing_taken}
 use Rattle.c_core_rules.specs.Expressions.{Frame, Frames, frame_of, frame_at, cells_from}
 use Rattle.c_core_rules.specs.Expressions.{behind_result}
 use Rattle.c_core_rules.specs.Statements.{function_rule, resulting, receiving, item_rule}
 use Rattle.c_core_rules.specs.Statements.{receiving_globals}
-use Rattle.c_core_rules.specs.Programs.{frames_of, text_core}
-use Rattle.c_core_laws.specs.Starts.{begins, AreScalars, FrameStands}
-use Rattle.c_core_laws.proofs.Following.{Extends, extended, zero_cell, types}
-use Rattle.c_core_laws.proofs.Rules.{ordered}
+use Rattle.c_core_rules.specs.Programs.{frames_of}
+use Rattle.c_core_rules_laws.specs.Layouts.{begins, file_cells, AreFirst}
+use Rattle.c_core_checked.specs.Layouts.{text_from}
+use Rattle.c_core_laws.specs.Starts.{AreScalars, FrameStands}
+use Rattle.c_core_laws.specs.lemmas.ObjectCells.{object_types}
+use Rattle.c_core_laws.proofs.Extending.{Extends, extended, zero_cell}
+use Rattle.c_core_laws.proofs.JumpsKept.{ordered_has, items_keep, receiving_makes, functions_make}
 use Rattle.cpa_model_trees.specs.lemmas.Numbered.{get_left, get_right}
-use Rattle.c_core_laws.proofs.StatementsCounted.{taking_types, receiving_follows}
-use Rattle.c_core_laws.proofs.TextCounted.{each_item, functions_follow}
-use Rattle.c_core_laws.proofs.LaidOut.{open_text, laid_out}
+
+abbrev types : Taken → List IntType
+types taken = types_of taken.cells
 
 -- more cells have the types of those that are there
 
@@ -60,6 +61,14 @@ types_length taken = length-map taken.cells (λ (cell : Cell). cell.ty)
 one_cell : (object : Object) → object.length ≡ None → cells_of object ≡ 1
 one_cell object is =
     ap (λ (o : Option ℤ). elim o [ None ↦ 1 | Some n ↦ unsigned_abs n ]) is
+
+taking_types : (object : Object) (values : List ℤ) (taken : Taken) →
+    types (taking object values taken).taken
+    ≡ types taken ++ replicate (cells_of object) object.ty
+taking_types object values taken =
+    map-append (λ (cell : Cell). cell.ty) taken.cells
+    (cells_with object.ty (cells_of object) values)
+    ∙ ap (λ ts. types taken ++ ts) (object_types object values)
 
 receiving_types : (objects : List Object) → AreScalars objects → (taken : Taken) →
     types (receiving objects taken).taken ≡ types taken ++ map (λ (o : Object). o.ty) objects
@@ -119,7 +128,7 @@ front_stands (Value u) objects function is are taken all e =
           let same : u ≡ t = same_value u t (sym is ∙ so) in
           get_extended m.cells all (length taken.cells) t
           (extended m.cells (receiving objects m).taken.cells all
-          ((receiving_follows objects).extends m) e)
+          ((receiving_makes objects).extends m) e)
           (ap (λ (ts : List IntType). slice_get ts (length taken.cells)) pushed
           ∙ get_last (types taken) (length taken.cells) u [] (sym (types_length taken))
           ∙ ap (λ w. Some w) same);
@@ -148,7 +157,7 @@ function_stands frames function taken all e =
     let items = in_order (map (item_rule frames place) function.items) in
     let behind : Extends r.taken.cells all =
     extended r.taken.cells (items r.taken).taken.cells all
-    ((ordered (each_item frames place function.items)).extends r.taken) e in
+    ((ordered_has (items_keep frames place function.items)).extends r.taken) e in
     front_stands function.result function.parameters function refl refl taken all behind
 
 stands_at : (frames : Frames) (functions : List TypedFunction) (taken : Taken) (k b : ℕ)
@@ -163,7 +172,7 @@ stands_at frames (f ∷ functions) taken zero b function is at =
     subst (λ (g : TypedFunction). FrameStands (types_of all) (frame_of b g) g)
     (same_Some f function is)
     (subst (λ n. FrameStands (types_of all) (frame_of n f) f) (same_Some (length taken.cells) b at)
-    (function_stands frames f taken all ((functions_follow frames functions).extends next)))
+    (function_stands frames f taken all ((functions_make frames functions).extends next)))
 stands_at frames (f ∷ functions) taken (suc k) b function is at =
     stands_at frames functions (function_rule frames f taken).taken k b function is at
 
@@ -186,23 +195,18 @@ frame_is (n ∷ firsts) (f ∷ functions) zero b function is at =
 frame_is (n ∷ firsts) (f ∷ functions) (suc k) b function is at =
     frame_is firsts functions k b function is at
 
-pub frame_stands : (text : Text) (bytes : ℕ) (globals : List Global)
-    (functions : List TypedFunction) (k : ℕ) (function : TypedFunction) →
+pub frame_stands : (globals : List Global) (functions : List TypedFunction) (firsts : List ℕ) →
+    AreFirst globals functions firsts → (k : ℕ) (function : TypedFunction) →
     slice_get functions k ≡ Some function →
-    FrameStands (types_of (text_core (typed_parts text bytes globals functions)).taken.cells)
-    (frame_at (frames_of (typed_parts text bytes globals functions).first_cells functions) k)
-    function
-frame_stands text bytes globals functions k function is =
-    let unit = typed_parts text bytes globals functions in
-    let frames = frames_of unit.first_cells functions in
-    let front = (receiving_globals globals nothing_taken).taken in
+    FrameStands (types_of (text_from firsts globals functions).taken.cells)
+    (frame_at (frames_of firsts functions) k) function
+frame_stands globals functions firsts are k function is =
+    let frames = frames_of firsts functions in
+    let front = file_cells globals in
     let b = begins_some frames functions front k function is in
-    let first : slice_get unit.first_cells k ≡ Some b.0 =
-    ap (λ (ns : List ℕ). slice_get ns k) (laid_out text bytes globals functions).first_cells
-    ∙ b.1 in
-    subst (λ (t : Taken). FrameStands (types_of t.cells) (frame_at frames k) function)
-    (sym (open_text unit))
-    (subst (λ (frame : Frame). FrameStands (types_of (each (map (function_rule frames) functions)
+    let first : slice_get firsts k ≡ Some b.0 =
+    ap (λ (ns : List ℕ). slice_get ns k) are ∙ b.1 in
+    subst (λ (frame : Frame). FrameStands (types_of (each (map (function_rule frames) functions)
     front).taken.cells) frame function)
-    (sym (frame_is unit.first_cells functions k b.0 function is first))
-    (stands_at frames functions front k b.0 function is b.1))
+    (sym (frame_is firsts functions k b.0 function is first))
+    (stands_at frames functions front k b.0 function is b.1)

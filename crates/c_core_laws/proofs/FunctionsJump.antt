@@ -21,7 +21,8 @@ use Rattle.c_types_rules.specs.Items.{Before, text_of, listed, around_body, func
 use Rattle.c_types_rules.specs.Items.{body_sites}
 use Rattle.c_types_rules.specs.Items.{head_faults, item_behind, item_faults, items_faults}
 use Rattle.c_types_rules.specs.Items.{nothing_before}
-use Rattle.c_types_rules.specs.Sound.{Sound, typed_unit, functions_of, unit_functions}
+use Rattle.c_types_rules.specs.Sound.{functions_of, unit_functions}
+use Rattle.c_core_checked.specs.Sound.{Sound}
 use Rattle.c_core_laws.specs.Jumps.{Jumps, function_jumps}
 use Rattle.c_core_laws.specs.lemmas.Faults.{NoFaults, none_left, none_right, no_fault}
 use Rattle.c_core_laws.specs.lemmas.SameWalk.{same_walk}
@@ -119,11 +120,6 @@ functions_fit text (item.Function specifiers declarator (body.Block items place)
           (none_right (item_faults text one before) rest none),
     )
 
-pub typed_functions : (tree : UnitTree) → (typed_unit tree).functions ≡ unit_functions tree
-unfolding typed_unit
-typed_functions tree = refl
-
-pub unit_jumps_fit : (tree : UnitTree) → Sound tree → FunctionsFit (typed_unit tree).functions
+pub unit_jumps_fit : (tree : UnitTree) → Sound tree → FunctionsFit (unit_functions tree)
 unit_jumps_fit tree sound =
-    subst FunctionsFit (sym (typed_functions tree))
-    (functions_fit (text_of tree.items) tree.items nothing_before (no_fault tree sound))
+    functions_fit (text_of tree.items) tree.items nothing_before (no_fault tree sound)

@@ -4,6 +4,7 @@ use Rattle.std.proofs.Common.{◌≡◌, ℕ, zero, suc, ◌+◌, ◌-◌, List,
 use Rattle.std.proofs.Common.{None, Some, refl, sym, subst, pos, Bool, true, false, ap, ◌∙◌, arith}
 use Rattle.cpa_ints.specs.declared.integers.IntType.{IntType}
 use Rattle.cpa_expr.specs.declared.tree.Expr.TheVariants.{Const}
+use Rattle.c_grammar_tree.specs.declared.item.Unit.{Unit as UnitTree}
 use Rattle.c_types_rules.specs.declared.meaning.Kind.{Kind}
 use Rattle.c_types_rules.specs.declared.meaning.Kind.TheVariants.{Void, Value}
 use Rattle.c_types_rules.specs.declared.meaning.Object.{Object}
@@ -22,8 +23,7 @@ use Rattle.c_types_rules.specs.declared.typed.TypedItem.TheFolds.{fold-roll-Type
 use Rattle.c_types_rules.specs.declared.typed.TypedItem.TheFolds.{fold-roll-TypedStatement}
 use Rattle.c_types_rules.specs.declared.typed.TypedStatement.{TypedStatement, roll-TypedStatement}
 use Rattle.c_types_rules.specs.declared.typed.TypedFunction.{TypedFunction}
-use Rattle.c_types_rules.specs.declared.typed.TypedUnit.{TypedUnit}
-use Rattle.c_types_rules.specs.declared.typed.Global.{Global}
+use Rattle.c_types_rules.specs.Sound.{unit_globals, unit_functions}
 use Rattle.c_types_rules.specs.Types.{object_type}
 use Rattle.c_types_rules.specs.Counts.{cells_of}
 use Rattle.cpa_model_trees.specs.declared.tree.CoreTree.{CoreTree}
@@ -34,11 +34,13 @@ use Rattle.c_core_rules.specs.declared.tree.Location.{Location}
 use Rattle.c_core_rules.specs.Values.{cell_at}
 use Rattle.cpa_model_trees.specs.Numbering.{Trees}
 use Rattle.c_core_rules.specs.Trees.{leaf, block, choice, repeated, set}
-use Rattle.c_core_rules.specs.Cells.{nothing_taken}
 use Rattle.c_core_rules.specs.Cells as core
 use Rattle.c_core_rules.specs.Expressions as rows
 use Rattle.c_core_rules.specs.Statements as statement
-use Rattle.c_core_rules.specs.Programs.{text_core, frames_of}
+use Rattle.c_core_rules.specs.Programs.{frames_of}
+use Rattle.c_core_rules_laws.specs.Layouts.{file_cells}
+use Rattle.c_core_checked.specs.declared.text.TypedText.{TypedText}
+use Rattle.c_core_checked.specs.Texts.{IsTypedText}
 use Rattle.std.proofs.lemmas.List.{append-nil}
 use Rattle.c_core_laws.specs.Jumps.{Jumps, no_jumps, then_jumps, all_jumps, labelled, in_loop, goto}
 use Rattle.c_core_laws.specs.Jumps.{leaving, statement_jumps, item_layer_jumps, item_jumps}
@@ -49,8 +51,7 @@ use Rattle.c_core_laws.proofs.Shapes.{none_makes, more_make}
 use Rattle.c_core_laws.proofs.ShapedRows.{AllShaped, set_shaped, leaf_shaped, append_shaped}
 use Rattle.c_core_laws.proofs.ShapedRows.{push_shaped, makes_ordered}
 use Rattle.c_core_laws.proofs.ShapedExpressions.{expression_makes}
-use Rattle.c_core_laws.proofs.ItemsCounted.{for_tree}
-use Rattle.c_core_laws.proofs.TextCounted.{function_from}
+use Rattle.c_core_laws.proofs.Extending.{object_extends}
 use Rattle.c_core_laws.proofs.Jumping.{Has, TreeHas, has_none, has_plain, has_append, has_one}
 use Rattle.c_core_laws.proofs.Jumping.{plain_then, leaf_has, block_has, choice_has, loop_has}
 use Rattle.c_core_laws.proofs.Jumping.{node_has, jumps_is, AllAny}
@@ -59,12 +60,24 @@ use Rattle.c_core_laws.proofs.Jumping.{node_has, jumps_is, AllAny}
 abbrev pub Any : {S : Type 0} → S → Type 0
 Any x = Unit {0}
 
-pub any_makes : {S : Type 0} (rule : core.Rule S) → Makes Any rule
-any_makes rule = record { at = λ taken. tt }
+taking_makes : (object : Object) → Makes Any (core.taking object [])
+taking_makes object = record {
+  at = λ taken. tt;
+  extends = λ taken. object_extends taken.cells object.ty (cells_of object);
+}
+
+pub receiving_makes : (objects : List Object) → Makes Any (statement.receiving objects)
+receiving_makes [] = makes Any tt tt
+receiving_makes (object ∷ objects) =
+    makes_then (λ first. statement.receiving objects) (taking_makes object)
+    (λ first is. receiving_makes objects)
 
 pub makes_weaker : {S : Type 0} {P Q : S → Type 0} {rule : core.Rule S} → ((x : S) → P x → Q x) →
     Makes P rule → Makes Q rule
-makes_weaker {rule = rule} f h = record { at = λ taken. f (rule taken).made (h.at taken) }
+makes_weaker {rule = rule} f h = record {
+  at = λ taken. f (rule taken).made (h.at taken);
+  extends = h.extends;
+}
 
 quietly : {rule : core.Rule Trees} → Makes AllShaped rule → Makes (Has no_jumps) rule
 quietly h = makes_weaker has_plain h
@@ -141,7 +154,7 @@ pub data EachHas : List (core.Rule Trees) → List Jumps → Type 0 where
       {all : List Jumps} → Makes (Has a) rule → EachHas rules all
       → EachHas (rule ∷ rules) (a ∷ all)
 
-ordered_has : {rules : List (core.Rule Trees)} {all : List Jumps} → EachHas rules all →
+pub ordered_has : {rules : List (core.Rule Trees)} {all : List Jumps} → EachHas rules all →
     Makes (Has (all_jumps all)) (core.in_order rules)
 ordered_has none_has = makes (Has no_jumps) [] has_none
 ordered_has (more_has {rule = rule} {a = a} {rules = rules} {all = all} h more) =
@@ -199,7 +212,7 @@ module _ (frames : rows.Frames) where
       Makes AllShaped (statement.declared frames declarator)
   declared_makes declarator =
       makes_then (statement.initializing frames declarator.object declarator.initializer)
-      (any_makes (core.taking declarator.object []))
+      (taking_makes declarator.object)
       (λ first is. initializing_makes declarator.object declarator.initializer first)
 
   pub each_declared : (declarators : List TypedDeclarator) →
@@ -266,6 +279,11 @@ do_makes p {b = b} body test =
     (λ inside is. makes_then (λ behind. core.gives (repeated inside behind ∷ [])) test
     (λ behind so. makes (Has (in_loop p)) (repeated inside behind ∷ [])
     (behind_has p inside behind is so)))
+
+-- a for, by its parts
+abbrev pub for_tree : Trees → Trees → Trees → Trees → CoreTree
+for_tree before front inside behind =
+    block (before ++ repeated (front ++ inside) behind ∷ [])
 
 for_makes : (a : Jumps) {p q r s : core.Rule Trees} → Makes AllShaped p → Makes Loose q →
     Makes (Has a) r → Makes AllShaped s →
@@ -408,6 +426,15 @@ module _ (frames : rows.Frames) (place : Location) where
   items_keep [] = none_has
   items_keep (item ∷ items) = more_has (item_keeps item) (items_keep items)
 
+-- a function whose cells begin at a number
+abbrev pub function_from : rows.Frames → TypedFunction → ℕ → core.Rule CoreTree
+function_from frames function first =
+    core.then_by (statement.resulting function.result) (λ before.
+    core.then_by (statement.receiving function.parameters) (λ u.
+    core.then_by (core.in_order (map (statement.item_rule frames
+    (cell_at (object_type function.result) first)) function.items)) (λ inside.
+    core.gives (block (before ++ inside)))))
+
 from_makes : (frames : rows.Frames) (function : TypedFunction) (first : ℕ) →
     Makes (TreeHas (function_jumps function)) (function_from frames function first)
 from_makes frames function first =
@@ -419,7 +446,7 @@ from_makes frames function first =
     (resulting_makes function.result)
     (λ before is. makes_then (λ u. core.then_by items
     (λ inside. core.gives (block (before ++ inside))))
-    (any_makes (statement.receiving function.parameters))
+    (receiving_makes function.parameters)
     (λ u any. makes_then (λ inside. core.gives (block (before ++ inside)))
     (ordered_has (items_keep frames place function.items))
     (λ inside so. makes (TreeHas all) (block (before ++ inside))
@@ -436,7 +463,7 @@ pub record Keep (functions : List TypedFunction) (trees : Trees) : Type 0 where
   pub shaped : AllAny trees
   pub are : map tree_jumps trees ≡ map function_jumps functions
 
-functions_make : (frames : rows.Frames) (functions : List TypedFunction) →
+pub functions_make : (frames : rows.Frames) (functions : List TypedFunction) →
     Makes (Keep functions) (core.each (map (statement.function_rule frames) functions))
 functions_make frames [] = makes (Keep []) [] (record { shaped = tt; are = refl })
 functions_make frames (function ∷ functions) =
@@ -449,16 +476,11 @@ functions_make frames (function ∷ functions) =
           ∙ ap (λ (all : List Jumps). function_jumps function ∷ all) are.are;
     })))
 
-pub text_makes : (frames : rows.Frames) (globals : List Global) (functions : List TypedFunction) →
-    Makes (Keep functions) (statement.text_rule frames globals functions)
-text_makes frames globals functions =
-    makes_then (λ u. core.each (map (statement.function_rule frames) functions))
-    (any_makes (statement.receiving_globals globals))
-    (λ u is. functions_make frames functions)
-
 -- the trees of a typed text
-pub text_keeps : (unit : TypedUnit) → Keep unit.functions (text_core unit).made
-unfolding text_core
-text_keeps unit =
-    (text_makes (frames_of unit.first_cells unit.functions) unit.globals unit.functions).at
-    nothing_taken
+pub text_keeps : (tree : UnitTree) (typed : TypedText) → IsTypedText tree typed →
+    Keep (unit_functions tree) typed.trees
+text_keeps tree typed of =
+    let functions = unit_functions tree in
+    subst (Keep functions) (sym of.trees)
+    ((functions_make (frames_of of.first_cells functions) functions).at (file_cells
+    (unit_globals tree)))

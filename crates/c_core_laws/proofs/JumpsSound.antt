@@ -6,17 +6,18 @@ use Rattle.std.specs.List.{AllByRecursion}
 use Rattle.std.proofs.lemmas.Option.{same_Some, slice_get-get_or}
 use Rattle.cpa_model.specs.declared.program.Stmt.{Stmt}
 use Rattle.cpa_model.specs.declared.program.Program.{Program}
-use Rattle.cpa_model.specs.Programs.{IsStmt, IsBody, InFunction, function_body, function_part}
+use Rattle.cpa_model.specs.Programs.{IsStmt, IsBody, InFunction, IsNumbered, function_body}
+use Rattle.cpa_model.specs.Programs.{function_part}
 use Rattle.cpa_model.specs.lemmas.Trees.{one_function, in_function_inside}
 use Rattle.c_grammar_tree.specs.declared.item.Unit.{Unit as UnitTree}
-use Rattle.c_types_rules.specs.declared.typed.TypedUnit.{TypedUnit}
-use Rattle.c_types_rules.specs.Sound.{Sound, typed_unit}
 use Rattle.cpa_model_trees.specs.declared.tree.CoreTree.{CoreTree}
 use Rattle.cpa_model_trees.specs.declared.tree.Head.{Head}
 use Rattle.cpa_model_trees.specs.declared.tree.Head.TheVariants as head
 use Rattle.cpa_model_trees.specs.Numbering.{Placed, statements, stmt_of, part, labels_from}
-use Rattle.cpa_model_trees.specs.Numbering.{numbers_from}
-use Rattle.c_core_rules.specs.Programs.{IsCore, text_core}
+use Rattle.cpa_model_trees.specs.Numbering.{numbers_from, Trees, AreTreesOf}
+use Rattle.c_core_checked.specs.declared.text.TypedText.{TypedText}
+use Rattle.c_core_checked.specs.Texts.{IsTypedText, IsCore}
+use Rattle.c_core_checked.specs.Sound.{Sound}
 use Rattle.c_core_laws.specs.Jumps.{tree_jumps, JumpIsSound}
 use Rattle.c_core_laws.specs.Standing.{IsOfTree}
 use Rattle.cpa_model_trees.specs.Shapes.{Shaped, Anything}
@@ -37,10 +38,10 @@ all_of Q f (y ∷ xs) zero x all at = subst (λ z. Q (f z)) (same_Some y x at) a
 all_of Q f (y ∷ xs) (suc k) x all at = all_of Q f xs k x all.1 at
 
 -- a statement with the tree of its function
-record StandsIn (unit : TypedUnit) (P : Program) (n : ℕ) (s : Stmt) : Type 0 where
+record StandsIn (trees : Trees) (P : Program) (n : ℕ) (s : Stmt) : Type 0 where
   function : ℕ
   tree : CoreTree
-  is_tree : slice_get (text_core unit).made function ≡ Some tree
+  is_tree : slice_get trees function ≡ Some tree
   first : ℕ
   body : IsBody P function first
   placed_at : PlacedAt P (labels_from first (statements tree)) first (statements tree)
@@ -51,14 +52,14 @@ record StandsIn (unit : TypedUnit) (P : Program) (n : ℕ) (s : Stmt) : Type 0 w
   at : slice_get (statements tree) index ≡ Some placed
   is : s ≡ tree_stmt tree first index placed
 
-stands_in : (unit : TypedUnit) (P : Program) → IsCore unit P → (n : ℕ) (s : Stmt) →
-    IsStmt P n s → StandsIn unit P n s
-stands_in unit P is n s at =
-    let trees = (text_core unit).made in
-    let r : InTree 0 trees n s = in_tree unit P is n s at in
-    let t : TreeStands P r.function r.tree = tree_stands unit P is r.function r.tree r.is_tree in
+stands_in : (trees : Trees) (P : Program) → AreTreesOf P trees →
+    AllByRecursion (Shaped Anything) trees → (n : ℕ) (s : Stmt) → IsStmt P n s →
+    StandsIn trees P n s
+stands_in trees P are shaped n s at =
+    let r : InTree 0 trees n s = in_tree trees P are n s at in
+    let t : TreeStands P r.function r.tree = tree_stands trees P are r.function r.tree r.is_tree in
     let bodies : P.bodies ≡ numbers_from 0 (map length (map statements trees)) =
-    is.trees.bodies ∙ ap (numbers_from 0) (sym (lengths_are trees)) in
+    are.bodies ∙ ap (numbers_from 0) (sym (lengths_are trees)) in
     let same : t.first ≡ r.first =
     same_Some t.first r.first
     (sym t.body ∙ ap (λ (all : List ℕ). slice_get all r.function) bodies ∙ r.body) in
@@ -71,8 +72,7 @@ stands_in unit P is n s at =
       placed_at =
           subst (λ m. PlacedAt P (labels_from m (statements r.tree)) m (statements r.tree)) same
           t.placed;
-      fits = (all_at (Shaped Anything) trees r.function r.tree (text_keeps unit).shaped
-          r.is_tree).all;
+      fits = (all_at (Shaped Anything) trees r.function r.tree shaped r.is_tree).all;
       index = r.index;
       here = sym (none_first n) ∙ r.here;
       placed = r.placed;
@@ -81,24 +81,26 @@ stands_in unit P is n s at =
     }
 
 -- what stands in the tree of a function stands in the function
-in_function : (unit : TypedUnit) (P : Program) (n : ℕ) (s : Stmt) (r : StandsIn unit P n s)
+in_function : (trees : Trees) (P : Program) (n : ℕ) (s : Stmt) (r : StandsIn trees P n s)
     (i : ℕ) (p : Placed) → slice_get (statements r.tree) i ≡ Some p →
     InFunction P r.function (r.first + i)
-in_function unit P n s r i p at =
+in_function trees P n s r i p at =
     (spreads P (labels_from r.first (statements r.tree)) (InFunction P r.function)
     (λ b c part up. function_part b part up) r.tree).at r.first r.placed_at r.fits
     (function_body r.body) i p at
 
-pub of_tree : (unit : TypedUnit) (P : Program) → IsCore unit P → (n : ℕ) (s : Stmt) →
-    IsStmt P n s → IsOfTree unit P n s
-of_tree unit P is n s at =
-    let r : StandsIn unit P n s = stands_in unit P is n s at in
+pub of_tree : (tree : UnitTree) (typed : TypedText) (P : Program) → IsTypedText tree typed →
+    IsCore typed P → (n : ℕ) (s : Stmt) → IsStmt P n s → IsOfTree typed.trees P n s
+of_tree tree typed P of is n s at =
+    let trees = typed.trees in
+    let r : StandsIn trees P n s =
+    stands_in trees P is.trees (text_keeps tree typed of).shaped n s at in
     record {
       function = r.function;
       tree = r.tree;
       is_tree = r.is_tree;
       inside =
-          subst (InFunction P r.function) (sym r.here) (in_function unit P n s r r.index r.placed
+          subst (InFunction P r.function) (sym r.here) (in_function trees P n s r r.index r.placed
           r.at);
       index = r.index;
       placed = r.placed;
@@ -130,35 +132,35 @@ by_head P labels n head.Leave parts loop below leads = tt
 by_head P labels n head.Stop parts loop below leads = tt
 by_head P labels n head.Error parts loop below leads = tt
 
-goto_leads : (unit : TypedUnit) (P : Program) → IsCore unit P → (n : ℕ) (s : Stmt)
-    (r : StandsIn unit P n s) → Leads P (labels_from r.first (statements r.tree)) n
-goto_leads unit P is n s r label below f inside =
+goto_leads : (trees : Trees) (P : Program) → IsNumbered P → (n : ℕ) (s : Stmt)
+    (r : StandsIn trees P n s) → Leads P (labels_from r.first (statements r.tree)) n
+goto_leads trees P N n s r label below f inside =
     let labels = labels_from r.first (statements r.tree) in
-    let N = core_numbered unit P is in
     let m = get_or labels label 0 in
     let found : slice_get labels label ≡ Some m = slice_get-get_or labels label 0 below in
     let goes : part labels label ≡ m = ap (λ o. unwrap_or o 0) found in
     let l = label_at r.first (statements r.tree) label m found in
     let there : InFunction P r.function m =
-    subst (InFunction P r.function) (sym l.2) (in_function unit P n s r l.0 l.1 l.3) in
+    subst (InFunction P r.function) (sym l.2) (in_function trees P n s r l.0 l.1 l.3) in
     let own : InFunction P r.function n =
-    subst (InFunction P r.function) (sym r.here) (in_function unit P n s r r.index r.placed r.at) in
+    subst (InFunction P r.function) (sym r.here) (in_function trees P n s r r.index r.placed r.at) in
     let same : r.function ≡ f = one_function P N r.function f n own inside in
     let to_there : InFunction P f (part labels label) =
     subst (λ g. InFunction P g (part labels label)) same
     (subst (InFunction P r.function) (sym goes) there) in
     (in_function_inside P N f (part labels label) to_there, to_there)
 
-pub jump_sound : (tree : UnitTree) (P : Program) → Sound tree → IsCore (typed_unit tree) P →
-    (n : ℕ) (s : Stmt) → IsStmt P n s → JumpIsSound P n s
-jump_sound tree P sound is n s at =
-    let unit = typed_unit tree in
-    let trees = (text_core unit).made in
-    let r : StandsIn unit P n s = stands_in unit P is n s at in
+pub jump_sound : (tree : UnitTree) (typed : TypedText) (P : Program) → Sound tree →
+    IsTypedText tree typed → IsCore typed P → (n : ℕ) (s : Stmt) → IsStmt P n s →
+    JumpIsSound P n s
+jump_sound tree typed P sound of is n s at =
+    let trees = typed.trees in
+    let kept = text_keeps tree typed of in
+    let r : StandsIn trees P n s = stands_in trees P is.trees kept.shaped n s at in
     let labels = labels_from r.first (statements r.tree) in
     let fit : JumpsFit (tree_jumps r.tree) =
     all_of JumpsFit tree_jumps trees r.function r.tree
-    (subst (AllByRecursion JumpsFit) (sym (text_keeps unit).are) (unit_jumps_fit tree sound))
+    (subst (AllByRecursion JumpsFit) (sym kept.are) (unit_jumps_fit tree sound))
     r.is_tree in
     let many : length labels ≡ (tree_jumps r.tree).labels = (marked r.tree).at r.first r.fits in
     let below : GotoBelow (length labels) r.placed.head =
@@ -169,4 +171,4 @@ jump_sound tree P sound is n s at =
     (by_head P labels n r.placed.head (numbers_from ((r.first + r.index) + 1) r.placed.sizes)
     (λ so. subst (IsInLoop P) (sym r.here)
     ((loops_in P labels r.tree).at r.first r.placed_at r.fits (inl fit.0) r.index r.placed r.at so))
-    below (goto_leads unit P is n s r))
+    below (goto_leads trees P (core_numbered tree typed P of is) n s r))

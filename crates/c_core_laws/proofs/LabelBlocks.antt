@@ -38,13 +38,12 @@ use Rattle.c_core_laws.specs.lemmas.CoreItems.{open_core_item, open_core_stateme
 use Rattle.cpa_model_trees.specs.lemmas.Nodes.{node_placed, joined_fit}
 use Rattle.c_core_laws.proofs.Shapes.{Makes, makes, makes_then}
 use Rattle.c_core_laws.proofs.ShapedExpressions.{expression_makes}
-use Rattle.c_core_laws.proofs.ItemsCounted.{for_tree}
-use Rattle.c_core_laws.proofs.TextCounted.{function_from}
 use Rattle.c_core_laws.proofs.Jumping.{Has, has_plain, trees_jumps}
 use Rattle.cpa_model_trees.specs.Shapes.{Anything}
-use Rattle.c_core_laws.proofs.JumpsKept.{Loose, any_makes, makes_weaker, unused_makes, left_makes}
+use Rattle.c_core_laws.proofs.JumpsKept.{Loose, makes_weaker, unused_makes, left_makes}
+use Rattle.c_core_laws.proofs.JumpsKept.{receiving_makes}
 use Rattle.c_core_laws.proofs.JumpsKept.{started_makes, returned_makes, each_declared}
-use Rattle.c_core_laws.proofs.JumpsKept.{resulting_makes}
+use Rattle.c_core_laws.proofs.JumpsKept.{resulting_makes, for_tree, function_from}
 use Rattle.c_core_laws.proofs.ShapedRows.{AllShaped, makes_ordered}
 use Rattle.cpa_model_trees.specs.lemmas.Numbered.{get_right}
 use Rattle.c_core_laws.proofs.Gotos.{labels_append, forest_marked, each_marked}
@@ -579,6 +578,7 @@ module _ (frames : rows.Frames) (place : Location) where
             one_mark (record { number = label; body = body.0 } ∷ labels_in body.0)
             (Node head.Labeled (core_statement frames place body.0 taken).made)
             (label_marks label body.0 taken (labels_in body.0) (body.1.at taken));
+        extends = λ taken. body.1.extends taken;
       })
 
   item_layer : (y : TypedItem-F HeldItem HeldStatement) →
@@ -685,7 +685,7 @@ from_marks frames function first =
     (resulting_makes function.result)
     (λ before is. makes_then (λ u. core.then_by items
     (λ inside. core.gives (block (before ++ inside))))
-    (any_makes (statement.receiving function.parameters))
+    (receiving_makes function.parameters)
     (λ u any. makes_then (λ inside. core.gives (block (before ++ inside)))
     (items_mark frames place function.items (all_items frames place function.items))
     (λ inside so. makes (TreeMark frames place labels) (block (before ++ inside)) (record {

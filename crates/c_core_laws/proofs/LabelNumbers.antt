@@ -53,7 +53,8 @@ use Rattle.c_types_rules.specs.Items.{Before, text_of, listed, around_body, func
 use Rattle.c_types_rules.specs.Items.{body_sites}
 use Rattle.c_types_rules.specs.Items.{head_faults, item_behind, item_faults, items_faults}
 use Rattle.c_types_rules.specs.Items.{nothing_before}
-use Rattle.c_types_rules.specs.Sound.{Sound, typed_unit, functions_of}
+use Rattle.c_types_rules.specs.Sound.{functions_of, unit_functions}
+use Rattle.c_core_checked.specs.Sound.{Sound}
 use Rattle.c_core_laws.specs.Labels.{Label, Labelled, with_labels, function_labels, AreInOrder}
 use Rattle.c_core_laws.specs.Labels as labelling
 use Rattle.c_core_laws.specs.lemmas.Faults.{NoFaults, none_left, none_right, not_broken, no_fault}
@@ -62,7 +63,7 @@ use Rattle.c_core_laws.proofs.LabelBlocks.{labelled_in, open_item, open_statemen
 use Rattle.c_core_laws.proofs.JumpsTyped.{Keeps, keeps_start, labels_in, open_labels}
 use Rattle.c_core_laws.proofs.JumpsTyped.{open_labels_item, items_walk, items_typed, flat_items}
 use Rattle.c_core_laws.proofs.JumpsTyped.{item_jumped, statement_jumped}
-use Rattle.c_core_laws.proofs.FunctionsJump.{walks_same, keeps_receiving, typed_functions}
+use Rattle.c_core_laws.proofs.FunctionsJump.{walks_same, keeps_receiving}
 
 -- the names of the labels at these sites
 
@@ -627,7 +628,6 @@ functions_in_order text (item.Function specifiers declarator (made.Block items p
     )
 
 pub numbers_in_order : (tree : UnitTree) → Sound tree →
-    AllByRecursion AreInOrder (typed_unit tree).functions
+    AllByRecursion AreInOrder (unit_functions tree)
 numbers_in_order tree sound =
-    subst (AllByRecursion AreInOrder) (sym (typed_functions tree))
-    (functions_in_order (text_of tree.items) tree.items nothing_before (no_fault tree sound))
+    functions_in_order (text_of tree.items) tree.items nothing_before (no_fault tree sound)

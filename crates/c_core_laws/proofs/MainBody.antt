@@ -21,10 +21,12 @@ use Rattle.c_types_rules.specs.Items.{Before, text_of, body_name, item_behind, s
 use Rattle.c_types_rules.specs.Items.{items_faults}
 use Rattle.c_types_rules.specs.Items.{nothing_before}
 use Rattle.c_types_rules.specs.Recursion.{Among}
-use Rattle.c_types_rules.specs.Sound.{Sound, typed_unit, functions_of, main_name, is_main}
+use Rattle.c_types_rules.specs.Sound.{functions_of, main_name, is_main}
 use Rattle.c_types_rules.specs.Sound.{unit_faults}
 use Rattle.c_types_rules.specs.Sound.{has_no_parameters}
-use Rattle.c_core_rules.specs.Programs.{IsCore}
+use Rattle.c_core_checked.specs.declared.text.TypedText.{TypedText}
+use Rattle.c_core_checked.specs.Texts.{IsTypedText, IsCore}
+use Rattle.c_core_checked.specs.Sound.{Sound}
 use Rattle.c_core_laws.specs.lemmas.BodyCounts.{bodies_are}
 
 -- and a function for each body of the text
@@ -122,23 +124,14 @@ has_main tree sound =
     (items_faults (text_of tree.items) tree.items nothing_before)
     (λ other among. sound other (inl (inl among)))
 
-unit_main : (tree : UnitTree) (k : ℕ) → body_of (text_of tree.items) main_name ≡ Some k →
-    (typed_unit tree).main ≡ k
-unfolding typed_unit
-unit_main tree k is = ap (λ o. unwrap_or o 0) is
-
-unit_bodies : (tree : UnitTree) →
-    length (typed_unit tree).functions ≡ length (filter_map body_name tree.items)
-unfolding typed_unit
-unit_bodies tree = functions_many (text_of tree.items) tree.items nothing_before
-
-pub main_body : (tree : UnitTree) (P : Program) → Sound tree → IsCore (typed_unit tree) P →
-    P.main < length P.bodies
-main_body tree P sound is =
+pub main_body : (tree : UnitTree) (typed : TypedText) (P : Program) → Sound tree →
+    IsTypedText tree typed → IsCore typed P → P.main < length P.bodies
+main_body tree typed P sound of is =
     let names = filter_map body_name tree.items in
     let f : Found names (place_of (bytes_eq main_name) names) =
     found (bytes_eq main_name) names (main_named tree.items (has_main tree sound)) in
-    let here : P.main ≡ f.0 = is.main ∙ unit_main tree f.0 f.1 in
+    let here : P.main ≡ f.0 = is.main ∙ of.main ∙ ap (λ o. unwrap_or o 0) f.1 in
     let many : length P.bodies ≡ length names =
-    bodies_are (typed_unit tree) P is ∙ unit_bodies tree in
+    bodies_are tree typed P of is
+    ∙ functions_many (text_of tree.items) tree.items nothing_before in
     omega (arith, f.2)

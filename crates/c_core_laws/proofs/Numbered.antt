@@ -3,10 +3,12 @@
 use Rattle.cpa_model.specs.declared.program.Program.{Program}
 use Rattle.cpa_model.specs.Programs.{IsNumbered}
 use Rattle.cpa_model_trees.specs.lemmas.Numbered.{are_numbered}
-use Rattle.c_types_rules.specs.declared.typed.TypedUnit.{TypedUnit}
-use Rattle.c_core_rules.specs.Programs.{IsCore, text_core}
+use Rattle.c_grammar_tree.specs.declared.item.Unit.{Unit as UnitTree}
+use Rattle.c_core_checked.specs.declared.text.TypedText.{TypedText}
+use Rattle.c_core_checked.specs.Texts.{IsTypedText, IsCore}
 use Rattle.c_core_laws.proofs.JumpsKept.{text_keeps}
 
-pub core_numbered : (unit : TypedUnit) (P : Program) → IsCore unit P → IsNumbered P
-core_numbered unit P is =
-    are_numbered (text_core unit).made P (text_keeps unit).shaped is.trees
+pub core_numbered : (tree : UnitTree) (typed : TypedText) (P : Program) → IsTypedText tree typed →
+    IsCore typed P → IsNumbered P
+core_numbered tree typed P of is =
+    are_numbered typed.trees P (text_keeps tree typed of).shaped is.trees

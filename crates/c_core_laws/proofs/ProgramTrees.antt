@@ -9,14 +9,13 @@ use Rattle.cpa_model.specs.declared.program.Successor.{Successor}
 use Rattle.cpa_model.specs.declared.program.Program.{Program}
 use Rattle.cpa_model.specs.Programs.{IsStmt, IsBody, IsPart, after_part}
 use Rattle.cpa_model.specs.lemmas.Parts.{part_of_place}
-use Rattle.c_types_rules.specs.declared.typed.TypedUnit.{TypedUnit}
 use Rattle.cpa_model_trees.specs.declared.tree.CoreTree.{CoreTree, roll-CoreTree}
 use Rattle.cpa_model_trees.specs.declared.tree.CoreTree.TheOpen.{CoreTree-F}
 use Rattle.cpa_model_trees.specs.declared.tree.CoreTree.TheFolds.{map-CoreTree, ind-CoreTree}
 use Rattle.cpa_model_trees.specs.declared.tree.Head.{Head}
 use Rattle.cpa_model_trees.specs.Numbering.{Trees, Placed, joined, statements, numbers_from}
 use Rattle.cpa_model_trees.specs.Numbering.{stmt_of, labels_from, numbered, numbered_bodies}
-use Rattle.c_core_rules.specs.Programs.{IsCore, text_core}
+use Rattle.cpa_model_trees.specs.Numbering.{AreTreesOf}
 use Rattle.cpa_model_trees.specs.Shapes.{HasParts, PlacedFits, Anything}
 use Rattle.cpa_model_trees.specs.lemmas.Nodes.{parts_are, node_of, open_statements, numbers_length}
 use Rattle.cpa_model_trees.specs.lemmas.Numbered.{get_left, get_right, get_split, Behind}
@@ -237,21 +236,20 @@ pub record TreeStands (P : Program) (k : ℕ) (t : CoreTree) : Type 0 where
   pub body : IsBody P k first
   pub placed : PlacedAt P (labels_from first (statements t)) first (statements t)
 
-pub tree_stands : (unit : TypedUnit) (P : Program) → IsCore unit P → (k : ℕ) (t : CoreTree) →
-    slice_get (text_core unit).made k ≡ Some t → TreeStands P k t
-tree_stands unit P is k t at =
-    let trees = (text_core unit).made in
+pub tree_stands : (trees : Trees) (P : Program) → AreTreesOf P trees → (k : ℕ) (t : CoreTree) →
+    slice_get trees k ≡ Some t → TreeStands P k t
+tree_stands trees P are k t at =
     let r = behind_trees 0 trees k t at in
     let here = none_first r.skipped in
     record {
       first = r.skipped;
       body =
           ap (λ (bodies : List ℕ). slice_get bodies k)
-          (is.trees.bodies ∙ ap (numbers_from 0) (sym (lengths_are trees)))
+          (are.bodies ∙ ap (numbers_from 0) (sym (lengths_are trees)))
           ∙ r.body ∙ ap (λ m. Some m) here;
       placed = record {
         at = λ i p e.
-            ap (λ (all : List Stmt). slice_get all (r.skipped + i)) is.trees.stmts ∙ r.at i p e
+            ap (λ (all : List Stmt). slice_get all (r.skipped + i)) are.stmts ∙ r.at i p e
             ∙ ap (λ m. Some (tree_stmt t m i p)) here;
       };
     }
@@ -323,8 +321,8 @@ in_some_tree n (t ∷ trees) i s e =
     by_half n t trees i s (λ j at. in_some_tree (n + length own) trees j s at)
     (get_split (numbered (labels_from n own) n own) (numbered_bodies (n + length own) trees) i s e)
 
-pub in_tree : (unit : TypedUnit) (P : Program) → IsCore unit P → (n : ℕ) (s : Stmt) →
-    IsStmt P n s → InTree 0 (text_core unit).made n s
-in_tree unit P is n s at =
-    in_some_tree 0 (text_core unit).made n s
-    (ap (λ (all : List Stmt). slice_get all n) (sym is.trees.stmts) ∙ at)
+pub in_tree : (trees : Trees) (P : Program) → AreTreesOf P trees → (n : ℕ) (s : Stmt) →
+    IsStmt P n s → InTree 0 trees n s
+in_tree trees P are n s at =
+    in_some_tree 0 trees n s
+    (ap (λ (all : List Stmt). slice_get all n) (sym are.stmts) ∙ at)

@@ -13,6 +13,7 @@ use Rattle.c_core_rules.specs.Cells.{Taken}
 use Rattle.c_core_rules.specs.Cells as core
 use Rattle.cpa_model_trees.specs.Shapes.{HasParts, Shaped, AllShaped}
 use Rattle.cpa_model_trees.specs.lemmas.Nodes.{shaped_node}
+use Rattle.c_core_laws.proofs.Extending.{Extends, nothing_more, extended}
 
 -- a head that is no label, no loop and no jump
 abbrev pub IsPlain : Head → Type 0
@@ -53,18 +54,23 @@ module _ (H : Head → Type 0) (plain : (h : Head) → IsPlain h → H h) where
       shaped_node H head.Loop (block body ∷ block step ∷ []) refl is
       (block_shaped body a, (block_shaped step b, tt))
 
--- what a rule makes, whatever is taken before it
+-- what a rule makes, whatever is taken before it; and that the cells which it takes start at 0
 pub record Makes {S : Type 0} (P : S → Type 0) (rule : core.Rule S) : Type 0 where
   pub at : (taken : Taken) → P (rule taken).made
+  pub extends : (taken : Taken) → Extends taken.cells (rule taken).taken.cells
 
 pub makes : {S : Type 0} (P : S → Type 0) (x : S) → P x → Makes P (core.gives x)
-makes P x h = record { at = λ taken. h }
+makes P x h = record { at = λ taken. h; extends = λ taken. nothing_more taken.cells }
 
 pub makes_then : {S U : Type 0} {P : S → Type 0} {Q : U → Type 0} {first : core.Rule S}
     (second : S → core.Rule U) → Makes P first → ((x : S) → P x → Makes Q (second x)) →
     Makes Q (core.then_by first second)
 makes_then {first = first} second a b = record {
   at = λ taken. (b (first taken).made (a.at taken)).at (first taken).taken;
+  extends = λ taken.
+      let m = first taken in
+      extended taken.cells m.taken.cells (second m.made m.taken).taken.cells (a.extends taken)
+      ((b m.made (a.at taken)).extends m.taken);
 }
 
 pub makes_either : {S : Type 0} {P : S → Type 0} (b : Bool) (r s : core.Rule S) → Makes P r →
@@ -75,11 +81,17 @@ makes_either false r s h k = k
 pub makes_freshly : {S : Type 0} (P : S → Type 0) (t : IntType) (make : Location → S) →
     ((place : Location) → P (make place)) →
     Makes P (core.then_by (core.fresh t) (λ place. core.gives (make place)))
-makes_freshly P t make h = record { at = λ taken. h (cell_at t (length taken.cells)) }
+makes_freshly P t make h = record {
+  at = λ taken. h (cell_at t (length taken.cells));
+  extends = λ taken. record { more = t ∷ []; is = refl };
+}
 
 pub makes_at : {S : Type 0} {P : S → Type 0} (rules : Taken → core.Rule S) →
     ((taken : Taken) → Makes P (rules taken)) → Makes P (λ taken. rules taken taken)
-makes_at rules h = record { at = λ taken. (h taken).at taken }
+makes_at rules h = record {
+  at = λ taken. (h taken).at taken;
+  extends = λ taken. (h taken).extends taken;
+}
 
 -- rules in order
 pub data EachMakes {S : Type 0} (P : S → Type 0) : List (core.Rule S) → Type 0 where

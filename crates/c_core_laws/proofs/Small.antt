@@ -1,82 +1,101 @@
 -- The core of a sound text is not too large.
-use Rattle.std.proofs.Common.{◌≡◌, ℕ, ◌≤◌, Bool, true, false, ◌||◌, List, [], ◌∷◌, map}
-use Rattle.std.proofs.Common.{length, refl, ap, sym, ◌∙◌, subst, arith, inl, inr}
-use Rattle.std.specs.Prelude.{nat_lt}
+use Rattle.std.proofs.Common.{◌≡◌, ℕ, ◌+◌, ◌≤◌, List, [], ◌∷◌, ◌++◌, map, length, refl, ap, sym}
+use Rattle.std.proofs.Common.{◌∙◌, arith}
 use Rattle.std.specs.List.{AllByRecursion}
-use Rattle.std.proofs.lemmas.Bool.{ltb-false}
-use Rattle.std.proofs.lemmas.List.{length-map}
-use Rattle.cpa_ints.specs.declared.integers.IntType.{IntType}
-use Rattle.cpa_expr.specs.declared.shape.TheConstants.{MAX_HEIGHT}
+use Rattle.std.proofs.lemmas.List.{length-map, map-append}
 use Rattle.cpa_expr.specs.Shape.{greatest}
 use Rattle.cpa_model.specs.declared.program.Cell.{Cell}
 use Rattle.cpa_model.specs.declared.program.Stmt.{Stmt}
 use Rattle.cpa_model.specs.declared.program.Program.{Program}
-use Rattle.c_lexer.specs.declared.fault.Rule.TheVariants as rule
+use Rattle.cpa_expr.specs.declared.shape.TheConstants.{MAX_HEIGHT}
+use Rattle.cpa_model_trees.specs.declared.tree.Head.{Head}
+use Rattle.cpa_model_trees.specs.declared.tree.Head.TheVariants as head
+use Rattle.cpa_model_trees.specs.Numbering.{Trees, Placed, statements, stmt_of, labels_from}
+use Rattle.cpa_model_trees.specs.Numbering.{numbers_from, numbered, numbered_bodies}
+use Rattle.cpa_model_trees.specs.Rows.{row_of}
 use Rattle.c_grammar_tree.specs.declared.item.Unit.{Unit as UnitTree}
-use Rattle.c_types_rules.specs.declared.TheConstants.{MAX_CELLS, MAX_POINTS}
-use Rattle.c_types_rules.specs.Counts.{Size, Made}
-use Rattle.c_types_rules.specs.Sound.{Sound, counts, typed_unit, unit_globals, unit_functions}
-use Rattle.c_types_rules.specs.Sound.{is_too_large}
-use Rattle.c_core_rules.specs.Programs.{IsCore}
-use Rattle.c_core_laws.specs.Sizes.{IsCounted, IsSmall, stmt_height}
-use Rattle.c_core_laws.proofs.CoreCounted.{core_counted}
+use Rattle.c_core_rules.specs.Cells.{Made}
+use Rattle.c_core_rules_laws.specs.Sizes.{IsWithinLimits, head_height, heights_of, points_of}
+use Rattle.c_core_rules_laws.specs.Sizes.{tallest_of}
+use Rattle.c_core_checked.specs.declared.text.TypedText.{TypedText}
+use Rattle.c_core_checked.specs.Texts.{IsTypedText, IsCore, unit_core}
+use Rattle.c_core_checked.specs.Sound.{Sound}
+use Rattle.c_core_checked.specs.Laws.{sound_texts_are_within_limits}
+use Rattle.c_core_laws.specs.Sizes.{IsSmall, stmt_height}
+use Rattle.c_core_laws.specs.lemmas.BodyCounts.{bodies_many}
 
-false_or : (b : Bool) → (b ≡ true → ⊥) → b ≡ false
-false_or true never = absurd (never refl)
-false_or false never = refl
+head_is : (labels : List ℕ) (h : Head) (parts : List ℕ) →
+    stmt_height (stmt_of labels h parts) ≡ head_height h
+head_is labels head.Block parts = refl
+head_is labels head.Labeled parts = refl
+head_is labels (head.If test) parts = refl
+head_is labels head.Loop parts = refl
+head_is labels (head.Assign base len index value) parts = refl
+head_is labels (head.Input cell) parts = refl
+head_is labels (head.Call function) parts = refl
+head_is labels (head.Goto label) parts = refl
+head_is labels head.Break parts = refl
+head_is labels head.Continue parts = refl
+head_is labels head.Leave parts = refl
+head_is labels head.Stop parts = refl
+head_is labels head.Error parts = refl
 
-fits : (tree : UnitTree) → Sound tree →
-    is_too_large (counts (unit_globals tree) (unit_functions tree)) ≡ false
-fits tree sound =
-    false_or (is_too_large (counts (unit_globals tree) (unit_functions tree)))
-    (λ large. sound (record { rule = rule.N13; place = tree.length }) (inr (record {
-      rule = refl;
-      place = refl;
-      has_core = λ other broken. sound other (inl broken);
-      large = large;
-    })))
+-- the heights of the statements of trees
 
-unit_counts : (tree : UnitTree) →
-    counts (typed_unit tree).globals (typed_unit tree).functions
-    ≡ counts (unit_globals tree) (unit_functions tree)
-unfolding typed_unit
-unit_counts tree = refl
+abbrev heights : List Placed → List ℕ
+heights placed = map (λ (one : Placed). head_height one.head) placed
 
-three : (a b c : Bool) → (a || b || c) ≡ false → (a ≡ false) × (b ≡ false) × (c ≡ false)
-three true b c h = absurd (cc)
-three false true c h = absurd (cc)
-three false false true h = absurd (cc)
-three false false false h = (refl, refl, refl)
+numbered_heights : (labels : List ℕ) (n : ℕ) (placed : List Placed) →
+    map stmt_height (numbered labels n placed) ≡ heights placed
+numbered_heights labels n [] = refl
+numbered_heights labels n (p ∷ placed) =
+    ap (λ h. h ∷ map stmt_height (numbered labels (n + 1) placed))
+    (head_is labels p.head (numbers_from (n + 1) p.sizes))
+    ∙ ap (λ hs. head_height p.head ∷ hs) (numbered_heights labels (n + 1) placed)
 
-below : (n m : ℕ) → nat_lt n m ≡ false → m ≤ n
-below n m h = ltb-false n m h
+bodies_heights : (n : ℕ) (trees : Trees) →
+    map stmt_height (numbered_bodies n trees) ≡ heights (row_of trees)
+bodies_heights n [] = refl
+bodies_heights n (tree ∷ trees) =
+    let own = statements tree in
+    let labels = labels_from n own in
+    map-append stmt_height (numbered labels n own) (numbered_bodies (n + length own) trees)
+    ∙ ap (λ hs. hs ++ map stmt_height (numbered_bodies (n + length own) trees))
+    (numbered_heights labels n own)
+    ∙ ap (λ hs. heights own ++ hs) (bodies_heights (n + length own) trees)
+    ∙ sym (map-append (λ (one : Placed). head_height one.head) own (row_of trees))
+
+row_heights : (trees : Trees) → heights (row_of trees) ≡ heights_of trees
+unfolding heights_of
+row_heights trees = refl
+
+core_heights : (typed : TypedText) (P : Program) → IsCore typed P →
+    map stmt_height P.stmts ≡ heights_of typed.trees
+core_heights typed P is =
+    ap (λ (all : List Stmt). map stmt_height all) is.trees.stmts
+    ∙ bodies_heights 0 typed.trees ∙ row_heights typed.trees
 
 each_height : (stmts : List Stmt) (n : ℕ) → greatest (map stmt_height stmts) ≤ n →
     AllByRecursion (λ s. stmt_height s ≤ n) stmts
 each_height [] n h = tt
 each_height (s ∷ stmts) n h = (omega arith, each_height stmts n (omega arith))
 
-small : (P : Program) (count : Made Size) → IsCounted P count → is_too_large count ≡ false →
-    IsSmall P
-small P count is h =
-    let all = three (nat_lt MAX_CELLS (length count.cells)) (nat_lt MAX_POINTS count.made.points)
-    (nat_lt MAX_HEIGHT count.made.tallest) h in
-    let many : length P.cells ≡ length count.cells =
-    sym (length-map P.cells (λ (cell : Cell). cell.ty))
-    ∙ ap (λ (ts : List IntType). length ts) is.cells in
+pub core_small : (tree : UnitTree) (typed : TypedText) (P : Program) → Sound tree →
+    IsTypedText tree typed → IsCore typed P → IsSmall P
+core_small tree typed P sound of is =
+    let within = sound_texts_are_within_limits tree of.first_cells sound in
+    let m = unit_core of.first_cells tree in
+    let same = core_heights typed P is
+    ∙ ap heights_of of.trees in
+    let stmts : length P.stmts ≡ length (heights_of m.made) =
+    sym (length-map P.stmts stmt_height) ∙ ap (λ (hs : List ℕ). length hs) same in
+    let bodies : length P.bodies ≡ length m.made =
+    bodies_many typed P is ∙ ap (λ (trees : Trees). length trees) of.trees in
+    let cells : length P.cells ≡ length m.taken.cells =
+    ap (λ (cs : List Cell). length cs) (is.cells ∙ of.cells) in
     record {
-      cells =
-          subst (λ n. n ≤ MAX_CELLS) (sym many) (below MAX_CELLS (length count.cells) all.0);
-      points =
-          subst (λ n. n ≤ MAX_POINTS) (sym is.points)
-          (below MAX_POINTS count.made.points all.1);
-      heights = each_height P.stmts MAX_HEIGHT (subst (λ n. n ≤ MAX_HEIGHT) (sym is.tallest)
-          (below MAX_HEIGHT count.made.tallest all.2));
+      cells = omega (arith, within.cells, cells);
+      points = omega (arith, within.points, stmts, bodies);
+      heights = each_height P.stmts MAX_HEIGHT
+          (omega (arith, within.heights, ap greatest same));
     }
-
-pub core_small : (tree : UnitTree) (P : Program) → Sound tree →
-    IsCore (typed_unit tree) P → IsSmall P
-core_small tree P sound is =
-    small P (counts (typed_unit tree).globals (typed_unit tree).functions)
-    (core_counted (typed_unit tree) P is)
-    (ap is_too_large (unit_counts tree) ∙ fits tree sound)

@@ -41,10 +41,11 @@ use Rattle.c_types_rules.specs.Items.{body_behind}
 use Rattle.c_types_rules.specs.Items.{item_behind, item_faults, items_faults, nothing_before}
 use Rattle.c_types_rules.specs.Items.{listed}
 use Rattle.c_types_rules.specs.Items.{same_length}
-use Rattle.c_types_rules.specs.Sound.{Sound, Start, start_of, starts_in, item_starts, starts_of}
+use Rattle.c_types_rules.specs.Sound.{Start, start_of, starts_in, item_starts, starts_of}
 use Rattle.c_types_rules.specs.Sound.{items_behind, object_names, object_in, start_values}
 use Rattle.c_types_rules.specs.Sound.{global_named}
 use Rattle.c_types_rules.specs.Sound.{unit_globals}
+use Rattle.c_core_checked.specs.Sound.{Sound}
 use Rattle.c_core_laws.specs.lemmas.Faults.{NoFaults, none_left, none_right, not_broken, no_fault}
 use Rattle.c_core_laws.specs.lemmas.Entries.{push_named, push_other, same_object}
 use Rattle.c_core_laws.specs.lemmas.MadeValues.{type_same}

@@ -1,6 +1,6 @@
 -- The cells of the core of a sound text start in the ranges of their types.
 use Rattle.std.proofs.Common.{◌≡◌, ℕ, zero, suc, List, [], ◌∷◌, ◌++◌, map, take, replicate, ℤ, pos}
-use Rattle.std.proofs.Common.{refl, sym, subst}
+use Rattle.std.proofs.Common.{sym, subst, ◌∙◌}
 use Rattle.std.specs.List.{AllByRecursion}
 use Rattle.cpa_ints.specs.declared.integers.IntType.{IntType}
 use Rattle.cpa_ints.specs.Integers.{IsInRange}
@@ -8,14 +8,19 @@ use Rattle.cpa_model.specs.declared.program.Cell.{Cell}
 use Rattle.cpa_model.specs.declared.program.Program.{Program}
 use Rattle.c_grammar_tree.specs.declared.item.Unit.{Unit as UnitTree}
 use Rattle.c_types_rules.specs.declared.typed.Global.{Global}
-use Rattle.c_types_rules.specs.declared.typed.TypedUnit.{TypedUnit}
+use Rattle.c_types_rules.specs.declared.typed.TypedFunction.{TypedFunction}
 use Rattle.c_types_rules.specs.Counts.{cells_of}
-use Rattle.c_types_rules.specs.Sound.{Sound, typed_unit, unit_globals}
+use Rattle.c_types_rules.specs.Sound.{unit_globals, unit_functions}
 use Rattle.c_core_rules.specs.Cells.{Taken, cell, cells_with, taking, nothing_taken}
 use Rattle.c_core_rules.specs.Statements.{receiving_globals}
-use Rattle.c_core_rules.specs.Programs.{IsCore, text_core}
-use Rattle.c_core_laws.proofs.Following.{zero_cell}
-use Rattle.c_core_laws.proofs.LaidOut.{core_extends}
+use Rattle.c_core_rules.specs.Programs.{frames_of}
+use Rattle.c_core_rules_laws.specs.Layouts.{file_cells}
+use Rattle.c_core_checked.specs.declared.text.TypedText.{TypedText}
+use Rattle.c_core_checked.specs.Layouts.{text_from}
+use Rattle.c_core_checked.specs.Texts.{IsTypedText, IsCore}
+use Rattle.c_core_checked.specs.Sound.{Sound}
+use Rattle.c_core_laws.proofs.Extending.{zero_cell}
+use Rattle.c_core_laws.proofs.JumpsKept.{functions_make}
 use Rattle.c_core_laws.proofs.StartsFit.{InRange, globals_fit}
 use Rattle.c_core_laws.specs.lemmas.MadeValues.{zero_in_range}
 
@@ -59,23 +64,19 @@ zero_cells : (more : List IntType) → AllInRange (map zero_cell more)
 zero_cells [] = tt
 zero_cells (t ∷ more) = (zero_in_range t, zero_cells more)
 
-unit_in_range : (unit : TypedUnit) →
-    AllByRecursion InRange unit.globals → AllInRange (text_core unit).taken.cells
-unit_in_range unit h =
-    let front = (receiving_globals unit.globals nothing_taken).taken in
-    let behind = core_extends unit in
+text_in_range : (firsts : List ℕ) (globals : List Global) (functions : List TypedFunction) →
+    AllByRecursion InRange globals → AllInRange (text_from firsts globals functions).taken.cells
+text_in_range firsts globals functions h =
+    let front = file_cells globals in
+    let behind = (functions_make (frames_of firsts functions) functions).extends front in
     subst AllInRange (sym behind.is)
     (cells_append front.cells (map zero_cell behind.more)
-    (globals_in_range unit.globals nothing_taken h tt) (zero_cells behind.more))
+    (globals_in_range globals nothing_taken h tt) (zero_cells behind.more))
 
-typed_globals : (tree : UnitTree) → (typed_unit tree).globals ≡ unit_globals tree
-unfolding typed_unit
-typed_globals tree = refl
-
-pub cells_in_range : (tree : UnitTree) (P : Program) → Sound tree →
-    IsCore (typed_unit tree) P →
+pub cells_in_range : (tree : UnitTree) (typed : TypedText) (P : Program) → Sound tree →
+    IsTypedText tree typed → IsCore typed P →
     AllByRecursion (λ (c : Cell). IsInRange c.ty c.start) P.cells
-cells_in_range tree P sound is =
-    subst AllInRange (sym is.cells)
-    (unit_in_range (typed_unit tree)
-    (subst (AllByRecursion InRange) (sym (typed_globals tree)) (globals_fit tree sound)))
+cells_in_range tree typed P sound of is =
+    subst AllInRange (sym (is.cells ∙ of.cells))
+    (text_in_range of.first_cells (unit_globals tree) (unit_functions tree)
+    (globals_fit tree sound))

@@ -3,16 +3,15 @@ use Rattle.std.specs.Prelude.{◌≡◌, ℕ, List, Some, slice_get}
 use Rattle.cpa_model.specs.declared.program.Stmt.{Stmt}
 use Rattle.cpa_model.specs.declared.program.Program.{Program}
 use Rattle.cpa_model.specs.Programs.{InFunction}
-use Rattle.c_types_rules.specs.declared.typed.TypedUnit.{TypedUnit}
 use Rattle.cpa_model_trees.specs.declared.tree.CoreTree.{CoreTree}
-use Rattle.cpa_model_trees.specs.Numbering.{Placed, statements, stmt_of}
-use Rattle.c_core_rules.specs.Programs.{text_core}
+use Rattle.cpa_model_trees.specs.Numbering.{Trees, Placed, statements, stmt_of}
 
--- the statement s of number n stands in a function, and is one of those of its tree
-pub record IsOfTree (unit : TypedUnit) (P : Program) (n : ℕ) (s : Stmt) : Type 0 where
+-- the statement s of number n stands in a function, and is one of those of its tree, where these are
+-- the trees of the functions
+pub record IsOfTree (trees : Trees) (P : Program) (n : ℕ) (s : Stmt) : Type 0 where
   pub function : ℕ
   pub tree : CoreTree
-  pub is_tree : slice_get (text_core unit).made function ≡ Some tree
+  pub is_tree : slice_get trees function ≡ Some tree
   pub inside : InFunction P function n
   pub index : ℕ
   pub placed : Placed

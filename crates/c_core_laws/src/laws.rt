@@ -1,25 +1,13 @@
 //! Laws on the core of a typed text: functions with an empty body, whose contract is the law.
 //! The laws are stated in `specs/Laws.antt` and proved in `proofs/`.
-ghost use Rattle.c_core_laws.specs.Laws.{CoresAreCounted, CoresAreNumbered, CoresAreSmall, OneCore};
+ghost use Rattle.c_core_laws.specs.Laws.{CoresAreNumbered, CoresAreSmall, OneCore};
 ghost use Rattle.c_core_laws.specs.Laws.{CellsStartInRange, CoresHaveAMain, JumpsAreKept};
-ghost use Rattle.c_core_laws.specs.Laws.{FramesAreThere, TextsAreLaidOut, JumpsAreSound};
+ghost use Rattle.c_core_laws.specs.Laws.{FramesAreThere, JumpsAreSound};
 ghost use Rattle.c_core_laws.specs.Laws.{LabelsAreBlocks, LabelsAreInOrder, StatementsAreOfTrees};
 
 /// A typed text has one core.
 pub fn there_is_one_core()
     ensures { OneCore }
-{}
-
-/// The types of its cells, how many points it has, and the height of its highest expression are
-/// those that N13 speaks of.
-pub fn cores_are_counted()
-    ensures { CoresAreCounted }
-{}
-
-/// The typed text of a text says which cells the core has, what they start at, and where the cells
-/// of each function begin.
-pub fn texts_are_laid_out()
-    ensures { TextsAreLaidOut }
 {}
 
 /// Its statements are numbered in the order of the trees: each before its parts, the parts one

@@ -30,7 +30,6 @@ use Rattle.c_types_rules.specs.declared.meaning.ParameterType.{ParameterType}
 use Rattle.c_types_rules.specs.declared.meaning.Declared.TheVariants as declared
 use Rattle.c_types_rules.specs.declared.meaning.Entry.{Entry}
 use Rattle.c_types_rules.specs.declared.typed.TypedFunction.{TypedFunction}
-use Rattle.c_types_rules.specs.declared.typed.TypedUnit.{TypedUnit}
 use Rattle.c_types_rules.specs.Names.{Text, body_of, declared_as}
 use Rattle.c_types_rules.specs.Declarations.{kind_of}
 use Rattle.c_types_rules.specs.StatementRules.{jump_faults, site_faults}
@@ -41,16 +40,20 @@ use Rattle.c_types_rules.specs.Items.{nothing_before, body_sites, globals_faults
 use Rattle.c_types_rules.specs.Items.{item_behind, item_faults, listed}
 use Rattle.c_types_rules.specs.Recursion.{Among, Calls, Through}
 use Rattle.c_types_rules.specs.Recursion as recursion
-use Rattle.c_types_rules.specs.Sound.{Sound, typed_unit, typed_parts, unit_globals, unit_functions}
-use Rattle.c_types_rules.specs.Sound.{unit_calls, items_behind, starts_of}
+use Rattle.c_types_rules.specs.Sound.{unit_globals, unit_functions, unit_calls, items_behind}
+use Rattle.c_types_rules.specs.Sound.{starts_of}
 use Rattle.cpa_model_trees.specs.declared.tree.CoreTree.{CoreTree}
 use Rattle.cpa_model_trees.specs.declared.tree.Head.{Head}
 use Rattle.cpa_model_trees.specs.declared.tree.Head.TheVariants as head
 use Rattle.cpa_model_trees.specs.Numbering.{Trees, Placed, statements, stmt_of}
-use Rattle.c_core_rules.specs.Cells.{Made, each, nothing_taken}
+use Rattle.c_core_rules.specs.Cells.{each}
 use Rattle.c_core_rules.specs.Expressions.{Frame, Frames, frame_at}
-use Rattle.c_core_rules.specs.Statements.{function_rule, receiving_globals}
-use Rattle.c_core_rules.specs.Programs.{IsCore, text_core, frames_of}
+use Rattle.c_core_rules.specs.Statements.{function_rule}
+use Rattle.c_core_rules.specs.Programs.{frames_of}
+use Rattle.c_core_rules_laws.specs.Layouts.{file_cells, AreFirst}
+use Rattle.c_core_checked.specs.declared.text.TypedText.{TypedText}
+use Rattle.c_core_checked.specs.Texts.{IsTypedText, IsCore, unit_core}
+use Rattle.c_core_checked.specs.Sound.{Sound}
 use Rattle.c_core_laws.specs.Sizes.{stmt_height}
 use Rattle.c_core_laws.specs.Starts.{FrameStands}
 use Rattle.c_core_laws.specs.Standing.{IsOfTree}
@@ -195,19 +198,6 @@ calls_are : (tree : UnitTree) →
 unfolding unit_calls
 calls_are tree = refl
 
-parts_are : (tree : UnitTree) →
-    typed_unit tree
-    ≡ typed_parts (text_of tree.items) tree.length (unit_globals tree) (unit_functions tree)
-unfolding typed_unit
-parts_are tree = refl
-
-open_made : (unit : TypedUnit) →
-    text_core unit
-    ≡ each (map (function_rule (frames_of unit.first_cells unit.functions)) unit.functions)
-    (receiving_globals unit.globals nothing_taken).taken
-unfolding text_core
-open_made unit = refl
-
 module _ (walks : (text : Text) (one : BlockItem) → (grown text one).walk ≡ walk_of text one) where
   -- file scope, to the end of the text
   items_scope : (text : Text) (items : List Item) (before : Before) →
@@ -261,21 +251,20 @@ module _ (walks : (text : Text) (one : BlockItem) → (grown text one).walk ≡ 
       (function_scope before true specifiers declarator none_head f))
 
   -- the trees of the functions
-  trees_fit : FramesAreThere → (tree : UnitTree) → IsWhole tree → Sound tree →
-      let unit = typed_parts (text_of tree.items) tree.length (unit_globals tree)
-      (unit_functions tree) in
-      Fit (types_of (text_core unit).taken.cells) (unit_calls tree) (length (unit_functions tree))
-      (frames_of unit.first_cells unit.functions) (text_of tree.items)
-      (receiving_globals (unit_globals tree) nothing_taken).taken.starts
-      (items_behind (text_of tree.items) tree.items nothing_before).names 0 (text_core unit).made
-  trees_fit frames_there tree whole sound =
+  trees_fit : FramesAreThere → (tree : UnitTree) (firsts : List ℕ) →
+      AreFirst (unit_globals tree) (unit_functions tree) firsts → IsWhole tree → Sound tree →
+      Fit (types_of (unit_core firsts tree).taken.cells) (unit_calls tree)
+      (length (unit_functions tree)) (frames_of firsts (unit_functions tree))
+      (text_of tree.items) (file_cells (unit_globals tree)).starts
+      (items_behind (text_of tree.items) tree.items nothing_before).names 0
+      (unit_core firsts tree).made
+  trees_fit frames_there tree firsts are_first whole sound =
       let text = text_of tree.items in
       let globals = unit_globals tree in
       let functions = unit_functions tree in
-      let unit = typed_parts text tree.length globals functions in
-      let frames = frames_of unit.first_cells functions in
-      let front = (receiving_globals globals nothing_taken).taken in
-      let all = types_of (text_core unit).taken.cells in
+      let frames = frames_of firsts functions in
+      let front = file_cells globals in
+      let all = types_of (unit_core firsts tree).taken.cells in
       let last = (items_behind text tree.items nothing_before).names in
       let bodies = length functions in
       let none = no_fault tree sound in
@@ -290,16 +279,15 @@ module _ (walks : (text : Text) (one : BlockItem) → (grown text one).walk ≡ 
       (has : body_of text name ≡ Some body).
       callee all frames bodies functions last name result ps d is body refl
       (found_body text tree.items nothing_before none name body has)
-      (λ function at. frames_there text tree.length globals functions body function at)
-      (frames_single unit.first_cells functions) in
+      (λ function at. frames_there globals functions firsts are_first body function at)
+      (frames_single firsts functions) in
       let r = text_runs all (unit_calls tree) bodies frames text front.starts last (walks text)
       stand
       tree.items nothing_before none whole
       (λ c here. subst (Among c) (sym (calls_are tree)) here) scope0 refl in
-      let opened = open_made unit in
       let within : Within all (each (map (function_rule frames) functions) front).taken = record {
         more = [];
-        is = ap (λ (m : Made Trees). types_of m.taken.cells) opened ∙ sym (append-nil _);
+        is = sym (append-nil _);
       } in
       let begin = λ (name : List ℕ) (object : Object) (i : Bool)
       (is : declared_as last name ≡ Some (declared.Object object i)).
@@ -312,8 +300,7 @@ module _ (walks : (text : Text) (one : BlockItem) → (grown text one).walk ≡ 
         same = λ name d is n u. absurd (cc);
         above = λ n le. refl;
       } in
-      subst (λ (m : Made Trees). Fit all (unit_calls tree) bodies frames text front.starts last 0
-      m.made) (sym opened) (r.at front begin stay within)
+      r.at front begin stay within
 
   -- what stands at a place of the trees
   fit_at : (all : List IntType) (calls : List Call) (bodies : ℕ) (frames : Frames) (text : Text)
@@ -357,60 +344,59 @@ module _ (walks : (text : Text) (one : BlockItem) → (grown text one).walk ≡ 
             ),
       )
 
-  abbrev bodies_count : TypedUnit → Program → Type 0
-  bodies_count unit P = length unit.functions ≡ length P.bodies
-
   sound_at : FramesAreThere → StatementsAreOfTrees → CoresAreNumbered → CoresAreSmall →
-      JumpsAreSound → (tree : UnitTree) (P : Program) → IsWhole tree → Sound tree →
-      IsCore (typed_unit tree) P → bodies_count (typed_unit tree) P → (n : ℕ) (s : Stmt) →
-      IsStmt P n s → IsSound P n s
-  sound_at frames_there of_trees numbered small jumps tree P whole sound is many n s at =
+      JumpsAreSound → (tree : UnitTree) (typed : TypedText) (P : Program) → IsWhole tree →
+      Sound tree → IsTypedText tree typed → IsCore typed P →
+      length (unit_functions tree) ≡ length P.bodies → (n : ℕ) (s : Stmt) → IsStmt P n s →
+      IsSound P n s
+  sound_at frames_there of_trees numbered small jumps tree typed P whole sound of is many n s at =
       let text = text_of tree.items in
-      let unit = typed_parts text tree.length (unit_globals tree) (unit_functions tree) in
-      let core : IsCore unit P = subst (λ (u : TypedUnit). IsCore u P) (parts_are tree) is in
-      let frames = frames_of unit.first_cells unit.functions in
-      let all = types_of (text_core unit).taken.cells in
+      let firsts = of.first_cells in
+      let frames = frames_of firsts (unit_functions tree) in
+      let all = types_of (unit_core firsts tree).taken.cells in
       let calls = unit_calls tree in
       let bodies = length (unit_functions tree) in
-      let starts = (receiving_globals (unit_globals tree) nothing_taken).taken.starts in
+      let starts = (file_cells (unit_globals tree)).starts in
       let last = (items_behind text tree.items nothing_before).names in
-      let fit = trees_fit frames_there tree whole sound in
-      let N = numbered unit P core in
+      let fit : Fit all calls bodies frames text starts last 0 typed.trees =
+      subst (Fit all calls bodies frames text starts last 0) (sym of.trees)
+      (trees_fit frames_there tree firsts of.are_first whole sound) in
+      let N = numbered tree typed P of is in
       let g = ground all calls bodies frames text starts last in
-      let fits_of : (m : ℕ) (t : Stmt) (r : IsOfTree unit P m t) →
+      let fits_of : (m : ℕ) (t : Stmt) (r : IsOfTree typed.trees P m t) →
       HeadFits (g r.function) r.placed.head =
       λ m t r. subst (λ k. HeadFits (g k) r.placed.head) (none_first r.function)
       (all_at (λ (p : Placed). HeadFits (g (0 + r.function)) p.head) (statements r.tree) r.index
-      r.placed (fit_at all calls bodies frames text starts last 0 (text_core unit).made r.function
+      r.placed (fit_at all calls bodies frames text starts last 0 typed.trees r.function
       r.tree fit r.is_tree).all r.among) in
       let called : (a m b : ℕ) → InFunction P a m → IsStmt P m (stmt.Call b) → Calls calls a b =
       λ a m b inside here.
-      let r = of_trees unit P core m (stmt.Call b) here in
+      let r = of_trees tree typed P of is m (stmt.Call b) here in
       let h = call_head r.labels r.placed.head r.parts b r.is in
       subst (λ k. Calls calls k b) (one_function P N r.function a m r.inside inside)
       ((subst (HeadFits (g r.function)) h (fits_of m (stmt.Call b) r)).0) in
-      let r = of_trees unit P core n s at in
-      let cells : all ≡ types_of P.cells = ap types_of (sym core.cells) in
+      let r = of_trees tree typed P of is n s at in
+      let cells : all ≡ types_of P.cells = ap types_of (sym (is.cells ∙ of.cells)) in
       let tall : stmt_height s ≤ MAX_HEIGHT =
       all_at (λ (t : Stmt). stmt_height t ≤ MAX_HEIGHT) P.stmts n s
-      (small tree P sound is).heights at in
+      (small tree typed P sound of is).heights at in
       subst (IsSound P n) (sym r.is) (by_head P (g r.function) n r.labels r.placed.head r.parts
       cells
       (fits_of n s r) (subst (λ (t : Stmt). stmt_height t ≤ MAX_HEIGHT) r.is tall)
-      (subst (JumpIsSound P n) r.is (jumps tree P sound is n s at))
-      (λ f lands. call_sound tree P sound N bodies
-      (ap (λ (u : TypedUnit). length u.functions) (sym (parts_are tree)) ∙ many) called r.function n
-      f r.inside lands))
+      (subst (JumpIsSound P n) r.is (jumps tree typed P sound of is n s at))
+      (λ f lands. call_sound tree P sound N bodies many called r.function n f r.inside lands))
 
 pub well_formed : FramesAreThere → StatementsAreOfTrees → CoresAreNumbered → CoresAreSmall →
-    JumpsAreSound → CoresHaveAMain → CellsStartInRange → (tree : UnitTree) (P : Program) →
-    IsWhole tree → Sound tree → IsCore (typed_unit tree) P → IsWellFormed P
-well_formed frames_there of_trees numbered small jumps main starts tree P whole sound is = record {
-  numbered = numbered (typed_unit tree) P is;
-  sound = sound_at same_walk frames_there of_trees numbered small jumps tree P whole sound is
-      (sym (bodies_are (typed_unit tree) P is));
-  starts = starts tree P sound is;
-  few_cells = (small tree P sound is).cells;
-  few_points = (small tree P sound is).points;
-  main = main tree P sound is;
-}
+    JumpsAreSound → CoresHaveAMain → CellsStartInRange → (tree : UnitTree) (typed : TypedText)
+    (P : Program) → IsWhole tree → Sound tree → IsTypedText tree typed → IsCore typed P →
+    IsWellFormed P
+well_formed frames_there of_trees numbered small jumps main starts tree typed P whole sound of is =
+    record {
+      numbered = numbered tree typed P of is;
+      sound = sound_at same_walk frames_there of_trees numbered small jumps tree typed P whole sound
+          of is (sym (bodies_are tree typed P of is));
+      starts = starts tree typed P sound of is;
+      few_cells = (small tree typed P sound of is).cells;
+      few_points = (small tree typed P sound of is).points;
+      main = main tree typed P sound of is;
+    }

@@ -1,6 +1,6 @@
 -- From the fault of each stage to that of the text, over what the laws of the stages say.
 use Rattle.std.specs.Prelude.{◌≡◌, ℕ, List}
-use Rattle.std.proofs.Common.{subst, refl, ◌∙◌}
+use Rattle.std.proofs.Common.{subst, ◌∙◌}
 use Rattle.c_lexer.specs.declared.token.Token.{Token}
 use Rattle.c_lexer.specs.declared.fault.TextFault.{TextFault}
 use Rattle.c_lexer.specs.declared.fault.TextError.{TextError}
@@ -12,9 +12,9 @@ use Rattle.c_parser.specs.Faults.{IsRefused as NoTreeRefused}
 use Rattle.c_grammar_tree.specs.declared.item.Unit.{Unit as UnitTree}
 use Rattle.c_grammar_tree.specs.Grammar.{Tree}
 use Rattle.c_grammar_tree.specs.Faults.{IsTreeFault}
-use Rattle.c_types_rules.specs.Sound.{IsFirstBroken, typed_unit, IsChecked}
-use Rattle.c_core_rules.specs.Programs.{IsCore}
-use Rattle.c_types_rules.specs.declared.typed.TypedUnit.{TypedUnit}
+use Rattle.c_core_checked.specs.declared.text.TypedText.{TypedText}
+use Rattle.c_core_checked.specs.Texts.{IsTypedText, IsCore}
+use Rattle.c_core_checked.specs.Sound.{IsFirstBroken, IsChecked}
 use Rattle.cpa_model.specs.declared.program.Program.{Program}
 use Rattle.cpa_model.specs.Programs.{IsWellFormed}
 use Rattle.std.specs.Prelude.{Ok, Err}
@@ -43,9 +43,13 @@ TreeOrFault =
 abbrev pub TokensOrFault : Type 0
 TokensOrFault = (bytes : List ℕ) (fault : TextFault) → HasFault bytes fault → NoTokens bytes
 
+-- a tree has one typed text
+abbrev pub OneText : Type 0
+OneText = (tree : UnitTree) (a b : TypedText) → IsTypedText tree a → IsTypedText tree b → a ≡ b
+
 -- a typed text has one core
 abbrev pub CoreOnce : Type 0
-CoreOnce = (unit : TypedUnit) (P Q : Program) → IsCore unit P → IsCore unit Q → P ≡ Q
+CoreOnce = (typed : TypedText) (P Q : Program) → IsCore typed P → IsCore typed Q → P ≡ Q
 
 -- bytes stand for one program
 abbrev pub OneProgram : Type 0
@@ -65,12 +69,14 @@ same_tree : OneList → OneTree → (bytes : List ℕ) (ts us : List Token) (u v
 same_tree lists trees bytes ts us u v f r g s =
     trees bytes ts u v r (subst (λ x. Tree bytes x v) (lists bytes us ts g f) s)
 
-pub one : OneList → OneTree → CoreOnce → (bytes : List ℕ) (P Q : Program) → IsProgram bytes P
-    → IsProgram bytes Q → P ≡ Q
-one lists trees cores bytes P Q p q =
-    cores (typed_unit p.tree) P Q p.core (subst (λ u. IsCore (typed_unit u) Q)
+pub one : OneList → OneTree → OneText → CoreOnce → (bytes : List ℕ) (P Q : Program)
+    → IsProgram bytes P → IsProgram bytes Q → P ≡ Q
+one lists trees texts cores bytes P Q p q =
+    let own = subst (λ u. IsTypedText u q.typed)
     (same_tree lists trees bytes q.tokens p.tokens q.tree p.tree q.falls q.reads p.falls p.reads)
-    q.core)
+    q.of_tree in
+    cores p.typed P Q p.core
+    (subst (λ (t : TypedText). IsCore t Q) (texts p.tree q.typed p.typed own p.of_tree) q.core)
 
 pub none : OneList → OneTree → TreeOrFault → TokensOrFault → FaultOrProgram
 none lists trees apart either bytes fault (no_tokens f) P p = either bytes fault f p.tokens p.falls
@@ -103,28 +109,24 @@ check_refused law bytes tree (Fault fault) of is =
     (unsound tree of is, law bytes fault (unsound tree of is))
 check_refused law bytes tree OutOfMemory of is = tt
 
--- a typed tree keeps the length of the text
-typed_length : (tree : UnitTree) → (typed_unit tree).length ≡ tree.length
-unfolding typed_unit
-typed_length tree = refl
-
 -- the core of a sound tree is the program
 pub the_program : OneProgram → WellFormed → (bytes : List ℕ) (tree : UnitTree)
-    (typed : TypedUnit) (P : Program)
+    (typed : TypedText) (P : Program)
     → IsTreeOf bytes tree → IsChecked tree (Ok typed) → IsCore typed P → IsTheProgram bytes P
 the_program law sound bytes tree typed P of checked core =
-    let made : IsCore (typed_unit tree) P = subst (λ (u : TypedUnit). IsCore u P) checked.1 core in
     let is : IsProgram bytes P = record {
       tokens = of.tokens;
       tree = tree;
+      typed = typed;
       falls = of.falls;
       reads = of.reads;
       sound = checked.0;
-      core = made;
+      of_tree = checked.1;
+      core = core;
     } in
     record {
       is = is;
       only = λ Q q. law bytes Q P q is;
-      length_is = made.text_len ∙ typed_length tree ∙ of.reads.length_is;
+      length_is = core.text_len ∙ checked.1.text_len ∙ of.reads.length_is;
       well_formed = sound bytes P is;
     }

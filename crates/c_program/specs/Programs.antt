@@ -10,19 +10,23 @@ use Rattle.c_lexer.specs.Faults.{HasFault}
 use Rattle.c_grammar_tree.specs.declared.item.Unit.{Unit as UnitTree}
 use Rattle.c_grammar_tree.specs.Grammar.{Tree}
 use Rattle.c_grammar_tree.specs.Faults.{IsTreeFault}
-use Rattle.c_types_rules.specs.Sound.{Sound, IsFirstBroken, typed_unit}
-use Rattle.c_core_rules.specs.Programs.{IsCore}
+use Rattle.c_core_checked.specs.declared.text.TypedText.{TypedText}
+use Rattle.c_core_checked.specs.Texts.{IsTypedText, IsCore}
+use Rattle.c_core_checked.specs.Sound.{Sound, IsFirstBroken}
 use Rattle.cpa_model.specs.declared.program.Program.{Program}
 use Rattle.cpa_model.specs.Programs.{IsWellFormed}
 
--- the bytes fall into tokens, these have a tree, it breaks no rule, and P is its core
+-- the bytes fall into tokens, these have a tree, it breaks no rule, and P is the core of its typed
+-- text
 pub record IsProgram (bytes : List ℕ) (P : Program) : Type 0 where
   pub tokens : List Token
   pub tree : UnitTree
+  pub typed : TypedText
   pub falls : Tokens bytes tokens
   pub reads : Tree bytes tokens tree
   pub sound : Sound tree
-  pub core : IsCore (typed_unit tree) P
+  pub of_tree : IsTypedText tree typed
+  pub core : IsCore typed P
 
 -- P is the one program of the bytes; it has their length, and it is well formed
 pub record IsTheProgram (bytes : List ℕ) (P : Program) : Type 0 where

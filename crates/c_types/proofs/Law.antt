@@ -16,10 +16,13 @@ use Rattle.c_types_rules.specs.ExpressionRules.{broken, option_places}
 use Rattle.c_types_rules.specs.Items.{Before, Call, text_of, nothing_before, items_faults}
 use Rattle.c_types_rules.specs.Items.{items_calls}
 use Rattle.c_types_rules.specs.Recursion.{Among, LeadsBack}
-use Rattle.c_types_rules.specs.Sound.{NotBehind, BreaksTree, Sound}
-use Rattle.c_types_rules.specs.Sound.{IsFirstBroken, unit_faults, unit_calls, unit_globals}
-use Rattle.c_types_rules.specs.Sound.{unit_functions, counts, is_too_large, without_main}
+use Rattle.c_types_rules.specs.Sound.{NotBehind, BreaksTree, unit_faults, unit_calls}
+use Rattle.c_types_rules.specs.Sound.{unit_globals, unit_functions, without_main}
 use Rattle.c_types_recursion.specs.Least.{FindsLeast}
+use Rattle.c_core_rules_laws.specs.Sizes.{IsWithinLimits}
+use Rattle.c_core_checked.specs.Layouts.{IsTooLarge}
+use Rattle.c_core_checked.specs.Texts.{unit_core}
+use Rattle.c_core_checked.specs.Sound.{Sound, IsFirstBroken}
 use Rattle.c_types.specs.Firsts.{FindsFirst}
 use mathlib.Core.Logic.{inl, inr, ⊎_elim}
 
@@ -174,7 +177,7 @@ fault_checked unit fault h = record {
 
 -- where no rule is broken but that the core is too large, that one is the first
 pub large_checked : (unit : UnitTree) → FindsFirst (BreaksTree unit) None →
-    is_too_large (counts (unit_globals unit) (unit_functions unit)) ≡ true →
+    IsTooLarge (unit_globals unit) (unit_functions unit) →
     IsFirstBroken unit (record { rule = rule.N13; place = unit.length })
 large_checked unit h large = record {
   breaks = inr (record { rule = refl; place = refl; has_core = h; large = large });
@@ -184,12 +187,9 @@ large_checked unit h large = record {
 
 -- where none is broken and the core is not too large the text is sound
 pub sound_checked : (unit : UnitTree) → FindsFirst (BreaksTree unit) None →
-    is_too_large (counts (unit_globals unit) (unit_functions unit)) ≡ false → Sound unit
-sound_checked unit h small = λ fault. ⊎_elim (λ b. h fault b)
-    (λ more. contradiction more.large small)
-  where
-    contradiction : {b : Bool} → b ≡ true → b ≡ false → ⊥
-    contradiction t f = absurd (cc)
+    (firsts : List ℕ) → IsWithinLimits (unit_core firsts unit) → Sound unit
+sound_checked unit h firsts within = λ fault. ⊎_elim (λ b. h fault b)
+    (λ more. more.large firsts within)
 
 faults_are : (unit : UnitTree) → unit_faults unit
     ≡ items_faults (text_of unit.items) unit.items nothing_before ++ without_main unit

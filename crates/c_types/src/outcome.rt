@@ -3,70 +3,111 @@
 ghost use Rattle.std.specs.Prelude.{◌≡◌, None, IfOk};
 ghost use Rattle.c_types_rules.specs.Items.{text_of, nothing_before};
 ghost use Rattle.c_types_rules.specs.Sound.{items_behind, starts_of, functions_of, BreaksTree};
+ghost use Rattle.c_types_rules.specs.Sound.{unit_globals, unit_functions};
+ghost use Rattle.c_core_checked.specs.Texts.{unit_main};
 ghost use Rattle.c_types.specs.Firsts.{FindsFirst};
-ghost use Rattle.c_types.specs.Outcomes.{IsOutcome};
+ghost use Rattle.c_types.specs.Outcomes.{IsFoundLayout, IsOutcome};
 
 use crate::entry::MAIN;
 use crate::gathering::gather;
 use crate::items::Gathered;
 use crate::listing::globals_of;
-use c_counts::counts;
+use c_core_checked::TypedText;
+use c_core_layout::{CoreError, TextLayout, layout};
+use c_core_trees::text_trees;
 use c_grammar_tree::Unit;
 use c_lexer::{Rule, TextFault};
 use c_types_names::Survey;
-use c_types_rules::TypedUnit;
+use c_types_rules::{Global, TypedFunction};
 use cpa_ints::Seq;
-use std::alloc::{AllocError, Global};
+use std::alloc::{AllocError, Global as Memory};
 
 /// A typed text, or the first broken rule.
 #[derive(Drop)]
 pub(crate) enum Outcome {
-    Sound(TypedUnit),
+    Sound(TypedText),
     Broken(TextFault),
 }
 
-/// What is found where no rule is broken but perhaps N13.
+/// The layout of the core of a text with these globals and functions, None where it is too large.
+fn found_layout(
+    alloc: Memory,
+    globals: &[Global],
+    functions: &[TypedFunction],
+) -> Result<Option<TextLayout>, AllocError>
+    ensures { IfOk result (IsFoundLayout globals.now functions.now) }
+{
+    match layout(alloc, globals, functions) {
+        Ok(layout) => Ok(Some(layout)),
+        Err(CoreError::TooLarge) => Ok(None),
+        Err(CoreError::OutOfMemory) => Err(AllocError),
+    }
+}
+
+/// What is found where no rule is broken but perhaps N13, of a text with these globals and
+/// functions, and with this main.
+fn outcome_of(
+    alloc: Memory,
+    unit: &Unit,
+    globals: &[Global],
+    functions: &[TypedFunction],
+    main: u32,
+) -> Result<Outcome, AllocError>
+    requires globals { globals.now ≡ unit_globals unit.now }
+    requires functions { functions.now ≡ unit_functions unit.now }
+    requires main { main ≡ unit_main unit.now }
+    requires first { FindsFirst (BreaksTree unit.now) None }
+    ensures { IfOk result (IsOutcome unit.now) }
+{
+    let found = found_layout(alloc, globals, functions)?;
+    match found {
+        None => Ok(Outcome::Broken(TextFault {
+            rule: Rule::N13,
+            place: unit.length,
+        })),
+        Some(layout) => {
+            let text = text_trees(alloc, globals, functions, layout.first_cells.as_slice())?;
+            Ok(Outcome::Sound(TypedText {
+                cells: text.cells,
+                trees: Seq::from_vec(text.trees),
+                main,
+                text_len: unit.length,
+            }))
+        }
+    }
+}
+
+/// The same behind what was gathered of the text.
 fn finish(
-    alloc: Global,
+    alloc: Memory,
     survey: &Survey,
     unit: &Unit,
-    gathered: Gathered,
+    gathered: &Gathered,
 ) -> Result<Outcome, AllocError>
     requires survey { survey.now ≡ text_of unit.now.items }
-    requires names { gathered.scope.names
+    requires names { gathered.now.scope.names
         ≡ (items_behind (text_of unit.now.items) unit.now.items nothing_before).names }
-    requires starts { gathered.starts.items
+    requires starts { gathered.now.starts.items
         ≡ starts_of (text_of unit.now.items) unit.now.items nothing_before }
-    requires functions { gathered.functions.items
+    requires functions { gathered.now.functions.items
         ≡ functions_of (text_of unit.now.items) unit.now.items nothing_before }
     requires first { FindsFirst (BreaksTree unit.now) None }
     ensures { IfOk result (IsOutcome unit.now) }
 {
     let globals = globals_of(alloc, &gathered.scope.names, &gathered.starts)?;
-    match counts(alloc, globals.as_slice(), &gathered.functions)? {
-        None => Ok(Outcome::Broken(TextFault {
-            rule: Rule::N13,
-            place: unit.length,
-        })),
-        Some(taken) => Ok(Outcome::Sound(TypedUnit {
-            globals,
-            functions: Seq::from_vec(gathered.functions),
-            cells: taken.cells,
-            first_cells: taken.first_cells,
-            main: survey.body_of(MAIN).unwrap_or(0),
-            length: unit.length,
-        })),
-    }
+    let main = survey.body_of(MAIN).unwrap_or(0);
+    let functions = gathered.functions.as_slice();
+    outcome_of(alloc, unit, globals.as_slice(), functions, main)
 }
 
 /// What is found.
-pub(crate) fn find_outcome(alloc: Global, unit: &Unit) -> Result<Outcome, AllocError>
+pub(crate) fn find_outcome(alloc: Memory, unit: &Unit) -> Result<Outcome, AllocError>
     ensures { IfOk result (IsOutcome unit.now) }
 {
     let survey = Survey::of(alloc, unit.items.as_slice())?;
     let gathered = gather(alloc, &survey, unit)?;
     match gathered.first {
         Some(fault) => Ok(Outcome::Broken(fault)),
-        None => finish(alloc, &survey, unit, gathered),
+        None => finish(alloc, &survey, unit, &gathered),
     }
 }

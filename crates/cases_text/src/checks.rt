@@ -3,11 +3,11 @@
 ghost use Rattle.std.specs.Prelude.{◌≤◌, length};
 ghost use Rattle.c_lexer.specs.declared.lexer.TheConstants.{MAX_TEXT};
 
-use crate::spelling::kind_of;
+use c_core_checked::TypedText;
 use c_lexer::{MAX_TEXT, TextError};
-use c_types_rules::{Cell, Kind, TypedExpression, TypedItem, TypedStatement, TypedUnit};
 use cases_reader::{bytes_of, fault_line};
 use cpa_expr::type_word;
+use cpa_model::Cell;
 use std::alloc::{AllocError, Global};
 
 /// Objects of each type, arrays and functions, which stand in front of an expression that is asked
@@ -21,8 +21,9 @@ const HEAD: &str = "\
     unsigned long fm(void){return 0;}void v(void){}";
 
 /// What a text is to a check.
+#[derive(Drop)]
 enum Checked {
-    Sound(TypedUnit),
+    Sound(TypedText),
     Refused(String),
 }
 
@@ -35,7 +36,7 @@ fn check_row(alloc: Global, row: &str) -> Result<Checked, AllocError> {
         return refused(alloc, "longer than a text may be");
     }
     match typed(alloc, &text) {
-        Ok(unit) => Ok(Checked::Sound(unit)),
+        Ok(found) => Ok(Checked::Sound(found)),
         Err(TextError::Fault(fault)) => Ok(Checked::Refused(fault_line(alloc, &text, fault)?)),
         Err(TextError::OutOfMemory) => Err(AllocError),
     }
@@ -46,8 +47,8 @@ fn refused(alloc: Global, why: &str) -> Result<Checked, AllocError> {
     Ok(Checked::Refused(String::from_str(alloc, why)?))
 }
 
-/// The typed tree of a text, or its first fault.
-fn typed(alloc: Global, text: &[u8]) -> Result<TypedUnit, TextError>
+/// The typed text of a text, or its first fault.
+fn typed(alloc: Global, text: &[u8]) -> Result<TypedText, TextError>
     requires { length text.now ≤ MAX_TEXT }
 {
     let tokens = c_lexer::tokens(alloc, text)?;
@@ -63,40 +64,36 @@ pub(crate) fn soundness(alloc: Global, row: &str) -> Result<String, AllocError> 
     }
 }
 
-/// The word of a type, "void", or "none".
-fn kind_word(kind: Option<Kind>) -> &'static str {
-    match kind {
-        Some(Kind::Value(ty)) => type_word(ty),
-        Some(Kind::Void) => "void",
-        None => "none",
-    }
+/// What a check says of an expression behind the objects and functions of `HEAD`.
+fn check_expression(alloc: Global, expression: &str) -> Result<Checked, AllocError> {
+    let text = format!(in alloc; "{HEAD}int main(void){{{expression};}}")?;
+    check_row(alloc, text.as_str())
 }
 
-/// The expression that stands first in the last function.
-fn last_expression(unit: &TypedUnit) -> Option<&TypedExpression> {
-    let function = unit.functions.as_slice().last()?;
-    match function.items.as_slice().first()? {
-        TypedItem::Statement(TypedStatement::Expression { expression }) => expression.as_ref(),
-        _ => None,
-    }
-}
-
-/// The type of an expression behind the objects and functions of `HEAD`.
+/// The type of an expression behind the objects and functions of `HEAD`: that of the cell that
+/// keeps its value while the right operand of a `==` is written. One that has no value is void.
 pub(crate) fn expression_type(alloc: Global, row: &str) -> Result<String, AllocError> {
-    let text = format!(in alloc; "{HEAD}int main(void){{{row};}}")?;
-    match check_row(alloc, text.as_str())? {
-        Checked::Sound(unit) => {
-            String::from_str(alloc, kind_word(last_expression(&unit).and_then(kind_of)))
-        }
-        Checked::Refused(line) => Ok(line),
+    if let Checked::Refused(line) = check_expression(alloc, row)? {
+        return Ok(line);
     }
+    let compared = format!(in alloc; "({row})==(i=1)")?;
+    let word = match check_expression(alloc, compared.as_str())? {
+        Checked::Sound(typed) => typed.cells.as_slice().last().map_or("none", kept_type),
+        Checked::Refused(_) => "void",
+    };
+    String::from_str(alloc, word)
+}
+
+/// The word of a cell's type.
+fn kept_type(cell: &Cell) -> &'static str {
+    type_word(cell.ty)
 }
 
 /// The first cell of a text that begins with a declaration: its type, and what it starts at.
 pub(crate) fn first_start(alloc: Global, row: &str) -> Result<String, AllocError> {
     let text = format!(in alloc; "{row}int main(void){{}}")?;
     match check_row(alloc, text.as_str())? {
-        Checked::Sound(unit) => match unit.cells.as_slice().first() {
+        Checked::Sound(typed) => match typed.cells.as_slice().first() {
             Some(cell) => cell_words(alloc, *cell),
             None => String::from_str(alloc, "none"),
         },
@@ -114,7 +111,7 @@ fn cell_words(alloc: Global, cell: Cell) -> Result<String, AllocError> {
 /// The cells of the core of a text.
 pub(crate) fn cells(alloc: Global, row: &str) -> Result<String, AllocError> {
     match check_row(alloc, row)? {
-        Checked::Sound(unit) => cell_list(alloc, unit.cells.as_slice()),
+        Checked::Sound(typed) => cell_list(alloc, typed.cells.as_slice()),
         Checked::Refused(line) => Ok(line),
     }
 }

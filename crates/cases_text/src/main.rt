@@ -4,7 +4,6 @@
 
 mod checks;
 mod programs;
-mod spelling;
 mod tokens;
 mod trees;
 mod words;

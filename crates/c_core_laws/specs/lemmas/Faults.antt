@@ -6,7 +6,8 @@ use Rattle.c_grammar_tree.specs.declared.item.Unit.{Unit as UnitTree}
 use Rattle.c_types_rules.specs.ExpressionRules.{broken, at_if}
 use Rattle.c_types_rules.specs.Items.{text_of, items_faults, nothing_before}
 use Rattle.c_types_rules.specs.Recursion.{Among}
-use Rattle.c_types_rules.specs.Sound.{Sound, unit_faults, without_main}
+use Rattle.c_types_rules.specs.Sound.{unit_faults, without_main}
+use Rattle.c_core_checked.specs.Sound.{Sound}
 
 -- none of these faults
 abbrev pub NoFaults : List TextFault → Type 0

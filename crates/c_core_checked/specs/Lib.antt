@@ -1,0 +1,5 @@
+pub mod Layouts
+pub mod Texts
+pub mod Sound
+pub mod Laws
+pub mod lemmas

@@ -1,0 +1,39 @@
+-- The typed text of a tree: what the rules of the core take and make of it; and its program, the
+-- trees of its functions, numbered (the numbering is this project's own).
+use Rattle.std.specs.Prelude.{◌≡◌, ℕ, List, unwrap_or}
+use Rattle.cpa_model.specs.declared.program.Program.{Program}
+use Rattle.c_grammar_tree.specs.declared.item.Unit.{Unit as UnitTree}
+use Rattle.c_types_rules.specs.Names.{body_of}
+use Rattle.c_types_rules.specs.Items.{text_of}
+use Rattle.c_types_rules.specs.Sound.{unit_globals, unit_functions, main_name}
+use Rattle.cpa_model_trees.specs.Numbering.{Trees, AreTreesOf}
+use Rattle.c_core_rules.specs.Cells.{Made}
+use Rattle.c_core_rules_laws.specs.Layouts.{AreFirst}
+use Rattle.c_core_checked.specs.declared.text.TypedText.{TypedText}
+use Rattle.c_core_checked.specs.Layouts.{text_from}
+
+-- what the rules make of a tree's globals and functions, if these begin at these cells
+abbrev pub unit_core : List ℕ → UnitTree → Made Trees
+unit_core firsts unit = text_from firsts (unit_globals unit) (unit_functions unit)
+
+-- the number of its main among its functions
+abbrev pub unit_main : UnitTree → ℕ
+unit_main unit = unwrap_or (body_of (text_of unit.items) main_name) 0
+
+-- the functions begin at some cells, where calls take them to begin there; the typed text has the
+-- cells that the rules then take, and the trees that they make of the functions
+pub record IsTypedText (unit : UnitTree) (typed : TypedText) : Type 0 where
+  pub first_cells : List ℕ
+  pub are_first : AreFirst (unit_globals unit) (unit_functions unit) first_cells
+  pub cells : typed.cells ≡ (unit_core first_cells unit).taken.cells
+  pub trees : typed.trees ≡ (unit_core first_cells unit).made
+  pub main : typed.main ≡ unit_main unit
+  pub text_len : typed.text_len ≡ unit.length
+
+-- P is the program of a typed text: its cells, the statements of its trees in the order of the
+-- text, numbered, and main
+pub record IsCore (typed : TypedText) (P : Program) : Type 0 where
+  pub cells : P.cells ≡ typed.cells
+  pub trees : AreTreesOf P typed.trees
+  pub main : P.main ≡ typed.main
+  pub text_len : P.text_len ≡ typed.text_len

@@ -1,0 +1,17 @@
+//! A typed text. `IsTypedText` of `specs/Texts.antt` says which one is a tree's.
+use cpa_ints::Seq;
+use cpa_model::Cell;
+use cpa_model_trees::CoreTree;
+
+/// A typed text: what the rules of the core take and make of it.
+#[derive(Drop)]
+pub struct TypedText {
+    /// In order: those of the objects of file scope, then those of each function.
+    pub cells: Seq<Cell>,
+    /// A block for each function with a body, in the order of the text.
+    pub trees: Seq<CoreTree>,
+    /// The number of `main` among the functions.
+    pub main: u32,
+    /// The length of the text in bytes.
+    pub text_len: u32,
+}

@@ -1,4 +1,0 @@
-pub mod Exact
-pub mod Places
-pub mod Operands
-pub mod lemmas

@@ -1,9 +1,0 @@
-pub mod Parameters
-pub mod Chains
-pub mod Lists
-pub mod Placed
-pub mod Suffixes
-pub mod Variants
-pub mod InOrder
-pub mod StatementForms
-pub mod Filled

@@ -1,4 +1,0 @@
-pub mod Places
-pub mod Rows
-pub mod Items
-pub mod TextCells
