@@ -64,20 +64,20 @@ pub(crate) fn soundness(alloc: Global, row: &str) -> Result<String, AllocError> 
     }
 }
 
-/// What a check says of an expression behind the objects and functions of `HEAD`.
-fn check_expression(alloc: Global, expression: &str) -> Result<Checked, AllocError> {
-    let text = format!(in alloc; "{HEAD}int main(void){{{expression};}}")?;
+/// What a check says of a statement behind the objects and functions of `HEAD`.
+fn check_statement(alloc: Global, statement: &str) -> Result<Checked, AllocError> {
+    let text = format!(in alloc; "{HEAD}int main(void){{{statement};}}")?;
     check_row(alloc, text.as_str())
 }
 
 /// The type of an expression behind the objects and functions of `HEAD`: that of the cell that
 /// keeps its value while the right operand of a `==` is written. One that has no value is void.
 pub(crate) fn expression_type(alloc: Global, row: &str) -> Result<String, AllocError> {
-    if let Checked::Refused(line) = check_expression(alloc, row)? {
+    if let Checked::Refused(line) = check_statement(alloc, row)? {
         return Ok(line);
     }
-    let compared = format!(in alloc; "({row})==(i=1)")?;
-    let word = match check_expression(alloc, compared.as_str())? {
+    let compared = format!(in alloc; "return ({row})==(i=1)")?;
+    let word = match check_statement(alloc, compared.as_str())? {
         Checked::Sound(typed) => typed.cells.as_slice().last().map_or("none", kept_type),
         Checked::Refused(_) => "void",
     };
