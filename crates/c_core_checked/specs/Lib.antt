@@ -1,4 +1,3 @@
-pub mod Layouts
 pub mod Texts
 pub mod Sound
 pub mod Laws

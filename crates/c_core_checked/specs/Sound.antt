@@ -8,7 +8,7 @@ use Rattle.c_lexer.specs.declared.fault.TextError.TheVariants as error
 use Rattle.c_grammar_tree.specs.declared.item.Unit.{Unit as UnitTree}
 use Rattle.c_types_rules.specs.Sound.{BreaksTree, NotBehind, unit_globals, unit_functions}
 use Rattle.c_core_checked.specs.declared.text.TypedText.{TypedText}
-use Rattle.c_core_checked.specs.Layouts as layouts
+use Rattle.c_core_rules_laws.specs.Layouts as layouts
 use Rattle.c_core_checked.specs.Texts.{IsTypedText}
 
 -- N13: the core, which a text has that breaks no other rule, is larger than a program may be

@@ -8,9 +8,8 @@ use Rattle.c_types_rules.specs.Items.{text_of}
 use Rattle.c_types_rules.specs.Sound.{unit_globals, unit_functions, main_name}
 use Rattle.cpa_model_trees.specs.Numbering.{Trees, AreTreesOf}
 use Rattle.c_core_rules.specs.Cells.{Made}
-use Rattle.c_core_rules_laws.specs.Layouts.{AreFirst}
+use Rattle.c_core_rules_laws.specs.Layouts.{AreFirst, text_from}
 use Rattle.c_core_checked.specs.declared.text.TypedText.{TypedText}
-use Rattle.c_core_checked.specs.Layouts.{text_from}
 
 -- what the rules make of a tree's globals and functions, if these begin at these cells
 abbrev pub unit_core : List ℕ → UnitTree → Made Trees

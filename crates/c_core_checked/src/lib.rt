@@ -5,5 +5,5 @@
 mod laws;
 mod text;
 
-pub use laws::{sound_texts_are_within_limits, there_is_one_typed_text};
+pub use laws::{limits, sound_texts_are_within_limits, there_is_one_typed_text};
 pub use text::TypedText;

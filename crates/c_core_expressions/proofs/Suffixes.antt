@@ -22,7 +22,7 @@ use Rattle.c_core_expressions.specs.Rows.{by_usage, row_by, lowered, finished, e
 use Rattle.c_core_expressions.specs.Postfix.{postfix_of}
 use Rattle.c_core_expressions.specs.Rows.{stepped_for, call_of}
 use Rattle.c_core_expressions.specs.Rows.{suffix_of, suffixed_by, front_target, suffix_target}
-use Rattle.c_types_rules.specs.Counts.{suffix_count}
+use Rattle.c_types_rules.specs.Tables.{suffix_count}
 use Rattle.c_core_expressions.proofs.Variants.{rows_Postfix, suffix_Index, suffix_Call, suffix_Step}
 use Rattle.c_core_expressions.proofs.Variants.{suffix_Skipped}
 

@@ -24,7 +24,7 @@ use Rattle.c_types_rules.specs.declared.typed.TypedExpression.TheFolds.{fold-rol
 use Rattle.c_types_rules.specs.declared.typed.TypedExpression.TheFolds.{fold-roll-TypedSuffix}
 use Rattle.c_types_rules.specs.declared.typed.TypedSuffix.{TypedSuffix, roll-TypedSuffix}
 use Rattle.c_types_rules.specs.declared.typed.TypedSuffix.TheVariants as behind
-use Rattle.c_types_rules.specs.Counts.{operator_of}
+use Rattle.c_types_rules.specs.Tables.{operator_of}
 use Rattle.c_core_rules.specs.declared.tree.Valued.{Valued}
 use Rattle.c_core_rules.specs.Trees.{pure}
 use Rattle.c_core_rules.specs.Cells.{Taken, Made, gives, then_by, located}

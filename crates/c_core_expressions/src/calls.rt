@@ -15,7 +15,7 @@ use crate::passing::passed;
 use crate::usage::{Usage, kept_for, statements_of, voided};
 use c_core_rules::Valued;
 use c_core_values::{
-    Cells, cell_at, divided, hold_all, input, int, joined, leaf, list_of, pure, scalar, with,
+    Cells, cell_at, divided, hold_all, input, joined, leaf, list_of, number, scalar, with,
 };
 use c_types_rules::{Function, Kind, KnownFunction, Meaning, TypedExpression};
 use cpa_ints::Seq;
@@ -78,7 +78,7 @@ fn called_behind(
 {
     let operands = hold_all(cells, arguments)?;
     let v = called_with(frames, function, operands)?;
-    Ok(kept_for(usage, v))
+    kept_for(frames.alloc(), usage, v)
 }
 
 /// An input of a fresh cell.
@@ -122,7 +122,7 @@ fn known_alone(
         }
         Kind::Value(_) => {
             let v = taken_in(cells, function)?;
-            Ok(kept_for(usage, v))
+            kept_for(alloc, usage, v)
         }
     }
 }
@@ -196,6 +196,6 @@ pub(crate) fn call_of(
                 known_alone(cells, usage, function)
             }
         }
-        Some(Meaning::Object(_)) | None => Ok(pure(frames.alloc(), int(0))),
+        Some(Meaning::Object(_)) | None => number(frames.alloc(), 0),
     }
 }

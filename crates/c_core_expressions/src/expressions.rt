@@ -2,7 +2,7 @@
 //! `specs/Expressions.antt`). Proved with the lemmas of `proofs/Variants.antt`.
 ghost use Rattle.std.specs.Prelude.{◌≡◌, ◌≤◌, OnOk, IfOk};
 ghost use Rattle.c_types_rules.specs.declared.typed.TypedExpression.{out-TypedExpression};
-ghost use Rattle.c_types_rules.specs.Counts.{suffix_count};
+ghost use Rattle.c_types_rules.specs.Tables.{suffix_count};
 ghost use Rattle.c_core_rules.specs.Expressions.{rows, placed};
 ghost use Rattle.c_core_values.specs.Found.{so_far};
 ghost use Rattle.c_core_expressions.specs.Postfix.{postfix_of};
@@ -13,11 +13,11 @@ use crate::calls::call_of;
 use crate::frames::Frames;
 use crate::names::front_names;
 use crate::usage::{
-    Usage, cast_for, changed_for, chosen_for, element_behind, finished, incremented_for, name_for,
-    signed_for, statements_of, stepped_for, usage_of_ends, voided,
+    Usage, cast_for, changed_for, chosen_for, element_behind, finished, incremented_for, literal,
+    name_for, signed_for, statements_of, stepped_for, usage_of_ends, voided,
 };
 use c_core_rules::{Place, Valued};
-use c_core_values::{Cells, constant, fixed_if, int, joined, linked, pure};
+use c_core_values::{Cells, fixed_if, int, joined, linked, number};
 use c_grammar_symbols::BinaryOperator;
 use c_types_rules::{Kind, Meaning, TypedExpression, TypedSuffix, operator_of};
 use cpa_ints::{IntType, Seq};
@@ -65,16 +65,8 @@ pub(crate) fn lowered(
 {
     match e {
         TypedExpression::Name { meaning, .. } => name_for(cells, usage, *meaning),
-        TypedExpression::Number { ty, value, .. } => {
-            finished(cells, usage, pure(frames.alloc(), constant(*ty, *value)))
-        }
-        TypedExpression::Character { value, .. } => {
-            finished(
-                cells,
-                usage,
-                pure(frames.alloc(), constant(IntType::I32, *value)),
-            )
-        }
+        TypedExpression::Number { ty, value, .. } => literal(cells, usage, *ty, *value),
+        TypedExpression::Character { value, .. } => literal(cells, usage, IntType::I32, *value),
         TypedExpression::Bracketed { inner, .. } => lowered(cells, frames, usage, inner.get()),
         TypedExpression::Postfix { .. } => postfix_of(cells, frames, usage, e),
         TypedExpression::PrefixStep {
@@ -150,7 +142,7 @@ fn postfix_of(
         ≡ (postfix_of frames.now usage (out-TypedExpression e.now) (so_far cells.old)).made) }
 {
     let TypedExpression::Postfix { base, suffixes, .. } = e else {
-        return Ok(pure(frames.alloc(), int(0)));
+        return number(frames.alloc(), 0);
     };
     let first = base.get();
     let all = suffixes.as_slice();
@@ -330,8 +322,9 @@ fn comma_of(
         before = joined(before, dropped.statements)?;
         left -= 1;
     }
+    let value = int(frames.alloc(), 0)?;
     Ok(Valued {
         statements: before,
-        value: int(0),
+        value,
     })
 }

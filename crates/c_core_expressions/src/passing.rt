@@ -6,7 +6,7 @@ ghost use Rattle.c_core_rules.specs.Expressions.{passed, cells_from};
 use c_core_values::{cell_at, set};
 use c_types_rules::{Object, cells_of};
 use cpa_expr::Expr;
-use cpa_ints::Seq;
+use cpa_ints::{Boxed, Seq};
 use cpa_model_trees::CoreTree;
 use std::alloc::{AllocError, Global};
 
@@ -24,7 +24,7 @@ pub fn passed(
     alloc: Global,
     first: u32,
     objects: &[Object],
-    values: Vec<Expr>,
+    values: Vec<Boxed<Expr>>,
 ) -> Result<Seq<CoreTree>, AllocError>
     ensures { IfOk result (λ trees. trees
         ≡ passed (cells_from first objects.now) values.items) }

@@ -1,7 +1,8 @@
 //! Whether the value of an expression is used, and what is made of it then (`specs/Rows.antt`).
 //! Proved by the checker alone.
 ghost use Rattle.std.specs.Prelude.{◌≡◌, ◌++◌, ◌∷◌, [], OnOk, IfOk};
-ghost use Rattle.c_core_rules.specs.Trees.{choice};
+ghost use Rattle.cpa_expr.specs.declared.tree.Expr.TheVariants.{Const};
+ghost use Rattle.c_core_rules.specs.Trees.{choice, pure};
 ghost use Rattle.c_core_rules.specs.Expressions.{no_value};
 ghost use Rattle.c_core_values.specs.Found.{so_far};
 ghost use Rattle.c_core_expressions.specs.Rows.{is_used, unvalued, kept_for, finished, voided};
@@ -17,8 +18,8 @@ use c_core_values::{
 use c_grammar_symbols::{BinaryOperator, StepOperator};
 use c_grammar_tree::UnaryOperator;
 use c_types_rules::{Kind, Meaning};
-use cpa_expr::Expr;
-use cpa_ints::{IntType, Seq};
+use cpa_expr::{Expr, constant};
+use cpa_ints::{Boxed, IntType, Seq};
 use cpa_model_trees::CoreTree;
 use std::alloc::{AllocError, Global};
 
@@ -41,13 +42,11 @@ fn is_used(usage: Usage) -> bool
 }
 
 /// Statements whose value nobody uses.
-fn unvalued(statements: Seq<CoreTree>) -> Valued
-    ensures { result ≡ unvalued statements }
+fn unvalued(alloc: Global, statements: Seq<CoreTree>) -> Result<Valued, AllocError>
+    ensures { IfOk result (λ v. v ≡ unvalued statements) }
 {
-    Valued {
-        statements,
-        value: int(0),
-    }
+    let value = int(alloc, 0)?;
+    Ok(Valued { statements, value })
 }
 
 /// Its statements alone.
@@ -59,12 +58,12 @@ pub(crate) fn statements_of(v: Valued) -> Seq<CoreTree>
 
 /// What acts.
 #[tactic(auto, unfolding(crate::specs::Rows::kept_for))]
-pub(crate) fn kept_for(usage: Usage, v: Valued) -> Valued
-    ensures { result ≡ kept_for usage v }
+pub(crate) fn kept_for(alloc: Global, usage: Usage, v: Valued) -> Result<Valued, AllocError>
+    ensures { IfOk result (λ w. w ≡ kept_for usage v) }
 {
     match usage {
-        Usage::Used => v,
-        Usage::Unused => unvalued(statements_of(v)),
+        Usage::Used => Ok(v),
+        Usage::Unused => unvalued(alloc, statements_of(v)),
     }
 }
 
@@ -79,13 +78,13 @@ pub(crate) fn finished(cells: &mut Cells, usage: Usage, v: Valued) -> Result<Val
         Usage::Used => Ok(v),
         Usage::Unused => {
             let statements = dropped_value(cells, v)?;
-            Ok(unvalued(statements))
+            unvalued(cells.alloc(), statements)
         }
     }
 }
 
 /// The value of what has none.
-fn no_value(alloc: Global) -> Result<Expr, AllocError>
+fn no_value(alloc: Global) -> Result<Boxed<Expr>, AllocError>
     ensures { IfOk result (λ v. v ≡ no_value) }
 {
     scalar(alloc, cell_at(IntType::I32, 0))
@@ -105,8 +104,25 @@ pub(crate) fn voided(
             let value = no_value(alloc)?;
             Ok(Valued { statements, value })
         }
-        Usage::Unused => Ok(unvalued(statements)),
+        Usage::Unused => unvalued(alloc, statements),
     }
+}
+
+/// A number.
+pub(crate) fn literal(
+    cells: &mut Cells,
+    usage: Usage,
+    ty: IntType,
+    value: i128,
+) -> Result<Valued, AllocError>
+    ensures taken { OnOk result (so_far cells.new
+        ≡ (finished usage (pure (Const ty value)) (so_far cells.old)).taken) }
+    ensures made { IfOk result (λ v. v
+        ≡ (finished usage (pure (Const ty value)) (so_far cells.old)).made) }
+{
+    let alloc = cells.alloc();
+    let number = constant(alloc, ty, value)?;
+    finished(cells, usage, pure(alloc, number))
 }
 
 /// A scalar that is read.
@@ -192,7 +208,7 @@ pub(crate) fn changed_for(
         ≡ (changed_for usage operator place v (so_far cells.old)).made) }
 {
     let w = changed(cells, is_used(usage), operator, place, v)?;
-    Ok(kept_for(usage, w))
+    kept_for(cells.alloc(), usage, w)
 }
 
 /// `++l` and `--l`, behind the place.
@@ -209,7 +225,7 @@ pub(crate) fn incremented_for(
         ≡ (incremented_for usage operator place (so_far cells.old)).made) }
 {
     let v = incremented(cells, operator, place)?;
-    Ok(kept_for(usage, v))
+    kept_for(cells.alloc(), usage, v)
 }
 
 /// `l++` and `l--`, behind the place.
@@ -229,7 +245,7 @@ pub(crate) fn stepped_for(
         Usage::Used => stepped(cells, operator, place),
         Usage::Unused => {
             let v = incremented(cells, operator, place)?;
-            Ok(unvalued(statements_of(v)))
+            unvalued(cells.alloc(), statements_of(v))
         }
     }
 }
@@ -269,13 +285,9 @@ pub(crate) fn chosen_for(
             finished(cells, usage, v)
         }
         Usage::Unused => {
-            let statements = chosen_unused(
-                cells.alloc(),
-                test,
-                statements_of(yes),
-                statements_of(no),
-            )?;
-            Ok(unvalued(statements))
+            let alloc = cells.alloc();
+            let statements = chosen_unused(alloc, test, statements_of(yes), statements_of(no))?;
+            unvalued(alloc, statements)
         }
     }
 }

@@ -15,7 +15,7 @@ use Rattle.c_types_rules.specs.declared.meaning.Object.{Object}
 use Rattle.c_types_rules.specs.declared.typed.Global.{Global}
 use Rattle.c_types_rules.specs.declared.typed.TypedFunction.{TypedFunction}
 use Rattle.c_types_rules.specs.Types.{object_type}
-use Rattle.c_types_rules.specs.Counts.{cells_of}
+use Rattle.c_types_rules.specs.Tables.{cells_of}
 use Rattle.c_core_rules.specs.declared.tree.Location.{Location}
 use Rattle.c_core_rules.specs.Values.{cell_at}
 use Rattle.c_core_rules.specs.Cells.{Taken, taking, cells_with, each, in_order, nothing_taken}
@@ -25,7 +25,7 @@ use Rattle.c_core_rules.specs.Statements.{function_rule, resulting, receiving, i
 use Rattle.c_core_rules.specs.Statements.{receiving_globals}
 use Rattle.c_core_rules.specs.Programs.{frames_of}
 use Rattle.c_core_rules_laws.specs.Layouts.{begins, file_cells, AreFirst}
-use Rattle.c_core_checked.specs.Layouts.{text_from}
+use Rattle.c_core_rules_laws.specs.Layouts.{text_from}
 use Rattle.c_core_laws.specs.Starts.{AreScalars, FrameStands}
 use Rattle.c_core_laws.specs.lemmas.ObjectCells.{object_types}
 use Rattle.c_core_laws.proofs.Extending.{Extends, extended, zero_cell}

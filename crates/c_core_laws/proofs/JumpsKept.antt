@@ -25,7 +25,7 @@ use Rattle.c_types_rules.specs.declared.typed.TypedStatement.{TypedStatement, ro
 use Rattle.c_types_rules.specs.declared.typed.TypedFunction.{TypedFunction}
 use Rattle.c_types_rules.specs.Sound.{unit_globals, unit_functions}
 use Rattle.c_types_rules.specs.Types.{object_type}
-use Rattle.c_types_rules.specs.Counts.{cells_of}
+use Rattle.c_types_rules.specs.Tables.{cells_of}
 use Rattle.cpa_model_trees.specs.declared.tree.CoreTree.{CoreTree}
 use Rattle.cpa_model_trees.specs.declared.tree.CoreTree.TheVariants.{Node}
 use Rattle.cpa_model_trees.specs.declared.tree.Head.{Head}

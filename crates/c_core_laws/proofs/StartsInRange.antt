@@ -9,14 +9,14 @@ use Rattle.cpa_model.specs.declared.program.Program.{Program}
 use Rattle.c_grammar_tree.specs.declared.item.Unit.{Unit as UnitTree}
 use Rattle.c_types_rules.specs.declared.typed.Global.{Global}
 use Rattle.c_types_rules.specs.declared.typed.TypedFunction.{TypedFunction}
-use Rattle.c_types_rules.specs.Counts.{cells_of}
+use Rattle.c_types_rules.specs.Tables.{cells_of}
 use Rattle.c_types_rules.specs.Sound.{unit_globals, unit_functions}
 use Rattle.c_core_rules.specs.Cells.{Taken, cell, cells_with, taking, nothing_taken}
 use Rattle.c_core_rules.specs.Statements.{receiving_globals}
 use Rattle.c_core_rules.specs.Programs.{frames_of}
 use Rattle.c_core_rules_laws.specs.Layouts.{file_cells}
 use Rattle.c_core_checked.specs.declared.text.TypedText.{TypedText}
-use Rattle.c_core_checked.specs.Layouts.{text_from}
+use Rattle.c_core_rules_laws.specs.Layouts.{text_from}
 use Rattle.c_core_checked.specs.Texts.{IsTypedText, IsCore}
 use Rattle.c_core_checked.specs.Sound.{Sound}
 use Rattle.c_core_laws.proofs.Extending.{zero_cell}

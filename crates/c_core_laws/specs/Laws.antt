@@ -18,7 +18,7 @@ use Rattle.c_core_rules.specs.Statements.{function_rule}
 use Rattle.c_core_rules.specs.Programs.{frames_of}
 use Rattle.c_core_rules_laws.specs.Layouts.{AreFirst}
 use Rattle.c_core_checked.specs.declared.text.TypedText.{TypedText}
-use Rattle.c_core_checked.specs.Layouts.{text_from}
+use Rattle.c_core_rules_laws.specs.Layouts.{text_from}
 use Rattle.c_core_checked.specs.Texts.{IsTypedText, IsCore}
 use Rattle.c_core_checked.specs.Sound.{Sound}
 use Rattle.c_core_laws.specs.Jumps.{tree_jumps, function_jumps, JumpIsSound}

@@ -1,9 +1,8 @@
 -- The layout that is found under calls that take all functions to begin at cell 0 is that of the
 -- text.
-use Rattle.std.proofs.Common.{◌≡◌, suc, ℕ, ◌<◌, List, [], length, refl, ap, sym}
+use Rattle.std.proofs.Common.{◌≡◌, ℕ, ◌<◌, List, [], refl, ap, sym}
 use Rattle.std.proofs.Common.{◌∙◌}
 use Rattle.std.proofs.Common.{subst, arith}
-use Rattle.cpa_expr.specs.Shape.{greatest}
 use Rattle.cpa_model.specs.declared.program.Cell.{Cell}
 use Rattle.cpa_model.specs.declared.program.TheConstants.{MAX_CELLS}
 use Rattle.c_types_rules.specs.declared.typed.TypedFunction.{TypedFunction}
@@ -13,18 +12,15 @@ use Rattle.c_core_rules.specs.Cells.{Taken, Made, nothing_taken}
 use Rattle.c_core_rules.specs.Expressions.{Frames}
 use Rattle.c_core_rules.specs.Statements.{receiving_globals}
 use Rattle.c_core_rules.specs.Programs.{frames_of}
-use Rattle.c_core_rules_laws.specs.Alike.{RunsAlike, SameTree}
-use Rattle.c_core_rules_laws.specs.Alike.{Pairwise}
-use Rattle.c_core_rules_laws.specs.Alike.{none, more}
 use Rattle.c_core_rules_laws.specs.Sizes.{IsWithinLimits}
-use Rattle.c_core_rules_laws.specs.Layouts.{begins, file_cells}
-use Rattle.c_core_rules_laws.specs.Laws.{texts_are_alike, frames_are_alike, functions_begin_alike}
-use Rattle.c_core_rules_laws.specs.lemmas.Texts.{same_all}
+use Rattle.c_core_rules_laws.specs.Layouts.{begins, file_cells, text_from, IsTooLarge}
+use Rattle.c_core_rules_laws.specs.Laws.{frames_are_alike, functions_begin_alike}
+use Rattle.c_core_rules_laws.specs.Laws.{texts_take_the_same_cells, texts_are_as_large}
 use Rattle.c_core_layout.specs.declared.placing.TextLayout.{TextLayout}
 use Rattle.c_core_layout.specs.ObjectCells.{declared_cells}
 use Rattle.c_core_layout.specs.Measures.{nothing, grown, marks_of, IsWithin}
 use Rattle.c_core_layout.specs.Rests.{rest_of, AreWithin, AreFound}
-use Rattle.c_core_layout.specs.Layouts.{text_from, IsLaidOut, IsTooLarge}
+use Rattle.c_core_layout.specs.Layouts.{IsLaidOut}
 use Rattle.c_core_layout.proofs.Measured.{grown_points, grown_tallest, marks_length, marks_greatest}
 use Rattle.c_core_layout.proofs.TakenCells.{least_text}
 
@@ -50,34 +46,6 @@ within_gathered m is =
       low = omega (arith, is.heights, grown_tallest nothing marks, marks_greatest m.made);
     }
 
--- texts that are alike are of one size
-
-as_many : {xs ys : Trees} → Pairwise SameTree xs ys → length xs ≡ length ys
-as_many none = refl
-as_many (more is all) = ap suc (as_many all)
-
-same_cells : (a : Taken) (m n : Made Trees) → RunsAlike (Pairwise SameTree) a a m n →
-    m.taken.cells ≡ n.taken.cells
-same_cells a m n run = run.adds ∙ sym run.adds_too
-
-pub same_within : (a : Taken) (m n : Made Trees) → RunsAlike (Pairwise SameTree) a a m n →
-    IsWithinLimits m → IsWithinLimits n
-same_within a m n run is =
-    let heights = (same_all run.made).heights in
-    record {
-      cells = omega (arith, is.cells, ap length (same_cells a m n run));
-      points = omega (arith, is.points, ap length heights, as_many run.made);
-      heights = omega (arith, is.heights, ap greatest heights);
-    }
-
--- the text, wherever its functions begin
-alike : (firsts others : List ℕ) (globals : List Global) (functions : List TypedFunction) →
-    RunsAlike (Pairwise SameTree) nothing_taken nothing_taken (text_from firsts globals functions)
-    (text_from others globals functions)
-alike firsts others globals functions =
-    (texts_are_alike (frames_of firsts functions) (frames_of others functions)
-    (frames_are_alike firsts others functions) globals functions).runs nothing_taken nothing_taken
-
 pub laid_out : (globals : List Global) (functions : List TypedFunction) (layout : TextLayout) →
     layout.first_cells ≡ begins (frames_of [] functions) functions (file_cells globals) →
     layout.cells ≡ (rest_of (frames_of [] functions) functions (file_cells globals)).taken.cells →
@@ -85,17 +53,14 @@ pub laid_out : (globals : List Global) (functions : List TypedFunction) (layout 
     IsLaidOut globals functions layout
 laid_out globals functions layout first cells within =
     let firsts = layout.first_cells in
-    let run = alike [] firsts globals functions in
     record {
       first_cells = first
           ∙ functions_begin_alike (frames_of [] functions) (frames_of firsts functions)
           (frames_are_alike [] firsts functions) functions (file_cells globals)
           (file_cells globals) refl;
       cells = cells
-          ∙ same_cells nothing_taken (text_from [] globals functions)
-          (text_from firsts globals functions) run;
-      within = same_within nothing_taken (text_from [] globals functions)
-          (text_from firsts globals functions) run
+          ∙ texts_take_the_same_cells globals functions [] firsts;
+      within = texts_are_as_large globals functions [] firsts
           (gathered_within (text_from [] globals functions) within);
     }
 
@@ -105,8 +70,7 @@ pub too_large : (globals : List Global) (functions : List TypedFunction) →
 too_large globals functions large =
     λ firsts within.
     large (within_gathered (text_from [] globals functions)
-    (same_within nothing_taken (text_from firsts globals functions)
-    (text_from [] globals functions) (alike firsts [] globals functions) within))
+    (texts_are_as_large globals functions firsts [] within))
 
 pub declared_too_large : (globals : List Global) (functions : List TypedFunction) →
     MAX_CELLS < declared_cells globals functions → IsTooLarge globals functions

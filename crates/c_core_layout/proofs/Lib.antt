@@ -3,4 +3,3 @@ mod Measured
 mod Rests
 mod TakenCells
 mod LaidOut
-mod OneLayout

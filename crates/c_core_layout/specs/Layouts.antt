@@ -3,20 +3,11 @@
 use Rattle.std.specs.Prelude.{◌≡◌, ℕ, List, Result, Ok, Err}
 use Rattle.c_types_rules.specs.declared.typed.TypedFunction.{TypedFunction}
 use Rattle.c_types_rules.specs.declared.typed.Global.{Global}
-use Rattle.cpa_model_trees.specs.Numbering.{Trees}
-use Rattle.c_core_rules.specs.Cells.{Made, nothing_taken}
-use Rattle.c_core_rules.specs.Statements.{text_rule}
-use Rattle.c_core_rules.specs.Programs.{frames_of}
 use Rattle.c_core_rules_laws.specs.Sizes.{IsWithinLimits}
-use Rattle.c_core_rules_laws.specs.Layouts.{AreFirst}
+use Rattle.c_core_rules_laws.specs.Layouts.{AreFirst, text_from, IsTooLarge}
 use Rattle.c_core_layout.specs.declared.fault.CoreError.{CoreError}
 use Rattle.c_core_layout.specs.declared.fault.CoreError.TheVariants as error
 use Rattle.c_core_layout.specs.declared.placing.TextLayout.{TextLayout}
-
--- what the rules make of a text whose functions begin at these cells
-abbrev pub text_from : List ℕ → List Global → List TypedFunction → Made Trees
-text_from firsts globals functions =
-    text_rule (frames_of firsts functions) globals functions nothing_taken
 
 -- the functions begin at these cells, where the rules that know this take these cells; and they
 -- make no more than a program may have
@@ -25,11 +16,6 @@ pub record IsLaidOut (globals : List Global) (functions : List TypedFunction) (l
   pub first_cells : AreFirst globals functions layout.first_cells
   pub cells : layout.cells ≡ (text_from layout.first_cells globals functions).taken.cells
   pub within : IsWithinLimits (text_from layout.first_cells globals functions)
-
--- wherever the functions begin, the rules make more than a program may have
-abbrev pub IsTooLarge : List Global → List TypedFunction → Type 0
-IsTooLarge globals functions =
-    (firsts : List ℕ) → IsWithinLimits (text_from firsts globals functions) → ⊥
 
 -- the layout of a text
 abbrev pub IsLayout : List Global → List TypedFunction → Result TextLayout CoreError → Type 0

@@ -2,4 +2,3 @@ pub mod ObjectCells
 pub mod Measures
 pub mod Rests
 pub mod Layouts
-pub mod Laws

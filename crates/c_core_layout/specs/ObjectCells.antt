@@ -12,7 +12,7 @@ use Rattle.c_types_rules.specs.declared.typed.TypedItem.TheFolds.{fold-TypedStat
 use Rattle.c_types_rules.specs.declared.typed.TypedStatement.{TypedStatement}
 use Rattle.c_types_rules.specs.declared.typed.TypedFunction.{TypedFunction}
 use Rattle.c_types_rules.specs.declared.typed.Global.{Global}
-use Rattle.c_types_rules.specs.Counts.{cells_of}
+use Rattle.c_types_rules.specs.Tables.{cells_of}
 
 abbrev pub objects_cells : List Object → ℕ
 objects_cells objects = sum (map cells_of objects)

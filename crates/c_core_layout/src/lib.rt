@@ -4,10 +4,8 @@
 
 mod declared;
 mod fault;
-mod laws;
 mod placing;
 mod sizes;
 
 pub use fault::CoreError;
-pub use laws::{cores_have_their_layout, there_is_one_layout};
 pub use placing::{TextLayout, layout};

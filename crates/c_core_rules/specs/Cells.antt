@@ -6,7 +6,7 @@ use Rattle.cpa_ints.specs.declared.integers.IntType.{IntType}
 use Rattle.cpa_ints.specs.declared.integers.IntType.TheVariants as ty
 use Rattle.c_types_rules.specs.declared.meaning.Object.{Object}
 use Rattle.c_types_rules.specs.declared.meaning.Meaning.{Meaning}
-use Rattle.c_types_rules.specs.Counts.{cells_of, object_named}
+use Rattle.c_types_rules.specs.Tables.{cells_of, object_named}
 use Rattle.cpa_model.specs.declared.program.Cell.{Cell}
 use Rattle.c_core_rules.specs.declared.tree.Location.{Location}
 use Rattle.c_core_rules.specs.Values.{cell_at}

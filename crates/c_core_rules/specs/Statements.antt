@@ -19,7 +19,7 @@ use Rattle.c_types_rules.specs.declared.typed.TypedItem.TheFolds.{fold-TypedItem
 use Rattle.c_types_rules.specs.declared.typed.TypedFunction.{TypedFunction}
 use Rattle.c_types_rules.specs.declared.typed.Global.{Global}
 use Rattle.c_types_rules.specs.Types.{object_type}
-use Rattle.c_types_rules.specs.Counts.{cells_of}
+use Rattle.c_types_rules.specs.Tables.{cells_of}
 use Rattle.cpa_model_trees.specs.declared.tree.CoreTree.{CoreTree}
 use Rattle.cpa_model_trees.specs.declared.tree.CoreTree.TheVariants.{Node}
 use Rattle.cpa_model_trees.specs.declared.tree.Head.TheVariants as head

@@ -18,7 +18,7 @@ use Rattle.c_grammar_symbols.specs.declared.operators.BinaryOperator.TheVariants
 use Rattle.c_grammar_tree.specs.declared.expression.UnaryOperator.{UnaryOperator}
 use Rattle.c_grammar_tree.specs.declared.expression.UnaryOperator.TheVariants as unary
 use Rattle.c_core_rules.specs.declared.tree.Location.{Location}
-use Rattle.c_types_rules.specs.Counts.{is_shift}
+use Rattle.c_types_rules.specs.Tables.{is_shift}
 
 -- v converted to the type t (6.3.1): v itself where it has the type
 abbrev pub conv : Expr → IntType → Expr

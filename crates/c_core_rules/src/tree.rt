@@ -2,14 +2,14 @@
 //! `specs/Expressions.antt` and `specs/Statements.antt`. The types have no functions to prove.
 
 use cpa_expr::Expr;
-use cpa_ints::{IntType, Seq};
+use cpa_ints::{Boxed, IntType, Seq};
 use cpa_model_trees::CoreTree;
 
 /// An expression: core statements, and the pure value behind them.
 #[derive(Drop)]
 pub struct Valued {
     pub statements: Seq<CoreTree>,
-    pub value: Expr,
+    pub value: Boxed<Expr>,
 }
 
 /// So many cells of a type, from one on: those of an object, of a result, or a fresh one.

@@ -12,10 +12,12 @@ use Rattle.c_core_rules.specs.Statements.{item_rule, function_rule, text_rule}
 use Rattle.c_core_rules.specs.Programs.{frames_of}
 use Rattle.c_core_rules_laws.specs.Alike.{Alike, AlikeRows, SameTrees, SameTree, SameLocation}
 use Rattle.c_core_rules_laws.specs.Alike.{SameFrames, Pairwise}
-use Rattle.c_core_rules_laws.specs.Layouts.{begins}
+use Rattle.c_core_rules_laws.specs.Sizes.{IsWithinLimits}
+use Rattle.c_core_rules_laws.specs.Layouts.{begins, AreFirst, text_from}
 use Rattle.c_core_rules_laws.specs.lemmas.Expressions as expressions
 use Rattle.c_core_rules_laws.specs.lemmas.Items as items
 use Rattle.c_core_rules_laws.specs.lemmas.Texts as texts
+use Rattle.c_core_rules_laws.specs.lemmas.Layouts as layouts
 
 abbrev pub ExpressionsAreAlike : Type 0
 ExpressionsAreAlike =
@@ -63,3 +65,29 @@ FunctionsBeginAlike =
 
 pub functions_begin_alike : FunctionsBeginAlike
 functions_begin_alike = texts.same_begins
+
+abbrev pub ThereIsOneLayout : Type 0
+ThereIsOneLayout =
+    (globals : List Global) (functions : List TypedFunction) (firsts others : List ℕ)
+    → AreFirst globals functions firsts → AreFirst globals functions others → firsts ≡ others
+
+pub there_is_one_layout : ThereIsOneLayout
+there_is_one_layout = layouts.one_layout
+
+abbrev pub TextsTakeTheSameCells : Type 0
+TextsTakeTheSameCells =
+    (globals : List Global) (functions : List TypedFunction) (firsts others : List ℕ)
+    → (text_from firsts globals functions).taken.cells
+    ≡ (text_from others globals functions).taken.cells
+
+pub texts_take_the_same_cells : TextsTakeTheSameCells
+texts_take_the_same_cells = layouts.one_list
+
+abbrev pub TextsAreAsLarge : Type 0
+TextsAreAsLarge =
+    (globals : List Global) (functions : List TypedFunction) (firsts others : List ℕ)
+    → IsWithinLimits (text_from firsts globals functions)
+    → IsWithinLimits (text_from others globals functions)
+
+pub texts_are_as_large : TextsAreAsLarge
+texts_are_as_large = layouts.one_size

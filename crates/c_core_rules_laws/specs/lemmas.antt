@@ -11,3 +11,4 @@ pub mod Expressions
 pub mod Declarations
 pub mod Items
 pub mod Texts
+pub mod Layouts

@@ -6,5 +6,6 @@ mod laws;
 
 pub use laws::{
     expressions_are_alike, frames_are_alike, functions_are_alike, functions_begin_alike,
-    items_are_alike, texts_are_alike,
+    items_are_alike, texts_are_alike, texts_are_as_large, texts_take_the_same_cells,
+    there_is_one_layout,
 };

@@ -20,7 +20,7 @@ use Rattle.c_types_rules.specs.declared.meaning.Declared.TheVariants as declared
 use Rattle.c_types_rules.specs.declared.meaning.Entry.{Entry}
 use Rattle.c_types_rules.specs.declared.typed.TypedFunction.{TypedFunction}
 use Rattle.c_types_rules.specs.Names.{Text, declared_as, place_of}
-use Rattle.c_types_rules.specs.Counts.{cells_of}
+use Rattle.c_types_rules.specs.Tables.{cells_of}
 use Rattle.c_types_rules.specs.Declarations.{kind_of}
 use Rattle.c_types_rules.specs.StatementRules.{site_faults, jump_faults}
 use Rattle.c_types_rules.specs.TypedStatements.{typed_function, parameter_objects}

@@ -20,7 +20,7 @@ use Rattle.c_types_rules.specs.declared.meaning.Declared.{Declared}
 use Rattle.c_types_rules.specs.declared.meaning.Declared.TheVariants as declared
 use Rattle.c_types_rules.specs.declared.meaning.Entry.{Entry}
 use Rattle.c_types_rules.specs.Names.{Text, declared_as, or_else}
-use Rattle.c_types_rules.specs.Counts.{cells_of}
+use Rattle.c_types_rules.specs.Tables.{cells_of}
 use Rattle.c_types_rules.specs.ExpressionRules.{broken, uses_faults}
 use Rattle.c_types_rules.specs.Declarations.{kind_of, items_of, length_faults, length_uses}
 use Rattle.c_types_rules.specs.Declarations.{void_object}

@@ -20,7 +20,7 @@ use Rattle.c_types_rules.specs.declared.meaning.Function.{Function}
 use Rattle.c_types_rules.specs.declared.meaning.Meaning.TheVariants as meaning
 use Rattle.c_types_rules.specs.Types.{object_type}
 use Rattle.c_types_rules.specs.Known.{known_result}
-use Rattle.c_types_rules.specs.Counts.{cells_of, operator_of}
+use Rattle.c_types_rules.specs.Tables.{cells_of, operator_of}
 use Rattle.cpa_model_trees.specs.declared.tree.Head.TheVariants as head
 use Rattle.c_core_rules.specs.declared.tree.Location.{Location}
 use Rattle.c_core_rules.specs.declared.tree.Place.TheVariants as place

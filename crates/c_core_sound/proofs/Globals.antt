@@ -14,7 +14,7 @@ use Rattle.c_types_rules.specs.declared.meaning.Declared.TheVariants as declared
 use Rattle.c_types_rules.specs.declared.meaning.Entry.{Entry}
 use Rattle.c_types_rules.specs.declared.typed.Global.{Global}
 use Rattle.c_types_rules.specs.Names.{declared_as, or_else}
-use Rattle.c_types_rules.specs.Counts.{cells_of}
+use Rattle.c_types_rules.specs.Tables.{cells_of}
 use Rattle.c_types_rules.specs.Sound.{Start, object_names, is_object_entry, object_in, start_values}
 use Rattle.c_types_rules.specs.Sound.{global_named, globals_of}
 use Rattle.c_core_rules.specs.Cells.{Taken, nothing_taken}

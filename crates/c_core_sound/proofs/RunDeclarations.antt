@@ -23,7 +23,7 @@ use Rattle.c_types_rules.specs.declared.meaning.Entry.{Entry}
 use Rattle.c_types_rules.specs.declared.meaning.Role.TheVariants.{Valued}
 use Rattle.c_types_rules.specs.declared.typed.TypedExpression.{TypedExpression}
 use Rattle.c_types_rules.specs.Names.{Text}
-use Rattle.c_types_rules.specs.Counts.{cells_of}
+use Rattle.c_types_rules.specs.Tables.{cells_of}
 use Rattle.c_types_rules.specs.Expressions.{reading}
 use Rattle.c_types_rules.specs.ExpressionRules.{broken, uses_faults}
 use Rattle.c_types_rules.specs.Declarations.{items_of, object_of, local_entry, length_faults}

@@ -24,7 +24,7 @@ use Rattle.c_types_rules.specs.declared.meaning.Declared.TheVariants as declared
 use Rattle.c_types_rules.specs.declared.meaning.Entry.{Entry}
 use Rattle.c_types_rules.specs.declared.typed.TypedFunction.{TypedFunction}
 use Rattle.c_types_rules.specs.Names.{Text, body_of, declared_as, function_of}
-use Rattle.c_types_rules.specs.Counts.{cells_of}
+use Rattle.c_types_rules.specs.Tables.{cells_of}
 use Rattle.c_types_rules.specs.Expressions.{Use, named, taken, given, paired}
 use Rattle.c_types_rules.specs.Declarations.{kind_of, items_of}
 use Rattle.c_types_rules.specs.Statements.{Around, Site, Walk, in_order, receiving, walk_of}

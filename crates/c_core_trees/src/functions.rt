@@ -9,8 +9,9 @@ ghost use Rattle.c_core_values.specs.Found.{so_far};
 
 use crate::statements::in_order;
 use c_core_expressions::Frames;
-use c_core_values::{Cells, block, cell_at, constant, joined, list_of, set};
+use c_core_values::{Cells, block, cell_at, joined, list_of, set};
 use c_types_rules::{Global, Kind, Object, TypedFunction};
+use cpa_expr::constant;
 use cpa_ints::Seq;
 use cpa_model::Cell;
 use cpa_model_trees::CoreTree;
@@ -36,7 +37,8 @@ fn resulting(cells: &mut Cells, result_kind: Kind) -> Result<Seq<CoreTree>, Allo
         Kind::Void => Ok(Seq::new(alloc)),
         Kind::Value(ty) => {
             let place = cells.fresh(ty)?;
-            let tree = set(alloc, place, constant(ty, 0))?;
+            let zero = constant(alloc, ty, 0)?;
+            let tree = set(alloc, place, zero)?;
             list_of(alloc, tree)
         }
     }

@@ -15,12 +15,13 @@ ghost use Rattle.c_core_trees.specs.Items.{statement_rule, left, do_behind, for_
 use c_core_expressions::{Frames, cell_behind, chosen_unused, unused, used};
 use c_core_rules::{Location, Valued};
 use c_core_values::{
-    Cells, block, cell_at, constant, input, joined, leaf, list_of, repeated, set, with,
+    Cells, block, cell_at, input, joined, leaf, list_of, repeated, set, with,
 };
 use c_types_rules::{
     Object, TypedDeclarator, TypedExpression, TypedForStart, TypedInitializer, TypedItem,
     TypedStatement, cells_of,
 };
+use cpa_expr::constant;
 use cpa_ints::{IntType, Seq};
 use cpa_model_trees::{CoreTree, Head};
 use std::alloc::{AllocError, Global};
@@ -87,7 +88,8 @@ fn zeros(alloc: Global, ty: IntType, first: u32, count: u128) -> Result<Seq<Core
     let mut trees = Seq::new(alloc);
     for place in 0..count {
         let cell = cell_behind(first, place)?;
-        trees.push(set(alloc, cell_at(ty, cell), constant(ty, 0))?)?;
+        let zero = constant(alloc, ty, 0)?;
+        trees.push(set(alloc, cell_at(ty, cell), zero)?)?;
     }
     Ok(trees)
 }
@@ -364,12 +366,12 @@ fn returned(
     ensures made { IfOk result (λ trees. trees
         ≡ (returned frames.now place value.now (so_far cells.old)).made) }
 {
-    let leave = leaf(frames.alloc(), Head::Leave);
+    let alloc = frames.alloc();
     match value {
-        None => list_of(frames.alloc(), leave),
+        None => list_of(alloc, leaf(alloc, Head::Leave)),
         Some(value) => {
             let before = initialized(cells, frames, place, value)?;
-            with(before, leave)
+            with(before, leaf(alloc, Head::Leave))
         }
     }
 }

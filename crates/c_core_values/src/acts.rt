@@ -15,13 +15,13 @@ use crate::cells::Cells;
 use crate::trees::{choice, joined, list_of, set, with};
 use crate::values::{int, scalar};
 use c_core_operators::{
-    both, chosen_value, conv, either, is_constant, operator_value, signed_value, truth_of,
+    chosen_value, conv, is_constant, operator_value, signed_value, truth_of,
 };
 use c_core_rules::{Location, Valued};
 use c_grammar_symbols::BinaryOperator;
 use c_grammar_tree::UnaryOperator;
-use cpa_expr::{Expr, type_of};
-use cpa_ints::{IntType, Seq, common};
+use cpa_expr::{Expr, both, either, type_of};
+use cpa_ints::{Boxed, IntType, Seq, common};
 use cpa_model_trees::CoreTree;
 use std::alloc::{AllocError, Global};
 
@@ -40,7 +40,7 @@ pub(crate) fn statements_of(v: Valued) -> Seq<CoreTree>
 }
 
 /// Its value alone.
-fn value_of(v: Valued) -> Expr
+fn value_of(v: Valued) -> Boxed<Expr>
     ensures { result ≡ v.value }
 {
     v.value
@@ -101,7 +101,7 @@ pub(crate) fn held(cells: &mut Cells, v: Valued) -> Result<Valued, AllocError>
         ≡ (held v (so_far cells.old)).taken) }
     ensures made { IfOk result (λ w. w ≡ (held v (so_far cells.old)).made) }
 {
-    let ty = type_of(&v.value);
+    let ty = type_of(v.value.get());
     let Kept { place, statements } = keep(cells, ty, v)?;
     read_behind(cells.alloc(), statements, place)
 }
@@ -160,7 +160,8 @@ fn keep_truth(cells: &mut Cells, v: Valued) -> Result<Kept, AllocError>
 fn number_in(alloc: Global, place: Location, number: u32) -> Result<Seq<CoreTree>, AllocError>
     ensures { IfOk result (λ trees. trees ≡ set place (int number) ∷ []) }
 {
-    let written = set(alloc, place, int(number))?;
+    let value = int(alloc, number)?;
+    let written = set(alloc, place, value)?;
     list_of(alloc, written)
 }
 
@@ -199,7 +200,7 @@ fn chosen_into(alloc: Global, test: Valued, ends: Ends) -> Result<Valued, AllocE
 }
 
 /// `left && right` without a fresh cell.
-fn both_purely(alloc: Global, left: Valued, right: Expr) -> Result<Valued, AllocError>
+fn both_purely(alloc: Global, left: Valued, right: Boxed<Expr>) -> Result<Valued, AllocError>
     ensures { IfOk result (λ v. v ≡ valued left.statements (And left.value right)) }
 {
     let Valued { statements, value } = left;
@@ -239,7 +240,7 @@ fn both_hold(cells: &mut Cells, left: Valued, right: Valued) -> Result<Valued, A
 }
 
 /// `left || right` without a fresh cell.
-fn one_purely(alloc: Global, left: Valued, right: Expr) -> Result<Valued, AllocError>
+fn one_purely(alloc: Global, left: Valued, right: Boxed<Expr>) -> Result<Valued, AllocError>
     ensures { IfOk result (λ v. v ≡ valued left.statements (Or left.value right)) }
 {
     let Valued { statements, value } = left;
@@ -352,7 +353,12 @@ fn chosen_by(
 }
 
 /// A conditional without a fresh cell.
-fn chosen_purely(alloc: Global, test: Valued, yes: Expr, no: Expr) -> Result<Valued, AllocError>
+fn chosen_purely(
+    alloc: Global,
+    test: Valued,
+    yes: Boxed<Expr>,
+    no: Boxed<Expr>,
+) -> Result<Valued, AllocError>
     ensures { IfOk result (λ v. v
         ≡ valued test.statements (chosen_value test.value yes no)) }
 {
@@ -375,7 +381,7 @@ pub fn chosen(
     if is_pure(&yes) && is_pure(&no) {
         return chosen_purely(cells.alloc(), test, value_of(yes), value_of(no));
     }
-    let ty = common(type_of(&yes.value), type_of(&no.value));
+    let ty = common(type_of(yes.value.get()), type_of(no.value.get()));
     chosen_by(cells, ty, test, yes, no)
 }
 
@@ -385,7 +391,7 @@ pub fn dropped_value(cells: &mut Cells, v: Valued) -> Result<Seq<CoreTree>, Allo
         ≡ (dropped_value v (so_far cells.old)).taken) }
     ensures made { IfOk result (λ trees. trees ≡ (dropped_value v (so_far cells.old)).made) }
 {
-    if is_constant(&v.value) {
+    if is_constant(v.value.get()) {
         return Ok(statements_of(v));
     }
     let kept = held(cells, v)?;
@@ -398,7 +404,7 @@ pub(crate) fn fixed(cells: &mut Cells, index: Valued) -> Result<Valued, AllocErr
         ≡ (fixed index (so_far cells.old)).taken) }
     ensures made { IfOk result (λ v. v ≡ (fixed index (so_far cells.old)).made) }
 {
-    if is_constant(&index.value) {
+    if is_constant(index.value.get()) {
         Ok(index)
     } else {
         held(cells, index)

@@ -2,7 +2,7 @@
 //! `specs/Cells.antt`). Proved with `proofs/Filled.antt`.
 ghost use Rattle.std.specs.Prelude.{◌≡◌, [], ◌∷◌, ◌++◌, length, IfOk, OnOk, None, Some};
 ghost use Rattle.c_types_rules.specs.declared.meaning.Meaning.TheVariants as meaning;
-ghost use Rattle.c_types_rules.specs.Counts.{cells_of};
+ghost use Rattle.c_types_rules.specs.Tables.{cells_of};
 ghost use Rattle.c_core_rules.specs.Cells.{nothing_taken, fresh, taking, begun};
 ghost use Rattle.c_core_rules.specs.Cells.{location_in, scalar_place, cell, cells_with};
 ghost use Rattle.c_core_values.specs.Found.{found_starts, so_far, first_value, values_behind};

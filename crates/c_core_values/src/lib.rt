@@ -14,4 +14,4 @@ pub use cells::Cells;
 pub use operands::{divided, hold_all};
 pub use places::{changed, fixed_if, incremented, stepped};
 pub use trees::{block, choice, input, joined, leaf, list_of, pure, repeated, set, with};
-pub use values::{cell_at, constant, element, int, scalar};
+pub use values::{cell_at, element, int, number, scalar};

@@ -10,7 +10,7 @@ use crate::cells::Cells;
 use crate::trees::joined;
 use c_core_rules::Valued;
 use cpa_expr::Expr;
-use cpa_ints::Seq;
+use cpa_ints::{Boxed, Seq};
 use cpa_model_trees::CoreTree;
 use std::alloc::{AllocError, Global};
 
@@ -67,7 +67,7 @@ pub fn hold_all(cells: &mut Cells, operands: Vec<Valued>) -> Result<Vec<Valued>,
 pub fn divided(
     alloc: Global,
     operands: Vec<Valued>,
-) -> Result<(Seq<CoreTree>, Vec<Expr>), AllocError>
+) -> Result<(Seq<CoreTree>, Vec<Boxed<Expr>>), AllocError>
     ensures statements { IfOk result (λ parts. parts.0 ≡ statements_of operands.items) }
     ensures values { IfOk result (λ parts. parts.1.items ≡ values_of operands.items) }
 {

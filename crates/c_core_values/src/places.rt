@@ -12,35 +12,39 @@ ghost use Rattle.c_core_values.specs.Found.{so_far};
 use crate::acts::{fixed, followed, held, held_before, operated, statements_of};
 use crate::cells::Cells;
 use crate::trees::{joined, pure, with, write};
-use crate::values::{element, int};
+use crate::values::{element, number};
 use c_core_rules::{Location, Place, Valued};
 use c_grammar_symbols::{BinaryOperator, StepOperator};
-use cpa_expr::{Expr, copy};
-use cpa_ints::Seq;
+use cpa_expr::{Expr, copied};
+use cpa_ints::{Boxed, Seq};
 use cpa_model_trees::CoreTree;
 use std::alloc::{AllocError, Global};
 
 /// The place with a copy of its index, read.
-fn element_again(alloc: Global, place: Location, index: &Expr) -> Result<Expr, AllocError>
+fn element_again(
+    alloc: Global,
+    place: Location,
+    index: &Expr,
+) -> Result<Boxed<Expr>, AllocError>
     ensures { IfOk result (λ e. e ≡ element place index.now) }
 {
-    let index = copy(alloc, index)?;
+    let index = copied(alloc, index)?;
     element(alloc, place, index)
 }
 
 /// An index, and the place that it names, read.
 #[derive(Drop)]
 struct Indexed {
-    index: Expr,
-    read: Expr,
+    index: Boxed<Expr>,
+    read: Boxed<Expr>,
 }
 
 /// What an index names.
-fn read_at(alloc: Global, place: Location, index: Expr) -> Result<Indexed, AllocError>
+fn read_at(alloc: Global, place: Location, index: Boxed<Expr>) -> Result<Indexed, AllocError>
     ensures index { IfOk result (λ t. t.index ≡ index) }
     ensures read { IfOk result (λ t. t.read ≡ element place index) }
 {
-    let read = element_again(alloc, place, &index)?;
+    let read = element_again(alloc, place, index.get())?;
     Ok(Indexed { index, read })
 }
 
@@ -48,7 +52,7 @@ fn read_at(alloc: Global, place: Location, index: Expr) -> Result<Indexed, Alloc
 fn write_behind(
     alloc: Global,
     place: Location,
-    index: Expr,
+    index: Boxed<Expr>,
     v: Valued,
 ) -> Result<Seq<CoreTree>, AllocError>
     ensures { IfOk result (λ trees. trees ≡ v.statements ++ write place index v.value ∷ []) }
@@ -77,7 +81,12 @@ fn written_to(
 }
 
 /// A write to an element behind the statements of the value.
-fn written_at(alloc: Global, place: Location, index: Expr, v: Valued) -> Result<Valued, AllocError>
+fn written_at(
+    alloc: Global,
+    place: Location,
+    index: Boxed<Expr>,
+    v: Valued,
+) -> Result<Valued, AllocError>
     ensures { IfOk result (λ w. w
         ≡ valued (v.statements ++ write place index v.value ∷ []) (element place index)) }
 {
@@ -107,7 +116,8 @@ fn written(alloc: Global, place: Location, index: Valued, v: Valued) -> Result<V
 fn set_scalar(alloc: Global, place: Location, v: Valued) -> Result<Valued, AllocError>
     ensures { IfOk result (λ w. w ≡ set_scalar place v) }
 {
-    written(alloc, place, pure(alloc, int(0)), v)
+    let index = number(alloc, 0)?;
+    written(alloc, place, index, v)
 }
 
 /// An index that is fixed where that is wanted.
@@ -239,7 +249,7 @@ fn updated_at(
     ensures made { IfOk result (λ w. w
         ≡ (updated_at operator place index v (so_far cells.old)).made) }
 {
-    let new = new_value(cells, operator, place, &index.value, v)?;
+    let new = new_value(cells, operator, place, index.value.get(), v)?;
     written(cells.alloc(), place, index, new)
 }
 
@@ -256,7 +266,7 @@ fn updated(
 {
     match place {
         Place::Scalar(location) => {
-            let index = pure(cells.alloc(), int(0));
+            let index = number(cells.alloc(), 0)?;
             updated_at(cells, operator, location, index, v)
         }
         Place::Element(location, index) => updated_at(cells, operator, location, index, v),
@@ -302,7 +312,7 @@ pub fn incremented(
         ≡ (incremented operator place (so_far cells.old)).taken) }
     ensures made { IfOk result (λ v. v ≡ (incremented operator place (so_far cells.old)).made) }
 {
-    let one = pure(cells.alloc(), int(1));
+    let one = number(cells.alloc(), 1)?;
     updated(cells, step_operator(operator), place, one)
 }
 
@@ -328,7 +338,7 @@ fn stepped_behind(
     operator: StepOperator,
     place: Location,
     old: Valued,
-    index: Expr,
+    index: Boxed<Expr>,
 ) -> Result<Valued, AllocError>
     ensures taken { OnOk result (so_far cells.new ≡ (updated_at (step_operator operator) place
         (pure index) (pure (int 1)) (so_far cells.old)).taken) }
@@ -338,7 +348,7 @@ fn stepped_behind(
 {
     let alloc = cells.alloc();
     let index = pure(alloc, index);
-    let one = pure(alloc, int(1));
+    let one = number(alloc, 1)?;
     let new = updated_at(cells, step_operator(operator), place, index, one)?;
     followed(old, statements_of(new))
 }
@@ -356,7 +366,7 @@ fn stepped_at(
         ≡ (stepped_at operator place index (so_far cells.old)).made) }
 {
     let Valued { statements, value } = index;
-    let old = old_held(cells, place, statements, &value)?;
+    let old = old_held(cells, place, statements, value.get())?;
     stepped_behind(cells, operator, place, old, value)
 }
 
@@ -372,10 +382,10 @@ pub fn stepped(
 {
     match place {
         Place::Scalar(location) => {
-            let index = pure(cells.alloc(), int(0));
+            let index = number(cells.alloc(), 0)?;
             stepped_at(cells, operator, location, index)
         }
         Place::Element(location, index) => stepped_at(cells, operator, location, index),
-        Place::Neither => Ok(pure(cells.alloc(), int(0))),
+        Place::Neither => number(cells.alloc(), 0),
     }
 }

@@ -7,7 +7,7 @@ use crate::values::int;
 use c_core_operators::conv;
 use c_core_rules::{Location, Valued};
 use cpa_expr::Expr;
-use cpa_ints::Seq;
+use cpa_ints::{Boxed, Seq};
 use cpa_model_trees::{CoreTree, Head};
 use std::alloc::{AllocError, Global};
 
@@ -74,13 +74,14 @@ fn blocks(
 /// A choice by a test.
 pub fn choice(
     alloc: Global,
-    test: Expr,
+    test: Boxed<Expr>,
     yes: Seq<CoreTree>,
     no: Seq<CoreTree>,
 ) -> Result<CoreTree, AllocError>
     ensures { IfOk result (λ tree. tree ≡ choice test yes no) }
 {
     let parts = blocks(alloc, yes, no)?;
+    let test = test.into_inner();
     Ok(CoreTree::Node {
         head: Head::If { test },
         parts,
@@ -106,8 +107,8 @@ pub fn repeated(
 pub(crate) fn write(
     alloc: Global,
     place: Location,
-    index: Expr,
-    v: Expr,
+    index: Boxed<Expr>,
+    v: Boxed<Expr>,
 ) -> Result<CoreTree, AllocError>
     ensures { IfOk result (λ tree. tree ≡ write place index v) }
 {
@@ -115,17 +116,18 @@ pub(crate) fn write(
     let head = Head::Assign {
         base: place.base,
         len: place.len,
-        index,
-        value,
+        index: index.into_inner(),
+        value: value.into_inner(),
     };
     Ok(leaf(alloc, head))
 }
 
 /// A write to a scalar.
-pub fn set(alloc: Global, place: Location, v: Expr) -> Result<CoreTree, AllocError>
+pub fn set(alloc: Global, place: Location, v: Boxed<Expr>) -> Result<CoreTree, AllocError>
     ensures { IfOk result (λ tree. tree ≡ set place v) }
 {
-    write(alloc, place, int(0), v)
+    let index = int(alloc, 0)?;
+    write(alloc, place, index, v)
 }
 
 /// An input of a cell.
@@ -136,7 +138,7 @@ pub fn input(alloc: Global, cell: u32) -> CoreTree
 }
 
 /// A value without statements.
-pub fn pure(alloc: Global, value: Expr) -> Valued
+pub fn pure(alloc: Global, value: Boxed<Expr>) -> Valued
     ensures { result ≡ pure value }
 {
     Valued {

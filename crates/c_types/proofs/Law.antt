@@ -20,7 +20,7 @@ use Rattle.c_types_rules.specs.Sound.{NotBehind, BreaksTree, unit_faults, unit_c
 use Rattle.c_types_rules.specs.Sound.{unit_globals, unit_functions, without_main}
 use Rattle.c_types_recursion.specs.Least.{FindsLeast}
 use Rattle.c_core_rules_laws.specs.Sizes.{IsWithinLimits}
-use Rattle.c_core_checked.specs.Layouts.{IsTooLarge}
+use Rattle.c_core_rules_laws.specs.Layouts.{IsTooLarge}
 use Rattle.c_core_checked.specs.Texts.{unit_core}
 use Rattle.c_core_checked.specs.Sound.{Sound, IsFirstBroken}
 use Rattle.c_types.specs.Firsts.{FindsFirst}

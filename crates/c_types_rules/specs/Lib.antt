@@ -11,6 +11,6 @@ pub mod StatementRules
 pub mod Items
 pub mod Recursion
 pub mod TypedStatements
-pub mod Counts
+pub mod Tables
 pub mod First
 pub mod Sound

@@ -1,20 +1,15 @@
--- The typed tree of a text, the rules of names and types that a text can break (C11 6.2.1, 6.5 to
--- 6.9), and the first of them.
+-- The typed tree of a text, the rules of names and types that a text can break without that of its
+-- size (C11 6.2.1, 6.5 to 6.9), and the order of what breaks them.
 use Rattle.std.specs.Prelude.{◌≡◌, ◌⊎◌, ℕ, ◌<◌, ◌≤◌, ℤ, pos, Bool, true, false, not, ◌&&◌}
-use Rattle.std.specs.Prelude.{◌||◌, nat_lt, if◌then◌else◌, List, [], ◌∷◌, ◌++◌, length, map, take}
-use Rattle.std.specs.Prelude.{replicate, find, codes, Option, None, Some, unwrap_or, option_map}
-use Rattle.std.specs.Prelude.{Result, Ok, Err}
+use Rattle.std.specs.Prelude.{if◌then◌else◌, List, [], ◌∷◌, ◌++◌, map}
+use Rattle.std.specs.Prelude.{find, codes, Option, None, Some, unwrap_or, option_map}
 use Rattle.std.specs.List.{flat_map, list_any}
 use Rattle.std.specs.Str.{bytes_eq}
-use Rattle.cpa_ints.specs.declared.integers.IntType.{IntType}
 use Rattle.cpa_ints.specs.declared.integers.IntType.TheVariants as ty
 use Rattle.cpa_ints.specs.Wrapping.{wrapped}
-use Rattle.cpa_expr.specs.declared.shape.TheConstants.{MAX_HEIGHT}
 use Rattle.c_lexer.specs.Rules.{rule_number}
 use Rattle.c_lexer.specs.declared.fault.Rule.TheVariants as rule
 use Rattle.c_lexer.specs.declared.fault.TextFault.{TextFault}
-use Rattle.c_lexer.specs.declared.fault.TextError.{TextError}
-use Rattle.c_lexer.specs.declared.fault.TextError.TheVariants as error
 use Rattle.c_grammar_tree.specs.declared.declaration.Declarator.{Declarator}
 use Rattle.c_grammar_tree.specs.declared.declaration.Specifiers.{Specifiers}
 use Rattle.c_grammar_tree.specs.declared.item.Parameters.{Parameters}
@@ -23,25 +18,20 @@ use Rattle.c_grammar_tree.specs.declared.item.Body.TheVariants as body
 use Rattle.c_grammar_tree.specs.declared.item.Item.{Item}
 use Rattle.c_grammar_tree.specs.declared.item.Item.TheVariants as item
 use Rattle.c_grammar_tree.specs.declared.item.Unit.{Unit as UnitTree}
-use Rattle.c_types_rules.specs.declared.TheConstants.{MAX_CELLS, MAX_POINTS}
-use Rattle.c_types_rules.specs.declared.meaning.Kind.TheVariants.{Void, Value}
+use Rattle.c_types_rules.specs.declared.meaning.Kind.TheVariants.{Value}
 use Rattle.c_types_rules.specs.declared.meaning.Object.{Object}
 use Rattle.c_types_rules.specs.declared.meaning.Declared.{Declared}
 use Rattle.c_types_rules.specs.declared.meaning.Declared.TheVariants as declared
 use Rattle.c_types_rules.specs.declared.meaning.Entry.{Entry}
 use Rattle.c_types_rules.specs.declared.typed.TypedFunction.{TypedFunction}
 use Rattle.c_types_rules.specs.declared.typed.Global.{Global}
-use Rattle.c_types_rules.specs.declared.typed.Cell.{Cell}
-use Rattle.c_types_rules.specs.declared.typed.TypedUnit.{TypedUnit}
-use Rattle.c_types_rules.specs.Names.{Text, body_of, declared_as}
+use Rattle.c_types_rules.specs.Names.{Text, declared_as}
 use Rattle.c_types_rules.specs.Declarations.{kind_of, items_of, constant_number}
 use Rattle.c_types_rules.specs.Items.{Call, Before, text_of, same_kind, global_of, global_behind}
 use Rattle.c_types_rules.specs.Items.{item_behind, items_faults, items_calls}
 use Rattle.c_types_rules.specs.Items.{nothing_before}
 use Rattle.c_types_rules.specs.Recursion.{Among, LeadsBack}
 use Rattle.c_types_rules.specs.TypedStatements.{typed_function}
-use Rattle.c_types_rules.specs.Counts.{Heads, Size, Made, cells_of, function_rule, text_rule}
-use Rattle.c_types_rules.specs.Counts.{heads_of}
 
 -- what is known behind items
 abbrev pub items_behind : Text → List Item → Before → Before
@@ -126,58 +116,17 @@ global_named names starts name =
 abbrev pub globals_of : List Entry → List Start → List Global
 globals_of names starts = flat_map (global_named names starts) (object_names [] names)
 
--- as many values as an object has cells, 0 behind those that are there (C11 6.7.9p10 and p21)
-abbrev pub filled : Global → List ℤ
-filled global =
-    take (cells_of global.object) (global.starts ++ replicate (cells_of global.object) (pos 0))
-
--- each cell starts at its value, and at 0 behind these
-abbrev pub started : List IntType → List ℤ → List Cell
-started [] values = []
-started (t ∷ types) [] = record { ty = t; start = pos 0 } ∷ started types []
-started (t ∷ types) (n ∷ values) = record { ty = t; start = n } ∷ started types values
-
--- how many cells stand before those of each function
-abbrev pub first_cells : Heads → List TypedFunction → List IntType → List ℕ
-first_cells heads [] cells = []
-first_cells heads (function ∷ functions) cells =
-    length cells ∷ first_cells heads functions (function_rule heads function cells).cells
-
-abbrev pub object_types : List Object → List IntType
-object_types objects = flat_map (λ object. replicate (cells_of object) object.ty) objects
-
--- what the core of these takes
-abbrev pub counts : List Global → List TypedFunction → Made Size
-counts globals functions =
-    text_rule (heads_of functions) (map (λ global. global.object) globals) functions []
-
 -- the name main (C11 5.1.2.2.1)
 abbrev pub main_name : List ℕ
 main_name = codes "main"
 
--- the typed text of this length and of these parts
-abbrev pub typed_parts : Text → ℕ → List Global → List TypedFunction → TypedUnit
-typed_parts text bytes globals functions = record {
-  globals = globals;
-  functions = functions;
-  cells = started (counts globals functions).cells (flat_map filled globals);
-  first_cells = first_cells (heads_of functions) functions (object_types (map
-      (λ global. global.object) globals));
-  main = unwrap_or (body_of text main_name) 0;
-  length = bytes;
-}
-
+-- the typed tree of a text: its objects of file scope, and its functions with a body
 abbrev pub unit_globals : UnitTree → List Global
 unit_globals unit = globals_of (items_behind (text_of unit.items) unit.items nothing_before).names
     (starts_of (text_of unit.items) unit.items nothing_before)
 
 abbrev pub unit_functions : UnitTree → List TypedFunction
 unit_functions unit = functions_of (text_of unit.items) unit.items nothing_before
-
--- the typed tree of a text
-unfoldable pub typed_unit : UnitTree → TypedUnit
-typed_unit unit =
-    typed_parts (text_of unit.items) unit.length (unit_globals unit) (unit_functions unit)
 
 -- no parameters
 abbrev pub has_no_parameters : Parameters → Bool
@@ -216,41 +165,8 @@ pub record IsRecursive (unit : UnitTree) (fault : TextFault) : Type 0 where
 abbrev pub BreaksTree : UnitTree → TextFault → Type 0
 BreaksTree unit fault = Among fault (unit_faults unit) ⊎ IsRecursive unit fault
 
--- more cells or points than a program has, or an expression that is too high
-abbrev pub is_too_large : Made Size → Bool
-is_too_large taken = nat_lt MAX_CELLS (length taken.cells) || nat_lt MAX_POINTS taken.made.points
-    || nat_lt MAX_HEIGHT taken.made.tallest
-
--- N13: the core, which a text has that breaks no other rule, is too large (this project's own): the
--- text's end
-pub record IsTooLarge (unit : UnitTree) (fault : TextFault) : Type 0 where
-  pub rule : fault.rule ≡ rule.N13
-  pub place : fault.place ≡ unit.length
-  pub has_core : (other : TextFault) → BreaksTree unit other → ⊥
-  pub large : is_too_large (counts (unit_globals unit) (unit_functions unit)) ≡ true
-
--- the text breaks this rule at this place
-abbrev pub Breaks : UnitTree → TextFault → Type 0
-Breaks unit fault = BreaksTree unit fault ⊎ IsTooLarge unit fault
-
--- no rule is broken anywhere
-abbrev pub Sound : UnitTree → Type 0
-Sound unit = (fault : TextFault) → Breaks unit fault → ⊥
-
 -- at a lesser place, or at the same place by no higher rule
 abbrev pub NotBehind : TextFault → TextFault → Type 0
 NotBehind fault other =
     (fault.place < other.place) ⊎ ((fault.place ≡ other.place) ×
     (rule_number fault.rule ≤ rule_number other.rule))
-
--- a rule that is broken at the least place at which one is, and the lowest there
-pub record IsFirstBroken (unit : UnitTree) (fault : TextFault) : Type 0 where
-  pub breaks : Breaks unit fault
-  pub first : (other : TextFault) → Breaks unit other → NotBehind fault other
-
--- what a check of a text answers: the typed tree where the text is sound, and otherwise the first
--- broken rule
-abbrev pub IsChecked : UnitTree → Result TypedUnit TextError → Type 0
-IsChecked unit (Ok typed) = Sound unit × (typed ≡ typed_unit unit)
-IsChecked unit (Err (error.Fault fault)) = IsFirstBroken unit fault
-IsChecked unit (Err error.OutOfMemory) = Unit {0}

@@ -2,11 +2,10 @@
 //! does nothing: its contract is the law.
 ghost use Rattle.std.specs.Prelude.{◌≡◌, Some};
 ghost use Rattle.std.specs.Option.{is_some};
-ghost use Rattle.cpa_expr.specs.declared.shape.TheConstants.{MAX_HEIGHT};
 ghost use Rattle.c_grammar_tree.specs.declared.TheConstants.{MAX_LEVEL};
 ghost use Rattle.c_grammar_tree.specs.declared.name.Name.{Name};
 ghost use Rattle.c_grammar_tree.specs.Items.{is_known};
-ghost use Rattle.c_types_rules.specs.declared.TheConstants.{MAX_ELEMENTS, MAX_CELLS, MAX_POINTS};
+ghost use Rattle.c_types_rules.specs.declared.TheConstants.{MAX_ELEMENTS};
 ghost use Rattle.c_types_rules.specs.declared.known.KnownFunction.{KnownFunction};
 ghost use Rattle.c_types_rules.specs.Known.{known, spelling_of_known};
 
@@ -18,12 +17,8 @@ pub fn known_functions_are_found()
     ensures skipped { (name : Name) → is_known name ≡ is_some (known name.bytes) }
 {}
 
-/// The limits of this project: levels of a text, elements of an array, cells and points of a
-/// program, height of an expression.
+/// The limits of this project on a text: its levels, and the elements of an array.
 pub fn limits()
     ensures levels { MAX_LEVEL ≡ 200 }
     ensures elements { MAX_ELEMENTS ≡ 4096 }
-    ensures cells { MAX_CELLS ≡ 65536 }
-    ensures points { MAX_POINTS ≡ 65536 }
-    ensures height { MAX_HEIGHT ≡ 500 }
 {}

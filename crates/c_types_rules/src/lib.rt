@@ -2,17 +2,16 @@
 //! names and types that a text can break (C11 6.2.1, 6.5 to 6.9). The definitions are in `specs/`.
 #![tactic(auto)]
 
-mod counting;
 mod first;
 mod kinds;
 mod known;
 mod laws;
 mod meaning;
 mod parts;
+mod tables;
 mod typed;
 mod uses;
 
-pub use counting::{cells_of, is_shift, operator_of};
 pub use first::{note, note_place};
 pub use kinds::{
     as_kind, binary_type, cast_kind, ends_kind, kind_of_words, unary_type, value_kind,
@@ -23,17 +22,12 @@ pub use meaning::{
     Constant, Declared, Entry, Form, Function, Kind, Meaning, Object, ParameterType, Part, Role,
 };
 pub use parts::{cast_role, named_kind, with_value};
+pub use tables::{cells_of, is_shift, operator_of};
 pub use typed::{
-    Cell, Global, TypedDeclarator, TypedExpression, TypedForStart, TypedFunction, TypedInitializer,
-    TypedItem, TypedStatement, TypedSuffix, TypedUnit,
+    Global, TypedDeclarator, TypedExpression, TypedForStart, TypedFunction, TypedInitializer,
+    TypedItem, TypedStatement, TypedSuffix,
 };
 pub use uses::{note_given, note_named, note_paired, note_taken};
 
 /// How many elements an array has at most, this project's own limit.
 pub const MAX_ELEMENTS: u32 = 4096;
-
-/// How many cells a program has at most, this project's own limit.
-pub const MAX_CELLS: u32 = 65_536;
-
-/// How many points a program has at most, this project's own limit.
-pub const MAX_POINTS: u32 = 65_536;

@@ -1,5 +1,5 @@
 //! The typed tree: the tree of a text with a type on each expression, and each name bound to what
-//! it stands for. `typed_unit` of `specs/Sound.antt` says which one is a text's.
+//! it stands for. `unit_globals` and `unit_functions` of `specs/Sound.antt` say which one is a text's.
 use crate::{Kind, Meaning, Object};
 use c_grammar_symbols::{AssignmentOperator, BinaryOperator, StepOperator};
 use c_grammar_tree::UnaryOperator;
@@ -187,30 +187,4 @@ pub struct TypedFunction {
 pub struct Global {
     pub object: Object,
     pub starts: Seq<i128>,
-}
-
-/// A cell: its type, and what it holds at the start.
-#[derive(Clone, Copy, PartialEq, Eq)]
-pub struct Cell {
-    pub ty: IntType,
-    pub start: i128,
-}
-
-/// A typed text.
-#[derive(Drop)]
-pub struct TypedUnit {
-    /// In order of first declaration.
-    pub globals: Seq<Global>,
-    /// Those with a body, in the order of the text.
-    pub functions: Seq<TypedFunction>,
-    /// The cells that the core of the text has, in order: those of the globals, then those of each
-    /// function.
-    pub cells: Seq<Cell>,
-    /// How many cells stand before those of each function: the first is that of its result, if it
-    /// has one, and then come those of its parameters.
-    pub first_cells: Seq<u32>,
-    /// The number of `main` among the functions.
-    pub main: u32,
-    /// The length of the text in bytes.
-    pub length: u32,
 }

@@ -4,7 +4,7 @@ use Rattle.c_types_rules.specs.declared.typed.TypedExpression.{out-TypedExpressi
 use Rattle.c_core_rules.specs.Expressions.{Target, placed}
 use Rattle.c_core_values.specs.Found.{so_far}
 use Rattle.c_core_expressions.specs.Rows.{suffixed_by}
-use Rattle.c_types_rules.specs.Counts.{suffix_count}
+use Rattle.c_types_rules.specs.Tables.{suffix_count}
 use Rattle.c_core_expressions.proofs.Chains.{linked_kept, linked_done}
 use Rattle.c_core_expressions.proofs.Lists.{comma_kept, comma_done, comma_past_done}
 use Rattle.c_core_expressions.proofs.Suffixes.{rows_of_last, of_Index, of_Call, of_Skipped, of_Step}
@@ -64,7 +64,7 @@ expressions::comma_of-returns-clause-taken t c =
 pub expressions::comma_of-returns-clause-made :
     goal.expressions::comma_of-returns-clause-made
 expressions::comma_of-returns-clause-made t c =
-    rw c.int.ensures ((comma_past_done _ _ _ c.args.items.now c.loop-item.item-index _ _
+    rw c.in_ok-value.ensures ((comma_past_done _ _ _ c.args.items.now c.loop-item.item-index _ _
     (omega arith) c.loop-item.invariant.rest).1)
 
 pub expressions::placed-returns-in_ok-place-in-Postfix-clause-taken :

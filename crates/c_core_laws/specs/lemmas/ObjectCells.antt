@@ -4,7 +4,7 @@ use Rattle.std.proofs.Common.{replicate, refl, ap, ◌∙◌, arith, ℤ, pos}
 use Rattle.cpa_ints.specs.declared.integers.IntType.{IntType}
 use Rattle.cpa_model.specs.Expressions.{types_of}
 use Rattle.c_types_rules.specs.declared.meaning.Object.{Object}
-use Rattle.c_types_rules.specs.Counts.{cells_of}
+use Rattle.c_types_rules.specs.Tables.{cells_of}
 use Rattle.c_core_rules.specs.Cells.{cell, cells_with}
 
 each_type : (t : IntType) (values : List ℤ) →

@@ -12,7 +12,7 @@ use Rattle.c_types_rules.specs.declared.typed.TypedInitializer.TheVariants as in
 use Rattle.c_types_rules.specs.declared.typed.TypedDeclarator.{TypedDeclarator}
 use Rattle.c_types_rules.specs.declared.typed.TypedForStart.{TypedForStart}
 use Rattle.c_types_rules.specs.declared.typed.TypedForStart.TheVariants as start
-use Rattle.c_types_rules.specs.Counts.{cells_of}
+use Rattle.c_types_rules.specs.Tables.{cells_of}
 use Rattle.cpa_model_trees.specs.declared.tree.Head.TheVariants as head
 use Rattle.c_core_rules.specs.declared.tree.Location.{Location}
 use Rattle.c_core_rules.specs.Values.{cell_at}

@@ -22,7 +22,7 @@ use Rattle.c_grammar_symbols.specs.declared.operators.BinaryOperator.{BinaryOper
 use Rattle.c_grammar_symbols.specs.declared.operators.BinaryOperator.TheVariants as binary
 use Rattle.c_grammar_tree.specs.declared.expression.UnaryOperator.{UnaryOperator}
 use Rattle.c_grammar_tree.specs.declared.expression.UnaryOperator.TheVariants as unary
-use Rattle.c_types_rules.specs.Counts.{is_shift}
+use Rattle.c_types_rules.specs.Tables.{is_shift}
 use Rattle.c_core_rules.specs.declared.tree.Location.{Location}
 use Rattle.c_core_rules.specs.Values.{conv, promote, node_of, operator_value, signed_value}
 use Rattle.c_core_rules.specs.Values.{chosen_value, truth_of, element, scalar, first_index}

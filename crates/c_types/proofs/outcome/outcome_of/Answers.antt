@@ -1,6 +1,6 @@
 -- The layout that is found is that of the text, and so is what the rules make with it.
 use Rattle.std.proofs.Common.{ℕ, List, refl, ap, ◌∙◌, subst}
-use Rattle.c_core_layout.specs.Layouts.{text_from}
+use Rattle.c_core_rules_laws.specs.Layouts.{text_from}
 use Rattle.c_core_checked.specs.declared.text.TypedText.{TypedText}
 use Rattle.c_types.specs.Outcomes.{IsFoundLayout}
 use Rattle.c_types.proofs.Law.{large_checked, sound_checked}

@@ -1,7 +1,7 @@
-//! What the rules of the core ask of an operator and of an object, whether they count or make
-//! statements: tables of `specs/Counts.antt`, line for line. Proved by the checker alone.
+//! What the rules of the core ask of an operator and of an object: tables of `specs/Tables.antt`,
+//! line for line. Proved by the checker alone.
 ghost use Rattle.std.specs.Prelude.{◌≡◌};
-ghost use Rattle.c_types_rules.specs.Counts.{cells_of, is_shift, operator_of};
+ghost use Rattle.c_types_rules.specs.Tables.{cells_of, is_shift, operator_of};
 
 use crate::Object;
 use c_grammar_symbols::{AssignmentOperator, BinaryOperator};
