@@ -23,7 +23,8 @@ use Rattle.c_types_rules.specs.declared.typed.TypedExpression.TheFolds.{fold-Typ
 use Rattle.c_types_rules.specs.declared.typed.TypedFunction.{TypedFunction}
 use Rattle.c_types_rules.specs.Types.{object_type}
 use Rattle.c_types_rules.specs.Known.{known_result}
-use Rattle.c_types_rules.specs.Tables.{cells_of, operator_of, is_void}
+use Rattle.c_types_rules.specs.Tables.{cells_of, operator_of}
+use Rattle.c_types_rules.specs.ExpressionRules.{is_void}
 use Rattle.cpa_model_trees.specs.declared.tree.Head.TheVariants as head
 use Rattle.c_core_rules.specs.declared.tree.Location.{Location}
 use Rattle.c_core_rules.specs.declared.tree.Place.{Place}

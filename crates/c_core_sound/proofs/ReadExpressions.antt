@@ -31,7 +31,7 @@ use Rattle.c_types_rules.specs.declared.typed.TypedExpression.TheVariants as tre
 use Rattle.c_types_rules.specs.declared.typed.TypedExpression.TheOpen.{TypedExpression-F}
 use Rattle.c_types_rules.specs.Types.{kind_of_words, value_kind, binary_type}
 use Rattle.c_types_rules.specs.Names.{Text, meaning_of}
-use Rattle.c_types_rules.specs.Tables.{is_void}
+use Rattle.c_types_rules.specs.ExpressionRules.{is_void}
 use Rattle.c_types_rules.specs.Parts.{named_kind, value, with_value, changed_kind, unary_type}
 use Rattle.c_types_rules.specs.Parts.{cast_kind}
 use Rattle.c_types_rules.specs.Parts.{chain_type}

@@ -19,7 +19,7 @@ use Rattle.c_types_rules.specs.declared.meaning.Role.TheVariants.{Valued, Change
 use Rattle.c_types_rules.specs.Known.{known_result}
 use Rattle.c_types_rules.specs.Parts.{with_value, with_values, named_kind, element_kind}
 use Rattle.c_types_rules.specs.Parts.{result_kind, element_form, element_of, result_of}
-use Rattle.c_types_rules.specs.Parts.{changed_kind, is_changeable}
+use Rattle.c_types_rules.specs.Parts.{changed_kind, is_changeable, value}
 use Rattle.c_types_rules.specs.Expressions.{named, taken, given, Reading, used, parts_of, trees_of}
 use Rattle.c_types_rules.specs.Expressions.{ReadSuffix, suffix_part, suffix_uses, suffix_typed}
 use Rattle.c_types_rules.specs.Expressions.{suffixed}
@@ -347,9 +347,9 @@ module _ (W : World) (frames : rows.Frames) (caller : ℕ) where
   SuffixReads (Suffix-F.Step operator place) = Unit {0}
   SuffixReads (Suffix-F.Skipped place) = Unit {0}
 
-  changed_is : (part : Part) (k : Kind) → is_changeable part.form ≡ true → part.kind ≡ Some k →
-      changed_kind part ≡ Some k
-  changed_is part k so is = ap (λ b. if b then part.kind else None) so ∙ is
+  changed_is : (part : Part) (t : IntType) → part.kind ≡ Some (Value t) →
+      changed_kind part ≡ Some (Value t)
+  changed_is part t is = ap (λ kind. value (value_kind kind)) is
 
   -- what is assigned to, with the kind that it is read with
   pub changed_reads : (part : Part) (row : rows.Rows) → ReadsAs part.kind part.form row →
@@ -357,7 +357,7 @@ module _ (W : World) (frames : rows.Frames) (caller : ℕ) where
       (k : Kind) × (changed_kind part ≡ Some k) × TargetFits W row.target
   changed_reads part row reads none =
       let c = is_changed W frames row part.place part.kind part.form reads none in
-      (c.1.0, changed_is part c.1.0 c.0 c.1.1, reads.target c.1.0 c.1.1 c.0)
+      (Value c.1.0, changed_is part c.1.0 c.1.1, reads.target (Value c.1.0) c.1.1 c.0)
 
   suffix_reads : (base : Part) (row : rows.Rows) (suffix : ReadSuffix) →
       ReadsAs base.kind base.form row → SuffixReads suffix →

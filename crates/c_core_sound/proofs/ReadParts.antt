@@ -226,12 +226,16 @@ changed_kind_of place kind form (inr name) none = absurd (changed_name place kin
 
 pub is_changed : (W : World) (frames : rows.Frames) (row : rows.Rows) (place : ℕ)
     (kind : Option Kind) (form : Form) → Reads W frames kind form row →
-    Taken Changed place kind form → (is_changeable form ≡ true) × HasKind kind
+    Taken Changed place kind form →
+    (is_changeable form ≡ true) × ((t : IntType) × (kind ≡ Some (Value t)))
 is_changed W frames row place kind form reads none =
-    let part = at_place place kind form in (
+    let part = at_place place kind form in
+    let has = changed_kind_of place kind form reads.stands none in (
       either_true (is_changeable form) (has_own_fault form)
           (not_broken rule.N15 (not (is_changeable form || has_own_fault form)) place
           (unbroken (taken Changed part) none).n15)
           (own_fault W frames row place kind form reads.form none),
-      changed_kind_of place kind form reads.stands none,
+      value_of has.0 kind has.1 (not_broken rule.N5 (is_void kind) place
+          (broken_right rule.N5 (misused_array Changed part) (void_value Changed part)
+          (unbroken (taken Changed part) none).n5)),
     )

@@ -85,7 +85,8 @@ item_lasts text (item.Prototype specifiers declarator) before none =
     function_lasts before false specifiers declarator none
 item_lasts text (item.Function specifiers declarator body.Skipped) before none =
     function_lasts before true specifiers declarator
-    (none_left (head_faults before true specifiers declarator) [] none)
+    (none_left (head_faults before true specifiers declarator)
+    (body_faults text (body_sites text before specifiers declarator body.Skipped)) none)
 item_lasts text (item.Function specifiers declarator (body.Block items place)) before none =
     function_lasts before true specifiers declarator
     (none_left (head_faults before true specifiers declarator)
@@ -504,7 +505,8 @@ module _ (all : List IntType) (calls : List Call) (bodies : ℕ) (frames : rows.
       let own = item_faults text one before in
       let rest = items_faults text more next in
       let head = head_faults before true specifiers declarator in
-      let none_here = none_left head [] (none_left own rest none) in
+      let inside = body_faults text (body_sites text before specifiers declarator body.Skipped) in
+      let none_here = none_left head inside (none_left own rest none) in
       let r = text_runs same stand more next (none_right own rest none) whole
       (λ c here. among c (among_right c (item_calls text one before) (items_calls text more next)
       here)) (function_scope before true specifiers declarator none_here f) end in

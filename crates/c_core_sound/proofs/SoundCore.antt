@@ -230,7 +230,9 @@ module _ (walks : (text : Text) (one : BlockItem) → (grown text one).walk ≡ 
       let rest = items_faults text more next in
       items_scope text more next (none_right own rest none) whole
       (function_scope before true specifiers declarator
-      (none_left (head_faults before true specifiers declarator) [] (none_left own rest none)) f)
+      (none_left (head_faults before true specifiers declarator)
+      (body_faults text (body_sites text before specifiers declarator body.Skipped))
+      (none_left own rest none)) f)
   items_scope text (item.Function specifiers declarator (body.Block items place) ∷ more) before none
       whole f =
       let one = item.Function specifiers declarator (body.Block items place) in

@@ -91,6 +91,40 @@ fn gather_block(
     Ok(())
 }
 
+/// Gathers the parameters of a function whose body is skipped.
+fn gather_parameters(
+    alloc: Global,
+    survey: &Survey,
+    gathered: &mut Gathered,
+    specifiers: &Specifiers,
+    declarator: &FunctionDeclarator,
+) -> Result<(), AllocError>
+    requires { AreNumbered gathered.old.scope.objects gathered.old.scope.names }
+    ensures scope { OnOk result (before_of gathered.new.scope ≡ before_of gathered.old.scope) }
+    ensures first { OnOk result (gathered.new.first ≡ first_with gathered.old.first
+        (block_faults survey.now specifiers.now declarator.now []
+        (before_of gathered.old.scope))) }
+    ensures calls { OnOk result (gathered.new.calls.items ≡ gathered.old.calls.items
+        ++ block_calls survey.now specifiers.now declarator.now []
+        (before_of gathered.old.scope)) }
+    ensures functions { gathered.new.functions.items ≡ gathered.old.functions.items }
+    ensures starts { gathered.new.starts.items ≡ gathered.old.starts.items }
+{
+    read_body(
+        alloc,
+        survey,
+        &mut gathered.scope.names,
+        gathered.scope.objects,
+        gathered.scope.bodies,
+        specifiers,
+        &declarator.parameters,
+        &[],
+        &mut gathered.first,
+        &mut gathered.calls,
+    )?;
+    Ok(())
+}
+
 /// Gathers an item.
 #[tactic(auto, using(c_types_rules::specs::First::first_append, crate::proofs::Steps::no_starts, crate::proofs::Steps::no_calls, crate::proofs::Steps::no_functions))]
 fn gather_item(
@@ -136,7 +170,7 @@ fn gather_item(
         } => {
             declare_function(alloc, scope, true, specifiers, declarator, first)?;
             match body {
-                Body::Skipped => Ok(()),
+                Body::Skipped => gather_parameters(alloc, survey, gathered, specifiers, declarator),
                 Body::Block { items, .. } => {
                     let items = items.as_slice();
                     gather_block(alloc, survey, gathered, specifiers, declarator, items)

@@ -100,9 +100,11 @@ misused_array Changed part = array_name part.form
 misused_array Indexed part = at_if (is_some part.kind) part.place
 misused_array Called part = []
 
--- a void expression stands where a value is needed (6.3.2.2): its first token
+-- a void expression stands where a value is needed, or a scalar to assign to (6.3.2.2): its first
+-- token
 abbrev pub void_value : Role → Part → List ℕ
 void_value Valued part = at_if (is_void part.kind) part.place
+void_value Changed part = at_if (is_void part.kind) part.place
 void_value _ part = []
 
 -- one end of a conditional is void and the other one is not (6.5.15p3): the first token of that end

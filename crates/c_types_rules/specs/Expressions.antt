@@ -4,7 +4,6 @@ use Rattle.std.specs.Prelude.{ℕ, List, [], ◌∷◌, ◌++◌, length, map, O
 use Rattle.std.specs.List.{flat_map}
 use Rattle.cpa_ints.specs.declared.integers.IntType.TheVariants as ty
 use Rattle.c_grammar_symbols.specs.declared.operators.BinaryOperator.{BinaryOperator}
-use Rattle.c_grammar_tree.specs.declared.name.Name.{Name}
 use Rattle.c_grammar_tree.specs.declared.expression.Expression.{Expression}
 use Rattle.c_grammar_tree.specs.declared.expression.Expression.TheOpen.{Expression-F, Suffix-F}
 use Rattle.c_grammar_tree.specs.declared.expression.Expression.TheFolds.{fold-Expression}

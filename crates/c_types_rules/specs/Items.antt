@@ -233,12 +233,16 @@ abbrev pub body_walk : Text → Parameters → List BlockItem → Walk
 body_walk text all items =
     followed (in_order (map receiving (listed all))) (in_order (map (walk_of text) items))
 
--- the acts of a function with this body
+-- the items of a body; a body that is skipped has none
+abbrev pub items_in : Body → List BlockItem
+items_in body.Skipped = []
+items_in (body.Block items place) = items
+
+-- the acts of a function with this body, its parameters first
 abbrev pub body_sites : Text → Before → Specifiers → FunctionDeclarator → Body → List Site
-body_sites text before specifiers declarator body.Skipped = []
-body_sites text before specifiers declarator (body.Block items place) =
-    (body_walk text declarator.parameters items).sites
-    (around_body (function_behind true specifiers declarator before) specifiers items)
+body_sites text before specifiers declarator made =
+    (body_walk text declarator.parameters (items_in made)).sites
+    (around_body (function_behind true specifiers declarator before) specifiers (items_in made))
 
 abbrev pub body_faults : Text → List Site → List TextFault
 body_faults text sites = flat_map (site_faults text) sites ++ jump_faults sites

@@ -1,7 +1,7 @@
 -- What the rules see of an expression: its type, and how it stands for an object or a function (C11
 -- 6.5).
-use Rattle.std.specs.Prelude.{Bool, true, false, not, ◌&&◌, if◌then◌else◌, List, []}
-use Rattle.std.specs.Prelude.{◌∷◌, length, Option, None, Some, option_map}
+use Rattle.std.specs.Prelude.{Bool, true, false, not, ◌&&◌, List, []}
+use Rattle.std.specs.Prelude.{◌∷◌, Option, None, Some, option_map}
 use Rattle.std.specs.Prelude.{option_and_then, is_some}
 use Rattle.cpa_ints.specs.declared.integers.IntType.{IntType}
 use Rattle.cpa_ints.specs.declared.integers.IntType.TheVariants as ty
@@ -11,7 +11,6 @@ use Rattle.c_grammar_tree.specs.declared.expression.UnaryOperator.{UnaryOperator
 use Rattle.c_grammar_tree.specs.declared.expression.UnaryOperator.TheVariants as unary
 use Rattle.c_types_rules.specs.declared.meaning.Kind.{Kind}
 use Rattle.c_types_rules.specs.declared.meaning.Kind.TheVariants.{Void, Value}
-use Rattle.c_types_rules.specs.declared.meaning.Object.{Object}
 use Rattle.c_types_rules.specs.declared.meaning.Meaning.{Meaning}
 use Rattle.c_types_rules.specs.declared.meaning.Meaning.TheVariants as meaning
 use Rattle.c_types_rules.specs.declared.meaning.Form.{Form}
@@ -80,9 +79,10 @@ is_changeable (Bare place meaning) = is_changeable_by false meaning
 is_changeable (Element meaning) = is_changeable_by true meaning
 is_changeable Plain = false
 
--- the type of what is assigned to
+-- the type of an assignment to a part, also where it can't be assigned to: its own, where that is
+-- no void (C11 6.5.16p3)
 abbrev pub changed_kind : Part → Option Kind
-changed_kind part = if is_changeable part.form then part.kind else None
+changed_kind part = value (value_kind part.kind)
 
 -- the type of `operator operand` (C11 6.5.3.3)
 abbrev pub unary_type : UnaryOperator → IntType → IntType

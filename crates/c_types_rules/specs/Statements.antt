@@ -11,7 +11,6 @@ use Rattle.c_grammar_tree.specs.declared.declaration.Declaration.{Declaration}
 use Rattle.c_grammar_tree.specs.declared.item.Parameter.{Parameter}
 use Rattle.c_grammar_tree.specs.declared.statement.ForStart.{ForStart}
 use Rattle.c_grammar_tree.specs.declared.statement.ForStart.TheVariants as start
-use Rattle.c_grammar_tree.specs.declared.statement.Statement.{Statement}
 use Rattle.c_grammar_tree.specs.declared.statement.BlockItem.{BlockItem}
 use Rattle.c_grammar_tree.specs.declared.statement.BlockItem.TheOpen.{BlockItem-F, Statement-F}
 use Rattle.c_grammar_tree.specs.declared.statement.BlockItem.TheFolds.{fold-BlockItem}

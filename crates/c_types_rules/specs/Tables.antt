@@ -1,11 +1,9 @@
 -- What the rules of the core ask of an operator, of an expression and of an object.
-use Rattle.std.specs.Prelude.{ℕ, Bool, true, false, List, length, Option, None, Some, unsigned_abs}
+use Rattle.std.specs.Prelude.{ℕ, Bool, true, false, length, Option, None, Some, unsigned_abs}
 use Rattle.c_grammar_symbols.specs.declared.operators.BinaryOperator.{BinaryOperator}
 use Rattle.c_grammar_symbols.specs.declared.operators.BinaryOperator.TheVariants as binary
 use Rattle.c_grammar_symbols.specs.declared.operators.AssignmentOperator.{AssignmentOperator}
 use Rattle.c_grammar_symbols.specs.declared.operators.AssignmentOperator.TheVariants as assign
-use Rattle.c_types_rules.specs.declared.meaning.Kind.{Kind}
-use Rattle.c_types_rules.specs.declared.meaning.Kind.TheVariants.{Void}
 use Rattle.c_types_rules.specs.declared.meaning.Object.{Object}
 use Rattle.c_types_rules.specs.declared.meaning.Meaning.{Meaning}
 use Rattle.c_types_rules.specs.declared.meaning.Meaning.TheVariants as meaning
@@ -32,10 +30,6 @@ operator_of assign.ShiftRight = Some binary.ShiftRight
 operator_of assign.BitAnd = Some binary.BitAnd
 operator_of assign.BitXor = Some binary.BitXor
 operator_of assign.BitOr = Some binary.BitOr
-
-abbrev pub is_void : Option Kind → Bool
-is_void (Some Void) = true
-is_void _ = false
 
 -- how many suffixes a postfix expression has
 abbrev pub suffix_count : TypedExpression-F TypedExpression TypedSuffix → ℕ

@@ -37,7 +37,7 @@ ghost use Rattle.c_types_rules.specs.ExpressionRules.{
   option_places,
 };
 
-use crate::{Form, Kind, Meaning, Part, Role, value_kind};
+use crate::{Form, Kind, Meaning, Part, Role, as_kind, value_kind};
 
 /// The type of what a name stands for.
 pub fn named_kind(meaning: Option<Meaning>) -> Option<Kind>
@@ -151,15 +151,11 @@ impl Part {
         }
     }
 
-    /// Its type, as what is assigned to.
+    /// The type of an assignment to it.
     pub fn changed_kind(self) -> Option<Kind>
         ensures { result ≡ changed_kind self }
     {
-        if self.form.is_changeable() {
-            self.kind
-        } else {
-            None
-        }
+        as_kind(value_kind(self.kind))
     }
 }
 
@@ -303,13 +299,13 @@ fn is_void(kind: Option<Kind>) -> bool
     }
 }
 
-/// Where a void expression stands as a value.
+/// Where a void expression stands as a value, or is assigned to.
 pub fn void_value(role: Role, part: Part) -> Option<u32>
     ensures { option_places result ≡ void_value role part }
 {
     match role {
-        Role::Valued => place_if(is_void(part.kind), part.place),
-        Role::Evaluated | Role::Changed | Role::Indexed | Role::Called => None,
+        Role::Valued | Role::Changed => place_if(is_void(part.kind), part.place),
+        Role::Evaluated | Role::Indexed | Role::Called => None,
     }
 }
 

@@ -10,7 +10,7 @@ use Rattle.c_types_rules.specs.declared.typed.TypedExpression.TheFolds.{ind-Type
 use Rattle.c_types_rules.specs.declared.typed.TypedExpression.TheFolds.{map-TypedExpression}
 use Rattle.c_types_rules.specs.declared.typed.TypedExpression.TheFolds.{map-TypedSuffix}
 use Rattle.c_types_rules.specs.declared.typed.TypedSuffix.{TypedSuffix, roll-TypedSuffix}
-use Rattle.c_types_rules.specs.Tables.{is_void}
+use Rattle.c_types_rules.specs.ExpressionRules.{is_void}
 use Rattle.c_core_rules.specs.Cells.{gives}
 use Rattle.c_core_rules.specs.Acts.{signed}
 use Rattle.c_core_rules.specs.Expressions.{Frames, Rows, ReadSuffix, rows, rows_step, read_suffix}

@@ -8,3 +8,9 @@ gather_block-requires c =
     subst Numbered (sym c.in_ok-declare_function-in-Function.ensures.scope)
     (numbered_function true c.in-Function.specifiers c.in-Function.declarator
     (before_of c.args.gathered.now.scope) c.requires)
+
+pub gather_parameters-requires : goal.gather_parameters-requires
+gather_parameters-requires c =
+    subst Numbered (sym c.in_ok-declare_function-in-Function.ensures.scope)
+    (numbered_function true c.in-Function.specifiers c.in-Function.declarator
+    (before_of c.args.gathered.now.scope) c.requires)
