@@ -3,7 +3,7 @@
 
 use cases_programs::Table;
 use cases_reader::{RowFault, end_row, indices_of, next_index, next_part, next_word, whole_expr};
-use cpa_iface::{Precision, empty_precision};
+use cpa_iface::{Precision, Shared, empty_precision};
 use cpa_model::Seq;
 use std::alloc::Global;
 use std::str::{Split, SplitWhitespace};
@@ -51,8 +51,8 @@ fn precision_of(
         preds.push(whole_expr(alloc, part)?)?;
     }
     Ok(Precision {
-        tracked,
+        tracked: Shared::from_seq(alloc, tracked)?,
         limit,
-        preds,
+        preds: Shared::from_seq(alloc, preds)?,
     })
 }

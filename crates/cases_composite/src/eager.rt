@@ -7,7 +7,7 @@ ghost use Rattle.cases_composite.specs.Samples.{longer_by_one};
 use crate::blind::no_facts;
 use cpa_expr::Expr;
 use cpa_iface::{
-    Analysis, Entry, MergeRule, Part, Precision, Settings, copy_precision, empty_precision,
+    Analysis, Entry, MergeRule, Part, Precision, Settings, Shared, copy_preds, empty_precision,
     merge_facts, unadjusted, unstrengthened,
 };
 use cpa_ints::IntType;
@@ -111,10 +111,15 @@ impl Analysis for Eager {
 fn longer(alloc: Global, precision: &Precision) -> Result<Precision, AllocError>
     ensures { IfOk result (λ p. p ≡ longer_by_one precision.now) }
 {
-    let mut precision = copy_precision(alloc, precision)?;
-    precision.preds.push(Expr::Const {
+    let mut preds = copy_preds(alloc, precision.preds.as_slice())?;
+    preds.push(Expr::Const {
         ty: IntType::I32,
         value: 1,
     })?;
-    Ok(precision)
+    let tracked = precision.tracked.share()?;
+    Ok(Precision {
+        tracked,
+        limit: precision.limit,
+        preds: Shared::from_seq(alloc, preds)?,
+    })
 }

@@ -3,8 +3,7 @@
 
 use cases_programs::Table;
 use cases_reader::{RowFault, end_row, indices_of, next_index};
-use cpa_iface::Precision;
-use cpa_model::Seq;
+use cpa_iface::{Precision, Shared};
 use std::alloc::Global;
 
 /// What the rows have set.
@@ -49,9 +48,9 @@ fn precisions_of(alloc: Global, text: &str) -> Result<Vec<Precision>, RowFault> 
         let limit = limit_of(words.next().unwrap_or(""))?;
         let tracked = indices_of(alloc, words.next().unwrap_or(""))?;
         precisions.push(Precision {
-            tracked,
+            tracked: Shared::from_seq(alloc, tracked)?,
             limit,
-            preds: Seq::new(alloc),
+            preds: Shared::new(),
         })?;
     }
     Ok(precisions)

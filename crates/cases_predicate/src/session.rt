@@ -3,7 +3,7 @@
 
 use cases_programs::Table;
 use cases_reader::{RowFault, end_row, next_index, next_number, next_word, whole_expr};
-use cpa_iface::{Precision, Settings, empty_precision};
+use cpa_iface::{Precision, Settings, Shared, empty_precision};
 use cpa_model::{Expr, Seq};
 use cpa_predicate::Predicate;
 use std::alloc::{AllocError, Global};
@@ -43,7 +43,8 @@ impl Session {
         let word = next_word(&mut words)?;
         if word == "predicates" {
             end_row(&mut words)?;
-            self.precision.preds = exprs_of(alloc, &mut parts)?;
+            let preds = exprs_of(alloc, &mut parts)?;
+            self.precision.preds = Shared::from_seq(alloc, preds)?;
             Ok(true)
         } else if word == "new" {
             end_row(&mut words)?;

@@ -2,7 +2,7 @@
 //! precisions. Nothing is proved of what is read but that reading is safe and ends.
 
 use cases_reader::{RowFault, end_parts, end_row, index_of_word, indices_of};
-use cpa_iface::{Order, Precision};
+use cpa_iface::{Order, Precision, Shared};
 use cpa_model::{Elem, Fact, Seq};
 use std::alloc::Global;
 use std::str::{Split, SplitWhitespace};
@@ -61,9 +61,9 @@ pub fn precisions_of(alloc: Global, text: &str) -> Result<Vec<Precision>, RowFau
     for word in text.split_whitespace() {
         let limit = index_of_word(word)?;
         precisions.push(Precision {
-            tracked: Seq::new(alloc),
+            tracked: Shared::new(),
             limit,
-            preds: Seq::new(alloc),
+            preds: Shared::new(),
         })?;
     }
     Ok(precisions)

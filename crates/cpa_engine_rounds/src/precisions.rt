@@ -3,18 +3,18 @@
 ghost use Rattle.std.specs.Prelude.{◌≡◌, ◌↔◌, false, IsTrue};
 ghost use Rattle.cpa_engine_rounds.specs.Precisions.{HaveAll};
 
-use cpa_iface::{Entry, Precision};
-use cpa_model::{Expr, Seq};
+use cpa_iface::{Entry, Precision, Shared};
+use cpa_model::Expr;
 
 /// Whether two lists have the same cells in the same order.
-fn same_cells(cells: &Seq<u32>, others: &Seq<u32>) -> bool
+fn same_cells(cells: &Shared<u32>, others: &Shared<u32>) -> bool
     ensures { IsTrue result ↔ (cells.now ≡ others.now) }
 {
     cells == others
 }
 
 /// Whether two lists have the same predicates in the same order.
-fn same_preds(preds: &Seq<Expr>, others: &Seq<Expr>) -> bool
+fn same_preds(preds: &Shared<Expr>, others: &Shared<Expr>) -> bool
     ensures { IsTrue result ↔ (preds.now ≡ others.now) }
 {
     preds == others

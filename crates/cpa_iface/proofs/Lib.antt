@@ -1,1 +1,2 @@
 pub mod LocationLaws
+pub mod StandingLemmas

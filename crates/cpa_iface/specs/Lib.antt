@@ -1,3 +1,4 @@
+pub mod Sharing
 pub mod Meanings
 pub mod Pins
 pub mod Laws

@@ -9,6 +9,8 @@ mod location;
 mod merging;
 mod plain;
 mod precisions;
+mod shared;
+mod standing;
 mod unchanged;
 
 pub use analysis::{Analysis, DEFAULT_GATES, DEFAULT_LEARNT, Part, Settings};
@@ -16,5 +18,7 @@ pub use entries::{Entry, Refined, Turn};
 pub use location::Location;
 pub use merging::{MergeRule, Order, Pick, merge_facts};
 pub use plain::{Plain, Steps};
-pub use precisions::{Precision, copy_precision, empty_precision};
+pub use precisions::{Precision, copy_cells, copy_precision, copy_preds, empty_precision};
+pub use shared::Shared;
+pub use standing::covers;
 pub use unchanged::{unadjusted, unrefined, unstrengthened};

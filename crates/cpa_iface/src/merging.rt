@@ -2,9 +2,10 @@
 //! `merged_facts` stands in `specs/Common.antt`. Proved with `proofs/merging/`.
 
 ghost use Rattle.std.specs.Prelude.{◌≡◌, IfOk};
-ghost use Rattle.cpa_iface.specs.Common.{stands_in, common_facts, merged_facts};
+ghost use Rattle.cpa_iface.specs.Common.{common_facts, merged_facts};
 
-use cpa_model::{Elem, Fact, Seq, copy_elem, copy_fact, same_fact};
+use crate::standing::place_from;
+use cpa_model::{Elem, Seq, copy_elem, copy_fact};
 use std::alloc::{AllocError, Global};
 
 /// How the elements of two entries are merged (CAV 2007, section 2; widening is POPL 1977's).
@@ -56,17 +57,12 @@ fn common_facts(alloc: Global, new: &Elem, old: &Elem) -> Result<Elem, AllocErro
     ensures { IfOk result (λ e. e ≡ common_facts new.now old.now) }
 {
     let mut facts = Seq::new(alloc);
+    let mut next = 0;
     for fact in &old.facts {
-        if stands_in(fact, new) {
+        if let Some(place) = place_from(new.facts.as_slice(), next, fact) {
+            next = place + 1;
             facts.push(copy_fact(alloc, fact)?)?;
         }
     }
     Ok(Elem { facts })
-}
-
-/// Whether one of the element's facts is this one.
-fn stands_in(fact: &Fact, elem: &Elem) -> bool
-    ensures { result ≡ stands_in elem.now.facts fact.now }
-{
-    elem.facts.iter().any(|own| same_fact(own, fact))
 }

@@ -13,8 +13,9 @@ use crate::analysis::{Analysis, Part, Settings};
 use crate::entries::Entry;
 use crate::merging::{MergeRule, merge_facts};
 use crate::precisions::{Precision, empty_precision};
+use crate::standing::covers;
 use crate::unchanged::{unadjusted, unrefined, unstrengthened};
-use cpa_model::{Cfa, Elem, Path, has_facts};
+use cpa_model::{Cfa, Elem, Path};
 use std::alloc::{AllocError, Global};
 
 /// What is its own of a plain analysis.
@@ -112,7 +113,7 @@ impl<S: Steps> Analysis for Plain<S> {
     }
 
     fn covered_by(&self, elem: &Elem, other: &Elem) -> bool {
-        has_facts(elem, other)
+        covers(elem, other)
     }
 
     fn adjust(

@@ -4,6 +4,7 @@
 ghost use Rattle.std.specs.Prelude.{◌≡◌, IfOk};
 ghost use Rattle.cpa_iface.specs.Common.{no_precision};
 
+use crate::shared::Shared;
 use cpa_expr::copy;
 use cpa_model::{Expr, Seq};
 use std::alloc::{AllocError, Global};
@@ -12,44 +13,46 @@ use std::alloc::{AllocError, Global};
 #[derive(Drop)]
 pub struct Precision {
     /// The cells whose values are kept.
-    pub tracked: Seq<u32>,
+    pub tracked: Shared<u32>,
     /// The most distinct values that are kept of a cell, 0 for no limit.
     pub limit: u32,
     /// The predicates whose truth is kept.
-    pub preds: Seq<Expr>,
+    pub preds: Shared<Expr>,
 }
 
 /// The precision that asks for nothing. It takes no memory.
-pub fn empty_precision(alloc: Global) -> Precision
+pub fn empty_precision(_alloc: Global) -> Precision
     ensures { result ≡ no_precision }
 {
     Precision {
-        tracked: Seq::new(alloc),
+        tracked: Shared::new(),
         limit: 0,
-        preds: Seq::new(alloc),
+        preds: Shared::new(),
     }
 }
 
-/// An equal precision.
-pub fn copy_precision(alloc: Global, precision: &Precision) -> Result<Precision, AllocError>
+/// An equal precision, which shares the lists. It takes no memory.
+pub fn copy_precision(_alloc: Global, precision: &Precision) -> Result<Precision, AllocError>
     ensures { IfOk result (λ p. p ≡ precision.now) }
 {
+    let tracked = precision.tracked.share()?;
+    let preds = precision.preds.share()?;
     Ok(Precision {
-        tracked: copy_cells(alloc, precision.tracked.as_slice())?,
+        tracked,
         limit: precision.limit,
-        preds: copy_preds(alloc, precision.preds.as_slice())?,
+        preds,
     })
 }
 
 /// An equal list of cells.
-fn copy_cells(alloc: Global, cells: &[u32]) -> Result<Seq<u32>, AllocError>
+pub fn copy_cells(alloc: Global, cells: &[u32]) -> Result<Seq<u32>, AllocError>
     ensures { IfOk result (λ list. list ≡ cells.now) }
 {
     Ok(Seq::from_vec(cells.to_vec(alloc)?))
 }
 
 /// An equal list of predicates.
-fn copy_preds(alloc: Global, preds: &[Expr]) -> Result<Seq<Expr>, AllocError>
+pub fn copy_preds(alloc: Global, preds: &[Expr]) -> Result<Seq<Expr>, AllocError>
     ensures { IfOk result (λ list. list ≡ preds.now) }
 {
     let mut copies = Seq::new(alloc);

@@ -12,7 +12,7 @@ ghost use Rattle.cpa_path_folds.specs.Tracking.{is_tracked, first_tracking, with
 
 use crate::marks::is_marked;
 use crate::needed_cells::needed;
-use cpa_iface::{Precision, Settings, copy_precision};
+use cpa_iface::{Precision, Settings, Shared, copy_cells};
 use cpa_model::{Cfa, Path, Seq};
 use std::alloc::{AllocError, Global};
 
@@ -26,10 +26,11 @@ pub fn first_tracking(
     requires { IsAutomaton cfa.now }
     ensures { IfOk result (λ p. p ≡ first_tracking cfa.now settings.now limit) }
 {
+    let tracked = tracked_at_first(alloc, cfa.cells.len(), settings.tracked_all)?;
     Ok(Precision {
-        tracked: tracked_at_first(alloc, cfa.cells.len(), settings.tracked_all)?,
+        tracked: Shared::from_seq(alloc, tracked)?,
         limit,
-        preds: Seq::new(alloc),
+        preds: Shared::new(),
     })
 }
 
@@ -94,10 +95,15 @@ pub fn with_cells(
     requires { AllByRecursion (λ cell. cell < count) precision.now.tracked }
     ensures { IfOk result (λ p. p ≡ with_cells cells.now precision.now) }
 {
-    let tracked = tracked_marks(alloc, precision, count)?;
-    let mut next = copy_precision(alloc, precision)?;
-    append_unmarked(&mut next.tracked, cells, &tracked)?;
-    Ok(next)
+    let marks = tracked_marks(alloc, precision, count)?;
+    let mut tracked = copy_cells(alloc, precision.tracked.as_slice())?;
+    append_unmarked(&mut tracked, cells, &marks)?;
+    let preds = precision.preds.share()?;
+    Ok(Precision {
+        tracked: Shared::from_seq(alloc, tracked)?,
+        limit: precision.limit,
+        preds,
+    })
 }
 
 /// The precision that tracks the cells that are needed along the path, too.

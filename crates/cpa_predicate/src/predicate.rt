@@ -17,10 +17,10 @@ use crate::asking::Asker;
 use crate::refining::with_carried;
 use crate::transfer::{no_facts, successors};
 use cpa_iface::{
-    Analysis, Entry, MergeRule, Part, Precision, Settings, empty_precision, merge_facts,
+    Analysis, Entry, MergeRule, Part, Precision, Settings, covers, empty_precision, merge_facts,
     unadjusted, unstrengthened,
 };
-use cpa_model::{Cfa, Elem, Path, edges_are_sound, has_facts};
+use cpa_model::{Cfa, Elem, Path, edges_are_sound};
 use cpa_path_folds::carried_are_expressions;
 use std::alloc::{AllocError, Global};
 use std::marker::Model;
@@ -168,7 +168,7 @@ impl Analysis for Predicate {
     }
 
     fn covered_by(&self, elem: &Elem, other: &Elem) -> bool {
-        has_facts(elem, other)
+        covers(elem, other)
     }
 
     fn adjust(

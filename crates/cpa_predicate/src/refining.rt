@@ -7,7 +7,7 @@ ghost use Rattle.cpa_path_folds.specs.Carried.{with_new};
 ghost use Rattle.cpa_predicate.specs.Refining.{with_missing, with_carried};
 
 use cpa_expr::{copy, same_expr};
-use cpa_iface::{Precision, copy_precision};
+use cpa_iface::{Precision, Shared, copy_preds};
 use cpa_model::{Cfa, Expr, Path, Seq};
 use cpa_path_folds::carried;
 use std::alloc::{AllocError, Global};
@@ -50,7 +50,12 @@ pub(crate) fn with_carried(
     ensures { IfOk result (λ p. p ≡ with_carried cfa.now path.now precision.now) }
 {
     let carried = carried(alloc, cfa, path)?;
-    let mut refined = copy_precision(alloc, precision)?;
-    push_missing(alloc, &mut refined.preds, carried.as_slice())?;
-    Ok(refined)
+    let mut preds = copy_preds(alloc, precision.preds.as_slice())?;
+    push_missing(alloc, &mut preds, carried.as_slice())?;
+    let tracked = precision.tracked.share()?;
+    Ok(Precision {
+        tracked,
+        limit: precision.limit,
+        preds: Shared::from_seq(alloc, preds)?,
+    })
 }

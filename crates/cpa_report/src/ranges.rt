@@ -21,7 +21,7 @@ pub(crate) fn has_counts(report: &Report, cfa: &Cfa) -> bool
 }
 
 /// Whether each number is below the count.
-fn are_below(numbers: &Seq<u32>, count: usize) -> bool
+fn are_below(numbers: &[u32], count: usize) -> bool
     ensures { IsTrue result ↔ AllByRecursion (λ number. number < count) numbers.now }
 {
     for number in numbers {
@@ -33,7 +33,7 @@ fn are_below(numbers: &Seq<u32>, count: usize) -> bool
 }
 
 /// Whether each predicate is an expression over the cells.
-fn are_exprs(preds: &Seq<Expr>, cells: &[Cell]) -> bool
+fn are_exprs(preds: &[Expr], cells: &[Cell]) -> bool
     ensures { IsTrue result ↔ AllByRecursion (IsExpr cells.now) preds.now }
 {
     for pred in preds {
@@ -48,7 +48,7 @@ fn are_exprs(preds: &Seq<Expr>, cells: &[Cell]) -> bool
 fn is_path(path: &Path, cfa: &Cfa) -> bool
     ensures { IsTrue result ↔ IsPathOf cfa.now path.now }
 {
-    are_below(&path.edges, cfa.edges.len())
+    are_below(path.edges.as_slice(), cfa.edges.len())
 }
 
 /// Whether the elements are shaped for the automaton.
@@ -79,8 +79,8 @@ fn are_listed(entries: &Seq<Listed>, cfa: &Cfa) -> bool
 fn is_precision(precision: &Precision, cfa: &Cfa) -> bool
     ensures { IsTrue result ↔ IsPrecision cfa.now precision.now }
 {
-    are_below(&precision.tracked, cfa.cells.len())
-        && are_exprs(&precision.preds, cfa.cells.as_slice())
+    are_below(precision.tracked.as_slice(), cfa.cells.len())
+        && are_exprs(precision.preds.as_slice(), cfa.cells.as_slice())
 }
 
 /// Whether this is so of each precision.

@@ -3,10 +3,11 @@
 ghost use Rattle.std.specs.Prelude.{◌∷◌, OnOk};
 ghost use Rattle.json.specs.Token.{key};
 ghost use Rattle.serde_json.specs.Data.{Data};
-ghost use Rattle.cpa_report_print.specs.Reports.{integer_data};
+ghost use Rattle.cpa_report_print.specs.Reports.{integer_data, list_data};
 ghost use Rattle.cpa_report_print.specs.Tokens.{onto, Wrote};
 
 use cpa_expr::Expr;
+use cpa_iface::Shared;
 use cpa_model::Seq;
 use itoa::Buffer;
 use json::Writer;
@@ -75,12 +76,29 @@ impl<T: Json> Json for Seq<T> {
     ghost json = { list_data T.json };
 
     fn write(&self, alloc: Global, writer: &mut Writer) -> Result<(), AllocError> {
-        writer.begin_array()?;
-        for item in self {
-            item.write(alloc, writer)?;
-        }
-        writer.end_array()
+        write_items(alloc, writer, self.as_slice())
     }
+}
+
+impl<T: Json> Json for Shared<T> {
+    ghost use Rattle.cpa_report_print.specs.Reports.{list_data};
+
+    ghost json = { list_data T.json };
+
+    fn write(&self, alloc: Global, writer: &mut Writer) -> Result<(), AllocError> {
+        write_items(alloc, writer, self.as_slice())
+    }
+}
+
+/// Writes the items as an array.
+fn write_items<T: Json>(alloc: Global, writer: &mut Writer, items: &[T]) -> Result<(), AllocError>
+    ensures { OnOk result (Wrote writer.old writer.new (onto (list_data T.json items.now))) }
+{
+    writer.begin_array()?;
+    for item in items {
+        item.write(alloc, writer)?;
+    }
+    writer.end_array()
 }
 
 /// Writes a key and its value.

@@ -8,10 +8,10 @@ use crate::limits::limited;
 use crate::strengthening::strengthened;
 use crate::transfer::next_values;
 use cpa_iface::{
-    Analysis, Entry, MergeRule, Part, Precision, Settings, copy_precision, merge_facts,
+    Analysis, Entry, MergeRule, Part, Precision, Settings, copy_precision, covers, merge_facts,
 };
 use cpa_ints::wrap_keeps_the_range;
-use cpa_model::{Cell, Cfa, Elem, Fact, Path, Seq, edges_are_sound, has_facts};
+use cpa_model::{Cell, Cfa, Elem, Fact, Path, Seq, edges_are_sound};
 use cpa_path_folds::{first_tracking, refined};
 use std::alloc::{AllocError, Global};
 
@@ -88,7 +88,7 @@ impl Analysis for Value {
     }
 
     fn covered_by(&self, elem: &Elem, other: &Elem) -> bool {
-        has_facts(elem, other)
+        covers(elem, other)
     }
 
     fn adjust(
