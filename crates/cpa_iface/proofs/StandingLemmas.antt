@@ -1,6 +1,6 @@
 -- That some item passes a test exactly where the first place that does so is in the list.
-use Rattle.std.proofs.Common.{◌≡◌, ℕ, Bool, true, false, List, [], ◌∷◌, refl, sym, ap, ◌∙◌, length}
-use Rattle.std.proofs.Common.{suc, cond, not, ◌+◌, arith, ◌<◌, ◌≤◌, Some, None}
+use Rattle.std.proofs.Common.{◌≡◌, ℕ, Bool, true, false, List, [], ◌∷◌, refl, ap, ◌∙◌, length}
+use Rattle.std.proofs.Common.{suc, cond, not, ◌+◌, arith, Some, None}
 use Rattle.std.specs.Prelude.{is_some, ◌||◌}
 use Rattle.std.specs.List.{list_any, position_or_len}
 use borrow.Author.Tests.{ltb-true, ltb-false, lt-ltb, le-ltb}
