@@ -14,9 +14,7 @@ ghost use Rattle.c_core_trees.specs.Items.{statement_rule, left, do_behind, for_
 
 use c_core_expressions::{Frames, cell_behind, chosen_unused, unused, used};
 use c_core_rules::{Location, Valued};
-use c_core_values::{
-    Cells, block, cell_at, input, joined, leaf, list_of, repeated, set, with,
-};
+use c_core_values::{Cells, block, cell_at, input, joined, leaf, list_of, repeated, set, with};
 use c_types_rules::{
     Object, TypedDeclarator, TypedExpression, TypedForStart, TypedInitializer, TypedItem,
     TypedStatement, cells_of,

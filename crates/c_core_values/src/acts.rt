@@ -14,9 +14,7 @@ ghost use Rattle.c_core_values.specs.Found.{so_far};
 use crate::cells::Cells;
 use crate::trees::{choice, joined, list_of, set, with};
 use crate::values::{int, scalar};
-use c_core_operators::{
-    chosen_value, conv, is_constant, operator_value, signed_value, truth_of,
-};
+use c_core_operators::{chosen_value, conv, is_constant, operator_value, signed_value, truth_of};
 use c_core_rules::{Location, Valued};
 use c_grammar_symbols::BinaryOperator;
 use c_grammar_tree::UnaryOperator;

@@ -21,11 +21,7 @@ use cpa_model_trees::CoreTree;
 use std::alloc::{AllocError, Global};
 
 /// The place with a copy of its index, read.
-fn element_again(
-    alloc: Global,
-    place: Location,
-    index: &Expr,
-) -> Result<Boxed<Expr>, AllocError>
+fn element_again(alloc: Global, place: Location, index: &Expr) -> Result<Boxed<Expr>, AllocError>
     ensures { IfOk result (λ e. e ≡ element place index.now) }
 {
     let index = copied(alloc, index)?;
