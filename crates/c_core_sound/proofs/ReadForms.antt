@@ -19,6 +19,7 @@ use Rattle.c_types_rules.specs.declared.meaning.Role.TheVariants.{Valued, Change
 use Rattle.c_types_rules.specs.Known.{known_result}
 use Rattle.c_types_rules.specs.Parts.{with_value, with_values, named_kind, element_kind}
 use Rattle.c_types_rules.specs.Parts.{result_kind, element_form, element_of, result_of}
+use Rattle.c_types_rules.specs.Types.{value_kind}
 use Rattle.c_types_rules.specs.Parts.{changed_kind, is_changeable, value}
 use Rattle.c_types_rules.specs.Expressions.{named, taken, given, Reading, used, parts_of, trees_of}
 use Rattle.c_types_rules.specs.Expressions.{ReadSuffix, suffix_part, suffix_uses, suffix_typed}

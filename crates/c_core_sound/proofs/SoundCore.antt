@@ -36,7 +36,8 @@ use Rattle.c_types_rules.specs.StatementRules.{jump_faults, site_faults}
 use Rattle.c_types_rules.specs.Statements.{walk_of}
 use Rattle.c_types_rules.specs.TypedStatements.{grown}
 use Rattle.c_types_rules.specs.Items.{Before, Call, text_of, items_faults, items_calls}
-use Rattle.c_types_rules.specs.Items.{nothing_before, body_sites, globals_faults, head_faults}
+use Rattle.c_types_rules.specs.Items.{nothing_before, body_sites, body_faults, globals_faults}
+use Rattle.c_types_rules.specs.Items.{head_faults}
 use Rattle.c_types_rules.specs.Items.{item_behind, item_faults, listed}
 use Rattle.c_types_rules.specs.Recursion.{Among, Calls, Through}
 use Rattle.c_types_rules.specs.Recursion as recursion
