@@ -16,9 +16,10 @@ use Rattle.c_types_rules.specs.declared.typed.TypedStatement.TheVariants as tree
 use Rattle.cpa_model_trees.specs.declared.tree.CoreTree.TheVariants.{Node}
 use Rattle.cpa_model_trees.specs.declared.tree.Head.TheVariants as head
 use Rattle.c_core_rules.specs.declared.tree.Location.{Location}
+use Rattle.c_core_rules.specs.declared.tree.Valued.{Valued}
 use Rattle.cpa_model_trees.specs.Numbering.{Trees}
 use Rattle.c_core_rules.specs.Trees.{leaf, block, choice, repeated}
-use Rattle.c_core_rules.specs.Cells.{Taken, Rule, gives, then_by, in_order}
+use Rattle.c_core_rules.specs.Cells.{Taken, Made, Rule, gives, then_by, in_order}
 use Rattle.c_core_rules.specs.Expressions.{Frames, rows}
 use Rattle.c_core_rules.specs.Statements.{some_unused, started, left_unless, returned, declaration}
 use Rattle.c_core_rules.specs.Statements.{as_one, item_rule, item_step, statement_step}
@@ -98,6 +99,41 @@ statement_If frames result test first (Some other) taken =
     (opened frames result (tree.If test first (Some other)) (TypedStatement-F.If test first
     (Some other))
     (tree.rolls-If test first (Some other)))
+
+-- what an if with an else makes, part by part
+pub if_else : (frames : Frames) (result : Location) (s : TypedStatement) (test : TypedExpression)
+    (this other : TypedStatement) (else_part : Option TypedStatement) (first second : TypedStatement)
+    (start a b c : Taken) (v : Valued) (x y : Trees) → s ≡ tree.If test this else_part →
+    else_part ≡ Some other →
+    first ≡ this → second ≡ other → a ≡ ((rows frames test).used start).taken →
+    v ≡ ((rows frames test).used start).made → b ≡ (statement_rule frames result first a).taken →
+    x ≡ (statement_rule frames result first a).made →
+    c ≡ (statement_rule frames result second b).taken →
+    y ≡ (statement_rule frames result second b).made →
+    (c ≡ (statement_rule frames result s start).taken)
+    × (v.statements ++ choice v.value x y ∷ [] ≡ (statement_rule frames result s start).made)
+if_else frames result s test this other else_part first second start a b c v x y is some one two ta
+    tv tb tx tc ty =
+    let m = (rows frames test).used start in
+    let at_first = λ (t : Taken). statement_rule frames result this t in
+    let at_second = λ (t : Taken). statement_rule frames result other t in
+    let whole = ap (λ z. statement_rule frames result z start)
+    (is ∙ ap (λ (o : Option TypedStatement). tree.If test this o) some)
+    ∙ statement_If frames result test this (Some other) start in
+    let of_first = ap (λ z. statement_rule frames result z a) one ∙ ap at_first ta in
+    let b_is : b ≡ (at_first m.taken).taken = tb ∙ ap (λ (k : Made Trees). k.taken) of_first in
+    let x_is : x ≡ (at_first m.taken).made = tx ∙ ap (λ (k : Made Trees). k.made) of_first in
+    let of_second = ap (λ z. statement_rule frames result z b) two ∙ ap at_second b_is in
+    let n = at_second (at_first m.taken).taken in
+    let y_is : y ≡ n.made = ty ∙ ap (λ (k : Made Trees). k.made) of_second in (
+      tc ∙ ap (λ (k : Made Trees). k.taken) of_second
+          ∙ sym (ap (λ (k : Made Trees). k.taken) whole),
+      ap (λ (w : Valued). w.statements ++ choice w.value x y ∷ []) tv
+          ∙ ap (λ (k : Trees). m.made.statements ++ choice m.made.value k y ∷ []) x_is
+          ∙ ap (λ (k : Trees). m.made.statements
+          ++ choice m.made.value (at_first m.taken).made k ∷ []) y_is
+          ∙ sym (ap (λ (k : Made Trees). k.made) whole),
+    )
 
 pub statement_While : (frames : Frames) (result : Location) (test : TypedExpression)
     (body : TypedStatement) (taken : Taken) →

@@ -402,7 +402,8 @@ fn statement(
                 None => chosen_unused(alloc, v, first, Seq::new(alloc)),
                 Some(no) => {
                     let second = statement(cells, frames, place, no.get())?;
-                    chosen_unused(alloc, v, first, second)
+                    let trees = chosen_unused(alloc, v, first, second)?;
+                    Ok(trees)
                 }
             }
         }
