@@ -4,5 +4,6 @@ pub mod Heights
 pub mod Lines
 pub mod Lowness
 pub mod Plainness
+pub mod Ranged
 pub mod Rules
 pub mod Shown
