@@ -8,6 +8,7 @@ use Rattle.std.proofs.lemmas.List.{length-map}
 use Rattle.std.proofs.lemmas.Option.{slice_get_within}
 use Rattle.cpa_ints.specs.declared.integers.IntType.{IntType}
 use Rattle.cpa_ints.specs.Integers.{IsInRange}
+use Rattle.cpa_cnf.specs.Lines.{AreBelow}
 use Rattle.cpa_cnf.specs.Models.{IsModel as IsTruth}
 use Rattle.cpa_cnf.specs.declared.formula.Line.{Line}
 use Rattle.cpa_expr.specs.declared.tree.Expr.{Expr}
@@ -39,6 +40,7 @@ use Rattle.cpa_interpolant_rules.specs.Interpolants.{IsNext}
 use Rattle.cpa_interpolant_cuts.specs.Cuts.{added_before, added_behind, before_cut, behind_cut}
 use Rattle.cpa_interpolant_cuts.specs.Cuts.{meetings_of, formula_of, sides_at, expr_of}
 use Rattle.cpa_interpolant_cuts.specs.lemmas.Meet.{AreParts}
+use Rattle.cpa_interpolant_cuts.specs.lemmas.Asked.{as_many_sides, all_below}
 use Rattle.cpa_interpolant_cuts.specs.lemmas.Sharing.{HasSides}
 use Rattle.cpa_interpolant_cuts.specs.lemmas.Next.{next}
 use Rattle.cpa_interpolant_cuts.specs.lemmas.Typing.{typed}
@@ -89,6 +91,18 @@ pub record CutsAreRuns : Type 0 where
       → (truths : List Bool) × IsTruth
       (formula_of cfa.cells (before_cut cfa.cells e a) (behind_cut cfa.cells acts)) truths
 
+-- The two parts of a cut may be joined. Each clause of their formula has a side, and each literal is
+-- one of its variables, so that the formula may be searched.
+pub record CutsAreAsked : Type 0 where
+  pub parts : (cfa : Cfa) (e : Expr) (a : Act) (acts : List Act) → IsCut cfa e a acts
+      → AreParts cfa.cells (before_cut cfa.cells e a) (behind_cut cfa.cells acts)
+  pub sides : (cells : List Cell) (before behind : Form)
+      → length (sides_at before behind) ≡ length (formula_of cells before behind).clauses
+  pub below : (cfa : Cfa) (e : Expr) (a : Act) (acts : List Act) → IsCut cfa e a acts
+      → AllByRecursion
+      (AreBelow (formula_of cfa.cells (before_cut cfa.cells e a) (behind_cut cfa.cells acts)).vars)
+      (formula_of cfa.cells (before_cut cfa.cells e a) (behind_cut cfa.cells acts)).clauses
+
 -- ---- the lemma
 
 -- what is said of two lists of clauses, one of each side
@@ -112,7 +126,7 @@ has_sides lists cells A B =
           ∙ lists.second (formula A.query).clauses more;
     }
 
-all_taken : (cfa : Cfa) (acts : List Act) → AllByRecursion (IsActOf cfa) acts
+pub all_taken : (cfa : Cfa) (acts : List Act) → AllByRecursion (IsActOf cfa) acts
     → AllByRecursion (IsAddedOf cfa) (added_behind acts)
 all_taken cfa [] are = tt
 all_taken cfa (a ∷ acts) are = (are.0, all_taken cfa acts are.1)
@@ -204,4 +218,13 @@ cuts_are_runs circuits = record {
       let is = made cfa e a acts cut in
       modelled circuits cfa e a acts (before_cut cfa.cells e a) (behind_cut cfa.cells acts)
       is.form_before is.form_behind is.are is.long first inputs last begins run;
+}
+
+pub cuts_are_asked : CircuitsHaveValues → CutsAreAsked
+cuts_are_asked circuits = record {
+  parts = λ cfa e a acts cut. (made cfa e a acts cut).are;
+  sides = as_many_sides;
+  below = λ cfa e a acts cut.
+      all_below circuits cfa.cells (before_cut cfa.cells e a) (behind_cut cfa.cells acts)
+      (made cfa e a acts cut).are;
 }

@@ -1,7 +1,8 @@
 //! The laws of cuts, stated in specs/Laws. Each function does nothing: its contract is the law.
 //! Proved in specs/lemmas.
 
-ghost use Rattle.cpa_interpolant_cuts.specs.Laws.{CutsInterpolate, CutsAreRuns, CutsAreTyped};
+ghost use Rattle.cpa_interpolant_cuts.specs.Laws.{CutsAreAsked, CutsAreRuns, CutsAreTyped};
+ghost use Rattle.cpa_interpolant_cuts.specs.Laws.{CutsInterpolate};
 
 use cpa_blast_circuits::circuits_have_values;
 use cpa_chains::two_lists_are_sides;
@@ -25,6 +26,13 @@ pub fn cuts_are_typed()
 /// The models of a cut's joined formula are the runs of stores through the cut.
 pub fn cuts_are_runs()
     ensures { CutsAreRuns }
+{
+    circuits_have_values();
+}
+
+/// The two parts of a cut may be joined, and their formula may be searched.
+pub fn cuts_are_asked()
+    ensures { CutsAreAsked }
 {
     circuits_have_values();
 }

@@ -5,4 +5,4 @@
 
 mod laws;
 
-pub use laws::{cuts_are_runs, cuts_are_typed, cuts_interpolate};
+pub use laws::{cuts_are_asked, cuts_are_runs, cuts_are_typed, cuts_interpolate};

@@ -98,7 +98,7 @@ has_value (Some a) b h = refl
 -- ---- runs
 
 -- a run of stores meets the edges that are taken
-runs_of : (cells : List Cell) (acts : List Act) (store : List ℤ) → RunsFrom cells acts store
+pub runs_of : (cells : List Cell) (acts : List Act) (store : List ℤ) → RunsFrom cells acts store
     → (inputs last : List ℤ) × Runs cells (added_behind acts) store inputs last
 runs_of cells [] store run = ([], store, (refl, refl))
 runs_of cells (a ∷ acts) store (next, step, rest) =
@@ -106,13 +106,13 @@ runs_of cells (a ∷ acts) store (next, step, rest) =
     let (own, meets) = (steps_take_inputs.step cells a store next).0 step.step in
     (own ++ others, last, (next, own, others, meets, refl, runs))
 
-starts_in : (cells : List Cell) (acts : List Act) (store : List ℤ) → RunsFrom cells acts store
+pub starts_in : (cells : List Cell) (acts : List Act) (store : List ℤ) → RunsFrom cells acts store
     → IsStore cells store
 starts_in cells [] store run = run
 starts_in cells (a ∷ acts) store (next, step, rest) = step.before
 
 -- one edge from a store where the expression is nonzero
-run_before : (cells : List Cell) (e : Expr) (a : Act) (old new : List ℤ) → HasTruth old e true
+pub run_before : (cells : List Cell) (e : Expr) (a : Act) (old new : List ℤ) → HasTruth old e true
     → StepsBy cells a old new
     → (inputs : List ℤ) × Runs cells (added_before e a) old inputs new
 run_before cells e a old new holds step =

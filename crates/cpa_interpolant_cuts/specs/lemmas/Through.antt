@@ -30,7 +30,7 @@ use Rattle.cpa_edgeform_rules.specs.Runs.{Runs}
 use Rattle.cpa_edgeform_rules.specs.Forms.{Form, place_now, first_store, last_store, inputs_at}
 use Rattle.cpa_edgeform_rules.specs.Laws.{IsFormOf}
 use Rattle.cpa_edgeform_rules.specs.Additions.{adding_goes_on}
-use Rattle.cpa_interpolant_joining.specs.Joining.{AreNames, Agree, named_or, seen}
+use Rattle.cpa_interpolant_joining.specs.Joining.{Agree, named_or, seen}
 use Rattle.cpa_interpolant_bits.specs.Bits.{bit_of}
 use Rattle.cpa_interpolant_joining.specs.Laws.{AreParts as AreFormulas, parts_have_models}
 use Rattle.cpa_interpolant_joining.specs.lemmas.Literals.{seen_at}
@@ -41,6 +41,7 @@ use Rattle.cpa_interpolant_rules.specs.Stores.{IsStore}
 use Rattle.cpa_interpolant_cuts.specs.Cuts.{added_before, added_behind, meetings_of, formula_of}
 use Rattle.cpa_interpolant_cuts.specs.lemmas.Meet.{AreParts, at, cell_of, one_at, before_bit}
 use Rattle.cpa_interpolant_cuts.specs.lemmas.Meet.{behind_bit, behind_apart, value_of_bit}
+use Rattle.cpa_interpolant_cuts.specs.lemmas.Asked.{names_low}
 use Rattle.cpa_interpolant_cuts.specs.lemmas.Next.{get_taken, same_index}
 
 -- ---- lists
@@ -302,20 +303,10 @@ module _ (circuits : CircuitsHaveValues) (cfa : Cfa) (e : Expr) (a : Act) (acts 
       (begun ∙ sym ended))
       ∙ (sym (value_of_bit A.query one.0 values (place_now A c.cell) j _ c.t one.1.gives low.0)
       ∙ ap (λ k. slice_index_or one.0 k false)
-      (sym (found.5 ∙ ap (λ (u : Meeting). u.before + j) c.is))))) in
-      let names_low : AreNames (formula A.query).vars given =
-      λ v name named.
-      let found = names_are_bits.name (formula B.query).vars all v name named in
-      let m = found.0 in
-      let j = found.1 in
-      let c = cell_of circuits cells A B are m found.2 in
-      let inside : j < width c.t = subst (λ (u : Meeting). j < width u.ty) c.is found.3 in
-      let high = (before_bit circuits cells A B are c.cell c.t j c.ty inside).1 in
-      let is = found.5 ∙ ap (λ (u : Meeting). u.before + j) c.is in
-      omega (arith, high, inside, is) in (
+      (sym (found.5 ∙ ap (λ (u : Meeting). u.before + j) c.is))))) in (
         one.0 ++ two.0,
         parts_have_models.both (formula A.query) (formula B.query) given one.0 two.0 (record {
           first_below = (formulas_below circuits).literals A.query are.before;
           second_below = (formulas_below circuits).literals B.query are.behind;
-        }) names_low agree one.1.model two.1.model,
+        }) (names_low circuits cells A B are) agree one.1.model two.1.model,
       )
