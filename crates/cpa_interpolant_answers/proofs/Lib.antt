@@ -1,0 +1,5 @@
+pub mod Keeping
+pub mod Parted
+pub mod Running
+pub mod Concluding
+pub mod Modelled
