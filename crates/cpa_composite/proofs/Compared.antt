@@ -82,6 +82,21 @@ none_longer (r ∷ old) (s ∷ new) h zero p q at then =
 none_longer (r ∷ old) (s ∷ new) h (suc i) p q at then =
     none_longer old new (or_parts (is_longer r s) (some_longer old new) h).1 i p q at then
 
+-- two tests, in either order
+pub both_false : (b : Bool) → (b && false) ≡ false
+both_false true = refl
+both_false false = refl
+
+pub both_true : (b : Bool) → b ≡ (b && true)
+both_true true = refl
+both_true false = refl
+
+pub either_order : (a b : Bool) → (b && a) ≡ (a && b)
+either_order true true = refl
+either_order true false = refl
+either_order false true = refl
+either_order false false = refl
+
 -- a row that ends covers, and is covered
 pub no_elems_cover : (cs : List Component) (fs : List Elem) → all_cover cs [] fs ≡ true
 no_elems_cover [] fs = refl
@@ -136,6 +151,21 @@ cover_split ms picks d es e fs f first rest within a b k elem fellow covers late
     (subst (λ (l : List Elem). (first && rest)
     ≡ all_cover (picked ms (p ∷ drop 1 picks)) (e ∷ drop 1 es) l) (sym (split fs f k fellow))
     (cover_first ms p (drop 1 picks) e (drop 1 es) f (drop 1 fs) first rest inside covers later)))
+
+-- where the others do not cover, the row does not
+pub cover_fails : (ms : List Meaning) (picks : List Pick) (es : List Elem) (e : Elem)
+    (fs : List Elem) (f : Elem) → ArePlaces (length ms) picks
+    → 1 ≤ length picks → 1 ≤ length es → 1 ≤ length fs → e ≡ get_or es 0 e → f ≡ get_or fs 0 f
+    → false ≡ all_cover (picked ms (drop 1 picks)) (drop 1 es) (drop 1 fs)
+    → false ≡ all_cover (picked ms picks) es fs
+cover_fails ms [] es e fs f within a b k elem fellow fails = absurd (omega (arith, a))
+cover_fails ms (p ∷ picks) es e fs f within a b k elem fellow fails =
+    let there = there_is ms p.place within.0 in
+    let first : Bool = there.0.cover e f in
+    sym (both_false first)
+    ∙ cover_split ms (p ∷ picks) p es e fs f first false within a b k elem fellow
+    (λ (c : Component) (is : IsPicked ms p c). ap (λ (m : Meaning). m.cover e f)
+    (same_Some there.0 c.meaning (sym there.1 ∙ is.meaning))) fails
 
 -- all of a list is the list
 take_whole : {X : Type 0} (xs : List X) (n : ℕ) → length xs ≤ n → take n xs ≡ xs

@@ -19,7 +19,9 @@ pub(crate) fn keeps_apart(rule: MergeRule) -> bool
     }
 }
 
-/// Whether the elements of each analysis that keeps them apart are the same.
+/// Whether the elements of each analysis that keeps them apart are the same. The last ones are
+/// looked at first: those in front tell control apart, and rows of one key agree on them.
+#[tactic(auto, using(crate::proofs::Compared::either_order))]
 pub(crate) fn agree(picks: &[Pick], new: &[Elem], old: &[Elem]) -> bool
     ensures { result ≡ agree picks.now new.now old.now }
 {
@@ -30,7 +32,7 @@ pub(crate) fn agree(picks: &[Pick], new: &[Elem], old: &[Elem]) -> bool
             [elem, new @ ..] => match old {
                 [] => true,
                 [fellow, old @ ..] => {
-                    (!keeps_apart(pick.rule) || same_elem(elem, fellow)) && agree(picks, new, old)
+                    agree(picks, new, old) && (!keeps_apart(pick.rule) || same_elem(elem, fellow))
                 }
             },
         },

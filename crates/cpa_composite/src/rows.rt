@@ -13,8 +13,9 @@ ghost use Rattle.cpa_composite.specs.Laws.{EachRefined};
 
 use crate::asking;
 use cpa_iface::{Analysis, Entry, Pick, Precision, Settings};
-use cpa_model::{Cfa, Elem, Path};
+use cpa_model::{Cfa, Elem, Path, Seq};
 use std::alloc::{AllocError, Global};
+use std::mem;
 
 /// What each analysis begins with.
 pub(crate) fn initial<A: Analysis>(
@@ -41,7 +42,8 @@ pub(crate) fn initial<A: Analysis>(
     Ok((elems, precisions))
 }
 
-/// Whether each analysis takes its element of the one row for covered by that of the other.
+/// Whether each analysis takes its element of the one row for covered by that of the other. The
+/// last ones are asked first: those in front tell control apart, and rows of one key agree on them.
 #[tactic(auto, using(crate::proofs::Compared::no_elems_cover, crate::proofs::Compared::no_fellows_cover))]
 pub(crate) fn covered_by<A: Analysis>(
     handed: &Vec<A>,
@@ -60,8 +62,8 @@ pub(crate) fn covered_by<A: Analysis>(
             [elem, elems @ ..] => match other {
                 [] => true,
                 [fellow, other @ ..] => {
-                    asking::covers(handed, pick, elem, fellow)
-                        && covered_by(handed, picks, elems, other)
+                    covered_by(handed, picks, elems, other)
+                        && asking::covers(handed, pick, elem, fellow)
                 }
             },
         },
@@ -176,7 +178,26 @@ pub(crate) fn adjusts<A: Analysis>(
         after.push(elem)?;
         next.push(precision)?;
     }
-    Ok((after, next))
+    Ok((trimmed(alloc, after), next))
+}
+
+/// The same row, whose lists have no more room than they need: entries keep it. Takes no memory.
+fn trimmed(alloc: Global, mut row: Vec<Elem>) -> Vec<Elem>
+    ensures { result.items ≡ row.items }
+{
+    for place in 0..row.len() {
+        trim(alloc, &mut row[place]);
+    }
+    row
+}
+
+/// No more room for facts than they need. Takes no memory.
+fn trim(alloc: Global, elem: &mut Elem)
+    ensures { elem.new ≡ elem.old }
+{
+    let mut facts = mem::replace(&mut elem.facts, Seq::new(alloc)).into_vec();
+    facts.shrink_to_fit();
+    elem.facts = Seq::from_vec(facts);
 }
 
 /// The precision to which each analysis refines its own.

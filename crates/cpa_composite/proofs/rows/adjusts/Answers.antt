@@ -62,3 +62,13 @@ loop-place-preserved g c =
       long = omega (arith, farther, long);
       kept = c.adjust.ensures.kept ∙ at.invariant.kept;
     }
+
+pub returns-clause-laws : goal.returns-clause-laws
+returns-clause-laws g c =
+    let at = c.loop-place in
+    let size = at.invariant.size in
+    let long = at.invariant.long in
+    let end = c.loop-place-test.false in
+    let up = at.auto.place-end in
+    rw c.trimmed.ensures
+    (omega (arith, size, end, up), omega (arith, long, end, up), at.invariant.each)
