@@ -28,8 +28,24 @@ fn first_from(entries: &[Entry], number: u32) -> usize
     entries.partition_point(|entry| entry.number < number)
 }
 
-/// The place of the entry of this number, which is there.
+/// The place of the entry of this number, which is there: the number itself as long as no entry of
+/// a lower number has gone.
+#[tactic(auto, using(crate::proofs::Keys::at_within))]
 pub(crate) fn place(entries: &[Entry], number: u32) -> usize
+    requires ascend { AreAscending (numbers entries.now) }
+    requires live { IsLive entries.now number }
+    ensures at { slice_get (numbers entries.now) result ≡ Some number }
+    ensures within { result < length entries.now }
+{
+    if is_at(entries, number as usize, number) {
+        number as usize
+    } else {
+        halved(entries, number)
+    }
+}
+
+/// The place of the entry of this number, which is there, by halving.
+fn halved(entries: &[Entry], number: u32) -> usize
     requires ascend { AreAscending (numbers entries.now) }
     requires live { IsLive entries.now number }
     ensures at { slice_get (numbers entries.now) result ≡ Some number }

@@ -1,6 +1,6 @@
 use Rattle.cpa_reached.specs.MemberLaws.{live_in}
 use Rattle.cpa_reached.proofs.Keys.{places_rise, found_at, at_within}
-use Rattle.cpa_reached.proofs.finding.place.Goals as goal
+use Rattle.cpa_reached.proofs.finding.halved.Goals as goal
 
 pub first_from-requires : goal.first_from-requires
 first_from-requires c = places_rise c.args.entries.now c.requires.ascend
