@@ -8,7 +8,6 @@ use Rattle.std.proofs.Common.{inl, inr, ⊎_elim, arith}
 use Rattle.std.specs.Prelude.{◌⊎◌, if◌then◌else◌}
 use Rattle.std.specs.List.{slice_get, filter, remove}
 use Rattle.std.proofs.lemmas.Bool.{cases_Bool, both_ways, eq-eqb, ne_eqb}
-use Rattle.std.proofs.lemmas.List.{length-map}
 use Rattle.std.proofs.lemmas.Option.{same_Some, slice_get-get_or}
 use Rattle.std.proofs.lemmas.List.Elements.{filter-append}
 use Rattle.cpa_model.specs.Ascending.{AreAscending}
@@ -176,15 +175,6 @@ pub number_there : (ns ms : List ℕ) (i : ℕ) → ms ≡ ns → i < length ms
 number_there ns ms i same inside =
     subst (λ (ks : List ℕ). slice_get ks i ≡ Some (get_or ms i 0)) same
     (slice_get-get_or ms i 0 inside)
-
-pub number_at : (r : ReachedSet) (key : List Elem) (ms : List ℕ) (i : ℕ)
-    → ms ≡ numbers (under r key) → i < length (under r key)
-    → slice_get (numbers (under r key)) i ≡ Some (get_or ms i 0)
-number_at r key ms i same inside =
-    let size : length (numbers (under r key)) ≡ length (under r key) =
-    length-map (under r key) (λ (e : Entry). e.number) in
-    let long = ap (λ (ns : List ℕ). length ns) same in
-    number_there (numbers (under r key)) ms i same (omega (arith, inside, size, long))
 
 -- the live entry of that number has the key
 key_there : (r : ReachedSet) (key : List Elem) (i n : ℕ) (x : Entry)

@@ -1,11 +1,11 @@
 -- The numbers that are left to compare with, by place: what replaces an entry is the last one, so
 -- the
 -- place of the next one is the same, or one more.
-use Rattle.std.proofs.Common.{◌≡◌, ℕ, zero, suc, ◌+◌, ◌<◌, ◌≤◌, List, [], ◌∷◌, ◌++◌, length, take}
+use Rattle.std.proofs.Common.{◌≡◌, ℕ, zero, suc, ◌+◌, ◌≤◌, List, [], ◌∷◌, ◌++◌, length, take}
 use Rattle.std.proofs.Common.{drop}
 use Rattle.std.proofs.Common.{Some, refl, sym, ap, ◌∙◌, subst, ⊎_elim, arith}
 use Rattle.std.specs.List.{slice_get, remove, AllByRecursion}
-use Rattle.std.proofs.lemmas.Option.{same_Some, slice_get_within}
+use Rattle.std.proofs.lemmas.Option.{same_Some}
 use Rattle.cpa_engine_turn.specs.Steps.{MovesOn, LeftAt}
 
 take_first : {X : Type 0} (front : List X) (x : X) (rest : List X)
@@ -93,27 +93,17 @@ take_push {X} xs i x at =
     let one : i + 1 ≡ suc i = omega arith in
     ap (λ (k : ℕ). take k xs) one ∙ take_suc xs i x at
 
--- the next number, and those from there on
-pub record NextAt (ns : List ℕ) (i : ℕ) : Type 0 where
-  pub number : ℕ
-  pub front : take (i + 1) ns ≡ take i ns ++ number ∷ []
-  pub behind : drop i ns ≡ number ∷ drop (i + 1) ns
+behind : (ns : List ℕ) (i n : ℕ) → slice_get ns i ≡ Some n → drop i ns ≡ n ∷ drop (suc i) ns
+behind [] i n at = absurd (cc)
+behind (m ∷ ns) zero n at = ap (λ (k : ℕ). k ∷ ns) (same_Some m n at)
+behind (m ∷ ns) (suc i) n at = behind ns i n at
 
-next_there : (ns : List ℕ) (i : ℕ) → i < length ns
-    → (n : ℕ) × (slice_get ns i ≡ Some n) × (drop i ns ≡ n ∷ drop (suc i) ns)
-next_there [] i less = absurd (omega (arith, less))
-next_there (n ∷ ns) zero less = (n, refl, refl)
-next_there (n ∷ ns) (suc i) less = next_there ns i (omega (arith, less))
-
-pub next_at : (ns : List ℕ) (i : ℕ) → i < length ns → NextAt ns i
-next_at ns i less =
-    let there = next_there ns i less in
+-- those from a place on
+pub drop_item : (ns : List ℕ) (i n : ℕ) → slice_get ns i ≡ Some n
+    → drop i ns ≡ n ∷ drop (i + 1) ns
+drop_item ns i n at =
     let one : i + 1 ≡ suc i = omega arith in
-    record {
-      number = there.0;
-      front = take_push ns i there.0 there.1;
-      behind = there.2 ∙ ap (λ (k : ℕ). there.0 ∷ drop k ns) (sym one);
-    }
+    behind ns i n at ∙ ap (λ (k : ℕ). n ∷ drop k ns) (sym one)
 
 pub take_whole : {X : Type 0} (xs : List X) (i : ℕ) → length xs ≤ i → take i xs ≡ xs
 take_whole [] zero all = refl
@@ -121,12 +111,3 @@ take_whole [] (suc i) all = refl
 take_whole (x ∷ xs) zero all = absurd (omega (arith, all))
 take_whole {X} (x ∷ xs) (suc i) all =
     ap (λ (l : List X). x ∷ l) (take_whole xs i (omega (arith, all)))
-
--- the place is within the numbers
-pub left_inside : (ns todo : List ℕ) (place i : ℕ) → LeftAt ns place (drop i todo)
-    → i < length todo → place < length ns
-left_inside ns todo place i left less =
-    let next = next_at todo i less in
-    slice_get_within ns place next.number
-    (left_there ns place next.number (drop (i + 1) todo)
-    (subst (LeftAt ns place) next.behind left))

@@ -51,6 +51,10 @@ pub record MovesOn (old new : List ℕ) (place next : ℕ) : Type 0 where
   pub step : ((next ≡ place + 1) × (new ≡ old))
       ⊎ ((next ≡ place) × (n : ℕ) × (new ≡ remove old place ++ n ∷ []))
 
+-- so they are, whatever the next place is
+abbrev pub MovesFrom : List ℕ → List ℕ → ℕ → Type 0
+MovesFrom old new place = (next : ℕ) × MovesOn old new place next
+
 -- From a place on the numbers are these, and maybe more.
 pub record LeftAt (ns : List ℕ) (place : ℕ) (todo : List ℕ) : Type 0 where
   pub front : List ℕ

@@ -1,17 +1,18 @@
 //! One successor: it is adjusted, merged into the live entries of its key, and noted as covered or
 //! added. Each clause is a definition of `specs/Stages.antt`.
 
-ghost use Rattle.std.specs.Prelude.{◌≡◌, ℕ, ◌<◌, length, map, Some, slice_get, IfOk, OnOk};
+ghost use Rattle.std.specs.Prelude.{◌≡◌, ℕ, ◌<◌, List, length, map, Some, slice_get, IfOk, OnOk};
 ghost use Rattle.std.specs.List.{AllByRecursion};
 ghost use Rattle.cpa_model.specs.Automata.{IsAutomaton};
+ghost use Rattle.cpa_model.specs.declared.facts.Elem.{Elem as AnElem};
 ghost use Rattle.cpa_composite.specs.Components.{AreElems, ArePrecisions};
 ghost use Rattle.cpa_composite.specs.Composites.{components};
-ghost use Rattle.cpa_reached.specs.Entries.{numbers};
+ghost use Rattle.cpa_reached.specs.Entries.{IsLive, numbers};
 ghost use Rattle.cpa_engine_turn.specs.Keys.{HasPlaces};
 ghost use Rattle.cpa_engine_turn.specs.Stages.{Compares, ComparesAll, under, first_cover};
 ghost use Rattle.cpa_engine_turn.specs.Stages.{covered_or_added};
 ghost use Rattle.cpa_engine_turn.specs.Stages.{Settles, SettlesAll};
-ghost use Rattle.cpa_engine_turn.specs.Steps.{stage, IsOrdered, HasCurrent, MovesOn};
+ghost use Rattle.cpa_engine_turn.specs.Steps.{stage, IsOrdered, HasCurrent, MovesFrom};
 ghost use Rattle.cpa_engine_turn.specs.Turns.{AreEntries};
 
 use crate::work::Work;
@@ -22,42 +23,41 @@ use cpa_reached::Reached;
 use cpa_reached_key::Key;
 use std::alloc::{AllocError, Global};
 
-/// Merges the successor into the entry at a place under the key. The place of the next one: the
-/// same, where what the merge gives took the place of that entry, as the last one.
-fn merge_at<A: Analysis>(
+/// Merges the successor into the entry of this number. Under a key where it stands the others stay
+/// in order, and what may take its place is the last one.
+fn merge_into<A: Analysis>(
     alloc: Global,
     cfa: &Cfa,
     composite: &mut Composite<A>,
     reached: &mut Reached,
     work: &mut Work,
-    key: &Key,
-    place: usize,
+    number: u32,
     successor: &[Elem],
     precisions: &[Precision],
-) -> Result<usize, AllocError>
+) -> Result<(), AllocError>
     requires automaton { IsAutomaton cfa.now }
     requires entries { AreEntries cfa.now (length (components composite.old)) reached.old.live }
     requires places { HasPlaces (components composite.old) reached.old }
-    requires place { place < length (under reached.old key.now.elems) }
+    requires live { IsLive reached.old.live number }
     requires successor { AreElems cfa.now (length (components composite.old)) successor.now }
     requires precisions { ArePrecisions cfa.now (length (components composite.old))
         precisions.now }
-    ensures compares { (n : ℕ) → slice_get (numbers (under reached.old key.now.elems)) place
-        ≡ Some n → OnOk result (Compares cfa.now (components composite.old) successor.now
-        precisions.now n (stage reached.old work.old) (stage reached.new work.new)) }
-    ensures moves { IfOk result (MovesOn (numbers (under reached.old key.now.elems))
-        (numbers (under reached.new key.now.elems)) place) }
+    ensures compares { OnOk result (Compares cfa.now (components composite.old) successor.now
+        precisions.now number (stage reached.old work.old) (stage reached.new work.new)) }
+    ensures moves { (key : List AnElem) (place : ℕ)
+        → slice_get (numbers (under reached.old key)) place ≡ Some number
+        → OnOk result (MovesFrom (numbers (under reached.old key))
+        (numbers (under reached.new key)) place) }
     ensures kept { components composite.new ≡ components composite.old }
 {
-    let number = reached.under(key)[place];
     let old = reached.entry(number).elems.as_slice();
     match composite.merge(alloc, cfa, successor, old, precisions)? {
         Some(merged) => {
             let next = reached.replace(number, merged)?;
             work.note_replaced(number, next)?;
-            Ok(place)
+            Ok(())
         }
-        None => Ok(place + 1),
+        None => Ok(()),
     }
 }
 
@@ -83,12 +83,11 @@ fn compare<A: Analysis>(
         (stage reached.new work.new)) }
     ensures kept { components composite.new ≡ components composite.old }
 {
-    let mut place = 0;
-    for _compared in 0..reached.under(key).len() {
-        let next = merge_at(
-            alloc, cfa, composite, reached, work, key, place, successor, precisions,
+    let numbers = reached.under(key).to_vec(alloc)?;
+    for number in numbers.as_slice() {
+        merge_into(
+            alloc, cfa, composite, reached, work, *number, successor, precisions,
         )?;
-        place = next;
     }
     Ok(())
 }
