@@ -7,6 +7,7 @@ mod asking;
 mod edge_rows;
 mod facts;
 mod folding;
+mod interpolant_rows;
 mod judging;
 mod path_rows;
 mod replay_rows;
@@ -15,20 +16,21 @@ mod runs;
 
 use cases_programs::Table;
 use std::io::{self, BufRead, BufReader, BufWriter, Write};
+use std::thread::Threads;
 
 /// The program that the rows set lives from the first row to the last.
 fn main(rt: HostRuntime) -> io::Result<()> {
     let mut table = Table::new(rt.alloc());
-    answer_all(&rt, &mut table)
+    answer_all(&rt, &rt, &mut table)
 }
 
-/// Answers row by row.
-fn answer_all(rt: &HostRuntime, table: &mut Table) -> io::Result<()> {
+/// Answers row by row. Threads are started by the second handle.
+fn answer_all<R: Threads + Sync>(rt: &HostRuntime, threads: &R, table: &mut Table) -> io::Result<()> {
     let alloc = rt.alloc();
     let mut out = BufWriter::new(alloc, io::writer(rt))?;
     for line in BufReader::new(alloc, rt.reader())?.lines(alloc) {
         let line = line?;
-        let printed = rows::answered(alloc, table, line.as_str())?;
+        let printed = rows::answered(threads, alloc, table, line.as_str())?;
         writeln!(out, "{printed}")?;
     }
     out.flush()

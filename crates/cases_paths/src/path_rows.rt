@@ -1,4 +1,5 @@
-//! Rows on paths: what `judge`, `path_weight`, `needed` and `carried` of `cpa_path` answer.
+//! Rows on paths: what `judge`, `path_weight`, `needed` and `carried` of `cpa_path` answer, and
+//! interpolants along them.
 //! Proved safe by the checker alone.
 
 ghost use Rattle.std.specs.Prelude.{IfOk};
@@ -6,15 +7,18 @@ ghost use Rattle.cpa_iface.specs.Meanings.{IsPathOf};
 ghost use Rattle.cpa_model.specs.Automata.{IsAutomaton};
 
 use crate::folding::{push_carried, push_needed};
+use crate::interpolant_rows::push_along;
 use crate::judging::{Limits, push_judged, push_weight};
 use cases_programs::{Table, automaton, is_path};
 use cases_reader::{RowFault, indices_of, next_index, next_part, next_word};
 use cpa_model::{Cfa, Path};
 use std::alloc::Global;
 use std::str::{Split, SplitWhitespace};
+use std::thread::Threads;
 
 /// The answer of a row on a path; false where the word names none.
-pub fn answer(
+pub fn answer<R: Threads + Sync>(
+    rt: &R,
     alloc: Global,
     out: &mut String,
     table: &Table,
@@ -23,12 +27,12 @@ pub fn answer(
     parts: &mut Split<'_, char>,
 ) -> Result<bool, RowFault> {
     match word {
-        "judge" | "inputs" | "path_weight" | "needed" | "carried" => {}
+        "judge" | "inputs" | "path_weight" | "needed" | "carried" | "along" | "exprs" => {}
         _ => return Ok(false),
     }
     let cfa = automaton(alloc, table)?;
     let path = path_of(alloc, &cfa, parts)?;
-    push_answer(alloc, out, &cfa, &path, word, words)?;
+    push_answer(rt, alloc, out, &cfa, &path, word, words)?;
     Ok(true)
 }
 
@@ -46,7 +50,8 @@ fn path_of(alloc: Global, cfa: &Cfa, parts: &mut Split<'_, char>) -> Result<Path
 }
 
 /// Appends the words of the answer that a row's word asks for.
-fn push_answer(
+fn push_answer<R: Threads + Sync>(
+    rt: &R,
     alloc: Global,
     out: &mut String,
     cfa: &Cfa,
@@ -65,6 +70,11 @@ fn push_answer(
         "inputs" => {
             let limits = limits_of(words)?;
             push_judged(alloc, out, cfa, path, limits, true)
+        }
+        "along" | "exprs" => {
+            let limits = limits_of(words)?;
+            let workers = next_index(words)?;
+            push_along(rt, alloc, out, cfa, path, limits, workers, word == "exprs")
         }
         "path_weight" => push_weight(out, cfa, path),
         "needed" => push_needed(alloc, out, cfa, path),

@@ -5,14 +5,20 @@ use crate::{edge_rows, path_rows, replay_rows};
 use cases_programs::Table;
 use cases_reader::{RowFault, end_parts, end_row, next_part, next_word};
 use std::alloc::{AllocError, Global};
+use std::thread::Threads;
 
 /// A row with its answer. An empty line, a remark and a row that sets something stay as they are.
-pub fn answered(alloc: Global, table: &mut Table, line: &str) -> Result<String, AllocError> {
+pub fn answered<R: Threads + Sync>(
+    rt: &R,
+    alloc: Global,
+    table: &mut Table,
+    line: &str,
+) -> Result<String, AllocError> {
     let mut out = String::from_str(alloc, line)?;
     if line.is_empty() || line.starts_with("#") {
         return Ok(out);
     }
-    match answer(alloc, table, line) {
+    match answer(rt, alloc, table, line) {
         Ok(None) => Ok(out),
         Ok(Some(words)) => {
             write!(out, " ={words}")?;
@@ -27,7 +33,12 @@ pub fn answered(alloc: Global, table: &mut Table, line: &str) -> Result<String, 
 }
 
 /// The words of the answer, each behind a space, or nothing where the row sets something.
-fn answer(alloc: Global, table: &mut Table, line: &str) -> Result<Option<String>, RowFault> {
+fn answer<R: Threads + Sync>(
+    rt: &R,
+    alloc: Global,
+    table: &mut Table,
+    line: &str,
+) -> Result<Option<String>, RowFault> {
     if table.set(alloc, line)? {
         return Ok(None);
     }
@@ -37,7 +48,7 @@ fn answer(alloc: Global, table: &mut Table, line: &str) -> Result<Option<String>
     let word = next_word(&mut words)?;
     let known = replay_rows::answer(alloc, &mut out, table, word, &mut words, &mut parts)?
         || edge_rows::answer(alloc, &mut out, table, word, &mut words, &mut parts)?
-        || path_rows::answer(alloc, &mut out, table, word, &mut words, &mut parts)?;
+        || path_rows::answer(rt, alloc, &mut out, table, word, &mut words, &mut parts)?;
     if !known {
         return Err(RowFault::Unreadable);
     }
