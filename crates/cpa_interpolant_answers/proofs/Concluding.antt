@@ -1,11 +1,10 @@
 -- The expression of a cut whose formula is refuted is its answer, where it is not too large.
 use Rattle.std.proofs.Common.{◌≡◌, ℕ, ◌≤◌, Bool, true, false, List, [], ◌∷◌, Option, None, Some}
-use Rattle.std.proofs.Common.{refl, sym, ap, ◌∙◌, subst, arith, ◌||◌}
+use Rattle.std.proofs.Common.{sym, ap, ◌∙◌, subst, arith, ◌||◌}
 use Rattle.std.specs.Prelude.{nat_lt}
 use Rattle.std.proofs.lemmas.Bool.{cond_both, ltb-false}
 use Rattle.std.proofs.lemmas.Option.{same_Some}
 use Rattle.cpa_cnf.specs.declared.formula.Cnf.{Cnf}
-use Rattle.cpa_cnf.specs.declared.formula.Line.{Line}
 use Rattle.cpa_expr.specs.declared.tree.Expr.{Expr}
 use Rattle.cpa_expr.specs.Shape.{size, height, IsTyped}
 use Rattle.cpa_model.specs.declared.automaton.Act.{Act}

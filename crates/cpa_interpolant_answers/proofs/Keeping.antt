@@ -1,7 +1,7 @@
 -- The acts along a path fit the automaton, and lead from stores of its cells to such stores.
 use Rattle.std.proofs.Common.{◌≡◌, ℕ, ◌<◌, ℤ, List, [], ◌∷◌, ◌++◌, length, Option, Some, slice_get}
-use Rattle.std.proofs.Common.{refl, sym, subst, arith, ◌⊎◌, inl, inr, true, false}
-use Rattle.std.specs.List.{AllByRecursion, Contains}
+use Rattle.std.proofs.Common.{refl, sym, subst, arith, inl, inr}
+use Rattle.std.specs.List.{AllByRecursion}
 use Rattle.std.proofs.lemmas.Option.{slice_get_cases}
 use Rattle.cpa_model.specs.declared.program.Cell.{Cell}
 use Rattle.cpa_model.specs.declared.program.Program.{Program}
@@ -9,7 +9,6 @@ use Rattle.cpa_model.specs.declared.automaton.Act.{Act}
 use Rattle.cpa_model.specs.declared.automaton.Act.TheVariants as act
 use Rattle.cpa_model.specs.declared.automaton.Edge.{Edge}
 use Rattle.cpa_model.specs.declared.automaton.Cfa.{Cfa}
-use Rattle.cpa_model.specs.declared.states.State.{State}
 use Rattle.cpa_model.specs.Acts.{IsActOf, IsEdgeOf}
 use Rattle.cpa_model.specs.Automata.{IsAutomaton, IsStateOf}
 use Rattle.cpa_model.specs.Programs.{IsWellFormed, point_count}

@@ -5,13 +5,9 @@ use Rattle.std.specs.Prelude.{◌==◌}
 use Rattle.std.proofs.lemmas.Bool.{eqb-true, eq-eqb}
 use Rattle.std.proofs.Common.{slice_get, refl, sym, ap, ◌∙◌, subst, arith}
 use Rattle.std.specs.List.{AllByRecursion}
-use Rattle.std.proofs.lemmas.List.{length-map}
 use Rattle.cpa_cnf.specs.declared.formula.Cnf.{Cnf}
-use Rattle.cpa_cnf.specs.declared.formula.Line.{Line}
 use Rattle.cpa_cnf.specs.Lines.{AreBelow}
-use Rattle.cpa_sat.specs.Outcomes.{IsRefutedWithin, IsSpent}
 use Rattle.cpa_expr.specs.declared.tree.Expr.{Expr}
-use Rattle.cpa_model.specs.declared.program.Cell.{Cell}
 use Rattle.cpa_model.specs.declared.automaton.Act.{Act}
 use Rattle.cpa_model.specs.declared.automaton.Edge.{Edge}
 use Rattle.cpa_model.specs.declared.automaton.Cfa.{Cfa}
@@ -29,7 +25,7 @@ use Rattle.cpa_interpolant_cuts.specs.Cuts.{shared_bits_of, weight_of}
 use Rattle.cpa_interpolant_cuts.specs.Laws.{IsCut, CutsAreAsked}
 use Rattle.cpa_interpolant_cuts.specs.lemmas.Meet.{AreParts}
 use Rattle.cpa_interpolant_answers.specs.Answers.{formula_at, weight_at}
-use Rattle.cpa_interpolant_answers.proofs.Keeping.{AreLaws, AreGood, Keeps, edge_there, good_edge}
+use Rattle.cpa_interpolant_answers.proofs.Keeping.{AreLaws, AreGood, edge_there, good_edge}
 use Rattle.cpa_interpolant_answers.proofs.Keeping.{good_path}
 
 -- the cells of an automaton are few

@@ -1,7 +1,7 @@
 -- Models of a cut's formula are runs of stores through the cut; where there is none behind the last
 -- edge, 0 is the next interpolant.
-use Rattle.std.proofs.Common.{◌≡◌, ℕ, ◌<◌, ◌≤◌, ◌^◌, ℤ, pos, Bool, true, false, List, [], ◌∷◌, map}
-use Rattle.std.proofs.Common.{length, Some, refl, sym, ap, ◌∙◌, subst, arith, IsTrue}
+use Rattle.std.proofs.Common.{◌≡◌, ℕ, ◌≤◌, ℤ, pos, Bool, List, [], ◌∷◌}
+use Rattle.std.proofs.Common.{refl, sym, subst, arith, IsTrue}
 use Rattle.std.specs.Prelude.{IsSome}
 use Rattle.std.proofs.lemmas.Int.{ints}
 use Rattle.std.specs.List.{AllByRecursion}
@@ -18,7 +18,7 @@ use Rattle.cpa_model.specs.declared.program.Cell.{Cell}
 use Rattle.cpa_model.specs.declared.automaton.Act.{Act}
 use Rattle.cpa_model.specs.declared.automaton.Cfa.{Cfa}
 use Rattle.cpa_model.specs.Expressions.{types_of, IsExpr}
-use Rattle.cpa_edgeform_rules.specs.Runs.{taken, Runs}
+use Rattle.cpa_edgeform_rules.specs.Runs.{Runs}
 use Rattle.cpa_edgeform_rules.specs.Stores.{steps_take_inputs}
 use Rattle.cpa_path_folds.specs.Along.{acts_along}
 use Rattle.cpa_interpolant_rules.specs.Stores.{IsStore, RunsFrom}

@@ -1,5 +1,5 @@
 -- The expression is the next interpolant of the path.
-use Rattle.std.proofs.Common.{◌≡◌, List, sym, ◌∙◌, subst}
+use Rattle.std.proofs.Common.{List, sym, ◌∙◌, subst}
 use Rattle.cpa_chains.specs.declared.partial.Partial.{Partial}
 use Rattle.cpa_chains.specs.Interpolants.{IsInterpolant}
 use Rattle.cpa_interpolant_answers.proofs.Concluding.{next_is}
