@@ -25,7 +25,11 @@ fn main(rt: HostRuntime) -> io::Result<()> {
 }
 
 /// Answers row by row. Threads are started by the second handle.
-fn answer_all<R: Threads + Sync>(rt: &HostRuntime, threads: &R, table: &mut Table) -> io::Result<()> {
+fn answer_all<R: Threads + Sync>(
+    rt: &HostRuntime,
+    threads: &R,
+    table: &mut Table,
+) -> io::Result<()> {
     let alloc = rt.alloc();
     let mut out = BufWriter::new(alloc, io::writer(rt))?;
     for line in BufReader::new(alloc, rt.reader())?.lines(alloc) {
