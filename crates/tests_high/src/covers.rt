@@ -133,15 +133,12 @@ fn config(alloc: Global) -> Result<Option<Config>, AllocError> {
     bench_config(alloc, names.as_slice())
 }
 
-/// An analysis that counts, and behind it those of a measurement.
+/// The analyses of a measurement, and behind them one that counts: the last one is asked first.
 fn analyses(alloc: Global, covers: Arc<AtomicU64>) -> Result<Vec<Handed>, AllocError>
     ensures { IfOk result (λ analyses. length analyses.items ≡ 4) }
 {
     let blind = Plain(Blind);
     let mut analyses = Vec::new(alloc);
-    analyses.push(Handed {
-        analysis: Box::new(alloc, Counted { blind, covers })?,
-    })?;
     analyses.push(Handed {
         analysis: Box::new(alloc, Plain(Location))?,
     })?;
@@ -150,6 +147,9 @@ fn analyses(alloc: Global, covers: Arc<AtomicU64>) -> Result<Vec<Handed>, AllocE
     })?;
     analyses.push(Handed {
         analysis: Box::new(alloc, Value::new())?,
+    })?;
+    analyses.push(Handed {
+        analysis: Box::new(alloc, Counted { blind, covers })?,
     })?;
     Ok(analyses)
 }
