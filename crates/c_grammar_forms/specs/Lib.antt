@@ -7,4 +7,3 @@ pub mod Loops
 pub mod Brackets
 pub mod Exits
 pub mod Choices
-pub mod Seen

@@ -12,7 +12,7 @@ use crate::words::{OutsideWord, SpecifierWord, StorageWord, StrayMark, Terminal,
 pub(crate) enum SymbolKind {
     End,
     Name,
-    /// A constant, or a typedef name: what it is besides is not kept.
+    /// An integer or a character constant.
     Constant,
     Text,
     Terminal(Terminal),
@@ -34,9 +34,7 @@ impl SymbolKind {
         match symbol {
             Symbol::End => SymbolKind::End,
             Symbol::Name => SymbolKind::Name,
-            Symbol::Number { .. } | Symbol::Character { .. } | Symbol::TypedefName(_) => {
-                SymbolKind::Constant
-            }
+            Symbol::Number { .. } | Symbol::Character { .. } => SymbolKind::Constant,
             Symbol::Text => SymbolKind::Text,
             Symbol::Terminal(terminal) => SymbolKind::Terminal(terminal),
             Symbol::Binary(operator) => SymbolKind::Binary(operator),
@@ -50,7 +48,7 @@ impl SymbolKind {
         }
     }
 
-    /// The symbol, unless it is a constant or a typedef name.
+    /// The symbol, unless it is a constant.
     pub(crate) fn symbol(self) -> Option<Symbol>
         ensures { result ≡ symbol_of_kind self }
     {

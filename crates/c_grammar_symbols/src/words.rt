@@ -139,6 +139,8 @@ pub enum OutsideWord {
     Case,
     /// `default`
     Default,
+    /// `typedef`
+    Typedef,
     /// `union`
     Union,
     /// `volatile`
@@ -177,6 +179,7 @@ impl OutsideWord {
             OutsideWord::Switch => b"switch",
             OutsideWord::Case => b"case",
             OutsideWord::Default => b"default",
+            OutsideWord::Typedef => b"typedef",
             OutsideWord::Union => b"union",
             OutsideWord::Volatile => b"volatile",
             OutsideWord::Asm => b"asm",
@@ -232,8 +235,6 @@ pub enum Terminal {
     Continue,
     /// `return`
     Return,
-    /// `typedef`
-    Typedef,
     /// `__attribute__`
     Attribute,
 }
@@ -265,7 +266,6 @@ impl Terminal {
             Terminal::Break => b"break",
             Terminal::Continue => b"continue",
             Terminal::Return => b"return",
-            Terminal::Typedef => b"typedef",
             Terminal::Attribute => b"__attribute__",
         }
     }

@@ -15,10 +15,7 @@ pub fn begins_declaration(source: &Source, at: usize) -> bool
 {
     matches!(
         source.symbol(at),
-        Symbol::Storage(StorageWord::Register)
-            | Symbol::Specifier(_)
-            | Symbol::TypeWord(_)
-            | Symbol::TypedefName(_)
+        Symbol::Storage(StorageWord::Register) | Symbol::Specifier(_) | Symbol::TypeWord(_)
     )
 }
 

@@ -61,14 +61,10 @@ pub false_from : (b : Bool) → (b ≡ true → ⊥) → b ≡ false
 false_from true h = absurd (h refl)
 false_from false h = refl
 
--- with words behind that are no part of a type there is none, and no type
-pub no_part_longer : (a b : List TypeWord) → is_part_of_type a ≡ false →
-    is_part_of_type (a ++ b) ≡ false
-no_part_longer a b h = false_from (is_part_of_type (a ++ b))
-    (λ e. let clash : false ≡ true = sym h ∙ part_of_front a b e in cc)
-
+-- with words behind that are no part of a type there is no type
 pub no_type_longer : (a b : List TypeWord) → is_part_of_type a ≡ false → is_type (a ++ b) ≡ false
-no_type_longer a b h = and_left _ _ (no_part_longer a b h)
+no_type_longer a b h = and_left _ _ (false_from (is_part_of_type (a ++ b))
+    (λ e. let clash : false ≡ true = sym h ∙ part_of_front a b e in cc))
 
 -- some words of a type, which are not none, are those of a type
 pub is_type_of : (words : List TypeWord) → is_part_of_type words ≡ true →

@@ -1,4 +1,3 @@
 pub mod Faults
 pub mod Globals
 pub mod Next
-pub mod Typed
