@@ -63,32 +63,12 @@ call_Known frames Used known.ReachError arguments taken = refl
 call_Known frames Used known.Abort arguments taken = refl
 call_Known frames Used known.Exit arguments taken = refl
 call_Known frames Used known.AssertFail arguments taken = refl
-call_Known frames Used known.InputBool arguments taken = refl
-call_Known frames Used known.InputChar arguments taken = refl
-call_Known frames Used known.InputUnsignedChar arguments taken = refl
-call_Known frames Used known.InputShort arguments taken = refl
-call_Known frames Used known.InputUnsignedShort arguments taken = refl
-call_Known frames Used known.InputInt arguments taken = refl
-call_Known frames Used known.InputUnsigned arguments taken = refl
-call_Known frames Used known.InputLong arguments taken = refl
-call_Known frames Used known.InputUnsignedLong arguments taken = refl
-call_Known frames Used known.InputLongLong arguments taken = refl
-call_Known frames Used known.InputUnsignedLongLong arguments taken = refl
+call_Known frames Used (known.Input t) arguments taken = refl
 call_Known frames Unused known.ReachError arguments taken = refl
 call_Known frames Unused known.Abort arguments taken = refl
 call_Known frames Unused known.Exit arguments taken = refl
 call_Known frames Unused known.AssertFail arguments taken = refl
-call_Known frames Unused known.InputBool arguments taken = refl
-call_Known frames Unused known.InputChar arguments taken = refl
-call_Known frames Unused known.InputUnsignedChar arguments taken = refl
-call_Known frames Unused known.InputShort arguments taken = refl
-call_Known frames Unused known.InputUnsignedShort arguments taken = refl
-call_Known frames Unused known.InputInt arguments taken = refl
-call_Known frames Unused known.InputUnsigned arguments taken = refl
-call_Known frames Unused known.InputLong arguments taken = refl
-call_Known frames Unused known.InputUnsignedLong arguments taken = refl
-call_Known frames Unused known.InputLongLong arguments taken = refl
-call_Known frames Unused known.InputUnsignedLongLong arguments taken = refl
+call_Known frames Unused (known.Input t) arguments taken = refl
 
 -- the status of an exit
 pub exit_none : (frames : Frames) (usage : Usage) (xs : List TypedExpression) (taken : Taken) →

@@ -425,21 +425,7 @@ known_unused_makes known.Exit rs h =
     makes_then (λ before. core.gives (before ++ leaf head.Stop ∷ [])) (first_makes rs h)
     (λ before is. makes AllShaped (before ++ leaf head.Stop ∷ [])
     (push_shaped before (leaf head.Stop) is (leaf_shaped head.Stop refl tt)))
-known_unused_makes known.InputBool rs h = only_makes (taken_in_makes known.InputBool)
-known_unused_makes known.InputChar rs h = only_makes (taken_in_makes known.InputChar)
-known_unused_makes known.InputUnsignedChar rs h = only_makes
-    (taken_in_makes known.InputUnsignedChar)
-known_unused_makes known.InputShort rs h = only_makes (taken_in_makes known.InputShort)
-known_unused_makes known.InputUnsignedShort rs h = only_makes
-    (taken_in_makes known.InputUnsignedShort)
-known_unused_makes known.InputInt rs h = only_makes (taken_in_makes known.InputInt)
-known_unused_makes known.InputUnsigned rs h = only_makes (taken_in_makes known.InputUnsigned)
-known_unused_makes known.InputLong rs h = only_makes (taken_in_makes known.InputLong)
-known_unused_makes known.InputUnsignedLong rs h = only_makes
-    (taken_in_makes known.InputUnsignedLong)
-known_unused_makes known.InputLongLong rs h = only_makes (taken_in_makes known.InputLongLong)
-known_unused_makes known.InputUnsignedLongLong rs h = only_makes
-    (taken_in_makes known.InputUnsignedLongLong)
+known_unused_makes (known.Input t) rs h = only_makes (taken_in_makes (known.Input t))
 
 known_used_by : (kind : Kind) (function : KnownFunction) (rs : List rows.Rows) →
     AllByRecursion MakesRows rs →

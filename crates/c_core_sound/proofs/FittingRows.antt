@@ -284,21 +284,7 @@ module _ (W : World) where
   known_unused_fits known.Abort rs h = stop_fits
   known_unused_fits known.AssertFail rs h = stop_fits
   known_unused_fits known.Exit rs h = exit_fits (first_fits_of rs h)
-  known_unused_fits known.InputBool rs h = only_fits (taken_in_fits known.InputBool)
-  known_unused_fits known.InputChar rs h = only_fits (taken_in_fits known.InputChar)
-  known_unused_fits known.InputUnsignedChar rs h =
-      only_fits (taken_in_fits known.InputUnsignedChar)
-  known_unused_fits known.InputShort rs h = only_fits (taken_in_fits known.InputShort)
-  known_unused_fits known.InputUnsignedShort rs h =
-      only_fits (taken_in_fits known.InputUnsignedShort)
-  known_unused_fits known.InputInt rs h = only_fits (taken_in_fits known.InputInt)
-  known_unused_fits known.InputUnsigned rs h = only_fits (taken_in_fits known.InputUnsigned)
-  known_unused_fits known.InputLong rs h = only_fits (taken_in_fits known.InputLong)
-  known_unused_fits known.InputUnsignedLong rs h =
-      only_fits (taken_in_fits known.InputUnsignedLong)
-  known_unused_fits known.InputLongLong rs h = only_fits (taken_in_fits known.InputLongLong)
-  known_unused_fits known.InputUnsignedLongLong rs h =
-      only_fits (taken_in_fits known.InputUnsignedLongLong)
+  known_unused_fits (known.Input t) rs h = only_fits (taken_in_fits (known.Input t))
 
   -- of a known function that has a value
   known_by : (kind : Kind) (function : KnownFunction) (rs : List rows.Rows) (t : IntType) →

@@ -1,48 +1,61 @@
 -- The functions that a text may call without a declaration (this project's own; the names are
 -- SV-COMP's).
-use Rattle.std.specs.Prelude.{ℕ, List, find, codes, Option, None, Some}
+use Rattle.std.specs.Prelude.{ℕ, List, find, codes, Option, None, Some, option_map}
 use Rattle.std.specs.Str.{bytes_eq}
 use Rattle.cpa_ints.specs.declared.integers.IntType.TheVariants as ty
 use Rattle.c_types_rules.specs.declared.meaning.Kind.{Kind}
 use Rattle.c_types_rules.specs.declared.meaning.Kind.TheVariants.{Void, Value}
 use Rattle.c_types_rules.specs.declared.known.KnownFunction.{KnownFunction}
 use Rattle.c_types_rules.specs.declared.known.KnownFunction.TheVariants as function
+use Rattle.c_types_rules.specs.declared.known.KnownName.{KnownName}
+use Rattle.c_types_rules.specs.declared.known.KnownName.TheVariants as name
 use Rattle.c_types_rules.specs.declared.known.TheConstants.{KNOWN}
 
-abbrev pub spelling_of_known : KnownFunction → List ℕ
-spelling_of_known function.ReachError = codes "reach_error"
-spelling_of_known function.Abort = codes "abort"
-spelling_of_known function.Exit = codes "exit"
-spelling_of_known function.AssertFail = codes "__assert_fail"
-spelling_of_known function.InputBool = codes "__VERIFIER_nondet_bool"
-spelling_of_known function.InputChar = codes "__VERIFIER_nondet_char"
-spelling_of_known function.InputUnsignedChar = codes "__VERIFIER_nondet_uchar"
-spelling_of_known function.InputShort = codes "__VERIFIER_nondet_short"
-spelling_of_known function.InputUnsignedShort = codes "__VERIFIER_nondet_ushort"
-spelling_of_known function.InputInt = codes "__VERIFIER_nondet_int"
-spelling_of_known function.InputUnsigned = codes "__VERIFIER_nondet_uint"
-spelling_of_known function.InputLong = codes "__VERIFIER_nondet_long"
-spelling_of_known function.InputUnsignedLong = codes "__VERIFIER_nondet_ulong"
-spelling_of_known function.InputLongLong = codes "__VERIFIER_nondet_longlong"
-spelling_of_known function.InputUnsignedLongLong = codes "__VERIFIER_nondet_ulonglong"
+abbrev pub spelling_of_known : KnownName → List ℕ
+spelling_of_known name.ReachError = codes "reach_error"
+spelling_of_known name.Abort = codes "abort"
+spelling_of_known name.Exit = codes "exit"
+spelling_of_known name.AssertFail = codes "__assert_fail"
+spelling_of_known name.InputBool = codes "__VERIFIER_nondet_bool"
+spelling_of_known name.InputChar = codes "__VERIFIER_nondet_char"
+spelling_of_known name.InputUnsignedChar = codes "__VERIFIER_nondet_uchar"
+spelling_of_known name.InputShort = codes "__VERIFIER_nondet_short"
+spelling_of_known name.InputUnsignedShort = codes "__VERIFIER_nondet_ushort"
+spelling_of_known name.InputInt = codes "__VERIFIER_nondet_int"
+spelling_of_known name.InputUnsigned = codes "__VERIFIER_nondet_uint"
+spelling_of_known name.InputLong = codes "__VERIFIER_nondet_long"
+spelling_of_known name.InputUnsignedLong = codes "__VERIFIER_nondet_ulong"
+spelling_of_known name.InputLongLong = codes "__VERIFIER_nondet_longlong"
+spelling_of_known name.InputUnsignedLongLong = codes "__VERIFIER_nondet_ulonglong"
 
--- the known function of a name
-unfoldable pub known : List ℕ → Option KnownFunction
-known name = find (λ function. bytes_eq (spelling_of_known function) name) KNOWN
+-- the function that it names
+abbrev pub function_named : KnownName → KnownFunction
+function_named name.ReachError = function.ReachError
+function_named name.Abort = function.Abort
+function_named name.Exit = function.Exit
+function_named name.AssertFail = function.AssertFail
+function_named name.InputBool = function.Input ty.Bool
+function_named name.InputChar = function.Input ty.I8
+function_named name.InputUnsignedChar = function.Input ty.U8
+function_named name.InputShort = function.Input ty.I16
+function_named name.InputUnsignedShort = function.Input ty.U16
+function_named name.InputInt = function.Input ty.I32
+function_named name.InputUnsigned = function.Input ty.U32
+function_named name.InputLong = function.Input ty.I64
+function_named name.InputUnsignedLong = function.Input ty.U64
+function_named name.InputLongLong = function.Input ty.I64
+function_named name.InputUnsignedLongLong = function.Input ty.U64
+
+-- the known name that is spelled so, and its function
+unfoldable pub known_name : List ℕ → Option KnownName
+known_name name = find (λ one. bytes_eq (spelling_of_known one) name) KNOWN
+
+abbrev pub known : List ℕ → Option KnownFunction
+known name = option_map function_named (known_name name)
 
 -- the type of its result
 abbrev pub known_result : KnownFunction → Kind
-known_result function.InputBool = Value ty.Bool
-known_result function.InputChar = Value ty.I8
-known_result function.InputUnsignedChar = Value ty.U8
-known_result function.InputShort = Value ty.I16
-known_result function.InputUnsignedShort = Value ty.U16
-known_result function.InputInt = Value ty.I32
-known_result function.InputUnsigned = Value ty.U32
-known_result function.InputLong = Value ty.I64
-known_result function.InputUnsignedLong = Value ty.U64
-known_result function.InputLongLong = Value ty.I64
-known_result function.InputUnsignedLongLong = Value ty.U64
+known_result (function.Input t) = Value t
 known_result _ = Void
 
 -- how many arguments it takes; none where it takes any number

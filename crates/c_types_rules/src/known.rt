@@ -1,7 +1,8 @@
 //! The functions that a text may call without a declaration, whose meaning this project gives
 //! itself (`specs/Known.antt`; the names are those of SV-COMP). Proved by the checker alone.
 ghost use Rattle.std.specs.Prelude.{◌≡◌};
-ghost use Rattle.c_types_rules.specs.Known.{known, spelling_of_known, known_result, known_arity};
+ghost use Rattle.c_types_rules.specs.Known.{known, known_name, spelling_of_known, function_named};
+ghost use Rattle.c_types_rules.specs.Known.{known_result, known_arity};
 
 use crate::Kind;
 use cpa_ints::IntType;
@@ -17,7 +18,17 @@ pub enum KnownFunction {
     Exit,
     /// `__assert_fail(..)`, whatever stands between the brackets
     AssertFail,
-    /// `__VERIFIER_nondet_bool()`, any value of the type, as each that follows
+    /// `__VERIFIER_nondet_int()` and its like: any value of the type
+    Input(IntType),
+}
+
+/// A name of a known function. Two may name the same: `long long` is `long` here.
+#[derive(Clone, Copy, PartialEq, Eq)]
+pub enum KnownName {
+    ReachError,
+    Abort,
+    Exit,
+    AssertFail,
     InputBool,
     InputChar,
     InputUnsignedChar,
@@ -31,69 +42,84 @@ pub enum KnownFunction {
     InputUnsignedLongLong,
 }
 
-/// The known functions.
-pub const KNOWN: [KnownFunction; 15] = [
-    KnownFunction::ReachError,
-    KnownFunction::Abort,
-    KnownFunction::Exit,
-    KnownFunction::AssertFail,
-    KnownFunction::InputBool,
-    KnownFunction::InputChar,
-    KnownFunction::InputUnsignedChar,
-    KnownFunction::InputShort,
-    KnownFunction::InputUnsignedShort,
-    KnownFunction::InputInt,
-    KnownFunction::InputUnsigned,
-    KnownFunction::InputLong,
-    KnownFunction::InputUnsignedLong,
-    KnownFunction::InputLongLong,
-    KnownFunction::InputUnsignedLongLong,
+/// The names of the known functions.
+pub const KNOWN: [KnownName; 15] = [
+    KnownName::ReachError,
+    KnownName::Abort,
+    KnownName::Exit,
+    KnownName::AssertFail,
+    KnownName::InputBool,
+    KnownName::InputChar,
+    KnownName::InputUnsignedChar,
+    KnownName::InputShort,
+    KnownName::InputUnsignedShort,
+    KnownName::InputInt,
+    KnownName::InputUnsigned,
+    KnownName::InputLong,
+    KnownName::InputUnsignedLong,
+    KnownName::InputLongLong,
+    KnownName::InputUnsignedLongLong,
 ];
 
-impl KnownFunction {
-    /// Its name.
+impl KnownName {
+    /// Its spelling.
     pub fn spelling(self) -> &'static [u8]
         ensures { result.now ≡ spelling_of_known self }
     {
         match self {
-            KnownFunction::ReachError => b"reach_error",
-            KnownFunction::Abort => b"abort",
-            KnownFunction::Exit => b"exit",
-            KnownFunction::AssertFail => b"__assert_fail",
-            KnownFunction::InputBool => b"__VERIFIER_nondet_bool",
-            KnownFunction::InputChar => b"__VERIFIER_nondet_char",
-            KnownFunction::InputUnsignedChar => b"__VERIFIER_nondet_uchar",
-            KnownFunction::InputShort => b"__VERIFIER_nondet_short",
-            KnownFunction::InputUnsignedShort => b"__VERIFIER_nondet_ushort",
-            KnownFunction::InputInt => b"__VERIFIER_nondet_int",
-            KnownFunction::InputUnsigned => b"__VERIFIER_nondet_uint",
-            KnownFunction::InputLong => b"__VERIFIER_nondet_long",
-            KnownFunction::InputUnsignedLong => b"__VERIFIER_nondet_ulong",
-            KnownFunction::InputLongLong => b"__VERIFIER_nondet_longlong",
-            KnownFunction::InputUnsignedLongLong => b"__VERIFIER_nondet_ulonglong",
+            KnownName::ReachError => b"reach_error",
+            KnownName::Abort => b"abort",
+            KnownName::Exit => b"exit",
+            KnownName::AssertFail => b"__assert_fail",
+            KnownName::InputBool => b"__VERIFIER_nondet_bool",
+            KnownName::InputChar => b"__VERIFIER_nondet_char",
+            KnownName::InputUnsignedChar => b"__VERIFIER_nondet_uchar",
+            KnownName::InputShort => b"__VERIFIER_nondet_short",
+            KnownName::InputUnsignedShort => b"__VERIFIER_nondet_ushort",
+            KnownName::InputInt => b"__VERIFIER_nondet_int",
+            KnownName::InputUnsigned => b"__VERIFIER_nondet_uint",
+            KnownName::InputLong => b"__VERIFIER_nondet_long",
+            KnownName::InputUnsignedLong => b"__VERIFIER_nondet_ulong",
+            KnownName::InputLongLong => b"__VERIFIER_nondet_longlong",
+            KnownName::InputUnsignedLongLong => b"__VERIFIER_nondet_ulonglong",
         }
     }
 
+    /// The function that it names.
+    pub fn function(self) -> KnownFunction
+        ensures { result ≡ function_named self }
+    {
+        match self {
+            KnownName::ReachError => KnownFunction::ReachError,
+            KnownName::Abort => KnownFunction::Abort,
+            KnownName::Exit => KnownFunction::Exit,
+            KnownName::AssertFail => KnownFunction::AssertFail,
+            KnownName::InputBool => KnownFunction::Input(IntType::Bool),
+            KnownName::InputChar => KnownFunction::Input(IntType::I8),
+            KnownName::InputUnsignedChar => KnownFunction::Input(IntType::U8),
+            KnownName::InputShort => KnownFunction::Input(IntType::I16),
+            KnownName::InputUnsignedShort => KnownFunction::Input(IntType::U16),
+            KnownName::InputInt => KnownFunction::Input(IntType::I32),
+            KnownName::InputUnsigned => KnownFunction::Input(IntType::U32),
+            KnownName::InputLong | KnownName::InputLongLong => KnownFunction::Input(IntType::I64),
+            KnownName::InputUnsignedLong | KnownName::InputUnsignedLongLong => {
+                KnownFunction::Input(IntType::U64)
+            }
+        }
+    }
+}
+
+impl KnownFunction {
     /// The type of its result.
     pub fn result(self) -> Kind
         ensures { result ≡ known_result self }
     {
         match self {
+            KnownFunction::Input(ty) => Kind::Value(ty),
             KnownFunction::ReachError
             | KnownFunction::Abort
             | KnownFunction::Exit
             | KnownFunction::AssertFail => Kind::Void,
-            KnownFunction::InputBool => Kind::Value(IntType::Bool),
-            KnownFunction::InputChar => Kind::Value(IntType::I8),
-            KnownFunction::InputUnsignedChar => Kind::Value(IntType::U8),
-            KnownFunction::InputShort => Kind::Value(IntType::I16),
-            KnownFunction::InputUnsignedShort => Kind::Value(IntType::U16),
-            KnownFunction::InputInt => Kind::Value(IntType::I32),
-            KnownFunction::InputUnsigned => Kind::Value(IntType::U32),
-            KnownFunction::InputLong | KnownFunction::InputLongLong => Kind::Value(IntType::I64),
-            KnownFunction::InputUnsignedLong | KnownFunction::InputUnsignedLongLong => {
-                Kind::Value(IntType::U64)
-            }
         }
     }
 
@@ -104,18 +130,25 @@ impl KnownFunction {
         match self {
             KnownFunction::Exit => Some(1),
             KnownFunction::AssertFail => None,
-            _ => Some(0),
+            KnownFunction::ReachError | KnownFunction::Abort | KnownFunction::Input(_) => Some(0),
         }
     }
 }
 
+/// The known name that is spelled so.
+#[tactic(auto, unfolding(crate::specs::Known::known_name))]
+fn known_name(name: &[u8]) -> Option<KnownName>
+    ensures { result ≡ known_name name.now }
+{
+    KNOWN.iter().copied().find(|known| known.spelling() == name)
+}
+
 /// The known function that a name spells.
-#[tactic(auto, unfolding(crate::specs::Known::known))]
 pub fn known_function(name: &[u8]) -> Option<KnownFunction>
     ensures { result ≡ known name.now }
 {
-    KNOWN
-        .iter()
-        .copied()
-        .find(|function| function.spelling() == name)
+    match known_name(name) {
+        Some(known) => Some(known.function()),
+        None => None,
+    }
 }

@@ -6,14 +6,14 @@ ghost use Rattle.c_grammar_tree.specs.declared.TheConstants.{MAX_LEVEL};
 ghost use Rattle.c_grammar_tree.specs.declared.name.Name.{Name};
 ghost use Rattle.c_grammar_tree.specs.Items.{is_known};
 ghost use Rattle.c_types_rules.specs.declared.TheConstants.{MAX_ELEMENTS};
-ghost use Rattle.c_types_rules.specs.declared.known.KnownFunction.{KnownFunction};
-ghost use Rattle.c_types_rules.specs.Known.{known, spelling_of_known};
+ghost use Rattle.c_types_rules.specs.declared.known.KnownName.{KnownName};
+ghost use Rattle.c_types_rules.specs.Known.{known, spelling_of_known, function_named};
 
-/// Each known function is found by its name, and the functions whose bodies the grammar skips are
+/// Each known function is found by its names, and the functions whose bodies the grammar skips are
 /// those that are found.
 pub fn known_functions_are_found()
-    ensures each { (function : KnownFunction) →
-        known (spelling_of_known function) ≡ Some function }
+    ensures each { (name : KnownName) →
+        known (spelling_of_known name) ≡ Some (function_named name) }
     ensures skipped { (name : Name) → is_known name ≡ is_some (known name.bytes) }
 {}
 

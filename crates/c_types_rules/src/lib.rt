@@ -16,7 +16,7 @@ pub use first::{note, note_place};
 pub use kinds::{
     as_kind, binary_type, cast_kind, ends_kind, kind_of_words, unary_type, value_kind,
 };
-pub use known::{KNOWN, KnownFunction, known_function};
+pub use known::{KNOWN, KnownFunction, KnownName, known_function};
 pub use laws::{known_functions_are_found, limits};
 pub use meaning::{
     Constant, Declared, Entry, Form, Function, Kind, Meaning, Object, ParameterType, Part, Role,

@@ -234,17 +234,7 @@ known_unused known.Exit all =
     alike_then (λ before. gives (before ++ leaf head.Stop ∷ []))
     (λ before. gives (before ++ leaf head.Stop ∷ [])) (first_unused all)
     (λ x y is. alike_gives (same_append is (trees_self (leaf head.Stop ∷ []))))
-known_unused known.InputBool all = only (taken_in known.InputBool)
-known_unused known.InputChar all = only (taken_in known.InputChar)
-known_unused known.InputUnsignedChar all = only (taken_in known.InputUnsignedChar)
-known_unused known.InputShort all = only (taken_in known.InputShort)
-known_unused known.InputUnsignedShort all = only (taken_in known.InputUnsignedShort)
-known_unused known.InputInt all = only (taken_in known.InputInt)
-known_unused known.InputUnsigned all = only (taken_in known.InputUnsigned)
-known_unused known.InputLong all = only (taken_in known.InputLong)
-known_unused known.InputUnsignedLong all = only (taken_in known.InputUnsignedLong)
-known_unused known.InputLongLong all = only (taken_in known.InputLongLong)
-known_unused known.InputUnsignedLongLong all = only (taken_in known.InputUnsignedLongLong)
+known_unused (known.Input t) all = only (taken_in (known.Input t))
 
 -- by what it gives
 abbrev used_by : Kind → KnownFunction → List Rows → Rule Valued
