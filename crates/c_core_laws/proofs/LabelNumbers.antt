@@ -600,6 +600,11 @@ functions_in_order text (item.Empty place ∷ more) before none =
     functions_in_order text more (item_behind text (item.Empty place) before)
     (none_right (item_faults text (item.Empty place) before)
     (items_faults text more (item_behind text (item.Empty place) before)) none)
+functions_in_order text (item.Typedef specifiers names place ∷ more) before none =
+    let one = item.Typedef specifiers names place in
+    functions_in_order text more (item_behind text one before)
+    (none_right (item_faults text one before)
+    (items_faults text more (item_behind text one before)) none)
 functions_in_order text (item.Objects declaration ∷ more) before none =
     functions_in_order text more (item_behind text (item.Objects declaration) before)
     (none_right (item_faults text (item.Objects declaration) before)

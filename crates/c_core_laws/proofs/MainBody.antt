@@ -94,6 +94,7 @@ main_named : (items : List Item) → list_any is_main items ≡ true →
     list_any (bytes_eq main_name) (filter_map body_name items) ≡ true
 main_named [] h = absurd (cc)
 main_named (item.Empty place ∷ more) h = main_named more h
+main_named (item.Typedef specifiers names place ∷ more) h = main_named more h
 main_named (item.Objects declaration ∷ more) h = main_named more h
 main_named (item.Prototype specifiers declarator ∷ more) h = main_named more h
 main_named (item.Function specifiers declarator body.Skipped ∷ more) h = main_named more h

@@ -259,6 +259,7 @@ item_kept : (text : Text) (one : Item) (before : Before) (t : IntType) (name : L
     NoFaults (item_faults text one before) → IsObject t name before.names →
     IsObject t name (item_behind text one before).names
 item_kept text (item.Empty place) before t name none h = h
+item_kept text (item.Typedef specifiers names place) before t name none h = h
 item_kept text (item.Objects declaration) before t name none h =
     all_kept text declaration.specifiers declaration.declarators before t name none h
 item_kept text (item.Prototype specifiers declarator) before t name none h =
@@ -354,6 +355,7 @@ item_fits : (text : Text) (one : Item) (before : Before) →
     NoFaults (item_faults text one before) →
     AllByRecursion (Fits (item_behind text one before).names) (item_starts text one before)
 item_fits text (item.Empty place) before none = tt
+item_fits text (item.Typedef specifiers names place) before none = tt
 item_fits text (item.Objects declaration) before none =
     declarators_fit text declaration.specifiers declaration.declarators before none
 item_fits text (item.Prototype specifiers declarator) before none = tt

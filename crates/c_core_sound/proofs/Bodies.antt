@@ -114,6 +114,11 @@ pub found_body : (text : Text) (items : List Item) (before : Before) →
 found_body text [] before none name k is = absurd (cc)
 found_body text (item.Empty place ∷ more) before none name k is =
     found_body text more before none name k is
+found_body text (item.Typedef specifiers names place ∷ more) before none name k is =
+    let one = item.Typedef specifiers names place in
+    let next = item_behind text one before in
+    found_body text more next
+    (none_right (item_faults text one before) (items_faults text more next) none) name k is
 found_body text (item.Objects declaration ∷ more) before none name k is =
     let next = item_behind text (item.Objects declaration) before in
     found_body text more next

@@ -29,7 +29,7 @@ use Rattle.c_types_rules.specs.declared.meaning.Role.TheVariants.{Valued, Evalua
 use Rattle.c_types_rules.specs.declared.typed.TypedExpression.{TypedExpression}
 use Rattle.c_types_rules.specs.declared.typed.TypedExpression.TheVariants as tree
 use Rattle.c_types_rules.specs.declared.typed.TypedExpression.TheOpen.{TypedExpression-F}
-use Rattle.c_types_rules.specs.Types.{kind_of_words, value_kind, binary_type}
+use Rattle.c_types_rules.specs.Types.{kind_of_type_name, value_kind, binary_type}
 use Rattle.c_types_rules.specs.Names.{Text, meaning_of}
 use Rattle.c_types_rules.specs.ExpressionRules.{is_void}
 use Rattle.c_types_rules.specs.Parts.{named_kind, value, with_value, changed_kind, unary_type}
@@ -507,7 +507,7 @@ module _ (W : World) (frames : rows.Frames) (caller : ℕ) (text : Text) (names 
       (signed_fits W operator a.used))
   layer (Expression-F.Cast to operand place) whole uses =
       let r = read_of operand in
-      let wanted = kind_of_words to.words in
+      let wanted = kind_of_type_name to in
       let kind = cast_kind wanted r.part.kind in
       at_row kind (tree.Cast r.typed kind place) (rows.cast_rows kind (row_of r))
       (opened frames (tree.Cast r.typed kind place) (TypedExpression-F.Cast r.typed kind place)

@@ -79,6 +79,7 @@ pub item_lasts : (text : Text) (one : Item) (before : Before) →
     NoFaults (item_faults text one before) →
     Lasts before.names (item_behind text one before).names
 item_lasts text (item.Empty place) before none = lasts_self before.names
+item_lasts text (item.Typedef specifiers names place) before none = lasts_self before.names
 item_lasts text (item.Objects declaration) before none =
     globals_last text declaration.specifiers declaration.declarators before none
 item_lasts text (item.Prototype specifiers declarator) before none =
@@ -464,6 +465,12 @@ module _ (all : List IntType) (calls : List Call) (bodies : ℕ) (frames : rows.
       record { extends = λ taken. extends_none taken; at = λ taken begin stay w. tt }
   text_runs same stand (item.Empty place ∷ more) before none whole among f end =
       text_runs same stand more before none whole among f end
+  text_runs same stand (item.Typedef specifiers names place ∷ more) before none whole among f end =
+      let one = item.Typedef specifiers names place in
+      let next = item_behind text one before in
+      text_runs same stand more next
+      (none_right (item_faults text one before) (items_faults text more next) none)
+      whole among f end
   text_runs same stand (item.Objects declaration ∷ more) before none whole among f end =
       let one = item.Objects declaration in
       let next = item_behind text one before in

@@ -208,6 +208,11 @@ module _ (walks : (text : Text) (one : BlockItem) → (grown text one).walk ≡ 
   items_scope text [] before none whole f = f
   items_scope text (item.Empty place ∷ more) before none whole f =
       items_scope text more before none whole f
+  items_scope text (item.Typedef specifiers names place ∷ more) before none whole f =
+      let one = item.Typedef specifiers names place in
+      let next = item_behind text one before in
+      items_scope text more next
+      (none_right (item_faults text one before) (items_faults text more next) none) whole f
   items_scope text (item.Objects declaration ∷ more) before none whole f =
       let next = item_behind text (item.Objects declaration) before in
       let own = globals_faults text declaration.specifiers declaration.declarators before in

@@ -25,7 +25,7 @@ use Rattle.c_grammar_tree.specs.Grammar.{Tree}
 use Rattle.c_core_sound.specs.Whole.{IsWhole, has_value}
 use Rattle.c_core_sound.proofs.ReadExpressions.{and_left, and_right}
 use Rattle.c_core_sound.proofs.WholeForms.{both}
-use Rattle.c_core_sound.proofs.WholeTexts.{Fine, w_unit_items, whole_grammar}
+use Rattle.c_core_sound.proofs.WholeTexts.{Fine, w_unit_items}
 
 -- a constant of a word or a mark is none
 
@@ -104,5 +104,5 @@ text_whole text tokens tree number character t =
     let fine = leaves_fine text tokens (λ i token at.
     spelled_fine token.kind (leaf_of text token).bytes (number i token at) (character i token at))
     in
-    (w_unit_items (whole_grammar {w = greedy_text (leaf_at (leaves text tokens)) 0} fine
-    (MAX_LEVEL - 1)) fine).has (t.reading 0)
+    (w_unit_items {w = greedy_text (leaf_at (leaves text tokens)) 0} fine
+    (MAX_LEVEL - 1)).has (t.reading 0)

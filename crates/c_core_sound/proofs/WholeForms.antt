@@ -1,8 +1,10 @@
 -- What a form reads has a property, if its parts have theirs.
-use Rattle.std.proofs.Common.{◌≡◌, ℕ, Bool, true, ◌&&◌, List, [], ◌∷◌, map, Option, None, Some}
+use Rattle.std.proofs.Common.{◌≡◌, ℕ, Bool, true, ◌&&◌, List, [], ◌∷◌, ◌++◌, map, Option}
+use Rattle.std.proofs.Common.{None, Some}
 use Rattle.std.proofs.Common.{refl, sym, subst}
 use Rattle.c_grammar_forms.specs.Forms.{World, Form, Nothing, Skip, Behind, Before, Pair, Then}
 use Rattle.c_grammar_forms.specs.Forms.{Node, Deeper, Choice, Many, Perhaps, Nearest}
+use Rattle.c_grammar_forms.specs.Forms.{seen_through, ManySeen}
 use Rattle.c_grammar_symbols.specs.Symbols.{Leaf}
 use Rattle.c_core_sound.specs.Whole.{all_whole}
 
@@ -71,6 +73,21 @@ module _ {T : Type 0} {w : World Leaf} {A : Form Leaf T} (go : Leaf → Bool) (f
 
   pub yield_many : Yields w (Many go A) (λ us. all_whole (map f us) ≡ true)
   yield_many = record { has = λ {left} {p} {u} {q} r. many left p u q r }
+
+-- the same of parts that say how the tokens behind them are seen
+module _ {T : Type 0} {w : World Leaf} {A : Form Leaf T} (see : List T → Leaf → Leaf)
+    (go : Leaf → Bool) (f : T → Bool)
+    (c : (done : List T) → Yields (seen_through (see done) w) A (λ u. f u ≡ true)) where
+  many_seen : (left p : ℕ) (us done : List T) (q : ℕ) → ManySeen see go A done w left p us q →
+      all_whole (map f us) ≡ true
+  unfolding ManySeen
+  many_seen left p [] done q r = refl
+  many_seen left p (u ∷ us) done q r =
+      both ((c done).has r.first.read) (many_seen left r.middle us (done ++ u ∷ []) q r.rest)
+
+  pub yield_many_seen : (done : List T) →
+      Yields w (ManySeen see go A done) (λ us. all_whole (map f us) ≡ true)
+  yield_many_seen done = record { has = λ {left} {p} {u} {q} r. many_seen left p u done q r }
 
 module _ {T : Type 0} {w : World Leaf} {A : Form Leaf T} {P : T → Type 0} (go : Leaf → Bool)
     (Q : Option T → Type 0) (c : Yields w A P) (none : Q None) (some : (u : T) → P u → Q (Some u))

@@ -47,7 +47,10 @@ use Rattle.c_grammar_tree.specs.Items.{body_of, is_known, function_end_at, have_
 use Rattle.c_grammar_tree.specs.Items.{function}
 use Rattle.c_grammar_tree.specs.Items.{objects, named_at, declared_of, declared_at, unit_item_at}
 use Rattle.c_grammar_tree.specs.Items.{unit_item}
-use Rattle.c_grammar_tree.specs.Items.{unit_items}
+use Rattle.c_grammar_tree.specs.Items.{behind_typedefs, seen_behind, typedefs_in, unit_items}
+use Rattle.c_grammar_symbols.specs.declared.named.NamedType.{NamedType}
+use Rattle.c_grammar_symbols.specs.Sources.{named_symbol, renamed}
+use Rattle.std.specs.List.{flat_map}
 use Rattle.c_grammar_tree.specs.Grammar.{grammar}
 use Rattle.c_types_rules.specs.Declarations.{items_of}
 use Rattle.c_core_sound.specs.Whole.{all_whole, has_value, is_whole, whole_block_item}
@@ -56,6 +59,7 @@ use Rattle.c_core_sound.specs.Whole.{whole_optional, whole_start}
 use Rattle.c_core_sound.proofs.WholeForms.{Yields, both, yield_any, yield_nothing, yield_skip}
 use Rattle.c_core_sound.proofs.WholeForms.{yield_behind, yield_before, yield_deeper, yield_pair}
 use Rattle.c_core_sound.proofs.WholeForms.{yield_then, yield_node, yield_choice, yield_known}
+use Rattle.c_core_sound.proofs.WholeForms.{yield_many_seen}
 use Rattle.c_core_sound.proofs.WholeForms.{yield_many, yield_perhaps, yield_nearest}
 use Rattle.c_core_sound.proofs.WholeParts.{suffix_whole, statement_whole, name_whole, number_whole}
 use Rattle.c_core_sound.proofs.WholeParts.{character_whole, bracketed_whole, postfix_whole}
@@ -285,6 +289,8 @@ module _ {w : World Leaf} {G : Grammar} (g : WholeGrammar w G)
   unfolding group_at
   w_group_at (symbol.TypeWord word) = yield_node _
       (yield_pair yield_any (yield_deeper g.cast)) (λ leaf parts h. h.1)
+  w_group_at (symbol.TypedefName named) = yield_node _
+      (yield_pair yield_any (yield_deeper g.cast)) (λ leaf parts h. h.1)
   w_group_at _ = yield_node _ (yield_then (yield_before (yield_deeper g.comma))
       (λ inner. w_suffixes (names_assert inner))) (λ leaf parts h. h)
 
@@ -513,17 +519,14 @@ module _ {w : World Leaf} {G : Grammar} (g : WholeGrammar w G)
   w_unit_item_at : (s : Symbol) → Yields w (unit_item_at G s) WholeItem
   unfolding unit_item_at
   w_unit_item_at (symbol.Terminal terminal.Semicolon) = yield_node _ yield_any (λ leaf u h. refl)
+  w_unit_item_at (symbol.Terminal terminal.Typedef) =
+      yield_node _ yield_any (λ leaf parts h. refl)
   w_unit_item_at _ = yield_node _ (yield_pair yield_any (yield_choice w_declared_at))
       (λ leaf parts h. named_whole leaf parts.0 parts.1 h.1)
 
-  w_unit_item : Yields w (unit_item G) WholeItem
+  pub w_unit_item : Yields w (unit_item G) WholeItem
   unfolding unit_item
   w_unit_item = yield_choice w_unit_item_at
-
-  pub w_unit_items : Yields w (unit_items G) (λ is. all_whole (map whole_item is) ≡ true)
-  unfolding unit_items
-  w_unit_items =
-      yield_before (yield_many (λ leaf. not (is_end leaf)) whole_item w_unit_item)
 
 pub whole_grammar : {w : World Leaf} → ((p : ℕ) → Fine (symbol_of (w.at p))) → (n : ℕ) →
     WholeGrammar w (grammar n)
@@ -550,3 +553,23 @@ whole_grammar fine (suc n) = let g = whole_grammar fine n in record {
   statement = w_statement g fine;
   item = w_item g fine;
 }
+
+fine_named : (s : Symbol) (o : Option NamedType) → Fine s → Fine (named_symbol s o)
+fine_named symbol.Name None h = tt
+fine_named symbol.Name (Some ty) h = tt
+fine_named _ o h = h
+
+fine_behind : (es : List (List ℕ × NamedType)) (leaf : Leaf) → Fine (symbol_of leaf) →
+    Fine (symbol_of (behind_typedefs es leaf))
+fine_behind [] leaf h = h
+fine_behind (e ∷ es) leaf h = fine_behind es (renamed e.0 e.1 leaf) (fine_named leaf.symbol _ h)
+
+-- the items of a text are whole, each as it is seen behind those before it
+pub w_unit_items : {w : World Leaf} → ((p : ℕ) → Fine (symbol_of (w.at p))) → (n : ℕ) →
+    Yields w (unit_items (grammar n)) (λ is. all_whole (map whole_item is) ≡ true)
+unfolding unit_items
+w_unit_items {w} fine n =
+    let seen = λ (done : List Item) (p : ℕ).
+    fine_behind (flat_map typedefs_in done) (w.at p) (fine p) in
+    yield_before (yield_many_seen seen_behind (λ leaf. not (is_end leaf)) whole_item
+    (λ done. w_unit_item (whole_grammar (seen done) n) (seen done)) [])

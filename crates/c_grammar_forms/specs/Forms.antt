@@ -1,7 +1,7 @@
 -- Grammars as relations between the places of a text: the forms of EBNF (ISO/IEC 14977), and this
 -- project's own that look at the next token. A place is the number of a token.
 use Rattle.std.specs.Prelude.{◌≡◌, ℕ, ◌+◌, ◌-◌, ◌<◌, ◌≤◌, Bool, true, false, cond, zero, suc, List}
-use Rattle.std.specs.Prelude.{[], ◌∷◌, Option, None, Some}
+use Rattle.std.specs.Prelude.{[], ◌∷◌, ◌++◌, Option, None, Some}
 
 -- a text to be read: the token at each place; up to which place the limit on levels is looked at;
 -- and whether a list or an option ends only where it cannot go on
@@ -116,6 +116,23 @@ pub record Goes {Token T : Type 0} (go : Token → Bool) (A : Form Token T) (Res
 unfoldable pub Many : {Token T : Type 0} → (Token → Bool) → Form Token T → Form Token (List T)
 Many go A w left p [] q = Ends go w p q
 Many go A w left p (u ∷ us) q = Goes go A (λ m. Many go A w left m us q) w left p u
+
+-- the text with its tokens seen through f
+abbrev pub seen_through : {Token : Type 0} → (Token → Token) → World Token → World Token
+seen_through f w = record { at = λ i. f (w.at i); edge = w.edge; greedy = w.greedy }
+
+-- a part of the text with its tokens seen through f
+pub record Through {Token T : Type 0} (f : Token → Token) (A : Form Token T)
+    (w : World Token) (left p : ℕ) (u : T) (q : ℕ) : Type 0 where
+  pub read : A (seen_through f w) left p u q
+
+-- none or more parts as in `Many`, where the parts so far say how the tokens of the next are seen;
+-- these parts are done already
+unfoldable pub ManySeen : {Token T : Type 0} → (List T → Token → Token) → (Token → Bool) →
+    Form Token T → List T → Form Token (List T)
+ManySeen see go A done w left p [] q = Ends go w p q
+ManySeen see go A done w left p (u ∷ us) q = Goes go (Through (see done) A)
+    (λ m. ManySeen see go A (done ++ u ∷ []) w left m us q) w left p u
 
 -- no part or one, which begins with a token that goes on
 unfoldable pub Perhaps : {Token T : Type 0} → (Token → Bool) → Form Token T → Form Token (Option T)

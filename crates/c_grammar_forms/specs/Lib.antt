@@ -7,3 +7,4 @@ pub mod Loops
 pub mod Brackets
 pub mod Exits
 pub mod Choices
+pub mod Seen

@@ -1,11 +1,11 @@
 -- Lemmas: a form has one reading at a place, and the tokens up to its end decide it.
 use Rattle.std.specs.Prelude.{◌≡◌, ℕ, ◌+◌, ◌<◌, ◌≤◌, Bool, true, false, cond, zero, suc, List, []}
-use Rattle.std.specs.Prelude.{◌∷◌, Option, None, Some, refl}
+use Rattle.std.specs.Prelude.{◌∷◌, ◌++◌, Option, None, Some, refl}
 use Rattle.std.proofs.Common.{sym, ◌∙◌, ap, subst, arith}
 use Rattle.c_grammar_forms.specs.Forms.{World, Form, Nothing, One, Such, Empty, Skip, Behind}
 use Rattle.c_grammar_forms.specs.Forms.{Before}
 use Rattle.c_grammar_forms.specs.Forms.{Pair, Then, Node, Shaped, Deeper, Choice, Many, Perhaps}
-use Rattle.c_grammar_forms.specs.Forms.{Nearest, count, Balanced}
+use Rattle.c_grammar_forms.specs.Forms.{Nearest, count, Balanced, seen_through, Through, ManySeen}
 
 -- the texts have the same tokens up to this place, and both are greedy
 pub record Alike {Token : Type 0} (i : ℕ) (w v : World Token) : Type 0 where
@@ -222,6 +222,61 @@ module _ {Token T : Type 0} (go : Token → Bool) (A B : Form Token T) (g : Good
       let f = many_same w v l k us ss x.middle q r a x.rest
       (subst (λ m. Many go B v k m ss r) (sym e.1) y.rest) in
       (cons_path e.0 f.0, f.1)
+
+pub alike_seen : {Token : Type 0} (f : Token → Token) {i : ℕ} {w v : World Token} → Alike i w v →
+    Alike i (seen_through f w) (seen_through f v)
+alike_seen f a = record {
+  tokens = λ j h. ap f (a.tokens j h);
+  first_greedy = a.first_greedy;
+  second_greedy = a.second_greedy;
+}
+
+pub good_through : {Token T : Type 0} (f : Token → Token) {A B : Form Token T} → Good A B →
+    Good (Through f A) (Through f B)
+good_through f g = record {
+  onward = λ r. g.onward r.read;
+  same = λ a r s. g.same (alike_seen f a) r.read s.read;
+}
+
+module _ {Token T : Type 0} (see : List T → Token → Token) (go : Token → Bool) (A B : Form Token T)
+    (g : Good A B) where
+  seen_onward : (w : World Token) (left : ℕ) (us done : List T) (p q : ℕ) →
+      ManySeen see go A done w left p us q → p ≤ q
+  unfolding ManySeen
+  seen_onward w left [] done p q r = omega (arith, r.behind)
+  seen_onward w left (u ∷ us) done p q r = omega (
+    arith,
+    (good_through (see done) g).onward r.first,
+    seen_onward w left us (done ++ u ∷ []) r.middle q r.rest,
+  )
+
+  seen_same : (w v : World Token) (l k : ℕ) (us ss done : List T) (p q r : ℕ) → Alike q w v →
+      ManySeen see go A done w l p us q → ManySeen see go B done v k p ss r → (us ≡ ss) × (q ≡ r)
+  unfolding ManySeen
+  seen_same w v l k [] [] done p q r a x y = (refl, x.behind ∙ sym y.behind)
+  seen_same w v l k [] (s ∷ ss) done p q r a x y =
+      absurd (ends_or_goes (x.stops a.first_greedy)
+      (test_path go (sym (a.tokens p (omega (arith, x.behind)))) y.goes))
+  seen_same w v l k (u ∷ us) [] done p q r a x y =
+      let onward = (good_through (see done) g).onward x.first in
+      let behind = seen_onward w l us (done ++ u ∷ []) x.middle q x.rest in
+      absurd (ends_or_goes (y.stops a.second_greedy)
+      (test_path go (a.tokens p (omega (arith, onward, behind))) x.goes))
+  seen_same w v l k (u ∷ us) (s ∷ ss) done p q r a x y =
+      let behind = seen_onward w l us (done ++ u ∷ []) x.middle q x.rest in
+      let e = (good_through (see done) g).same (alike_below x.middle behind a) x.first y.first in
+      let f = seen_same w v l k us ss (done ++ u ∷ []) x.middle q r a x.rest
+      (subst (λ t. ManySeen see go B (done ++ t ∷ []) v k x.middle ss r) (sym e.0)
+      (subst (λ m. ManySeen see go B (done ++ s ∷ []) v k m ss r) (sym e.1) y.rest)) in
+      (cons_path e.0 f.0, f.1)
+
+pub good_many_seen : {Token T : Type 0} (see : List T → Token → Token) (go : Token → Bool)
+    (done : List T) {A B : Form Token T} → Good A B →
+    Good (ManySeen see go A done) (ManySeen see go B done)
+good_many_seen see go done {A} {B} g = record {
+  onward = λ r. seen_onward see go A B g _ _ _ _ _ _ r;
+  same = λ a x y. seen_same see go A B g _ _ _ _ _ _ _ _ _ _ a x y;
+}
 
 pub good_perhaps : {Token T : Type 0} (go : Token → Bool) {A B : Form Token T} → Good A B →
     Good (Perhaps go A) (Perhaps go B)

@@ -1,10 +1,11 @@
 -- That a list or an option ends only where it cannot go on changes no reading, where the token
 -- behind it is none with which it goes on.
-use Rattle.std.specs.Prelude.{◌≡◌, ℕ, Bool, true, false, List, [], ◌∷◌, Option, None, Some, refl}
+use Rattle.std.specs.Prelude.{◌≡◌, ℕ, Bool, true, false, List, [], ◌∷◌, ◌++◌, Option, None, Some}
+use Rattle.std.specs.Prelude.{refl}
 use Rattle.std.proofs.Common.{subst}
 use Rattle.c_grammar_forms.specs.Forms.{Form, Nothing, One, Such, Empty, Skip, Behind, Before, Pair}
 use Rattle.c_grammar_forms.specs.Forms.{Then, Node, Shaped, Deeper, Choice, Many, Perhaps, Nearest}
-use Rattle.c_grammar_forms.specs.Forms.{Balanced, greedy_text}
+use Rattle.c_grammar_forms.specs.Forms.{ManySeen, Balanced, greedy_text}
 use Rattle.c_grammar_plain.specs.Plain.{plain_text}
 
 -- a reading in a greedy text is one in a plain text; and one in a plain text is one in a greedy
@@ -357,3 +358,41 @@ module _ {Token T : Type 0} (go : Token → Bool) (A : Form Token T) {more behin
   pub starts_perhaps : Starts (Perhaps go A) more behind
   starts_perhaps =
       record { first = λ r h. perhaps_first go A more behind goes ends _ _ _ _ _ _ r h }
+
+-- parts that say how the tokens behind them are seen, with which nothing goes on
+module _ {Token T : Type 0} (see : List T → Token → Token) (go : Token → Bool) (A : Form Token T)
+    (c : Closes A no_token) where
+  seen_plain : (at : ℕ → Token) (edge left : ℕ) (us done : List T) (p q : ℕ) →
+      ManySeen see go A done (greedy_text at edge) left p us q →
+      ManySeen see go A done (plain_text at edge) left p us q
+  unfolding ManySeen
+  seen_plain at edge left [] done p q r = record { stops = λ h. r.stops refl; behind = r.behind }
+  seen_plain at edge left (u ∷ us) done p q r = record {
+    goes = r.goes;
+    middle = r.middle;
+    first = record { read = c.to_plain {at = λ i. see done (at i)} r.first.read };
+    rest = seen_plain at edge left us (done ++ u ∷ []) r.middle q r.rest;
+  }
+
+  seen_greedy : {more : Token → Bool} → ((t : Token) → more t ≡ false → go t ≡ false) →
+      (at : ℕ → Token) (edge left : ℕ) (us done : List T) (p q : ℕ) →
+      ManySeen see go A done (plain_text at edge) left p us q → more (at q) ≡ false →
+      ManySeen see go A done (greedy_text at edge) left p us q
+  unfolding ManySeen
+  seen_greedy {more} ends at edge left [] done p q r h = record {
+    stops = λ e. ends (at p) (subst (λ m. more (at m) ≡ false) r.behind h);
+    behind = r.behind;
+  }
+  seen_greedy ends at edge left (u ∷ us) done p q r h = record {
+    goes = r.goes;
+    middle = r.middle;
+    first = record { read = c.to_greedy {at = λ i. see done (at i)} r.first.read refl };
+    rest = seen_greedy ends at edge left us (done ++ u ∷ []) r.middle q r.rest h;
+  }
+
+  pub closes_many_seen : {more : Token → Bool} → ((t : Token) → more t ≡ false → go t ≡ false) →
+      (done : List T) → Closes (ManySeen see go A done) more
+  closes_many_seen ends done = record {
+    to_plain = λ r. seen_plain _ _ _ _ _ _ _ r;
+    to_greedy = λ r h. seen_greedy ends _ _ _ _ _ _ _ r h;
+  }

@@ -18,7 +18,8 @@ use Rattle.c_grammar_symbols.specs.Sources.{is, is_terminal}
 use Rattle.c_grammar_tree.specs.declared.expression.Expression.{Expression}
 use Rattle.c_grammar_tree.specs.Parts.{is_not, names, points, steps, binds, looseness, assigns}
 use Rattle.c_grammar_tree.specs.Parts.{is_unary}
-use Rattle.c_grammar_tree.specs.Parts.{initializes, specifies, specifies_locally}
+use Rattle.c_grammar_tree.specs.Parts.{initializes, specifies, specifies_locally, names_type}
+use Rattle.c_grammar_tree.specs.Parts.{specifies_in_typedef}
 use Rattle.c_grammar_tree.specs.Expressions.{assigns_to}
 
 -- how loose an expression is at least that goes on with the symbol: a postfix 0, a chain its
@@ -123,6 +124,10 @@ pub second_true : (a b : Bool) → (a && b) ≡ true → b ≡ true
 second_true true b e = e
 second_true false b e = impossible e
 
+pub first_false : (a b : Bool) → a ≡ false → (a && b) ≡ false
+first_false true b e = impossible (sym e)
+first_false false b e = refl
+
 pub second_false : (a b : Bool) → b ≡ false → (a && b) ≡ false
 second_false true b e = e
 second_false false b e = refl
@@ -176,6 +181,12 @@ name_is_no_specifier _ e = impossible e
 pub name_is_no_word : (s : Symbol) → names s ≡ true → specifies s ≡ false
 name_is_no_word symbol.Name e = refl
 name_is_no_word _ e = impossible e
+
+pub any_name_is_no_word : (s : Symbol) → (names s || names_type s) ≡ true →
+    (specifies_in_typedef s && not (names_type s)) ≡ false
+any_name_is_no_word symbol.Name e = refl
+any_name_is_no_word (symbol.TypedefName named) e = refl
+any_name_is_no_word _ e = impossible e
 
 pub name_is_no_pointer : (s : Symbol) → names s ≡ true → points s ≡ false
 name_is_no_pointer symbol.Name e = refl

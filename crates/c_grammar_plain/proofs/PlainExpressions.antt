@@ -23,8 +23,8 @@ use Rattle.c_grammar_tree.specs.Nested.{Grammar}
 use Rattle.c_grammar_tree.specs.Expressions.{round_brackets, assignments, arguments, suffix_at}
 use Rattle.c_grammar_tree.specs.Expressions.{skipped_call, opens_skipped, suffixes, primary_at}
 use Rattle.c_grammar_tree.specs.Expressions.{postfix}
-use Rattle.c_grammar_tree.specs.Expressions.{sign, unary_at, unary, type_word_at, type_name}
-use Rattle.c_grammar_tree.specs.Expressions.{group_at}
+use Rattle.c_grammar_tree.specs.Expressions.{sign, unary_at, unary, type_word_at, type_name_at}
+use Rattle.c_grammar_tree.specs.Expressions.{words_of_type, type_name, cast_part, group_at}
 use Rattle.c_grammar_tree.specs.Expressions.{cast_at, cast, operand_at, chain, conditional}
 use Rattle.c_grammar_tree.specs.Expressions.{right_side_at}
 use Rattle.c_grammar_tree.specs.Expressions.{assigns_to, assignment, comma}
@@ -58,11 +58,20 @@ unfolding type_word_at
 closes_type_word_at (symbol.TypeWord word) = closes_node _ closes_one
 closes_type_word_at _ = closes_nothing
 
-closes_type_name : Closes type_name is_type_word
-unfolding type_name
-closes_type_name = closes_node _ (closes_shaped is_type
+closes_words_of_type : Closes words_of_type is_type_word
+unfolding words_of_type
+closes_words_of_type = closes_node _ (closes_shaped is_type
     (closes_many is_type_word _ {inner = no_token} (closes_choice symbol_of closes_type_word_at)
     (λ t e. refl) (λ t e. refl) (λ t e. e)))
+
+closes_type_name_at : (s : Symbol) → Closes (type_name_at s) is_type_word
+unfolding type_name_at
+closes_type_name_at (symbol.TypedefName named) = closes_node _ closes_one
+closes_type_name_at _ = closes_words_of_type
+
+closes_type_name : Closes type_name is_type_word
+unfolding type_name
+closes_type_name = closes_choice symbol_of closes_type_name_at
 
 closes_operand_at : {A : Form Leaf Expression} {more : Leaf → Bool} → Closes A more → (s : Symbol) →
     Closes (operand_at A s) more
@@ -139,12 +148,16 @@ module _ (G : Grammar) (c : ClosedGrammar G) where
   unfolding unary
   closes_unary = closes_choice symbol_of closes_unary_at
 
-  closes_group_at : (s : Symbol) → Closes (group_at G s) (goes_on 0)
-  unfolding group_at
-  closes_group_at (symbol.TypeWord word) = closes_node _ (closes_pair {inner = no_token}
+  closes_cast_part : Closes (cast_part G) (goes_on 0)
+  closes_cast_part = closes_node _ (closes_pair {inner = no_token}
       (closes_before {inner = is_type_word} (closes_deeper closes_type_name) _
       (stops_at types terminal.RightParen refl))
       (closes_deeper c.cast) starts_any)
+
+  closes_group_at : (s : Symbol) → Closes (group_at G s) (goes_on 0)
+  unfolding group_at
+  closes_group_at (symbol.TypeWord word) = closes_cast_part
+  closes_group_at (symbol.TypedefName named) = closes_cast_part
   closes_group_at _ = closes_node _ (closes_then {inner = no_token}
       (closes_before {inner = goes_on 13} (closes_deeper c.comma) _
       (stops_at (loose 13) terminal.RightParen refl))

@@ -1,7 +1,7 @@
 -- Declarations, statements and items of the grammar written plainly are those of the grammar.
-use Rattle.std.specs.Prelude.{◌≡◌, ℕ, zero, suc, Bool, true, false, not, ◌||◌, is_some, Option}
+use Rattle.std.specs.Prelude.{◌≡◌, ℕ, zero, suc, Bool, true, false, not, ◌||◌, [], is_some, Option}
 use Rattle.std.specs.Prelude.{Some, refl}
-use Rattle.std.proofs.Common.{ap}
+use Rattle.std.proofs.Common.{ap, subst}
 use Rattle.c_grammar_forms.specs.Forms.{Form, Pair}
 use Rattle.c_grammar_plain.specs.Plain.{plain_text}
 use Rattle.c_grammar_plain.proofs.Closes.{Closes, Begins, no_token, closes_nothing, closes_one}
@@ -9,6 +9,7 @@ use Rattle.c_grammar_plain.proofs.Closes.{closes_such}
 use Rattle.c_grammar_plain.proofs.Closes.{closes_empty, closes_balanced, closes_skip, closes_behind}
 use Rattle.c_grammar_plain.proofs.Closes.{closes_before, closes_pair, closes_then, closes_node}
 use Rattle.c_grammar_plain.proofs.Closes.{closes_shaped, closes_deeper, closes_choice, closes_more}
+use Rattle.c_grammar_plain.proofs.Closes.{Starts, closes_many_seen}
 use Rattle.c_grammar_plain.proofs.Closes.{closes_many, closes_perhaps, closes_nearest, starts_by}
 use Rattle.c_grammar_plain.proofs.Closes.{starts_such, starts_before, starts_pair, starts_node}
 use Rattle.c_grammar_plain.proofs.Closes.{starts_made}
@@ -23,11 +24,15 @@ use Rattle.c_grammar_symbols.specs.Sources.{is, is_terminal}
 use Rattle.c_grammar_tree.specs.declared.name.Name.{Name}
 use Rattle.c_grammar_tree.specs.declared.statement.Statement.{Statement}
 use Rattle.c_grammar_tree.specs.declared.item.Body.{Body}
-use Rattle.c_grammar_tree.specs.Parts.{is_not, is_name, is_end, have_type, have_char, points}
-use Rattle.c_grammar_tree.specs.Parts.{is_specifier}
+use Rattle.c_grammar_tree.specs.Parts.{is_not, is_name, is_end, have_part, have_word, have_char}
+use Rattle.c_grammar_tree.specs.Parts.{points, is_specifier, is_typedef_specifier, is_any_name}
+use Rattle.c_grammar_tree.specs.Parts.{is_keyword, is_no_type, is_type_word, is_typedef_name}
+use Rattle.c_grammar_tree.specs.Parts.{names_type}
 use Rattle.c_grammar_tree.specs.Parts.{specifies, is_local_specifier, is_initializing, bare_name}
 use Rattle.c_grammar_tree.specs.Nested.{Grammar}
-use Rattle.c_grammar_tree.specs.Declarations.{identifier, specifier_at, specifiers, attribute}
+use Rattle.c_grammar_tree.specs.declared.declaration.Specifier.{Specifier}
+use Rattle.c_grammar_tree.specs.Declarations.{identifier, specifier_at, keywords}
+use Rattle.c_grammar_tree.specs.Declarations.{typedef_name_at, named_part, specifiers, attribute}
 use Rattle.c_grammar_tree.specs.Declarations.{attributes}
 use Rattle.c_grammar_tree.specs.Declarations.{comma_or_end_at, element, list, initializer_of, array}
 use Rattle.c_grammar_tree.specs.Declarations.{array_part, declarator_rest, declarator}
@@ -38,11 +43,12 @@ use Rattle.c_grammar_tree.specs.Statements.{statement_at, statement, item_by, it
 use Rattle.c_grammar_tree.specs.Items.{Named, is_known, have_pointer, parameter, parameter_list}
 use Rattle.c_grammar_tree.specs.Items.{function_rest, skipped_body, body_of, function_end_at}
 use Rattle.c_grammar_tree.specs.Items.{named_at}
+use Rattle.c_grammar_tree.specs.Items.{typedef_name, typedef_names, seen_behind}
 use Rattle.c_grammar_tree.specs.Items.{declared_at, unit_item_at, unit_item, unit_items}
 use Rattle.c_grammar_tree.specs.Grammar.{grammar}
 use Rattle.c_grammar_plain.proofs.GoesOn.{loose, goes_on, declares, fronts, parameters_go_on}
 use Rattle.c_grammar_plain.proofs.GoesOn.{lists_parameters, lists_declarators, stops_at, open_at}
-use Rattle.c_grammar_plain.proofs.GoesOn.{closed_at}
+use Rattle.c_grammar_plain.proofs.GoesOn.{closed_at, first_false, any_name_is_no_word}
 use Rattle.c_grammar_plain.proofs.GoesOn.{declares_loose, initializes_parts, initializes_ends}
 use Rattle.c_grammar_plain.proofs.GoesOn.{fronts_ends}
 use Rattle.c_grammar_plain.proofs.GoesOn.{name_is_no_specifier, name_is_no_word, name_is_no_pointer}
@@ -66,11 +72,56 @@ closes_specifier_at (symbol.Specifier word) = closes_node _ closes_one
 closes_specifier_at (symbol.TypeWord word) = closes_node _ closes_one
 closes_specifier_at _ = closes_nothing
 
-closes_specifiers : (goes : Leaf → Bool) → Closes (specifiers goes) goes
+closes_keywords : (goes : Leaf → Bool) → Closes (keywords goes) (is_keyword goes)
+unfolding keywords
+closes_keywords goes = closes_shaped have_part
+    (closes_many (is_keyword goes) _ {inner = no_token} (closes_choice symbol_of closes_specifier_at)
+    (λ t e. refl) (λ t e. refl) (λ t e. e))
+
+closes_typedef_name_at : {more : Leaf → Bool} (s : Symbol) → Closes (typedef_name_at s) more
+unfolding typedef_name_at
+closes_typedef_name_at (symbol.TypedefName named) = closes_node _ closes_one
+closes_typedef_name_at _ = closes_nothing
+
+closes_named_part : (goes : Leaf → Bool) (typed : Bool) →
+    Closes (named_part goes typed) (is_keyword goes)
+unfolding named_part
+closes_named_part goes true = closes_node _ closes_empty
+closes_named_part goes false = closes_node _ (closes_pair {inner = no_token}
+    (closes_choice symbol_of closes_typedef_name_at)
+    (closes_many (is_no_type goes) _ {inner = no_token} (closes_choice symbol_of closes_specifier_at)
+    (λ t e. refl) (λ t e. refl) (λ t e. first_false (is_keyword goes t) (not (is_type_word t)) e))
+    starts_any)
+
+-- a typedef name is no keyword
+named_first : (goes : Leaf → Bool) (s : Symbol) (at : ℕ → Leaf) (edge left p : ℕ) (u : Specifier)
+    (q : ℕ) → typedef_name_at s (plain_text at edge) left p u q → not (names_type s) ≡ false
+unfolding typedef_name_at
+named_first goes (symbol.TypedefName named) at edge left p u q r = refl
+named_first goes _ at edge left p u q r = absurd r.never
+
+starts_named : (goes : Leaf → Bool) (typed : Bool) →
+    Starts (named_part goes typed) (is_keyword goes) (is_keyword goes)
+unfolding named_part
+starts_named goes true = starts_made _ (record {
+  first = λ {at} {edge} {left} {p} {u} {q} r h.
+      subst (λ m. is_keyword goes (at m) ≡ false) r.behind h;
+})
+starts_named goes false = starts_by (starts_node _ (starts_pair _ (record {
+  first = λ {at} {edge} {left} {p} {u} {q} r.
+      second_false (goes (at p)) (not (is_typedef_name (at p)))
+      (named_first goes (symbol_of (at p)) at edge left p u q r.chosen);
+})))
+
+closes_words : (goes : Leaf → Bool) → Closes (specifiers goes) (is_keyword goes)
 unfolding specifiers
-closes_specifiers goes = closes_node _ (closes_shaped have_type
-    (closes_many goes _ {inner = no_token} (closes_choice symbol_of closes_specifier_at)
-    (λ t e. refl) (λ t e. refl) (λ t e. e)))
+closes_words goes = closes_node _ (closes_then {inner = is_keyword goes} (closes_keywords goes)
+    (λ front. closes_named_part goes (have_word front))
+    (λ front. starts_named goes (have_word front)))
+
+closes_specifiers : (goes : Leaf → Bool) → Closes (specifiers goes) goes
+closes_specifiers goes = closes_more
+    (λ t e. first_false (goes t) (not (is_typedef_name t)) e) (closes_words goes)
 
 closes_attribute : {more : Leaf → Bool} → Closes attribute more
 unfolding attribute
@@ -129,6 +180,21 @@ closes_function_rest = closes_node _ (closes_skip (closes_pair {inner = no_token
     λ t. lists_parameters (symbol_of t)} closes_parameter_list
     (closed_at lists_parameters terminal.RightParen refl) (λ t e. e)) _
     (open_at terminal.RightParen)) closes_attributes starts_any))
+
+closes_typedef_name : {more : Leaf → Bool} → Closes typedef_name more
+unfolding typedef_name
+closes_typedef_name = closes_node _ (closes_such is_any_name)
+
+closes_typedef_names : Closes typedef_names (is terminal.Comma)
+unfolding typedef_names
+closes_typedef_names = closes_node _ (closes_pair {inner = no_token} closes_typedef_name
+    (closes_many (is terminal.Comma) _ {inner = no_token} (closes_skip closes_typedef_name)
+    (λ t e. refl) (λ t e. refl) (λ t e. e)) starts_any)
+
+typedef_names_first : Begins typedef_names (is_keyword is_typedef_specifier)
+unfolding typedef_names typedef_name
+typedef_names_first = starts_node _ (starts_pair _ (starts_node _
+    (starts_such is_any_name (λ t e. any_name_is_no_word (symbol_of t) e))))
 
 closes_skipped_body : {more : Leaf → Bool} → Closes skipped_body more
 unfolding skipped_body
@@ -371,6 +437,12 @@ module _ (G : Grammar) (c : ClosedGrammar G) where
   closes_unit_item_at : (s : Symbol) → Closes (unit_item_at G s) no_token
   unfolding unit_item_at
   closes_unit_item_at (symbol.Terminal terminal.Semicolon) = closes_node _ closes_one
+  closes_unit_item_at (symbol.Terminal terminal.Typedef) =
+      closes_node _ (closes_skip (closes_pair {inner = is_keyword is_typedef_specifier}
+      (closes_words is_typedef_specifier)
+      (closes_before {inner = is terminal.Comma} closes_typedef_names _
+      (stops_at (is_terminal terminal.Comma) terminal.Semicolon refl))
+      (starts_by (starts_before _ typedef_names_first))))
   closes_unit_item_at _ =
       closes_node _ (closes_pair {inner = is_specifier} (closes_specifiers is_specifier)
       (closes_choice symbol_of closes_declared_at)
@@ -383,8 +455,7 @@ module _ (G : Grammar) (c : ClosedGrammar G) where
   pub closes_unit_items : Closes (unit_items G) no_token
   unfolding unit_items
   closes_unit_items = closes_before {inner = λ t. not (is_end t)}
-      (closes_many _ _ {inner = no_token} closes_unit_item (λ t e. refl) (λ t e. refl) (λ t e. e)) _
-      (λ t e. ap not e)
+      (closes_many_seen seen_behind _ _ closes_unit_item (λ t e. e) []) _ (λ t e. ap not e)
 
 -- the grammar at each depth
 pub closed_grammar : (n : ℕ) → ClosedGrammar (grammar n)

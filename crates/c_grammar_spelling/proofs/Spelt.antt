@@ -4,6 +4,7 @@ use Rattle.std.specs.Prelude.{Option, None, Some, refl}
 use Rattle.std.proofs.Common.{sym, ◌∙◌, ap, subst}
 use Rattle.c_grammar_forms.specs.Forms.{Form, Nothing, One, Such, Skip, Behind, Before, Pair, Then}
 use Rattle.c_grammar_forms.specs.Forms.{Node, Shaped, Deeper, Choice, Many, Perhaps, Nearest}
+use Rattle.c_grammar_forms.specs.Forms.{World, Empty}
 use Rattle.c_grammar_symbols.specs.declared.words.Terminal.TheVariants as terminal
 use Rattle.c_grammar_symbols.specs.declared.symbol.Symbol.{Symbol}
 use Rattle.c_grammar_symbols.specs.Symbols.{Leaf, symbol_of}
@@ -510,4 +511,69 @@ module _ {T : Type 0} (class : Symbol → Bool) {K : Leaf → Type 0} {A : Form 
     pieces = λ k x. nearest_pieces _ _ _ _ _ x;
     again = λ k x y h. nearest_again stops _ _ _ _ _ _ _ _ _ x y h;
     first = λ k x y h. nearest_first _ _ _ _ _ _ _ _ x y h;
+  }
+
+-- a list of nothing
+pub spelt_empty : {T : Type 0} {K : Leaf → Type 0} {S : List T → List Piece} {left : ℕ}
+    {behind : Look} → S [] ≡ [] → Spelt K (Node (λ leaf u. []) Empty) S left behind behind
+spelt_empty {S = S} {behind = behind} none = record {
+  pieces = λ {at} {edge} {p} {u} {q} k r.
+      subst (λ list. Laid at list p q) (sym (ap S r.made ∙ none))
+      (subst (λ m. Laid at [] p m) (sym r.read.behind) spells_none);
+  again = λ {at} {bt} {edge} {other} {p} {r} {u} {q} {s} k x y h. record {
+    parts = tt;
+    read = record {
+      behind = ends_there (subst (λ list. Laid bt list r s) (ap S x.made ∙ none) y);
+    };
+    made = x.made;
+  };
+  first = λ {at} {bt} {edge} {p} {r} {u} {q} {s} k x y h.
+      subst (λ m. Agree behind (at p) (bt m))
+      (ends_there (subst (λ list. Laid bt list r s) (ap S x.made ∙ none) y))
+      (subst (λ m. Agree behind (at m) (bt s)) x.read.behind h);
+}
+
+-- a form that is one of two, as a test of what it reads says
+module _ {T : Type 0} {K : Leaf → Type 0} (test : T → Bool) (A : Form Leaf T) {B C : Form Leaf T}
+    {S : T → List Piece} {left : ℕ} {behind front : Look}
+    (to_first : (w : World Leaf) (p : ℕ) (u : T) (q : ℕ) → test u ≡ true → A w left p u q →
+    B w left p u q)
+    (from_first : (w : World Leaf) (p : ℕ) (u : T) (q : ℕ) → test u ≡ true → B w left p u q →
+    A w left p u q)
+    (to_second : (w : World Leaf) (p : ℕ) (u : T) (q : ℕ) → test u ≡ false → A w left p u q →
+    C w left p u q)
+    (from_second : (w : World Leaf) (p : ℕ) (u : T) (q : ℕ) → test u ≡ false → C w left p u q →
+    A w left p u q)
+    (c : Spelt K B S left behind front) (d : Spelt K C S left behind front) where
+  case_pieces : (b : Bool) (at : ℕ → Leaf) (edge p : ℕ) (u : T) (q : ℕ) → test u ≡ b →
+      K (at p) → A (plain_text at edge) left p u q → Laid at (S u) p q
+  case_pieces true at edge p u q e k r = c.pieces k (to_first (plain_text at edge) p u q e r)
+  case_pieces false at edge p u q e k r = d.pieces k (to_second (plain_text at edge) p u q e r)
+
+  case_again : (b : Bool) (at bt : ℕ → Leaf) (edge other p r : ℕ) (u : T) (q s : ℕ) →
+      test u ≡ b → K (at p) → A (plain_text at edge) left p u q → Laid bt (S u) r s →
+      Agree behind (at q) (bt s) → A (plain_text bt other) left r u s
+  case_again true at bt edge other p r u q s e k x y h =
+      from_first (plain_text bt other) r u s e
+      (c.again k (to_first (plain_text at edge) p u q e x) y h)
+  case_again false at bt edge other p r u q s e k x y h =
+      from_second (plain_text bt other) r u s e
+      (d.again k (to_second (plain_text at edge) p u q e x) y h)
+
+  case_first : (b : Bool) (at bt : ℕ → Leaf) (edge p r : ℕ) (u : T) (q s : ℕ) →
+      test u ≡ b → K (at p) → A (plain_text at edge) left p u q → Laid bt (S u) r s →
+      Agree behind (at q) (bt s) → Agree front (at p) (bt r)
+  case_first true at bt edge p r u q s e k x y h =
+      c.first k (to_first (plain_text at edge) p u q e x) y h
+  case_first false at bt edge p r u q s e k x y h =
+      d.first k (to_second (plain_text at edge) p u q e x) y h
+
+  pub spelt_cases : Spelt K A S left behind front
+  spelt_cases = record {
+    pieces = λ {at} {edge} {p} {u} {q} k r.
+        case_pieces (test u) at edge p u q refl k r;
+    again = λ {at} {bt} {edge} {other} {p} {r} {u} {q} {s} k x y h.
+        case_again (test u) at bt edge other p r u q s refl k x y h;
+    first = λ {at} {bt} {edge} {p} {r} {u} {q} {s} k x y h.
+        case_first (test u) at bt edge p r u q s refl k x y h;
   }

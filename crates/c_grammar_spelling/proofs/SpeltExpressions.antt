@@ -32,7 +32,8 @@ use Rattle.c_grammar_tree.specs.Expressions.{list_of, round_brackets, assignment
 use Rattle.c_grammar_tree.specs.Expressions.{suffix_at}
 use Rattle.c_grammar_tree.specs.Expressions.{skipped_call, suffixes, primary_at}
 use Rattle.c_grammar_tree.specs.Expressions.{postfix, sign, unary_at, unary, type_word_at}
-use Rattle.c_grammar_tree.specs.Expressions.{type_name}
+use Rattle.c_grammar_tree.specs.Expressions.{words_of_type, type_name_at, type_name, cast_part}
+use Rattle.c_grammar_tree.specs.declared.expression.TypeName.TheVariants as type_name'
 use Rattle.c_grammar_tree.specs.Expressions.{group_at, cast_at, cast, operand_at, operand, chain}
 use Rattle.c_grammar_tree.specs.Expressions.{conditional, right_side_at, assignment, comma}
 use Rattle.c_grammar_plain.specs.Plain.{plain_text}
@@ -121,13 +122,24 @@ spelt_type_word_at (symbol.TypeWord word) =
     spelt_node _ (spelt_one (symbol.TypeWord word)) (λ u. plainly (λ x. refl) (λ x y. refl))
 spelt_type_word_at _ = spelt_nothing
 
+spelt_words_of_type : {left : ℕ} {behind : Look} →
+    Spelt Any words_of_type spelled_type_name left behind sharp
+unfolding words_of_type
+spelt_words_of_type = spelt_node _
+    (spelt_some types {K = Any} (λ x e. tt) (spelt_choice (λ s. s) spelt_type_word_at) is_type refl)
+    (λ words. at_place (λ x. refl) (λ x y e. ap (type_name'.Words words) e))
+
+spelt_type_name_at : {left : ℕ} {behind : Look} (s : Symbol) →
+    Spelt (Is s) (type_name_at s) spelled_type_name left behind sharp
+unfolding type_name_at
+spelt_type_name_at (symbol.TypedefName t) = spelt_node _ (spelt_one (symbol.TypedefName t))
+    (λ u. at_place (λ x. refl) (λ x y e. ap (type_name'.Typedef t) e))
+spelt_type_name_at _ = spelt_any _ spelt_words_of_type
+
 spelt_type_name : {left : ℕ} {behind : Look} →
     Spelt Any type_name spelled_type_name left behind sharp
 unfolding type_name
-spelt_type_name = spelt_node _
-    (spelt_some types {K = Any} (λ x e. tt) (spelt_choice (λ s. s) spelt_type_word_at) is_type refl)
-    (λ words. at_place (λ x. refl)
-    (λ x y e. ap (λ place. record { words = words; place = place }) e))
+spelt_type_name = spelt_choice (λ s. s) spelt_type_name_at
 
 -- an identifier
 pub spelt_name : {left : ℕ} {behind : Look} → Spelt (Is symbol.Name)
@@ -349,13 +361,17 @@ module _ (G : Grammar) (left : ℕ) (g : SpeltGrammar G left) where
   unfolding unary
   spelt_unary = spelt_choice (λ s. s) spelt_unary_at
 
-  spelt_group_at : (s : Symbol) → Spelt (Is s) (group_at G s) spelled_group left careful sharp
-  unfolding group_at
-  spelt_group_at (symbol.TypeWord word) = spelt_any _ (spelt_node _ (spelt_if {P = 0 < left}
+  spelt_cast_part : Spelt Any (cast_part G) spelled_group left careful sharp
+  spelt_cast_part = spelt_node _ (spelt_if {P = 0 < left}
       (λ at edge p u q r. g.room r.second.read) (λ some. spelt_pair
       (spelt_closed (is_mark terminal.RightParen) (spelt_deeper some
       (spelt_type_name {behind = blind}))) g.cast))
-      (λ parts. plainly (λ x. refl) (λ x y. refl)))
+      (λ parts. plainly (λ x. refl) (λ x y. refl))
+
+  spelt_group_at : (s : Symbol) → Spelt (Is s) (group_at G s) spelled_group left careful sharp
+  unfolding group_at
+  spelt_group_at (symbol.TypeWord word) = spelt_any _ spelt_cast_part
+  spelt_group_at (symbol.TypedefName t) = spelt_any _ spelt_cast_part
   spelt_group_at _ = spelt_any _ (spelt_node _ (spelt_then
       (spelt_closed (is_mark terminal.RightParen) g.comma)
       (λ inner. spelt_suffixes (names_assert inner)))

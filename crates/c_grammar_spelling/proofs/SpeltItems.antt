@@ -4,7 +4,7 @@ use Rattle.std.specs.Prelude.{◌++◌}
 use Rattle.std.specs.Prelude.{Option, None, Some, refl}
 use Rattle.std.proofs.Common.{sym, ◌∙◌, ap, subst}
 use Rattle.c_grammar_forms.specs.Forms.{World, Form, Skip, Before, Pair, Then, Node, Choice}
-use Rattle.c_grammar_forms.specs.Forms.{Many, Perhaps}
+use Rattle.c_grammar_forms.specs.Forms.{Many, ManySeen, Perhaps}
 use Rattle.c_grammar_symbols.specs.declared.words.Terminal.TheVariants as terminal
 use Rattle.c_grammar_symbols.specs.declared.words.TypeWord.TheVariants as word
 use Rattle.c_grammar_symbols.specs.declared.operators.AssignmentOperator.TheVariants as assign
@@ -28,18 +28,23 @@ use Rattle.c_grammar_tree.specs.declared.item.Parameter.{Parameter}
 use Rattle.c_grammar_tree.specs.declared.item.Parameters.{Parameters}
 use Rattle.c_grammar_tree.specs.declared.item.Parameters.TheVariants as parameters
 use Rattle.c_grammar_tree.specs.Parts.{is_not, is_end, ends, names, points, have_char, specifies}
-use Rattle.c_grammar_tree.specs.Parts.{is_specifier}
+use Rattle.c_grammar_tree.specs.Parts.{is_specifier, names_type, specifies_in_typedef}
 use Rattle.c_grammar_tree.specs.Nested.{Grammar}
-use Rattle.c_grammar_tree.specs.Declarations.{specifier_at, specifiers, attribute, attributes}
+use Rattle.c_grammar_tree.specs.Declarations.{specifier_at, keywords, named_part, specifiers}
+use Rattle.c_grammar_tree.specs.Declarations.{attribute, attributes}
 use Rattle.c_grammar_tree.specs.Declarations.{declarator_rest, more_declarators}
 use Rattle.c_grammar_tree.specs.Items.{is_known, points_or_not, parameter, is_void, is_only_void}
 use Rattle.c_grammar_tree.specs.Items.{parameters_of, parameter_list, function_rest, have_pointer}
 use Rattle.c_grammar_tree.specs.Items.{skipped_body, body_of, function_end_at, Named, function}
 use Rattle.c_grammar_tree.specs.Items.{objects}
 use Rattle.c_grammar_tree.specs.Items.{named_at, declared_of, declared_at, unit_item_at, unit_item}
+use Rattle.c_grammar_tree.specs.Items.{typedef_name, typedef_names, seen_behind, unit_items_behind}
 use Rattle.c_grammar_tree.specs.Items.{unit_items}
+use Rattle.c_grammar_tree.specs.Seen.{end_seen}
+use Rattle.c_grammar_tree.specs.declared.item.Item.{Item}
 use Rattle.c_grammar_plain.specs.Plain.{plain_text}
-use Rattle.c_grammar_spelling.specs.Spelling.{Piece, placed, token, named, any_attributes, any_body}
+use Rattle.c_grammar_spelling.specs.Spelling.{Piece, placed, token, named, any_named, any_body}
+use Rattle.c_grammar_spelling.specs.Spelling.{any_attributes, SpellsItems}
 use Rattle.c_grammar_spelling.specs.Spelling.{mark, in_order, listed, optional}
 use Rattle.c_grammar_spelling.specs.Spelling.{spelled_expression}
 use Rattle.c_grammar_spelling.specs.Spelling.{spelled_initializer, spelled_rest, spelled_declarator}
@@ -203,21 +208,26 @@ module _ (bt : ℕ → Leaf) (other left r : ℕ) (e : symbol_of (bt r) ≡ symb
   where
     void_specifiers : specifiers is_specifier (plain_text bt other) left r
         (void_at (bt r).place (bt r).place).specifiers (r + 1)
-    unfolding specifiers specifier_at Many
+    unfolding specifiers keywords named_part specifier_at Many
     void_specifiers = record {
-      parts = record { kind = kind.TypeWord word.Void; place = (bt r).place } ∷ [];
+      parts = (record { kind = kind.TypeWord word.Void; place = (bt r).place } ∷ [], []);
       read = record {
-        read = record {
-          goes = ap specifies e;
-          middle = r + 1;
-          first = record {
-            chosen = subst (λ s. specifier_at s (plain_text bt other) left r
-                (record { kind = kind.TypeWord word.Void; place = (bt r).place }) (r + 1)) (sym e)
-                (record { parts = tt; read = record { behind = refl }; made = refl });
+        middle = r + 1;
+        first = record {
+          read = record {
+            goes = ap (λ s. specifies s && not (names_type s)) e;
+            middle = r + 1;
+            first = record {
+              chosen = subst (λ s. specifier_at s (plain_text bt other) left r
+                  (record { kind = kind.TypeWord word.Void; place = (bt r).place }) (r + 1)) (sym e)
+                  (record { parts = tt; read = record { behind = refl }; made = refl });
+            };
+            rest =
+                record { stops = λ h. absurd (let clash : false ≡ true = h in cc); behind = refl };
           };
-          rest = record { stops = λ h. absurd (let clash : false ≡ true = h in cc); behind = refl };
+          passes = refl;
         };
-        passes = refl;
+        second = record { parts = tt; read = record { behind = refl }; made = refl };
       };
       made = refl;
     }
@@ -440,6 +450,31 @@ declared_made (front, Some (name, function found (Some made))) =
     plainly (λ x. refl) (λ x y. refl)
 declared_made (front, Some (name, objects rest more)) = plainly (λ x. refl) (λ x y. refl)
 
+-- a name of a typedef
+spelt_typedef_name : {left : ℕ} {behind : Look} →
+    Spelt Any typedef_name (λ name. any_named name ∷ []) left behind blind
+unfolding typedef_name
+spelt_typedef_name = record {
+  pieces = λ {at} {edge} {p} {u} {q} k r.
+      spells_one (any_named u) (r.read.passes, sym r.made, r.read.behind);
+  again = λ {at} {bt} {edge} {other} {p} {r} {u} k x y h.
+      let e = only (any_named u) y in
+      record {
+        parts = tt;
+        read = record { passes = e.0; behind = e.2 };
+        made = sym e.1;
+      };
+  first = λ k x y h. tt;
+}
+
+spelt_typedef_names : {left : ℕ} →
+    Spelt Any typedef_names (listed (λ name. any_named name ∷ [])) left blind blind
+unfolding typedef_names
+spelt_typedef_names = spelt_node _ (spelt_pair {inner = blind} spelt_typedef_name
+    (spelt_many (is_terminal terminal.Comma) (known_mark terminal.Comma)
+    (spelt_skip (symbol.Terminal terminal.Comma) spelt_typedef_name)))
+    (λ parts. plainly (λ x. refl) (λ x y. refl))
+
 module _ (G : Grammar) (left : ℕ) (g : SpeltGrammar G left) (some : 0 < left) where
   spelt_body_of : {behind : Look} (known : Bool) →
       Spelt (Is (symbol.Terminal terminal.LeftBrace))
@@ -561,6 +596,11 @@ module _ (G : Grammar) (left : ℕ) (g : SpeltGrammar G left) (some : 0 < left) 
   spelt_unit_item_at (symbol.Terminal terminal.Semicolon) =
       spelt_node _ (spelt_one (symbol.Terminal terminal.Semicolon))
       (λ u. at_place (λ x. refl) (λ x y e. ap node.Empty e))
+  spelt_unit_item_at (symbol.Terminal terminal.Typedef) =
+      spelt_node _ (spelt_skip (symbol.Terminal terminal.Typedef)
+      (spelt_pair (spelt_specifiers specifies_in_typedef)
+      (spelt_closed (is_mark terminal.Semicolon) spelt_typedef_names)))
+      (λ parts. at_place (λ x. refl) (λ x y e. ap (node.Typedef parts.0 parts.1) e))
   spelt_unit_item_at _ = spelt_any _ (spelt_node _ (spelt_pair (spelt_specifiers specifies)
       (spelt_choice (λ s. s) spelt_declared_at)) declared_made)
 
@@ -568,8 +608,76 @@ module _ (G : Grammar) (left : ℕ) (g : SpeltGrammar G left) (some : 0 < left) 
   unfolding unit_item
   spelt_unit_item = spelt_choice (λ s. s) spelt_unit_item_at
 
-  pub spelt_unit_items : Spelt Any (unit_items G)
-      (λ made. in_order spelled_item made ++ token symbol.End ∷ []) left blind blind
+  items_pieces : (at : ℕ → Leaf) (edge : ℕ) (us done : List Item) (p m q : ℕ) →
+      unit_items_behind G done (plain_text at edge) left p us m → is_end (at m) ≡ true →
+      q ≡ m + 1 → SpellsItems at done us p q
+  unfolding ManySeen SpellsItems
+  items_pieces at edge [] done p m q r ended behind =
+      (spells_one {at = at} (token symbol.End) (
+        end_is (symbol_of (at p)) (subst (λ k. is_end (at k) ≡ true) r.behind ended),
+        behind ∙ ap (λ k. k + 1) r.behind,
+      )).spells
+  items_pieces at edge (u ∷ us) done p m q r ended behind = (
+    r.middle,
+    (
+      ((spelt_unit_item {behind = blind}).pieces {at = λ i. seen_behind done (at i)} tt
+          r.first.read).spells,
+      items_pieces at edge us (done ++ u ∷ []) r.middle m q r.rest ended behind,
+    ),
+  )
+
+  -- the items in the other text, up to its end
+  record Ended (bt : ℕ → Leaf) (other : ℕ) (done : List Item) (r : ℕ) (us : List Item) (s : ℕ) :
+      Type 0 where
+    middle : ℕ
+    read : unit_items_behind G done (plain_text bt other) left r us middle
+    stands : is_end (bt middle) ≡ true
+    behind : s ≡ middle + 1
+
+  items_again : (at bt : ℕ → Leaf) (edge other : ℕ) (us done : List Item) (p r m s : ℕ) →
+      unit_items_behind G done (plain_text at edge) left p us m → SpellsItems bt done us r s →
+      Ended bt other done r us s
+  unfolding ManySeen SpellsItems
+  items_again at bt edge other [] done p r m s x y =
+      let e = only {at = bt} (token symbol.End) (record { spells = y }) in
+      record {
+        middle = r;
+        read = record { stops = λ h. absurd (let clash : false ≡ true = h in cc); behind = refl };
+        stands = ap ends e.0;
+        behind = e.1;
+      }
+  items_again at bt edge other (u ∷ us) done p r m s x y =
+      let k = items_again at bt edge other us (done ++ u ∷ []) x.middle y.0 m s x.rest y.1.1 in
+      let item = spelt_unit_item {behind = blind} in
+      let here : Laid (λ i. seen_behind done (bt i)) (spelled_item u) r y.0 =
+      record { spells = y.1.0 } in
+      let same = item.first {at = λ i. seen_behind done (at i)} {bt = λ i. seen_behind done (bt i)}
+      tt x.first.read here tt in
+      record {
+        middle = k.middle;
+        read = record {
+          goes = ap not (sym (end_seen done (bt r)) ∙ (ap ends (sym same) ∙ end_seen done (at p)))
+              ∙ x.goes;
+          middle = y.0;
+          first = record {
+            read = item.again {at = λ i. seen_behind done (at i)}
+                {bt = λ i. seen_behind done (bt i)} tt x.first.read here tt;
+          };
+          rest = k.read;
+        };
+        stands = k.stands;
+        behind = k.behind;
+      }
+
+  pub unit_pieces : (at : ℕ → Leaf) (edge p : ℕ) (us : List Item) (q : ℕ) →
+      unit_items G (plain_text at edge) left p us q → SpellsItems at [] us p q
   unfolding unit_items
-  spelt_unit_items = spelt_closed is_the_end
-      (spelt_many (λ s. not (ends s)) {K = Any} {behind = blind} (λ x e. tt) spelt_unit_item)
+  unit_pieces at edge p us q r = items_pieces at edge us [] p r.middle q r.first r.passes r.behind
+
+  pub unit_again : (at bt : ℕ → Leaf) (edge other p r : ℕ) (us : List Item) (q s : ℕ) →
+      unit_items G (plain_text at edge) left p us q → SpellsItems bt [] us r s →
+      unit_items G (plain_text bt other) left r us s
+  unfolding unit_items
+  unit_again at bt edge other p r us q s x y =
+      let k = items_again at bt edge other us [] p r x.middle s x.first y in
+      record { middle = k.middle; first = k.read; passes = k.stands; behind = k.behind }

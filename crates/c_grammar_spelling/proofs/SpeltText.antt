@@ -1,8 +1,9 @@
 -- Declarations, statements and items are spelled by their trees, and so is a text.
-use Rattle.std.specs.Prelude.{◌≡◌, ◌⊎◌, ℕ, ◌+◌, ◌-◌, zero, suc, Bool, true, false, not}
+use Rattle.std.specs.Prelude.{◌≡◌, ◌⊎◌, ℕ, ◌+◌, ◌-◌, zero, suc, Bool, true, false, not, ◌&&◌}
 use Rattle.std.specs.Prelude.{is_some, List, [], ◌∷◌, ◌++◌, Option, None, Some, refl, option_map}
-use Rattle.std.proofs.Common.{sym, ◌∙◌, ap, subst, arith, inl, inr}
-use Rattle.c_grammar_forms.specs.Forms.{World, Form, Before, Then}
+use Rattle.std.proofs.Common.{sym, ◌∙◌, ap, subst, arith, inl, inr, append_assoc}
+use Rattle.std.proofs.lemmas.Bool.{and_parts, and_from}
+use Rattle.c_grammar_forms.specs.Forms.{World, Form, Empty, Before, Pair, Then, Node, Shaped}
 use Rattle.c_grammar_forms.specs.Forms.{Deeper, Choice, Many}
 use Rattle.c_grammar_symbols.specs.declared.words.Terminal.{Terminal}
 use Rattle.c_grammar_symbols.specs.declared.words.Terminal.TheVariants as terminal
@@ -22,13 +23,16 @@ use Rattle.c_grammar_tree.specs.declared.declaration.SpecifierKind.TheVariants a
 use Rattle.c_grammar_tree.specs.declared.declaration.Initializer.TheVariants as initializer
 use Rattle.c_grammar_tree.specs.declared.statement.Statement.{Statement}
 use Rattle.c_grammar_tree.specs.declared.statement.Statement.TheVariants as node
-use Rattle.c_grammar_tree.specs.Parts.{is_not, names}
-use Rattle.c_grammar_tree.specs.Parts.{specifies_locally, initializes, have_type}
+use Rattle.c_grammar_tree.specs.Parts.{is_not, names, names_type, types}
+use Rattle.c_grammar_tree.specs.Parts.{specifies_locally, initializes, have_part, have_word}
+use Rattle.c_grammar_tree.specs.Parts.{is_keyword}
 use Rattle.c_grammar_tree.specs.Parts.{bare_name}
 use Rattle.c_grammar_tree.specs.Parts.{name_layer}
 use Rattle.c_grammar_tree.specs.Nested.{Grammar}
 use Rattle.c_grammar_tree.specs.Expressions.{comma}
-use Rattle.c_grammar_tree.specs.Declarations.{identifier, specifier_at, specifiers, attribute}
+use Rattle.c_grammar_tree.specs.declared.declaration.Specifier.{Specifier}
+use Rattle.c_grammar_tree.specs.Declarations.{identifier, specifier_at, keywords, typedef_name_at}
+use Rattle.c_grammar_tree.specs.Declarations.{named_part, specifiers, attribute}
 use Rattle.c_grammar_tree.specs.Declarations.{attributes}
 use Rattle.c_grammar_tree.specs.Declarations.{comma_or_end_at, element, list, initializer_of, array}
 use Rattle.c_grammar_tree.specs.Declarations.{array_part, declarator_rest, declarator}
@@ -40,7 +44,7 @@ use Rattle.c_grammar_tree.specs.Statements.{statement}
 use Rattle.c_grammar_tree.specs.Statements.{item_by, item}
 use Rattle.c_grammar_tree.specs.Grammar.{grammar}
 use Rattle.c_grammar_plain.specs.Plain.{plain_text}
-use Rattle.c_grammar_spelling.specs.Spelling.{Piece, named, comma_or_not, any_attributes}
+use Rattle.c_grammar_spelling.specs.Spelling.{Piece, placed, named, comma_or_not, any_attributes}
 use Rattle.c_grammar_spelling.specs.Spelling.{mark, in_order, listed, ended, optional}
 use Rattle.c_grammar_spelling.specs.Spelling.{spelled_expression, spelled_specifier}
 use Rattle.c_grammar_spelling.specs.Spelling.{spelled_specifiers, spelled_array}
@@ -60,6 +64,7 @@ use Rattle.c_grammar_spelling.proofs.Spelt.{spelt_one, spelt_skip, spelt_opened,
 use Rattle.c_grammar_spelling.proofs.Spelt.{spelt_closed, spelt_pair, spelt_then, spelt_node_read}
 use Rattle.c_grammar_spelling.proofs.Spelt.{spelt_node, spelt_choice, spelt_many, spelt_some}
 use Rattle.c_grammar_spelling.proofs.Spelt.{spelt_perhaps, spelt_nearest, spelt_front}
+use Rattle.c_grammar_spelling.proofs.Spelt.{spelt_empty, spelt_cases, spelt_shaped}
 use Rattle.c_grammar_spelling.proofs.SpeltExpressions.{SpeltGrammar, is_mark, known_mark}
 use Rattle.c_grammar_spelling.proofs.SpeltExpressions.{spelt_comma}
 use Rattle.c_grammar_spelling.proofs.SpeltExpressions.{spelt_assignment, spelt_conditional}
@@ -106,14 +111,107 @@ spelt_specifier_at (symbol.TypeWord w) = spelt_node _ (spelt_one (symbol.TypeWor
     (λ x y e. ap (λ place. record { kind = kind.TypeWord w; place = place }) e))
 spelt_specifier_at _ = spelt_nothing
 
-pub spelt_specifiers : (class : Symbol → Bool) {left : ℕ} {behind : Look} →
-    Spelt Any (specifiers (λ leaf. class (symbol_of leaf))) spelled_specifiers left behind sharp
-unfolding specifiers
-spelt_specifiers class = spelt_node _
-    (spelt_some class {K = Any} (λ x e. tt) (spelt_choice (λ s. s) spelt_specifier_at)
-    have_type refl)
-    (λ words. at_place (λ x. refl)
-    (λ x y e. ap (λ place. record { words = words; place = place }) e))
+spelt_typedef_name_at : {left : ℕ} {behind : Look} (s : Symbol) →
+    Spelt (Is s) (typedef_name_at s) spelled_specifier left behind sharp
+unfolding typedef_name_at
+spelt_typedef_name_at (symbol.TypedefName t) = spelt_node _ (spelt_one (symbol.TypedefName t))
+    (λ u. at_place (λ x. refl)
+    (λ x y e. ap (λ place. record { kind = kind.TypedefName t; place = place }) e))
+spelt_typedef_name_at _ = spelt_nothing
+
+-- words of specifiers in two rows
+abbrev Rows : Type 0
+Rows = List Specifier × List Specifier
+
+abbrev spelled_rows : Rows → List Piece
+spelled_rows rows = in_order spelled_specifier rows.0 ++ in_order spelled_specifier rows.1
+
+both_rows : (xs ys : List Specifier) →
+    in_order spelled_specifier (xs ++ ys) ≡ spelled_rows (xs, ys)
+both_rows [] ys = refl
+both_rows (x ∷ xs) ys = ap (λ rest. spelled_specifier x ++ rest) (both_rows xs ys)
+    ∙ sym (append_assoc (spelled_specifier x) (in_order spelled_specifier xs)
+    (in_order spelled_specifier ys))
+
+abbrev goes_so : (Symbol → Bool) → Leaf → Bool
+goes_so class leaf = class (symbol_of leaf)
+
+abbrev any_words : (Symbol → Bool) → Form Leaf Rows
+any_words class =
+    Then (keywords (goes_so class)) (λ front. named_part (goes_so class) (have_word front))
+
+-- with a word of a type among the first
+abbrev typed_words : (Symbol → Bool) → Form Leaf Rows
+typed_words class = Pair (Shaped (λ words. have_part words && have_word words)
+    (Many (is_keyword (goes_so class)) (Choice symbol_of specifier_at)))
+    (Node (λ leaf u. []) Empty)
+
+-- with a typedef name
+abbrev untyped_words : (Symbol → Bool) → Form Leaf Rows
+untyped_words class = Pair (keywords (goes_so class)) (named_part (goes_so class) false)
+
+module _ (class : Symbol → Bool) {left : ℕ} where
+  spelt_typed : {behind : Look} → Spelt Any (typed_words class) spelled_rows left behind sharp
+  spelt_typed {behind} = spelt_pair {inner = behind}
+      (spelt_some (λ s. class s && not (names_type s)) {K = Any} (λ x e. tt)
+      (spelt_choice (λ s. s) spelt_specifier_at) (λ words. have_part words && have_word words) refl)
+      (spelt_empty refl)
+
+  spelt_keywords : Spelt Any (keywords (goes_so class)) (in_order spelled_specifier) left sharp sharp
+  unfolding keywords
+  spelt_keywords = spelt_shaped have_part (spelt_many (λ s. class s && not (names_type s)) {K = Any}
+      (λ x e. tt) (spelt_choice (λ s. s) spelt_specifier_at))
+
+  spelt_named_part : {behind : Look} →
+      Spelt Any (named_part (goes_so class) false) (in_order spelled_specifier) left behind sharp
+  unfolding named_part
+  spelt_named_part = spelt_node _ (spelt_pair (spelt_choice (λ s. s) spelt_typedef_name_at)
+      (spelt_many (λ s. (class s && not (names_type s)) && not (types s)) {K = Any} (λ x e. tt)
+      (spelt_choice (λ s. s) spelt_specifier_at)))
+      (λ parts. plainly (λ x. refl) (λ x y. refl))
+
+  to_typed : (w : World Leaf) (p : ℕ) (u : Rows) (q : ℕ) → have_word u.0 ≡ true →
+      any_words class w left p u q → typed_words class w left p u q
+  unfolding keywords named_part
+  to_typed w p u q e r = record {
+    middle = r.middle;
+    first = record { read = r.first.read; passes = and_from _ _ r.first.passes e };
+    second = subst (λ b. named_part (goes_so class) b w left r.middle u.1 q) e r.second;
+  }
+
+  from_typed : (w : World Leaf) (p : ℕ) (u : Rows) (q : ℕ) → have_word u.0 ≡ true →
+      typed_words class w left p u q → any_words class w left p u q
+  unfolding keywords named_part
+  from_typed w p u q e r = record {
+    middle = r.middle;
+    first = record { read = r.first.read; passes = (and_parts _ _ r.first.passes).0 };
+    second = subst (λ b. named_part (goes_so class) b w left r.middle u.1 q) (sym e) r.second;
+  }
+
+  to_untyped : (w : World Leaf) (p : ℕ) (u : Rows) (q : ℕ) → have_word u.0 ≡ false →
+      any_words class w left p u q → untyped_words class w left p u q
+  to_untyped w p u q e r = record {
+    middle = r.middle;
+    first = r.first;
+    second = subst (λ b. named_part (goes_so class) b w left r.middle u.1 q) e r.second;
+  }
+
+  from_untyped : (w : World Leaf) (p : ℕ) (u : Rows) (q : ℕ) → have_word u.0 ≡ false →
+      untyped_words class w left p u q → any_words class w left p u q
+  from_untyped w p u q e r = record {
+    middle = r.middle;
+    first = r.first;
+    second = subst (λ b. named_part (goes_so class) b w left r.middle u.1 q) (sym e) r.second;
+  }
+
+  pub spelt_specifiers : {behind : Look} →
+      Spelt Any (specifiers (goes_so class)) spelled_specifiers left behind sharp
+  unfolding specifiers
+  spelt_specifiers = spelt_node _
+      (spelt_cases (λ rows. have_word rows.0) (any_words class) to_typed from_typed to_untyped
+      from_untyped spelt_typed (spelt_pair {inner = sharp} spelt_keywords spelt_named_part))
+      (λ parts. at_place (λ x. ap (λ list. placed x.place ∷ list) (both_rows parts.0 parts.1))
+      (λ x y e. ap (λ place. record { words = parts.0 ++ parts.1; place = place }) e))
 
 -- attributes are the same in each text
 same_attribute : (at : ℕ → Leaf) (edge other left less p : ℕ) (u : Unit {0}) (q : ℕ) →

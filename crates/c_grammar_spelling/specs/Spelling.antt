@@ -20,6 +20,7 @@ use Rattle.c_grammar_tree.specs.declared.expression.Expression.TheFolds.{fold-Ex
 use Rattle.c_grammar_tree.specs.declared.expression.Expression.TheFolds.{fold-Suffix}
 use Rattle.c_grammar_tree.specs.declared.expression.Suffix.{Suffix}
 use Rattle.c_grammar_tree.specs.declared.expression.TypeName.{TypeName}
+use Rattle.c_grammar_tree.specs.declared.expression.TypeName.TheVariants as type_name
 use Rattle.c_grammar_tree.specs.declared.expression.UnaryOperator.{UnaryOperator}
 use Rattle.c_grammar_tree.specs.declared.expression.UnaryOperator.TheVariants as unary_operator
 use Rattle.c_grammar_tree.specs.declared.declaration.Specifier.{Specifier}
@@ -46,10 +47,10 @@ use Rattle.c_grammar_tree.specs.declared.item.Body.TheVariants as body
 use Rattle.c_grammar_tree.specs.declared.item.Item.{Item}
 use Rattle.c_grammar_tree.specs.declared.item.Item.TheVariants as item
 use Rattle.c_grammar_tree.specs.declared.item.Unit.{Unit as UnitTree}
-use Rattle.c_grammar_tree.specs.Parts.{name_of}
+use Rattle.c_grammar_tree.specs.Parts.{name_of, is_any_name}
 use Rattle.c_grammar_tree.specs.Expressions.{round_brackets}
 use Rattle.c_grammar_tree.specs.Declarations.{attributes}
-use Rattle.c_grammar_tree.specs.Items.{skipped_body}
+use Rattle.c_grammar_tree.specs.Items.{skipped_body, seen_behind}
 use Rattle.c_grammar_plain.specs.Plain.{plain_text}
 
 -- a piece of a spelling
@@ -60,6 +61,8 @@ pub data Piece : Type 0 where
   token : Symbol → Piece
   -- the identifier that this name is
   named : Name → Piece
+  -- the identifier or the typedef name that this name is
+  any_named : Name → Piece
   -- a comma, or none
   comma_or_not : Piece
   -- none or more attributes
@@ -76,6 +79,8 @@ Stands at (placed place) p q = ((at p).place ≡ place) × (q ≡ p)
 Stands at (token symbol) p q = (symbol_of (at p) ≡ symbol) × (q ≡ p + 1)
 Stands at (named name) p q =
     (symbol_of (at p) ≡ symbol.Name) × (name_of (at p) tt ≡ name) × (q ≡ p + 1)
+Stands at (any_named name) p q =
+    (is_any_name (at p) ≡ true) × (name_of (at p) tt ≡ name) × (q ≡ p + 1)
 Stands at comma_or_not p q =
     (q ≡ p) ⊎ ((symbol_of (at p) ≡ symbol.Terminal terminal.Comma) × (q ≡ p + 1))
 Stands at any_attributes p q = attributes (plain_text at 0) 0 p tt q
@@ -125,8 +130,10 @@ symbol_of_sign unary_operator.Complement = symbol.Terminal terminal.Tilde
 symbol_of_sign unary_operator.Not = symbol.Terminal terminal.Exclamation
 
 abbrev pub spelled_type_name : TypeName → List Piece
-spelled_type_name name =
-    placed name.place ∷ in_order (λ word. token (symbol.TypeWord word) ∷ []) name.words
+spelled_type_name (type_name.Words words place) =
+    placed place ∷ in_order (λ word. token (symbol.TypeWord word) ∷ []) words
+spelled_type_name (type_name.Typedef held place) =
+    placed place ∷ token (symbol.TypedefName held) ∷ []
 
 -- an operator and the operand behind it
 abbrev pub operated : {T : Type 0} → (T → List Piece) → BinaryOperator × T → List Piece
@@ -180,6 +187,7 @@ abbrev pub symbol_of_kind : SpecifierKind → Symbol
 symbol_of_kind (kind.Storage word) = symbol.Storage word
 symbol_of_kind (kind.Other word) = symbol.Specifier word
 symbol_of_kind (kind.TypeWord word) = symbol.TypeWord word
+symbol_of_kind (kind.TypedefName held) = symbol.TypedefName held
 
 abbrev pub spelled_specifier : Specifier → List Piece
 spelled_specifier word = placed word.place ∷ token (symbol_of_kind word.kind) ∷ []
@@ -286,6 +294,9 @@ spelled_body body.Skipped = mark terminal.LeftBrace ∷ any_body ∷ []
 -- an item (C11 6.9)
 abbrev pub spelled_item : Item → List Piece
 spelled_item (item.Empty place) = placed place ∷ mark terminal.Semicolon ∷ []
+spelled_item (item.Typedef front names place) = placed place ∷ mark terminal.Typedef ∷
+    (spelled_specifiers front ++
+    (listed (λ name. any_named name ∷ []) names ++ mark terminal.Semicolon ∷ []))
 spelled_item (item.Objects declaration) = spelled_declaration declaration
 spelled_item (item.Prototype specifiers declarator) = spelled_specifiers specifiers ++
     (named declarator.name ∷
@@ -293,11 +304,14 @@ spelled_item (item.Prototype specifiers declarator) = spelled_specifiers specifi
 spelled_item (item.Function specifiers declarator body) = spelled_specifiers specifiers ++
     (named declarator.name ∷ (spelled_function declarator.parameters ++ spelled_body body))
 
--- a whole text: its items and its end
-abbrev pub spelled : UnitTree → List Piece
-spelled unit = in_order spelled_item unit.items ++ token symbol.End ∷ []
+-- the tokens from p up to q are these items, each seen behind the items before it, and the end
+unfoldable pub SpellsItems : (ℕ → Leaf) → List Item → List Item → ℕ → ℕ → Type 0
+SpellsItems at done [] p q = Spells at (token symbol.End ∷ []) p q
+SpellsItems at done (one ∷ more) p q = (m : ℕ)
+    × (Spells (λ i. seen_behind done (at i)) (spelled_item one) p m
+    × SpellsItems at (done ++ one ∷ []) more m q)
 
 -- the tokens of the text are what the tree spells, and it has the text's length
 pub record IsSpelled (text : List ℕ) (tokens : List Token) (u : UnitTree) : Type 0 where
-  pub pieces : Spells (leaf_at (leaves text tokens)) (spelled u) 0 (length tokens)
+  pub pieces : SpellsItems (leaf_at (leaves text tokens)) [] u.items 0 (length tokens)
   pub length_is : u.length ≡ length text

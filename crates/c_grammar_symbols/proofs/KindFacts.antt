@@ -32,6 +32,7 @@ kind_tells (symbol.Step operator) = refl
 kind_tells (symbol.Storage word) = refl
 kind_tells (symbol.Specifier word) = refl
 kind_tells (symbol.TypeWord word) = refl
+kind_tells (symbol.TypedefName named) = tt
 kind_tells (symbol.Outside word) = refl
 kind_tells (symbol.Stray mark) = refl
 
@@ -48,6 +49,7 @@ terminal_told t (symbol.Step operator) = refl
 terminal_told t (symbol.Storage word) = refl
 terminal_told t (symbol.Specifier word) = refl
 terminal_told t (symbol.TypeWord word) = refl
+terminal_told t (symbol.TypedefName named) = refl
 terminal_told t (symbol.Outside word) = refl
 terminal_told t (symbol.Stray mark) = refl
 

@@ -123,7 +123,6 @@ spelled_outside_word outside_word.Struct = refl
 spelled_outside_word outside_word.Switch = refl
 spelled_outside_word outside_word.Case = refl
 spelled_outside_word outside_word.Default = refl
-spelled_outside_word outside_word.Typedef = refl
 spelled_outside_word outside_word.Union = refl
 spelled_outside_word outside_word.Volatile = refl
 spelled_outside_word outside_word.Asm = refl
@@ -162,6 +161,7 @@ spelled_terminal terminal.Goto = refl
 spelled_terminal terminal.Break = refl
 spelled_terminal terminal.Continue = refl
 spelled_terminal terminal.Return = refl
+spelled_terminal terminal.Typedef = refl
 spelled_terminal terminal.Attribute = refl
 
 -- a symbol that is no string literal

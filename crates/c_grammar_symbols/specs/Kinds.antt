@@ -11,7 +11,7 @@ use Rattle.c_grammar_symbols.specs.declared.kind.SymbolKind.{SymbolKind}
 use Rattle.c_grammar_symbols.specs.declared.kind.SymbolKind.TheVariants as kind
 use Rattle.c_grammar_symbols.specs.Symbols.{symbol_of, leaf_of}
 
--- the symbol, without the value of a constant
+-- the symbol, without the value of a constant or the type of a typedef name
 abbrev pub kind_of : Symbol → SymbolKind
 kind_of symbol.End = kind.End
 kind_of symbol.Name = kind.Name
@@ -25,10 +25,11 @@ kind_of (symbol.Step operator) = kind.Step operator
 kind_of (symbol.Storage word) = kind.Storage word
 kind_of (symbol.Specifier word) = kind.Specifier word
 kind_of (symbol.TypeWord word) = kind.TypeWord word
+kind_of (symbol.TypedefName named) = kind.Constant
 kind_of (symbol.Outside word) = kind.Outside word
 kind_of (symbol.Stray mark) = kind.Stray mark
 
--- the symbol of this kind, unless it is a constant
+-- the symbol of this kind, unless it is a constant or a typedef name
 abbrev pub symbol_of_kind : SymbolKind → Option Symbol
 symbol_of_kind kind.End = Some symbol.End
 symbol_of_kind kind.Name = Some symbol.Name

@@ -22,9 +22,9 @@ use Rattle.c_grammar_symbols.specs.Spelling.{spelling_of_specifier_word, spellin
 use Rattle.c_grammar_symbols.specs.Spelling.{spelling_of_outside_word, spelling_of_terminal}
 use Rattle.c_grammar_symbols.specs.Spelling.{spelling_of_stray_mark}
 
--- a token with its bytes and the place where it stands
+-- a token: what it stands for, its bytes and the place where it stands
 pub record Leaf : Type 0 where
-  pub kind : TokenKind
+  pub symbol : Symbol
   pub bytes : List ℕ
   pub place : ℕ
 
@@ -52,6 +52,7 @@ kind_of_terminal terminal.Goto = kind.Word
 kind_of_terminal terminal.Break = kind.Word
 kind_of_terminal terminal.Continue = kind.Word
 kind_of_terminal terminal.Return = kind.Word
+kind_of_terminal terminal.Typedef = kind.Word
 kind_of_terminal terminal.Attribute = kind.Word
 kind_of_terminal _ = kind.Mark
 
@@ -76,11 +77,15 @@ symbol_spelled kind.End bytes = End
 
 -- what a token stands for
 abbrev pub symbol_of : Leaf → Symbol
-symbol_of leaf = symbol_spelled leaf.kind leaf.bytes
+symbol_of leaf = leaf.symbol
 
--- a token of the text with its bytes and its place
+-- a token of the text with its bytes and its place, and what it stands for where no name is declared
 abbrev pub leaf_of : List ℕ → Token → Leaf
-leaf_of text token = record { kind = token.kind; bytes = bytes_at text token; place = token.from }
+leaf_of text token = record {
+  symbol = symbol_spelled token.kind (bytes_at text token);
+  bytes = bytes_at text token;
+  place = token.from;
+}
 
 -- the text's tokens so
 abbrev pub leaves : List ℕ → List Token → List Leaf

@@ -12,7 +12,7 @@ use crate::words::{OutsideWord, SpecifierWord, StorageWord, StrayMark, Terminal,
 pub(crate) enum SymbolKind {
     End,
     Name,
-    /// An integer or a character constant.
+    /// A constant, or a typedef name: what it is besides is not kept.
     Constant,
     Text,
     Terminal(Terminal),
@@ -34,7 +34,9 @@ impl SymbolKind {
         match symbol {
             Symbol::End => SymbolKind::End,
             Symbol::Name => SymbolKind::Name,
-            Symbol::Number { .. } | Symbol::Character { .. } => SymbolKind::Constant,
+            Symbol::Number { .. } | Symbol::Character { .. } | Symbol::TypedefName(_) => {
+                SymbolKind::Constant
+            }
             Symbol::Text => SymbolKind::Text,
             Symbol::Terminal(terminal) => SymbolKind::Terminal(terminal),
             Symbol::Binary(operator) => SymbolKind::Binary(operator),
@@ -48,7 +50,7 @@ impl SymbolKind {
         }
     }
 
-    /// The symbol, unless it is a constant.
+    /// The symbol, unless it is a constant or a typedef name.
     pub(crate) fn symbol(self) -> Option<Symbol>
         ensures { result ≡ symbol_of_kind self }
     {

@@ -5,15 +5,19 @@
 mod kind;
 mod laws;
 mod lookup;
+mod named;
 mod operators;
 mod source;
 mod symbol;
+mod tokens;
+mod typedefs;
 mod words;
 
 pub use laws::{
     keywords_stand_for_themselves, marks_are_no_text, marks_stand_for_themselves,
     terminals_stand_for_themselves, tokens_are_a_source,
 };
+pub use named::{NamedType, Size};
 pub use operators::{AssignmentOperator, BinaryOperator, StepOperator};
 pub use source::Source;
 pub use symbol::{MARKS, Symbol, WORDS, classify, spelling};

@@ -1,56 +1,61 @@
-//! The tokens of a text as a reader sees them: symbols, bytes and places by number. Contracts see
-//! them as the list of `Leaf`s. The symbol of each token is found once and kept beside it, since a
-//! reader asks for it at each level of the grammar.
-ghost use Rattle.std.specs.Prelude.{◌≡◌, ◌≢◌, ◌+◌, ◌<◌, ◌≤◌, length, Some, IsTrue, IfOk};
+//! The tokens of a text as a reader sees them behind some declarations: a name that one of them has
+//! made a typedef name is none any more. Contracts see them as the list of `Leaf`s, which
+//! `declare` changes (`renamed` of `specs/Sources.antt`). Proved with `proofs/Seen`.
+ghost use Rattle.std.specs.Prelude.{◌≡◌, ◌≢◌, ◌<◌, length, map, IsTrue, IfOk, OnOk, OnErr};
 ghost use Rattle.std.specs.Prelude.{MatchResult};
-ghost use Rattle.std.specs.List.{slice_get};
-ghost use Rattle.c_lexer.specs.Lexemes.{bytes_at};
-ghost use Rattle.c_grammar_symbols.specs.Kinds.{kind_of, kinds_of};
 ghost use Rattle.c_grammar_symbols.specs.Symbols.{symbol_of, leaves};
-ghost use Rattle.c_grammar_symbols.specs.Sources.{leaf_at, is, IsSource, GoesOn};
+ghost use Rattle.c_grammar_symbols.specs.Sources.{leaf_at, is, IsSource, GoesOn, renamed};
 ghost use Rattle.c_grammar_symbols.specs.Sources.{Takes, Lacks};
 ghost use Rattle.c_grammar_symbols.specs.declared.symbol.Symbol.TheVariants.{End};
 
-use crate::kind::SymbolKind;
-use crate::symbol::{Symbol, classify};
+use crate::named::NamedType;
+use crate::symbol::Symbol;
+use crate::tokens::TokenList;
+use crate::typedefs::{Typedefs, declare, symbol_named};
 use crate::words::Terminal;
 use c_grammar_forms::ReadError;
 use c_lexer::Token;
 use std::alloc::{AllocError, Global};
+use std::collections::HashMap;
 use std::marker::Model;
 
-/// The tokens of a text, with the text and what the tokens stand for.
+/// The tokens of a text, and the typedef names that are declared so far.
 #[derive(Drop)]
 pub struct Source<'a> {
-    text: &'a [u8],
-    tokens: &'a [Token],
-    kinds: Vec<SymbolKind>,
+    tokens: TokenList<'a>,
+    typedefs: Typedefs,
 }
 
 impl<'a> Model for Source<'a> {
-    ghost use Rattle.std.specs.Prelude.{List};
-    ghost use Rattle.c_grammar_symbols.specs.Symbols.{Leaf, leaves};
-    ghost use Rattle.c_grammar_symbols.specs.Sources.{IsKept};
+    ghost use Rattle.std.specs.Prelude.{List, map};
+    ghost use Rattle.c_grammar_symbols.specs.Symbols.{Leaf};
+    ghost use Rattle.c_grammar_symbols.specs.Sources.{seen_by, type_named};
 
     ghost Value = { List Leaf };
 
-    ghost view = { λ s. leaves s.text.now s.tokens.now };
-
-    ghost invariant = { λ s. IsKept s.text.now s.tokens.now s.kinds.items };
+    ghost view = { λ s. map (seen_by (type_named s.typedefs)) s.tokens };
 }
 
 impl<'a> Source<'a> {
-    /// The tokens of this text. One pass; two bytes of memory for each token.
+    /// The tokens of this text, where no name is declared. One pass; two bytes of memory for each
+    /// token.
     pub fn new(alloc: Global, text: &'a [u8], tokens: &'a [Token]) -> Result<Source<'a>, AllocError>
         requires { IsSource text.now tokens.now }
         ensures { IfOk result (λ source. source ≡ leaves text.now tokens.now) }
     {
-        let kinds = kinds_of(alloc, text, tokens)?;
         Ok(Source {
-            text,
-            tokens,
-            kinds,
+            tokens: TokenList::new(alloc, text, tokens)?,
+            typedefs: HashMap::new(alloc),
         })
+    }
+
+    /// Makes a name a typedef name of this type from here on, unless it is one. Where memory runs
+    /// out, it stays a name.
+    pub fn declare(&mut self, alloc: Global, name: &[u8], ty: NamedType) -> Result<(), AllocError>
+        ensures declared { OnOk result (self.new ≡ map (renamed name.now ty) self.old) }
+        ensures kept { OnErr result (self.new ≡ self.old) }
+    {
+        declare(alloc, &mut self.typedefs, name, ty)
     }
 
     /// What the token at this place stands for.
@@ -59,29 +64,11 @@ impl<'a> Source<'a> {
         ensures value { result ≡ symbol_of (leaf_at self.now at) }
         ensures more { result ≢ End → GoesOn self.now at }
     {
-        match self.kind_at(at).symbol() {
-            Some(symbol) => symbol,
-            None => self.classified_at(at),
+        let symbol = self.tokens.symbol(at);
+        match symbol {
+            Symbol::Name => symbol_named(&self.typedefs, self.tokens.bytes(at)),
+            _ => symbol,
         }
-    }
-
-    /// The kind of the symbol of the token at this place.
-    fn kind_at(&self, at: usize) -> SymbolKind
-        requires { at < length self.now }
-        ensures value { result ≡ kind_of (symbol_of (leaf_at self.now at)) }
-        ensures more { symbol_of (leaf_at self.now at) ≢ End → GoesOn self.now at }
-    {
-        let _count = self.tokens.len();
-        self.kinds[at]
-    }
-
-    /// What the token at this place stands for, found from its bytes.
-    fn classified_at(&self, at: usize) -> Symbol
-        requires { at < length self.now }
-        ensures { result ≡ symbol_of (leaf_at self.now at) }
-    {
-        let token = token_at(self.tokens, at);
-        classify(token.kind, bytes_of(self.text, token))
     }
 
     /// The place in the text of the token at this place.
@@ -89,7 +76,7 @@ impl<'a> Source<'a> {
         requires { at < length self.now }
         ensures { result ≡ (leaf_at self.now at).place }
     {
-        token_at(self.tokens, at).from
+        self.tokens.place(at)
     }
 
     /// The bytes of the token at this place.
@@ -97,7 +84,7 @@ impl<'a> Source<'a> {
         requires { at < length self.now }
         ensures { result.now ≡ (leaf_at self.now at).bytes }
     {
-        bytes_of(self.text, token_at(self.tokens, at))
+        self.tokens.bytes(at)
     }
 
     /// Whether the token at this place is this terminal.
@@ -106,7 +93,7 @@ impl<'a> Source<'a> {
         ensures value { result ≡ is terminal (leaf_at self.now at) }
         ensures more { IsTrue result → GoesOn self.now at }
     {
-        self.kind_at(at).is_terminal(terminal)
+        self.tokens.is(at, terminal)
     }
 
     /// The place behind this terminal, which is to stand here.
@@ -120,34 +107,4 @@ impl<'a> Source<'a> {
             Err(ReadError::Unexpected { at })
         }
     }
-}
-
-/// The kind of each token's symbol, in order.
-fn kinds_of(alloc: Global, text: &[u8], tokens: &[Token]) -> Result<Vec<SymbolKind>, AllocError>
-    requires { IsSource text.now tokens.now }
-    ensures { IfOk result (λ kinds. kinds.items ≡ kinds_of text.now tokens.now) }
-{
-    let mut kinds = Vec::with_capacity(alloc, tokens.len())?;
-    for token in tokens {
-        let symbol = classify(token.kind, bytes_of(text, *token));
-        kinds.push(SymbolKind::of(symbol))?;
-    }
-    Ok(kinds)
-}
-
-/// The token at this place.
-fn token_at(tokens: &[Token], at: usize) -> Token
-    requires { at < length tokens.now }
-    ensures { slice_get tokens.now at ≡ Some result }
-{
-    tokens[at]
-}
-
-/// The bytes of a token of the text.
-fn bytes_of(text: &[u8], token: Token) -> &[u8]
-    requires start { token.from ≤ token.to }
-    requires end { token.to ≤ length text.now }
-    ensures { result.now ≡ bytes_at text.now token }
-{
-    &text[token.from as usize..token.to as usize]
 }

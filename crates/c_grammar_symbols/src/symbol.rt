@@ -4,6 +4,7 @@ ghost use Rattle.std.specs.Prelude.{◌≡◌};
 ghost use Rattle.c_grammar_symbols.specs.Symbols.{spelling_of, symbol_spelled};
 
 use crate::lookup::{mark_spelled, word_spelled};
+use crate::named::NamedType;
 use crate::operators::{AssignmentOperator, BinaryOperator, StepOperator};
 use crate::words::{OutsideWord, SpecifierWord, StorageWord, StrayMark, Terminal, TypeWord};
 use c_lexer::TokenKind;
@@ -29,6 +30,8 @@ pub enum Symbol {
     Storage(StorageWord),
     Specifier(SpecifierWord),
     TypeWord(TypeWord),
+    /// A name that a declaration in front of it has made a typedef name.
+    TypedefName(NamedType),
     Outside(OutsideWord),
     Stray(StrayMark),
 }
@@ -79,7 +82,7 @@ pub const WORDS: [Symbol; 51] = [
     Symbol::Outside(OutsideWord::Switch),
     Symbol::Outside(OutsideWord::Case),
     Symbol::Outside(OutsideWord::Default),
-    Symbol::Outside(OutsideWord::Typedef),
+    Symbol::Terminal(Terminal::Typedef),
     Symbol::Outside(OutsideWord::Union),
     Symbol::Outside(OutsideWord::Volatile),
     Symbol::Outside(OutsideWord::Asm),
@@ -156,7 +159,8 @@ pub fn spelling(symbol: Symbol) -> &'static [u8]
         | Symbol::Name
         | Symbol::Number { .. }
         | Symbol::Character { .. }
-        | Symbol::Text => b"",
+        | Symbol::Text
+        | Symbol::TypedefName(_) => b"",
     }
 }
 

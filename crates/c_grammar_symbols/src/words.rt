@@ -139,8 +139,6 @@ pub enum OutsideWord {
     Case,
     /// `default`
     Default,
-    /// `typedef`
-    Typedef,
     /// `union`
     Union,
     /// `volatile`
@@ -179,7 +177,6 @@ impl OutsideWord {
             OutsideWord::Switch => b"switch",
             OutsideWord::Case => b"case",
             OutsideWord::Default => b"default",
-            OutsideWord::Typedef => b"typedef",
             OutsideWord::Union => b"union",
             OutsideWord::Volatile => b"volatile",
             OutsideWord::Asm => b"asm",
@@ -235,6 +232,8 @@ pub enum Terminal {
     Continue,
     /// `return`
     Return,
+    /// `typedef`
+    Typedef,
     /// `__attribute__`
     Attribute,
 }
@@ -266,6 +265,7 @@ impl Terminal {
             Terminal::Break => b"break",
             Terminal::Continue => b"continue",
             Terminal::Return => b"return",
+            Terminal::Typedef => b"typedef",
             Terminal::Attribute => b"__attribute__",
         }
     }

@@ -1,5 +1,5 @@
 -- The grammar of declarations (C11 6.7).
-use Rattle.std.specs.Prelude.{Bool, true, false, List, Option, is_some}
+use Rattle.std.specs.Prelude.{Bool, true, false, List, [], ◌++◌, Option, is_some}
 use Rattle.c_grammar_forms.specs.Forms.{Form, Nothing, One, Such, Empty, Skip, Behind, Before, Pair}
 use Rattle.c_grammar_forms.specs.Forms.{Then, Node, Shaped, Deeper, Choice, Many, Perhaps, listed}
 use Rattle.c_grammar_symbols.specs.declared.words.Terminal.TheVariants as terminal
@@ -19,7 +19,7 @@ use Rattle.c_grammar_tree.specs.declared.declaration.Declarator.{Declarator}
 use Rattle.c_grammar_tree.specs.declared.declaration.Declaration.{Declaration}
 use Rattle.c_grammar_tree.specs.Parts.{is_not, is_name, name_of, is_local_specifier}
 use Rattle.c_grammar_tree.specs.Parts.{is_initializing}
-use Rattle.c_grammar_tree.specs.Parts.{have_type}
+use Rattle.c_grammar_tree.specs.Parts.{have_part, have_word, is_keyword, is_no_type}
 use Rattle.c_grammar_tree.specs.Nested.{Grammar}
 use Rattle.c_grammar_tree.specs.Expressions.{round_brackets}
 
@@ -37,11 +37,28 @@ specifier_at (symbol.TypeWord word) =
     Node (λ leaf u. record { kind = kind.TypeWord word; place = leaf.place }) One
 specifier_at _ = Nothing
 
--- words of specifiers, among them those of one type; `goes` says which words may stand there (C11
--- 6.7p1 and 6.7.2)
+-- keywords of specifiers, among them some of the words of one type, or none
+unfoldable pub keywords : (Leaf → Bool) → Form Leaf (List Specifier)
+keywords goes = Shaped have_part (Many (is_keyword goes) (Choice symbol_of specifier_at))
+
+-- a typedef name
+unfoldable pub typedef_name_at : Symbol → Form Leaf Specifier
+typedef_name_at (symbol.TypedefName named) =
+    Node (λ leaf u. record { kind = kind.TypedefName named; place = leaf.place }) One
+typedef_name_at _ = Nothing
+
+-- behind keywords: nothing, where a word of a type is among them ; a typedef name and keywords that
+-- are no words of types
+unfoldable pub named_part : (Leaf → Bool) → Bool → Form Leaf (List Specifier)
+named_part goes true = Node (λ leaf u. []) Empty
+named_part goes false = Node listed (Pair (Choice symbol_of typedef_name_at)
+    (Many (is_no_type goes) (Choice symbol_of specifier_at)))
+
+-- words of specifiers, among them those of one type, or a typedef name; `goes` says which words may
+-- stand there (C11 6.7p1 and 6.7.2). A typedef name behind words of a type is none of them
 unfoldable pub specifiers : (Leaf → Bool) → Form Leaf Specifiers
-specifiers goes = Node (λ leaf words. record { words = words; place = leaf.place })
-    (Shaped have_type (Many goes (Choice symbol_of specifier_at)))
+specifiers goes = Node (λ leaf parts. record { words = parts.0 ++ parts.1; place = leaf.place })
+    (Then (keywords goes) (λ front. named_part goes (have_word front)))
 
 -- "__attribute__" "(" "(" tokens with balanced round brackets ")" ")", an extension of GNU C
 unfoldable pub attribute : Form Leaf (Unit {0})

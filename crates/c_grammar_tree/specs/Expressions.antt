@@ -16,6 +16,7 @@ use Rattle.c_grammar_tree.specs.declared.expression.Expression.TheVariants as ex
 use Rattle.c_grammar_tree.specs.declared.expression.UnaryOperator.{UnaryOperator}
 use Rattle.c_grammar_tree.specs.declared.expression.UnaryOperator.TheVariants as unary_operator
 use Rattle.c_grammar_tree.specs.declared.expression.TypeName.{TypeName}
+use Rattle.c_grammar_tree.specs.declared.expression.TypeName.TheVariants as type_name'
 use Rattle.c_grammar_tree.specs.declared.expression.Suffix.{Suffix}
 use Rattle.c_grammar_tree.specs.declared.expression.Suffix.TheVariants as suffix
 use Rattle.c_grammar_tree.specs.Parts.{is_not, name_of, is_operator, is_assignment, is_type_word}
@@ -154,16 +155,29 @@ unfoldable pub type_word_at : Symbol → Form Leaf TypeWord
 type_word_at (symbol.TypeWord word) = Node (λ leaf u. word) One
 type_word_at _ = Nothing
 
--- the words of one type, without qualifiers (C11 6.7.7 in part)
-unfoldable pub type_name : Form Leaf TypeName
-type_name = Node (λ leaf words. record { words = words; place = leaf.place })
+-- the words of one type, without qualifiers
+unfoldable pub words_of_type : Form Leaf TypeName
+words_of_type = Node (λ leaf words. type_name'.Words words leaf.place)
     (Shaped is_type (Many is_type_word (Choice symbol_of type_word_at)))
+
+-- a typedef name ; the words of one type (C11 6.7.7 in part)
+unfoldable pub type_name_at : Symbol → Form Leaf TypeName
+type_name_at (symbol.TypedefName named) =
+    Node (λ leaf u. type_name'.Typedef named leaf.place) One
+type_name_at _ = words_of_type
+
+unfoldable pub type_name : Form Leaf TypeName
+type_name = Choice symbol_of type_name_at
+
+-- type ")" cast
+abbrev pub cast_part : Grammar → Form Leaf Group
+cast_part G = Node (λ leaf parts. cast_group parts.0 parts.1)
+    (Pair (Before (Deeper type_name) (is terminal.RightParen)) (Deeper G.cast))
 
 -- behind "(": type words ")" cast ; comma ")" {suffix} (C11 6.5.4)
 unfoldable pub group_at : Grammar → Symbol → Form Leaf Group
-group_at G (symbol.TypeWord word) =
-    Node (λ leaf parts. cast_group parts.0 parts.1)
-    (Pair (Before (Deeper type_name) (is terminal.RightParen)) (Deeper G.cast))
+group_at G (symbol.TypeWord word) = cast_part G
+group_at G (symbol.TypedefName named) = cast_part G
 group_at G _ =
     Node (λ leaf parts. bracket_group parts.0 parts.1)
     (Then (Before (Deeper G.comma) (is terminal.RightParen))

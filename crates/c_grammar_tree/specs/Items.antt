@@ -1,16 +1,17 @@
 -- The grammar of items (C11 6.9).
 use Rattle.std.specs.Prelude.{ℕ, Bool, true, false, not, ◌&&◌, List, [], ◌∷◌, Option, None, Some}
-use Rattle.std.specs.Prelude.{codes}
-use Rattle.std.specs.List.{list_any}
+use Rattle.std.specs.Prelude.{codes, map}
+use Rattle.std.specs.List.{list_any, flat_map}
 use Rattle.std.specs.Str.{bytes_eq}
-use Rattle.c_grammar_forms.specs.Forms.{Form, Nothing, One, Skip, Before, Pair, Then, Node, Deeper}
-use Rattle.c_grammar_forms.specs.Forms.{Choice, Many, Perhaps, Balanced, listed}
+use Rattle.c_grammar_forms.specs.Forms.{Form, Nothing, One, Such, Skip, Before, Pair, Then, Node}
+use Rattle.c_grammar_forms.specs.Forms.{Deeper, Choice, Many, ManySeen, Perhaps, Balanced, listed}
 use Rattle.c_grammar_symbols.specs.declared.words.Terminal.TheVariants as terminal
 use Rattle.c_grammar_symbols.specs.declared.words.TypeWord.TheVariants as word
 use Rattle.c_grammar_symbols.specs.declared.symbol.Symbol.{Symbol}
 use Rattle.c_grammar_symbols.specs.declared.symbol.Symbol.TheVariants as symbol
 use Rattle.c_grammar_symbols.specs.Symbols.{Leaf, symbol_of}
-use Rattle.c_grammar_symbols.specs.Sources.{is}
+use Rattle.c_grammar_symbols.specs.declared.named.NamedType.{NamedType}
+use Rattle.c_grammar_symbols.specs.Sources.{is, renamed}
 use Rattle.c_grammar_tree.specs.declared.name.Name.{Name}
 use Rattle.c_grammar_tree.specs.declared.declaration.Specifier.{Specifier}
 use Rattle.c_grammar_tree.specs.declared.declaration.SpecifierKind.{SpecifierKind}
@@ -24,7 +25,8 @@ use Rattle.c_grammar_tree.specs.declared.item.Body.{Body}
 use Rattle.c_grammar_tree.specs.declared.item.Body.TheVariants as body
 use Rattle.c_grammar_tree.specs.declared.item.Item.{Item}
 use Rattle.c_grammar_tree.specs.declared.item.Item.TheVariants as node
-use Rattle.c_grammar_tree.specs.Parts.{is_not, is_name, is_end, points, is_specifier, have_char}
+use Rattle.c_grammar_tree.specs.Parts.{is_not, is_name, name_of, is_any_name, is_end, points}
+use Rattle.c_grammar_tree.specs.Parts.{is_specifier, is_typedef_specifier, have_char, named_type}
 use Rattle.c_grammar_tree.specs.Nested.{Grammar}
 use Rattle.c_grammar_tree.specs.Declarations.{identifier, specifiers, attributes, Rest}
 use Rattle.c_grammar_tree.specs.Declarations.{declarator_of}
@@ -137,16 +139,48 @@ declared_at G symbol.Name =
     Node (λ leaf parts. Some parts) (Then identifier (λ name. Choice symbol_of (named_at G name)))
 declared_at G _ = Nothing
 
--- ";" ; specifiers [declarator {"," declarator}] ";" ; specifiers function ";" ; specifiers
--- function body (C11 6.9)
+-- a name that is to be a typedef name, which it may be already
+unfoldable pub typedef_name : Form Leaf Name
+typedef_name = Node name_of (Such is_any_name)
+
+-- name {"," name}
+unfoldable pub typedef_names : Form Leaf (List Name)
+typedef_names = Node listed (Pair typedef_name (Many (is terminal.Comma) (Skip typedef_name)))
+
+-- ";" ; "typedef" specifiers name {"," name} ";" ; specifiers [declarator {"," declarator}] ";" ;
+-- specifiers function ";" ; specifiers function body (C11 6.9, and 6.7.8 in part)
 unfoldable pub unit_item_at : Grammar → Symbol → Form Leaf Item
 unit_item_at G (symbol.Terminal terminal.Semicolon) = Node (λ leaf u. node.Empty leaf.place) One
+unit_item_at G (symbol.Terminal terminal.Typedef) =
+    Node (λ leaf parts. node.Typedef parts.0 parts.1 leaf.place)
+    (Skip (Pair (specifiers is_typedef_specifier)
+    (Before typedef_names (is terminal.Semicolon))))
 unit_item_at G _ = Node (λ leaf parts. declared_of parts.0 parts.1)
     (Pair (specifiers is_specifier) (Choice symbol_of (declared_at G)))
 
 unfoldable pub unit_item : Grammar → Form Leaf Item
 unit_item G = Choice symbol_of (unit_item_at G)
 
+-- the names that an item makes typedef names, and what they stand for (C11 6.7.8p3)
+abbrev pub typedefs_in : Item → List (List ℕ × NamedType)
+typedefs_in (node.Typedef front declared place) =
+    map (λ name. (name.bytes, named_type front.words)) declared
+typedefs_in _ = []
+
+-- a token, seen behind these declarations of typedef names
+abbrev pub behind_typedefs : List (List ℕ × NamedType) → Leaf → Leaf
+behind_typedefs [] leaf = leaf
+behind_typedefs (one ∷ more) leaf = behind_typedefs more (renamed one.0 one.1 leaf)
+
+-- a token, seen behind these items: a name that one of them declares with typedef is a typedef name
+-- (C11 6.2.1p7), and it stays one. Within an item this makes no difference
+abbrev pub seen_behind : List Item → Leaf → Leaf
+seen_behind items = behind_typedefs (flat_map typedefs_in items)
+
+-- {item} before the end, each read in the text as it is seen behind the items before it
+abbrev pub unit_items_behind : Grammar → List Item → Form Leaf (List Item)
+unit_items_behind G = ManySeen seen_behind (λ leaf. not (is_end leaf)) (unit_item G)
+
 -- {item} End (C11 6.9)
 unfoldable pub unit_items : Grammar → Form Leaf (List Item)
-unit_items G = Before (Many (λ leaf. not (is_end leaf)) (unit_item G)) is_end
+unit_items G = Before (unit_items_behind G []) is_end

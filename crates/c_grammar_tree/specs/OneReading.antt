@@ -18,7 +18,9 @@ use Rattle.c_grammar_tree.specs.Nested.{Grammar}
 use Rattle.c_grammar_tree.specs.Expressions.{round_brackets, assignments, arguments, suffix_at}
 use Rattle.c_grammar_tree.specs.Expressions.{skipped_call, suffixes, primary_at, postfix, sign}
 use Rattle.c_grammar_tree.specs.Expressions.{unary_at}
-use Rattle.c_grammar_tree.specs.Expressions.{unary, type_word_at, type_name, group_at, cast_at}
+use Rattle.c_grammar_tree.specs.Expressions.{unary, type_word_at, words_of_type, type_name_at}
+use Rattle.c_grammar_tree.specs.Expressions.{type_name, cast_part, group_at}
+use Rattle.c_grammar_tree.specs.Expressions.{cast_at}
 use Rattle.c_grammar_tree.specs.Expressions.{cast}
 use Rattle.c_grammar_tree.specs.Expressions.{operand_at, operand, chain, conditional, right_side_at}
 use Rattle.c_grammar_tree.specs.Expressions.{assignment, comma}
@@ -47,10 +49,19 @@ unfolding type_word_at
 good_type_word_at (symbol.TypeWord word) = good_node _ good_one
 good_type_word_at _ = good_nothing
 
+pub good_words_of_type : Good words_of_type words_of_type
+unfolding words_of_type
+good_words_of_type = good_node _ (good_shaped is_type (good_many is_type_word
+    (good_choice symbol_of good_type_word_at)))
+
+good_type_name_at : (s : Symbol) → Good (type_name_at s) (type_name_at s)
+unfolding type_name_at
+good_type_name_at (symbol.TypedefName named) = good_node _ good_one
+good_type_name_at _ = good_words_of_type
+
 pub good_type_name : Good type_name type_name
 unfolding type_name
-good_type_name = good_node _ (good_shaped is_type (good_many is_type_word
-    (good_choice symbol_of good_type_word_at)))
+good_type_name = good_choice symbol_of good_type_name_at
 
 good_operand_at : {A B : Form Leaf Expression} → Good A B → (s : Symbol) →
     Good (operand_at A s) (operand_at B s)
@@ -113,10 +124,14 @@ module _ (G H : Grammar) (g : GoodGrammar G H) where
   unfolding unary
   good_unary = good_choice symbol_of good_unary_at
 
+  good_cast_part : Good (cast_part G) (cast_part H)
+  good_cast_part =
+      good_node _ (good_pair (good_before (good_deeper good_type_name) _) (good_deeper g.cast))
+
   pub good_group_at : (s : Symbol) → Good (group_at G s) (group_at H s)
   unfolding group_at
-  good_group_at (symbol.TypeWord word) =
-      good_node _ (good_pair (good_before (good_deeper good_type_name) _) (good_deeper g.cast))
+  good_group_at (symbol.TypeWord word) = good_cast_part
+  good_group_at (symbol.TypedefName named) = good_cast_part
   good_group_at _ = good_node _ (good_then (good_before (good_deeper g.comma) _)
       (λ inner. good_suffixes (names_assert inner)))
 

@@ -1,19 +1,20 @@
 -- Lemmas: the same of declarations, statements and items, and of the grammar at each two depths.
-use Rattle.std.specs.Prelude.{ℕ, zero, suc, Bool, true, false, is_some, Option, Some}
+use Rattle.std.specs.Prelude.{ℕ, zero, suc, Bool, true, false, [], is_some, Option, Some}
 use Rattle.c_grammar_forms.specs.Steady.{Good, good_nothing, good_one, good_such, good_empty}
 use Rattle.c_grammar_forms.specs.Steady.{good_skip, good_behind, good_before, good_pair, good_then}
 use Rattle.c_grammar_forms.specs.Steady.{good_node, good_shaped, good_deeper, good_choice}
 use Rattle.c_grammar_forms.specs.Steady.{good_perhaps, good_nearest, good_many, good_balanced}
-use Rattle.c_grammar_forms.specs.Steady.{good_against_nothing}
+use Rattle.c_grammar_forms.specs.Steady.{good_against_nothing, good_many_seen}
 use Rattle.c_grammar_symbols.specs.declared.words.Terminal.{Terminal}
 use Rattle.c_grammar_symbols.specs.declared.words.Terminal.TheVariants as terminal
 use Rattle.c_grammar_symbols.specs.declared.symbol.Symbol.{Symbol}
 use Rattle.c_grammar_symbols.specs.declared.symbol.Symbol.TheVariants as symbol
 use Rattle.c_grammar_symbols.specs.Symbols.{Leaf, symbol_of}
 use Rattle.c_grammar_tree.specs.declared.name.Name.{Name}
-use Rattle.c_grammar_tree.specs.Parts.{bare_name, is_local_specifier}
+use Rattle.c_grammar_tree.specs.Parts.{bare_name, is_local_specifier, have_word}
 use Rattle.c_grammar_tree.specs.Nested.{Grammar}
-use Rattle.c_grammar_tree.specs.Declarations.{identifier, specifier_at, specifiers, attribute}
+use Rattle.c_grammar_tree.specs.Declarations.{identifier, specifier_at, keywords}
+use Rattle.c_grammar_tree.specs.Declarations.{typedef_name_at, named_part, specifiers, attribute}
 use Rattle.c_grammar_tree.specs.Declarations.{attributes}
 use Rattle.c_grammar_tree.specs.Declarations.{comma_or_end_at, element, list, initializer_of, array}
 use Rattle.c_grammar_tree.specs.Declarations.{array_part, declarator_rest, declarator}
@@ -25,6 +26,7 @@ use Rattle.c_grammar_tree.specs.Items.{is_known, have_pointer, parameter, parame
 use Rattle.c_grammar_tree.specs.Items.{function_rest}
 use Rattle.c_grammar_tree.specs.Items.{skipped_body, body_of, function_end_at, named_at}
 use Rattle.c_grammar_tree.specs.Items.{declared_at}
+use Rattle.c_grammar_tree.specs.Items.{typedef_name, typedef_names, seen_behind}
 use Rattle.c_grammar_tree.specs.Items.{unit_item_at, unit_item, unit_items}
 use Rattle.c_grammar_tree.specs.Grammar.{grammar}
 use Rattle.c_grammar_tree.specs.OneReading.{GoodGrammar, good_round_brackets, good_comma}
@@ -42,10 +44,26 @@ good_specifier_at (symbol.Specifier word) = good_node _ good_one
 good_specifier_at (symbol.TypeWord word) = good_node _ good_one
 good_specifier_at _ = good_nothing
 
+pub good_keywords : (goes : Leaf → Bool) → Good (keywords goes) (keywords goes)
+unfolding keywords
+good_keywords goes = good_shaped _ (good_many _ (good_choice symbol_of good_specifier_at))
+
+pub good_typedef_name_at : (s : Symbol) → Good (typedef_name_at s) (typedef_name_at s)
+unfolding typedef_name_at
+good_typedef_name_at (symbol.TypedefName named) = good_node _ good_one
+good_typedef_name_at _ = good_nothing
+
+pub good_named_part : (goes : Leaf → Bool) (typed : Bool) →
+    Good (named_part goes typed) (named_part goes typed)
+unfolding named_part
+good_named_part goes true = good_node _ good_empty
+good_named_part goes false = good_node _ (good_pair (good_choice symbol_of good_typedef_name_at)
+    (good_many _ (good_choice symbol_of good_specifier_at)))
+
 pub good_specifiers : (goes : Leaf → Bool) → Good (specifiers goes) (specifiers goes)
 unfolding specifiers
 good_specifiers goes =
-    good_node _ (good_shaped _ (good_many goes (good_choice symbol_of good_specifier_at)))
+    good_node _ (good_then (good_keywords goes) (λ front. good_named_part goes (have_word front)))
 
 pub good_attribute : Good attribute attribute
 unfolding attribute
@@ -75,6 +93,15 @@ pub good_function_rest : Good function_rest function_rest
 unfolding function_rest
 good_function_rest = good_node _ (good_skip (good_pair
     (good_before (good_perhaps _ good_parameter_list) _) good_attributes))
+
+pub good_typedef_name : Good typedef_name typedef_name
+unfolding typedef_name
+good_typedef_name = good_node _ (good_such _)
+
+pub good_typedef_names : Good typedef_names typedef_names
+unfolding typedef_names
+good_typedef_names =
+    good_node _ (good_pair good_typedef_name (good_many _ (good_skip good_typedef_name)))
 
 pub good_skipped_body : Good skipped_body skipped_body
 unfolding skipped_body
@@ -216,6 +243,8 @@ module _ (G H : Grammar) (g : GoodGrammar G H) where
   pub good_unit_item_at : (s : Symbol) → Good (unit_item_at G s) (unit_item_at H s)
   unfolding unit_item_at
   good_unit_item_at (symbol.Terminal terminal.Semicolon) = good_node _ good_one
+  good_unit_item_at (symbol.Terminal terminal.Typedef) =
+      good_node _ (good_skip (good_pair (good_specifiers _) (good_before good_typedef_names _)))
   good_unit_item_at _ =
       good_node _ (good_pair (good_specifiers _) (good_choice symbol_of good_declared_at))
 
@@ -225,7 +254,7 @@ module _ (G H : Grammar) (g : GoodGrammar G H) where
 
   pub good_unit_items : Good (unit_items G) (unit_items H)
   unfolding unit_items
-  good_unit_items = good_before (good_many _ good_unit_item) _
+  good_unit_items = good_before (good_many_seen seen_behind _ [] good_unit_item) _
 
 -- the grammar at one depth against the grammar at another
 pub good_grammar : (n m : ℕ) → GoodGrammar (grammar n) (grammar m)

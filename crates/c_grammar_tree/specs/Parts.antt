@@ -1,7 +1,8 @@
 -- What the grammar asks of tokens and of trees, and what it makes of them (C11 6.4 to 6.9).
 use Rattle.std.specs.Prelude.{ℕ, ◌+◌, ◌==◌, Bool, true, false, not, ◌&&◌, ◌||◌, nat_le, nat_lt}
-use Rattle.std.specs.Prelude.{List, length, count_by, codes, Option, None, Some}
-use Rattle.std.specs.List.{filter_map}
+use Rattle.std.specs.Prelude.{List, [], ◌∷◌, length, count_by, codes, if◌then◌else◌, Option, None}
+use Rattle.std.specs.Prelude.{Some, is_some}
+use Rattle.std.specs.List.{filter_map, list_any}
 use Rattle.std.specs.Str.{bytes_eq}
 use denote.Enum.Bare.{sameb}
 use Rattle.c_grammar_symbols.specs.declared.words.Terminal.{Terminal}
@@ -10,6 +11,10 @@ use Rattle.c_grammar_symbols.specs.declared.words.TypeWord.{TypeWord}
 use Rattle.c_grammar_symbols.specs.declared.words.TypeWord.TheVariants as word
 use Rattle.c_grammar_symbols.specs.contracts.words.TypeWord as type_word
 use Rattle.c_grammar_symbols.specs.declared.words.StorageWord.TheVariants as storage
+use Rattle.c_grammar_symbols.specs.declared.words.SpecifierWord.TheVariants as other_word
+use Rattle.c_grammar_symbols.specs.declared.named.NamedType.{NamedType}
+use Rattle.c_grammar_symbols.specs.declared.named.Size.{Size}
+use Rattle.c_grammar_symbols.specs.declared.named.Size.TheVariants as size
 use Rattle.c_grammar_symbols.specs.declared.operators.BinaryOperator.{BinaryOperator}
 use Rattle.c_grammar_symbols.specs.declared.operators.BinaryOperator.TheVariants as operator
 use Rattle.c_grammar_symbols.specs.declared.operators.AssignmentOperator.TheVariants as assign
@@ -130,7 +135,7 @@ begins_expression leaf = begins (symbol_of leaf)
 abbrev pub unary_layer : Expression-F Expression Suffix → Bool
 unary_layer (Expression-F.Cast to operand place) = false
 unary_layer (Expression-F.Chain first rest place) = false
-unary_layer (Expression-F.Conditional test then other place) = false
+unary_layer (Expression-F.Conditional test chosen other place) = false
 unary_layer (Expression-F.Assignment left operator right place) = false
 unary_layer (Expression-F.Comma items place) = false
 unary_layer _ = true
@@ -191,21 +196,109 @@ is_type words = is_part_of_type words && not (length words == 0)
 -- the word of a type that a word of specifiers is
 abbrev pub type_word_of : Specifier → Option TypeWord
 type_word_of specifier =
-    elim specifier.kind [ kind.Storage w ↦ None | kind.Other w ↦ None | kind.TypeWord w ↦ Some w ]
+    elim specifier.kind [
+      | kind.Storage w ↦ None
+      | kind.Other w ↦ None
+      | kind.TypeWord w ↦ Some w
+      | kind.TypedefName named ↦ None
+    ]
 
 -- the words of types among specifiers
 abbrev pub type_words : List Specifier → List TypeWord
 type_words words = filter_map type_word_of words
 
--- the specifiers have the words of one type
-abbrev pub have_type : List Specifier → Bool
-have_type words = is_type (type_words words)
+-- the specifiers have some of the words of one type, or none
+abbrev pub have_part : List Specifier → Bool
+have_part words = is_part_of_type (type_words words)
+
+-- a specifier is a word of a type
+abbrev pub is_word : Specifier → Bool
+is_word specifier = is_some (type_word_of specifier)
+
+-- they have a word of a type
+abbrev pub have_word : List Specifier → Bool
+have_word words = list_any is_word words
+
+-- what the typedef name stands for that a word of specifiers is
+abbrev pub named_by : Specifier → Option NamedType
+named_by specifier =
+    elim specifier.kind [
+      | kind.Storage w ↦ None
+      | kind.Other w ↦ None
+      | kind.TypeWord w ↦ None
+      | kind.TypedefName named ↦ Some named
+    ]
+
+-- what the first typedef name among specifiers stands for
+abbrev pub named_among : List Specifier → Option NamedType
+named_among [] = None
+named_among (found ∷ more) = elim (named_by found) [ None ↦ named_among more | Some t ↦ Some t ]
+
+-- the word is const, or a typedef name that stands for a const type (C11 6.7.3)
+abbrev pub is_const_word : Specifier → Bool
+is_const_word found = elim found.kind [
+  | kind.Storage w ↦ false
+  | kind.Other w ↦ elim w [ other_word.Const ↦ true | _ ↦ false ]
+  | kind.TypeWord w ↦ false
+  | kind.TypedefName named ↦ named.is_const
+]
+
+-- the specifiers have const among them
+abbrev pub have_const : List Specifier → Bool
+have_const words = list_any is_const_word words
+
+-- the specifier is this word of a type
+abbrev pub is_the_word : TypeWord → Specifier → Bool
+is_the_word wanted found = elim found.kind [
+  | kind.Storage w ↦ false
+  | kind.Other w ↦ false
+  | kind.TypeWord w ↦ sameb type_word.the_type w wanted
+  | kind.TypedefName named ↦ false
+]
+
+-- how often it stands among specifiers
+abbrev pub times : TypeWord → List Specifier → ℕ
+times wanted words = count_by (is_the_word wanted) words
+
+-- how wide the type is that their words name (C11 6.7.2p2)
+abbrev pub size_of : List Specifier → Size
+size_of words =
+    if nat_lt 0 (times word.Bool words) then size.Bool
+    else if nat_lt 0 (times word.Char words) then size.Char
+    else if nat_lt 0 (times word.Short words) then size.Short
+    else if nat_lt 1 (times word.Long words) then size.LongLong
+    else if nat_lt 0 (times word.Long words) then size.Long
+    else size.Int
+
+-- what a name stands for that is declared with these specifiers and typedef (C11 6.7.8p3)
+abbrev pub named_type : List Specifier → NamedType
+named_type words = elim (named_among words) [
+  | None ↦ record {
+    size = size_of words;
+    is_unsigned = nat_lt 0 (times word.Unsigned words);
+    is_const = have_const words;
+  }
+  | Some named ↦ record named { is_const = have_const words }
+]
+
+-- the symbol is a typedef name's
+abbrev pub names_type : Symbol → Bool
+names_type (symbol.TypedefName named) = true
+names_type _ = false
+
+abbrev pub is_typedef_name : Leaf → Bool
+is_typedef_name leaf = names_type (symbol_of leaf)
+
+-- the token is an identifier, or a typedef name
+abbrev pub is_any_name : Leaf → Bool
+is_any_name leaf = is_name leaf || is_typedef_name leaf
 
 -- the symbol begins specifiers of any kind
 abbrev pub specifies : Symbol → Bool
 specifies (symbol.Storage word) = true
 specifies (symbol.Specifier word) = true
 specifies (symbol.TypeWord word) = true
+specifies (symbol.TypedefName named) = true
 specifies _ = false
 
 abbrev pub is_specifier : Leaf → Bool
@@ -216,10 +309,31 @@ abbrev pub specifies_locally : Symbol → Bool
 specifies_locally (symbol.Storage storage.Register) = true
 specifies_locally (symbol.Specifier word) = true
 specifies_locally (symbol.TypeWord word) = true
+specifies_locally (symbol.TypedefName named) = true
 specifies_locally _ = false
 
 abbrev pub is_local_specifier : Leaf → Bool
 is_local_specifier leaf = specifies_locally (symbol_of leaf)
+
+-- the symbol begins specifiers behind the word typedef: no other storage class (C11 6.7.1p2); void
+-- is left out
+abbrev pub specifies_in_typedef : Symbol → Bool
+specifies_in_typedef (symbol.Specifier word) = true
+specifies_in_typedef (symbol.TypeWord word.Void) = false
+specifies_in_typedef (symbol.TypeWord word) = true
+specifies_in_typedef (symbol.TypedefName named) = true
+specifies_in_typedef _ = false
+
+abbrev pub is_typedef_specifier : Leaf → Bool
+is_typedef_specifier leaf = specifies_in_typedef (symbol_of leaf)
+
+-- a keyword among these specifiers
+abbrev pub is_keyword : (Leaf → Bool) → Leaf → Bool
+is_keyword goes leaf = goes leaf && not (is_typedef_name leaf)
+
+-- a keyword among them that is no word of a type
+abbrev pub is_no_type : (Leaf → Bool) → Leaf → Bool
+is_no_type goes leaf = is_keyword goes leaf && not (is_type_word leaf)
 
 -- the symbol is the operator = of an initializer
 abbrev pub initializes : Symbol → Bool

@@ -1,7 +1,7 @@
 //! The tree of declarations of objects (C11 6.7).
 //! Which one a text has is said by their grammar, `specs/Declarations.antt`.
 use crate::{Expression, Name};
-use c_grammar_symbols::{SpecifierWord, StorageWord, TypeWord};
+use c_grammar_symbols::{NamedType, SpecifierWord, StorageWord, TypeWord};
 use cpa_ints::Seq;
 
 /// What a word of specifiers is.
@@ -10,6 +10,8 @@ pub enum SpecifierKind {
     Storage(StorageWord),
     Other(SpecifierWord),
     TypeWord(TypeWord),
+    /// A typedef name, by the type that it stands for.
+    TypedefName(NamedType),
 }
 
 /// A word of specifiers and its place.
@@ -19,7 +21,8 @@ pub struct Specifier {
     pub place: u32,
 }
 
-/// The words before a declarator, in the order in which they stand; those of types are one type.
+/// The words before a declarator, in the order in which they stand: those of one type among them, or
+/// a typedef name.
 #[derive(Drop)]
 pub struct Specifiers {
     pub words: Seq<Specifier>,

@@ -1,7 +1,7 @@
 //! The tree of expressions (C11 6.5).
 //! Which one a text has is said by their grammar, `specs/Expressions.antt`.
 use crate::Name;
-use c_grammar_symbols::{AssignmentOperator, BinaryOperator, StepOperator, TypeWord};
+use c_grammar_symbols::{AssignmentOperator, BinaryOperator, NamedType, StepOperator, TypeWord};
 use cpa_ints::{Boxed, IntType, Seq};
 
 /// An operator before a cast that has one operand (C11 6.5.3.3).
@@ -17,11 +17,13 @@ pub enum UnaryOperator {
     Not,
 }
 
-/// The type of a cast: its words in order, and the place of the first.
+/// The type of a cast, and the place where it begins.
 #[derive(Drop)]
-pub struct TypeName {
-    pub words: Seq<TypeWord>,
-    pub place: u32,
+pub enum TypeName {
+    /// The words of one type, in order.
+    Words { words: Seq<TypeWord>, place: u32 },
+    /// A typedef name, by the type that it stands for.
+    Typedef { named: NamedType, place: u32 },
 }
 
 /// An expression. Its place is that of its first token; a name has its own.

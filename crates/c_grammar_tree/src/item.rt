@@ -39,11 +39,17 @@ pub enum Body {
 }
 
 /// An item of a text. Its place is that of its first token, which is also the place of its
-/// specifiers.
+/// specifiers where it is no typedef.
 #[derive(Drop)]
 pub enum Item {
     /// A semicolon alone.
     Empty {
+        place: u32,
+    },
+    /// `typedef specifiers name, ..;`
+    Typedef {
+        specifiers: Specifiers,
+        names: Seq<Name>,
         place: u32,
     },
     /// Objects, or specifiers alone.

@@ -1,9 +1,9 @@
 -- An item has a token at least.
 use Rattle.std.specs.Prelude.{ℕ, ◌<◌}
 use Rattle.c_grammar_forms.specs.Reading.{Reads}
-use Rattle.c_grammar_forms.specs.Steady.{good_choice}
+use Rattle.c_grammar_forms.specs.Steady.{good_choice, good_pair, good_before}
 use Rattle.c_grammar_forms.specs.Loops.{Strict, strict_one, strict_such, strict_second, strict_node}
-use Rattle.c_grammar_forms.specs.Loops.{strict_choice}
+use Rattle.c_grammar_forms.specs.Loops.{strict_choice, strict_skip}
 use Rattle.c_grammar_symbols.specs.declared.words.Terminal.TheVariants as terminal
 use Rattle.c_grammar_symbols.specs.declared.symbol.Symbol.{Symbol}
 use Rattle.c_grammar_symbols.specs.declared.symbol.Symbol.TheVariants as symbol
@@ -16,6 +16,7 @@ use Rattle.c_grammar_tree.specs.Declarations.{identifier}
 use Rattle.c_grammar_tree.specs.Items.{declared_at, unit_item_at, unit_item}
 use Rattle.c_grammar_tree.specs.OneReading.{GoodGrammar}
 use Rattle.c_grammar_tree.specs.OneReadingOfText.{good_grammar, good_specifiers, good_named_at}
+use Rattle.c_grammar_tree.specs.OneReadingOfText.{good_typedef_names}
 use Rattle.c_parser_declarations.specs.Readers.{strict_then_first}
 
 module _ (G : Grammar) (g : GoodGrammar G G) where
@@ -30,6 +31,8 @@ module _ (G : Grammar) (g : GoodGrammar G G) where
   strict_unit_item_at : (s : Symbol) → Strict (unit_item_at G s)
   unfolding unit_item_at
   strict_unit_item_at (symbol.Terminal terminal.Semicolon) = strict_node _ strict_one
+  strict_unit_item_at (symbol.Terminal terminal.Typedef) =
+      strict_node _ (strict_skip (good_pair (good_specifiers _) (good_before good_typedef_names _)))
   strict_unit_item_at _ =
       strict_node _ (strict_second (good_specifiers _) (strict_choice symbol_of strict_declared_at))
 

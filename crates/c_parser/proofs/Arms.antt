@@ -20,6 +20,7 @@ use Rattle.c_grammar_tree.specs.Items.{Named, function, objects, is_known, have_
 use Rattle.c_grammar_tree.specs.Items.{function_rest}
 use Rattle.c_grammar_tree.specs.Items.{body_of, function_end_at, named_at, declared_at, declared_of}
 use Rattle.c_grammar_tree.specs.Items.{unit_item_at}
+use Rattle.c_parser.specs.Forms.{typedef_item}
 
 -- the semicolon of a prototype
 abbrev pub prototype_form : Form Leaf (Option Body)
@@ -126,8 +127,15 @@ unfolding unit_item_at
 arm_empty G (symbol.Terminal terminal.Semicolon) e = same_form
 arm_empty G _ e = impossible e
 
-pub arm_declared : (G : Grammar) (s : Symbol) → is_terminal terminal.Semicolon s ≡ false →
-    Same (unit_item_at G s) (declared_form G)
+pub arm_typedef : (G : Grammar) (s : Symbol) → is_terminal terminal.Typedef s ≡ true →
+    Same (unit_item_at G s) (typedef_item G)
 unfolding unit_item_at
-arm_declared G (symbol.Terminal terminal.Semicolon) e = impossible (sym e)
-arm_declared G _ e = same_form
+arm_typedef G (symbol.Terminal terminal.Typedef) e = same_form
+arm_typedef G _ e = impossible e
+
+pub arm_declared : (G : Grammar) (s : Symbol) → is_terminal terminal.Semicolon s ≡ false →
+    is_terminal terminal.Typedef s ≡ false → Same (unit_item_at G s) (declared_form G)
+unfolding unit_item_at
+arm_declared G (symbol.Terminal terminal.Semicolon) e f = impossible (sym e)
+arm_declared G (symbol.Terminal terminal.Typedef) e f = impossible (sym f)
+arm_declared G _ e f = same_form

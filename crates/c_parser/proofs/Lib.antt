@@ -3,3 +3,4 @@ pub mod Arms
 pub mod Ahead
 pub mod Behind
 pub mod Whole
+pub mod SeenItems

@@ -1,6 +1,6 @@
 -- The items of a text up to its end are its tree, and where there are none there is no tree.
 use Rattle.std.specs.Prelude.{◌≡◌, ℕ, ◌+◌, ◌-◌, ◌<◌, Bool, true, false, not, cond, find, unwrap_or}
-use Rattle.std.specs.Prelude.{List, [], ◌∷◌, length, Option, Some, refl}
+use Rattle.std.specs.Prelude.{List, [], ◌∷◌, ◌++◌, length, Option, Some, refl}
 use Rattle.std.specs.List.{slice_get, list_all}
 use Rattle.std.specs.Option.{option_map}
 use Rattle.std.proofs.Common.{sym, ◌∙◌, ap, subst, arith, inl, inr}
@@ -10,7 +10,7 @@ use Rattle.std.proofs.lemmas.Option.{slice_get-map, slice_get-get_or, get_or_fro
 use Rattle.c_grammar_forms.specs.declared.fault.ReadError.{ReadError}
 use Rattle.c_grammar_forms.specs.declared.fault.ReadError.TheVariants.{Unexpected, TooDeep}
 use Rattle.c_grammar_forms.specs.declared.fault.ReadError.TheVariants.{OutOfMemory}
-use Rattle.c_grammar_forms.specs.Forms.{World, Form, Many}
+use Rattle.c_grammar_forms.specs.Forms.{World, Form, ManySeen}
 use Rattle.c_grammar_forms.specs.Reading.{Reads, NoneThrough, Faults}
 use Rattle.c_lexer.specs.declared.token.Token.{Token}
 use Rattle.c_lexer.specs.declared.token.TokenKind.{TokenKind}
@@ -47,13 +47,14 @@ found_passes P Q (x ∷ xs) d all here =
     picked Q (P x) x (find P xs) d parts.0 (found_passes P Q xs d parts.1 here)
 
 -- a list ends where it cannot go on
-many_ends : {T : Type 0} (go : Leaf → Bool) (A : Form Leaf T) (w : World Leaf) (left : ℕ)
-    (us : List T) (p q : ℕ) → w.greedy ≡ true →
-    Many go A w left p us q → go (w.at q) ≡ false
-unfolding Many
-many_ends go A w left [] p q greedy r =
+many_ends : {T : Type 0} (see : List T → Leaf → Leaf) (go : Leaf → Bool) (A : Form Leaf T)
+    (w : World Leaf) (left : ℕ) (us done : List T) (p q : ℕ) → w.greedy ≡ true →
+    ManySeen see go A done w left p us q → go (w.at q) ≡ false
+unfolding ManySeen
+many_ends see go A w left [] done p q greedy r =
     subst (λ k. go (w.at k) ≡ false) (sym r.behind) (r.stops greedy)
-many_ends go A w left (u ∷ us) p q greedy r = many_ends go A w left us r.middle q greedy r.rest
+many_ends see go A w left (u ∷ us) done p q greedy r =
+    many_ends see go A w left us (done ++ u ∷ []) r.middle q greedy r.rest
 
 not_false : (b : Bool) → not b ≡ false → b ≡ true
 not_false true e = refl
@@ -109,7 +110,7 @@ module _ (text : List ℕ) (tokens : List Token) (source : IsSource text tokens)
       Tree text tokens u
   unfolding unit_items
   whole u q r placed =
-      let ended = many_ends _ _ _ _ (u.items) 0 q refl (r.reading 0) in
+      let ended = many_ends _ _ _ _ _ (u.items) _ 0 q refl (r.reading 0) in
       let last = last_end q (omega (arith, r.within, as_many)) (not_false _ ended) in
       record {
         reading = λ edge. record {

@@ -57,8 +57,8 @@ pub fn parse(alloc: Global, text: &[u8], tokens: &[Token]) -> Result<Unit, TextE
     ensures fault { IfErr result (λ error. IsRefused text.now tokens.now error) }
 {
     tokens_are_a_source();
-    let source = Source::new(alloc, text, tokens)?;
-    match unit_items(alloc, &source, 0, MAX_LEVEL - 1) {
+    let mut source = Source::new(alloc, text, tokens)?;
+    match unit_items(alloc, &mut source, 0, MAX_LEVEL - 1) {
         Ok((items, end)) => {
             let length = source.place(end);
             Ok(Unit { items, length })

@@ -15,7 +15,10 @@ pub fn begins_declaration(source: &Source, at: usize) -> bool
 {
     matches!(
         source.symbol(at),
-        Symbol::Storage(StorageWord::Register) | Symbol::Specifier(_) | Symbol::TypeWord(_)
+        Symbol::Storage(StorageWord::Register)
+            | Symbol::Specifier(_)
+            | Symbol::TypeWord(_)
+            | Symbol::TypedefName(_)
     )
 }
 

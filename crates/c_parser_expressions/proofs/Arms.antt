@@ -17,14 +17,14 @@ use Rattle.c_grammar_symbols.specs.Symbols.{Leaf, symbol_of}
 use Rattle.c_grammar_symbols.specs.Sources.{is, is_terminal}
 use Rattle.c_grammar_tree.specs.declared.expression.Expression.{Expression}
 use Rattle.c_grammar_tree.specs.declared.expression.UnaryOperator.{UnaryOperator}
-use Rattle.c_grammar_tree.specs.Parts.{types, steps, binds, looseness, names_assert, is_operator}
+use Rattle.c_grammar_tree.specs.Parts.{steps, binds, looseness, names_assert, is_operator}
 use Rattle.c_grammar_tree.specs.Nested.{Grammar}
 use Rattle.c_grammar_tree.specs.Expressions.{Group, cast_group, bracket_group, group_of, group_at}
 use Rattle.c_grammar_tree.specs.Expressions.{cast_at}
 use Rattle.c_grammar_tree.specs.Expressions.{unary, unary_at, sign, postfix, suffixes, type_name}
 use Rattle.c_grammar_tree.specs.Expressions.{suffix_at}
 use Rattle.c_grammar_tree.specs.Expressions.{primary_at, assigns_to}
-use Rattle.c_parser_expressions.specs.Steps.{sign_of, operator_of, FindsOperator}
+use Rattle.c_parser_expressions.specs.Steps.{begins_type, sign_of, operator_of, FindsOperator}
 
 -- behind "(": a cast
 abbrev pub cast_form : Grammar → Form Leaf Group
@@ -52,15 +52,17 @@ unfolding cast_at
 arm_unary G (symbol.Terminal terminal.LeftParen) e = impossible (sym e)
 arm_unary G _ e = same_form
 
-pub arm_cast : (G : Grammar) (s : Symbol) → types s ≡ true → Same (group_at G s) (cast_form G)
+pub arm_cast : (G : Grammar) (s : Symbol) → begins_type s ≡ true → Same (group_at G s) (cast_form G)
 unfolding group_at
 arm_cast G (symbol.TypeWord word) e = same_form
+arm_cast G (symbol.TypedefName named) e = same_form
 arm_cast G _ e = impossible e
 
-pub arm_bracket : (G : Grammar) (s : Symbol) → types s ≡ false →
+pub arm_bracket : (G : Grammar) (s : Symbol) → begins_type s ≡ false →
     Same (group_at G s) (bracket_form G)
 unfolding group_at
 arm_bracket G (symbol.TypeWord word) e = impossible (sym e)
+arm_bracket G (symbol.TypedefName named) e = impossible (sym e)
 arm_bracket G _ e = same_form
 
 some_is : {T : Type 0} (P : T → Type 0) {a b : T} → Some a ≡ Some b → P a → P b

@@ -27,7 +27,7 @@ use Rattle.c_grammar_tree.specs.declared.expression.Suffix.{Suffix}
 use Rattle.c_grammar_tree.specs.declared.expression.Suffix.TheVariants as suffix
 use Rattle.c_grammar_tree.specs.declared.expression.TypeName.{TypeName}
 use Rattle.c_grammar_tree.specs.declared.expression.UnaryOperator.{UnaryOperator}
-use Rattle.c_grammar_tree.specs.Parts.{is_not, types, steps, names_assert, begins_suffix}
+use Rattle.c_grammar_tree.specs.Parts.{is_not, steps, names_assert, begins_suffix}
 use Rattle.c_grammar_tree.specs.Nested.{Grammar}
 use Rattle.c_grammar_tree.specs.Grammar.{grammar}
 use Rattle.c_grammar_tree.specs.Expressions.{cast, cast_at, cast_group, bracket_group, group_of}
@@ -40,7 +40,7 @@ use Rattle.c_grammar_tree.specs.Expressions.{skipped_call}
 use Rattle.c_grammar_tree.specs.Expressions.{opens_skipped, round_brackets}
 use Rattle.c_grammar_tree.specs.OneReading.{good_arguments}
 use Rattle.c_grammar_tree.specs.OneReadingOfText.{good_grammar}
-use Rattle.c_parser_expressions.specs.Steps.{more_arguments, group, sign_of, option_list}
+use Rattle.c_parser_expressions.specs.Steps.{more_arguments, group, begins_type, sign_of, option_list}
 use Rattle.c_grammar_tree.specs.Levels.{steady_deeper_comma, steady_deeper_assignment}
 use Rattle.c_parser_expressions.proofs.Readers.{none_made, reads_tail, behind_part}
 use Rattle.c_parser_expressions.proofs.Steadies.{steady_assignments, steady_primary}
@@ -155,7 +155,7 @@ module _ {at : ℕ → Leaf} {size left p : ℕ} where
       (λ n. arm_unary (grammar n) (symbol_of (at p)) e) r
 
   -- a cast behind its bracket
-  module _ (e : types (symbol_of (at (p + 1))) ≡ true) where
+  module _ (e : begins_type (symbol_of (at (p + 1))) ≡ true) where
     pub group_none_type : {i : ℕ} → NoneThrough (λ n. Deeper type_name) at size left (p + 1) i →
         NoneThrough (λ n. group (grammar n)) at size left p i
     group_none_type g = none_node _ (none_skip (none_arm symbol_of (λ n. group_at (grammar n))
@@ -188,7 +188,7 @@ module _ {at : ℕ → Leaf} {size left p : ℕ} where
         (reads_node (λ leaf parts. cast_group parts.0 parts.1) refl (reads_pair r s))))
 
   -- an expression in brackets behind its bracket
-  module _ (e : types (symbol_of (at (p + 1))) ≡ false) where
+  module _ (e : begins_type (symbol_of (at (p + 1))) ≡ false) where
     pub group_none_inner : {i : ℕ} → NoneThrough (λ n. Deeper ((grammar n).comma)) at size left
         (p + 1) i → NoneThrough (λ n. group (grammar n)) at size left p i
     group_none_inner g = none_node _ (none_skip (none_arm symbol_of (λ n. group_at (grammar n))

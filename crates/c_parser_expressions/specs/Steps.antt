@@ -1,5 +1,5 @@
 -- What single private functions read or compute. No public clause speaks of it.
-use Rattle.std.specs.Prelude.{◌≡◌, ℕ, suc, ◌==◌, cond, true, false, MatchOption, List, [], ◌∷◌}
+use Rattle.std.specs.Prelude.{◌≡◌, ℕ, suc, ◌==◌, cond, Bool, true, false, MatchOption, List, [], ◌∷◌}
 use Rattle.std.specs.Prelude.{Option, None, Some}
 use Rattle.c_grammar_forms.specs.Forms.{Form, Skip, Node, Deeper, Choice, Many}
 use Rattle.c_grammar_symbols.specs.declared.words.Terminal.TheVariants as terminal
@@ -39,6 +39,12 @@ operands tighter G = Many (is_operator (suc tighter)) (operand (chain tighter G)
 -- a cast, or an expression in brackets with its suffixes
 abbrev pub group : Grammar → Form Leaf Expression
 group G = Node group_of (Skip (Choice symbol_of (group_at G)))
+
+-- the symbol begins the type of a cast
+abbrev pub begins_type : Symbol → Bool
+begins_type (symbol.TypeWord word) = true
+begins_type (symbol.TypedefName named) = true
+begins_type _ = false
 
 -- the type of a cast
 abbrev pub deeper_type_name : Grammar → Form Leaf TypeName

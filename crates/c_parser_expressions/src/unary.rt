@@ -1,11 +1,12 @@
 //! Readers of unary expressions and casts (C11 6.5.3 and 6.5.4): `unary` and `cast` of
 //! `Expressions.antt` of `c_grammar_tree`. Proved in `proofs/Tight.antt`.
 ghost use Rattle.std.specs.Prelude.{◌≡◌, ◌<◌, length};
+ghost use Rattle.c_grammar_symbols.specs.Symbols.{symbol_of};
 ghost use Rattle.c_grammar_symbols.specs.Sources.{leaf_at, GoesOn};
-ghost use Rattle.c_grammar_tree.specs.Parts.{is_type_word};
 ghost use Rattle.c_grammar_tree.specs.Expressions.{unary, cast};
 ghost use Rattle.c_grammar_tree.specs.Reading.{Gives, HasRoom, HasRoomBelow};
-ghost use Rattle.c_parser_expressions.specs.Steps.{sign_of, group, deeper_type_name};
+ghost use Rattle.c_parser_expressions.specs.Steps.{sign_of, group, begins_type};
+ghost use Rattle.c_parser_expressions.specs.Steps.{deeper_type_name};
 
 use crate::arguments::suffixes;
 use crate::nested::{inner_cast, inner_comma, inner_unary};
@@ -31,12 +32,15 @@ fn sign_of(symbol: Symbol) -> Option<UnaryOperator>
     }
 }
 
-/// Whether the token is a word of a type.
-fn is_type_word(source: &Source, at: usize) -> bool
+/// Whether the type of a cast begins with the token.
+fn begins_type(source: &Source, at: usize) -> bool
     requires { at < length source.now }
-    ensures { result ≡ is_type_word (leaf_at source.now at) }
+    ensures { result ≡ begins_type (symbol_of (leaf_at source.now at)) }
 {
-    matches!(source.symbol(at), Symbol::TypeWord(_))
+    matches!(
+        source.symbol(at),
+        Symbol::TypeWord(_) | Symbol::TypedefName(_)
+    )
 }
 
 /// The unary expression that begins here.
@@ -112,7 +116,7 @@ fn group(
     ensures { Gives group source.now left at result }
 {
     let place = source.place(at);
-    if is_type_word(source, at + 1) {
+    if begins_type(source, at + 1) {
         let (to, closer) = inner_type_name(alloc, source, at + 1, left)?;
         let start = source.expect(closer, Terminal::RightParen)?;
         let (inner, behind) = inner_cast(alloc, source, start, left)?;

@@ -4,3 +4,4 @@ pub mod Skipped
 pub mod TypeNames
 pub mod SpecifierWords
 pub mod ParameterForms
+pub mod TypedefForms

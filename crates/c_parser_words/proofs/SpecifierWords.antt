@@ -1,17 +1,21 @@
 -- Specifiers that are read one by one.
-use Rattle.std.specs.Prelude.{◌≡◌, ℕ, ◌+◌, ◌<◌, Bool, true, false, ◌==◌, List, [], ◌∷◌, ◌++◌}
-use Rattle.std.specs.Prelude.{length, None, Some}
+use Rattle.std.specs.Prelude.{◌≡◌, ℕ, ◌+◌, ◌<◌, Bool, true, false, not, List, [], ◌∷◌, ◌++◌}
+use Rattle.std.specs.Prelude.{length, Option, None, Some}
+use Rattle.std.proofs.lemmas.Bool.{and_from, and_left}
 use Rattle.std.proofs.Common.{sym, ◌∙◌, ap, subst, refl, arith, append_assoc}
 use Rattle.std.proofs.lemmas.List.Elements.{filter_map-append}
 use Rattle.c_grammar_forms.specs.declared.fault.ReadError.{ReadError}
 use Rattle.c_grammar_forms.specs.declared.fault.ReadError.TheVariants.{Unexpected, TooDeep}
 use Rattle.c_grammar_forms.specs.declared.fault.ReadError.TheVariants.{OutOfMemory}
-use Rattle.c_grammar_forms.specs.Forms.{World, Form, Choice, Many}
-use Rattle.c_grammar_forms.specs.Steady.{Steady, good_many, good_choice}
+use Rattle.c_grammar_forms.specs.Forms.{World, Form, Nothing, Choice, Many}
+use Rattle.c_grammar_forms.specs.Steady.{Steady, good_choice}
 use Rattle.c_grammar_forms.specs.Reading.{Reads, NoneThrough, Faults}
 use Rattle.c_grammar_forms.specs.Found.{reads_node, reads_one, reads_choice, reads_shaped}
-use Rattle.c_grammar_forms.specs.NotFound.{none_node, none_shaped_here}
-use Rattle.c_grammar_forms.specs.Loops.{SoFar, no_parts, one_more, no_more, no_such_part}
+use Rattle.c_grammar_forms.specs.NotFound.{none_node, none_first, none_nothing}
+use Rattle.c_grammar_forms.specs.Loops.{SoFar, no_parts, first_part, one_more, no_more}
+use Rattle.c_grammar_forms.specs.Loops.{no_such_part}
+use Rattle.c_grammar_forms.specs.Choices.{Same, same_form, none_arm}
+use Rattle.c_grammar_symbols.specs.declared.named.NamedType.{NamedType}
 use Rattle.c_grammar_symbols.specs.declared.words.TypeWord.{TypeWord}
 use Rattle.c_grammar_symbols.specs.declared.symbol.Symbol.{Symbol}
 use Rattle.c_grammar_symbols.specs.declared.symbol.Symbol.TheVariants as symbol
@@ -19,17 +23,18 @@ use Rattle.c_grammar_symbols.specs.Symbols.{Leaf, symbol_of}
 use Rattle.c_grammar_symbols.specs.Sources.{leaf_at}
 use Rattle.c_grammar_tree.specs.declared.TheConstants.{MAX_LEVEL}
 use Rattle.c_grammar_tree.specs.declared.declaration.Specifier.{Specifier}
-use Rattle.c_grammar_tree.specs.declared.declaration.Specifiers.{Specifiers}
 use Rattle.c_grammar_tree.specs.declared.declaration.SpecifierKind.{SpecifierKind}
 use Rattle.c_grammar_tree.specs.declared.declaration.SpecifierKind.TheVariants as kind
-use Rattle.c_grammar_tree.specs.Parts.{is_part_of_type, is_type, type_word_of, type_words}
-use Rattle.c_grammar_tree.specs.Parts.{have_type}
-use Rattle.c_grammar_tree.specs.Declarations.{specifier_at, specifiers}
-use Rattle.c_grammar_tree.specs.OneReadingOfText.{good_specifier_at}
+use Rattle.c_grammar_tree.specs.Parts.{is_part_of_type, type_word_of, type_words}
+use Rattle.c_grammar_tree.specs.Parts.{types, have_part, is_keyword, is_no_type}
+use Rattle.c_grammar_tree.specs.Declarations.{specifier_at, keywords, typedef_name_at, named_part}
+use Rattle.c_grammar_tree.specs.OneReadingOfText.{good_specifier_at, good_typedef_name_at}
+use Rattle.c_grammar_tree.specs.OneReadingOfText.{good_keywords}
 use Rattle.c_parser_words.specs.declared.words.AllowedStorage.{AllowedStorage}
-use Rattle.c_parser_words.specs.Storage.{goes, goes_in}
-use Rattle.c_parser_words.specs.Steps.{words_in, AreGrown, IsRefused, kind_of}
-use Rattle.c_parser_words.proofs.TypeParts.{no_type_longer, is_type_of, no_words}
+use Rattle.c_parser_words.specs.Storage.{goes_in, keeps_on, qualifies}
+use Rattle.c_parser_words.specs.Steps.{words_in, AreGrown, IsRefused, IsKind, IsQualifier}
+use Rattle.c_parser_words.specs.Steps.{kind_of}
+use Rattle.c_parser_words.proofs.TypeParts.{no_part_longer}
 
 abbrev pub any_specifier : Form Leaf Specifier
 any_specifier = Choice symbol_of specifier_at
@@ -37,15 +42,12 @@ any_specifier = Choice symbol_of specifier_at
 steady_specifier : Steady (λ n. any_specifier)
 steady_specifier = record { good = λ n m. good_choice symbol_of good_specifier_at }
 
-steady_list : (test : Leaf → Bool) → Steady (λ n. Many test any_specifier)
-steady_list test = record { good = λ n m. good_many test (good_choice symbol_of good_specifier_at) }
-
 -- the words are read from p up to here, and these words of types among them are some of one type
 pub record AreSpecifiers (allowed : AllowedStorage) (leaves : List Leaf) (p : ℕ)
     (words : List Specifier)
     (types : List TypeWord) (here : ℕ) : Type 0 where
-  pub so_far : (left : ℕ) → SoFar (λ n. Many (goes_in allowed) any_specifier) (goes_in allowed)
-      (λ n. any_specifier)
+  pub so_far : (left : ℕ) → SoFar (λ n. Many (is_keyword (goes_in allowed)) any_specifier)
+      (is_keyword (goes_in allowed)) (λ n. any_specifier)
       (leaf_at leaves) (length leaves) left p words here
   pub kinds : types ≡ type_words words
   pub part : is_part_of_type types ≡ true
@@ -90,6 +92,7 @@ types_in : (k : SpecifierKind) (place : ℕ) → type_words (record { kind = k; 
 types_in (kind.Storage w) place = refl
 types_in (kind.Other w) place = refl
 types_in (kind.TypeWord w) place = refl
+types_in (kind.TypedefName t) place = refl
 
 types_behind : (words : List Specifier) (u : Specifier) (us : List Specifier) →
     type_words (words ++ u ∷ us) ≡ (type_words words ++ words_in u.kind) ++ type_words us
@@ -103,7 +106,7 @@ types_behind words u us =
 module _ (allowed : AllowedStorage) (leaves : List Leaf) (p : ℕ) where
   pub specifiers_first : p < length leaves → AreSpecifiers allowed leaves p [] [] p
   specifiers_first fits = record {
-    so_far = λ left. no_parts (goes_in allowed) (λ n. any_specifier) fits;
+    so_far = λ left. no_parts (is_keyword (goes_in allowed)) (λ n. any_specifier) fits;
     kinds = refl;
     part = refl;
     within = fits;
@@ -112,7 +115,7 @@ module _ (allowed : AllowedStorage) (leaves : List Leaf) (p : ℕ) where
   module _ (words : List Specifier) (types : List TypeWord) (here : ℕ)
       (s : AreSpecifiers allowed leaves p words types here) where
     pub specifiers_more : (k : SpecifierKind) (more : List Specifier) (after : List TypeWord) →
-        goes allowed (symbol_of (leaf_at leaves here)) ≡ true →
+        keeps_on allowed (symbol_of (leaf_at leaves here)) ≡ true →
         kind_of (symbol_of (leaf_at leaves here)) ≡ Some k →
         here + 1 < length leaves → more ≡ words ++ record {
           kind = k;
@@ -135,42 +138,107 @@ module _ (allowed : AllowedStorage) (leaves : List Leaf) (p : ℕ) where
         })
 
     pub specifiers_refused : (left : ℕ) (k : SpecifierKind) →
-        goes allowed (symbol_of (leaf_at leaves here)) ≡ true →
+        keeps_on allowed (symbol_of (leaf_at leaves here)) ≡ true →
         kind_of (symbol_of (leaf_at leaves here)) ≡ Some k → (e : ReadError) →
         IsRefused types k here e →
-        Faults MAX_LEVEL (λ n. specifiers (goes_in allowed)) (leaf_at leaves)
+        Faults MAX_LEVEL (λ n. keywords (goes_in allowed)) (leaf_at leaves)
         (length leaves) left p e
-    unfolding specifiers
+    unfolding keywords
     specifiers_refused left k goes_on is_kind (Unexpected i) h =
-        subst (λ j. NoneThrough (λ n. specifiers (goes_in allowed)) (leaf_at leaves)
+        subst (λ j. NoneThrough (λ n. keywords (goes_in allowed)) (leaf_at leaves)
         (length leaves) left p j) (sym h.0)
-        (none_node _ (no_such_part (s.so_far left) have_type goes_on
+        (no_such_part (s.so_far left) have_part goes_on
         (λ n v b u j r us.
         let same = kind_read v left here u j (symbol_of (v.at here)) k
         (ap (λ t. kind_of (symbol_of t)) (b.tokens here (omega arith)) ∙ is_kind)
         r.chosen in
-        ap is_type (types_behind words u us
+        ap is_part_of_type (types_behind words u us
         ∙ (ap (λ t. (type_words words ++ words_in t) ++ type_words us) same
         ∙ ap (λ t. (t ++ words_in k) ++ type_words us) (sym s.kinds)))
-        ∙ no_type_longer (types ++ words_in k) (type_words us) h.1)))
+        ∙ no_part_longer (types ++ words_in k) (type_words us) h.1))
     specifiers_refused left k goes_on is_kind (TooDeep i) h = absurd h
     specifiers_refused left k goes_on is_kind OutOfMemory h = tt
 
-    pub specifiers_none : (left : ℕ) → goes allowed (symbol_of (leaf_at leaves here)) ≡ false →
-        (length types == 0) ≡ true →
-        NoneThrough (λ n. specifiers (goes_in allowed)) (leaf_at leaves) (length leaves) left p here
-    unfolding specifiers
-    specifiers_none left stops none =
-        none_node _ (none_shaped_here have_type (steady_list (goes_in allowed))
+    pub keywords_found : (left : ℕ) →
+        keeps_on allowed (symbol_of (leaf_at leaves here)) ≡ false →
+        Reads (λ n. keywords (goes_in allowed)) (leaf_at leaves) (length leaves) left p words here
+    unfolding keywords
+    keywords_found left stops =
+        reads_shaped have_part (ap is_part_of_type (sym s.kinds) ∙ s.part)
         (no_more (s.so_far left) stops)
-        (ap is_type (sym s.kinds) ∙ no_words types none))
 
-    pub specifiers_found : (left : ℕ) (u : Specifiers) →
-        u ≡ record { words = words; place = (leaf_at leaves p).place } →
-        goes allowed (symbol_of (leaf_at leaves here)) ≡ false → (length types == 0) ≡ false →
-        Reads (λ n. specifiers (goes_in allowed)) (leaf_at leaves) (length leaves) left p u here
-    unfolding specifiers
-    specifiers_found left u made stops some =
-        reads_node _ made (reads_shaped have_type (ap is_type (sym s.kinds) ∙
-        is_type_of types s.part some)
-        (no_more (s.so_far left) stops))
+-- a typedef name as a word of specifiers
+abbrev typedef_word : Form Leaf Specifier
+typedef_word = Choice symbol_of typedef_name_at
+
+steady_typedef : Steady (λ n. typedef_word)
+steady_typedef = record { good = λ n m. good_choice symbol_of good_typedef_name_at }
+
+-- a typedef name and words behind it are read from p up to here
+pub record AreNamed (allowed : AllowedStorage) (leaves : List Leaf) (p : ℕ)
+    (words : List Specifier) (here : ℕ) : Type 0 where
+  pub so_far : (left : ℕ) → SoFar (λ n. named_part (goes_in allowed) false)
+      (is_no_type (goes_in allowed)) (λ n. any_specifier)
+      (leaf_at leaves) (length leaves) left p words here
+  pub within : here < length leaves
+
+no_typedef_arm : (s : Symbol) → ((t : NamedType) → s ≡ symbol.TypedefName t → ⊥) →
+    Same (typedef_name_at s) Nothing
+unfolding typedef_name_at
+no_typedef_arm (symbol.TypedefName t) none = absurd (none t refl)
+no_typedef_arm _ none = same_form
+
+module _ (allowed : AllowedStorage) (leaves : List Leaf) (p : ℕ) where
+  pub named_first : (t : NamedType) (words : List Specifier) →
+      symbol_of (leaf_at leaves p) ≡ symbol.TypedefName t → p + 1 < length leaves →
+      words ≡ record { kind = kind.TypedefName t; place = (leaf_at leaves p).place } ∷ [] →
+      AreNamed allowed leaves p words (p + 1)
+  unfolding named_part typedef_name_at
+  named_first t words is_named fits pushed =
+      subst (λ list. AreNamed allowed leaves p list (p + 1)) (sym pushed)
+      (record {
+        so_far = λ left. first_part (is_no_type (goes_in allowed)) (λ n. any_specifier)
+            steady_typedef (reads_choice symbol_of (λ n. typedef_name_at) is_named
+            (reads_node _ refl (reads_one fits)));
+        within = fits;
+      })
+
+  pub named_none : (left : ℕ) →
+      ((t : NamedType) → symbol_of (leaf_at leaves p) ≡ symbol.TypedefName t → ⊥) →
+      p < length leaves →
+      NoneThrough (λ n. named_part (goes_in allowed) false) (leaf_at leaves) (length leaves) left p p
+  unfolding named_part
+  named_none left none fits = none_node _ (none_first (λ n. Many (is_no_type (goes_in allowed))
+      any_specifier) (none_arm symbol_of (λ n. typedef_name_at)
+      (λ n. no_typedef_arm (symbol_of (leaf_at leaves p)) none) (none_nothing fits)))
+
+  module _ (words : List Specifier) (here : ℕ) (s : AreNamed allowed leaves p words here) where
+    pub named_more : (k : SpecifierKind) (more : List Specifier) →
+        qualifies allowed (symbol_of (leaf_at leaves here)) ≡ true →
+        kind_of (symbol_of (leaf_at leaves here)) ≡ Some k →
+        here + 1 < length leaves → more ≡ words ++ record {
+          kind = k;
+          place = (leaf_at leaves here).place;
+        } ∷ [] → AreNamed allowed leaves p more (here + 1)
+    named_more k more goes_on is_kind fits pushed =
+        subst (λ list. AreNamed allowed leaves p list (here + 1)) (sym pushed)
+        (record {
+          so_far = λ left. one_more (s.so_far left) steady_specifier goes_on
+              (reads_choice symbol_of (λ n. specifier_at) refl
+              (reads_kind (symbol_of (leaf_at leaves here)) k is_kind fits));
+          within = fits;
+        })
+
+    pub named_found : (left : ℕ) → qualifies allowed (symbol_of (leaf_at leaves here)) ≡ false →
+        Reads (λ n. named_part (goes_in allowed) false) (leaf_at leaves) (length leaves) left p
+        words here
+    named_found left stops = no_more (s.so_far left) stops
+
+-- what a keyword is, where it is no word of a type
+pub is_qualifier : (allowed : AllowedStorage) (s : Symbol) (answer : Option SpecifierKind) →
+    types s ≡ false → IsKind allowed s answer → IsQualifier allowed s answer
+is_qualifier allowed s None e h = and_left _ _ h
+is_qualifier allowed s (Some k) e h = (and_from _ _ h.0 (ap not e), h.1)
+
+pub steady_keywords : (goes : Leaf → Bool) → Steady (λ n. keywords goes)
+steady_keywords goes = record { good = λ n m. good_keywords goes }

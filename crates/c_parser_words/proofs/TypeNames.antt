@@ -9,7 +9,9 @@ use Rattle.c_grammar_forms.specs.Steady.{Steady, good_many, good_choice}
 use Rattle.c_grammar_forms.specs.Reading.{Reads, NoneThrough, Faults}
 use Rattle.c_grammar_forms.specs.Found.{reads_node, reads_one, reads_choice, reads_shaped}
 use Rattle.c_grammar_forms.specs.NotFound.{none_node, none_shaped_here}
+use Rattle.c_grammar_forms.specs.Choices.{Same, same_form}
 use Rattle.c_grammar_forms.specs.Loops.{SoFar, no_parts, one_more, no_more, no_such_part}
+use Rattle.c_grammar_symbols.specs.declared.named.NamedType.{NamedType}
 use Rattle.c_grammar_symbols.specs.declared.words.TypeWord.{TypeWord}
 use Rattle.c_grammar_symbols.specs.declared.symbol.Symbol.{Symbol}
 use Rattle.c_grammar_symbols.specs.declared.symbol.Symbol.TheVariants as symbol
@@ -17,9 +19,10 @@ use Rattle.c_grammar_symbols.specs.Symbols.{Leaf, symbol_of}
 use Rattle.c_grammar_symbols.specs.Sources.{leaf_at}
 use Rattle.c_grammar_tree.specs.declared.TheConstants.{MAX_LEVEL}
 use Rattle.c_grammar_tree.specs.declared.expression.TypeName.{TypeName}
+use Rattle.c_grammar_tree.specs.declared.expression.TypeName.TheVariants as type_name'
 use Rattle.c_grammar_tree.specs.declared.declaration.SpecifierKind.TheVariants as kind
 use Rattle.c_grammar_tree.specs.Parts.{types, is_type_word, is_part_of_type, is_type}
-use Rattle.c_grammar_tree.specs.Expressions.{type_word_at, type_name}
+use Rattle.c_grammar_tree.specs.Expressions.{type_word_at, words_of_type, type_name_at}
 use Rattle.c_grammar_tree.specs.OneReading.{good_type_word_at}
 use Rattle.c_parser_words.specs.Steps.{AreGrown, IsRefused}
 use Rattle.c_parser_words.proofs.TypeParts.{no_type_longer, is_type_of, no_words}
@@ -79,10 +82,10 @@ module _ (leaves : List Leaf) (p : ℕ) where
     pub type_words_refused : (left : ℕ) (w : TypeWord) →
         symbol_of (leaf_at leaves here) ≡ symbol.TypeWord w →
         (e : ReadError) → IsRefused words (kind.TypeWord w) here e →
-        Faults MAX_LEVEL (λ n. type_name) (leaf_at leaves) (length leaves) left p e
-    unfolding type_name
+        Faults MAX_LEVEL (λ n. words_of_type) (leaf_at leaves) (length leaves) left p e
+    unfolding words_of_type
     type_words_refused left w is_word (Unexpected i) h =
-        subst (λ k. NoneThrough (λ n. type_name) (leaf_at leaves)
+        subst (λ k. NoneThrough (λ n. words_of_type) (leaf_at leaves)
         (length leaves) left p k) (sym h.0)
         (none_node _ (no_such_part (s.so_far left) is_type (ap types is_word)
         (λ n v b u k r us.
@@ -95,17 +98,17 @@ module _ (leaves : List Leaf) (p : ℕ) where
 
     pub type_words_none : (left : ℕ) → is_type_word (leaf_at leaves here) ≡ false →
         (length words == 0) ≡ true →
-        NoneThrough (λ n. type_name) (leaf_at leaves) (length leaves) left p here
-    unfolding type_name
+        NoneThrough (λ n. words_of_type) (leaf_at leaves) (length leaves) left p here
+    unfolding words_of_type
     type_words_none left stops none =
         none_node _ (none_shaped_here is_type steady_words (no_more (s.so_far left) stops)
         (no_words words none))
 
     pub type_words_found : (left : ℕ) (u : TypeName) →
-        u ≡ record { words = words; place = (leaf_at leaves p).place } →
+        u ≡ type_name'.Words words (leaf_at leaves p).place →
         is_type_word (leaf_at leaves here) ≡ false → (length words == 0) ≡ false →
-        Reads (λ n. type_name) (leaf_at leaves) (length leaves) left p u here
-    unfolding type_name
+        Reads (λ n. words_of_type) (leaf_at leaves) (length leaves) left p u here
+    unfolding words_of_type
     type_words_found left u made stops some =
         reads_node _ made (reads_shaped is_type (is_type_of words s.part some)
         (no_more (s.so_far left) stops))
@@ -114,3 +117,10 @@ module _ (leaves : List Leaf) (p : ℕ) where
 pub no_type_word : (s : Symbol) → ((w : TypeWord) → s ≡ symbol.TypeWord w → ⊥) → types s ≡ false
 no_type_word (symbol.TypeWord w) none = absurd (none w refl)
 no_type_word _ none = refl
+
+-- what is no typedef name calls for the words of a type
+pub arm_words : (s : Symbol) → ((t : NamedType) → s ≡ symbol.TypedefName t → ⊥) →
+    Same (type_name_at s) words_of_type
+unfolding type_name_at
+arm_words (symbol.TypedefName t) none = absurd (none t refl)
+arm_words _ none = same_form

@@ -61,10 +61,14 @@ pub false_from : (b : Bool) → (b ≡ true → ⊥) → b ≡ false
 false_from true h = absurd (h refl)
 false_from false h = refl
 
--- with words behind that are no part of a type there is no type
+-- with words behind that are no part of a type there is none, and no type
+pub no_part_longer : (a b : List TypeWord) → is_part_of_type a ≡ false →
+    is_part_of_type (a ++ b) ≡ false
+no_part_longer a b h = false_from (is_part_of_type (a ++ b))
+    (λ e. let clash : false ≡ true = sym h ∙ part_of_front a b e in cc)
+
 pub no_type_longer : (a b : List TypeWord) → is_part_of_type a ≡ false → is_type (a ++ b) ≡ false
-no_type_longer a b h = and_left _ _ (false_from (is_part_of_type (a ++ b))
-    (λ e. let clash : false ≡ true = sym h ∙ part_of_front a b e in cc))
+no_type_longer a b h = and_left _ _ (no_part_longer a b h)
 
 -- some words of a type, which are not none, are those of a type
 pub is_type_of : (words : List TypeWord) → is_part_of_type words ≡ true →

@@ -19,7 +19,7 @@ use Rattle.c_grammar_tree.specs.declared.item.Parameter.{Parameter}
 use Rattle.c_grammar_tree.specs.Parts.{has_no, is_part_of_type, points}
 use Rattle.c_grammar_tree.specs.Items.{is_only_void}
 use Rattle.c_parser_words.specs.declared.words.AllowedStorage.{AllowedStorage}
-use Rattle.c_parser_words.specs.Storage.{goes}
+use Rattle.c_parser_words.specs.Storage.{keeps_on, qualifies}
 
 -- behind the token so many brackets are open, where before it `depth` are; or it closes where none
 -- is
@@ -50,17 +50,25 @@ IsRefused before specifier at (fault.Unexpected i) =
 IsRefused before specifier at (fault.TooDeep i) = ⊥
 IsRefused before specifier at fault.OutOfMemory = Unit {0}
 
--- what a symbol is among specifiers
+-- what a keyword is among specifiers
 abbrev pub kind_of : Symbol → Option SpecifierKind
 kind_of (symbol.Storage word) = Some (kind.Storage word)
 kind_of (symbol.Specifier word) = Some (kind.Other word)
 kind_of (symbol.TypeWord word) = Some (kind.TypeWord word)
 kind_of _ = None
 
--- the answer is what the symbol is among specifiers, and none where they end
+-- the answer is what the symbol is where it passes the test, and none where it does not
+abbrev pub IsKindWhere : (Symbol → Bool) → Symbol → Option SpecifierKind → Type 0
+IsKindWhere test symbol answer = MatchOption answer (test symbol ≡ false)
+    (λ found. (test symbol ≡ true) × (kind_of symbol ≡ Some found))
+
+-- the answer is what the keyword is among specifiers, and none where they end
 abbrev pub IsKind : AllowedStorage → Symbol → Option SpecifierKind → Type 0
-IsKind allowed symbol answer = MatchOption answer (goes allowed symbol ≡ false)
-    (λ found. (goes allowed symbol ≡ true) × (kind_of symbol ≡ Some found))
+IsKind allowed = IsKindWhere (keeps_on allowed)
+
+-- the same among those behind a typedef name
+abbrev pub IsQualifier : AllowedStorage → Symbol → Option SpecifierKind → Type 0
+IsQualifier allowed = IsKindWhere (qualifies allowed)
 
 -- the specifier is char
 abbrev pub is_char_kind : SpecifierKind → Bool

@@ -5,13 +5,15 @@
 
 mod brackets;
 mod classes;
+mod named;
 mod names;
 mod parameters;
 mod types;
 mod words;
 
 pub use brackets::{attributes, round_brackets, skipped_body};
-pub use names::{identifier, name, optional_identifier};
+pub use named::named_type;
+pub use names::{identifier, name, optional_identifier, typedef_names};
 pub use parameters::{function_rest, parameter, parameter_list};
 pub use types::type_name;
 pub use words::{AllowedStorage, specifiers};

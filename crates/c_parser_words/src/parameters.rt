@@ -14,9 +14,9 @@ ghost use Rattle.c_parser_words.specs.Steps.{HasPointer, is_char, is_void_alone}
 use crate::brackets::attributes;
 use crate::classes::is_pointer;
 use crate::names::optional_identifier;
-use crate::words::{AllowedStorage, specifier_kind, specifiers};
+use crate::words::{AllowedStorage, specifiers};
 use c_grammar_forms::ReadError;
-use c_grammar_symbols::{Source, Terminal, TypeWord};
+use c_grammar_symbols::{Source, Symbol, Terminal, TypeWord};
 use c_grammar_tree::{Parameter, Parameters, Specifier, SpecifierKind};
 use cpa_ints::Seq;
 use std::alloc::Global;
@@ -86,9 +86,10 @@ fn no_level(source: &Source, at: usize) -> ReadError
     requires { at < length source.now }
     ensures { result ≡ no_level (is_specifier (leaf_at source.now at)) at }
 {
-    match specifier_kind(AllowedStorage::Any, source.symbol(at)) {
-        Some(_) => ReadError::TooDeep { at },
-        None => ReadError::Unexpected { at },
+    match source.symbol(at) {
+        Symbol::Storage(_) | Symbol::Specifier(_) | Symbol::TypeWord(_) | Symbol::TypedefName(_) =>
+            ReadError::TooDeep { at },
+        _ => ReadError::Unexpected { at },
     }
 }
 

@@ -3,7 +3,7 @@
 ghost use Rattle.std.specs.Prelude.{◌≡◌, ◌<◌, ◌≤◌, true, length, OnOk, IfErr, Vec};
 ghost use Rattle.c_grammar_tree.specs.Parts.{occurrences, at_most, at_most_one_sign};
 ghost use Rattle.c_grammar_tree.specs.Parts.{is_part_of_type};
-ghost use Rattle.c_grammar_tree.specs.Expressions.{type_name};
+ghost use Rattle.c_grammar_tree.specs.Expressions.{words_of_type, type_name};
 ghost use Rattle.c_parser_words.specs.Answers.{Finds};
 ghost use Rattle.c_parser_words.specs.Steps.{AreGrown, IsRefused, has_no_size};
 
@@ -78,15 +78,17 @@ pub fn push_type(types: &mut Vec<TypeWord>, kind: SpecifierKind, at: usize) -> R
                 Err(ReadError::Unexpected { at })
             }
         }
-        SpecifierKind::Storage(_) | SpecifierKind::Other(_) => Ok(()),
+        SpecifierKind::Storage(_) | SpecifierKind::Other(_) | SpecifierKind::TypedefName(_) => {
+            Ok(())
+        }
     }
 }
 
 /// The words of a type that stand here. A word that no type has with those before it is the fault,
 /// and so is what stands here where it is no such word. Never more than five words are kept.
-pub fn type_name(alloc: Global, source: &Source, at: usize) -> Result<(TypeName, usize), ReadError>
+fn words_of_type(alloc: Global, source: &Source, at: usize) -> Result<(TypeName, usize), ReadError>
     requires { at < length source.now }
-    ensures { Finds type_name source.now at result }
+    ensures { Finds words_of_type source.now at result }
 {
     let mut words = Vec::new(alloc);
     let mut here = at;
@@ -99,5 +101,19 @@ pub fn type_name(alloc: Global, source: &Source, at: usize) -> Result<(TypeName,
     }
     let place = source.place(at);
     let words = Seq::from_vec(words);
-    Ok((TypeName { words, place }, here))
+    Ok((TypeName::Words { words, place }, here))
+}
+
+/// The typedef name that stands here, or else the words of a type.
+pub fn type_name(alloc: Global, source: &Source, at: usize) -> Result<(TypeName, usize), ReadError>
+    requires { at < length source.now }
+    ensures { Finds type_name source.now at result }
+{
+    match source.symbol(at) {
+        Symbol::TypedefName(named) => {
+            let place = source.place(at);
+            Ok((TypeName::Typedef { named, place }, at + 1))
+        }
+        _ => words_of_type(alloc, source, at),
+    }
 }

@@ -344,6 +344,7 @@ numbered_body text specifiers declarator (body.Block items place) before h =
 pub numbered_item : (text : Text) (one : Item) (before : Before) → Numbered before
     → Numbered (item_behind text one before)
 numbered_item text (item.Empty place) before h = h
+numbered_item text (item.Typedef specifiers names place) before h = h
 numbered_item text (item.Objects declaration) before h =
     numbered_globals text declaration.specifiers declaration.declarators before h
 numbered_item text (item.Prototype specifiers declarator) before h =

@@ -13,7 +13,7 @@ ghost use Rattle.c_types.specs.Blocks.{block_behind, block_faults, block_calls, 
 use c_grammar_tree::{BlockItem, Body, FunctionDeclarator, Item, Specifiers};
 use c_lexer::TextFault;
 use c_types_bodies::read_body;
-use c_types_globals::{Scope, Start, declare_function, declare_objects};
+use c_types_globals::{Scope, Start, declare_function, declare_objects, declare_typedefs};
 use c_types_names::Survey;
 use c_types_recursion::Call;
 use c_types_rules::TypedFunction;
@@ -149,6 +149,11 @@ fn gather_item(
     let first = &mut gathered.first;
     match item {
         Item::Empty { .. } => Ok(()),
+        Item::Typedef {
+            specifiers,
+            names,
+            ..
+        } => declare_typedefs(alloc, scope, specifiers, names.as_slice(), first),
         Item::Objects(declaration) => {
             declare_objects(
                 alloc,

@@ -29,7 +29,7 @@ use Rattle.c_types_rules.specs.declared.meaning.Role.TheVariants.{Valued, Evalua
 use Rattle.c_types_rules.specs.declared.typed.TypedExpression.{TypedExpression}
 use Rattle.c_types_rules.specs.declared.typed.TypedExpression.TheVariants as typed
 use Rattle.c_types_rules.specs.Names.{Text, meaning_of}
-use Rattle.c_types_rules.specs.Types.{kind_of_words, value_kind}
+use Rattle.c_types_rules.specs.Types.{kind_of_type_name, value_kind}
 use Rattle.c_types_rules.specs.First.{first_with}
 use Rattle.c_types_rules.specs.Parts.{value, with_value, named_kind, changed_kind, cast_kind}
 use Rattle.c_types_rules.specs.Parts.{ends_kind}
@@ -335,14 +335,14 @@ module _ (text : Text) (names : List Entry) where
 
   pub part_Cast : (to_type : TypeName) (operand : Expression) (place : ℕ) →
       part_of text names (tree.Cast to_type operand place)
-      ≡ plain place (cast_kind (kind_of_words to_type.words) (part_of text names operand).kind)
+      ≡ plain place (cast_kind (kind_of_type_name to_type) (part_of text names operand).kind)
   part_Cast to_type operand place =
       ap (λ (r : Reading). r.part) (open_Cast to_type operand place)
 
   pub typed_Cast : (to_type : TypeName) (operand : Expression) (place : ℕ) →
       typed_of text names (tree.Cast to_type operand place)
       ≡ typed.Cast (typed_of text names operand)
-      (cast_kind (kind_of_words to_type.words) (part_of text names operand).kind) place
+      (cast_kind (kind_of_type_name to_type) (part_of text names operand).kind) place
   typed_Cast to_type operand place =
       ap (λ (r : Reading). r.typed) (open_Cast to_type operand place)
 
@@ -350,7 +350,7 @@ module _ (text : Text) (names : List Entry) where
       (place : ℕ) →
       first_with held (faults_of text names (tree.Cast to_type operand place))
       ≡ first_with held
-      (role_faults text names (cast_role (kind_of_words to_type.words)) operand)
+      (role_faults text names (cast_role (kind_of_type_name to_type)) operand)
   first_Cast held to_type operand place =
       ap (λ (r : Reading). first_with held (uses_faults r.uses)) (open_Cast to_type operand place)
 
@@ -358,7 +358,7 @@ module _ (text : Text) (names : List Entry) where
       (place : ℕ) →
       held ++ calls_of text names caller (tree.Cast to_type operand place)
       ≡ held
-      ++ role_calls text names caller (cast_role (kind_of_words to_type.words)) operand
+      ++ role_calls text names caller (cast_role (kind_of_type_name to_type)) operand
   calls_Cast held caller to_type operand place =
       ap (λ (r : Reading). held ++ uses_calls caller r.uses) (open_Cast to_type operand place)
 

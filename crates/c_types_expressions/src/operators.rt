@@ -16,7 +16,7 @@ use c_lexer::TextFault;
 use c_types_names::{Names, Survey};
 use c_types_recursion::Call;
 use c_types_rules::{
-    Part, Role, TypedExpression, as_kind, cast_kind, cast_role, ends_kind, kind_of_words,
+    Part, Role, TypedExpression, as_kind, cast_kind, cast_role, ends_kind, kind_of_type_name,
     with_value,
 };
 use cpa_ints::Boxed;
@@ -171,7 +171,7 @@ pub(crate) fn read_cast(
     ensures calls { OnOk result (calls.new.items ≡ calls.old.items
         ++ calls_of survey.now names.now caller (Expression.Cast to.now operand.now place)) }
 {
-    let wanted = kind_of_words(to.words.as_slice());
+    let wanted = kind_of_type_name(to);
     let role = cast_role(wanted);
     let read = read_used(alloc, survey, names, caller, role, operand, first, calls)?;
     let kind = cast_kind(wanted, read.part.kind);

@@ -1,3 +1,4 @@
 pub mod Faults
 pub mod Globals
 pub mod Next
+pub mod Typed

@@ -3,4 +3,9 @@ use Rattle.c_types_rules.specs.Items.{Before}
 use Rattle.c_types_globals.specs.declared.scope.Scope.{Scope}
 
 abbrev pub before_of : Scope → Before
-before_of scope = record { names = scope.names; objects = scope.objects; bodies = scope.bodies }
+before_of scope = record {
+  names = scope.names;
+  types = scope.types;
+  objects = scope.objects;
+  bodies = scope.bodies;
+}

@@ -7,8 +7,12 @@ mod merging;
 mod objects;
 mod parameters;
 mod scope;
+mod type_names;
+mod typedefs;
 
 pub use functions::declare_function;
 pub use merging::same_kind;
 pub use objects::declare_objects;
 pub use scope::{Scope, Start};
+pub use type_names::TypeNames;
+pub use typedefs::declare_typedefs;

@@ -4,15 +4,18 @@ ghost use Rattle.std.specs.Prelude.{◌≡◌};
 ghost use Rattle.c_types_rules.specs.Items.{nothing_before};
 ghost use Rattle.c_types_globals.specs.Scopes.{before_of};
 
+use crate::type_names::TypeNames;
 use c_types_names::Names;
 use cpa_ints::Seq;
 use std::alloc::Global;
 use std::marker::Model;
 
-/// The names declared so far, how many objects, and how many bodies stand before this place.
+/// The names declared so far, the typedef names, how many objects, and how many bodies stand before
+/// this place.
 #[derive(Drop)]
 pub struct Scope {
     pub names: Names,
+    pub types: TypeNames,
     pub objects: u32,
     pub bodies: u32,
 }
@@ -24,6 +27,7 @@ impl Scope {
     {
         Scope {
             names: Names::new(alloc),
+            types: TypeNames::new(alloc),
             objects: 0,
             bodies: 0,
         }

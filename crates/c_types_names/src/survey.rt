@@ -130,7 +130,7 @@ fn note_item(parts: &mut Parts, alloc: Global, item: &Item) -> Result<(), AllocE
         ++ option_to_list (item_arity item.now)) }
 {
     match item {
-        Item::Empty { .. } | Item::Objects(_) => Ok(()),
+        Item::Empty { .. } | Item::Typedef { .. } | Item::Objects(_) => Ok(()),
         Item::Prototype { declarator, .. } => note_declarator(parts, alloc, false, declarator),
         Item::Function {
             declarator,

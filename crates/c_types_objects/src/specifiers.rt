@@ -1,12 +1,12 @@
 //! What specifiers say of an object or a function (`kind_of` and `has_const` of `c_types_rules`,
 //! `specs/Declarations.antt`). Proved with `proofs/Words.antt`.
 ghost use Rattle.std.specs.Prelude.{◌≡◌, ◌++◌, ◌∷◌, [], IfOk, OnOk};
-ghost use Rattle.c_grammar_tree.specs.Parts.{type_words};
-ghost use Rattle.c_types_rules.specs.Declarations.{is_const_word, is_void_word, kind_of, has_const};
+ghost use Rattle.c_grammar_tree.specs.Parts.{type_words, named_among, is_const_word};
+ghost use Rattle.c_types_rules.specs.Declarations.{is_void_word, kind_of, has_const};
 
-use c_grammar_symbols::{SpecifierWord, TypeWord};
+use c_grammar_symbols::{NamedType, SpecifierWord, TypeWord};
 use c_grammar_tree::{Specifier, SpecifierKind, Specifiers};
-use c_types_rules::{Kind, kind_of_words};
+use c_types_rules::{Kind, kind_of_words, type_of_named};
 use std::alloc::{AllocError, Global};
 
 /// What specifiers say of an object: its type, and whether it is const.
@@ -32,8 +32,25 @@ pub fn read_specifiers(alloc: Global, specifiers: &Specifiers) -> Result<Qualifi
 pub(crate) fn kind_of(alloc: Global, specifiers: &Specifiers) -> Result<Kind, AllocError>
     ensures { IfOk result (λ kind. kind ≡ kind_of specifiers.now) }
 {
-    let words = type_words(alloc, specifiers.words.as_slice())?;
-    Ok(kind_of_words(words.as_slice()))
+    match named_among(specifiers.words.as_slice()) {
+        Some(named) => Ok(Kind::Value(type_of_named(named))),
+        None => {
+            let words = type_words(alloc, specifiers.words.as_slice())?;
+            Ok(kind_of_words(words.as_slice()))
+        }
+    }
+}
+
+/// What the first typedef name among these stands for.
+fn named_among(words: &[Specifier]) -> Option<NamedType>
+    ensures { result ≡ named_among words.now }
+{
+    for word in words {
+        if let SpecifierKind::TypedefName(named) = word.kind {
+            return Some(named);
+        }
+    }
+    None
 }
 
 /// Whether specifiers have `const` among them.
@@ -43,12 +60,13 @@ pub(crate) fn has_const(specifiers: &Specifiers) -> bool
     specifiers.words.iter().any(|word| is_const_word(*word))
 }
 
-/// Whether the word is `const`.
+/// Whether the word makes what is declared const.
 fn is_const_word(word: Specifier) -> bool
     ensures { result ≡ is_const_word word }
 {
     match word.kind {
         SpecifierKind::Other(SpecifierWord::Const) => true,
+        SpecifierKind::TypedefName(named) => named.is_const,
         SpecifierKind::Storage(_) | SpecifierKind::Other(_) | SpecifierKind::TypeWord(_) => false,
     }
 }
@@ -59,7 +77,10 @@ pub(crate) fn is_void_word(word: Specifier) -> bool
 {
     match word.kind {
         SpecifierKind::TypeWord(TypeWord::Void) => true,
-        SpecifierKind::Storage(_) | SpecifierKind::Other(_) | SpecifierKind::TypeWord(_) => false,
+        SpecifierKind::Storage(_)
+        | SpecifierKind::Other(_)
+        | SpecifierKind::TypeWord(_)
+        | SpecifierKind::TypedefName(_) => false,
     }
 }
 
@@ -72,7 +93,9 @@ fn push_type_word(found: &mut Vec<TypeWord>, word: Specifier) -> Result<(), Allo
             found.push(type_word)?;
             Ok(())
         }
-        SpecifierKind::Storage(_) | SpecifierKind::Other(_) => Ok(()),
+        SpecifierKind::Storage(_) | SpecifierKind::Other(_) | SpecifierKind::TypedefName(_) => {
+            Ok(())
+        }
     }
 }
 

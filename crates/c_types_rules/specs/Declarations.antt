@@ -4,7 +4,6 @@ use Rattle.std.specs.Prelude.{◌&&◌, ◌||◌, if◌then◌else◌, List, [],
 use Rattle.std.specs.Prelude.{Option, None, Some, is_some, unwrap_or, option_and_then}
 use Rattle.std.specs.List.{list_any}
 use Rattle.std.specs.Str.{bytes_eq}
-use Rattle.c_grammar_symbols.specs.declared.words.SpecifierWord.TheVariants as specifier
 use Rattle.c_grammar_symbols.specs.declared.words.TypeWord.TheVariants as word
 use Rattle.c_grammar_tree.specs.declared.expression.Expression.{Expression}
 use Rattle.c_grammar_tree.specs.declared.declaration.Specifier.{Specifier}
@@ -14,7 +13,7 @@ use Rattle.c_grammar_tree.specs.declared.declaration.Initializer.{Initializer}
 use Rattle.c_grammar_tree.specs.declared.declaration.Initializer.TheVariants as initializer
 use Rattle.c_grammar_tree.specs.declared.declaration.Declarator.{Declarator}
 use Rattle.c_grammar_tree.specs.declared.item.Parameter.{Parameter}
-use Rattle.c_grammar_tree.specs.Parts.{type_words}
+use Rattle.c_grammar_tree.specs.Parts.{type_words, named_among, have_const}
 use Rattle.c_types_rules.specs.declared.TheConstants.{MAX_ELEMENTS}
 use Rattle.c_types_rules.specs.declared.meaning.Kind.{Kind}
 use Rattle.c_types_rules.specs.declared.meaning.Kind.TheVariants.{Void, Value}
@@ -24,20 +23,12 @@ use Rattle.c_types_rules.specs.declared.meaning.Declared.TheVariants as declared
 use Rattle.c_types_rules.specs.declared.meaning.Entry.{Entry}
 use Rattle.c_types_rules.specs.declared.typed.TypedInitializer.{TypedInitializer}
 use Rattle.c_types_rules.specs.declared.typed.TypedInitializer.TheVariants as typed_initializer
-use Rattle.c_types_rules.specs.Types.{kind_of_words, object_type, value_kind}
+use Rattle.c_types_rules.specs.Types.{kind_of_words, type_of_named, object_type, value_kind}
 use Rattle.c_types_rules.specs.declared.meaning.Role.TheVariants.{Valued}
 use Rattle.c_types_rules.specs.Names.{Text}
 use Rattle.c_types_rules.specs.Expressions.{reading, Use, used}
 use Rattle.c_types_rules.specs.ExpressionRules.{at_if}
 use Rattle.c_types_rules.specs.Constants.{constant}
-
--- the word is const
-abbrev pub is_const_word : Specifier → Bool
-is_const_word found = elim found.kind [
-  | word_kind.Storage w ↦ false
-  | word_kind.Other w ↦ elim w [ specifier.Const ↦ true | _ ↦ false ]
-  | word_kind.TypeWord w ↦ false
-]
 
 -- the word is void
 abbrev pub is_void_word : Specifier → Bool
@@ -45,15 +36,20 @@ is_void_word found = elim found.kind [
   | word_kind.Storage w ↦ false
   | word_kind.Other w ↦ false
   | word_kind.TypeWord w ↦ elim w [ word.Void ↦ true | _ ↦ false ]
+  | word_kind.TypedefName named ↦ false
 ]
 
--- the type that specifiers name (C11 6.7.2)
+-- the type that specifiers name: that of the typedef name among them, or of their words (C11 6.7.2
+-- and 6.7.8)
 abbrev pub kind_of : Specifiers → Kind
-kind_of specifiers = kind_of_words (type_words specifiers.words)
+kind_of specifiers = elim (named_among specifiers.words) [
+  | None ↦ kind_of_words (type_words specifiers.words)
+  | Some named ↦ Value (type_of_named named)
+]
 
--- they have const among them (C11 6.7.3)
+-- they make const what is declared with them (C11 6.7.3)
 abbrev pub has_const : Specifiers → Bool
-has_const specifiers = list_any is_const_word specifiers.words
+has_const specifiers = have_const specifiers.words
 
 abbrev pub is_void_kind : Kind → Bool
 is_void_kind Void = true

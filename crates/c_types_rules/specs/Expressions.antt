@@ -22,7 +22,7 @@ use Rattle.c_types_rules.specs.declared.typed.TypedExpression.{TypedExpression}
 use Rattle.c_types_rules.specs.declared.typed.TypedExpression.TheVariants as tree
 use Rattle.c_types_rules.specs.declared.typed.TypedSuffix.{TypedSuffix}
 use Rattle.c_types_rules.specs.declared.typed.TypedSuffix.TheVariants as behind
-use Rattle.c_types_rules.specs.Types.{kind_of_words}
+use Rattle.c_types_rules.specs.Types.{kind_of_type_name}
 use Rattle.c_types_rules.specs.Names.{Text, meaning_of}
 use Rattle.c_types_rules.specs.Parts.{value, with_value, with_values, named_kind, element_form}
 use Rattle.c_types_rules.specs.Parts.{element_of, result_of, changed_kind, unary_type, cast_kind}
@@ -176,7 +176,7 @@ reading_step text names (Expression-F.Unary operator operand place) =
       typed = tree.Unary operator operand.typed kind place;
     }
 reading_step text names (Expression-F.Cast to operand place) =
-    let wanted = kind_of_words to.words in
+    let wanted = kind_of_type_name to in
     let kind = cast_kind wanted operand.part.kind in
     record {
       part = plain place kind;

@@ -1,12 +1,15 @@
 -- The items of a text: what they declare, the rules that they can break, and the calls in their
 -- bodies (C11 6.7 and 6.9).
 use Rattle.std.specs.Prelude.{ℕ, ◌+◌, ℤ, pos, Bool, true, false, not, ◌&&◌, ◌||◌, List, [], ◌∷◌}
-use Rattle.std.specs.Prelude.{◌++◌, length, map, Option, None, Some, is_some, option_map}
+use Rattle.std.specs.Prelude.{◌++◌, length, map, find, Option, None, Some, is_some, option_map}
 use Rattle.std.specs.List.{flat_map, filter_map}
 use Rattle.std.specs.Ordering.{int_eq}
+use Rattle.std.specs.Str.{bytes_eq}
 use Rattle.cpa_expr.specs.Equality.{same_type}
 use Rattle.c_lexer.specs.declared.fault.Rule.TheVariants as rule
 use Rattle.c_lexer.specs.declared.fault.TextFault.{TextFault}
+use Rattle.cpa_ints.specs.declared.integers.IntType.{IntType}
+use Rattle.c_grammar_tree.specs.declared.name.Name.{Name}
 use Rattle.c_grammar_tree.specs.declared.expression.Expression.{Expression}
 use Rattle.c_grammar_tree.specs.declared.declaration.Specifiers.{Specifiers}
 use Rattle.c_grammar_tree.specs.declared.declaration.Declarator.{Declarator}
@@ -30,6 +33,7 @@ use Rattle.c_types_rules.specs.declared.meaning.Meaning.{Meaning}
 use Rattle.c_types_rules.specs.declared.meaning.Meaning.TheVariants as meaning
 use Rattle.c_types_rules.specs.declared.meaning.Form.TheVariants.{Bare}
 use Rattle.c_types_rules.specs.declared.meaning.Role.TheVariants.{Valued}
+use Rattle.c_types_rules.specs.Types.{object_type}
 use Rattle.c_types_rules.specs.Names.{Text, declared_as, or_else}
 use Rattle.c_types_rules.specs.Expressions.{reading, Use, given, used}
 use Rattle.c_types_rules.specs.ExpressionRules.{broken, at_if, uses_faults}
@@ -77,10 +81,11 @@ abbrev pub text_of : List Item → Text
 text_of items =
     record { bodies = filter_map body_name items; arities = filter_map item_arity items }
 
--- what is known where an item stands: the names declared so far, how many objects, and how many
--- bodies stand before it
+-- what is known where an item stands: the names of objects and functions that are declared so far,
+-- the typedef names and their types, how many objects, and how many bodies stand before it
 pub record Before : Type 0 where
   pub names : List Entry
+  pub types : List (List ℕ × IntType)
   pub objects : ℕ
   pub bodies : ℕ
 
@@ -255,6 +260,32 @@ body_behind text specifiers declarator (body.Block items place) before = record 
   bodies = before.bodies + 1;
 }
 
+-- the type of a typedef name
+abbrev pub typedef_type : List (List ℕ × IntType) → List ℕ → Option IntType
+typedef_type types name = option_map (λ row. row.1) (find (λ row. bytes_eq name row.0) types)
+
+-- the name is declared already, and not as a name of this type (C11 6.7p3). Behind a typedef its
+-- names are no identifiers, so nothing but a typedef comes to declare one again
+abbrev pub redeclares_type : Before → List ℕ → IntType → Bool
+redeclares_type before name t = is_some (declared_as before.names name)
+    || elim (typedef_type before.types name) [ None ↦ false | Some old ↦ not (same_type old t) ]
+
+-- N2 of a typedef: the later name
+abbrev pub typedef_faults : IntType → Name → Before → List TextFault
+typedef_faults t name before =
+    broken rule.N2 (at_if (redeclares_type before name.bytes t) name.place)
+
+-- the names of a typedef in order
+abbrev pub typedefs_behind : IntType → List Name → Before → Before
+typedefs_behind t names before =
+    record before { types = before.types ++ map (λ name. (name.bytes, t)) names }
+
+abbrev pub typedefs_faults : IntType → List Name → Before → List TextFault
+typedefs_faults t [] before = []
+typedefs_faults t (name ∷ more) before =
+    typedef_faults t name before
+    ++ typedefs_faults t more (typedefs_behind t (name ∷ []) before)
+
 -- a call in a body: the number of the body in which it stands, that of the called function's body,
 -- and the called name's place
 pub record Call : Type 0 where
@@ -279,6 +310,8 @@ site_calls text caller site = flat_map (use_calls caller) (act_uses text site.ar
 -- items in order: what is known behind each, its faults and its calls
 abbrev pub item_behind : Text → Item → Before → Before
 item_behind text (item.Empty place) before = before
+item_behind text (item.Typedef specifiers names place) before =
+    typedefs_behind (object_type (kind_of specifiers)) names before
 item_behind text (item.Objects declaration) before =
     globals_behind text declaration.specifiers declaration.declarators before
 item_behind text (item.Prototype specifiers declarator) before =
@@ -288,6 +321,8 @@ item_behind text (item.Function specifiers declarator made) before =
 
 abbrev pub item_faults : Text → Item → Before → List TextFault
 item_faults text (item.Empty place) before = []
+item_faults text (item.Typedef specifiers names place) before =
+    typedefs_faults (object_type (kind_of specifiers)) names before
 item_faults text (item.Objects declaration) before =
     globals_faults text declaration.specifiers declaration.declarators before
 item_faults text (item.Prototype specifiers declarator) before =
@@ -313,4 +348,4 @@ items_calls text (one ∷ more) before =
 
 -- what is known at the beginning of a text
 abbrev pub nothing_before : Before
-nothing_before = record { names = []; objects = 0; bodies = 0 }
+nothing_before = record { names = []; types = []; objects = 0; bodies = 0 }

@@ -11,6 +11,10 @@ use Rattle.c_grammar_symbols.specs.declared.words.TypeWord.TheVariants as word
 use Rattle.c_grammar_symbols.specs.contracts.words.TypeWord as type_word
 use Rattle.c_grammar_symbols.specs.declared.operators.BinaryOperator.{BinaryOperator}
 use Rattle.c_grammar_symbols.specs.declared.operators.BinaryOperator.TheVariants as binary
+use Rattle.c_grammar_symbols.specs.declared.named.NamedType.{NamedType}
+use Rattle.c_grammar_symbols.specs.declared.named.Size.TheVariants as size
+use Rattle.c_grammar_tree.specs.declared.expression.TypeName.{TypeName}
+use Rattle.c_grammar_tree.specs.declared.expression.TypeName.TheVariants as type_name
 use Rattle.c_types_rules.specs.declared.meaning.Kind.{Kind}
 use Rattle.c_types_rules.specs.declared.meaning.Kind.TheVariants.{Void, Value}
 
@@ -34,6 +38,22 @@ type_of_words words =
 -- the type that the words name
 abbrev pub kind_of_words : List TypeWord → Kind
 kind_of_words words = if has word.Void words then Void else Value (type_of_words words)
+
+-- the integer type that a typedef name stands for
+abbrev pub type_of_named : NamedType → IntType
+type_of_named named = elim named.size [
+  | size.Bool ↦ ty.Bool
+  | size.Char ↦ if named.is_unsigned then ty.U8 else ty.I8
+  | size.Short ↦ if named.is_unsigned then ty.U16 else ty.I16
+  | size.Int ↦ if named.is_unsigned then ty.U32 else ty.I32
+  | size.Long ↦ if named.is_unsigned then ty.U64 else ty.I64
+  | size.LongLong ↦ if named.is_unsigned then ty.U64 else ty.I64
+]
+
+-- the type that a cast names
+abbrev pub kind_of_type_name : TypeName → Kind
+kind_of_type_name (type_name.Words words place) = kind_of_words words
+kind_of_type_name (type_name.Typedef named place) = Value (type_of_named named)
 
 -- the integer type of an object that is declared with this type; one of type void counts as an int,
 -- beside its fault

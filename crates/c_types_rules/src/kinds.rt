@@ -2,13 +2,13 @@
 //! line for line. Proved by the checker alone.
 ghost use Rattle.std.specs.Prelude.{◌≡◌};
 ghost use Rattle.c_types_rules.specs.Types.{has, signed_or, type_of_words, kind_of_words};
-ghost use Rattle.c_types_rules.specs.Types.{object_type};
+ghost use Rattle.c_types_rules.specs.Types.{type_of_named, kind_of_type_name, object_type};
 ghost use Rattle.c_types_rules.specs.Types.{value_type, value_kind, binary_type};
 ghost use Rattle.c_types_rules.specs.Parts.{unary_type, cast_kind, ends_kind, value};
 
 use crate::Kind;
-use c_grammar_symbols::{BinaryOperator, TypeWord};
-use c_grammar_tree::UnaryOperator;
+use c_grammar_symbols::{BinaryOperator, NamedType, Size, TypeWord};
+use c_grammar_tree::{TypeName, UnaryOperator};
 use cpa_ints::{IntType, common, promote};
 
 /// Whether a word stands among these.
@@ -54,6 +54,33 @@ pub fn kind_of_words(words: &[TypeWord]) -> Kind
         Kind::Void
     } else {
         Kind::Value(type_of_words(words))
+    }
+}
+
+/// The integer type that a typedef name stands for.
+pub fn type_of_named(named: NamedType) -> IntType
+    ensures { result ≡ type_of_named named }
+{
+    match (named.size, named.is_unsigned) {
+        (Size::Bool, _) => IntType::Bool,
+        (Size::Char, false) => IntType::I8,
+        (Size::Char, true) => IntType::U8,
+        (Size::Short, false) => IntType::I16,
+        (Size::Short, true) => IntType::U16,
+        (Size::Int, false) => IntType::I32,
+        (Size::Int, true) => IntType::U32,
+        (Size::Long | Size::LongLong, false) => IntType::I64,
+        (Size::Long | Size::LongLong, true) => IntType::U64,
+    }
+}
+
+/// The type that a cast names.
+pub fn kind_of_type_name(name: &TypeName) -> Kind
+    ensures { result ≡ kind_of_type_name name.now }
+{
+    match name {
+        TypeName::Words { words, .. } => kind_of_words(words.as_slice()),
+        TypeName::Typedef { named, .. } => Kind::Value(type_of_named(*named)),
     }
 }
 

@@ -14,7 +14,8 @@ mod uses;
 
 pub use first::{note, note_place};
 pub use kinds::{
-    as_kind, binary_type, cast_kind, ends_kind, kind_of_words, unary_type, value_kind,
+    as_kind, binary_type, cast_kind, ends_kind, kind_of_type_name, kind_of_words, type_of_named,
+    unary_type, value_kind,
 };
 pub use known::{KNOWN, KnownFunction, KnownName, known_function};
 pub use laws::{known_functions_are_found, limits};

@@ -312,43 +312,43 @@ unary::unary-returns-in-None t c =
 pub unary::group-returns-in_err-to : goal.unary::group-returns-in_err-to
 unary::group-returns-in_err-to t c =
     at_exit MAX_LEVEL _ _ c.from_residual.ensures.1 c.in_err-to.ensures
-    (λ i g. group_none_type (sym c.if-is_type_word.ensures) g)
+    (λ i g. group_none_type (sym c.if-begins_type.ensures) g)
 
 pub unary::group-returns-in_err-start : goal.unary::group-returns-in_err-start
 unary::group-returns-in_err-start t c =
     at_lack MAX_LEVEL _ _ c.from_residual-in_err-start.ensures.1 c.in_err-start.ensures
-    (λ fails. group_type_open (sym c.if-is_type_word.ensures) c.in_ok-to.ensures fails)
+    (λ fails. group_type_open (sym c.if-begins_type.ensures) c.in_ok-to.ensures fails)
 
 pub unary::group-returns-in_err-inner : goal.unary::group-returns-in_err-inner
 unary::group-returns-in_err-inner t c =
     at_exit MAX_LEVEL _ _ c.from_residual-in_err-inner.ensures.1 c.in_err-inner.ensures
-    (λ i g. group_none_operand (sym c.if-is_type_word.ensures)
+    (λ i g. group_none_operand (sym c.if-begins_type.ensures)
     (reads_closed c.in_ok-to.ensures c.in_ok-start.ensures) g)
 
-pub unary::group-returns-then-is_type_word : goal.unary::group-returns-then-is_type_word
-unary::group-returns-then-is_type_word t c = rw (c.in_ok-operand.ensures, c.place-place.ensures)
-    (group_cast (sym c.if-is_type_word.ensures) (reads_closed c.in_ok-to.ensures
+pub unary::group-returns-then-begins_type : goal.unary::group-returns-then-begins_type
+unary::group-returns-then-begins_type t c = rw (c.in_ok-operand.ensures, c.place-place.ensures)
+    (group_cast (sym c.if-begins_type.ensures) (reads_closed c.in_ok-to.ensures
     c.in_ok-start.ensures) c.in_ok-inner.ensures)
 
 pub unary::group-returns-in_err-inside : goal.unary::group-returns-in_err-inside
 unary::group-returns-in_err-inside t c =
     at_exit MAX_LEVEL _ _ c.from_residual-in_err-inside.ensures.1 c.in_err-inside.ensures
-    (λ i g. group_none_inner (sym c.if-is_type_word.ensures) g)
+    (λ i g. group_none_inner (sym c.if-begins_type.ensures) g)
 
 pub unary::group-returns-in_err-behind : goal.unary::group-returns-in_err-behind
 unary::group-returns-in_err-behind t c =
     at_lack MAX_LEVEL _ _ c.from_residual-in_err-behind.ensures.1 c.in_err-behind.ensures
-    (λ fails. group_open (sym c.if-is_type_word.ensures) c.in_ok-inside.ensures fails)
+    (λ fails. group_open (sym c.if-begins_type.ensures) c.in_ok-inside.ensures fails)
 
 pub unary::group-returns-in_err-suffixes : goal.unary::group-returns-in_err-suffixes
 unary::group-returns-in_err-suffixes t c = at_exit MAX_LEVEL _ _
     c.from_residual-in_err-suffixes.ensures.1 (rw c.names_assert-asserts.ensures at
     c.in_err-suffixes.ensures)
-    (λ i g. group_none_suffixes (sym c.if-is_type_word.ensures)
+    (λ i g. group_none_suffixes (sym c.if-begins_type.ensures)
     (reads_closed c.in_ok-inside.ensures c.in_ok-behind.ensures) g)
 
 pub unary::group-returns : goal.unary::group-returns
-unary::group-returns t c = group_bracket (sym c.if-is_type_word.ensures)
+unary::group-returns t c = group_bracket (sym c.if-begins_type.ensures)
     (reads_closed c.in_ok-inside.ensures c.in_ok-behind.ensures)
     (rw c.names_assert-asserts.ensures at c.in_ok-suffixes.ensures)
     (rw (c.in_ok-inner-2.ensures, c.place-place.ensures) at c.in_ok-whole.ensures.made)

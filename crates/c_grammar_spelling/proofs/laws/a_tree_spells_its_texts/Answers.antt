@@ -7,7 +7,7 @@ use Rattle.c_grammar_tree.specs.Grammar.{grammar}
 use Rattle.c_grammar_plain.specs.Plain.{PlainTree}
 use Rattle.c_grammar_spelling.specs.Spelling.{IsSpelled}
 use Rattle.c_grammar_spelling.proofs.SpeltText.{spelt_grammar}
-use Rattle.c_grammar_spelling.proofs.SpeltItems.{spelt_unit_items}
+use Rattle.c_grammar_spelling.proofs.SpeltItems.{unit_pieces, unit_again}
 use Rattle.c_grammar_spelling.proofs.laws.a_tree_spells_its_texts.Goals as goal
 
 levels : 0 < 199
@@ -16,16 +16,15 @@ levels = omega arith
 plainly_spelled : (text : List ℕ) (tokens : List Token) (u : UnitTree) →
     PlainTree text tokens u → IsSpelled text tokens u
 plainly_spelled text tokens u t = record {
-  pieces = ((spelt_unit_items (grammar 199) 199 (spelt_grammar 199) levels).pieces tt
-      (t.reading 0)).spells;
+  pieces = unit_pieces (grammar 199) 199 (spelt_grammar 199) levels _ 0 0 u.items _ (t.reading 0);
   length_is = t.length_is;
 }
 
 read_again : (text other : List ℕ) (tokens found : List Token) (u : UnitTree) →
     PlainTree text tokens u → IsSpelled other found u → PlainTree other found u
 read_again text other tokens found u t s = record {
-  reading = λ edge. (spelt_unit_items (grammar 199) 199 (spelt_grammar 199) levels).again tt
-      (t.reading 0) (record { spells = s.pieces }) tt;
+  reading = λ edge. unit_again (grammar 199) 199 (spelt_grammar 199) levels _ _ 0 edge 0 0 u.items
+      _ _ (t.reading 0) s.pieces;
   length_is = s.length_is;
 }
 

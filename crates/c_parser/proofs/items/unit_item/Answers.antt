@@ -1,4 +1,4 @@
--- A semicolon, or specifiers and what they declare.
+-- A semicolon, a typedef, or specifiers and what they declare.
 use Rattle.std.proofs.Common.{sym, refl, arith}
 use Rattle.c_grammar_forms.specs.Forms.{Choice}
 use Rattle.c_grammar_forms.specs.Found.{reads_node, reads_one}
@@ -12,7 +12,7 @@ use Rattle.c_grammar_tree.specs.Grammar.{grammar}
 use Rattle.c_grammar_tree.specs.Items.{declared_at, declared_of, unit_item_at, unit_item}
 use Rattle.c_parser_declarations.specs.Readers.{reads_onto, none_onto}
 use Rattle.c_parser.proofs.Steadies.{steady_specifiers}
-use Rattle.c_parser.proofs.Arms.{arm_empty, arm_declared}
+use Rattle.c_parser.proofs.Arms.{arm_empty, arm_typedef, arm_declared}
 use Rattle.c_parser.proofs.items.unit_item.Goals as goal
 
 pub returns-then-is : goal.returns-then-is
@@ -23,13 +23,25 @@ returns-then-is c = rw c.place-place.ensures
     (sym c.if-is.ensures.value))
     (reads_node _ refl (reads_one (c.if-is.ensures.more refl).within)))
 
+pub returns-then-is-2 : goal.returns-then-is-2
+unfolding unit_item
+returns-then-is-2 c =
+    answers_with MAX_LEVEL c.typedef_item.result
+    (λ u q r. reads_arm symbol_of (λ n. unit_item_at (grammar n))
+    (λ n. arm_typedef (grammar n) (symbol_of (leaf_at c.args.source.now c.args.at))
+    (sym c.if-is-2.ensures.value)) r)
+    (λ i g. none_arm symbol_of (λ n. unit_item_at (grammar n))
+    (λ n. arm_typedef (grammar n) (symbol_of (leaf_at c.args.source.now c.args.at))
+    (sym c.if-is-2.ensures.value)) g)
+    c.typedef_item.ensures
+
 pub returns-in_err-specifiers : goal.returns-in_err-specifiers
 unfolding unit_item
 returns-in_err-specifiers c =
     at_exit MAX_LEVEL _ _ c.from_residual.ensures.1 (c.in_err-specifiers.ensures c.args.left)
     (λ i g. none_arm symbol_of (λ n. unit_item_at (grammar n))
     (λ n. arm_declared (grammar n) (symbol_of (leaf_at c.args.source.now c.args.at))
-    (sym c.if-is.ensures.value))
+    (sym c.if-is.ensures.value) (sym c.if-is-2.ensures.value))
     (none_node _ (none_first (λ n. Choice symbol_of (declared_at (grammar n))) g)))
 
 pub returns : goal.returns
@@ -39,13 +51,13 @@ returns c =
     answers_with MAX_LEVEL c.declared.result
     (λ u q r. reads_arm symbol_of (λ n. unit_item_at (grammar n))
     (λ n. arm_declared (grammar n) (symbol_of (leaf_at c.args.source.now c.args.at))
-    (sym c.if-is.ensures.value))
+    (sym c.if-is.ensures.value) (sym c.if-is-2.ensures.value))
     (reads_onto (λ leaf parts. declared_of parts.0 parts.1)
     (λ leaf found. declared_of c.in_ok-specifiers.specifiers found)
     (λ n. Choice symbol_of (declared_at (grammar n))) (λ found. refl) front r))
     (λ i g. none_arm symbol_of (λ n. unit_item_at (grammar n))
     (λ n. arm_declared (grammar n) (symbol_of (leaf_at c.args.source.now c.args.at))
-    (sym c.if-is.ensures.value))
+    (sym c.if-is.ensures.value) (sym c.if-is-2.ensures.value))
     (none_onto (λ leaf parts. declared_of parts.0 parts.1)
     (λ leaf found. declared_of c.in_ok-specifiers.specifiers found)
     (λ n. Choice symbol_of (declared_at (grammar n))) steady_specifiers front g))

@@ -1,4 +1,9 @@
 -- The items of a text up to its end, or their fault.
+use Rattle.std.specs.Prelude.{MatchResult}
+use Rattle.std.proofs.Common.{◌≡◌, sym, ◌∙◌, ap, subst, arith, length}
+use Rattle.c_grammar_symbols.specs.Sources.{leaf_at}
+use Rattle.c_parser.specs.Forms.{AreSeen}
+use Rattle.c_parser.proofs.SeenItems.{same_length, place_there, fault_there}
 use Rattle.c_parser.proofs.Whole.{whole, refused}
 use Rattle.c_parser.proofs.texts.parse.Goals as goal
 
@@ -8,12 +13,14 @@ new-requires c =
 
 pub returns-in-Ok-clause-tree : goal.returns-in-Ok-clause-tree
 returns-in-Ok-clause-tree c =
+    let seen = rw c.in_ok-source.ensures at c.unit_items.ensures.seen in
     whole c.args.text.now c.args.tokens.now (c.tokens_are_a_source.ensures _ _ c.requires)
-    _ c.in-Ok.end (rw c.in_ok-source.ensures at c.in-Ok.ensures)
-    (rw c.in_ok-source.ensures at c.place-length.ensures)
+    _ c.in-Ok.end (rw c.in_ok-source.ensures at c.in-Ok.ensures.items)
+    (c.place-length.ensures ∙ place_there _ _ seen c.in-Ok.end)
 
 pub returns-clause-fault : goal.returns-clause-fault
 returns-clause-fault c =
-    rw (c.fault_of.ensures, c.in_ok-source.ensures)
+    let seen = rw c.in_ok-source.ensures at c.unit_items.ensures.seen in
+    rw (c.fault_of.ensures, fault_there _ _ seen c.in-Err.error)
     (refused c.args.text.now c.args.tokens.now (c.tokens_are_a_source.ensures _ _ c.requires)
-    c.in-Err.error (rw c.in_ok-source.ensures at c.in-Err.ensures))
+    c.in-Err.error (rw c.in_ok-source.ensures at c.in-Err.ensures.items))

@@ -1,38 +1,31 @@
--- One word more, or no more; a word with which there is no type is the fault, and so is what stands
--- where no word does.
-use Rattle.std.proofs.Common.{◌≡◌, ◌==◌, length, vec_len, sym, ◌∙◌, ap, arith}
-use Rattle.c_grammar_forms.specs.Exits.{at_exit}
+-- A typedef name, or the words of a type.
+use Rattle.std.proofs.Common.{◌∙◌, ap, sym}
+use Rattle.c_grammar_forms.specs.Exits.{answers_with}
+use Rattle.c_grammar_forms.specs.Found.{reads_node, reads_one, reads_choice}
+use Rattle.c_grammar_forms.specs.Choices.{reads_arm, none_arm}
+use Rattle.c_grammar_symbols.specs.Symbols.{symbol_of}
+use Rattle.c_grammar_symbols.specs.Sources.{leaf_at}
 use Rattle.c_grammar_tree.specs.declared.TheConstants.{MAX_LEVEL}
-use Rattle.c_grammar_tree.specs.Parts.{types}
-use Rattle.c_parser_words.proofs.TypeNames.{type_words_more, type_words_refused, type_words_none}
-use Rattle.c_parser_words.proofs.TypeNames.{type_words_found, no_type_word}
+use Rattle.c_grammar_tree.specs.declared.expression.TypeName.TheVariants as type_name'
+use Rattle.c_grammar_tree.specs.Expressions.{type_name_at, type_name}
+use Rattle.c_parser_words.proofs.TypeNames.{arm_words}
 use Rattle.c_parser_words.proofs.types.type_name.Goals as goal
 
-pub loop-word-preserved : goal.loop-word-preserved
-loop-word-preserved c =
-    type_words_more _ _ _ _ c.loop-word.invariant _ _ (sym c.in-TypeWord.ensures.value)
-    (c.in-TypeWord.ensures.more (λ e. let clash = e in cc)).within c.in_ok-push_type.ensures.pushed
+pub returns-in-TypedefName : goal.returns-in-TypedefName
+unfolding type_name type_name_at
+returns-in-TypedefName c = λ left.
+    reads_choice symbol_of (λ n. type_name_at) (sym c.in-TypedefName.ensures.value)
+    (reads_node _ (ap (type_name'.Typedef c.in-TypedefName.named) c.place-place.ensures)
+    (reads_one (c.in-TypedefName.ensures.more (λ e. let clash = e in cc)).within))
 
-pub returns-in_err-push_type : goal.returns-in_err-push_type
-returns-in_err-push_type c = λ left.
-    at_exit MAX_LEVEL _ _ c.from_residual.ensures.1
-    (type_words_refused _ _ _ _ c.loop-word.invariant left _
-    (sym c.in-TypeWord.ensures.value) _ c.in_err-push_type.ensures.refused)
-    (λ i g. g)
-
-pub returns-then-is_empty : goal.returns-then-is_empty
-returns-then-is_empty c = λ left.
-    let size : length c.loop-word.words.items ≡ vec_len c.loop-word.words =
-    omega (arith, c.loop-word.words.ok.0) in
-    type_words_none _ _ _ _ c.loop-word.invariant left
-    (ap types (sym c.symbol.ensures.value) ∙ no_type_word c.symbol.result c.in_default.not-TypeWord)
-    (ap (λ n. n == 0) size ∙ sym c.if-is_empty.ensures)
-
-pub returns : goal.returns
-returns c = λ left.
-    let size : length c.loop-word.words.items ≡ vec_len c.loop-word.words =
-    omega (arith, c.loop-word.words.ok.0) in
-    type_words_found _ _ _ _ c.loop-word.invariant left _
-    (λ i. record { words = c.from_vec-words.ensures i; place = c.place-place.ensures i })
-    (ap types (sym c.symbol.ensures.value) ∙ no_type_word c.symbol.result c.in_default.not-TypeWord)
-    (ap (λ n. n == 0) size ∙ sym c.if-is_empty.ensures)
+pub returns-in_default : goal.returns-in_default
+unfolding type_name
+returns-in_default c = λ left.
+    answers_with MAX_LEVEL c.words_of_type.result
+    (λ u q r. reads_arm symbol_of (λ n. type_name_at)
+    (λ n. arm_words (symbol_of (leaf_at c.args.source.now c.args.at))
+    (λ t e. c.in_default.not-TypedefName t (c.symbol.ensures.value ∙ e))) r)
+    (λ i g. none_arm symbol_of (λ n. type_name_at)
+    (λ n. arm_words (symbol_of (leaf_at c.args.source.now c.args.at))
+    (λ t e. c.in_default.not-TypedefName t (c.symbol.ensures.value ∙ e))) g)
+    (c.words_of_type.ensures left)

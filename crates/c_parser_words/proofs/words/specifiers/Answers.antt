@@ -1,50 +1,42 @@
--- One word more, or no more; a word with which there is no type is the fault, and so is what stands
--- behind words without one.
-use Rattle.std.proofs.Common.{◌≡◌, ◌==◌, ◌++◌, [], ◌∷◌, length, vec_len, sym, ◌∙◌, ap, arith, Some}
-use Rattle.std.proofs.Common.{None}
+-- Keywords, and a typedef name where no word of a type is among them.
+use Rattle.std.proofs.Common.{◌∙◌, ap, subst}
+use Rattle.c_grammar_forms.specs.Reading.{Reads}
+use Rattle.c_grammar_forms.specs.Found.{reads_node, reads_then}
+use Rattle.c_grammar_forms.specs.NotFound.{none_node, none_then, none_then_first}
 use Rattle.c_grammar_forms.specs.Exits.{at_exit}
 use Rattle.c_grammar_tree.specs.declared.TheConstants.{MAX_LEVEL}
-use Rattle.c_parser_words.specs.Storage.{goes}
-use Rattle.c_parser_words.specs.Steps.{kind_of}
-use Rattle.c_parser_words.proofs.SpecifierWords.{specifiers_more, specifiers_refused}
-use Rattle.c_parser_words.proofs.SpecifierWords.{specifiers_none}
-use Rattle.c_parser_words.proofs.SpecifierWords.{specifiers_found}
+use Rattle.c_grammar_tree.specs.Parts.{have_word}
+use Rattle.c_grammar_tree.specs.Declarations.{named_part, specifiers}
+use Rattle.c_parser_words.specs.Answers.{Finds}
+use Rattle.c_parser_words.specs.Storage.{goes_in}
+use Rattle.c_parser_words.proofs.SpecifierWords.{steady_keywords}
 use Rattle.c_parser_words.proofs.words.specifiers.Goals as goal
 
-pub loop-kind-preserved : goal.loop-kind-preserved
-loop-kind-preserved c =
-    let is_kind = ap kind_of (sym c.symbol.ensures.value) ∙ c.in-Some.ensures.1 in
-    specifiers_more _ _ _ _ _ _ c.loop-kind.invariant c.in-Some.kind _ _
-    (ap (goes c.args.allowed) (sym c.symbol.ensures.value) ∙ c.in-Some.ensures.0) is_kind
-    (c.symbol.ensures.more (λ e. let clash : None ≡ Some c.in-Some.kind = ap kind_of (sym e) ∙
-    c.in-Some.ensures.1 in cc)).within
-    (c.in_ok-push.ensures.items
-    ∙ ap (λ t. c.loop-kind.words.items ++ record { kind = c.in-Some.kind; place = t } ∷
-    []) c.place-place.ensures)
-    c.in_ok-push_type.ensures.pushed
+pub returns-in_err-front : goal.returns-in_err-front
+unfolding specifiers
+returns-in_err-front c = λ left.
+    at_exit MAX_LEVEL _ _ c.from_residual.ensures.1 (c.in_err-front.ensures left)
+    (λ i g. none_node _ (none_then_first
+    (λ n front. named_part (goes_in c.args.allowed) (have_word front)) g))
 
-pub returns-in_err-push_type : goal.returns-in_err-push_type
-returns-in_err-push_type c = λ left.
-    at_exit MAX_LEVEL _ _ c.from_residual.ensures.1
-    (specifiers_refused _ _ _ _ _ _ c.loop-kind.invariant left c.in-Some.kind
-    (ap (goes c.args.allowed) (sym c.symbol.ensures.value) ∙ c.in-Some.ensures.0)
-    (ap kind_of (sym c.symbol.ensures.value) ∙ c.in-Some.ensures.1) _
-    c.in_err-push_type.ensures.refused)
-    (λ i g. g)
+pub named_part-requires : goal.named_part-requires
+named_part-requires c = (c.in_ok-front.ensures 0).within
 
-pub returns-then-is_empty : goal.returns-then-is_empty
-returns-then-is_empty c = λ left.
-    let size : length c.loop-kind.types.items ≡ vec_len c.loop-kind.types =
-    omega (arith, c.loop-kind.types.ok.0) in
-    specifiers_none _ _ _ _ _ _ c.loop-kind.invariant left
-    (ap (goes c.args.allowed) (sym c.symbol.ensures.value) ∙ c.in_default.ensures)
-    (ap (λ n. n == 0) size ∙ sym c.if-is_empty.ensures)
+pub returns-in_err-named : goal.returns-in_err-named
+unfolding specifiers
+returns-in_err-named c = λ left.
+    let typed = c.have_word-typed.ensures ∙ ap have_word c.as_slice.ensures in
+    at_exit MAX_LEVEL _ _ c.from_residual-in_err-named.ensures.1
+    ((rw typed at c.in_err-named.ensures) left)
+    (λ i g. none_node _ (none_then
+    (λ n front. named_part (goes_in c.args.allowed) (have_word front))
+    (steady_keywords (goes_in c.args.allowed)) (c.in_ok-front.ensures left) g))
 
 pub returns : goal.returns
+unfolding specifiers
 returns c = λ left.
-    let size : length c.loop-kind.types.items ≡ vec_len c.loop-kind.types =
-    omega (arith, c.loop-kind.types.ok.0) in
-    specifiers_found _ _ _ _ _ _ c.loop-kind.invariant left _
-    (λ i. record { words = c.from_vec-words.ensures i; place = c.place-place-2.ensures i })
-    (ap (goes c.args.allowed) (sym c.symbol.ensures.value) ∙ c.in_default.ensures)
-    (ap (λ n. n == 0) size ∙ sym c.if-is_empty.ensures)
+    let typed = c.have_word-typed.ensures ∙ ap have_word c.as_slice.ensures in
+    reads_node _
+    (λ i. record { words = c.in_ok-words.ensures i; place = c.place-place.ensures i })
+    (reads_then (λ n front. named_part (goes_in c.args.allowed) (have_word front))
+    (c.in_ok-front.ensures left) ((rw typed at c.in_ok-named.ensures) left))

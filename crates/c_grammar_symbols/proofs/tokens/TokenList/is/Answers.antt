@@ -5,7 +5,7 @@ use Rattle.c_grammar_symbols.specs.declared.symbol.Symbol.TheVariants.{End}
 use Rattle.c_grammar_symbols.specs.Symbols.{symbol_of}
 use Rattle.c_grammar_symbols.specs.Sources.{leaf_at, is_terminal}
 use Rattle.c_grammar_symbols.proofs.KindFacts.{is_told}
-use Rattle.c_grammar_symbols.proofs.source.Source.is.Goals as goal
+use Rattle.c_grammar_symbols.proofs.tokens.TokenList.is.Goals as goal
 
 pub returns-clause-value : goal.returns-clause-value
 returns-clause-value c = c.is_terminal.ensures

@@ -6,7 +6,7 @@ use Rattle.c_grammar_symbols.specs.Kinds.{kind_of}
 use Rattle.c_grammar_symbols.specs.Symbols.{symbol_of, leaves}
 use Rattle.c_grammar_symbols.specs.Sources.{leaf_at, GoesOn}
 use Rattle.c_grammar_symbols.proofs.KindFacts.{kept_there, goes_on}
-use Rattle.c_grammar_symbols.proofs.source.Source.kind_at.Goals as goal
+use Rattle.c_grammar_symbols.proofs.tokens.TokenList.kind_at.Goals as goal
 
 pub returns-clause-value : goal.returns-clause-value
 returns-clause-value c =

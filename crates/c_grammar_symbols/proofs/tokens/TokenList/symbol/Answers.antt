@@ -3,7 +3,7 @@ use Rattle.std.proofs.Common.{sym, ◌∙◌}
 use Rattle.c_grammar_symbols.specs.Symbols.{symbol_of}
 use Rattle.c_grammar_symbols.specs.Sources.{leaf_at}
 use Rattle.c_grammar_symbols.proofs.KindFacts.{told}
-use Rattle.c_grammar_symbols.proofs.source.Source.symbol.Goals as goal
+use Rattle.c_grammar_symbols.proofs.tokens.TokenList.symbol.Goals as goal
 
 pub returns-in-Some-clause-value : goal.returns-in-Some-clause-value
 returns-in-Some-clause-value c =
