@@ -35,6 +35,8 @@ functions_many : (text : Text) (items : List Item) (before : Before) →
 functions_many text [] before = refl
 functions_many text (item.Empty place ∷ more) before =
     functions_many text more (item_behind text (item.Empty place) before)
+functions_many text (item.Typedef specifiers names place ∷ more) before =
+    functions_many text more (item_behind text (item.Typedef specifiers names place) before)
 functions_many text (item.Objects declaration ∷ more) before =
     functions_many text more (item_behind text (item.Objects declaration) before)
 functions_many text (item.Prototype specifiers declarator ∷ more) before =

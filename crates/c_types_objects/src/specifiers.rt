@@ -1,7 +1,7 @@
 //! What specifiers say of an object or a function (`kind_of` and `has_const` of `c_types_rules`,
 //! `specs/Declarations.antt`). Proved with `proofs/Words.antt`.
 ghost use Rattle.std.specs.Prelude.{◌≡◌, ◌++◌, ◌∷◌, [], IfOk, OnOk};
-ghost use Rattle.c_grammar_tree.specs.Parts.{type_words, named_among, is_const_word};
+ghost use Rattle.c_grammar_tree.specs.Parts.{type_words, named_by, named_among, is_const_word};
 ghost use Rattle.c_types_rules.specs.Declarations.{is_void_word, kind_of, has_const};
 
 use c_grammar_symbols::{NamedType, SpecifierWord, TypeWord};
@@ -41,12 +41,22 @@ pub(crate) fn kind_of(alloc: Global, specifiers: &Specifiers) -> Result<Kind, Al
     }
 }
 
+/// What the word stands for, where it is a typedef name.
+fn named_by(word: Specifier) -> Option<NamedType>
+    ensures { result ≡ named_by word }
+{
+    match word.kind {
+        SpecifierKind::TypedefName(named) => Some(named),
+        SpecifierKind::Storage(_) | SpecifierKind::Other(_) | SpecifierKind::TypeWord(_) => None,
+    }
+}
+
 /// What the first typedef name among these stands for.
 fn named_among(words: &[Specifier]) -> Option<NamedType>
     ensures { result ≡ named_among words.now }
 {
     for word in words {
-        if let SpecifierKind::TypedefName(named) = word.kind {
+        if let Some(named) = named_by(*word) {
             return Some(named);
         }
     }
