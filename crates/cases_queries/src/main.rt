@@ -5,6 +5,7 @@
 mod clause_rows;
 mod formulas;
 mod interpolant_rows;
+mod numbers;
 mod operator_rows;
 mod queries;
 mod query_rows;
@@ -18,24 +19,54 @@ use std::io;
 use std::io::{BufRead, BufReader};
 use std::thread::Threads;
 
-/// Each row is answered from itself alone.
+/// Whose calls the rows name.
+#[derive(Clone, Copy)]
+enum Subject {
+    Queries,
+    Numbers,
+}
+
+/// Each row is answered from itself alone. `rows SUBJECT` says whose calls the next rows name.
 fn main(rt: HostRuntime) -> io::Result<()> {
     let alloc = rt.alloc();
+    let mut subject = Subject::Queries;
     for line in BufReader::new(alloc, rt.reader())?.lines(alloc) {
         let line = line?;
-        let printed = answered(&rt, alloc, line.as_str())?;
-        println!(rt; "{printed}")?;
+        if let Some(word) = line.strip_prefix("rows ") {
+            subject = subject_of(word);
+            println!(rt; "{line}")?;
+        } else {
+            let printed = answered(&rt, alloc, subject, line.as_str())?;
+            println!(rt; "{printed}")?;
+        }
     }
     Ok(())
 }
 
+/// The subject that a word names.
+fn subject_of(word: &str) -> Subject {
+    match word {
+        "numbers" => Subject::Numbers,
+        _ => Subject::Queries,
+    }
+}
+
 /// A row with its answer. An empty line and a remark stay as they are.
-fn answered<R: Threads + Sync>(rt: &R, alloc: Global, line: &str) -> Result<String, AllocError> {
+fn answered<R: Threads + Sync>(
+    rt: &R,
+    alloc: Global,
+    subject: Subject,
+    line: &str,
+) -> Result<String, AllocError> {
     let mut out = String::from_str(alloc, line)?;
     if line.is_empty() || line.starts_with("#") {
         return Ok(out);
     }
-    match row::answer(rt, alloc, line) {
+    let answer = match subject {
+        Subject::Queries => row::answer(rt, alloc, line),
+        Subject::Numbers => numbers::answer(alloc, line),
+    };
+    match answer {
         Ok(answer) => {
             write!(out, " ={answer}")?;
             Ok(out)

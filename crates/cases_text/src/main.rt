@@ -3,7 +3,10 @@
 #![tactic(auto)]
 
 mod checks;
+mod commands;
+mod configs;
 mod programs;
+mod reports;
 mod tokens;
 mod trees;
 mod words;
@@ -25,6 +28,10 @@ fn answer(alloc: Global, row: &str) -> Result<String, AllocError> {
         ("cells", text) => checks::cells(alloc, text),
         ("core", text) => programs::program(alloc, text, Spelled::Statements),
         ("edges", text) => programs::program(alloc, text, Spelled::Edges),
+        ("words", words) => commands::answer(alloc, words),
+        ("config", rest) => configs::answer(alloc, rest),
+        ("comment", rest) => configs::answer_behind_comment(alloc, rest),
+        ("report", rest) => reports::answer(alloc, rest),
         _ => String::from_str(alloc, "no row"),
     }
 }

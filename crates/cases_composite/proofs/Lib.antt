@@ -1,3 +1,0 @@
-pub mod Guessing
-pub mod Counting
-pub mod Growing

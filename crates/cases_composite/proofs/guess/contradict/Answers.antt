@@ -1,5 +1,0 @@
-use Rattle.cases_composite.proofs.guess.contradict.Goals as goal
-
-pub returns-in-Some : goal.returns-in-Some
-returns-in-Some c = λ yes s holds lies.
-    c.stand_elsewhere.ensures yes s lies (c.in-Some.ensures s holds)

@@ -1,6 +1,0 @@
--- Each turn leaves fewer indices.
-use Rattle.std.proofs.Common.{length}
-use Rattle.cases_reached.proofs.reading.pairs_of.Given as goal
-
-abbrev pub decreases-loop-rest : goal.decreases-loop-rest
-decreases-loop-rest l = length l.rest

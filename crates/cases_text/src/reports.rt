@@ -1,0 +1,115 @@
+//! What `read` of `cpa_report` answers to a text, and whether `print` gives the text again.
+//! Proved safe by the checker alone.
+
+use cases_reader::{RowFault, bytes_of, next_index, next_word, type_of_word};
+use cpa_ints::Seq;
+use cpa_model::{Act, Cell, Cfa, Edge};
+use cpa_report::{ReportError, ReportRule, Verdict};
+use std::alloc::{AllocError, Global};
+use std::str::SplitWhitespace;
+
+/// The verdict that a word names.
+fn verdict_of_word(word: &str) -> Result<Verdict, RowFault> {
+    match word {
+        "true" => Ok(Verdict::True),
+        "false" => Ok(Verdict::False),
+        "turns" => Ok(Verdict::Turns),
+        "rounds" => Ok(Verdict::Rounds),
+        "learnt" => Ok(Verdict::Learnt),
+        "gates" => Ok(Verdict::Gates),
+        "new" => Ok(Verdict::NoNew),
+        "proof" => Ok(Verdict::Proof),
+        _ => Err(RowFault::Unreadable),
+    }
+}
+
+/// So many edges, which go nowhere: only their number counts here.
+fn edges_of(alloc: Global, count: u32) -> Result<Seq<Edge>, AllocError> {
+    let mut edges = Seq::new(alloc);
+    for _ in 0..count {
+        edges.push(Edge {
+            from: 0,
+            to: 0,
+            act: Act::Skip,
+        })?;
+    }
+    Ok(edges)
+}
+
+/// Cells of the types that the words name.
+fn cells_of(alloc: Global, words: &mut SplitWhitespace<'_>) -> Result<Seq<Cell>, RowFault> {
+    let mut cells = Seq::new(alloc);
+    for word in words {
+        let ty = type_of_word(word).ok_or(RowFault::Unreadable)?;
+        cells.push(Cell { ty, start: 0 })?;
+    }
+    Ok(cells)
+}
+
+/// What a row gives of a program: its points, edges, length in bytes and the types of its cells.
+fn automaton(alloc: Global, words: &mut SplitWhitespace<'_>) -> Result<Cfa, RowFault> {
+    let points = next_index(words)?;
+    let edges = edges_of(alloc, next_index(words)?)?;
+    let text_len = next_index(words)?;
+    let cells = cells_of(alloc, words)?;
+    Ok(Cfa {
+        cells,
+        points,
+        start: 0,
+        errors: Seq::new(alloc),
+        edges,
+        text_len,
+    })
+}
+
+/// The word of a rule.
+fn rule_word(rule: ReportRule) -> &'static str {
+    match rule {
+        ReportRule::P1 => "P1",
+        ReportRule::P2 => "P2",
+        ReportRule::P3 => "P3",
+        ReportRule::P4 => "P4",
+        ReportRule::P5 => "P5",
+        ReportRule::P6 => "P6",
+    }
+}
+
+/// What is read of the text.
+fn found(alloc: Global, text: &[u8], cfa: &Cfa, take: Verdict) -> Result<&'static str, AllocError> {
+    match cpa_report::read(alloc, text, cfa, take) {
+        Ok(report) => {
+            let back = cpa_report::print(alloc, &report)?;
+            let word = if back.as_slice() == text {
+                "read"
+            } else {
+                "another text"
+            };
+            Ok(word)
+        }
+        Err(ReportError::Fault(rule)) => Ok(rule_word(rule)),
+        Err(ReportError::OutOfMemory) => Err(AllocError),
+    }
+}
+
+/// The answer to a row that can be read.
+fn answered(alloc: Global, front: &str, row: &str) -> Result<&'static str, RowFault> {
+    let mut words = front.split_whitespace();
+    let take = verdict_of_word(next_word(&mut words)?)?;
+    let cfa = automaton(alloc, &mut words)?;
+    let Some(text) = bytes_of(alloc, row)? else {
+        return Err(RowFault::Unreadable);
+    };
+    Ok(found(alloc, text.as_slice(), &cfa, take)?)
+}
+
+/// The answer to a row: the verdict that is wanted and what the program has, and behind ` |` the text.
+pub(crate) fn answer(alloc: Global, row: &str) -> Result<String, AllocError> {
+    let Some((front, text)) = row.split_once(" |") else {
+        return String::from_str(alloc, "no row");
+    };
+    match answered(alloc, front, text) {
+        Ok(word) => String::from_str(alloc, word),
+        Err(RowFault::Unreadable) => String::from_str(alloc, "no row"),
+        Err(RowFault::OutOfMemory) => Err(AllocError),
+    }
+}
