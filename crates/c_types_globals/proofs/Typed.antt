@@ -1,8 +1,8 @@
 -- Typedef names in order: the type of one, and one more of them.
-use Rattle.std.specs.Prelude.{◌≡◌, ℕ, ◌+◌, zero, suc, Bool, true, false, List, [], ◌∷◌, ◌++◌, length}
+use Rattle.std.specs.Prelude.{◌≡◌, ℕ, ◌+◌, suc, Bool, true, false, List, [], ◌∷◌, ◌++◌, length}
 use Rattle.std.specs.Prelude.{map, find, Option, None, Some, option_map, option_and_then, cond, refl}
 use Rattle.std.specs.List.{zip, slice_get}
-use Rattle.std.proofs.Common.{sym, ◌∙◌, ap, arith, append_assoc, append-nil}
+use Rattle.std.proofs.Common.{◌∙◌, ap, arith, append_assoc}
 use Rattle.cpa_ints.specs.declared.integers.IntType.{IntType}
 use Rattle.c_lexer.specs.declared.fault.TextFault.{TextFault}
 use Rattle.c_grammar_tree.specs.declared.name.Name.{Name}

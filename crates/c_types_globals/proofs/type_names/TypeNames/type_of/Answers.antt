@@ -6,7 +6,7 @@ use Rattle.c_types_globals.proofs.Typed.{row_at}
 use Rattle.c_types_globals.proofs.type_names.TypeNames.type_of.Goals as goal
 
 pub returns : goal.returns
-returns c = rw c.as_slice.ensures
-    (sym (row_at (bytes_eq c.args.name.now) c.self.inside.names c.self.inside.types.items
+returns c = rw (c.as_slice.ensures.value, c.place_of.ensures) at c.type_at.ensures
+    ∙ (sym (row_at (bytes_eq c.args.name.now) c.self.inside.names c.self.inside.types.items
     c.self.invariant)
     ∙ ap (λ rows. typedef_type rows c.args.name.now) c.self.view_is)
