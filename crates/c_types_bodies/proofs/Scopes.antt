@@ -8,7 +8,7 @@ use Rattle.std.proofs.lemmas.List.Elements.{filter_map-append}
 use Rattle.std.proofs.Math.Seq.{take-append_seam}
 use Rattle.c_types_rules.specs.declared.meaning.Entry.{Entry}
 use Rattle.c_types_rules.specs.Names.{Text}
-use Rattle.c_types_rules.specs.Statements.{Walk, followed, scoped, looped, loop}
+use Rattle.c_types_rules.specs.Statements.{Walk, followed, scoped, looped}
 use Rattle.c_types_rules.specs.StatementRules.{Jump, object_number}
 use Rattle.c_types_jumps.specs.Found.{Found, with_base}
 use Rattle.c_types_bodies.specs.declared.walker.Frame.{Frame}

@@ -1,6 +1,6 @@
 -- A function's body where these names are declared and so many objects stand before it
 -- (`Items.antt` of `c_types_rules`).
-use Rattle.std.specs.Prelude.{ℕ, ◌<◌, List, map}
+use Rattle.std.specs.Prelude.{ℕ, ◌<◌, List, [], map}
 use Rattle.std.specs.List.{filter_map, AllByRecursion}
 use Rattle.c_grammar_tree.specs.declared.declaration.Specifiers.{Specifiers}
 use Rattle.c_grammar_tree.specs.declared.item.Parameters.{Parameters}
@@ -17,7 +17,7 @@ use Rattle.c_types_rules.specs.TypedStatements.{grown, typed_in_order, parameter
 -- what is known where the body begins
 abbrev pub begins : List Entry → ℕ → Specifiers → List BlockItem → Around
 begins names objects specifiers items =
-    around_body (record { names = names; objects = objects; bodies = 0 }) specifiers items
+    around_body (record { names = names; types = []; objects = objects; bodies = 0 }) specifiers items
 
 -- its acts
 abbrev pub acts_of : Text → List Entry → ℕ → Specifiers → Parameters → List BlockItem → List Site

@@ -15,7 +15,6 @@ use Rattle.c_types_rules.specs.Statements.{Around, Walk, followed, doing, evalua
 use Rattle.c_types_rules.specs.Statements.{marks}
 use Rattle.c_types_rules.specs.Statements.{looped, scoped, in_order, start_walk, loop, perhaps}
 use Rattle.c_types_rules.specs.TypedStatements.{Grown, typed_for_start, typed_optional}
-use Rattle.c_types_expressions.specs.Read.{typed_of}
 use Rattle.c_types_jumps.specs.Found.{Found}
 use Rattle.c_types_bodies.specs.declared.walker.Nest.{Nest}
 use Rattle.c_types_bodies.specs.Grown.{grown_of, grown_walk, grown_typed, walk_of_statement}
