@@ -11,6 +11,7 @@ ghost use Rattle.cpa_reached.specs.Members.{IsIn, is_in};
 ghost use Rattle.cpa_reached.specs.Entries.{numbers, IsLive};
 ghost use Rattle.cpa_reached.specs.Calls.{at_number, rests, gains, with_precisions};
 
+use crate::lists::trimmed;
 use cpa_iface::{Entry, Precision};
 use cpa_ints::Seq;
 use std::alloc::{AllocError, Global};
@@ -148,5 +149,5 @@ pub(crate) fn put_precisions(entries: &mut Vec<Entry>, number: u32, precisions: 
         at_number number (with_precisions precisions.items) entries.old.items }
 {
     let at = place(entries, number);
-    entries[at].precisions = Seq::from_vec(precisions);
+    entries[at].precisions = trimmed(precisions);
 }

@@ -7,6 +7,7 @@ mod index;
 mod laws;
 mod levels;
 mod links;
+mod lists;
 mod opening;
 mod pruning;
 mod reached;

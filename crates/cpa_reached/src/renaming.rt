@@ -12,6 +12,7 @@ ghost use Rattle.cpa_reached.specs.Kept.{renumbered};
 
 use crate::finding::place_of;
 use crate::links::Link;
+use crate::lists::trimmed;
 use cpa_iface::Entry;
 use cpa_ints::Seq;
 use cpa_model::Elem;
@@ -101,7 +102,7 @@ pub(crate) fn succeed(
     let entry = entries.remove(place);
     entries.push_reserved(Entry {
         number,
-        elems: Seq::from_vec(elems),
+        elems: trimmed(elems),
         precisions: entry.precisions,
         parent: entry.parent,
         uses: Seq::new(alloc),

@@ -19,6 +19,7 @@ ghost use Rattle.cpa_reached.specs.Tables.{IsKeptTable, IsIndexedTable, but};
 use crate::finding::{entry, gain, lose, parent_of, place, put_precisions, rest};
 use crate::index::{enter, index_of, leave};
 use crate::links::{Link, depth_at, name_at};
+use crate::lists::{reserve_one, trimmed};
 use crate::renaming::{rename_among, renumber, succeed};
 use cpa_iface::{Entry, Order, Precision};
 use cpa_ints::Seq;
@@ -101,8 +102,8 @@ pub(crate) fn begin(
     let mut entries = Vec::new(alloc);
     entries.push(Entry {
         number: 0,
-        elems: Seq::from_vec(elems),
-        precisions: Seq::from_vec(precisions),
+        elems: trimmed(elems),
+        precisions: trimmed(precisions),
         parent: None,
         uses: Seq::new(alloc),
         waiting: true,
@@ -163,8 +164,8 @@ fn reserve(table: &mut Table) -> Result<(), AllocError>
     ensures waiting_room { OnOk result
         (deque_len table.new.waiting < deque_capacity table.new.waiting) }
 {
-    table.entries.reserve(1)?;
-    table.links.reserve(1)?;
+    reserve_one(&mut table.entries)?;
+    reserve_one(&mut table.links)?;
     table.waiting.reserve(1)
 }
 
@@ -269,8 +270,8 @@ pub(crate) fn add(
     adopt(table, parent.0, key, number)?;
     table.entries.push_reserved(Entry {
         number,
-        elems: Seq::from_vec(elems),
-        precisions: Seq::from_vec(precisions),
+        elems: trimmed(elems),
+        precisions: trimmed(precisions),
         parent: Some(parent),
         uses: Seq::new(table.alloc),
         waiting: true,

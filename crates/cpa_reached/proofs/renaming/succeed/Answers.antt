@@ -7,7 +7,7 @@ pub returns : goal.returns
 returns c = λ n at.
     rw (
       c.push_reserved.ensures.items,
-      c.from_vec.ensures,
+      c.trimmed.ensures,
       c.new.ensures,
       c.remove-entry.ensures.items,
     )

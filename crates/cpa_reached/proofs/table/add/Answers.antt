@@ -70,8 +70,8 @@ returns-clause-kept c =
     rw (
       c.push_reserved.ensures.items,
       c.in_ok-adopt.ensures.ok,
-      c.from_vec.ensures,
-      c.from_vec-2.ensures,
+      c.trimmed.ensures,
+      c.trimmed-2.ensures,
       c.new.ensures,
       c.push_reserved-2.ensures.items,
       c.in_ok-adopt.ensures.links,
@@ -93,4 +93,4 @@ returns-clause-indexed c =
     let room = c.in_ok-reserve.ensures in
     let key : picked t.places c.args.elems.items ≡ c.in_ok-key.key.elems = search rules in
     rw (c.push_reserved.ensures.items, c.in_ok-adopt.ensures.places)
-    (c.in_ok-adopt.ensures.indexed _ refl (rw c.from_vec.ensures key))
+    (c.in_ok-adopt.ensures.indexed _ refl (rw c.trimmed.ensures key))
