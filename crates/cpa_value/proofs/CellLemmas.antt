@@ -1,24 +1,15 @@
 -- What facts say of cells, and the facts of cells.
-use Rattle.std.proofs.Common.{◌≡◌, ℕ, ◌+◌, ◌^◌, ◌<◌, ℤ, Bool, true, false, List, [], ◌∷◌, ◌++◌}
-use Rattle.std.proofs.Common.{refl, sym, ap, ◌∙◌, arith, cond, take, get_or, length, map, add-one}
+use Rattle.std.proofs.Common.{◌≡◌, ℕ, ◌+◌, ◌<◌, ℤ, Bool, true, false, List, [], ◌∷◌, ◌++◌}
+use Rattle.std.proofs.Common.{refl, sym, ap, ◌∙◌, arith, cond, take, get_or, length, map}
 use Rattle.std.specs.Prelude.{zero, suc, Option, None, Some, slice_get, ◌==◌}
-use Rattle.std.specs.List.{range_with_len, slice_index_or}
+use Rattle.std.specs.List.{slice_index_or}
 use Rattle.std.proofs.lemmas.List.{same_lists, take_more, length-take-le}
 use Rattle.std.proofs.lemmas.Option.{get_or_from_slice_get}
 use Rattle.std.proofs.lemmas.List.FromFn.{length-map-range_with_len, get_or-map-range_with_len}
 use Rattle.cpa_model.specs.declared.facts.Fact.{Fact}
 use Rattle.cpa_model.specs.declared.facts.Fact.TheVariants.{At, Stack, Equals, Within, Truth}
-use Rattle.cpa_model.specs.declared.facts.Elem.{Elem}
 use Rattle.cpa_model.specs.declared.program.Cell.{Cell}
 use Rattle.cpa_iface.specs.Pins.{equals_from}
-use Rattle.cpa_model.specs.declared.automaton.Edge.{Edge}
-use Rattle.cpa_model.specs.declared.automaton.Cfa.{Cfa}
-use Rattle.cpa_model.specs.Automata.{IsAutomaton}
-use Rattle.cpa_iface.specs.declared.precisions.Precision.{Precision}
-use Rattle.cpa_query.specs.Queries.{is_marked}
-use Rattle.cpa_value.specs.Acts.{after_act}
-use Rattle.cpa_value.specs.Transfer.{elems_of, next_values}
-use Rattle.cpa_path_folds.specs.Tracking.{is_tracked}
 use Rattle.cpa_value.specs.Cells.{first_value, first_known, known_cells, facts_from}
 
 -- the first value of facts with one behind them
@@ -113,30 +104,6 @@ facts_from-more tracked cells i facts new inside was is =
     ∙ (ap (λ l. l ++ facts_from (λ _. tracked i) i (get_or cells i None ∷ [])) was
     ∙ (sym (facts_from-push tracked 0 (take i cells) (get_or cells i None) i (omega (arith, long)))
     ∙ ap (facts_from tracked 0) (sym (take_more cells i None inside))))
-
--- the cells of an automaton are few
-pub few_known : (cfa : Cfa) (facts : List Fact) (cells : List (Option ℤ)) → IsAutomaton cfa
-    → cells ≡ known_cells (length cfa.cells) facts
-    → length cells < 2 ^ 32
-few_known cfa facts cells a are =
-    let few = a.well_formed.few_cells in
-    let same : length cfa.cells ≡ length a.program.cells = ap length a.automaton.cells in
-    let long : length cells ≡ length cfa.cells = ap length are
-    ∙ length-map-range_with_len (first_value facts) 0 (length cfa.cells) in
-    omega (arith, few, same, long)
-
--- marks that agree with the precision are as good as it is
-pub same_transfer : (cfa : Cfa) (p : Precision) (e : Elem) (g : Edge) (cells : List (Option ℤ))
-    (marks : List Bool) (es : List Elem)
-    → cells ≡ known_cells (length cfa.cells) e.facts
-    → ((cell : ℕ) → is_marked marks cell ≡ is_tracked p cell)
-    → es ≡ elems_of (is_marked marks) (after_act (is_marked marks) g.act cells)
-    → es ≡ next_values cfa p e g
-same_transfer cfa p e g cells marks es are same is =
-    let tests : is_marked marks ≡ is_tracked p = λ i cell. same cell i in
-    is
-    ∙ (ap (λ t. elems_of t (after_act t g.act cells)) tests
-    ∙ ap (λ l. elems_of (is_tracked p) (after_act (is_tracked p) g.act l)) are)
 
 -- the facts of values with one behind them
 equals_from-push : (n : ℕ) (vs : List ℤ) (v : ℤ) (last : ℕ) → n + length vs ≡ last

@@ -1,4 +1,7 @@
 pub mod CellLemmas
+pub mod TableLemmas
+pub mod ChangeLemmas
+pub mod TrackedLemmas
 pub mod KnownLemmas
 pub mod RangeLemmas
 pub mod StoreLemmas
@@ -7,5 +10,4 @@ pub mod ActLemmas
 pub mod ExactLemmas
 pub mod TransferLemmas
 pub mod LimitLemmas
-pub mod StrengthenLemmas
 pub mod ValueLaws

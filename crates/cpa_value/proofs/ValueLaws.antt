@@ -1,15 +1,14 @@
 -- That the first element and precision, strengthening and adjustment keep the laws.
-use Rattle.std.proofs.Common.{◌≡◌, ℕ, ◌+◌, ◌<◌, ◌≤◌, ◌≤ℤ◌, ℤ, ◌==◌, ◌&&◌, ◌||◌, Bool, true, false}
+use Rattle.std.proofs.Common.{◌≡◌, ℕ, ◌≤◌, ◌≤ℤ◌, ℤ, ◌==◌, ◌&&◌, ◌||◌, Bool, true, false}
 use Rattle.std.proofs.Common.{List, [], ◌∷◌, refl, sym, ap, ◌∙◌, subst, arith, cond, length, map}
 use Rattle.std.proofs.Common.{inl, inr}
-use Rattle.std.specs.Prelude.{zero, suc, Option, None, Some, slice_get, slice_index_or, IfSome}
-use Rattle.std.specs.Prelude.{IsSomeAnd, option_map, option_and_then, if◌then◌else◌}
-use Rattle.std.specs.List.{AllByRecursion, filter, list_any, range_with_len, Contains}
+use Rattle.std.specs.Prelude.{Option, None, Some, slice_get, slice_index_or, IfSome}
+use Rattle.std.specs.Prelude.{IsSomeAnd, option_map, option_and_then}
+use Rattle.std.specs.List.{AllByRecursion, filter, list_any}
 use Rattle.std.specs.Ordering.{int_eq}
 use Rattle.std.proofs.lemmas.Int.{ints}
 use Rattle.std.proofs.lemmas.Bool.{cond_both, and_parts}
 use Rattle.std.proofs.lemmas.Bool.Decides.{Decides-eqb, Decides-int_eq}
-use Rattle.std.proofs.lemmas.List.FromFn.{length-range_with_len, get_or-range_with_len}
 use Rattle.cpa_ints.specs.Integers.{IsInRange}
 use Rattle.cpa_model.specs.declared.facts.Fact.{Fact}
 use Rattle.cpa_model.specs.declared.facts.Fact.TheVariants.{At, Stack, Equals, Within, Truth}
@@ -19,13 +18,12 @@ use Rattle.cpa_model.specs.declared.program.Cell.{Cell}
 use Rattle.cpa_model.specs.declared.automaton.Cfa.{Cfa}
 use Rattle.cpa_model.specs.Facts.{FactHolds, Holds, LiesIn, IsFact}
 use Rattle.cpa_model.specs.Automata.{IsAutomaton, initial_state}
-use Rattle.cpa_iface.specs.declared.analysis.Settings.{Settings}
 use Rattle.cpa_iface.specs.declared.precisions.Precision.{Precision}
 use Rattle.cpa_iface.specs.declared.entries.Entry.{Entry}
 use Rattle.cpa_iface.specs.CommonLaws.{kept_all, kept_length, unadjusted-laws}
 use Rattle.cpa_iface.specs.Meanings.{IsShaped, AreShaped, IsPrecision}
 use Rattle.cpa_iface.specs.Pins.{equals_from, IsControlPin}
-use Rattle.cpa_iface.specs.Laws.{InitialLaws, FirstPrecisionLaws, StrengthenLaws, AdjustLaws}
+use Rattle.cpa_iface.specs.Laws.{InitialLaws, StrengthenLaws, AdjustLaws}
 use Rattle.cpa_iface.specs.Laws.{IsOwnOrNone, IsBounded}
 use Rattle.cpa_path_folds.specs.Tracking.{is_tracked}
 use Rattle.cpa_value.specs.Cells.{known_cells, facts_from, elem_of}

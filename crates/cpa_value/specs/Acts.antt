@@ -1,14 +1,12 @@
 -- What an act makes of the known values of cells (this project's own).
-use Rattle.std.specs.Prelude.{ℕ, zero, suc, ◌+◌, ◌==◌, ℤ, pos, negsuc, nat_lt, int_le, Bool, true}
+use Rattle.std.specs.Prelude.{ℕ, zero, suc, ◌+◌, ℤ, pos, negsuc, nat_lt, int_le, Bool, true}
 use Rattle.std.specs.Prelude.{false, not, ◌&&◌, ◌||◌, if◌then◌else◌, List, Option, None, Some, Ok}
 use Rattle.std.specs.Prelude.{Err, slice_set}
-use Rattle.cpa_ints.specs.declared.integers.IntType.{IntType}
 use Rattle.cpa_ints.specs.Integers.{least, greatest}
 use Rattle.cpa_expr.specs.declared.tree.CmpOp.{CmpOp}
 use Rattle.cpa_expr.specs.declared.tree.CmpOp.TheVariants as cmp
 use Rattle.cpa_expr.specs.declared.tree.Expr.{Expr, out-Expr}
 use Rattle.cpa_expr.specs.declared.tree.Expr.TheOpen.{Expr-F}
-use Rattle.cpa_expr.specs.Cells.{is_zero}
 use Rattle.cpa_expr.specs.Values.{is_nonzero}
 use Rattle.cpa_model.specs.declared.automaton.Act.{Act}
 use Rattle.cpa_model.specs.declared.automaton.Act.TheVariants as act

@@ -1,5 +1,6 @@
 pub mod KnownValues
 pub mod Cells
+pub mod Tables
 pub mod Acts
 pub mod Transfer
 pub mod Values

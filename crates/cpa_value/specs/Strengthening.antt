@@ -1,6 +1,7 @@
 -- What other elements say of cells: a Within of one value is as good as an Equals (this project's
 -- own).
-use Rattle.std.specs.Prelude.{ℕ, ℤ, Bool, true, false, ◌&&◌, if◌then◌else◌, List, [], ◌∷◌, Option}
+use Rattle.std.specs.Prelude.{◌≡◌, ℕ, ℤ, Bool, true, false, ◌&&◌, if◌then◌else◌, List, [], ◌∷◌}
+use Rattle.std.specs.Prelude.{Option}
 use Rattle.std.specs.Prelude.{None, Some, slice_set, option_map, option_and_then}
 use Rattle.std.specs.List.{list_any, slice_index_or}
 use Rattle.std.specs.Ordering.{int_eq}
@@ -9,6 +10,8 @@ use Rattle.cpa_model.specs.declared.facts.Fact.TheVariants.{Within}
 use Rattle.cpa_model.specs.declared.facts.Elem.{Elem}
 use Rattle.cpa_iface.specs.declared.precisions.Precision.{Precision}
 use Rattle.cpa_path_folds.specs.Tracking.{is_tracked}
+use Rattle.cpa_value.specs.declared.strengthening.Agreement.{Agreement}
+use Rattle.cpa_value.specs.declared.strengthening.Agreement.TheVariants as agreement
 use Rattle.cpa_value.specs.Cells.{known_cells, elem_of}
 
 -- the fact leaves a tracked cell one value
@@ -50,3 +53,11 @@ strengthened n p own others =
     then option_map (elem_of (λ cell. true))
     (met_elems (is_tracked p) others (known_cells n own.facts))
     else Some own
+
+-- what is said of the values where they are these: no more, another value, or something that is
+-- left open
+abbrev pub Agrees : Agreement → (List (Option ℤ) → Option (List (Option ℤ))) → List (Option ℤ)
+    → Type 0
+Agrees agreement.Same says cells = says cells ≡ Some cells
+Agrees agreement.Other says cells = says cells ≡ None
+Agrees agreement.More says cells = Unit {0}

@@ -1,15 +1,11 @@
 -- The analysis of values (this project's own).
-use Rattle.std.specs.Prelude.{not, List, [], ◌++◌, map, length, Some, codes, if◌then◌else◌}
-use Rattle.std.specs.List.{filter, range_with_len}
+use Rattle.std.specs.Prelude.{List, [], map, length, Some, codes}
 use Rattle.cpa_model.specs.declared.program.Cell.{Cell}
 use Rattle.cpa_model.specs.declared.facts.Elem.{Elem}
 use Rattle.cpa_model.specs.declared.automaton.Cfa.{Cfa}
-use Rattle.cpa_model.specs.declared.automaton.Path.{Path}
 use Rattle.cpa_model.specs.Standing.{has_facts}
 use Rattle.cpa_model.specs.StandingLaws.{has_facts-within, has_facts-same}
 use Rattle.cpa_iface.specs.declared.analysis.Part.TheVariants as part
-use Rattle.cpa_iface.specs.declared.analysis.Settings.{Settings}
-use Rattle.cpa_iface.specs.declared.precisions.Precision.{Precision}
 use Rattle.cpa_iface.specs.Meanings.{Meaning, Replies}
 use Rattle.cpa_iface.specs.Common.{merged_facts, fact_count}
 use Rattle.cpa_iface.specs.Pins.{equals_from}

@@ -1,21 +1,25 @@
-//! What an act makes of the known values of cells, by `specs/Acts.antt`. Each function changes the
-//! values in place and says whether the act can be done.
+//! What an act changes of the known values of cells, by `specs/Acts.antt`. Each function says what
+//! changes, and nothing where the act cannot be done.
 
-ghost use Rattle.std.specs.Prelude.{◌≡◌, ◌+◌, ◌&&◌, ◌||◌, None, Some, true};
-ghost use Rattle.std.specs.Prelude.{if◌then◌else◌, slice_set};
+ghost use Rattle.std.specs.Prelude.{◌≡◌, ℤ, List, Option, ◌&&◌, ◌||◌, None, Some};
+ghost use Rattle.std.specs.Prelude.{option_map, if◌then◌else◌};
 ghost use Rattle.cpa_expr.specs.declared.tree.Expr.{out-Expr};
 ghost use Rattle.cpa_expr.specs.Values.{is_nonzero};
 ghost use Rattle.cpa_model.specs.Standing.{same_bool};
-ghost use Rattle.cpa_query.specs.Queries.{is_marked};
+ghost use Rattle.cpa_path_folds.specs.Tracking.{is_tracked};
 ghost use Rattle.cpa_value.specs.KnownValues.{known_value};
-ghost use Rattle.cpa_value.specs.Acts.{forgotten, is_trap, written, assigned};
+ghost use Rattle.cpa_value.specs.Acts.{is_trap, written, assigned};
 ghost use Rattle.cpa_value.specs.Acts.{told, first_told, set_told};
 ghost use Rattle.cpa_value.specs.Acts.{equated, zeroed, says_equal, learned, assumed, after_act};
+ghost use Rattle.cpa_value.specs.Tables.{changed};
 
+use crate::changes::Change;
 use crate::known::{Gap, known_value};
+use crate::table::KnownCells;
+use crate::tracked::Tracked;
 use cpa_expr::{CmpOp, Expr, is_nonzero};
 use cpa_model::Act;
-use cpa_path_folds::{Scalar, is_marked, read_of, scalar_of};
+use cpa_path_folds::{Scalar, read_of, scalar_of};
 
 /// What a test says of a scalar.
 #[derive(Clone, Copy)]
@@ -24,10 +28,10 @@ pub struct ScalarValue {
     pub value: i128,
 }
 
-/// What the act makes of the known values, and whether it can be done.
-pub(crate) fn do_act(act: &Act, cells: &mut [Option<i128>], tracked: &[bool]) -> bool
-    ensures { (if result then Some cells.new else None)
-        ≡ after_act (is_marked tracked.now) act.now cells.old }
+/// What the act changes, where it can be done.
+pub(crate) fn change_by(act: &Act, cells: &KnownCells, tracked: &Tracked) -> Option<Change>
+    ensures { option_map (λ c. changed c cells.now) result
+        ≡ after_act (is_tracked tracked.now) act.now cells.now }
 {
     match act {
         Act::Assign {
@@ -36,40 +40,28 @@ pub(crate) fn do_act(act: &Act, cells: &mut [Option<i128>], tracked: &[bool]) ->
             index,
             value,
         } => assign(
-            cells,
             *base,
             *len,
             known_value(index, cells),
             known_value(value, cells),
         ),
         Act::Assume { test, holds } => assume(test, *holds, cells, tracked),
-        Act::Input { cell } => {
-            put(cells, *cell as usize, None);
-            true
-        }
-        _ => true,
+        Act::Input { cell } => Some(Change::of_cell(*cell as usize, None)),
+        _ => Some(Change::nothing()),
     }
 }
 
 /// A write.
-fn assign(
-    cells: &mut [Option<i128>],
-    base: u32,
-    len: u32,
-    index: Result<i128, Gap>,
-    value: Result<i128, Gap>,
-) -> bool
-    ensures { (if result then Some cells.new else None) ≡ assigned base len index value cells.old }
+fn assign(base: u32, len: u32, index: Result<i128, Gap>, value: Result<i128, Gap>) -> Option<Change>
+    ensures { (cells : List (Option ℤ)) → option_map (λ c. changed c cells) result
+        ≡ assigned base len index value cells }
 {
     if is_trap(index) || is_trap(value) {
-        return false;
+        return None;
     }
     match index {
-        Ok(at) => write(cells, base, len, at, value.ok()),
-        Err(_) => {
-            forget(cells, base, len);
-            true
-        }
+        Ok(at) => write(base, len, at, value.ok()),
+        Err(_) => Some(Change::of_array(base, len)),
     }
 }
 
@@ -84,45 +76,27 @@ fn is_trap(known: Result<i128, Gap>) -> bool
 }
 
 /// The value for the cell at a known index.
-fn write(cells: &mut [Option<i128>], base: u32, len: u32, at: i128, value: Option<i128>) -> bool
-    ensures { (if result then Some cells.new else None) ≡ written base len at value cells.old }
+fn write(base: u32, len: u32, at: i128, value: Option<i128>) -> Option<Change>
+    ensures { (cells : List (Option ℤ)) → option_map (λ c. changed c cells) result
+        ≡ written base len at value cells }
 {
     if 0 <= at && at < len as i128 {
-        put(cells, base as usize + at as usize, value);
-        true
+        Some(Change::of_cell(base as usize + at as usize, value))
     } else {
-        false
-    }
-}
-
-/// No value for the cells of an array.
-fn forget(cells: &mut [Option<i128>], base: u32, len: u32)
-    ensures { cells.new ≡ forgotten base len cells.old }
-{
-    for i in 0..len {
-        put(cells, base as usize + i as usize, None);
-    }
-}
-
-/// This for the cell, if it is there.
-pub(crate) fn put(cells: &mut [Option<i128>], cell: usize, value: Option<i128>)
-    ensures { cells.new ≡ slice_set cells.old cell value }
-{
-    if cell < cells.len() {
-        cells[cell] = value;
+        None
     }
 }
 
 /// A test.
-fn assume(test: &Expr, holds: bool, cells: &mut [Option<i128>], tracked: &[bool]) -> bool
-    ensures { (if result then Some cells.new else None)
-        ≡ assumed (is_marked tracked.now) test.now holds (known_value test.now cells.old)
-        cells.old }
+fn assume(test: &Expr, holds: bool, cells: &KnownCells, tracked: &Tracked) -> Option<Change>
+    ensures { option_map (λ c. changed c cells.now) result
+        ≡ assumed (is_tracked tracked.now) test.now holds (known_value test.now cells.now)
+        cells.now }
 {
     match known_value(test, cells) {
-        Err(Gap::Trap) => false,
+        Err(Gap::Trap) => None,
         Err(Gap::Unknown) => learn(test, holds, cells, tracked),
-        Ok(value) => is_same(is_nonzero(value), holds),
+        Ok(value) => nothing_where(is_same(is_nonzero(value), holds)),
     }
 }
 
@@ -133,10 +107,18 @@ fn is_same(a: bool, b: bool) -> bool
     a == b
 }
 
+/// No change, where the act can be done.
+fn nothing_where(can: bool) -> Option<Change>
+    ensures { (cells : List (Option ℤ)) → option_map (λ c. changed c cells) result
+        ≡ (if can then Some cells else None) }
+{
+    if can { Some(Change::nothing()) } else { None }
+}
+
 /// What an unknown test says of cells.
-fn learn(test: &Expr, holds: bool, cells: &mut [Option<i128>], tracked: &[bool]) -> bool
-    ensures { (if result then Some cells.new else None)
-        ≡ learned (is_marked tracked.now) (out-Expr test.now) holds cells.old }
+fn learn(test: &Expr, holds: bool, cells: &KnownCells, tracked: &Tracked) -> Option<Change>
+    ensures { option_map (λ c. changed c cells.now) result
+        ≡ learned (is_tracked tracked.now) (out-Expr test.now) holds cells.now }
 {
     match test {
         Expr::Cmp {
@@ -148,16 +130,17 @@ fn learn(test: &Expr, holds: bool, cells: &mut [Option<i128>], tracked: &[bool])
             if says_equal(*op, holds) {
                 equate(left.get(), right.get(), cells, tracked)
             } else {
-                true
+                Some(Change::nothing())
             }
         }
         Expr::Read { .. } => {
-            if !holds {
-                zero(scalar_of(test), cells, tracked);
+            if holds {
+                Some(Change::nothing())
+            } else {
+                Some(zero(scalar_of(test), tracked))
             }
-            true
         }
-        _ => true,
+        _ => Some(Change::nothing()),
     }
 }
 
@@ -173,23 +156,23 @@ fn says_equal(op: CmpOp, holds: bool) -> bool
 }
 
 /// Both sides are equal.
-fn equate(left: &Expr, right: &Expr, cells: &mut [Option<i128>], tracked: &[bool]) -> bool
-    ensures { (if result then Some cells.new else None)
-        ≡ equated (is_marked tracked.now) left.now right.now cells.old }
+fn equate(left: &Expr, right: &Expr, cells: &KnownCells, tracked: &Tracked) -> Option<Change>
+    ensures { option_map (λ c. changed c cells.now) result
+        ≡ equated (is_tracked tracked.now) left.now right.now cells.now }
 {
     let of_left = told(read_of(left), known_value(right, cells), tracked);
     let of_right = told(read_of(right), known_value(left, cells), tracked);
-    set_told(first_told(of_left, of_right), cells)
+    set_told(first_told(of_left, of_right))
 }
 
 /// What the equality of a side with this says of a tracked scalar.
-fn told(read: Option<Scalar>, known: Result<i128, Gap>, tracked: &[bool]) -> Option<ScalarValue>
-    ensures { result ≡ told (is_marked tracked.now) read known }
+fn told(read: Option<Scalar>, known: Result<i128, Gap>, tracked: &Tracked) -> Option<ScalarValue>
+    ensures { result ≡ told (is_tracked tracked.now) read known }
 {
     match read {
         Some(read) => match known {
             Ok(value) => {
-                if is_marked(tracked, read.cell) {
+                if tracked.has(read.cell) {
                     Some(ScalarValue { read, value })
                 } else {
                     None
@@ -212,31 +195,34 @@ fn first_told(first: Option<ScalarValue>, other: Option<ScalarValue>) -> Option<
 }
 
 /// The scalar has the value, where its type has.
-fn set_told(told: Option<ScalarValue>, cells: &mut [Option<i128>]) -> bool
-    ensures { (if result then Some cells.new else None) ≡ set_told told cells.old }
+fn set_told(told: Option<ScalarValue>) -> Option<Change>
+    ensures { (cells : List (Option ℤ)) → option_map (λ c. changed c cells) result
+        ≡ set_told told cells }
 {
     match told {
-        None => true,
+        None => Some(Change::nothing()),
         Some(it) => {
             if it.read.ty.least() <= it.value && it.value <= it.read.ty.greatest() {
-                put(cells, it.read.cell as usize, Some(it.value));
-                true
+                Some(Change::of_cell(it.read.cell as usize, Some(it.value)))
             } else {
-                false
+                None
             }
         }
     }
 }
 
 /// A tracked scalar is zero.
-fn zero(read: Option<Scalar>, cells: &mut [Option<i128>], tracked: &[bool])
-    ensures { cells.new ≡ zeroed (is_marked tracked.now) read cells.old }
+fn zero(read: Option<Scalar>, tracked: &Tracked) -> Change
+    ensures { (cells : List (Option ℤ)) → changed result cells
+        ≡ zeroed (is_tracked tracked.now) read cells }
 {
     match read {
-        None => {}
+        None => Change::nothing(),
         Some(read) => {
-            if is_marked(tracked, read.cell) {
-                put(cells, read.cell as usize, Some(0));
+            if tracked.has(read.cell) {
+                Change::of_cell(read.cell as usize, Some(0))
+            } else {
+                Change::nothing()
             }
         }
     }

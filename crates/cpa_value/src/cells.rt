@@ -2,15 +2,12 @@
 //! `specs/Cells.antt`.
 
 ghost use Rattle.std.specs.Prelude.{◌≡◌, ◌<◌, ◌^◌, ℕ, ◌++◌, ◌∷◌, [], None, is_none, true};
-ghost use Rattle.std.specs.Prelude.{length, IfOk, OnOk};
+ghost use Rattle.std.specs.Prelude.{length, slice_set, IfOk, OnOk};
 ghost use Rattle.std.specs.List.{slice_index_or};
-ghost use Rattle.cpa_query.specs.Queries.{is_marked};
 ghost use Rattle.cpa_value.specs.Cells.{first_value, first_known, known_cells};
 ghost use Rattle.cpa_value.specs.Cells.{facts_from, elem_of};
 
-use crate::acts::put;
 use cpa_model::{Elem, Fact, Seq};
-use cpa_path_folds::is_marked;
 use std::alloc::{AllocError, Global};
 
 /// The known values of the first `count` cells. Of several facts on a cell the first one counts.
@@ -57,6 +54,15 @@ fn is_unknown(cells: &[Option<i128>], cell: usize) -> bool
     value_at(cells, cell).is_none()
 }
 
+/// This for the cell, if it is there.
+pub(crate) fn put(cells: &mut [Option<i128>], cell: usize, value: Option<i128>)
+    ensures { cells.new ≡ slice_set cells.old cell value }
+{
+    if cell < cells.len() {
+        cells[cell] = value;
+    }
+}
+
 /// The value of the cell, where it is known.
 pub(crate) fn value_at(cells: &[Option<i128>], cell: usize) -> Option<i128>
     ensures { result ≡ slice_index_or cells.now cell None }
@@ -65,23 +71,6 @@ pub(crate) fn value_at(cells: &[Option<i128>], cell: usize) -> Option<i128>
         Some(value) => *value,
         None => None,
     }
-}
-
-/// The element of the tracked cells.
-pub(crate) fn elem_of(
-    alloc: Global,
-    cells: &[Option<i128>],
-    tracked: &[bool],
-) -> Result<Elem, AllocError>
-    requires { length cells.now < 2 ^ 32 }
-    ensures { IfOk result (λ e. e ≡ elem_of (is_marked tracked.now) cells.now) }
-{
-    let mut facts = Seq::new(alloc);
-    for cell in 0..cells.len() {
-        let number = cell as u32;
-        push_fact(&mut facts, number, cells[cell], is_marked(tracked, number))?;
-    }
-    Ok(Elem { facts })
 }
 
 /// The element of all known cells.
@@ -97,7 +86,7 @@ pub(crate) fn elem_of_known(alloc: Global, cells: &[Option<i128>]) -> Result<Ele
 }
 
 /// Adds the fact of a cell, where it is tracked and its value is known.
-fn push_fact(
+pub(crate) fn push_fact(
     facts: &mut Seq<Fact>,
     cell: u32,
     value: Option<i128>,

@@ -7,7 +7,7 @@ ghost use Rattle.cpa_expr.specs.Values.{un_value, bin_value, compares, truth, is
 ghost use Rattle.cpa_value.specs.KnownValues.{known_then, known_pair, or_trap, known_at};
 ghost use Rattle.cpa_value.specs.KnownValues.{known_truth, known_value};
 
-use crate::cells::value_at;
+use crate::table::KnownCells;
 use cpa_expr::{BinOp, CmpOp, Expr, UnOp, bin_value, compares, is_nonzero, truth, un_value};
 use cpa_ints::{Boxed, IntType, wrap};
 
@@ -25,7 +25,7 @@ pub enum Gap {
 /// `x + 1 / 0` is unknown where `x` is.
 // Each form of node has a function of its own, since a call clears all locals of its function.
 #[cycle(knowing)]
-pub fn known_value(e: &Expr, cells: &[Option<i128>]) -> Result<i128, Gap>
+pub fn known_value(e: &Expr, cells: &KnownCells) -> Result<i128, Gap>
     ensures { result ≡ known_value e.now cells.now }
 {
     match e {
@@ -59,7 +59,7 @@ pub fn known_value(e: &Expr, cells: &[Option<i128>]) -> Result<i128, Gap>
 
 /// The value of the cell that the index picks, where the index is known.
 #[cycle(knowing)]
-fn known_read(base: u32, len: u32, index: &Boxed<Expr>, cells: &[Option<i128>]) -> Result<i128, Gap>
+fn known_read(base: u32, len: u32, index: &Boxed<Expr>, cells: &KnownCells) -> Result<i128, Gap>
     ensures { result ≡ known_then (known_at cells.now base len) (known_value index.now cells.now) }
 {
     known_at(cells, base, len, known_value(index.get(), cells)?)
@@ -67,7 +67,7 @@ fn known_read(base: u32, len: u32, index: &Boxed<Expr>, cells: &[Option<i128>]) 
 
 /// The value of the operator on the value of its argument, where that is known.
 #[cycle(knowing)]
-fn known_un(op: UnOp, ty: IntType, arg: &Boxed<Expr>, cells: &[Option<i128>]) -> Result<i128, Gap>
+fn known_un(op: UnOp, ty: IntType, arg: &Boxed<Expr>, cells: &KnownCells) -> Result<i128, Gap>
     ensures { result ≡ known_then (λ a. Ok (un_value op ty a)) (known_value arg.now cells.now) }
 {
     Ok(un_value(op, ty, known_value(arg.get(), cells)?))
@@ -80,7 +80,7 @@ fn known_bin(
     ty: IntType,
     left: &Boxed<Expr>,
     right: &Boxed<Expr>,
-    cells: &[Option<i128>],
+    cells: &KnownCells,
 ) -> Result<i128, Gap>
     ensures { result ≡ known_pair (λ a b. or_trap (bin_value op ty a b))
         (known_value left.now cells.now) (known_value right.now cells.now) }
@@ -96,7 +96,7 @@ fn known_cmp(
     op: CmpOp,
     left: &Boxed<Expr>,
     right: &Boxed<Expr>,
-    cells: &[Option<i128>],
+    cells: &KnownCells,
 ) -> Result<i128, Gap>
     ensures { result ≡ known_pair (λ a b. Ok (truth (compares op a b)))
         (known_value left.now cells.now) (known_value right.now cells.now) }
@@ -108,7 +108,7 @@ fn known_cmp(
 
 /// The value of the argument wrapped to the type, where it is known.
 #[cycle(knowing)]
-fn known_cast(ty: IntType, arg: &Boxed<Expr>, cells: &[Option<i128>]) -> Result<i128, Gap>
+fn known_cast(ty: IntType, arg: &Boxed<Expr>, cells: &KnownCells) -> Result<i128, Gap>
     ensures { result ≡ known_then (λ a. Ok (wrapped ty a)) (known_value arg.now cells.now) }
 {
     Ok(wrap(ty, known_value(arg.get(), cells)?))
@@ -116,7 +116,7 @@ fn known_cast(ty: IntType, arg: &Boxed<Expr>, cells: &[Option<i128>]) -> Result<
 
 /// The right side counts only where the left one is known to be nonzero.
 #[cycle(knowing)]
-fn known_and(left: &Boxed<Expr>, right: &Boxed<Expr>, cells: &[Option<i128>]) -> Result<i128, Gap>
+fn known_and(left: &Boxed<Expr>, right: &Boxed<Expr>, cells: &KnownCells) -> Result<i128, Gap>
     ensures { result ≡ known_then
         (λ a. if is_nonzero a then known_truth (known_value right.now cells.now) else Ok (pos 0))
         (known_value left.now cells.now) }
@@ -130,7 +130,7 @@ fn known_and(left: &Boxed<Expr>, right: &Boxed<Expr>, cells: &[Option<i128>]) ->
 
 /// The right side counts only where the left one is known to be zero.
 #[cycle(knowing)]
-fn known_or(left: &Boxed<Expr>, right: &Boxed<Expr>, cells: &[Option<i128>]) -> Result<i128, Gap>
+fn known_or(left: &Boxed<Expr>, right: &Boxed<Expr>, cells: &KnownCells) -> Result<i128, Gap>
     ensures { result ≡ known_then
         (λ a. if is_nonzero a then Ok (pos 1) else known_truth (known_value right.now cells.now))
         (known_value left.now cells.now) }
@@ -144,7 +144,7 @@ fn known_or(left: &Boxed<Expr>, right: &Boxed<Expr>, cells: &[Option<i128>]) -> 
 
 /// 1 where the argument is known to be zero, 0 where it is known not to be.
 #[cycle(knowing)]
-fn known_not(arg: &Boxed<Expr>, cells: &[Option<i128>]) -> Result<i128, Gap>
+fn known_not(arg: &Boxed<Expr>, cells: &KnownCells) -> Result<i128, Gap>
     ensures { result ≡ known_then (λ a. Ok (truth (not (is_nonzero a))))
         (known_value arg.now cells.now) }
 {
@@ -157,7 +157,7 @@ fn known_cond(
     test: &Boxed<Expr>,
     yes: &Boxed<Expr>,
     no: &Boxed<Expr>,
-    cells: &[Option<i128>],
+    cells: &KnownCells,
 ) -> Result<i128, Gap>
     ensures { result ≡ known_then
         (λ a. if is_nonzero a then known_value yes.now cells.now else known_value no.now cells.now)
@@ -178,11 +178,13 @@ fn or_trap(value: Option<i128>) -> Result<i128, Gap>
 }
 
 /// The value of the cell at this index of `len` cells from `base` on.
-fn known_at(cells: &[Option<i128>], base: u32, len: u32, index: i128) -> Result<i128, Gap>
+fn known_at(cells: &KnownCells, base: u32, len: u32, index: i128) -> Result<i128, Gap>
     ensures { result ≡ known_at cells.now base len index }
 {
     if 0 <= index && index < len as i128 {
-        value_at(cells, base as usize + index as usize).ok_or(Gap::Unknown)
+        cells
+            .value_at(base as usize + index as usize)
+            .ok_or(Gap::Unknown)
     } else {
         Err(Gap::Trap)
     }

@@ -4,12 +4,16 @@
 
 mod acts;
 mod cells;
+mod changes;
 mod known;
 mod limits;
 mod strengthening;
+mod table;
+mod tracked;
 mod transfer;
 mod value;
 
 pub use acts::ScalarValue;
 pub use known::{Gap, known_value};
+pub use table::KnownCells;
 pub use value::Value;

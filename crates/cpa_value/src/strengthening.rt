@@ -1,21 +1,24 @@
 //! What the elements of other analyses say of cells, by `specs/Strengthening.antt`.
 //! Proved with `proofs/StrengthenLemmas.antt`.
 
-ghost use Rattle.std.specs.Prelude.{◌≡◌, ◌<◌, ◌^◌, true, None, Some, option_map, if◌then◌else◌};
+ghost use Rattle.std.specs.Prelude.{◌≡◌, ◌<◌, ◌^◌, ℕ, ℤ, List, Option, true, None, Some};
+ghost use Rattle.std.specs.Prelude.{option_map, if◌then◌else◌};
 ghost use Rattle.std.specs.Prelude.{length, IfOk};
 ghost use Rattle.std.specs.List.{list_any, slice_index_or};
 ghost use Rattle.cpa_model.specs.Automata.{IsAutomaton};
 ghost use Rattle.cpa_iface.specs.Meanings.{IsPrecision};
-ghost use Rattle.cpa_query.specs.Queries.{is_marked};
-ghost use Rattle.cpa_value.specs.Cells.{elem_of};
+ghost use Rattle.cpa_path_folds.specs.Tracking.{is_tracked};
+ghost use Rattle.cpa_value.specs.Cells.{elem_of, known_cells};
 ghost use Rattle.cpa_value.specs.Strengthening.{is_point, has_point, agreed, met, met_facts};
-ghost use Rattle.cpa_value.specs.Strengthening.{met_elems, strengthened};
+ghost use Rattle.cpa_value.specs.Strengthening.{met_elems, strengthened, Agrees};
+ghost use Rattle.cpa_value.specs.Tables.{are_ordered};
+ghost use Rattle.cpa_value.specs.declared.strengthening.Agreement.TheVariants.{Same};
 
-use crate::acts::put;
-use crate::cells::{elem_of_known, known_cells, value_at};
+use crate::cells::{elem_of_known, known_cells, put, value_at};
+use crate::table::{KnownCells, are_ordered};
+use crate::tracked::Tracked;
 use cpa_iface::Precision;
 use cpa_model::{Cfa, Elem, Fact, copy_elem};
-use cpa_path_folds::{is_marked, tracked_marks};
 use std::alloc::{AllocError, Global};
 
 /// The own element with what the others say of tracked cells, or `None` where a cell would have two
@@ -33,25 +36,132 @@ pub(crate) fn strengthened(
         e ≡ strengthened (length cfa.now.cells) precision.now own.now others.now) }
 {
     let count = cfa.cells.len();
-    let tracked = tracked_marks(alloc, precision, count)?;
+    let tracked = Tracked::of(alloc, precision, count)?;
     if some_point(others, &tracked) {
-        let mut cells = known_cells(alloc, own.facts.as_slice(), count)?;
-        met(alloc, &mut cells, others, &tracked)
+        met(alloc, own, count, others, &tracked)
     } else {
         Ok(Some(copy_elem(alloc, own)?))
     }
 }
 
-/// The element of all that is known then.
+/// What the elements say of cells beside what is known of them.
+#[derive(Clone, Copy)]
+pub(crate) enum Agreement {
+    /// Nothing more.
+    Same,
+    /// Another value of a cell.
+    Other,
+    /// A value of a cell of which none is known, and what else they say is not looked at.
+    More,
+}
+
+/// The own element with what the others say, or `None` where a cell would have two values.
 fn met(
+    alloc: Global,
+    own: &Elem,
+    count: usize,
+    others: &[Elem],
+    tracked: &Tracked,
+) -> Result<Option<Elem>, AllocError>
+    requires { count < 2 ^ 32 }
+    ensures { IfOk result (λ e. e ≡ option_map (elem_of (λ _. true))
+        (met_elems (is_tracked tracked.now) others.now (known_cells count own.now.facts))) }
+{
+    let facts = own.facts.as_slice();
+    match said_beside(facts, count, others, tracked) {
+        Agreement::Same => Ok(Some(copy_elem(alloc, own)?)),
+        Agreement::Other => Ok(None),
+        Agreement::More => {
+            let mut cells = known_cells(alloc, facts, count)?;
+            met_in(alloc, &mut cells, others, tracked)
+        }
+    }
+}
+
+/// What the elements say, where the own facts are in the order of the cells.
+fn said_beside(facts: &[Fact], count: usize, others: &[Elem], tracked: &Tracked) -> Agreement
+    ensures agrees { Agrees result (met_elems (is_tracked tracked.now) others.now)
+        (known_cells count facts.now) }
+    ensures ordered { result ≡ Same → are_ordered count 0 facts.now ≡ true }
+{
+    if are_ordered(facts, count) {
+        said_along(&KnownCells::new(facts, count), others, tracked)
+    } else {
+        Agreement::More
+    }
+}
+
+/// What the elements say, one after another.
+fn said_along(cells: &KnownCells, others: &[Elem], tracked: &Tracked) -> Agreement
+    ensures { Agrees result (met_elems (is_tracked tracked.now) others.now) cells.now }
+{
+    for other in others {
+        match said_by_facts(cells, other.facts.as_slice(), tracked) {
+            Agreement::Same => {}
+            Agreement::Other => return Agreement::Other,
+            Agreement::More => return Agreement::More,
+        }
+    }
+    Agreement::Same
+}
+
+/// What the facts say, one after another.
+fn said_by_facts(cells: &KnownCells, facts: &[Fact], tracked: &Tracked) -> Agreement
+    ensures { Agrees result (met_facts (is_tracked tracked.now) facts.now) cells.now }
+{
+    for fact in facts {
+        match said_by_fact(cells, fact, tracked) {
+            Agreement::Same => {}
+            Agreement::Other => return Agreement::Other,
+            Agreement::More => return Agreement::More,
+        }
+    }
+    Agreement::Same
+}
+
+/// What the fact says.
+fn said_by_fact(cells: &KnownCells, fact: &Fact, tracked: &Tracked) -> Agreement
+    ensures { Agrees result (met (is_tracked tracked.now) fact.now) cells.now }
+{
+    match fact {
+        Fact::Within { cell, lo, .. } => {
+            if is_point(fact, tracked) {
+                compared(cells.value_at(*cell as usize), lo)
+            } else {
+                Agreement::Same
+            }
+        }
+        _ => Agreement::Same,
+    }
+}
+
+/// What a value says beside the known one.
+fn compared(known: Option<i128>, value: &i128) -> Agreement
+    ensures { (cell : ℕ) (cells : List (Option ℤ)) →
+        Agrees result (agreed cell value.now known) cells }
+{
+    match known {
+        None => Agreement::More,
+        Some(known) => {
+            if known == *value {
+                Agreement::Same
+            } else {
+                Agreement::Other
+            }
+        }
+    }
+}
+
+/// The element of all that is known then.
+fn met_in(
     alloc: Global,
     cells: &mut [Option<i128>],
     others: &[Elem],
-    tracked: &[bool],
+    tracked: &Tracked,
 ) -> Result<Option<Elem>, AllocError>
     requires { length cells.old < 2 ^ 32 }
     ensures { IfOk result (λ e. e ≡ option_map (elem_of (λ _. true))
-        (met_elems (is_marked tracked.now) others.now cells.old)) }
+        (met_elems (is_tracked tracked.now) others.now cells.old)) }
 {
     if meet_elems(cells, others, tracked) {
         Ok(Some(elem_of_known(alloc, cells)?))
@@ -61,15 +171,15 @@ fn met(
 }
 
 /// Whether some element leaves a tracked cell one value.
-fn some_point(others: &[Elem], tracked: &[bool]) -> bool
-    ensures { result ≡ list_any (has_point (is_marked tracked.now)) others.now }
+fn some_point(others: &[Elem], tracked: &Tracked) -> bool
+    ensures { result ≡ list_any (has_point (is_tracked tracked.now)) others.now }
 {
     others.iter().any(|other| has_point(other, tracked))
 }
 
 /// Whether some fact of the element leaves a tracked cell one value.
-fn has_point(elem: &Elem, tracked: &[bool]) -> bool
-    ensures { result ≡ has_point (is_marked tracked.now) elem.now }
+fn has_point(elem: &Elem, tracked: &Tracked) -> bool
+    ensures { result ≡ has_point (is_tracked tracked.now) elem.now }
 {
     elem.facts
         .as_slice()
@@ -78,19 +188,19 @@ fn has_point(elem: &Elem, tracked: &[bool]) -> bool
 }
 
 /// Whether the fact leaves a tracked cell one value: its bounds are equal.
-fn is_point(fact: &Fact, tracked: &[bool]) -> bool
-    ensures { result ≡ is_point (is_marked tracked.now) fact.now }
+fn is_point(fact: &Fact, tracked: &Tracked) -> bool
+    ensures { result ≡ is_point (is_tracked tracked.now) fact.now }
 {
     match fact {
-        Fact::Within { cell, lo, hi } => *lo == *hi && is_marked(tracked, *cell),
+        Fact::Within { cell, lo, hi } => *lo == *hi && tracked.has(*cell),
         _ => false,
     }
 }
 
 /// Adds what the elements say, and says whether no cell would have two values.
-fn meet_elems(cells: &mut [Option<i128>], others: &[Elem], tracked: &[bool]) -> bool
+fn meet_elems(cells: &mut [Option<i128>], others: &[Elem], tracked: &Tracked) -> bool
     ensures { (if result then Some cells.new else None)
-        ≡ met_elems (is_marked tracked.now) others.now cells.old }
+        ≡ met_elems (is_tracked tracked.now) others.now cells.old }
 {
     for other in others {
         if !meet_facts(cells, other.facts.as_slice(), tracked) {
@@ -101,9 +211,9 @@ fn meet_elems(cells: &mut [Option<i128>], others: &[Elem], tracked: &[bool]) -> 
 }
 
 /// Adds what the facts say, and says whether no cell would have two values.
-fn meet_facts(cells: &mut [Option<i128>], facts: &[Fact], tracked: &[bool]) -> bool
+fn meet_facts(cells: &mut [Option<i128>], facts: &[Fact], tracked: &Tracked) -> bool
     ensures { (if result then Some cells.new else None)
-        ≡ met_facts (is_marked tracked.now) facts.now cells.old }
+        ≡ met_facts (is_tracked tracked.now) facts.now cells.old }
 {
     for fact in facts {
         if !meet(cells, fact, tracked) {
@@ -114,13 +224,13 @@ fn meet_facts(cells: &mut [Option<i128>], facts: &[Fact], tracked: &[bool]) -> b
 }
 
 /// Adds what the fact says, and says whether no cell would have two values.
-fn meet(cells: &mut [Option<i128>], fact: &Fact, tracked: &[bool]) -> bool
+fn meet(cells: &mut [Option<i128>], fact: &Fact, tracked: &Tracked) -> bool
     ensures { (if result then Some cells.new else None)
-        ≡ met (is_marked tracked.now) fact.now cells.old }
+        ≡ met (is_tracked tracked.now) fact.now cells.old }
 {
     match fact {
         Fact::Within { cell, lo, hi } => {
-            if *lo == *hi && is_marked(tracked, *cell) {
+            if *lo == *hi && tracked.has(*cell) {
                 agree(cells, *cell as usize, *lo)
             } else {
                 true

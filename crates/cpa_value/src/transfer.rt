@@ -1,18 +1,24 @@
-//! What an edge makes of an element, by `specs/Transfer.antt`.
-//! Proved with `proofs/CellLemmas.antt`.
+//! What an edge makes of an element, by `specs/Transfer.antt`. It takes time in the facts of the
+//! element and in the expressions. Proved with `proofs/ChangeLemmas.antt`.
 
-ghost use Rattle.std.specs.Prelude.{◌≡◌, ◌<◌, ◌^◌, [], ◌∷◌, length, IfOk};
+ghost use Rattle.std.specs.Prelude.{◌≡◌, ◌<◌, ◌≤◌, ◌^◌, ◌+◌, ◌-◌, [], ◌∷◌, ◌++◌, true, length, min};
+ghost use Rattle.std.specs.Prelude.{IfOk, OnOk};
 ghost use Rattle.cpa_model.specs.Automata.{IsAutomaton};
 ghost use Rattle.cpa_iface.specs.Meanings.{IsPrecision};
-ghost use Rattle.cpa_query.specs.Queries.{is_marked};
+ghost use Rattle.cpa_path_folds.specs.Tracking.{is_tracked};
 ghost use Rattle.cpa_value.specs.Acts.{after_act};
+ghost use Rattle.cpa_value.specs.Cells.{known_cells, elem_of};
+ghost use Rattle.cpa_value.specs.Tables.{are_ordered, changed, is_within, facts_within};
+ghost use Rattle.cpa_value.specs.Tables.{facts_along};
 ghost use Rattle.cpa_value.specs.Transfer.{elems_of, next_values};
 
-use crate::acts::do_act;
-use crate::cells::{elem_of, known_cells};
+use crate::acts::change_by;
+use crate::cells::{elem_of_known, known_cells, push_fact};
+use crate::changes::Change;
+use crate::table::{KnownCells, are_ordered};
+use crate::tracked::Tracked;
 use cpa_iface::Precision;
-use cpa_model::{Act, Cfa, Edge, Elem};
-use cpa_path_folds::tracked_marks;
+use cpa_model::{Act, Cfa, Edge, Elem, Fact, Seq, copy_fact};
 use std::alloc::{AllocError, Global};
 
 /// What the edge makes of the element.
@@ -28,34 +34,141 @@ pub(crate) fn next_values(
     ensures { IfOk result (λ es. es.items ≡ next_values cfa.now precision.now elem.now edge.now) }
 {
     let count = cfa.cells.len();
-    let mut cells = known_cells(alloc, elem.facts.as_slice(), count)?;
-    let tracked = tracked_marks(alloc, precision, count)?;
-    after(alloc, &edge.act, &mut cells, &tracked)
+    let tracked = Tracked::of(alloc, precision, count)?;
+    after_facts(alloc, &edge.act, elem.facts.as_slice(), count, &tracked)
 }
 
-/// The element of what the act makes of the known values, where it can be done.
+/// The elements of what the act makes of the known values that the facts say.
+fn after_facts(
+    alloc: Global,
+    act: &Act,
+    facts: &[Fact],
+    count: usize,
+    tracked: &Tracked,
+) -> Result<Vec<Elem>, AllocError>
+    requires { count < 2 ^ 32 }
+    ensures { IfOk result (λ es. es.items ≡ elems_of (is_tracked tracked.now)
+        (after_act (is_tracked tracked.now) act.now (known_cells count facts.now))) }
+{
+    if are_ordered(facts, count) {
+        return after(alloc, act, facts, count, tracked);
+    }
+    let ordered = in_order(alloc, facts, count)?;
+    let elems = after(alloc, act, ordered.facts.as_slice(), count, tracked)?;
+    Ok(elems)
+}
+
+/// The same known values, in the order of the cells.
+fn in_order(alloc: Global, facts: &[Fact], count: usize) -> Result<Elem, AllocError>
+    requires { count < 2 ^ 32 }
+    ensures ordered { IfOk result (λ e. are_ordered count 0 e.facts ≡ true) }
+    ensures same { IfOk result (λ e. known_cells count e.facts ≡ known_cells count facts.now) }
+{
+    let cells = known_cells(alloc, facts, count)?;
+    elem_of_known(alloc, &cells)
+}
+
+/// The same of facts in the order of the cells.
 fn after(
     alloc: Global,
     act: &Act,
-    cells: &mut [Option<i128>],
-    tracked: &[bool],
+    facts: &[Fact],
+    count: usize,
+    tracked: &Tracked,
 ) -> Result<Vec<Elem>, AllocError>
-    requires { length cells.old < 2 ^ 32 }
-    ensures { IfOk result (λ es. es.items
-        ≡ elems_of (is_marked tracked.now) (after_act (is_marked tracked.now) act.now cells.old)) }
+    requires few { count < 2 ^ 32 }
+    requires ordered { are_ordered count 0 facts.now ≡ true }
+    ensures { IfOk result (λ es. es.items ≡ elems_of (is_tracked tracked.now)
+        (after_act (is_tracked tracked.now) act.now (known_cells count facts.now))) }
 {
-    if do_act(act, cells, tracked) {
-        only(alloc, elem_of(alloc, cells, tracked)?)
-    } else {
-        Ok(Vec::new(alloc))
+    let mut elems = Vec::new(alloc);
+    match change_by(act, &KnownCells::new(facts, count), tracked) {
+        Some(change) => {
+            elems.push(elem_behind(alloc, facts, count, change, tracked)?)?;
+            Ok(elems)
+        }
+        None => Ok(elems),
     }
 }
 
-/// The list of one element.
-fn only(alloc: Global, elem: Elem) -> Result<Vec<Elem>, AllocError>
-    ensures { IfOk result (λ es. es.items ≡ elem ∷ []) }
+/// The element of the tracked cells behind a change.
+fn elem_behind(
+    alloc: Global,
+    facts: &[Fact],
+    count: usize,
+    change: Change,
+    tracked: &Tracked,
+) -> Result<Elem, AllocError>
+    requires few { count < 2 ^ 32 }
+    requires ordered { are_ordered count 0 facts.now ≡ true }
+    ensures { IfOk result (λ e.
+        e ≡ elem_of (is_tracked tracked.now) (changed change (known_cells count facts.now))) }
 {
-    let mut elems = Vec::new(alloc);
-    elems.push(elem)?;
-    Ok(elems)
+    let first = lesser(change.first, count);
+    let taken = lesser(change.count, count - first);
+    let end = first + taken;
+    let mut left = Seq::new(alloc);
+    push_within(alloc, &mut left, facts, 0, first, tracked)?;
+    push_along(&mut left, change.value, first, end, tracked)?;
+    push_within(alloc, &mut left, facts, end, count, tracked)?;
+    Ok(Elem { facts: left })
+}
+
+/// The lesser of two numbers.
+fn lesser(a: usize, b: usize) -> usize
+    ensures { result ≡ min a b }
+{
+    if a < b { a } else { b }
+}
+
+/// Adds the facts of the tracked cells from one on and before another.
+fn push_within(
+    alloc: Global,
+    left: &mut Seq<Fact>,
+    facts: &[Fact],
+    from: usize,
+    to: usize,
+    tracked: &Tracked,
+) -> Result<(), AllocError>
+    ensures { OnOk result
+        (left.new ≡ left.old ++ facts_within (is_tracked tracked.now) from to facts.now) }
+{
+    for fact in facts {
+        if is_within(fact, from, to, tracked) {
+            left.push(copy_fact(alloc, fact)?)?;
+        }
+    }
+    Ok(())
+}
+
+/// Whether the fact says a value of one of these cells, which is tracked.
+fn is_within(fact: &Fact, from: usize, to: usize, tracked: &Tracked) -> bool
+    ensures { result ≡ is_within (is_tracked tracked.now) from to fact.now }
+{
+    match fact {
+        Fact::Equals { cell, .. } => {
+            from <= *cell as usize && (*cell as usize) < to && tracked.has(*cell)
+        }
+        _ => false,
+    }
+}
+
+/// Adds this value, where it is one, for each tracked cell from one on and before another.
+fn push_along(
+    left: &mut Seq<Fact>,
+    value: Option<i128>,
+    first: usize,
+    end: usize,
+    tracked: &Tracked,
+) -> Result<(), AllocError>
+    requires order { first ≤ end }
+    requires few { end < 2 ^ 32 }
+    ensures { OnOk result (left.new
+        ≡ left.old ++ facts_along (is_tracked tracked.now) (λ _. value) first (end - first)) }
+{
+    for cell in first..end {
+        let number = cell as u32;
+        push_fact(left, number, value, tracked.has(number))?;
+    }
+    Ok(())
 }
