@@ -1,27 +1,50 @@
-//! When one element covers another, by `specs/Covers.antt`.
+//! When one element covers another, by `specs/Covers.antt`. Facts are looked for in the order in
+//! which they stand: where two elements have one order, it takes one walk.
 
-ghost use Rattle.std.specs.Prelude.{◌≡◌};
+ghost use Rattle.std.specs.Prelude.{◌≡◌, ◌<◌, ◌≤◌, length, is_some, IfSome};
 ghost use Rattle.cpa_interval.specs.Covers.{keeps_within, says, has_covered, covers};
 
 use cpa_model::{Elem, Fact, same_fact};
 
-/// Whether each fact of the other element is said by one of the element.
+/// Whether each fact of the other element is said by one of the element. It is linear where the
+/// facts that say them stand in one order with them.
 pub(crate) fn covers(elem: &Elem, other: &Elem) -> bool
     ensures { result ≡ covers elem.now other.now }
 {
-    let facts = elem.facts.as_slice();
-    other
-        .facts
-        .as_slice()
-        .iter()
-        .all(|fact| has_covered(facts, fact))
+    let mut next = 0;
+    for fact in &other.facts {
+        match place_from(elem.facts.as_slice(), next, fact) {
+            Some(place) => next = place + 1,
+            None => return false,
+        }
+    }
+    true
 }
 
-/// Whether one of the facts says it.
-fn has_covered(facts: &[Fact], fact: &Fact) -> bool
-    ensures { result ≡ has_covered facts.now fact.now }
+/// A place at which a fact says it, looked for from the place `from` on, and then before it.
+fn place_from(facts: &[Fact], from: usize, fact: &Fact) -> Option<usize>
+    requires { from ≤ length facts.now }
+    ensures within { IfSome result (λ place. place < length facts.now) }
+    ensures said { is_some result ≡ has_covered facts.now fact.now }
 {
-    facts.iter().any(|own| says(fact, own))
+    let (before, behind) = facts.split_at(from);
+    match first_place(behind, fact) {
+        Some(place) => Some(from + place),
+        None => first_place(before, fact),
+    }
+}
+
+/// The first place at which a fact says it.
+fn first_place(facts: &[Fact], fact: &Fact) -> Option<usize>
+    ensures within { IfSome result (λ place. place < length facts.now) }
+    ensures said { is_some result ≡ has_covered facts.now fact.now }
+{
+    for (place, own) in facts.iter().enumerate() {
+        if says(fact, own) {
+            return Some(place);
+        }
+    }
+    None
 }
 
 /// Whether the second fact says what the first does.
