@@ -16,14 +16,18 @@ use cpa_reached::Reached;
 use cpa_value::Value;
 use predicates::Session;
 use rows::{Rows, Subject};
-use std::alloc::{AllocError, Global};
 use std::io::{self, BufRead, BufReader, BufWriter, Write};
 
 /// What the rows set lives from the first row to the last. The reached set begins with one entry
 /// that has no elements.
 fn main(rt: HostRuntime) -> io::Result<()> {
     let alloc = rt.alloc();
-    let boxes = boxes(alloc)?;
+    let boxes = Boxes {
+        location: Box::new(alloc, Plain(Location))?,
+        callstack: Box::new(alloc, Plain(Callstack))?,
+        value: Box::new(alloc, Value::new())?,
+        interval: Box::new(alloc, Interval::new())?,
+    };
     let session = Box::new(alloc, Session::new(alloc)?)?;
     let reached = Reached::new(alloc, Vec::new(alloc), Vec::new(alloc))?;
     let mut rows = Rows {
@@ -35,16 +39,6 @@ fn main(rt: HostRuntime) -> io::Result<()> {
         composites: composites::Setting::new(alloc),
     };
     answer_all(&rt, &mut rows)
-}
-
-/// Each analysis that rows call by itself, boxed.
-fn boxes(alloc: Global) -> Result<Boxes, AllocError> {
-    Ok(Boxes {
-        location: Box::new(alloc, Plain(Location))?,
-        callstack: Box::new(alloc, Plain(Callstack))?,
-        value: Box::new(alloc, Value::new())?,
-        interval: Box::new(alloc, Interval::new())?,
-    })
 }
 
 /// Answers row by row.
