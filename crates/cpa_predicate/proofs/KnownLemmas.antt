@@ -24,7 +24,8 @@ use Rattle.cpa_predicate.specs.Questions.{Question, IsOpen}
 use Rattle.cpa_predicate.specs.Steps.{is_truth, truths, StepsFrom}
 use Rattle.cpa_predicate.specs.Transfer.{NoneOpen, IsTruthAfter, AreTruths, IsOutcome}
 use Rattle.cpa_predicate.specs.Transfer.{IsCartesian, elems_of}
-use Rattle.cpa_predicate.proofs.TransferLemmas.{outcome_wider, cartesian}
+use Rattle.cpa_predicate.specs.lemmas.Wider.{outcome_wider}
+use Rattle.cpa_predicate.proofs.TransferLemmas.{cartesian}
 
 -- a value of a cell's type is one of each cell with this type
 value_here : (cs ds : List Cell) (k : ℕ) (v : ℤ) → types_of cs ≡ types_of ds

@@ -1,5 +1,5 @@
 -- A truth that a predicate has from some truths of an element it has from all of them.
-use Rattle.std.proofs.Common.{◌≡◌, ℕ, ℤ, Bool, List, [], ◌∷◌, ◌++◌, refl, sym, subst}
+use Rattle.std.proofs.Common.{◌≡◌, ℤ, Bool, List, [], ◌∷◌, ◌++◌, refl, sym, subst}
 use Rattle.std.specs.Prelude.{Option, None, Some, IfSome, IsTrue}
 use Rattle.std.specs.List.{AllByRecursion, filter}
 use Rattle.cpa_expr.specs.declared.tree.Expr.{Expr}
@@ -19,7 +19,7 @@ use Rattle.cpa_edgeform_rules.specs.Runs.{StoreHolds, StoreFactHolds}
 use Rattle.cpa_edgeform_rules.specs.Stores.{FailingIsNotHolding, StepsTakeInputs}
 use Rattle.cpa_query.specs.Queries.{IsQuery}
 use Rattle.cpa_solver.specs.Decisions.{HasNoModel}
-use Rattle.cpa_predicate.specs.Steps.{is_truth, truths, StepsFrom, HasAfter}
+use Rattle.cpa_predicate.specs.Steps.{is_truth, truths, HasAfter}
 use Rattle.cpa_predicate.specs.Questions.{step_form, lacking}
 use Rattle.cpa_predicate.proofs.StepLemmas.{lack_asked, has_after}
 

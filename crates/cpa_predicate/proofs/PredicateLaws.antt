@@ -24,11 +24,13 @@ use Rattle.cpa_iface.specs.Meanings.{AreShaped, IsPrecision}
 use Rattle.cpa_edgeform_rules.specs.Runs.{StoreFactHolds}
 use Rattle.cpa_predicate.specs.Predicates.{predicates, no_facts}
 use Rattle.cpa_predicate.specs.declared.asking.Budgets.{Budgets}
-use Rattle.cpa_predicate.specs.Questions.{Question, IsOpen}
+use Rattle.cpa_predicate.specs.Questions.{Question, form_asked, IsOpen}
 use Rattle.cpa_predicate.specs.Steps.{is_truth, StepsFrom}
 use Rattle.cpa_predicate.specs.Transfer.{fact_of, AreTruthsAfter, IsCartesian, IsTruthAfter}
 use Rattle.cpa_predicate.specs.Transfer.{NoneOpen}
-use Rattle.cpa_predicate.proofs.TransferLemmas.{cartesian_wider, there_is}
+use Rattle.cpa_predicate.specs.lemmas.Spending.{none_undecided}
+use Rattle.cpa_predicate.specs.lemmas.Wider.{cartesian_wider}
+use Rattle.cpa_predicate.proofs.TransferLemmas.{there_is}
 
 pub no_facts-laws : (cfa : Cfa) → InitialLaws predicates cfa no_facts
 no_facts-laws cfa = record {
@@ -146,9 +148,7 @@ exactly b c cfa e g preds es same below =
     cartesian_wider (IsOpen b c cfa e g) NoneOpen cfa e g none preds es
   where
     none : (question : Question) → IsOpen b c cfa e g question → NoneOpen question
-    none question undecided =
-        let rises = undecided.counted (omega (arith, same, below)) in
-        absurd (omega (arith, same, rises))
+    none question = none_undecided b c (form_asked cfa e g question) same below
 
 -- so it is of what a call gives
 module _ {E : Type 0} (b c : Budgets) (cfa : Cfa) (edge : ℕ) (e : Elem) (p : Precision)

@@ -5,3 +5,4 @@ pub mod Known
 pub mod Standing
 pub mod Refining
 pub mod Predicates
+pub mod lemmas

@@ -11,6 +11,10 @@ abbrev pub with_missing : List Expr → List Expr → List Expr
 with_missing [] old = old
 with_missing (e ∷ es) old = with_missing es (with_new e old)
 
--- the expressions that the path carries are predicates, too
+-- these expressions are predicates, too
+abbrev pub with_preds : List Expr → Precision → Precision
+with_preds es p = record p { preds = with_missing es p.preds }
+
+-- and so are those that the path carries
 abbrev pub with_carried : Cfa → Path → Precision → Precision
-with_carried cfa path p = record p { preds = with_missing (carried cfa path) p.preds }
+with_carried cfa path p = with_preds (carried cfa path) p

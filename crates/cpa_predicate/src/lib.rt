@@ -18,3 +18,4 @@ mod witnesses;
 
 pub use asking::Budgets;
 pub use predicate::Predicate;
+pub use refining::{with_carried, with_preds};

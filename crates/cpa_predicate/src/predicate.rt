@@ -13,7 +13,7 @@ ghost use Rattle.cpa_predicate.specs.Questions.{Spends, SomeBeyond, IsOpen};
 ghost use Rattle.cpa_predicate.specs.Refining.{with_carried};
 ghost use Rattle.cpa_predicate.specs.Transfer.{IsCartesian, NoneOpen};
 
-use crate::asking::Asker;
+use crate::asking::{Asker, Budgets};
 use crate::refining::with_carried;
 use crate::transfer::{no_facts, successors};
 use cpa_iface::{
@@ -49,6 +49,13 @@ impl Predicate {
         Predicate {
             asker: Asker::new(),
         }
+    }
+
+    /// What its questions may cost, and how many were not decided. Takes no memory.
+    pub fn budgets(&self) -> Budgets
+        ensures { result ≡ self.now }
+    {
+        self.asker.budgets()
     }
 
     /// How many of its questions were not decided within the budgets, at most the greatest `u64`.

@@ -4,7 +4,7 @@ ghost use Rattle.std.specs.Prelude.{◌≡◌, ◌<◌, length, IfOk, OnOk};
 ghost use Rattle.std.specs.List.{AllByRecursion, list_any};
 ghost use Rattle.cpa_expr.specs.Equality.{same_expr};
 ghost use Rattle.cpa_path_folds.specs.Carried.{with_new};
-ghost use Rattle.cpa_predicate.specs.Refining.{with_missing, with_carried};
+ghost use Rattle.cpa_predicate.specs.Refining.{with_missing, with_preds, with_carried};
 
 use cpa_expr::{copy, same_expr};
 use cpa_iface::{Precision, Shared, copy_preds};
@@ -39,8 +39,27 @@ fn push_missing(alloc: Global, es: &mut Seq<Expr>, more: &[Expr]) -> Result<(), 
     Ok(())
 }
 
+/// The precision with these expressions as predicates, too: each that it lacks comes behind those that
+/// are there, once.
+pub fn with_preds(
+    alloc: Global,
+    precision: &Precision,
+    more: &[Expr],
+) -> Result<Precision, AllocError>
+    ensures { IfOk result (λ p. p ≡ with_preds more.now precision.now) }
+{
+    let mut preds = copy_preds(alloc, precision.preds.as_slice())?;
+    push_missing(alloc, &mut preds, more)?;
+    let tracked = precision.tracked.share()?;
+    Ok(Precision {
+        tracked,
+        limit: precision.limit,
+        preds: Shared::from_seq(alloc, preds)?,
+    })
+}
+
 /// The precision with the expressions that the path carries as predicates, too.
-pub(crate) fn with_carried(
+pub fn with_carried(
     alloc: Global,
     cfa: &Cfa,
     path: &Path,
@@ -50,12 +69,5 @@ pub(crate) fn with_carried(
     ensures { IfOk result (λ p. p ≡ with_carried cfa.now path.now precision.now) }
 {
     let carried = carried(alloc, cfa, path)?;
-    let mut preds = copy_preds(alloc, precision.preds.as_slice())?;
-    push_missing(alloc, &mut preds, carried.as_slice())?;
-    let tracked = precision.tracked.share()?;
-    Ok(Precision {
-        tracked,
-        limit: precision.limit,
-        preds: Shared::from_seq(alloc, preds)?,
-    })
+    with_preds(alloc, precision, carried.as_slice())
 }

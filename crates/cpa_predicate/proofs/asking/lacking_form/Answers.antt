@@ -1,5 +1,5 @@
 -- The step with the predicate's truth failing behind it.
-use Rattle.std.proofs.Common.{◌≡◌, ap, ◌∙◌, List}
+use Rattle.std.proofs.Common.{ap, ◌∙◌, List}
 use Rattle.cpa_model.specs.declared.facts.Elem.{Elem}
 use Rattle.cpa_edgeform_rules.specs.Forms.{Form, with_added}
 use Rattle.cpa_edgeform_rules.specs.Runs.{failing}

@@ -1,9 +1,4 @@
 -- What is found of the fewer truths is so of the whole element.
-use Rattle.std.proofs.Common.{Bool, sym, ◌∙◌, subst}
-use Rattle.std.specs.Prelude.{Option, IfSome}
-use Rattle.std.proofs.lemmas.Option.{same_Some}
-use Rattle.cpa_model.specs.declared.automaton.Edge.{Edge}
-use Rattle.cpa_predicate.specs.Steps.{HasAfter}
 use Rattle.cpa_predicate.proofs.NearLemmas.{near_asked, near_found}
 use Rattle.cpa_predicate.proofs.transfer.near_truth.Goals as goal
 

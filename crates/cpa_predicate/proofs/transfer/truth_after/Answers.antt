@@ -1,7 +1,7 @@
 -- A truth that stands needs no question; else what is found of the form is known of the predicate.
 use Rattle.std.specs.Prelude.{Option, Some, Bool, true, false}
 use Rattle.std.proofs.lemmas.Result.{IfOk-weaker}
-use Rattle.cpa_predicate.proofs.BudgetLemmas.{caused}
+use Rattle.cpa_predicate.specs.lemmas.Spending.{caused}
 use Rattle.cpa_predicate.proofs.StandingLemmas.{stands_after}
 use Rattle.cpa_predicate.proofs.TransferLemmas.{asked_of, found_is, some_beyond}
 use Rattle.cpa_predicate.proofs.WitnessLemmas.{lacking_refutes}

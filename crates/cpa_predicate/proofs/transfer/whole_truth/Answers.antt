@@ -4,7 +4,7 @@ use Rattle.std.specs.Prelude.{Option, Some, Bool, true, false}
 use Rattle.std.specs.List.{AllByRecursion}
 use Rattle.std.proofs.lemmas.Result.{IfOk-weaker}
 use Rattle.cpa_predicate.specs.Steps.{IsAfter}
-use Rattle.cpa_predicate.proofs.BudgetLemmas.{caused}
+use Rattle.cpa_predicate.specs.lemmas.Spending.{caused}
 use Rattle.cpa_predicate.proofs.TransferLemmas.{asked_of, found_is, some_beyond}
 use Rattle.cpa_predicate.proofs.WitnessLemmas.{lacking_refutes}
 use Rattle.cpa_predicate.proofs.transfer.whole_truth.Goals as goal
