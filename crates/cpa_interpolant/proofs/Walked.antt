@@ -1,13 +1,12 @@
 -- One cut more on the way, and what is there at its end.
 use Rattle.std.proofs.Common.{◌≡◌, ℕ, zero, suc, ◌+◌, ◌<◌, ◌≤◌, ℤ, List, [], ◌∷◌, ◌++◌, length, drop, map}
 use Rattle.std.proofs.Common.{Option, Some, slice_get, get_or, refl, sym, ap, ◌∙◌, subst, arith}
-use Rattle.std.proofs.Common.{true, false, ◌⊎◌, inl, inr}
+use Rattle.std.proofs.Common.{true, false}
 use Rattle.std.specs.Prelude.{◌==◌}
 use Rattle.std.proofs.lemmas.Bool.{eqb-true, eq-eqb}
 use Rattle.std.specs.List.{AllByRecursion}
 use Rattle.std.proofs.Common.{take, ◌-◌}
 use Rattle.std.proofs.lemmas.List.{length_push, length-drop, take_all}
-use Rattle.std.proofs.lemmas.Option.{slice_get_cases}
 use Rattle.std.proofs.Common.{pos}
 use Rattle.std.proofs.lemmas.Int.{ints}
 use Rattle.cpa_ints.specs.declared.integers.IntType.TheVariants as ty
@@ -23,13 +22,14 @@ use Rattle.cpa_model.specs.Expressions.{types_of, IsExpr}
 use Rattle.cpa_edgeform_rules.specs.Laws.{starts_fit}
 use Rattle.cpa_path_folds.specs.Along.{act_of, acts_along}
 use Rattle.cpa_interpolant_rules.specs.Stores.{IsStore, RunsFrom}
-use Rattle.cpa_interpolant_rules.specs.Interpolants.{AreNext, AreInterpolants, HasNoRun, LeadOn}
+use Rattle.cpa_interpolant_rules.specs.Interpolants.{AreNext, HasNoRun, LeadOn}
 use Rattle.cpa_interpolant_rules.specs.Interpolants.{last_of, one}
 use Rattle.cpa_interpolant_rules.specs.Interpolants.{zero as nothing}
 use Rattle.cpa_interpolant_rules.specs.Laws.{interpolants_leave_no_run}
 use Rattle.cpa_interpolant_answers.specs.declared.answer.Answer.{Answer}
 use Rattle.cpa_interpolant_answers.specs.declared.answer.Answer.TheVariants as answer
 use Rattle.cpa_interpolant_answers.specs.Answers.{weight_at, IsAnswer, IsNextBehind, HasRun}
+use Rattle.cpa_interpolant_answers.specs.lemmas.Keeping.{edge_there, edge_in}
 use Rattle.cpa_interpolant.specs.Along.{AreDone, IsLight, AreFound, Stops}
 use Rattle.cpa_interpolant.specs.Walked.{AreBehind, IsWalked, IsNextAnswer, RunsIfRun}
 
@@ -49,13 +49,6 @@ one_more exprs more f is =
     let long = ap length is ∙ length_push exprs f in omega (arith, long)
 
 -- ---- acts along a path
-
-edge_there : (cfa : Cfa) (n : ℕ) → n < length cfa.edges
-    → (g : Edge) × (slice_get cfa.edges n ≡ Some g)
-edge_there cfa n less = elim (slice_get_cases cfa.edges n).1 [
-  | inl found ↦ (found.0, found.2)
-  | inr past ↦ let high = past.0 in absurd (omega (arith, less, high))
-]
 
 acts_of : (cfa : Cfa) (n : ℕ) (ns : List ℕ) (g : Edge) → slice_get cfa.edges n ≡ Some g
     → acts_along cfa (n ∷ ns) ≡ g.act ∷ acts_along cfa ns
@@ -116,6 +109,12 @@ module _ (cfa : Cfa) (learnt gates : ℕ) where
   last_is_expr acts e [] are is = is
   last_is_expr [] e (f ∷ fs) are is = absurd are
   last_is_expr (a ∷ acts) e (f ∷ fs) are is = last_is_expr acts f fs are.1 are.0.expr
+
+  all_exprs : (acts : List Act) (e : Expr) (fs : List Expr)
+      → AreBehind cfa learnt gates acts e fs → AllByRecursion (IsExpr cfa.cells) fs
+  all_exprs acts e [] are = tt
+  all_exprs [] e (f ∷ fs) are = absurd are
+  all_exprs (a ∷ acts) e (f ∷ fs) are = (are.0.expr, all_exprs acts f fs are.1)
 
   -- behind a cut there is no run
   last_ends : (acts : List Act) (e f : Expr) (fs : List Expr)
@@ -255,9 +254,10 @@ module _ (cfa : Cfa) (learnt gates : ℕ) where
   ends_with_zero acts [] are long some = absurd (omega (arith, long, some))
   ends_with_zero acts (f ∷ fs) are long some = last_zero acts one f fs are long
 
-  pub all_found : (acts : List Act) (exprs : List Expr) → IsWalked cfa learnt gates acts exprs
+  pub all_found : (acts : List Act) (exprs : List Expr) → IsExpr cfa.cells one
+      → IsWalked cfa learnt gates acts exprs
       → length exprs ≡ length acts + 1 → 0 < length acts → AreFound cfa learnt gates acts exprs
-  all_found acts exprs walked long some =
+  all_found acts exprs first walked long some =
       let fs = walked.behind in
       let whole : suc (length fs) ≡ length exprs = sym (ap length walked.are) in
       let count : length fs ≡ length acts = omega (arith, whole, long) in
@@ -275,6 +275,8 @@ module _ (cfa : Cfa) (learnt gates : ℕ) where
               (lead_on acts one fs walked.cuts count) last;
         };
         done = are_done acts one fs walked.cuts;
+        typed = subst (AllByRecursion (IsExpr cfa.cells)) (sym walked.are)
+            (first, all_exprs acts one fs walked.cuts);
       }
 
 -- any store is there from which no edge is taken
@@ -309,13 +311,7 @@ some_long cfa path inside h =
     let some = some_of path h in
     omega (arith, count, some)
 
--- ---- the edge and the path at the next cut
-
-pub edge_in : (m : ℕ) (path : List ℕ) (i : ℕ) → AllByRecursion (λ n. n < m) path
-    → i < length path → get_or path i 0 < m
-edge_in m [] i all less = absurd (omega (arith, less))
-edge_in m (n ∷ ns) zero all less = all.0
-edge_in m (n ∷ ns) (suc i) all less = edge_in m ns i all.1 (omega (arith, less))
+-- ---- the path behind the next cut
 
 pub rest_in : (m : ℕ) (path : List ℕ) (k : ℕ) → AllByRecursion (λ n. n < m) path
     → AllByRecursion (λ n. n < m) (drop k path)

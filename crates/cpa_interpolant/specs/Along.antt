@@ -1,9 +1,11 @@
 -- Interpolants along a path, cut after cut (McMillan, Lazy Abstraction with Interpolants, CAV 2006),
 -- or why there are none (the bounds are this project's own).
 use Rattle.std.specs.Prelude.{◌≡◌, ℕ, ◌≤◌, ⊤, List, [], ◌∷◌, drop, length}
+use Rattle.std.specs.List.{AllByRecursion}
 use Rattle.cpa_expr.specs.declared.tree.Expr.{Expr}
 use Rattle.cpa_model.specs.declared.automaton.Act.{Act}
 use Rattle.cpa_model.specs.declared.automaton.Cfa.{Cfa}
+use Rattle.cpa_model.specs.Expressions.{IsExpr}
 use Rattle.cpa_query.specs.Queries.{IsModel}
 use Rattle.cpa_interpolant_rules.specs.Interpolants.{AreInterpolants, ArePathInterpolants, last_of, one}
 use Rattle.cpa_interpolant_cuts.specs.Cuts.{behind_cut}
@@ -20,11 +22,13 @@ AreDone cfa learnt gates [] e (f ∷ fs) = ⊥
 AreDone cfa learnt gates (a ∷ acts) e (f ∷ fs) =
     IsDone cfa learnt gates e a acts f × AreDone cfa learnt gates acts f fs
 
--- interpolants of the whole path, each cut done within the budgets
+-- interpolants of the whole path, well typed over the cells of the program, each cut done within the
+-- budgets
 pub record AreFound (cfa : Cfa) (learnt gates : ℕ) (acts : List Act) (exprs : List Expr) : Type 0
   where
     pub are : ArePathInterpolants cfa.cells acts exprs
     pub done : AreDone cfa learnt gates acts one are.interpolants.behind
+    pub typed : AllByRecursion (IsExpr cfa.cells) exprs
 
 -- Interpolants before the first edges, each cut of which is done within the budgets. At the next
 -- cut, behind the last expression, this edge and before these edges, it comes to a stop.

@@ -1,4 +1,3 @@
-pub mod Keeping
 pub mod Parted
 pub mod Running
 pub mod Concluding

@@ -25,8 +25,8 @@ use Rattle.cpa_interpolant_cuts.specs.Cuts.{shared_bits_of, weight_of}
 use Rattle.cpa_interpolant_cuts.specs.Laws.{IsCut, CutsAreAsked}
 use Rattle.cpa_interpolant_cuts.specs.lemmas.Meet.{AreParts}
 use Rattle.cpa_interpolant_answers.specs.Answers.{formula_at, weight_at}
-use Rattle.cpa_interpolant_answers.proofs.Keeping.{AreLaws, AreGood, edge_there, good_edge}
-use Rattle.cpa_interpolant_answers.proofs.Keeping.{good_path}
+use Rattle.cpa_interpolant_answers.specs.lemmas.Keeping.{AreLaws, AreGood, edge_there, good_edge}
+use Rattle.cpa_interpolant_answers.specs.lemmas.Keeping.{good_path}
 
 -- the cells of an automaton are few
 pub few_cells : (cfa : Cfa) → IsAutomaton cfa → length cfa.cells < 2 ^ 32

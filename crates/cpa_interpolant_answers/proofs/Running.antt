@@ -28,7 +28,7 @@ use Rattle.cpa_interpolant_cuts.specs.Cuts.{added_behind}
 use Rattle.cpa_interpolant_cuts.specs.Laws.{IsCut, CutsAreRuns}
 use Rattle.cpa_interpolant_cuts.specs.lemmas.Next.{run_before}
 use Rattle.cpa_interpolant_answers.specs.Answers.{formula_at, weight_at, HasRun, IsNextBehind}
-use Rattle.cpa_interpolant_answers.proofs.Keeping.{Keeps}
+use Rattle.cpa_interpolant_answers.specs.lemmas.Keeping.{Keeps}
 
 -- a run that meets the edges is one of stores
 runs_from : (cells : List Cell) (acts : List Act) → AllByRecursion (Keeps cells) acts

@@ -1,5 +1,6 @@
 -- The acts along a path fit the automaton, and lead from stores of its cells to such stores.
-use Rattle.std.proofs.Common.{◌≡◌, ℕ, ◌<◌, ℤ, List, [], ◌∷◌, ◌++◌, length, Option, Some, slice_get}
+use Rattle.std.proofs.Common.{◌≡◌, ℕ, zero, suc, ◌<◌, ℤ, List, [], ◌∷◌, ◌++◌, length, get_or}
+use Rattle.std.proofs.Common.{Option, Some, slice_get}
 use Rattle.std.proofs.Common.{refl, sym, subst, arith, inl, inr}
 use Rattle.std.specs.List.{AllByRecursion}
 use Rattle.std.proofs.lemmas.Option.{slice_get_cases}
@@ -68,7 +69,14 @@ edge_there cfa n less = elim (slice_get_cases cfa.edges n).1 [
   | inr past ↦ let high = past.0 in absurd (omega (arith, less, high))
 ]
 
-keeps : (cfa : Cfa) → AreLaws cfa → (n : ℕ) (g : Edge) → slice_get cfa.edges n ≡ Some g
+-- an edge of a path
+pub edge_in : (m : ℕ) (path : List ℕ) (i : ℕ) → AllByRecursion (λ n. n < m) path
+    → i < length path → get_or path i 0 < m
+edge_in m [] i all less = absurd (omega (arith, less))
+edge_in m (n ∷ ns) zero all less = all.0
+edge_in m (n ∷ ns) (suc i) all less = edge_in m ns i all.1 (omega (arith, less))
+
+pub keeps : (cfa : Cfa) → AreLaws cfa → (n : ℕ) (g : Edge) → slice_get cfa.edges n ≡ Some g
     → Keeps cfa.cells g.act
 keeps cfa laws n g at old new is step =
     let P = laws.automaton.program in
