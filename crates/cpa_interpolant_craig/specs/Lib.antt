@@ -1,0 +1,3 @@
+pub mod Craigs
+pub mod Refining
+pub mod Walks
