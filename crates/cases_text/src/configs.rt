@@ -62,9 +62,9 @@ fn names_of(alloc: Global, row: &str) -> Result<Vec<String>, AllocError> {
     Ok(names)
 }
 
-/// The configuration, for the names of the handed analyses, of the text behind ` |`; or its refusal.
+/// The configuration, for the names of the handed analyses, of the text behind `|`; or its refusal.
 pub(crate) fn answer(alloc: Global, row: &str) -> Result<String, AllocError> {
-    match row.split_once(" |") {
+    match row.split_once('|') {
         Some((names, text)) => configuration(alloc, names, 0, text),
         None => String::from_str(alloc, "no row"),
     }
@@ -72,7 +72,7 @@ pub(crate) fn answer(alloc: Global, row: &str) -> Result<String, AllocError> {
 
 /// The same of a text behind a comment of so many bytes, whose number stands before the names.
 pub(crate) fn answer_behind_comment(alloc: Global, row: &str) -> Result<String, AllocError> {
-    if let Some((front, text)) = row.split_once(" |") {
+    if let Some((front, text)) = row.split_once('|') {
         let (count, names) = front.split_once(' ').unwrap_or((front, ""));
         if let Ok(bytes) = count.parse::<usize>() {
             return configuration(alloc, names, bytes, text);
