@@ -25,7 +25,7 @@ use Rattle.c_grammar_tree.specs.Parts.{is_listed}
 use Rattle.c_grammar_tree.specs.Parts.{have_part, have_word, is_keyword, is_no_type}
 use Rattle.c_grammar_tree.specs.Nested.{Grammar}
 use Rattle.c_grammar_tree.specs.Expressions.{list_of, round_brackets}
-pub use Rattle.c_grammar_tree.specs.Expressions.{identifier}
+unfoldable pub use Rattle.c_grammar_tree.specs.Expressions.{identifier}
 
 -- a word of specifiers
 unfoldable pub specifier_at : Symbol → Form Leaf Specifier
