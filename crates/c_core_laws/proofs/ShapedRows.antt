@@ -442,8 +442,6 @@ call_makes frames None rs h =
     act_makes (makes Good (pure (int 0)) tt) (only_makes (makes Good (pure (int 0)) tt))
 call_makes frames (Some (meaning.Object object)) rs h =
     act_makes (makes Good (pure (int 0)) tt) (only_makes (makes Good (pure (int 0)) tt))
-call_makes frames (Some (meaning.Enumerator value)) rs h =
-    act_makes (makes Good (pure (int 0)) tt) (only_makes (makes Good (pure (int 0)) tt))
 call_makes frames (Some (meaning.Function function)) rs h =
     act_makes (called_makes frames function (each_used_makes rs h))
     (only_makes (called_makes frames function (each_used_makes rs h)))

@@ -8,7 +8,6 @@ use Rattle.c_types_rules.specs.declared.typed.TypedItem.TheFolds.{fold-TypedItem
 use Rattle.c_types_rules.specs.declared.typed.TypedItem.TheFolds.{fold-TypedStatement}
 use Rattle.c_types_rules.specs.declared.typed.TypedItem.TheFolds.{map-TypedStatement}
 use Rattle.c_types_rules.specs.declared.typed.TypedStatement.{TypedStatement, roll-TypedStatement}
-use Rattle.c_types_rules.specs.declared.typed.TypedStatement.TheVariants as typed
 use Rattle.c_types_rules.specs.declared.typed.TypedFunction.{TypedFunction}
 use Rattle.cpa_model_trees.specs.declared.tree.CoreTree.{CoreTree}
 use Rattle.cpa_model_trees.specs.declared.tree.CoreTree.TheVariants.{Node}
@@ -46,9 +45,6 @@ labels_step (TypedStatement-F.Do body test) = body.labels
 labels_step (TypedStatement-F.For first test step body) = body.labels
 labels_step (TypedStatement-F.Labeled label body) =
     record { number = label; body = body.whole } ∷ body.labels
--- nothing stands behind the one at the end of a switch
-labels_step (TypedStatement-F.Switch value choices otherwise body end) =
-    body.labels ++ record { number = end; body = typed.Expression None } ∷ []
 labels_step _ = []
 
 abbrev pub labelled_statement : TypedStatement-F (Labelled TypedItem) (Labelled TypedStatement)

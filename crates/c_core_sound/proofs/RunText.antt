@@ -25,7 +25,7 @@ use Rattle.c_types_rules.specs.declared.meaning.Entry.{Entry}
 use Rattle.c_types_rules.specs.declared.typed.TypedFunction.{TypedFunction}
 use Rattle.c_types_rules.specs.Names.{Text, body_of, declared_as, function_of}
 use Rattle.c_types_rules.specs.Tables.{cells_of}
-use Rattle.c_types_rules.specs.Expressions.{Use, named, taken, given, paired, tagged}
+use Rattle.c_types_rules.specs.Expressions.{Use, named, taken, given, paired}
 use Rattle.c_types_rules.specs.Declarations.{kind_of, items_of}
 use Rattle.c_types_rules.specs.Statements.{Around, Site, Walk, in_order, receiving, walk_of}
 use Rattle.c_types_rules.specs.StatementRules.{site_faults, act_uses, jump_faults}
@@ -150,7 +150,6 @@ called_caller : (caller at : ℕ) (found : Option Meaning) (c : Call) →
 called_caller caller at None c among = absurd among
 called_caller caller at (Some (meaning.Object object)) c among = absurd among
 called_caller caller at (Some (meaning.Known function)) c among = absurd among
-called_caller caller at (Some (meaning.Enumerator value)) c among = absurd among
 called_caller caller at (Some (meaning.Function function)) c among =
     by_body caller at function.body c among
 
@@ -162,7 +161,6 @@ use_caller caller (given (Bare at found) handed) c among = called_caller caller 
 use_caller caller (given (Element found) handed) c among = absurd among
 use_caller caller (given Plain handed) c among = absurd among
 use_caller caller (paired first second) c among = absurd among
-use_caller caller (tagged at found) c among = absurd among
 
 among_further : {T : Type 0} (x y : T) (a b : List T) → Among x a ⊎ Among x b →
     Among x (y ∷ a) ⊎ Among x b

@@ -8,6 +8,5 @@ mod kinds;
 mod labels;
 mod loops;
 mod parts;
-mod switches;
 
 pub use blocks::items;

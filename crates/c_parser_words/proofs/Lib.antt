@@ -5,4 +5,3 @@ pub mod TypeNames
 pub mod SpecifierWords
 pub mod ParameterForms
 pub mod TypedefForms
-pub mod DeclaredTypes

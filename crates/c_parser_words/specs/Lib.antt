@@ -1,4 +1,3 @@
 pub mod Answers
 pub mod Storage
 pub mod Steps
-pub mod Specified

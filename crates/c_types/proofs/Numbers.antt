@@ -217,8 +217,6 @@ abbrev IsBelow : ℕ → Option Declared → Type 0
 IsBelow n None = Unit {0}
 IsBelow n (Some (declared.Object object initialized)) = object.number < n
 IsBelow n (Some (declared.Function result parameters defined)) = Unit {0}
-IsBelow n (Some (declared.Enumerator value)) = Unit {0}
-IsBelow n (Some declared.Tag) = Unit {0}
 
 more_numbers : (n m : ℕ) (numbers : List ℕ) → n ≤ m → AllByRecursion (λ k. k < n) numbers
     → AllByRecursion (λ k. k < m) numbers
@@ -229,8 +227,6 @@ more_below : (n m : ℕ) (found : Option Declared) → n ≤ m → IsBelow n fou
 more_below n m None le h = tt
 more_below n m (Some (declared.Object object initialized)) le h = omega (arith, le, h)
 more_below n m (Some (declared.Function result parameters defined)) le h = tt
-more_below n m (Some (declared.Enumerator value)) le h = tt
-more_below n m (Some declared.Tag) le h = tt
 
 head_below : (n : ℕ) (entry : Entry) (entries : List Entry) → AreNumbered n (entry ∷ entries)
     → IsBelow n (Some entry.declared)
@@ -241,8 +237,6 @@ head_below n entry entries h = by_declared entry.declared h
         → IsBelow n (Some d)
     by_declared (declared.Object object initialized) h = h.0
     by_declared (declared.Function result parameters defined) h = tt
-    by_declared (declared.Enumerator value) h = tt
-    by_declared declared.Tag h = tt
 
 rest_numbered : (n : ℕ) (entry : Entry) (entries : List Entry) → AreNumbered n (entry ∷ entries)
     → AreNumbered n entries
@@ -253,8 +247,6 @@ rest_numbered n entry entries h = by_declared entry.declared h
         → AreNumbered n entries
     by_declared (declared.Object object initialized) h = h.1
     by_declared (declared.Function result parameters defined) h = h
-    by_declared (declared.Enumerator value) h = h
-    by_declared declared.Tag h = h
 
 either_below : (n : ℕ) (found : Option Declared) (d : Declared) (b : Bool) → IsBelow n found
     → IsBelow n (Some d) → IsBelow n (or_else found (elim b [ true ↦ Some d | false ↦ None ]))
@@ -279,8 +271,6 @@ one_numbered : (n : ℕ) (name : List ℕ) (d : Declared) → IsBelow n (Some d)
     → AreNumbered n (record { name = name; declared = d } ∷ [])
 one_numbered n name (declared.Object object initialized) h = (h, tt)
 one_numbered n name (declared.Function result parameters defined) h = tt
-one_numbered n name (declared.Enumerator value) h = tt
-one_numbered n name declared.Tag h = tt
 
 -- a name more
 added_numbered : (n : ℕ) (names : List Entry) (name : List ℕ) (d : Declared) → AreNumbered n names
@@ -306,8 +296,6 @@ merged_below n (Some (declared.Object old initialized)) fresh initializes h new 
     by_type true = h
     by_type false = new
 merged_below n (Some (declared.Function result parameters defined)) fresh initializes h new = new
-merged_below n (Some (declared.Enumerator value)) fresh initializes h new = new
-merged_below n (Some declared.Tag) fresh initializes h new = new
 
 numbered_global : (text : Text) (specifiers : Specifiers) (declarator : Declarator)
     (before : Before) → Numbered before → Numbered (global_behind text specifiers declarator before)
@@ -333,8 +321,6 @@ function_below : (n : ℕ) (found : Option Declared) (kind : Kind)
 function_below n None kind parameters defines = tt
 function_below n (Some (declared.Object object initialized)) kind parameters defines = tt
 function_below n (Some (declared.Function old given defined)) kind parameters defines = tt
-function_below n (Some (declared.Enumerator value)) kind parameters defines = tt
-function_below n (Some declared.Tag) kind parameters defines = tt
 
 pub numbered_function : (defines : Bool) (specifiers : Specifiers)
     (declarator : FunctionDeclarator) (before : Before) → Numbered before

@@ -156,24 +156,3 @@ module _ (text : Text) where
   of_Labeled label body =
       opened (tree.Labeled label body) (Statement-F.Labeled label body)
       (tree.rolls-Labeled label body)
-
-  pub of_Switch : (value : Expression) (body : Statement) (place : ℕ) →
-      grown_of text (tree.Switch value body place)
-      ≡ grown_statement text (Statement-F.Switch value (grown_of text body) 0)
-  of_Switch value body place =
-      opened (tree.Switch value body place) (Statement-F.Switch value body place)
-      (tree.rolls-Switch value body place)
-
-  pub of_Case : (value : Expression) (body : Statement) (place : ℕ) →
-      grown_of text (tree.Case value body place)
-      ≡ grown_statement text (Statement-F.Case value (grown_of text body) place)
-  of_Case value body place =
-      opened (tree.Case value body place) (Statement-F.Case value body place)
-      (tree.rolls-Case value body place)
-
-  pub of_Default : (body : Statement) (place : ℕ) →
-      grown_of text (tree.Default body place)
-      ≡ grown_statement text (Statement-F.Default (grown_of text body) place)
-  of_Default body place =
-      opened (tree.Default body place) (Statement-F.Default body place)
-      (tree.rolls-Default body place)

@@ -16,7 +16,7 @@ use Rattle.c_grammar_tree.specs.declared.statement.BlockItem.TheFolds.{fold-Stat
 use Rattle.c_grammar_tree.specs.declared.statement.BlockItem.TheFolds.{fold-roll-BlockItem}
 use Rattle.c_grammar_tree.specs.declared.statement.BlockItem.TheFolds.{fold-roll-Statement}
 use Rattle.c_grammar_tree.specs.declared.statement.BlockItem.TheFolds.{map-BlockItem, map-Statement}
-use Rattle.c_types_rules.specs.Statements.{labels_of, labels_item, labels_step, unnamed}
+use Rattle.c_types_rules.specs.Statements.{labels_of, labels_item, labels_step}
 use Rattle.c_types_bodies.specs.Grown.{labels_in, name_bytes}
 
 opened : (s : Statement) (x : Statement-F BlockItem Statement) → roll-Statement x ≡ s
@@ -79,24 +79,6 @@ pub in_Labeled : (label : Name) (body : Statement)
 in_Labeled label body =
     opened (tree.Labeled label body) (Statement-F.Labeled label body)
     (tree.rolls-Labeled label body)
-
-pub in_Switch : (value : Expression) (body : Statement) (place : ℕ)
-    → labels_in (tree.Switch value body place) ≡ labels_in body ++ unnamed ∷ []
-in_Switch value body place =
-    opened (tree.Switch value body place) (Statement-F.Switch value body place)
-    (tree.rolls-Switch value body place)
-
-pub in_Case : (value : Expression) (body : Statement) (place : ℕ)
-    → labels_in (tree.Case value body place) ≡ unnamed ∷ labels_in body
-in_Case value body place =
-    opened (tree.Case value body place) (Statement-F.Case value body place)
-    (tree.rolls-Case value body place)
-
-pub in_Default : (body : Statement) (place : ℕ)
-    → labels_in (tree.Default body place) ≡ unnamed ∷ labels_in body
-in_Default body place =
-    opened (tree.Default body place) (Statement-F.Default body place)
-    (tree.rolls-Default body place)
 
 pub of_Declaration : (declaration : Declaration) → labels_of (item.Declaration declaration) ≡ []
 of_Declaration declaration =

@@ -1,61 +1,29 @@
 //! The acts of statements that declare nothing: expressions, labels and what leaves
 //! (`act_faults` of `specs/StatementRules.antt` of `c_types_rules`). Proved with `proofs/Doing`.
-ghost use Rattle.std.specs.Prelude.{◌≡◌, ◌+◌, not, IfOk, OnOk, is_some, option_map};
+ghost use Rattle.std.specs.Prelude.{◌≡◌, not, IfOk, OnOk, is_some, option_map};
 ghost use Rattle.std.specs.List.{list_any};
 ghost use Rattle.std.specs.Str.{bytes_eq};
 ghost use Rattle.c_types_rules.specs.declared.meaning.Role.TheVariants.{Valued, Evaluated};
-ghost use Rattle.c_types_rules.specs.Statements.{evaluates, jumps as goes_to, marking};
-ghost use Rattle.c_types_rules.specs.Statements.{breaks, continues};
+ghost use Rattle.c_types_rules.specs.Statements.{evaluates, jumps as goes_to, marks, leaves};
 ghost use Rattle.c_types_rules.specs.Statements.{returns};
 ghost use Rattle.c_types_rules.specs.Statements.{evaluating};
 ghost use Rattle.c_types_rules.specs.Statements.{followed, doing};
 ghost use Rattle.c_types_rules.specs.Declarations.{is_void_kind};
 ghost use Rattle.c_types_rules.specs.StatementRules.{agree};
-ghost use Rattle.c_types_expressions.specs.Read.{part_of, typed_of};
+ghost use Rattle.c_types_expressions.specs.Read.{typed_of};
 ghost use Rattle.c_types_jumps.specs.Found.{Found};
 ghost use Rattle.c_types_bodies.specs.declared.walker.Nest.{Nest as Nesting};
 ghost use Rattle.c_types_bodies.specs.States.{done, walked};
-ghost use Rattle.c_types_bodies.specs.Views.{state_of, with_passed, IsTied};
+ghost use Rattle.c_types_bodies.specs.Views.{state_of, IsTied};
 
 use crate::walker::{Frame, Nest, Walker};
 use c_grammar_tree::{Expression, Name};
 use c_lexer::Rule;
-use c_types_expressions::{Read, read_used};
+use c_types_expressions::read_used;
 use c_types_jumps::Jumps;
 use c_types_objects::note_if;
 use c_types_rules::{Kind, Role, TypedExpression};
 use std::alloc::{AllocError, Global};
-
-/// Evaluates an expression in a role, of which the rules see a part.
-pub(crate) fn evaluate_part(
-    alloc: Global,
-    frame: &Frame,
-    walker: &mut Walker,
-    role: Role,
-    expression: &Expression,
-) -> Result<Read, AllocError>
-    ensures part { IfOk result (λ r. r.part
-        ≡ part_of frame.now.survey.now walker.old.names expression.now) }
-    ensures typed { IfOk result (λ r. r.typed
-        ≡ typed_of frame.now.survey.now walker.old.names expression.now) }
-    ensures names { OnOk result (walker.new.names ≡ walker.old.names) }
-    ensures objects { OnOk result (walker.new.objects ≡ walker.old.objects) }
-    ensures passed { OnOk result (walker.new.passed ≡ walker.old.passed) }
-    ensures state { (nest : Nesting) (found : Found) → OnOk result
-        (state_of frame.now nest walker.new found ≡ done frame.now.survey.now frame.now.caller
-        (evaluates role expression.now) (state_of frame.now nest walker.old found)) }
-{
-    read_used(
-        alloc,
-        frame.survey,
-        &walker.names,
-        frame.caller,
-        role,
-        expression,
-        &mut walker.first,
-        &mut walker.calls,
-    )
-}
 
 /// Evaluates an expression in a role.
 pub(crate) fn evaluate(
@@ -73,7 +41,16 @@ pub(crate) fn evaluate(
         (state_of frame.now nest walker.new found ≡ done frame.now.survey.now frame.now.caller
         (evaluates role expression.now) (state_of frame.now nest walker.old found)) }
 {
-    let read = evaluate_part(alloc, frame, walker, role, expression)?;
+    let read = read_used(
+        alloc,
+        frame.survey,
+        &walker.names,
+        frame.caller,
+        role,
+        expression,
+        &mut walker.first,
+        &mut walker.calls,
+    )?;
     Ok(read.typed)
 }
 
@@ -133,24 +110,12 @@ pub(crate) fn evaluate_tests(
     Ok(Tests { test, step })
 }
 
-/// A break.
+/// A break or a continue.
 pub(crate) fn leave(frame: &Frame, walker: &mut Walker, nest: Nest, place: u32)
     ensures names { walker.new.names ≡ walker.old.names }
     ensures objects { walker.new.objects ≡ walker.old.objects }
     ensures state { (found : Found) → state_of frame.now nest walker.new found
-        ≡ done frame.now.survey.now frame.now.caller (breaks place)
-        (state_of frame.now nest walker.old found) }
-{
-    let is_inside = nest.in_loop || nest.break_to.is_some();
-    note_if(&mut walker.first, Rule::N8, !is_inside, place);
-}
-
-/// A continue.
-pub(crate) fn turn(frame: &Frame, walker: &mut Walker, nest: Nest, place: u32)
-    ensures names { walker.new.names ≡ walker.old.names }
-    ensures objects { walker.new.objects ≡ walker.old.objects }
-    ensures state { (found : Found) → state_of frame.now nest walker.new found
-        ≡ done frame.now.survey.now frame.now.caller (continues place)
+        ≡ done frame.now.survey.now frame.now.caller (leaves place)
         (state_of frame.now nest walker.old found) }
 {
     note_if(&mut walker.first, Rule::N8, !nest.in_loop, place);
@@ -221,29 +186,20 @@ pub(crate) fn jump(
     Ok(())
 }
 
-/// One label more stands before what comes. A function with 2^32 labels is want of memory.
-pub(crate) fn pass_label(walker: &mut Walker) -> Result<(), AllocError>
-    ensures { OnOk result (walker.new ≡ with_passed (walker.old.passed + 1) walker.old) }
-{
-    walker.passed = walker.passed.checked_add(1).ok_or(AllocError)?;
-    Ok(())
-}
-
 /// A label.
 pub(crate) fn mark(
     alloc: Global,
     frame: &Frame,
-    walker: &mut Walker,
+    walker: &Walker,
     jumps: &mut Jumps,
     name: &Name,
 ) -> Result<(), AllocError>
-    requires { IsTied frame.now walker.old jumps.old }
-    ensures tied { OnOk result (IsTied frame.now walker.new jumps.new) }
-    ensures names { OnOk result (walker.new.names ≡ walker.old.names) }
-    ensures state { (nest : Nesting) → OnOk result (state_of frame.now nest walker.new jumps.new
-        ≡ walked frame.now.survey.now frame.now.caller (marking name.now)
-        (state_of frame.now nest walker.old jumps.old)) }
+    requires { IsTied frame.now walker.now jumps.old }
+    ensures tied { OnOk result (IsTied frame.now walker.now jumps.new) }
+    ensures state { (nest : Nesting) → OnOk result (state_of frame.now nest walker.now jumps.new
+        ≡ done frame.now.survey.now frame.now.caller (marks name.now)
+        (state_of frame.now nest walker.now jumps.old)) }
 {
     jumps.label(alloc, name)?;
-    pass_label(walker)
+    Ok(())
 }

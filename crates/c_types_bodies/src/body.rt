@@ -9,7 +9,6 @@ ghost use Rattle.c_types_bodies.specs.Bodies.{acts_of, objects_behind, typed_bod
 use crate::labels::labels_in_items;
 use crate::parameters::walk_parameters;
 use crate::statements::walk_items;
-use crate::switches::no_cases;
 use crate::walker::{Frame, Nest, Walker};
 use c_grammar_tree::{BlockItem, Parameter, Parameters, Specifiers};
 use c_lexer::TextFault;
@@ -74,8 +73,6 @@ fn walk_function(
     let nest = Nest {
         outer: file,
         in_loop: false,
-        break_to: None,
-        switch: None,
     };
     let mut jumps = Jumps::new(alloc, walker.objects)?;
     let parameters = walk_parameters(alloc, &frame, walker, &mut jumps, nest, listed(parameters))?;
@@ -117,8 +114,6 @@ pub fn read_body(
     let mut walker = Walker {
         names: mem::replace(names, Names::new(alloc)),
         objects,
-        passed: 0,
-        cases: no_cases(alloc),
         first: *first,
         calls: mem::replace(calls, Vec::new(alloc)),
     };
@@ -134,8 +129,6 @@ pub fn read_body(
     let Walker {
         names: walked_names,
         objects,
-        passed: _,
-        cases: _,
         first: walked_first,
         calls: walked_calls,
     } = walker;

@@ -1,53 +1,34 @@
 //! Statements: their typed trees, and what their acts make of the state (`grown_of` of
 //! `specs/Grown.antt`). Proved in proofs/Forms, by one lemma for each form.
-ghost use Rattle.std.specs.Prelude.{◌≡◌, ◌+◌, length, map, IfOk, OnOk, option_map, unwrap_or};
+ghost use Rattle.std.specs.Prelude.{◌≡◌, map, IfOk, OnOk, option_map, unwrap_or};
 ghost use Rattle.std.specs.Str.{bytes_eq};
 ghost use Rattle.c_grammar_tree.specs.declared.statement.BlockItem.TheOpen.{Statement-F};
 ghost use Rattle.c_types_rules.specs.Names.{place_of};
 ghost use Rattle.c_types_rules.specs.declared.meaning.Role.TheVariants.{Valued, Evaluated};
 ghost use Rattle.c_types_rules.specs.Statements.{followed, doing, evaluates, evaluating};
-ghost use Rattle.c_types_expressions.specs.Read.{part_of, typed_of};
+ghost use Rattle.c_types_expressions.specs.Read.{typed_of};
 ghost use Rattle.c_types_rules.specs.Statements.{looped, loop, in_order, start_walk, perhaps};
 ghost use Rattle.c_types_rules.specs.TypedStatements.{grown, grown_statement};
 ghost use Rattle.c_types_rules.specs.TypedStatements.{typed_in_order, typed_for_start};
-ghost use Rattle.c_types_rules.specs.TypedStatements.{typed_optional, typed_break};
-ghost use Rattle.c_types_rules.specs.Statements.{end_behind, switching};
+ghost use Rattle.c_types_rules.specs.TypedStatements.{typed_optional};
 ghost use Rattle.c_types_bodies.specs.Grown.{grown_of, grown_walk, grown_typed, walk_of_statement};
-ghost use Rattle.c_types_bodies.specs.Grown.{labels_in};
-ghost use Rattle.c_grammar_tree.specs.declared.expression.Expression.{Expression};
 ghost use Rattle.c_types_bodies.specs.States.{walked};
-ghost use Rattle.c_types_bodies.specs.Views.{state_of, around_of, IsTied, Extends, AreCases};
+ghost use Rattle.c_types_bodies.specs.Views.{state_of, around_of, IsTied, Extends};
 
-use crate::acts::{
-    evaluate, evaluate_optional, evaluate_part, evaluate_tests, finish, jump, leave, mark,
-    pass_label, turn,
-};
+use crate::acts::{evaluate, evaluate_optional, evaluate_tests, finish, jump, leave, mark};
 use crate::declarations::walk_declaration;
-use crate::labels::count_labels;
-use crate::switches::{no_cases, select_rest, select_value, switch_on};
-use crate::walker::{Cases, Frame, Nest, Walker};
+use crate::walker::{Frame, Nest, Walker};
 use c_grammar_tree::{BlockItem, Expression, ForStart, Name, Statement};
 use c_types_jumps::Jumps;
-use c_types_rules::{Kind, Role, TypedExpression, TypedForStart, TypedItem, TypedStatement};
+use c_types_rules::{Role, TypedExpression, TypedForStart, TypedItem, TypedStatement};
 use cpa_ints::{Boxed, Seq};
 use std::alloc::{AllocError, Global};
-use std::mem;
 
 /// The number of a label.
 fn label_number(frame: &Frame, name: &Name) -> u32
     ensures { result ≡ unwrap_or (place_of (bytes_eq name.now.bytes) frame.now.labels.now) 0 }
 {
     frame.labels.place_of(name.bytes.as_slice()).unwrap_or(0)
-}
-
-/// What a `break` is: a goto where the nearest loop or switch is a switch.
-fn typed_break(break_to: Option<u32>) -> TypedStatement
-    ensures { result ≡ typed_break break_to }
-{
-    match break_to {
-        Some(label) => TypedStatement::Goto { label },
-        None => TypedStatement::Break,
-    }
 }
 
 /// Walks through a statement.
@@ -60,10 +41,8 @@ pub(crate) fn walk_statement(
     nest: Nest,
     statement: &Statement,
 ) -> Result<TypedStatement, AllocError>
-    requires tied { IsTied frame.now walker.old jumps.old }
-    requires cases { AreCases walker.old.cases }
+    requires { IsTied frame.now walker.old jumps.old }
     ensures tied { OnOk result (IsTied frame.now walker.new jumps.new) }
-    ensures cases { OnOk result (AreCases walker.new.cases) }
     ensures names { OnOk result (walker.new.names ≡ walker.old.names) }
     ensures typed { IfOk result (λ t. t ≡ (grown_of frame.now.survey.now statement.now).typed
         (around_of frame.now nest walker.old)) }
@@ -120,25 +99,12 @@ pub(crate) fn walk_statement(
                 label: label_number(frame, label),
             })
         }
-        Statement::Switch { value, body, .. } => {
-            walk_switch(alloc, frame, walker, jumps, nest, body.get(), value)
-        }
-        Statement::Case { value, body, place } => {
-            let label = select_value(alloc, frame, walker, jumps, nest, value, *place)?;
-            let body = walk_part(alloc, frame, walker, jumps, nest, body.get())?;
-            Ok(TypedStatement::Labeled { label, body })
-        }
-        Statement::Default { body, place } => {
-            let label = select_rest(frame, walker, jumps, nest, *place)?;
-            let body = walk_part(alloc, frame, walker, jumps, nest, body.get())?;
-            Ok(TypedStatement::Labeled { label, body })
-        }
         Statement::Break { place } => {
             leave(frame, walker, nest, *place);
-            Ok(typed_break(nest.break_to))
+            Ok(TypedStatement::Break)
         }
         Statement::Continue { place } => {
-            turn(frame, walker, nest, *place);
+            leave(frame, walker, nest, *place);
             Ok(TypedStatement::Continue)
         }
         Statement::Return { value, place } => {
@@ -161,10 +127,8 @@ fn walk_part(
     nest: Nest,
     statement: &Statement,
 ) -> Result<Boxed<TypedStatement>, AllocError>
-    requires tied { IsTied frame.now walker.old jumps.old }
-    requires cases { AreCases walker.old.cases }
+    requires { IsTied frame.now walker.old jumps.old }
     ensures tied { OnOk result (IsTied frame.now walker.new jumps.new) }
-    ensures cases { OnOk result (AreCases walker.new.cases) }
     ensures names { OnOk result (walker.new.names ≡ walker.old.names) }
     ensures typed { IfOk result (λ t. t ≡ (grown_of frame.now.survey.now statement.now).typed
         (around_of frame.now nest walker.old)) }
@@ -188,10 +152,8 @@ fn walk_looped(
     nest: Nest,
     body: &Statement,
 ) -> Result<Boxed<TypedStatement>, AllocError>
-    requires tied { IsTied frame.now walker.old jumps.old }
-    requires cases { AreCases walker.old.cases }
+    requires { IsTied frame.now walker.old jumps.old }
     ensures tied { OnOk result (IsTied frame.now walker.new jumps.new) }
-    ensures cases { OnOk result (AreCases walker.new.cases) }
     ensures names { OnOk result (walker.new.names ≡ walker.old.names) }
     ensures typed { IfOk result (λ t. t ≡ (grown_of frame.now.survey.now body.now).typed
         (loop (around_of frame.now nest walker.old))) }
@@ -203,8 +165,6 @@ fn walk_looped(
     let inside = Nest {
         outer: nest.outer,
         in_loop: true,
-        break_to: None,
-        switch: nest.switch,
     };
     let typed = walk_part(alloc, frame, walker, jumps, inside, body)?;
     Ok(typed)
@@ -228,10 +188,8 @@ fn walk_tested(
     yes: &Statement,
     test: &Expression,
 ) -> Result<Tested, AllocError>
-    requires tied { IsTied frame.now walker.old jumps.old }
-    requires cases { AreCases walker.old.cases }
+    requires { IsTied frame.now walker.old jumps.old }
     ensures tied { OnOk result (IsTied frame.now walker.new jumps.new) }
-    ensures cases { OnOk result (AreCases walker.new.cases) }
     ensures names { OnOk result (walker.new.names ≡ walker.old.names) }
     ensures test { IfOk result (λ t. t.test
         ≡ typed_of frame.now.survey.now walker.old.names test.now) }
@@ -257,10 +215,8 @@ fn walk_optional(
     nest: Nest,
     statement: &Option<Boxed<Statement>>,
 ) -> Result<Option<Boxed<TypedStatement>>, AllocError>
-    requires tied { IsTied frame.now walker.old jumps.old }
-    requires cases { AreCases walker.old.cases }
+    requires { IsTied frame.now walker.old jumps.old }
     ensures tied { OnOk result (IsTied frame.now walker.new jumps.new) }
-    ensures cases { OnOk result (AreCases walker.new.cases) }
     ensures names { OnOk result (walker.new.names ≡ walker.old.names) }
     ensures typed { IfOk result (λ t. t
         ≡ option_map (grown_typed frame.now.survey.now (around_of frame.now nest walker.old))
@@ -290,10 +246,8 @@ fn walk_while(
     body: &Statement,
     test: &Expression,
 ) -> Result<TypedStatement, AllocError>
-    requires tied { IsTied frame.now walker.old jumps.old }
-    requires cases { AreCases walker.old.cases }
+    requires { IsTied frame.now walker.old jumps.old }
     ensures tied { OnOk result (IsTied frame.now walker.new jumps.new) }
-    ensures cases { OnOk result (AreCases walker.new.cases) }
     ensures names { OnOk result (walker.new.names ≡ walker.old.names) }
     ensures typed { IfOk result (λ t. t ≡ (grown_statement frame.now.survey.now
         (Statement-F.While test.now (grown_of frame.now.survey.now body.now) 0)).typed
@@ -319,10 +273,8 @@ fn walk_do(
     body: &Statement,
     test: &Expression,
 ) -> Result<TypedStatement, AllocError>
-    requires tied { IsTied frame.now walker.old jumps.old }
-    requires cases { AreCases walker.old.cases }
+    requires { IsTied frame.now walker.old jumps.old }
     ensures tied { OnOk result (IsTied frame.now walker.new jumps.new) }
-    ensures cases { OnOk result (AreCases walker.new.cases) }
     ensures names { OnOk result (walker.new.names ≡ walker.old.names) }
     ensures typed { IfOk result (λ t. t ≡ (grown_statement frame.now.survey.now
         (Statement-F.Do (grown_of frame.now.survey.now body.now) test.now 0)).typed
@@ -346,10 +298,8 @@ fn walk_start(
     nest: Nest,
     start: &ForStart,
 ) -> Result<TypedForStart, AllocError>
-    requires tied { IsTied frame.now walker.old jumps.old }
-    requires cases { AreCases walker.old.cases }
+    requires { IsTied frame.now walker.old jumps.old }
     ensures tied { OnOk result (IsTied frame.now walker.new jumps.new) }
-    ensures cases { OnOk result (AreCases walker.new.cases) }
     ensures extends { OnOk result (Extends walker.old.names walker.new.names) }
     ensures typed { IfOk result (λ t. t ≡ typed_for_start frame.now.survey.now start.now
         (around_of frame.now nest walker.old)) }
@@ -389,10 +339,8 @@ fn walk_head(
     test: &Option<Expression>,
     step: &Option<Expression>,
 ) -> Result<Head, AllocError>
-    requires tied { IsTied frame.now walker.old jumps.old }
-    requires cases { AreCases walker.old.cases }
+    requires { IsTied frame.now walker.old jumps.old }
     ensures tied { OnOk result (IsTied frame.now walker.new jumps.new) }
-    ensures cases { OnOk result (AreCases walker.new.cases) }
     ensures extends { OnOk result (Extends walker.old.names walker.new.names) }
     ensures start { IfOk result (λ head. head.start ≡ typed_for_start frame.now.survey.now
         start.now (around_of frame.now nest walker.old)) }
@@ -433,10 +381,8 @@ fn walk_for(
     test: &Option<Expression>,
     step: &Option<Expression>,
 ) -> Result<TypedStatement, AllocError>
-    requires tied { IsTied frame.now walker.old jumps.old }
-    requires cases { AreCases walker.old.cases }
+    requires { IsTied frame.now walker.old jumps.old }
     ensures tied { OnOk result (IsTied frame.now walker.new jumps.new) }
-    ensures cases { OnOk result (AreCases walker.new.cases) }
     ensures names { OnOk result (walker.new.names ≡ walker.old.names) }
     ensures typed { IfOk result (λ t. t ≡ (grown_statement frame.now.survey.now
         (Statement-F.For start.now test.now step.now
@@ -453,8 +399,6 @@ fn walk_for(
     let inside = Nest {
         outer: count,
         in_loop: nest.in_loop,
-        break_to: nest.break_to,
-        switch: nest.switch,
     };
     let head = walk_head(alloc, frame, walker, jumps, inside, start, test, step)?;
     let body = walk_looped(alloc, frame, walker, jumps, inside, body)?;
@@ -465,96 +409,6 @@ fn walk_for(
         test: head.test,
         step: head.step,
         body,
-    })
-}
-
-/// What stands in a switch, and its cases.
-#[derive(Drop)]
-struct Switched {
-    body: Boxed<TypedStatement>,
-    cases: Cases,
-}
-
-/// Walks through the body of a switch on a value of this type, which ends at this label.
-#[cycle(statement)]
-fn walk_switched(
-    alloc: Global,
-    frame: &Frame,
-    walker: &mut Walker,
-    jumps: &mut Jumps,
-    nest: Nest,
-    body: &Statement,
-    kind: Option<Kind>,
-    end: u32,
-) -> Result<Switched, AllocError>
-    requires tied { IsTied frame.now walker.old jumps.old }
-    requires cases { AreCases walker.old.cases }
-    ensures tied { OnOk result (IsTied frame.now walker.new jumps.new) }
-    ensures cases { OnOk result (AreCases walker.new.cases) }
-    ensures names { OnOk result (walker.new.names ≡ walker.old.names) }
-    ensures state { (value : Expression) → kind ≡ (part_of frame.now.survey.now walker.old.names
-        value).kind → end ≡ end_behind (grown_of frame.now.survey.now body.now).walk
-        (around_of frame.now nest walker.old) → OnOk result
-        (state_of frame.now nest walker.new jumps.new ≡ walked frame.now.survey.now
-        frame.now.caller (switching frame.now.survey.now value
-        (grown_of frame.now.survey.now body.now).walk)
-        (state_of frame.now nest walker.old jumps.old)) }
-{
-    let inside = Nest {
-        outer: nest.outer,
-        in_loop: nest.in_loop,
-        break_to: Some(end),
-        switch: Some(switch_on(kind, walker.names.len())),
-    };
-    let outer = mem::replace(&mut walker.cases, no_cases(alloc));
-    let body = walk_part(alloc, frame, walker, jumps, inside, body)?;
-    let cases = mem::replace(&mut walker.cases, outer);
-    pass_label(walker)?;
-    Ok(Switched { body, cases })
-}
-
-/// The number of the label behind a statement, in front of which so many labels stand.
-fn end_behind(passed: u32, body: &Statement) -> Result<u32, AllocError>
-    ensures { IfOk result (λ end. end ≡ passed + length (labels_in body.now)) }
-{
-    let inside = count_labels(body)?;
-    passed.checked_add(inside).ok_or(AllocError)
-}
-
-/// Walks through a `switch`.
-#[cycle(statement)]
-fn walk_switch(
-    alloc: Global,
-    frame: &Frame,
-    walker: &mut Walker,
-    jumps: &mut Jumps,
-    nest: Nest,
-    body: &Statement,
-    value: &Expression,
-) -> Result<TypedStatement, AllocError>
-    requires tied { IsTied frame.now walker.old jumps.old }
-    requires cases { AreCases walker.old.cases }
-    ensures tied { OnOk result (IsTied frame.now walker.new jumps.new) }
-    ensures cases { OnOk result (AreCases walker.new.cases) }
-    ensures names { OnOk result (walker.new.names ≡ walker.old.names) }
-    ensures typed { IfOk result (λ t. t ≡ (grown_statement frame.now.survey.now
-        (Statement-F.Switch value.now (grown_of frame.now.survey.now body.now) 0)).typed
-        (around_of frame.now nest walker.old)) }
-    ensures state { OnOk result (state_of frame.now nest walker.new jumps.new
-        ≡ walked frame.now.survey.now frame.now.caller (grown_statement frame.now.survey.now
-        (Statement-F.Switch value.now (grown_of frame.now.survey.now body.now) 0)).walk
-        (state_of frame.now nest walker.old jumps.old)) }
-{
-    let end = end_behind(walker.passed, body)?;
-    let read = evaluate_part(alloc, frame, walker, Role::Valued, value)?;
-    let kind = read.part.kind;
-    let switched = walk_switched(alloc, frame, walker, jumps, nest, body, kind, end)?;
-    Ok(TypedStatement::Switch {
-        value: read.typed,
-        choices: Seq::from_vec(switched.cases.choices),
-        otherwise: switched.cases.otherwise.unwrap_or(end),
-        body: switched.body,
-        end,
     })
 }
 
@@ -569,10 +423,8 @@ fn walk_labeled(
     label: &Name,
     body: &Statement,
 ) -> Result<TypedStatement, AllocError>
-    requires tied { IsTied frame.now walker.old jumps.old }
-    requires cases { AreCases walker.old.cases }
+    requires { IsTied frame.now walker.old jumps.old }
     ensures tied { OnOk result (IsTied frame.now walker.new jumps.new) }
-    ensures cases { OnOk result (AreCases walker.new.cases) }
     ensures names { OnOk result (walker.new.names ≡ walker.old.names) }
     ensures typed { IfOk result (λ t. t ≡ (grown_statement frame.now.survey.now
         (Statement-F.Labeled label.now (grown_of frame.now.survey.now body.now))).typed
@@ -600,10 +452,8 @@ fn walk_block(
     nest: Nest,
     items: &[BlockItem],
 ) -> Result<TypedStatement, AllocError>
-    requires tied { IsTied frame.now walker.old jumps.old }
-    requires cases { AreCases walker.old.cases }
+    requires { IsTied frame.now walker.old jumps.old }
     ensures tied { OnOk result (IsTied frame.now walker.new jumps.new) }
-    ensures cases { OnOk result (AreCases walker.new.cases) }
     ensures names { OnOk result (walker.new.names ≡ walker.old.names) }
     ensures typed { IfOk result (λ t. t ≡ (grown_statement frame.now.survey.now
         (Statement-F.Block (map (grown frame.now.survey.now) items.now) 0)).typed
@@ -618,8 +468,6 @@ fn walk_block(
     let inside = Nest {
         outer: count,
         in_loop: nest.in_loop,
-        break_to: nest.break_to,
-        switch: nest.switch,
     };
     let items = walk_items(alloc, frame, walker, jumps, inside, items)?;
     walker.names.keep(count);
@@ -637,10 +485,8 @@ pub(crate) fn walk_items(
     nest: Nest,
     items: &[BlockItem],
 ) -> Result<Seq<TypedItem>, AllocError>
-    requires tied { IsTied frame.now walker.old jumps.old }
-    requires cases { AreCases walker.old.cases }
+    requires { IsTied frame.now walker.old jumps.old }
     ensures tied { OnOk result (IsTied frame.now walker.new jumps.new) }
-    ensures cases { OnOk result (AreCases walker.new.cases) }
     ensures extends { OnOk result (Extends walker.old.names walker.new.names) }
     ensures typed { IfOk result (λ t. t ≡ typed_in_order
         (map (grown frame.now.survey.now) items.now) (around_of frame.now nest walker.old)) }
@@ -667,10 +513,8 @@ fn walk_item(
     nest: Nest,
     item: &BlockItem,
 ) -> Result<TypedItem, AllocError>
-    requires tied { IsTied frame.now walker.old jumps.old }
-    requires cases { AreCases walker.old.cases }
+    requires { IsTied frame.now walker.old jumps.old }
     ensures tied { OnOk result (IsTied frame.now walker.new jumps.new) }
-    ensures cases { OnOk result (AreCases walker.new.cases) }
     ensures extends { OnOk result (Extends walker.old.names walker.new.names) }
     ensures typed { IfOk result (λ t. t ≡ (grown frame.now.survey.now item.now).typed
         (around_of frame.now nest walker.old)) }

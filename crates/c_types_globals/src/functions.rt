@@ -7,12 +7,11 @@ ghost use Rattle.c_types_rules.specs.Items.{merged_function, function_behind, he
 ghost use Rattle.c_types_globals.specs.Scopes.{before_of};
 
 use crate::Scope;
-use crate::enumerations::{note_enumeration, note_enumerations};
 use crate::merging::{is_said, merged_function, redeclares_function};
 use crate::parameters::{listed, note_void_parameters, parameter_types};
 use c_grammar_tree::{FunctionDeclarator, Specifiers};
 use c_lexer::{Rule, TextFault};
-use c_types_names::{Names, Survey};
+use c_types_names::Names;
 use c_types_objects::{note_if, read_specifiers};
 use c_types_rules::{Entry, Kind, ParameterType};
 use cpa_ints::Seq;
@@ -44,7 +43,6 @@ fn declare_name(
 #[tactic(auto, using(c_types_rules::specs::First::first_append))]
 pub fn declare_function(
     alloc: Global,
-    survey: &Survey,
     scope: &mut Scope,
     defines: bool,
     specifiers: &Specifiers,
@@ -54,16 +52,13 @@ pub fn declare_function(
     ensures scope { OnOk result (before_of scope.new
         ≡ function_behind defines specifiers.now declarator.now (before_of scope.old)) }
     ensures first { OnOk result (first.new ≡ first_with first.old
-        (head_faults survey.now (before_of scope.old) defines specifiers.now declarator.now)) }
+        (head_faults (before_of scope.old) defines specifiers.now declarator.now)) }
 {
-    note_enumeration(alloc, survey, scope, specifiers, first)?;
     let kind = read_specifiers(alloc, specifiers)?.kind;
     let types = parameter_types(alloc, defines, &declarator.parameters)?;
     let name = declarator.name.bytes.as_slice();
     let is_taken = redeclares_function(scope.names.declared(name), kind, &types, defines);
     note_if(first, Rule::N2, is_taken, declarator.name.place);
-    let all = listed(&declarator.parameters);
-    note_void_parameters(alloc, all, first)?;
-    note_enumerations(alloc, survey, scope, all, first)?;
+    note_void_parameters(alloc, listed(&declarator.parameters), first)?;
     declare_name(alloc, &mut scope.names, name, kind, types, defines)
 }

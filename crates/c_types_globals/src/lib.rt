@@ -2,7 +2,6 @@
 //! at, and the rules that they break (`specs/Items.antt` of `c_types_rules`).
 #![tactic(auto)]
 
-mod enumerations;
 mod functions;
 mod merging;
 mod objects;
@@ -11,7 +10,6 @@ mod scope;
 mod type_names;
 mod typedefs;
 
-pub use enumerations::declare_enumeration;
 pub use functions::declare_function;
 pub use merging::same_kind;
 pub use objects::declare_objects;

@@ -47,10 +47,7 @@ fn named_by(word: Specifier) -> Option<NamedType>
 {
     match word.kind {
         SpecifierKind::TypedefName(named) => Some(named),
-        SpecifierKind::Storage(_)
-        | SpecifierKind::Other(_)
-        | SpecifierKind::TypeWord(_)
-        | SpecifierKind::Enum => None,
+        SpecifierKind::Storage(_) | SpecifierKind::Other(_) | SpecifierKind::TypeWord(_) => None,
     }
 }
 
@@ -80,10 +77,7 @@ fn is_const_word(word: Specifier) -> bool
     match word.kind {
         SpecifierKind::Other(SpecifierWord::Const) => true,
         SpecifierKind::TypedefName(named) => named.is_const,
-        SpecifierKind::Storage(_)
-        | SpecifierKind::Other(_)
-        | SpecifierKind::TypeWord(_)
-        | SpecifierKind::Enum => false,
+        SpecifierKind::Storage(_) | SpecifierKind::Other(_) | SpecifierKind::TypeWord(_) => false,
     }
 }
 
@@ -96,8 +90,7 @@ pub(crate) fn is_void_word(word: Specifier) -> bool
         SpecifierKind::Storage(_)
         | SpecifierKind::Other(_)
         | SpecifierKind::TypeWord(_)
-        | SpecifierKind::TypedefName(_)
-        | SpecifierKind::Enum => false,
+        | SpecifierKind::TypedefName(_) => false,
     }
 }
 
@@ -110,10 +103,9 @@ fn push_type_word(found: &mut Vec<TypeWord>, word: Specifier) -> Result<(), Allo
             found.push(type_word)?;
             Ok(())
         }
-        SpecifierKind::Storage(_)
-        | SpecifierKind::Other(_)
-        | SpecifierKind::TypedefName(_)
-        | SpecifierKind::Enum => Ok(()),
+        SpecifierKind::Storage(_) | SpecifierKind::Other(_) | SpecifierKind::TypedefName(_) => {
+            Ok(())
+        }
     }
 }
 

@@ -257,7 +257,6 @@ alike_call : {F G : Frames} (found : Option Meaning) {rs ss : List Rows} → Sam
     AlikeRows (rows.call_rows F found rs) (rows.call_rows G found ss)
 alike_call None same all = alike_act no_call (only no_call)
 alike_call (Some (meaning.Object object)) same all = alike_act no_call (only no_call)
-alike_call (Some (meaning.Enumerator value)) same all = alike_act no_call (only no_call)
 alike_call (Some (meaning.Function function)) same all =
     alike_act (alike_called function same (each_used all))
     (only (alike_called function same (each_used all)))
