@@ -185,6 +185,14 @@ module _ {Token : Type 0} {more : Token → Bool} where
       Begins (Such test) more
   starts_such test ends = record { first = λ {at} {edge} {left} {p} r. ends (at p) r.passes }
 
+  -- the token that closes a part is none of these, and the part begins with none where it is none
+  pub starts_closed : {T : Type 0} {A : Form Token T} {behind : Token → Bool} (test : Token → Bool) →
+      Starts A more behind → ((t : Token) → test t ≡ true → behind t ≡ false) →
+      Begins (Before A test) more
+  starts_closed test s ends = record {
+    first = λ {at} {edge} {left} {p} {u} {q} r. s.first r.first (ends (at r.middle) r.passes);
+  }
+
   pub starts_before : {T : Type 0} {A : Form Token T} (test : Token → Bool) → Begins A more →
       Begins (Before A test) more
   starts_before test b = record { first = λ r. b.first r.first }
@@ -306,6 +314,18 @@ perhaps_first go A more behind goes ends at edge left p None q r h =
     ends (at p) (subst (λ m. behind (at m) ≡ false) r.behind h)
 perhaps_first go A more behind goes ends at edge left p (Some u) q r h = goes (at p) r.goes
 
+-- the same where the part itself begins with none of these
+option_first : {Token T : Type 0} (go : Token → Bool) (A : Form Token T)
+    (more behind : Token → Bool) → Begins A more →
+    ((t : Token) → behind t ≡ false → more t ≡ false) →
+    (at : ℕ → Token) (edge left p : ℕ) (u : Option T) (q : ℕ) →
+    Perhaps go A (plain_text at edge) left p u q → behind (at q) ≡ false →
+    more (at p) ≡ false
+unfolding Perhaps
+option_first go A more behind b ends at edge left p None q r h =
+    ends (at p) (subst (λ m. behind (at m) ≡ false) r.behind h)
+option_first go A more behind b ends at edge left p (Some u) q r h = b.first r.first
+
 module _ {Token T : Type 0} (go : Token → Bool) (A : Form Token T) {inner more : Token → Bool}
     (c : Closes A inner)
     (parted : (t : Token) → go t ≡ true → inner t ≡ false)
@@ -358,6 +378,12 @@ module _ {Token T : Type 0} (go : Token → Bool) (A : Form Token T) {more behin
   pub starts_perhaps : Starts (Perhaps go A) more behind
   starts_perhaps =
       record { first = λ r h. perhaps_first go A more behind goes ends _ _ _ _ _ _ r h }
+
+pub starts_option : {Token T : Type 0} (go : Token → Bool) {A : Form Token T}
+    {more behind : Token → Bool} → Begins A more →
+    ((t : Token) → behind t ≡ false → more t ≡ false) → Starts (Perhaps go A) more behind
+starts_option go {A} {more} {behind} b ends =
+    record { first = λ r h. option_first go A more behind b ends _ _ _ _ _ _ r h }
 
 -- parts that say how the tokens behind them are seen, with which nothing goes on
 module _ {Token T : Type 0} (see : List T → Token → Token) (go : Token → Bool) (A : Form Token T)

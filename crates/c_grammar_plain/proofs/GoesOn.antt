@@ -19,7 +19,7 @@ use Rattle.c_grammar_tree.specs.declared.expression.Expression.{Expression}
 use Rattle.c_grammar_tree.specs.Parts.{is_not, names, points, steps, binds, looseness, assigns}
 use Rattle.c_grammar_tree.specs.Parts.{is_unary}
 use Rattle.c_grammar_tree.specs.Parts.{initializes, specifies, specifies_locally, names_type}
-use Rattle.c_grammar_tree.specs.Parts.{specifies_in_typedef}
+use Rattle.c_grammar_tree.specs.Parts.{specifies_in_typedef, begins_declared}
 use Rattle.c_grammar_tree.specs.Expressions.{assigns_to}
 
 -- how loose an expression is at least that goes on with the symbol: a postfix 0, a chain its
@@ -78,6 +78,13 @@ pub is_none_of : (test : Symbol → Bool) (x : Terminal) → test (symbol.Termin
     (t : Leaf) → test (symbol_of t) ≡ false → is x t ≡ false
 is_none_of test x h t g = false_from (is x t)
     (λ e. let clash : false ≡ true = sym g ∙ (ap test (terminal_is x (symbol_of t) e) ∙ h) in cc)
+
+-- a token that passes a test is not this terminal, which fails it
+pub is_other : (test : Symbol → Bool) (x : Terminal) → test (symbol.Terminal x) ≡ false →
+    (t : Leaf) → test (symbol_of t) ≡ true → is x t ≡ false
+is_other test x h t g = false_from (is x t)
+    (λ e. let clash : false ≡ true = sym h ∙ (ap test (sym (terminal_is x (symbol_of t) e)) ∙ g)
+    in cc)
 
 -- what a token does not close
 pub open_at : (x : Terminal) (t : Leaf) → is x t ≡ true → is_not x t ≡ false
@@ -161,6 +168,18 @@ second_of_or false b e = e
 pub declares_loose : (t : Leaf) → declares (symbol_of t) ≡ false → goes_on 12 t ≡ false
 declares_loose t e = first_of_or (goes_on 12 t) (is terminal.Attribute t) e
 
+pub both_false : (a b : Bool) → a ≡ false → b ≡ false → (a || b) ≡ false
+both_false true b e f = impossible (sym e)
+both_false false b e f = f
+
+pub first_true : (a b : Bool) → (a && b) ≡ true → a ≡ true
+first_true true b e = refl
+first_true false b e = impossible e
+
+pub value_ends : (s : Symbol) → loose 12 s ≡ false → initializes s ≡ false
+value_ends (symbol.Assign assign.Assign) e = impossible (sym e)
+value_ends _ e = refl
+
 pub initializes_parts : (s : Symbol) → initializes s ≡ true → fronts s ≡ false
 initializes_parts (symbol.Assign assign.Assign) e = refl
 initializes_parts _ e = impossible e
@@ -183,10 +202,16 @@ name_is_no_word symbol.Name e = refl
 name_is_no_word _ e = impossible e
 
 pub any_name_is_no_word : (s : Symbol) → (names s || names_type s) ≡ true →
-    (specifies_in_typedef s && not (names_type s)) ≡ false
+    (specifies_in_typedef s && not (begins_declared s)) ≡ false
 any_name_is_no_word symbol.Name e = refl
 any_name_is_no_word (symbol.TypedefName named) e = refl
 any_name_is_no_word _ e = impossible e
+
+pub any_name_is_no_brace : (s : Symbol) → (names s || names_type s) ≡ true →
+    is_terminal terminal.LeftBrace s ≡ false
+any_name_is_no_brace symbol.Name e = refl
+any_name_is_no_brace (symbol.TypedefName named) e = refl
+any_name_is_no_brace _ e = impossible e
 
 pub name_is_no_pointer : (s : Symbol) → names s ≡ true → points s ≡ false
 name_is_no_pointer symbol.Name e = refl

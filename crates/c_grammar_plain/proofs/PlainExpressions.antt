@@ -4,7 +4,7 @@ use Rattle.std.specs.Prelude.{◌≡◌, ℕ, zero, suc, Bool, true, refl}
 use Rattle.std.proofs.Common.{arith}
 use Rattle.c_grammar_forms.specs.Forms.{Form}
 use Rattle.c_grammar_plain.proofs.Closes.{Closes, no_token, closes_nothing, closes_one}
-use Rattle.c_grammar_plain.proofs.Closes.{closes_balanced}
+use Rattle.c_grammar_plain.proofs.Closes.{closes_such, closes_balanced}
 use Rattle.c_grammar_plain.proofs.Closes.{closes_skip, closes_before, closes_pair, closes_then}
 use Rattle.c_grammar_plain.proofs.Closes.{closes_node}
 use Rattle.c_grammar_plain.proofs.Closes.{closes_shaped, closes_deeper, closes_choice, closes_many}
@@ -18,9 +18,10 @@ use Rattle.c_grammar_symbols.specs.Symbols.{Leaf, symbol_of}
 use Rattle.c_grammar_symbols.specs.Sources.{is}
 use Rattle.c_grammar_tree.specs.declared.expression.Expression.{Expression}
 use Rattle.c_grammar_tree.specs.Parts.{is_not, types, is_type_word, is_type, is_end, names_assert}
-use Rattle.c_grammar_tree.specs.Parts.{is_operator, begins_suffix, loosest}
+use Rattle.c_grammar_tree.specs.Parts.{is_name, is_operator, begins_suffix, loosest}
 use Rattle.c_grammar_tree.specs.Nested.{Grammar}
-use Rattle.c_grammar_tree.specs.Expressions.{round_brackets, assignments, arguments, suffix_at}
+use Rattle.c_grammar_tree.specs.Expressions.{identifier, round_brackets, assignments, arguments}
+use Rattle.c_grammar_tree.specs.Expressions.{suffix_at}
 use Rattle.c_grammar_tree.specs.Expressions.{skipped_call, opens_skipped, suffixes, primary_at}
 use Rattle.c_grammar_tree.specs.Expressions.{postfix}
 use Rattle.c_grammar_tree.specs.Expressions.{sign, unary_at, unary, type_word_at, type_name_at}
@@ -42,9 +43,14 @@ pub record ClosedGrammar (G : Grammar) : Type 0 where
   pub cast : Closes G.cast (goes_on 0)
   pub unary : Closes G.unary (goes_on 0)
   pub list : Closes G.list no_token
+  pub enumerator : Closes G.enumerator (goes_on 12)
   pub declaration : Closes G.declaration no_token
   pub statement : Closes G.statement no_token
   pub item : Closes G.item no_token
+
+pub closes_identifier : {more : Leaf → Bool} → Closes identifier more
+unfolding identifier
+closes_identifier = closes_node _ (closes_such is_name)
 
 pub closes_round_brackets : {more : Leaf → Bool} → Closes round_brackets more
 closes_round_brackets = closes_balanced (is terminal.LeftParen) (is terminal.RightParen) is_end
@@ -67,6 +73,8 @@ closes_words_of_type = closes_node _ (closes_shaped is_type
 closes_type_name_at : (s : Symbol) → Closes (type_name_at s) is_type_word
 unfolding type_name_at
 closes_type_name_at (symbol.TypedefName named) = closes_node _ closes_one
+closes_type_name_at (symbol.Terminal terminal.Enum) =
+    closes_node _ (closes_skip closes_identifier)
 closes_type_name_at _ = closes_words_of_type
 
 closes_type_name : Closes type_name is_type_word
@@ -158,6 +166,7 @@ module _ (G : Grammar) (c : ClosedGrammar G) where
   unfolding group_at
   closes_group_at (symbol.TypeWord word) = closes_cast_part
   closes_group_at (symbol.TypedefName named) = closes_cast_part
+  closes_group_at (symbol.Terminal terminal.Enum) = closes_cast_part
   closes_group_at _ = closes_node _ (closes_then {inner = no_token}
       (closes_before {inner = goes_on 13} (closes_deeper c.comma) _
       (stops_at (loose 13) terminal.RightParen refl))

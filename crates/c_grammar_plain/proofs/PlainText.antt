@@ -1,8 +1,8 @@
 -- Declarations, statements and items of the grammar written plainly are those of the grammar.
 use Rattle.std.specs.Prelude.{◌≡◌, ℕ, zero, suc, Bool, true, false, not, ◌||◌, [], is_some, Option}
 use Rattle.std.specs.Prelude.{Some, refl}
-use Rattle.std.proofs.Common.{ap, subst}
-use Rattle.c_grammar_forms.specs.Forms.{Form, Pair}
+use Rattle.std.proofs.Common.{ap, subst, arith}
+use Rattle.c_grammar_forms.specs.Forms.{Form, Before, Pair}
 use Rattle.c_grammar_plain.specs.Plain.{plain_text}
 use Rattle.c_grammar_plain.proofs.Closes.{Closes, Begins, no_token, closes_nothing, closes_one}
 use Rattle.c_grammar_plain.proofs.Closes.{closes_such}
@@ -14,7 +14,7 @@ use Rattle.c_grammar_plain.proofs.Closes.{closes_many, closes_perhaps, closes_ne
 use Rattle.c_grammar_plain.proofs.Closes.{starts_such, starts_before, starts_pair, starts_node}
 use Rattle.c_grammar_plain.proofs.Closes.{starts_made}
 use Rattle.c_grammar_plain.proofs.Closes.{starts_both, starts_choice, starts_any, starts_many}
-use Rattle.c_grammar_plain.proofs.Closes.{starts_perhaps}
+use Rattle.c_grammar_plain.proofs.Closes.{starts_perhaps, starts_option, starts_closed}
 use Rattle.c_grammar_symbols.specs.declared.words.Terminal.{Terminal}
 use Rattle.c_grammar_symbols.specs.declared.words.Terminal.TheVariants as terminal
 use Rattle.c_grammar_symbols.specs.declared.symbol.Symbol.{Symbol}
@@ -26,18 +26,21 @@ use Rattle.c_grammar_tree.specs.declared.statement.Statement.{Statement}
 use Rattle.c_grammar_tree.specs.declared.item.Body.{Body}
 use Rattle.c_grammar_tree.specs.Parts.{is_not, is_name, is_end, have_part, have_word, have_char}
 use Rattle.c_grammar_tree.specs.Parts.{points, is_specifier, is_typedef_specifier, is_any_name}
-use Rattle.c_grammar_tree.specs.Parts.{is_keyword, is_no_type, is_type_word, is_typedef_name}
-use Rattle.c_grammar_tree.specs.Parts.{names_type}
+use Rattle.c_grammar_tree.specs.Parts.{is_keyword, is_no_type, is_type_word, is_declared_type}
+use Rattle.c_grammar_tree.specs.Parts.{begins_declared, names, specifies_locally, is_listed}
+use Rattle.c_grammar_tree.specs.Parts.{specifies_in_typedef}
 use Rattle.c_grammar_tree.specs.Parts.{specifies, is_local_specifier, is_initializing, bare_name}
 use Rattle.c_grammar_tree.specs.Nested.{Grammar}
-use Rattle.c_grammar_tree.specs.declared.declaration.Specifier.{Specifier}
-use Rattle.c_grammar_tree.specs.Declarations.{identifier, specifier_at, keywords}
-use Rattle.c_grammar_tree.specs.Declarations.{typedef_name_at, named_part, specifiers, attribute}
+use Rattle.c_grammar_tree.specs.declared.declaration.Enumeration.{Enumeration}
+use Rattle.c_grammar_tree.specs.Declarations.{identifier, specifier_at, keywords, qualifiers, Words}
+use Rattle.c_grammar_tree.specs.Declarations.{declared_type_at, declared_type, specifiers, tag}
+use Rattle.c_grammar_tree.specs.Declarations.{attribute, enumerator, enumerators, enumerator_list}
+use Rattle.c_grammar_tree.specs.Declarations.{enumeration_by, enumeration}
 use Rattle.c_grammar_tree.specs.Declarations.{attributes}
 use Rattle.c_grammar_tree.specs.Declarations.{comma_or_end_at, element, list, initializer_of, array}
 use Rattle.c_grammar_tree.specs.Declarations.{array_part, declarator_rest, declarator}
 use Rattle.c_grammar_tree.specs.Declarations.{more_declarators}
-use Rattle.c_grammar_tree.specs.Declarations.{declaration}
+use Rattle.c_grammar_tree.specs.Declarations.{declarators, declarators_by, declaration_by}
 use Rattle.c_grammar_tree.specs.Statements.{items, condition, optional, for_start, behind_comma_at}
 use Rattle.c_grammar_tree.specs.Statements.{statement_at, statement, item_by, item}
 use Rattle.c_grammar_tree.specs.Items.{Named, is_known, have_pointer, parameter, parameter_list}
@@ -54,16 +57,13 @@ use Rattle.c_grammar_plain.proofs.GoesOn.{fronts_ends}
 use Rattle.c_grammar_plain.proofs.GoesOn.{name_is_no_specifier, name_is_no_word, name_is_no_pointer}
 use Rattle.c_grammar_plain.proofs.GoesOn.{pointer_is_no_word, second_false, second_true}
 use Rattle.c_grammar_plain.proofs.GoesOn.{first_of_or}
-use Rattle.c_grammar_plain.proofs.GoesOn.{second_of_or}
+use Rattle.c_grammar_plain.proofs.GoesOn.{second_of_or, first_true, both_false, is_other}
+use Rattle.c_grammar_plain.proofs.GoesOn.{any_name_is_no_brace, value_ends, tighter}
 use Rattle.c_grammar_plain.proofs.PlainExpressions.{ClosedGrammar, closes_round_brackets}
-use Rattle.c_grammar_plain.proofs.PlainExpressions.{closes_comma}
+use Rattle.c_grammar_plain.proofs.PlainExpressions.{closes_identifier, closes_comma}
 use Rattle.c_grammar_plain.proofs.PlainExpressions.{closes_assignment, closes_conditional}
 use Rattle.c_grammar_plain.proofs.PlainExpressions.{closes_cast}
 use Rattle.c_grammar_plain.proofs.PlainExpressions.{closes_unary}
-
-closes_identifier : {more : Leaf → Bool} → Closes identifier more
-unfolding identifier
-closes_identifier = closes_node _ (closes_such is_name)
 
 closes_specifier_at : {more : Leaf → Bool} (s : Symbol) → Closes (specifier_at s) more
 unfolding specifier_at
@@ -78,50 +78,85 @@ closes_keywords goes = closes_shaped have_part
     (closes_many (is_keyword goes) _ {inner = no_token} (closes_choice symbol_of closes_specifier_at)
     (λ t e. refl) (λ t e. refl) (λ t e. e))
 
-closes_typedef_name_at : {more : Leaf → Bool} (s : Symbol) → Closes (typedef_name_at s) more
-unfolding typedef_name_at
-closes_typedef_name_at (symbol.TypedefName named) = closes_node _ closes_one
-closes_typedef_name_at _ = closes_nothing
+closes_qualifiers : (goes : Leaf → Bool) → Closes (qualifiers goes) (is_no_type goes)
+unfolding qualifiers
+closes_qualifiers goes = closes_many (is_no_type goes) _ {inner = no_token}
+    (closes_choice symbol_of closes_specifier_at) (λ t e. refl) (λ t e. refl) (λ t e. e)
 
-closes_named_part : (goes : Leaf → Bool) (typed : Bool) →
-    Closes (named_part goes typed) (is_keyword goes)
-unfolding named_part
-closes_named_part goes true = closes_node _ closes_empty
-closes_named_part goes false = closes_node _ (closes_pair {inner = no_token}
-    (closes_choice symbol_of closes_typedef_name_at)
-    (closes_many (is_no_type goes) _ {inner = no_token} (closes_choice symbol_of closes_specifier_at)
-    (λ t e. refl) (λ t e. refl) (λ t e. first_false (is_keyword goes t) (not (is_type_word t)) e))
-    starts_any)
+closes_tag : {more : Leaf → Bool} → Closes tag more
+unfolding tag
+closes_tag = closes_node _ closes_identifier
 
--- a typedef name is no keyword
-named_first : (goes : Leaf → Bool) (s : Symbol) (at : ℕ → Leaf) (edge left p : ℕ) (u : Specifier)
-    (q : ℕ) → typedef_name_at s (plain_text at edge) left p u q → not (names_type s) ≡ false
-unfolding typedef_name_at
-named_first goes (symbol.TypedefName named) at edge left p u q r = refl
-named_first goes _ at edge left p u q r = absurd r.never
+-- a type that a text declares begins with no keyword but enum
+declared_first : (E : Form Leaf Enumeration) (goes : Leaf → Bool) (s : Symbol) (at : ℕ → Leaf)
+    (edge left p : ℕ) (u : Words) (q : ℕ) →
+    declared_type_at E goes s (plain_text at edge) left p u q → not (begins_declared s) ≡ false
+unfolding declared_type_at
+declared_first E goes (symbol.TypedefName named) at edge left p u q r = refl
+declared_first E goes (symbol.Terminal terminal.Enum) at edge left p u q r = refl
+declared_first E goes _ at edge left p u q r = absurd r.never
 
-starts_named : (goes : Leaf → Bool) (typed : Bool) →
-    Starts (named_part goes typed) (is_keyword goes) (is_keyword goes)
-unfolding named_part
-starts_named goes true = starts_made _ (record {
-  first = λ {at} {edge} {left} {p} {u} {q} r h.
-      subst (λ m. is_keyword goes (at m) ≡ false) r.behind h;
-})
-starts_named goes false = starts_by (starts_node _ (starts_pair _ (record {
-  first = λ {at} {edge} {left} {p} {u} {q} r.
-      second_false (goes (at p)) (not (is_typedef_name (at p)))
-      (named_first goes (symbol_of (at p)) at edge left p u q r.chosen);
-})))
+-- specifiers, where an enumerated type goes on with these tokens, of which none is one of theirs
+module _ (E : Form Leaf Enumeration) (outer : Leaf → Bool) (c : Closes E outer)
+    (goes : Leaf → Bool) (apart : (t : Leaf) → goes t ≡ true → outer t ≡ false) where
+  abbrev words_go_on : Leaf → Bool
+  words_go_on t = is_keyword goes t || outer t
 
-closes_words : (goes : Leaf → Bool) → Closes (specifiers goes) (is_keyword goes)
-unfolding specifiers
-closes_words goes = closes_node _ (closes_then {inner = is_keyword goes} (closes_keywords goes)
-    (λ front. closes_named_part goes (have_word front))
-    (λ front. starts_named goes (have_word front)))
+  no_keyword : (t : Leaf) → words_go_on t ≡ false → is_keyword goes t ≡ false
+  no_keyword t e = first_of_or (is_keyword goes t) (outer t) e
 
-closes_specifiers : (goes : Leaf → Bool) → Closes (specifiers goes) goes
-closes_specifiers goes = closes_more
-    (λ t e. first_false (goes t) (not (is_typedef_name t)) e) (closes_words goes)
+  no_outer : (t : Leaf) → words_go_on t ≡ false → outer t ≡ false
+  no_outer t e = second_of_or (is_keyword goes t) (outer t) e
+
+  closes_behind_type : Closes (qualifiers goes) words_go_on
+  closes_behind_type = closes_more
+      (λ t e. first_false (is_keyword goes t) (not (is_type_word t)) (no_keyword t e))
+      (closes_qualifiers goes)
+
+  qualifier_is_apart : (t : Leaf) → is_no_type goes t ≡ true → outer t ≡ false
+  qualifier_is_apart t e = apart t (first_true (goes t) (not (is_declared_type t))
+      (first_true (is_keyword goes t) (not (is_type_word t)) e))
+
+  starts_qualifiers : Starts (qualifiers goes) outer words_go_on
+  unfolding qualifiers
+  starts_qualifiers = starts_many (is_no_type goes) _ qualifier_is_apart no_outer
+
+  closes_declared_type_at : (s : Symbol) → Closes (declared_type_at E goes s) words_go_on
+  unfolding declared_type_at
+  closes_declared_type_at (symbol.TypedefName named) =
+      closes_node _ (closes_skip closes_behind_type)
+  closes_declared_type_at (symbol.Terminal terminal.Enum) = closes_node _ (closes_skip
+      (closes_pair {inner = outer} c closes_behind_type starts_qualifiers))
+  closes_declared_type_at _ = closes_nothing
+
+  closes_declared_type : (typed : Bool) → Closes (declared_type E goes typed) words_go_on
+  unfolding declared_type
+  closes_declared_type true = closes_node _ closes_empty
+  closes_declared_type false = closes_choice symbol_of closes_declared_type_at
+
+  starts_declared_type : (typed : Bool) →
+      Starts (declared_type E goes typed) (is_keyword goes) words_go_on
+  unfolding declared_type
+  starts_declared_type true = starts_made _ (record {
+    first = λ {at} {edge} {left} {p} {u} {q} r h. no_keyword (at p)
+        (subst (λ m. words_go_on (at m) ≡ false) r.behind h);
+  })
+  starts_declared_type false = starts_by (record {
+    first = λ {at} {edge} {left} {p} {u} {q} r.
+        second_false (goes (at p)) (not (is_declared_type (at p)))
+        (declared_first E goes (symbol_of (at p)) at edge left p u q r.chosen);
+  })
+
+  closes_words : Closes (specifiers E goes) words_go_on
+  unfolding specifiers
+  closes_words = closes_node _ (closes_then {inner = is_keyword goes} (closes_keywords goes)
+      (λ front. closes_declared_type (have_word front))
+      (λ front. starts_declared_type (have_word front)))
+
+  closes_specifiers : Closes (specifiers E goes) (λ t. goes t || outer t)
+  closes_specifiers = closes_more (λ t e. both_false (is_keyword goes t) (outer t)
+      (first_false (goes t) (not (is_declared_type t)) (first_of_or (goes t) (outer t) e))
+      (second_of_or (goes t) (outer t) e)) closes_words
 
 closes_attribute : {more : Leaf → Bool} → Closes attribute more
 unfolding attribute
@@ -143,7 +178,9 @@ closes_comma_or_end_at _ = closes_nothing
 closes_parameter : Closes parameter (λ t. parameters_go_on (symbol_of t))
 unfolding parameter
 closes_parameter =
-    closes_node _ (closes_then {inner = is_specifier} (closes_specifiers is_specifier)
+    closes_node _ (closes_then {inner = is_specifier}
+    (closes_more (λ t e. both_false (is_specifier t) false e refl)
+    (closes_specifiers tag no_token closes_tag is_specifier (λ t e. refl)))
     (λ front. closes_pair {inner = λ t. points (symbol_of t)}
     (closes_perhaps _ {inner = no_token} closes_one (λ t e. refl)
     (λ t e. second_false (have_char front.words) (points (symbol_of t)) e))
@@ -191,10 +228,13 @@ closes_typedef_names = closes_node _ (closes_pair {inner = no_token} closes_type
     (closes_many (is terminal.Comma) _ {inner = no_token} (closes_skip closes_typedef_name)
     (λ t e. refl) (λ t e. refl) (λ t e. e)) starts_any)
 
-typedef_names_first : Begins typedef_names (is_keyword is_typedef_specifier)
+typedef_names_first :
+    Begins typedef_names (λ t. is_keyword is_typedef_specifier t || is terminal.LeftBrace t)
 unfolding typedef_names typedef_name
 typedef_names_first = starts_node _ (starts_pair _ (starts_node _
-    (starts_such is_any_name (λ t e. any_name_is_no_word (symbol_of t) e))))
+    (starts_such is_any_name (λ t e. both_false (is_keyword is_typedef_specifier t)
+    (is terminal.LeftBrace t) (any_name_is_no_word (symbol_of t) e)
+    (any_name_is_no_brace (symbol_of t) e)))))
 
 closes_skipped_body : {more : Leaf → Bool} → Closes skipped_body more
 unfolding skipped_body
@@ -207,19 +247,58 @@ comma_or_end_first (symbol.Terminal terminal.Comma) at edge left p u q r = refl
 comma_or_end_first (symbol.Terminal terminal.RightBrace) at edge left p u q r = refl
 comma_or_end_first _ at edge left p u q r = absurd r.never
 
-module _ (G : Grammar) (c : ClosedGrammar G) where
-  closes_element : Closes (element G) no_token
-  unfolding element
-  closes_element = closes_node _ (closes_pair {inner = goes_on 12} (closes_deeper c.assignment)
-      (closes_choice symbol_of closes_comma_or_end_at)
-      (starts_by (starts_choice symbol_of (loose 12) comma_or_end_first)))
+closes_element : {T : Type 0} {A : Form Leaf T} → Closes A (goes_on 12) →
+    Closes (element A) no_token
+unfolding element
+closes_element c = closes_node _ (closes_pair {inner = goes_on 12} c
+    (closes_choice symbol_of closes_comma_or_end_at)
+    (starts_by (starts_choice symbol_of (loose 12) comma_or_end_first)))
 
+-- an identifier is no specifier of an item, and none in a function; a brace is none either
+name_is_apart : (t : Leaf) → is_name t ≡ true →
+    (is_local_specifier t || is terminal.LeftBrace t) ≡ false
+name_is_apart t e = both_false (is_local_specifier t) (is terminal.LeftBrace t)
+    (name_is_no_specifier (symbol_of t) e) (is_other names terminal.LeftBrace refl t e)
+
+module _ (G : Grammar) (c : ClosedGrammar G) where
   closes_list : Closes (list G) no_token
   unfolding list
   closes_list = closes_node _ (closes_behind _ (closes_before {inner = is_not terminal.RightBrace}
-      (closes_many (is_not terminal.RightBrace) _ {inner = no_token} closes_element (λ t e. refl)
-      (λ t e. refl) (λ t e. e))
+      (closes_many (is_not terminal.RightBrace) _ {inner = no_token}
+      (closes_element (closes_deeper c.assignment)) (λ t e. refl) (λ t e. refl) (λ t e. e))
       _ (open_at terminal.RightBrace)))
+
+  closes_enumerator : Closes (enumerator G) (goes_on 12)
+  unfolding enumerator
+  closes_enumerator = closes_node _ (closes_pair {inner = no_token} closes_identifier
+      (closes_perhaps is_initializing {inner = goes_on 11}
+      (closes_skip (closes_deeper c.conditional)) (tighter 11 12 (omega arith))
+      (λ t e. value_ends (symbol_of t) e)) starts_any)
+
+  closes_enumerators : Closes (enumerators G) (is_not terminal.RightBrace)
+  unfolding enumerators
+  closes_enumerators = closes_node _ (closes_pair {inner = no_token}
+      (closes_element (closes_deeper c.enumerator))
+      (closes_many (is_not terminal.RightBrace) _ {inner = no_token}
+      (closes_element (closes_deeper c.enumerator)) (λ t e. refl) (λ t e. refl) (λ t e. e))
+      starts_any)
+
+  closes_enumerator_list : {more : Leaf → Bool} → Closes (enumerator_list G) more
+  unfolding enumerator_list
+  closes_enumerator_list = closes_behind _ (closes_before {inner = is_not terminal.RightBrace}
+      closes_enumerators _ (open_at terminal.RightBrace))
+
+  closes_enumeration_by : (named : Bool) → Closes (enumeration_by G named) (is terminal.LeftBrace)
+  unfolding enumeration_by
+  closes_enumeration_by true = closes_node _ (closes_pair {inner = no_token} closes_identifier
+      (closes_perhaps (is terminal.LeftBrace) {inner = no_token} closes_enumerator_list
+      (λ t e. refl) (λ t e. e)) starts_any)
+  closes_enumeration_by false = closes_node _ closes_enumerator_list
+
+  closes_enumeration : (braces : Bool) → Closes (enumeration G braces) (is terminal.LeftBrace)
+  unfolding enumeration
+  closes_enumeration false = closes_tag
+  closes_enumeration true = closes_choice is_name closes_enumeration_by
 
   closes_initializer_of : (is_array : Bool) → Closes (initializer_of G is_array) (goes_on 12)
   unfolding initializer_of
@@ -262,10 +341,10 @@ module _ (G : Grammar) (c : ClosedGrammar G) where
   closes_declarator = closes_node _ (closes_pair {inner =
       no_token} closes_identifier closes_declarator_rest starts_any)
 
-  declarator_first : Begins (declarator G) is_local_specifier
+  declarator_first : Begins (declarator G) (λ t. is_local_specifier t || is terminal.LeftBrace t)
   unfolding declarator identifier
-  declarator_first = starts_node _ (starts_pair _ (starts_node _
-      (starts_such is_name (λ t e. name_is_no_specifier (symbol_of t) e))))
+  declarator_first =
+      starts_node _ (starts_pair _ (starts_node _ (starts_such is_name name_is_apart)))
 
   closes_more_declarators : Closes (more_declarators G) (λ t. lists_declarators (symbol_of t))
   unfolding more_declarators
@@ -283,14 +362,44 @@ module _ (G : Grammar) (c : ClosedGrammar G) where
       (starts_many (is terminal.Comma) _ (stops_at declares terminal.Comma refl)
       (λ t e. first_of_or (declares (symbol_of t)) (is terminal.Comma t) e))
 
-  closes_declaration : Closes (declaration G) no_token
-  unfolding declaration
-  closes_declaration =
-      closes_node _ (closes_pair {inner = is_local_specifier} (closes_specifiers is_local_specifier)
-      (closes_before {inner = λ t. lists_declarators (symbol_of t)}
-      (closes_node _ (closes_declared closes_declarator)) _
-      (stops_at lists_declarators terminal.Semicolon refl))
-      (starts_by (starts_before _ (starts_node _ (starts_pair _ declarator_first)))))
+  closes_declarators : Closes (declarators G) (λ t. lists_declarators (symbol_of t))
+  unfolding declarators
+  closes_declarators = closes_node _ (closes_declared closes_declarator)
+
+  closes_declared_by : (listed : Bool) →
+      Closes (Before (declarators_by G listed) (is terminal.Semicolon)) no_token
+  unfolding declarators_by
+  closes_declared_by false = closes_before {inner = λ t. lists_declarators (symbol_of t)}
+      closes_declarators _ (stops_at lists_declarators terminal.Semicolon refl)
+  closes_declared_by true = closes_before {inner = is_not terminal.Semicolon}
+      (closes_node _ (closes_perhaps (is_not terminal.Semicolon)
+      {inner = λ t. lists_declarators (symbol_of t)} closes_declarators
+      (closed_at lists_declarators terminal.Semicolon refl) (λ t e. e))) _
+      (open_at terminal.Semicolon)
+
+  declarators_first :
+      Begins (declarators G) (λ t. is_local_specifier t || is terminal.LeftBrace t)
+  unfolding declarators
+  declarators_first = starts_node _ (starts_pair _ declarator_first)
+
+  declared_by_first : (listed : Bool) →
+      Begins (Before (declarators_by G listed) (is terminal.Semicolon))
+      (λ t. is_local_specifier t || is terminal.LeftBrace t)
+  unfolding declarators_by
+  declared_by_first false = starts_before _ declarators_first
+  declared_by_first true = starts_closed {behind = is_not terminal.Semicolon} _
+      (starts_made _ (starts_option (is_not terminal.Semicolon) declarators_first
+      (closed_at (λ s. specifies_locally s || is_terminal terminal.LeftBrace s)
+      terminal.Semicolon refl))) (open_at terminal.Semicolon)
+
+  closes_declaration_by : (braces : Bool) → Closes (declaration_by braces G) no_token
+  unfolding declaration_by
+  closes_declaration_by braces =
+      closes_node _ (closes_then {inner = λ t. is_local_specifier t || is terminal.LeftBrace t}
+      (closes_specifiers (enumeration G braces) (is terminal.LeftBrace) (closes_enumeration braces)
+      is_local_specifier (is_other specifies_locally terminal.LeftBrace refl))
+      (λ front. closes_declared_by (is_listed front.enumeration))
+      (λ front. starts_by (declared_by_first (is_listed front.enumeration))))
 
   closes_items : {more : Leaf → Bool} → Closes (items G) more
   unfolding items
@@ -356,6 +465,14 @@ module _ (G : Grammar) (c : ClosedGrammar G) where
       (closes_pair {inner = no_token} (closes_optional terminal.Semicolon refl)
       (closes_pair {inner = no_token} (closes_optional terminal.RightParen refl)
       (closes_deeper c.statement) starts_any) starts_any) starts_any)))
+  closes_statement_at (symbol.Terminal terminal.Switch) = closes_node _ (closes_skip
+      (closes_pair {inner = no_token} closes_condition (closes_deeper c.statement) starts_any))
+  closes_statement_at (symbol.Terminal terminal.Case) = closes_node _ (closes_skip
+      (closes_pair {inner = no_token} (closes_before {inner = goes_on 11}
+      (closes_deeper c.conditional) _ (stops_at (loose 11) terminal.Colon refl))
+      (closes_deeper c.statement) starts_any))
+  closes_statement_at (symbol.Terminal terminal.Default) =
+      closes_node _ (closes_skip (closes_behind _ (closes_deeper c.statement)))
   closes_statement_at (symbol.Terminal terminal.Goto) = closes_node _ (closes_skip
       (closes_before {inner = no_token} closes_identifier _ (λ t e. refl)))
   closes_statement_at (symbol.Terminal terminal.Break) = closes_node _ (closes_skip (closes_such _))
@@ -377,7 +494,7 @@ module _ (G : Grammar) (c : ClosedGrammar G) where
 
   closes_item_by : (local : Bool) → Closes (item_by G local) no_token
   unfolding item_by
-  closes_item_by true = closes_node _ closes_declaration
+  closes_item_by true = closes_node _ (closes_declaration_by true)
   closes_item_by false = closes_node _ closes_statement
 
   closes_item : Closes (item G) no_token
@@ -407,46 +524,55 @@ module _ (G : Grammar) (c : ClosedGrammar G) where
   function_end_first name false (symbol.Terminal terminal.LeftBrace) at edge left p u q r = refl
   function_end_first name _ _ at edge left p u q r = absurd r.never
 
-  closes_named_at : (name : Name) (s : Symbol) → Closes (named_at G name s) no_token
+  closes_named_at : (braces : Bool) (name : Name) (s : Symbol) →
+      Closes (named_at G braces name s) no_token
   unfolding named_at
-  closes_named_at name (symbol.Terminal terminal.LeftParen) =
+  closes_named_at false name (symbol.Terminal terminal.LeftParen) =
       closes_node _ (closes_then {inner = is terminal.Attribute} closes_function_rest
       (λ found. closes_choice symbol_of (closes_function_end_at name (have_pointer found)))
       (λ found. starts_by (starts_choice symbol_of (is_terminal terminal.Attribute)
       (function_end_first name (have_pointer found)))))
-  closes_named_at name _ =
+  closes_named_at _ name _ =
       closes_node _ (closes_before {inner = λ t. lists_declarators (symbol_of t)}
       (closes_declared closes_declarator_rest) _ (stops_at lists_declarators
       terminal.Semicolon refl))
 
-  closes_declared_at : (s : Symbol) → Closes (declared_at G s) no_token
+  closes_declared_at : (braces : Bool) (s : Symbol) → Closes (declared_at G braces s) no_token
   unfolding declared_at
-  closes_declared_at (symbol.Terminal terminal.Semicolon) = closes_node _ closes_one
-  closes_declared_at symbol.Name = closes_node _ (closes_then {inner = no_token} closes_identifier
-      (λ name. closes_choice symbol_of (closes_named_at name)) (λ name. starts_any))
-  closes_declared_at _ = closes_nothing
+  closes_declared_at braces (symbol.Terminal terminal.Semicolon) = closes_node _ closes_one
+  closes_declared_at braces symbol.Name =
+      closes_node _ (closes_then {inner = no_token} closes_identifier
+      (λ name. closes_choice symbol_of (closes_named_at braces name)) (λ name. starts_any))
+  closes_declared_at braces _ = closes_nothing
 
-  declared_first : (s : Symbol) (at : ℕ → Leaf) (edge left p : ℕ)
+  item_first : (braces : Bool) (s : Symbol) (at : ℕ → Leaf) (edge left p : ℕ)
       (u : Option (Name × Named)) (q : ℕ) →
-      declared_at G s (plain_text at edge) left p u q → specifies s ≡ false
+      declared_at G braces s (plain_text at edge) left p u q →
+      (specifies s || is_terminal terminal.LeftBrace s) ≡ false
   unfolding declared_at
-  declared_first (symbol.Terminal terminal.Semicolon) at edge left p u q r = refl
-  declared_first symbol.Name at edge left p u q r = refl
-  declared_first _ at edge left p u q r = absurd r.never
+  item_first braces (symbol.Terminal terminal.Semicolon) at edge left p u q r = refl
+  item_first braces symbol.Name at edge left p u q r = refl
+  item_first braces _ at edge left p u q r = absurd r.never
 
   closes_unit_item_at : (s : Symbol) → Closes (unit_item_at G s) no_token
   unfolding unit_item_at
   closes_unit_item_at (symbol.Terminal terminal.Semicolon) = closes_node _ closes_one
   closes_unit_item_at (symbol.Terminal terminal.Typedef) =
-      closes_node _ (closes_skip (closes_pair {inner = is_keyword is_typedef_specifier}
-      (closes_words is_typedef_specifier)
+      closes_node _ (closes_skip (closes_pair
+      {inner = λ t. is_keyword is_typedef_specifier t || is terminal.LeftBrace t}
+      (closes_words (enumeration G true) (is terminal.LeftBrace) (closes_enumeration true)
+      is_typedef_specifier (is_other specifies_in_typedef terminal.LeftBrace refl))
       (closes_before {inner = is terminal.Comma} closes_typedef_names _
       (stops_at (is_terminal terminal.Comma) terminal.Semicolon refl))
       (starts_by (starts_before _ typedef_names_first))))
   closes_unit_item_at _ =
-      closes_node _ (closes_pair {inner = is_specifier} (closes_specifiers is_specifier)
-      (closes_choice symbol_of closes_declared_at)
-      (starts_by (starts_choice symbol_of specifies declared_first)))
+      closes_node _ (closes_then {inner = λ t. is_specifier t || is terminal.LeftBrace t}
+      (closes_specifiers (enumeration G true) (is terminal.LeftBrace) (closes_enumeration true)
+      is_specifier (is_other specifies terminal.LeftBrace refl))
+      (λ front. closes_choice symbol_of (closes_declared_at (is_listed front.enumeration)))
+      (λ front. starts_by (starts_choice symbol_of
+      (λ s. specifies s || is_terminal terminal.LeftBrace s)
+      (item_first (is_listed front.enumeration)))))
 
   closes_unit_item : Closes (unit_item G) no_token
   unfolding unit_item
@@ -467,6 +593,7 @@ closed_grammar zero = record {
   cast = closes_nothing;
   unary = closes_nothing;
   list = closes_nothing;
+  enumerator = closes_nothing;
   declaration = closes_nothing;
   statement = closes_nothing;
   item = closes_nothing;
@@ -478,7 +605,8 @@ closed_grammar (suc n) = let c = closed_grammar n in record {
   cast = closes_cast (grammar n) c;
   unary = closes_unary (grammar n) c;
   list = closes_list (grammar n) c;
-  declaration = closes_declaration (grammar n) c;
+  enumerator = closes_enumerator (grammar n) c;
+  declaration = closes_declaration_by (grammar n) c false;
   statement = closes_statement (grammar n) c;
   item = closes_item (grammar n) c;
 }

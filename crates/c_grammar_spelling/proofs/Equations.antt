@@ -232,6 +232,30 @@ for_pieces first test step body place =
     ∙ fold-roll-Statement (List Piece) (List Piece) block_item_layer statement_layer
     (Statement-F.For first test step body place)
 
+pub switch_pieces : (value : Expression) (body : Statement) (place : ℕ) →
+    spelled_statement (statement.Switch value body place) ≡ placed place ∷ mark terminal.Switch ∷
+    (in_brackets (spelled_expression value) ++ spelled_statement body)
+switch_pieces value body place =
+    ap spelled_statement (sym (statement.rolls-Switch value body place))
+    ∙ fold-roll-Statement (List Piece) (List Piece) block_item_layer statement_layer
+    (Statement-F.Switch value body place)
+
+pub case_pieces : (value : Expression) (body : Statement) (place : ℕ) →
+    spelled_statement (statement.Case value body place) ≡ placed place ∷ mark terminal.Case ∷
+    ((spelled_expression value ++ mark terminal.Colon ∷ []) ++ spelled_statement body)
+case_pieces value body place =
+    ap spelled_statement (sym (statement.rolls-Case value body place))
+    ∙ fold-roll-Statement (List Piece) (List Piece) block_item_layer statement_layer
+    (Statement-F.Case value body place)
+
+pub default_pieces : (body : Statement) (place : ℕ) →
+    spelled_statement (statement.Default body place) ≡
+    placed place ∷ mark terminal.Default ∷ mark terminal.Colon ∷ spelled_statement body
+default_pieces body place =
+    ap spelled_statement (sym (statement.rolls-Default body place))
+    ∙ fold-roll-Statement (List Piece) (List Piece) block_item_layer statement_layer
+    (Statement-F.Default body place)
+
 pub goto_pieces : (label : Name) (place : ℕ) →
     spelled_statement (statement.Goto label place) ≡
     placed place ∷ mark terminal.Goto ∷ (named label ∷ mark terminal.Semicolon ∷ [])

@@ -220,42 +220,58 @@ module _ {left : ℕ} {behind : Look} where
         (exactly.is (at x.middle) x.passes ∙ sym e.0));
   }
 
-  pub spelt_pair : {T V : Type 0} {K : Leaf → Type 0} {A : Form Leaf T} {B : Form Leaf V}
-      {S : T → List Piece} {R : V → List Piece} {inner front : Look} →
-      Spelt K A S left inner front → Spelt Any B R left behind inner →
-      Spelt K (Pair A B) (λ u. S u.0 ++ R u.1) left behind front
-  spelt_pair {S = S} {R} c d = record {
-    pieces = λ {at} {edge} {p} {u} k r. joins (S u.0) (c.pieces k r.first) (d.pieces tt r.second);
-    again = λ {at} {bt} {edge} {other} {p} {r} {u} k x y h.
-        let t = halves (S u.0) (R u.1) y in
-        record {
-          middle = t.middle;
-          first = c.again k x.first t.first (d.first tt x.second t.second h);
-          second = d.again tt x.second t.second h;
-        };
-    first = λ {at} {bt} {edge} {p} {r} {u} k x y h.
-        let t = halves (S u.0) (R u.1) y in
-        c.first k x.first t.first (d.first tt x.second t.second h);
-  }
-
-  pub spelt_then : {T V : Type 0} {K : Leaf → Type 0} {A : Form Leaf T} {B : T → Form Leaf V}
-      {S : T → List Piece} {R : V → List Piece} {inner front : Look} →
-      Spelt K A S left inner front → ((t : T) → Spelt Any (B t) R left behind inner) →
-      Spelt K (Then A B) (λ u. S u.0 ++ R u.1) left behind front
-  spelt_then {S = S} {R} c d = record {
+  -- two parts, where what the second spells depends on the first
+  pub spelt_pair_by : {T V : Type 0} {K : Leaf → Type 0} {A : Form Leaf T} {B : Form Leaf V}
+      {S : T → List Piece} {R : T → V → List Piece} {inner front : Look} →
+      Spelt K A S left inner front → ((t : T) → Spelt Any B (R t) left behind inner) →
+      Spelt K (Pair A B) (λ u. S u.0 ++ R u.0 u.1) left behind front
+  spelt_pair_by {S = S} {R} c d = record {
     pieces = λ {at} {edge} {p} {u} k r.
         joins (S u.0) (c.pieces k r.first) ((d u.0).pieces tt r.second);
     again = λ {at} {bt} {edge} {other} {p} {r} {u} k x y h.
-        let t = halves (S u.0) (R u.1) y in
+        let t = halves (S u.0) (R u.0 u.1) y in
         record {
           middle = t.middle;
           first = c.again k x.first t.first ((d u.0).first tt x.second t.second h);
           second = (d u.0).again tt x.second t.second h;
         };
     first = λ {at} {bt} {edge} {p} {r} {u} k x y h.
-        let t = halves (S u.0) (R u.1) y in
+        let t = halves (S u.0) (R u.0 u.1) y in
         c.first k x.first t.first ((d u.0).first tt x.second t.second h);
   }
+
+  pub spelt_pair : {T V : Type 0} {K : Leaf → Type 0} {A : Form Leaf T} {B : Form Leaf V}
+      {S : T → List Piece} {R : V → List Piece} {inner front : Look} →
+      Spelt K A S left inner front → Spelt Any B R left behind inner →
+      Spelt K (Pair A B) (λ u. S u.0 ++ R u.1) left behind front
+  spelt_pair {R = R} c d = spelt_pair_by {R = λ t. R} c (λ t. d)
+
+  -- two parts, where what the first spells depends on the second
+  pub spelt_then_by : {T V : Type 0} {K : Leaf → Type 0} {A : Form Leaf T} {B : T → Form Leaf V}
+      {S : V → T → List Piece} {R : V → List Piece} {inner front : Look} →
+      ((v : V) → Spelt K A (S v) left inner front) →
+      ((t : T) → Spelt Any (B t) R left behind inner) →
+      Spelt K (Then A B) (λ u. S u.1 u.0 ++ R u.1) left behind front
+  spelt_then_by {S = S} {R} c d = record {
+    pieces = λ {at} {edge} {p} {u} k r.
+        joins (S u.1 u.0) ((c u.1).pieces k r.first) ((d u.0).pieces tt r.second);
+    again = λ {at} {bt} {edge} {other} {p} {r} {u} k x y h.
+        let t = halves (S u.1 u.0) (R u.1) y in
+        record {
+          middle = t.middle;
+          first = (c u.1).again k x.first t.first ((d u.0).first tt x.second t.second h);
+          second = (d u.0).again tt x.second t.second h;
+        };
+    first = λ {at} {bt} {edge} {p} {r} {u} k x y h.
+        let t = halves (S u.1 u.0) (R u.1) y in
+        (c u.1).first k x.first t.first ((d u.0).first tt x.second t.second h);
+  }
+
+  pub spelt_then : {T V : Type 0} {K : Leaf → Type 0} {A : Form Leaf T} {B : T → Form Leaf V}
+      {S : T → List Piece} {R : V → List Piece} {inner front : Look} →
+      Spelt K A S left inner front → ((t : T) → Spelt Any (B t) R left behind inner) →
+      Spelt K (Then A B) (λ u. S u.0 ++ R u.1) left behind front
+  spelt_then {S = S} c d = spelt_then_by {S = λ v. S} (λ v. c) d
 
 -- what is made of parts is spelled as they are, and of the first token nothing is kept; or behind
 -- the place of the first token, once or twice, of which nothing else is kept
@@ -513,10 +529,11 @@ module _ {T : Type 0} (class : Symbol → Bool) {K : Leaf → Type 0} {A : Form 
     first = λ k x y h. nearest_first _ _ _ _ _ _ _ _ x y h;
   }
 
--- a list of nothing
-pub spelt_empty : {T : Type 0} {K : Leaf → Type 0} {S : List T → List Piece} {left : ℕ}
-    {behind : Look} → S [] ≡ [] → Spelt K (Node (λ leaf u. []) Empty) S left behind behind
-spelt_empty {S = S} {behind = behind} none = record {
+-- what is spelled by nothing
+pub spelt_empty : {T : Type 0} {K : Leaf → Type 0} {S : T → List Piece} {left : ℕ}
+    {behind : Look} (made : T) → S made ≡ [] →
+    Spelt K (Node (λ leaf u. made) Empty) S left behind behind
+spelt_empty {S = S} {behind = behind} made none = record {
   pieces = λ {at} {edge} {p} {u} {q} k r.
       subst (λ list. Laid at list p q) (sym (ap S r.made ∙ none))
       (subst (λ m. Laid at [] p m) (sym r.read.behind) spells_none);

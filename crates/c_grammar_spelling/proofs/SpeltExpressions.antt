@@ -20,14 +20,15 @@ use Rattle.c_grammar_tree.specs.declared.expression.Suffix.{Suffix}
 use Rattle.c_grammar_tree.specs.declared.expression.Suffix.TheVariants as suffix
 use Rattle.c_grammar_tree.specs.declared.expression.UnaryOperator.{UnaryOperator}
 use Rattle.c_grammar_tree.specs.declared.expression.UnaryOperator.TheVariants as unary_operator
-use Rattle.c_grammar_tree.specs.Parts.{name_of, types, is_type}
+use Rattle.c_grammar_tree.specs.declared.declaration.Enumerator.{Enumerator}
+use Rattle.c_grammar_tree.specs.Parts.{is_not, names, name_of, types, is_type}
 use Rattle.c_grammar_tree.specs.Parts.{names_assert, binds, steps, is_unary}
 use Rattle.c_grammar_tree.specs.Parts.{assigns, loosest}
 use Rattle.c_grammar_tree.specs.Nested.{Grammar}
 use Rattle.c_grammar_tree.specs.Expressions.{suffixed, in_front, chain_of, conditional_of}
 use Rattle.c_grammar_tree.specs.Expressions.{assignment_of}
 use Rattle.c_grammar_tree.specs.Expressions.{comma_of, Group, cast_group, bracket_group, group_of}
-use Rattle.c_grammar_tree.specs.Expressions.{unary_of}
+use Rattle.c_grammar_tree.specs.Expressions.{identifier, unary_of}
 use Rattle.c_grammar_tree.specs.Expressions.{list_of, round_brackets, assignments, arguments}
 use Rattle.c_grammar_tree.specs.Expressions.{suffix_at}
 use Rattle.c_grammar_tree.specs.Expressions.{skipped_call, suffixes, primary_at}
@@ -40,7 +41,8 @@ use Rattle.c_grammar_plain.specs.Plain.{plain_text}
 use Rattle.c_grammar_spelling.specs.Spelling.{Piece, placed, token, named, any_arguments, mark}
 use Rattle.c_grammar_spelling.specs.Spelling.{in_order, listed, optional, operated, symbol_of_sign}
 use Rattle.c_grammar_spelling.specs.Spelling.{spelled_type_name, spelled_expression, spelled_suffix}
-use Rattle.c_grammar_spelling.specs.Spelling.{spelled_initializer, spelled_declaration}
+use Rattle.c_grammar_spelling.specs.Spelling.{spelled_initializer, spelled_enumerator}
+use Rattle.c_grammar_spelling.specs.Spelling.{spelled_declaration}
 use Rattle.c_grammar_spelling.specs.Spelling.{spelled_statement, spelled_block_item}
 use Rattle.c_grammar_spelling.proofs.Spells.{Laid, spells_one, only}
 use Rattle.c_grammar_spelling.proofs.Spelt.{Look, blind, careful, sharp, Follows, Any, Is, Spelt}
@@ -61,12 +63,17 @@ pub record SpeltGrammar (G : Grammar) (left : ℕ) : Type 0 where
   pub cast : Spelt Any (Deeper G.cast) spelled_expression left careful sharp
   pub unary : Spelt Any (Deeper G.unary) spelled_expression left careful sharp
   pub list : Spelt Any (Deeper G.list) spelled_initializer left blind sharp
+  pub enumerator : Spelt Any (Deeper G.enumerator) spelled_enumerator left careful sharp
   pub declaration : Spelt Any (Deeper G.declaration) spelled_declaration left blind sharp
   pub statement : Spelt Any (Deeper G.statement) spelled_statement left careful sharp
   pub item : Spelt Any (Deeper G.item) spelled_block_item left careful sharp
   -- a cast is read only where a level is left
   pub room : {at : ℕ → Leaf} {edge p : ℕ} {u : Expression} {q : ℕ} →
       G.cast (plain_text at edge) (left - 1) p u q → 0 < left
+  -- an enumerator does not begin with the brace that ends a list
+  pub no_brace : (at : ℕ → Leaf) (edge p : ℕ) (u : Enumerator) (q : ℕ) →
+      Deeper G.enumerator (plain_text at edge) left p u q →
+      is_not terminal.RightBrace (at p) ≡ true
 
 -- a symbol that is a terminal
 pub terminal_is : (t : Terminal) (s : Symbol) → is_terminal t s ≡ true → s ≡ symbol.Terminal t
@@ -122,6 +129,27 @@ spelt_type_word_at (symbol.TypeWord word) =
     spelt_node _ (spelt_one (symbol.TypeWord word)) (λ u. plainly (λ x. refl) (λ x y. refl))
 spelt_type_word_at _ = spelt_nothing
 
+pub name_is : (s : Symbol) → names s ≡ true → s ≡ symbol.Name
+name_is symbol.Name e = refl
+name_is _ e = absurd (let clash : false ≡ true = e in cc)
+
+pub spelt_identifier : {left : ℕ} {behind : Look} →
+    Spelt Any identifier (λ name. named name ∷ []) left behind sharp
+unfolding identifier
+spelt_identifier = record {
+  pieces = λ {at} {edge} {p} {u} {q} k r.
+      spells_one (named u) (name_is _ r.read.passes, sym r.made, r.read.behind);
+  again = λ {at} {bt} {edge} {other} {p} {r} {u} k x y h.
+      let e = only (named u) y in
+      record {
+        parts = tt;
+        read = record { passes = ap names e.0; behind = e.2 };
+        made = sym e.1;
+      };
+  first = λ {at} {bt} {edge} {p} {r} {u} k x y h.
+      let e = only (named u) y in name_is _ x.read.passes ∙ sym e.0;
+}
+
 spelt_words_of_type : {left : ℕ} {behind : Look} →
     Spelt Any words_of_type spelled_type_name left behind sharp
 unfolding words_of_type
@@ -134,6 +162,9 @@ spelt_type_name_at : {left : ℕ} {behind : Look} (s : Symbol) →
 unfolding type_name_at
 spelt_type_name_at (symbol.TypedefName t) = spelt_node _ (spelt_one (symbol.TypedefName t))
     (λ u. at_place (λ x. refl) (λ x y e. ap (type_name'.Typedef t) e))
+spelt_type_name_at (symbol.Terminal terminal.Enum) = spelt_node _
+    (spelt_skip (symbol.Terminal terminal.Enum) spelt_identifier)
+    (λ tag. at_place (λ x. refl) (λ x y e. ap (type_name'.Enum tag) e))
 spelt_type_name_at _ = spelt_any _ spelt_words_of_type
 
 spelt_type_name : {left : ℕ} {behind : Look} →
@@ -372,6 +403,7 @@ module _ (G : Grammar) (left : ℕ) (g : SpeltGrammar G left) where
   unfolding group_at
   spelt_group_at (symbol.TypeWord word) = spelt_any _ spelt_cast_part
   spelt_group_at (symbol.TypedefName t) = spelt_any _ spelt_cast_part
+  spelt_group_at (symbol.Terminal terminal.Enum) = spelt_any _ spelt_cast_part
   spelt_group_at _ = spelt_any _ (spelt_node _ (spelt_then
       (spelt_closed (is_mark terminal.RightParen) g.comma)
       (λ inner. spelt_suffixes (names_assert inner)))

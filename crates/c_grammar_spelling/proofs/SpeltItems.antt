@@ -20,6 +20,7 @@ use Rattle.c_grammar_tree.specs.declared.declaration.Initializer.{Initializer}
 use Rattle.c_grammar_tree.specs.declared.declaration.Specifier.{Specifier}
 use Rattle.c_grammar_tree.specs.declared.declaration.SpecifierKind.{SpecifierKind}
 use Rattle.c_grammar_tree.specs.declared.declaration.SpecifierKind.TheVariants as kind
+use Rattle.c_grammar_tree.specs.declared.declaration.Enumeration.{Enumeration}
 use Rattle.c_grammar_tree.specs.declared.declaration.Specifiers.{Specifiers}
 use Rattle.c_grammar_tree.specs.declared.item.Body.{Body}
 use Rattle.c_grammar_tree.specs.declared.item.Body.TheVariants as body
@@ -28,9 +29,11 @@ use Rattle.c_grammar_tree.specs.declared.item.Parameter.{Parameter}
 use Rattle.c_grammar_tree.specs.declared.item.Parameters.{Parameters}
 use Rattle.c_grammar_tree.specs.declared.item.Parameters.TheVariants as parameters
 use Rattle.c_grammar_tree.specs.Parts.{is_not, is_end, ends, names, points, have_char, specifies}
-use Rattle.c_grammar_tree.specs.Parts.{is_specifier, names_type, specifies_in_typedef}
+use Rattle.c_grammar_tree.specs.Parts.{is_specifier, begins_declared, specifies_in_typedef}
+use Rattle.c_grammar_tree.specs.Parts.{is_listed}
 use Rattle.c_grammar_tree.specs.Nested.{Grammar}
-use Rattle.c_grammar_tree.specs.Declarations.{specifier_at, keywords, named_part, specifiers}
+use Rattle.c_grammar_tree.specs.Declarations.{specifier_at, keywords, declared_type, specifiers}
+use Rattle.c_grammar_tree.specs.Declarations.{tag, enumeration}
 use Rattle.c_grammar_tree.specs.Declarations.{attribute, attributes}
 use Rattle.c_grammar_tree.specs.Declarations.{declarator_rest, more_declarators}
 use Rattle.c_grammar_tree.specs.Items.{is_known, points_or_not, parameter, is_void, is_only_void}
@@ -62,7 +65,8 @@ use Rattle.c_grammar_spelling.proofs.Spelt.{spelt_many}
 use Rattle.c_grammar_spelling.proofs.Spelt.{spelt_perhaps, behind_place}
 use Rattle.c_grammar_spelling.proofs.SpeltExpressions.{SpeltGrammar, terminal_is, is_mark}
 use Rattle.c_grammar_spelling.proofs.SpeltExpressions.{known_mark}
-use Rattle.c_grammar_spelling.proofs.SpeltText.{spelt_identifier, spelt_specifiers}
+use Rattle.c_grammar_spelling.proofs.SpeltText.{spelt_identifier, spelt_specifiers, spelt_tag}
+use Rattle.c_grammar_spelling.proofs.SpeltText.{spelt_enumeration}
 use Rattle.c_grammar_spelling.proofs.SpeltText.{same_attributes, spelt_attributes}
 use Rattle.c_grammar_spelling.proofs.SpeltText.{spelt_declarator_rest}
 use Rattle.c_grammar_spelling.proofs.SpeltText.{spelt_more_declarators, spelt_items}
@@ -102,7 +106,7 @@ parameter_made (front, (Some u, name)) = plainly (λ x. refl) (λ x y. refl)
 
 spelt_parameter : {left : ℕ} → Spelt Any parameter spelled_parameter left blind sharp
 unfolding parameter
-spelt_parameter = spelt_node parameter_of (spelt_then (spelt_specifiers specifies)
+spelt_parameter = spelt_node parameter_of (spelt_then (spelt_specifiers tag specifies spelt_tag)
     (λ front. spelt_pair
     (spelt_perhaps (λ s. have_char front.words && points s)
     (λ x e. pointer_is (have_char front.words) (symbol_of x) e)
@@ -136,10 +140,11 @@ module _ {left : ℕ} (some : 0 < left) where
       spelt_parameter_list)) spelt_attributes)
 
 -- the parameter that `void` is, with the places of its words
-abbrev void_at : ℕ → ℕ → Parameter
-void_at outer inner = record {
+abbrev void_at : Option Enumeration → ℕ → ℕ → Parameter
+void_at enumerated outer inner = record {
   specifiers = record {
     words = record { kind = kind.TypeWord word.Void; place = inner } ∷ [];
+    enumeration = enumerated;
     place = outer;
   };
   is_pointer = false;
@@ -150,35 +155,38 @@ void_at outer inner = record {
 data Between (found : Option (List Parameter)) : Type 0 where
   as_read : spelled_parameters (parameters_of found) ≡ optional (listed spelled_parameter) found →
       Between found
-  only_void : (outer inner : ℕ) → found ≡ Some (void_at outer inner ∷ []) → Between found
+  only_void : (enumerated : Option Enumeration) (outer inner : ℕ) →
+      found ≡ Some (void_at enumerated outer inner ∷ []) → Between found
 
 void_kind : (k : SpecifierKind) → is_void k ≡ true → k ≡ kind.TypeWord word.Void
 void_kind (kind.TypeWord word.Void) e = refl
 void_kind _ e = absurd (let clash : false ≡ true = e in cc)
 
-only_one : (words : List Specifier) (pointer : Bool) (name : Option Name) (place : ℕ) →
-    is_only_void words pointer name ≡ true →
+only_one : (words : List Specifier) (pointer : Bool) (name : Option Name)
+    (enumerated : Option Enumeration) (place : ℕ) → is_only_void words pointer name ≡ true →
     Between (Some (record {
-      specifiers = record { words = words; place = place };
+      specifiers = record { words = words; enumeration = enumerated; place = place };
       is_pointer = pointer;
       name = name;
     } ∷ []))
-only_one (only ∷ []) false None place e = only_void place only.place
+only_one (only ∷ []) false None enumerated place e = only_void enumerated place only.place
     (ap (λ k. Some (record {
       specifiers = record {
         words = record { kind = k; place = only.place } ∷ [];
+        enumeration = enumerated;
         place = place;
       };
       is_pointer = false;
       name = None;
     } ∷ [])) (void_kind only.kind e))
-only_one _ _ _ place e = absurd (let clash : false ≡ true = e in cc)
+only_one _ _ _ enumerated place e = absurd (let clash : false ≡ true = e in cc)
 
 one_between : (first : Parameter) (b : Bool) →
     is_only_void first.specifiers.words first.is_pointer first.name ≡ b →
     Between (Some (first ∷ []))
 one_between first true e =
-    only_one first.specifiers.words first.is_pointer first.name first.specifiers.place e
+    only_one first.specifiers.words first.is_pointer first.name first.specifiers.enumeration
+    first.specifiers.place e
 one_between first false e = as_read (ap (λ b. spelled_parameters
     (elim b [ true ↦ parameters.Void | false ↦ parameters.Listed (first ∷ []) ])) e)
 
@@ -206,16 +214,16 @@ module _ {at : ℕ → Leaf} (outer inner : ℕ) {p q : ℕ} where
 -- void alone, read as specifiers and as a parameter
 module _ (bt : ℕ → Leaf) (other left r : ℕ) (e : symbol_of (bt r) ≡ symbol.TypeWord word.Void)
   where
-    void_specifiers : specifiers is_specifier (plain_text bt other) left r
-        (void_at (bt r).place (bt r).place).specifiers (r + 1)
-    unfolding specifiers keywords named_part specifier_at Many
+    void_specifiers : specifiers tag is_specifier (plain_text bt other) left r
+        (void_at None (bt r).place (bt r).place).specifiers (r + 1)
+    unfolding specifiers keywords declared_type specifier_at Many
     void_specifiers = record {
-      parts = (record { kind = kind.TypeWord word.Void; place = (bt r).place } ∷ [], []);
+      parts = (record { kind = kind.TypeWord word.Void; place = (bt r).place } ∷ [], ([], None));
       read = record {
         middle = r + 1;
         first = record {
           read = record {
-            goes = ap (λ s. specifies s && not (names_type s)) e;
+            goes = ap (λ s. specifies s && not (begins_declared s)) e;
             middle = r + 1;
             first = record {
               chosen = subst (λ s. specifier_at s (plain_text bt other) left r
@@ -233,10 +241,10 @@ module _ (bt : ℕ → Leaf) (other left r : ℕ) (e : symbol_of (bt r) ≡ symb
     }
 
     void_parameter : parameter (plain_text bt other) left r
-        (void_at (bt r).place (bt r).place) (r + 1)
+        (void_at None (bt r).place (bt r).place) (r + 1)
     unfolding parameter Perhaps
     void_parameter = record {
-      parts = ((void_at (bt r).place (bt r).place).specifiers, (None, None));
+      parts = ((void_at None (bt r).place (bt r).place).specifiers, (None, None));
       read = record {
         middle = r + 1;
         first = void_specifiers;
@@ -258,13 +266,13 @@ module _ (bt : ℕ → Leaf) (other left r : ℕ) (e : symbol_of (bt r) ≡ symb
 void_list : (bt : ℕ → Leaf) (other left r : ℕ) → 0 < left →
     symbol_of (bt r) ≡ symbol.TypeWord word.Void →
     Perhaps (is_not terminal.RightParen) parameter_list (plain_text bt other) left r
-    (Some (void_at (bt r).place (bt r).place ∷ [])) (r + 1)
+    (Some (void_at None (bt r).place (bt r).place ∷ [])) (r + 1)
 unfolding parameter_list Perhaps Many
 void_list bt other left r some e = record {
   goes = ap (λ s. not (is_terminal terminal.RightParen s)) e;
   middle = r + 1;
   first = record {
-    parts = (void_at (bt r).place (bt r).place, []);
+    parts = (void_at None (bt r).place (bt r).place, []);
     read = record {
       middle = r + 1;
       first = record { allowed = λ _. some; read = void_parameter bt other (left - 1) r e };
@@ -280,7 +288,7 @@ module _ {left : ℕ} (some : 0 < left) where
   void_again : (bt : ℕ → Leaf) (other r s : ℕ) →
       Laid bt (mark terminal.LeftParen ∷ behind_void) r s →
       Inner (plain_text bt other) left r
-      (Some (void_at (bt (r + 1)).place (bt (r + 1)).place ∷ []), tt) s
+      (Some (void_at None (bt (r + 1)).place (bt (r + 1)).place ∷ []), tt) s
   void_again bt other r s y =
       let o = opened (mark terminal.LeftParen) behind_void y in
       let more = subst (λ m. Laid bt behind_void m s) o.here.1 o.more in
@@ -309,7 +317,7 @@ module _ {left : ℕ} (some : 0 < left) where
   rest_pieces at edge p q found (as_read e) k r =
       subst (λ list. Laid at (mark terminal.LeftParen ∷ ((list ++ mark terminal.RightParen ∷ []) ++
       any_attributes ∷ [])) p q) (sym e) ((spelt_between some).pieces k r)
-  rest_pieces at edge p q found (only_void outer inner e) k r =
+  rest_pieces at edge p q found (only_void enumerated outer inner e) k r =
       subst (λ f. Laid at (spelled_function (parameters_of f)) p q) (sym e)
       (void_pieces outer inner (subst (λ f. Laid at (mark terminal.LeftParen ∷
       spelled_between f) p q) e ((spelt_between some).pieces k r)))
@@ -329,10 +337,10 @@ module _ {left : ℕ} (some : 0 < left) where
         any_attributes ∷ [])) r s) (ap spelled_parameters made ∙ e) y) tt;
     made = made;
   }
-  rest_again at bt edge other p r u q s found (only_void outer inner e) k x made y =
+  rest_again at bt edge other p r u q s found (only_void enumerated outer inner e) k x made y =
       let is_void = made ∙ ap parameters_of e in
       record {
-        parts = (Some (void_at (bt (r + 1)).place (bt (r + 1)).place ∷ []), tt);
+        parts = (Some (void_at None (bt (r + 1)).place (bt (r + 1)).place ∷ []), tt);
         read = void_again bt other r s (subst (λ v. Laid bt (spelled_function v) r s) is_void y);
         made = is_void;
       }
@@ -517,78 +525,83 @@ module _ (G : Grammar) (left : ℕ) (g : SpeltGrammar G left) (some : 0 < left) 
       (λ parts. plainly (λ x. refl) (λ x y. refl))
 
   -- which of the two
-  data Told (name : Name) (w : World Leaf) (p : ℕ) (u : Named) (q : ℕ) (s : Symbol) : Type 0 where
-    is_function : s ≡ symbol.Terminal terminal.LeftParen → FunctionForm name w left p u q →
-        Told name w p u q s
-    are_objects : ObjectsForm w left p u q → Told name w p u q s
+  data Told (braces : Bool) (name : Name) (w : World Leaf) (p : ℕ) (u : Named) (q : ℕ)
+      (s : Symbol) : Type 0 where
+    is_function : braces ≡ false → s ≡ symbol.Terminal terminal.LeftParen →
+        FunctionForm name w left p u q → Told braces name w p u q s
+    are_objects : ObjectsForm w left p u q → Told braces name w p u q s
 
-  told : (name : Name) (w : World Leaf) (p : ℕ) (u : Named) (q : ℕ) (s : Symbol) →
-      named_at G name s w left p u q → Told name w p u q s
+  told : (braces : Bool) (name : Name) (w : World Leaf) (p : ℕ) (u : Named) (q : ℕ) (s : Symbol) →
+      named_at G braces name s w left p u q → Told braces name w p u q s
   unfolding named_at
-  told name w p u q (symbol.Terminal terminal.LeftParen) r = is_function refl r
-  told name w p u q _ r = are_objects r
+  told false name w p u q (symbol.Terminal terminal.LeftParen) r = is_function refl refl r
+  told _ name w p u q _ r = are_objects r
 
-  function_named : (name : Name) (w : World Leaf) (p : ℕ) (u : Named) (q : ℕ) (s : Symbol) →
-      s ≡ symbol.Terminal terminal.LeftParen → FunctionForm name w left p u q →
-      named_at G name s w left p u q
+  function_named : (braces : Bool) (name : Name) (w : World Leaf) (p : ℕ) (u : Named) (q : ℕ)
+      (s : Symbol) → braces ≡ false → s ≡ symbol.Terminal terminal.LeftParen →
+      FunctionForm name w left p u q → named_at G braces name s w left p u q
   unfolding named_at
-  function_named name w p u q s e r =
-      subst (λ t. named_at G name t w left p u q) (sym e) r
+  function_named braces name w p u q s f e r =
+      subst (λ b. named_at G b name s w left p u q) (sym f)
+      (subst (λ t. named_at G false name t w left p u q) (sym e) r)
 
-  objects_named : (name : Name) (w : World Leaf) (p : ℕ) (u : Named) (q : ℕ) (s : Symbol) →
-      is_terminal terminal.LeftParen s ≡ false → ObjectsForm w left p u q →
-      named_at G name s w left p u q
+  objects_named : (braces : Bool) (name : Name) (w : World Leaf) (p : ℕ) (u : Named) (q : ℕ)
+      (s : Symbol) → is_terminal terminal.LeftParen s ≡ false → ObjectsForm w left p u q →
+      named_at G braces name s w left p u q
   unfolding named_at
-  objects_named name w p u q (symbol.Terminal terminal.LeftParen) e r =
+  objects_named false name w p u q (symbol.Terminal terminal.LeftParen) e r =
       absurd (let clash : true ≡ false = e in cc)
-  objects_named name w p u q _ e r = r
+  objects_named _ name w p u q _ e r = r
 
-  named_pieces : (name : Name) (at : ℕ → Leaf) (edge p : ℕ) (u : Named) (q : ℕ) (s : Symbol) →
-      symbol_of (at p) ≡ s → Told name (plain_text at edge) p u q s → Laid at (spelled_named u) p q
-  named_pieces name at edge p u q s e (is_function f r) =
+  named_pieces : (braces : Bool) (name : Name) (at : ℕ → Leaf) (edge p : ℕ) (u : Named) (q : ℕ)
+      (s : Symbol) → symbol_of (at p) ≡ s → Told braces name (plain_text at edge) p u q s →
+      Laid at (spelled_named u) p q
+  named_pieces braces name at edge p u q s e (is_function b f r) =
       (spelt_function {behind = blind} name).pieces (e ∙ f) r
-  named_pieces name at edge p u q s e (are_objects r) =
+  named_pieces braces name at edge p u q s e (are_objects r) =
       (spelt_objects {behind = blind}).pieces tt r
 
-  named_again : (name : Name) (at bt : ℕ → Leaf) (edge other p r : ℕ) (u : Named) (q t : ℕ)
-      (s : Symbol) → symbol_of (at p) ≡ s → Told name (plain_text at edge) p u q s →
-      Laid bt (spelled_named u) r t →
-      Choice symbol_of (named_at G name) (plain_text bt other) left r u t
-  named_again name at bt edge other p r u q t s e (is_function f x) y =
+  named_again : (braces : Bool) (name : Name) (at bt : ℕ → Leaf) (edge other p r : ℕ) (u : Named)
+      (q t : ℕ) (s : Symbol) → symbol_of (at p) ≡ s →
+      Told braces name (plain_text at edge) p u q s → Laid bt (spelled_named u) r t →
+      Choice symbol_of (named_at G braces name) (plain_text bt other) left r u t
+  named_again braces name at bt edge other p r u q t s e (is_function b f x) y =
       let same = (spelt_function {behind = blind} name).first (e ∙ f) x y tt in
       record {
-        chosen = function_named name (plain_text bt other) r u t (symbol_of (bt r))
+        chosen = function_named braces name (plain_text bt other) r u t (symbol_of (bt r)) b
             (sym same ∙ (e ∙ f)) ((spelt_function {behind = blind} name).again (e ∙ f) x y tt);
       }
-  named_again name at bt edge other p r u q t s e (are_objects x) y =
+  named_again braces name at bt edge other p r u q t s e (are_objects x) y =
       let rest = x.parts.0 in
       record {
-        chosen = objects_named name (plain_text bt other) r u t (symbol_of (bt r))
+        chosen = objects_named braces name (plain_text bt other) r u t (symbol_of (bt r))
             (no_rest_opens rest.array rest.initializer x.parts.1
             (subst (λ v. Laid bt (spelled_named v) r t) x.made y))
             ((spelt_objects {behind = blind}).again tt x y tt);
       }
 
-  spelt_named : {behind : Look} (name : Name) →
-      Spelt Any (Choice symbol_of (named_at G name)) spelled_named left behind blind
-  spelt_named name = record {
-    pieces = λ {at} {edge} {p} {u} {q} k r. named_pieces name at edge p u q (symbol_of (at p)) refl
-        (told name (plain_text at edge) p u q (symbol_of (at p)) r.chosen);
+  spelt_named : {behind : Look} (braces : Bool) (name : Name) →
+      Spelt Any (Choice symbol_of (named_at G braces name)) spelled_named left behind blind
+  spelt_named braces name = record {
+    pieces = λ {at} {edge} {p} {u} {q} k r.
+        named_pieces braces name at edge p u q (symbol_of (at p)) refl
+        (told braces name (plain_text at edge) p u q (symbol_of (at p)) r.chosen);
     again = λ {at} {bt} {edge} {other} {p} {r} {u} {q} {s = t} k x y h.
-        named_again name at bt edge other p r u q t (symbol_of (at p)) refl
-        (told name (plain_text at edge) p u q (symbol_of (at p)) x.chosen) y;
+        named_again braces name at bt edge other p r u q t (symbol_of (at p)) refl
+        (told braces name (plain_text at edge) p u q (symbol_of (at p)) x.chosen) y;
     first = λ k x y h. tt;
   }
 
-  spelt_declared_at : {behind : Look} (s : Symbol) →
-      Spelt (Is s) (declared_at G s) spelled_declared left behind sharp
+  spelt_declared_at : {behind : Look} (braces : Bool) (s : Symbol) →
+      Spelt (Is s) (declared_at G braces s) spelled_declared left behind sharp
   unfolding declared_at
-  spelt_declared_at (symbol.Terminal terminal.Semicolon) =
+  spelt_declared_at braces (symbol.Terminal terminal.Semicolon) =
       spelt_node _ (spelt_one (symbol.Terminal terminal.Semicolon))
       (λ u. plainly (λ x. refl) (λ x y. refl))
-  spelt_declared_at symbol.Name = spelt_any _ (spelt_node _
-      (spelt_then spelt_identifier spelt_named) (λ parts. plainly (λ x. refl) (λ x y. refl)))
-  spelt_declared_at _ = spelt_nothing
+  spelt_declared_at braces symbol.Name = spelt_any _ (spelt_node _
+      (spelt_then spelt_identifier (spelt_named braces))
+      (λ parts. plainly (λ x. refl) (λ x y. refl)))
+  spelt_declared_at braces _ = spelt_nothing
 
   spelt_unit_item_at : {behind : Look} (s : Symbol) →
       Spelt (Is s) (unit_item_at G s) spelled_item left behind sharp
@@ -598,11 +611,14 @@ module _ (G : Grammar) (left : ℕ) (g : SpeltGrammar G left) (some : 0 < left) 
       (λ u. at_place (λ x. refl) (λ x y e. ap node.Empty e))
   spelt_unit_item_at (symbol.Terminal terminal.Typedef) =
       spelt_node _ (spelt_skip (symbol.Terminal terminal.Typedef)
-      (spelt_pair (spelt_specifiers specifies_in_typedef)
+      (spelt_pair (spelt_specifiers (enumeration G true) specifies_in_typedef
+      (spelt_enumeration G left g true))
       (spelt_closed (is_mark terminal.Semicolon) spelt_typedef_names)))
       (λ parts. at_place (λ x. refl) (λ x y e. ap (node.Typedef parts.0 parts.1) e))
-  spelt_unit_item_at _ = spelt_any _ (spelt_node _ (spelt_pair (spelt_specifiers specifies)
-      (spelt_choice (λ s. s) spelt_declared_at)) declared_made)
+  spelt_unit_item_at _ = spelt_any _ (spelt_node _
+      (spelt_then (spelt_specifiers (enumeration G true) specifies (spelt_enumeration G left g true))
+      (λ front. spelt_choice (λ s. s) (spelt_declared_at (is_listed front.enumeration))))
+      declared_made)
 
   spelt_unit_item : {behind : Look} → Spelt Any (unit_item G) spelled_item left behind sharp
   unfolding unit_item

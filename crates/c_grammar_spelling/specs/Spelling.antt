@@ -26,6 +26,9 @@ use Rattle.c_grammar_tree.specs.declared.expression.UnaryOperator.TheVariants as
 use Rattle.c_grammar_tree.specs.declared.declaration.Specifier.{Specifier}
 use Rattle.c_grammar_tree.specs.declared.declaration.SpecifierKind.{SpecifierKind}
 use Rattle.c_grammar_tree.specs.declared.declaration.SpecifierKind.TheVariants as kind
+use Rattle.c_grammar_tree.specs.declared.declaration.Enumerator.{Enumerator}
+use Rattle.c_grammar_tree.specs.declared.declaration.Enumeration.{Enumeration}
+use Rattle.c_grammar_tree.specs.declared.declaration.Enumeration.TheVariants as enumeration
 use Rattle.c_grammar_tree.specs.declared.declaration.Specifiers.{Specifiers}
 use Rattle.c_grammar_tree.specs.declared.declaration.Array.{Array}
 use Rattle.c_grammar_tree.specs.declared.declaration.Initializer.{Initializer}
@@ -134,6 +137,8 @@ spelled_type_name (type_name.Words words place) =
     placed place ∷ in_order (λ word. token (symbol.TypeWord word) ∷ []) words
 spelled_type_name (type_name.Typedef held place) =
     placed place ∷ token (symbol.TypedefName held) ∷ []
+spelled_type_name (type_name.Enum tag place) =
+    placed place ∷ mark terminal.Enum ∷ named tag ∷ []
 
 -- an operator and the operand behind it
 abbrev pub operated : {T : Type 0} → (T → List Piece) → BinaryOperator × T → List Piece
@@ -188,12 +193,34 @@ symbol_of_kind (kind.Storage word) = symbol.Storage word
 symbol_of_kind (kind.Other word) = symbol.Specifier word
 symbol_of_kind (kind.TypeWord word) = symbol.TypeWord word
 symbol_of_kind (kind.TypedefName held) = symbol.TypedefName held
+symbol_of_kind kind.Enum = symbol.Terminal terminal.Enum
 
-abbrev pub spelled_specifier : Specifier → List Piece
-spelled_specifier word = placed word.place ∷ token (symbol_of_kind word.kind) ∷ []
+abbrev pub spelled_enumerator : Enumerator → List Piece
+spelled_enumerator one = named one.name ∷
+    optional (λ value. token (symbol.Assign assign.Assign) ∷ spelled_expression value) one.value
+
+abbrev pub spelled_enumerators : List Enumerator → List Piece
+spelled_enumerators found = mark terminal.LeftBrace ∷
+    (ended spelled_enumerator found ++ mark terminal.RightBrace ∷ [])
+
+-- an enumerated type behind the word enum (C11 6.7.2.2)
+abbrev pub spelled_enumeration : Enumeration → List Piece
+spelled_enumeration (enumeration.Tag name) = named name ∷ []
+spelled_enumeration (enumeration.Listed tag found) =
+    optional (λ name. named name ∷ []) tag ++ spelled_enumerators found
+
+-- what stands behind a word of specifiers: the enumerated type behind enum
+abbrev pub behind_word : Option Enumeration → SpecifierKind → List Piece
+behind_word found kind.Enum = optional spelled_enumeration found
+behind_word found _ = []
+
+abbrev pub spelled_specifier : Option Enumeration → Specifier → List Piece
+spelled_specifier found word =
+    placed word.place ∷ token (symbol_of_kind word.kind) ∷ behind_word found word.kind
 
 abbrev pub spelled_specifiers : Specifiers → List Piece
-spelled_specifiers front = placed front.place ∷ in_order spelled_specifier front.words
+spelled_specifiers front =
+    placed front.place ∷ in_order (spelled_specifier front.enumeration) front.words
 
 abbrev pub spelled_array : Array → List Piece
 spelled_array array = placed array.place ∷ mark terminal.LeftBracket ∷
@@ -246,6 +273,12 @@ statement_layer (Statement-F.Do body test place) = placed place ∷ mark termina
 statement_layer (Statement-F.For first test step body place) = placed place ∷ mark terminal.For ∷
     mark terminal.LeftParen ∷ (spelled_start first ++
     (closed terminal.Semicolon test ++ (closed terminal.RightParen step ++ body)))
+statement_layer (Statement-F.Switch value body place) = placed place ∷ mark terminal.Switch ∷
+    (in_brackets (spelled_expression value) ++ body)
+statement_layer (Statement-F.Case value body place) = placed place ∷ mark terminal.Case ∷
+    ((spelled_expression value ++ mark terminal.Colon ∷ []) ++ body)
+statement_layer (Statement-F.Default body place) =
+    placed place ∷ mark terminal.Default ∷ mark terminal.Colon ∷ body
 statement_layer (Statement-F.Goto label place) =
     placed place ∷ mark terminal.Goto ∷ (named label ∷ mark terminal.Semicolon ∷ [])
 statement_layer (Statement-F.Break place) =

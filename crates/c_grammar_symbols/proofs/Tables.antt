@@ -115,14 +115,10 @@ spelled_outside_word outside_word.StaticAssert = refl
 spelled_outside_word outside_word.ThreadLocal = refl
 spelled_outside_word outside_word.Auto = refl
 spelled_outside_word outside_word.Double = refl
-spelled_outside_word outside_word.Enum = refl
 spelled_outside_word outside_word.Float = refl
 spelled_outside_word outside_word.Restrict = refl
 spelled_outside_word outside_word.Sizeof = refl
 spelled_outside_word outside_word.Struct = refl
-spelled_outside_word outside_word.Switch = refl
-spelled_outside_word outside_word.Case = refl
-spelled_outside_word outside_word.Default = refl
 spelled_outside_word outside_word.Union = refl
 spelled_outside_word outside_word.Volatile = refl
 spelled_outside_word outside_word.Asm = refl
@@ -162,6 +158,10 @@ spelled_terminal terminal.Break = refl
 spelled_terminal terminal.Continue = refl
 spelled_terminal terminal.Return = refl
 spelled_terminal terminal.Typedef = refl
+spelled_terminal terminal.Enum = refl
+spelled_terminal terminal.Switch = refl
+spelled_terminal terminal.Case = refl
+spelled_terminal terminal.Default = refl
 spelled_terminal terminal.Attribute = refl
 
 -- a symbol that is no string literal

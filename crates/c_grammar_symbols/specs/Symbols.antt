@@ -53,6 +53,10 @@ kind_of_terminal terminal.Break = kind.Word
 kind_of_terminal terminal.Continue = kind.Word
 kind_of_terminal terminal.Return = kind.Word
 kind_of_terminal terminal.Typedef = kind.Word
+kind_of_terminal terminal.Enum = kind.Word
+kind_of_terminal terminal.Switch = kind.Word
+kind_of_terminal terminal.Case = kind.Word
+kind_of_terminal terminal.Default = kind.Word
 kind_of_terminal terminal.Attribute = kind.Word
 kind_of_terminal _ = kind.Mark
 

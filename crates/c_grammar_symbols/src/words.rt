@@ -123,8 +123,6 @@ pub enum OutsideWord {
     Auto,
     /// `double`
     Double,
-    /// `enum`
-    Enum,
     /// `float`
     Float,
     /// `restrict`
@@ -133,12 +131,6 @@ pub enum OutsideWord {
     Sizeof,
     /// `struct`
     Struct,
-    /// `switch`
-    Switch,
-    /// `case`
-    Case,
-    /// `default`
-    Default,
     /// `union`
     Union,
     /// `volatile`
@@ -169,14 +161,10 @@ impl OutsideWord {
             OutsideWord::ThreadLocal => b"_Thread_local",
             OutsideWord::Auto => b"auto",
             OutsideWord::Double => b"double",
-            OutsideWord::Enum => b"enum",
             OutsideWord::Float => b"float",
             OutsideWord::Restrict => b"restrict",
             OutsideWord::Sizeof => b"sizeof",
             OutsideWord::Struct => b"struct",
-            OutsideWord::Switch => b"switch",
-            OutsideWord::Case => b"case",
-            OutsideWord::Default => b"default",
             OutsideWord::Union => b"union",
             OutsideWord::Volatile => b"volatile",
             OutsideWord::Asm => b"asm",
@@ -234,6 +222,14 @@ pub enum Terminal {
     Return,
     /// `typedef`
     Typedef,
+    /// `enum`
+    Enum,
+    /// `switch`
+    Switch,
+    /// `case`
+    Case,
+    /// `default`
+    Default,
     /// `__attribute__`
     Attribute,
 }
@@ -266,6 +262,10 @@ impl Terminal {
             Terminal::Continue => b"continue",
             Terminal::Return => b"return",
             Terminal::Typedef => b"typedef",
+            Terminal::Enum => b"enum",
+            Terminal::Switch => b"switch",
+            Terminal::Case => b"case",
+            Terminal::Default => b"default",
             Terminal::Attribute => b"__attribute__",
         }
     }

@@ -1,6 +1,7 @@
 -- The grammar of expressions (C11 6.5).
 use Rattle.std.specs.Prelude.{ℕ, zero, suc, Bool, ◌&&◌, List, [], ◌∷◌, Option, None, Some}
-use Rattle.c_grammar_forms.specs.Forms.{Form, Nothing, One, Skip, Before, Pair, Then, Node, Shaped}
+use Rattle.c_grammar_forms.specs.Forms.{Form, Nothing, One, Such, Skip, Before, Pair, Then, Node}
+use Rattle.c_grammar_forms.specs.Forms.{Shaped}
 use Rattle.c_grammar_forms.specs.Forms.{Deeper, Choice, Many, Perhaps, Nearest, Balanced, listed}
 use Rattle.c_grammar_symbols.specs.declared.words.Terminal.TheVariants as terminal
 use Rattle.c_grammar_symbols.specs.declared.words.TypeWord.{TypeWord}
@@ -11,6 +12,7 @@ use Rattle.c_grammar_symbols.specs.declared.symbol.Symbol.{Symbol}
 use Rattle.c_grammar_symbols.specs.declared.symbol.Symbol.TheVariants as symbol
 use Rattle.c_grammar_symbols.specs.Symbols.{Leaf, symbol_of}
 use Rattle.c_grammar_symbols.specs.Sources.{is}
+use Rattle.c_grammar_tree.specs.declared.name.Name.{Name}
 use Rattle.c_grammar_tree.specs.declared.expression.Expression.{Expression}
 use Rattle.c_grammar_tree.specs.declared.expression.Expression.TheVariants as expression
 use Rattle.c_grammar_tree.specs.declared.expression.UnaryOperator.{UnaryOperator}
@@ -20,9 +22,13 @@ use Rattle.c_grammar_tree.specs.declared.expression.TypeName.TheVariants as type
 use Rattle.c_grammar_tree.specs.declared.expression.Suffix.{Suffix}
 use Rattle.c_grammar_tree.specs.declared.expression.Suffix.TheVariants as suffix
 use Rattle.c_grammar_tree.specs.Parts.{is_not, name_of, is_operator, is_assignment, is_type_word}
-use Rattle.c_grammar_tree.specs.Parts.{is_end}
+use Rattle.c_grammar_tree.specs.Parts.{is_end, is_name}
 use Rattle.c_grammar_tree.specs.Parts.{begins_suffix, is_unary, names_assert, is_type, loosest}
 use Rattle.c_grammar_tree.specs.Nested.{Grammar}
+
+-- an identifier
+unfoldable pub identifier : Form Leaf Name
+identifier = Node name_of (Such is_name)
 
 -- no suffix, no postfix expression
 abbrev pub suffixed : ℕ → Expression → List Suffix → Expression
@@ -160,10 +166,12 @@ unfoldable pub words_of_type : Form Leaf TypeName
 words_of_type = Node (λ leaf words. type_name'.Words words leaf.place)
     (Shaped is_type (Many is_type_word (Choice symbol_of type_word_at)))
 
--- a typedef name ; the words of one type (C11 6.7.7 in part)
+-- a typedef name ; "enum" Word ; the words of one type (C11 6.7.7 in part)
 unfoldable pub type_name_at : Symbol → Form Leaf TypeName
 type_name_at (symbol.TypedefName named) =
     Node (λ leaf u. type_name'.Typedef named leaf.place) One
+type_name_at (symbol.Terminal terminal.Enum) =
+    Node (λ leaf tag. type_name'.Enum tag leaf.place) (Skip identifier)
 type_name_at _ = words_of_type
 
 unfoldable pub type_name : Form Leaf TypeName
@@ -178,6 +186,7 @@ cast_part G = Node (λ leaf parts. cast_group parts.0 parts.1)
 unfoldable pub group_at : Grammar → Symbol → Form Leaf Group
 group_at G (symbol.TypeWord word) = cast_part G
 group_at G (symbol.TypedefName named) = cast_part G
+group_at G (symbol.Terminal terminal.Enum) = cast_part G
 group_at G _ =
     Node (λ leaf parts. bracket_group parts.0 parts.1)
     (Then (Before (Deeper G.comma) (is terminal.RightParen))

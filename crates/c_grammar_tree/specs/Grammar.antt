@@ -10,7 +10,7 @@ use Rattle.c_grammar_tree.specs.declared.item.Unit.{Unit as UnitTree}
 use Rattle.c_grammar_tree.specs.declared.TheConstants.{MAX_LEVEL}
 use Rattle.c_grammar_tree.specs.Nested.{Grammar}
 use Rattle.c_grammar_tree.specs.Expressions.{comma, assignment, conditional, cast, unary}
-use Rattle.c_grammar_tree.specs.Declarations.{list, declaration}
+use Rattle.c_grammar_tree.specs.Declarations.{list, enumerator, declaration}
 use Rattle.c_grammar_tree.specs.Statements.{statement, item}
 use Rattle.c_grammar_tree.specs.Items.{unit_items}
 
@@ -23,6 +23,7 @@ grammar zero = record {
   cast = Nothing;
   unary = Nothing;
   list = Nothing;
+  enumerator = Nothing;
   declaration = Nothing;
   statement = Nothing;
   item = Nothing;
@@ -34,6 +35,7 @@ grammar (suc n) = record {
   cast = cast (grammar n);
   unary = unary (grammar n);
   list = list (grammar n);
+  enumerator = enumerator (grammar n);
   declaration = declaration (grammar n);
   statement = statement (grammar n);
   item = item (grammar n);

@@ -27,8 +27,10 @@ use Rattle.c_grammar_tree.specs.declared.item.Item.{Item}
 use Rattle.c_grammar_tree.specs.declared.item.Item.TheVariants as node
 use Rattle.c_grammar_tree.specs.Parts.{is_not, is_name, name_of, is_any_name, is_end, points}
 use Rattle.c_grammar_tree.specs.Parts.{is_specifier, is_typedef_specifier, have_char, named_type}
+use Rattle.c_grammar_tree.specs.Parts.{is_listed}
 use Rattle.c_grammar_tree.specs.Nested.{Grammar}
-use Rattle.c_grammar_tree.specs.Declarations.{identifier, specifiers, attributes, Rest}
+use Rattle.c_grammar_tree.specs.Declarations.{identifier, tag, enumeration, specifiers, attributes}
+use Rattle.c_grammar_tree.specs.Declarations.{Rest}
 use Rattle.c_grammar_tree.specs.Declarations.{declarator_of}
 use Rattle.c_grammar_tree.specs.Declarations.{declarator_rest, more_declarators}
 use Rattle.c_grammar_tree.specs.Statements.{items}
@@ -56,7 +58,7 @@ points_or_not (Some u) = true
 unfoldable pub parameter : Form Leaf Parameter
 parameter = Node (λ leaf parts.
     record { specifiers = parts.0; is_pointer = points_or_not parts.1.0; name = parts.1.1 })
-    (Then (specifiers is_specifier)
+    (Then (specifiers tag is_specifier)
     (λ front. Pair (Perhaps (λ leaf. have_char front.words && points (symbol_of leaf)) One)
     (Perhaps is_name identifier)))
 
@@ -115,11 +117,12 @@ pub data Named : Type 0 where
   function : Parameters → Option Body → Named
   objects : Rest → List Declarator → Named
 
--- behind the name of an item
-unfoldable pub named_at : Grammar → Name → Symbol → Form Leaf Named
-named_at G name (symbol.Terminal terminal.LeftParen) = Node (λ leaf parts. function parts.0 parts.1)
+-- behind the name of an item: no function where the specifiers have enumerators
+unfoldable pub named_at : Grammar → Bool → Name → Symbol → Form Leaf Named
+named_at G false name (symbol.Terminal terminal.LeftParen) =
+    Node (λ leaf parts. function parts.0 parts.1)
     (Then function_rest (λ found. Choice symbol_of (function_end_at G name (have_pointer found))))
-named_at G name _ = Node (λ leaf parts. objects parts.0 parts.1)
+named_at G _ name _ = Node (λ leaf parts. objects parts.0 parts.1)
     (Before (Pair (declarator_rest G) (more_declarators G)) (is terminal.Semicolon))
 
 -- what is declared: nothing, or what stands behind a name
@@ -133,11 +136,11 @@ declared_of front (Some (name, objects rest more)) =
     node.Objects (record { specifiers = front; declarators = declarator_of (name, rest) ∷ more })
 
 -- behind the specifiers of an item: ";" ; a name and what stands behind it
-unfoldable pub declared_at : Grammar → Symbol → Form Leaf (Option (Name × Named))
-declared_at G (symbol.Terminal terminal.Semicolon) = Node (λ leaf u. None) One
-declared_at G symbol.Name =
-    Node (λ leaf parts. Some parts) (Then identifier (λ name. Choice symbol_of (named_at G name)))
-declared_at G _ = Nothing
+unfoldable pub declared_at : Grammar → Bool → Symbol → Form Leaf (Option (Name × Named))
+declared_at G braces (symbol.Terminal terminal.Semicolon) = Node (λ leaf u. None) One
+declared_at G braces symbol.Name = Node (λ leaf parts. Some parts)
+    (Then identifier (λ name. Choice symbol_of (named_at G braces name)))
+declared_at G braces _ = Nothing
 
 -- a name that is to be a typedef name, which it may be already
 unfoldable pub typedef_name : Form Leaf Name
@@ -153,10 +156,11 @@ unfoldable pub unit_item_at : Grammar → Symbol → Form Leaf Item
 unit_item_at G (symbol.Terminal terminal.Semicolon) = Node (λ leaf u. node.Empty leaf.place) One
 unit_item_at G (symbol.Terminal terminal.Typedef) =
     Node (λ leaf parts. node.Typedef parts.0 parts.1 leaf.place)
-    (Skip (Pair (specifiers is_typedef_specifier)
+    (Skip (Pair (specifiers (enumeration G true) is_typedef_specifier)
     (Before typedef_names (is terminal.Semicolon))))
 unit_item_at G _ = Node (λ leaf parts. declared_of parts.0 parts.1)
-    (Pair (specifiers is_specifier) (Choice symbol_of (declared_at G)))
+    (Then (specifiers (enumeration G true) is_specifier)
+    (λ front. Choice symbol_of (declared_at G (is_listed front.enumeration))))
 
 unfoldable pub unit_item : Grammar → Form Leaf Item
 unit_item G = Choice symbol_of (unit_item_at G)

@@ -7,7 +7,7 @@ use Rattle.c_grammar_forms.specs.Reading.{Answers}
 use Rattle.c_grammar_forms.specs.Found.{IsAbove}
 use Rattle.c_grammar_forms.specs.NotFound.{none_too_deep}
 use Rattle.c_grammar_tree.specs.Expressions.{comma, assignment, conditional, cast, unary}
-use Rattle.c_grammar_tree.specs.Declarations.{list, declaration}
+use Rattle.c_grammar_tree.specs.Declarations.{list, enumerator, declaration}
 use Rattle.c_grammar_tree.specs.Statements.{statement, item}
 use Rattle.c_grammar_tree.specs.Grammar.{grammar}
 use Rattle.c_grammar_tree.specs.OneReadingOfText.{good_grammar}
@@ -36,6 +36,10 @@ unary_above = record { base = λ r. r.never; unrolls = λ n r. r; rolls = λ n r
 pub list_above : IsAbove (λ n. (grammar n).list) (λ n. list (grammar n))
 unfolding grammar
 list_above = record { base = λ r. r.never; unrolls = λ n r. r; rolls = λ n r. r }
+
+pub enumerator_above : IsAbove (λ n. (grammar n).enumerator) (λ n. enumerator (grammar n))
+unfolding grammar
+enumerator_above = record { base = λ r. r.never; unrolls = λ n r. r; rolls = λ n r. r }
 
 pub declaration_above : IsAbove (λ n. (grammar n).declaration) (λ n. declaration (grammar n))
 unfolding grammar

@@ -2,7 +2,8 @@
 -- it.
 use Rattle.std.specs.Prelude.{ℕ, zero, suc, Bool}
 use Rattle.c_grammar_forms.specs.Forms.{Form}
-use Rattle.c_grammar_forms.specs.Steady.{Good, good_nothing, good_one, good_skip, good_before}
+use Rattle.c_grammar_forms.specs.Steady.{Good, good_nothing, good_one, good_such, good_skip}
+use Rattle.c_grammar_forms.specs.Steady.{good_before}
 use Rattle.c_grammar_forms.specs.Steady.{good_pair, good_then, good_node, good_shaped, good_deeper}
 use Rattle.c_grammar_forms.specs.Steady.{good_choice, good_perhaps, good_nearest, good_many}
 use Rattle.c_grammar_forms.specs.Steady.{good_balanced}
@@ -15,7 +16,8 @@ use Rattle.c_grammar_symbols.specs.Sources.{is}
 use Rattle.c_grammar_tree.specs.declared.expression.Expression.{Expression}
 use Rattle.c_grammar_tree.specs.Parts.{is_type_word, is_type, is_end, names_assert, loosest}
 use Rattle.c_grammar_tree.specs.Nested.{Grammar}
-use Rattle.c_grammar_tree.specs.Expressions.{round_brackets, assignments, arguments, suffix_at}
+use Rattle.c_grammar_tree.specs.Expressions.{identifier, round_brackets, assignments, arguments}
+use Rattle.c_grammar_tree.specs.Expressions.{suffix_at}
 use Rattle.c_grammar_tree.specs.Expressions.{skipped_call, suffixes, primary_at, postfix, sign}
 use Rattle.c_grammar_tree.specs.Expressions.{unary_at}
 use Rattle.c_grammar_tree.specs.Expressions.{unary, type_word_at, words_of_type, type_name_at}
@@ -33,9 +35,14 @@ pub record GoodGrammar (G H : Grammar) : Type 0 where
   pub cast : Good G.cast H.cast
   pub unary : Good G.unary H.unary
   pub list : Good G.list H.list
+  pub enumerator : Good G.enumerator H.enumerator
   pub declaration : Good G.declaration H.declaration
   pub statement : Good G.statement H.statement
   pub item : Good G.item H.item
+
+pub good_identifier : Good identifier identifier
+unfolding identifier
+good_identifier = good_node _ (good_such _)
 
 pub good_round_brackets : Good round_brackets round_brackets
 good_round_brackets = good_balanced (is terminal.LeftParen) (is terminal.RightParen) is_end
@@ -57,6 +64,7 @@ good_words_of_type = good_node _ (good_shaped is_type (good_many is_type_word
 good_type_name_at : (s : Symbol) → Good (type_name_at s) (type_name_at s)
 unfolding type_name_at
 good_type_name_at (symbol.TypedefName named) = good_node _ good_one
+good_type_name_at (symbol.Terminal terminal.Enum) = good_node _ (good_skip good_identifier)
 good_type_name_at _ = good_words_of_type
 
 pub good_type_name : Good type_name type_name
@@ -132,6 +140,7 @@ module _ (G H : Grammar) (g : GoodGrammar G H) where
   unfolding group_at
   good_group_at (symbol.TypeWord word) = good_cast_part
   good_group_at (symbol.TypedefName named) = good_cast_part
+  good_group_at (symbol.Terminal terminal.Enum) = good_cast_part
   good_group_at _ = good_node _ (good_then (good_before (good_deeper g.comma) _)
       (λ inner. good_suffixes (names_assert inner)))
 

@@ -1,5 +1,6 @@
 -- Lemmas: the same of declarations, statements and items, and of the grammar at each two depths.
 use Rattle.std.specs.Prelude.{ℕ, zero, suc, Bool, true, false, [], is_some, Option, Some}
+use Rattle.c_grammar_forms.specs.Forms.{Form}
 use Rattle.c_grammar_forms.specs.Steady.{Good, good_nothing, good_one, good_such, good_empty}
 use Rattle.c_grammar_forms.specs.Steady.{good_skip, good_behind, good_before, good_pair, good_then}
 use Rattle.c_grammar_forms.specs.Steady.{good_node, good_shaped, good_deeper, good_choice}
@@ -11,15 +12,18 @@ use Rattle.c_grammar_symbols.specs.declared.symbol.Symbol.{Symbol}
 use Rattle.c_grammar_symbols.specs.declared.symbol.Symbol.TheVariants as symbol
 use Rattle.c_grammar_symbols.specs.Symbols.{Leaf, symbol_of}
 use Rattle.c_grammar_tree.specs.declared.name.Name.{Name}
-use Rattle.c_grammar_tree.specs.Parts.{bare_name, is_local_specifier, have_word}
+use Rattle.c_grammar_tree.specs.declared.declaration.Enumeration.{Enumeration}
+use Rattle.c_grammar_tree.specs.Parts.{is_name, bare_name, is_local_specifier, have_word, is_listed}
 use Rattle.c_grammar_tree.specs.Nested.{Grammar}
-use Rattle.c_grammar_tree.specs.Declarations.{identifier, specifier_at, keywords}
-use Rattle.c_grammar_tree.specs.Declarations.{typedef_name_at, named_part, specifiers, attribute}
+use Rattle.c_grammar_tree.specs.Declarations.{specifier_at, keywords, qualifiers, tag}
+use Rattle.c_grammar_tree.specs.Declarations.{declared_type_at, declared_type, specifiers, attribute}
 use Rattle.c_grammar_tree.specs.Declarations.{attributes}
 use Rattle.c_grammar_tree.specs.Declarations.{comma_or_end_at, element, list, initializer_of, array}
 use Rattle.c_grammar_tree.specs.Declarations.{array_part, declarator_rest, declarator}
 use Rattle.c_grammar_tree.specs.Declarations.{more_declarators}
-use Rattle.c_grammar_tree.specs.Declarations.{declaration}
+use Rattle.c_grammar_tree.specs.Declarations.{enumerator, enumerators, enumerator_list}
+use Rattle.c_grammar_tree.specs.Declarations.{enumeration_by, enumeration, declarators}
+use Rattle.c_grammar_tree.specs.Declarations.{declarators_by, declaration_by}
 use Rattle.c_grammar_tree.specs.Statements.{items, condition, optional, for_start, behind_comma_at}
 use Rattle.c_grammar_tree.specs.Statements.{statement_at, statement, item_by, item}
 use Rattle.c_grammar_tree.specs.Items.{is_known, have_pointer, parameter, parameter_list}
@@ -30,12 +34,9 @@ use Rattle.c_grammar_tree.specs.Items.{typedef_name, typedef_names, seen_behind}
 use Rattle.c_grammar_tree.specs.Items.{unit_item_at, unit_item, unit_items}
 use Rattle.c_grammar_tree.specs.Grammar.{grammar}
 use Rattle.c_grammar_tree.specs.OneReading.{GoodGrammar, good_round_brackets, good_comma}
+pub use Rattle.c_grammar_tree.specs.OneReading.{good_identifier}
 use Rattle.c_grammar_tree.specs.OneReading.{good_assignment}
 use Rattle.c_grammar_tree.specs.OneReading.{good_conditional, good_cast, good_unary}
-
-pub good_identifier : Good identifier identifier
-unfolding identifier
-good_identifier = good_node _ (good_such _)
 
 pub good_specifier_at : (s : Symbol) → Good (specifier_at s) (specifier_at s)
 unfolding specifier_at
@@ -48,22 +49,33 @@ pub good_keywords : (goes : Leaf → Bool) → Good (keywords goes) (keywords go
 unfolding keywords
 good_keywords goes = good_shaped _ (good_many _ (good_choice symbol_of good_specifier_at))
 
-pub good_typedef_name_at : (s : Symbol) → Good (typedef_name_at s) (typedef_name_at s)
-unfolding typedef_name_at
-good_typedef_name_at (symbol.TypedefName named) = good_node _ good_one
-good_typedef_name_at _ = good_nothing
+pub good_qualifiers : (goes : Leaf → Bool) → Good (qualifiers goes) (qualifiers goes)
+unfolding qualifiers
+good_qualifiers goes = good_many _ (good_choice symbol_of good_specifier_at)
 
-pub good_named_part : (goes : Leaf → Bool) (typed : Bool) →
-    Good (named_part goes typed) (named_part goes typed)
-unfolding named_part
-good_named_part goes true = good_node _ good_empty
-good_named_part goes false = good_node _ (good_pair (good_choice symbol_of good_typedef_name_at)
-    (good_many _ (good_choice symbol_of good_specifier_at)))
+pub good_tag : Good tag tag
+unfolding tag
+good_tag = good_node _ good_identifier
 
-pub good_specifiers : (goes : Leaf → Bool) → Good (specifiers goes) (specifiers goes)
-unfolding specifiers
-good_specifiers goes =
-    good_node _ (good_then (good_keywords goes) (λ front. good_named_part goes (have_word front)))
+module _ {E F : Form Leaf Enumeration} (g : Good E F) (goes : Leaf → Bool) where
+  pub good_declared_type_at : (s : Symbol) →
+      Good (declared_type_at E goes s) (declared_type_at F goes s)
+  unfolding declared_type_at
+  good_declared_type_at (symbol.TypedefName named) = good_node _ (good_skip (good_qualifiers goes))
+  good_declared_type_at (symbol.Terminal terminal.Enum) =
+      good_node _ (good_skip (good_pair g (good_qualifiers goes)))
+  good_declared_type_at _ = good_nothing
+
+  pub good_declared_type : (typed : Bool) →
+      Good (declared_type E goes typed) (declared_type F goes typed)
+  unfolding declared_type
+  good_declared_type true = good_node _ good_empty
+  good_declared_type false = good_choice symbol_of good_declared_type_at
+
+  pub good_specifiers : Good (specifiers E goes) (specifiers F goes)
+  unfolding specifiers
+  good_specifiers = good_node _ (good_then (good_keywords goes)
+      (λ front. good_declared_type (have_word front)))
 
 pub good_attribute : Good attribute attribute
 unfolding attribute
@@ -81,7 +93,7 @@ good_comma_or_end_at _ = good_nothing
 
 pub good_parameter : Good parameter parameter
 unfolding parameter
-good_parameter = good_node _ (good_then (good_specifiers _)
+good_parameter = good_node _ (good_then (good_specifiers good_tag _)
     (λ front. good_pair (good_perhaps _ good_one) (good_perhaps _ good_identifier)))
 
 pub good_parameter_list : Good parameter_list parameter_list
@@ -107,15 +119,40 @@ pub good_skipped_body : Good skipped_body skipped_body
 unfolding skipped_body
 good_skipped_body = good_balanced _ _ _
 
-module _ (G H : Grammar) (g : GoodGrammar G H) where
-  pub good_element : Good (element G) (element H)
-  unfolding element
-  good_element = good_node _ (good_pair (good_deeper g.assignment)
-      (good_choice symbol_of good_comma_or_end_at))
+pub good_element : {T : Type 0} {A B : Form Leaf T} → Good A B → Good (element A) (element B)
+unfolding element
+good_element g = good_node _ (good_pair g (good_choice symbol_of good_comma_or_end_at))
 
+module _ (G H : Grammar) (g : GoodGrammar G H) where
   pub good_list : Good (list G) (list H)
   unfolding list
-  good_list = good_node _ (good_behind _ (good_before (good_many _ good_element) _))
+  good_list = good_node _ (good_behind _
+      (good_before (good_many _ (good_element (good_deeper g.assignment))) _))
+
+  pub good_enumerator : Good (enumerator G) (enumerator H)
+  unfolding enumerator
+  good_enumerator = good_node _ (good_pair good_identifier
+      (good_perhaps _ (good_skip (good_deeper g.conditional))))
+
+  pub good_enumerators : Good (enumerators G) (enumerators H)
+  unfolding enumerators
+  good_enumerators = good_node _ (good_pair (good_element (good_deeper g.enumerator))
+      (good_many _ (good_element (good_deeper g.enumerator))))
+
+  pub good_enumerator_list : Good (enumerator_list G) (enumerator_list H)
+  unfolding enumerator_list
+  good_enumerator_list = good_behind _ (good_before good_enumerators _)
+
+  pub good_enumeration_by : (named : Bool) → Good (enumeration_by G named) (enumeration_by H named)
+  unfolding enumeration_by
+  good_enumeration_by true =
+      good_node _ (good_pair good_identifier (good_perhaps _ good_enumerator_list))
+  good_enumeration_by false = good_node _ good_enumerator_list
+
+  pub good_enumeration : (braces : Bool) → Good (enumeration G braces) (enumeration H braces)
+  unfolding enumeration
+  good_enumeration false = good_tag
+  good_enumeration true = good_choice is_name good_enumeration_by
 
   pub good_initializer_of : (is_array : Bool) → Good (initializer_of G is_array)
       (initializer_of H is_array)
@@ -144,10 +181,19 @@ module _ (G H : Grammar) (g : GoodGrammar G H) where
   unfolding more_declarators
   good_more_declarators = good_many _ (good_skip good_declarator)
 
-  pub good_declaration : Good (declaration G) (declaration H)
-  unfolding declaration
-  good_declaration = good_node _ (good_pair (good_specifiers _)
-      (good_before (good_node _ (good_pair good_declarator good_more_declarators)) _))
+  pub good_declarators : Good (declarators G) (declarators H)
+  unfolding declarators
+  good_declarators = good_node _ (good_pair good_declarator good_more_declarators)
+
+  pub good_declarators_by : (braces : Bool) → Good (declarators_by G braces) (declarators_by H braces)
+  unfolding declarators_by
+  good_declarators_by false = good_declarators
+  good_declarators_by true = good_node _ (good_perhaps _ good_declarators)
+
+  pub good_declaration_by : (braces : Bool) → Good (declaration_by braces G) (declaration_by braces H)
+  unfolding declaration_by
+  good_declaration_by braces = good_node _ (good_then (good_specifiers (good_enumeration braces) _)
+      (λ front. good_before (good_declarators_by (is_listed front.enumeration)) _))
 
   pub good_items : Good (items G) (items H)
   unfolding items
@@ -190,6 +236,12 @@ module _ (G H : Grammar) (g : GoodGrammar G H) where
       (good_choice is_local_specifier good_for_start)
       (good_pair (good_optional terminal.Semicolon) (good_pair (good_optional terminal.RightParen)
       (good_deeper g.statement))))))
+  good_statement_at (symbol.Terminal terminal.Switch) =
+      good_node _ (good_skip (good_pair good_condition (good_deeper g.statement)))
+  good_statement_at (symbol.Terminal terminal.Case) = good_node _ (good_skip (good_pair
+      (good_before (good_deeper g.conditional) _) (good_deeper g.statement)))
+  good_statement_at (symbol.Terminal terminal.Default) =
+      good_node _ (good_skip (good_behind _ (good_deeper g.statement)))
   good_statement_at (symbol.Terminal terminal.Goto) =
       good_node _ (good_skip (good_before good_identifier _))
   good_statement_at (symbol.Terminal terminal.Break) = good_node _ (good_skip (good_such _))
@@ -205,7 +257,7 @@ module _ (G H : Grammar) (g : GoodGrammar G H) where
 
   pub good_item_by : (local : Bool) → Good (item_by G local) (item_by H local)
   unfolding item_by
-  good_item_by true = good_node _ good_declaration
+  good_item_by true = good_node _ (good_declaration_by true)
   good_item_by false = good_node _ good_statement
 
   pub good_item : Good (item G) (item H)
@@ -225,28 +277,31 @@ module _ (G H : Grammar) (g : GoodGrammar G H) where
       good_node _ (good_body_of (is_known name))
   good_function_end_at name _ _ = good_nothing
 
-  pub good_named_at : (name : Name) (s : Symbol) → Good (named_at G name s) (named_at H name s)
+  pub good_named_at : (braces : Bool) (name : Name) (s : Symbol) →
+      Good (named_at G braces name s) (named_at H braces name s)
   unfolding named_at
-  good_named_at name (symbol.Terminal terminal.LeftParen) =
+  good_named_at false name (symbol.Terminal terminal.LeftParen) =
       good_node _ (good_then good_function_rest
       (λ found. good_choice symbol_of (good_function_end_at name (have_pointer found))))
-  good_named_at name _ =
+  good_named_at _ name _ =
       good_node _ (good_before (good_pair good_declarator_rest good_more_declarators) _)
 
-  pub good_declared_at : (s : Symbol) → Good (declared_at G s) (declared_at H s)
+  pub good_declared_at : (braces : Bool) (s : Symbol) →
+      Good (declared_at G braces s) (declared_at H braces s)
   unfolding declared_at
-  good_declared_at (symbol.Terminal terminal.Semicolon) = good_node _ good_one
-  good_declared_at symbol.Name =
-      good_node _ (good_then good_identifier (λ name. good_choice symbol_of (good_named_at name)))
-  good_declared_at _ = good_nothing
+  good_declared_at braces (symbol.Terminal terminal.Semicolon) = good_node _ good_one
+  good_declared_at braces symbol.Name = good_node _ (good_then good_identifier
+      (λ name. good_choice symbol_of (good_named_at braces name)))
+  good_declared_at braces _ = good_nothing
 
   pub good_unit_item_at : (s : Symbol) → Good (unit_item_at G s) (unit_item_at H s)
   unfolding unit_item_at
   good_unit_item_at (symbol.Terminal terminal.Semicolon) = good_node _ good_one
   good_unit_item_at (symbol.Terminal terminal.Typedef) =
-      good_node _ (good_skip (good_pair (good_specifiers _) (good_before good_typedef_names _)))
-  good_unit_item_at _ =
-      good_node _ (good_pair (good_specifiers _) (good_choice symbol_of good_declared_at))
+      good_node _ (good_skip (good_pair (good_specifiers (good_enumeration true) _)
+      (good_before good_typedef_names _)))
+  good_unit_item_at _ = good_node _ (good_then (good_specifiers (good_enumeration true) _)
+      (λ front. good_choice symbol_of (good_declared_at (is_listed front.enumeration))))
 
   pub good_unit_item : Good (unit_item G) (unit_item H)
   unfolding unit_item
@@ -266,6 +321,7 @@ good_grammar zero m = record {
   cast = good_nothing;
   unary = good_nothing;
   list = good_nothing;
+  enumerator = good_nothing;
   declaration = good_nothing;
   statement = good_nothing;
   item = good_nothing;
@@ -277,7 +333,8 @@ good_grammar (suc n) zero = let g = good_grammar n n in record {
   cast = good_against_nothing (good_cast (grammar n) (grammar n) g);
   unary = good_against_nothing (good_unary (grammar n) (grammar n) g);
   list = good_against_nothing (good_list (grammar n) (grammar n) g);
-  declaration = good_against_nothing (good_declaration (grammar n) (grammar n) g);
+  enumerator = good_against_nothing (good_enumerator (grammar n) (grammar n) g);
+  declaration = good_against_nothing (good_declaration_by (grammar n) (grammar n) g false);
   statement = good_against_nothing (good_statement (grammar n) (grammar n) g);
   item = good_against_nothing (good_item (grammar n) (grammar n) g);
 }
@@ -288,7 +345,8 @@ good_grammar (suc n) (suc m) = let g = good_grammar n m in record {
   cast = good_cast (grammar n) (grammar m) g;
   unary = good_unary (grammar n) (grammar m) g;
   list = good_list (grammar n) (grammar m) g;
-  declaration = good_declaration (grammar n) (grammar m) g;
+  enumerator = good_enumerator (grammar n) (grammar m) g;
+  declaration = good_declaration_by (grammar n) (grammar m) g false;
   statement = good_statement (grammar n) (grammar m) g;
   item = good_item (grammar n) (grammar m) g;
 }

@@ -29,6 +29,8 @@ use Rattle.c_grammar_tree.specs.declared.expression.Expression.TheOpen.{Expressi
 use Rattle.c_grammar_tree.specs.declared.expression.Expression.TheFolds.{fold-Expression}
 use Rattle.c_grammar_tree.specs.declared.declaration.Specifier.{Specifier}
 use Rattle.c_grammar_tree.specs.declared.declaration.SpecifierKind.TheVariants as kind
+use Rattle.c_grammar_tree.specs.declared.declaration.Enumeration.{Enumeration}
+use Rattle.c_grammar_tree.specs.declared.declaration.Enumeration.TheVariants as enumeration
 
 -- the token is any but this terminal
 abbrev pub is_not : Terminal → Leaf → Bool
@@ -201,6 +203,7 @@ type_word_of specifier =
       | kind.Other w ↦ None
       | kind.TypeWord w ↦ Some w
       | kind.TypedefName named ↦ None
+      | kind.Enum ↦ None
     ]
 
 -- the words of types among specifiers
@@ -227,6 +230,7 @@ named_by specifier =
       | kind.Other w ↦ None
       | kind.TypeWord w ↦ None
       | kind.TypedefName named ↦ Some named
+      | kind.Enum ↦ None
     ]
 
 -- what the first typedef name among specifiers stands for
@@ -241,6 +245,7 @@ is_const_word found = elim found.kind [
   | kind.Other w ↦ elim w [ other_word.Const ↦ true | _ ↦ false ]
   | kind.TypeWord w ↦ false
   | kind.TypedefName named ↦ named.is_const
+  | kind.Enum ↦ false
 ]
 
 -- the specifiers have const among them
@@ -254,13 +259,15 @@ is_the_word wanted found = elim found.kind [
   | kind.Other w ↦ false
   | kind.TypeWord w ↦ sameb type_word.the_type w wanted
   | kind.TypedefName named ↦ false
+  | kind.Enum ↦ false
 ]
 
 -- how often it stands among specifiers
 abbrev pub times : TypeWord → List Specifier → ℕ
 times wanted words = count_by (is_the_word wanted) words
 
--- how wide the type is that their words name (C11 6.7.2p2)
+-- how wide the type is that their words name; an enumerated type is int (C11 6.7.2p2 and 6.7.2.2,
+-- which leaves the type of an enumerated type to the implementation)
 abbrev pub size_of : List Specifier → Size
 size_of words =
     if nat_lt 0 (times word.Bool words) then size.Bool
@@ -289,6 +296,15 @@ names_type _ = false
 abbrev pub is_typedef_name : Leaf → Bool
 is_typedef_name leaf = names_type (symbol_of leaf)
 
+-- the symbol begins a type that is no row of keywords: a typedef name, or the word enum
+abbrev pub begins_declared : Symbol → Bool
+begins_declared (symbol.TypedefName named) = true
+begins_declared (symbol.Terminal terminal.Enum) = true
+begins_declared _ = false
+
+abbrev pub is_declared_type : Leaf → Bool
+is_declared_type leaf = begins_declared (symbol_of leaf)
+
 -- the token is an identifier, or a typedef name
 abbrev pub is_any_name : Leaf → Bool
 is_any_name leaf = is_name leaf || is_typedef_name leaf
@@ -299,6 +315,7 @@ specifies (symbol.Storage word) = true
 specifies (symbol.Specifier word) = true
 specifies (symbol.TypeWord word) = true
 specifies (symbol.TypedefName named) = true
+specifies (symbol.Terminal terminal.Enum) = true
 specifies _ = false
 
 abbrev pub is_specifier : Leaf → Bool
@@ -310,6 +327,7 @@ specifies_locally (symbol.Storage storage.Register) = true
 specifies_locally (symbol.Specifier word) = true
 specifies_locally (symbol.TypeWord word) = true
 specifies_locally (symbol.TypedefName named) = true
+specifies_locally (symbol.Terminal terminal.Enum) = true
 specifies_locally _ = false
 
 abbrev pub is_local_specifier : Leaf → Bool
@@ -322,18 +340,24 @@ specifies_in_typedef (symbol.Specifier word) = true
 specifies_in_typedef (symbol.TypeWord word.Void) = false
 specifies_in_typedef (symbol.TypeWord word) = true
 specifies_in_typedef (symbol.TypedefName named) = true
+specifies_in_typedef (symbol.Terminal terminal.Enum) = true
 specifies_in_typedef _ = false
 
 abbrev pub is_typedef_specifier : Leaf → Bool
 is_typedef_specifier leaf = specifies_in_typedef (symbol_of leaf)
 
--- a keyword among these specifiers
+-- a keyword among these specifiers that is not enum
 abbrev pub is_keyword : (Leaf → Bool) → Leaf → Bool
-is_keyword goes leaf = goes leaf && not (is_typedef_name leaf)
+is_keyword goes leaf = goes leaf && not (is_declared_type leaf)
 
 -- a keyword among them that is no word of a type
 abbrev pub is_no_type : (Leaf → Bool) → Leaf → Bool
 is_no_type goes leaf = is_keyword goes leaf && not (is_type_word leaf)
+
+-- the enumerated type has its enumerators with it
+abbrev pub is_listed : Option Enumeration → Bool
+is_listed (Some (enumeration.Listed tag found)) = true
+is_listed _ = false
 
 -- the symbol is the operator = of an initializer
 abbrev pub initializes : Symbol → Bool

@@ -7,6 +7,7 @@ use Rattle.c_grammar_forms.specs.Reading.{Answers}
 use Rattle.c_grammar_symbols.specs.Symbols.{Leaf}
 use Rattle.c_grammar_symbols.specs.Sources.{leaf_at}
 use Rattle.c_grammar_tree.specs.declared.expression.Expression.{Expression}
+use Rattle.c_grammar_tree.specs.declared.declaration.Enumerator.{Enumerator}
 use Rattle.c_grammar_tree.specs.declared.TheConstants.{MAX_LEVEL}
 use Rattle.c_grammar_tree.specs.Nested.{Grammar}
 use Rattle.c_grammar_tree.specs.Grammar.{grammar}
@@ -34,6 +35,9 @@ deeper_cast G = Deeper G.cast
 
 abbrev pub deeper_unary : Grammar → Form Leaf Expression
 deeper_unary G = Deeper G.unary
+
+abbrev pub deeper_enumerator : Grammar → Form Leaf Enumerator
+deeper_enumerator G = Deeper G.enumerator
 
 -- so many tokens stand before the place, at least, that where no level is left they are
 -- MAX_LEVEL - 1

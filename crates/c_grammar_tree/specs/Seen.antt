@@ -10,7 +10,7 @@ use Rattle.c_grammar_symbols.specs.Symbols.{Leaf, symbol_of}
 use Rattle.c_grammar_symbols.specs.Sources.{leaf_at, named_symbol, renamed}
 use Rattle.c_grammar_tree.specs.declared.item.Item.{Item}
 use Rattle.c_grammar_tree.specs.Parts.{ends, is_end}
-use Rattle.c_grammar_tree.specs.Faults.{is_outside, rule_of}
+use Rattle.c_grammar_tree.specs.Faults.{is_outside}
 use Rattle.c_grammar_tree.specs.Items.{typedefs_in, behind_typedefs, seen_behind}
 
 ends_named : (s : Symbol) (o : Option NamedType) → ends (named_symbol s o) ≡ ends s

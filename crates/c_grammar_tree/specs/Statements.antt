@@ -19,7 +19,7 @@ use Rattle.c_grammar_tree.specs.declared.statement.ForStart.TheVariants as in_fo
 use Rattle.c_grammar_tree.specs.Parts.{is_not, is_local_specifier, bare_name}
 use Rattle.c_grammar_tree.specs.Nested.{Grammar}
 use Rattle.c_grammar_tree.specs.Expressions.{comma}
-use Rattle.c_grammar_tree.specs.Declarations.{identifier, declaration}
+use Rattle.c_grammar_tree.specs.Declarations.{identifier, block_declaration}
 
 -- "{" {declaration ; statement} "}" without its first brace (C11 6.8.2)
 unfoldable pub items : Grammar → Form Leaf (List BlockItem)
@@ -77,6 +77,17 @@ statement_at G (symbol.Terminal terminal.For) =
     (Skip (Behind (is terminal.LeftParen) (Pair (Choice is_local_specifier (for_start G))
     (Pair (optional terminal.Semicolon G) (Pair (optional terminal.RightParen G)
     (Deeper G.statement))))))
+-- "switch" "(" comma ")" statement (C11 6.8.4.2)
+statement_at G (symbol.Terminal terminal.Switch) =
+    Node (λ leaf parts. node.Switch parts.0 parts.1 leaf.place)
+    (Skip (Pair (condition G) (Deeper G.statement)))
+-- "case" conditional ":" statement ; "default" ":" statement (C11 6.8.1)
+statement_at G (symbol.Terminal terminal.Case) =
+    Node (λ leaf parts. node.Case parts.0 parts.1 leaf.place)
+    (Skip (Pair (Before (Deeper G.conditional) (is terminal.Colon)) (Deeper G.statement)))
+statement_at G (symbol.Terminal terminal.Default) =
+    Node (λ leaf body. node.Default body leaf.place)
+    (Skip (Behind (is terminal.Colon) (Deeper G.statement)))
 -- "goto" Word ";" (C11 6.8.6.1)
 statement_at G (symbol.Terminal terminal.Goto) = Node (λ leaf label. node.Goto label leaf.place)
     (Skip (Before identifier (is terminal.Semicolon)))
@@ -97,7 +108,7 @@ unfoldable pub statement : Grammar → Form Leaf Statement
 statement G = Choice symbol_of (statement_at G)
 
 unfoldable pub item_by : Grammar → Bool → Form Leaf BlockItem
-item_by G true = Node (λ leaf made. in_block.Declaration made) (declaration G)
+item_by G true = Node (λ leaf made. in_block.Declaration made) (block_declaration G)
 item_by G false = Node (λ leaf made. in_block.Statement made) (statement G)
 
 -- declaration ; statement (C11 6.8.2)

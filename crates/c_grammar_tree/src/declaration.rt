@@ -2,7 +2,7 @@
 //! Which one a text has is said by their grammar, `specs/Declarations.antt`.
 use crate::{Expression, Name};
 use c_grammar_symbols::{NamedType, SpecifierWord, StorageWord, TypeWord};
-use cpa_ints::Seq;
+use cpa_ints::{Boxed, Seq};
 
 /// What a word of specifiers is.
 #[derive(Clone, Copy, PartialEq, Eq)]
@@ -12,6 +12,8 @@ pub enum SpecifierKind {
     TypeWord(TypeWord),
     /// A typedef name, by the type that it stands for.
     TypedefName(NamedType),
+    /// The word `enum`, behind which the enumerated type stands.
+    Enum,
 }
 
 /// A word of specifiers and its place.
@@ -21,11 +23,32 @@ pub struct Specifier {
     pub place: u32,
 }
 
+/// A constant of an enumerated type, with its value where one is given.
+#[derive(Drop)]
+pub struct Enumerator {
+    pub name: Name,
+    pub value: Option<Expression>,
+}
+
+/// What stands behind the word `enum` (C11 6.7.2.2).
+#[derive(Drop)]
+pub enum Enumeration {
+    /// `tag`
+    Tag(Name),
+    /// `tag {enumerators}`, where the tag may be left out.
+    Listed {
+        tag: Option<Name>,
+        enumerators: Seq<Enumerator>,
+    },
+}
+
 /// The words before a declarator, in the order in which they stand: those of one type among them, or
-/// a typedef name.
+/// a typedef name, or `enum`. The enumerated type is kept beside them, and in a box, since most
+/// specifiers have none.
 #[derive(Drop)]
 pub struct Specifiers {
     pub words: Seq<Specifier>,
+    pub enumeration: Option<Boxed<Enumeration>>,
     pub place: u32,
 }
 

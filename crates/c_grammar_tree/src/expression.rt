@@ -24,6 +24,8 @@ pub enum TypeName {
     Words { words: Seq<TypeWord>, place: u32 },
     /// A typedef name, by the type that it stands for.
     Typedef { named: NamedType, place: u32 },
+    /// `enum tag`
+    Enum { tag: Name, place: u32 },
 }
 
 /// An expression. Its place is that of its first token; a name has its own.

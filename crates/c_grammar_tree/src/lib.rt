@@ -10,7 +10,8 @@ mod name;
 mod statement;
 
 pub use declaration::{
-    Array, Declaration, Declarator, Initializer, Specifier, SpecifierKind, Specifiers,
+    Array, Declaration, Declarator, Enumeration, Enumerator, Initializer, Specifier, SpecifierKind,
+    Specifiers,
 };
 pub use expression::{Expression, Suffix, TypeName, UnaryOperator};
 pub use item::{Body, FunctionDeclarator, Item, Parameter, Parameters, Unit};

@@ -44,6 +44,23 @@ pub enum Statement {
         body: Boxed<Statement>,
         place: u32,
     },
+    /// `switch (value) body`
+    Switch {
+        value: Expression,
+        body: Boxed<Statement>,
+        place: u32,
+    },
+    /// `case value: body`
+    Case {
+        value: Expression,
+        body: Boxed<Statement>,
+        place: u32,
+    },
+    /// `default: body`
+    Default {
+        body: Boxed<Statement>,
+        place: u32,
+    },
     /// `goto label;`
     Goto {
         label: Name,

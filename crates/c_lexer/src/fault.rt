@@ -40,7 +40,7 @@ pub enum Rule {
     N6,
     /// A label stands twice in a function.
     N7,
-    /// `break` or `continue` outside a loop.
+    /// `continue` outside a loop, or `break` outside loops and switches.
     N8,
     /// `goto` into the scope of an object from outside it.
     N9,
@@ -48,7 +48,8 @@ pub enum Rule {
     N10,
     /// There is no `main` without parameters that returns `int` and has a body.
     N11,
-    /// A file-scope initializer or an array's length is no constant, or they do not fit the array.
+    /// A file-scope initializer, an array's length, an enumerator's or a `case`'s value is no
+    /// constant, or they do not fit the array or the type.
     N12,
     /// The program is larger than its bounds on cells, points or the height of an expression.
     N13,
@@ -58,6 +59,10 @@ pub enum Rule {
     N15,
     /// `return` with a value in a void function, or without one in another.
     N16,
+    /// `case` or `default` outside a `switch`.
+    N17,
+    /// A `switch` has two cases of one converted value, or two defaults.
+    N18,
 }
 
 impl Rule {

@@ -12,9 +12,9 @@ use Rattle.c_grammar_tree.specs.declared.name.Name.{Name}
 use Rattle.c_grammar_tree.specs.declared.item.Body.{Body}
 use Rattle.c_grammar_tree.specs.declared.item.Item.{Item}
 use Rattle.c_grammar_tree.specs.declared.item.Item.TheVariants as node
-use Rattle.c_grammar_tree.specs.Parts.{names, is_specifier}
+use Rattle.c_grammar_tree.specs.Parts.{names, is_specifier, is_listed}
 use Rattle.c_grammar_tree.specs.Nested.{Grammar}
-use Rattle.c_grammar_tree.specs.Declarations.{identifier, specifiers, declarator_rest}
+use Rattle.c_grammar_tree.specs.Declarations.{identifier, enumeration, specifiers, declarator_rest}
 use Rattle.c_grammar_tree.specs.Declarations.{more_declarators}
 use Rattle.c_grammar_tree.specs.Items.{Named, function, objects, is_known, have_pointer}
 use Rattle.c_grammar_tree.specs.Items.{function_rest}
@@ -66,56 +66,60 @@ abbrev pub objects_form : Grammar → Form Leaf Named
 objects_form G = Node (λ leaf parts. objects parts.0 parts.1)
     (Before (Pair (declarator_rest G) (more_declarators G)) (is terminal.Semicolon))
 
-pub arm_function : (G : Grammar) (name : Name) (s : Symbol) →
-    is_terminal terminal.LeftParen s ≡ true →
-    Same (named_at G name s) (function_form name G)
+pub arm_function : (G : Grammar) (braces : Bool) (name : Name) (s : Symbol) →
+    (not braces && is_terminal terminal.LeftParen s) ≡ true →
+    Same (named_at G braces name s) (function_form name G)
 unfolding named_at
-arm_function G name (symbol.Terminal terminal.LeftParen) e = same_form
-arm_function G name _ e = impossible e
+arm_function G false name (symbol.Terminal terminal.LeftParen) e = same_form
+arm_function G false name _ e = impossible e
+arm_function G true name _ e = impossible e
 
-pub arm_objects : (G : Grammar) (name : Name) (s : Symbol) →
-    is_terminal terminal.LeftParen s ≡ false →
-    Same (named_at G name s) (objects_form G)
+pub arm_objects : (G : Grammar) (braces : Bool) (name : Name) (s : Symbol) →
+    (not braces && is_terminal terminal.LeftParen s) ≡ false →
+    Same (named_at G braces name s) (objects_form G)
 unfolding named_at
-arm_objects G name (symbol.Terminal terminal.LeftParen) e = impossible (sym e)
-arm_objects G name _ e = same_form
+arm_objects G false name (symbol.Terminal terminal.LeftParen) e = impossible (sym e)
+arm_objects G false name _ e = same_form
+arm_objects G true name _ e = same_form
 
 -- behind specifiers: a name and what stands behind it
-abbrev pub named_form : Grammar → Form Leaf (Option (Name × Named))
-named_form G =
-    Node (λ leaf parts. Some parts) (Then identifier (λ name. Choice symbol_of (named_at G name)))
+abbrev pub named_form : Grammar → Bool → Form Leaf (Option (Name × Named))
+named_form G braces = Node (λ leaf parts. Some parts)
+    (Then identifier (λ name. Choice symbol_of (named_at G braces name)))
 
 -- nothing
 abbrev pub alone_form : Form Leaf (Option (Name × Named))
 alone_form = Node (λ leaf u. None) One
 
-pub arm_alone : (G : Grammar) (s : Symbol) → is_terminal terminal.Semicolon s ≡ true →
-    Same (declared_at G s) alone_form
+pub arm_alone : (G : Grammar) (braces : Bool) (s : Symbol) →
+    is_terminal terminal.Semicolon s ≡ true → Same (declared_at G braces s) alone_form
 unfolding declared_at
-arm_alone G (symbol.Terminal terminal.Semicolon) e = same_form
-arm_alone G _ e = impossible e
+arm_alone G braces (symbol.Terminal terminal.Semicolon) e = same_form
+arm_alone G braces _ e = impossible e
 
-pub arm_named : (G : Grammar) (s : Symbol) → names s ≡ true → Same (declared_at G s) (named_form G)
+pub arm_named : (G : Grammar) (braces : Bool) (s : Symbol) → names s ≡ true →
+    Same (declared_at G braces s) (named_form G braces)
 unfolding declared_at
-arm_named G symbol.Name e = same_form
-arm_named G _ e = impossible e
+arm_named G braces symbol.Name e = same_form
+arm_named G braces _ e = impossible e
 
 -- what reads the one reads the other
 pub record Leads {Token T : Type 0} (A B : Form Token T) : Type 0 where
   pub to : {w : World Token} {left p : ℕ} {u : T} {q : ℕ} → A w left p u q → B w left p u q
 
 -- what is declared behind specifiers, and not nothing, has a name
-pub only_named : (G : Grammar) (s : Symbol) → is_terminal terminal.Semicolon s ≡ false →
-    Leads (declared_at G s) (named_form G)
+pub only_named : (G : Grammar) (braces : Bool) (s : Symbol) →
+    is_terminal terminal.Semicolon s ≡ false → Leads (declared_at G braces s) (named_form G braces)
 unfolding declared_at
-only_named G (symbol.Terminal terminal.Semicolon) e = impossible (sym e)
-only_named G symbol.Name e = record { to = λ r. r }
-only_named G _ e = record { to = λ r. absurd r.never }
+only_named G braces (symbol.Terminal terminal.Semicolon) e = impossible (sym e)
+only_named G braces symbol.Name e = record { to = λ r. r }
+only_named G braces _ e = record { to = λ r. absurd r.never }
 
 -- an item: specifiers and what they declare
 abbrev pub declared_form : Grammar → Form Leaf Item
 declared_form G = Node (λ leaf parts. declared_of parts.0 parts.1)
-    (Pair (specifiers is_specifier) (Choice symbol_of (declared_at G)))
+    (Then (specifiers (enumeration G true) is_specifier)
+    (λ front. Choice symbol_of (declared_at G (is_listed front.enumeration))))
 
 -- a semicolon
 abbrev pub empty_form : Form Leaf Item

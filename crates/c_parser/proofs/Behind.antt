@@ -1,5 +1,6 @@
 -- What is read behind specifiers and a name that are read already, made into an item.
-use Rattle.std.specs.Prelude.{◌≡◌, ℕ, ◌+◌, ◌<◌, ◌≤◌, Bool, true, false, List, [], ◌∷◌, length, None}
+use Rattle.std.specs.Prelude.{◌≡◌, ℕ, ◌+◌, ◌<◌, ◌≤◌, Bool, true, false, not, ◌&&◌, List, [], ◌∷◌}
+use Rattle.std.specs.Prelude.{length, None}
 use Rattle.std.specs.Prelude.{Some, refl}
 use Rattle.std.proofs.Common.{sym, ◌∙◌, ap, subst, arith}
 use Rattle.c_grammar_forms.specs.Forms.{World, Form, Node, Pair, Then, Before, Choice}
@@ -18,7 +19,7 @@ use Rattle.c_grammar_tree.specs.declared.declaration.Declarator.{Declarator}
 use Rattle.c_grammar_tree.specs.declared.item.Item.{Item}
 use Rattle.c_grammar_tree.specs.declared.item.Item.TheVariants as node
 use Rattle.c_grammar_tree.specs.Grammar.{grammar}
-use Rattle.c_grammar_tree.specs.Parts.{is_name}
+use Rattle.c_grammar_tree.specs.Parts.{is_name, is_listed}
 use Rattle.c_grammar_tree.specs.Declarations.{identifier, declarator_of, declarator_rest}
 use Rattle.c_grammar_tree.specs.Declarations.{more_declarators}
 use Rattle.c_grammar_tree.specs.Items.{objects, declared_of, named_at, declared_at}
@@ -109,99 +110,106 @@ module _ {Token K S T : Type 0} (f : Token → S → T) (class : Token → K) (A
 
 module _ (leaves : List Leaf) (left p : ℕ) (front : Specifiers) where
   -- objects
-  module _ (name : Name) (e : is terminal.LeftParen (leaf_at leaves p) ≡ false) where
-    pub none_objects_first : {i : ℕ} → NoneThrough (λ n. declarator_behind name (grammar n))
-        (leaf_at leaves) (length leaves) left p i →
-        NoneThrough (λ n. item_named front name (grammar n)) (leaf_at leaves)
-        (length leaves) left p i
-    none_objects_first g = none_node (λ leaf found. declared_of front (Some (name, found)))
-        (none_arm symbol_of (λ n. named_at (grammar n) name)
-        (λ n. arm_objects (grammar n) name (symbol_of (leaf_at leaves p)) e)
-        (none_node (λ leaf parts. objects parts.0 parts.1)
-        (none_before (is terminal.Semicolon) (none_first (λ n. more_declarators (grammar n))
-        (none_unmade (λ leaf rest. declarator_of (name, rest)) g)))))
-
-    module _ (first : Declarator) (m : ℕ)
-        (r : Reads (λ n. declarator_behind name (grammar n)) (leaf_at leaves)
-        (length leaves) left p first m) where
-      pub none_objects_more : {i : ℕ} → NoneThrough (λ n. declarators_behind first (grammar n))
-          (leaf_at leaves) (length leaves) left m i →
+  module _ (name : Name)
+      (e : (not (is_listed front.enumeration) && is terminal.LeftParen (leaf_at leaves p)) ≡ false)
+    where
+      pub none_objects_first : {i : ℕ} → NoneThrough (λ n. declarator_behind name (grammar n))
+          (leaf_at leaves) (length leaves) left p i →
           NoneThrough (λ n. item_named front name (grammar n)) (leaf_at leaves)
           (length leaves) left p i
-      none_objects_more g = none_node (λ leaf found. declared_of front (Some (name, found)))
-          (none_arm symbol_of (λ n. named_at (grammar n) name)
-          (λ n. arm_objects (grammar n) name (symbol_of (leaf_at leaves p)) e)
-          (none_node (λ leaf parts. objects parts.0 parts.1) (none_before (is terminal.Semicolon)
-          (none_second_made (λ leaf rest. declarator_of (name, rest)) steady_rest r
-          (none_unmade (λ leaf more. first ∷ more) g)))))
+      none_objects_first g = none_node (λ leaf found. declared_of front (Some (name, found)))
+          (none_arm symbol_of (λ n. named_at (grammar n) (is_listed front.enumeration) name)
+          (λ n. arm_objects (grammar n) (is_listed front.enumeration) name
+          (symbol_of (leaf_at leaves p)) e)
+          (none_node (λ leaf parts. objects parts.0 parts.1)
+          (none_before (is terminal.Semicolon) (none_first (λ n. more_declarators (grammar n))
+          (none_unmade (λ leaf rest. declarator_of (name, rest)) g)))))
 
-      module _ (all : List Declarator) (k : ℕ)
-          (s : Reads (λ n. declarators_behind first (grammar n)) (leaf_at leaves)
-          (length leaves) left m all k) where
-        -- the declarators, made of what stands behind the name
-        reads_all : Reads (λ n. Node (λ leaf parts. declarator_of (name, parts.0) ∷ parts.1)
-            (Pair (declarator_rest (grammar n)) (more_declarators (grammar n)))) (leaf_at leaves)
-            (length leaves) left p all k
-        reads_all = record {
-          reading = λ edge.
-              let x = r.reading edge in
-              let y = s.reading edge in
-              record {
-                parts = (x.parts, y.parts);
-                read = record { middle = m; first = x.read; second = y.read };
-                made = y.made ∙ ap (λ d. d ∷ y.parts) x.made;
-              };
-          onward = omega (arith, r.onward, s.onward);
-          within = s.within;
-        }
-
-        pub none_objects_end : is terminal.Semicolon (leaf_at leaves k) ≡ false →
+      module _ (first : Declarator) (m : ℕ)
+          (r : Reads (λ n. declarator_behind name (grammar n)) (leaf_at leaves)
+          (length leaves) left p first m) where
+        pub none_objects_more : {i : ℕ} → NoneThrough (λ n. declarators_behind first (grammar n))
+            (leaf_at leaves) (length leaves) left m i →
             NoneThrough (λ n. item_named front name (grammar n)) (leaf_at leaves)
-            (length leaves) left p k
-        none_objects_end fails = none_node (λ leaf found. declared_of front (Some (name, found)))
-            (none_arm symbol_of (λ n. named_at (grammar n) name)
-            (λ n. arm_objects (grammar n) name (symbol_of (leaf_at leaves p)) e)
-            (none_node (λ leaf parts. objects parts.0 parts.1)
-            (none_before_made (λ leaf parts. declarator_of (name, parts.0) ∷
-            parts.1) steady_both reads_all (is terminal.Semicolon) fails)))
+            (length leaves) left p i
+        none_objects_more g = none_node (λ leaf found. declared_of front (Some (name, found)))
+            (none_arm symbol_of (λ n. named_at (grammar n) (is_listed front.enumeration) name)
+            (λ n. arm_objects (grammar n) (is_listed front.enumeration) name
+            (symbol_of (leaf_at leaves p)) e)
+            (none_node (λ leaf parts. objects parts.0 parts.1) (none_before (is terminal.Semicolon)
+            (none_second_made (λ leaf rest. declarator_of (name, rest)) steady_rest r
+            (none_unmade (λ leaf more. first ∷ more) g)))))
 
-        pub reads_objects : {q : ℕ} → Takes leaves k terminal.Semicolon q →
-            Reads (λ n. item_named front name (grammar n)) (leaf_at leaves) (length leaves) left p
-            (node.Objects (record { specifiers = front; declarators = all })) q
-        reads_objects takes = reads_under (λ leaf found. declared_of front (Some (name, found)))
-            symbol_of (λ n. named_at (grammar n) name)
-            (λ n. arm_objects (grammar n) name (symbol_of (leaf_at leaves p)) e)
-            (record {
-              reading = λ edge. let x = reads_all.reading edge in
-                  record {
-                    parts = objects x.parts.0 x.parts.1;
-                    read = record {
-                      parts = x.parts;
+        module _ (all : List Declarator) (k : ℕ)
+            (s : Reads (λ n. declarators_behind first (grammar n)) (leaf_at leaves)
+            (length leaves) left m all k) where
+          -- the declarators, made of what stands behind the name
+          reads_all : Reads (λ n. Node (λ leaf parts. declarator_of (name, parts.0) ∷ parts.1)
+              (Pair (declarator_rest (grammar n)) (more_declarators (grammar n)))) (leaf_at leaves)
+              (length leaves) left p all k
+          reads_all = record {
+            reading = λ edge.
+                let x = r.reading edge in
+                let y = s.reading edge in
+                record {
+                  parts = (x.parts, y.parts);
+                  read = record { middle = m; first = x.read; second = y.read };
+                  made = y.made ∙ ap (λ d. d ∷ y.parts) x.made;
+                };
+            onward = omega (arith, r.onward, s.onward);
+            within = s.within;
+          }
+
+          pub none_objects_end : is terminal.Semicolon (leaf_at leaves k) ≡ false →
+              NoneThrough (λ n. item_named front name (grammar n)) (leaf_at leaves)
+              (length leaves) left p k
+          none_objects_end fails = none_node (λ leaf found. declared_of front (Some (name, found)))
+              (none_arm symbol_of (λ n. named_at (grammar n) (is_listed front.enumeration) name)
+              (λ n. arm_objects (grammar n) (is_listed front.enumeration) name
+              (symbol_of (leaf_at leaves p)) e)
+              (none_node (λ leaf parts. objects parts.0 parts.1)
+              (none_before_made (λ leaf parts. declarator_of (name, parts.0) ∷
+              parts.1) steady_both reads_all (is terminal.Semicolon) fails)))
+
+          pub reads_objects : {q : ℕ} → Takes leaves k terminal.Semicolon q →
+              Reads (λ n. item_named front name (grammar n)) (leaf_at leaves) (length leaves) left p
+              (node.Objects (record { specifiers = front; declarators = all })) q
+          reads_objects takes = reads_under (λ leaf found. declared_of front (Some (name, found)))
+              symbol_of (λ n. named_at (grammar n) (is_listed front.enumeration) name)
+              (λ n. arm_objects (grammar n) (is_listed front.enumeration) name
+              (symbol_of (leaf_at leaves p)) e)
+              (record {
+                reading = λ edge. let x = reads_all.reading edge in
+                    record {
+                      parts = objects x.parts.0 x.parts.1;
                       read = record {
-                        middle = k;
-                        first = x.read;
-                        passes = takes.passes;
-                        behind = takes.behind_it;
+                        parts = x.parts;
+                        read = record {
+                          middle = k;
+                          first = x.read;
+                          passes = takes.passes;
+                          behind = takes.behind_it;
+                        };
+                        made = refl;
                       };
-                      made = refl;
+                      made = λ i. node.Objects (record {
+                        specifiers = front;
+                        declarators =
+                            x.made i;
+                      });
                     };
-                    made = λ i. node.Objects (record {
-                      specifiers = front;
-                      declarators =
-                          x.made i;
-                    });
-                  };
-              onward = omega (arith, r.onward, s.onward, takes.behind_it);
-              within = takes.within;
-            })
+                onward = omega (arith, r.onward, s.onward, takes.behind_it);
+                within = takes.within;
+              })
 
   -- specifiers alone
   pub reads_bare : is terminal.Semicolon (leaf_at leaves p) ≡ true → p + 1 < length leaves →
       Reads (λ n. item_behind front (grammar n)) (leaf_at leaves) (length leaves) left p
       (node.Objects (record { specifiers = front; declarators = [] })) (p + 1)
   reads_bare e fits =
-      reads_under (λ leaf found. declared_of front found) symbol_of (λ n. declared_at (grammar n))
-      (λ n. arm_alone (grammar n) (symbol_of (leaf_at leaves p)) e)
+      reads_under (λ leaf found. declared_of front found) symbol_of
+      (λ n. declared_at (grammar n) (is_listed front.enumeration))
+      (λ n. arm_alone (grammar n) (is_listed front.enumeration) (symbol_of (leaf_at leaves p)) e)
       (reads_node (λ leaf found. declared_of front found) refl
       (reads_node (λ leaf u. None) refl (reads_one fits)))
 
@@ -210,10 +218,12 @@ module _ (leaves : List Leaf) (left p : ℕ) (front : Specifiers) where
       NoneThrough (λ n. identifier) (leaf_at leaves) (length leaves) left p i →
       NoneThrough (λ n. item_behind front (grammar n)) (leaf_at leaves) (length leaves) left p i
   none_name e g =
-      none_under (λ leaf found. declared_of front found) symbol_of (λ n. declared_at (grammar n))
-      (λ n. only_named (grammar n) (symbol_of (leaf_at leaves p)) e)
+      none_under (λ leaf found. declared_of front found) symbol_of
+      (λ n. declared_at (grammar n) (is_listed front.enumeration))
+      (λ n. only_named (grammar n) (is_listed front.enumeration) (symbol_of (leaf_at leaves p)) e)
       (none_node (λ leaf found. declared_of front found) (none_node (λ leaf parts. Some parts)
-      (none_then_first (λ n name. Choice symbol_of (named_at (grammar n) name)) g)))
+      (none_then_first (λ n name. Choice symbol_of
+      (named_at (grammar n) (is_listed front.enumeration) name)) g)))
 
   -- a name
   module _ (name : Name) (m : ℕ) (r : Reads (λ n. identifier) (leaf_at leaves)
@@ -226,26 +236,33 @@ module _ (leaves : List Leaf) (left p : ℕ) (front : Specifiers) where
         (leaf_at leaves) (length leaves) left m u q →
         Reads (λ n. item_behind front (grammar n)) (leaf_at leaves) (length leaves) left p u q
     reads_named s =
-        reads_under (λ leaf found. declared_of front found) symbol_of (λ n. declared_at (grammar n))
-        (λ n. arm_named (grammar n) (symbol_of (leaf_at leaves p)) here_name)
+        reads_under (λ leaf found. declared_of front found) symbol_of
+        (λ n. declared_at (grammar n) (is_listed front.enumeration))
+        (λ n. arm_named (grammar n) (is_listed front.enumeration)
+        (symbol_of (leaf_at leaves p)) here_name)
         (reads_made (λ leaf found. declared_of front found) (λ leaf parts. Some parts)
         (λ leaf parts. declared_of front (Some parts))
-        (λ n. Then identifier (λ found. Choice symbol_of (named_at (grammar n) found)))
+        (λ n. Then identifier (λ found. Choice symbol_of
+        (named_at (grammar n) (is_listed front.enumeration) found)))
         (λ parts. refl)
         (reads_then_onto (λ leaf parts. declared_of front (Some parts))
         (λ leaf found. declared_of front (Some (name, found)))
-        (λ n found. Choice symbol_of (named_at (grammar n) found)) (λ found. refl) r s))
+        (λ n found. Choice symbol_of (named_at (grammar n) (is_listed front.enumeration) found))
+        (λ found. refl) r s))
 
     pub none_named : is terminal.Semicolon (leaf_at leaves p) ≡ false → {i : ℕ} →
         NoneThrough (λ n. item_named front name (grammar n)) (leaf_at leaves)
         (length leaves) left m i →
         NoneThrough (λ n. item_behind front (grammar n)) (leaf_at leaves) (length leaves) left p i
     none_named e g =
-        none_under (λ leaf found. declared_of front found) symbol_of (λ n. declared_at (grammar n))
-        (λ n. only_named (grammar n) (symbol_of (leaf_at leaves p)) e)
+        none_under (λ leaf found. declared_of front found) symbol_of
+        (λ n. declared_at (grammar n) (is_listed front.enumeration))
+        (λ n. only_named (grammar n) (is_listed front.enumeration) (symbol_of (leaf_at leaves p)) e)
         (none_made (λ leaf found. declared_of front found) (λ leaf parts. Some parts)
         (λ leaf parts. declared_of front (Some parts))
-        (λ n. Then identifier (λ found. Choice symbol_of (named_at (grammar n) found)))
+        (λ n. Then identifier (λ found. Choice symbol_of
+        (named_at (grammar n) (is_listed front.enumeration) found)))
         (none_then_onto (λ leaf parts. declared_of front (Some parts))
         (λ leaf found. declared_of front (Some (name, found)))
-        (λ n found. Choice symbol_of (named_at (grammar n) found)) steady_identifier r g))
+        (λ n found. Choice symbol_of (named_at (grammar n) (is_listed front.enumeration) found))
+        steady_identifier r g))

@@ -1,24 +1,26 @@
 -- Each form of items has one reading, at each two depths.
+use Rattle.std.specs.Prelude.{Bool, true}
 use Rattle.c_grammar_forms.specs.Forms.{Pair}
 use Rattle.c_grammar_forms.specs.Steady.{Steady, good_pair}
-use Rattle.c_grammar_tree.specs.Parts.{is_specifier, is_typedef_specifier}
-use Rattle.c_grammar_tree.specs.Declarations.{identifier, specifiers, declarator_rest}
+use Rattle.c_grammar_symbols.specs.Symbols.{Leaf}
+use Rattle.c_grammar_tree.specs.Declarations.{identifier, enumeration, specifiers, declarator_rest}
 use Rattle.c_grammar_tree.specs.Declarations.{more_declarators}
 use Rattle.c_grammar_tree.specs.Items.{function_rest, typedef_names, unit_item}
 use Rattle.c_grammar_tree.specs.Grammar.{grammar}
 use Rattle.c_grammar_tree.specs.OneReadingOfText.{good_grammar, good_identifier, good_specifiers}
 use Rattle.c_grammar_tree.specs.OneReadingOfText.{good_function_rest, good_declarator_rest}
 use Rattle.c_grammar_tree.specs.OneReadingOfText.{good_more_declarators, good_unit_item}
-use Rattle.c_grammar_tree.specs.OneReadingOfText.{good_typedef_names}
+use Rattle.c_grammar_tree.specs.OneReadingOfText.{good_typedef_names, good_enumeration}
 
 pub steady_identifier : Steady (λ n. identifier)
 steady_identifier = record { good = λ n m. good_identifier }
 
-pub steady_specifiers : Steady (λ n. specifiers is_specifier)
-steady_specifiers = record { good = λ n m. good_specifiers is_specifier }
-
-pub steady_typedef_specifiers : Steady (λ n. specifiers is_typedef_specifier)
-steady_typedef_specifiers = record { good = λ n m. good_specifiers is_typedef_specifier }
+pub steady_specifiers : (goes : Leaf → Bool) →
+    Steady (λ n. specifiers (enumeration (grammar n) true) goes)
+steady_specifiers goes = record {
+  good = λ n m. good_specifiers
+      (good_enumeration (grammar n) (grammar m) (good_grammar n m) true) goes;
+}
 
 pub steady_typedef_names : Steady (λ n. typedef_names)
 steady_typedef_names = record { good = λ n m. good_typedef_names }

@@ -7,6 +7,7 @@ ghost use Rattle.c_grammar_forms.specs.Forms.{Choice};
 ghost use Rattle.c_grammar_symbols.specs.declared.words.Terminal.TheVariants.{LeftBrace, LeftParen};
 ghost use Rattle.c_grammar_symbols.specs.Symbols.{symbol_of};
 ghost use Rattle.c_grammar_symbols.specs.Sources.{leaf_at, is, GoesOn};
+ghost use Rattle.c_grammar_tree.specs.Parts.{is_listed};
 ghost use Rattle.c_grammar_tree.specs.Items.{is_known, have_pointer, body_of, function_end_at};
 ghost use Rattle.c_grammar_tree.specs.Items.{declared_of};
 ghost use Rattle.c_grammar_tree.specs.Items.{function};
@@ -147,7 +148,8 @@ pub(crate) fn function(
     specifiers: Specifiers,
     name: Name,
 ) -> Result<(Item, usize), ReadError>
-    requires bracket { is LeftParen (leaf_at source.now at) ≡ true }
+    requires bracket { (not (is_listed specifiers.enumeration)
+        && is LeftParen (leaf_at source.now at)) ≡ true }
     requires more { GoesOn source.now at }
     requires room { HasRoom left at }
     ensures { Gives (item_named specifiers name) source.now left at result }

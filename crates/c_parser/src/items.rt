@@ -1,9 +1,9 @@
 //! Readers of the items of a text (C11 6.9), which are `unit_item` and its parts of `Items.antt` of
 //! `c_grammar_tree`. An item is read in the text as it is seen behind the items before it.
-ghost use Rattle.std.specs.Prelude.{◌≡◌, ◌<◌, length, map, false, OnOk};
+ghost use Rattle.std.specs.Prelude.{◌≡◌, ◌<◌, length, map, false, OnOk, IsTrue, not, ◌&&◌};
 ghost use Rattle.c_grammar_symbols.specs.declared.words.Terminal.TheVariants.{LeftParen, Semicolon};
 ghost use Rattle.c_grammar_symbols.specs.Sources.{leaf_at, is, GoesOn};
-ghost use Rattle.c_grammar_tree.specs.Parts.{is_end};
+ghost use Rattle.c_grammar_tree.specs.Parts.{is_end, is_listed};
 ghost use Rattle.c_grammar_tree.specs.Items.{typedefs_in, behind_typedefs, unit_item};
 ghost use Rattle.c_grammar_tree.specs.Reading.{Gives, HasRoom};
 ghost use Rattle.c_parser.specs.Forms.{item_named, item_behind, typedef_item, all_items, AreSeen};
@@ -12,8 +12,8 @@ use crate::functions::function;
 use c_grammar_forms::ReadError;
 use c_grammar_symbols::{NamedType, Source, Symbol, Terminal};
 use c_grammar_tree::{Declaration, Item, Name, Specifiers};
-use c_parser_declarations::{declarator_behind, declarators_behind};
-use c_parser_words::{AllowedStorage, identifier, named_type, specifiers, typedef_names};
+use c_parser_declarations::{declarator_behind, declarators_behind, is_listed, specifiers};
+use c_parser_words::{AllowedStorage, identifier, named_type, typedef_names};
 use cpa_ints::Seq;
 use std::alloc::{AllocError, Global};
 
@@ -28,7 +28,8 @@ fn objects(
     name: Name,
 ) -> Result<(Item, usize), ReadError>
     requires within { at < length source.now }
-    requires no_bracket { is LeftParen (leaf_at source.now at) ≡ false }
+    requires no_bracket { (not (is_listed specifiers.enumeration)
+        && is LeftParen (leaf_at source.now at)) ≡ false }
     requires room { HasRoom left at }
     ensures { Gives (item_named specifiers name) source.now left at result }
 {
@@ -40,6 +41,16 @@ fn objects(
         declarators,
     };
     Ok((Item::Objects(declaration), behind))
+}
+
+/// Whether a function goes on here behind specifiers and a name: among those no enumerators stand.
+fn opens_function(source: &Source, at: usize, specifiers: &Specifiers) -> bool
+    requires { at < length source.now }
+    ensures value { result ≡
+        (not (is_listed specifiers.now.enumeration) && is LeftParen (leaf_at source.now at)) }
+    ensures more { IsTrue result → GoesOn source.now at }
+{
+    !is_listed(specifiers) && source.is(at, Terminal::LeftParen)
 }
 
 /// The item of which the specifiers and the first name are read already.
@@ -55,7 +66,7 @@ fn named(
     requires room { HasRoom left at }
     ensures { Gives (item_named specifiers name) source.now left at result }
 {
-    if source.is(at, Terminal::LeftParen) {
+    if opens_function(source, at, &specifiers) {
         function(alloc, source, at, left, specifiers, name)
     } else {
         objects(alloc, source, at, left, specifiers, name)
@@ -92,10 +103,11 @@ fn typedef_item(
     at: usize,
     left: u32,
 ) -> Result<(Item, usize), ReadError>
-    requires { GoesOn source.now at }
+    requires more { GoesOn source.now at }
+    requires room { HasRoom left at }
     ensures { Gives typedef_item source.now left at result }
 {
-    let (specifiers, next) = specifiers(alloc, source, at + 1, AllowedStorage::InTypedef)?;
+    let (specifiers, next) = specifiers(alloc, source, at + 1, left, AllowedStorage::InTypedef)?;
     let (names, closer) = typedef_names(alloc, source, next)?;
     let behind = source.expect(closer, Terminal::Semicolon)?;
     let place = source.place(at);
@@ -125,7 +137,7 @@ fn unit_item(
     if source.is(at, Terminal::Typedef) {
         return typedef_item(alloc, source, at, left);
     }
-    let (specifiers, next) = specifiers(alloc, source, at, AllowedStorage::Any)?;
+    let (specifiers, next) = specifiers(alloc, source, at, left, AllowedStorage::Any)?;
     declared(alloc, source, next, left, specifiers)
 }
 

@@ -5,7 +5,8 @@ use Rattle.c_grammar_forms.specs.Reading.{Reads}
 use Rattle.c_grammar_forms.specs.Steady.{good_skip, good_pair, good_before, good_deeper}
 use Rattle.c_grammar_forms.specs.Steady.{good_choice}
 use Rattle.c_grammar_forms.specs.Steady.{good_perhaps, good_many}
-use Rattle.c_grammar_forms.specs.Loops.{Strict, strict_one, strict_skip, strict_first, strict_node}
+use Rattle.c_grammar_forms.specs.Loops.{Strict, strict_one, strict_such, strict_skip, strict_first}
+use Rattle.c_grammar_forms.specs.Loops.{strict_node}
 use Rattle.c_grammar_forms.specs.Loops.{strict_choice}
 use Rattle.c_grammar_symbols.specs.declared.words.Terminal.TheVariants as terminal
 use Rattle.c_grammar_symbols.specs.declared.operators.BinaryOperator.TheVariants as binary
@@ -20,10 +21,12 @@ use Rattle.c_grammar_tree.specs.Grammar.{grammar}
 use Rattle.c_grammar_tree.specs.Expressions.{primary_at, postfix, sign, unary, unary_at, cast}
 use Rattle.c_grammar_tree.specs.Expressions.{cast_at}
 use Rattle.c_grammar_tree.specs.Expressions.{chain, conditional, assignment}
-use Rattle.c_grammar_tree.specs.Declarations.{element}
+use Rattle.c_grammar_tree.specs.declared.declaration.Enumerator.{Enumerator}
+use Rattle.c_grammar_tree.specs.Declarations.{identifier, element, enumerator}
 use Rattle.c_grammar_tree.specs.OneReading.{GoodGrammar, good_suffixes, good_group_at, good_operand}
 use Rattle.c_grammar_tree.specs.OneReading.{good_chain, good_right_side_at}
 use Rattle.c_grammar_tree.specs.OneReadingOfText.{good_grammar, good_comma_or_end_at}
+use Rattle.c_parser_declarations.specs.Forms.{listed_value, listed_enumerator}
 use Rattle.c_parser_declarations.specs.Readers.{strict_then_first}
 
 module _ (G : Grammar) (g : GoodGrammar G G) where
@@ -82,8 +85,24 @@ strict_deeper (suc n) =
     record { ahead = λ r. (strict_assignment (grammar n) (good_grammar n n)).ahead r.read }
 
 pub element_ahead : {at : ℕ → Leaf} {size left p : ℕ} {u : Expression} {q : ℕ} →
-    Reads (λ n. element (grammar n)) at size left p u q → p < q
+    Reads (λ n. listed_value (grammar n)) at size left p u q → p < q
 unfolding element
 element_ahead {left = left} r =
     (strict_first (strict_deeper left) (good_choice symbol_of good_comma_or_end_at)).ahead
+    ((r.reading 0).read)
+
+strict_enumerator : (n : ℕ) → Strict (Deeper ((grammar n).enumerator))
+unfolding grammar enumerator identifier
+strict_enumerator zero = record { ahead = λ r. absurd r.read.never }
+strict_enumerator (suc n) = record {
+  ahead = λ r. (strict_first (strict_node _ (strict_such _))
+      (good_perhaps _ (good_skip (good_deeper ((good_grammar n n).conditional))))).ahead
+      r.read.read;
+}
+
+pub enumerator_ahead : {at : ℕ → Leaf} {size left p : ℕ} {u : Enumerator} {q : ℕ} →
+    Reads (λ n. listed_enumerator (grammar n)) at size left p u q → p < q
+unfolding element
+enumerator_ahead {left = left} r =
+    (strict_first (strict_enumerator left) (good_choice symbol_of good_comma_or_end_at)).ahead
     ((r.reading 0).read)

@@ -1,28 +1,49 @@
 -- Each form of declarations has one reading, at each two depths.
-use Rattle.std.specs.Prelude.{Bool}
-use Rattle.c_grammar_forms.specs.Forms.{Skip, Pair, Deeper, Node, Perhaps, listed}
-use Rattle.c_grammar_forms.specs.Steady.{Steady, good_deeper, good_skip, good_node, good_pair}
-use Rattle.c_grammar_forms.specs.Steady.{good_many, good_perhaps}
+use Rattle.std.specs.Prelude.{Bool, true}
+use Rattle.c_grammar_forms.specs.Forms.{Skip, Deeper, Perhaps}
+use Rattle.c_grammar_forms.specs.Steady.{Steady, good_deeper, good_skip, good_many, good_perhaps}
 use Rattle.c_grammar_symbols.specs.declared.words.Terminal.TheVariants as terminal
 use Rattle.c_grammar_symbols.specs.Symbols.{Leaf}
 use Rattle.c_grammar_symbols.specs.Sources.{is}
 use Rattle.c_grammar_tree.specs.Grammar.{grammar}
-use Rattle.c_grammar_tree.specs.Declarations.{identifier, specifiers, element, array, array_part}
-use Rattle.c_grammar_tree.specs.Declarations.{declarator, more_declarators}
-use Rattle.c_grammar_tree.specs.OneReadingOfText.{good_grammar, good_identifier, good_specifiers}
+use Rattle.c_grammar_tree.specs.Declarations.{identifier, keywords, specifiers, array, array_part}
+use Rattle.c_grammar_tree.specs.Declarations.{enumerators, enumeration, declarator}
+use Rattle.c_grammar_tree.specs.Declarations.{declarators_by}
+use Rattle.c_grammar_tree.specs.OneReadingOfText.{good_grammar, good_identifier, good_keywords}
+use Rattle.c_grammar_tree.specs.OneReadingOfText.{good_specifiers, good_enumerators}
+use Rattle.c_grammar_tree.specs.OneReadingOfText.{good_enumeration, good_declarators_by}
 use Rattle.c_grammar_tree.specs.OneReadingOfText.{good_element, good_array, good_array_part}
-use Rattle.c_grammar_tree.specs.OneReadingOfText.{good_declarator, good_more_declarators}
-use Rattle.c_parser_declarations.specs.Forms.{elements, optional_length}
+use Rattle.c_grammar_tree.specs.OneReadingOfText.{good_declarator}
+use Rattle.c_parser_declarations.specs.Forms.{listed_value, elements, listed_enumerator}
+use Rattle.c_parser_declarations.specs.Forms.{optional_length}
 
 pub steady_value : Steady (λ n. Deeper ((grammar n).assignment))
 steady_value = record { good = λ n m. good_deeper ((good_grammar n m).assignment) }
 
-pub steady_element : Steady (λ n. element (grammar n))
-steady_element = record { good = λ n m. good_element (grammar n) (grammar m) (good_grammar n m) }
+pub steady_element : Steady (λ n. listed_value (grammar n))
+steady_element =
+    record { good = λ n m. good_element (good_deeper ((good_grammar n m).assignment)) }
+
+pub steady_inner_enumerator : Steady (λ n. Deeper ((grammar n).enumerator))
+steady_inner_enumerator = record { good = λ n m. good_deeper ((good_grammar n m).enumerator) }
+
+pub steady_enumerator : Steady (λ n. listed_enumerator (grammar n))
+steady_enumerator =
+    record { good = λ n m. good_element (good_deeper ((good_grammar n m).enumerator)) }
+
+pub steady_enumerators : Steady (λ n. enumerators (grammar n))
+steady_enumerators =
+    record { good = λ n m. good_enumerators (grammar n) (grammar m) (good_grammar n m) }
+
+pub steady_enumeration : Steady (λ n. enumeration (grammar n) true)
+steady_enumeration =
+    record { good = λ n m. good_enumeration (grammar n) (grammar m) (good_grammar n m) true }
 
 pub steady_elements : Steady (λ n. elements (grammar n))
 steady_elements =
-    record { good = λ n m. good_many _ (good_element (grammar n) (grammar m) (good_grammar n m)) }
+    record {
+      good = λ n m. good_many _ (good_element (good_deeper ((good_grammar n m).assignment)));
+    }
 
 pub steady_length : Steady (λ n. optional_length (grammar n))
 steady_length =
@@ -39,8 +60,15 @@ steady_array_part =
 pub steady_identifier : Steady (λ n. identifier)
 steady_identifier = record { good = λ n m. good_identifier }
 
-pub steady_specifiers : (goes : Leaf → Bool) → Steady (λ n. specifiers goes)
-steady_specifiers goes = record { good = λ n m. good_specifiers goes }
+pub steady_keywords : (goes : Leaf → Bool) → Steady (λ n. keywords goes)
+steady_keywords goes = record { good = λ n m. good_keywords goes }
+
+pub steady_specifiers : (goes : Leaf → Bool) (braces : Bool) →
+    Steady (λ n. specifiers (enumeration (grammar n) braces) goes)
+steady_specifiers goes braces = record {
+  good = λ n m. good_specifiers
+      (good_enumeration (grammar n) (grammar m) (good_grammar n m) braces) goes;
+}
 
 pub steady_declarator : Steady (λ n. declarator (grammar n))
 steady_declarator =
@@ -50,9 +78,6 @@ pub steady_next_declarator : Steady (λ n. Skip (declarator (grammar n)))
 steady_next_declarator =
     record { good = λ n m. good_skip (good_declarator (grammar n) (grammar m) (good_grammar n m)) }
 
-pub steady_declarators : Steady (λ n. Node listed (Pair (declarator (grammar n))
-    (more_declarators (grammar n))))
-steady_declarators = record {
-  good = λ n m. good_node _ (good_pair (good_declarator (grammar n) (grammar m) (good_grammar n m))
-      (good_more_declarators (grammar n) (grammar m) (good_grammar n m)));
-}
+pub steady_declarators : (free : Bool) → Steady (λ n. declarators_by (grammar n) free)
+steady_declarators free =
+    record { good = λ n m. good_declarators_by (grammar n) (grammar m) (good_grammar n m) free }

@@ -1,5 +1,5 @@
 -- Lemmas: what is made of a first part that is read already, and what takes a token.
-use Rattle.std.specs.Prelude.{◌≡◌, ℕ, []}
+use Rattle.std.specs.Prelude.{◌≡◌, ℕ}
 use Rattle.std.specs.Prelude.{refl}
 use Rattle.std.proofs.Common.{sym, ◌∙◌, subst, arith}
 use Rattle.c_grammar_forms.specs.Forms.{Form, Node, Pair, Then}
@@ -7,7 +7,6 @@ use Rattle.c_grammar_forms.specs.Steady.{Good, Steady, from_place}
 use Rattle.c_grammar_forms.specs.Reading.{Reads, NoneThrough}
 use Rattle.c_grammar_forms.specs.NotFound.{only}
 use Rattle.c_grammar_forms.specs.Loops.{Strict}
-use Rattle.c_grammar_symbols.specs.Sources.{is}
 
 -- what is made of a first part that is read already and of a second: of both
 module _ {Token R S T : Type 0} (f : Token → R × S → T) {A : ℕ → Form Token R} {at : ℕ → Token}

@@ -6,7 +6,7 @@ ghost use Rattle.c_grammar_tree.specs.Parts.{is_local_specifier, is_initializing
 ghost use Rattle.c_grammar_tree.specs.Reading.{no_level};
 
 use c_grammar_forms::ReadError;
-use c_grammar_symbols::{AssignmentOperator, Source, StorageWord, Symbol};
+use c_grammar_symbols::{AssignmentOperator, Source, StorageWord, Symbol, Terminal};
 
 /// Whether specifiers may begin here in a function.
 pub fn begins_declaration(source: &Source, at: usize) -> bool
@@ -19,6 +19,7 @@ pub fn begins_declaration(source: &Source, at: usize) -> bool
             | Symbol::Specifier(_)
             | Symbol::TypeWord(_)
             | Symbol::TypedefName(_)
+            | Symbol::Terminal(Terminal::Enum)
     )
 }
 

@@ -6,7 +6,7 @@ ghost use Rattle.c_grammar_forms.specs.declared.fault.ReadError.TheVariants.{Out
 ghost use Rattle.c_grammar_symbols.specs.declared.words.Terminal.TheVariants.{LeftBracket};
 ghost use Rattle.c_grammar_symbols.specs.Sources.{is};
 ghost use Rattle.c_grammar_tree.specs.Parts.{is_initializing};
-ghost use Rattle.c_grammar_tree.specs.Declarations.{array, declarator, initializer_of};
+ghost use Rattle.c_grammar_tree.specs.Declarations.{array, declarator, declarators, initializer_of};
 ghost use Rattle.c_grammar_tree.specs.Reading.{Gives, HasRoom, HasRoomBelow};
 ghost use Rattle.c_parser_declarations.specs.Forms.{optional_length, declarator_behind};
 ghost use Rattle.c_parser_declarations.specs.Forms.{declarators_behind};
@@ -105,7 +105,7 @@ pub fn declarator_behind(
 }
 
 /// The declarator that begins here.
-pub(crate) fn declarator(
+fn declarator(
     alloc: Global,
     source: &Source,
     at: usize,
@@ -117,6 +117,21 @@ pub(crate) fn declarator(
 {
     let (name, next) = identifier(alloc, source, at)?;
     declarator_behind(alloc, source, next, left, name)
+}
+
+/// The declarators that stand here, of which there is one at least.
+pub(crate) fn declarators(
+    alloc: Global,
+    source: &Source,
+    at: usize,
+    left: u32,
+) -> Result<(Seq<Declarator>, usize), ReadError>
+    requires within { at < length source.now }
+    requires room { HasRoom left at }
+    ensures { Gives declarators source.now left at result }
+{
+    let (first, mark) = declarator(alloc, source, at, left)?;
+    declarators_behind(alloc, source, mark, left, first)
 }
 
 /// The list of this one declarator.

@@ -4,10 +4,10 @@ ghost use Rattle.std.specs.Prelude.{◌<◌, length};
 ghost use Rattle.c_grammar_forms.specs.Forms.{Choice};
 ghost use Rattle.c_grammar_symbols.specs.declared.words.Terminal.TheVariants.{RightBrace};
 ghost use Rattle.c_grammar_symbols.specs.Symbols.{symbol_of};
-ghost use Rattle.c_grammar_tree.specs.Declarations.{comma_or_end_at, element, list, initializer_of};
+ghost use Rattle.c_grammar_tree.specs.Declarations.{comma_or_end_at, list, initializer_of};
 ghost use Rattle.c_grammar_tree.specs.Reading.{Gives, HasRoom, HasRoomBelow};
 ghost use Rattle.c_parser_words.specs.Answers.{Skips};
-ghost use Rattle.c_parser_declarations.specs.Forms.{elements, deeper_list};
+ghost use Rattle.c_parser_declarations.specs.Forms.{listed_value, elements, deeper_list};
 
 use crate::classes::no_level;
 use c_grammar_forms::ReadError;
@@ -18,7 +18,7 @@ use cpa_ints::Seq;
 use std::alloc::Global;
 
 /// The place behind the comma that stands here; before the brace that ends a list none need stand.
-fn comma_or_end(source: &Source, at: usize) -> Result<usize, ReadError>
+pub(crate) fn comma_or_end(source: &Source, at: usize) -> Result<usize, ReadError>
     requires { at < length source.now }
     ensures { Skips (Choice symbol_of comma_or_end_at) source.now at result }
 {
@@ -40,7 +40,7 @@ fn element(
 ) -> Result<(Expression, usize), ReadError>
     requires within { at < length source.now }
     requires room { HasRoomBelow left at }
-    ensures { Gives element source.now left at result }
+    ensures { Gives listed_value source.now left at result }
 {
     let (value, next) = inner_assignment(alloc, source, at, left)?;
     let behind = comma_or_end(source, next)?;

@@ -5,8 +5,11 @@
 mod classes;
 mod declarations;
 mod declarators;
+mod enumerations;
 mod initializers;
+mod specification;
 
 pub use classes::{begins_declaration, no_level};
-pub use declarations::{declaration, inner_declaration};
+pub use declarations::{block_declaration, inner_declaration};
 pub use declarators::{declarator_behind, declarators_behind};
+pub use specification::{is_listed, specifiers};

@@ -56,6 +56,7 @@ pub arm_cast : (G : Grammar) (s : Symbol) → begins_type s ≡ true → Same (g
 unfolding group_at
 arm_cast G (symbol.TypeWord word) e = same_form
 arm_cast G (symbol.TypedefName named) e = same_form
+arm_cast G (symbol.Terminal terminal.Enum) e = same_form
 arm_cast G _ e = impossible e
 
 pub arm_bracket : (G : Grammar) (s : Symbol) → begins_type s ≡ false →
@@ -63,6 +64,7 @@ pub arm_bracket : (G : Grammar) (s : Symbol) → begins_type s ≡ false →
 unfolding group_at
 arm_bracket G (symbol.TypeWord word) e = impossible (sym e)
 arm_bracket G (symbol.TypedefName named) e = impossible (sym e)
+arm_bracket G (symbol.Terminal terminal.Enum) e = impossible (sym e)
 arm_bracket G _ e = same_form
 
 some_is : {T : Type 0} (P : T → Type 0) {a b : T} → Some a ≡ Some b → P a → P b

@@ -44,6 +44,7 @@ group G = Node group_of (Skip (Choice symbol_of (group_at G)))
 abbrev pub begins_type : Symbol → Bool
 begins_type (symbol.TypeWord word) = true
 begins_type (symbol.TypedefName named) = true
+begins_type (symbol.Terminal terminal.Enum) = true
 begins_type _ = false
 
 -- the type of a cast

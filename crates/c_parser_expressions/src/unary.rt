@@ -39,7 +39,7 @@ fn begins_type(source: &Source, at: usize) -> bool
 {
     matches!(
         source.symbol(at),
-        Symbol::TypeWord(_) | Symbol::TypedefName(_)
+        Symbol::TypeWord(_) | Symbol::TypedefName(_) | Symbol::Terminal(Terminal::Enum)
     )
 }
 

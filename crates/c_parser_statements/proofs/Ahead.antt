@@ -2,11 +2,10 @@
 use Rattle.std.specs.Prelude.{ℕ, zero, suc, ◌<◌, Bool, true, false, Option, Some}
 use Rattle.c_grammar_forms.specs.Forms.{Deeper}
 use Rattle.c_grammar_forms.specs.Reading.{Reads}
-use Rattle.c_grammar_forms.specs.Steady.{good_such, good_behind, good_before, good_pair, good_node}
+use Rattle.c_grammar_forms.specs.Steady.{good_such, good_behind, good_before, good_pair}
 use Rattle.c_grammar_forms.specs.Steady.{good_deeper, good_choice, good_perhaps, good_nearest}
 use Rattle.c_grammar_forms.specs.Steady.{good_skip}
 use Rattle.c_grammar_forms.specs.Loops.{Strict, strict_one, strict_skip, strict_before}
-use Rattle.c_grammar_forms.specs.Loops.{strict_second}
 use Rattle.c_grammar_forms.specs.Loops.{strict_node, strict_choice}
 use Rattle.c_grammar_symbols.specs.declared.words.Terminal.TheVariants as terminal
 use Rattle.c_grammar_symbols.specs.declared.symbol.Symbol.{Symbol}
@@ -14,14 +13,14 @@ use Rattle.c_grammar_symbols.specs.declared.symbol.Symbol.TheVariants as symbol
 use Rattle.c_grammar_symbols.specs.Symbols.{Leaf, symbol_of}
 use Rattle.c_grammar_tree.specs.declared.name.Name.{Name}
 use Rattle.c_grammar_tree.specs.declared.statement.BlockItem.{BlockItem}
-use Rattle.c_grammar_tree.specs.Parts.{bare_name, is_local_specifier}
+use Rattle.c_grammar_tree.specs.Parts.{bare_name, is_local_specifier, is_listed}
 use Rattle.c_grammar_tree.specs.Nested.{Grammar}
 use Rattle.c_grammar_tree.specs.Grammar.{grammar}
-use Rattle.c_grammar_tree.specs.Declarations.{declaration}
+use Rattle.c_grammar_tree.specs.Declarations.{declaration_by}
 use Rattle.c_grammar_tree.specs.Statements.{behind_comma_at, statement_at, statement, item_by, item}
 use Rattle.c_grammar_tree.specs.OneReading.{GoodGrammar, good_comma}
 use Rattle.c_grammar_tree.specs.OneReadingOfText.{good_grammar, good_identifier, good_specifiers}
-use Rattle.c_grammar_tree.specs.OneReadingOfText.{good_declarator, good_more_declarators}
+use Rattle.c_grammar_tree.specs.OneReadingOfText.{good_enumeration, good_declarators_by}
 use Rattle.c_grammar_tree.specs.OneReadingOfText.{good_items}
 use Rattle.c_grammar_tree.specs.OneReadingOfText.{good_condition, good_optional, good_for_start}
 use Rattle.c_parser_declarations.specs.Readers.{strict_then_second}
@@ -52,6 +51,13 @@ module _ (G : Grammar) (g : GoodGrammar G G) where
       (good_choice is_local_specifier (good_for_start G G g))
       (good_pair (good_optional G G g terminal.Semicolon)
       (good_pair (good_optional G G g terminal.RightParen) (good_deeper g.statement))))))
+  strict_statement_at (symbol.Terminal terminal.Switch) =
+      strict_node _ (strict_skip (good_pair (good_condition G G g) (good_deeper g.statement)))
+  strict_statement_at (symbol.Terminal terminal.Case) =
+      strict_node _ (strict_skip (good_pair (good_before (good_deeper g.conditional) _)
+      (good_deeper g.statement)))
+  strict_statement_at (symbol.Terminal terminal.Default) =
+      strict_node _ (strict_skip (good_behind _ (good_deeper g.statement)))
   strict_statement_at (symbol.Terminal terminal.Goto) =
       strict_node _ (strict_skip (good_before good_identifier _))
   strict_statement_at (symbol.Terminal terminal.Break) = strict_node _ (strict_skip (good_such _))
@@ -63,10 +69,10 @@ module _ (G : Grammar) (g : GoodGrammar G G) where
       (λ made. strict_choice symbol_of (strict_behind_comma_at (bare_name made))))
 
   strict_item_by : (local : Bool) → Strict (item_by G local)
-  unfolding item_by declaration statement
-  strict_item_by true = strict_node _ (strict_node _ (strict_second (good_specifiers _)
-      (strict_before _ (good_node _ (good_pair (good_declarator G G g)
-      (good_more_declarators G G g))))))
+  unfolding item_by declaration_by statement
+  strict_item_by true = strict_node _ (strict_node _ (strict_then_second
+      (good_specifiers (good_enumeration G G g true) _)
+      (λ front. strict_before _ (good_declarators_by G G g (is_listed front.enumeration)))))
   strict_item_by false = strict_node _ (strict_choice symbol_of strict_statement_at)
 
 -- the same one level deeper

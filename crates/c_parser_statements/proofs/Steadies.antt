@@ -13,7 +13,8 @@ use Rattle.c_grammar_tree.specs.Statements.{condition, optional, for_start}
 use Rattle.c_grammar_tree.specs.OneReading.{good_comma}
 use Rattle.c_grammar_tree.specs.OneReadingOfText.{good_grammar, good_identifier, good_condition}
 use Rattle.c_grammar_tree.specs.OneReadingOfText.{good_optional, good_for_start}
-use Rattle.c_parser_statements.specs.Forms.{optional_comma, optional_value, block_items, for_head}
+use Rattle.c_parser_statements.specs.Forms.{optional_comma, optional_value, case_value}
+use Rattle.c_parser_statements.specs.Forms.{block_items, for_head}
 
 pub steady_identifier : Steady (λ n. identifier)
 steady_identifier = record { good = λ n m. good_identifier }
@@ -45,6 +46,14 @@ steady_start = record {
   good = λ n m. good_choice is_local_specifier
       (good_for_start (grammar n) (grammar m) (good_grammar n m));
 }
+
+pub steady_case_value : Steady (λ n. case_value (grammar n))
+steady_case_value = record {
+  good = λ n m. good_before (good_deeper ((good_grammar n m).conditional)) (is terminal.Colon);
+}
+
+pub steady_conditional : Steady (λ n. Deeper ((grammar n).conditional))
+steady_conditional = record { good = λ n m. good_deeper ((good_grammar n m).conditional) }
 
 pub steady_inner : Steady (λ n. Deeper ((grammar n).statement))
 steady_inner = record { good = λ n m. good_deeper ((good_grammar n m).statement) }

@@ -12,10 +12,11 @@ use crate::jumps::{break_statement, continue_statement, goto, return_statement};
 use crate::kinds::{StatementKind, begins_item, begins_statement, kind_at};
 use crate::labels::expression_statement;
 use crate::loops::{do_statement, for_statement, if_statement, while_statement};
+use crate::switches::{case_statement, default_statement, switch_statement};
 use c_grammar_forms::ReadError;
 use c_grammar_symbols::{Source, Terminal};
 use c_grammar_tree::{BlockItem, Statement};
-use c_parser_declarations::{begins_declaration, declaration, no_level};
+use c_parser_declarations::{begins_declaration, block_declaration, no_level};
 use cpa_ints::{Boxed, Seq};
 use std::alloc::Global;
 
@@ -68,6 +69,9 @@ fn statement(
         StatementKind::While => while_statement(alloc, source, at, left),
         StatementKind::Do => do_statement(alloc, source, at, left),
         StatementKind::For => for_statement(alloc, source, at, left),
+        StatementKind::Switch => switch_statement(alloc, source, at, left),
+        StatementKind::Case => case_statement(alloc, source, at, left),
+        StatementKind::Default => default_statement(alloc, source, at, left),
         StatementKind::Goto => goto(alloc, source, at, left),
         StatementKind::Break => break_statement(source, at, left),
         StatementKind::Continue => continue_statement(source, at, left),
@@ -124,7 +128,7 @@ fn item(
     ensures { Gives item source.now left at result }
 {
     if begins_declaration(source, at) {
-        let (declaration, behind) = declaration(alloc, source, at, left)?;
+        let (declaration, behind) = block_declaration(alloc, source, at, left)?;
         return Ok((BlockItem::Declaration(declaration), behind));
     }
     let (statement, behind) = statement(alloc, source, at, left)?;

@@ -8,5 +8,6 @@ mod kinds;
 mod labels;
 mod loops;
 mod parts;
+mod switches;
 
 pub use blocks::items;

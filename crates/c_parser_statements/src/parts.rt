@@ -5,13 +5,14 @@ ghost use Rattle.c_grammar_forms.specs.Forms.{Choice};
 ghost use Rattle.c_grammar_tree.specs.Parts.{is_local_specifier, bare_name};
 ghost use Rattle.c_grammar_tree.specs.Statements.{condition, optional, for_start};
 ghost use Rattle.c_grammar_tree.specs.Reading.{Gives, HasRoom, HasRoomBelow};
-ghost use Rattle.c_parser_statements.specs.Forms.{optional_comma, test_and_step, for_head};
+ghost use Rattle.c_parser_statements.specs.Forms.{case_value, optional_comma, test_and_step};
+ghost use Rattle.c_parser_statements.specs.Forms.{for_head};
 
 use c_grammar_forms::ReadError;
 use c_grammar_symbols::{Source, Terminal};
 use c_grammar_tree::{Expression, ForStart, Name};
 use c_parser_declarations::{begins_declaration, inner_declaration};
-use c_parser_expressions::inner_comma;
+use c_parser_expressions::{inner_comma, inner_conditional};
 use cpa_ints::Boxed;
 use std::alloc::Global;
 
@@ -40,6 +41,22 @@ pub(crate) fn condition(
     let (test, closer) = inner_comma(alloc, source, start, left)?;
     let behind = source.expect(closer, Terminal::RightParen)?;
     Ok((test, behind))
+}
+
+/// The value of a `case` that begins here, and its colon.
+pub(crate) fn case_value(
+    alloc: Global,
+    source: &Source,
+    at: usize,
+    left: u32,
+) -> Result<(Expression, usize), ReadError>
+    requires within { at < length source.now }
+    requires room { HasRoomBelow left at }
+    ensures { Gives case_value source.now left at result }
+{
+    let (value, colon) = inner_conditional(alloc, source, at, left)?;
+    let behind = source.expect(colon, Terminal::Colon)?;
+    Ok((value, behind))
 }
 
 /// The expression that stands here, where the terminal does not stand at once.

@@ -5,3 +5,4 @@ pub mod TypeNames
 pub mod SpecifierWords
 pub mod ParameterForms
 pub mod TypedefForms
+pub mod DeclaredTypes

@@ -16,9 +16,9 @@ use Rattle.c_grammar_tree.specs.declared.name.Name.{Name}
 use Rattle.c_grammar_tree.specs.declared.declaration.Specifiers.{Specifiers}
 use Rattle.c_grammar_tree.specs.declared.item.Parameter.{Parameter}
 use Rattle.c_grammar_tree.specs.Parts.{is_not, is_name, is_specifier, points, have_char}
-use Rattle.c_grammar_tree.specs.Declarations.{identifier, specifiers}
+use Rattle.c_grammar_tree.specs.Declarations.{identifier, specifiers, tag}
 use Rattle.c_grammar_tree.specs.Items.{points_or_not, parameter, parameter_list}
-use Rattle.c_grammar_tree.specs.OneReadingOfText.{good_specifiers, good_parameter}
+use Rattle.c_grammar_tree.specs.OneReadingOfText.{good_specifiers, good_tag, good_parameter}
 use Rattle.c_grammar_tree.specs.OneReadingOfText.{good_parameter_list}
 
 abbrev pub any_pointer : Bool → Form Leaf (Option (Unit {0}))
@@ -28,8 +28,8 @@ any_pointer allowed = Perhaps (λ leaf. allowed && points (symbol_of leaf)) One
 abbrev pub behind_specifiers : Specifiers → Form Leaf (Option (Unit {0}) × Option Name)
 behind_specifiers front = Pair (any_pointer (have_char front.words)) (Perhaps is_name identifier)
 
-pub steady_specifiers : Steady (λ n. specifiers is_specifier)
-steady_specifiers = record { good = λ n m. good_specifiers is_specifier }
+pub steady_specifiers : Steady (λ n. specifiers tag is_specifier)
+steady_specifiers = record { good = λ n m. good_specifiers good_tag is_specifier }
 
 pub steady_pointer : (allowed : Bool) → Steady (λ n. any_pointer allowed)
 steady_pointer allowed = record { good = λ n m. good_perhaps _ good_one }

@@ -1,22 +1,22 @@
 -- Specifiers that are read one by one.
 use Rattle.std.specs.Prelude.{◌≡◌, ℕ, ◌+◌, ◌<◌, Bool, true, false, not, List, [], ◌∷◌, ◌++◌}
 use Rattle.std.specs.Prelude.{length, Option, None, Some}
-use Rattle.std.proofs.lemmas.Bool.{and_from, and_left}
+use Rattle.std.proofs.lemmas.Bool.{and_from, and_left, and_right}
 use Rattle.std.proofs.Common.{sym, ◌∙◌, ap, subst, refl, arith, append_assoc}
 use Rattle.std.proofs.lemmas.List.Elements.{filter_map-append}
 use Rattle.c_grammar_forms.specs.declared.fault.ReadError.{ReadError}
 use Rattle.c_grammar_forms.specs.declared.fault.ReadError.TheVariants.{Unexpected, TooDeep}
 use Rattle.c_grammar_forms.specs.declared.fault.ReadError.TheVariants.{OutOfMemory}
-use Rattle.c_grammar_forms.specs.Forms.{World, Form, Nothing, Choice, Many}
+use Rattle.c_grammar_forms.specs.Forms.{World, Form, Choice, Many}
 use Rattle.c_grammar_forms.specs.Steady.{Steady, good_choice}
 use Rattle.c_grammar_forms.specs.Reading.{Reads, NoneThrough, Faults}
 use Rattle.c_grammar_forms.specs.Found.{reads_node, reads_one, reads_choice, reads_shaped}
-use Rattle.c_grammar_forms.specs.NotFound.{none_node, none_first, none_nothing}
-use Rattle.c_grammar_forms.specs.Loops.{SoFar, no_parts, first_part, one_more, no_more}
+use Rattle.c_grammar_forms.specs.Loops.{SoFar, no_parts, one_more, no_more}
 use Rattle.c_grammar_forms.specs.Loops.{no_such_part}
-use Rattle.c_grammar_forms.specs.Choices.{Same, same_form, none_arm}
-use Rattle.c_grammar_symbols.specs.declared.named.NamedType.{NamedType}
+use Rattle.c_grammar_symbols.specs.declared.words.Terminal.TheVariants as terminal
 use Rattle.c_grammar_symbols.specs.declared.words.TypeWord.{TypeWord}
+use Rattle.c_grammar_symbols.specs.declared.words.StorageWord.{StorageWord}
+use Rattle.c_grammar_symbols.specs.declared.words.SpecifierWord.{SpecifierWord}
 use Rattle.c_grammar_symbols.specs.declared.symbol.Symbol.{Symbol}
 use Rattle.c_grammar_symbols.specs.declared.symbol.Symbol.TheVariants as symbol
 use Rattle.c_grammar_symbols.specs.Symbols.{Leaf, symbol_of}
@@ -27,10 +27,12 @@ use Rattle.c_grammar_tree.specs.declared.declaration.SpecifierKind.{SpecifierKin
 use Rattle.c_grammar_tree.specs.declared.declaration.SpecifierKind.TheVariants as kind
 use Rattle.c_grammar_tree.specs.Parts.{is_part_of_type, type_word_of, type_words}
 use Rattle.c_grammar_tree.specs.Parts.{types, have_part, is_keyword, is_no_type}
-use Rattle.c_grammar_tree.specs.Declarations.{specifier_at, keywords, typedef_name_at, named_part}
-use Rattle.c_grammar_tree.specs.OneReadingOfText.{good_specifier_at, good_typedef_name_at}
+use Rattle.c_grammar_tree.specs.Declarations.{specifier_at, keywords, qualifiers}
+use Rattle.c_grammar_tree.specs.OneReadingOfText.{good_specifier_at}
 use Rattle.c_grammar_tree.specs.OneReadingOfText.{good_keywords}
 use Rattle.c_parser_words.specs.declared.words.AllowedStorage.{AllowedStorage}
+use Rattle.c_parser_words.specs.declared.words.AllowedStorage.TheVariants.{Any, Register}
+use Rattle.c_parser_words.specs.declared.words.AllowedStorage.TheVariants.{InTypedef}
 use Rattle.c_parser_words.specs.Storage.{goes_in, keeps_on, qualifies}
 use Rattle.c_parser_words.specs.Steps.{words_in, AreGrown, IsRefused, IsKind, IsQualifier}
 use Rattle.c_parser_words.specs.Steps.{kind_of}
@@ -93,6 +95,7 @@ types_in (kind.Storage w) place = refl
 types_in (kind.Other w) place = refl
 types_in (kind.TypeWord w) place = refl
 types_in (kind.TypedefName t) place = refl
+types_in kind.Enum place = refl
 
 types_behind : (words : List Specifier) (u : Specifier) (us : List Specifier) →
     type_words (words ++ u ∷ us) ≡ (type_words words ++ words_in u.kind) ++ type_words us
@@ -167,61 +170,32 @@ module _ (allowed : AllowedStorage) (leaves : List Leaf) (p : ℕ) where
         reads_shaped have_part (ap is_part_of_type (sym s.kinds) ∙ s.part)
         (no_more (s.so_far left) stops)
 
--- a typedef name as a word of specifiers
-abbrev typedef_word : Form Leaf Specifier
-typedef_word = Choice symbol_of typedef_name_at
-
-steady_typedef : Steady (λ n. typedef_word)
-steady_typedef = record { good = λ n m. good_choice symbol_of good_typedef_name_at }
-
--- a typedef name and words behind it are read from p up to here
-pub record AreNamed (allowed : AllowedStorage) (leaves : List Leaf) (p : ℕ)
+-- keywords that are no words of types are read from p up to here
+pub record AreQualifiers (allowed : AllowedStorage) (leaves : List Leaf) (p : ℕ)
     (words : List Specifier) (here : ℕ) : Type 0 where
-  pub so_far : (left : ℕ) → SoFar (λ n. named_part (goes_in allowed) false)
+  pub so_far : (left : ℕ) → SoFar (λ n. qualifiers (goes_in allowed))
       (is_no_type (goes_in allowed)) (λ n. any_specifier)
       (leaf_at leaves) (length leaves) left p words here
   pub within : here < length leaves
 
-no_typedef_arm : (s : Symbol) → ((t : NamedType) → s ≡ symbol.TypedefName t → ⊥) →
-    Same (typedef_name_at s) Nothing
-unfolding typedef_name_at
-no_typedef_arm (symbol.TypedefName t) none = absurd (none t refl)
-no_typedef_arm _ none = same_form
-
 module _ (allowed : AllowedStorage) (leaves : List Leaf) (p : ℕ) where
-  pub named_first : (t : NamedType) (words : List Specifier) →
-      symbol_of (leaf_at leaves p) ≡ symbol.TypedefName t → p + 1 < length leaves →
-      words ≡ record { kind = kind.TypedefName t; place = (leaf_at leaves p).place } ∷ [] →
-      AreNamed allowed leaves p words (p + 1)
-  unfolding named_part typedef_name_at
-  named_first t words is_named fits pushed =
-      subst (λ list. AreNamed allowed leaves p list (p + 1)) (sym pushed)
+  pub qualifiers_first : (words : List Specifier) → words ≡ [] → p < length leaves →
+      AreQualifiers allowed leaves p words p
+  unfolding qualifiers
+  qualifiers_first words none fits = subst (λ list. AreQualifiers allowed leaves p list p) (sym none)
       (record {
-        so_far = λ left. first_part (is_no_type (goes_in allowed)) (λ n. any_specifier)
-            steady_typedef (reads_choice symbol_of (λ n. typedef_name_at) is_named
-            (reads_node _ refl (reads_one fits)));
+        so_far = λ left. no_parts (is_no_type (goes_in allowed)) (λ n. any_specifier) fits;
         within = fits;
       })
 
-  pub named_none : (left : ℕ) →
-      ((t : NamedType) → symbol_of (leaf_at leaves p) ≡ symbol.TypedefName t → ⊥) →
-      p < length leaves →
-      NoneThrough (λ n. named_part (goes_in allowed) false) (leaf_at leaves) (length leaves) left p p
-  unfolding named_part
-  named_none left none fits = none_node _ (none_first (λ n. Many (is_no_type (goes_in allowed))
-      any_specifier) (none_arm symbol_of (λ n. typedef_name_at)
-      (λ n. no_typedef_arm (symbol_of (leaf_at leaves p)) none) (none_nothing fits)))
-
-  module _ (words : List Specifier) (here : ℕ) (s : AreNamed allowed leaves p words here) where
-    pub named_more : (k : SpecifierKind) (more : List Specifier) →
+  module _ (words : List Specifier) (here : ℕ) (s : AreQualifiers allowed leaves p words here) where
+    pub qualifiers_more : (k : SpecifierKind) (more : List Specifier) →
         qualifies allowed (symbol_of (leaf_at leaves here)) ≡ true →
-        kind_of (symbol_of (leaf_at leaves here)) ≡ Some k →
-        here + 1 < length leaves → more ≡ words ++ record {
-          kind = k;
-          place = (leaf_at leaves here).place;
-        } ∷ [] → AreNamed allowed leaves p more (here + 1)
-    named_more k more goes_on is_kind fits pushed =
-        subst (λ list. AreNamed allowed leaves p list (here + 1)) (sym pushed)
+        kind_of (symbol_of (leaf_at leaves here)) ≡ Some k → here + 1 < length leaves →
+        more ≡ words ++ record { kind = k; place = (leaf_at leaves here).place } ∷ [] →
+        AreQualifiers allowed leaves p more (here + 1)
+    qualifiers_more k more goes_on is_kind fits pushed =
+        subst (λ list. AreQualifiers allowed leaves p list (here + 1)) (sym pushed)
         (record {
           so_far = λ left. one_more (s.so_far left) steady_specifier goes_on
               (reads_choice symbol_of (λ n. specifier_at) refl
@@ -229,16 +203,30 @@ module _ (allowed : AllowedStorage) (leaves : List Leaf) (p : ℕ) where
           within = fits;
         })
 
-    pub named_found : (left : ℕ) → qualifies allowed (symbol_of (leaf_at leaves here)) ≡ false →
-        Reads (λ n. named_part (goes_in allowed) false) (leaf_at leaves) (length leaves) left p
-        words here
-    named_found left stops = no_more (s.so_far left) stops
+    pub qualifiers_found : (left : ℕ) →
+        qualifies allowed (symbol_of (leaf_at leaves here)) ≡ false →
+        Reads (λ n. qualifiers (goes_in allowed)) (leaf_at leaves) (length leaves) left p words here
+    qualifiers_found left stops = no_more (s.so_far left) stops
 
 -- what a keyword is, where it is no word of a type
 pub is_qualifier : (allowed : AllowedStorage) (s : Symbol) (answer : Option SpecifierKind) →
     types s ≡ false → IsKind allowed s answer → IsQualifier allowed s answer
 is_qualifier allowed s None e h = and_left _ _ h
 is_qualifier allowed s (Some k) e h = (and_from _ _ h.0 (ap not e), h.1)
+
+-- no other symbol is a keyword with which specifiers go on
+pub no_keyword : (allowed : AllowedStorage) (s : Symbol) →
+    ((w : StorageWord) → s ≡ symbol.Storage w → ⊥) →
+    ((w : SpecifierWord) → s ≡ symbol.Specifier w → ⊥) →
+    ((w : TypeWord) → s ≡ symbol.TypeWord w → ⊥) → keeps_on allowed s ≡ false
+no_keyword allowed (symbol.Storage w) f g h = absurd (f w refl)
+no_keyword allowed (symbol.Specifier w) f g h = absurd (g w refl)
+no_keyword allowed (symbol.TypeWord w) f g h = absurd (h w refl)
+no_keyword allowed (symbol.TypedefName t) f g h = and_right _ _ refl
+no_keyword allowed (symbol.Terminal terminal.Enum) f g h = and_right _ _ refl
+no_keyword Any _ f g h = refl
+no_keyword Register _ f g h = refl
+no_keyword InTypedef _ f g h = refl
 
 pub steady_keywords : (goes : Leaf → Bool) → Steady (λ n. keywords goes)
 steady_keywords goes = record { good = λ n m. good_keywords goes }

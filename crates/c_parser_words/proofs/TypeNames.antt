@@ -9,14 +9,15 @@ use Rattle.c_grammar_forms.specs.Steady.{Steady, good_many, good_choice}
 use Rattle.c_grammar_forms.specs.Reading.{Reads, NoneThrough, Faults}
 use Rattle.c_grammar_forms.specs.Found.{reads_node, reads_one, reads_choice, reads_shaped}
 use Rattle.c_grammar_forms.specs.NotFound.{none_node, none_shaped_here}
-use Rattle.c_grammar_forms.specs.Choices.{Same, same_form}
+use Rattle.c_grammar_forms.specs.Choices.{Same, same_form, impossible}
 use Rattle.c_grammar_forms.specs.Loops.{SoFar, no_parts, one_more, no_more, no_such_part}
 use Rattle.c_grammar_symbols.specs.declared.named.NamedType.{NamedType}
+use Rattle.c_grammar_symbols.specs.declared.words.Terminal.TheVariants as terminal
 use Rattle.c_grammar_symbols.specs.declared.words.TypeWord.{TypeWord}
 use Rattle.c_grammar_symbols.specs.declared.symbol.Symbol.{Symbol}
 use Rattle.c_grammar_symbols.specs.declared.symbol.Symbol.TheVariants as symbol
 use Rattle.c_grammar_symbols.specs.Symbols.{Leaf, symbol_of}
-use Rattle.c_grammar_symbols.specs.Sources.{leaf_at}
+use Rattle.c_grammar_symbols.specs.Sources.{leaf_at, is_terminal}
 use Rattle.c_grammar_tree.specs.declared.TheConstants.{MAX_LEVEL}
 use Rattle.c_grammar_tree.specs.declared.expression.TypeName.{TypeName}
 use Rattle.c_grammar_tree.specs.declared.expression.TypeName.TheVariants as type_name'
@@ -118,9 +119,17 @@ pub no_type_word : (s : Symbol) → ((w : TypeWord) → s ≡ symbol.TypeWord w 
 no_type_word (symbol.TypeWord w) none = absurd (none w refl)
 no_type_word _ none = refl
 
--- what is no typedef name calls for the words of a type
-pub arm_words : (s : Symbol) → ((t : NamedType) → s ≡ symbol.TypedefName t → ⊥) →
+-- enum calls for a tag
+pub arm_enum : (s : Symbol) → is_terminal terminal.Enum s ≡ true →
+    Same (type_name_at s) (type_name_at (symbol.Terminal terminal.Enum))
+arm_enum (symbol.Terminal terminal.Enum) e = same_form
+arm_enum _ e = impossible e
+
+-- what is no typedef name and not enum calls for the words of a type
+pub arm_words : (s : Symbol) → is_terminal terminal.Enum s ≡ false →
+    ((t : NamedType) → s ≡ symbol.TypedefName t → ⊥) →
     Same (type_name_at s) words_of_type
 unfolding type_name_at
-arm_words (symbol.TypedefName t) none = absurd (none t refl)
-arm_words _ none = same_form
+arm_words (symbol.TypedefName t) e none = absurd (none t refl)
+arm_words (symbol.Terminal terminal.Enum) e none = impossible (sym e)
+arm_words _ e none = same_form

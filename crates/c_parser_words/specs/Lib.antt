@@ -1,3 +1,4 @@
 pub mod Answers
 pub mod Storage
 pub mod Steps
+pub mod Specified

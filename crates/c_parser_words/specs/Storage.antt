@@ -3,7 +3,7 @@ use Rattle.std.specs.Prelude.{Bool, not, ◌&&◌}
 use Rattle.c_grammar_symbols.specs.declared.symbol.Symbol.{Symbol}
 use Rattle.c_grammar_symbols.specs.Symbols.{Leaf, symbol_of}
 use Rattle.c_grammar_tree.specs.Parts.{specifies, specifies_locally, specifies_in_typedef}
-use Rattle.c_grammar_tree.specs.Parts.{names_type, types}
+use Rattle.c_grammar_tree.specs.Parts.{begins_declared, types}
 use Rattle.c_parser_words.specs.declared.words.AllowedStorage.{AllowedStorage}
 use Rattle.c_parser_words.specs.declared.words.AllowedStorage.TheVariants.{Any, Register}
 use Rattle.c_parser_words.specs.declared.words.AllowedStorage.TheVariants.{InTypedef}
@@ -18,9 +18,9 @@ goes InTypedef symbol = specifies_in_typedef symbol
 abbrev pub goes_in : AllowedStorage → Leaf → Bool
 goes_in allowed leaf = goes allowed (symbol_of leaf)
 
--- the symbol is a keyword with which they go on
+-- the symbol is a keyword with which they go on, and not enum
 abbrev pub keeps_on : AllowedStorage → Symbol → Bool
-keeps_on allowed symbol = goes allowed symbol && not (names_type symbol)
+keeps_on allowed symbol = goes allowed symbol && not (begins_declared symbol)
 
 -- the symbol is such a keyword, and no word of a type
 abbrev pub qualifies : AllowedStorage → Symbol → Bool

@@ -12,8 +12,12 @@ mod types;
 mod words;
 
 pub use brackets::{attributes, round_brackets, skipped_body};
+pub use classes::is_name;
 pub use named::named_type;
 pub use names::{identifier, name, optional_identifier, typedef_names};
 pub use parameters::{function_rest, parameter, parameter_list};
 pub use types::type_name;
-pub use words::{AllowedStorage, specifiers};
+pub use words::{
+    AllowedStorage, Words, declared_type, enum_words, have_word, keywords, qualifiers, specifiers,
+    specifiers_of,
+};

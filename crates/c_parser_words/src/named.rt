@@ -12,7 +12,10 @@ fn named_by(word: Specifier) -> Option<NamedType>
 {
     match word.kind {
         SpecifierKind::TypedefName(named) => Some(named),
-        SpecifierKind::Storage(_) | SpecifierKind::Other(_) | SpecifierKind::TypeWord(_) => None,
+        SpecifierKind::Storage(_)
+        | SpecifierKind::Other(_)
+        | SpecifierKind::TypeWord(_)
+        | SpecifierKind::Enum => None,
     }
 }
 
@@ -35,7 +38,10 @@ pub fn is_const_word(word: Specifier) -> bool
     match word.kind {
         SpecifierKind::Other(SpecifierWord::Const) => true,
         SpecifierKind::TypedefName(named) => named.is_const,
-        SpecifierKind::Storage(_) | SpecifierKind::Other(_) | SpecifierKind::TypeWord(_) => false,
+        SpecifierKind::Storage(_)
+        | SpecifierKind::Other(_)
+        | SpecifierKind::TypeWord(_)
+        | SpecifierKind::Enum => false,
     }
 }
 
@@ -52,9 +58,10 @@ fn is_the_word(wanted: TypeWord, found: Specifier) -> bool
 {
     match found.kind {
         SpecifierKind::TypeWord(word) => word == wanted,
-        SpecifierKind::Storage(_) | SpecifierKind::Other(_) | SpecifierKind::TypedefName(_) => {
-            false
-        }
+        SpecifierKind::Storage(_)
+        | SpecifierKind::Other(_)
+        | SpecifierKind::TypedefName(_)
+        | SpecifierKind::Enum => false,
     }
 }
 

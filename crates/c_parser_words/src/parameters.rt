@@ -87,8 +87,11 @@ fn no_level(source: &Source, at: usize) -> ReadError
     ensures { result ≡ no_level (is_specifier (leaf_at source.now at)) at }
 {
     match source.symbol(at) {
-        Symbol::Storage(_) | Symbol::Specifier(_) | Symbol::TypeWord(_) | Symbol::TypedefName(_) =>
-            ReadError::TooDeep { at },
+        Symbol::Storage(_)
+        | Symbol::Specifier(_)
+        | Symbol::TypeWord(_)
+        | Symbol::TypedefName(_)
+        | Symbol::Terminal(Terminal::Enum) => ReadError::TooDeep { at },
         _ => ReadError::Unexpected { at },
     }
 }

@@ -3,12 +3,16 @@
 ghost use Rattle.std.specs.Prelude.{◌≡◌, ◌<◌, ◌≤◌, true, length, OnOk, IfErr, Vec};
 ghost use Rattle.c_grammar_tree.specs.Parts.{occurrences, at_most, at_most_one_sign};
 ghost use Rattle.c_grammar_tree.specs.Parts.{is_part_of_type};
-ghost use Rattle.c_grammar_tree.specs.Expressions.{words_of_type, type_name};
+ghost use Rattle.c_grammar_symbols.specs.declared.symbol.Symbol.TheVariants as stands;
+ghost use Rattle.c_grammar_symbols.specs.declared.words.Terminal.TheVariants.{Enum};
+ghost use Rattle.c_grammar_symbols.specs.Sources.{GoesOn};
+ghost use Rattle.c_grammar_tree.specs.Expressions.{words_of_type, type_name_at, type_name};
 ghost use Rattle.c_parser_words.specs.Answers.{Finds};
 ghost use Rattle.c_parser_words.specs.Steps.{AreGrown, IsRefused, has_no_size};
 
+use crate::names::identifier;
 use c_grammar_forms::ReadError;
-use c_grammar_symbols::{Source, Symbol, TypeWord};
+use c_grammar_symbols::{Source, Symbol, Terminal, TypeWord};
 use c_grammar_tree::{SpecifierKind, TypeName};
 use cpa_ints::Seq;
 use std::alloc::Global;
@@ -78,9 +82,10 @@ pub fn push_type(types: &mut Vec<TypeWord>, kind: SpecifierKind, at: usize) -> R
                 Err(ReadError::Unexpected { at })
             }
         }
-        SpecifierKind::Storage(_) | SpecifierKind::Other(_) | SpecifierKind::TypedefName(_) => {
-            Ok(())
-        }
+        SpecifierKind::Storage(_)
+        | SpecifierKind::Other(_)
+        | SpecifierKind::TypedefName(_)
+        | SpecifierKind::Enum => Ok(()),
     }
 }
 
@@ -104,11 +109,24 @@ fn words_of_type(alloc: Global, source: &Source, at: usize) -> Result<(TypeName,
     Ok((TypeName::Words { words, place }, here))
 }
 
-/// The typedef name that stands here, or else the words of a type.
+/// The `enum` that stands here, with its tag.
+fn enum_name(alloc: Global, source: &Source, at: usize) -> Result<(TypeName, usize), ReadError>
+    requires { GoesOn source.now at }
+    ensures { Finds (type_name_at (stands.Terminal Enum)) source.now at result }
+{
+    let (tag, behind) = identifier(alloc, source, at + 1)?;
+    let place = source.place(at);
+    Ok((TypeName::Enum { tag, place }, behind))
+}
+
+/// The typedef name that stands here, or `enum` and a tag, or else the words of a type.
 pub fn type_name(alloc: Global, source: &Source, at: usize) -> Result<(TypeName, usize), ReadError>
     requires { at < length source.now }
     ensures { Finds type_name source.now at result }
 {
+    if source.is(at, Terminal::Enum) {
+        return enum_name(alloc, source, at);
+    }
     match source.symbol(at) {
         Symbol::TypedefName(named) => {
             let place = source.place(at);

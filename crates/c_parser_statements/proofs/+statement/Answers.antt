@@ -6,7 +6,7 @@ use Rattle.c_grammar_forms.specs.Found.{reads_nearest, reads_nearest_no}
 use Rattle.c_grammar_forms.specs.NotFound.{none_node, none_skip, none_first, none_second}
 use Rattle.c_grammar_forms.specs.NotFound.{none_before}
 use Rattle.c_grammar_forms.specs.NotFound.{none_before_here, none_choice, none_nearest}
-use Rattle.c_grammar_forms.specs.NotFound.{none_then_first}
+use Rattle.c_grammar_forms.specs.NotFound.{none_then_first, none_behind_here}
 use Rattle.c_grammar_forms.specs.Loops.{no_parts, one_more, no_more, no_part, at_items}
 use Rattle.c_grammar_forms.specs.Exits.{at_exit, answers_with, answers_deeper}
 use Rattle.c_grammar_symbols.specs.declared.words.Terminal.TheVariants as terminal
@@ -19,12 +19,12 @@ use Rattle.c_grammar_tree.specs.Parts.{is_not, is_local_specifier, bare_name}
 use Rattle.c_grammar_tree.specs.Statements.{items, condition, behind_comma_at, labeled_or_not}
 use Rattle.c_grammar_tree.specs.Statements.{statement_at}
 use Rattle.c_grammar_tree.specs.Statements.{item_by, item}
-use Rattle.c_grammar_tree.specs.Terminals.{reads_closed, at_lack}
+use Rattle.c_grammar_tree.specs.Terminals.{reads_opened, reads_closed, none_opened, at_lack}
 use Rattle.c_parser_declarations.specs.Readers.{reads_then_onto, none_then_onto}
 use Rattle.c_parser_statements.specs.declared.kinds.StatementKind.TheVariants as kind
 use Rattle.c_parser_statements.specs.Forms.{optional_else, branches, begun}
 use Rattle.c_parser_statements.proofs.Steadies.{steady_comma, steady_condition, steady_head}
-use Rattle.c_parser_statements.proofs.Steadies.{steady_inner}
+use Rattle.c_parser_statements.proofs.Steadies.{steady_inner, steady_case_value}
 use Rattle.c_parser_statements.proofs.Steadies.{steady_closed, steady_item, steady_items}
 use Rattle.c_parser_statements.proofs.Arms.{begun_is}
 use Rattle.c_parser_statements.proofs.Heads.{reads_head, none_head, none_body}
@@ -256,6 +256,64 @@ unfolding statement_at
 loops::for_statement-returns t c = rw (c.place-place.ensures, c.into_inner-start.ensures)
     (reads_node _ refl (reads_skip (reads_head c.in_ok-head.ensures c.in_ok-body.ensures)))
 
+pub switches::switch_statement-returns-in_err-value :
+    goal.switches::switch_statement-returns-in_err-value
+unfolding statement_at
+switches::switch_statement-returns-in_err-value t c =
+    at_exit MAX_LEVEL _ _ c.from_residual.ensures.1 c.in_err-value.ensures
+    (λ i g. none_node _ (none_skip (none_first (λ n. Deeper ((grammar n).statement)) g)))
+
+pub switches::switch_statement-returns-in_err-body :
+    goal.switches::switch_statement-returns-in_err-body
+unfolding statement_at
+switches::switch_statement-returns-in_err-body t c =
+    at_exit MAX_LEVEL _ _ c.from_residual-in_err-body.ensures.1 c.in_err-body.ensures
+    (λ i g. none_node _ (none_skip (none_second steady_condition c.in_ok-value.ensures g)))
+
+pub switches::switch_statement-returns : goal.switches::switch_statement-returns
+unfolding statement_at
+switches::switch_statement-returns t c = rw c.place-place.ensures
+    (reads_node _ refl (reads_skip (reads_pair c.in_ok-value.ensures c.in_ok-body.ensures)))
+
+pub switches::case_statement-returns-in_err-value :
+    goal.switches::case_statement-returns-in_err-value
+unfolding statement_at
+switches::case_statement-returns-in_err-value t c =
+    at_exit MAX_LEVEL _ _ c.from_residual.ensures.1 c.in_err-value.ensures
+    (λ i g. none_node _ (none_skip (none_first (λ n. Deeper ((grammar n).statement)) g)))
+
+pub switches::case_statement-returns-in_err-body :
+    goal.switches::case_statement-returns-in_err-body
+unfolding statement_at
+switches::case_statement-returns-in_err-body t c =
+    at_exit MAX_LEVEL _ _ c.from_residual-in_err-body.ensures.1 c.in_err-body.ensures
+    (λ i g. none_node _ (none_skip (none_second steady_case_value c.in_ok-value.ensures g)))
+
+pub switches::case_statement-returns : goal.switches::case_statement-returns
+unfolding statement_at
+switches::case_statement-returns t c = rw c.place-place.ensures
+    (reads_node _ refl (reads_skip (reads_pair c.in_ok-value.ensures c.in_ok-body.ensures)))
+
+pub switches::default_statement-returns-in_err-start :
+    goal.switches::default_statement-returns-in_err-start
+unfolding statement_at
+switches::default_statement-returns-in_err-start t c =
+    at_lack MAX_LEVEL _ _ c.from_residual.ensures.1 c.in_err-start.ensures
+    (λ fails. none_node _ (none_skip (none_behind_here (λ n. Deeper ((grammar n).statement))
+    (is terminal.Colon) fails c.requires.more.within)))
+
+pub switches::default_statement-returns-in_err-body :
+    goal.switches::default_statement-returns-in_err-body
+unfolding statement_at
+switches::default_statement-returns-in_err-body t c =
+    at_exit MAX_LEVEL _ _ c.from_residual-in_err-body.ensures.1 c.in_err-body.ensures
+    (λ i g. none_node _ (none_skip (none_opened c.in_ok-start.ensures g)))
+
+pub switches::default_statement-returns : goal.switches::default_statement-returns
+unfolding statement_at
+switches::default_statement-returns t c = rw c.place-place.ensures
+    (reads_node _ refl (reads_skip (reads_opened c.in_ok-start.ensures c.in_ok-body.ensures)))
+
 pub labels::labeled-returns-in_err-body-in-Some : goal.labels::labeled-returns-in_err-body-in-Some
 labels::labeled-returns-in_err-body-in-Some t c =
     at_exit MAX_LEVEL _ _ c.from_residual.ensures.1 c.in_err-body-in-Some.ensures
@@ -327,6 +385,19 @@ blocks::statement-returns-in-Do t c = by_kind _ _ _ kind.Do (sym c.kind_at.ensur
 pub blocks::statement-returns-in-For : goal.blocks::statement-returns-in-For
 blocks::statement-returns-in-For t c = by_kind _ _ _ kind.For (sym c.kind_at.ensures.value ∙
     c.in-For.is) c.for_statement.result c.for_statement.ensures
+
+pub blocks::statement-returns-in-Switch : goal.blocks::statement-returns-in-Switch
+blocks::statement-returns-in-Switch t c = by_kind _ _ _ kind.Switch (sym c.kind_at.ensures.value ∙
+    c.in-Switch.is) c.switch_statement.result c.switch_statement.ensures
+
+pub blocks::statement-returns-in-Case : goal.blocks::statement-returns-in-Case
+blocks::statement-returns-in-Case t c = by_kind _ _ _ kind.Case (sym c.kind_at.ensures.value ∙
+    c.in-Case.is) c.case_statement.result c.case_statement.ensures
+
+pub blocks::statement-returns-in-Default : goal.blocks::statement-returns-in-Default
+blocks::statement-returns-in-Default t c = by_kind _ _ _ kind.Default
+    (sym c.kind_at.ensures.value ∙ c.in-Default.is) c.default_statement.result
+    c.default_statement.ensures
 
 pub blocks::statement-returns-in-Goto : goal.blocks::statement-returns-in-Goto
 blocks::statement-returns-in-Goto t c = by_kind _ _ _ kind.Goto (sym c.kind_at.ensures.value ∙

@@ -45,6 +45,15 @@ decreases-loops::do_statement l = 10 * l.left + 2
 abbrev pub decreases-loops::for_statement : goal.decreases-loops::for_statement
 decreases-loops::for_statement l = 10 * l.left + 2
 
+abbrev pub decreases-switches::switch_statement : goal.decreases-switches::switch_statement
+decreases-switches::switch_statement l = 10 * l.left + 2
+
+abbrev pub decreases-switches::case_statement : goal.decreases-switches::case_statement
+decreases-switches::case_statement l = 10 * l.left + 2
+
+abbrev pub decreases-switches::default_statement : goal.decreases-switches::default_statement
+decreases-switches::default_statement l = 10 * l.left + 2
+
 abbrev pub decreases-labels::labeled : goal.decreases-labels::labeled
 decreases-labels::labeled l = 10 * l.left + 2
 

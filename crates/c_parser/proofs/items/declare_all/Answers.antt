@@ -1,5 +1,5 @@
 -- One name more is declared, or none is left.
-use Rattle.std.proofs.Common.{◌≡◌, ◌++◌, ◌∷◌, [], map, take, sym, ◌∙◌, ap, subst, arith}
+use Rattle.std.proofs.Common.{[], map, take, sym, ◌∙◌, ap, arith}
 use Rattle.std.proofs.lemmas.List.{take_all}
 use Rattle.c_grammar_symbols.specs.Sources.{renamed}
 use Rattle.c_grammar_tree.specs.Items.{behind_typedefs}

@@ -1,9 +1,6 @@
 -- The items of a text up to its end, or their fault.
-use Rattle.std.specs.Prelude.{MatchResult}
-use Rattle.std.proofs.Common.{◌≡◌, sym, ◌∙◌, ap, subst, arith, length}
-use Rattle.c_grammar_symbols.specs.Sources.{leaf_at}
-use Rattle.c_parser.specs.Forms.{AreSeen}
-use Rattle.c_parser.proofs.SeenItems.{same_length, place_there, fault_there}
+use Rattle.std.proofs.Common.{◌∙◌}
+use Rattle.c_parser.proofs.SeenItems.{place_there, fault_there}
 use Rattle.c_parser.proofs.Whole.{whole, refused}
 use Rattle.c_parser.proofs.texts.parse.Goals as goal
 

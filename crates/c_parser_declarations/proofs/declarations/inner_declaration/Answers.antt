@@ -17,4 +17,4 @@ pub returns : goal.returns
 returns c =
     answers_deeper MAX_LEVEL (leaf_at c.args.source.now)
     (length c.args.source.now) c.args.at declaration_above
-    (omega (arith, c.if-left-eq0.false)) c.declaration.result c.declaration.ensures
+    (omega (arith, c.if-left-eq0.false)) c.declaration_by.result c.declaration_by.ensures

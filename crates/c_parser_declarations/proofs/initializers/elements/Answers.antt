@@ -6,13 +6,14 @@ use Rattle.c_grammar_symbols.specs.declared.words.Terminal.TheVariants.{RightBra
 use Rattle.c_grammar_tree.specs.declared.TheConstants.{MAX_LEVEL}
 use Rattle.c_grammar_tree.specs.Grammar.{grammar}
 use Rattle.c_grammar_tree.specs.Parts.{is_not}
-use Rattle.c_grammar_tree.specs.Declarations.{element}
+use Rattle.c_parser_declarations.specs.Forms.{listed_value}
 use Rattle.c_parser_declarations.proofs.Steadies.{steady_element}
 use Rattle.c_parser_declarations.proofs.Ahead.{element_ahead}
 use Rattle.c_parser_declarations.proofs.initializers.elements.Goals as goal
 
 pub list-init : goal.list-init
-list-init c = at_items (no_parts (is_not RightBrace) (λ n. element (grammar n)) c.requires.within)
+list-init c =
+    at_items (no_parts (is_not RightBrace) (λ n. listed_value (grammar n)) c.requires.within)
     c.new-items.ensures
 
 pub returns-in_err-item : goal.returns-in_err-item

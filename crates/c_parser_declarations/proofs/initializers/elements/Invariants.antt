@@ -5,12 +5,12 @@ use Rattle.c_grammar_symbols.specs.declared.words.Terminal.TheVariants.{RightBra
 use Rattle.c_grammar_symbols.specs.Sources.{leaf_at}
 use Rattle.c_grammar_tree.specs.Grammar.{grammar}
 use Rattle.c_grammar_tree.specs.Parts.{is_not}
-use Rattle.c_grammar_tree.specs.Declarations.{element}
-use Rattle.c_parser_declarations.specs.Forms.{elements}
+use Rattle.c_parser_declarations.specs.Forms.{listed_value, elements}
 use Rattle.c_parser_declarations.proofs.initializers.elements.Given as goal
 
 abbrev pub invariant-list : goal.invariant-list
-invariant-list l = SoFar (λ n. elements (grammar n)) (is_not RightBrace) (λ n. element (grammar n))
+invariant-list l = SoFar (λ n. elements (grammar n)) (is_not RightBrace)
+    (λ n. listed_value (grammar n))
     (leaf_at l.source) (length l.source)
     l.left l.at l.items l.here
 

@@ -45,6 +45,7 @@ any_kind : (k : SpecifierKind) (place : ℕ) (words : List Specifier) →
 any_kind (kind.Storage w) place words e = e
 any_kind (kind.Other w) place words e = e
 any_kind (kind.TypedefName t) place words e = e
+any_kind kind.Enum place words e = e
 any_kind (kind.TypeWord w) place words e =
     ap (λ b. b || list_any is_char words) (char_same w)
     ∙ (counted (sameb type_word.the_type w word.Char) (list_any is_char words)

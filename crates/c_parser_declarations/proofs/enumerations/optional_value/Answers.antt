@@ -1,0 +1,26 @@
+-- A value behind the sign that gives it.
+use Rattle.std.proofs.Common.{sym}
+use Rattle.c_grammar_forms.specs.Forms.{Skip, Deeper}
+use Rattle.c_grammar_forms.specs.Found.{reads_no, reads_one_more, reads_skip}
+use Rattle.c_grammar_forms.specs.NotFound.{none_perhaps, none_skip}
+use Rattle.c_grammar_forms.specs.Exits.{at_exit}
+use Rattle.c_grammar_tree.specs.declared.TheConstants.{MAX_LEVEL}
+use Rattle.c_grammar_tree.specs.Grammar.{grammar}
+use Rattle.c_grammar_tree.specs.Parts.{is_initializing}
+use Rattle.c_parser_declarations.proofs.enumerations.optional_value.Goals as goal
+
+pub returns-then-not-is_initializing : goal.returns-then-not-is_initializing
+returns-then-not-is_initializing c =
+    reads_no (λ n. Skip (Deeper ((grammar n).conditional))) is_initializing
+    (sym c.if-not-is_initializing.ensures.value) c.requires.within
+
+pub returns-in_err-value : goal.returns-in_err-value
+returns-in_err-value c =
+    at_exit MAX_LEVEL _ _ c.from_residual.ensures.1 c.in_err-value.ensures
+    (λ i g. none_perhaps is_initializing (sym c.if-not-is_initializing.ensures.value)
+    (none_skip g))
+
+pub returns : goal.returns
+returns c =
+    reads_one_more is_initializing (sym c.if-not-is_initializing.ensures.value)
+    (reads_skip c.in_ok-value.ensures)
