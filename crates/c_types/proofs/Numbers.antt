@@ -1,12 +1,15 @@
 -- The numbers of the objects of file scope stay below the count of objects (`numbered_item`): a
 -- merged object keeps its number, a new one has the count, and no body lowers it (`rises_body`).
 use Rattle.std.proofs.Common.{◌≡◌, ℕ, ◌+◌, ◌<◌, ◌≤◌, Bool, true, false, ◌||◌, List, [], ◌∷◌}
-use Rattle.std.proofs.Common.{◌++◌, map, Option, Some, None, sym, subst, arith}
+use Rattle.std.proofs.Common.{◌++◌, map, Option, Some, None, sym, subst, arith, ℤ, pos, ◌+ℤ◌}
 use Rattle.std.specs.List.{filter_map, AllByRecursion}
 use Rattle.std.specs.Str.{bytes_eq}
 use Rattle.std.proofs.lemmas.List.Elements.{filter_map-append}
 use Rattle.c_grammar_tree.specs.declared.declaration.Declaration.{Declaration}
 use Rattle.c_grammar_tree.specs.declared.declaration.Declarator.{Declarator}
+use Rattle.c_grammar_tree.specs.declared.declaration.Enumerator.{Enumerator}
+use Rattle.c_grammar_tree.specs.declared.declaration.Enumeration.{Enumeration}
+use Rattle.c_grammar_tree.specs.declared.declaration.Enumeration.TheVariants as enumeration
 use Rattle.c_grammar_tree.specs.declared.declaration.Specifiers.{Specifiers}
 use Rattle.c_grammar_tree.specs.declared.expression.Expression.{Expression}
 use Rattle.c_grammar_tree.specs.declared.item.FunctionDeclarator.{FunctionDeclarator}
@@ -38,13 +41,17 @@ use Rattle.c_types_rules.specs.Names.{Text, declared_as, or_else}
 use Rattle.c_types_rules.specs.Items.{Before, merged_object, merged_function, one_type}
 use Rattle.c_types_rules.specs.Items.{global_behind}
 use Rattle.c_types_rules.specs.Items.{globals_behind, function_behind, item_behind, body_walk}
-use Rattle.c_types_rules.specs.Items.{listed}
+use Rattle.c_types_rules.specs.Items.{listed, around_item, enumeration_behind}
 use Rattle.c_types_rules.specs.StatementRules.{object_number}
 use Rattle.c_types_rules.specs.Statements.{Around, Act, Walk, doing, followed, in_order, scoped}
 use Rattle.c_types_rules.specs.Statements.{looped}
 use Rattle.c_types_rules.specs.Statements.{inner, loop, evaluating, evaluates, declarator_walk}
 use Rattle.c_types_rules.specs.Statements.{declaration_walk, receiving, start_walk, still}
-use Rattle.c_types_rules.specs.Statements.{statement_walk, item_walk, walk_of, marks}
+use Rattle.c_types_rules.specs.Statements.{statement_walk, item_walk, walk_of, marking}
+use Rattle.c_types_rules.specs.Statements.{switching, switched, end_behind, selecting, naming}
+use Rattle.c_types_rules.specs.Statements.{tagging, enumerating, enumeration_walk}
+use Rattle.c_types_rules.specs.Declarations.{enumerator_number, enumerator_entry}
+use Rattle.c_types_objects.specs.Named.{names_of}
 use Rattle.c_types_bodies.specs.Bodies.{AreNumbered, begins}
 
 -- a walk that counts objects up alone
@@ -72,6 +79,16 @@ rises_scoped part h around = h (inner around)
 rises_looped : (part : Walk) → Rises part → Rises (looped part)
 rises_looped part h around = h (loop around)
 
+rises_switching : (text : Text) (value : Expression) (part : Walk) → Rises part
+    → Rises (switching text value part)
+rises_switching text value part h around =
+    h (switched text value (end_behind part around) around)
+
+rises_selecting : (text : Text) (value : Option Expression) (place : ℕ)
+    → Rises (selecting text value place)
+rises_selecting text None place around = omega arith
+rises_selecting text (Some value) place around = omega arith
+
 rises_evaluating : (role : Role) (value : Option Expression) → Rises (evaluating role value)
 rises_evaluating role None = rises_still
 rises_evaluating role (Some value) = rises_doing (evaluates role value)
@@ -82,11 +99,30 @@ rises_declarators text specifiers [] = tt
 rises_declarators text specifiers (one ∷ all) =
     (λ around. omega arith, rises_declarators text specifiers all)
 
+rises_enumerating : (text : Text) (next : ℤ) (list : List Enumerator)
+    → Rises (enumerating text next list)
+rises_enumerating text next [] = rises_still
+rises_enumerating text next (one ∷ more) = λ around.
+    let n = enumerator_number text around.names next one in
+    rises_enumerating text (n +ℤ pos 1) more (naming (enumerator_entry one.name.bytes n) around)
+
+rises_enumeration : (text : Text) (found : Option Enumeration)
+    → Rises (enumeration_walk text found)
+rises_enumeration text None = rises_still
+rises_enumeration text (Some (enumeration.Tag tag)) = λ around. omega arith
+rises_enumeration text (Some (enumeration.Listed None list)) = rises_enumerating text (pos 0) list
+rises_enumeration text (Some (enumeration.Listed (Some tag) list)) =
+    rises_followed (tagging tag) (enumerating text (pos 0) list) (λ around. omega arith)
+    (rises_enumerating text (pos 0) list)
+
 rises_declaration : (text : Text) (declaration : Declaration)
     → Rises (declaration_walk text declaration)
 rises_declaration text declaration =
-    rises_in_order (map (declarator_walk text declaration.specifiers) declaration.declarators)
-    (rises_declarators text declaration.specifiers declaration.declarators)
+    rises_followed (enumeration_walk text declaration.specifiers.enumeration)
+    (in_order (map (declarator_walk text declaration.specifiers) declaration.declarators))
+    (rises_enumeration text declaration.specifiers.enumeration)
+    (rises_in_order (map (declarator_walk text declaration.specifiers) declaration.declarators)
+    (rises_declarators text declaration.specifiers declaration.declarators))
 
 rises_receiving : (all : List Parameter) → AllByRecursion Rises (map receiving all)
 rises_receiving [] = tt
@@ -170,7 +206,16 @@ module _ (text : Text) where
   rises_layer (Statement-F.Return None place) = λ around. omega arith
   rises_layer (Statement-F.Return (Some value) place) = λ around. omega arith
   rises_layer (Statement-F.Labeled label part) =
-      rises_followed (doing (marks label)) (part_walk part.0) (rises_doing (marks label)) part.1
+      rises_followed (marking label) (part_walk part.0) (λ around. omega arith) part.1
+  rises_layer (Statement-F.Switch value part place) =
+      rises_followed (doing (evaluates Valued value)) (switching text value (part_walk part.0))
+      (rises_doing (evaluates Valued value)) (rises_switching text value (part_walk part.0) part.1)
+  rises_layer (Statement-F.Case value part place) =
+      rises_followed (selecting text (Some value) place) (part_walk part.0)
+      (rises_selecting text (Some value) place) part.1
+  rises_layer (Statement-F.Default part place) =
+      rises_followed (selecting text None place) (part_walk part.0)
+      (rises_selecting text None place) part.1
 
   at_part : (y : Statement-F HeldItem HeldPart) (x : Statement-F BlockItem Statement)
       → bare y ≡ x → RisesPart (roll-Statement x)
@@ -217,6 +262,8 @@ abbrev IsBelow : ℕ → Option Declared → Type 0
 IsBelow n None = Unit {0}
 IsBelow n (Some (declared.Object object initialized)) = object.number < n
 IsBelow n (Some (declared.Function result parameters defined)) = Unit {0}
+IsBelow n (Some (declared.Enumerator value)) = Unit {0}
+IsBelow n (Some declared.Tag) = Unit {0}
 
 more_numbers : (n m : ℕ) (numbers : List ℕ) → n ≤ m → AllByRecursion (λ k. k < n) numbers
     → AllByRecursion (λ k. k < m) numbers
@@ -227,6 +274,8 @@ more_below : (n m : ℕ) (found : Option Declared) → n ≤ m → IsBelow n fou
 more_below n m None le h = tt
 more_below n m (Some (declared.Object object initialized)) le h = omega (arith, le, h)
 more_below n m (Some (declared.Function result parameters defined)) le h = tt
+more_below n m (Some (declared.Enumerator value)) le h = tt
+more_below n m (Some declared.Tag) le h = tt
 
 head_below : (n : ℕ) (entry : Entry) (entries : List Entry) → AreNumbered n (entry ∷ entries)
     → IsBelow n (Some entry.declared)
@@ -237,6 +286,8 @@ head_below n entry entries h = by_declared entry.declared h
         → IsBelow n (Some d)
     by_declared (declared.Object object initialized) h = h.0
     by_declared (declared.Function result parameters defined) h = tt
+    by_declared (declared.Enumerator value) h = tt
+    by_declared declared.Tag h = tt
 
 rest_numbered : (n : ℕ) (entry : Entry) (entries : List Entry) → AreNumbered n (entry ∷ entries)
     → AreNumbered n entries
@@ -247,6 +298,8 @@ rest_numbered n entry entries h = by_declared entry.declared h
         → AreNumbered n entries
     by_declared (declared.Object object initialized) h = h.1
     by_declared (declared.Function result parameters defined) h = h
+    by_declared (declared.Enumerator value) h = h
+    by_declared declared.Tag h = h
 
 either_below : (n : ℕ) (found : Option Declared) (d : Declared) (b : Bool) → IsBelow n found
     → IsBelow n (Some d) → IsBelow n (or_else found (elim b [ true ↦ Some d | false ↦ None ]))
@@ -271,6 +324,8 @@ one_numbered : (n : ℕ) (name : List ℕ) (d : Declared) → IsBelow n (Some d)
     → AreNumbered n (record { name = name; declared = d } ∷ [])
 one_numbered n name (declared.Object object initialized) h = (h, tt)
 one_numbered n name (declared.Function result parameters defined) h = tt
+one_numbered n name (declared.Enumerator value) h = tt
+one_numbered n name declared.Tag h = tt
 
 -- a name more
 added_numbered : (n : ℕ) (names : List Entry) (name : List ℕ) (d : Declared) → AreNumbered n names
@@ -296,6 +351,8 @@ merged_below n (Some (declared.Object old initialized)) fresh initializes h new 
     by_type true = h
     by_type false = new
 merged_below n (Some (declared.Function result parameters defined)) fresh initializes h new = new
+merged_below n (Some (declared.Enumerator value)) fresh initializes h new = new
+merged_below n (Some declared.Tag) fresh initializes h new = new
 
 numbered_global : (text : Text) (specifiers : Specifiers) (declarator : Declarator)
     (before : Before) → Numbered before → Numbered (global_behind text specifiers declarator before)
@@ -321,6 +378,8 @@ function_below : (n : ℕ) (found : Option Declared) (kind : Kind)
 function_below n None kind parameters defines = tt
 function_below n (Some (declared.Object object initialized)) kind parameters defines = tt
 function_below n (Some (declared.Function old given defined)) kind parameters defines = tt
+function_below n (Some (declared.Enumerator value)) kind parameters defines = tt
+function_below n (Some declared.Tag) kind parameters defines = tt
 
 pub numbered_function : (defines : Bool) (specifiers : Specifiers)
     (declarator : FunctionDeclarator) (before : Before) → Numbered before
@@ -340,13 +399,23 @@ numbered_body text specifiers declarator (body.Block items place) before h =
     (rises_body text declarator.parameters items (begins now.names now.objects specifiers items))
     (numbered_function true specifiers declarator before h)
 
+-- an enumerated type declares no object
+pub numbered_enumeration : (text : Text) (specifiers : Specifiers) (before : Before)
+    → Numbered before → Numbered (enumeration_behind text specifiers before)
+numbered_enumeration text specifiers before h =
+    subst (λ (numbers : List ℕ). AllByRecursion (λ k. k < before.objects) numbers)
+    (sym (names_of text specifiers.enumeration (around_item before)).objects) h
+
 -- behind an item
 pub numbered_item : (text : Text) (one : Item) (before : Before) → Numbered before
     → Numbered (item_behind text one before)
 numbered_item text (item.Empty place) before h = h
-numbered_item text (item.Typedef specifiers names place) before h = h
+numbered_item text (item.Typedef specifiers names place) before h =
+    numbered_enumeration text specifiers before h
 numbered_item text (item.Objects declaration) before h =
-    numbered_globals text declaration.specifiers declaration.declarators before h
+    numbered_globals text declaration.specifiers declaration.declarators
+    (enumeration_behind text declaration.specifiers before)
+    (numbered_enumeration text declaration.specifiers before h)
 numbered_item text (item.Prototype specifiers declarator) before h =
     numbered_function false specifiers declarator before h
 numbered_item text (item.Function specifiers declarator made) before h =

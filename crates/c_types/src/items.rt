@@ -13,7 +13,9 @@ ghost use Rattle.c_types.specs.Blocks.{block_behind, block_faults, block_calls, 
 use c_grammar_tree::{BlockItem, Body, FunctionDeclarator, Item, Specifiers};
 use c_lexer::TextFault;
 use c_types_bodies::read_body;
-use c_types_globals::{Scope, Start, declare_function, declare_objects, declare_typedefs};
+use c_types_globals::{
+    Scope, Start, declare_enumeration, declare_function, declare_objects, declare_typedefs,
+};
 use c_types_names::Survey;
 use c_types_recursion::Call;
 use c_types_rules::TypedFunction;
@@ -153,8 +155,12 @@ fn gather_item(
             specifiers,
             names,
             ..
-        } => declare_typedefs(alloc, scope, specifiers, names.as_slice(), first),
+        } => {
+            declare_enumeration(alloc, survey, scope, specifiers, first)?;
+            declare_typedefs(alloc, scope, specifiers, names.as_slice(), first)
+        }
         Item::Objects(declaration) => {
+            declare_enumeration(alloc, survey, scope, &declaration.specifiers, first)?;
             declare_objects(
                 alloc,
                 survey,
@@ -167,13 +173,13 @@ fn gather_item(
         Item::Prototype {
             specifiers,
             declarator,
-        } => declare_function(alloc, scope, false, specifiers, declarator, first),
+        } => declare_function(alloc, survey, scope, false, specifiers, declarator, first),
         Item::Function {
             specifiers,
             declarator,
             body,
         } => {
-            declare_function(alloc, scope, true, specifiers, declarator, first)?;
+            declare_function(alloc, survey, scope, true, specifiers, declarator, first)?;
             match body {
                 Body::Skipped => gather_parameters(alloc, survey, gathered, specifiers, declarator),
                 Body::Block { items, .. } => {

@@ -22,7 +22,7 @@ fn is_object_entry(entry: &Entry) -> bool
 {
     match &entry.declared {
         Declared::Object { .. } => true,
-        Declared::Function { .. } => false,
+        Declared::Function { .. } | Declared::Enumerator { .. } | Declared::Tag => false,
     }
 }
 

@@ -31,11 +31,12 @@ use Rattle.c_types_expressions.specs.Read.{role_faults, role_calls, uses_calls, 
 use Rattle.c_types_objects.specs.Objects.{object_faults, items_faults, items_calls}
 use Rattle.c_types_objects.specs.Objects.{names_behind, local_by}
 use Rattle.c_types_jumps.specs.Found.{Found, entered, with_base}
+use Rattle.c_types_bodies.specs.declared.walker.Cases.{Cases}
 use Rattle.c_types_bodies.specs.declared.walker.Frame.{Frame}
 use Rattle.c_types_bodies.specs.declared.walker.Nest.{Nest}
 use Rattle.c_types_bodies.specs.declared.walker.Walker.{Walker}
 use Rattle.c_types_bodies.specs.States.{State, noted, walked}
-use Rattle.c_types_bodies.specs.Views.{base_of, around_of, state_of, IsTied, Extends}
+use Rattle.c_types_bodies.specs.Views.{base_of, around_of, state_of, IsTied, Extends, AreCases}
 use Rattle.c_types_bodies.proofs.Walks.{same_state}
 use Rattle.c_types_bodies.proofs.Scopes.{base_extends}
 
@@ -80,7 +81,8 @@ declares_faults text around specifiers declarator =
     regroup twice empty long uses
   where
     regroup : (a b c d : List TextFault)
-        → (((((a ++ b) ++ []) ++ []) ++ c) ++ []) ++ d ≡ a ++ ((b ++ c) ++ d)
+        → ((((((((a ++ b) ++ []) ++ []) ++ []) ++ c) ++ []) ++ []) ++ []) ++ d
+        ≡ a ++ ((b ++ c) ++ d)
     regroup a b c d = simp (append-nil, append_assoc)
 
 pub declarator_state : (text : Text) (caller : ℕ) (specifiers : Specifiers)
@@ -138,10 +140,11 @@ declarator_state text caller specifiers declarator old new names names_are aroun
 -- an object more is in scope
 pub tied_declared : (frame : Frame) (old new : Walker) (jumps after : Found) (entry : Entry)
     (number : ℕ) → IsTied frame old jumps → new.names ≡ old.names ++ entry ∷ []
-    → object_number entry ≡ Some number → new.objects ≡ number + 1
+    → object_number entry ≡ Some number → new.objects ≡ number + 1 → new.cases ≡ old.cases
     → after.current ≡ jumps.current ++ number ∷ [] → after.next ≡ number + 1
     → after.first ≡ jumps.first → IsTied frame new after
-tied_declared frame old new jumps after entry number tied names is objects current next first =
+tied_declared frame old new jumps after entry number tied names is objects cases current next
+    first =
     let base = base_of frame.file old.names in
     let more : Extends old.names (old.names ++ entry ∷ []) =
     record { rest = entry ∷ []; is = refl } in
@@ -159,6 +162,7 @@ tied_declared frame old new jumps after entry number tied names is objects curre
       next = omega (arith, next, objects);
       below = subst (λ (b : List ℕ). AllByRecursion (λ n. n < after.first) b) (sym same_base)
           (subst (λ (n : ℕ). AllByRecursion (λ k. k < n) base) (sym first) tied.below);
+      cases = subst (λ (c : Cases). AreCases c) (sym cases) tied.cases;
     })
   where
     one_more : (entry : Entry) (number : ℕ) → object_number entry ≡ Some number
@@ -202,7 +206,7 @@ pub is_declared : (frame : Frame) (nest : Nest) (old new : Walker) (jumps after 
     → flag ≡ has_const specifiers
     → typed ≡ local_by frame.survey.now old.names old.objects kind flag declarator
     → new.names ≡ names_behind frame.survey.now old.names old.objects kind flag declarator
-    → new.objects ≡ old.objects + 1
+    → new.objects ≡ old.objects + 1 → new.cases ≡ old.cases → new.passed ≡ old.passed
     → new.first ≡ declared_first frame.survey.now (first_with old.first (broken rule.N2 (at_if
     (is_declared_among (drop nest.outer old.names) declarator.name.bytes) declarator.name.place)))
     old.names old.objects declarator kind flag
@@ -212,7 +216,7 @@ pub is_declared : (frame : Frame) (nest : Nest) (old new : Walker) (jumps after 
     → IsDeclared frame nest old new jumps after specifiers declarator typed
 is_declared frame nest old new jumps after specifiers declarator typed kind flag tied kind_is
     flag_is
-    typed_is names_is objects_is first_is calls_is after_is =
+    typed_is names_is objects_is cases_is passed_is first_is calls_is after_is =
     let text = frame.survey.now in
     let to_kind = kind_of specifiers in
     let to_flag = has_const specifiers in
@@ -230,7 +234,8 @@ is_declared frame nest old new jumps after specifiers declarator typed kind flag
     record {
       tied_new = tied_declared frame old new jumps after (local_entry declarator.name.bytes
           (object_of text old.names old.objects specifiers declarator)) old.objects tied names refl
-          objects_is (ap (λ (f : Found). f.current) after_is) (ap (λ (f : Found). f.next) after_is)
+          objects_is cases_is (ap (λ (f : Found). f.current) after_is)
+          (ap (λ (f : Found). f.next) after_is)
           (ap (λ (f : Found). f.first) after_is);
       extends = more;
       typed_is = typed_is ∙ by_specifiers
@@ -241,10 +246,21 @@ is_declared frame nest old new jumps after specifiers declarator typed kind flag
           (state_of frame nest new after)
           (names_behind text old.names old.objects to_kind to_flag declarator) refl
           (ap (λ (all : List Entry). record (around_of frame nest new) { names = all }) names
-          ∙ ap (λ (n : ℕ). record (around_of frame nest old) {
+          ∙ ap (λ (n : ℕ). record (around_of frame nest new) {
             names = names_behind text old.names old.objects to_kind to_flag declarator;
             objects = n;
-          }) objects_is)
+          }) objects_is
+          ∙ ap (λ (c : Cases). record (around_of frame nest new) {
+            names = names_behind text old.names old.objects to_kind to_flag declarator;
+            objects = old.objects + 1;
+            choices = c.choices.items;
+            otherwise = c.otherwise;
+          }) cases_is
+          ∙ ap (λ (n : ℕ). record (around_of frame nest old) {
+            names = names_behind text old.names old.objects to_kind to_flag declarator;
+            objects = old.objects + 1;
+            passed = n;
+          }) passed_is)
           (first_is ∙ by_specifiers
           (declared_first text held old.names old.objects declarator) kind to_kind flag to_flag
           kind_is flag_is)

@@ -1,8 +1,8 @@
--- Each act that declares nothing, by what is noted at it: `done_evaluates`, `done_leaves`, and so
+-- Each act that declares nothing, by what is noted at it: `done_evaluates`, `done_breaks`, and so
 -- on.
 use Rattle.std.proofs.Common.{◌≡◌, ◌+◌, ℕ, Bool, true, false, not, ◌||◌, option_map, List, [], ◌∷◌}
 use Rattle.std.proofs.Common.{◌++◌, map, Option}
-use Rattle.std.proofs.Common.{Some, None, refl, sym, ap, ◌∙◌, append-nil}
+use Rattle.std.proofs.Common.{Some, None, is_some, zero, suc, refl, sym, ap, ◌∙◌, append-nil}
 use Rattle.std.specs.List.{filter_map, list_any}
 use Rattle.std.specs.Str.{bytes_eq}
 use Rattle.std.proofs.lemmas.List.{map-append}
@@ -16,13 +16,14 @@ use Rattle.c_types_rules.specs.First.{first_with}
 use Rattle.c_types_rules.specs.Expressions.{reading, used}
 use Rattle.c_types_rules.specs.ExpressionRules.{broken, at_if}
 use Rattle.c_types_rules.specs.Declarations.{is_void_kind}
-use Rattle.c_types_rules.specs.Statements.{Around, evaluates, jumps, marks, leaves, returns}
+use Rattle.c_types_rules.specs.Statements.{Around, evaluates, jumps, breaks, continues, marking}
+use Rattle.c_types_rules.specs.Statements.{returns, labeled}
 use Rattle.c_types_rules.specs.StatementRules.{Jump, agree, object_number, jump_at}
 use Rattle.c_types_rules.specs.Items.{Call}
 use Rattle.c_types_expressions.specs.Read.{role_faults, role_calls, calls_are}
 use Rattle.c_types_jumps.specs.Found.{with_base}
-use Rattle.c_types_bodies.specs.States.{State, done}
-use Rattle.c_types_bodies.proofs.Walks.{done_by}
+use Rattle.c_types_bodies.specs.States.{State, noted, walked, done}
+use Rattle.c_types_bodies.proofs.Walks.{done_by, same_state}
 
 -- an expression is evaluated
 pub done_evaluates : (text : Text) (caller : ℕ) (role : Role) (expression : Expression)
@@ -43,15 +44,36 @@ one_rule : (held : Option TextFault) (faults : List TextFault)
 one_rule held faults =
     ap (λ (all : List TextFault). first_with held all) (sym (append-nil faults))
 
-pub done_leaves : (text : Text) (caller place : ℕ) (old new : State) → new.around ≡ old.around
+-- so many rules behind it are not broken
+abbrev and_none : ℕ → List TextFault → List TextFault
+and_none zero faults = faults
+and_none (suc n) faults = and_none n faults ++ []
+
+other_rules : (n : ℕ) (held : Option TextFault) (faults : List TextFault)
+    → first_with held faults ≡ first_with held (and_none n faults)
+other_rules zero held faults = refl
+other_rules (suc n) held faults = other_rules n held faults ∙ one_rule held (and_none n faults)
+
+pub done_breaks : (text : Text) (caller place : ℕ) (old new : State) → new.around ≡ old.around
+    → new.first ≡ first_with old.first (broken rule.N8
+    (at_if (not (old.around.in_loop || is_some old.around.break_to)) place))
+    → new.calls ≡ old.calls → new.labels ≡ old.labels → new.gotos ≡ old.gotos
+    → new ≡ done text caller (breaks place) old
+done_breaks text caller place old new around first calls labels gotos =
+    done_by text caller (breaks place) old new around
+    (first ∙ other_rules 6 old.first (broken rule.N8
+    (at_if (not (old.around.in_loop || is_some old.around.break_to)) place)))
+    (calls ∙ sym (append-nil old.calls)) (labels ∙ sym (append-nil old.labels))
+    (gotos ∙ sym (append-nil old.gotos))
+
+pub done_continues : (text : Text) (caller place : ℕ) (old new : State)
+    → new.around ≡ old.around
     → new.first ≡ first_with old.first (broken rule.N8 (at_if (not old.around.in_loop) place))
     → new.calls ≡ old.calls → new.labels ≡ old.labels → new.gotos ≡ old.gotos
-    → new ≡ done text caller (leaves place) old
-done_leaves text caller place old new around first calls labels gotos =
-    let faults = broken rule.N8 (at_if (not old.around.in_loop) place) in
-    done_by text caller (leaves place) old new around
-    (first ∙ one_rule old.first faults ∙ one_rule old.first (faults ++ [])
-    ∙ one_rule old.first ((faults ++ []) ++ []))
+    → new ≡ done text caller (continues place) old
+done_continues text caller place old new around first calls labels gotos =
+    done_by text caller (continues place) old new around
+    (first ∙ other_rules 6 old.first (broken rule.N8 (at_if (not old.around.in_loop) place)))
     (calls ∙ sym (append-nil old.calls)) (labels ∙ sym (append-nil old.labels))
     (gotos ∙ sym (append-nil old.gotos))
 
@@ -65,7 +87,7 @@ done_returns text caller place with_value old new around first calls labels goto
     let faults =
     broken rule.N16 (at_if (agree with_value (is_void_kind old.around.result)) place) in
     done_by text caller (returns place with_value) old new around
-    (first ∙ one_rule old.first faults) (calls ∙ sym (append-nil old.calls))
+    (first ∙ other_rules 3 old.first faults) (calls ∙ sym (append-nil old.calls))
     (labels ∙ sym (append-nil old.labels)) (gotos ∙ sym (append-nil old.gotos))
 
 abbrev pub is_none_of : {T : Type 0} → Option T → Bool
@@ -100,18 +122,17 @@ done_jumps text caller name old new around first calls labels gotos =
     let faults = broken rule.N6
     (at_if (not (list_any (bytes_eq name.bytes) old.around.labels)) name.place) in
     done_by text caller (jumps name) old new around
-    (first ∙ one_rule old.first faults ∙ one_rule old.first (faults ++ [])
-    ∙ one_rule old.first ((faults ++ []) ++ [])
-    ∙ one_rule old.first (((faults ++ []) ++ []) ++ []))
+    (first ∙ other_rules 7 old.first faults)
     (calls ∙ sym (append-nil old.calls)) (labels ∙ sym (append-nil old.labels)) gotos
 
-pub done_marks : (text : Text) (caller : ℕ) (name : Name) (old new : State)
-    → new.around ≡ old.around → new.first ≡ old.first → new.calls ≡ old.calls
+pub marking_state : (text : Text) (caller : ℕ) (name : Name) (old new : State)
+    → new.around ≡ labeled old.around → new.first ≡ old.first → new.calls ≡ old.calls
     → new.labels ≡ old.labels ++ jump_at name old.around ∷ [] → new.gotos ≡ old.gotos
-    → new ≡ done text caller (marks name) old
-done_marks text caller name old new around first calls labels gotos =
-    done_by text caller (marks name) old new around first (calls ∙ sym (append-nil old.calls))
-    labels (gotos ∙ sym (append-nil old.gotos))
+    → new ≡ walked text caller (marking name) old
+unfolding noted
+marking_state text caller name old new around first calls labels gotos =
+    same_state new (walked text caller (marking name) old) around first
+    (calls ∙ sym (append-nil old.calls)) labels (gotos ∙ sym (append-nil old.gotos))
 
 -- one more label or goto, in scope of the objects that are told
 pub based_more : (base : List ℕ) (held : List Jump) (name : Name) (current : List ℕ)

@@ -20,6 +20,7 @@ use Rattle.c_types_rules.specs.Names.{Text}
 use Rattle.c_types_rules.specs.TypedStatements.{Grown, grown, grown_item, grown_statement}
 use Rattle.c_types_rules.specs.declared.meaning.Role.TheVariants.{Valued}
 use Rattle.c_types_rules.specs.declared.typed.TypedStatement.TheVariants as typed_tree
+use Rattle.c_types_rules.specs.declared.typed.Choice.{Choice}
 use Rattle.c_types_rules.specs.declared.typed.TypedForStart.{TypedForStart}
 use Rattle.c_types_rules.specs.declared.typed.TypedExpression.{TypedExpression}
 use Rattle.c_types_rules.specs.Statements.{followed, doing, evaluates, perhaps}
@@ -42,6 +43,23 @@ if_same a one b two c three e f g =
     ap (λ (x : TypedExpression). typed_tree.If x b c) e
     ∙ ap (λ (x : TypedStatement). typed_tree.If one x c) f
     ∙ ap (λ (x : Option TypedStatement). typed_tree.If one two x) g
+
+pub labeled_same : (n one : ℕ) (a two : TypedStatement) → n ≡ one → a ≡ two
+    → typed_tree.Labeled n a ≡ typed_tree.Labeled one two
+labeled_same n one a two e f =
+    ap (λ (x : ℕ). typed_tree.Labeled x a) e
+    ∙ ap (λ (x : TypedStatement). typed_tree.Labeled one x) f
+
+-- a typed switch, by its parts
+pub switch_same : (a one : TypedExpression) (b two : List Choice) (c three : ℕ)
+    (d four : TypedStatement) (e five : ℕ) → a ≡ one → b ≡ two → c ≡ three → d ≡ four → e ≡ five
+    → typed_tree.Switch a b c d e ≡ typed_tree.Switch one two three four five
+switch_same a one b two c three d four e five f g h i j =
+    ap (λ (x : TypedExpression). typed_tree.Switch x b c d e) f
+    ∙ ap (λ (x : List Choice). typed_tree.Switch one x c d e) g
+    ∙ ap (λ (x : ℕ). typed_tree.Switch one two x d e) h
+    ∙ ap (λ (x : TypedStatement). typed_tree.Switch one two three x e) i
+    ∙ ap (λ (x : ℕ). typed_tree.Switch one two three four x) j
 
 module _ (text : Text) where
   opened : (s : Statement) (x : Statement-F BlockItem Statement) → roll-Statement x ≡ s →
@@ -156,3 +174,24 @@ module _ (text : Text) where
   of_Labeled label body =
       opened (tree.Labeled label body) (Statement-F.Labeled label body)
       (tree.rolls-Labeled label body)
+
+  pub of_Switch : (value : Expression) (body : Statement) (place : ℕ) →
+      grown_of text (tree.Switch value body place)
+      ≡ grown_statement text (Statement-F.Switch value (grown_of text body) 0)
+  of_Switch value body place =
+      opened (tree.Switch value body place) (Statement-F.Switch value body place)
+      (tree.rolls-Switch value body place)
+
+  pub of_Case : (value : Expression) (body : Statement) (place : ℕ) →
+      grown_of text (tree.Case value body place)
+      ≡ grown_statement text (Statement-F.Case value (grown_of text body) place)
+  of_Case value body place =
+      opened (tree.Case value body place) (Statement-F.Case value body place)
+      (tree.rolls-Case value body place)
+
+  pub of_Default : (body : Statement) (place : ℕ) →
+      grown_of text (tree.Default body place)
+      ≡ grown_statement text (Statement-F.Default (grown_of text body) place)
+  of_Default body place =
+      opened (tree.Default body place) (Statement-F.Default body place)
+      (tree.rolls-Default body place)

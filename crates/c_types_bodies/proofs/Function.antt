@@ -1,5 +1,5 @@
 -- A function's body read by one walk (`is_read`, `typed_is`), where it begins (`begins_is`).
-use Rattle.std.proofs.Common.{◌≡◌, ℕ, Bool, false, List, [], ◌++◌, length, map, Option, sym, ap}
+use Rattle.std.proofs.Common.{◌≡◌, ℕ, false, List, [], ◌++◌, length, map, Option, None, sym, ap}
 use Rattle.std.proofs.Common.{◌∙◌, subst}
 use Rattle.std.specs.List.{flat_map}
 use Rattle.c_lexer.specs.declared.fault.Rule.TheVariants as rule
@@ -11,6 +11,7 @@ use Rattle.c_grammar_tree.specs.declared.statement.BlockItem.{BlockItem}
 use Rattle.c_types_rules.specs.declared.meaning.Entry.{Entry}
 use Rattle.c_types_rules.specs.declared.meaning.Kind.{Kind}
 use Rattle.c_types_rules.specs.declared.meaning.Object.{Object}
+use Rattle.c_types_rules.specs.declared.typed.Choice.{Choice}
 use Rattle.c_types_rules.specs.declared.typed.TypedFunction.{TypedFunction}
 use Rattle.c_types_rules.specs.declared.typed.TypedItem.{TypedItem}
 use Rattle.c_types_rules.specs.Declarations.{kind_of}
@@ -28,36 +29,51 @@ use Rattle.c_types_bodies.specs.declared.walker.Walker.{Walker}
 use Rattle.c_types_bodies.specs.Bodies.{begins, acts_of, objects_behind, typed_body}
 use Rattle.c_types_bodies.specs.Grown.{grown_walk, name_bytes}
 use Rattle.c_types_bodies.specs.States.{walked}
-use Rattle.c_types_bodies.specs.Views.{state_of, around_of, IsTied}
+use Rattle.c_types_bodies.specs.Views.{state_of, around_of, IsTied, IsFresh}
 use Rattle.c_types_bodies.specs.Bodies.{AreNumbered}
 use Rattle.c_types_bodies.proofs.Starting.{tied_start}
 use Rattle.c_types_bodies.proofs.Whole.{whole_walk, is_behind, whole_first}
 
-abbrev pub around_with : List Entry → ℕ → ℕ → Bool → Kind → List (List ℕ) → Around
-around_with names outer objects in_loop result labels = record {
-  names = names;
-  outer = outer;
-  objects = objects;
-  in_loop = in_loop;
-  result = result;
-  labels = labels;
-}
+-- where the items of a body stand
+abbrev pub outermost : ℕ → Nest
+outermost outer = record { outer = outer; in_loop = false; break_to = None; switch = None }
 
 pub begins_is : {between : Found} (frame : Frame) (nest : Nest) {mid : Walker} (walker : Walker)
     (specifiers : Specifiers) (items : List BlockItem) → IsTied frame mid between
-    → nest.outer ≡ length walker.names → nest.in_loop ≡ false
-    → frame.result ≡ kind_of specifiers
+    → nest.outer ≡ length walker.names
+    → nest ≡ outermost nest.outer
+    → IsFresh walker → frame.result ≡ kind_of specifiers
     → frame.labels.now ≡ map name_bytes (flat_map labels_of items)
     → around_of frame nest walker ≡ begins walker.names walker.objects specifiers items
-begins_is frame nest walker specifiers items tied outer in_loop result labels =
-    ap (λ (n : ℕ). around_with walker.names n walker.objects nest.in_loop frame.result
-    frame.labels.now) outer
-    ∙ ap (λ (b : Bool). around_with walker.names (length walker.names) walker.objects b
-    frame.result frame.labels.now) in_loop
-    ∙ ap (λ (k : Kind). around_with walker.names (length walker.names) walker.objects false k
-    frame.labels.now) result
-    ∙ ap (λ (ls : List (List ℕ)). around_with walker.names (length walker.names) walker.objects
-    false (kind_of specifiers) ls) labels
+begins_is frame nest walker specifiers items tied outer nest_is fresh result labels =
+    let last = begins walker.names walker.objects specifiers items in
+    ap (λ (n : Nest). around_of frame n walker) nest_is
+    ∙ ap (λ (n : ℕ). record (around_of frame nest walker) {
+      outer = n;
+      in_loop = false;
+      break_to = None;
+      switch = None;
+    }) outer
+    ∙ ap (λ (all : List Choice). record last {
+      choices = all;
+      otherwise = walker.cases.otherwise;
+      result = frame.result;
+      labels = frame.labels.now;
+      passed = walker.passed;
+    }) fresh.choices
+    ∙ ap (λ (n : Option ℕ). record last {
+      otherwise = n;
+      result = frame.result;
+      labels = frame.labels.now;
+      passed = walker.passed;
+    }) fresh.otherwise
+    ∙ ap (λ (k : Kind). record last {
+      result = k;
+      labels = frame.labels.now;
+      passed = walker.passed;
+    }) result
+    ∙ ap (λ (ls : List (List ℕ)). record last { labels = ls; passed = walker.passed }) labels
+    ∙ ap (λ (n : ℕ). record last { passed = n }) fresh.passed
 
 pub record IsRead (text : Text) (caller : ℕ) (specifiers : Specifiers) (all : Parameters)
     (items : List BlockItem) (old last : Walker) (noted : Option TextFault) : Type 0 where
@@ -143,6 +159,7 @@ typed_is frame nest old mid start between specifiers all items ps os ts tied ps_
 
 pub tied_from : (frame : Frame) (walker : Walker) (start : Found)
     → start ≡ nothing_found walker.objects → frame.file ≡ length walker.names
-    → AreNumbered walker.objects walker.names → IsTied frame walker start
-tied_from frame walker start is file numbered =
-    subst (λ (j : Found). IsTied frame walker j) (sym is) (tied_start frame walker file numbered)
+    → AreNumbered walker.objects walker.names → IsFresh walker → IsTied frame walker start
+tied_from frame walker start is file numbered fresh =
+    subst (λ (j : Found). IsTied frame walker j) (sym is)
+    (tied_start frame walker file numbered fresh.cases)

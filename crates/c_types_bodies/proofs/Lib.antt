@@ -10,3 +10,7 @@ pub mod Whole
 pub mod Names
 pub mod Starting
 pub mod Function
+pub mod Passing
+pub mod Selecting
+pub mod Switching
+pub mod Enumerating

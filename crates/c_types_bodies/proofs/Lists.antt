@@ -1,16 +1,18 @@
 -- A walk through a list, one item further (`item_state`), with the typed trees of declarators
 -- (`declarators_step`) and of items (`items_step`).
 use Rattle.std.proofs.Common.{◌≡◌, ℕ, suc, ◌+◌, ◌<◌, ◌≤◌, List, [], ◌∷◌, ◌++◌, length, get_or, drop}
-use Rattle.std.proofs.Common.{map, refl, sym, ap, ◌∙◌, append_assoc, add-one}
+use Rattle.std.proofs.Common.{map, Option, None, Some, refl, sym, ap, ◌∙◌, append_assoc, add-one}
 use Rattle.std.proofs.Math.Seq.{drop-cons}
 use Rattle.std.proofs.lemmas.List.{drop_all}
+use Rattle.c_grammar_tree.specs.declared.expression.Expression.{Expression}
 use Rattle.c_grammar_tree.specs.declared.declaration.Specifiers.{Specifiers}
 use Rattle.c_grammar_tree.specs.declared.declaration.Declarator.{Declarator}
 use Rattle.c_grammar_tree.specs.declared.statement.BlockItem.{BlockItem}
 use Rattle.c_types_rules.specs.declared.typed.TypedDeclarator.{TypedDeclarator}
 use Rattle.c_types_rules.specs.declared.typed.TypedItem.{TypedItem}
+use Rattle.c_types_rules.specs.declared.meaning.Role.{Role}
 use Rattle.c_types_rules.specs.Names.{Text}
-use Rattle.c_types_rules.specs.Statements.{Around, Walk, in_order, declarator_walk}
+use Rattle.c_types_rules.specs.Statements.{Around, Walk, in_order, declarator_walk, evaluating}
 use Rattle.c_types_rules.specs.TypedStatements.{Grown, grown, typed_in_order, typed_declarator}
 use Rattle.c_types_rules.specs.TypedStatements.{typed_declarators}
 use Rattle.c_types_bodies.specs.States.{State, noted, walked}
@@ -51,6 +53,13 @@ pub around_walked : (text : Text) (caller : ℕ) (walk : Walk) (state next : Sta
     → next ≡ walked text caller walk state → next.around ≡ walk.behind state.around
 unfolding noted
 around_walked text caller walk state next is = ap (λ (s : State). s.around) is
+
+pub around_evaluated : (text : Text) (caller : ℕ) (role : Role) (value : Option Expression)
+    (state next : State) → next ≡ walked text caller (evaluating role value) state
+    → next.around ≡ state.around
+unfolding noted
+around_evaluated text caller role None state next is = ap (λ (s : State). s.around) is
+around_evaluated text caller role (Some value) state next is = ap (λ (s : State). s.around) is
 
 pub declarators_step : (text : Text) (specifiers : Specifiers) (items : List Declarator) (i : ℕ)
     (item : Declarator) (typed new : List TypedDeclarator) (one : TypedDeclarator)

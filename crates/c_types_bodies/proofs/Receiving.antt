@@ -17,6 +17,7 @@ use Rattle.c_types_rules.specs.Statements.{receives, receiving, receiving_behind
 use Rattle.c_types_rules.specs.StatementRules.{declared_twice}
 use Rattle.c_types_rules.specs.TypedStatements.{parameter_objects}
 use Rattle.c_types_jumps.specs.Found.{Found, entered, with_base}
+use Rattle.c_types_bodies.specs.declared.walker.Cases.{Cases}
 use Rattle.c_types_bodies.specs.declared.walker.Frame.{Frame}
 use Rattle.c_types_bodies.specs.declared.walker.Nest.{Nest}
 use Rattle.c_types_bodies.specs.declared.walker.Walker.{Walker}
@@ -28,9 +29,10 @@ use Rattle.c_types_bodies.proofs.Declaring.{tied_declared}
 use Rattle.c_types_bodies.proofs.Lists.{drop_at}
 
 -- one rule alone is looked at
-seven_nils : (faults : List TextFault)
-    → ((((((faults ++ []) ++ []) ++ []) ++ []) ++ []) ++ []) ++ [] ≡ faults
-seven_nils faults = simp append-nil
+ten_nils : (faults : List TextFault)
+    → (((((((((faults ++ []) ++ []) ++ []) ++ []) ++ []) ++ []) ++ []) ++ []) ++ []) ++ []
+    ≡ faults
+ten_nils faults = simp append-nil
 
 receiving_state : (text : Text) (caller : ℕ) (parameter : Parameter) (old new : State)
     (places : List ℕ) (names : List Entry)
@@ -50,7 +52,7 @@ receiving_state text caller parameter old new places names places_are names_are 
     }) (sym names_are))
     (first ∙ ap (λ (all : List ℕ). first_with old.first (broken rule.N2 all)) (sym places_are)
     ∙ ap (λ (all : List TextFault). first_with old.first all)
-    (sym (seven_nils (broken rule.N2 (declared_twice old.around (receives parameter))))))
+    (sym (ten_nils (broken rule.N2 (declared_twice old.around (receives parameter))))))
     (calls ∙ sym (append-nil old.calls)) (labels ∙ sym (append-nil old.labels))
     (gotos ∙ sym (append-nil old.gotos))
 
@@ -71,6 +73,7 @@ is_unnamed frame nest old jumps parameter tied none = record {
     tied = tied.tied;
     next = omega (arith, tied.next);
     below = tied.below;
+    cases = tied.cases;
   };
   extends = record { rest = []; is = sym (append-nil old.names) };
   state = receiving_state frame.survey.now frame.caller parameter (state_of frame nest old jumps)
@@ -94,10 +97,10 @@ pub is_named : (frame : Frame) (nest : Nest) (old new : Walker) (jumps after : F
     → new.names ≡ old.names ++ local_entry name.bytes object ∷ []
     → new.first ≡ first_with old.first (broken rule.N2
     (at_if (is_declared_among (drop nest.outer old.names) name.bytes) name.place))
-    → new.calls.items ≡ old.calls.items → after ≡ entered object.number jumps
-    → IsReceived frame nest old new jumps after parameter
+    → new.calls.items ≡ old.calls.items → new.cases ≡ old.cases → new.passed ≡ old.passed
+    → after ≡ entered object.number jumps → IsReceived frame nest old new jumps after parameter
 is_named frame nest old new jumps after parameter name object tied object_is some names first calls
-    after_is =
+    cases passed after_is =
     let next = with_objects (old.objects + 1) new in
     let entry = local_entry name.bytes (parameter_object old.objects parameter) in
     let names_are : new.names ≡ old.names ++ entry ∷ [] =
@@ -108,7 +111,8 @@ is_named frame nest old new jumps after parameter name object tied object_is som
     let same_base = base_extends frame.file old.names new.names tied.within more in
     record {
       tied_new = tied_declared frame old next jumps after entry old.objects tied names_are refl refl
-          (ap (λ (f : Found). f.current) after_object) (ap (λ (f : Found). f.next) after_object)
+          cases (ap (λ (f : Found). f.current) after_object)
+          (ap (λ (f : Found). f.next) after_object)
           (ap (λ (f : Found). f.first) after_object);
       extends = more;
       state = receiving_state frame.survey.now frame.caller parameter (state_of frame nest old
@@ -126,7 +130,17 @@ is_named frame nest old new jumps after parameter name object tied object_is som
             | Some one
                 ↦ old.names ++ local_entry one.bytes (parameter_object old.objects parameter) ∷ []
           ]) some)
-          (ap (λ (all : List Entry). record (around_of frame nest next) { names = all }) names_are)
+          (ap (λ (all : List Entry). record (around_of frame nest next) { names = all }) names_are
+          ∙ ap (λ (c : Cases). record (around_of frame nest next) {
+            names = old.names ++ entry ∷ [];
+            choices = c.choices.items;
+            otherwise = c.otherwise;
+          }) cases
+          ∙ ap (λ (n : ℕ). record (around_of frame nest old) {
+            names = old.names ++ entry ∷ [];
+            objects = old.objects + 1;
+            passed = n;
+          }) passed)
           first calls
           (ap (λ (base : List ℕ). map (with_base base) after.labels) same_base
           ∙ ap (λ (f : Found). map (with_base (base_of frame.file old.names)) f.labels)

@@ -1,7 +1,7 @@
 -- What a scope or a loop makes of a state (`scoped_state`, `looped_state`), and that the objects of
 -- the names stay those that are told (`tied_scoped`).
 use Rattle.std.proofs.Common.{◌≡◌, ℕ, ◌<◌, ◌≤◌, true, List, [], ◌∷◌, ◌++◌, length, take}
-use Rattle.std.proofs.Common.{map, refl, sym, ap, ◌∙◌, subst, arith, append_assoc}
+use Rattle.std.proofs.Common.{map, None, refl, sym, ap, ◌∙◌, subst, arith, append_assoc}
 use Rattle.std.specs.List.{filter_map, AllByRecursion}
 use Rattle.std.proofs.lemmas.List.{take-append-le}
 use Rattle.std.proofs.lemmas.List.Elements.{filter_map-append}
@@ -11,11 +11,12 @@ use Rattle.c_types_rules.specs.Names.{Text}
 use Rattle.c_types_rules.specs.Statements.{Walk, followed, scoped, looped}
 use Rattle.c_types_rules.specs.StatementRules.{Jump, object_number}
 use Rattle.c_types_jumps.specs.Found.{Found, with_base}
+use Rattle.c_types_bodies.specs.declared.walker.Cases.{Cases}
 use Rattle.c_types_bodies.specs.declared.walker.Frame.{Frame}
 use Rattle.c_types_bodies.specs.declared.walker.Nest.{Nest}
 use Rattle.c_types_bodies.specs.declared.walker.Walker.{Walker}
 use Rattle.c_types_bodies.specs.States.{State, noted, walked, in_scope, in_loop, back_in}
-use Rattle.c_types_bodies.specs.Views.{base_of, around_of, state_of, IsTied, Extends}
+use Rattle.c_types_bodies.specs.Views.{base_of, around_of, state_of, IsTied, Extends, AreCases}
 use Rattle.c_types_bodies.proofs.Walks.{walked_followed, same_state}
 
 -- walks one after the other
@@ -49,9 +50,12 @@ scoped_is : (text : Text) (caller : ℕ) (part : Walk) (state : State)
 unfolding noted
 scoped_is text caller part state = refl
 
--- in a loop
+-- in a loop, and in a scope behind so many names
 abbrev pub looping : Nest → Nest
-looping nest = record { outer = nest.outer; in_loop = true }
+looping nest = record nest { in_loop = true; break_to = None }
+
+abbrev pub scoping : ℕ → Nest → Nest
+scoping outer nest = record nest { outer = outer }
 
 back_state : (frame : Frame) (nest inside : Nest) (old new : Walker) (jumps : Found)
     → new.names ≡ old.names
@@ -102,27 +106,33 @@ extends_kept old new more =
 pub scoped_state : (frame : Frame) (nest : Nest) (outer : ℕ) (old mid new : Walker)
     (jumps before after : Found) (text : Text) (caller : ℕ) (part : Walk)
     → frame.file ≤ length old.names → outer ≡ length old.names → Extends old.names mid.names
-    → new.names ≡ old.names → new.objects ≡ mid.objects → new.first ≡ mid.first
+    → new.names ≡ old.names → new.objects ≡ mid.objects → new.cases ≡ mid.cases
+    → new.passed ≡ mid.passed → new.first ≡ mid.first
     → new.calls.items ≡ mid.calls.items → after.labels ≡ before.labels
     → after.gotos ≡ before.gotos
-    → state_of frame (record { outer = outer; in_loop = nest.in_loop }) mid before
-    ≡ walked text caller part
-    (state_of frame (record { outer = outer; in_loop = nest.in_loop }) old jumps)
+    → state_of frame (scoping outer nest) mid before
+    ≡ walked text caller part (state_of frame (scoping outer nest) old jumps)
     → state_of frame nest new after
     ≡ walked text caller (scoped part) (state_of frame nest old jumps)
 scoped_state frame nest outer old mid new jumps before after text caller part within outer_is more
-    names objects first calls labels gotos is =
-    let inside : Nest = record { outer = outer; in_loop = nest.in_loop } in
+    names objects cases passed first calls labels gotos is =
+    let inside = scoping outer nest in
     let state = state_of frame nest old jumps in
     let same_base = ap (λ (all : List Entry). base_of frame.file all) names
     ∙ sym (base_extends frame.file old.names mid.names within more) in
     let entered : state_of frame inside old jumps ≡ in_scope state =
-    ap (λ (n : ℕ). state_of frame (record { outer = n; in_loop = nest.in_loop }) old jumps)
-    outer_is in
+    ap (λ (n : ℕ). state_of frame (scoping n nest) old jumps) outer_is in
     same_state (state_of frame nest new after)
     (back_in (around_of frame nest old) (state_of frame inside mid before))
     (ap (λ (all : List Entry). record (around_of frame nest new) { names = all }) names
-    ∙ ap (λ (n : ℕ). record (around_of frame nest old) { objects = n }) objects)
+    ∙ ap (λ (n : ℕ). record (around_of frame nest new) { names = old.names; objects = n }) objects
+    ∙ ap (λ (c : Cases). record (around_of frame nest new) {
+      names = old.names;
+      objects = mid.objects;
+      choices = c.choices.items;
+      otherwise = c.otherwise;
+    }) cases
+    ∙ ap (λ (n : ℕ). record (around_of frame nest mid) { names = old.names; passed = n }) passed)
     first calls
     (ap (λ (base : List ℕ). map (with_base base) after.labels) same_base
     ∙ ap (λ (all : List Jump). map (with_base (base_of frame.file mid.names)) all) labels)
@@ -138,10 +148,11 @@ append_same (x ∷ base) one two is = append_same base one two (cc)
 
 pub tied_scoped : (frame : Frame) (old mid new : Walker) (jumps before after : Found)
     → IsTied frame old jumps → IsTied frame mid before → Extends old.names mid.names
-    → new.names ≡ old.names → new.objects ≡ mid.objects
+    → new.names ≡ old.names → new.objects ≡ mid.objects → new.cases ≡ mid.cases
     → after.current ≡ take (length jumps.current) before.current → after.next ≡ before.next
     → after.first ≡ before.first → IsTied frame new after
-tied_scoped frame old mid new jumps before after tied then more names objects current next first =
+tied_scoped frame old mid new jumps before after tied then more names objects cases current next
+    first =
     let base = base_of frame.file old.names in
     let more_numbers = filter_map object_number more.rest in
     let same_base = base_extends frame.file old.names mid.names tied.within more in
@@ -163,17 +174,20 @@ tied_scoped frame old mid new jumps before after tied then more names objects cu
       below = subst (λ (n : ℕ). AllByRecursion (λ number. number < n) base) (sym first)
           (subst (λ (b : List ℕ). AllByRecursion (λ number. number < before.first) b) same_base
           then.below);
+      cases = subst (λ (c : Cases). AreCases c) (sym cases) then.cases;
     })
 
 pub tied_same : (frame : Frame) (old new : Walker) (jumps : Found) → IsTied frame old jumps
-    → new.names ≡ old.names → new.objects ≡ old.objects → IsTied frame new jumps
-tied_same frame old new jumps tied names objects =
+    → new.names ≡ old.names → new.objects ≡ old.objects → new.cases ≡ old.cases
+    → IsTied frame new jumps
+tied_same frame old new jumps tied names objects cases =
     subst (λ (all : List Entry). IsTied frame (record new { names = all }) jumps) (sym names)
     (record {
       within = tied.within;
       tied = tied.tied;
       next = omega (arith, objects, tied.next);
       below = tied.below;
+      cases = subst (λ (c : Cases). AreCases c) (sym cases) tied.cases;
     })
 
 pub tied_found : (frame : Frame) (walker : Walker) (jumps after : Found) → IsTied frame walker jumps
@@ -186,6 +200,7 @@ tied_found frame walker jumps after tied current next first =
       tied = tied.tied ∙ ap (λ (numbers : List ℕ). base ++ numbers) (sym current);
       next = omega (arith, next, tied.next);
       below = subst (λ (n : ℕ). AllByRecursion (λ number. number < n) base) (sym first) tied.below;
+      cases = tied.cases;
     }
 
 -- two walks and one more

@@ -8,12 +8,13 @@ use Rattle.c_types_rules.specs.StatementRules.{object_number}
 use Rattle.c_types_jumps.specs.Found.{nothing_found}
 use Rattle.c_types_bodies.specs.declared.walker.Frame.{Frame}
 use Rattle.c_types_bodies.specs.declared.walker.Walker.{Walker}
-use Rattle.c_types_bodies.specs.Views.{base_of, IsTied}
+use Rattle.c_types_bodies.specs.Views.{base_of, IsTied, AreCases}
 use Rattle.c_types_bodies.specs.Bodies.{AreNumbered}
 
 pub tied_start : (frame : Frame) (walker : Walker) → frame.file ≡ length walker.names
-    → AreNumbered walker.objects walker.names → IsTied frame walker (nothing_found walker.objects)
-tied_start frame walker is numbered =
+    → AreNumbered walker.objects walker.names → AreCases walker.cases
+    → IsTied frame walker (nothing_found walker.objects)
+tied_start frame walker is numbered cases =
     let all : base_of frame.file walker.names ≡ filter_map object_number walker.names =
     ap (λ (names : List Entry). filter_map object_number names)
     (ap (λ (n : ℕ). take n walker.names) is ∙ take_all (length walker.names) walker.names
@@ -24,4 +25,5 @@ tied_start frame walker is numbered =
       next = omega arith;
       below = subst (λ (numbers : List ℕ). AllByRecursion (λ n. n < walker.objects) numbers)
           (sym all) numbered;
+      cases = cases;
     }

@@ -1,42 +1,47 @@
 //! The acts of statements that declare nothing: expressions, labels and what leaves
 //! (`act_faults` of `specs/StatementRules.antt` of `c_types_rules`). Proved with `proofs/Doing`.
-ghost use Rattle.std.specs.Prelude.{◌≡◌, not, IfOk, OnOk, is_some, option_map};
+ghost use Rattle.std.specs.Prelude.{◌≡◌, ◌+◌, ◌||◌, not, IfOk, OnOk, is_some, option_map};
 ghost use Rattle.std.specs.List.{list_any};
 ghost use Rattle.std.specs.Str.{bytes_eq};
 ghost use Rattle.c_types_rules.specs.declared.meaning.Role.TheVariants.{Valued, Evaluated};
-ghost use Rattle.c_types_rules.specs.Statements.{evaluates, jumps as goes_to, marks, leaves};
+ghost use Rattle.c_types_rules.specs.Statements.{evaluates, jumps as goes_to, marking};
+ghost use Rattle.c_types_rules.specs.Statements.{breaks, continues};
 ghost use Rattle.c_types_rules.specs.Statements.{returns};
 ghost use Rattle.c_types_rules.specs.Statements.{evaluating};
 ghost use Rattle.c_types_rules.specs.Statements.{followed, doing};
 ghost use Rattle.c_types_rules.specs.Declarations.{is_void_kind};
 ghost use Rattle.c_types_rules.specs.StatementRules.{agree};
-ghost use Rattle.c_types_expressions.specs.Read.{typed_of};
+ghost use Rattle.c_types_expressions.specs.Read.{part_of, typed_of};
 ghost use Rattle.c_types_jumps.specs.Found.{Found};
 ghost use Rattle.c_types_bodies.specs.declared.walker.Nest.{Nest as Nesting};
 ghost use Rattle.c_types_bodies.specs.States.{done, walked};
-ghost use Rattle.c_types_bodies.specs.Views.{state_of, IsTied};
+ghost use Rattle.c_types_bodies.specs.Views.{state_of, with_passed, IsTied};
 
 use crate::walker::{Frame, Nest, Walker};
 use c_grammar_tree::{Expression, Name};
 use c_lexer::Rule;
-use c_types_expressions::read_used;
+use c_types_expressions::{Read, read_used};
 use c_types_jumps::Jumps;
 use c_types_objects::note_if;
 use c_types_rules::{Kind, Role, TypedExpression};
 use std::alloc::{AllocError, Global};
 
-/// Evaluates an expression in a role.
-pub(crate) fn evaluate(
+/// Evaluates an expression in a role, of which the rules see a part.
+pub(crate) fn evaluate_part(
     alloc: Global,
     frame: &Frame,
     walker: &mut Walker,
     role: Role,
     expression: &Expression,
-) -> Result<TypedExpression, AllocError>
-    ensures typed { IfOk result (λ t. t
+) -> Result<Read, AllocError>
+    ensures part { IfOk result (λ r. r.part
+        ≡ part_of frame.now.survey.now walker.old.names expression.now) }
+    ensures typed { IfOk result (λ r. r.typed
         ≡ typed_of frame.now.survey.now walker.old.names expression.now) }
     ensures names { OnOk result (walker.new.names ≡ walker.old.names) }
     ensures objects { OnOk result (walker.new.objects ≡ walker.old.objects) }
+    ensures cases { OnOk result (walker.new.cases ≡ walker.old.cases) }
+    ensures passed { OnOk result (walker.new.passed ≡ walker.old.passed) }
     ensures state { (nest : Nesting) (found : Found) → OnOk result
         (state_of frame.now nest walker.new found ≡ done frame.now.survey.now frame.now.caller
         (evaluates role expression.now) (state_of frame.now nest walker.old found)) }
@@ -51,6 +56,27 @@ pub(crate) fn evaluate(
         &mut walker.first,
         &mut walker.calls,
     )?;
+    Ok(read)
+}
+
+/// Evaluates an expression in a role.
+pub(crate) fn evaluate(
+    alloc: Global,
+    frame: &Frame,
+    walker: &mut Walker,
+    role: Role,
+    expression: &Expression,
+) -> Result<TypedExpression, AllocError>
+    ensures typed { IfOk result (λ t. t
+        ≡ typed_of frame.now.survey.now walker.old.names expression.now) }
+    ensures names { OnOk result (walker.new.names ≡ walker.old.names) }
+    ensures objects { OnOk result (walker.new.objects ≡ walker.old.objects) }
+    ensures cases { OnOk result (walker.new.cases ≡ walker.old.cases) }
+    ensures state { (nest : Nesting) (found : Found) → OnOk result
+        (state_of frame.now nest walker.new found ≡ done frame.now.survey.now frame.now.caller
+        (evaluates role expression.now) (state_of frame.now nest walker.old found)) }
+{
+    let read = evaluate_part(alloc, frame, walker, role, expression)?;
     Ok(read.typed)
 }
 
@@ -66,6 +92,7 @@ pub(crate) fn evaluate_optional(
         ≡ option_map (typed_of frame.now.survey.now walker.old.names) expression.now) }
     ensures names { OnOk result (walker.new.names ≡ walker.old.names) }
     ensures objects { OnOk result (walker.new.objects ≡ walker.old.objects) }
+    ensures cases { OnOk result (walker.new.cases ≡ walker.old.cases) }
     ensures state { (nest : Nesting) (found : Found) → OnOk result
         (state_of frame.now nest walker.new found ≡ walked frame.now.survey.now frame.now.caller
         (evaluating role expression.now) (state_of frame.now nest walker.old found)) }
@@ -100,6 +127,7 @@ pub(crate) fn evaluate_tests(
         ≡ option_map (typed_of frame.now.survey.now walker.old.names) step.now) }
     ensures names { OnOk result (walker.new.names ≡ walker.old.names) }
     ensures objects { OnOk result (walker.new.objects ≡ walker.old.objects) }
+    ensures cases { OnOk result (walker.new.cases ≡ walker.old.cases) }
     ensures state { (nest : Nesting) (found : Found) → OnOk result
         (state_of frame.now nest walker.new found ≡ walked frame.now.survey.now frame.now.caller
         (evaluating Evaluated step.now) (walked frame.now.survey.now frame.now.caller
@@ -110,12 +138,33 @@ pub(crate) fn evaluate_tests(
     Ok(Tests { test, step })
 }
 
-/// A break or a continue.
+/// Whether a break has somewhere to go.
+fn has_end(nest: Nest) -> bool
+    ensures { result ≡ (nest.in_loop || is_some nest.break_to) }
+{
+    nest.in_loop || nest.break_to.is_some()
+}
+
+/// A break.
 pub(crate) fn leave(frame: &Frame, walker: &mut Walker, nest: Nest, place: u32)
     ensures names { walker.new.names ≡ walker.old.names }
     ensures objects { walker.new.objects ≡ walker.old.objects }
+    ensures cases { walker.new.cases ≡ walker.old.cases }
     ensures state { (found : Found) → state_of frame.now nest walker.new found
-        ≡ done frame.now.survey.now frame.now.caller (leaves place)
+        ≡ done frame.now.survey.now frame.now.caller (breaks place)
+        (state_of frame.now nest walker.old found) }
+{
+    let inside = has_end(nest);
+    note_if(&mut walker.first, Rule::N8, !inside, place);
+}
+
+/// A continue.
+pub(crate) fn turn(frame: &Frame, walker: &mut Walker, nest: Nest, place: u32)
+    ensures names { walker.new.names ≡ walker.old.names }
+    ensures objects { walker.new.objects ≡ walker.old.objects }
+    ensures cases { walker.new.cases ≡ walker.old.cases }
+    ensures state { (found : Found) → state_of frame.now nest walker.new found
+        ≡ done frame.now.survey.now frame.now.caller (continues place)
         (state_of frame.now nest walker.old found) }
 {
     note_if(&mut walker.first, Rule::N8, !nest.in_loop, place);
@@ -143,6 +192,7 @@ pub(crate) fn finish(
         ≡ option_map (typed_of frame.now.survey.now walker.old.names) value.now) }
     ensures names { OnOk result (walker.new.names ≡ walker.old.names) }
     ensures objects { OnOk result (walker.new.objects ≡ walker.old.objects) }
+    ensures cases { OnOk result (walker.new.cases ≡ walker.old.cases) }
     ensures state { (nest : Nesting) (found : Found) → OnOk result
         (state_of frame.now nest walker.new found ≡ walked frame.now.survey.now frame.now.caller
         (followed (doing (returns place (is_some value.now))) (evaluating Valued value.now))
@@ -176,6 +226,7 @@ pub(crate) fn jump(
     ensures tied { OnOk result (IsTied frame.now walker.new jumps.new) }
     ensures names { OnOk result (walker.new.names ≡ walker.old.names) }
     ensures objects { OnOk result (walker.new.objects ≡ walker.old.objects) }
+    ensures cases { OnOk result (walker.new.cases ≡ walker.old.cases) }
     ensures state { (nest : Nesting) → OnOk result (state_of frame.now nest walker.new jumps.new
         ≡ done frame.now.survey.now frame.now.caller (goes_to name.now)
         (state_of frame.now nest walker.old jumps.old)) }
@@ -186,20 +237,38 @@ pub(crate) fn jump(
     Ok(())
 }
 
+/// A count with one more.
+fn with_one(count: u32) -> Result<u32, AllocError>
+    ensures { IfOk result (λ more. more ≡ count + 1) }
+{
+    count.checked_add(1).ok_or(AllocError)
+}
+
+/// One label more stands before what comes. A function with 2^32 labels is want of memory.
+pub(crate) fn pass_label(walker: &mut Walker) -> Result<(), AllocError>
+    ensures { OnOk result (walker.new ≡ with_passed (walker.old.passed + 1) walker.old) }
+{
+    let passed = with_one(walker.passed)?;
+    walker.passed = passed;
+    Ok(())
+}
+
 /// A label.
 pub(crate) fn mark(
     alloc: Global,
     frame: &Frame,
-    walker: &Walker,
+    walker: &mut Walker,
     jumps: &mut Jumps,
     name: &Name,
 ) -> Result<(), AllocError>
-    requires { IsTied frame.now walker.now jumps.old }
-    ensures tied { OnOk result (IsTied frame.now walker.now jumps.new) }
-    ensures state { (nest : Nesting) → OnOk result (state_of frame.now nest walker.now jumps.new
-        ≡ done frame.now.survey.now frame.now.caller (marks name.now)
-        (state_of frame.now nest walker.now jumps.old)) }
+    requires { IsTied frame.now walker.old jumps.old }
+    ensures tied { OnOk result (IsTied frame.now walker.new jumps.new) }
+    ensures names { OnOk result (walker.new.names ≡ walker.old.names) }
+    ensures state { (nest : Nesting) → OnOk result (state_of frame.now nest walker.new jumps.new
+        ≡ walked frame.now.survey.now frame.now.caller (marking name.now)
+        (state_of frame.now nest walker.old jumps.old)) }
 {
     jumps.label(alloc, name)?;
+    pass_label(walker)?;
     Ok(())
 }

@@ -5,10 +5,12 @@ ghost use Rattle.std.specs.List.{flat_map};
 ghost use Rattle.c_types_rules.specs.First.{first_with};
 ghost use Rattle.c_types_rules.specs.Items.{body_faults, site_calls, listed};
 ghost use Rattle.c_types_bodies.specs.Bodies.{acts_of, objects_behind, typed_body, AreNumbered};
+ghost use Rattle.c_types_bodies.specs.Views.{IsFresh};
 
 use crate::labels::labels_in_items;
 use crate::parameters::walk_parameters;
 use crate::statements::walk_items;
+use crate::switches::no_cases;
 use crate::walker::{Frame, Nest, Walker};
 use c_grammar_tree::{BlockItem, Parameter, Parameters, Specifiers};
 use c_lexer::TextFault;
@@ -47,7 +49,8 @@ fn walk_function(
     parameters: &Parameters,
     items: &[BlockItem],
 ) -> Result<TypedFunction, AllocError>
-    requires { AreNumbered walker.old.objects walker.old.names }
+    requires numbered { AreNumbered walker.old.objects walker.old.names }
+    requires fresh { IsFresh walker.old }
     ensures names { OnOk result (walker.new.names ≡ walker.old.names) }
     ensures objects { OnOk result (walker.new.objects ≡ objects_behind survey.now walker.old.names
         walker.old.objects specifiers.now parameters.now items.now) }
@@ -73,6 +76,8 @@ fn walk_function(
     let nest = Nest {
         outer: file,
         in_loop: false,
+        break_to: None,
+        switch: None,
     };
     let mut jumps = Jumps::new(alloc, walker.objects)?;
     let parameters = walk_parameters(alloc, &frame, walker, &mut jumps, nest, listed(parameters))?;
@@ -114,6 +119,8 @@ pub fn read_body(
     let mut walker = Walker {
         names: mem::replace(names, Names::new(alloc)),
         objects,
+        passed: 0,
+        cases: no_cases(alloc),
         first: *first,
         calls: mem::replace(calls, Vec::new(alloc)),
     };
@@ -129,6 +136,8 @@ pub fn read_body(
     let Walker {
         names: walked_names,
         objects,
+        passed: _,
+        cases: _,
         first: walked_first,
         calls: walked_calls,
     } = walker;

@@ -1,19 +1,20 @@
 //! Declarations in a function (`declaration_walk` of `specs/Statements.antt` of `c_types_rules`).
 //! Proved with `proofs/Declaring`.
-ghost use Rattle.std.specs.Prelude.{◌≡◌, ◌+◌, IfOk, OnOk};
+ghost use Rattle.std.specs.Prelude.{◌≡◌, ◌+◌, map, IfOk, OnOk};
 ghost use Rattle.c_types_rules.specs.Statements.{declarator_walk, declaration_walk};
+ghost use Rattle.c_types_rules.specs.Statements.{enumeration_walk, in_order};
 ghost use Rattle.c_types_rules.specs.TypedStatements.{typed_declarator, typed_declarators};
 ghost use Rattle.c_types_rules.specs.Declarations.{kind_of, has_const};
 ghost use Rattle.c_types_bodies.specs.States.{walked};
 ghost use Rattle.c_types_bodies.specs.Views.{state_of, around_of, IsTied, Extends};
 
 use crate::walker::{Frame, Nest, Walker};
-use c_grammar_tree::{Declaration, Declarator, Specifiers};
+use c_grammar_tree::{Declaration, Declarator, Enumeration, Specifiers};
 use c_lexer::Rule;
 use c_types_jumps::Jumps;
-use c_types_objects::{Qualified, note_if, read_local, read_specifiers};
+use c_types_objects::{Qualified, note_if, read_enumeration, read_local, read_specifiers};
 use c_types_rules::TypedDeclarator;
-use cpa_ints::Seq;
+use cpa_ints::{Boxed, Seq};
 use std::alloc::{AllocError, Global};
 
 /// The number of objects with one more.
@@ -70,7 +71,68 @@ pub(crate) fn walk_declarator(
     Ok(typed)
 }
 
-/// Declares the objects of a declaration.
+/// Declares what the enumerated type of a declaration declares.
+fn walk_enumeration(
+    alloc: Global,
+    frame: &Frame,
+    walker: &mut Walker,
+    jumps: &Jumps,
+    nest: Nest,
+    enumeration: &Option<Boxed<Enumeration>>,
+) -> Result<(), AllocError>
+    requires { IsTied frame.now walker.old jumps.now }
+    ensures tied { OnOk result (IsTied frame.now walker.new jumps.now) }
+    ensures extends { OnOk result (Extends walker.old.names walker.new.names) }
+    ensures state { OnOk result (state_of frame.now nest walker.new jumps.now
+        ≡ walked frame.now.survey.now frame.now.caller
+        (enumeration_walk frame.now.survey.now enumeration.now)
+        (state_of frame.now nest walker.old jumps.now)) }
+{
+    read_enumeration(
+        alloc,
+        frame.survey,
+        &mut walker.names,
+        nest.outer,
+        frame.caller,
+        enumeration,
+        &mut walker.first,
+        &mut walker.calls,
+    )?;
+    Ok(())
+}
+
+/// Declares objects in order.
+fn walk_declarators(
+    alloc: Global,
+    frame: &Frame,
+    walker: &mut Walker,
+    jumps: &mut Jumps,
+    nest: Nest,
+    specifiers: &Specifiers,
+    declarators: &[Declarator],
+) -> Result<Seq<TypedDeclarator>, AllocError>
+    requires { IsTied frame.now walker.old jumps.old }
+    ensures tied { OnOk result (IsTied frame.now walker.new jumps.new) }
+    ensures extends { OnOk result (Extends walker.old.names walker.new.names) }
+    ensures typed { IfOk result (λ t. t ≡ typed_declarators frame.now.survey.now specifiers.now
+        declarators.now (around_of frame.now nest walker.old)) }
+    ensures state { OnOk result (state_of frame.now nest walker.new jumps.new
+        ≡ walked frame.now.survey.now frame.now.caller
+        (in_order (map (declarator_walk frame.now.survey.now specifiers.now) declarators.now))
+        (state_of frame.now nest walker.old jumps.old)) }
+{
+    let qualified = read_specifiers(alloc, specifiers)?;
+    let mut typed = Vec::new(alloc);
+    for declarator in declarators {
+        let one = walk_declarator(
+            alloc, frame, walker, jumps, nest, specifiers, qualified, declarator,
+        )?;
+        typed.push(one)?;
+    }
+    Ok(Seq::from_vec(typed))
+}
+
+/// Declares the enumerators and the objects of a declaration.
 pub(crate) fn walk_declaration(
     alloc: Global,
     frame: &Frame,
@@ -84,21 +146,16 @@ pub(crate) fn walk_declaration(
     ensures extends { OnOk result (Extends walker.old.names walker.new.names) }
     ensures typed { IfOk result (λ t. t ≡ typed_declarators frame.now.survey.now
         declaration.now.specifiers declaration.now.declarators
-        (around_of frame.now nest walker.old)) }
+        ((enumeration_walk frame.now.survey.now declaration.now.specifiers.enumeration).behind
+        (around_of frame.now nest walker.old))) }
     ensures state { OnOk result (state_of frame.now nest walker.new jumps.new
         ≡ walked frame.now.survey.now frame.now.caller
         (declaration_walk frame.now.survey.now declaration.now)
         (state_of frame.now nest walker.old jumps.old)) }
 {
     let specifiers = &declaration.specifiers;
-    let qualified = read_specifiers(alloc, specifiers)?;
-    let declarators = declaration.declarators.as_slice();
-    let mut typed = Vec::new(alloc);
-    for declarator in declarators {
-        let one = walk_declarator(
-            alloc, frame, walker, jumps, nest, specifiers, qualified, declarator,
-        )?;
-        typed.push(one)?;
-    }
-    Ok(Seq::from_vec(typed))
+    walk_enumeration(alloc, frame, walker, jumps, nest, &specifiers.enumeration)?;
+    let list = declaration.declarators.as_slice();
+    let typed = walk_declarators(alloc, frame, walker, jumps, nest, specifiers, list)?;
+    Ok(typed)
 }

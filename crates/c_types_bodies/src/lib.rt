@@ -8,6 +8,7 @@ mod declarations;
 mod labels;
 mod parameters;
 mod statements;
+mod switches;
 mod walker;
 
 pub use body::{ReadBody, read_body};

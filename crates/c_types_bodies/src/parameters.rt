@@ -48,6 +48,8 @@ fn declare_parameter(
     ensures names { OnOk result (walker.new.names
         ≡ walker.old.names ++ local_entry name.now.bytes object ∷ []) }
     ensures objects { OnOk result (walker.new.objects ≡ walker.old.objects) }
+    ensures cases { OnOk result (walker.new.cases ≡ walker.old.cases) }
+    ensures passed { OnOk result (walker.new.passed ≡ walker.old.passed) }
     ensures calls { OnOk result (walker.new.calls.items ≡ walker.old.calls.items) }
     ensures first { OnOk result (walker.new.first ≡ first_with walker.old.first (broken rule.N2
         (at_if (is_declared_among (drop nest.outer walker.old.names) name.now.bytes)

@@ -1,6 +1,6 @@
 //! Statements: their typed trees, and what their acts make of the state (`grown_of` of
 //! `specs/Grown.antt`). Proved in proofs/Forms, by one lemma for each form.
-ghost use Rattle.std.specs.Prelude.{◌≡◌, map, IfOk, OnOk, option_map, unwrap_or};
+ghost use Rattle.std.specs.Prelude.{◌≡◌, ◌+◌, length, map, IfOk, OnOk, option_map, unwrap_or};
 ghost use Rattle.std.specs.Str.{bytes_eq};
 ghost use Rattle.c_grammar_tree.specs.declared.statement.BlockItem.TheOpen.{Statement-F};
 ghost use Rattle.c_types_rules.specs.Names.{place_of};
@@ -10,25 +10,47 @@ ghost use Rattle.c_types_expressions.specs.Read.{typed_of};
 ghost use Rattle.c_types_rules.specs.Statements.{looped, loop, in_order, start_walk, perhaps};
 ghost use Rattle.c_types_rules.specs.TypedStatements.{grown, grown_statement};
 ghost use Rattle.c_types_rules.specs.TypedStatements.{typed_in_order, typed_for_start};
-ghost use Rattle.c_types_rules.specs.TypedStatements.{typed_optional};
+ghost use Rattle.c_types_rules.specs.TypedStatements.{typed_optional, typed_break};
+ghost use Rattle.c_types_rules.specs.Statements.{switching};
 ghost use Rattle.c_types_bodies.specs.Grown.{grown_of, grown_walk, grown_typed, walk_of_statement};
+ghost use Rattle.c_types_bodies.specs.Grown.{labels_in};
+ghost use Rattle.c_grammar_tree.specs.declared.expression.Expression.{Expression};
 ghost use Rattle.c_types_bodies.specs.States.{walked};
 ghost use Rattle.c_types_bodies.specs.Views.{state_of, around_of, IsTied, Extends};
+ghost use Rattle.c_types_bodies.specs.Views.{IsSwitchOn, within_switch};
 
-use crate::acts::{evaluate, evaluate_optional, evaluate_tests, finish, jump, leave, mark};
+use crate::acts::{
+    evaluate, evaluate_optional, evaluate_part, evaluate_tests, finish, jump, leave, mark,
+    pass_label, turn,
+};
 use crate::declarations::walk_declaration;
+use crate::labels::count_labels;
+use crate::switches::{no_cases, select_rest, select_value, switch_on};
 use crate::walker::{Frame, Nest, Walker};
 use c_grammar_tree::{BlockItem, Expression, ForStart, Name, Statement};
 use c_types_jumps::Jumps;
-use c_types_rules::{Role, TypedExpression, TypedForStart, TypedItem, TypedStatement};
+use c_types_rules::{
+    Choice, Kind, Role, TypedExpression, TypedForStart, TypedItem, TypedStatement,
+};
 use cpa_ints::{Boxed, Seq};
 use std::alloc::{AllocError, Global};
+use std::mem;
 
 /// The number of a label.
 fn label_number(frame: &Frame, name: &Name) -> u32
     ensures { result ≡ unwrap_or (place_of (bytes_eq name.now.bytes) frame.now.labels.now) 0 }
 {
     frame.labels.place_of(name.bytes.as_slice()).unwrap_or(0)
+}
+
+/// What a `break` is: a goto where the nearest loop or switch is a switch.
+fn typed_break(break_to: Option<u32>) -> TypedStatement
+    ensures { result ≡ typed_break break_to }
+{
+    match break_to {
+        Some(label) => TypedStatement::Goto { label },
+        None => TypedStatement::Break,
+    }
 }
 
 /// Walks through a statement.
@@ -99,12 +121,21 @@ pub(crate) fn walk_statement(
                 label: label_number(frame, label),
             })
         }
+        Statement::Switch { value, body, .. } => {
+            walk_switch(alloc, frame, walker, jumps, nest, body.get(), value)
+        }
+        Statement::Case { value, body, place } => {
+            walk_case(alloc, frame, walker, jumps, nest, body.get(), value, *place)
+        }
+        Statement::Default { body, place } => {
+            walk_default(alloc, frame, walker, jumps, nest, body.get(), *place)
+        }
         Statement::Break { place } => {
             leave(frame, walker, nest, *place);
-            Ok(TypedStatement::Break)
+            Ok(typed_break(nest.break_to))
         }
         Statement::Continue { place } => {
-            leave(frame, walker, nest, *place);
+            turn(frame, walker, nest, *place);
             Ok(TypedStatement::Continue)
         }
         Statement::Return { value, place } => {
@@ -165,6 +196,8 @@ fn walk_looped(
     let inside = Nest {
         outer: nest.outer,
         in_loop: true,
+        break_to: None,
+        switch: nest.switch,
     };
     let typed = walk_part(alloc, frame, walker, jumps, inside, body)?;
     Ok(typed)
@@ -399,6 +432,8 @@ fn walk_for(
     let inside = Nest {
         outer: count,
         in_loop: nest.in_loop,
+        break_to: nest.break_to,
+        switch: nest.switch,
     };
     let head = walk_head(alloc, frame, walker, jumps, inside, start, test, step)?;
     let body = walk_looped(alloc, frame, walker, jumps, inside, body)?;
@@ -410,6 +445,172 @@ fn walk_for(
         step: head.step,
         body,
     })
+}
+
+/// What stands in a switch, and its cases.
+#[derive(Drop)]
+struct Switched {
+    body: Boxed<TypedStatement>,
+    choices: Seq<Choice>,
+    otherwise: Option<u32>,
+}
+
+/// Walks through the body of a switch on a value of this type, which ends at this label.
+#[cycle(statement)]
+fn walk_switched(
+    alloc: Global,
+    frame: &Frame,
+    walker: &mut Walker,
+    jumps: &mut Jumps,
+    nest: Nest,
+    body: &Statement,
+    kind: Option<Kind>,
+    end: u32,
+) -> Result<Switched, AllocError>
+    requires { IsTied frame.now walker.old jumps.old }
+    ensures tied { OnOk result (IsTied frame.now walker.new jumps.new) }
+    ensures names { OnOk result (walker.new.names ≡ walker.old.names) }
+    ensures body { (value : Expression) → IsSwitchOn frame.now.survey.now
+        (walk_of_statement frame.now.survey.now body.now) (around_of frame.now nest walker.old)
+        value kind end → IfOk result (λ s. s.body
+        ≡ (grown_of frame.now.survey.now body.now).typed (within_switch frame.now.survey.now value
+        (walk_of_statement frame.now.survey.now body.now)
+        (around_of frame.now nest walker.old))) }
+    ensures choices { (value : Expression) → IsSwitchOn frame.now.survey.now
+        (walk_of_statement frame.now.survey.now body.now) (around_of frame.now nest walker.old)
+        value kind end → IfOk result (λ s. s.choices
+        ≡ ((walk_of_statement frame.now.survey.now body.now).behind
+        (within_switch frame.now.survey.now value
+        (walk_of_statement frame.now.survey.now body.now)
+        (around_of frame.now nest walker.old))).choices) }
+    ensures otherwise { (value : Expression) → IsSwitchOn frame.now.survey.now
+        (walk_of_statement frame.now.survey.now body.now) (around_of frame.now nest walker.old)
+        value kind end → IfOk result (λ s. s.otherwise
+        ≡ ((walk_of_statement frame.now.survey.now body.now).behind
+        (within_switch frame.now.survey.now value
+        (walk_of_statement frame.now.survey.now body.now)
+        (around_of frame.now nest walker.old))).otherwise) }
+    ensures state { (value : Expression) → IsSwitchOn frame.now.survey.now
+        (walk_of_statement frame.now.survey.now body.now) (around_of frame.now nest walker.old)
+        value kind end → OnOk result (state_of frame.now nest walker.new jumps.new
+        ≡ walked frame.now.survey.now frame.now.caller (switching frame.now.survey.now value
+        (walk_of_statement frame.now.survey.now body.now))
+        (state_of frame.now nest walker.old jumps.old)) }
+{
+    let inside = Nest {
+        outer: nest.outer,
+        in_loop: nest.in_loop,
+        break_to: Some(end),
+        switch: Some(switch_on(kind, walker.names.len())),
+    };
+    let fresh = no_cases(alloc);
+    let outer = mem::replace(&mut walker.cases, fresh);
+    let body = walk_part(alloc, frame, walker, jumps, inside, body)?;
+    let cases = mem::replace(&mut walker.cases, outer);
+    pass_label(walker)?;
+    Ok(Switched {
+        body,
+        choices: Seq::from_vec(cases.choices),
+        otherwise: cases.otherwise,
+    })
+}
+
+/// The number of the label behind a statement, in front of which so many labels stand.
+fn end_behind(passed: u32, body: &Statement) -> Result<u32, AllocError>
+    ensures { IfOk result (λ end. end ≡ passed + length (labels_in body.now)) }
+{
+    let inside = count_labels(body)?;
+    passed.checked_add(inside).ok_or(AllocError)
+}
+
+/// Walks through a `switch`.
+#[cycle(statement)]
+fn walk_switch(
+    alloc: Global,
+    frame: &Frame,
+    walker: &mut Walker,
+    jumps: &mut Jumps,
+    nest: Nest,
+    body: &Statement,
+    value: &Expression,
+) -> Result<TypedStatement, AllocError>
+    requires { IsTied frame.now walker.old jumps.old }
+    ensures tied { OnOk result (IsTied frame.now walker.new jumps.new) }
+    ensures names { OnOk result (walker.new.names ≡ walker.old.names) }
+    ensures typed { IfOk result (λ t. t ≡ (grown_statement frame.now.survey.now
+        (Statement-F.Switch value.now (grown_of frame.now.survey.now body.now) 0)).typed
+        (around_of frame.now nest walker.old)) }
+    ensures state { OnOk result (state_of frame.now nest walker.new jumps.new
+        ≡ walked frame.now.survey.now frame.now.caller (grown_statement frame.now.survey.now
+        (Statement-F.Switch value.now (grown_of frame.now.survey.now body.now) 0)).walk
+        (state_of frame.now nest walker.old jumps.old)) }
+{
+    let end = end_behind(walker.passed, body)?;
+    let read = evaluate_part(alloc, frame, walker, Role::Valued, value)?;
+    let kind = read.part.kind;
+    let switched = walk_switched(alloc, frame, walker, jumps, nest, body, kind, end)?;
+    Ok(TypedStatement::Switch {
+        value: read.typed,
+        choices: switched.choices,
+        otherwise: switched.otherwise.unwrap_or(end),
+        body: switched.body,
+        end,
+    })
+}
+
+/// Walks through a `case`.
+#[cycle(statement)]
+fn walk_case(
+    alloc: Global,
+    frame: &Frame,
+    walker: &mut Walker,
+    jumps: &mut Jumps,
+    nest: Nest,
+    body: &Statement,
+    value: &Expression,
+    place: u32,
+) -> Result<TypedStatement, AllocError>
+    requires { IsTied frame.now walker.old jumps.old }
+    ensures tied { OnOk result (IsTied frame.now walker.new jumps.new) }
+    ensures names { OnOk result (walker.new.names ≡ walker.old.names) }
+    ensures typed { IfOk result (λ t. t ≡ (grown_statement frame.now.survey.now
+        (Statement-F.Case value.now (grown_of frame.now.survey.now body.now) place)).typed
+        (around_of frame.now nest walker.old)) }
+    ensures state { OnOk result (state_of frame.now nest walker.new jumps.new
+        ≡ walked frame.now.survey.now frame.now.caller (grown_statement frame.now.survey.now
+        (Statement-F.Case value.now (grown_of frame.now.survey.now body.now) place)).walk
+        (state_of frame.now nest walker.old jumps.old)) }
+{
+    let label = select_value(alloc, frame, walker, jumps, nest, value, place)?;
+    let body = walk_part(alloc, frame, walker, jumps, nest, body)?;
+    Ok(TypedStatement::Labeled { label, body })
+}
+
+/// Walks through a `default`.
+#[cycle(statement)]
+fn walk_default(
+    alloc: Global,
+    frame: &Frame,
+    walker: &mut Walker,
+    jumps: &mut Jumps,
+    nest: Nest,
+    body: &Statement,
+    place: u32,
+) -> Result<TypedStatement, AllocError>
+    requires { IsTied frame.now walker.old jumps.old }
+    ensures tied { OnOk result (IsTied frame.now walker.new jumps.new) }
+    ensures names { OnOk result (walker.new.names ≡ walker.old.names) }
+    ensures typed { IfOk result (λ t. t ≡ (grown_statement frame.now.survey.now
+        (Statement-F.Default (grown_of frame.now.survey.now body.now) place)).typed
+        (around_of frame.now nest walker.old)) }
+    ensures state { OnOk result (state_of frame.now nest walker.new jumps.new
+        ≡ walked frame.now.survey.now frame.now.caller (grown_statement frame.now.survey.now
+        (Statement-F.Default (grown_of frame.now.survey.now body.now) place)).walk
+        (state_of frame.now nest walker.old jumps.old)) }
+{
+    let label = select_rest(frame, walker, jumps, nest, place)?;
+    let body = walk_part(alloc, frame, walker, jumps, nest, body)?;
+    Ok(TypedStatement::Labeled { label, body })
 }
 
 /// Walks through a labeled statement.
@@ -434,10 +635,11 @@ fn walk_labeled(
         (Statement-F.Labeled label.now (grown_of frame.now.survey.now body.now))).walk
         (state_of frame.now nest walker.old jumps.old)) }
 {
+    let number = walker.passed;
     mark(alloc, frame, walker, jumps, label)?;
     let body = walk_part(alloc, frame, walker, jumps, nest, body)?;
     Ok(TypedStatement::Labeled {
-        label: label_number(frame, label),
+        label: number,
         body,
     })
 }
@@ -468,6 +670,8 @@ fn walk_block(
     let inside = Nest {
         outer: count,
         in_loop: nest.in_loop,
+        break_to: nest.break_to,
+        switch: nest.switch,
     };
     let items = walk_items(alloc, frame, walker, jumps, inside, items)?;
     walker.names.keep(count);

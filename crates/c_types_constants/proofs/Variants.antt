@@ -25,8 +25,8 @@ use Rattle.c_types_rules.specs.declared.typed.TypedExpression.TheFolds.{fold-rol
 use Rattle.c_types_rules.specs.declared.typed.TypedExpression.TheFolds.{fold-roll-TypedSuffix}
 use Rattle.c_types_rules.specs.declared.typed.TypedSuffix.{TypedSuffix, roll-TypedSuffix}
 use Rattle.c_types_rules.specs.declared.typed.TypedSuffix.TheVariants as behind
-use Rattle.c_types_rules.specs.Constants.{constant, constant_step, suffix_step, is_object}
-use Rattle.c_types_rules.specs.Constants.{impure, chained, last_value, comma_value}
+use Rattle.c_types_rules.specs.Constants.{constant, constant_step, suffix_step}
+use Rattle.c_types_rules.specs.Constants.{named_constant, impure, chained, last_value, comma_value}
 use Rattle.c_types_constants.specs.Links.{link_constant, suffix_impure, signed}
 use Rattle.c_types_constants.specs.Links.{cast, chosen, comma_constant}
 
@@ -56,8 +56,7 @@ any_start [] h = absurd (omega arith)
 any_start (item ∷ items) h = refl
 
 pub constant_Name : (found : Option Meaning) (place : ℕ) →
-    constant (tree.Name found place)
-    ≡ record { is_impure = is_object found; ty = None; value = None }
+    constant (tree.Name found place) ≡ named_constant found
 constant_Name found place =
     opened (tree.Name found place)
     (TypedExpression-F.Name found place)

@@ -2,7 +2,8 @@
 //! `specs/Constants.antt`). Proved with `proofs/Variants.antt`.
 ghost use Rattle.std.specs.Prelude.{◌≡◌, map};
 ghost use Rattle.std.specs.List.{list_any};
-ghost use Rattle.c_types_rules.specs.Constants.{is_object, joined_value, joined, chained, constant};
+ghost use Rattle.c_types_rules.specs.Constants.{is_object, named_constant, joined_value, joined};
+ghost use Rattle.c_types_rules.specs.Constants.{chained, constant};
 ghost use Rattle.c_types_rules.specs.Constants.{impure, last_value, comma_value};
 ghost use Rattle.cpa_expr.specs.Values.{truth_of, logical_or, logical_and};
 ghost use Rattle.c_types_constants.specs.Links.{both_value, link_constant, suffix_impure};
@@ -25,6 +26,24 @@ fn is_object(meaning: Option<Meaning>) -> bool
     match meaning {
         Some(Meaning::Object(_)) => true,
         _ => false,
+    }
+}
+
+/// A name, which is a constant where it is an enumerator's.
+fn named_constant(meaning: Option<Meaning>) -> Constant
+    ensures { result ≡ named_constant meaning }
+{
+    match meaning {
+        Some(Meaning::Enumerator(value)) => Constant {
+            is_impure: false,
+            ty: Some(IntType::I32),
+            value: Some(value),
+        },
+        _ => Constant {
+            is_impure: is_object(meaning),
+            ty: None,
+            value: None,
+        },
     }
 }
 
@@ -235,11 +254,7 @@ pub fn constant(e: &TypedExpression) -> Constant
     ensures { result ≡ constant e.now }
 {
     match e {
-        TypedExpression::Name { meaning, .. } => Constant {
-            is_impure: is_object(*meaning),
-            ty: None,
-            value: None,
-        },
+        TypedExpression::Name { meaning, .. } => named_constant(*meaning),
         TypedExpression::Number { ty, value, .. } => Constant {
             is_impure: false,
             ty: Some(*ty),

@@ -3,12 +3,15 @@ use Rattle.std.proofs.Common.{◌≡◌, ℕ, List, [], ◌∷◌, ◌++◌, Opt
 use Rattle.std.proofs.lemmas.List.{append-nil}
 use Rattle.std.proofs.lemmas.List.Concat.{flat_map-append}
 use Rattle.c_lexer.specs.declared.fault.TextFault.{TextFault}
+use Rattle.c_grammar_tree.specs.declared.expression.TypeName.{TypeName}
+use Rattle.c_grammar_tree.specs.declared.expression.TypeName.TheVariants as type_name
 use Rattle.c_types_rules.specs.Items.{Call}
+use Rattle.c_types_rules.specs.declared.meaning.Entry.{Entry}
 use Rattle.c_types_rules.specs.declared.meaning.Form.{Form}
 use Rattle.c_types_rules.specs.declared.meaning.Form.TheVariants.{Bare, Element, Plain}
 use Rattle.c_types_rules.specs.declared.meaning.Role.{Role}
 use Rattle.c_types_rules.specs.First.{first_with, first_append}
-use Rattle.c_types_rules.specs.Expressions.{Reading, Use, used, taken, given}
+use Rattle.c_types_rules.specs.Expressions.{Reading, Use, used, taken, given, tag_uses}
 use Rattle.c_types_rules.specs.ExpressionRules.{use_faults, uses_faults}
 use Rattle.c_types_rules.specs.Items.{use_calls}
 use Rattle.c_types_expressions.specs.Read.{uses_calls, form_calls}
@@ -54,6 +57,14 @@ pub used_calls : (caller : ℕ) (role : Role) (r : Reading) →
 unfolding uses_calls
 used_calls caller role r = flat_map-append (use_calls caller) r.uses (taken role r.part ∷ [])
     ∙ append-nil (uses_calls caller r.uses)
+
+-- a tag is none either
+pub tag_calls : (caller : ℕ) (names : List Entry) (to_type : TypeName) →
+    uses_calls caller (tag_uses names to_type) ≡ []
+unfolding uses_calls
+tag_calls caller names (type_name.Words words place) = refl
+tag_calls caller names (type_name.Typedef named place) = refl
+tag_calls caller names (type_name.Enum tag place) = refl
 
 -- how many arguments are handed makes no other call
 pub given_calls : (caller : ℕ) (form : Form) (handed : ℕ) →

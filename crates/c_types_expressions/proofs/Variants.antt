@@ -37,7 +37,7 @@ use Rattle.c_types_rules.specs.Parts.{chain_type, last_kind, comma_kind}
 use Rattle.c_types_rules.specs.Expressions.{Reading, ReadSuffix, reading, reading_step, read_suffix}
 use Rattle.c_types_rules.specs.Expressions.{used}
 use Rattle.c_types_rules.specs.Expressions.{Use, named, taken, paired}
-use Rattle.c_types_rules.specs.Expressions.{plain, cast_role, links_of, parts_of}
+use Rattle.c_types_rules.specs.Expressions.{plain, cast_role, tag_uses, links_of, parts_of}
 use Rattle.c_types_rules.specs.ExpressionRules.{use_faults, uses_faults}
 use Rattle.c_types_expressions.specs.Read.{part_of, typed_of, faults_of, calls_of, role_faults}
 use Rattle.c_types_expressions.specs.Read.{role_calls}
@@ -45,7 +45,7 @@ use Rattle.c_types_expressions.specs.Read.{uses_calls, link_part, link_typed, li
 use Rattle.c_types_expressions.specs.Read.{link_calls}
 use Rattle.c_types_expressions.specs.Read.{suffix_of, suffixed_of, kind_before, unary_value_type}
 use Rattle.c_types_expressions.proofs.Uses.{uses_append, uses_one, used_faults, calls_append}
-use Rattle.c_types_expressions.proofs.Uses.{used_calls}
+use Rattle.c_types_expressions.proofs.Uses.{used_calls, tag_calls}
 use Rattle.c_types_expressions.proofs.Lists.{trees_read, list_faults, list_calls, comma_read}
 use Rattle.c_types_expressions.proofs.Lists.{read_link, links_read, links_typed, links_faults}
 use Rattle.c_types_expressions.proofs.Lists.{links_calls}
@@ -349,10 +349,12 @@ module _ (text : Text) (names : List Entry) where
   pub first_Cast : (held : Option TextFault) (to_type : TypeName) (operand : Expression)
       (place : ℕ) →
       first_with held (faults_of text names (tree.Cast to_type operand place))
-      ≡ first_with held
+      ≡ first_with (first_with held (uses_faults (tag_uses names to_type)))
       (role_faults text names (cast_role (kind_of_type_name to_type)) operand)
   first_Cast held to_type operand place =
       ap (λ (r : Reading). first_with held (uses_faults r.uses)) (open_Cast to_type operand place)
+      ∙ uses_append held (tag_uses names to_type)
+      (used (cast_role (kind_of_type_name to_type)) (reading text names operand))
 
   pub calls_Cast : (held : List Call) (caller : ℕ) (to_type : TypeName) (operand : Expression)
       (place : ℕ) →
@@ -361,6 +363,11 @@ module _ (text : Text) (names : List Entry) where
       ++ role_calls text names caller (cast_role (kind_of_type_name to_type)) operand
   calls_Cast held caller to_type operand place =
       ap (λ (r : Reading). held ++ uses_calls caller r.uses) (open_Cast to_type operand place)
+      ∙ (calls_append held caller (tag_uses names to_type)
+      (used (cast_role (kind_of_type_name to_type)) (reading text names operand))
+      ∙ ap (λ (cs : List Call). cs ++ role_calls text names caller
+      (cast_role (kind_of_type_name to_type)) operand)
+      (ap (λ (cs : List Call). held ++ cs) (tag_calls caller names to_type) ∙ append-nil held))
 
   open_Chain : (head : Expression) (rest : List (BinaryOperator × Expression)) (place : ℕ) →
       reading text names (tree.Chain head rest place)

@@ -5,7 +5,8 @@ ghost use Rattle.c_grammar_tree.specs.declared.expression.Expression.{Expression
 ghost use Rattle.c_types_rules.specs.declared.typed.TypedExpression.TheVariants as typed;
 ghost use Rattle.c_types_rules.specs.First.{first_with};
 ghost use Rattle.c_types_rules.specs.Parts.{with_value, ends_kind, changed_kind};
-ghost use Rattle.c_types_rules.specs.Expressions.{plain};
+ghost use Rattle.c_types_rules.specs.Expressions.{plain, tag_uses};
+ghost use Rattle.c_types_rules.specs.ExpressionRules.{uses_faults};
 ghost use Rattle.c_types_expressions.specs.Read.{part_of, typed_of, faults_of, calls_of};
 
 use crate::combine::unary_kind;
@@ -17,7 +18,7 @@ use c_types_names::{Names, Survey};
 use c_types_recursion::Call;
 use c_types_rules::{
     Part, Role, TypedExpression, as_kind, cast_kind, cast_role, ends_kind, kind_of_type_name,
-    with_value,
+    note_tagged, with_value,
 };
 use cpa_ints::Boxed;
 use std::alloc::{AllocError, Global};
@@ -148,6 +149,24 @@ pub(crate) fn read_unary(
     })
 }
 
+/// Notes the fault of the tag in the type of a cast, where it has one.
+#[tactic(auto, using(crate::proofs::Uses::uses_one))]
+fn note_type_name(
+    alloc: Global,
+    names: &Names,
+    to: &TypeName,
+    first: &mut Option<TextFault>,
+) -> Result<(), AllocError>
+    ensures { OnOk result
+        (first.new ≡ first_with first.old (uses_faults (tag_uses names.now to.now))) }
+{
+    if let TypeName::Enum { tag, .. } = to {
+        let is_declared = names.has_tag(alloc, tag.bytes.as_slice())?;
+        note_tagged(first, tag.place, is_declared);
+    }
+    Ok(())
+}
+
 /// Reads `(to) operand`.
 #[cycle(read)]
 #[tactic(auto, using(crate::proofs::Variants::part_Cast, crate::proofs::Variants::typed_Cast, crate::proofs::Variants::first_Cast, crate::proofs::Variants::calls_Cast))]
@@ -171,6 +190,7 @@ pub(crate) fn read_cast(
     ensures calls { OnOk result (calls.new.items ≡ calls.old.items
         ++ calls_of survey.now names.now caller (Expression.Cast to.now operand.now place)) }
 {
+    note_type_name(alloc, names, to, first)?;
     let wanted = kind_of_type_name(to);
     let role = cast_role(wanted);
     let read = read_used(alloc, survey, names, caller, role, operand, first, calls)?;

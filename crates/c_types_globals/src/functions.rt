@@ -1,17 +1,18 @@
 //! Declarations of functions (`function_behind` and `head_faults` of `specs/Items.antt` of
-//! `c_types_rules`). Proved with `first_append` of `c_types_rules`.
+//! `c_types_rules`). Proved with `proofs/Heads`.
 ghost use Rattle.std.specs.Prelude.{◌≡◌, [], ◌∷◌, ◌++◌, OnOk};
 ghost use Rattle.c_types_rules.specs.First.{first_with};
 ghost use Rattle.c_types_rules.specs.Names.{declared_as};
 ghost use Rattle.c_types_rules.specs.Items.{merged_function, function_behind, head_faults};
-ghost use Rattle.c_types_globals.specs.Scopes.{before_of};
+ghost use Rattle.c_types_globals.specs.Scopes.{before_of, taken_faults};
 
 use crate::Scope;
+use crate::enumerations::{note_enumeration, note_enumerations};
 use crate::merging::{is_said, merged_function, redeclares_function};
 use crate::parameters::{listed, note_void_parameters, parameter_types};
 use c_grammar_tree::{FunctionDeclarator, Specifiers};
 use c_lexer::{Rule, TextFault};
-use c_types_names::Names;
+use c_types_names::{Names, Survey};
 use c_types_objects::{note_if, read_specifiers};
 use c_types_rules::{Entry, Kind, ParameterType};
 use cpa_ints::Seq;
@@ -39,10 +40,31 @@ fn declare_name(
     names.declare(alloc, Entry { name, declared })
 }
 
-/// Declares a function, by a prototype or by a definition: holds the first fault of its head.
+/// Notes the faults of a function's name and of the types of its parameters.
 #[tactic(auto, using(c_types_rules::specs::First::first_append))]
+fn note_head(
+    alloc: Global,
+    names: &Names,
+    kind: Kind,
+    types: &Option<Seq<ParameterType>>,
+    defines: bool,
+    declarator: &FunctionDeclarator,
+    first: &mut Option<TextFault>,
+) -> Result<(), AllocError>
+    ensures { OnOk result (first.new ≡ first_with first.old
+        (taken_faults names.now kind types.now defines declarator.now)) }
+{
+    let name = declarator.name.bytes.as_slice();
+    let is_taken = redeclares_function(names.declared(name), kind, types, defines);
+    note_if(first, Rule::N2, is_taken, declarator.name.place);
+    note_void_parameters(alloc, listed(&declarator.parameters), first)?;
+    Ok(())
+}
+
+/// Declares a function, by a prototype or by a definition: holds the first fault of its head.
 pub fn declare_function(
     alloc: Global,
+    survey: &Survey,
     scope: &mut Scope,
     defines: bool,
     specifiers: &Specifiers,
@@ -52,13 +74,23 @@ pub fn declare_function(
     ensures scope { OnOk result (before_of scope.new
         ≡ function_behind defines specifiers.now declarator.now (before_of scope.old)) }
     ensures first { OnOk result (first.new ≡ first_with first.old
-        (head_faults (before_of scope.old) defines specifiers.now declarator.now)) }
+        (head_faults survey.now (before_of scope.old) defines specifiers.now declarator.now)) }
 {
+    note_enumeration(alloc, survey, scope, specifiers, first)?;
     let kind = read_specifiers(alloc, specifiers)?.kind;
     let types = parameter_types(alloc, defines, &declarator.parameters)?;
+    note_head(
+        alloc,
+        &scope.names,
+        kind,
+        &types,
+        defines,
+        declarator,
+        first,
+    )?;
+    let all = listed(&declarator.parameters);
+    note_enumerations(alloc, survey, scope, all, first)?;
     let name = declarator.name.bytes.as_slice();
-    let is_taken = redeclares_function(scope.names.declared(name), kind, &types, defines);
-    note_if(first, Rule::N2, is_taken, declarator.name.place);
-    note_void_parameters(alloc, listed(&declarator.parameters), first)?;
-    declare_name(alloc, &mut scope.names, name, kind, types, defines)
+    declare_name(alloc, &mut scope.names, name, kind, types, defines)?;
+    Ok(())
 }

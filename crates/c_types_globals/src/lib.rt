@@ -2,6 +2,7 @@
 //! at, and the rules that they break (`specs/Items.antt` of `c_types_rules`).
 #![tactic(auto)]
 
+mod enumerations;
 mod functions;
 mod merging;
 mod objects;
@@ -10,6 +11,7 @@ mod scope;
 mod type_names;
 mod typedefs;
 
+pub use enumerations::declare_enumeration;
 pub use functions::declare_function;
 pub use merging::same_kind;
 pub use objects::declare_objects;

@@ -49,7 +49,7 @@ pub(crate) fn redeclares_object(
                 is_initialized,
             },
         ) => !one_type(*object, fresh) || (*is_initialized && initializes),
-        Some(Declared::Function { .. }) => true,
+        Some(Declared::Function { .. } | Declared::Enumerator { .. } | Declared::Tag) => true,
     }
 }
 
@@ -144,7 +144,7 @@ pub(crate) fn redeclares_function(
 {
     match declared {
         None => false,
-        Some(Declared::Object { .. }) => true,
+        Some(Declared::Object { .. } | Declared::Enumerator { .. } | Declared::Tag) => true,
         Some(
             Declared::Function {
                 result,

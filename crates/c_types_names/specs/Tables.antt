@@ -34,6 +34,8 @@ AreCounted (Some types) = length types < 2 ^ 32
 abbrev pub IsCounted : Declared → Type 0
 IsCounted (declared.Object object initialized) = Unit {0}
 IsCounted (declared.Function result parameters defined) = AreCounted parameters
+IsCounted (declared.Enumerator value) = Unit {0}
+IsCounted declared.Tag = Unit {0}
 
 -- what the parts of a table of names keep
 pub record IsTied (table : Table) : Type 0 where

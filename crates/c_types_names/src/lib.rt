@@ -8,8 +8,10 @@ mod names;
 mod numbers;
 mod survey;
 mod table;
+mod tags;
 
 pub use declaration::Declaration;
 pub use firsts::Firsts;
 pub use names::Names;
 pub use survey::Survey;
+pub use tags::tag_key;

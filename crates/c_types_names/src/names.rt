@@ -1,15 +1,15 @@
 //! The names declared so far. Contracts see the list of the declarations (`specs/Names.antt` of
 //! `c_types_rules`); what the parts keep beside it is `IsTied`, proved in `proofs/Lasts`.
 
-ghost use Rattle.std.specs.Prelude.{◌≡◌, [], ◌++◌, ◌∷◌, length, take, drop, OnOk, OnErr};
+ghost use Rattle.std.specs.Prelude.{◌≡◌, [], ◌++◌, ◌∷◌, length, take, drop, OnOk, OnErr, IfOk};
 ghost use Rattle.std.specs.Option.{option_copied};
-ghost use Rattle.c_types_rules.specs.Names.{declared_as, meaning_of};
+ghost use Rattle.c_types_rules.specs.Names.{declared_as, is_tag, meaning_of};
 ghost use Rattle.c_types_rules.specs.Declarations.{is_declared_among};
 ghost use Rattle.c_types_names.specs.Again.{said_again};
 
 use crate::table::{self, Table};
-use crate::{Declaration, Survey};
-use c_types_rules::{Declared, Entry, Function, Meaning, known_function};
+use crate::{Declaration, Survey, tag_key};
+use c_types_rules::{Declared, Entry, Meaning};
 use std::alloc::{AllocError, Global};
 use std::marker::Model;
 
@@ -96,6 +96,14 @@ impl Names {
         ensures { result ≡ is_declared_among (drop outer self.now) name.now }
     {
         table::is_declared_from(&self.table, outer, name)
+    }
+
+    /// Whether a tag is declared.
+    pub fn has_tag(&self, alloc: Global, tag: &[u8]) -> Result<bool, AllocError>
+        ensures { IfOk result (λ found. found ≡ is_tag self.now tag.now) }
+    {
+        let key = tag_key(alloc, tag)?;
+        Ok(self.declared(key.as_slice()).is_some())
     }
 
     /// What a name stands for.

@@ -220,6 +220,8 @@ fn meaning_by(
             Some(function) => Some(Meaning::Known(function)),
             None => Some(Meaning::Function(function_of(survey, name, *result, parameters))),
         },
+        Declared::Enumerator { value } => Some(Meaning::Enumerator(*value)),
+        Declared::Tag => known.map(Meaning::Known),
     }
 }
 

@@ -1,3 +1,4 @@
+pub mod Enumerating
 pub mod FirstFault
 pub mod Fitting
 pub mod Words

@@ -19,10 +19,10 @@ use std::alloc::{AllocError, Global};
 
 /// An expression that is to be constant: its place, its value, and where it is no constant.
 #[derive(Clone, Copy)]
-pub(crate) struct Fixed {
-    pub(crate) place: u32,
-    pub(crate) number: Option<i128>,
-    pub(crate) inconstant: Option<u32>,
+pub struct Fixed {
+    pub place: u32,
+    pub number: Option<i128>,
+    pub inconstant: Option<u32>,
 }
 
 /// The value, of which the type and the constant are known.
@@ -50,7 +50,7 @@ fn inconstant_by(found: Constant, part: Part) -> Option<u32>
 }
 
 /// Reads what is to be constant: holds the first fault of its names and types, and notes its calls.
-pub(crate) fn read_fixed(
+pub fn read_fixed(
     alloc: Global,
     survey: &Survey,
     names: &Names,

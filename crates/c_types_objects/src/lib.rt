@@ -3,6 +3,7 @@
 #![tactic(auto)]
 
 mod constants;
+mod enumerators;
 mod initializers;
 mod lengths;
 mod noting;
@@ -10,6 +11,8 @@ mod objects;
 mod parameters;
 mod specifiers;
 
+pub use constants::{Fixed, read_fixed};
+pub use enumerators::read_enumeration;
 pub use initializers::{read_initializer, read_starts};
 pub use noting::{note_found, note_if};
 pub use objects::{read_local, read_object};

@@ -47,7 +47,10 @@ fn named_by(word: Specifier) -> Option<NamedType>
 {
     match word.kind {
         SpecifierKind::TypedefName(named) => Some(named),
-        SpecifierKind::Storage(_) | SpecifierKind::Other(_) | SpecifierKind::TypeWord(_) => None,
+        SpecifierKind::Storage(_)
+        | SpecifierKind::Other(_)
+        | SpecifierKind::TypeWord(_)
+        | SpecifierKind::Enum => None,
     }
 }
 
@@ -77,7 +80,10 @@ fn is_const_word(word: Specifier) -> bool
     match word.kind {
         SpecifierKind::Other(SpecifierWord::Const) => true,
         SpecifierKind::TypedefName(named) => named.is_const,
-        SpecifierKind::Storage(_) | SpecifierKind::Other(_) | SpecifierKind::TypeWord(_) => false,
+        SpecifierKind::Storage(_)
+        | SpecifierKind::Other(_)
+        | SpecifierKind::TypeWord(_)
+        | SpecifierKind::Enum => false,
     }
 }
 
@@ -90,7 +96,8 @@ pub(crate) fn is_void_word(word: Specifier) -> bool
         SpecifierKind::Storage(_)
         | SpecifierKind::Other(_)
         | SpecifierKind::TypeWord(_)
-        | SpecifierKind::TypedefName(_) => false,
+        | SpecifierKind::TypedefName(_)
+        | SpecifierKind::Enum => false,
     }
 }
 
@@ -103,9 +110,10 @@ fn push_type_word(found: &mut Vec<TypeWord>, word: Specifier) -> Result<(), Allo
             found.push(type_word)?;
             Ok(())
         }
-        SpecifierKind::Storage(_) | SpecifierKind::Other(_) | SpecifierKind::TypedefName(_) => {
-            Ok(())
-        }
+        SpecifierKind::Storage(_)
+        | SpecifierKind::Other(_)
+        | SpecifierKind::TypedefName(_)
+        | SpecifierKind::Enum => Ok(()),
     }
 }
 

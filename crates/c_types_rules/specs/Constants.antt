@@ -117,6 +117,12 @@ abbrev pub is_object : Option Meaning → Bool
 is_object (Some (meaning.Object object)) = true
 is_object _ = false
 
+-- a name as a constant: that of an enumerator is one (C11 6.7.2.2p3)
+abbrev pub named_constant : Option Meaning → Constant
+named_constant (Some (meaning.Enumerator n)) =
+    record { is_impure = false; ty = Some ty.I32; value = Some n }
+named_constant meaning = record { is_impure = is_object meaning; ty = None; value = None }
+
 -- no constant
 abbrev pub impure : Constant
 impure = record { is_impure = true; ty = None; value = None }
@@ -128,8 +134,7 @@ suffix_step _ = true
 
 -- an expression with a constant for each part of it
 abbrev pub constant_step : TypedExpression-F Constant Bool → Constant
-constant_step (TypedExpression-F.Name meaning place) =
-    record { is_impure = is_object meaning; ty = None; value = None }
+constant_step (TypedExpression-F.Name meaning place) = named_constant meaning
 constant_step (TypedExpression-F.Number t n place) =
     record { is_impure = false; ty = Some t; value = Some n }
 constant_step (TypedExpression-F.Character n place) =

@@ -3,11 +3,15 @@ use Rattle.std.specs.Prelude.{ℕ, ℤ, pos, int_le, int_lt, Bool, true, false, 
 use Rattle.std.specs.Prelude.{◌&&◌, ◌||◌, if◌then◌else◌, List, [], ◌∷◌, ◌++◌, length, map}
 use Rattle.std.specs.Prelude.{Option, None, Some, is_some, unwrap_or, option_and_then}
 use Rattle.std.specs.List.{list_any}
+use Rattle.std.specs.Ordering.{int_eq}
 use Rattle.std.specs.Str.{bytes_eq}
+use Rattle.cpa_ints.specs.declared.integers.IntType.TheVariants as ty
+use Rattle.cpa_ints.specs.Wrapping.{wrapped}
 use Rattle.c_grammar_symbols.specs.declared.words.TypeWord.TheVariants as word
 use Rattle.c_grammar_tree.specs.declared.expression.Expression.{Expression}
 use Rattle.c_grammar_tree.specs.declared.declaration.Specifier.{Specifier}
 use Rattle.c_grammar_tree.specs.declared.declaration.SpecifierKind.TheVariants as word_kind
+use Rattle.c_grammar_tree.specs.declared.declaration.Enumerator.{Enumerator}
 use Rattle.c_grammar_tree.specs.declared.declaration.Specifiers.{Specifiers}
 use Rattle.c_grammar_tree.specs.declared.declaration.Initializer.{Initializer}
 use Rattle.c_grammar_tree.specs.declared.declaration.Initializer.TheVariants as initializer
@@ -25,7 +29,7 @@ use Rattle.c_types_rules.specs.declared.typed.TypedInitializer.{TypedInitializer
 use Rattle.c_types_rules.specs.declared.typed.TypedInitializer.TheVariants as typed_initializer
 use Rattle.c_types_rules.specs.Types.{kind_of_words, type_of_named, object_type, value_kind}
 use Rattle.c_types_rules.specs.declared.meaning.Role.TheVariants.{Valued}
-use Rattle.c_types_rules.specs.Names.{Text}
+use Rattle.c_types_rules.specs.Names.{Text, tag_key}
 use Rattle.c_types_rules.specs.Expressions.{reading, Use, used}
 use Rattle.c_types_rules.specs.ExpressionRules.{at_if}
 use Rattle.c_types_rules.specs.Constants.{constant}
@@ -37,10 +41,11 @@ is_void_word found = elim found.kind [
   | word_kind.Other w ↦ false
   | word_kind.TypeWord w ↦ elim w [ word.Void ↦ true | _ ↦ false ]
   | word_kind.TypedefName named ↦ false
+  | word_kind.Enum ↦ false
 ]
 
--- the type that specifiers name: that of the typedef name among them, or of their words (C11 6.7.2
--- and 6.7.8)
+-- the type that specifiers name: that of the typedef name among them, or of their words; with enum,
+-- which stands beside no word of a type, int (C11 6.7.2, 6.7.2.2 and 6.7.8)
 abbrev pub kind_of : Specifiers → Kind
 kind_of specifiers = elim (named_among specifiers.words) [
   | None ↦ kind_of_words (type_words specifiers.words)
@@ -148,6 +153,48 @@ object_of text names number specifiers declarator = record {
 -- the declared name of an object in a function
 abbrev pub local_entry : List ℕ → Object → Entry
 local_entry name object = record { name = name; declared = declared.Object object false }
+
+-- a value of type int
+abbrev pub is_int : ℤ → Bool
+is_int n = int_eq (wrapped ty.I32 n) n
+
+-- the value that an enumerator is given, the next one being this: what its expression says, or the
+-- next (C11 6.7.2.2p3)
+abbrev pub given_number : Text → List Entry → ℤ → Enumerator → ℤ
+given_number text names next one = elim one.value [
+  | None ↦ next
+  | Some value ↦ unwrap_or (constant_number text names value) (pos 0)
+]
+
+-- the value for which it stands: 0 where that is no int, beside the fault
+abbrev pub enumerator_number : Text → List Entry → ℤ → Enumerator → ℤ
+enumerator_number text names next one =
+    if is_int (given_number text names next one) then given_number text names next one else pos 0
+
+-- N12: an enumerator's expression is no constant (6.7.2.2p2): its first token; its value is outside
+-- int: the first token of the expression, or else the name
+abbrev pub enumerator_faults : Text → List Entry → ℤ → Enumerator → List ℕ
+enumerator_faults text names next one = elim one.value [
+  | None ↦ at_if (not (is_int next)) one.name.place
+  | Some value ↦ inconstant text names value ++ elim (constant_number text names value) [
+    | None ↦ []
+    | Some n ↦ at_if (not (is_int n)) (reading text names value).part.place
+  ]
+]
+
+-- how its expression uses names
+abbrev pub enumerator_uses : Text → List Entry → Enumerator → List Use
+enumerator_uses text names one = elim one.value [
+  | None ↦ []
+  | Some value ↦ used Valued (reading text names value)
+]
+
+-- the declared name of an enumerator of this value, and of a tag
+abbrev pub enumerator_entry : List ℕ → ℤ → Entry
+enumerator_entry name n = record { name = name; declared = declared.Enumerator n }
+
+abbrev pub tag_entry : List ℕ → Entry
+tag_entry tag = record { name = tag_key tag; declared = declared.Tag }
 
 -- the name is among these
 abbrev pub is_declared_among : List Entry → List ℕ → Bool

@@ -19,7 +19,7 @@ use Rattle.c_types_rules.specs.Parts.{is_changeable}
 use Rattle.c_types_rules.specs.declared.meaning.Role.TheVariants.{Valued, Evaluated, Changed}
 use Rattle.c_types_rules.specs.declared.meaning.Role.TheVariants.{Indexed}
 use Rattle.c_types_rules.specs.declared.meaning.Role.TheVariants.{Called}
-use Rattle.c_types_rules.specs.Expressions.{Use, named, taken, given, paired}
+use Rattle.c_types_rules.specs.Expressions.{Use, named, taken, given, paired, tagged}
 
 -- the faults of a rule at these places
 abbrev pub broken : Rule → List ℕ → List TextFault
@@ -30,9 +30,11 @@ abbrev pub at_if : Bool → ℕ → List ℕ
 at_if true place = place ∷ []
 at_if false place = []
 
--- N1: a name is used that is not declared there (6.5.1p2): the name
+-- N1: a name, or a tag of a cast, is used that is not declared there (6.5.1p2; 6.7.2.3p3 lets no
+-- enumerated type stand without its list before): the name
 abbrev pub undeclared : Use → List ℕ
 undeclared (named place None) = place ∷ []
+undeclared (tagged place false) = place ∷ []
 undeclared _ = []
 
 -- the name of a function, which is none of an object
@@ -52,7 +54,8 @@ abbrev pub function_name : Form → List ℕ
 function_name (Bare place meaning) = at_if (names_function meaning) place
 function_name _ = []
 
--- N3: something other than a function's name is called (6.5.2.2p1, without pointers): its first
+-- N3: something other than a function's name, as an enumerator, is called (6.5.2.2p1, without
+-- pointers): its first
 -- token. A function's name stands as a value (6.3.2.1p4, without pointers): the name
 abbrev pub misused_function : Use → List ℕ
 misused_function (taken Called part) = at_if (not (may_be_called part.form)) part.place

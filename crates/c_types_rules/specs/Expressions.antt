@@ -1,11 +1,13 @@
 -- How an expression uses its parts and its names, and the typed tree that it is (C11 6.5). Names
 -- stand for one thing from its first token to its last.
-use Rattle.std.specs.Prelude.{ℕ, List, [], ◌∷◌, ◌++◌, length, map, Option, None, Some}
+use Rattle.std.specs.Prelude.{ℕ, Bool, List, [], ◌∷◌, ◌++◌, length, map, Option, None, Some}
 use Rattle.std.specs.List.{flat_map}
 use Rattle.cpa_ints.specs.declared.integers.IntType.TheVariants as ty
 use Rattle.c_grammar_symbols.specs.declared.operators.BinaryOperator.{BinaryOperator}
 use Rattle.c_grammar_tree.specs.declared.expression.Expression.{Expression}
 use Rattle.c_grammar_tree.specs.declared.expression.Expression.TheOpen.{Expression-F, Suffix-F}
+use Rattle.c_grammar_tree.specs.declared.expression.TypeName.{TypeName}
+use Rattle.c_grammar_tree.specs.declared.expression.TypeName.TheVariants as type_name
 use Rattle.c_grammar_tree.specs.declared.expression.Expression.TheFolds.{fold-Expression}
 use Rattle.c_types_rules.specs.declared.meaning.Kind.{Kind}
 use Rattle.c_types_rules.specs.declared.meaning.Kind.TheVariants.{Void, Value}
@@ -23,7 +25,7 @@ use Rattle.c_types_rules.specs.declared.typed.TypedExpression.TheVariants as tre
 use Rattle.c_types_rules.specs.declared.typed.TypedSuffix.{TypedSuffix}
 use Rattle.c_types_rules.specs.declared.typed.TypedSuffix.TheVariants as behind
 use Rattle.c_types_rules.specs.Types.{kind_of_type_name}
-use Rattle.c_types_rules.specs.Names.{Text, meaning_of}
+use Rattle.c_types_rules.specs.Names.{Text, meaning_of, is_tag}
 use Rattle.c_types_rules.specs.Parts.{value, with_value, with_values, named_kind, element_form}
 use Rattle.c_types_rules.specs.Parts.{element_of, result_of, changed_kind, unary_type, cast_kind}
 use Rattle.c_types_rules.specs.Parts.{chain_type, ends_kind, comma_kind}
@@ -39,6 +41,8 @@ pub data Use : Type 0 where
   given : Form → ℕ → Use
   -- the two ends of a conditional
   paired : Part → Part → Use
+  -- a tag stands at this place, and is declared or not
+  tagged : ℕ → Bool → Use
 
 -- what an expression is to the rules, how it uses names and parts, and its typed tree
 pub record Reading : Type 0 where
@@ -120,6 +124,11 @@ abbrev pub cast_role : Kind → Role
 cast_role Void = Evaluated
 cast_role (Value t) = Valued
 
+-- the tag in the type of a cast, where it has one
+abbrev pub tag_uses : List Entry → TypeName → List Use
+tag_uses names (type_name.Enum tag place) = tagged tag.place (is_tag names tag.bytes) ∷ []
+tag_uses names _ = []
+
 -- the parts of a chain behind its first, with their operators
 abbrev pub links_of : List (BinaryOperator × Reading) → List (BinaryOperator × Part)
 links_of = map (λ link. (link.0, link.1.part))
@@ -180,7 +189,7 @@ reading_step text names (Expression-F.Cast to operand place) =
     let kind = cast_kind wanted operand.part.kind in
     record {
       part = plain place kind;
-      uses = used (cast_role wanted) operand;
+      uses = tag_uses names to ++ used (cast_role wanted) operand;
       typed = tree.Cast operand.typed kind place;
     }
 reading_step text names (Expression-F.Chain first rest place) =

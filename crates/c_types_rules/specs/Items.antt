@@ -41,7 +41,7 @@ use Rattle.c_types_rules.specs.Declarations.{kind_of, items_of, inconstant, leng
 use Rattle.c_types_rules.specs.Declarations.{length_uses}
 use Rattle.c_types_rules.specs.Declarations.{void_object, object_of, parameter_type, void_parameter}
 use Rattle.c_types_rules.specs.Statements.{Around, Site, Walk, followed, in_order, receiving}
-use Rattle.c_types_rules.specs.Statements.{walk_of, labels_of}
+use Rattle.c_types_rules.specs.Statements.{enumeration_walk, walk_of, labels_of}
 use Rattle.c_types_rules.specs.StatementRules.{act_uses, site_faults, jump_faults}
 
 -- the parameters that a declarator lists
@@ -89,6 +89,32 @@ pub record Before : Type 0 where
   pub objects : ℕ
   pub bodies : ℕ
 
+-- in file scope, as where something stands in a function
+abbrev pub around_item : Before → Around
+around_item before = record {
+  names = before.names;
+  outer = 0;
+  objects = before.objects;
+  in_loop = false;
+  break_to = None;
+  switch = None;
+  choices = [];
+  otherwise = None;
+  result = Void;
+  labels = [];
+  passed = 0;
+}
+
+-- what the enumerated type of specifiers declares in file scope, and its faults
+abbrev pub enumeration_behind : Text → Specifiers → Before → Before
+enumeration_behind text specifiers before = record before {
+  names = ((enumeration_walk text specifiers.enumeration).behind (around_item before)).names;
+}
+
+abbrev pub enumeration_faults : Text → Specifiers → Before → List TextFault
+enumeration_faults text specifiers before = flat_map (site_faults text)
+    ((enumeration_walk text specifiers.enumeration).sites (around_item before))
+
 -- two objects of file scope have one type (C11 6.7p4): a length of 0, which is none, is that of
 -- each array
 abbrev pub same_length : Option ℤ → Option ℤ → Bool
@@ -118,6 +144,8 @@ redeclares_object None fresh initializes = false
 redeclares_object (Some (declared.Object old initialized)) fresh initializes =
     not (one_type old fresh) || (initialized && initializes)
 redeclares_object (Some (declared.Function result parameters defined)) fresh initializes = true
+redeclares_object (Some (declared.Enumerator value)) fresh initializes = true
+redeclares_object (Some declared.Tag) fresh initializes = true
 
 abbrev pub global_of : Text → Before → Specifiers → Declarator → Object
 global_of text before specifiers declarator =
@@ -198,6 +226,8 @@ merged_function _ result fresh defines = declared.Function result fresh defines
 abbrev pub redeclares_function : Option Declared → Kind → Option (List ParameterType) → Bool → Bool
 redeclares_function None result fresh defines = false
 redeclares_function (Some (declared.Object object initialized)) result fresh defines = true
+redeclares_function (Some (declared.Enumerator value)) result fresh defines = true
+redeclares_function (Some declared.Tag) result fresh defines = true
 redeclares_function (Some (declared.Function kind old defined)) result fresh defines =
     not (same_kind kind result) || not (agreeing_parameters old fresh) || (defined && defines)
 
@@ -217,10 +247,14 @@ function_behind defines specifiers declarator before = record before {
   } ∷ [];
 }
 
-abbrev pub head_faults : Before → Bool → Specifiers → FunctionDeclarator → List TextFault
-head_faults before defines specifiers declarator =
-    broken rule.N2 (redeclared_function before defines specifiers declarator)
+-- N1 too, of the tags in the types of the result and of the parameters
+abbrev pub head_faults : Text → Before → Bool → Specifiers → FunctionDeclarator → List TextFault
+head_faults text before defines specifiers declarator =
+    enumeration_faults text specifiers before
+    ++ broken rule.N2 (redeclared_function before defines specifiers declarator)
     ++ broken rule.N5 (flat_map void_parameter (listed declarator.parameters))
+    ++ flat_map (λ parameter. enumeration_faults text parameter.specifiers before)
+    (listed declarator.parameters)
 
 -- what is known at the beginning of a body; the parameters and the names declared directly in the
 -- body stand in one scope (C11 6.2.1p4)
@@ -230,8 +264,13 @@ around_body before specifiers items = record {
   outer = length before.names;
   objects = before.objects;
   in_loop = false;
+  break_to = None;
+  switch = None;
+  choices = [];
+  otherwise = None;
   result = kind_of specifiers;
   labels = map (λ name. name.bytes) (flat_map labels_of items);
+  passed = 0;
 }
 
 abbrev pub body_walk : Text → Parameters → List BlockItem → Walk
@@ -311,9 +350,11 @@ site_calls text caller site = flat_map (use_calls caller) (act_uses text site.ar
 abbrev pub item_behind : Text → Item → Before → Before
 item_behind text (item.Empty place) before = before
 item_behind text (item.Typedef specifiers names place) before =
-    typedefs_behind (object_type (kind_of specifiers)) names before
+    typedefs_behind (object_type (kind_of specifiers)) names
+    (enumeration_behind text specifiers before)
 item_behind text (item.Objects declaration) before =
-    globals_behind text declaration.specifiers declaration.declarators before
+    globals_behind text declaration.specifiers declaration.declarators
+    (enumeration_behind text declaration.specifiers before)
 item_behind text (item.Prototype specifiers declarator) before =
     function_behind false specifiers declarator before
 item_behind text (item.Function specifiers declarator made) before =
@@ -322,13 +363,17 @@ item_behind text (item.Function specifiers declarator made) before =
 abbrev pub item_faults : Text → Item → Before → List TextFault
 item_faults text (item.Empty place) before = []
 item_faults text (item.Typedef specifiers names place) before =
-    typedefs_faults (object_type (kind_of specifiers)) names before
+    enumeration_faults text specifiers before
+    ++ typedefs_faults (object_type (kind_of specifiers)) names
+    (enumeration_behind text specifiers before)
 item_faults text (item.Objects declaration) before =
-    globals_faults text declaration.specifiers declaration.declarators before
+    enumeration_faults text declaration.specifiers before
+    ++ globals_faults text declaration.specifiers declaration.declarators
+    (enumeration_behind text declaration.specifiers before)
 item_faults text (item.Prototype specifiers declarator) before =
-    head_faults before false specifiers declarator
+    head_faults text before false specifiers declarator
 item_faults text (item.Function specifiers declarator made) before =
-    head_faults before true specifiers declarator
+    head_faults text before true specifiers declarator
     ++ body_faults text (body_sites text before specifiers declarator made)
 
 abbrev pub item_calls : Text → Item → Before → List Call

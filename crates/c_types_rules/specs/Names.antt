@@ -1,6 +1,6 @@
 -- What a name stands for at a place (C11 6.2.1 and 6.2.3).
-use Rattle.std.specs.Prelude.{ℕ, ◌+◌, Bool, true, false, List, [], ◌∷◌}
-use Rattle.std.specs.Prelude.{length, find, Option, None, Some, option_map}
+use Rattle.std.specs.Prelude.{ℕ, ◌+◌, Bool, true, false, List, [], ◌∷◌, ◌++◌, codes}
+use Rattle.std.specs.Prelude.{length, find, Option, None, Some, is_some, option_map}
 use Rattle.std.specs.Str.{bytes_eq}
 use Rattle.c_types_rules.specs.declared.known.KnownFunction.{KnownFunction}
 use Rattle.c_types_rules.specs.declared.meaning.Kind.{Kind}
@@ -46,6 +46,15 @@ declared_as (entry ∷ entries) name =
     or_else (declared_as entries name)
     (elim (bytes_eq entry.name name) [ true ↦ Some entry.declared | false ↦ None ])
 
+-- the name under which a tag is declared: no identifier is spelled so, and so tags are a name space
+-- of their own (C11 6.2.3)
+abbrev pub tag_key : List ℕ → List ℕ
+tag_key tag = codes "enum " ++ tag
+
+-- a tag of this spelling is declared
+abbrev pub is_tag : List Entry → List ℕ → Bool
+is_tag names tag = is_some (declared_as names (tag_key tag))
+
 -- the function of this name, as the text declares it
 abbrev pub function_of : Text → List ℕ → Kind → Option (List ParameterType) → Function
 function_of text name result parameters = record {
@@ -55,14 +64,15 @@ function_of text name result parameters = record {
 }
 
 -- what a name stands for that is declared so or not at all: a known function needs no declaration,
--- and no declaration but one of an object takes its place
+-- and no declaration but one of an object or an enumerator takes its place
 abbrev pub meaning_by : Text → List ℕ → Option KnownFunction → Option Declared → Option Meaning
 meaning_by text name known (Some (declared.Object object initialized)) =
     Some (meaning.Object object)
+meaning_by text name known (Some (declared.Enumerator value)) = Some (meaning.Enumerator value)
 meaning_by text name (Some function) _ = Some (meaning.Known function)
 meaning_by text name None (Some (declared.Function result parameters defined)) =
     Some (meaning.Function (function_of text name result parameters))
-meaning_by text name None None = None
+meaning_by text name None _ = None
 
 -- what a name stands for where these names are declared
 abbrev pub meaning_of : Text → List Entry → List ℕ → Option Meaning

@@ -32,10 +32,12 @@ abbrev pub with_values : {T : Type 0} → Option T → List Part → Option T
 with_values x [] = x
 with_values x (part ∷ parts) = with_value (with_values x parts) part.kind
 
--- the type of what a name stands for: that of a scalar object
+-- the type of what a name stands for: that of a scalar object, or int of an enumerator (C11
+-- 6.7.2.2p3)
 abbrev pub named_kind : Option Meaning → Option Kind
 named_kind (Some (meaning.Object object)) =
     elim object.length [ None ↦ Some (Value object.ty) | Some n ↦ None ]
+named_kind (Some (meaning.Enumerator n)) = Some (Value ty.I32)
 named_kind _ = None
 
 -- the type of the elements of what a name stands for (C11 6.5.2.1)

@@ -28,7 +28,7 @@ use Rattle.c_types_rules.specs.declared.typed.Global.{Global}
 use Rattle.c_types_rules.specs.Names.{Text, declared_as}
 use Rattle.c_types_rules.specs.Declarations.{kind_of, items_of, constant_number}
 use Rattle.c_types_rules.specs.Items.{Call, Before, text_of, same_kind, global_of, global_behind}
-use Rattle.c_types_rules.specs.Items.{item_behind, items_faults, items_calls}
+use Rattle.c_types_rules.specs.Items.{enumeration_behind, item_behind, items_faults, items_calls}
 use Rattle.c_types_rules.specs.Items.{nothing_before}
 use Rattle.c_types_rules.specs.Recursion.{Among, LeadsBack}
 use Rattle.c_types_rules.specs.TypedStatements.{typed_function}
@@ -75,7 +75,8 @@ starts_in text specifiers (declarator ∷ more) before =
 
 abbrev pub item_starts : Text → Item → Before → List Start
 item_starts text (item.Objects declaration) before =
-    starts_in text declaration.specifiers declaration.declarators before
+    starts_in text declaration.specifiers declaration.declarators
+    (enumeration_behind text declaration.specifiers before)
 item_starts text _ before = []
 
 abbrev pub starts_of : Text → List Item → Before → List Start
@@ -88,6 +89,8 @@ abbrev pub is_object_entry : Entry → Bool
 is_object_entry entry = elim entry.declared [
   | declared.Object object initialized ↦ true
   | declared.Function result parameters defined ↦ false
+  | declared.Enumerator value ↦ false
+  | declared.Tag ↦ false
 ]
 
 abbrev pub object_names : List (List ℕ) → List Entry → List (List ℕ)

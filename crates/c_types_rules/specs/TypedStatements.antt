@@ -1,7 +1,7 @@
 -- The typed tree of statements, of functions and of a text (this project's own, over C11 6.8 and
 -- 6.9).
 use Rattle.std.specs.Prelude.{ℕ, ◌+◌, true, List, [], ◌∷◌, map}
-use Rattle.std.specs.Prelude.{Option, unwrap_or, option_map}
+use Rattle.std.specs.Prelude.{Option, None, Some, unwrap_or, option_map}
 use Rattle.std.specs.Str.{bytes_eq}
 use Rattle.c_grammar_tree.specs.declared.name.Name.{Name}
 use Rattle.c_grammar_tree.specs.declared.expression.Expression.{Expression}
@@ -31,7 +31,8 @@ use Rattle.c_types_rules.specs.Expressions.{reading}
 use Rattle.c_types_rules.specs.Declarations.{kind_of, object_of, parameter_object, typed_items}
 use Rattle.c_types_rules.specs.Statements.{Around, Walk, inner, loop, in_order, declaring_behind}
 use Rattle.c_types_rules.specs.Statements.{receiving, start_walk, statement_walk}
-use Rattle.c_types_rules.specs.Statements.{item_walk}
+use Rattle.c_types_rules.specs.Statements.{item_walk, labeled, selected, switched, end_behind}
+use Rattle.c_types_rules.specs.Statements.{enumeration_walk}
 use Rattle.c_types_rules.specs.Items.{Before, listed, around_body, function_behind}
 
 -- a part: its acts, and its typed tree where it stands
@@ -67,13 +68,18 @@ typed_declarators text specifiers (declarator ∷ more) around =
 abbrev pub typed_for_start : Text → ForStart → Around → TypedForStart
 typed_for_start text (start.Declaration declaration) around =
     typed_start.Declaration (typed_declarators text declaration.specifiers declaration.declarators
-    around)
+    ((enumeration_walk text declaration.specifiers.enumeration).behind around))
 typed_for_start text (start.Expression expression) around =
     typed_start.Expression (typed_optional text around expression)
 
 -- the number of the label of this name in its function
 abbrev pub label_number : Around → Name → ℕ
 label_number around name = unwrap_or (place_of (bytes_eq name.bytes) around.labels) 0
+
+-- where a break goes
+abbrev pub typed_break : Option ℕ → TypedStatement
+typed_break None = tree.Break
+typed_break (Some end) = tree.Goto end
 
 -- a statement with a grown part for each statement in it, where it stands
 abbrev pub typed_statement : Text → Statement-F (Grown TypedItem) (Grown TypedStatement) → Around
@@ -94,18 +100,28 @@ typed_statement text (Statement-F.For first test step body place) around =
     tree.For (typed_for_start text first (inner around)) (typed_optional text behind test)
     (typed_optional text behind step) (body.typed (loop behind))
 typed_statement text (Statement-F.Goto label place) around = tree.Goto (label_number around label)
-typed_statement text (Statement-F.Break place) around = tree.Break
+typed_statement text (Statement-F.Switch value body place) around =
+    let end = end_behind body.walk around in
+    let within = switched text value end around in
+    let behind = body.walk.behind within in
+    tree.Switch (typed_expression text around value) behind.choices
+    (unwrap_or behind.otherwise end) (body.typed within) end
+typed_statement text (Statement-F.Case value body place) around =
+    tree.Labeled around.passed (body.typed (selected text (Some value) around))
+typed_statement text (Statement-F.Default body place) around =
+    tree.Labeled around.passed (body.typed (selected text None around))
+typed_statement text (Statement-F.Break place) around = typed_break around.break_to
 typed_statement text (Statement-F.Continue place) around = tree.Continue
 typed_statement text (Statement-F.Return value place) around =
     tree.Return (typed_optional text around value)
 typed_statement text (Statement-F.Labeled label body) around =
-    tree.Labeled (label_number around label) (body.typed around)
+    tree.Labeled around.passed (body.typed (labeled around))
 
 abbrev pub typed_block_item : Text → BlockItem-F (Grown TypedItem) (Grown TypedStatement) → Around
     → TypedItem
 typed_block_item text (BlockItem-F.Declaration declaration) around =
     typed_item.Declaration (typed_declarators text declaration.specifiers declaration.declarators
-    around)
+    ((enumeration_walk text declaration.specifiers.enumeration).behind around))
 typed_block_item text (BlockItem-F.Statement statement) around =
     typed_item.Statement (statement.typed around)
 

@@ -50,10 +50,11 @@ type_of_named named = elim named.size [
   | size.LongLong ↦ if named.is_unsigned then ty.U64 else ty.I64
 ]
 
--- the type that a cast names
+-- the type that a cast names; an enumerated type is int (C11 6.7.2.2p4 leaves it to the profile)
 abbrev pub kind_of_type_name : TypeName → Kind
 kind_of_type_name (type_name.Words words place) = kind_of_words words
 kind_of_type_name (type_name.Typedef named place) = Value (type_of_named named)
+kind_of_type_name (type_name.Enum tag place) = Value ty.I32
 
 -- the integer type of an object that is declared with this type; one of type void counts as an int,
 -- beside its fault

@@ -81,6 +81,7 @@ pub fn kind_of_type_name(name: &TypeName) -> Kind
     match name {
         TypeName::Words { words, .. } => kind_of_words(words.as_slice()),
         TypeName::Typedef { named, .. } => Kind::Value(type_of_named(*named)),
+        TypeName::Enum { .. } => Kind::Value(IntType::I32),
     }
 }
 

@@ -25,10 +25,10 @@ pub use meaning::{
 pub use parts::{cast_role, named_kind, with_value};
 pub use tables::{cells_of, is_shift, operator_of};
 pub use typed::{
-    Global, TypedDeclarator, TypedExpression, TypedForStart, TypedFunction, TypedInitializer,
-    TypedItem, TypedStatement, TypedSuffix,
+    Choice, Global, TypedDeclarator, TypedExpression, TypedForStart, TypedFunction,
+    TypedInitializer, TypedItem, TypedStatement, TypedSuffix,
 };
-pub use uses::{note_given, note_named, note_paired, note_taken};
+pub use uses::{note_given, note_named, note_paired, note_tagged, note_taken};
 
 /// How many elements an array has at most, this project's own limit.
 pub const MAX_ELEMENTS: u32 = 4096;

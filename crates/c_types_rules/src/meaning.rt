@@ -39,6 +39,8 @@ pub enum Meaning {
     Object(Object),
     Function(Function),
     Known(KnownFunction),
+    /// A constant of an enumerated type, by its value.
+    Enumerator(i128),
 }
 
 /// The type of a parameter; that of a pointer is `char *`.
@@ -61,6 +63,12 @@ pub enum Declared {
         parameters: Option<Seq<ParameterType>>,
         is_defined: bool,
     },
+    /// A constant of type int.
+    Enumerator {
+        value: i128,
+    },
+    /// The tag of an enumerated type, under the name of `tag_key` of `specs/Names.antt`.
+    Tag,
 }
 
 /// A declared name.

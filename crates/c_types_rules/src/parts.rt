@@ -13,7 +13,7 @@ ghost use Rattle.c_types_rules.specs.Parts.{
   is_changeable,
   changed_kind,
 };
-ghost use Rattle.c_types_rules.specs.Expressions.{plain, taken, given, named, cast_role};
+ghost use Rattle.c_types_rules.specs.Expressions.{plain, taken, given, named, tagged, cast_role};
 ghost use Rattle.c_types_rules.specs.ExpressionRules.{
   undeclared,
   names_function,
@@ -38,6 +38,7 @@ ghost use Rattle.c_types_rules.specs.ExpressionRules.{
 };
 
 use crate::{Form, Kind, Meaning, Part, Role, as_kind, value_kind};
+use cpa_ints::IntType;
 
 /// The type of what a name stands for.
 pub fn named_kind(meaning: Option<Meaning>) -> Option<Kind>
@@ -48,6 +49,7 @@ pub fn named_kind(meaning: Option<Meaning>) -> Option<Kind>
             None => Some(Kind::Value(object.ty)),
             Some(_) => None,
         },
+        Some(Meaning::Enumerator(_)) => Some(Kind::Value(IntType::I32)),
         _ => None,
     }
 }
@@ -184,6 +186,13 @@ pub fn undeclared(place: u32, meaning: Option<Meaning>) -> Option<u32>
         None => Some(place),
         Some(_) => None,
     }
+}
+
+/// The place of a tag that is not declared.
+pub fn undeclared_tag(place: u32, is_declared: bool) -> Option<u32>
+    ensures { option_places result ≡ undeclared (tagged place is_declared) }
+{
+    place_if(!is_declared, place)
 }
 
 /// Whether a name is a function's.

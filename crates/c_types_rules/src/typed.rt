@@ -116,7 +116,8 @@ pub struct TypedDeclarator {
     pub initializer: Option<TypedInitializer>,
 }
 
-/// A statement. A label is its number among the labels of its function.
+/// A statement. A label is its number among the labels of its function, those of cases, of defaults
+/// and behind switches among them. A `break` out of a switch is a goto.
 #[cycle(typed_statement)]
 #[derive(Drop)]
 pub enum TypedStatement {
@@ -153,10 +154,28 @@ pub enum TypedStatement {
     Return {
         value: Option<TypedExpression>,
     },
+    /// Also a `case` or a `default`, which have labels without a name.
     Labeled {
         label: u32,
         body: Boxed<TypedStatement>,
     },
+    Switch {
+        value: TypedExpression,
+        /// Its cases in the order of the text.
+        choices: Seq<Choice>,
+        /// The label of its default, or else the one behind it.
+        otherwise: u32,
+        body: Boxed<TypedStatement>,
+        /// The label behind it, to which a `break` goes.
+        end: u32,
+    },
+}
+
+/// A `case`: its value, converted to the promoted type of the switch, and its label.
+#[derive(Clone, Copy, PartialEq, Eq)]
+pub struct Choice {
+    pub value: i128,
+    pub label: u32,
 }
 
 /// What stands in a block.

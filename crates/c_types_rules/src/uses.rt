@@ -2,12 +2,12 @@
 //! Proved with `first_append` of `specs/First.antt`.
 ghost use Rattle.std.specs.Prelude.{◌≡◌};
 ghost use Rattle.c_types_rules.specs.First.{first_with};
-ghost use Rattle.c_types_rules.specs.Expressions.{named, taken, given, paired};
+ghost use Rattle.c_types_rules.specs.Expressions.{named, taken, given, paired, tagged};
 ghost use Rattle.c_types_rules.specs.ExpressionRules.{use_faults};
 
 use crate::parts::{
     called_without_body, miscounted, misused_array, misused_function, not_changeable, undeclared,
-    void_end, void_value,
+    undeclared_tag, void_end, void_value,
 };
 use crate::{Form, Meaning, Part, Role, note_place};
 use c_lexer::{Rule, TextFault};
@@ -17,6 +17,13 @@ pub fn note_named(first: &mut Option<TextFault>, place: u32, meaning: Option<Mea
     ensures { first.new ≡ first_with first.old (use_faults (named place meaning)) }
 {
     note_place(first, Rule::N1, undeclared(place, meaning));
+}
+
+/// Notes the fault of a tag that is not declared.
+pub fn note_tagged(first: &mut Option<TextFault>, place: u32, is_declared: bool)
+    ensures { first.new ≡ first_with first.old (use_faults (tagged place is_declared)) }
+{
+    note_place(first, Rule::N1, undeclared_tag(place, is_declared));
 }
 
 /// Notes the faults of a part in a role.

@@ -12,7 +12,7 @@ pub returns-clause-tied : goal.returns-clause-tied
 returns-clause-tied c =
     let found = c.in_ok-goto.ensures.jumping in
     tied_found c.args.frame.now _ c.args.jumps.now c.goto.new.self
-    (tied_same c.args.frame.now c.args.walker.now _ c.args.jumps.now c.requires refl refl)
+    (tied_same c.args.frame.now c.args.walker.now _ c.args.jumps.now c.requires refl refl refl)
     (ap (λ (f : Found). f.current) found) (ap (λ (f : Found). f.next) found)
     (ap (λ (f : Found). f.first) found)
 

@@ -1,21 +1,20 @@
 use Rattle.std.proofs.Common.{refl}
 use Rattle.c_types_bodies.specs.Views.{base_of}
-use Rattle.c_types_bodies.proofs.Function.{begins_is, is_read, typed_is, tied_from}
+use Rattle.c_types_bodies.proofs.Function.{begins_is, is_read, outermost, typed_is, tied_from}
 use Rattle.c_types_bodies.proofs.body.walk_function.Goals as goal
 
 pub walk_parameters-requires : goal.walk_parameters-requires
 walk_parameters-requires c =
-    tied_from _ _ _ c.in_ok-jumps.ensures c.len-file.ensures c.requires
+    tied_from _ _ _ c.in_ok-jumps.ensures c.len-file.ensures c.requires.numbered c.requires.fresh
 
 pub returns-clause-objects : goal.returns-clause-objects
 returns-clause-objects c =
-    (is_read _ _ c.args.walker.now c.walk_parameters.new.walker c.walk_items.new.walker
-    c.in_ok-jumps.jumps c.walk_parameters.new.jumps c.walk_items.new.jumps c.args.specifiers.now
-    c.args.parameters.now c.args.items.now c.listed.result.now _ c.in_ok-parameters.ensures.tied
-    c.listed.ensures
-    c.in_ok-jumps.ensures
-    (begins_is _ _ c.args.walker.now c.args.specifiers.now c.args.items.now
-    c.in_ok-parameters.ensures.tied c.len-file.ensures refl
+    (is_read _ (outermost c.len-file.result) c.args.walker.now c.walk_parameters.new.walker
+    c.walk_items.new.walker c.in_ok-jumps.jumps c.walk_parameters.new.jumps c.walk_items.new.jumps
+    c.args.specifiers.now c.args.parameters.now c.args.items.now c.listed.result.now _
+    c.in_ok-parameters.ensures.tied c.listed.ensures c.in_ok-jumps.ensures
+    (begins_is _ (outermost c.len-file.result) c.args.walker.now c.args.specifiers.now
+    c.args.items.now c.in_ok-parameters.ensures.tied c.len-file.ensures refl c.requires.fresh
     c.in_ok-result.ensures.kind c.in_ok-labels.ensures) c.in_ok-parameters.ensures.state
     c.in_ok-items.ensures.state
     (c.in_ok-note.ensures (base_of c.len-file.result c.walk_items.new.walker.names)
@@ -23,24 +22,23 @@ returns-clause-objects c =
 
 pub returns-clause-typed : goal.returns-clause-typed
 returns-clause-typed c =
-    typed_is _ _ c.args.walker.now c.walk_parameters.new.walker
+    typed_is _ (outermost c.len-file.result) c.args.walker.now c.walk_parameters.new.walker
     c.in_ok-jumps.jumps c.walk_parameters.new.jumps c.args.specifiers.now
     c.args.parameters.now c.args.items.now c.listed.result.now c.in_ok-parameters.parameters
     c.in_ok-items.items c.in_ok-parameters.ensures.tied c.listed.ensures
-    (begins_is _ _ c.args.walker.now c.args.specifiers.now c.args.items.now
-    c.in_ok-parameters.ensures.tied c.len-file.ensures refl
+    (begins_is _ (outermost c.len-file.result) c.args.walker.now c.args.specifiers.now
+    c.args.items.now c.in_ok-parameters.ensures.tied c.len-file.ensures refl c.requires.fresh
     c.in_ok-result.ensures.kind c.in_ok-labels.ensures) c.in_ok-parameters.ensures.state
     c.in_ok-result.ensures.kind c.in_ok-parameters.ensures.objects c.in_ok-items.ensures.typed
 
 pub returns-clause-first : goal.returns-clause-first
 returns-clause-first c =
-    (is_read _ _ c.args.walker.now c.walk_parameters.new.walker c.walk_items.new.walker
-    c.in_ok-jumps.jumps c.walk_parameters.new.jumps c.walk_items.new.jumps c.args.specifiers.now
-    c.args.parameters.now c.args.items.now c.listed.result.now _ c.in_ok-parameters.ensures.tied
-    c.listed.ensures
-    c.in_ok-jumps.ensures
-    (begins_is _ _ c.args.walker.now c.args.specifiers.now c.args.items.now
-    c.in_ok-parameters.ensures.tied c.len-file.ensures refl
+    (is_read _ (outermost c.len-file.result) c.args.walker.now c.walk_parameters.new.walker
+    c.walk_items.new.walker c.in_ok-jumps.jumps c.walk_parameters.new.jumps c.walk_items.new.jumps
+    c.args.specifiers.now c.args.parameters.now c.args.items.now c.listed.result.now _
+    c.in_ok-parameters.ensures.tied c.listed.ensures c.in_ok-jumps.ensures
+    (begins_is _ (outermost c.len-file.result) c.args.walker.now c.args.specifiers.now
+    c.args.items.now c.in_ok-parameters.ensures.tied c.len-file.ensures refl c.requires.fresh
     c.in_ok-result.ensures.kind c.in_ok-labels.ensures) c.in_ok-parameters.ensures.state
     c.in_ok-items.ensures.state
     (c.in_ok-note.ensures (base_of c.len-file.result c.walk_items.new.walker.names)
@@ -48,13 +46,12 @@ returns-clause-first c =
 
 pub returns-clause-calls : goal.returns-clause-calls
 returns-clause-calls c =
-    (is_read _ _ c.args.walker.now c.walk_parameters.new.walker c.walk_items.new.walker
-    c.in_ok-jumps.jumps c.walk_parameters.new.jumps c.walk_items.new.jumps c.args.specifiers.now
-    c.args.parameters.now c.args.items.now c.listed.result.now _ c.in_ok-parameters.ensures.tied
-    c.listed.ensures
-    c.in_ok-jumps.ensures
-    (begins_is _ _ c.args.walker.now c.args.specifiers.now c.args.items.now
-    c.in_ok-parameters.ensures.tied c.len-file.ensures refl
+    (is_read _ (outermost c.len-file.result) c.args.walker.now c.walk_parameters.new.walker
+    c.walk_items.new.walker c.in_ok-jumps.jumps c.walk_parameters.new.jumps c.walk_items.new.jumps
+    c.args.specifiers.now c.args.parameters.now c.args.items.now c.listed.result.now _
+    c.in_ok-parameters.ensures.tied c.listed.ensures c.in_ok-jumps.ensures
+    (begins_is _ (outermost c.len-file.result) c.args.walker.now c.args.specifiers.now
+    c.args.items.now c.in_ok-parameters.ensures.tied c.len-file.ensures refl c.requires.fresh
     c.in_ok-result.ensures.kind c.in_ok-labels.ensures) c.in_ok-parameters.ensures.state
     c.in_ok-items.ensures.state
     (c.in_ok-note.ensures (base_of c.len-file.result c.walk_items.new.walker.names)

@@ -1,4 +1,4 @@
-use Rattle.std.proofs.Common.{ℕ, Bool, List, drop, ap, ◌∙◌}
+use Rattle.std.proofs.Common.{ℕ, Bool, List, drop, refl, ap, ◌∙◌}
 use Rattle.c_lexer.specs.declared.fault.Rule.TheVariants as rule
 use Rattle.c_lexer.specs.declared.fault.TextFault.{TextFault}
 use Rattle.std.proofs.Common.{Option}
@@ -25,12 +25,14 @@ returns-clause-tied c =
     (is_declared frame c.args.nest old (record {
       names = c.read_local.new.names;
       objects = c.in_ok-walker.field-0;
+      passed = old.passed;
+      cases = old.cases;
       first = c.read_local.new.first;
       calls = c.read_local.new.calls;
     }) c.args.jumps.now c.enter.new.self c.args.specifiers.now declarator c.in_ok-typed.typed
     c.args.qualified.kind c.args.qualified.is_const c.requires.tied c.requires.kind
     c.requires.is_const c.in_ok-typed.ensures.typed c.in_ok-typed.ensures.names
-    c.in_ok-walker.ensures first_is c.in_ok-typed.ensures.calls
+    c.in_ok-walker.ensures refl refl first_is c.in_ok-typed.ensures.calls
     c.in_ok-enter.ensures.entered).tied_new
 
 pub returns-clause-extends : goal.returns-clause-extends
@@ -50,12 +52,14 @@ returns-clause-extends c =
     (is_declared frame c.args.nest old (record {
       names = c.read_local.new.names;
       objects = c.in_ok-walker.field-0;
+      passed = old.passed;
+      cases = old.cases;
       first = c.read_local.new.first;
       calls = c.read_local.new.calls;
     }) c.args.jumps.now c.enter.new.self c.args.specifiers.now declarator c.in_ok-typed.typed
     c.args.qualified.kind c.args.qualified.is_const c.requires.tied c.requires.kind
     c.requires.is_const c.in_ok-typed.ensures.typed c.in_ok-typed.ensures.names
-    c.in_ok-walker.ensures first_is c.in_ok-typed.ensures.calls
+    c.in_ok-walker.ensures refl refl first_is c.in_ok-typed.ensures.calls
     c.in_ok-enter.ensures.entered).extends
 
 pub returns-clause-typed : goal.returns-clause-typed
@@ -75,12 +79,14 @@ returns-clause-typed c =
     (is_declared frame c.args.nest old (record {
       names = c.read_local.new.names;
       objects = c.in_ok-walker.field-0;
+      passed = old.passed;
+      cases = old.cases;
       first = c.read_local.new.first;
       calls = c.read_local.new.calls;
     }) c.args.jumps.now c.enter.new.self c.args.specifiers.now declarator c.in_ok-typed.typed
     c.args.qualified.kind c.args.qualified.is_const c.requires.tied c.requires.kind
     c.requires.is_const c.in_ok-typed.ensures.typed c.in_ok-typed.ensures.names
-    c.in_ok-walker.ensures first_is c.in_ok-typed.ensures.calls
+    c.in_ok-walker.ensures refl refl first_is c.in_ok-typed.ensures.calls
     c.in_ok-enter.ensures.entered).typed_is
 
 pub returns-clause-state : goal.returns-clause-state
@@ -100,9 +106,12 @@ returns-clause-state c =
     (is_declared frame c.args.nest old (record {
       names = c.read_local.new.names;
       objects = c.in_ok-walker.field-0;
+      passed = old.passed;
+      cases = old.cases;
       first = c.read_local.new.first;
       calls = c.read_local.new.calls;
     }) c.args.jumps.now c.enter.new.self c.args.specifiers.now declarator c.in_ok-typed.typed
     c.args.qualified.kind c.args.qualified.is_const c.requires.tied c.requires.kind
     c.requires.is_const c.in_ok-typed.ensures.typed c.in_ok-typed.ensures.names
-    c.in_ok-walker.ensures first_is c.in_ok-typed.ensures.calls c.in_ok-enter.ensures.entered).state
+    c.in_ok-walker.ensures refl refl first_is c.in_ok-typed.ensures.calls
+    c.in_ok-enter.ensures.entered).state

@@ -21,6 +21,8 @@ returns-in_ok-declare_parameter-in-Some-clause-tied c =
     c.in_ok-declare_parameter-in-Some.ensures.names
     c.in_ok-declare_parameter-in-Some.ensures.first
     c.in_ok-declare_parameter-in-Some.ensures.calls
+    c.in_ok-declare_parameter-in-Some.ensures.cases
+    c.in_ok-declare_parameter-in-Some.ensures.passed
     c.in_ok-declare_parameter-in-Some.ensures.entered).tied_new
 
 pub returns-in-None-clause-extends : goal.returns-in-None-clause-extends
@@ -37,6 +39,8 @@ returns-in_ok-declare_parameter-in-Some-clause-extends c =
     c.in_ok-declare_parameter-in-Some.ensures.names
     c.in_ok-declare_parameter-in-Some.ensures.first
     c.in_ok-declare_parameter-in-Some.ensures.calls
+    c.in_ok-declare_parameter-in-Some.ensures.cases
+    c.in_ok-declare_parameter-in-Some.ensures.passed
     c.in_ok-declare_parameter-in-Some.ensures.entered).extends
 
 pub returns-in-None-clause-state : goal.returns-in-None-clause-state
@@ -53,4 +57,6 @@ returns-in_ok-declare_parameter-in-Some-clause-state c =
     c.in_ok-declare_parameter-in-Some.ensures.names
     c.in_ok-declare_parameter-in-Some.ensures.first
     c.in_ok-declare_parameter-in-Some.ensures.calls
+    c.in_ok-declare_parameter-in-Some.ensures.cases
+    c.in_ok-declare_parameter-in-Some.ensures.passed
     c.in_ok-declare_parameter-in-Some.ensures.entered).state

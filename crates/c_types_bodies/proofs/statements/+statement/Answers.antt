@@ -1,5 +1,5 @@
-use Rattle.std.proofs.Common.{◌≡◌, ℕ, List, map, take, Option, option_map, refl}
-use Rattle.std.proofs.Common.{sym, ap, ◌∙◌, subst, arith, rules}
+use Rattle.std.proofs.Common.{◌≡◌, ℕ, List, map, take, Option, Some, None, option_map, refl}
+use Rattle.std.proofs.Common.{sym, ap, ◌∙◌, ◌+◌, subst, arith, rules}
 use Rattle.std.proofs.lemmas.Grind.{common_steps}
 use Rattle.c_grammar_tree.specs.declared.statement.BlockItem.{BlockItem}
 use Rattle.c_grammar_tree.specs.declared.statement.Statement.{Statement}
@@ -12,24 +12,29 @@ use Rattle.c_types_rules.specs.declared.typed.TypedItem.TheVariants as typed_ite
 use Rattle.c_types_rules.specs.declared.typed.TypedDeclarator.{TypedDeclarator}
 use Rattle.c_types_rules.specs.declared.typed.TypedStatement.{TypedStatement}
 use Rattle.c_types_rules.specs.Statements.{Around, Walk, followed, doing, evaluating, evaluates}
-use Rattle.c_types_rules.specs.Statements.{marks}
+use Rattle.c_types_rules.specs.Statements.{marking, selecting, switching}
 use Rattle.c_types_rules.specs.Statements.{looped, scoped, in_order, start_walk, loop, perhaps}
 use Rattle.c_types_rules.specs.TypedStatements.{Grown, typed_for_start, typed_optional}
+use Rattle.c_types_expressions.specs.Read.{typed_of}
 use Rattle.c_types_jumps.specs.Found.{Found}
-use Rattle.c_types_bodies.specs.declared.walker.Nest.{Nest}
 use Rattle.c_types_bodies.specs.Grown.{grown_of, grown_walk, grown_typed, walk_of_statement}
 use Rattle.c_types_bodies.specs.States.{walked, State}
-use Rattle.c_types_bodies.specs.Views.{state_of, around_of, Extends}
+use Rattle.c_types_bodies.specs.declared.walker.Cases.{Cases}
+use Rattle.c_types_bodies.specs.declared.walker.Walker.{Walker}
+use Rattle.c_types_bodies.specs.Views.{state_of, around_of, Extends, AreCases, within_switch}
 use Rattle.c_types_bodies.proofs.Walks.{walked_still}
+use Rattle.c_types_bodies.proofs.Switching.{switching_nest, with_cases, within_is, switching_state}
+use Rattle.c_types_bodies.proofs.Switching.{switching_behind, tied_cases, switch_typed}
+use Rattle.c_types_bodies.proofs.Switching.{switch_on_part}
 use Rattle.c_types_bodies.proofs.Scopes.{two_walks, four_walks, looped_state, scoped_state}
-use Rattle.c_types_bodies.proofs.Scopes.{tied_scoped}
+use Rattle.c_types_bodies.proofs.Scopes.{tied_scoped, scoping}
 use Rattle.c_types_bodies.proofs.Scopes.{tied_same, extends_kept, extends_then, regrouped}
 use Rattle.c_types_bodies.proofs.Lists.{item_state, items_end, items_step, around_walked}
 use Rattle.c_types_bodies.proofs.Lists.{walks_same}
 use Rattle.c_types_bodies.proofs.Forms.{of_Declaration, of_Statement, of_Block, of_If, of_While}
 use Rattle.c_types_bodies.proofs.Forms.{of_Do}
 use Rattle.c_types_bodies.proofs.Forms.{of_For, of_Goto, of_Break, of_Continue, of_Return}
-use Rattle.c_types_bodies.proofs.Forms.{of_Labeled}
+use Rattle.c_types_bodies.proofs.Forms.{of_Labeled, of_Switch, of_Case, of_Default, labeled_same}
 use Rattle.c_types_bodies.proofs.Forms.{of_Expression, for_same, if_same}
 use Rattle.c_types_bodies.proofs.statements.+statement.Goals as goal
 
@@ -45,7 +50,7 @@ pub walk_while-walk_looped-requires : goal.walk_while-walk_looped-requires
 walk_while-walk_looped-requires t c = (
   search rules,
   tied_same c.args.frame.now c.args.walker.now c.evaluate.new.walker c.args.jumps.now c.requires
-      c.in_ok-test.ensures.names c.in_ok-test.ensures.objects,
+      c.in_ok-test.ensures.names c.in_ok-test.ensures.objects c.in_ok-test.ensures.cases,
 )
 
 pub walk_while-returns-clause-state : goal.walk_while-returns-clause-state
@@ -57,6 +62,21 @@ walk_while-returns-clause-state t c =
     (state_of frame c.args.nest c.args.walker.now c.args.jumps.now)
     (state_of frame c.args.nest c.evaluate.new.walker c.args.jumps.now) _
     (c.in_ok-test.ensures.state c.args.nest c.args.jumps.now) c.in_ok-body.ensures.state
+
+pub walk_while-returns-clause-typed : goal.walk_while-returns-clause-typed
+walk_while-returns-clause-typed t c =
+    let frame = c.args.frame.now in
+    let text = frame.survey.now in
+    let old = c.args.walker.now in
+    ap (λ (e : TypedExpression). typed_tree.While e c.in_ok-body.body) c.in_ok-test.ensures.typed
+    ∙ ap (λ (s : TypedStatement).
+    typed_tree.While (typed_of text old.names c.args.test.now) s)
+    (c.in_ok-body.ensures.typed
+    ∙ ap (λ (around : Around). (grown_of text c.args.body.now).typed (loop around))
+    (around_walked text frame.caller (doing (evaluates Valued c.args.test.now))
+    (state_of frame c.args.nest old c.args.jumps.now)
+    (state_of frame c.args.nest c.evaluate.new.walker c.args.jumps.now)
+    (c.in_ok-test.ensures.state c.args.nest c.args.jumps.now)))
 
 pub walk_do-returns-clause-state : goal.walk_do-returns-clause-state
 walk_do-returns-clause-state t c =
@@ -72,11 +92,269 @@ pub walk_labeled-returns-clause-state : goal.walk_labeled-returns-clause-state
 walk_labeled-returns-clause-state t c =
     let frame = c.args.frame.now in
     let text = frame.survey.now in
-    two_walks text frame.caller (doing (marks c.args.label.now)) (grown_of text
-    c.args.body.now).walk
+    two_walks text frame.caller (marking c.args.label.now) (grown_of text c.args.body.now).walk
     (state_of frame c.args.nest c.args.walker.now c.args.jumps.now)
-    (state_of frame c.args.nest c.args.walker.now c.mark.new.jumps) _
+    (state_of frame c.args.nest c.mark.new.walker c.mark.new.jumps) _
     (c.in_ok-mark.ensures.state c.args.nest) c.in_ok-body.ensures.state
+
+pub walk_labeled-returns-clause-typed : goal.walk_labeled-returns-clause-typed
+walk_labeled-returns-clause-typed t c =
+    let frame = c.args.frame.now in
+    let text = frame.survey.now in
+    labeled_same _ _ c.in_ok-body.body _ refl
+    (c.in_ok-body.ensures.typed
+    ∙ ap (λ (around : Around). (grown_of text c.args.body.now).typed around)
+    (around_walked text frame.caller (marking c.args.label.now)
+    (state_of frame c.args.nest c.args.walker.now c.args.jumps.now)
+    (state_of frame c.args.nest c.mark.new.walker c.mark.new.jumps)
+    (c.in_ok-mark.ensures.state c.args.nest)))
+
+pub walk_case-returns-clause-state : goal.walk_case-returns-clause-state
+walk_case-returns-clause-state t c =
+    let frame = c.args.frame.now in
+    let text = frame.survey.now in
+    two_walks text frame.caller (selecting text (Some c.args.value.now) c.args.place)
+    (grown_of text c.args.body.now).walk
+    (state_of frame c.args.nest c.args.walker.now c.args.jumps.now)
+    (state_of frame c.args.nest c.select_value.new.walker c.args.jumps.now) _
+    c.in_ok-label.ensures.state c.in_ok-body.ensures.state
+
+pub walk_case-returns-clause-typed : goal.walk_case-returns-clause-typed
+walk_case-returns-clause-typed t c =
+    let frame = c.args.frame.now in
+    let text = frame.survey.now in
+    labeled_same c.in_ok-label.label _ c.in_ok-body.body _ c.in_ok-label.ensures.label
+    (c.in_ok-body.ensures.typed
+    ∙ ap (λ (around : Around). (grown_of text c.args.body.now).typed around)
+    (around_walked text frame.caller (selecting text (Some c.args.value.now) c.args.place)
+    (state_of frame c.args.nest c.args.walker.now c.args.jumps.now)
+    (state_of frame c.args.nest c.select_value.new.walker c.args.jumps.now)
+    c.in_ok-label.ensures.state))
+
+pub walk_default-returns-clause-state : goal.walk_default-returns-clause-state
+walk_default-returns-clause-state t c =
+    let frame = c.args.frame.now in
+    let text = frame.survey.now in
+    two_walks text frame.caller (selecting text None c.args.place)
+    (grown_of text c.args.body.now).walk
+    (state_of frame c.args.nest c.args.walker.now c.args.jumps.now)
+    (state_of frame c.args.nest c.select_rest.new.walker c.args.jumps.now) _
+    c.in_ok-label.ensures.state c.in_ok-body.ensures.state
+
+pub walk_default-returns-clause-typed : goal.walk_default-returns-clause-typed
+walk_default-returns-clause-typed t c =
+    let frame = c.args.frame.now in
+    let text = frame.survey.now in
+    labeled_same c.in_ok-label.label _ c.in_ok-body.body _ c.in_ok-label.ensures.label
+    (c.in_ok-body.ensures.typed
+    ∙ ap (λ (around : Around). (grown_of text c.args.body.now).typed around)
+    (around_walked text frame.caller (selecting text None c.args.place)
+    (state_of frame c.args.nest c.args.walker.now c.args.jumps.now)
+    (state_of frame c.args.nest c.select_rest.new.walker c.args.jumps.now)
+    c.in_ok-label.ensures.state))
+
+pub walk_statement-returns-in-Case-clause-typed : goal.walk_statement-returns-in-Case-clause-typed
+walk_statement-returns-in-Case-clause-typed t c =
+    rw (
+      c.in-Case.is,
+      of_Case c.args.frame.now.survey.now c.in-Case.value c.in-Case.body c.in-Case.place,
+    )
+    (rw c.get-in-Case.ensures at c.walk_case.ensures.typed)
+
+pub walk_statement-returns-in-Case-clause-state : goal.walk_statement-returns-in-Case-clause-state
+walk_statement-returns-in-Case-clause-state t c =
+    rw (
+      c.in-Case.is,
+      of_Case c.args.frame.now.survey.now c.in-Case.value c.in-Case.body c.in-Case.place,
+    )
+    (rw c.get-in-Case.ensures at c.walk_case.ensures.state)
+
+pub walk_statement-returns-in-Default-clause-typed :
+    goal.walk_statement-returns-in-Default-clause-typed
+walk_statement-returns-in-Default-clause-typed t c =
+    rw (
+      c.in-Default.is,
+      of_Default c.args.frame.now.survey.now c.in-Default.body c.in-Default.place,
+    )
+    (rw c.get-in-Default.ensures at c.walk_default.ensures.typed)
+
+pub walk_statement-returns-in-Default-clause-state :
+    goal.walk_statement-returns-in-Default-clause-state
+walk_statement-returns-in-Default-clause-state t c =
+    rw (
+      c.in-Default.is,
+      of_Default c.args.frame.now.survey.now c.in-Default.body c.in-Default.place,
+    )
+    (rw c.get-in-Default.ensures at c.walk_default.ensures.state)
+
+pub walk_switched-walk_part-requires : goal.walk_switched-walk_part-requires
+walk_switched-walk_part-requires t c = (
+  first_of (search rules, grind arith, grind (arith, common_steps)),
+  tied_cases c.args.frame.now c.args.walker.now
+      (with_cases c.replace-outer.new.dest c.args.walker.now) c.args.jumps.now c.requires refl refl
+      (subst (λ (k : Cases). AreCases k) (sym c.replace-outer.ensures.after)
+      c.no_cases-fresh.ensures.cases),
+)
+
+pub walk_switched-returns-clause-tied : goal.walk_switched-returns-clause-tied
+walk_switched-returns-clause-tied t c =
+    tied_cases c.args.frame.now c.walk_part.new.walker c.pass_label.new.walker
+    c.walk_part.new.jumps c.in_ok-body.ensures.tied
+    (ap (λ (w : Walker). w.names) c.in_ok-pass_label.ensures)
+    (ap (λ (w : Walker). w.objects) c.in_ok-pass_label.ensures)
+    (subst (λ (w : Walker). AreCases w.cases) (sym c.in_ok-pass_label.ensures)
+    (subst (λ (k : Cases). AreCases k)
+    (sym (c.replace-cases.ensures.after ∙ c.replace-outer.ensures.value)) c.requires.cases))
+
+pub walk_switched-returns-clause-body : goal.walk_switched-returns-clause-body
+walk_switched-returns-clause-body t c = λ value on.
+    let frame = c.args.frame.now in
+    let text = frame.survey.now in
+    let old = c.args.walker.now in
+    let fresh = c.replace-outer.new.dest in
+    let part = walk_of_statement text c.args.body.now in
+    let within = within_is frame c.args.nest old fresh text value part c.args.kind c.args.end
+    c.switch_on.result c.switch_on.ensures.ty (c.switch_on.ensures.names ∙ c.len.ensures)
+    (ap (λ (k : Cases). k.choices.items) c.replace-outer.ensures.after
+    ∙ c.no_cases-fresh.ensures.choices)
+    (ap (λ (k : Cases). k.otherwise) c.replace-outer.ensures.after
+    ∙ c.no_cases-fresh.ensures.otherwise) on in
+    c.in_ok-body.ensures.typed
+    ∙ ap (λ (around : Around). (grown_of text c.args.body.now).typed around) within
+
+pub walk_switched-returns-clause-choices : goal.walk_switched-returns-clause-choices
+walk_switched-returns-clause-choices t c = λ value on.
+    let frame = c.args.frame.now in
+    let text = frame.survey.now in
+    let old = c.args.walker.now in
+    let fresh = c.replace-outer.new.dest in
+    let part = walk_of_statement text c.args.body.now in
+    let within = within_is frame c.args.nest old fresh text value part c.args.kind c.args.end
+    c.switch_on.result c.switch_on.ensures.ty (c.switch_on.ensures.names ∙ c.len.ensures)
+    (ap (λ (k : Cases). k.choices.items) c.replace-outer.ensures.after
+    ∙ c.no_cases-fresh.ensures.choices)
+    (ap (λ (k : Cases). k.otherwise) c.replace-outer.ensures.after
+    ∙ c.no_cases-fresh.ensures.otherwise) on in
+    let inside = switching_nest c.args.nest c.switch_on.result c.args.end in
+    c.from_vec.ensures
+    ∙ ap (λ (k : Cases). k.choices.items) c.replace-cases.ensures.value
+    ∙ ap (λ (around : Around). around.choices)
+    (switching_behind frame inside (with_cases fresh old) c.walk_part.new.walker
+    c.args.jumps.now c.walk_part.new.jumps text frame.caller part
+    (within_switch text value part (around_of frame c.args.nest old)) within
+    c.in_ok-body.ensures.state)
+
+pub walk_switched-returns-clause-otherwise : goal.walk_switched-returns-clause-otherwise
+walk_switched-returns-clause-otherwise t c = λ value on.
+    let frame = c.args.frame.now in
+    let text = frame.survey.now in
+    let old = c.args.walker.now in
+    let fresh = c.replace-outer.new.dest in
+    let part = walk_of_statement text c.args.body.now in
+    let within = within_is frame c.args.nest old fresh text value part c.args.kind c.args.end
+    c.switch_on.result c.switch_on.ensures.ty (c.switch_on.ensures.names ∙ c.len.ensures)
+    (ap (λ (k : Cases). k.choices.items) c.replace-outer.ensures.after
+    ∙ c.no_cases-fresh.ensures.choices)
+    (ap (λ (k : Cases). k.otherwise) c.replace-outer.ensures.after
+    ∙ c.no_cases-fresh.ensures.otherwise) on in
+    let inside = switching_nest c.args.nest c.switch_on.result c.args.end in
+    ap (λ (k : Cases). k.otherwise) c.replace-cases.ensures.value
+    ∙ ap (λ (around : Around). around.otherwise)
+    (switching_behind frame inside (with_cases fresh old) c.walk_part.new.walker
+    c.args.jumps.now c.walk_part.new.jumps text frame.caller part
+    (within_switch text value part (around_of frame c.args.nest old)) within
+    c.in_ok-body.ensures.state)
+
+pub walk_switched-returns-clause-state : goal.walk_switched-returns-clause-state
+walk_switched-returns-clause-state t c = λ value on.
+    let frame = c.args.frame.now in
+    let text = frame.survey.now in
+    let old = c.args.walker.now in
+    let fresh = c.replace-outer.new.dest in
+    let part = walk_of_statement text c.args.body.now in
+    let within = within_is frame c.args.nest old fresh text value part c.args.kind c.args.end
+    c.switch_on.result c.switch_on.ensures.ty (c.switch_on.ensures.names ∙ c.len.ensures)
+    (ap (λ (k : Cases). k.choices.items) c.replace-outer.ensures.after
+    ∙ c.no_cases-fresh.ensures.choices)
+    (ap (λ (k : Cases). k.otherwise) c.replace-outer.ensures.after
+    ∙ c.no_cases-fresh.ensures.otherwise) on in
+    let inside = switching_nest c.args.nest c.switch_on.result c.args.end in
+    let mid = c.walk_part.new.walker in
+    switching_state frame c.args.nest inside old mid c.pass_label.new.walker fresh
+    c.args.jumps.now c.walk_part.new.jumps text frame.caller value part
+    c.in_ok-body.ensures.names
+    (c.in_ok-pass_label.ensures
+    ∙ ap (λ (k : Cases). record mid { cases = k; passed = mid.passed + 1 })
+    (c.replace-cases.ensures.after ∙ c.replace-outer.ensures.value))
+    within c.in_ok-body.ensures.state
+
+pub walk_switch-walk_switched-requires : goal.walk_switch-walk_switched-requires
+walk_switch-walk_switched-requires t c = (
+  first_of (search rules, grind arith, grind (arith, common_steps)),
+  tied_same c.args.frame.now c.args.walker.now c.evaluate_part.new.walker c.args.jumps.now
+      c.requires c.in_ok-read.ensures.names c.in_ok-read.ensures.objects
+      c.in_ok-read.ensures.cases,
+)
+
+pub walk_switch-returns-clause-state : goal.walk_switch-returns-clause-state
+walk_switch-returns-clause-state t c =
+    let frame = c.args.frame.now in
+    let text = frame.survey.now in
+    let mid = c.evaluate_part.new.walker in
+    let value = c.args.value.now in
+    let body = c.args.body.now in
+    two_walks text frame.caller (doing (evaluates Valued value))
+    (switching text value (walk_of_statement text body))
+    (state_of frame c.args.nest c.args.walker.now c.args.jumps.now)
+    (state_of frame c.args.nest mid c.args.jumps.now) _
+    (c.in_ok-read.ensures.state c.args.nest c.args.jumps.now)
+    (c.in_ok-switched.ensures.state value (switch_on_part text body
+    (around_of frame c.args.nest mid) value c.args.walker.now.names c.in_ok-read.read.part
+    c.in_ok-end.end c.args.walker.now.passed c.in_ok-read.ensures.part
+    c.in_ok-read.ensures.names c.in_ok-read.ensures.passed c.in_ok-end.ensures))
+
+pub walk_switch-returns-clause-typed : goal.walk_switch-returns-clause-typed
+walk_switch-returns-clause-typed t c =
+    let frame = c.args.frame.now in
+    let text = frame.survey.now in
+    let old = c.args.walker.now in
+    let mid = c.evaluate_part.new.walker in
+    let value = c.args.value.now in
+    let body = c.args.body.now in
+    let around = around_of frame c.args.nest mid in
+    let on = switch_on_part text body around value old.names c.in_ok-read.read.part
+    c.in_ok-end.end old.passed c.in_ok-read.ensures.part c.in_ok-read.ensures.names
+    c.in_ok-read.ensures.passed c.in_ok-end.ensures in
+    switch_typed text value (grown_of text body) (around_of frame c.args.nest old) around
+    c.in_ok-read.read.typed c.in_ok-switched.switched.choices
+    c.in_ok-switched.switched.otherwise c.unwrap_or.result c.in_ok-switched.switched.body
+    c.in_ok-end.end
+    (around_walked text frame.caller (doing (evaluates Valued value))
+    (state_of frame c.args.nest old c.args.jumps.now)
+    (state_of frame c.args.nest mid c.args.jumps.now)
+    (c.in_ok-read.ensures.state c.args.nest c.args.jumps.now))
+    c.in_ok-read.ensures.typed on.end_is
+    (c.in_ok-switched.ensures.choices value on)
+    (c.in_ok-switched.ensures.otherwise value on) c.unwrap_or.ensures
+    (c.in_ok-switched.ensures.body value on)
+
+pub walk_statement-returns-in-Switch-clause-typed :
+    goal.walk_statement-returns-in-Switch-clause-typed
+walk_statement-returns-in-Switch-clause-typed t c =
+    rw (
+      c.in-Switch.is,
+      of_Switch c.args.frame.now.survey.now c.in-Switch.value c.in-Switch.body c.in-Switch.place,
+    )
+    (rw c.get-in-Switch.ensures at c.walk_switch.ensures.typed)
+
+pub walk_statement-returns-in-Switch-clause-state :
+    goal.walk_statement-returns-in-Switch-clause-state
+walk_statement-returns-in-Switch-clause-state t c =
+    rw (
+      c.in-Switch.is,
+      of_Switch c.args.frame.now.survey.now c.in-Switch.value c.in-Switch.body c.in-Switch.place,
+    )
+    (rw c.get-in-Switch.ensures at c.walk_switch.ensures.state)
 
 pub walk_item-returns-in_ok-typed-in-Declaration-clause-typed :
     goal.walk_item-returns-in_ok-typed-in-Declaration-clause-typed
@@ -108,7 +386,7 @@ walk_block-returns-clause-tied t c =
     ∙ ap (λ (n : ℕ). take n mid.names) c.len-count.ensures
     ∙ extends_kept old.names mid.names more in
     tied_scoped frame old mid (record mid { names = c.keep.new.self }) c.args.jumps.now before
-    c.leave.new.self c.requires c.in_ok-items.ensures.tied more names refl
+    c.leave.new.self c.requires c.in_ok-items.ensures.tied more names refl refl
     (ap (λ (f : Found). f.current) c.leave.ensures
     ∙ ap (λ (n : ℕ). take n before.current) c.depth-depth.ensures)
     (ap (λ (f : Found). f.next) c.leave.ensures) (ap (λ (f : Found). f.first) c.leave.ensures)
@@ -127,7 +405,7 @@ walk_block-returns-clause-state t c =
     let part = in_order (map (grown_walk text) c.args.items.now) in
     scoped_state frame c.args.nest c.len-count.result old mid
     (record mid { names = c.keep.new.self }) c.args.jumps.now before c.leave.new.self text
-    frame.caller part c.requires.within c.len-count.ensures more names refl refl refl
+    frame.caller part c.requires.within c.len-count.ensures more names refl refl refl refl refl
     (ap (λ (f : Found). f.labels) c.leave.ensures) (ap (λ (f : Found). f.gotos) c.leave.ensures)
     c.in_ok-items.ensures.state
     ∙ ap (λ (all : List Walk). walked text frame.caller (scoped (in_order all))
@@ -147,7 +425,7 @@ walk_for-returns-clause-tied t c =
     ∙ ap (λ (n : ℕ). take n mid.names) c.len-count.ensures
     ∙ extends_kept old.names mid.names more in
     tied_scoped frame old mid (record mid { names = c.keep.new.self }) c.args.jumps.now before
-    c.leave.new.self c.requires c.in_ok-body.ensures.tied more names refl
+    c.leave.new.self c.requires c.in_ok-body.ensures.tied more names refl refl
     (ap (λ (f : Found). f.current) c.leave.ensures
     ∙ ap (λ (n : ℕ). take n before.current) c.depth-depth.ensures)
     (ap (λ (f : Found). f.next) c.leave.ensures) (ap (λ (f : Found). f.first) c.leave.ensures)
@@ -166,7 +444,7 @@ walk_for-returns-clause-state t c =
     let names = c.keep.ensures
     ∙ ap (λ (n : ℕ). take n mid.names) c.len-count.ensures
     ∙ extends_kept old.names mid.names more in
-    let inside : Nest = record { outer = c.len-count.result; in_loop = c.args.nest.in_loop } in
+    let inside = scoping c.len-count.result c.args.nest in
     let first = start_walk text c.args.start.now in
     let second = evaluating Valued c.args.test.now in
     let third = evaluating Evaluated c.args.step.now in
@@ -174,7 +452,7 @@ walk_for-returns-clause-state t c =
     let part = followed first (followed second (followed third last)) in
     scoped_state frame c.args.nest c.len-count.result old mid
     (record mid { names = c.keep.new.self }) c.args.jumps.now before c.leave.new.self text
-    frame.caller part c.requires.within c.len-count.ensures more names refl refl refl
+    frame.caller part c.requires.within c.len-count.ensures more names refl refl refl refl refl
     (ap (λ (f : Found). f.labels) c.leave.ensures) (ap (λ (f : Found). f.gotos) c.leave.ensures)
     (four_walks text frame.caller first second third last
     (state_of frame inside old c.args.jumps.now)
@@ -351,7 +629,8 @@ walk_statement-returns-in_ok-jump-in-Goto-clause-state t c =
 
 pub walk_statement-returns-in-Break-clause-typed : goal.walk_statement-returns-in-Break-clause-typed
 walk_statement-returns-in-Break-clause-typed t c =
-    rw (c.in-Break.is, of_Break c.args.frame.now.survey.now c.in-Break.place) refl
+    rw (c.in-Break.is, of_Break c.args.frame.now.survey.now c.in-Break.place)
+    c.typed_break.ensures
 
 pub walk_statement-returns-in-Break-clause-state : goal.walk_statement-returns-in-Break-clause-state
 walk_statement-returns-in-Break-clause-state t c =
@@ -367,7 +646,7 @@ pub walk_statement-returns-in-Continue-clause-state :
     goal.walk_statement-returns-in-Continue-clause-state
 walk_statement-returns-in-Continue-clause-state t c =
     rw (c.in-Continue.is, of_Continue c.args.frame.now.survey.now c.in-Continue.place)
-    (c.leave-in-Continue.ensures.state c.args.jumps.now)
+    (c.turn.ensures.state c.args.jumps.now)
 
 pub walk_statement-returns-in_ok-value-in-Return-clause-typed :
     goal.walk_statement-returns-in_ok-value-in-Return-clause-typed
@@ -385,7 +664,7 @@ pub walk_tested-walk_part-requires : goal.walk_tested-walk_part-requires
 walk_tested-walk_part-requires t c = (
   first_of (search rules, grind arith, grind (arith, common_steps)),
   tied_same c.args.frame.now c.args.walker.now c.evaluate.new.walker c.args.jumps.now c.requires
-      c.in_ok-test.ensures.names c.in_ok-test.ensures.objects,
+      c.in_ok-test.ensures.names c.in_ok-test.ensures.objects c.in_ok-test.ensures.cases,
 )
 
 pub walk_tested-returns-clause-state : goal.walk_tested-returns-clause-state
@@ -406,10 +685,10 @@ walk_tested-returns-clause-yes t c =
     let tested = c.evaluate.new.walker in
     c.in_ok-yes.ensures.typed
     ∙ ap (λ (around : Around). (grown_of text c.args.yes.now).typed around)
-    (ap (λ (all : List Entry). record (around_of frame c.args.nest tested) { names = all })
-    c.in_ok-test.ensures.names
-    ∙ ap (λ (n : ℕ). record (around_of frame c.args.nest old) { objects = n })
-    c.in_ok-test.ensures.objects)
+    (around_walked text frame.caller (doing (evaluates Valued c.args.test.now))
+    (state_of frame c.args.nest old c.args.jumps.now)
+    (state_of frame c.args.nest tested c.args.jumps.now)
+    (c.in_ok-test.ensures.state c.args.nest c.args.jumps.now))
 
 pub walk_statement-returns-in_ok-no-in-If-clause-state :
     goal.walk_statement-returns-in_ok-no-in-If-clause-state

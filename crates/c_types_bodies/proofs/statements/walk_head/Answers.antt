@@ -1,11 +1,10 @@
-use Rattle.std.proofs.Common.{ℕ, List, ap, ◌∙◌}
-use Rattle.c_types_rules.specs.declared.meaning.Entry.{Entry}
+use Rattle.std.proofs.Common.{refl, ap, ◌∙◌}
 use Rattle.c_types_rules.specs.declared.meaning.Role.TheVariants.{Valued, Evaluated}
 use Rattle.c_types_rules.specs.Statements.{Around, evaluating, start_walk}
 use Rattle.c_types_rules.specs.TypedStatements.{typed_optional}
 use Rattle.c_types_bodies.specs.States.{State, walked}
-use Rattle.c_types_bodies.specs.Views.{state_of, around_of}
-use Rattle.c_types_bodies.proofs.Lists.{around_walked}
+use Rattle.c_types_bodies.specs.Views.{state_of}
+use Rattle.c_types_bodies.proofs.Lists.{around_walked, around_evaluated}
 use Rattle.c_types_bodies.proofs.Scopes.{tied_same}
 use Rattle.c_types_bodies.proofs.statements.walk_head.Goals as goal
 
@@ -13,7 +12,7 @@ pub returns-clause-tied : goal.returns-clause-tied
 returns-clause-tied c =
     tied_same c.args.frame.now c.walk_start.new.walker c.evaluate_tests.new.walker
     c.walk_start.new.jumps c.in_ok-start.ensures.tied c.in_ok-tests.ensures.names
-    c.in_ok-tests.ensures.objects
+    c.in_ok-tests.ensures.objects c.in_ok-tests.ensures.cases
 
 pub returns-clause-extends : goal.returns-clause-extends
 returns-clause-extends c = record {
@@ -48,10 +47,13 @@ returns-clause-around c =
     let frame = c.args.frame.now in
     let text = frame.survey.now in
     let begun = c.walk_start.new.walker in
-    ap (λ (all : List Entry). record (around_of frame c.args.nest c.evaluate_tests.new.walker)
-    { names = all }) c.in_ok-tests.ensures.names
-    ∙ ap (λ (n : ℕ). record (around_of frame c.args.nest begun) { objects = n })
-    c.in_ok-tests.ensures.objects
+    let found = c.walk_start.new.jumps in
+    let before = state_of frame c.args.nest begun found in
+    let tested = walked text frame.caller (evaluating Valued c.args.test.now) before in
+    around_evaluated text frame.caller Evaluated c.args.step.now tested
+    (state_of frame c.args.nest c.evaluate_tests.new.walker found)
+    (c.in_ok-tests.ensures.state c.args.nest found)
+    ∙ around_evaluated text frame.caller Valued c.args.test.now before tested refl
     ∙ around_walked text frame.caller (start_walk text c.args.start.now)
     (state_of frame c.args.nest c.args.walker.now c.args.jumps.now)
     (state_of frame c.args.nest begun c.walk_start.new.jumps) c.in_ok-start.ensures.state

@@ -3,7 +3,7 @@ use Rattle.c_types_rules.specs.Statements.{in_order, declarator_walk}
 use Rattle.c_types_rules.specs.TypedStatements.{typed_declarators}
 use Rattle.c_types_bodies.specs.States.{walked}
 use Rattle.c_types_bodies.specs.Views.{state_of, around_of, IsTied, Extends}
-use Rattle.c_types_bodies.proofs.declarations.walk_declaration.Given as goal
+use Rattle.c_types_bodies.proofs.declarations.walk_declarators.Given as goal
 
 abbrev pub invariant-loop-declarator : goal.invariant-loop-declarator
 invariant-loop-declarator l =

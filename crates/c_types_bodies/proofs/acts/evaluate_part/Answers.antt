@@ -1,7 +1,7 @@
 use Rattle.std.proofs.Common.{refl}
 use Rattle.c_types_bodies.specs.Views.{state_of}
 use Rattle.c_types_bodies.proofs.Doing.{done_evaluates}
-use Rattle.c_types_bodies.proofs.acts.evaluate.Goals as goal
+use Rattle.c_types_bodies.proofs.acts.evaluate_part.Goals as goal
 
 pub returns-clause-state : goal.returns-clause-state
 returns-clause-state c = λ nest found.
