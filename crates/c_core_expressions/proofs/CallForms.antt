@@ -1,5 +1,5 @@
 -- Calls, by what is called.
-use Rattle.std.proofs.Common.{◌≡◌, ◌<◌, ◌≤◌, List, [], ◌∷◌, ◌++◌, map, length, get_or, refl, ap}
+use Rattle.std.proofs.Common.{◌≡◌, ℤ, ◌<◌, ◌≤◌, List, [], ◌∷◌, ◌++◌, map, length, get_or, refl, ap}
 use Rattle.std.proofs.Common.{None, Some, if◌then◌else◌, sym, arith}
 use Rattle.c_types_rules.specs.declared.known.KnownFunction.{KnownFunction}
 use Rattle.c_types_rules.specs.declared.known.KnownFunction.TheVariants as known
@@ -45,6 +45,14 @@ pub call_Object : (frames : Frames) (usage : Usage) (object : Object)
 unfolding call_of by_usage
 call_Object frames Used object arguments taken = refl
 call_Object frames Unused object arguments taken = refl
+
+pub call_Enumerator : (frames : Frames) (usage : Usage) (value : ℤ)
+    (arguments : List TypedExpression) (taken : Taken) →
+    call_of frames usage (Some (meaning.Enumerator value)) arguments taken
+    ≡ record { taken = taken; made = pure (int 0) }
+unfolding call_of by_usage
+call_Enumerator frames Used value arguments taken = refl
+call_Enumerator frames Unused value arguments taken = refl
 
 pub call_None : (frames : Frames) (usage : Usage) (arguments : List TypedExpression)
     (taken : Taken) → call_of frames usage None arguments taken

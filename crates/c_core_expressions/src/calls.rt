@@ -171,7 +171,7 @@ fn is_exit(function: KnownFunction) -> bool
 
 /// A call of what a name stands for.
 #[cycle(expression)]
-#[tactic(auto, using(crate::proofs::CallForms::call_Function, crate::proofs::CallForms::call_Known, crate::proofs::CallForms::call_Object, crate::proofs::CallForms::call_None))]
+#[tactic(auto, using(crate::proofs::CallForms::call_Function, crate::proofs::CallForms::call_Known, crate::proofs::CallForms::call_Object, crate::proofs::CallForms::call_Enumerator, crate::proofs::CallForms::call_None))]
 pub(crate) fn call_of(
     cells: &mut Cells,
     frames: &Frames,
@@ -196,6 +196,8 @@ pub(crate) fn call_of(
                 known_alone(cells, usage, function)
             }
         }
-        Some(Meaning::Object(_)) | None => number(frames.alloc(), 0),
+        Some(Meaning::Object(_)) | Some(Meaning::Enumerator(_)) | None => {
+            number(frames.alloc(), 0)
+        }
     }
 }

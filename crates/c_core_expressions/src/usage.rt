@@ -125,7 +125,7 @@ pub(crate) fn literal(
     finished(cells, usage, pure(alloc, number))
 }
 
-/// A scalar that is read.
+/// A scalar that is read, or the constant of an enumerator.
 #[tactic(auto, unfolding(crate::specs::Rows::name_for))]
 pub(crate) fn name_for(
     cells: &mut Cells,
@@ -136,6 +136,9 @@ pub(crate) fn name_for(
         ≡ (name_for usage found (so_far cells.old)).taken) }
     ensures made { IfOk result (λ v. v ≡ (name_for usage found (so_far cells.old)).made) }
 {
+    if let Some(Meaning::Enumerator(value)) = found {
+        return literal(cells, usage, IntType::I32, value);
+    }
     let place = cells.scalar_place(found)?;
     let alloc = cells.alloc();
     let v = pure(alloc, scalar(alloc, place)?);

@@ -18,11 +18,10 @@ use Rattle.c_types_rules.specs.Types.{object_type}
 use Rattle.c_types_rules.specs.Tables.{cells_of}
 use Rattle.c_core_rules.specs.declared.tree.Location.{Location}
 use Rattle.c_core_rules.specs.Values.{cell_at}
-use Rattle.c_core_rules.specs.Cells.{Taken, taking, cells_with, each, in_order, nothing_taken}
+use Rattle.c_core_rules.specs.Cells.{Taken, taking, cells_with, each, in_order}
 use Rattle.c_core_rules.specs.Expressions.{Frame, Frames, frame_of, frame_at, cells_from}
 use Rattle.c_core_rules.specs.Expressions.{behind_result}
 use Rattle.c_core_rules.specs.Statements.{function_rule, resulting, receiving, item_rule}
-use Rattle.c_core_rules.specs.Statements.{receiving_globals}
 use Rattle.c_core_rules.specs.Programs.{frames_of}
 use Rattle.c_core_rules_laws.specs.Layouts.{begins, file_cells, AreFirst}
 use Rattle.c_core_rules_laws.specs.Layouts.{text_from}

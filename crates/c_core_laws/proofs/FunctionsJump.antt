@@ -1,6 +1,6 @@
 -- Each function of a sound text has the labels that its gotos name, and no loose break or continue.
-use Rattle.std.proofs.Common.{◌≡◌, ℕ, ◌<◌, true, false, List, [], ◌∷◌, ◌++◌, map, length, refl, ap}
-use Rattle.std.proofs.Common.{sym, ◌∙◌, subst}
+use Rattle.std.proofs.Common.{◌≡◌, ℕ, ◌+◌, ◌<◌, ◌≤◌, true, false, List, [], ◌∷◌, ◌++◌, map, length}
+use Rattle.std.proofs.Common.{Option, None, Some, refl, ap, sym, ◌∙◌, subst, arith}
 use Rattle.std.specs.List.{AllByRecursion, flat_map}
 use Rattle.std.proofs.lemmas.List.{length-map}
 use Rattle.c_grammar_tree.specs.declared.name.Name.{Name}
@@ -27,7 +27,8 @@ use Rattle.c_core_laws.specs.Jumps.{Jumps, function_jumps}
 use Rattle.c_core_laws.specs.lemmas.Faults.{NoFaults, none_left, none_right, no_fault}
 use Rattle.c_core_laws.specs.lemmas.SameWalk.{same_walk}
 use Rattle.c_core_laws.proofs.JumpsTyped.{Clean, clean_right, Keeps, keeps_still, keeps_then}
-use Rattle.c_core_laws.proofs.JumpsTyped.{items_fit, all_jumped}
+use Rattle.c_core_laws.proofs.JumpsTyped.{items_fit, all_jumped, Stands, BelowSome}
+use Rattle.c_core_laws.proofs.JumpsTyped.{Quiet, quiet_still, quiet_then}
 
 -- every goto names one of the labels, and nothing is loose
 abbrev pub JumpsFit : Jumps → Type 0
@@ -54,8 +55,23 @@ pub keeps_receiving : (text : Text) (parameters : List Parameter) →
 keeps_receiving text [] = keeps_still text
 keeps_receiving text (parameter ∷ parameters) =
     keeps_then text (receiving parameter) (in_order (map receiving parameters))
-    (record { looping = λ around. refl; names = λ around. refl })
+    (record { looping = λ around. refl; names = λ around. refl; breaks = λ around. refl })
     (keeps_receiving text parameters)
+
+pub quiet_receiving : (parameters : List Parameter) → Quiet (in_order (map receiving parameters))
+quiet_receiving [] = quiet_still
+quiet_receiving (parameter ∷ parameters) =
+    quiet_then (receiving parameter) (in_order (map receiving parameters))
+    (record { passed = λ around. refl; choices = λ around. refl; otherwise = λ around. refl })
+    (quiet_receiving parameters)
+
+-- at the beginning of a body all its labels are left
+room_for : (p n limit : ℕ) → p ≡ 0 → limit ≡ n → p + n ≤ limit
+room_for p n limit none is = omega (arith, none, is)
+
+no_break : (n : ℕ) (o : Option ℕ) → o ≡ None → BelowSome n o
+no_break n None is = tt
+no_break n (Some label) is = absurd (cc)
 
 function_fits : (text : Text) (before : Before) (specifiers : Specifiers)
     (declarator : FunctionDeclarator) (items : List BlockItem) (place : ℕ) →
@@ -73,11 +89,19 @@ function_fits text before specifiers declarator items place none =
     let same : sites ≡ (in_order (map walk_in (map (grown text) items))).sites around =
     ap (λ (ws : List Walk). (in_order ws).sites around) (sym (walks_same text items)) in
     let here = subst (Clean text) same clean in
-    let h = items_fit text items (all_jumped text items) around in
+    let names = flat_map labels_of items in
+    let long : length around.labels ≡ length names =
+    ap (λ (ls : List (List ℕ)). length ls) (keeps.names first)
+    ∙ length-map names (λ (name : Name). name.bytes) in
+    let stands : Stands around (length names) = record {
+      room = room_for around.passed (length names) (length around.labels)
+          ((quiet_receiving (listed declarator.parameters)).passed first) long;
+      breaks = no_break (length around.labels) around.break_to (keeps.breaks first);
+    } in
+    let h = items_fit text items (all_jumped text items) around stands in
     let many : length around.labels
     ≡ (function_jumps (typed_function text before specifiers declarator items)).labels =
-    ap (λ (ls : List (List ℕ)). length ls) (keeps.names first)
-    ∙ length-map (flat_map labels_of items) (λ (name : Name). name.bytes) ∙ sym h.marked in (
+    long ∙ sym h.marked in (
       h.bound here (keeps.looping first),
       subst (λ n. AllByRecursion (λ l. l < n) (function_jumps (typed_function text before specifiers
           declarator items)).gotos) many (h.named here),
@@ -117,7 +141,7 @@ functions_fit text (item.Function specifiers declarator (body.Block items place)
     let rest = items_faults text more (item_behind text one before) in
     let sites = body_sites text before specifiers declarator (body.Block items place) in
     let own = none_left (item_faults text one before) rest none in
-    let of_body = none_right (head_faults before true specifiers declarator)
+    let of_body = none_right (head_faults text before true specifiers declarator)
     (flat_map (site_faults text) sites ++ jump_faults sites) own in (
       function_fits text before specifiers declarator items place
           (none_left (flat_map (site_faults text) sites) (jump_faults sites) of_body),

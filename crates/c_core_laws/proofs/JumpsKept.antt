@@ -3,11 +3,16 @@
 use Rattle.std.proofs.Common.{◌≡◌, ℕ, zero, suc, ◌+◌, ◌-◌, List, [], ◌∷◌, ◌++◌, map, length, Option}
 use Rattle.std.proofs.Common.{None, Some, refl, sym, subst, pos, Bool, true, false, ap, ◌∙◌, arith}
 use Rattle.cpa_ints.specs.declared.integers.IntType.{IntType}
-use Rattle.cpa_expr.specs.declared.tree.Expr.TheVariants.{Const}
+use Rattle.cpa_ints.specs.Wrapping.{wrapped}
+use Rattle.cpa_expr.specs.declared.tree.CmpOp.TheVariants as cmp
+use Rattle.cpa_expr.specs.declared.tree.Expr.{Expr}
+use Rattle.cpa_expr.specs.declared.tree.Expr.TheVariants.{Const, Cmp}
+use Rattle.cpa_expr.specs.Shape.{type_of}
 use Rattle.c_grammar_tree.specs.declared.item.Unit.{Unit as UnitTree}
 use Rattle.c_types_rules.specs.declared.meaning.Kind.{Kind}
 use Rattle.c_types_rules.specs.declared.meaning.Kind.TheVariants.{Void, Value}
 use Rattle.c_types_rules.specs.declared.meaning.Object.{Object}
+use Rattle.c_types_rules.specs.declared.typed.Choice.{Choice}
 use Rattle.c_types_rules.specs.declared.typed.TypedExpression.{TypedExpression}
 use Rattle.c_types_rules.specs.declared.typed.TypedInitializer.{TypedInitializer}
 use Rattle.c_types_rules.specs.declared.typed.TypedInitializer.TheVariants as initializer
@@ -31,9 +36,10 @@ use Rattle.cpa_model_trees.specs.declared.tree.CoreTree.TheVariants.{Node}
 use Rattle.cpa_model_trees.specs.declared.tree.Head.{Head}
 use Rattle.cpa_model_trees.specs.declared.tree.Head.TheVariants as head
 use Rattle.c_core_rules.specs.declared.tree.Location.{Location}
-use Rattle.c_core_rules.specs.Values.{cell_at}
+use Rattle.c_core_rules.specs.Values.{cell_at, promote}
 use Rattle.cpa_model_trees.specs.Numbering.{Trees}
-use Rattle.c_core_rules.specs.Trees.{leaf, block, choice, repeated, set}
+use Rattle.c_core_rules.specs.Trees.{leaf, block, choice, repeated, set, valued}
+use Rattle.c_core_rules.specs.Acts.{held}
 use Rattle.c_core_rules.specs.Cells as core
 use Rattle.c_core_rules.specs.Expressions as rows
 use Rattle.c_core_rules.specs.Statements as statement
@@ -49,12 +55,12 @@ use Rattle.c_core_laws.specs.lemmas.CoreItems.{core_statement, open_core_item, o
 use Rattle.c_core_laws.proofs.Shapes.{Makes, makes, makes_then, makes_freshly, makes_at, EachMakes}
 use Rattle.c_core_laws.proofs.Shapes.{none_makes, more_make}
 use Rattle.c_core_laws.proofs.ShapedRows.{AllShaped, set_shaped, leaf_shaped, append_shaped}
-use Rattle.c_core_laws.proofs.ShapedRows.{push_shaped, makes_ordered}
+use Rattle.c_core_laws.proofs.ShapedRows.{push_shaped, makes_ordered, held_makes}
 use Rattle.c_core_laws.proofs.ShapedExpressions.{expression_makes}
 use Rattle.c_core_laws.proofs.Extending.{object_extends}
 use Rattle.c_core_laws.proofs.Jumping.{Has, TreeHas, has_none, has_plain, has_append, has_one}
 use Rattle.c_core_laws.proofs.Jumping.{plain_then, leaf_has, block_has, choice_has, loop_has}
-use Rattle.c_core_laws.proofs.Jumping.{node_has, jumps_is, AllAny}
+use Rattle.c_core_laws.proofs.Jumping.{node_has, jumps_is, AllAny, then_none}
 
 -- anything
 abbrev pub Any : {S : Type 0} → S → Type 0
@@ -174,7 +180,79 @@ as_one_makes a b make made h =
     makes_then (λ inside. core.gives (make inside ∷ [])) h
     (λ inside is. makes (Has b) (make inside ∷ []) (has_one b (make inside) (made inside is)))
 
+-- those of a switch
+abbrev pub switch_jumps : List Choice → ℕ → Jumps → Jumps
+switch_jumps choices otherwise inside =
+    then_jumps (all_jumps (map (λ one. goto one.label) choices)) (then_jumps (goto otherwise)
+    (then_jumps inside (labelled no_jumps)))
+
+-- whether a value is that of a case
+abbrev pub asking : Expr → Choice → Expr
+asking v one = Cmp cmp.Eq (type_of v) v (Const (type_of v) (wrapped (type_of v) one.value))
+
+goto_has : (label : ℕ) → Has (goto label) (leaf (head.Goto label) ∷ [])
+goto_has label =
+    has_one (goto label) (leaf (head.Goto label)) (leaf_has (head.Goto label) refl)
+
+selecting_has : (v : Expr) (choices : List Choice) →
+    Has (all_jumps (map (λ one. goto one.label) choices)) (map (statement.selecting v) choices)
+selecting_has v [] = has_none
+selecting_has v (one ∷ choices) =
+    let own = goto one.label in
+    let others = all_jumps (map (λ (other : Choice). goto other.label) choices) in
+    let t = statement.selecting v one in
+    let rest = map (statement.selecting v) choices in
+    let first : TreeHas (then_jumps own no_jumps) t =
+    choice_has own no_jumps (asking v one)
+    (leaf (head.Goto one.label) ∷ []) [] (goto_has one.label) has_none in
+    at_jumps (then_jumps (then_jumps own no_jumps) others) (then_jumps own others) (t ∷ rest)
+    (ap (λ (a : Jumps). then_jumps a others) (then_none own))
+    (has_append (then_jumps own no_jumps) others (t ∷ []) rest
+    (has_one (then_jumps own no_jumps) t first) (selecting_has v choices))
+
+selected_has : (v : Expr) (choices : List Choice) (otherwise : ℕ) (a : Jumps) (inside : Trees) →
+    Has a inside →
+    Has (switch_jumps choices otherwise a) (statement.selected_by v choices otherwise inside)
+selected_has v choices otherwise a inside h =
+    let end = leaf head.Labeled in
+    let behind = then_jumps a (labelled no_jumps) in
+    has_append (all_jumps (map (λ (one : Choice). goto one.label) choices))
+    (then_jumps (goto otherwise) behind) (map (statement.selecting v) choices)
+    (leaf (head.Goto otherwise) ∷ (inside ++ end ∷ [])) (selecting_has v choices)
+    (has_append (goto otherwise) behind (leaf (head.Goto otherwise) ∷ []) (inside ++ end ∷ [])
+    (goto_has otherwise)
+    (has_append a (labelled no_jumps) inside (end ∷ []) h
+    (has_one (labelled no_jumps) end (leaf_has head.Labeled tt))))
+
 module _ (frames : rows.Frames) where
+  -- a switch, by the rule of its body
+  abbrev pub switch_rule : TypedExpression → List Choice → ℕ → core.Rule Trees → core.Rule Trees
+  switch_rule value choices otherwise body =
+      core.then_by (rows.rows frames value).used (λ v.
+      core.then_by (held (valued v.statements (promote v.value))) (λ kept. core.then_by body
+      (λ inside. core.gives (kept.statements
+      ++ statement.selected_by kept.value choices otherwise inside))))
+
+  -- what each body makes that is handed to it
+  pub switch_makes : {P Q : Trees → Type 0} (value : TypedExpression) (choices : List Choice)
+      (otherwise : ℕ) {body : core.Rule Trees} → Makes P body →
+      ((before : Trees) (v : Expr) (inside : Trees) → AllShaped before → P inside →
+      Q (before ++ statement.selected_by v choices otherwise inside)) →
+      Makes Q (switch_rule value choices otherwise body)
+  switch_makes {Q = Q} value choices otherwise {body = body} h made =
+      makes_then (λ v. core.then_by (held (valued v.statements (promote v.value)))
+      (λ kept. core.then_by body (λ inside. core.gives (kept.statements
+      ++ statement.selected_by kept.value choices otherwise inside))))
+      (expression_makes frames value).used
+      (λ v is. makes_then (λ kept. core.then_by body (λ inside. core.gives (kept.statements
+      ++ statement.selected_by kept.value choices otherwise inside)))
+      (held_makes (valued v.statements (promote v.value)) is)
+      (λ kept so. makes_then (λ inside. core.gives (kept.statements
+      ++ statement.selected_by kept.value choices otherwise inside)) h
+      (λ inside has. makes Q (kept.statements
+      ++ statement.selected_by kept.value choices otherwise inside)
+      (made kept.statements kept.value inside so has))))
+
   pub unused_makes : (e : Option TypedExpression) → Makes AllShaped (statement.some_unused frames e)
   unused_makes None = makes AllShaped [] tt
   unused_makes (Some e) = (expression_makes frames e).unused
@@ -389,6 +467,12 @@ module _ (frames : rows.Frames) (place : Location) where
   layer (TypedStatement-F.Labeled label body) =
       as_one_makes (jumps_in body.0) (labelled (jumps_in body.0)) (Node head.Labeled)
       (λ trees h. node_has head.Labeled trees (jumps_in body.0) tt h) body.1
+  layer (TypedStatement-F.Switch value choices otherwise body end) =
+      let all = switch_jumps choices otherwise (jumps_in body.0) in
+      switch_makes frames value choices otherwise body.1
+      (λ before v inside is so. plain_then all before
+      (statement.selected_by v choices otherwise inside) is
+      (selected_has v choices otherwise (jumps_in body.0) inside so))
 
   item_layer : (y : TypedItem-F HeldItem HeldStatement) →
       Makes (Has (jumps_item_layer y)) (core_item_layer y)

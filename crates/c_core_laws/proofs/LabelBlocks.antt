@@ -6,6 +6,7 @@ use Rattle.std.specs.Prelude.{unwrap_or}
 use Rattle.std.specs.List.{AllByRecursion, flat_map, range_with_len}
 use Rattle.std.proofs.lemmas.List.{append-nil}
 use Rattle.cpa_expr.specs.declared.tree.Expr.{Expr}
+use Rattle.c_types_rules.specs.declared.typed.Choice.{Choice}
 use Rattle.c_types_rules.specs.declared.typed.TypedExpression.{TypedExpression}
 use Rattle.c_types_rules.specs.declared.typed.TypedItem.{TypedItem, roll-TypedItem}
 use Rattle.c_types_rules.specs.declared.typed.TypedItem.TheOpen.{TypedItem-F, TypedStatement-F}
@@ -15,6 +16,7 @@ use Rattle.c_types_rules.specs.declared.typed.TypedItem.TheFolds.{fold-TypedStat
 use Rattle.c_types_rules.specs.declared.typed.TypedItem.TheFolds.{fold-roll-TypedItem}
 use Rattle.c_types_rules.specs.declared.typed.TypedItem.TheFolds.{fold-roll-TypedStatement}
 use Rattle.c_types_rules.specs.declared.typed.TypedStatement.{TypedStatement, roll-TypedStatement}
+use Rattle.c_types_rules.specs.declared.typed.TypedStatement.TheVariants as typed
 use Rattle.c_types_rules.specs.declared.typed.TypedFunction.{TypedFunction}
 use Rattle.c_types_rules.specs.Types.{object_type}
 use Rattle.cpa_model_trees.specs.declared.tree.CoreTree.{CoreTree}
@@ -26,12 +28,12 @@ use Rattle.c_core_rules.specs.Values.{cell_at}
 use Rattle.cpa_model_trees.specs.Numbering.{Trees, Placed, joined, statements, label_here}
 use Rattle.cpa_model_trees.specs.Numbering.{labels_from, part}
 use Rattle.c_core_rules.specs.Trees.{leaf, block, choice, repeated}
-use Rattle.c_core_rules.specs.Cells.{Taken}
+use Rattle.c_core_rules.specs.Cells.{Taken, nothing_taken}
 use Rattle.c_core_rules.specs.Cells as core
 use Rattle.c_core_rules.specs.Expressions as rows
 use Rattle.c_core_rules.specs.Statements as statement
 use Rattle.c_core_laws.specs.Jumps.{Jumps}
-use Rattle.c_core_laws.specs.Labels.{Label, Labelled, labels_step, item_labels_step}
+use Rattle.c_core_laws.specs.Labels.{Label, Labelled, labels_step, item_labels_step, end_label}
 use Rattle.c_core_laws.specs.Labels.{labelled_statement, labelled_item, with_labels}
 use Rattle.c_core_laws.specs.Labels.{function_labels, AreInOrder, IsBlockOf, core_statement}
 use Rattle.c_core_laws.specs.lemmas.CoreItems.{open_core_item, open_core_statement}
@@ -41,7 +43,7 @@ use Rattle.c_core_laws.proofs.ShapedExpressions.{expression_makes}
 use Rattle.c_core_laws.proofs.Jumping.{Has, has_plain, trees_jumps}
 use Rattle.cpa_model_trees.specs.Shapes.{Anything}
 use Rattle.c_core_laws.proofs.JumpsKept.{Loose, makes_weaker, unused_makes, left_makes}
-use Rattle.c_core_laws.proofs.JumpsKept.{receiving_makes}
+use Rattle.c_core_laws.proofs.JumpsKept.{receiving_makes, switch_makes, asking}
 use Rattle.c_core_laws.proofs.JumpsKept.{started_makes, returned_makes, each_declared}
 use Rattle.c_core_laws.proofs.JumpsKept.{resulting_makes, for_tree, function_from}
 use Rattle.c_core_laws.proofs.ShapedRows.{AllShaped, makes_ordered}
@@ -180,6 +182,8 @@ whole_layer TypedStatement-F.Continue = refl
 whole_layer (TypedStatement-F.Return value) = refl
 whole_layer (TypedStatement-F.Labeled label body) =
     ap (λ (s : TypedStatement). TypedStatement-F.Labeled label s) body.1
+whole_layer (TypedStatement-F.Switch value choices otherwise body end) =
+    ap (λ (s : TypedStatement). TypedStatement-F.Switch value choices otherwise s end) body.1
 
 whole_item_layer : (y : TypedItem-F HeldWhole HeldWholeStatement) →
     again_item (whole_bare_item y) ≡ whole_bare_item y
@@ -402,6 +406,46 @@ module _ (frames : rows.Frames) (place : Location) where
         );
       }
 
+  nothing_made : (core_statement frames place (typed.Expression None) nothing_taken).made ≡ []
+  nothing_made =
+      ap (λ (r : core.Rule Trees). (r nothing_taken).made)
+      (ap (core_statement frames place) (sym (typed.rolls-Expression None))
+      ∙ open_core_statement frames place (TypedStatement-F.Expression None))
+
+  end_mark : (number : ℕ) → Mark (end_label number ∷ []) (leaf head.Labeled ∷ [])
+  end_mark number =
+      let own = end_label number ∷ [] in
+      let none : Mark [] [] = mark_none [] (record { are = λ n. refl }) in
+      one_mark own (leaf head.Labeled)
+      (subst (λ (xs : Trees). Marks own (statements (Node head.Labeled xs))) nothing_made
+      (label_marks number (typed.Expression None) nothing_taken []
+      (subst (λ (xs : Trees). Mark [] xs) (sym nothing_made) none)))
+
+  goto_mark : (label : ℕ) → Mark [] (leaf (head.Goto label) ∷ [])
+  goto_mark label =
+      one_mark [] (leaf (head.Goto label))
+      (node_marks (head.Goto label) (λ n. refl) [] [] (mark_none [] (record { are = λ n. refl })))
+
+  selecting_mark : (v : Expr) (choices : List Choice) →
+      Mark [] (map (statement.selecting v) choices)
+  selecting_mark v [] = mark_none [] (record { are = λ n. refl })
+  selecting_mark v (one ∷ choices) =
+      mark_then [] [] (statement.selecting v one ∷ []) (map (statement.selecting v) choices)
+      (choice_mark [] [] (asking v one)
+      (leaf (head.Goto one.label) ∷ []) [] (goto_mark one.label)
+      (mark_none [] (record { are = λ n. refl }))) (selecting_mark v choices)
+
+  selected_mark : (xs : List Label) (end : ℕ) (v : Expr) (choices : List Choice) (otherwise : ℕ)
+      (inside : Trees) → Mark xs inside →
+      Mark (xs ++ end_label end ∷ []) (statement.selected_by v choices otherwise inside)
+  selected_mark xs end v choices otherwise inside m =
+      let labels = xs ++ end_label end ∷ [] in
+      let behind = inside ++ leaf head.Labeled ∷ [] in
+      mark_then [] labels (map (statement.selecting v) choices)
+      (leaf (head.Goto otherwise) ∷ behind) (selecting_mark v choices)
+      (mark_then [] labels (leaf (head.Goto otherwise) ∷ []) behind (goto_mark otherwise)
+      (mark_then xs (end_label end ∷ []) inside (leaf head.Labeled ∷ []) m (end_mark end)))
+
   -- the rules of statements
 
   quiet_mark : {rule : core.Rule Trees} → Makes AllShaped rule → Makes (Mark []) rule
@@ -580,6 +624,12 @@ module _ (frames : rows.Frames) (place : Location) where
             (label_marks label body.0 taken (labels_in body.0) (body.1.at taken));
         extends = λ taken. body.1.extends taken;
       })
+  layer (TypedStatement-F.Switch value choices otherwise body end) =
+      let labels = labels_in body.0 ++ end_label end ∷ [] in
+      switch_makes frames value choices otherwise body.1
+      (λ before v inside is so. mark_behind labels before
+      (statement.selected_by v choices otherwise inside) (many_plain before is)
+      (selected_mark (labels_in body.0) end v choices otherwise inside so))
 
   item_layer : (y : TypedItem-F HeldItem HeldStatement) →
       Makes (Mark (labels_item_layer y)) (core_item_layer y)

@@ -16,5 +16,6 @@ pub mod StartsFit
 pub mod JumpsTyped
 pub mod FunctionsJump
 pub mod LabelNumbers
+pub mod LabelNames
 pub mod JumpsSound
 pub mod StartsInRange

@@ -15,7 +15,7 @@ use Rattle.c_grammar_tree.specs.declared.item.Item.TheVariants as item
 use Rattle.c_grammar_tree.specs.declared.item.Unit.{Unit as UnitTree}
 use Rattle.cpa_ints.specs.declared.integers.IntType.TheVariants as ty
 use Rattle.c_types_rules.specs.declared.meaning.Kind.TheVariants.{Value}
-use Rattle.c_types_rules.specs.Names.{Text, place_of, body_of}
+use Rattle.c_types_rules.specs.Names.{Text, place_of}
 use Rattle.c_types_rules.specs.Declarations.{kind_of}
 use Rattle.c_types_rules.specs.Items.{Before, text_of, body_name, item_behind, same_kind}
 use Rattle.c_types_rules.specs.Items.{items_faults}

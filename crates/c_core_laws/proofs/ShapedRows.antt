@@ -87,7 +87,7 @@ makes_ordered h = shapes.makes_ordered AllShaped tt append_shaped h
 
 -- acts
 
-held_makes : (v : Valued) → Good v → Makes Good (acts.held v)
+pub held_makes : (v : Valued) → Good v → Makes Good (acts.held v)
 held_makes v h =
     makes_freshly Good (type_of v.value)
     (λ t. valued (v.statements ++ set t v.value ∷ []) (scalar t))
@@ -347,13 +347,24 @@ pub act_makes : {r : core.Rule Valued} {s : core.Rule Trees} → Makes Good r �
     MakesRows (rows.act r s)
 act_makes h k = record { used = h; unused = k; target = good_none }
 
-pub name_makes : (found : Option Meaning) → MakesRows (rows.name_rows found)
-name_makes found =
-    let used : Makes Good (rows.name_used found) =
+read_makes : (found : Option Meaning) →
+    Makes Good (core.then_by (core.scalar_place found) (λ place. core.gives (pure (scalar place))))
+read_makes found =
     makes_at (λ taken. core.gives (pure (scalar (cell_at (location_in taken found).ty
     (location_in taken found).base))))
     (λ taken. makes Good (pure (scalar (cell_at (location_in taken found).ty
-    (location_in taken found).base))) tt) in
+    (location_in taken found).base))) tt)
+
+used_makes : (found : Option Meaning) → Makes Good (rows.name_used found)
+used_makes None = read_makes None
+used_makes (Some (meaning.Object object)) = read_makes (Some (meaning.Object object))
+used_makes (Some (meaning.Function function)) = read_makes (Some (meaning.Function function))
+used_makes (Some (meaning.Known function)) = read_makes (Some (meaning.Known function))
+used_makes (Some (meaning.Enumerator value)) = makes Good (pure (expr.Const ty.I32 value)) tt
+
+pub name_makes : (found : Option Meaning) → MakesRows (rows.name_rows found)
+name_makes found =
+    let used = used_makes found in
     record { used = used; unused = dropped_rule_makes used; target = good_scalar found }
 
 element_makes : (found : Option Meaning) {index : core.Rule Valued} → Makes Good index →
@@ -441,6 +452,8 @@ call_makes : (frames : rows.Frames) (found : Option Meaning) (rs : List rows.Row
 call_makes frames None rs h =
     act_makes (makes Good (pure (int 0)) tt) (only_makes (makes Good (pure (int 0)) tt))
 call_makes frames (Some (meaning.Object object)) rs h =
+    act_makes (makes Good (pure (int 0)) tt) (only_makes (makes Good (pure (int 0)) tt))
+call_makes frames (Some (meaning.Enumerator value)) rs h =
     act_makes (makes Good (pure (int 0)) tt) (only_makes (makes Good (pure (int 0)) tt))
 call_makes frames (Some (meaning.Function function)) rs h =
     act_makes (called_makes frames function (each_used_makes rs h))

@@ -14,9 +14,7 @@ use Rattle.cpa_model_trees.specs.Numbering.{Trees, Placed, statements, stmt_of, 
 use Rattle.cpa_model_trees.specs.Numbering.{numbers_from, numbered, numbered_bodies}
 use Rattle.cpa_model_trees.specs.Rows.{row_of}
 use Rattle.c_grammar_tree.specs.declared.item.Unit.{Unit as UnitTree}
-use Rattle.c_core_rules.specs.Cells.{Made}
-use Rattle.c_core_rules_laws.specs.Sizes.{IsWithinLimits, head_height, heights_of, points_of}
-use Rattle.c_core_rules_laws.specs.Sizes.{tallest_of}
+use Rattle.c_core_rules_laws.specs.Sizes.{head_height, heights_of}
 use Rattle.c_core_checked.specs.declared.text.TypedText.{TypedText}
 use Rattle.c_core_checked.specs.Texts.{IsTypedText, IsCore, unit_core}
 use Rattle.c_core_checked.specs.Sound.{Sound}

@@ -1,6 +1,6 @@
 -- What the objects of file scope of a sound text start at lies in the ranges of their types.
 use Rattle.std.proofs.Common.{◌≡◌, ℕ, Bool, true, false, ◌&&◌, ◌||◌, not, List, [], ◌∷◌, ◌++◌, map}
-use Rattle.std.proofs.Common.{Option, None, Some, refl, ap, sym, ◌∙◌, subst, ℤ, pos}
+use Rattle.std.proofs.Common.{Option, None, Some, refl, ap, sym, ◌∙◌, subst, ℤ, ◌+ℤ◌, pos}
 use Rattle.std.specs.Prelude.{unwrap_or, option_map, is_some, find, cond}
 use Rattle.std.specs.List.{AllByRecursion, flat_map}
 use Rattle.std.specs.Str.{bytes_eq}
@@ -13,9 +13,13 @@ use Rattle.cpa_expr.specs.Equality.{same_type}
 use Rattle.c_lexer.specs.declared.fault.Rule.TheVariants as rule
 use Rattle.c_lexer.specs.declared.fault.TextFault.{TextFault}
 use Rattle.c_grammar_tree.specs.declared.expression.Expression.{Expression}
+use Rattle.c_grammar_tree.specs.declared.declaration.Enumerator.{Enumerator}
+use Rattle.c_grammar_tree.specs.declared.declaration.Enumeration.{Enumeration}
+use Rattle.c_grammar_tree.specs.declared.declaration.Enumeration.TheVariants as enumeration
 use Rattle.c_grammar_tree.specs.declared.declaration.Specifiers.{Specifiers}
 use Rattle.c_grammar_tree.specs.declared.declaration.Declarator.{Declarator}
 use Rattle.c_grammar_tree.specs.declared.declaration.Initializer.{Initializer}
+use Rattle.c_grammar_tree.specs.declared.item.Parameter.{Parameter}
 use Rattle.c_grammar_tree.specs.declared.item.FunctionDeclarator.{FunctionDeclarator}
 use Rattle.c_grammar_tree.specs.declared.item.Body.{Body}
 use Rattle.c_grammar_tree.specs.declared.item.Body.TheVariants as body
@@ -28,16 +32,22 @@ use Rattle.c_types_rules.specs.declared.meaning.Declared.TheVariants as declared
 use Rattle.c_types_rules.specs.declared.meaning.Entry.{Entry}
 use Rattle.c_types_rules.specs.declared.typed.Global.{Global}
 use Rattle.c_types_rules.specs.Names.{Text, declared_as}
+use Rattle.c_types_rules.specs.Types.{object_type}
 use Rattle.c_types_rules.specs.ExpressionRules.{broken, uses_faults}
 use Rattle.c_types_rules.specs.Declarations.{kind_of, items_of, constant_number, length_faults}
 use Rattle.c_types_rules.specs.Declarations.{length_uses, void_object, void_parameter}
+use Rattle.c_types_rules.specs.Declarations.{tag_entry, enumerator_entry, enumerator_number}
+use Rattle.c_types_rules.specs.Statements.{Around, enumerates, tags, enumerating, naming}
+use Rattle.c_types_rules.specs.Statements.{enumeration_walk}
+use Rattle.c_types_rules.specs.StatementRules.{site_faults}
 use Rattle.c_types_rules.specs.Items.{Before, text_of, one_type, merged_object, redeclares_object}
 use Rattle.c_types_rules.specs.Items.{global_of, global_behind, redeclared_object, start_faults}
 use Rattle.c_types_rules.specs.Items.{global_faults, globals_behind, globals_faults}
 use Rattle.c_types_rules.specs.Items.{merged_function}
 use Rattle.c_types_rules.specs.Items.{redeclares_function, redeclared_function, function_behind}
 use Rattle.c_types_rules.specs.Items.{head_faults, parameter_types, body_sites, body_faults}
-use Rattle.c_types_rules.specs.Items.{body_behind}
+use Rattle.c_types_rules.specs.Items.{body_behind, around_item, enumeration_behind}
+use Rattle.c_types_rules.specs.Items.{enumeration_faults, typedefs_faults}
 use Rattle.c_types_rules.specs.Items.{item_behind, item_faults, items_faults, nothing_before}
 use Rattle.c_types_rules.specs.Items.{listed}
 use Rattle.c_types_rules.specs.Items.{same_length}
@@ -48,6 +58,7 @@ use Rattle.c_types_rules.specs.Sound.{unit_globals}
 use Rattle.c_core_checked.specs.Sound.{Sound}
 use Rattle.c_core_laws.specs.lemmas.Faults.{NoFaults, none_left, none_right, not_broken, no_fault}
 use Rattle.c_core_laws.specs.lemmas.Entries.{push_named, push_other, same_object}
+use Rattle.c_core_laws.specs.lemmas.Enumerations.{fresh_enumerator, fresh_tag}
 use Rattle.c_core_laws.specs.lemmas.MadeValues.{type_same}
 
 first_of_five : (a b c d e : List TextFault) → NoFaults (a ++ b ++ c ++ d ++ e) → NoFaults a
@@ -97,6 +108,10 @@ merged_type (Some (declared.Object old initialized)) fresh initializes =
     (λ one. type_same old.ty fresh.ty
     (both_hold (same_type old.ty fresh.ty) (same_length old.length fresh.length) one))
 merged_type (Some (declared.Function result parameters defined)) fresh initializes =
+    record { object = fresh; initialized = initializes; is = refl; type = refl }
+merged_type (Some (declared.Enumerator value)) fresh initializes =
+    record { object = fresh; initialized = initializes; is = refl; type = refl }
+merged_type (Some declared.Tag) fresh initializes =
     record { object = fresh; initialized = initializes; is = refl; type = refl }
 
 first_false : (a b : Bool) → (not a || b) ≡ false → a ≡ true
@@ -207,14 +222,93 @@ all_kept text specifiers (declarator ∷ more) before t name none h =
     all_kept text specifiers more behind t name (none_right first rest none)
     (kept text before specifiers declarator t name (none_left first rest none) h)
 
+-- so does an enumerated type, whose names are not declared before
+
+naming_by : (b : Bool) (names : List Entry) (entry : Entry) (t : IntType) (name : List ℕ) →
+    bytes_eq entry.name name ≡ b → declared_as names entry.name ≡ None →
+    IsObject t name names → IsObject t name (names ++ entry ∷ [])
+naming_by false names entry t name other free h = record {
+  object = h.object;
+  initialized = h.initialized;
+  is = push_other names entry name other ∙ h.is;
+  type = h.type;
+}
+naming_by true names entry t name same free h =
+    let one : entry.name ≡ name = (bytes_decides entry.name name).0 same in
+    let none : declared_as names name ≡ None = ap (declared_as names) (sym one) ∙ free in
+    let some : declared_as names name ≡ Some (declared.Object h.object h.initialized) = h.is in
+    absurd (cc)
+
+naming_kept : (around : Around) (entry : Entry) (t : IntType) (name : List ℕ) →
+    declared_as around.names entry.name ≡ None → IsObject t name around.names →
+    IsObject t name (naming entry around).names
+naming_kept around entry t name free h =
+    naming_by (bytes_eq entry.name name) around.names entry t name refl free h
+
+enumerating_kept : (text : Text) (next : ℤ) (found : List Enumerator) (around : Around)
+    (t : IntType) (name : List ℕ) → around.outer ≡ 0 →
+    NoFaults (flat_map (site_faults text) ((enumerating text next found).sites around)) →
+    IsObject t name around.names →
+    IsObject t name ((enumerating text next found).behind around).names
+enumerating_kept text next [] around t name outer none h = h
+enumerating_kept text next (one ∷ more) around t name outer none h =
+    let n = enumerator_number text around.names next one in
+    let entry = enumerator_entry one.name.bytes n in
+    let behind = naming entry around in
+    let own = site_faults text (record { around = around; act = enumerates next one }) in
+    let rest = flat_map (site_faults text)
+    ((enumerating text (n +ℤ pos 1) more).sites behind) in
+    enumerating_kept text (n +ℤ pos 1) more behind t name outer (none_right own rest none)
+    (naming_kept around entry t name
+    (fresh_enumerator text around next one outer (none_left own rest none)) h)
+
+enumeration_kept : (text : Text) (found : Option Enumeration) (around : Around) (t : IntType)
+    (name : List ℕ) → around.outer ≡ 0 →
+    NoFaults (flat_map (site_faults text) ((enumeration_walk text found).sites around)) →
+    IsObject t name around.names →
+    IsObject t name ((enumeration_walk text found).behind around).names
+enumeration_kept text None around t name outer none h = h
+enumeration_kept text (Some (enumeration.Tag tag)) around t name outer none h = h
+enumeration_kept text (Some (enumeration.Listed None found)) around t name outer none h =
+    enumerating_kept text (pos 0) found around t name outer none h
+enumeration_kept text (Some (enumeration.Listed (Some tag) found)) around t name outer none h =
+    let entry = tag_entry tag.bytes in
+    let behind = naming entry around in
+    let own = site_faults text (record { around = around; act = tags tag }) in
+    let rest = flat_map (site_faults text) ((enumerating text (pos 0) found).sites behind) in
+    enumerating_kept text (pos 0) found behind t name outer (none_right own rest none)
+    (naming_kept around entry t name
+    (fresh_tag text around tag outer (none_left own rest none)) h)
+
+specifiers_kept : (text : Text) (specifiers : Specifiers) (before : Before) (t : IntType)
+    (name : List ℕ) → NoFaults (enumeration_faults text specifiers before) →
+    IsObject t name before.names →
+    IsObject t name (enumeration_behind text specifiers before).names
+specifiers_kept text specifiers before t name none h =
+    enumeration_kept text specifiers.enumeration (around_item before) t name refl none h
+
 -- so does a function
 
-function_by : (b : Bool) (before : Before) (defines : Bool) (specifiers : Specifiers)
-    (declarator : FunctionDeclarator) (t : IntType) (name : List ℕ) →
+-- that it is not declared yet, of the faults of its head
+head_free : (text : Text) (before : Before) (defines : Bool) (specifiers : Specifiers)
+    (declarator : FunctionDeclarator) →
+    NoFaults (head_faults text before defines specifiers declarator) →
+    NoFaults (broken rule.N2 (redeclared_function before defines specifiers declarator))
+head_free text before defines specifiers declarator none =
+    let front = enumeration_faults text specifiers before in
+    let n2 = broken rule.N2 (redeclared_function before defines specifiers declarator) in
+    let more = broken rule.N5 (flat_map void_parameter (listed declarator.parameters)) in
+    let others = flat_map (λ (parameter : Parameter).
+    enumeration_faults text parameter.specifiers before) (listed declarator.parameters) in
+    none_right front n2 (none_left (front ++ n2) more (none_left (front ++ n2 ++ more) others none))
+
+function_by : (b : Bool) (text : Text) (before : Before) (defines : Bool)
+    (specifiers : Specifiers) (declarator : FunctionDeclarator) (t : IntType) (name : List ℕ) →
     bytes_eq declarator.name.bytes name ≡ b →
-    NoFaults (head_faults before defines specifiers declarator) → IsObject t name before.names →
+    NoFaults (head_faults text before defines specifiers declarator) →
+    IsObject t name before.names →
     IsObject t name (function_behind defines specifiers declarator before).names
-function_by false before defines specifiers declarator t name other none h =
+function_by false text before defines specifiers declarator t name other none h =
     let made = merged_function (declared_as before.names declarator.name.bytes)
     (kind_of specifiers) (parameter_types defines declarator.parameters) defines in
     record {
@@ -224,29 +318,28 @@ function_by false before defines specifiers declarator t name other none h =
           other ∙ h.is;
       type = h.type;
     }
-function_by true before defines specifiers declarator t name same none h =
+function_by true text before defines specifiers declarator t name same none h =
     let own = declarator.name.bytes in
     let kind = kind_of specifiers in
     let types = parameter_types defines declarator.parameters in
     let one : own ≡ name = (bytes_decides own name).0 same in
     let now : declared_as before.names own ≡ Some (declared.Object h.object h.initialized) =
     ap (declared_as before.names) one ∙ h.is in
-    let n2 = broken rule.N2 (redeclared_function before defines specifiers declarator) in
-    let more = broken rule.N5 (flat_map void_parameter (listed declarator.parameters)) in
     let free : redeclares_function (declared_as before.names own) kind types defines ≡ false =
     not_broken rule.N2 (redeclares_function (declared_as before.names own) kind types defines)
-    declarator.name.place (none_left n2 more none) in
+    declarator.name.place (head_free text before defines specifiers declarator none) in
     let taken : redeclares_function (declared_as before.names own) kind types defines ≡ true =
     ap (λ d. redeclares_function d kind types defines) now in
     absurd (cc)
 
-function_kept : (before : Before) (defines : Bool) (specifiers : Specifiers)
+function_kept : (text : Text) (before : Before) (defines : Bool) (specifiers : Specifiers)
     (declarator : FunctionDeclarator) (t : IntType) (name : List ℕ) →
-    NoFaults (head_faults before defines specifiers declarator) → IsObject t name before.names →
+    NoFaults (head_faults text before defines specifiers declarator) →
+    IsObject t name before.names →
     IsObject t name (function_behind defines specifiers declarator before).names
-function_kept before defines specifiers declarator t name none h =
-    function_by (bytes_eq declarator.name.bytes name) before defines specifiers declarator t name
-    refl none h
+function_kept text before defines specifiers declarator t name none h =
+    function_by (bytes_eq declarator.name.bytes name) text before defines specifiers declarator t
+    name refl none h
 
 body_kept : (text : Text) (specifiers : Specifiers) (declarator : FunctionDeclarator)
     (made : Body) (before : Before) (t : IntType) (name : List ℕ) →
@@ -259,16 +352,25 @@ item_kept : (text : Text) (one : Item) (before : Before) (t : IntType) (name : L
     NoFaults (item_faults text one before) → IsObject t name before.names →
     IsObject t name (item_behind text one before).names
 item_kept text (item.Empty place) before t name none h = h
-item_kept text (item.Typedef specifiers names place) before t name none h = h
+item_kept text (item.Typedef specifiers names place) before t name none h =
+    specifiers_kept text specifiers before t name
+    (none_left (enumeration_faults text specifiers before)
+    (typedefs_faults (object_type (kind_of specifiers)) names
+    (enumeration_behind text specifiers before)) none) h
 item_kept text (item.Objects declaration) before t name none h =
-    all_kept text declaration.specifiers declaration.declarators before t name none h
+    let specifiers = declaration.specifiers in
+    let front = enumeration_faults text specifiers before in
+    let behind = enumeration_behind text specifiers before in
+    let rest = globals_faults text specifiers declaration.declarators behind in
+    all_kept text specifiers declaration.declarators behind t name (none_right front rest none)
+    (specifiers_kept text specifiers before t name (none_left front rest none) h)
 item_kept text (item.Prototype specifiers declarator) before t name none h =
-    function_kept before false specifiers declarator t name none h
+    function_kept text before false specifiers declarator t name none h
 item_kept text (item.Function specifiers declarator made) before t name none h =
     body_kept text specifiers declarator made (function_behind true specifiers declarator before) t
     name
-    (function_kept before true specifiers declarator t name
-    (none_left (head_faults before true specifiers declarator)
+    (function_kept text before true specifiers declarator t name
+    (none_left (head_faults text before true specifiers declarator)
     (body_faults text (body_sites text before specifiers declarator made)) none) h)
 
 items_kept : (text : Text) (items : List Item) (before : Before) (t : IntType) (name : List ℕ) →
@@ -357,7 +459,10 @@ item_fits : (text : Text) (one : Item) (before : Before) →
 item_fits text (item.Empty place) before none = tt
 item_fits text (item.Typedef specifiers names place) before none = tt
 item_fits text (item.Objects declaration) before none =
-    declarators_fit text declaration.specifiers declaration.declarators before none
+    let behind = enumeration_behind text declaration.specifiers before in
+    declarators_fit text declaration.specifiers declaration.declarators behind
+    (none_right (enumeration_faults text declaration.specifiers before)
+    (globals_faults text declaration.specifiers declaration.declarators behind) none)
 item_fits text (item.Prototype specifiers declarator) before none = tt
 item_fits text (item.Function specifiers declarator made) before none = tt
 
@@ -426,6 +531,8 @@ named_fits : (names : List Entry) (starts : List Start) (name : List ℕ) (o : O
     (map (λ object. record { object = object; starts = start_values starts name }) (object_in o))
 named_fits names starts name None is h = tt
 named_fits names starts name (Some (declared.Function result parameters defined)) is h = tt
+named_fits names starts name (Some (declared.Enumerator value)) is h = tt
+named_fits names starts name (Some declared.Tag) is h = tt
 named_fits names starts name (Some (declared.Object object initialized)) is h =
     (found_fits names name starts h object initialized is, tt)
 

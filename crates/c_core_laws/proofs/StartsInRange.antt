@@ -1,5 +1,5 @@
 -- The cells of the core of a sound text start in the ranges of their types.
-use Rattle.std.proofs.Common.{◌≡◌, ℕ, zero, suc, List, [], ◌∷◌, ◌++◌, map, take, replicate, ℤ, pos}
+use Rattle.std.proofs.Common.{ℕ, zero, suc, List, [], ◌∷◌, ◌++◌, map, take, replicate, ℤ, pos}
 use Rattle.std.proofs.Common.{sym, subst, ◌∙◌}
 use Rattle.std.specs.List.{AllByRecursion}
 use Rattle.cpa_ints.specs.declared.integers.IntType.{IntType}

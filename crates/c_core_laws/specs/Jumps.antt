@@ -81,6 +81,9 @@ statement_jumps TypedStatement-F.Break = leaving
 statement_jumps TypedStatement-F.Continue = leaving
 statement_jumps (TypedStatement-F.Return value) = no_jumps
 statement_jumps (TypedStatement-F.Labeled label body) = labelled body
+statement_jumps (TypedStatement-F.Switch value choices otherwise body end) =
+    then_jumps (all_jumps (map (λ one. goto one.label) choices)) (then_jumps (goto otherwise)
+    (then_jumps body (labelled no_jumps)))
 
 abbrev pub item_layer_jumps : TypedItem-F Jumps Jumps → Jumps
 item_layer_jumps (TypedItem-F.Declaration declarators) = no_jumps

@@ -2,13 +2,20 @@
 -- 6.8.1 and 6.8.6.1).
 use Rattle.std.specs.Prelude.{◌≡◌, ℕ, ◌+◌, List, [], ◌∷◌, ◌++◌, map, length, Option, None, Some}
 use Rattle.std.specs.List.{flat_map, range_with_len}
+use Rattle.c_grammar_tree.specs.declared.item.Item.{Item}
+use Rattle.c_grammar_tree.specs.declared.item.Item.TheVariants as item
 use Rattle.c_types_rules.specs.declared.typed.TypedItem.{TypedItem, roll-TypedItem}
 use Rattle.c_types_rules.specs.declared.typed.TypedItem.TheOpen.{TypedItem-F, TypedStatement-F}
 use Rattle.c_types_rules.specs.declared.typed.TypedItem.TheFolds.{fold-TypedItem, map-TypedItem}
 use Rattle.c_types_rules.specs.declared.typed.TypedItem.TheFolds.{fold-TypedStatement}
 use Rattle.c_types_rules.specs.declared.typed.TypedItem.TheFolds.{map-TypedStatement}
 use Rattle.c_types_rules.specs.declared.typed.TypedStatement.{TypedStatement, roll-TypedStatement}
+use Rattle.c_types_rules.specs.declared.typed.TypedStatement.TheVariants as typed
 use Rattle.c_types_rules.specs.declared.typed.TypedFunction.{TypedFunction}
+use Rattle.c_types_rules.specs.Names.{Text}
+use Rattle.c_types_rules.specs.Statements.{Around, Act, Site, marks}
+use Rattle.c_types_rules.specs.TypedStatements.{label_number}
+use Rattle.c_types_rules.specs.Items.{Before, body_sites, item_behind}
 use Rattle.cpa_model_trees.specs.declared.tree.CoreTree.{CoreTree}
 use Rattle.cpa_model_trees.specs.declared.tree.CoreTree.TheVariants.{Node}
 use Rattle.cpa_model_trees.specs.declared.tree.Head.TheVariants as head
@@ -35,6 +42,10 @@ abbrev pub perhaps_labels : Option (Labelled TypedStatement) → List Label
 perhaps_labels None = []
 perhaps_labels (Some one) = one.labels
 
+-- the label behind a switch, behind which nothing stands
+abbrev pub end_label : ℕ → Label
+end_label number = record { number = number; body = typed.Expression None }
+
 -- the labels of a statement in the order of the text, those of each part given
 abbrev pub labels_step : TypedStatement-F (Labelled TypedItem) (Labelled TypedStatement)
     → List Label
@@ -45,6 +56,8 @@ labels_step (TypedStatement-F.Do body test) = body.labels
 labels_step (TypedStatement-F.For first test step body) = body.labels
 labels_step (TypedStatement-F.Labeled label body) =
     record { number = label; body = body.whole } ∷ body.labels
+labels_step (TypedStatement-F.Switch value choices otherwise body end) =
+    body.labels ++ end_label end ∷ []
 labels_step _ = []
 
 abbrev pub labelled_statement : TypedStatement-F (Labelled TypedItem) (Labelled TypedStatement)
@@ -81,6 +94,23 @@ abbrev pub AreInOrder : TypedFunction → Type 0
 AreInOrder function =
     map (λ label. label.number) (function_labels function)
     ≡ range_with_len 0 (length (function_labels function))
+
+-- at a label with a name: a goto that names it goes to the label of this number (6.8.6.1p2)
+abbrev pub IsNamed : Around → Act → Type 0
+IsNamed around (marks name) =
+    (name.bytes ≡ [] → ⊥) → label_number around name ≡ around.passed
+IsNamed around _ = Unit {0}
+
+-- where the acts of the bodies in these items stand
+abbrev pub item_sites : Text → Item → Before → List Site
+item_sites text (item.Function specifiers declarator made) before =
+    body_sites text before specifiers declarator made
+item_sites text _ before = []
+
+abbrev pub sites_in : Text → List Item → Before → List Site
+sites_in text [] before = []
+sites_in text (one ∷ more) before =
+    item_sites text one before ++ sites_in text more (item_behind text one before)
 
 -- the rule of a statement, as `item_rule` of an item
 abbrev pub core_statement : Frames → Location → TypedStatement → Rule Trees

@@ -9,6 +9,7 @@ use Rattle.cpa_model.specs.Programs.{IsStmt, IsNumbered}
 use Rattle.c_grammar_tree.specs.declared.item.Unit.{Unit as UnitTree}
 use Rattle.c_types_rules.specs.declared.typed.Global.{Global}
 use Rattle.c_types_rules.specs.declared.typed.TypedFunction.{TypedFunction}
+use Rattle.c_types_rules.specs.Items.{text_of, nothing_before}
 use Rattle.c_types_rules.specs.Sound.{unit_functions}
 use Rattle.c_types_rules.specs.Types.{object_type}
 use Rattle.c_core_rules.specs.Values.{cell_at}
@@ -22,7 +23,7 @@ use Rattle.c_core_rules_laws.specs.Layouts.{text_from}
 use Rattle.c_core_checked.specs.Texts.{IsTypedText, IsCore}
 use Rattle.c_core_checked.specs.Sound.{Sound}
 use Rattle.c_core_laws.specs.Jumps.{tree_jumps, function_jumps, JumpIsSound}
-use Rattle.c_core_laws.specs.Labels.{function_labels, AreInOrder, IsBlockOf}
+use Rattle.c_core_laws.specs.Labels.{function_labels, AreInOrder, IsBlockOf, IsNamed, sites_in}
 use Rattle.c_core_laws.specs.Sizes.{IsSmall}
 use Rattle.c_core_laws.specs.Starts.{FrameStands}
 use Rattle.c_core_laws.specs.Standing.{IsOfTree}
@@ -75,6 +76,11 @@ JumpsAreSound =
 
 abbrev pub LabelsAreInOrder : Type 0
 LabelsAreInOrder = (tree : UnitTree) → Sound tree → AllByRecursion AreInOrder (unit_functions tree)
+
+abbrev pub GotosGoToLabels : Type 0
+GotosGoToLabels =
+    (tree : UnitTree) → Sound tree → AllByRecursion (λ site. IsNamed site.around site.act)
+    (sites_in (text_of tree.items) tree.items nothing_before)
 
 abbrev pub LabelsAreBlocks : Type 0
 LabelsAreBlocks =

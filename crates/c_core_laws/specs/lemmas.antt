@@ -5,6 +5,7 @@ pub mod CoreLayers
 pub mod CoreItems
 pub mod Faults
 pub mod Entries
+pub mod Enumerations
 pub mod MadeValues
 pub mod ObjectCells
 pub mod BodyCounts

@@ -3,7 +3,8 @@
 ghost use Rattle.c_core_laws.specs.Laws.{CoresAreNumbered, CoresAreSmall, OneCore};
 ghost use Rattle.c_core_laws.specs.Laws.{CellsStartInRange, CoresHaveAMain, JumpsAreKept};
 ghost use Rattle.c_core_laws.specs.Laws.{FramesAreThere, JumpsAreSound};
-ghost use Rattle.c_core_laws.specs.Laws.{LabelsAreBlocks, LabelsAreInOrder, StatementsAreOfTrees};
+ghost use Rattle.c_core_laws.specs.Laws.{GotosGoToLabels, LabelsAreBlocks, LabelsAreInOrder};
+ghost use Rattle.c_core_laws.specs.Laws.{StatementsAreOfTrees};
 
 /// A typed text has one core.
 pub fn there_is_one_core()
@@ -54,6 +55,12 @@ pub fn frames_are_there()
 /// In each function of a sound text the labels have the numbers 0, 1, .. in the order of the text.
 pub fn labels_are_in_order()
     ensures { LabelsAreInOrder }
+{}
+
+/// In a sound text a goto to a name has the number of the label of this name: how many labels stand
+/// before it in its function.
+pub fn gotos_go_to_labels()
+    ensures { GotosGoToLabels }
 {}
 
 /// Where they have these numbers, a goto of the core goes to the block of the statement behind its

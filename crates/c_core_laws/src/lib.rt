@@ -6,6 +6,6 @@ mod laws;
 
 pub use laws::{
     cells_start_in_range, cores_are_numbered, cores_are_small, cores_have_a_main, frames_are_there,
-    jumps_are_kept, jumps_are_sound, labels_are_blocks, labels_are_in_order,
+    gotos_go_to_labels, jumps_are_kept, jumps_are_sound, labels_are_blocks, labels_are_in_order,
     statements_are_of_trees, there_is_one_core,
 };

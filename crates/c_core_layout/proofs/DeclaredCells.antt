@@ -1,5 +1,6 @@
 -- The cells of the objects that a statement declares, by its parts (`opened`).
 use Rattle.std.proofs.Common.{◌≡◌, ℕ, ◌+◌, List, Option, None, Some, ap, sym, ◌∙◌}
+use Rattle.c_types_rules.specs.declared.typed.Choice.{Choice}
 use Rattle.c_types_rules.specs.declared.typed.TypedDeclarator.{TypedDeclarator}
 use Rattle.c_types_rules.specs.declared.typed.TypedExpression.{TypedExpression}
 use Rattle.c_types_rules.specs.declared.typed.TypedForStart.{TypedForStart}
@@ -107,3 +108,11 @@ pub cells_Labeled : (label : ℕ) (body : TypedStatement) →
 cells_Labeled label body =
     opened (tree.Labeled label body) (TypedStatement-F.Labeled label body)
     (tree.rolls-Labeled label body)
+
+pub cells_Switch : (value : TypedExpression) (choices : List Choice) (other : ℕ)
+    (body : TypedStatement) (end : ℕ) →
+    statement_cells (tree.Switch value choices other body end) ≡ statement_cells body
+cells_Switch value choices other body end =
+    opened (tree.Switch value choices other body end)
+    (TypedStatement-F.Switch value choices other body end)
+    (tree.rolls-Switch value choices other body end)

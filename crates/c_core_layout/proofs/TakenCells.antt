@@ -9,6 +9,7 @@ use Rattle.c_types_rules.specs.declared.meaning.Object.{Object}
 use Rattle.c_types_rules.specs.declared.typed.TypedExpression.{TypedExpression}
 use Rattle.c_types_rules.specs.declared.typed.TypedDeclarator.{TypedDeclarator}
 use Rattle.c_types_rules.specs.declared.typed.TypedForStart.{TypedForStart}
+use Rattle.c_types_rules.specs.declared.typed.Choice.{Choice}
 use Rattle.c_types_rules.specs.declared.typed.TypedForStart.TheVariants as start
 use Rattle.c_types_rules.specs.declared.typed.TypedItem.{TypedItem, roll-TypedItem}
 use Rattle.c_types_rules.specs.declared.typed.TypedItem.TheOpen.{TypedItem-F, TypedStatement-F}
@@ -24,8 +25,9 @@ use Rattle.cpa_model_trees.specs.declared.tree.CoreTree.TheVariants.{Node}
 use Rattle.cpa_model_trees.specs.declared.tree.Head.TheVariants as head
 use Rattle.cpa_model_trees.specs.Numbering.{Trees}
 use Rattle.c_core_rules.specs.declared.tree.Location.{Location}
-use Rattle.c_core_rules.specs.Values.{cell_at}
-use Rattle.c_core_rules.specs.Trees.{block, choice, repeated}
+use Rattle.c_core_rules.specs.Values.{cell_at, promote}
+use Rattle.c_core_rules.specs.Trees.{block, choice, repeated, valued}
+use Rattle.c_core_rules.specs.Acts.{held}
 use Rattle.c_core_rules.specs.Cells.{Taken, Rule, gives, then_by, each, in_order, taking}
 use Rattle.c_core_rules.specs.Cells.{cells_with}
 use Rattle.c_core_rules.specs.Cells.{cell}
@@ -36,6 +38,8 @@ use Rattle.c_core_rules_laws.specs.Alike.{Alike, SameFrames}
 use Rattle.c_core_rules_laws.specs.lemmas.Layers.{statement_rule}
 use Rattle.c_core_rules_laws.specs.lemmas.Layers.{open_item as open_item_rule}
 use Rattle.c_core_rules_laws.specs.lemmas.Layers.{open_statement as open_statement_rule}
+use Rattle.c_core_rules_laws.specs.lemmas.Statements.{valued_self}
+use Rattle.c_core_rules_laws.specs.lemmas.Acts.{alike_held}
 use Rattle.c_core_rules_laws.specs.lemmas.Expressions.{alike_expression}
 use Rattle.c_core_rules_laws.specs.lemmas.Declarations.{alike_resulting, alike_unused, alike_left}
 use Rattle.c_core_rules_laws.specs.lemmas.Declarations.{alike_returned, alike_initializing}
@@ -206,6 +210,28 @@ module _ (F : Frames) (same : SameFrames F F) where
       (λ x. least_then 0 0 (λ behind. gives (repeated x behind ∷ []))
       (least_none (alike_left F F same test)) (λ y. least_given (repeated x y ∷ []))))
 
+  least_switch : (value : TypedExpression) (choices : List Choice) (otherwise n : ℕ)
+      {body : Rule Trees} → TakesAtLeast n body →
+      TakesAtLeast n
+      (then_by (rows F value).used (λ v. then_by (held (valued v.statements (promote v.value)))
+      (λ kept. then_by body (λ inside. gives (kept.statements
+      ++ statement.selected_by kept.value choices otherwise inside)))))
+  least_switch value choices otherwise n {body = body} h =
+      let zero : 0 + (0 + (n + 0)) ≡ n = omega arith in
+      least_is zero
+      (least_then 0 (0 + (n + 0))
+      (λ v. then_by (held (valued v.statements (promote v.value))) (λ kept. then_by body
+      (λ inside. gives (kept.statements
+      ++ statement.selected_by kept.value choices otherwise inside))))
+      (least_none (alike_expression F F same value).used)
+      (λ v. least_then 0 (n + 0) (λ kept. then_by body (λ inside. gives (kept.statements
+      ++ statement.selected_by kept.value choices otherwise inside)))
+      (least_none (alike_held (valued_self (valued v.statements (promote v.value)))))
+      (λ kept. least_then n 0 (λ inside. gives (kept.statements
+      ++ statement.selected_by kept.value choices otherwise inside)) h
+      (λ x. least_given (kept.statements
+      ++ statement.selected_by kept.value choices otherwise x)))))
+
   -- a for, by its parts
   abbrev for_form : Trees → Trees → Trees → Trees → Trees
   for_form before front inside behind =
@@ -296,6 +322,8 @@ module _ (F : Frames) (same : SameFrames F F) where
     layer (TypedStatement-F.Return value) =
         least_none (alike_returned F F same place place value (record { type = refl }))
     layer (TypedStatement-F.Labeled label body) = least_one (Node head.Labeled) body.1
+    layer (TypedStatement-F.Switch value choices otherwise body end) =
+        least_switch value choices otherwise (statement_cells body.0) body.1
 
     item_layer : (y : TypedItem-F HeldItem HeldStatement) →
         TakesAtLeast (cells_item_layer y) (rule_item_layer y)

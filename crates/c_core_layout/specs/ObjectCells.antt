@@ -36,6 +36,7 @@ statement_step (TypedStatement-F.While test body) = body
 statement_step (TypedStatement-F.Do body test) = body
 statement_step (TypedStatement-F.For first test step body) = start_cells first + body
 statement_step (TypedStatement-F.Labeled label body) = body
+statement_step (TypedStatement-F.Switch value choices otherwise body end) = body
 statement_step _ = 0
 
 abbrev pub item_step : TypedItem-F ℕ ℕ → ℕ

@@ -53,7 +53,7 @@ fn start_cells(start: &TypedForStart) -> Result<u128, AllocError>
 
 /// Those of a statement.
 #[cycle(declaring)]
-#[tactic(auto, using(crate::proofs::DeclaredCells::cells_Block, crate::proofs::DeclaredCells::cells_Expression, crate::proofs::DeclaredCells::cells_If, crate::proofs::DeclaredCells::cells_While, crate::proofs::DeclaredCells::cells_Do, crate::proofs::DeclaredCells::cells_For, crate::proofs::DeclaredCells::cells_Goto, crate::proofs::DeclaredCells::cells_Break, crate::proofs::DeclaredCells::cells_Continue, crate::proofs::DeclaredCells::cells_Return, crate::proofs::DeclaredCells::cells_Labeled))]
+#[tactic(auto, using(crate::proofs::DeclaredCells::cells_Block, crate::proofs::DeclaredCells::cells_Expression, crate::proofs::DeclaredCells::cells_If, crate::proofs::DeclaredCells::cells_While, crate::proofs::DeclaredCells::cells_Do, crate::proofs::DeclaredCells::cells_For, crate::proofs::DeclaredCells::cells_Goto, crate::proofs::DeclaredCells::cells_Break, crate::proofs::DeclaredCells::cells_Continue, crate::proofs::DeclaredCells::cells_Return, crate::proofs::DeclaredCells::cells_Labeled, crate::proofs::DeclaredCells::cells_Switch))]
 fn statement_cells(s: &TypedStatement) -> Result<u128, AllocError>
     ensures { IfOk result (λ n. n ≡ statement_cells s.now) }
 {
@@ -78,6 +78,7 @@ fn statement_cells(s: &TypedStatement) -> Result<u128, AllocError>
         TypedStatement::Continue => Ok(0),
         TypedStatement::Return { .. } => Ok(0),
         TypedStatement::Labeled { body, .. } => statement_cells(body.get()),
+        TypedStatement::Switch { body, .. } => statement_cells(body.get()),
     }
 }
 

@@ -4,4 +4,6 @@
 
 mod operators;
 
-pub use operators::{chosen_value, conv, is_constant, operator_value, signed_value, truth_of};
+pub use operators::{
+    chosen_value, conv, is_constant, operator_value, promote, signed_value, truth_of,
+};

@@ -26,7 +26,7 @@ pub fn conv(alloc: Global, v: Boxed<Expr>, ty: IntType) -> Result<Boxed<Expr>, A
 }
 
 /// A value with its type promoted.
-fn promote(alloc: Global, v: Boxed<Expr>) -> Result<Boxed<Expr>, AllocError>
+pub fn promote(alloc: Global, v: Boxed<Expr>) -> Result<Boxed<Expr>, AllocError>
     ensures { IfOk result (λ e. e ≡ promote v) }
 {
     let ty = promoted(type_of(v.get()));

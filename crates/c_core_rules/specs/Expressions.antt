@@ -85,7 +85,9 @@ pub record Rows : Type 0 where
   pub target : Target
   pub names : Option Meaning
 
+-- x (6.5.1p2), or the constant that an enumerator is (6.4.4.3p2)
 abbrev pub name_used : Option Meaning → Rule Valued
+name_used (Some (meaning.Enumerator n)) = gives (pure (Const ty.I32 n))
 name_used found = then_by (scalar_place found) (λ place. gives (pure (scalar place)))
 
 -- an element a[i] (6.5.2.1p2)

@@ -3,10 +3,15 @@
 use Rattle.std.specs.Prelude.{ℕ, ◌+◌, ◌-◌, suc, zero, pos, List, [], ◌∷◌, ◌++◌, map, length, Option}
 use Rattle.std.specs.Prelude.{None, Some}
 use Rattle.cpa_ints.specs.declared.integers.IntType.{IntType}
-use Rattle.cpa_expr.specs.declared.tree.Expr.TheVariants.{Const}
+use Rattle.cpa_ints.specs.Wrapping.{wrapped}
+use Rattle.cpa_expr.specs.declared.tree.CmpOp.TheVariants as cmp
+use Rattle.cpa_expr.specs.declared.tree.Expr.{Expr}
+use Rattle.cpa_expr.specs.declared.tree.Expr.TheVariants.{Const, Cmp}
+use Rattle.cpa_expr.specs.Shape.{type_of}
 use Rattle.c_types_rules.specs.declared.meaning.Kind.{Kind}
 use Rattle.c_types_rules.specs.declared.meaning.Kind.TheVariants.{Void, Value}
 use Rattle.c_types_rules.specs.declared.meaning.Object.{Object}
+use Rattle.c_types_rules.specs.declared.typed.Choice.{Choice}
 use Rattle.c_types_rules.specs.declared.typed.TypedExpression.{TypedExpression}
 use Rattle.c_types_rules.specs.declared.typed.TypedInitializer.{TypedInitializer}
 use Rattle.c_types_rules.specs.declared.typed.TypedInitializer.TheVariants as initializer
@@ -25,10 +30,11 @@ use Rattle.cpa_model_trees.specs.declared.tree.CoreTree.TheVariants.{Node}
 use Rattle.cpa_model_trees.specs.declared.tree.Head.TheVariants as head
 use Rattle.c_core_rules.specs.declared.tree.Location.{Location}
 use Rattle.c_core_rules.specs.declared.tree.Valued.{Valued}
-use Rattle.c_core_rules.specs.Values.{cell_at}
+use Rattle.c_core_rules.specs.Values.{cell_at, promote}
 use Rattle.cpa_model_trees.specs.Numbering.{Trees}
-use Rattle.c_core_rules.specs.Trees.{leaf, block, choice, repeated, set, input}
+use Rattle.c_core_rules.specs.Trees.{leaf, block, choice, repeated, set, input, valued}
 use Rattle.c_core_rules.specs.Cells.{Rule, gives, then_by, each, in_order, next_cell, fresh, taking}
+use Rattle.c_core_rules.specs.Acts.{held}
 use Rattle.c_core_rules.specs.Expressions.{Frames, rows}
 
 -- e; (6.8.3p2)
@@ -105,6 +111,18 @@ returned frames place None = gives (leaf head.Leave ∷ [])
 returned frames place (Some value) =
     then_by (initialized frames place value) (λ before. gives (before ++ leaf head.Leave ∷ []))
 
+-- if (v == the value of the case, converted) { goto its label }
+abbrev pub selecting : Expr → Choice → CoreTree
+selecting v one =
+    choice (Cmp cmp.Eq (type_of v) v (Const (type_of v) (wrapped (type_of v) one.value)))
+    (leaf (head.Goto one.label) ∷ []) []
+
+-- the gotos of a switch on v, its body, and the label behind it
+abbrev pub selected_by : Expr → List Choice → ℕ → Trees → Trees
+selected_by v choices otherwise inside =
+    map (selecting v) choices
+    ++ leaf (head.Goto otherwise) ∷ (inside ++ leaf head.Labeled ∷ [])
+
 -- a statement of a function with its result in this place, with a rule for each statement in it
 abbrev pub statement_step : Frames → Location → TypedStatement-F (Rule Trees) (Rule Trees)
     → Rule Trees
@@ -134,6 +152,12 @@ statement_step frames place (TypedStatement-F.Goto label) = gives (leaf (head.Go
 statement_step frames place TypedStatement-F.Break = gives (leaf head.Break ∷ [])
 statement_step frames place TypedStatement-F.Continue = gives (leaf head.Continue ∷ [])
 statement_step frames place (TypedStatement-F.Return value) = returned frames place value
+-- 6.8.4.2p5: S, t := v promoted; a goto to the first case with this value, else to the default,
+-- else behind the body
+statement_step frames place (TypedStatement-F.Switch value choices otherwise body end) =
+    then_by (rows frames value).used (λ v.
+    then_by (held (valued v.statements (promote v.value))) (λ kept. then_by body (λ inside.
+    gives (kept.statements ++ selected_by kept.value choices otherwise inside))))
 -- 6.8.1
 statement_step frames place (TypedStatement-F.Labeled label body) =
     as_one (Node head.Labeled) body

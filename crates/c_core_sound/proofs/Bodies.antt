@@ -43,6 +43,8 @@ function_now : (result r : Kind) (name : List ℕ) (later : List Entry) (now : D
     declared_as later name ≡ Some now → (ps : Option (List ParameterType)) (d : Bool) →
     Alike (declared.Function result ps d) now → IsFunction result name later
 function_now result r name later (declared.Object object i) is ps d alike = absurd alike
+function_now result r name later (declared.Enumerator n) is ps d alike = absurd alike
+function_now result r name later declared.Tag is ps d alike = absurd alike
 function_now result r name later (declared.Function s qs e) is ps d alike = record {
   parameters = qs;
   defined = e;
@@ -140,7 +142,7 @@ found_body text (item.Function specifiers declarator (body.Block items place) �
     let next = item_behind text one before in
     let own = item_faults text one before in
     let rest = items_faults text more next in
-    let head = head_faults before true specifiers declarator in
+    let head = head_faults text before true specifiers declarator in
     let sites = body_sites text before specifiers declarator (body.Block items place) in
     let none_head = none_left head (flat_map (site_faults text) sites ++ jump_faults sites)
     (none_left own rest none) in
@@ -150,7 +152,7 @@ found_body text (item.Function specifiers declarator (body.Block items place) �
     (place_of (bytes_eq name) (filter_map body_name more)) refl
     (later_function (kind_of specifiers) declarator.name.bytes next.names
     (items_behind text more next).names
-    (declares_function before true specifiers declarator none_head)
+    (declares_function text before true specifiers declarator none_head)
     (items_last text more next (none_right own rest none)))
     (parameters_scalar before.objects (listed declarator.parameters)) is
     (λ m at. found_body text more next (none_right own rest none) name m at)

@@ -1,6 +1,7 @@
 -- What the names of file scope are declared as, from item to item of a text in which no rule is
 -- broken.
-use Rattle.std.proofs.Common.{◌≡◌, ℕ, ◌+◌, ◌≤◌, ℤ, Bool, true, false, not, ◌&&◌, ◌||◌, List, []}
+use Rattle.std.proofs.Common.{◌≡◌, ℕ, ◌+◌, ◌≤◌, ℤ, ◌+ℤ◌, pos, Bool, true, false, not, ◌&&◌, ◌||◌}
+use Rattle.std.proofs.Common.{List, []}
 use Rattle.std.proofs.Common.{◌∷◌, ◌++◌, length, Option, None, Some, refl, ap, sym, ◌∙◌, subst}
 use Rattle.std.proofs.Common.{arith}
 use Rattle.std.specs.Prelude.{is_some, unsigned_abs}
@@ -8,7 +9,14 @@ use Rattle.std.specs.List.{flat_map}
 use Rattle.std.specs.Str.{bytes_eq}
 use Rattle.std.specs.Cmp.Lexicographic.{bytes_decides}
 use Rattle.std.proofs.lemmas.Option.{same_Some}
+use Rattle.cpa_ints.specs.declared.integers.IntType.TheVariants as ty
+use Rattle.cpa_ints.specs.Integers.{IsInRange}
 use Rattle.c_lexer.specs.declared.fault.Rule.TheVariants as rule
+use Rattle.c_lexer.specs.declared.fault.TextFault.{TextFault}
+use Rattle.c_grammar_tree.specs.declared.declaration.Enumerator.{Enumerator}
+use Rattle.c_grammar_tree.specs.declared.declaration.Enumeration.{Enumeration}
+use Rattle.c_grammar_tree.specs.declared.declaration.Enumeration.TheVariants as enumeration
+use Rattle.c_grammar_tree.specs.declared.item.Parameter.{Parameter}
 use Rattle.c_grammar_tree.specs.declared.declaration.Specifiers.{Specifiers}
 use Rattle.c_grammar_tree.specs.declared.declaration.Declarator.{Declarator}
 use Rattle.c_grammar_tree.specs.declared.item.FunctionDeclarator.{FunctionDeclarator}
@@ -24,42 +32,65 @@ use Rattle.c_types_rules.specs.Tables.{cells_of}
 use Rattle.c_types_rules.specs.ExpressionRules.{broken, uses_faults}
 use Rattle.c_types_rules.specs.Declarations.{kind_of, items_of, length_faults, length_uses}
 use Rattle.c_types_rules.specs.Declarations.{void_object}
-use Rattle.c_types_rules.specs.Declarations.{void_parameter}
+use Rattle.c_types_rules.specs.Declarations.{void_parameter, enumerator_number, enumerator_entry}
+use Rattle.c_types_rules.specs.Declarations.{tag_entry}
+use Rattle.c_types_rules.specs.Statements.{Around, enumerates, tags, naming, enumerating}
+use Rattle.c_types_rules.specs.Statements.{enumeration_walk}
+use Rattle.c_types_rules.specs.StatementRules.{site_faults}
 use Rattle.c_types_rules.specs.Items.{Before, one_type, merged_object, redeclares_object, global_of}
 use Rattle.c_types_rules.specs.Items.{global_behind, redeclared_object, start_faults, global_faults}
 use Rattle.c_types_rules.specs.Items.{same_kind, merged_function, redeclares_function}
 use Rattle.c_types_rules.specs.Items.{parameter_types}
 use Rattle.c_types_rules.specs.Items.{redeclared_function, function_behind, head_faults, listed}
-use Rattle.c_types_rules.specs.Items.{agreeing_parameters}
+use Rattle.c_types_rules.specs.Items.{agreeing_parameters, around_item, enumeration_behind}
+use Rattle.c_types_rules.specs.Items.{enumeration_faults}
 use Rattle.c_core_laws.specs.lemmas.Faults.{NoFaults, none_left, none_right, not_broken}
 use Rattle.c_core_laws.specs.lemmas.Entries.{push_named, push_other}
+use Rattle.c_core_laws.specs.lemmas.Enumerations.{fresh_enumerator, fresh_tag}
 use Rattle.c_core_sound.specs.Whole.{whole_length}
 use Rattle.c_core_laws.specs.lemmas.MadeValues.{type_same}
 use Rattle.c_core_sound.proofs.Lengths.{enough}
 use Rattle.c_core_sound.proofs.Entries.{pushed_by}
+use Rattle.c_core_sound.proofs.Enumerating.{enumeration_grows}
 use Rattle.c_core_sound.proofs.Running.{DeclaredBelow, Below, below_push, below_higher}
 
--- two declarations of one thing: the same object but for const, or functions of one result
+-- two declarations of one thing: the same object but for const, functions of one result, or the
+-- same constant or tag
 abbrev pub Alike : Declared → Declared → Type 0
 Alike (declared.Object a i) (declared.Object b j) =
     (a.number ≡ b.number) × (a.ty ≡ b.ty) × (a.length ≡ b.length)
 Alike (declared.Function r ps d) (declared.Function s qs e) = r ≡ s
+Alike (declared.Enumerator n) e = declared.Enumerator n ≡ e
+Alike declared.Tag e = declared.Tag ≡ e
 Alike _ _ = ⊥
 
 pub alike_self : (d : Declared) → Alike d d
 alike_self (declared.Object a i) = (refl, refl, refl)
 alike_self (declared.Function r ps d) = refl
+alike_self (declared.Enumerator n) = refl
+alike_self declared.Tag = refl
 
 pub alike_both : (d e f : Declared) → Alike d e → Alike e f → Alike d f
 alike_both (declared.Object a i) (declared.Object b j) (declared.Object c k) x y =
     (x.0 ∙ y.0, x.1 ∙ y.1, x.2 ∙ y.2)
 alike_both (declared.Object a i) (declared.Object b j) (declared.Function r ps d) x y = absurd y
+alike_both (declared.Object a i) (declared.Object b j) (declared.Enumerator n) x y = absurd y
+alike_both (declared.Object a i) (declared.Object b j) declared.Tag x y = absurd y
 alike_both (declared.Object a i) (declared.Function r ps d) f x y = absurd x
+alike_both (declared.Object a i) (declared.Enumerator n) f x y = absurd x
+alike_both (declared.Object a i) declared.Tag f x y = absurd x
 alike_both (declared.Function r ps d) (declared.Object b j) f x y = absurd x
+alike_both (declared.Function r ps d) (declared.Enumerator n) f x y = absurd x
+alike_both (declared.Function r ps d) declared.Tag f x y = absurd x
 alike_both (declared.Function r ps d) (declared.Function s qs e) (declared.Object c k) x y =
     absurd y
+alike_both (declared.Function r ps d) (declared.Function s qs e) (declared.Enumerator n) x y =
+    absurd y
+alike_both (declared.Function r ps d) (declared.Function s qs e) declared.Tag x y = absurd y
 alike_both (declared.Function r ps d) (declared.Function s qs e) (declared.Function t os f) x y =
     x ∙ y
+alike_both (declared.Enumerator n) e f x y = subst (λ (d : Declared). Alike d f) (sym x) y
+alike_both declared.Tag e f x y = subst (λ (d : Declared). Alike d f) (sym x) y
 
 -- what is declared is declared alike among other names
 pub record Lasting (later : List Entry) (name : List ℕ) (d : Declared) : Type 0 where
@@ -96,6 +127,9 @@ lasts_push_by names entry name d true named is same =
     }
 lasts_push_by names entry name d false named is same =
     record { now = d; is = push_other names entry name named ∙ is; alike = alike_self d }
+
+none_some : {A : Type 0} (x : A) → None ≡ Some x → ⊥
+none_some x is = cc
 
 lasts_push : (names : List Entry) (entry : Entry) →
     ((e : Declared) → declared_as names entry.name ≡ Some e → Alike e entry.declared) →
@@ -138,6 +172,8 @@ makes : (before : Option Declared) (fresh : Object) (j : Bool) →
 makes None fresh j = makes_fresh j
 makes (Some (declared.Object old i)) fresh j = makes_by (one_type old fresh) old fresh i j
 makes (Some (declared.Function r ps d)) fresh j = makes_fresh j
+makes (Some (declared.Enumerator n)) fresh j = makes_fresh j
+makes (Some declared.Tag) fresh j = makes_fresh j
 
 merged_alike_by : (b : Bool) (old fresh : Object) (i j : Bool) → b ≡ true →
     Alike (declared.Object old i) (elim b as (λ c. Declared) [
@@ -153,6 +189,8 @@ merged_alike : (e : Declared) (fresh : Object) (j : Bool) →
 merged_alike (declared.Object old i) fresh j h =
     merged_alike_by (one_type old fresh) old fresh i j (first_false (one_type old fresh) (i && j) h)
 merged_alike (declared.Function r ps d) fresh j h = absurd (cc)
+merged_alike (declared.Enumerator n) fresh j h = absurd (cc)
+merged_alike declared.Tag fresh j h = absurd (cc)
 
 abbrev global_entry : Text → Before → Specifiers → Declarator → Entry
 global_entry text before specifiers declarator = record {
@@ -184,6 +222,53 @@ global_lasts text before specifiers declarator none =
     (merged_alike e fresh starts
     (ap (λ (d : Option Declared). redeclares_object d fresh starts) (sym is) ∙ free)))
 
+-- enumerators and tags, which are not declared before
+
+fresh_lasts : (names : List Entry) (entry : Entry) → declared_as names entry.name ≡ None →
+    Lasts names (names ++ entry ∷ [])
+fresh_lasts names entry free =
+    lasts_push names entry (λ e is. absurd (none_some e (sym free ∙ is)))
+
+enumerators_last : (text : Text) (next : ℤ) (found : List Enumerator) (around : Around) →
+    around.outer ≡ 0 →
+    NoFaults (flat_map (site_faults text) ((enumerating text next found).sites around)) →
+    Lasts around.names ((enumerating text next found).behind around).names
+enumerators_last text next [] around outer none = lasts_self around.names
+enumerators_last text next (one ∷ more) around outer none =
+    let n = enumerator_number text around.names next one in
+    let entry = enumerator_entry one.name.bytes n in
+    let behind = naming entry around in
+    let own = site_faults text (record { around = around; act = enumerates next one }) in
+    let rest = flat_map (site_faults text) ((enumerating text (n +ℤ pos 1) more).sites behind) in
+    lasts_both around.names behind.names
+    ((enumerating text (n +ℤ pos 1) more).behind behind).names
+    (fresh_lasts around.names entry
+    (fresh_enumerator text around next one outer (none_left own rest none)))
+    (enumerators_last text (n +ℤ pos 1) more behind outer (none_right own rest none))
+
+enumeration_last : (text : Text) (found : Option Enumeration) (around : Around) →
+    around.outer ≡ 0 →
+    NoFaults (flat_map (site_faults text) ((enumeration_walk text found).sites around)) →
+    Lasts around.names ((enumeration_walk text found).behind around).names
+enumeration_last text None around outer none = lasts_self around.names
+enumeration_last text (Some (enumeration.Tag tag)) around outer none = lasts_self around.names
+enumeration_last text (Some (enumeration.Listed None found)) around outer none =
+    enumerators_last text (pos 0) found around outer none
+enumeration_last text (Some (enumeration.Listed (Some tag) found)) around outer none =
+    let behind = naming (tag_entry tag.bytes) around in
+    let own = site_faults text (record { around = around; act = tags tag }) in
+    let rest = flat_map (site_faults text) ((enumerating text (pos 0) found).sites behind) in
+    lasts_both around.names behind.names ((enumerating text (pos 0) found).behind behind).names
+    (fresh_lasts around.names (tag_entry tag.bytes)
+    (fresh_tag text around tag outer (none_left own rest none)))
+    (enumerators_last text (pos 0) found behind outer (none_right own rest none))
+
+pub enumeration_lasts : (text : Text) (specifiers : Specifiers) (before : Before) →
+    NoFaults (enumeration_faults text specifiers before) →
+    Lasts before.names (enumeration_behind text specifiers before).names
+enumeration_lasts text specifiers before none =
+    enumeration_last text specifiers.enumeration (around_item before) refl none
+
 -- functions
 
 same_result : (r s : Kind) → same_kind r s ≡ true → r ≡ s
@@ -196,6 +281,8 @@ function_alike : (e : Declared) (kind : Kind) (types : Option (List ParameterTyp
     (defines : Bool) → redeclares_function (Some e) kind types defines ≡ false →
     Alike e (merged_function (Some e) kind types defines)
 function_alike (declared.Object old i) kind types defines h = absurd (cc)
+function_alike (declared.Enumerator n) kind types defines h = absurd (cc)
+function_alike declared.Tag kind types defines h = absurd (cc)
 function_alike (declared.Function r ps d) kind types defines h = refl
 
 abbrev function_entry : Bool → Specifiers → FunctionDeclarator → Before → Entry
@@ -205,26 +292,32 @@ function_entry defines specifiers declarator before = record {
       (parameter_types defines declarator.parameters) defines;
 }
 
-redeclared_free : (before : Before) (defines : Bool) (specifiers : Specifiers)
-    (declarator : FunctionDeclarator) →
-    NoFaults (head_faults before defines specifiers declarator) →
+head_free : (e a b c : List TextFault) → NoFaults (e ++ a ++ b ++ c) → NoFaults a
+head_free e a b c none = none_right e a (none_left (e ++ a) b (none_left (e ++ a ++ b) c none))
+
+redeclared_free : (text : Text) (before : Before) (defines : Bool)
+    (specifiers : Specifiers) (declarator : FunctionDeclarator) →
+    NoFaults (head_faults text before defines specifiers declarator) →
     redeclares_function (declared_as before.names declarator.name.bytes) (kind_of specifiers)
     (parameter_types defines declarator.parameters) defines ≡ false
-redeclared_free before defines specifiers declarator none =
+redeclared_free text before defines specifiers declarator none =
     not_broken rule.N2 (redeclares_function (declared_as before.names declarator.name.bytes)
     (kind_of specifiers) (parameter_types defines declarator.parameters) defines)
     declarator.name.place
-    (none_left (broken rule.N2 (redeclared_function before defines specifiers declarator))
-    (broken rule.N5 (flat_map void_parameter (listed declarator.parameters))) none)
+    (head_free (enumeration_faults text specifiers before)
+    (broken rule.N2 (redeclared_function before defines specifiers declarator))
+    (broken rule.N5 (flat_map void_parameter (listed declarator.parameters)))
+    (flat_map (λ (parameter : Parameter). enumeration_faults text parameter.specifiers before)
+    (listed declarator.parameters)) none)
 
-pub function_lasts : (before : Before) (defines : Bool) (specifiers : Specifiers)
-    (declarator : FunctionDeclarator) →
-    NoFaults (head_faults before defines specifiers declarator) →
+pub function_lasts : (text : Text) (before : Before) (defines : Bool)
+    (specifiers : Specifiers) (declarator : FunctionDeclarator) →
+    NoFaults (head_faults text before defines specifiers declarator) →
     Lasts before.names (function_behind defines specifiers declarator before).names
-function_lasts before defines specifiers declarator none =
+function_lasts text before defines specifiers declarator none =
     let kind = kind_of specifiers in
     let types = parameter_types defines declarator.parameters in
-    let free = redeclared_free before defines specifiers declarator none in
+    let free = redeclared_free text before defines specifiers declarator none in
     lasts_push before.names (function_entry defines specifiers declarator before)
     (λ e is. subst (λ (d : Option Declared). Alike e (merged_function d kind types defines))
     (sym is) (function_alike e kind types defines
@@ -242,6 +335,8 @@ merged_result : (o : Option Declared) (kind : Kind) (types : Option (List Parame
     × (merged_function o kind types defines ≡ declared.Function kind ps d)
 merged_result None kind types defines h = (types, defines, refl)
 merged_result (Some (declared.Object old i)) kind types defines h = absurd (cc)
+merged_result (Some (declared.Enumerator n)) kind types defines h = absurd (cc)
+merged_result (Some declared.Tag) kind types defines h = absurd (cc)
 merged_result (Some (declared.Function r ps d)) kind types defines h = (
   or_else ps types,
   d || defines,
@@ -252,16 +347,16 @@ merged_result (Some (declared.Function r ps d)) kind types defines h = (
       h))),
 )
 
-pub declares_function : (before : Before) (defines : Bool) (specifiers : Specifiers)
-    (declarator : FunctionDeclarator) →
-    NoFaults (head_faults before defines specifiers declarator) →
+pub declares_function : (text : Text) (before : Before) (defines : Bool)
+    (specifiers : Specifiers) (declarator : FunctionDeclarator) →
+    NoFaults (head_faults text before defines specifiers declarator) →
     IsFunction (kind_of specifiers) declarator.name.bytes
     (function_behind defines specifiers declarator before).names
-declares_function before defines specifiers declarator none =
+declares_function text before defines specifiers declarator none =
     let own = declarator.name.bytes in
     let r = merged_result (declared_as before.names own) (kind_of specifiers)
     (parameter_types defines declarator.parameters) defines
-    (redeclared_free before defines specifiers declarator none) in
+    (redeclared_free text before defines specifiers declarator none) in
     record {
       parameters = r.0;
       defined = r.1;
@@ -270,15 +365,19 @@ declares_function before defines specifiers declarator none =
     }
 
 -- the objects of file scope: each has a cell at least, a number below the next one, and a number of
--- its own
+-- its own; an enumerator is an int
 
 abbrev pub DeclaredSome : Declared → Type 0
 DeclaredSome (declared.Object object initialized) = 1 ≤ cells_of object
 DeclaredSome (declared.Function result parameters defined) = Unit {0}
+DeclaredSome (declared.Enumerator value) = IsInRange ty.I32 value
+DeclaredSome declared.Tag = Unit {0}
 
 abbrev pub HasNumber : Declared → ℕ → Type 0
 HasNumber (declared.Object object initialized) n = object.number ≡ n
 HasNumber (declared.Function result parameters defined) n = ⊥
+HasNumber (declared.Enumerator value) n = ⊥
+HasNumber declared.Tag n = ⊥
 
 pub record FileScope (names : List Entry) (objects : ℕ) : Type 0 where
   pub some : (name : List ℕ) (d : Declared) → declared_as names name ≡ Some d → DeclaredSome d
@@ -305,6 +404,8 @@ made_below before fresh d objects (makes_fresh j) h own = omega (arith, own)
 no_number : (d : Declared) (n : ℕ) → DeclaredBelow n d → HasNumber d n → ⊥
 no_number (declared.Object object i) n below is = omega (arith, below, is)
 no_number (declared.Function r ps d) n below is = is
+no_number (declared.Enumerator value) n below is = is
+no_number declared.Tag n below is = is
 
 -- a name that shares the number of what is made shares it with what was declared before
 shares : (before : Option Declared) (fresh : Object) (d e : Declared) (objects n : ℕ) →
@@ -384,54 +485,70 @@ function_number : (d : Declared) (r : Kind) (ps : Option (List ParameterType)) (
     d ≡ declared.Function r ps b → (n : ℕ) → HasNumber d n → ⊥
 function_number d r ps b is n h = subst (λ (z : Declared). HasNumber z n) is h
 
-function_declared : (before : Before) (defines : Bool) (specifiers : Specifiers)
-    (declarator : FunctionDeclarator) →
-    NoFaults (head_faults before defines specifiers declarator) →
+function_declared : (text : Text) (before : Before) (defines : Bool)
+    (specifiers : Specifiers) (declarator : FunctionDeclarator) →
+    NoFaults (head_faults text before defines specifiers declarator) →
     (r : Kind) × (ps : Option (List ParameterType)) × (d : Bool)
     × ((function_entry defines specifiers declarator before).declared ≡ declared.Function r ps d)
-function_declared before defines specifiers declarator none =
+function_declared text before defines specifiers declarator none =
     let r = merged_result (declared_as before.names declarator.name.bytes) (kind_of specifiers)
     (parameter_types defines declarator.parameters) defines
-    (redeclared_free before defines specifiers declarator none) in
+    (redeclared_free text before defines specifiers declarator none) in
     (kind_of specifiers, r.0, r.1, r.2)
 
--- what holds of no function holds behind the name of one more
-function_one : (names : List Entry) (entry : Entry) (r : Kind) (ps : Option (List ParameterType))
-    (b : Bool) (objects : ℕ) → entry.declared ≡ declared.Function r ps b →
+-- what holds of no function, enumerator and tag holds behind the name of one more
+plain_one : (names : List Entry) (entry : Entry) (objects : ℕ) →
+    ((n : ℕ) → HasNumber entry.declared n → ⊥) →
     FileScope names objects → (x y : Bool) (name other : List ℕ) (d e : Declared) →
     bytes_eq entry.name name ≡ x → bytes_eq entry.name other ≡ y →
     declared_as (names ++ entry ∷ []) name ≡ Some d →
     declared_as (names ++ entry ∷ []) other ≡ Some e → (n : ℕ) → HasNumber d n → HasNumber e n →
     name ≡ other
-function_one names entry r ps b objects is f true y name other d e p q at to n u w =
+plain_one names entry objects none f true y name other d e p q at to n u w =
     let made : entry.declared ≡ d =
     same_Some entry.declared d (sym (push_named names entry name p) ∙ at) in
-    absurd (function_number d r ps b (sym made ∙ is) n u)
-function_one names entry r ps b objects is f false true name other d e p q at to n u w =
+    absurd (none n (subst (λ (z : Declared). HasNumber z n) (sym made) u))
+plain_one names entry objects none f false true name other d e p q at to n u w =
     let made : entry.declared ≡ e =
     same_Some entry.declared e (sym (push_named names entry other q) ∙ to) in
-    absurd (function_number e r ps b (sym made ∙ is) n w)
-function_one names entry r ps b objects is f false false name other d e p q at to n u w =
+    absurd (none n (subst (λ (z : Declared). HasNumber z n) (sym made) w))
+plain_one names entry objects none f false false name other d e p q at to n u w =
     f.one name other d e (sym (push_other names entry name p) ∙ at)
     (sym (push_other names entry other q) ∙ to) n u w
 
-pub function_scope : (before : Before) (defines : Bool) (specifiers : Specifiers)
-    (declarator : FunctionDeclarator) →
-    NoFaults (head_faults before defines specifiers declarator) →
+plain_scope : (names : List Entry) (entry : Entry) (objects : ℕ) →
+    ((n : ℕ) → HasNumber entry.declared n → ⊥) → DeclaredSome entry.declared →
+    DeclaredBelow objects entry.declared → FileScope names objects →
+    FileScope (names ++ entry ∷ []) objects
+plain_scope names entry objects none some below f = record {
+  some = pushed_by (λ name d. DeclaredSome d) names entry f.some (λ name is. some);
+  below = below_push objects names entry f.below below;
+  one = λ name other d e x y n u w.
+      plain_one names entry objects none f (bytes_eq entry.name name) (bytes_eq entry.name other)
+      name other d e refl refl x y n u w;
+}
+
+pub enumeration_scope : (text : Text) (specifiers : Specifiers) (before : Before) →
+    FileScope before.names before.objects →
+    FileScope (enumeration_behind text specifiers before).names before.objects
+enumeration_scope text specifiers before f =
+    enumeration_grows text (λ names. FileScope names before.objects)
+    (λ names name n range g. plain_scope names (enumerator_entry name n) before.objects
+    (λ m h. h) range tt g)
+    (λ names name g. plain_scope names (tag_entry name) before.objects (λ m h. h) tt tt g)
+    specifiers.enumeration (around_item before) f
+
+pub function_scope : (text : Text) (before : Before) (defines : Bool)
+    (specifiers : Specifiers) (declarator : FunctionDeclarator) →
+    NoFaults (head_faults text before defines specifiers declarator) →
     FileScope before.names before.objects →
     FileScope (function_behind defines specifiers declarator before).names before.objects
-function_scope before defines specifiers declarator none f =
+function_scope text before defines specifiers declarator none f =
     let entry = function_entry defines specifiers declarator before in
-    let r = function_declared before defines specifiers declarator none in
-    record {
-      some = pushed_by (λ name d. DeclaredSome d) before.names entry f.some
-          (λ name is. subst DeclaredSome (sym r.3) tt);
-      below = below_push before.objects before.names entry f.below
-          (subst (DeclaredBelow before.objects) (sym r.3) tt);
-      one = λ name other d e x y n u w.
-          function_one before.names entry r.0 r.1 r.2 before.objects r.3 f
-          (bytes_eq entry.name name) (bytes_eq entry.name other) name other d e refl refl x y n u w;
-    }
+    let r = function_declared text before defines specifiers declarator none in
+    plain_scope before.names entry before.objects
+    (λ n h. function_number entry.declared r.0 r.1 r.2 r.3 n h) (subst DeclaredSome (sym r.3) tt)
+    (subst (DeclaredBelow before.objects) (sym r.3) tt) f
 
 -- where the objects of file scope begin: as behind the objects of file scope, so far
 pub record Stay (first : ℕ → Option ℕ) (names : List Entry) (objects : ℕ)
@@ -468,16 +585,32 @@ global_stays text before specifiers declarator first starts h =
       above = λ n le. h.above n (omega (arith, le));
     }
 
-pub function_stays : (before : Before) (defines : Bool) (specifiers : Specifiers)
-    (declarator : FunctionDeclarator) (first starts : ℕ → Option ℕ) →
-    NoFaults (head_faults before defines specifiers declarator) →
+plain_stays : (first : ℕ → Option ℕ) (names : List Entry) (entry : Entry) (objects : ℕ)
+    (starts : ℕ → Option ℕ) → ((n : ℕ) → HasNumber entry.declared n → ⊥) →
+    Stay first names objects starts → Stay first (names ++ entry ∷ []) objects starts
+plain_stays first names entry objects starts none h = record {
+  same = pushed_by (λ name d. (n : ℕ) → HasNumber d n → starts n ≡ first n) names entry h.same
+      (λ name is n u. absurd (none n u));
+  above = h.above;
+}
+
+pub enumeration_stays : (text : Text) (specifiers : Specifiers) (before : Before)
+    (first starts : ℕ → Option ℕ) → Stay first before.names before.objects starts →
+    Stay first (enumeration_behind text specifiers before).names before.objects starts
+enumeration_stays text specifiers before first starts h =
+    enumeration_grows text (λ names. Stay first names before.objects starts)
+    (λ names name n range g. plain_stays first names (enumerator_entry name n) before.objects
+    starts (λ m u. u) g)
+    (λ names name g. plain_stays first names (tag_entry name) before.objects starts (λ m u. u) g)
+    specifiers.enumeration (around_item before) h
+
+pub function_stays : (text : Text) (before : Before) (defines : Bool)
+    (specifiers : Specifiers) (declarator : FunctionDeclarator) (first starts : ℕ → Option ℕ) →
+    NoFaults (head_faults text before defines specifiers declarator) →
     Stay first before.names before.objects starts →
     Stay first (function_behind defines specifiers declarator before).names before.objects starts
-function_stays before defines specifiers declarator first starts none h =
+function_stays text before defines specifiers declarator first starts none h =
     let entry = function_entry defines specifiers declarator before in
-    let r = function_declared before defines specifiers declarator none in
-    record {
-      same = pushed_by (λ name d. (n : ℕ) → HasNumber d n → starts n ≡ first n) before.names entry
-          h.same (λ name is n u. absurd (function_number entry.declared r.0 r.1 r.2 r.3 n u));
-      above = h.above;
-    }
+    let r = function_declared text before defines specifiers declarator none in
+    plain_stays first before.names entry before.objects starts
+    (λ n u. function_number entry.declared r.0 r.1 r.2 r.3 n u) h

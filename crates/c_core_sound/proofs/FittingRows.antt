@@ -1,10 +1,13 @@
 -- The rules of expressions make well typed trees and values, where the names in them stand for what
 -- is there.
-use Rattle.std.proofs.Common.{◌≡◌, ℕ, ◌≤◌, Bool, true, List, [], ◌∷◌, ◌++◌, Option, Some, ap, sym}
-use Rattle.std.proofs.Common.{subst}
+use Rattle.std.proofs.Common.{◌≡◌, ℕ, ℤ, ◌≤◌, Bool, true, List, [], ◌∷◌, ◌++◌, Option, Some}
+use Rattle.std.proofs.Common.{ap, sym, subst}
 use Rattle.std.specs.List.{AllByRecursion}
 use Rattle.std.specs.Prelude.{is_some, unwrap_or}
 use Rattle.cpa_ints.specs.declared.integers.IntType.{IntType}
+use Rattle.cpa_ints.specs.declared.integers.IntType.TheVariants as ty
+use Rattle.cpa_ints.specs.Integers.{IsInRange}
+use Rattle.cpa_expr.specs.declared.tree.Expr.TheVariants.{Const}
 use Rattle.cpa_expr.specs.declared.tree.Expr.{Expr}
 use Rattle.cpa_expr.specs.Shape.{AreCells, IsTyped}
 use Rattle.c_grammar_symbols.specs.declared.operators.BinaryOperator.{BinaryOperator}
@@ -36,6 +39,7 @@ use Rattle.c_core_rules.specs.Expressions as rows
 use Rattle.c_core_rules.specs.Expressions.{scalar_target, element_target}
 use Rattle.c_core_sound.proofs.TypedValues.{PlaceFits, first_fits, scalar_typed, element_typed}
 use Rattle.c_core_sound.proofs.TypedValues.{conv_typed, one_typed, signed_typed, cell_below}
+use Rattle.c_core_sound.proofs.TypedValues.{const_typed}
 use Rattle.c_core_sound.proofs.Fitting.{Ground, World, TreesFit, append_fits, push_fits, leaf_fits}
 use Rattle.c_core_sound.proofs.Fitting.{choice_fits, set_fits, Fits, fits_gives, fits_then}
 use Rattle.c_core_sound.proofs.Fitting.{fits_weaker, fits_freshly, fits_at, EachFits, fits_each}
@@ -121,6 +125,15 @@ module _ (W : World) where
       (λ g. good W [] (scalar (cell_at object.ty (location_in taken found).base)) tt
       (scalar_typed W.ground.cells (cell_at object.ty (location_in taken found).base)
       (scalar_at object h taken g.1))))
+
+  pub enumerator_fits : (n : ℤ) →
+      ((starts : ℕ → Option ℕ) → W.knows starts → IsInRange ty.I32 n) →
+      GoodRule (rows.name_used (Some (meaning.Enumerator n)))
+  enumerator_fits n h =
+      fits_at W (λ taken. core.gives (pure (Const ty.I32 n)))
+      (λ taken. fits_gives W (Good W) (pure (Const ty.I32 n))
+      (λ g. good W [] (Const ty.I32 n) tt
+      (const_typed W.ground.cells ty.I32 n (h taken.starts g.1))))
 
   pub element_fits : (object : Object) → ObjectFits W object → {index : core.Rule Valued} →
       GoodRule index → GoodRule (rows.element_used (Some (meaning.Object object)) index)

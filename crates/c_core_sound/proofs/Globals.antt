@@ -130,6 +130,8 @@ named_only : (names : List Entry) (objects : ℕ) (starts : List Start) (f : Fil
     (object_in o)) object
 named_only names objects starts f name object i is other None at = tt
 named_only names objects starts f name object i is other (Some (declared.Function r ps d)) at = tt
+named_only names objects starts f name object i is other (Some (declared.Enumerator n)) at = tt
+named_only names objects starts f name object i is other (Some declared.Tag) at = tt
 named_only names objects starts f name object i is other (Some (declared.Object g j)) at = (
   λ number. same_object g object j i
       (sym at ∙ ap (declared_as names)
@@ -154,6 +156,8 @@ named_has : (names : List Entry) (starts : List Start) (name : List ℕ) (object
     (object_in o)) object
 named_has names starts name object i None is = absurd (cc)
 named_has names starts name object i (Some (declared.Function r ps d)) is = absurd (cc)
+named_has names starts name object i (Some (declared.Enumerator n)) is = absurd (cc)
+named_has names starts name object i (Some declared.Tag) is = absurd (cc)
 named_has names starts name object i (Some (declared.Object g j)) is =
     inl (same_object g object j i is)
 
@@ -221,6 +225,8 @@ object_is entry object i is =
     ap (λ (d : Declared). elim d as (λ x. Bool) [
       | declared.Object one initialized ↦ true
       | declared.Function result parameters defined ↦ false
+      | declared.Enumerator value ↦ false
+      | declared.Tag ↦ false
     ]) is
 
 by_own_name : (b : Bool) (entry : Entry) (name : List ℕ) (object : Object) (i : Bool) →

@@ -50,6 +50,7 @@ anything_fits (Some (meaning.Object object)) = record { begins = λ starts k. ab
 anything_fits (Some (meaning.Function function)) =
     λ body is calls. record { fits = λ starts k. absurd k }
 anything_fits (Some (meaning.Known function)) = tt
+anything_fits (Some (meaning.Enumerator value)) = λ starts k. absurd k
 
 any_call : (calls : List Call) → AllByRecursion (λ (c : Call). Unit {0}) calls
 any_call [] = tt

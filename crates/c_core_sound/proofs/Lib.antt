@@ -8,6 +8,7 @@ pub mod ReadForms
 pub mod ReadExpressions
 pub mod Lengths
 pub mod Entries
+pub mod Enumerating
 pub mod Running
 pub mod Sites
 pub mod RunDeclarations

@@ -38,7 +38,7 @@ use Rattle.c_types_rules.specs.Parts.{chain_type}
 use Rattle.c_types_rules.specs.Parts.{joined_type, ends_kind, comma_kind, last_kind}
 use Rattle.c_types_rules.specs.Expressions.{taken, paired, Reading, used, parts_of, trees_of}
 use Rattle.c_types_rules.specs.Expressions.{ReadSuffix, read_suffix, suffixed, cast_role, links_of}
-use Rattle.c_types_rules.specs.Expressions.{reading_step, reading}
+use Rattle.c_types_rules.specs.Expressions.{reading_step, reading, tag_uses}
 use Rattle.c_types_rules.specs.ExpressionRules.{broken, void_end, void_end_of}
 use Rattle.c_core_rules.specs.declared.tree.Valued.{Valued as CoreValued}
 use Rattle.c_core_rules.specs.Trees.{pure}
@@ -512,7 +512,8 @@ module _ (W : World) (frames : rows.Frames) (caller : ℕ) (text : Text) (names 
       at_row kind (tree.Cast r.typed kind place) (rows.cast_rows kind (row_of r))
       (opened frames (tree.Cast r.typed kind place) (TypedExpression-F.Cast r.typed kind place)
       (tree.rolls-Cast r.typed kind place))
-      (cast_reads wanted r (operand.1 whole) uses)
+      (cast_reads wanted r (operand.1 whole)
+      (uses_right W caller (tag_uses names to) (used (cast_role wanted) r) uses))
   layer (Expression-F.Chain first held place) whole uses =
       let r = read_of first in
       let rest = read_links (bare_links held) in

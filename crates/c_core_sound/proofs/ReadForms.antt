@@ -1,9 +1,10 @@
 -- Each form of an expression in which no rule is broken has a well typed core.
-use Rattle.std.proofs.Common.{◌≡◌, ℕ, Bool, true, false, not, if◌then◌else◌, List, [], ◌∷◌, map}
+use Rattle.std.proofs.Common.{◌≡◌, ℕ, Bool, true, false, not, List, [], ◌∷◌, map}
 use Rattle.std.proofs.Common.{length, Option, None, Some, refl, ap, sym, ◌∙◌, subst, ℤ, inl, inr}
 use Rattle.std.specs.Prelude.{◌⊎◌, is_some}
 use Rattle.std.specs.List.{AllByRecursion, flat_map}
 use Rattle.cpa_ints.specs.declared.integers.IntType.{IntType}
+use Rattle.cpa_ints.specs.declared.integers.IntType.TheVariants as ty
 use Rattle.c_lexer.specs.declared.fault.Rule.TheVariants as rule
 use Rattle.c_grammar_tree.specs.declared.expression.Expression.TheOpen.{Suffix-F}
 use Rattle.c_types_rules.specs.declared.meaning.Kind.{Kind}
@@ -20,7 +21,7 @@ use Rattle.c_types_rules.specs.Known.{known_result}
 use Rattle.c_types_rules.specs.Parts.{with_value, with_values, named_kind, element_kind}
 use Rattle.c_types_rules.specs.Parts.{result_kind, element_form, element_of, result_of}
 use Rattle.c_types_rules.specs.Types.{value_kind}
-use Rattle.c_types_rules.specs.Parts.{changed_kind, is_changeable, value}
+use Rattle.c_types_rules.specs.Parts.{changed_kind, value}
 use Rattle.c_types_rules.specs.Expressions.{named, taken, given, Reading, used, parts_of, trees_of}
 use Rattle.c_types_rules.specs.Expressions.{ReadSuffix, suffix_part, suffix_uses, suffix_typed}
 use Rattle.c_types_rules.specs.Expressions.{suffixed}
@@ -37,6 +38,7 @@ use Rattle.c_core_sound.proofs.FittingActs.{Good}
 use Rattle.c_core_sound.proofs.FittingRows.{ObjectFits, MayCall, TargetFits, fit_scalar}
 use Rattle.c_core_sound.proofs.FittingRows.{fit_element, GoodRule, TreesRule, dropped_rule}
 use Rattle.c_core_sound.proofs.FittingRows.{only_fits, name_fits, element_fits, called_fits}
+use Rattle.c_core_sound.proofs.FittingRows.{enumerator_fits}
 use Rattle.c_core_sound.proofs.FittingRows.{called_unused_fits, known_unused_fits, known_used_fits}
 use Rattle.c_core_sound.proofs.FittingRows.{stepping_fits, incrementing_fits}
 use Rattle.c_core_laws.specs.lemmas.CoreLayers.{core_suffix}
@@ -127,6 +129,13 @@ module _ (W : World) (frames : rows.Frames) (caller : ℕ) where
     target = λ k so also. absurd (no_Some k so);
     form = (refl, tt);
   }
+  name_reads place (Some (meaning.Enumerator value)) h none = record {
+    stands = inl (Value ty.I32, refl);
+    used = λ t so. enumerator_fits W value h;
+    unused = λ k so. dropped_rule W (enumerator_fits W value h);
+    target = λ k so also. absurd (cc);
+    form = (refl, h);
+  }
 
   -- elements
 
@@ -179,6 +188,8 @@ module _ (W : World) (frames : rows.Frames) (caller : ℕ) where
   named_array place at kind (Some (meaning.Function function)) base is fits index t so h =
       absurd (cc)
   named_array place at kind (Some (meaning.Known function)) base is fits index t so h =
+      absurd (cc)
+  named_array place at kind (Some (meaning.Enumerator value)) base is fits index t so h =
       absurd (cc)
 
   indexed_by : (place : ℕ) (kind : Option Kind) (form : Form) (base : rows.Rows) → IsName form →
@@ -275,6 +286,7 @@ module _ (W : World) (frames : rows.Frames) (caller : ℕ) where
       (rows.call_rows frames found (map (rows.rows frames) (trees_of arguments)))
   call_reads_by None at count is fits one arguments all = absurd (cc)
   call_reads_by (Some (meaning.Object object)) at count is fits one arguments all = absurd (cc)
+  call_reads_by (Some (meaning.Enumerator value)) at count is fits one arguments all = absurd (cc)
   call_reads_by (Some (meaning.Function function)) at count is fits one arguments all =
       let kind = with_values (Some function.result) (parts_of arguments) in
       let same : kind ≡ Some function.result =

@@ -7,6 +7,8 @@ use Rattle.std.specs.Prelude.{◌⊎◌}
 use Rattle.std.specs.List.{AllByRecursion}
 use Rattle.std.proofs.lemmas.List.{map-append}
 use Rattle.cpa_ints.specs.declared.integers.IntType.{IntType}
+use Rattle.cpa_ints.specs.declared.integers.IntType.TheVariants as ty
+use Rattle.cpa_ints.specs.Integers.{IsInRange}
 use Rattle.c_lexer.specs.declared.fault.Rule.{Rule}
 use Rattle.c_lexer.specs.declared.fault.Rule.TheVariants as rule
 use Rattle.c_types_rules.specs.declared.meaning.Kind.{Kind}
@@ -82,6 +84,8 @@ abbrev pub MeaningFits : World → rows.Frames → Option Meaning → Type 0
 MeaningFits W frames (Some (meaning.Object object)) = ObjectFits W object
 MeaningFits W frames (Some (meaning.Function function)) =
     (body : ℕ) → function.body ≡ Some body → W.ground.calls body → MayCall W frames function
+MeaningFits W frames (Some (meaning.Enumerator value)) =
+    (starts : ℕ → Option ℕ) → W.knows starts → IsInRange ty.I32 value
 MeaningFits W frames _ = Unit {0}
 
 -- how an expression stands for what is there
@@ -212,6 +216,8 @@ own_fault W frames row place kind (Element (Some (meaning.Object object))) fits 
 own_fault W frames row place kind (Element (Some (meaning.Function function))) fits none =
     absurd fits
 own_fault W frames row place kind (Element (Some (meaning.Known function))) fits none = absurd fits
+own_fault W frames row place kind (Element (Some (meaning.Enumerator value))) fits none =
+    absurd fits
 own_fault W frames row place kind Plain fits none = refl
 
 either_true : (a b : Bool) → not (a || b) ≡ false → b ≡ false → a ≡ true

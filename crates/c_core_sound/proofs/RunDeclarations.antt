@@ -1,7 +1,7 @@
 -- The rules of declarations and of expressions in statements make well typed trees.
 use Rattle.std.proofs.Common.{◌≡◌, ℕ, zero, suc, ◌+◌, ◌-◌, ◌<◌, ◌≤◌, true, List, [], ◌∷◌, ◌++◌, map}
 use Rattle.std.proofs.Common.{length, replicate, Option, None, Some, refl, ap, sym, ◌∙◌, arith, inl}
-use Rattle.std.proofs.Common.{inr, ℤ, pos, slice_get, append_assoc, add_assoc}
+use Rattle.std.proofs.Common.{inr, subst, ℤ, pos, slice_get, append_assoc, add_assoc}
 use Rattle.std.specs.Prelude.{◌⊎◌, option_map, if◌then◌else◌}
 use Rattle.std.specs.List.{AllByRecursion}
 use Rattle.std.proofs.lemmas.List.{map-append, length-map}
@@ -13,7 +13,9 @@ use Rattle.cpa_model.specs.declared.program.Cell.{Cell}
 use Rattle.cpa_model.specs.Expressions.{types_of}
 use Rattle.c_lexer.specs.declared.fault.Rule.TheVariants as rule
 use Rattle.c_grammar_tree.specs.declared.expression.Expression.{Expression}
+use Rattle.c_grammar_tree.specs.declared.declaration.Enumeration.{Enumeration}
 use Rattle.c_grammar_tree.specs.declared.declaration.Specifiers.{Specifiers}
+use Rattle.c_grammar_tree.specs.declared.declaration.Declaration.{Declaration}
 use Rattle.c_grammar_tree.specs.declared.declaration.Declarator.{Declarator}
 use Rattle.c_grammar_tree.specs.declared.declaration.Initializer.{Initializer}
 use Rattle.c_grammar_tree.specs.declared.declaration.Initializer.TheVariants as initializer
@@ -28,8 +30,10 @@ use Rattle.c_types_rules.specs.Expressions.{reading}
 use Rattle.c_types_rules.specs.ExpressionRules.{broken, uses_faults}
 use Rattle.c_types_rules.specs.Declarations.{items_of, object_of, local_entry, length_faults}
 use Rattle.c_types_rules.specs.Declarations.{length_uses, void_object, kind_of, typed_items}
+use Rattle.c_types_rules.specs.Declarations.{enumerator_entry, tag_entry}
 use Rattle.c_types_rules.specs.Statements.{Around, Site, Walk, declares, evaluates}
 use Rattle.c_types_rules.specs.Statements.{declaring_behind, declarator_walk, in_order}
+use Rattle.c_types_rules.specs.Statements.{enumeration_walk, declaration_walk}
 use Rattle.c_types_rules.specs.StatementRules.{site_faults, declared_twice}
 use Rattle.c_types_rules.specs.TypedStatements.{typed_declarator, typed_declarators}
 use Rattle.c_core_rules.specs.declared.tree.Location.{Location}
@@ -43,6 +47,7 @@ use Rattle.c_core_rules.specs.Expressions as rows
 use Rattle.c_core_rules.specs.Statements as statement
 use Rattle.c_core_laws.specs.lemmas.Faults.{NoFaults, none_left, none_right}
 use Rattle.c_core_sound.specs.Whole.{is_whole, all_whole, whole_length, whole_declarator}
+use Rattle.c_core_sound.specs.Whole.{whole_declaration}
 use Rattle.c_core_sound.proofs.TypedValues.{PlaceFits, cell_fits, cell_below, zero_typed}
 use Rattle.c_core_sound.proofs.Fitting.{Ground, TreesFit, append_fits, push_fits, leaf_fits}
 use Rattle.c_core_sound.proofs.Fitting.{set_fits, Extends, Within, Fits, fits_gives, fits_then}
@@ -52,7 +57,8 @@ use Rattle.c_core_sound.proofs.ReadExpressions.{and_left, and_right}
 use Rattle.c_core_sound.proofs.Lengths.{Enough, items_count, enough}
 use Rattle.c_core_sound.proofs.Running.{known_push, below_push, world, Below, below_higher}
 use Rattle.c_core_sound.proofs.Running.{known_kept, Runs, runs_then, runs_gives, runs_fits}
-use Rattle.c_core_sound.proofs.Running.{runs_weaker}
+use Rattle.c_core_sound.proofs.Running.{runs_weaker, Known}
+use Rattle.c_core_sound.proofs.Enumerating.{enumeration_grows, enumeration_keeps}
 use Rattle.c_core_sound.proofs.Sites.{SitesFit, sites_left, sites_right, FunctionsFit}
 use Rattle.c_core_sound.proofs.Sites.{functions_push, value_rule}
 use Rattle.c_core_laws.specs.lemmas.ObjectCells.{object_types}
@@ -260,10 +266,11 @@ module _ (G : Ground) (frames : rows.Frames) (text : Text) (caller : ℕ) where
         let b = broken rule.N5 (void_object (kind_of specifiers) declarator) in
         let c = broken rule.N12 (length_faults text around.names declarator) in
         let u = uses_faults (length_uses text around.names declarator) in
+        let d = a ++ b ++ [] ++ [] ++ [] ++ c in
         enough text around.names declarator whole
-        (none_right (a ++ b ++ [] ++ [] ++ c ++ []) u none)
-        (none_right (a ++ b ++ [] ++ []) c (none_left (a ++ b ++ [] ++ [] ++ c) []
-        (none_left (a ++ b ++ [] ++ [] ++ c ++ []) u none)))
+        (none_right (d ++ [] ++ [] ++ []) u none)
+        (none_right (a ++ b ++ [] ++ [] ++ []) c (none_left d [] (none_left (d ++ []) []
+        (none_left (d ++ [] ++ []) [] (none_left (d ++ [] ++ [] ++ []) u none)))))
 
     pub apart_of : (n m : ℕ) → (m < n) ⊎ (n + 1 ≤ m) → n ≡ m → ⊥
     apart_of n m (inl less) is = omega (arith, less, is)
@@ -356,7 +363,7 @@ module _ (G : Ground) (frames : rows.Frames) (text : Text) (caller : ℕ) where
     walk_of_all specifiers declarators =
         in_order (map (declarator_walk text specifiers) declarators)
 
-    pub declarators_ready : (around : Around) (specifiers : Specifiers)
+    declarators_ready : (around : Around) (specifiers : Specifiers)
         (declarators : List Declarator) → ReadyAt around →
         ReadyAt ((walk_of_all specifiers declarators).behind around)
     declarators_ready around specifiers [] h = h
@@ -364,7 +371,7 @@ module _ (G : Ground) (frames : rows.Frames) (text : Text) (caller : ℕ) where
         declarators_ready (declaring_behind text specifiers declarator around) specifiers more
         (ready_behind around specifiers declarator h)
 
-    pub declarators_rise : (around : Around) (specifiers : Specifiers)
+    declarators_rise : (around : Around) (specifiers : Specifiers)
         (declarators : List Declarator) →
         around.objects ≤ ((walk_of_all specifiers declarators).behind around).objects
     declarators_rise around specifiers [] = omega arith
@@ -375,15 +382,15 @@ module _ (G : Ground) (frames : rows.Frames) (text : Text) (caller : ℕ) where
               specifiers more,
         )
 
-    pub declaration_runs : (around : Around) (specifiers : Specifiers)
+    declarators_run : (around : Around) (specifiers : Specifiers)
         (declarators : List Declarator) → ReadyAt around →
         SitesFit G text caller ((walk_of_all specifiers declarators).sites around) →
         all_whole (map whole_declarator declarators) ≡ true →
         Runs G (Unit {0}) around ((walk_of_all specifiers declarators).behind around) (TreesFit G)
         (statement.declaration frames (typed_declarators text specifiers declarators around))
-    declaration_runs around specifiers [] h sites whole =
+    declarators_run around specifiers [] h sites whole =
         runs_gives G around (TreesFit G) [] (λ g. tt)
-    declaration_runs around specifiers (declarator ∷ more) h sites whole =
+    declarators_run around specifiers (declarator ∷ more) h sites whole =
         let behind = declaring_behind text specifiers declarator around in
         let last = (walk_of_all specifiers more).behind behind in
         let first_sites = (declarator_walk text specifiers declarator).sites around in
@@ -398,8 +405,77 @@ module _ (G : Ground) (frames : rows.Frames) (text : Text) (caller : ℕ) where
         (sites_left G text caller first_sites rest_sites sites) (and_left own others whole))
         (λ before. runs_then G behind last last (λ after. core.gives (before ++ after))
         (declarators_rise behind specifiers more) (not_less last.objects)
-        (runs_weaker G (λ g. tt) (declaration_runs behind specifiers more
+        (runs_weaker G (λ g. tt) (declarators_run behind specifiers more
         (ready_behind around specifiers declarator h)
         (sites_right G text caller first_sites rest_sites sites) (and_right own others whole)))
         (λ after. runs_gives G last (TreesFit G) (before ++ after)
         (λ g. append_fits G before after g.0.1 g.1)))
+
+    -- the enumerated type of a declaration, and its declarators
+
+    enumeration_ready : (found : Option Enumeration) (around : Around) → ReadyAt around →
+        ReadyAt ((enumeration_walk text found).behind around)
+    enumeration_ready found around h =
+        let behind = (enumeration_walk text found).behind around in
+        let kept = enumeration_keeps text found around in record {
+          functions = enumeration_grows text (λ names. FunctionsFit G frames text names)
+              (λ names name n range f.
+              functions_push G frames text names (enumerator_entry name n) f (λ one is. range))
+              (λ names name f. functions_push G frames text names (tag_entry name) f (λ one is. tt))
+              found around h.functions;
+          below = subst (λ n. Below n behind.names) (sym kept.objects)
+              (enumeration_grows text (λ names. Below around.objects names)
+              (λ names name n range b.
+              below_push around.objects names (enumerator_entry name n) b tt)
+              (λ names name b. below_push around.objects names (tag_entry name) b tt) found around
+              h.below);
+          result = kept.result ∙ h.result;
+        }
+
+    enumeration_known : (found : Option Enumeration) (around : Around) (starts : ℕ → Option ℕ) →
+        Known G around.names starts →
+        Known G ((enumeration_walk text found).behind around).names starts
+    enumeration_known found around starts k =
+        enumeration_grows text (λ names. Known G names starts)
+        (λ names name n range g. known_push G names (enumerator_entry name n) starts g tt)
+        (λ names name g. known_push G names (tag_entry name) starts g tt) found around k
+
+    abbrev named_by : Around → Declaration → Around
+    named_by around declaration =
+        (enumeration_walk text declaration.specifiers.enumeration).behind around
+
+    pub declaration_ready : (around : Around) (declaration : Declaration) → ReadyAt around →
+        ReadyAt ((declaration_walk text declaration).behind around)
+    declaration_ready around declaration h =
+        declarators_ready (named_by around declaration) declaration.specifiers
+        declaration.declarators (enumeration_ready declaration.specifiers.enumeration around h)
+
+    pub declaration_rises : (around : Around) (declaration : Declaration) →
+        around.objects ≤ ((declaration_walk text declaration).behind around).objects
+    declaration_rises around declaration =
+        subst (λ n. n ≤ ((declaration_walk text declaration).behind around).objects)
+        (enumeration_keeps text declaration.specifiers.enumeration around).objects
+        (declarators_rise (named_by around declaration) declaration.specifiers
+        declaration.declarators)
+
+    pub declaration_runs : (around : Around) (declaration : Declaration) → ReadyAt around →
+        SitesFit G text caller ((declaration_walk text declaration).sites around) →
+        whole_declaration declaration ≡ true →
+        Runs G (Unit {0}) around ((declaration_walk text declaration).behind around) (TreesFit G)
+        (statement.declaration frames (typed_declarators text declaration.specifiers
+        declaration.declarators (named_by around declaration)))
+    declaration_runs around declaration h sites whole =
+        let found = declaration.specifiers.enumeration in
+        let named = named_by around declaration in
+        let last = (declaration_walk text declaration).behind around in
+        let kept = enumeration_keeps text found around in
+        let r = declarators_run named declaration.specifiers declaration.declarators
+        (enumeration_ready found around h)
+        (sites_right G text caller ((enumeration_walk text found).sites around)
+        ((walk_of_all declaration.specifiers declaration.declarators).sites named) sites) whole in
+        record {
+          extends = r.extends;
+          keeps = λ taken n side. r.keeps taken n
+              (subst (λ m. (n < m) ⊎ (last.objects ≤ n)) (sym kept.objects) side);
+          at = λ taken g k w. r.at taken g (enumeration_known found around taken.starts k) w;
+        }

@@ -1,7 +1,7 @@
 -- Every item of a block in which no rule is broken makes well typed trees (`item_runs`).
 use Rattle.std.proofs.Common.{◌≡◌, ℕ, ◌≤◌, Bool, true, false, ◌&&◌, List, [], ◌∷◌, ◌++◌, map}
 use Rattle.std.proofs.Common.{Option, None, Some, refl, ap, sym, ◌∙◌, subst, arith}
-use Rattle.std.specs.Prelude.{is_some}
+use Rattle.std.specs.Prelude.{is_some, unwrap_or}
 use Rattle.std.specs.List.{AllByRecursion}
 use Rattle.c_lexer.specs.declared.fault.Rule.TheVariants as rule
 use Rattle.c_grammar_tree.specs.declared.expression.Expression.{Expression}
@@ -19,6 +19,13 @@ use Rattle.c_types_rules.specs.declared.meaning.Kind.{Kind}
 use Rattle.c_types_rules.specs.declared.meaning.Entry.{Entry}
 use Rattle.c_types_rules.specs.declared.meaning.Role.{Role}
 use Rattle.c_types_rules.specs.declared.meaning.Role.TheVariants.{Valued, Evaluated}
+use Rattle.cpa_ints.specs.Conversions.{promoted}
+use Rattle.cpa_ints.specs.Wrapping.{wrapped}
+use Rattle.cpa_expr.specs.declared.tree.CmpOp.TheVariants as cmp
+use Rattle.cpa_expr.specs.declared.tree.Expr.{Expr}
+use Rattle.cpa_expr.specs.declared.tree.Expr.TheVariants.{Const, Cmp}
+use Rattle.cpa_expr.specs.Shape.{type_of, IsTyped}
+use Rattle.c_types_rules.specs.declared.typed.Choice.{Choice}
 use Rattle.c_types_rules.specs.declared.typed.TypedExpression.{TypedExpression}
 use Rattle.c_types_rules.specs.declared.typed.TypedItem.{TypedItem}
 use Rattle.c_types_rules.specs.declared.typed.TypedItem.TheVariants as typed_item
@@ -30,19 +37,23 @@ use Rattle.c_types_rules.specs.ExpressionRules.{broken, at_if}
 use Rattle.c_types_rules.specs.Declarations.{is_void_kind}
 use Rattle.c_types_rules.specs.Statements.{Around, Site, Act, Walk, doing, followed, in_order}
 use Rattle.c_types_rules.specs.Statements.{scoped, looped, inner, loop, left_by, evaluating}
-use Rattle.c_types_rules.specs.Statements.{start_walk, declaration_walk, evaluates, leaves, returns}
+use Rattle.c_types_rules.specs.Statements.{start_walk, declaration_walk, evaluates, continues}
+use Rattle.c_types_rules.specs.Statements.{returns, labeled, selected, switched, end_behind}
+use Rattle.c_types_rules.specs.Statements.{left_switch, enumeration_walk}
 use Rattle.c_types_rules.specs.StatementRules.{agree}
 use Rattle.c_types_rules.specs.TypedStatements.{Grown, grown, grown_item, grown_statement}
 use Rattle.c_types_rules.specs.TypedStatements.{typed_in_order, typed_expression, typed_optional}
 use Rattle.c_types_rules.specs.TypedStatements.{typed_for_start, typed_declarators, label_number}
-use Rattle.c_types_rules.specs.TypedStatements.{walk_in}
+use Rattle.c_types_rules.specs.TypedStatements.{walk_in, typed_break}
 use Rattle.cpa_model_trees.specs.declared.tree.CoreTree.TheVariants.{Node}
 use Rattle.cpa_model_trees.specs.declared.tree.Head.{Head}
 use Rattle.cpa_model_trees.specs.declared.tree.Head.TheVariants as head
 use Rattle.c_core_rules.specs.declared.tree.Location.{Location}
 use Rattle.c_core_rules.specs.declared.tree.Valued.{Valued as CoreValued}
 use Rattle.cpa_model_trees.specs.Numbering.{Trees}
-use Rattle.c_core_rules.specs.Trees.{leaf, block, choice, repeated}
+use Rattle.c_core_rules.specs.Values.{promote}
+use Rattle.c_core_rules.specs.Trees.{leaf, block, choice, repeated, valued}
+use Rattle.c_core_rules.specs.Acts.{held}
 use Rattle.c_core_rules.specs.Cells as core
 use Rattle.c_core_rules.specs.Expressions as rows
 use Rattle.c_core_rules.specs.Statements as statement
@@ -51,19 +62,20 @@ use Rattle.c_core_laws.specs.lemmas.SameWalk.{grown_of, open_grown_item, open_gr
 use Rattle.c_core_laws.specs.lemmas.Faults.{none_left, not_broken}
 use Rattle.c_core_sound.specs.Whole.{is_whole, all_whole, whole_optional, whole_start}
 use Rattle.c_core_sound.specs.Whole.{whole_statement, whole_item_layer, whole_block_item}
-use Rattle.c_core_sound.proofs.TypedValues.{PlaceFits}
+use Rattle.c_core_sound.proofs.TypedValues.{PlaceFits, asked_typed, conv_typed}
 use Rattle.c_core_sound.proofs.Fitting.{Ground, HeadFits, TreesFit, append_fits, push_fits}
 use Rattle.c_core_sound.proofs.Fitting.{leaf_fits, block_fits, choice_fits, repeated_fits}
 use Rattle.c_core_sound.proofs.Fitting.{node_fits, fits_gives, fits_then, fits_weaker}
-use Rattle.c_core_sound.proofs.FittingActs.{Good}
+use Rattle.c_core_sound.proofs.FittingActs.{Good, good, held_fits}
 use Rattle.c_core_sound.proofs.FittingRows.{GoodRule, TreesRule}
 use Rattle.c_core_sound.proofs.ReadExpressions.{and_left, and_right}
 use Rattle.c_core_sound.proofs.Running.{world, Runs, runs_gives, runs_weaker, runs_then, runs_fits}
-use Rattle.c_core_sound.proofs.Running.{runs_scoped, runs_inner, runs_loop, below_higher}
+use Rattle.c_core_sound.proofs.Running.{runs_scoped, runs_inner, runs_loop, runs_switch}
+use Rattle.c_core_sound.proofs.Running.{below_higher}
 use Rattle.c_core_sound.proofs.Sites.{SiteFits, SitesFit, sites_left, sites_right, value_rule}
 use Rattle.c_core_sound.proofs.Sites.{trees_rule}
 use Rattle.c_core_sound.proofs.RunDeclarations.{Ready, initialized_fits, declaration_runs}
-use Rattle.c_core_sound.proofs.RunDeclarations.{declarators_ready, declarators_rise}
+use Rattle.c_core_sound.proofs.RunDeclarations.{declaration_ready, declaration_rises}
 use Rattle.c_core_sound.proofs.OpenedItems.{opened, opened_item}
 
 pub no_more : (n : ℕ) → n ≤ n
@@ -193,15 +205,14 @@ module _ (G : Ground) (frames : rows.Frames) (text : Text) (caller : ℕ) (K : K
   start_ready : (around : Around) (first : ForStart) → ReadyAt around →
       ReadyAt ((start_walk text first).behind around)
   start_ready around (start.Declaration declaration) h =
-      declarators_ready G frames text caller K around declaration.specifiers
-      declaration.declarators h
+      declaration_ready G frames text caller K around declaration h
   start_ready around (start.Expression e) h =
       subst ReadyAt (sym (evaluating_stays Evaluated e around)) h
 
   start_rises : (around : Around) (first : ForStart) →
       around.objects ≤ ((start_walk text first).behind around).objects
   start_rises around (start.Declaration declaration) =
-      declarators_rise G frames text caller K around declaration.specifiers declaration.declarators
+      declaration_rises G frames text caller K around declaration
   start_rises around (start.Expression e) =
       subst (λ (b : Around). around.objects ≤ b.objects)
       (sym (evaluating_stays Evaluated e around)) (no_more around.objects)
@@ -211,8 +222,8 @@ module _ (G : Ground) (frames : rows.Frames) (text : Text) (caller : ℕ) (K : K
       RunsAt around ((start_walk text first).behind around)
       (statement.started frames (typed_for_start text first around))
   start_runs around (start.Declaration declaration) h sites whole =
-      runs_weaker G (λ g. tt) (declaration_runs G frames text caller K around
-      declaration.specifiers declaration.declarators h sites whole)
+      runs_weaker G (λ g. tt)
+      (declaration_runs G frames text caller K around declaration h sites whole)
   start_runs around (start.Expression e) h sites whole =
       subst (λ (b : Around). RunsAt around b
       (statement.some_unused frames (typed_optional text around e)))
@@ -617,13 +628,146 @@ module _ (G : Ground) (frames : rows.Frames) (text : Text) (caller : ℕ) (K : K
       let n16 = broken rule.N16 (at_if (agree true (is_void_kind around.result)) at) in
       let not_void : is_void_kind K ≡ false =
       ap is_void_kind (sym h.result) ∙ not_broken rule.N16 (is_void_kind around.result) at
-      (none_left n16 [] sites.0.none) in
+      (none_left n16 [] (none_left (n16 ++ []) [] (none_left (n16 ++ [] ++ []) []
+      sites.0.none))) in
       runs_fits G around (fits_then W (λ before. core.gives (before ++ leaf head.Leave ∷ []))
       (fits_weaker W (λ g. g not_void)
       (initialized_fits G frames text caller names place (typed_expression text around e)
       (value_rule G frames text caller around e h.functions sites.1.0 whole)))
       (λ before. fits_gives W (TreesFit G) (before ++ leaf head.Leave ∷ [])
       (λ g. push_fits G before (leaf head.Leave) g.1 (leaf_fits G head.Leave tt))))
+
+  -- what stands behind a label
+  ready_labeled : (around : Around) → ReadyAt around → ReadyAt (labeled around)
+  ready_labeled around h =
+      record { functions = h.functions; below = h.below; result = h.result }
+
+  ready_selected : (around : Around) (value : Option Expression) → ReadyAt around →
+      ReadyAt (selected text value around)
+  ready_selected around None h =
+      record { functions = h.functions; below = h.below; result = h.result }
+  ready_selected around (Some value) h =
+      record { functions = h.functions; below = h.below; result = h.result }
+
+  runs_labeled : (around mid : Around) {rule : core.Rule Trees} →
+      RunsAt (labeled around) mid rule → RunsAt around mid rule
+  runs_labeled around mid h = record { extends = h.extends; keeps = h.keeps; at = h.at }
+
+  runs_selected : (around mid : Around) (value : Option Expression) {rule : core.Rule Trees} →
+      RunsAt (selected text value around) mid rule → RunsAt around mid rule
+  runs_selected around mid None h = record { extends = h.extends; keeps = h.keeps; at = h.at }
+  runs_selected around mid (Some value) h =
+      record { extends = h.extends; keeps = h.keeps; at = h.at }
+
+  abbrev part_of : HeldStatement → Around → Around
+  part_of body around = (grown_of text body.0).walk.behind around
+
+  labeled_runs : (around last : Around) (n : ℕ) (body : TypedStatement) →
+      around.objects ≤ last.objects → RunsAt around last (statement_of body) →
+      RunsAt around last (statement_of (tree.Labeled n body))
+  labeled_runs around last n body le h =
+      at_rule around last (opened frames place (tree.Labeled n body)
+      (TypedStatement-F.Labeled n body) (tree.rolls-Labeled n body))
+      (one_runs around last le h (λ x. Node head.Labeled x ∷ [])
+      (λ x f. (node_fits G head.Labeled x tt f, tt)))
+
+  -- a break, by where it goes
+  break_runs : (around : Around) (to : Option ℕ) →
+      RunsAt around around (statement_of (typed_break to))
+  break_runs around None =
+      at_rule around around (opened frames place tree.Break TypedStatement-F.Break tree.rolls-Break)
+      (leaf_runs around head.Break tt)
+  break_runs around (Some n) =
+      at_rule around around (opened frames place (tree.Goto n) (TypedStatement-F.Goto n)
+      (tree.rolls-Goto n)) (leaf_runs around (head.Goto n) tt)
+
+  -- a switch
+
+  selecting_fits : (v : Expr) (choices : List Choice) → IsTyped G.cells v →
+      TreesFit G (map (statement.selecting v) choices)
+  selecting_fits v [] h = tt
+  selecting_fits v (one ∷ choices) h = (
+    choice_fits G
+        (Cmp cmp.Eq (type_of v) v (Const (type_of v) (wrapped (type_of v) one.value)))
+        (leaf (head.Goto one.label) ∷ []) [] (asked_typed G.cells v one.value h)
+        (leaf_fits G (head.Goto one.label) tt, tt) tt,
+    selecting_fits v choices h,
+  )
+
+  selected_fits : (names : List Entry) (kept : CoreValued) (choices : List Choice) (other : ℕ)
+      (inside : Trees) → Good (world G names) kept → TreesFit G inside →
+      TreesFit G (kept.statements ++ statement.selected_by kept.value choices other inside)
+  selected_fits names kept choices other inside h f =
+      append_fits G kept.statements (statement.selected_by kept.value choices other inside)
+      h.statements
+      (append_fits G (map (statement.selecting kept.value) choices)
+      (leaf (head.Goto other) ∷ (inside ++ leaf head.Labeled ∷ []))
+      (selecting_fits kept.value choices h.value) (
+        leaf_fits G (head.Goto other) tt,
+        push_fits G inside (leaf head.Labeled) f (leaf_fits G head.Labeled tt),
+      ))
+
+  abbrev promoted_value : CoreValued → CoreValued
+  promoted_value v = valued v.statements (promote v.value)
+
+  held_runs : (around : Around) (v : CoreValued) →
+      Runs G (Returns × Good (world G around.names) v) around around (Good (world G around.names))
+      (held (promoted_value v))
+  held_runs around v =
+      let W = world G around.names in
+      runs_fits G around (fits_weaker W
+      (λ g. good W v.statements (promote v.value) g.1.statements
+      (conv_typed G.cells v.value (promoted (type_of v.value)) g.1.value))
+      (held_fits W (promoted_value v)))
+
+  switch_layer : (value : Expression) (body : HeldStatement) (at : ℕ) →
+      Part statement_of (grown_layer (Statement-F.Switch value body at))
+      (is_whole value && whole_in body.0)
+  switch_layer value body at =
+      let g = grown_of text body.0 in
+      let within = λ (around : Around). switched text value (end_behind g.walk around) around in
+      let ready_within : (around : Around) → ReadyAt around → ReadyAt (within around) =
+      λ around h. record { functions = h.functions; below = h.below; result = h.result } in
+      record {
+        rises = λ around. body.1.rises (within around);
+        ready = λ around h. record {
+          functions = h.functions;
+          below = below_higher around.objects (g.walk.behind (within around)).objects
+              around.names (body.1.rises (within around)) h.below;
+          result = h.result;
+        };
+        runs = λ around h sites whole.
+            let inner_of = within around in
+            let mid = g.walk.behind inner_of in
+            let last = left_switch around mid in
+            let le = body.1.rises inner_of in
+            let typed = typed_expression text around value in
+            let choices = mid.choices in
+            let end = end_behind g.walk around in
+            let other = unwrap_or mid.otherwise end in
+            let inside = g.typed inner_of in
+            let rule = statement_of inside in
+            let body_runs_so : RunsAt around last rule =
+            runs_switch G around inner_of mid refl refl h.below
+            (body.1.runs inner_of (ready_within around h) sites.1
+            (and_right (is_whole value) (whole_in body.0) whole)) in
+            let made = λ (kept : CoreValued) (x : Trees). kept.statements
+            ++ statement.selected_by kept.value choices other x in
+            at_rule around last (opened frames place (tree.Switch typed choices other inside end)
+            (TypedStatement-F.Switch typed choices other inside end)
+            (tree.rolls-Switch typed choices other inside end))
+            (tested_runs around last value
+            (λ v. core.then_by (held (promoted_value v)) (λ kept. core.then_by rule
+            (λ x. core.gives (made kept x)))) h sites.0
+            (and_left (is_whole value) (whole_in body.0) whole) le
+            (λ v. runs_then G around around last
+            (λ kept. core.then_by rule (λ x. core.gives (made kept x))) (no_more around.objects) le
+            (held_runs around v)
+            (λ kept. runs_then G around last last (λ x. core.gives (made kept x)) le
+            (no_more last.objects) (runs_weaker G (λ g. g.0.0) body_runs_so)
+            (λ x. runs_gives G last (TreesFit G) (made kept x)
+            (λ g. selected_fits around.names kept choices other x g.0.1 g.1)))));
+      }
 
   layer : (y : Statement-F HeldItem HeldStatement) →
       Part statement_of (grown_layer y) (whole_layer y)
@@ -670,11 +814,34 @@ module _ (G : Ground) (frames : rows.Frames) (text : Text) (caller : ℕ) (K : K
             at_rule around around (opened frames place (tree.Goto n) (TypedStatement-F.Goto n)
             (tree.rolls-Goto n)) (leaf_runs around (head.Goto n) tt);
       }
-  layer (Statement-F.Break at) =
-      leaf_part (leaves at) (λ around. tree.Break) head.Break tt
-      (λ around. opened frames place tree.Break TypedStatement-F.Break tree.rolls-Break) true
+  layer (Statement-F.Switch value body at) = switch_layer value body at
+  layer (Statement-F.Case value body at) = record {
+    rises = λ around. body.1.rises (selected text (Some value) around);
+    ready = λ around h.
+        body.1.ready (selected text (Some value) around) (ready_selected around (Some value) h);
+    runs = λ around h sites whole.
+        let after = selected text (Some value) around in
+        labeled_runs around (part_of body after) around.passed ((grown_of text body.0).typed after)
+        (body.1.rises after) (runs_selected around (part_of body after) (Some value)
+        (body.1.runs after (ready_selected around (Some value) h) sites.1
+        (and_right (is_whole value) (whole_in body.0) whole)));
+  }
+  layer (Statement-F.Default body at) = record {
+    rises = λ around. body.1.rises (selected text None around);
+    ready = λ around h. body.1.ready (selected text None around) (ready_selected around None h);
+    runs = λ around h sites whole.
+        let after = selected text None around in
+        labeled_runs around (part_of body after) around.passed ((grown_of text body.0).typed after)
+        (body.1.rises after) (runs_selected around (part_of body after) None
+        (body.1.runs after (ready_selected around None h) sites.1 whole));
+  }
+  layer (Statement-F.Break at) = record {
+    rises = λ around. no_more around.objects;
+    ready = λ around h. h;
+    runs = λ around h sites whole. break_runs around around.break_to;
+  }
   layer (Statement-F.Continue at) =
-      leaf_part (leaves at) (λ around. tree.Continue) head.Continue tt
+      leaf_part (continues at) (λ around. tree.Continue) head.Continue tt
       (λ around. opened frames place tree.Continue TypedStatement-F.Continue tree.rolls-Continue)
       true
   layer (Statement-F.Return value at) = record {
@@ -690,18 +857,15 @@ module _ (G : Ground) (frames : rows.Frames) (text : Text) (caller : ℕ) (K : K
         (TypedStatement-F.Return typed) (tree.rolls-Return typed))
         (returned_runs around value at h sites whole));
   }
-  layer (Statement-F.Labeled label body) =
-      let g = grown_of text body.0 in record {
-        rises = λ around. body.1.rises around;
-        ready = λ around h. body.1.ready around h;
-        runs = λ around h sites whole.
-            let last = g.walk.behind around in
-            let n = label_number around label in
-            at_rule around last (opened frames place (tree.Labeled n (g.typed around))
-            (TypedStatement-F.Labeled n (g.typed around)) (tree.rolls-Labeled n (g.typed around)))
-            (one_runs around last (body.1.rises around) (body.1.runs around h sites.1 whole)
-            (λ x. Node head.Labeled x ∷ []) (λ x f. (node_fits G head.Labeled x tt f, tt)));
-      }
+  layer (Statement-F.Labeled label body) = record {
+    rises = λ around. body.1.rises (labeled around);
+    ready = λ around h. body.1.ready (labeled around) (ready_labeled around h);
+    runs = λ around h sites whole.
+        let after = labeled around in
+        labeled_runs around (part_of body after) around.passed ((grown_of text body.0).typed after)
+        (body.1.rises after) (runs_labeled around (part_of body after)
+        (body.1.runs after (ready_labeled around h) sites.1 whole));
+  }
 
   item_layer : (y : BlockItem-F HeldItem HeldStatement) →
       Part item_of (grown_item text (map-BlockItem BlockItem Statement (Grown TypedItem)
@@ -709,17 +873,17 @@ module _ (G : Ground) (frames : rows.Frames) (text : Text) (caller : ℕ) (K : K
       (whole_item_layer (map-BlockItem BlockItem Statement Bool Bool whole_block_item whole_in
       (bare_item y)))
   item_layer (BlockItem-F.Declaration declaration) =
-      let front = declaration.specifiers in
-      let all = declaration.declarators in record {
-        rises = λ around. declarators_rise G frames text caller K around front all;
-        ready = λ around h. declarators_ready G frames text caller K around front all h;
+      let front = declaration.specifiers in record {
+        rises = λ around. declaration_rises G frames text caller K around declaration;
+        ready = λ around h. declaration_ready G frames text caller K around declaration h;
         runs = λ around h sites whole.
-            let typed = typed_declarators text front all around in
+            let typed = typed_declarators text front declaration.declarators
+            ((enumeration_walk text front.enumeration).behind around) in
             let last = (declaration_walk text declaration).behind around in
             at_rule around last (opened_item frames place (typed_item.Declaration typed)
             (TypedItem-F.Declaration typed) (typed_item.rolls-Declaration typed))
             (runs_weaker G (λ g. tt)
-            (declaration_runs G frames text caller K around front all h sites whole));
+            (declaration_runs G frames text caller K around declaration h sites whole));
       }
   item_layer (BlockItem-F.Statement s) =
       let g = grown_of text s.0 in record {

@@ -25,7 +25,8 @@ use Rattle.c_types_rules.specs.declared.meaning.Entry.{Entry}
 use Rattle.c_types_rules.specs.declared.typed.TypedFunction.{TypedFunction}
 use Rattle.c_types_rules.specs.Names.{Text, body_of, declared_as, function_of}
 use Rattle.c_types_rules.specs.Tables.{cells_of}
-use Rattle.c_types_rules.specs.Expressions.{Use, named, taken, given, paired}
+use Rattle.c_types_rules.specs.Expressions.{Use, named, taken, given, paired, tagged}
+use Rattle.c_types_rules.specs.Types.{object_type}
 use Rattle.c_types_rules.specs.Declarations.{kind_of, items_of}
 use Rattle.c_types_rules.specs.Statements.{Around, Site, Walk, in_order, receiving, walk_of}
 use Rattle.c_types_rules.specs.StatementRules.{site_faults, act_uses, jump_faults}
@@ -34,7 +35,8 @@ use Rattle.c_types_rules.specs.Items.{Before, Call, listed, around_body, functio
 use Rattle.c_types_rules.specs.Items.{global_behind, globals_behind, globals_faults, global_faults}
 use Rattle.c_types_rules.specs.Items.{head_faults, body_sites, body_faults, item_behind}
 use Rattle.c_types_rules.specs.Items.{item_faults, items_faults, item_calls, items_calls}
-use Rattle.c_types_rules.specs.Items.{site_calls, use_calls, called_body}
+use Rattle.c_types_rules.specs.Items.{site_calls, use_calls, called_body, enumeration_behind}
+use Rattle.c_types_rules.specs.Items.{enumeration_faults, typedefs_faults}
 use Rattle.c_types_rules.specs.Recursion.{Among, Calls}
 use Rattle.c_types_rules.specs.Sound.{items_behind, functions_of}
 use Rattle.cpa_model_trees.specs.declared.tree.CoreTree.{CoreTree}
@@ -59,7 +61,8 @@ use Rattle.c_core_sound.proofs.RunFunctions.{function_runs, function_rises, last
 use Rattle.c_core_sound.proofs.FileNames.{Alike, Lasting, Lasts, lasts_self, lasts_both}
 use Rattle.c_core_sound.proofs.FileNames.{global_lasts, function_lasts, FileScope, global_scope}
 use Rattle.c_core_sound.proofs.FileNames.{function_scope, Stay, global_stays, function_stays}
-use Rattle.c_core_sound.proofs.FileNames.{HasNumber}
+use Rattle.c_core_sound.proofs.FileNames.{HasNumber, DeclaredSome, enumeration_lasts}
+use Rattle.c_core_sound.proofs.FileNames.{enumeration_scope, enumeration_stays}
 
 -- the names of file scope, from item to item
 
@@ -79,18 +82,27 @@ pub item_lasts : (text : Text) (one : Item) (before : Before) →
     NoFaults (item_faults text one before) →
     Lasts before.names (item_behind text one before).names
 item_lasts text (item.Empty place) before none = lasts_self before.names
-item_lasts text (item.Typedef specifiers names place) before none = lasts_self before.names
+item_lasts text (item.Typedef specifiers names place) before none =
+    enumeration_lasts text specifiers before (none_left (enumeration_faults text specifiers before)
+    (typedefs_faults (object_type (kind_of specifiers)) names
+    (enumeration_behind text specifiers before)) none)
 item_lasts text (item.Objects declaration) before none =
-    globals_last text declaration.specifiers declaration.declarators before none
+    let front = declaration.specifiers in
+    let mid = enumeration_behind text front before in
+    let a = enumeration_faults text front before in
+    let b = globals_faults text front declaration.declarators mid in
+    lasts_both before.names mid.names (globals_behind text front declaration.declarators mid).names
+    (enumeration_lasts text front before (none_left a b none))
+    (globals_last text front declaration.declarators mid (none_right a b none))
 item_lasts text (item.Prototype specifiers declarator) before none =
-    function_lasts before false specifiers declarator none
+    function_lasts text before false specifiers declarator none
 item_lasts text (item.Function specifiers declarator body.Skipped) before none =
-    function_lasts before true specifiers declarator
-    (none_left (head_faults before true specifiers declarator)
+    function_lasts text before true specifiers declarator
+    (none_left (head_faults text before true specifiers declarator)
     (body_faults text (body_sites text before specifiers declarator body.Skipped)) none)
 item_lasts text (item.Function specifiers declarator (body.Block items place)) before none =
-    function_lasts before true specifiers declarator
-    (none_left (head_faults before true specifiers declarator)
+    function_lasts text before true specifiers declarator
+    (none_left (head_faults text before true specifiers declarator)
     (body_faults text (body_sites text before specifiers declarator (body.Block items place))) none)
 
 pub items_last : (text : Text) (items : List Item) (before : Before) →
@@ -150,6 +162,7 @@ called_caller : (caller at : ℕ) (found : Option Meaning) (c : Call) →
 called_caller caller at None c among = absurd among
 called_caller caller at (Some (meaning.Object object)) c among = absurd among
 called_caller caller at (Some (meaning.Known function)) c among = absurd among
+called_caller caller at (Some (meaning.Enumerator value)) c among = absurd among
 called_caller caller at (Some (meaning.Function function)) c among =
     by_body caller at function.body c among
 
@@ -161,6 +174,7 @@ use_caller caller (given (Bare at found) handed) c among = called_caller caller 
 use_caller caller (given (Element found) handed) c among = absurd among
 use_caller caller (given Plain handed) c among = absurd among
 use_caller caller (paired first second) c among = absurd among
+use_caller caller (tagged at found) c among = absurd among
 
 among_further : {T : Type 0} (x y : T) (a b : List T) → Among x a ⊎ Among x b →
     Among x (y ∷ a) ⊎ Among x b
@@ -202,6 +216,8 @@ number_below : (d : Declared) (n objects : ℕ) → DeclaredBelow objects d → 
     n < objects
 number_below (declared.Object object i) n objects below is = omega (arith, below, is)
 number_below (declared.Function r ps d) n objects below is = absurd is
+number_below (declared.Enumerator value) n objects below is = absurd is
+number_below declared.Tag n objects below is = absurd is
 
 -- what is known of a body that a name of file scope stands for
 pub record Callee (all : List IntType) (frames : rows.Frames) (bodies : ℕ) (result : Kind)
@@ -238,6 +254,8 @@ module _ (all : List IntType) (calls : List Call) (bodies : ℕ) (frames : rows.
       body_of text name ≡ Some body → Calls calls k body →
       FunctionFits (ground k) frames (function_of text name r ps)
   function_by k stand name r ps d (declared.Object object i) is alike body has may = absurd alike
+  function_by k stand name r ps d (declared.Enumerator n) is alike body has may = absurd alike
+  function_by k stand name r ps d declared.Tag is alike body has may = absurd alike
   function_by k stand name r ps d (declared.Function s qs e) is alike body has may =
       let c = stand name s qs e is body has in
       let here : unwrap_or (body_of text name) 0 ≡ body = ap (λ o. unwrap_or o 0) has in
@@ -251,21 +269,26 @@ module _ (all : List IntType) (calls : List Call) (bodies : ℕ) (frames : rows.
       }
 
   declared_fits : (k : ℕ) → FunctionsStand → (name : List ℕ) (d : Declared) → Lasting last name d →
-      DeclaredFits (ground k) frames text name d
-  declared_fits k stand name (declared.Object object i) l = tt
-  declared_fits k stand name (declared.Function r ps d) l =
+      DeclaredSome d → DeclaredFits (ground k) frames text name d
+  declared_fits k stand name (declared.Object object i) l some = tt
+  declared_fits k stand name (declared.Function r ps d) l some =
       λ body has may. function_by k stand name r ps d l.now l.is l.alike body has may
+  declared_fits k stand name (declared.Enumerator n) l some = some
+  declared_fits k stand name declared.Tag l some = tt
 
-  functions_fit : (k : ℕ) → FunctionsStand → (names : List Entry) → Lasts names last →
-      FunctionsFit (ground k) frames text names
-  functions_fit k stand names l =
-      record { at = λ name d is. declared_fits k stand name d (l.at name d is) }
+  functions_fit : (k : ℕ) → FunctionsStand → (names : List Entry) (objects : ℕ) →
+      Lasts names last → FileScope names objects → FunctionsFit (ground k) frames text names
+  functions_fit k stand names objects l f = record {
+    at = λ name d is. declared_fits k stand name d (l.at name d is) (f.some name d is);
+  }
 
   object_by : ObjectsBegin → (name : List ℕ) (object : Object) (i : Bool) (now : Declared)
       (starts : ℕ → Option ℕ) → declared_as last name ≡ Some now →
       Alike (declared.Object object i) now → starts object.number ≡ first object.number →
       Begins all object starts
   object_by begin name object i (declared.Function r ps d) starts is alike same = absurd alike
+  object_by begin name object i (declared.Enumerator n) starts is alike same = absurd alike
+  object_by begin name object i declared.Tag starts is alike same = absurd alike
   object_by begin name object i (declared.Object b j) starts is alike same =
       let h = begin name b j is in
       let cells : cells_of b ≡ cells_of object =
@@ -284,6 +307,8 @@ module _ (all : List IntType) (calls : List Call) (bodies : ℕ) (frames : rows.
   declared_begins k begin name (declared.Object object i) starts l same =
       object_by begin name object i l.now starts l.is l.alike (same object.number refl)
   declared_begins k begin name (declared.Function r ps d) starts l same = tt
+  declared_begins k begin name (declared.Enumerator n) starts l same = tt
+  declared_begins k begin name declared.Tag starts l same = tt
 
   known_here : (k : ℕ) → ObjectsBegin → (names : List Entry) (objects : ℕ)
       (starts : ℕ → Option ℕ) → Lasts names last → Stay first names objects starts →
@@ -364,7 +389,7 @@ module _ (all : List IntType) (calls : List Call) (bodies : ℕ) (frames : rows.
       let b = function_behind true specifiers declarator before in
       let around = body_around before specifiers declarator items in
       let front = params_walk declarator in
-      let head = head_faults before true specifiers declarator in
+      let head = head_faults text before true specifiers declarator in
       let sites = body_sites text before specifiers declarator (body.Block items place) in
       let of_body = none_right head (flat_map (site_faults text) sites ++ jump_faults sites) none in
       let fit : SitesFit G text k sites =
@@ -378,11 +403,11 @@ module _ (all : List IntType) (calls : List Call) (bodies : ℕ) (frames : rows.
       (front.behind around)) =
       subst (λ (ws : List Walk). SitesFit G text k ((in_order ws).sites (front.behind around)))
       (sym (walks_same same items)) mine in
-      let scope = function_scope before true specifiers declarator
+      let scope = function_scope text before true specifiers declarator
       (none_left head (flat_map (site_faults text) sites ++ jump_faults sites) none) f in
       function_runs G frames text k (kind_of specifiers) around (listed declarator.parameters) items
       (record {
-        functions = functions_fit k stand b.names l;
+        functions = functions_fit k stand b.names before.objects l scope;
         below = scope.below;
         result = refl;
       }) here whole
@@ -468,28 +493,37 @@ module _ (all : List IntType) (calls : List Call) (bodies : ℕ) (frames : rows.
   text_runs same stand (item.Typedef specifiers names place ∷ more) before none whole among f end =
       let one = item.Typedef specifiers names place in
       let next = item_behind text one before in
-      text_runs same stand more next
+      let r = text_runs same stand more next
       (none_right (item_faults text one before) (items_faults text more next) none)
-      whole among f end
+      whole among (enumeration_scope text specifiers before f) end in
+      record {
+        extends = r.extends;
+        at = λ taken begin stay w. r.at taken begin
+            (enumeration_stays text specifiers before first taken.starts stay) w;
+      }
   text_runs same stand (item.Objects declaration ∷ more) before none whole among f end =
       let one = item.Objects declaration in
+      let front = declaration.specifiers in
+      let mid = enumeration_behind text front before in
       let next = item_behind text one before in
-      let own = globals_faults text declaration.specifiers declaration.declarators before in
+      let names = enumeration_faults text front before in
+      let own = globals_faults text front declaration.declarators mid in
       let rest = items_faults text more next in
       let whole_one = all_whole (map whole_declarator declaration.declarators) in
       let others = all_whole (map whole_item more) in
-      let r = text_runs same stand more next (none_right own rest none)
+      let r = text_runs same stand more next (none_right (names ++ own) rest none)
       (and_right whole_one others whole) among
-      (globals_scope text declaration.specifiers declaration.declarators before
-      (and_left whole_one others whole) (none_left own rest none) f) end in
+      (globals_scope text front declaration.declarators mid
+      (and_left whole_one others whole)
+      (none_right names own (none_left (names ++ own) rest none))
+      (enumeration_scope text front before f)) end in
       record {
         extends = r.extends;
         at = λ taken begin stay w.
             subst (λ k. Fit k (core.each (rules_of (functions_of text more next)) taken).made)
-            (globals_bodies text declaration.specifiers declaration.declarators before)
-            (r.at taken begin (globals_stay text declaration.specifiers declaration.declarators
-            before
-            first taken.starts stay) w);
+            (globals_bodies text front declaration.declarators mid)
+            (r.at taken begin (globals_stay text front declaration.declarators mid first
+            taken.starts (enumeration_stays text front before first taken.starts stay)) w);
       }
   text_runs same stand (item.Prototype specifiers declarator ∷ more) before none whole among f
       end =
@@ -499,11 +533,12 @@ module _ (all : List IntType) (calls : List Call) (bodies : ℕ) (frames : rows.
       let rest = items_faults text more next in
       let none_here = none_left own rest none in
       let r = text_runs same stand more next (none_right own rest none) whole among
-      (function_scope before false specifiers declarator none_here f) end in
+      (function_scope text before false specifiers declarator none_here f) end in
       record {
         extends = r.extends;
         at = λ taken begin stay w. r.at taken begin
-            (function_stays before false specifiers declarator first taken.starts none_here stay) w;
+            (function_stays text before false specifiers declarator first taken.starts none_here
+            stay) w;
       }
   text_runs same stand (item.Function specifiers declarator body.Skipped ∷ more) before none
       whole among f end =
@@ -511,16 +546,17 @@ module _ (all : List IntType) (calls : List Call) (bodies : ℕ) (frames : rows.
       let next = item_behind text one before in
       let own = item_faults text one before in
       let rest = items_faults text more next in
-      let head = head_faults before true specifiers declarator in
+      let head = head_faults text before true specifiers declarator in
       let inside = body_faults text (body_sites text before specifiers declarator body.Skipped) in
       let none_here = none_left head inside (none_left own rest none) in
       let r = text_runs same stand more next (none_right own rest none) whole
       (λ c here. among c (among_right c (item_calls text one before) (items_calls text more next)
-      here)) (function_scope before true specifiers declarator none_here f) end in
+      here)) (function_scope text before true specifiers declarator none_here f) end in
       record {
         extends = r.extends;
         at = λ taken begin stay w. r.at taken begin
-            (function_stays before true specifiers declarator first taken.starts none_here stay) w;
+            (function_stays text before true specifiers declarator first taken.starts none_here
+            stay) w;
       }
   text_runs same stand
       (item.Function specifiers declarator (body.Block items place) ∷ more) before none whole among
@@ -531,7 +567,7 @@ module _ (all : List IntType) (calls : List Call) (bodies : ℕ) (frames : rows.
       let next = item_behind text one before in
       let own = item_faults text one before in
       let rest = items_faults text more next in
-      let head = head_faults before true specifiers declarator in
+      let head = head_faults text before true specifiers declarator in
       let sites = body_sites text before specifiers declarator (body.Block items place) in
       let none_own = none_left own rest none in
       let none_head = none_left head (flat_map (site_faults text) sites ++ jump_faults sites)
@@ -544,7 +580,7 @@ module _ (all : List IntType) (calls : List Call) (bodies : ℕ) (frames : rows.
       let around = body_around before specifiers declarator items in
       let l = subst (Lasts (function_behind true specifiers declarator before).names) end
       (items_last text more next (none_right own rest none)) in
-      let scope = function_scope before true specifiers declarator none_head f in
+      let scope = function_scope text before true specifiers declarator none_head f in
       let R = body_runs same before specifiers declarator items place stand none_own
       (and_left whole_one others whole)
       (λ c here. among c (among_left c (item_calls text one before) (items_calls text more next)
@@ -564,8 +600,8 @@ module _ (all : List IntType) (calls : List Call) (bodies : ℕ) (frames : rows.
             let m = rule taken in
             let inside = within_before all m.taken (core.each rules m.taken).taken
             (r.extends m.taken) w in
-            let here = function_stays before true specifiers declarator first taken.starts none_head
-            stay in
+            let here = function_stays text before true specifiers declarator first taken.starts
+            none_head stay in
             let known = known_here k begin (function_behind true specifiers declarator before).names
             before.objects taken.starts l here in (
               (R.at taken tt known inside).0,

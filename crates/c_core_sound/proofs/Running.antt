@@ -8,7 +8,7 @@ use Rattle.c_types_rules.specs.declared.meaning.Declared.{Declared}
 use Rattle.c_types_rules.specs.declared.meaning.Declared.TheVariants as declared
 use Rattle.c_types_rules.specs.declared.meaning.Entry.{Entry}
 use Rattle.c_types_rules.specs.Names.{declared_as}
-use Rattle.c_types_rules.specs.Statements.{Around, left_by, inner, loop}
+use Rattle.c_types_rules.specs.Statements.{Around, left_by, left_switch, inner, loop}
 use Rattle.c_core_rules.specs.Cells.{Taken}
 use Rattle.c_core_rules.specs.Cells as core
 use Rattle.c_core_sound.proofs.Fitting.{Ground, World, Extends, Within}
@@ -20,6 +20,8 @@ use Rattle.c_core_sound.proofs.Entries.{pushed_by}
 abbrev pub DeclaredBegins : Ground → (ℕ → Option ℕ) → Declared → Type 0
 DeclaredBegins G starts (declared.Object object initialized) = Begins G.cells object starts
 DeclaredBegins G starts (declared.Function result parameters defined) = Unit {0}
+DeclaredBegins G starts (declared.Enumerator value) = Unit {0}
+DeclaredBegins G starts declared.Tag = Unit {0}
 
 -- each object that a name stands for begins at a cell
 pub record Known (G : Ground) (names : List Entry) (starts : ℕ → Option ℕ) : Type 0 where
@@ -33,6 +35,8 @@ world G names = record { ground = G; knows = λ starts. Known G names starts }
 abbrev pub DeclaredBelow : ℕ → Declared → Type 0
 DeclaredBelow n (declared.Object object initialized) = object.number < n
 DeclaredBelow n (declared.Function result parameters defined) = Unit {0}
+DeclaredBelow n (declared.Enumerator value) = Unit {0}
+DeclaredBelow n declared.Tag = Unit {0}
 
 pub record Below (n : ℕ) (names : List Entry) : Type 0 where
   pub at : (name : List ℕ) (d : Declared) → declared_as names name ≡ Some d → DeclaredBelow n d
@@ -47,6 +51,8 @@ begins_kept G n (declared.Object object initialized) starts later below kept h =
   there = h.there;
 }
 begins_kept G n (declared.Function result parameters defined) starts later below kept h = tt
+begins_kept G n (declared.Enumerator value) starts later below kept h = tt
+begins_kept G n declared.Tag starts later below kept h = tt
 
 pub known_kept : (G : Ground) (n : ℕ) (names : List Entry) (starts later : ℕ → Option ℕ) →
     Below n names → ((m : ℕ) → m < n → later m ≡ starts m) → Known G names starts →
@@ -66,6 +72,8 @@ known_push G names entry starts h here = record {
 declared_higher : (n m : ℕ) (d : Declared) → n ≤ m → DeclaredBelow n d → DeclaredBelow m d
 declared_higher n m (declared.Object object initialized) le below = omega (arith, le, below)
 declared_higher n m (declared.Function result parameters defined) le below = tt
+declared_higher n m (declared.Enumerator value) le below = tt
+declared_higher n m declared.Tag le below = tt
 
 pub below_higher : (n m : ℕ) (names : List Entry) → n ≤ m → Below n names → Below m names
 below_higher n m names le below =
@@ -165,6 +173,25 @@ module _ (G : Ground) where
           r.0,
           known_kept G around.objects around.names taken.starts (rule taken).taken.starts below
               (λ m less. h.keeps taken m (inl less)) k,
+        );
+  }
+
+  -- the body of a switch
+  pub runs_switch : {S Given : Type 0} (around within mid : Around) {P : S → Type 0}
+      {rule : core.Rule S} → within.names ≡ around.names → within.objects ≡ around.objects →
+      Below around.objects around.names → Runs G Given within mid P rule →
+      Runs G Given around (left_switch around mid) P rule
+  runs_switch around within mid {P = P} {rule = rule} names objects below h = record {
+    extends = h.extends;
+    keeps = λ taken n side. h.keeps taken n
+        (subst (λ m. (n < m) ⊎ (mid.objects ≤ n)) (sym objects) side);
+    at = λ taken g k w.
+        let r = h.at taken g (subst (λ (ns : List Entry). Known G ns taken.starts) (sym names) k)
+        w in (
+          r.0,
+          known_kept G around.objects around.names taken.starts (rule taken).taken.starts below
+              (λ m less. h.keeps taken m
+              (subst (λ n. (m < n) ⊎ (mid.objects ≤ m)) (sym objects) (inl less))) k,
         );
   }
 

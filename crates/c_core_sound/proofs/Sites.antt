@@ -4,6 +4,8 @@ use Rattle.std.proofs.Common.{◌≡◌, ℕ, true, List, [], ◌∷◌, ◌++�
 use Rattle.std.proofs.Common.{refl}
 use Rattle.std.specs.List.{AllByRecursion, flat_map}
 use Rattle.std.specs.Str.{bytes_eq}
+use Rattle.cpa_ints.specs.declared.integers.IntType.TheVariants as ty
+use Rattle.cpa_ints.specs.Integers.{IsInRange}
 use Rattle.c_grammar_tree.specs.declared.expression.Expression.{Expression}
 use Rattle.c_types_rules.specs.declared.known.KnownFunction.{KnownFunction}
 use Rattle.c_types_rules.specs.declared.meaning.Declared.{Declared}
@@ -65,6 +67,8 @@ module _ (G : Ground) (frames : rows.Frames) (text : Text) where
   DeclaredFits name (declared.Function result parameters defined) =
       (body : ℕ) → body_of text name ≡ Some body → G.calls body
       → FunctionFits G frames (function_of text name result parameters)
+  DeclaredFits name (declared.Enumerator value) = IsInRange ty.I32 value
+  DeclaredFits name declared.Tag = Unit {0}
 
   pub record FunctionsFit (names : List Entry) : Type 0 where
     pub at : (name : List ℕ) (d : Declared) → declared_as names name ≡ Some d →
@@ -86,6 +90,12 @@ module _ (G : Ground) (frames : rows.Frames) (text : Text) where
         record { begins = λ starts k. k.begins name (declared.Object object initialized) is }
     meaning_fits_by name (Some function) (Some (declared.Object object initialized)) is =
         record { begins = λ starts k. k.begins name (declared.Object object initialized) is }
+    meaning_fits_by name None (Some (declared.Enumerator value)) is =
+        λ starts k. fits.at name (declared.Enumerator value) is
+    meaning_fits_by name (Some function) (Some (declared.Enumerator value)) is =
+        λ starts k. fits.at name (declared.Enumerator value) is
+    meaning_fits_by name None (Some declared.Tag) is = tt
+    meaning_fits_by name (Some function) (Some declared.Tag) is = tt
     meaning_fits_by name (Some function) (Some (declared.Function result parameters defined)) is =
         tt
     meaning_fits_by name None (Some (declared.Function result parameters defined)) is =

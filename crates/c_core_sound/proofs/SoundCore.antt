@@ -37,7 +37,7 @@ use Rattle.c_types_rules.specs.Statements.{walk_of}
 use Rattle.c_types_rules.specs.TypedStatements.{grown}
 use Rattle.c_types_rules.specs.Items.{Before, Call, text_of, items_faults, items_calls}
 use Rattle.c_types_rules.specs.Items.{nothing_before, body_sites, body_faults, globals_faults}
-use Rattle.c_types_rules.specs.Items.{head_faults}
+use Rattle.c_types_rules.specs.Items.{head_faults, enumeration_behind, enumeration_faults}
 use Rattle.c_types_rules.specs.Items.{item_behind, item_faults, listed}
 use Rattle.c_types_rules.specs.Recursion.{Among, Calls, Through}
 use Rattle.c_types_rules.specs.Recursion as recursion
@@ -70,7 +70,7 @@ use Rattle.c_core_sound.proofs.TypedValues.{cell_fits}
 use Rattle.c_core_sound.proofs.Fitting.{Ground, HeadFits, TreeFits, Within, within_before}
 use Rattle.c_core_sound.proofs.ReadExpressions.{and_left, and_right}
 use Rattle.c_core_sound.proofs.RunFunctions.{function_rises}
-use Rattle.c_core_sound.proofs.FileNames.{FileScope, Stay, function_scope}
+use Rattle.c_core_sound.proofs.FileNames.{FileScope, Stay, function_scope, enumeration_scope}
 use Rattle.c_core_sound.proofs.Globals.{globals_begin}
 use Rattle.c_core_sound.proofs.RunText.{Callee, Fit, body_around, globals_scope, ground}
 use Rattle.c_core_sound.proofs.RunText.{later_scope, text_runs}
@@ -212,31 +212,37 @@ module _ (walks : (text : Text) (one : BlockItem) → (grown text one).walk ≡ 
       let one = item.Typedef specifiers names place in
       let next = item_behind text one before in
       items_scope text more next
-      (none_right (item_faults text one before) (items_faults text more next) none) whole f
+      (none_right (item_faults text one before) (items_faults text more next) none) whole
+      (enumeration_scope text specifiers before f)
   items_scope text (item.Objects declaration ∷ more) before none whole f =
+      let front = declaration.specifiers in
+      let mid = enumeration_behind text front before in
       let next = item_behind text (item.Objects declaration) before in
-      let own = globals_faults text declaration.specifiers declaration.declarators before in
+      let names = enumeration_faults text front before in
+      let own = globals_faults text front declaration.declarators mid in
       let rest = items_faults text more next in
       let whole_one = all_whole (map whole_declarator declaration.declarators) in
       let others = all_whole (map whole_item more) in
-      items_scope text more next (none_right own rest none) (and_right whole_one others whole)
-      (globals_scope text declaration.specifiers declaration.declarators before
-      (and_left whole_one others whole) (none_left own rest none) f)
+      items_scope text more next (none_right (names ++ own) rest none)
+      (and_right whole_one others whole)
+      (globals_scope text front declaration.declarators mid (and_left whole_one others whole)
+      (none_right names own (none_left (names ++ own) rest none))
+      (enumeration_scope text front before f))
   items_scope text (item.Prototype specifiers declarator ∷ more) before none whole f =
       let one = item.Prototype specifiers declarator in
       let next = item_behind text one before in
       let own = item_faults text one before in
       let rest = items_faults text more next in
       items_scope text more next (none_right own rest none) whole
-      (function_scope before false specifiers declarator (none_left own rest none) f)
+      (function_scope text before false specifiers declarator (none_left own rest none) f)
   items_scope text (item.Function specifiers declarator body.Skipped ∷ more) before none whole f =
       let one = item.Function specifiers declarator body.Skipped in
       let next = item_behind text one before in
       let own = item_faults text one before in
       let rest = items_faults text more next in
       items_scope text more next (none_right own rest none) whole
-      (function_scope before true specifiers declarator
-      (none_left (head_faults before true specifiers declarator)
+      (function_scope text before true specifiers declarator
+      (none_left (head_faults text before true specifiers declarator)
       (body_faults text (body_sites text before specifiers declarator body.Skipped))
       (none_left own rest none)) f)
   items_scope text (item.Function specifiers declarator (body.Block items place) ∷ more) before none
@@ -245,7 +251,7 @@ module _ (walks : (text : Text) (one : BlockItem) → (grown text one).walk ≡ 
       let next = item_behind text one before in
       let own = item_faults text one before in
       let rest = items_faults text more next in
-      let head = head_faults before true specifiers declarator in
+      let head = head_faults text before true specifiers declarator in
       let sites = body_sites text before specifiers declarator (body.Block items place) in
       let none_head = none_left head (flat_map (site_faults text) sites ++ jump_faults sites)
       (none_left own rest none) in
@@ -256,7 +262,7 @@ module _ (walks : (text : Text) (one : BlockItem) → (grown text one).walk ≡ 
       (later_scope [] [] 0 [] text (λ n. None) [] (walks text) before specifiers declarator items
       place (function_rises G [] text before.bodies (kind_of specifiers) around
       (listed declarator.parameters) items)
-      (function_scope before true specifiers declarator none_head f))
+      (function_scope text before true specifiers declarator none_head f))
 
   -- the trees of the functions
   trees_fit : FramesAreThere → (tree : UnitTree) (firsts : List ℕ) →

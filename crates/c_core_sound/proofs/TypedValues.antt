@@ -8,6 +8,8 @@ use Rattle.cpa_ints.specs.declared.integers.IntType.{IntType}
 use Rattle.cpa_ints.specs.declared.integers.IntType.TheVariants as ty
 use Rattle.cpa_ints.specs.Integers.{IsInRange, width, is_signed}
 use Rattle.cpa_ints.specs.Conversions.{promoted, common_type}
+use Rattle.cpa_ints.specs.Wrapping.{wrapped}
+use Rattle.cpa_ints.specs.lemmas.Arithmetic.{wrapped_in_range}
 use Rattle.cpa_expr.specs.declared.tree.Expr.{Expr}
 use Rattle.cpa_expr.specs.declared.tree.Expr.TheVariants as expr
 use Rattle.cpa_expr.specs.declared.tree.UnOp.{UnOp}
@@ -19,7 +21,7 @@ use Rattle.cpa_expr.specs.declared.tree.CmpOp.TheVariants as cmp
 use Rattle.cpa_expr.specs.Shape.{type_of, is_arithmetic, AreCells, IsTyped}
 use Rattle.cpa_expr.specs.Shape as shape
 use Rattle.cpa_expr.specs.Equality.{same_type}
-use Rattle.cpa_expr.specs.Laws.{typed_at_variants}
+use Rattle.cpa_expr.specs.Laws.{typed_at_variants, type_at_variants}
 use Rattle.c_grammar_symbols.specs.declared.operators.BinaryOperator.{BinaryOperator}
 use Rattle.c_grammar_symbols.specs.declared.operators.BinaryOperator.TheVariants as binary
 use Rattle.c_grammar_tree.specs.declared.expression.UnaryOperator.{UnaryOperator}
@@ -93,6 +95,16 @@ module _ (cells : List IntType) where
       IsTyped cells (expr.Cmp o t left right)
   cmp_typed o t left right e f h k =
       (typed_at_variants.comparison cells o t left right).1 (e, f, h, k)
+
+  -- whether a value is this number, converted to its type
+  pub asked_typed : (v : Expr) (n : ℤ) → IsTyped cells v →
+      IsTyped cells (expr.Cmp cmp.Eq (type_of v) v
+      (expr.Const (type_of v) (wrapped (type_of v) n)))
+  asked_typed v n h =
+      let t = type_of v in
+      cmp_typed cmp.Eq t v (expr.Const t (wrapped t n)) refl
+      (type_at_variants.constant t (wrapped t n)) h
+      (const_typed t (wrapped t n) (wrapped_in_range t n))
 
   pub and_typed : (left right : Expr) → IsTyped cells left → IsTyped cells right →
       IsTyped cells (expr.And left right)

@@ -225,6 +225,24 @@ for_whole first test step body place h k l m =
     ∙ rolled_statement (Statement-F.For first test step body place)
     ∙ both h (both k (both l m))
 
+pub switch_whole : (value : Expression) (body : Statement) (place : ℕ) → is_whole value ≡ true →
+    statement_whole body ≡ true → statement_whole (node.Switch value body place) ≡ true
+switch_whole value body place h k =
+    ap statement_whole (sym (node.rolls-Switch value body place))
+    ∙ rolled_statement (Statement-F.Switch value body place) ∙ both h k
+
+pub case_whole : (value : Expression) (body : Statement) (place : ℕ) → is_whole value ≡ true →
+    statement_whole body ≡ true → statement_whole (node.Case value body place) ≡ true
+case_whole value body place h k =
+    ap statement_whole (sym (node.rolls-Case value body place))
+    ∙ rolled_statement (Statement-F.Case value body place) ∙ both h k
+
+pub default_whole : (body : Statement) (place : ℕ) → statement_whole body ≡ true →
+    statement_whole (node.Default body place) ≡ true
+default_whole body place h =
+    ap statement_whole (sym (node.rolls-Default body place))
+    ∙ rolled_statement (Statement-F.Default body place) ∙ h
+
 pub goto_whole : (label : Name) (place : ℕ) → statement_whole (node.Goto label place) ≡ true
 goto_whole label place =
     ap statement_whole (sym (node.rolls-Goto label place))

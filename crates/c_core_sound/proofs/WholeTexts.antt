@@ -1,7 +1,7 @@
 -- The tree of a text is whole (`text_whole`).
 use Rattle.std.proofs.Common.{◌≡◌, ℕ, zero, suc, Bool, true, false, not, List, [], ◌∷◌}
 use Rattle.std.proofs.Common.{map, Option, None, Some, refl}
-use Rattle.c_grammar_forms.specs.Forms.{World, Form, Node, Pair, listed}
+use Rattle.c_grammar_forms.specs.Forms.{World, Form, Pair, Deeper, Before}
 use Rattle.cpa_ints.specs.declared.integers.IntType.TheVariants as ty
 use Rattle.c_grammar_symbols.specs.declared.words.Terminal.TheVariants as terminal
 use Rattle.c_grammar_symbols.specs.declared.words.Terminal.{Terminal}
@@ -20,12 +20,13 @@ use Rattle.c_grammar_tree.specs.declared.expression.UnaryOperator.{UnaryOperator
 use Rattle.c_grammar_tree.specs.declared.declaration.Specifiers.{Specifiers}
 use Rattle.c_grammar_tree.specs.declared.declaration.Array.{Array}
 use Rattle.c_grammar_tree.specs.declared.declaration.Initializer.{Initializer}
+use Rattle.c_grammar_tree.specs.declared.declaration.Declarator.{Declarator}
 use Rattle.c_grammar_tree.specs.declared.statement.Statement.{Statement}
 use Rattle.c_grammar_tree.specs.declared.item.Body.{Body}
 use Rattle.c_grammar_tree.specs.declared.item.Body.TheVariants as body
 use Rattle.c_grammar_tree.specs.declared.item.Item.{Item}
 use Rattle.c_grammar_tree.specs.Parts.{is_not, names_assert, is_end, begins_suffix, is_operator}
-use Rattle.c_grammar_tree.specs.Parts.{loosest, bare_name, is_initializing}
+use Rattle.c_grammar_tree.specs.Parts.{loosest, bare_name, is_initializing, is_listed}
 use Rattle.c_grammar_tree.specs.Nested.{Grammar}
 use Rattle.c_grammar_tree.specs.Expressions.{suffixed, in_front, chain_of, conditional_of}
 use Rattle.c_grammar_tree.specs.Expressions.{assignment_of}
@@ -40,7 +41,7 @@ use Rattle.c_grammar_tree.specs.Expressions.{comma}
 use Rattle.c_grammar_tree.specs.Declarations.{element, list, initializer_of, array, array_part}
 use Rattle.c_grammar_tree.specs.Declarations.{Rest}
 use Rattle.c_grammar_tree.specs.Declarations.{declarator_rest, declarator, more_declarators}
-use Rattle.c_grammar_tree.specs.Declarations.{declaration}
+use Rattle.c_grammar_tree.specs.Declarations.{declarators, declarators_by, declaration_by}
 use Rattle.c_grammar_tree.specs.Statements.{items, condition, optional, for_start, behind_comma_at}
 use Rattle.c_grammar_tree.specs.Statements.{labeled_or_not, statement_at, statement, item_by, item}
 use Rattle.c_grammar_tree.specs.Items.{body_of, is_known, function_end_at, have_pointer, Named}
@@ -68,6 +69,7 @@ use Rattle.c_core_sound.proofs.WholeParts.{chain_whole, conditional_whole, assig
 use Rattle.c_core_sound.proofs.WholeParts.{comma_whole, index_whole, call_whole, step_whole}
 use Rattle.c_core_sound.proofs.WholeParts.{skipped_whole, block_whole, evaluation_whole, else_whole}
 use Rattle.c_core_sound.proofs.WholeParts.{if_whole, while_whole, do_whole, for_whole, goto_whole}
+use Rattle.c_core_sound.proofs.WholeParts.{switch_whole, case_whole, default_whole}
 use Rattle.c_core_sound.proofs.WholeParts.{break_whole, continue_whole, return_whole}
 use Rattle.c_core_sound.proofs.WholeParts.{labeled_whole, declared_whole, stated_whole}
 
@@ -176,6 +178,18 @@ group_whole leaf (bracket_group inner more) h =
 
 abbrev MaybeArray : Option Array → Type 0
 MaybeArray o = whole_length o ≡ true
+
+abbrev AllDeclarators : List Declarator → Type 0
+AllDeclarators ds = all_whole (map whole_declarator ds) ≡ true
+
+abbrev MaybeDeclarators : Option (List Declarator) → Type 0
+MaybeDeclarators None = Unit {0}
+MaybeDeclarators (Some ds) = AllDeclarators ds
+
+declarators_whole : (leaf : Leaf) (o : Option (List Declarator)) → MaybeDeclarators o →
+    AllDeclarators (list_of leaf o)
+declarators_whole leaf None h = refl
+declarators_whole leaf (Some ds) h = h
 
 abbrev WholeRest : Rest → Type 0
 WholeRest rest = MaybeArray rest.array × MaybeInitial rest.initializer
@@ -291,6 +305,8 @@ module _ {w : World Leaf} {G : Grammar} (g : WholeGrammar w G)
       (yield_pair yield_any (yield_deeper g.cast)) (λ leaf parts h. h.1)
   w_group_at (symbol.TypedefName named) = yield_node _
       (yield_pair yield_any (yield_deeper g.cast)) (λ leaf parts h. h.1)
+  w_group_at (symbol.Terminal terminal.Enum) = yield_node _
+      (yield_pair yield_any (yield_deeper g.cast)) (λ leaf parts h. h.1)
   w_group_at _ = yield_node _ (yield_then (yield_before (yield_deeper g.comma))
       (λ inner. w_suffixes (names_assert inner))) (λ leaf parts h. h)
 
@@ -343,7 +359,7 @@ module _ {w : World Leaf} {G : Grammar} (g : WholeGrammar w G)
 
   -- declarations
 
-  w_element : Yields w (element G) Whole
+  w_element : Yields w (element (Deeper G.assignment)) Whole
   unfolding element
   w_element = yield_node _ (yield_pair (yield_deeper g.assignment) yield_any) (λ leaf parts h. h.0)
 
@@ -386,15 +402,23 @@ module _ {w : World Leaf} {G : Grammar} (g : WholeGrammar w G)
   w_more_declarators =
       yield_many (is terminal.Comma) whole_declarator (yield_skip w_declarator)
 
-  w_declarators : Yields w (Node listed (Pair (declarator G) (more_declarators G)))
-      (λ ds. all_whole (map whole_declarator ds) ≡ true)
+  w_declarators : Yields w (declarators G) AllDeclarators
+  unfolding declarators
   w_declarators =
       yield_node _ (yield_pair w_declarator w_more_declarators) (λ leaf parts h. both h.0 h.1)
 
-  pub w_declaration : Yields w (declaration G) (λ d. whole_declaration d ≡ true)
-  unfolding declaration
-  w_declaration =
-      yield_node _ (yield_pair yield_any (yield_before w_declarators)) (λ leaf parts h. h.1)
+  w_declarators_by : (braces : Bool) → Yields w (declarators_by G braces) AllDeclarators
+  unfolding declarators_by
+  w_declarators_by false = w_declarators
+  w_declarators_by true = yield_node _ (yield_perhaps (is_not terminal.Semicolon)
+      MaybeDeclarators w_declarators tt (λ u h. h)) declarators_whole
+
+  pub w_declaration : (braces : Bool) →
+      Yields w (declaration_by braces G) (λ d. whole_declaration d ≡ true)
+  unfolding declaration_by
+  w_declaration braces = yield_node _ (yield_then yield_any
+      (λ front. yield_before (w_declarators_by (is_listed front.enumeration))))
+      (λ leaf parts h. h.1)
 
   -- statements
 
@@ -449,6 +473,16 @@ module _ {w : World Leaf} {G : Grammar} (g : WholeGrammar w G)
       (yield_deeper g.statement))))))
       (λ leaf parts h. for_whole parts.0 parts.1.0 parts.1.1.0 parts.1.1.1 leaf.place h.0 h.1.0
       h.1.1.0 h.1.1.1)
+  w_statement_at (symbol.Terminal terminal.Switch) = yield_node _
+      (yield_skip (yield_pair w_condition (yield_deeper g.statement)))
+      (λ leaf parts h. switch_whole parts.0 parts.1 leaf.place h.0 h.1)
+  w_statement_at (symbol.Terminal terminal.Case) = yield_node _
+      (yield_skip (yield_pair (yield_before (yield_deeper g.conditional))
+      (yield_deeper g.statement)))
+      (λ leaf parts h. case_whole parts.0 parts.1 leaf.place h.0 h.1)
+  w_statement_at (symbol.Terminal terminal.Default) = yield_node _
+      (yield_skip (yield_behind (yield_deeper g.statement)))
+      (λ leaf body h. default_whole body leaf.place h)
   w_statement_at (symbol.Terminal terminal.Goto) = yield_node _ yield_any
       (λ leaf label h. goto_whole label leaf.place)
   w_statement_at (symbol.Terminal terminal.Break) = yield_node _ yield_any
@@ -469,7 +503,7 @@ module _ {w : World Leaf} {G : Grammar} (g : WholeGrammar w G)
 
   w_item_by : (b : Bool) → Yields w (item_by G b) (λ i. whole_block_item i ≡ true)
   unfolding item_by
-  w_item_by true = yield_node _ w_declaration (λ leaf made h. declared_whole made h)
+  w_item_by true = yield_node _ (w_declaration true) (λ leaf made h. declared_whole made h)
   w_item_by false = yield_node _ w_statement (λ leaf made h. stated_whole made h)
 
   pub w_item : Yields w (item G) (λ i. whole_block_item i ≡ true)
@@ -492,21 +526,30 @@ module _ {w : World Leaf} {G : Grammar} (g : WholeGrammar w G)
       yield_node _ (w_body_of (is_known name)) (λ leaf made h. h)
   w_function_end_at name _ _ = yield_nothing
 
-  w_named_at : (name : Name) (s : Symbol) → Yields w (named_at G name s) WholeNamed
+  w_objects : Yields w (Before (Pair (declarator_rest G) (more_declarators G))
+      (is terminal.Semicolon)) (λ parts. WholeRest parts.0 × AllDeclarators parts.1)
+  w_objects = yield_before (yield_pair w_declarator_rest w_more_declarators)
+
+  w_named_at : (braces : Bool) (name : Name) (s : Symbol) →
+      Yields w (named_at G braces name s) WholeNamed
   unfolding named_at
-  w_named_at name (symbol.Terminal terminal.LeftParen) = yield_node _
+  w_named_at false name (symbol.Terminal terminal.LeftParen) = yield_node _
       (yield_then yield_any
       (λ found. yield_choice (w_function_end_at name (have_pointer found))))
       (λ leaf parts h. h.1)
-  w_named_at name _ = yield_node _
-      (yield_before (yield_pair w_declarator_rest w_more_declarators)) (λ leaf parts h. h)
+  w_named_at true name (symbol.Terminal terminal.LeftParen) =
+      yield_node _ w_objects (λ leaf parts h. h)
+  w_named_at false name _ = yield_node _ w_objects (λ leaf parts h. h)
+  w_named_at true name _ = yield_node _ w_objects (λ leaf parts h. h)
 
-  w_declared_at : (s : Symbol) → Yields w (declared_at G s) MaybeNamed
+  w_declared_at : (braces : Bool) (s : Symbol) → Yields w (declared_at G braces s) MaybeNamed
   unfolding declared_at
-  w_declared_at (symbol.Terminal terminal.Semicolon) = yield_node _ yield_any (λ leaf u h. tt)
-  w_declared_at symbol.Name = yield_node _
-      (yield_then yield_any (λ name. yield_choice (w_named_at name))) (λ leaf parts h. h.1)
-  w_declared_at _ = yield_nothing
+  w_declared_at braces (symbol.Terminal terminal.Semicolon) =
+      yield_node _ yield_any (λ leaf u h. tt)
+  w_declared_at braces symbol.Name = yield_node _
+      (yield_then yield_any (λ name. yield_choice (w_named_at braces name)))
+      (λ leaf parts h. h.1)
+  w_declared_at braces _ = yield_nothing
 
   named_whole : (leaf : Leaf) (front : Specifiers) (found : Option (Name × Named)) →
       MaybeNamed found → WholeItem (declared_of front found)
@@ -521,7 +564,8 @@ module _ {w : World Leaf} {G : Grammar} (g : WholeGrammar w G)
   w_unit_item_at (symbol.Terminal terminal.Semicolon) = yield_node _ yield_any (λ leaf u h. refl)
   w_unit_item_at (symbol.Terminal terminal.Typedef) =
       yield_node _ yield_any (λ leaf parts h. refl)
-  w_unit_item_at _ = yield_node _ (yield_pair yield_any (yield_choice w_declared_at))
+  w_unit_item_at _ = yield_node _ (yield_then yield_any
+      (λ front. yield_choice (w_declared_at (is_listed front.enumeration))))
       (λ leaf parts h. named_whole leaf parts.0 parts.1 h.1)
 
   pub w_unit_item : Yields w (unit_item G) WholeItem
@@ -549,7 +593,7 @@ whole_grammar fine (suc n) = let g = whole_grammar fine n in record {
   cast = w_cast g fine;
   unary = w_unary g fine;
   list = w_list g fine;
-  declaration = w_declaration g fine;
+  declaration = w_declaration g fine false;
   statement = w_statement g fine;
   item = w_item g fine;
 }

@@ -1,5 +1,6 @@
 -- Trees that texts have, as far as the grammar does not say it by the shape of a tree (C11 6.4.4
--- and 6.5.17): each constant has a value of its type, and a comma expression has an item.
+-- and 6.5.17): each constant has a value of its type, and a comma expression has an item. Of an
+-- enumerator the core has the number alone, so nothing is said of its expression.
 use Rattle.std.specs.Prelude.{◌≡◌, Bool, true, false, ◌&&◌, int_le, ℤ, List, [], ◌∷◌, map, Option}
 use Rattle.std.specs.Prelude.{None, Some}
 use Rattle.cpa_ints.specs.declared.integers.IntType.{IntType}
@@ -92,6 +93,9 @@ whole_statement (Statement-F.Do body test place) = body && is_whole test
 whole_statement (Statement-F.For first test step body place) =
     whole_start first && (whole_optional test && (whole_optional step && body))
 whole_statement (Statement-F.Goto label place) = true
+whole_statement (Statement-F.Switch value body place) = is_whole value && body
+whole_statement (Statement-F.Case value body place) = is_whole value && body
+whole_statement (Statement-F.Default body place) = body
 whole_statement (Statement-F.Break place) = true
 whole_statement (Statement-F.Continue place) = true
 whole_statement (Statement-F.Return value place) = whole_optional value
@@ -110,6 +114,6 @@ whole_item (item.Function specifiers declarator (body.Block items place)) =
 whole_item (item.Objects declaration) = whole_declaration declaration
 whole_item _ = true
 
--- each expression of the text is
+-- each expression of the text but those of enumerators is
 abbrev pub IsWhole : UnitTree → Type 0
 IsWhole unit = all_whole (map whole_item unit.items) ≡ true

@@ -1,5 +1,6 @@
 -- The rules of each form of statement, by its parts (`opened`).
 use Rattle.std.proofs.Common.{◌≡◌, ℕ, List, [], ◌∷◌, ◌++◌, map, Option, None, Some, ap, sym, ◌∙◌}
+use Rattle.c_types_rules.specs.declared.typed.Choice.{Choice}
 use Rattle.c_types_rules.specs.declared.typed.TypedDeclarator.{TypedDeclarator}
 use Rattle.c_types_rules.specs.declared.typed.TypedExpression.{TypedExpression}
 use Rattle.c_types_rules.specs.declared.typed.TypedForStart.{TypedForStart}
@@ -23,7 +24,8 @@ use Rattle.c_core_rules.specs.Cells.{Taken, Made, Rule, gives, then_by, in_order
 use Rattle.c_core_rules.specs.Expressions.{Frames, rows}
 use Rattle.c_core_rules.specs.Statements.{some_unused, started, left_unless, returned, declaration}
 use Rattle.c_core_rules.specs.Statements.{as_one, item_rule, item_step, statement_step}
-use Rattle.c_core_trees.specs.Items.{statement_rule, left, otherwise}
+use Rattle.c_core_rules.specs.Statements.{selected_by}
+use Rattle.c_core_trees.specs.Items.{statement_rule, left, otherwise, switch_front}
 
 opened : (frames : Frames) (result : Location) (s : TypedStatement)
     (x : TypedStatement-F TypedItem TypedStatement) → roll-TypedStatement x ≡ s →
@@ -206,3 +208,14 @@ statement_Labeled frames result label body taken =
     ap (λ (r : Rule Trees). r taken)
     (opened frames result (tree.Labeled label body) (TypedStatement-F.Labeled label body)
     (tree.rolls-Labeled label body))
+
+pub statement_Switch : (frames : Frames) (result : Location) (value : TypedExpression)
+    (choices : List Choice) (other : ℕ) (body : TypedStatement) (end : ℕ) (taken : Taken) →
+    statement_rule frames result (tree.Switch value choices other body end) taken
+    ≡ then_by (switch_front frames value) (λ kept. then_by (statement_rule frames result body)
+    (λ inside. gives (kept.statements ++ selected_by kept.value choices other inside))) taken
+statement_Switch frames result value choices other body end taken =
+    ap (λ (r : Rule Trees). r taken)
+    (opened frames result (tree.Switch value choices other body end)
+    (TypedStatement-F.Switch value choices other body end)
+    (tree.rolls-Switch value choices other body end))

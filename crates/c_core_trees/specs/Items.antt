@@ -7,7 +7,10 @@ use Rattle.c_types_rules.specs.declared.typed.TypedItem.TheFolds.{fold-TypedStat
 use Rattle.c_types_rules.specs.declared.typed.TypedStatement.{TypedStatement}
 use Rattle.c_core_rules.specs.declared.tree.Location.{Location}
 use Rattle.cpa_model_trees.specs.Numbering.{Trees}
-use Rattle.c_core_rules.specs.Trees.{block, repeated}
+use Rattle.c_core_rules.specs.declared.tree.Valued.{Valued}
+use Rattle.c_core_rules.specs.Values.{promote}
+use Rattle.c_core_rules.specs.Acts.{held}
+use Rattle.c_core_rules.specs.Trees.{block, repeated, valued}
 use Rattle.c_core_rules.specs.Cells.{Rule, gives, then_by, in_order}
 use Rattle.c_core_rules.specs.Expressions.{Frames, rows}
 use Rattle.c_core_rules.specs.Statements.{some_unused, started, leaving, left_unless, item_step}
@@ -35,6 +38,11 @@ in_behind before rules = then_by (in_order rules) (λ trees. gives (before ++ tr
 abbrev pub do_behind : Frames → Trees → TypedExpression → Rule Trees
 do_behind frames inside test =
     then_by (left frames test) (λ behind. gives (repeated inside behind ∷ []))
+
+-- the value of a switch, promoted and held
+abbrev pub switch_front : Frames → TypedExpression → Rule Valued
+switch_front frames value = then_by (rows frames value).used (λ v.
+    held (valued v.statements (promote v.value)))
 
 -- what stands before the body of a for, and the for behind its body
 abbrev pub for_front : Frames → TypedForStart → Option TypedExpression → Rule (Trees × Trees)

@@ -4,5 +4,6 @@
 
 mod functions;
 mod statements;
+mod switches;
 
 pub use functions::{TextTrees, function_tree, receiving_globals, text_trees};

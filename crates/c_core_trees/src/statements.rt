@@ -12,6 +12,7 @@ ghost use Rattle.cpa_model_trees.specs.declared.tree.Head.TheVariants as head;
 ghost use Rattle.c_core_values.specs.Found.{so_far};
 ghost use Rattle.c_core_trees.specs.Items.{statement_rule, left, do_behind, for_front, for_behind};
 
+use crate::switches::{switch_behind, switch_front};
 use c_core_expressions::{Frames, cell_behind, chosen_unused, unused, used};
 use c_core_rules::{Location, Valued};
 use c_core_values::{Cells, block, cell_at, input, joined, leaf, list_of, repeated, set, with};
@@ -376,7 +377,7 @@ fn returned(
 
 /// A statement of a function with its result in this place.
 #[cycle(statement)]
-#[tactic(auto, using(crate::proofs::StatementForms::statement_Block, crate::proofs::StatementForms::statement_Expression, crate::proofs::StatementForms::statement_If, crate::proofs::StatementForms::statement_While, crate::proofs::StatementForms::statement_Do, crate::proofs::StatementForms::statement_For, crate::proofs::StatementForms::statement_Goto, crate::proofs::StatementForms::statement_Break, crate::proofs::StatementForms::statement_Continue, crate::proofs::StatementForms::statement_Return, crate::proofs::StatementForms::statement_Labeled))]
+#[tactic(auto, using(crate::proofs::StatementForms::statement_Block, crate::proofs::StatementForms::statement_Expression, crate::proofs::StatementForms::statement_If, crate::proofs::StatementForms::statement_While, crate::proofs::StatementForms::statement_Do, crate::proofs::StatementForms::statement_For, crate::proofs::StatementForms::statement_Goto, crate::proofs::StatementForms::statement_Break, crate::proofs::StatementForms::statement_Continue, crate::proofs::StatementForms::statement_Return, crate::proofs::StatementForms::statement_Labeled, crate::proofs::StatementForms::statement_Switch))]
 fn statement(
     cells: &mut Cells,
     frames: &Frames,
@@ -433,6 +434,17 @@ fn statement(
         TypedStatement::Labeled { body, .. } => {
             let inside = statement(cells, frames, place, body.get())?;
             labeled(alloc, inside)
+        }
+        TypedStatement::Switch {
+            value,
+            choices,
+            otherwise,
+            body,
+            ..
+        } => {
+            let kept = switch_front(cells, frames, value)?;
+            let inside = statement(cells, frames, place, body.get())?;
+            switch_behind(alloc, kept, choices.as_slice(), *otherwise, inside)
         }
     }
 }

@@ -8,13 +8,15 @@ ghost use Rattle.c_core_rules.specs.Acts.{is_pure, held, held_before, operated, 
 ghost use Rattle.c_core_rules.specs.Acts.{one_holds, linked, signed, cast_to, chosen_by, chosen};
 ghost use Rattle.c_core_rules.specs.Acts.{dropped_value, fixed};
 ghost use Rattle.c_core_rules.specs.Trees.{set, choice, valued};
-ghost use Rattle.c_core_rules.specs.Values.{chosen_value, truth_of, scalar, int};
+ghost use Rattle.c_core_rules.specs.Values.{chosen_value, truth_of, promote, scalar, int};
 ghost use Rattle.c_core_values.specs.Found.{so_far};
 
 use crate::cells::Cells;
 use crate::trees::{choice, joined, list_of, set, with};
 use crate::values::{int, scalar};
-use c_core_operators::{chosen_value, conv, is_constant, operator_value, signed_value, truth_of};
+use c_core_operators::{
+    chosen_value, conv, is_constant, operator_value, promote, signed_value, truth_of,
+};
 use c_core_rules::{Location, Valued};
 use c_grammar_symbols::BinaryOperator;
 use c_grammar_tree::UnaryOperator;
@@ -102,6 +104,18 @@ pub(crate) fn held(cells: &mut Cells, v: Valued) -> Result<Valued, AllocError>
     let ty = type_of(v.value.get());
     let Kept { place, statements } = keep(cells, ty, v)?;
     read_behind(cells.alloc(), statements, place)
+}
+
+/// A value that is held with its type promoted.
+pub fn held_promoted(cells: &mut Cells, v: Valued) -> Result<Valued, AllocError>
+    ensures taken { OnOk result (so_far cells.new
+        ≡ (held (valued v.statements (promote v.value)) (so_far cells.old)).taken) }
+    ensures made { IfOk result (λ w. w
+        ≡ (held (valued v.statements (promote v.value)) (so_far cells.old)).made) }
+{
+    let Valued { statements, value } = v;
+    let value = promote(cells.alloc(), value)?;
+    held(cells, Valued { statements, value })
 }
 
 /// A value that is held where a later one has statements.

@@ -84,9 +84,10 @@ impl Cells {
     {
         match found {
             Some(Meaning::Object(object)) => self.location(object),
-            Some(Meaning::Function(_)) | Some(Meaning::Known(_)) | None => {
-                Ok(cell_at(IntType::I32, 0))
-            }
+            Some(Meaning::Function(_))
+            | Some(Meaning::Known(_))
+            | Some(Meaning::Enumerator(_))
+            | None => Ok(cell_at(IntType::I32, 0)),
         }
     }
 

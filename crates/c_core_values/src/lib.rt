@@ -9,7 +9,7 @@ mod places;
 mod trees;
 mod values;
 
-pub use acts::{cast_to, chosen, dropped_value, linked, signed};
+pub use acts::{cast_to, chosen, dropped_value, held_promoted, linked, signed};
 pub use cells::Cells;
 pub use operands::{divided, hold_all};
 pub use places::{changed, fixed_if, incremented, stepped};

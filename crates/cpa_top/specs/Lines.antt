@@ -50,6 +50,8 @@ rule_word rule.N13 = codes "N13"
 rule_word rule.N14 = codes "N14"
 rule_word rule.N15 = codes "N15"
 rule_word rule.N16 = codes "N16"
+rule_word rule.N17 = codes "N17"
+rule_word rule.N18 = codes "N18"
 
 -- the word of a rule that a text breaks, and the line and column of the place
 abbrev pub placed_line : List ℕ → ℕ → ℕ → List ℕ

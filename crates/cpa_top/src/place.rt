@@ -71,6 +71,8 @@ fn rule_word(rule: Rule) -> &'static str
         Rule::N14 => "N14",
         Rule::N15 => "N15",
         Rule::N16 => "N16",
+        Rule::N17 => "N17",
+        Rule::N18 => "N18",
     }
 }
 

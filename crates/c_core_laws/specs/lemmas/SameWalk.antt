@@ -17,7 +17,7 @@ use Rattle.c_types_rules.specs.Statements.{Walk, walk_of, item_walk, statement_w
 use Rattle.c_types_rules.specs.Statements.{doing}
 use Rattle.c_types_rules.specs.Statements.{evaluating, followed, looped, scoped, in_order}
 use Rattle.c_types_rules.specs.Statements.{start_walk}
-use Rattle.c_types_rules.specs.Statements.{marks, still}
+use Rattle.c_types_rules.specs.Statements.{marking, selecting, still, switching}
 use Rattle.c_types_rules.specs.TypedStatements.{Grown, grown, grown_item, grown_statement}
 
 module _ (text : Text) where
@@ -111,7 +111,13 @@ module _ (text : Text) where
   layer (Statement-F.Continue place) = refl
   layer (Statement-F.Return value place) = refl
   layer (Statement-F.Labeled label body) =
-      ap (λ (w : Walk). followed (doing (marks label)) w) body.1
+      ap (λ (w : Walk). followed (marking label) w) body.1
+  layer (Statement-F.Switch value body place) =
+      ap (λ (w : Walk). followed (doing (evaluates Valued value)) (switching text value w)) body.1
+  layer (Statement-F.Case value body place) =
+      ap (λ (w : Walk). followed (selecting text (Some value) place) w) body.1
+  layer (Statement-F.Default body place) =
+      ap (λ (w : Walk). followed (selecting text None place) w) body.1
 
   at_statement : (y : Statement-F HeldItem HeldStatement) (x : Statement-F BlockItem Statement) →
       bare y ≡ x → SameStatement (roll-Statement x)

@@ -1,5 +1,7 @@
 -- Every item of a block is alike under frames of the same types, its result in a cell of one type.
-use Rattle.std.proofs.Common.{◌≡◌, List, [], ◌∷◌, ◌++◌, map, None, Some, refl, sym, subst}
+use Rattle.std.proofs.Common.{◌≡◌, ℕ, List, [], ◌∷◌, ◌++◌, map, None, Some, refl, sym, subst}
+use Rattle.cpa_expr.specs.declared.tree.Expr.{Expr}
+use Rattle.c_types_rules.specs.declared.typed.Choice.{Choice}
 use Rattle.c_types_rules.specs.declared.typed.TypedItem.{TypedItem, roll-TypedItem}
 use Rattle.c_types_rules.specs.declared.typed.TypedItem.TheOpen.{TypedItem-F, TypedStatement-F}
 use Rattle.c_types_rules.specs.declared.typed.TypedItem.TheFolds.{map-TypedItem, map-TypedStatement}
@@ -12,18 +14,23 @@ use Rattle.cpa_model_trees.specs.declared.tree.Head.TheVariants as head
 use Rattle.cpa_model_trees.specs.Numbering.{Trees}
 use Rattle.c_core_rules.specs.declared.tree.Location.{Location}
 use Rattle.c_core_rules.specs.declared.tree.Valued.{Valued}
-use Rattle.c_core_rules.specs.Trees.{leaf, block, choice, repeated}
+use Rattle.c_core_rules.specs.Values.{promote}
+use Rattle.c_core_rules.specs.Trees.{leaf, block, choice, repeated, valued}
 use Rattle.c_core_rules.specs.Cells.{Rule, gives, then_by}
+use Rattle.c_core_rules.specs.Acts.{held}
 use Rattle.c_core_rules.specs.Expressions.{Frames}
 use Rattle.c_core_rules.specs.Statements.{item_rule, item_step, statement_step, as_one}
-use Rattle.c_core_rules_laws.specs.Alike.{Alike, SameValued, SameTrees, SameLocation, SameFrames}
+use Rattle.c_core_rules.specs.Statements.{selecting, selected_by}
+use Rattle.c_core_rules_laws.specs.Alike.{Alike, SameValue, SameValued, SameTrees, SameLocation}
+use Rattle.c_core_rules_laws.specs.Alike.{SameFrames}
 use Rattle.c_core_rules_laws.specs.Alike.{Pairwise, none, more}
 use Rattle.c_core_rules_laws.specs.lemmas.Layers.{statement_rule, open_item, open_statement}
 use Rattle.c_core_rules_laws.specs.lemmas.Statements.{trees_self, same_append, same_node}
-use Rattle.c_core_rules_laws.specs.lemmas.Statements.{same_block}
-use Rattle.c_core_rules_laws.specs.lemmas.Statements.{same_repeated}
+use Rattle.c_core_rules_laws.specs.lemmas.Statements.{same_block, same_choice, same_more}
+use Rattle.c_core_rules_laws.specs.lemmas.Statements.{same_repeated, same_valued}
+use Rattle.c_core_rules_laws.specs.lemmas.Values.{same_asked, same_promote}
 use Rattle.c_core_rules_laws.specs.lemmas.Runs.{alike_gives, alike_then, alike_order}
-use Rattle.c_core_rules_laws.specs.lemmas.Acts.{same_split}
+use Rattle.c_core_rules_laws.specs.lemmas.Acts.{same_split, alike_held}
 use Rattle.c_core_rules_laws.specs.lemmas.Expressions.{alike_expression}
 use Rattle.c_core_rules_laws.specs.lemmas.Declarations.{alike_unused, alike_declaration}
 use Rattle.c_core_rules_laws.specs.lemmas.Declarations.{alike_started, alike_left, alike_returned}
@@ -109,6 +116,49 @@ alike_for {p = p} {q = q} {r = r} {s = s} {t = t} {u = u} first test body step =
     (λ x y four. alike_gives (same_block
     (same_append one (same_repeated (same_append two three) four)))))))
 
+same_selecting : {v w : Expr} (choices : List Choice) → SameValue v w →
+    SameTrees (map (selecting v) choices) (map (selecting w) choices)
+same_selecting [] is = trees_self []
+same_selecting (one ∷ choices) is =
+    same_more
+    (same_choice (same_asked one.value is) (trees_self (leaf (head.Goto one.label) ∷ []))
+    (trees_self [])) (same_selecting choices is)
+
+same_selected : (choices : List Choice) (otherwise : ℕ) {v w : Expr} {xs ys : Trees} →
+    SameValue v w → SameTrees xs ys →
+    SameTrees (selected_by v choices otherwise xs) (selected_by w choices otherwise ys)
+same_selected choices otherwise is are =
+    same_append (same_selecting choices is)
+    (same_append (trees_self (leaf (head.Goto otherwise) ∷ []))
+    (same_append are (trees_self (leaf head.Labeled ∷ []))))
+
+-- a switch, by the rule of its value and that of its body
+abbrev switch_form : List Choice → ℕ → Rule Valued → Rule Trees → Rule Trees
+switch_form choices otherwise t p =
+    then_by t (λ v. then_by (held (valued v.statements (promote v.value))) (λ kept. then_by p
+    (λ inside. gives (kept.statements ++ selected_by kept.value choices otherwise inside))))
+
+alike_switch : (choices : List Choice) (otherwise : ℕ) {t u : Rule Valued} {p q : Rule Trees} →
+    Alike SameValued t u → Alike SameTrees p q →
+    Alike SameTrees (switch_form choices otherwise t p) (switch_form choices otherwise u q)
+alike_switch choices otherwise {p = p} {q = q} value body =
+    alike_then
+    (λ v. then_by (held (valued v.statements (promote v.value))) (λ kept. then_by p
+    (λ inside. gives (kept.statements ++ selected_by kept.value choices otherwise inside))))
+    (λ v. then_by (held (valued v.statements (promote v.value))) (λ kept. then_by q
+    (λ inside. gives (kept.statements ++ selected_by kept.value choices otherwise inside)))) value
+    (λ v w is. alike_then
+    (λ kept. then_by p
+    (λ inside. gives (kept.statements ++ selected_by kept.value choices otherwise inside)))
+    (λ kept. then_by q
+    (λ inside. gives (kept.statements ++ selected_by kept.value choices otherwise inside)))
+    (alike_held (same_valued is.statements (same_promote is.value)))
+    (λ a b one. alike_then
+    (λ inside. gives (a.statements ++ selected_by a.value choices otherwise inside))
+    (λ inside. gives (b.statements ++ selected_by b.value choices otherwise inside)) body
+    (λ x y two. alike_gives
+    (same_append one.statements (same_selected choices otherwise one.value two)))))
+
 module _ (F G : Frames) (same : SameFrames F G) (place other : Location)
     (at : SameLocation place other) where
   abbrev pub ItemIsAlike : TypedItem → Type 0
@@ -168,6 +218,8 @@ module _ (F G : Frames) (same : SameFrames F G) (place other : Location)
   layer (TypedStatement-F.Return value) = alike_returned F G same place other value at
   layer (TypedStatement-F.Labeled label body) =
       alike_one (Node head.Labeled) (λ xs ys is. same_node head.Labeled head.Labeled refl is) body.1
+  layer (TypedStatement-F.Switch value choices otherwise body end) =
+      alike_switch choices otherwise (alike_expression F G same value).used body.1
 
   item_layer : (y : TypedItem-F HeldItem HeldStatement) →
       Alike SameTrees (item_of F place y) (item_of G other y)

@@ -3,6 +3,7 @@ use Rattle.std.proofs.Common.{ℕ, zero, suc, Bool, true, List, [], ◌∷◌}
 use Rattle.std.proofs.Common.{◌++◌, map, Option, None, Some, refl, subst, ℤ}
 use Rattle.std.specs.Prelude.{unwrap_or, is_some, slice_get}
 use Rattle.cpa_ints.specs.declared.integers.IntType.{IntType}
+use Rattle.cpa_ints.specs.declared.integers.IntType.TheVariants as ty
 use Rattle.cpa_expr.specs.declared.tree.Expr.{Expr}
 use Rattle.cpa_expr.specs.declared.tree.Expr.TheVariants.{Const}
 use Rattle.c_grammar_symbols.specs.declared.operators.BinaryOperator.{BinaryOperator}
@@ -26,7 +27,7 @@ use Rattle.c_core_rules.specs.declared.tree.Place.TheVariants.{Scalar, Element}
 use Rattle.c_core_rules.specs.declared.tree.Valued.{Valued}
 use Rattle.c_core_rules.specs.Values.{scalar, element, cell_at, int}
 use Rattle.c_core_rules.specs.Trees.{leaf, choice, input, valued, pure}
-use Rattle.c_core_rules.specs.Cells.{Rule, gives, then_by, located}
+use Rattle.c_core_rules.specs.Cells.{Rule, gives, then_by, located, scalar_place}
 use Rattle.c_core_rules.specs.Acts.{hold_all, linked, cast_to}
 use Rattle.c_core_rules.specs.Acts.{chosen, dropped_value}
 use Rattle.c_core_rules.specs.Places.{fixed_if, changed, incremented, stepped}
@@ -77,12 +78,21 @@ alike_act h k = record { used = h; unused = k; target = neither; names = refl }
 
 -- names and elements
 
-name_used : (found : Option Meaning) →
-    Alike SameValued (rows.name_used found) (rows.name_used found)
-name_used found =
+read_used : (found : Option Meaning) →
+    Alike SameValued (then_by (scalar_place found) (λ place. gives (pure (scalar place))))
+    (then_by (scalar_place found) (λ place. gives (pure (scalar place))))
+read_used found =
     alike_then (λ place. gives (pure (scalar place))) (λ place. gives (pure (scalar place)))
     (alike_scalar_place found)
     (λ a b at. alike_gives (same_as_pure (same_scalar a b at)))
+
+name_used : (found : Option Meaning) →
+    Alike SameValued (rows.name_used found) (rows.name_used found)
+name_used None = read_used None
+name_used (Some (meaning.Object object)) = read_used (Some (meaning.Object object))
+name_used (Some (meaning.Function function)) = read_used (Some (meaning.Function function))
+name_used (Some (meaning.Known function)) = read_used (Some (meaning.Known function))
+name_used (Some (meaning.Enumerator value)) = alike_gives (valued_self (pure (Const ty.I32 value)))
 
 pub alike_name : (found : Option Meaning) → AlikeRows (rows.name_rows found) (rows.name_rows found)
 alike_name found = record {
@@ -257,6 +267,7 @@ alike_call : {F G : Frames} (found : Option Meaning) {rs ss : List Rows} → Sam
     AlikeRows (rows.call_rows F found rs) (rows.call_rows G found ss)
 alike_call None same all = alike_act no_call (only no_call)
 alike_call (Some (meaning.Object object)) same all = alike_act no_call (only no_call)
+alike_call (Some (meaning.Enumerator value)) same all = alike_act no_call (only no_call)
 alike_call (Some (meaning.Function function)) same all =
     alike_act (alike_called function same (each_used all))
     (only (alike_called function same (each_used all)))

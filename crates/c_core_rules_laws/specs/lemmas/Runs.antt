@@ -85,6 +85,7 @@ same_named None a b = record { type = refl }
 same_named (Some (meaning.Object object)) a b = record { type = refl }
 same_named (Some (meaning.Function function)) a b = record { type = refl }
 same_named (Some (meaning.Known function)) a b = record { type = refl }
+same_named (Some (meaning.Enumerator value)) a b = record { type = refl }
 
 pub alike_located : (found : Option Meaning) → Alike SameLocation (located found) (located found)
 alike_located found = record {

@@ -1,10 +1,11 @@
 -- Values that are put together alike are alike.
-use Rattle.std.proofs.Common.{◌≡◌, ℕ, ◌+◌, max, Bool, true, false, if◌then◌else◌, refl, ap, sym}
+use Rattle.std.proofs.Common.{◌≡◌, ℕ, ℤ, ◌+◌, max, Bool, true, false, if◌then◌else◌, refl, ap, sym}
 use Rattle.std.proofs.Common.{◌∙◌}
 use Rattle.std.proofs.Common.{subst}
 use Rattle.cpa_ints.specs.declared.integers.IntType.{IntType}
 use Rattle.cpa_ints.specs.declared.integers.IntType.TheVariants as ty
 use Rattle.cpa_ints.specs.Conversions.{promoted, common_type}
+use Rattle.cpa_ints.specs.Wrapping.{wrapped}
 use Rattle.cpa_expr.specs.declared.tree.Expr.{Expr, roll-Expr}
 use Rattle.cpa_expr.specs.declared.tree.Expr.TheViews.{out-roll-Expr}
 use Rattle.cpa_expr.specs.declared.tree.Expr.TheOpen.{Expr-F}
@@ -168,9 +169,21 @@ pub conv_to : (t u : IntType) {v w : Expr} → t ≡ u → SameValue v w →
     SameValue (conv v t) (conv w u)
 conv_to t u {v = v} {w = w} at is = subst (λ x. SameValue (conv v t) (conv w x)) at (same_conv t is)
 
-same_promote : {v w : Expr} → SameValue v w → SameValue (promote v) (promote w)
+pub same_promote : {v w : Expr} → SameValue v w → SameValue (promote v) (promote w)
 same_promote {v = v} {w = w} is =
     conv_to (promoted (type_of v)) (promoted (type_of w)) (ap promoted is.type) is
+
+-- whether a value is this number, converted
+abbrev asked : IntType → ℤ → Expr
+asked t n = expr.Const t (wrapped t n)
+
+pub same_asked : (n : ℤ) {v w : Expr} → SameValue v w →
+    SameValue (expr.Cmp cmp.Eq (type_of v) v (expr.Const (type_of v) (wrapped (type_of v) n)))
+    (expr.Cmp cmp.Eq (type_of w) w (expr.Const (type_of w) (wrapped (type_of w) n)))
+same_asked n {v = v} {w = w} is =
+    same_cmp cmp.Eq (type_of v) (type_of w) is
+    (subst (λ t. SameValue (asked (type_of v) n) (asked t n)) is.type
+    (value_self (asked (type_of v) n)))
 
 -- operators
 
