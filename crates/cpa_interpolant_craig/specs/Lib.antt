@@ -1,3 +1,4 @@
 pub mod Craigs
 pub mod Refining
 pub mod Walks
+pub mod Sending
