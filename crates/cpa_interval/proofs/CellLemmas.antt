@@ -1,8 +1,7 @@
 -- What facts say of the bounds of cells.
-use Rattle.std.proofs.Common.{◌≡◌, ℕ, ℤ, ◌≤ℤ◌, List, [], ◌∷◌, refl, sym, ap, ◌∙◌, subst, length}
+use Rattle.std.proofs.Common.{◌≡◌, ℕ, ℤ, ◌≤ℤ◌, List, [], ◌∷◌, refl, ap, ◌∙◌, subst, length}
 use Rattle.std.specs.Prelude.{zero, suc, Option, None, Some, slice_get, slice_set, IsSomeAnd}
 use Rattle.std.specs.List.{AllByRecursion}
-use Rattle.cpa_ints.specs.declared.integers.IntType.{IntType}
 use Rattle.cpa_ints.specs.Integers.{IsInRange}
 use Rattle.cpa_model.specs.declared.program.Cell.{Cell}
 use Rattle.cpa_model.specs.declared.facts.Fact.{Fact}
@@ -12,7 +11,7 @@ use Rattle.cpa_model.specs.Expressions.{types_of}
 use Rattle.cpa_model.specs.Facts.{FactHolds, IsFact}
 use Rattle.cpa_expr.specs.Cells.{AreValues}
 use Rattle.cpa_interval_bounds.specs.declared.bounds.Bounds.{Bounds}
-use Rattle.cpa_interval_bounds.specs.Bounds.{IsOf, Has, bounds}
+use Rattle.cpa_interval_bounds.specs.Bounds.{Has, bounds}
 use Rattle.cpa_interval_bounds.specs.ExpressionBounds.{AreOf, LieWithin}
 use Rattle.cpa_interval.specs.Cells.{with_fact, with_facts, cell_bounds}
 use Rattle.cpa_interval_acts.specs.Cells.{ranges_of}

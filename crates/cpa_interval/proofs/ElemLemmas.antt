@@ -21,10 +21,9 @@ use Rattle.cpa_model.specs.StandingLaws.{same_fact-means, same_fact-self}
 use Rattle.cpa_interval_bounds.specs.declared.bounds.Bounds.{Bounds}
 use Rattle.cpa_interval_bounds.specs.Bounds.{IsOf, Has, bounds, range_of}
 use Rattle.cpa_interval_bounds.specs.ExpressionBounds.{AreOf, LieWithin}
-use Rattle.cpa_interval_bounds.specs.lemmas.Ranges.{range_of-is}
-use Rattle.cpa_interval.specs.Steps.{steps, one_where}
+use Rattle.cpa_interval.specs.Steps.{one_where}
 use Rattle.cpa_interval.specs.lemmas.Falls.{few}
-use Rattle.cpa_interval.specs.Cells.{with_fact, with_facts, cell_bounds, is_whole}
+use Rattle.cpa_interval.specs.Cells.{with_facts, cell_bounds, is_whole}
 use Rattle.cpa_interval_acts.specs.Cells.{ranges_of}
 use Rattle.cpa_interval.specs.Cells.{fact_of, facts_from}
 use Rattle.cpa_interval.specs.Ranks.{steps_along, same_facts, is_regular, rank_along}

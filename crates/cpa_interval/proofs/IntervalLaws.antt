@@ -1,15 +1,13 @@
 -- That the analysis keeps the laws.
-use Rattle.std.proofs.Common.{◌≡◌, ◌≢◌, ℕ, ◌<◌, ◌≤◌, ℤ, ◌≤ℤ◌, Bool, true, false, List, [], ◌∷◌}
-use Rattle.std.proofs.Common.{refl, sym, ap, ◌∙◌, subst, arith, cond, length, map, inl, inr}
+use Rattle.std.proofs.Common.{◌≡◌, ℕ, ◌≤◌, ℤ, ◌≤ℤ◌, Bool, true, false, List, [], ◌∷◌}
+use Rattle.std.proofs.Common.{refl, sym, ap, ◌∙◌, subst, arith, cond, length, map, inl}
 use Rattle.std.specs.Prelude.{Option, None, Some, slice_get, IfSome, IsSomeAnd, option_map}
-use Rattle.std.specs.Prelude.{option_and_then, if◌then◌else◌}
-use Rattle.std.specs.List.{AllByRecursion, list_any, list_all}
+use Rattle.std.specs.List.{AllByRecursion, list_any}
 use Rattle.std.proofs.lemmas.Int.{ints}
 use Rattle.std.proofs.lemmas.Bool.Decides.{Decides-int_eq}
 use Rattle.cpa_ints.specs.declared.integers.IntType.{IntType}
 use Rattle.cpa_ints.specs.Integers.{IsInRange}
 use Rattle.cpa_expr.specs.declared.tree.CmpOp.TheVariants as cmp
-use Rattle.cpa_expr.specs.Values.{compares}
 use Rattle.cpa_model.specs.declared.program.Cell.{Cell}
 use Rattle.cpa_model.specs.declared.facts.Fact.{Fact}
 use Rattle.cpa_model.specs.declared.facts.Fact.TheVariants.{At, Stack, Equals, Within, Truth}
@@ -37,16 +35,16 @@ use Rattle.cpa_interval_bounds.specs.lemmas.Ranges.{only-is}
 use Rattle.cpa_interval.specs.Numbers.{near}
 use Rattle.cpa_interval.specs.Steps.{distinct}
 use Rattle.cpa_interval_acts.specs.Acts.{after_act}
-use Rattle.cpa_interval.specs.Cells.{cell_bounds, elem_of, elem_of_all, facts_from}
-use Rattle.cpa_interval.specs.Covers.{covers, has_covered}
+use Rattle.cpa_interval.specs.Cells.{cell_bounds, elem_of, elem_of_all}
+use Rattle.cpa_interval.specs.Covers.{covers}
 use Rattle.cpa_interval_acts.specs.Cuts.{cut_cell}
 use Rattle.cpa_interval.specs.Intervals.{intervals, starts_of}
 use Rattle.cpa_interval.specs.Merging.{merged, merged_all, merged_along, is_kept, numbers_for}
-use Rattle.cpa_interval.specs.Ranks.{rank, height, rank_along}
+use Rattle.cpa_interval.specs.Ranks.{height, rank_along}
 use Rattle.cpa_interval.specs.Strengthening.{has_bound, met_cell, met, met_facts, met_elems}
 use Rattle.cpa_interval.specs.Strengthening.{strengthened}
 use Rattle.cpa_interval.specs.Transfer.{elems_of, next_intervals}
-use Rattle.cpa_interval.specs.lemmas.CoverLaws.{covers-within, covers-same}
+use Rattle.cpa_interval.specs.lemmas.CoverLaws.{covers-within}
 use Rattle.cpa_interval_acts.specs.lemmas.ZipLemmas.{as_many, types_length}
 use Rattle.cpa_interval.proofs.CellLemmas.{cells_lie, cells_are}
 use Rattle.cpa_interval.proofs.ElemLemmas.{facts_hold, facts_shaped, rank_few, kept_bounds}

@@ -2,7 +2,7 @@
 use Rattle.std.proofs.Common.{◌≡◌, ℕ, ◌+◌, ◌<◌, ◌≤◌, ℤ, ◌≤ℤ◌, ◌==◌, ◌&&◌, ◌||◌, Bool, true, false}
 use Rattle.std.proofs.Common.{not, List, [], ◌∷◌, refl, sym, ap, ◌∙◌, subst, arith, length, inl}
 use Rattle.std.proofs.Common.{inr}
-use Rattle.std.specs.Prelude.{zero, suc, int_le, ◌⊎◌, Option, None, Some, slice_get, slice_set}
+use Rattle.std.specs.Prelude.{zero, suc, int_le, ◌⊎◌, Some, slice_get, slice_set}
 use Rattle.std.specs.List.{AllByRecursion, list_all}
 use Rattle.std.specs.Ordering.{int_eq}
 use Rattle.std.proofs.lemmas.Int.{ints}
@@ -24,7 +24,7 @@ use Rattle.cpa_interval_bounds.specs.lemmas.Sets.{le_true, from_le, hull_left, h
 use Rattle.cpa_interval_bounds.specs.lemmas.Ranges.{hull-is}
 use Rattle.cpa_interval_bounds.specs.lemmas.Reads.{cell_is}
 use Rattle.cpa_interval.specs.Widening.{widened}
-use Rattle.cpa_interval.specs.Steps.{distinct, steps, one_where}
+use Rattle.cpa_interval.specs.Steps.{distinct, one_where}
 use Rattle.cpa_interval.specs.WideningLaws.{widening_ends}
 use Rattle.cpa_interval.specs.Cells.{with_facts, cell_bounds, is_whole, facts_from}
 use Rattle.cpa_interval_acts.specs.Cells.{ranges_of}

@@ -3,6 +3,7 @@ pub mod Transfer
 pub mod Strengthening
 pub mod Covers
 pub mod Merging
+pub mod Filling
 pub mod Ranks
 pub mod Intervals
 pub mod lemmas

@@ -1,5 +1,6 @@
 -- What two elements are merged to (CAV 2007, section 2; widening is POPL 1977's).
-use Rattle.std.specs.Prelude.{ℤ, Bool, true, if◌then◌else◌, List, [], ◌∷◌}
+use Rattle.std.specs.Prelude.{ℕ, ℤ, Bool, true, if◌then◌else◌, List, [], ◌∷◌, Option, None, Some}
+use Rattle.std.specs.Prelude.{slice_set}
 use Rattle.cpa_ints.specs.declared.integers.IntType.{IntType}
 use Rattle.cpa_model.specs.declared.program.Cell.{Cell}
 use Rattle.cpa_model.specs.declared.facts.Elem.{Elem}
@@ -24,6 +25,17 @@ abbrev pub merged_along : MergeRule → List ℤ → List Cell → List Bounds �
 merged_along rule ns (c ∷ cs) (old ∷ olds) (new ∷ news) =
     merged_bounds rule ns c.ty old new ∷ merged_along rule ns cs olds news
 merged_along rule ns cs olds news = []
+
+-- those of one cell, where it is there
+abbrev pub merged_at : MergeRule → List ℤ → Option Cell → Option Bounds → Option Bounds
+    → Option Bounds
+merged_at rule ns (Some c) (Some old) (Some new) = Some (merged_bounds rule ns c.ty old new)
+merged_at rule ns c old new = None
+
+-- the bounds with these for the cell, where they are some
+abbrev pub put_where : ℕ → Option Bounds → List Bounds → List Bounds
+put_where cell None bs = bs
+put_where cell (Some b) bs = slice_set bs cell b
 
 abbrev pub merged_all : MergeRule → List ℤ → List Cell → Elem → Elem → Elem
 merged_all rule ns cells new old =

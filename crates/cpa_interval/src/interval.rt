@@ -1,11 +1,11 @@
 //! The analysis: each call gives what `specs/` says of it, and keeps the laws, which is shown in
 //! `proofs/`.
 
-ghost use Rattle.std.specs.Prelude.{◌≡◌, ◌<◌, ◌^◌, map, length, IfOk};
+ghost use Rattle.std.specs.Prelude.{◌≡◌, ◌<◌, ◌^◌, length, IfOk};
 ghost use Rattle.cpa_interval_bounds.specs.Bounds.{only};
 ghost use Rattle.cpa_interval.specs.Intervals.{intervals, starts_of};
 
-use crate::cells::elem_of_all;
+use crate::cells::{cell_at, push_fact};
 use crate::covers::covers;
 use crate::merging::merged;
 use crate::strengthening::strengthened;
@@ -13,7 +13,7 @@ use crate::transfer::next_intervals;
 use cpa_iface::{Analysis, Entry, MergeRule, Part, Precision, Settings, unadjusted};
 use cpa_interval_bounds::Bounds;
 use cpa_ints::wrap_keeps_the_range;
-use cpa_model::{Cell, Cfa, Elem, Path, edges_are_sound};
+use cpa_model::{Cell, Cfa, Elem, Path, Seq, edges_are_sound};
 use cpa_path_folds::{first_tracking, refined};
 use std::alloc::{AllocError, Global};
 
@@ -121,17 +121,17 @@ fn starts(alloc: Global, cells: &[Cell]) -> Result<Elem, AllocError>
     requires { length cells.now < 2 ^ 32 }
     ensures { IfOk result (λ e. e ≡ starts_of cells.now) }
 {
-    let all = start_bounds(alloc, cells)?;
-    elem_of_all(alloc, cells, &all)
+    let mut facts = Seq::new(alloc);
+    for place in 0..cells.len() {
+        let cell = cell_at(cells, place);
+        push_fact(&mut facts, true, place as u32, cell.ty, start_of(cell))?;
+    }
+    Ok(Elem { facts })
 }
 
-/// The start of each cell alone.
-fn start_bounds(alloc: Global, cells: &[Cell]) -> Result<Vec<Bounds>, AllocError>
-    ensures { IfOk result (λ all. all.items ≡ map (λ cell. only cell.start) cells.now) }
+/// The start alone.
+fn start_of(cell: &Cell) -> Bounds
+    ensures { result ≡ only cell.now.start }
 {
-    let mut all = Vec::new(alloc);
-    for cell in cells {
-        all.push(Bounds::only(cell.start))?;
-    }
-    Ok(all)
+    Bounds::only(cell.start)
 }

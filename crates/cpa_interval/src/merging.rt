@@ -1,16 +1,18 @@
-//! What two elements are merged to, by `specs/Merging.antt`.
+//! What two elements are merged to, by `specs/Merging.antt`: it looks at the cells alone of which one
+//! of them says something. Proved with `proofs/MergedLemmas.antt`.
 
-ghost use Rattle.std.specs.Prelude.{◌≡◌, ◌<◌, ◌^◌, length, IfOk};
+ghost use Rattle.std.specs.Prelude.{◌≡◌, ◌<◌, ◌^◌, ◌||◌, ℕ, Bool, length, slice_get, IfOk, OnOk};
 ghost use Rattle.cpa_model.specs.Automata.{IsAutomaton};
 ghost use Rattle.cpa_interval.specs.Merging.{merged_bounds, merged_along, merged_all, is_kept};
-ghost use Rattle.cpa_interval.specs.Merging.{numbers_for, merged};
+ghost use Rattle.cpa_interval.specs.Merging.{merged_at, put_where, numbers_for, merged};
+ghost use Rattle.cpa_interval.specs.Filling.{is_listed, IsRightBut};
 
-use crate::cells::{cell_at, cell_bounds, elem_of_all, own_at};
+use crate::cells::{cell_bounds, elem_of_all};
 use crate::covers::covers;
 use crate::numbers::near_numbers;
 use crate::widening::widened;
 use cpa_iface::MergeRule;
-use cpa_interval_bounds::Bounds;
+use cpa_interval_bounds::{Bounds, CellBounds, KnownBounds};
 use cpa_ints::IntType;
 use cpa_model::{Cell, Cfa, Elem, copy_elem};
 use std::alloc::{AllocError, Global};
@@ -68,32 +70,95 @@ fn merged_all(
 {
     let olds = cell_bounds(alloc, cells, old.facts.as_slice())?;
     let news = cell_bounds(alloc, cells, new.facts.as_slice())?;
-    let both = merged_along(alloc, rule, numbers, cells, &olds, &news)?;
-    elem_of_all(alloc, cells, &both)
+    let both = merged_along(alloc, rule, numbers, &olds, &news)?;
+    let elem = elem_of_all(alloc, &both)?;
+    Ok(elem)
 }
 
-/// The merged bounds of each cell.
-fn merged_along(
+/// The merged bounds of each cell. Those of which the elements say nothing keep all numbers of their
+/// types.
+fn merged_along<'a>(
     alloc: Global,
     rule: MergeRule,
     numbers: &[i128],
-    cells: &[Cell],
-    olds: &[Bounds],
-    news: &[Bounds],
-) -> Result<Vec<Bounds>, AllocError>
-    requires olds { length olds.now ≡ length cells.now }
-    requires news { length news.now ≡ length cells.now }
-    ensures { IfOk result (λ all. all.items
-        ≡ merged_along rule numbers.now cells.now olds.now news.now) }
+    olds: &KnownBounds<'a>,
+    news: &KnownBounds,
+) -> Result<KnownBounds<'a>, AllocError>
+    requires { news.now.cells ≡ olds.now.cells }
+    ensures cells { IfOk result (λ all. all.cells ≡ olds.now.cells) }
+    ensures each { IfOk result (λ all. all.each
+        ≡ merged_along rule numbers.now olds.now.cells olds.now.each news.now.each) }
 {
-    let mut all = Vec::new(alloc);
-    for place in 0..cells.len() {
-        let ty = cell_at(cells, place).ty;
-        let old = own_at(olds, place);
-        let new = own_at(news, place);
-        all.push(merged_bounds(rule, numbers, ty, old, new))?;
-    }
+    let mut all = KnownBounds::of_types(alloc, olds.cells());
+    merge_each(&mut all, rule, numbers, olds, news, news.known())?;
+    merge_each(&mut all, rule, numbers, olds, news, olds.known())?;
     Ok(all)
+}
+
+/// Merges the bounds of these cells.
+fn merge_each(
+    all: &mut KnownBounds,
+    rule: MergeRule,
+    numbers: &[i128],
+    olds: &KnownBounds,
+    news: &KnownBounds,
+    known: &[CellBounds],
+) -> Result<(), AllocError>
+    ensures cells { all.new.cells ≡ all.old.cells }
+    ensures each { (left : ℕ → Bool) → IsRightBut (λ c. is_listed c known.now || left c)
+        (merged_along rule numbers.now all.old.cells olds.now.each news.now.each) all.old.each
+        → OnOk result (IsRightBut left
+        (merged_along rule numbers.now all.old.cells olds.now.each news.now.each) all.new.each) }
+{
+    for it in known {
+        merge_at(all, rule, numbers, olds, news, it)?;
+    }
+    Ok(())
+}
+
+/// Merges the bounds of a cell, where it is there.
+fn merge_at(
+    all: &mut KnownBounds,
+    rule: MergeRule,
+    numbers: &[i128],
+    olds: &KnownBounds,
+    news: &KnownBounds,
+    it: &CellBounds,
+) -> Result<(), AllocError>
+    ensures cells { all.new.cells ≡ all.old.cells }
+    ensures each { OnOk result (all.new.each ≡ put_where it.now.cell (merged_at rule numbers.now
+        (slice_get all.old.cells it.now.cell) (slice_get olds.now.each it.now.cell)
+        (slice_get news.now.each it.now.cell)) all.old.each) }
+{
+    let cell = it.cell;
+    match merged_at(
+        rule,
+        numbers,
+        all.cells(),
+        cell,
+        olds.at(cell),
+        news.at(cell),
+    ) {
+        Some(own) => all.put(cell, own),
+        None => Ok(()),
+    }
+}
+
+/// The merged bounds of a cell, where it is there.
+fn merged_at(
+    rule: MergeRule,
+    numbers: &[i128],
+    cells: &[Cell],
+    cell: usize,
+    old: Option<Bounds>,
+    new: Option<Bounds>,
+) -> Option<Bounds>
+    ensures { result ≡ merged_at rule numbers.now (slice_get cells.now cell) old new }
+{
+    match (cells.get(cell), old, new) {
+        (Some(it), Some(old), Some(new)) => Some(merged_bounds(rule, numbers, it.ty, old, new)),
+        _ => None,
+    }
 }
 
 /// The merged bounds of a cell of this type.

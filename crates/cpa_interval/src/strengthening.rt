@@ -5,7 +5,7 @@ ghost use Rattle.std.specs.Prelude.{length, IfOk};
 ghost use Rattle.std.specs.List.{list_any};
 ghost use Rattle.cpa_model.specs.Automata.{IsAutomaton};
 ghost use Rattle.cpa_iface.specs.Meanings.{IsPrecision};
-ghost use Rattle.cpa_query.specs.Queries.{is_marked};
+ghost use Rattle.cpa_path_folds.specs.Tracking.{is_tracked};
 ghost use Rattle.cpa_interval.specs.Cells.{elem_of_all};
 ghost use Rattle.cpa_interval.specs.Strengthening.{is_bound, has_bound, met_cell, met, met_facts};
 ghost use Rattle.cpa_interval.specs.Strengthening.{met_elems, strengthened};
@@ -14,9 +14,9 @@ use crate::cells::{cell_bounds, elem_of_all};
 use cpa_expr::CmpOp;
 use cpa_iface::Precision;
 use cpa_interval_acts::cut_cell;
-use cpa_interval_bounds::Bounds;
-use cpa_model::{Cell, Cfa, Elem, Fact, copy_elem};
-use cpa_path_folds::{is_marked, tracked_marks};
+use cpa_interval_bounds::{Bounds, KnownBounds};
+use cpa_model::{Cfa, Elem, Fact, copy_elem};
+use cpa_value_tracked::Tracked;
 use std::alloc::{AllocError, Global};
 
 /// The own element with what the others leave of the bounds of tracked cells, or `None` where they
@@ -37,26 +37,25 @@ pub(crate) fn strengthened(
         return Ok(Some(copy_elem(alloc, own)?));
     }
     let cells = cfa.cells.as_slice();
+    let tracked = Tracked::of(alloc, precision, cells.len())?;
     let mut all = cell_bounds(alloc, cells, own.facts.as_slice())?;
-    let tracked = tracked_marks(alloc, precision, cells.len())?;
-    met(alloc, cells, &mut all, others, &tracked)
+    let elem = met(alloc, &mut all, others, &tracked)?;
+    Ok(elem)
 }
 
 /// The element of what is left then.
 fn met(
     alloc: Global,
-    cells: &[Cell],
-    all: &mut [Bounds],
+    all: &mut KnownBounds,
     others: &[Elem],
-    tracked: &[bool],
+    tracked: &Tracked,
 ) -> Result<Option<Elem>, AllocError>
-    requires length { length all.old ≡ length cells.now }
-    requires few { length cells.now < 2 ^ 32 }
-    ensures { IfOk result (λ e. e ≡ option_map (elem_of_all cells.now)
-        (met_elems (is_marked tracked.now) others.now all.old)) }
+    requires { length all.old.cells < 2 ^ 32 }
+    ensures { IfOk result (λ e. e ≡ option_map (elem_of_all all.old.cells)
+        (met_elems (is_tracked tracked.now) others.now all.old.each)) }
 {
-    if meet_elems(all, others, tracked) {
-        Ok(Some(elem_of_all(alloc, cells, all)?))
+    if meet_elems(all, others, tracked)? {
+        Ok(Some(elem_of_all(alloc, all)?))
     } else {
         Ok(None)
     }
@@ -87,53 +86,62 @@ fn is_bound(fact: &Fact) -> bool
 }
 
 /// Cuts by what the elements say, and says whether some number of each cell is left.
-fn meet_elems(all: &mut [Bounds], others: &[Elem], tracked: &[bool]) -> bool
-    ensures { (if result then Some all.new else None)
-        ≡ met_elems (is_marked tracked.now) others.now all.old }
+fn meet_elems(all: &mut KnownBounds, others: &[Elem], tracked: &Tracked) -> Result<bool, AllocError>
+    ensures cells { all.new.cells ≡ all.old.cells }
+    ensures each { IfOk result (λ is. (if is then Some all.new.each else None)
+        ≡ met_elems (is_tracked tracked.now) others.now all.old.each) }
 {
     for other in others {
-        if !meet_facts(all, other.facts.as_slice(), tracked) {
-            return false;
+        if !meet_facts(all, other.facts.as_slice(), tracked)? {
+            return Ok(false);
         }
     }
-    true
+    Ok(true)
 }
 
 /// Cuts by what the facts say, and says whether some number of each cell is left.
-fn meet_facts(all: &mut [Bounds], facts: &[Fact], tracked: &[bool]) -> bool
-    ensures { (if result then Some all.new else None)
-        ≡ met_facts (is_marked tracked.now) facts.now all.old }
+fn meet_facts(all: &mut KnownBounds, facts: &[Fact], tracked: &Tracked) -> Result<bool, AllocError>
+    ensures cells { all.new.cells ≡ all.old.cells }
+    ensures each { IfOk result (λ is. (if is then Some all.new.each else None)
+        ≡ met_facts (is_tracked tracked.now) facts.now all.old.each) }
 {
     for fact in facts {
-        if !meet(all, fact, tracked) {
-            return false;
+        if !meet(all, fact, tracked)? {
+            return Ok(false);
         }
     }
-    true
+    Ok(true)
 }
 
 /// Cuts by what the fact says, and says whether some number of its cell is left.
-fn meet(all: &mut [Bounds], fact: &Fact, tracked: &[bool]) -> bool
-    ensures { (if result then Some all.new else None)
-        ≡ met (is_marked tracked.now) fact.now all.old }
+fn meet(all: &mut KnownBounds, fact: &Fact, tracked: &Tracked) -> Result<bool, AllocError>
+    ensures cells { all.new.cells ≡ all.old.cells }
+    ensures each { IfOk result (λ is. (if is then Some all.new.each else None)
+        ≡ met (is_tracked tracked.now) fact.now all.old.each) }
 {
     match fact {
         Fact::Equals { cell, value } => meet_cell(all, *cell, Bounds::only(*value), tracked),
         Fact::Within { cell, lo, hi } => {
             meet_cell(all, *cell, Bounds { lo: *lo, hi: *hi }, tracked)
         }
-        _ => true,
+        _ => Ok(true),
     }
 }
 
 /// Cuts the bounds of a cell, where it is tracked.
-fn meet_cell(all: &mut [Bounds], cell: u32, other: Bounds, tracked: &[bool]) -> bool
-    ensures { (if result then Some all.new else None) ≡ met_cell (is_marked tracked.now) cell other
-        all.old }
+fn meet_cell(
+    all: &mut KnownBounds,
+    cell: u32,
+    other: Bounds,
+    tracked: &Tracked,
+) -> Result<bool, AllocError>
+    ensures cells { all.new.cells ≡ all.old.cells }
+    ensures each { IfOk result (λ is. (if is then Some all.new.each else None)
+        ≡ met_cell (is_tracked tracked.now) cell other all.old.each) }
 {
-    if is_marked(tracked, cell) {
+    if tracked.has(cell) {
         cut_cell(CmpOp::Eq, cell, other, all)
     } else {
-        true
+        Ok(true)
     }
 }

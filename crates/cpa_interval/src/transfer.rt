@@ -1,18 +1,19 @@
-//! What an edge makes of an element, by `specs/Transfer.antt`.
+//! What an edge makes of an element, by `specs/Transfer.antt`. It takes time in the facts of the
+//! element and in the expressions.
 
 ghost use Rattle.std.specs.Prelude.{◌≡◌, ◌<◌, ◌^◌, [], ◌∷◌, length, IfOk};
 ghost use Rattle.cpa_model.specs.Automata.{IsAutomaton};
 ghost use Rattle.cpa_iface.specs.Meanings.{IsPrecision};
-ghost use Rattle.cpa_query.specs.Queries.{is_marked};
+ghost use Rattle.cpa_path_folds.specs.Tracking.{is_tracked};
 ghost use Rattle.cpa_interval_acts.specs.Acts.{after_act};
 ghost use Rattle.cpa_interval.specs.Transfer.{elems_of, next_intervals};
 
 use crate::cells::{cell_bounds, elem_of};
 use cpa_iface::Precision;
 use cpa_interval_acts::do_act;
-use cpa_interval_bounds::Bounds;
-use cpa_model::{Act, Cell, Cfa, Edge, Elem};
-use cpa_path_folds::tracked_marks;
+use cpa_interval_bounds::KnownBounds;
+use cpa_model::{Act, Cfa, Edge, Elem};
+use cpa_value_tracked::Tracked;
 use std::alloc::{AllocError, Global};
 
 /// What the edge makes of the element.
@@ -29,26 +30,25 @@ pub(crate) fn next_intervals(
         ≡ next_intervals cfa.now precision.now elem.now edge.now) }
 {
     let cells = cfa.cells.as_slice();
+    let tracked = Tracked::of(alloc, precision, cells.len())?;
     let mut all = cell_bounds(alloc, cells, elem.facts.as_slice())?;
-    let tracked = tracked_marks(alloc, precision, cells.len())?;
-    after(alloc, cells, &edge.act, &mut all, &tracked)
+    let elems = after(alloc, &edge.act, &mut all, &tracked)?;
+    Ok(elems)
 }
 
 /// The element of what the act makes of the bounds, where it can be done.
 fn after(
     alloc: Global,
-    cells: &[Cell],
     act: &Act,
-    all: &mut [Bounds],
-    tracked: &[bool],
+    all: &mut KnownBounds,
+    tracked: &Tracked,
 ) -> Result<Vec<Elem>, AllocError>
-    requires length { length all.old ≡ length cells.now }
-    requires few { length cells.now < 2 ^ 32 }
-    ensures { IfOk result (λ es. es.items ≡ elems_of (is_marked tracked.now) cells.now
-        (after_act cells.now act.now all.old)) }
+    requires { length all.old.cells < 2 ^ 32 }
+    ensures { IfOk result (λ es. es.items ≡ elems_of (is_tracked tracked.now) all.old.cells
+        (after_act all.old.cells act.now all.old.each)) }
 {
-    if do_act(cells, act, all) {
-        only(alloc, elem_of(alloc, cells, all, tracked)?)
+    if do_act(act, all)? {
+        only(alloc, elem_of(alloc, all, tracked)?)
     } else {
         Ok(Vec::new(alloc))
     }

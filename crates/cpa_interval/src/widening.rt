@@ -9,11 +9,16 @@ use cpa_interval_bounds::Bounds;
 use cpa_ints::IntType;
 
 /// The bounds that take the place of old ones where new ones have come: an end that has to move
-/// goes on to the next of these numbers, or to the end of the type where there is none.
+/// goes on to the next of these numbers, or to the end of the type where there is none. No number is
+/// looked at where both ends stand.
 pub fn widened(numbers: &[i128], ty: IntType, old: Bounds, new: Bounds) -> Bounds
     ensures { result ≡ widened numbers.now ty old new }
 {
-    moved(old, new, nearest(numbers, Bounds::range_of(ty), new))
+    if new.lo < old.lo || old.hi < new.hi {
+        moved(old, new, nearest(numbers, Bounds::range_of(ty), new))
+    } else {
+        old
+    }
 }
 
 /// The old bounds, with each end that the new ones move as the far ones have it.

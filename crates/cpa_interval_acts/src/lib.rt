@@ -3,11 +3,9 @@
 #![tactic(auto)]
 
 mod acts;
-mod cells;
 mod cuts;
 mod laws;
 
 pub use acts::do_act;
-pub use cells::{put, ranges_of};
 pub use cuts::cut_cell;
 pub use laws::bounds_follow_acts;

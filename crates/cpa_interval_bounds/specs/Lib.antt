@@ -4,6 +4,7 @@ pub mod Arithmetic
 pub mod Truths
 pub mod Cuts
 pub mod Elements
+pub mod Tables
 pub mod ExpressionBounds
 pub mod Laws
 pub mod lemmas

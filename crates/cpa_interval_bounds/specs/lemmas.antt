@@ -11,3 +11,4 @@ pub mod TruthSets
 pub mod Reads
 pub mod ExpressionLemmas
 pub mod Hulls
+pub mod TableLemmas

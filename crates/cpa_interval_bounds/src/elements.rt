@@ -1,10 +1,11 @@
 //! Which elements of an array an index may name, by `specs/Elements.antt`.
 
-ghost use Rattle.std.specs.Prelude.{◌≡◌, ◌+◌, ◌<◌, ◌^◌, ◌≤ℤ◌, ◌<ℤ◌, pos, IfSome, slice_get};
+ghost use Rattle.std.specs.Prelude.{◌≡◌, ◌+◌, ◌<◌, ◌^◌, ◌≤ℤ◌, ◌<ℤ◌, pos, IfSome};
 ghost use Rattle.cpa_interval_bounds.specs.Elements.{places_of, cells_at, named, hull_from};
 ghost use Rattle.cpa_interval_bounds.specs.Elements.{read_bounds};
 
 use crate::bounds::{Bounds, hull_where_some};
+use crate::table::KnownBounds;
 
 /// So many cells in a row, from the first on.
 #[derive(Clone, Copy, PartialEq, Eq)]
@@ -48,28 +49,21 @@ pub fn named(base: u32, len: u32, index: Bounds) -> Option<Places>
     }
 }
 
-/// The bounds of the cell, where it is there.
-pub fn bounds_at(cells: &[Bounds], cell: usize) -> Option<Bounds>
-    ensures { result ≡ slice_get cells.now cell }
-{
-    cells.get(cell).copied()
-}
-
 /// The hull of the bounds of these cells, as far as they are there.
-fn hull_from(cells: &[Bounds], first: usize, count: usize) -> Option<Bounds>
+fn hull_from(cells: &KnownBounds, first: usize, count: usize) -> Option<Bounds>
     requires { first + count < 2 ^ 34 }
-    ensures { result ≡ hull_from cells.now first count }
+    ensures { result ≡ hull_from cells.now.each first count }
 {
     let mut whole = None;
     for i in 0..count {
-        whole = hull_where_some(whole, bounds_at(cells, first + i));
+        whole = hull_where_some(whole, cells.at(first + i));
     }
     whole
 }
 
 /// The hull of the elements that the index may name.
-pub(crate) fn read_bounds(cells: &[Bounds], base: u32, len: u32, index: Bounds) -> Option<Bounds>
-    ensures { result ≡ read_bounds cells.now base len index }
+pub(crate) fn read_bounds(cells: &KnownBounds, base: u32, len: u32, index: Bounds) -> Option<Bounds>
+    ensures { result ≡ read_bounds cells.now.each base len index }
 {
     let places = named(base, len, index)?;
     hull_from(cells, places.first, places.count)

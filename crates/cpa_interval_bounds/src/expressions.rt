@@ -10,14 +10,15 @@ ghost use Rattle.cpa_interval_bounds.specs.Truths.{numbers_of, compared};
 use crate::arithmetic::{bin_bounds, un_bounds};
 use crate::bounds::{Bounds, fitted, hull_where_some};
 use crate::elements::read_bounds;
+use crate::table::KnownBounds;
 use crate::truths::{both_hold, compared, it_fails, numbers_of, one_holds, truths_of};
 use cpa_expr::{BinOp, CmpOp, Expr, UnOp};
 use cpa_ints::IntType;
 
-/// The bounds of the value of the expression, where the list has those of each cell. `None` where
+/// The bounds of the value of the expression, where those of each cell are given. `None` where
 /// it has no value: its evaluation surely traps.
-pub fn bounds_of(e: &Expr, cells: &[Bounds]) -> Option<Bounds>
-    ensures { result ≡ bounds_of e.now cells.now }
+pub fn bounds_of(e: &Expr, cells: &KnownBounds) -> Option<Bounds>
+    ensures { result ≡ bounds_of e.now cells.now.each }
 {
     match e {
         Expr::Const { value, .. } => Some(Bounds::only(*value)),
@@ -68,8 +69,8 @@ pub fn bounds_of(e: &Expr, cells: &[Bounds]) -> Option<Bounds>
 }
 
 /// The hull of the elements that the index may name.
-fn of_read(cells: &[Bounds], base: u32, len: u32, index: Option<Bounds>) -> Option<Bounds>
-    ensures { result ≡ option_and_then (read_bounds cells.now base len) index }
+fn of_read(cells: &KnownBounds, base: u32, len: u32, index: Option<Bounds>) -> Option<Bounds>
+    ensures { result ≡ option_and_then (read_bounds cells.now.each base len) index }
 {
     read_bounds(cells, base, len, index?)
 }

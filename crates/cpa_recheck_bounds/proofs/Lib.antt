@@ -3,3 +3,4 @@ pub mod Said
 pub mod Settled
 pub mod Exactly
 pub mod Stood
+pub mod Tables

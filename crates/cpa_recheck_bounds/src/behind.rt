@@ -1,7 +1,8 @@
 //! The bounds that cells have behind an act, where an element holds before it. Proved with
 //! `proofs/Followed.antt`.
 
-ghost use Rattle.std.specs.Prelude.{◌≡◌, None, Some, map, IfOk, IsTrue, if◌then◌else◌};
+ghost use Rattle.std.specs.Prelude.{◌≡◌, ◌<◌, None, Some, map, length, slice_get, IfOk, IsTrue};
+ghost use Rattle.std.specs.Prelude.{if◌then◌else◌};
 ghost use Rattle.cpa_model.specs.Acts.{IsActOf};
 ghost use Rattle.cpa_model.specs.Facts.{IsElem};
 ghost use Rattle.cpa_interval_acts.specs.Cells.{ranges_of};
@@ -16,43 +17,49 @@ use crate::saying::are_said;
 use crate::standing::{is_barred, standing};
 use cpa_expr::CmpOp;
 use cpa_interval_acts::{bounds_follow_acts, cut_cell, do_act};
-use cpa_interval_bounds::Bounds;
+use cpa_interval_bounds::{Bounds, KnownBounds};
 use cpa_ints::wrap_keeps_the_range;
 use cpa_model::{Act, Cell, Cfa, Elem, Fact};
 use cpa_path_folds::{Scalar, read_of};
 use std::alloc::{AllocError, Global};
 
 /// Leaves of the bounds of a cell what the fact says of it, and says whether some number is left.
-fn cut_by(all: &mut [Bounds], fact: &Fact) -> bool
-    ensures { (if result then Some all.new else None) ≡ cut_by fact.now all.old }
+fn cut_by(all: &mut KnownBounds, fact: &Fact) -> Result<bool, AllocError>
+    ensures cells { all.new.cells ≡ all.old.cells }
+    ensures each { IfOk result (λ is. (if is then Some all.new.each else None)
+        ≡ cut_by fact.now all.old.each) }
 {
     match fact {
         Fact::Equals { cell, value } => cut_cell(CmpOp::Eq, *cell, Bounds::only(*value), all),
         Fact::Within { cell, lo, hi } => {
             cut_cell(CmpOp::Eq, *cell, Bounds { lo: *lo, hi: *hi }, all)
         }
-        _ => true,
+        _ => Ok(true),
     }
 }
 
 /// The same of all facts.
-fn cut_by_all(all: &mut [Bounds], facts: &[Fact]) -> bool
-    ensures { (if result then Some all.new else None) ≡ cut_by_all facts.now all.old }
+fn cut_by_all(all: &mut KnownBounds, facts: &[Fact]) -> Result<bool, AllocError>
+    ensures cells { all.new.cells ≡ all.old.cells }
+    ensures each { IfOk result (λ is. (if is then Some all.new.each else None)
+        ≡ cut_by_all facts.now all.old.each) }
 {
     for fact in facts {
-        if !cut_by(all, fact) {
-            return false;
+        if !cut_by(all, fact)? {
+            return Ok(false);
         }
     }
-    true
+    Ok(true)
 }
 
 /// Leaves of a scalar the numbers that are nonzero, or zero.
-fn cut_scalar(all: &mut [Bounds], read: Option<Scalar>, holds: bool) -> bool
-    ensures { (if result then Some all.new else None) ≡ cut_scalar holds read all.old }
+fn cut_scalar(all: &mut KnownBounds, read: Option<Scalar>, holds: bool) -> Result<bool, AllocError>
+    ensures cells { all.new.cells ≡ all.old.cells }
+    ensures each { IfOk result (λ is. (if is then Some all.new.each else None)
+        ≡ cut_scalar holds read all.old.each) }
 {
     match read {
-        None => true,
+        None => Ok(true),
         Some(read) => {
             if holds {
                 cut_cell(CmpOp::Ne, read.cell, Bounds::only(0), all)
@@ -64,28 +71,41 @@ fn cut_scalar(all: &mut [Bounds], read: Option<Scalar>, holds: bool) -> bool
 }
 
 /// Leaves of the bounds what a test says that reads a scalar.
-fn cut_by_test(all: &mut [Bounds], act: &Act) -> bool
-    ensures { (if result then Some all.new else None) ≡ cut_by_test act.now all.old }
+fn cut_by_test(all: &mut KnownBounds, act: &Act) -> Result<bool, AllocError>
+    ensures cells { all.new.cells ≡ all.old.cells }
+    ensures each { IfOk result (λ is. (if is then Some all.new.each else None)
+        ≡ cut_by_test act.now all.old.each) }
 {
     match act {
         Act::Assume { test, holds } => cut_scalar(all, read_of(test), *holds),
-        _ => true,
+        _ => Ok(true),
     }
 }
 
 /// Leaves of the bounds what the facts say, and then what a test says; says whether some are left.
-fn know(all: &mut [Bounds], facts: &[Fact], act: &Act) -> bool
-    ensures { (if result then Some all.new else None) ≡ tested facts.now act.now all.old }
+fn know(all: &mut KnownBounds, facts: &[Fact], act: &Act) -> Result<bool, AllocError>
+    ensures cells { all.new.cells ≡ all.old.cells }
+    ensures each { IfOk result (λ is. (if is then Some all.new.each else None)
+        ≡ tested facts.now act.now all.old.each) }
 {
-    cut_by_all(all, facts) && cut_by_test(all, act)
+    if cut_by_all(all, facts)? {
+        cut_by_test(all, act)
+    } else {
+        Ok(false)
+    }
 }
 
 /// Makes of the bounds what the act does, and leaves the cell that is written its value.
-fn step(cells: &[Cell], act: &Act, written: Option<Written>, all: &mut [Bounds]) -> bool
-    ensures { (if result then Some all.new else None)
-        ≡ stepped cells.now act.now written all.old }
+fn step(act: &Act, written: Option<Written>, all: &mut KnownBounds) -> Result<bool, AllocError>
+    ensures cells { all.new.cells ≡ all.old.cells }
+    ensures each { IfOk result (λ is. (if is then Some all.new.each else None)
+        ≡ stepped all.old.cells act.now written all.old.each) }
 {
-    do_act(cells, act, all) && cut_written(all, written)
+    if do_act(act, all)? {
+        cut_written(all, written)
+    } else {
+        Ok(false)
+    }
 }
 
 /// Whether the bounds show that each store to which the act leads from one on which the element
@@ -95,24 +115,25 @@ pub(crate) fn are_found_behind(
     cfa: &Cfa,
     elem: &Elem,
     act: &Act,
-    all: &mut [Bounds],
+    all: &mut KnownBounds,
     entries: &[Elem],
     numbers: &[u32],
 ) -> Result<bool, AllocError>
     requires act { IsActOf cfa.now act.now }
     requires shaped { IsElem cfa.now.cells cfa.now.points elem.now }
-    requires ranges { all.old ≡ ranges_of cfa.now.cells }
+    requires cells { all.old.cells ≡ cfa.now.cells }
+    requires ranges { all.old.each ≡ ranges_of cfa.now.cells }
     ensures { IfOk result (λ is. IsTrue is → AreFoundBehind cfa.now elem.now act.now
         (map (entry_at entries.now) numbers.now)) }
 {
     bounds_follow_acts();
     wrap_keeps_the_range();
-    let cells = cfa.cells.as_slice();
     let facts = elem.facts.as_slice();
     if is_barred(elem, act) {
         return Ok(true);
     }
-    if !know(all, facts, act) {
+    let is_known = know(all, facts, act)?;
+    if !is_known {
         return Ok(true);
     }
     let lows = lows_of(alloc, all)?;
@@ -120,7 +141,8 @@ pub(crate) fn are_found_behind(
         return Ok(true);
     }
     let written = written_by(act, all, &lows);
-    if step(cells, act, written, all) {
+    let is_done = step(act, written, all)?;
+    if is_done {
         let left = standing(alloc, elem, act)?;
         let after = lows_of(alloc, all)?;
         Ok(are_said(all, &after, &left, entries, numbers))
@@ -130,12 +152,32 @@ pub(crate) fn are_found_behind(
 }
 
 /// The bounds of cells at the initial store: its values alone.
-pub(crate) fn bounds_at_start(alloc: Global, cells: &[Cell]) -> Result<Vec<Bounds>, AllocError>
-    ensures { IfOk result (λ all. all.items ≡ map (λ cell. only cell.start) cells.now) }
+pub(crate) fn bounds_at_start<'a>(
+    alloc: Global,
+    cells: &'a [Cell],
+) -> Result<KnownBounds<'a>, AllocError>
+    ensures { IfOk result (λ all. all.each ≡ map (λ cell. only cell.start) cells.now) }
 {
-    let mut all = Vec::new(alloc);
-    for cell in cells {
-        all.push(Bounds::only(cell.start))?;
+    let mut all = KnownBounds::of_types(alloc, cells);
+    let mut place = cells.len();
+    while 0 < place {
+        place -= 1;
+        all.put(place, start_of(cell_at(cells, place)))?;
     }
     Ok(all)
+}
+
+/// The cell at a place that is there.
+fn cell_at(cells: &[Cell], place: usize) -> &Cell
+    requires { place < length cells.now }
+    ensures { slice_get cells.now place ≡ Some result.now }
+{
+    &cells[place]
+}
+
+/// The start alone.
+fn start_of(cell: &Cell) -> Bounds
+    ensures { result ≡ only cell.now.start }
+{
+    Bounds::only(cell.start)
 }

@@ -2,7 +2,7 @@
 //! `proofs/Exactly.antt`.
 
 ghost use Rattle.std.specs.Prelude.{◌≡◌, ℕ, ℤ, List, None, Some, IfOk, IfSome, IsTrue, pos, ◌+◌};
-ghost use Rattle.std.specs.Prelude.{slice_get, length, if◌then◌else◌, false};
+ghost use Rattle.std.specs.Prelude.{◌<◌, ◌++◌, ◌∷◌, [], slice_get, length, if◌then◌else◌, false, OnOk};
 ghost use Rattle.cpa_expr.specs.Values.{is_nonzero, value_of};
 ghost use Rattle.cpa_model.specs.declared.program.Cell.{Cell as ACell};
 ghost use Rattle.cpa_model.specs.Steps.{StepsStore};
@@ -12,7 +12,7 @@ ghost use Rattle.cpa_recheck_bounds.specs.Exact.{is_fixed, lows_of};
 
 use cpa_expr::{CmpOp, Expr, Store, may_read, value, value_depends_on_what_is_read};
 use cpa_interval_acts::cut_cell;
-use cpa_interval_bounds::{Bounds, bounds_at};
+use cpa_interval_bounds::{Bounds, KnownBounds};
 use cpa_model::{Act, Seq};
 use std::alloc::{AllocError, Global};
 
@@ -23,49 +23,62 @@ pub(crate) struct Written {
     pub value: i128,
 }
 
-/// The lower end.
-fn low_of(own: &Bounds) -> i128
-    ensures { result ≡ own.now.lo }
+/// The bounds of a cell that is there.
+fn own_at(all: &KnownBounds, place: usize) -> Bounds
+    requires { place < length all.now.each }
+    ensures { slice_get all.now.each place ≡ Some result }
 {
-    own.lo
+    match all.at(place) {
+        Some(own) => own,
+        None => Bounds::only(0),
+    }
+}
+
+/// Adds the lower end.
+fn push_low(values: &mut Seq<i128>, own: &Bounds) -> Result<(), AllocError>
+    ensures { OnOk result (values.new ≡ values.old ++ own.now.lo ∷ []) }
+{
+    values.push(own.lo)
 }
 
 /// The lower ends, as a store.
-pub(crate) fn lows_of(alloc: Global, all: &[Bounds]) -> Result<Store, AllocError>
-    ensures { IfOk result (λ store. store.values ≡ lows_of all.now) }
+pub(crate) fn lows_of(alloc: Global, all: &KnownBounds) -> Result<Store, AllocError>
+    ensures { IfOk result (λ store. store.values ≡ lows_of all.now.each) }
 {
     let mut values = Seq::new(alloc);
-    for own in all {
-        values.push(low_of(own))?;
+    for place in 0..all.count() {
+        let own = own_at(all, place);
+        push_low(&mut values, &own)?;
     }
     Ok(Store { values })
 }
 
 /// Whether the cell has one number, if it is there.
-fn has_one(all: &[Bounds], cell: u32) -> bool
-    ensures { result ≡ has_one (slice_get all.now cell) }
+fn has_one(all: &KnownBounds, cell: u32) -> bool
+    ensures { result ≡ has_one (slice_get all.now.each cell) }
 {
-    match bounds_at(all, cell as usize) {
+    match all.at(cell as usize) {
         None => true,
         Some(own) => own.lo == own.hi,
     }
 }
 
 /// Whether the expression does not read the cell, or it has one number.
-fn is_fixed(e: &Expr, all: &[Bounds], cell: u32) -> bool
-    ensures { result ≡ is_fixed e.now all.now cell }
+fn is_fixed(e: &Expr, all: &KnownBounds, cell: u32) -> bool
+    ensures { result ≡ is_fixed e.now all.now.each cell }
 {
     !may_read(e, cell) || has_one(all, cell)
 }
 
 /// Whether each cell that the expression may read has one number.
-pub(crate) fn are_fixed(e: &Expr, all: &[Bounds]) -> bool
-    ensures { IsTrue result → AreFixedBelow e.now all.now (length all.now) }
+pub(crate) fn are_fixed(e: &Expr, all: &KnownBounds) -> bool
+    ensures { IsTrue result → AreFixedBelow e.now all.now.each (length all.now.each) }
 {
-    if all.len() > u32::MAX as usize {
+    let count = all.count();
+    if count > u32::MAX as usize {
         return false;
     }
-    for cell in 0..all.len() {
+    for cell in 0..count {
         if !is_fixed(e, all, cell as u32) {
             return false;
         }
@@ -74,8 +87,8 @@ pub(crate) fn are_fixed(e: &Expr, all: &[Bounds]) -> bool
 }
 
 /// The value that the expression has on each store within the bounds, where they determine it.
-fn exact_value(e: &Expr, all: &[Bounds], lows: &Store) -> Option<i128>
-    ensures { (store : List ℤ) → LieWithin all.now store → lows.now.values ≡ lows_of all.now
+fn exact_value(e: &Expr, all: &KnownBounds, lows: &Store) -> Option<i128>
+    ensures { (store : List ℤ) → LieWithin all.now.each store → lows.now.values ≡ lows_of all.now.each
         → IfSome result (λ v. value_of e.now store ≡ Some v) }
 {
     value_depends_on_what_is_read();
@@ -102,9 +115,9 @@ fn written_at(base: u32, index: Option<i128>, own: Option<i128>) -> Option<Writt
 }
 
 /// The cell that the act writes, and the value that it gives it, where the bounds determine both.
-pub(crate) fn written_by(act: &Act, all: &[Bounds], lows: &Store) -> Option<Written>
-    ensures { (cells : List ACell) (old new : List ℤ) → LieWithin all.now old
-        → lows.now.values ≡ lows_of all.now → StepsStore cells act.now old new
+pub(crate) fn written_by(act: &Act, all: &KnownBounds, lows: &Store) -> Option<Written>
+    ensures { (cells : List ACell) (old new : List ℤ) → LieWithin all.now.each old
+        → lows.now.values ≡ lows_of all.now.each → StepsStore cells act.now old new
         → IfSome result (HasIfThere new) }
 {
     match act {
@@ -134,9 +147,9 @@ fn is_other(value: Option<i128>, holds: bool) -> bool
 
 /// Whether the bounds determine that the test of the act does not come out so: then it leads
 /// nowhere.
-pub(crate) fn is_refuted(act: &Act, all: &[Bounds], lows: &Store) -> bool
-    ensures { (cells : List ACell) (old new : List ℤ) → LieWithin all.now old
-        → lows.now.values ≡ lows_of all.now → StepsStore cells act.now old new
+pub(crate) fn is_refuted(act: &Act, all: &KnownBounds, lows: &Store) -> bool
+    ensures { (cells : List ACell) (old new : List ℤ) → LieWithin all.now.each old
+        → lows.now.values ≡ lows_of all.now.each → StepsStore cells act.now old new
         → result ≡ false }
 {
     match act {
@@ -146,11 +159,16 @@ pub(crate) fn is_refuted(act: &Act, all: &[Bounds], lows: &Store) -> bool
 }
 
 /// Leaves the cell the value that it has.
-pub(crate) fn cut_written(all: &mut [Bounds], written: Option<Written>) -> bool
-    ensures { (if result then Some all.new else None) ≡ cut_written written all.old }
+pub(crate) fn cut_written(
+    all: &mut KnownBounds,
+    written: Option<Written>,
+) -> Result<bool, AllocError>
+    ensures cells { all.new.cells ≡ all.old.cells }
+    ensures each { IfOk result (λ is. (if is then Some all.new.each else None)
+        ≡ cut_written written all.old.each) }
 {
     match written {
-        None => true,
+        None => Ok(true),
         Some(own) => cut_cell(CmpOp::Eq, own.cell, Bounds::only(own.value), all),
     }
 }

@@ -12,14 +12,14 @@ ghost use Rattle.cpa_recheck_bounds.specs.Saying.{is_among, bounds_say, IsSaid, 
 
 use crate::exact::are_fixed;
 use cpa_expr::{Expr, Store, same_expr, value_depends_on_what_is_read};
-use cpa_interval_bounds::{Bounds, bounds_at};
+use cpa_interval_bounds::{Bounds, KnownBounds};
 use cpa_model::{Elem, Fact, has_truth};
 
 /// Whether all numbers of the cell are among these.
-fn is_among(other: Bounds, all: &[Bounds], cell: u32) -> bool
-    ensures { result ≡ is_among other (slice_get all.now cell) }
+fn is_among(other: Bounds, all: &KnownBounds, cell: u32) -> bool
+    ensures { result ≡ is_among other (slice_get all.now.each cell) }
 {
-    match bounds_at(all, cell as usize) {
+    match all.at(cell as usize) {
         None => false,
         Some(own) => own.is_inside(other),
     }
@@ -43,17 +43,17 @@ pub(crate) fn says_truth(elem: &Elem, e: &Expr, holds: bool) -> bool
 }
 
 /// Whether the bounds determine the value of the expression, and it has this truth.
-fn is_known(e: &Expr, holds: bool, all: &[Bounds], lows: &Store) -> bool
-    ensures { (store : List ℤ) → IsTrue result → lows.now.values ≡ lows_of all.now
-        → LieWithin all.now store → HasTruth store e.now holds }
+fn is_known(e: &Expr, holds: bool, all: &KnownBounds, lows: &Store) -> bool
+    ensures { (store : List ℤ) → IsTrue result → lows.now.values ≡ lows_of all.now.each
+        → LieWithin all.now.each store → HasTruth store e.now holds }
 {
     value_depends_on_what_is_read();
     are_fixed(e, all) && has_truth(e, holds, lows)
 }
 
 /// Whether the bounds say a fact that is none on a truth.
-fn bounds_say(all: &[Bounds], fact: &Fact) -> bool
-    ensures { result ≡ bounds_say all.now fact.now }
+fn bounds_say(all: &KnownBounds, fact: &Fact) -> bool
+    ensures { result ≡ bounds_say all.now.each fact.now }
 {
     match fact {
         Fact::At { .. } | Fact::Stack { .. } => true,
@@ -65,9 +65,9 @@ fn bounds_say(all: &[Bounds], fact: &Fact) -> bool
 
 /// Whether the fact is a truth that is one of the element's facts, or that the bounds determine,
 /// whose lower ends are these.
-fn is_truth_said(all: &[Bounds], lows: &Store, elem: &Elem, fact: &Fact) -> bool
-    ensures { IsTrue result → lows.now.values ≡ lows_of all.now
-        → IsSaid all.now elem.now fact.now }
+fn is_truth_said(all: &KnownBounds, lows: &Store, elem: &Elem, fact: &Fact) -> bool
+    ensures { IsTrue result → lows.now.values ≡ lows_of all.now.each
+        → IsSaid all.now.each elem.now fact.now }
 {
     match fact {
         Fact::Truth { expr, holds } => {
@@ -78,17 +78,17 @@ fn is_truth_said(all: &[Bounds], lows: &Store, elem: &Elem, fact: &Fact) -> bool
 }
 
 /// Whether the fact is said.
-fn says(all: &[Bounds], lows: &Store, elem: &Elem, fact: &Fact) -> bool
-    ensures { IsTrue result → lows.now.values ≡ lows_of all.now
-        → IsSaid all.now elem.now fact.now }
+fn says(all: &KnownBounds, lows: &Store, elem: &Elem, fact: &Fact) -> bool
+    ensures { IsTrue result → lows.now.values ≡ lows_of all.now.each
+        → IsSaid all.now.each elem.now fact.now }
 {
     bounds_say(all, fact) || is_truth_said(all, lows, elem, fact)
 }
 
 /// Whether each fact of the other element is said.
-fn says_each(all: &[Bounds], lows: &Store, elem: &Elem, other: &Elem) -> bool
-    ensures { IsTrue result → lows.now.values ≡ lows_of all.now
-        → AreAllSaid all.now elem.now other.now }
+fn says_each(all: &KnownBounds, lows: &Store, elem: &Elem, other: &Elem) -> bool
+    ensures { IsTrue result → lows.now.values ≡ lows_of all.now.each
+        → AreAllSaid all.now.each elem.now other.now }
 {
     for fact in &other.facts {
         if !says(all, lows, elem, fact) {
@@ -99,9 +99,9 @@ fn says_each(all: &[Bounds], lows: &Store, elem: &Elem, other: &Elem) -> bool
 }
 
 /// Whether each fact of the element with this number is said, if it is there.
-fn says_all(all: &[Bounds], lows: &Store, elem: &Elem, entries: &[Elem], number: u32) -> bool
-    ensures { IsTrue result → lows.now.values ≡ lows_of all.now
-        → AreAllSaid all.now elem.now (entry_at entries.now number) }
+fn says_all(all: &KnownBounds, lows: &Store, elem: &Elem, entries: &[Elem], number: u32) -> bool
+    ensures { IsTrue result → lows.now.values ≡ lows_of all.now.each
+        → AreAllSaid all.now.each elem.now (entry_at entries.now number) }
 {
     match entries.get(number as usize) {
         None => false,
@@ -120,14 +120,14 @@ fn number_at(numbers: &[u32], place: usize) -> u32
 /// Whether each fact of one of the elements with these numbers is said, so that one of them holds on
 /// each store within the bounds on which the element does.
 pub(crate) fn are_said(
-    all: &[Bounds],
+    all: &KnownBounds,
     lows: &Store,
     elem: &Elem,
     entries: &[Elem],
     numbers: &[u32],
 ) -> bool
-    ensures { IsTrue result → lows.now.values ≡ lows_of all.now
-        → AreSaid all.now elem.now (map (entry_at entries.now) numbers.now) }
+    ensures { IsTrue result → lows.now.values ≡ lows_of all.now.each
+        → AreSaid all.now.each elem.now (map (entry_at entries.now) numbers.now) }
 {
     for place in 0..numbers.len() {
         let number = number_at(numbers, place);

@@ -10,7 +10,7 @@ ghost use Rattle.cpa_recheck_obligations.specs.Obligations.{IsObligationOf};
 use crate::behind::{are_found_behind, bounds_at_start};
 use crate::exact::lows_of;
 use crate::saying::are_said;
-use cpa_interval_acts::ranges_of;
+use cpa_interval_bounds::KnownBounds;
 use cpa_model::{Cfa, Elem, Seq, edges_are_sound};
 use cpa_recheck_obligations::Obligation;
 use std::alloc::{AllocError, Global};
@@ -51,7 +51,7 @@ fn leads(
     edges_are_sound();
     let elem = &entries[entry as usize];
     let act = &cfa.edge(edge).act;
-    let mut all = ranges_of(alloc, cfa.cells.as_slice())?;
+    let mut all = KnownBounds::of_types(alloc, cfa.cells.as_slice());
     let is = are_found_behind(alloc, cfa, elem, act, &mut all, entries, numbers)?;
     Ok(is)
 }

@@ -1,7 +1,6 @@
 pub mod CellLemmas
 pub mod TableLemmas
 pub mod ChangeLemmas
-pub mod TrackedLemmas
 pub mod KnownLemmas
 pub mod RangeLemmas
 pub mod StoreLemmas

@@ -16,10 +16,10 @@ ghost use Rattle.cpa_value.specs.Tables.{changed};
 use crate::changes::Change;
 use crate::known::{Gap, known_value};
 use crate::table::KnownCells;
-use crate::tracked::Tracked;
 use cpa_expr::{CmpOp, Expr, is_nonzero};
 use cpa_model::Act;
 use cpa_path_folds::{Scalar, read_of, scalar_of};
+use cpa_value_tracked::Tracked;
 
 /// What a test says of a scalar.
 #[derive(Clone, Copy)]

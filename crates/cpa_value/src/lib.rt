@@ -9,7 +9,6 @@ mod known;
 mod limits;
 mod strengthening;
 mod table;
-mod tracked;
 mod transfer;
 mod value;
 

@@ -16,9 +16,9 @@ ghost use Rattle.cpa_value.specs.declared.strengthening.Agreement.TheVariants.{S
 
 use crate::cells::{elem_of_known, known_cells, put, value_at};
 use crate::table::{KnownCells, are_ordered};
-use crate::tracked::Tracked;
 use cpa_iface::Precision;
 use cpa_model::{Cfa, Elem, Fact, copy_elem};
+use cpa_value_tracked::Tracked;
 use std::alloc::{AllocError, Global};
 
 /// The own element with what the others say of tracked cells, or `None` where a cell would have two

@@ -16,9 +16,9 @@ use crate::acts::change_by;
 use crate::cells::{elem_of_known, known_cells, push_fact};
 use crate::changes::Change;
 use crate::table::{KnownCells, are_ordered};
-use crate::tracked::Tracked;
 use cpa_iface::Precision;
 use cpa_model::{Act, Cfa, Edge, Elem, Fact, Seq, copy_fact};
+use cpa_value_tracked::Tracked;
 use std::alloc::{AllocError, Global};
 
 /// What the edge makes of the element.

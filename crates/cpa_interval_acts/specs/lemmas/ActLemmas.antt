@@ -3,13 +3,12 @@
 use Rattle.std.proofs.Common.{◌≡◌, ◌≢◌, ℕ, ◌+◌, ◌<◌, ◌≤◌, ℤ, pos, ◌≤ℤ◌, Bool, true, false, List, []}
 use Rattle.std.proofs.Common.{◌∷◌, refl, sym}
 use Rattle.std.proofs.Common.{ap, ◌∙◌, subst, arith, cond}
-use Rattle.std.specs.Prelude.{zero, suc, ◌==◌, nat_lt, ◌-ℤ◌, Option, None, Some, slice_get}
+use Rattle.std.specs.Prelude.{zero, suc, ◌==◌, nat_lt, Option, None, Some, slice_get}
 use Rattle.std.specs.Prelude.{slice_set, IsSomeAnd, IfSome, option_map, option_and_then}
-use Rattle.std.specs.Prelude.{if◌then◌else◌}
 use Rattle.std.proofs.lemmas.Int.{ints}
 use Rattle.std.proofs.lemmas.Bool.Decides.{Decides-eqb, Decides-int_eq}
 use Rattle.cpa_ints.specs.declared.integers.IntType.{IntType}
-use Rattle.cpa_ints.specs.Integers.{IsInRange, least, greatest}
+use Rattle.cpa_ints.specs.Integers.{IsInRange}
 use Rattle.cpa_expr.specs.declared.tree.CmpOp.TheVariants as cmp
 use Rattle.cpa_expr.specs.declared.tree.Expr.{Expr}
 use Rattle.cpa_expr.specs.Shape.{AreCells, IsTyped, type_of}
@@ -20,7 +19,7 @@ use Rattle.cpa_model.specs.declared.automaton.Act.TheVariants.{Skip, Assign, Ass
 use Rattle.cpa_model.specs.declared.automaton.Act.TheVariants.{Return}
 use Rattle.cpa_model.specs.declared.automaton.Cfa.{Cfa}
 use Rattle.cpa_model.specs.Expressions.{types_of}
-use Rattle.cpa_model.specs.Steps.{StepsStore, Assigns}
+use Rattle.cpa_model.specs.Steps.{StepsStore}
 use Rattle.cpa_model.specs.Acts.{IsActOf}
 use Rattle.cpa_path_folds.specs.lemmas.ScalarReads.{StaysInRange}
 use Rattle.cpa_interval_bounds.specs.declared.bounds.Bounds.{Bounds}
@@ -38,7 +37,7 @@ use Rattle.cpa_interval_acts.specs.Acts.{joined_at, joined_from, stored, placed,
 use Rattle.cpa_interval_acts.specs.Acts.{assigned, freed, after_act}
 use Rattle.cpa_interval_acts.specs.lemmas.ZipLemmas.{set_within, both_set, value_set, set_of}
 use Rattle.cpa_interval_acts.specs.lemmas.ZipLemmas.{value_in}
-use Rattle.cpa_interval_acts.specs.lemmas.ZipLemmas.{type_in, type_of_cell, some_type}
+use Rattle.cpa_interval_acts.specs.lemmas.ZipLemmas.{type_in, type_of_cell}
 use Rattle.cpa_interval_acts.specs.lemmas.CutLemmas.{Lies, Are, are_then, side_lies, side_are}
 use Rattle.cpa_interval_acts.specs.lemmas.AssumeLemmas.{assumed_are, assumed_lies}
 

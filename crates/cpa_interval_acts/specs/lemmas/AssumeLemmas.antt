@@ -1,7 +1,7 @@
 -- What a test leaves of the bounds of cells, by its form.
 use Rattle.std.proofs.Common.{◌≡◌, ℤ, pos, Bool, true, false, not, List, refl, sym, ap, ◌∙◌, subst}
 use Rattle.std.proofs.Common.{cond}
-use Rattle.std.specs.Prelude.{Option, None, Some, IsSomeAnd, IfSome, option_map, option_and_then}
+use Rattle.std.specs.Prelude.{Option, None, Some, IsSomeAnd, option_and_then}
 use Rattle.std.specs.Prelude.{if◌then◌else◌}
 use Rattle.cpa_ints.specs.declared.integers.IntType.{IntType}
 use Rattle.cpa_expr.specs.declared.tree.Expr.{Expr, out-Expr, roll-Expr}
@@ -12,15 +12,14 @@ use Rattle.cpa_expr.specs.declared.tree.Expr.TheViews.{roll-out-Expr, out-roll-E
 use Rattle.cpa_expr.specs.declared.tree.Expr.TheFolds.{map-Expr, fold-Expr, fold-roll-Expr}
 use Rattle.cpa_expr.specs.Shape.{OfParts, IsTyped, IsTypedHere}
 use Rattle.cpa_expr.specs.Values.{value_of, value_step, logical_and, logical_or, logical_not, truth}
-use Rattle.cpa_expr.specs.Values.{truth_of, is_nonzero, HasTruth}
+use Rattle.cpa_expr.specs.Values.{truth_of, is_nonzero}
 use Rattle.cpa_expr.specs.lemmas.Layers.{value_rolled, values_in}
 use Rattle.cpa_expr.specs.lemmas.Parts.{by_parts, every_rolled}
 use Rattle.cpa_path_folds.specs.lemmas.ScalarReads.{StaysInRange}
 use Rattle.cpa_interval_bounds.specs.declared.bounds.Bounds.{Bounds}
 use Rattle.cpa_interval_bounds.specs.ExpressionBounds.{AreOf, LieWithin}
 use Rattle.cpa_interval_acts.specs.Cuts.{Assumed, decided, assume_step, assumed, after_node}
-use Rattle.cpa_interval_acts.specs.Cuts.{both_after}
-use Rattle.cpa_interval_acts.specs.lemmas.CutLemmas.{Lies, Are, lies_then, are_then, decided_lies}
+use Rattle.cpa_interval_acts.specs.lemmas.CutLemmas.{Lies, Are, are_then, decided_lies}
 use Rattle.cpa_interval_acts.specs.lemmas.CutLemmas.{decided_are}
 
 abbrev assuming : Expr → Assumed

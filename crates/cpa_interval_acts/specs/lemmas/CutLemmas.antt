@@ -7,7 +7,7 @@ use Rattle.std.specs.Prelude.{option_map, option_and_then}
 use Rattle.std.proofs.lemmas.Int.{ints}
 use Rattle.std.proofs.lemmas.Bool.{and_parts}
 use Rattle.cpa_ints.specs.declared.integers.IntType.{IntType}
-use Rattle.cpa_ints.specs.Integers.{IsInRange, least, greatest}
+use Rattle.cpa_ints.specs.Integers.{IsInRange}
 use Rattle.cpa_ints.specs.Wrapping.{wrapped}
 use Rattle.cpa_expr.specs.declared.tree.CmpOp.{CmpOp}
 use Rattle.cpa_expr.specs.declared.tree.Expr.{Expr, out-Expr}
@@ -23,7 +23,7 @@ use Rattle.cpa_path_folds.specs.lemmas.ScalarReads.{IsScalar, StaysInRange, valu
 use Rattle.cpa_path_folds.specs.lemmas.ScalarReads.{scalar_value}
 use Rattle.cpa_interval_bounds.specs.declared.bounds.Bounds.{Bounds}
 use Rattle.cpa_interval_bounds.specs.Bounds.{IsOf, Has, is_inside, range_of, has}
-use Rattle.cpa_interval_bounds.specs.Truths.{truths_of, may_be, opposite, exchanged}
+use Rattle.cpa_interval_bounds.specs.Truths.{truths_of, may_be, exchanged}
 use Rattle.cpa_interval_bounds.specs.Cuts.{cut}
 use Rattle.cpa_interval_bounds.specs.ExpressionBounds.{AreOf, LieWithin, bounds_of}
 use Rattle.cpa_interval_bounds.specs.Laws.{bounds_have_the_value, bounds_have_the_type}

@@ -1,14 +1,12 @@
 -- Bounds beside the types and the values of cells, after a change of one of them.
-use Rattle.std.proofs.Common.{◌≡◌, ℕ, ℤ, List, [], ◌∷◌, refl, sym, ap, ◌∙◌, subst, length}
-use Rattle.std.specs.Prelude.{zero, suc, Option, None, Some, slice_get, slice_set, IsSomeAnd}
-use Rattle.std.specs.List.{AllZip}
+use Rattle.std.proofs.Common.{◌≡◌, ℕ, ℤ, List, [], ◌∷◌, refl, ap, subst, length}
+use Rattle.std.specs.Prelude.{zero, suc, Some, slice_get, slice_set, IsSomeAnd}
 use Rattle.cpa_ints.specs.declared.integers.IntType.{IntType}
-use Rattle.cpa_ints.specs.Integers.{IsInRange}
 use Rattle.cpa_expr.specs.Cells.{AreValues}
 use Rattle.cpa_model.specs.declared.program.Cell.{Cell}
 use Rattle.cpa_model.specs.Expressions.{types_of}
 use Rattle.cpa_interval_bounds.specs.declared.bounds.Bounds.{Bounds}
-use Rattle.cpa_interval_bounds.specs.Bounds.{IsOf, Has, range_of}
+use Rattle.cpa_interval_bounds.specs.Bounds.{IsOf, Has}
 use Rattle.cpa_interval_bounds.specs.ExpressionBounds.{AreOf, LieWithin}
 use Rattle.cpa_interval_bounds.specs.lemmas.Ranges.{range_of-is}
 use Rattle.cpa_interval_acts.specs.Cells.{ranges_of}

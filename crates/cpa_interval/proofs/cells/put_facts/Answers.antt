@@ -1,5 +1,5 @@
 -- One fact more.
-use Rattle.std.proofs.Common.{◌≡◌, ◌+◌, ◌-◌, arith}
+use Rattle.std.proofs.Common.{◌≡◌, ◌+◌, ◌-◌, ◌∙◌, arith}
 use Rattle.cpa_interval.proofs.LoopLemmas.{put_more}
 use Rattle.cpa_interval.proofs.cells.put_facts.Goals as goal
 
@@ -7,9 +7,11 @@ pub loop-place-preserved : goal.loop-place-preserved
 loop-place-preserved c =
     let place = c.loop-place.place in
     let next : place ≡ (place - 1) + 1 = omega arith in
+    let within = c.loop-place.invariant.within in
     record {
-      within = omega arith;
-      puts = put_more c.args.facts.now c.args.all.now c.loop-place.all c.put_fact.new.all place
-          (place - 1) c.fact_at.result.now next c.fact_at.ensures c.loop-place.invariant.puts
-          c.put_fact.ensures;
+      within = omega (arith, within);
+      cells = c.put_fact.ensures.cells ∙ c.loop-place.invariant.cells;
+      puts = put_more c.args.facts.now c.args.all.now.each c.loop-place.all.each
+          c.put_fact.new.all.each place (place - 1) c.fact_at.result.now next c.fact_at.ensures
+          c.loop-place.invariant.puts c.in_ok-put_fact.ensures.each;
     }

@@ -1,26 +1,17 @@
--- Each cell has bounds, and the marks are those of the precision.
-use Rattle.std.specs.Prelude.{Option}
-use Rattle.std.proofs.Common.{sym, ap, ◌∙◌, length, ℕ}
-use Rattle.std.proofs.lemmas.Result.{IfOk-weaker}
-use Rattle.cpa_model.specs.declared.facts.Elem.{Elem}
-use Rattle.cpa_query.specs.Queries.{is_marked}
-use Rattle.cpa_interval.proofs.CellLemmas.{cells_length}
-use Rattle.cpa_interval.proofs.LoopLemmas.{same_strengthening}
+-- The cells of an automaton are few, and those that are tracked are the precision's.
+use Rattle.std.proofs.Common.{sym, ◌∙◌}
+use Rattle.cpa_interval.proofs.LoopLemmas.{few_cells, same_strengthening}
 use Rattle.cpa_interval.proofs.strengthening.strengthened.Goals as goal
 
-pub met-requires-clause-length : goal.met-requires-clause-length
-met-requires-clause-length c =
-    ap length (c.deref_mut.ensures.value ∙ c.in_ok-all.ensures)
-    ∙ cells_length c.as_slice-cells.result.now c.as_slice.result.now
+pub met-requires : goal.met-requires
+met-requires c =
+    few_cells c.args.cfa.now c.in_ok-all.all.cells c.requires.automaton
+    (c.in_ok-all.ensures.cells ∙ c.as_slice-cells.ensures)
 
 pub returns : goal.returns
 returns c =
-    let agree = λ (cell : ℕ). ap (λ m. is_marked m cell) c.deref.ensures.value
-    ∙ c.in_ok-tracked.ensures cell in
-    IfOk-weaker _ _ _ (λ (e : Option Elem) is.
-    same_strengthening c.as_slice-cells.result.now c.args.cfa.now.cells c.args.precision.now
-    c.args.own.now c.args.others.now c.as_slice.result.now c.deref_mut.result.now
-    c.deref.result.now e c.as_slice-cells.ensures c.as_slice.ensures
-    (c.deref_mut.ensures.value ∙ c.in_ok-all.ensures) agree
-    (sym c.some_bound.ensures ∙ c.if-not-some_bound.false) is)
-    c.met.ensures
+    same_strengthening c.args.cfa.now.cells c.as_slice-cells.result.now c.in_ok-all.all.cells
+    c.args.precision.now c.in_ok-tracked.tracked c.args.own.now c.args.others.now
+    c.as_slice.result.now c.in_ok-all.all.each c.in_ok-elem.elem c.as_slice-cells.ensures
+    c.as_slice.ensures c.in_ok-all.ensures.cells c.in_ok-all.ensures.each c.in_ok-tracked.ensures
+    (sym c.some_bound.ensures ∙ c.if-not-some_bound.false) c.in_ok-elem.ensures

@@ -4,4 +4,6 @@ use Rattle.cpa_interval_acts.specs.Acts.{joined_from}
 use Rattle.cpa_interval_acts.proofs.acts.join_from.Given as goal
 
 abbrev pub invariant-loop-i : goal.invariant-loop-i
-invariant-loop-i l = l.all ≡ joined_from l.first l.i l.value l.fn.all
+invariant-loop-i l =
+    (l.all.cells ≡ l.fn.all.cells)
+    × (l.all.each ≡ joined_from l.first l.i l.value l.fn.all.each)

@@ -10,16 +10,16 @@ pub returns-then-is_barred : goal.returns-then-is_barred
 returns-then-is_barred c = λ is old new values holds steps fail.
     c.is_barred.ensures c.if-is_barred.true c.args.cfa.now.cells old new holds steps
 
-pub returns-then-not-know : goal.returns-then-not-know
-returns-then-not-know c = λ is.
+pub returns-then-not-is_known : goal.returns-then-not-is_known
+returns-then-not-is_known c = λ is.
     let cfa = c.args.cfa.now in
     let elem = c.args.elem.now in
     let act = c.args.act.now in
-    let all = c.args.all.now in
+    let all = c.args.all.now.each in
     let others = map (entry_at c.args.entries.now) c.args.numbers.now in
-    none_known c.wrap_keeps_the_range.ensures.stays cfa elem act all c.know.new.all others
-    c.know.result c.requires.act c.requires.shaped c.requires.ranges
-    (c.know.ensures
+    none_known c.wrap_keeps_the_range.ensures.stays cfa elem act all c.know.new.all.each others
+    c.in_ok-is_known.is_known c.requires.act c.requires.shaped c.requires.ranges
+    (c.in_ok-is_known.ensures.each
     ∙ ap (λ (facts : List Fact). tested facts act all) c.as_slice-facts.ensures)
     (search rules)
 
@@ -28,31 +28,31 @@ returns-then-is_refuted c = λ is.
     let cfa = c.args.cfa.now in
     let elem = c.args.elem.now in
     let act = c.args.act.now in
-    let all = c.args.all.now in
+    let all = c.args.all.now.each in
     let others = map (entry_at c.args.entries.now) c.args.numbers.now in
-    refuted c.wrap_keeps_the_range.ensures.stays cfa elem act all c.know.new.all others
-    c.in_ok-lows.lows.values c.know.result c.is_refuted.result c.requires.act c.requires.shaped
+    refuted c.wrap_keeps_the_range.ensures.stays cfa elem act all c.know.new.all.each others
+    c.in_ok-lows.lows.values c.in_ok-is_known.is_known c.is_refuted.result c.requires.act c.requires.shaped
     c.requires.ranges
-    (c.know.ensures
+    (c.in_ok-is_known.ensures.each
     ∙ ap (λ (facts : List Fact). tested facts act all) c.as_slice-facts.ensures)
     c.is_refuted.ensures c.in_ok-lows.ensures c.if-is_refuted.true
 
-pub returns-then-step : goal.returns-then-step
-returns-then-step c = λ is.
+pub returns-then-is_done : goal.returns-then-is_done
+returns-then-is_done c = λ is.
     let cfa = c.args.cfa.now in
     let elem = c.args.elem.now in
     let act = c.args.act.now in
-    let all = c.args.all.now in
+    let all = c.args.all.now.each in
     let others = map (entry_at c.args.entries.now) c.args.numbers.now in
     found c.bounds_follow_acts.ensures c.wrap_keeps_the_range.ensures.stays cfa elem act all
-    c.know.new.all c.step.new.all c.in_ok-left.left others c.written_by-written.result c.in_ok-lows.lows.values
-    c.know.result c.step.result c.requires.act c.requires.shaped c.requires.ranges
-    (c.know.ensures
+    c.know.new.all.each c.step.new.all.each c.in_ok-left.left others c.written_by-written.result c.in_ok-lows.lows.values
+    c.in_ok-is_known.is_known c.in_ok-is_done.is_done c.requires.act c.requires.shaped c.requires.ranges
+    (c.in_ok-is_known.ensures.each
     ∙ ap (λ (facts : List Fact). tested facts act all) c.as_slice-facts.ensures)
     c.written_by-written.ensures c.in_ok-lows.ensures
-    (c.step.ensures
-    ∙ ap (λ (cells : List Cell). stepped cells act c.written_by-written.result c.know.new.all)
-    c.as_slice-cells.ensures)
+    (c.in_ok-is_done.ensures.each
+    ∙ ap (λ (cells : List Cell). stepped cells act c.written_by-written.result
+    c.know.new.all.each) (c.know.ensures.cells ∙ c.requires.cells))
     (λ done. (c.in_ok-left.ensures, c.are_said.ensures is c.in_ok-after.ensures))
 
 pub returns : goal.returns
@@ -60,15 +60,15 @@ returns c = λ is.
     let cfa = c.args.cfa.now in
     let elem = c.args.elem.now in
     let act = c.args.act.now in
-    let all = c.args.all.now in
+    let all = c.args.all.now.each in
     let others = map (entry_at c.args.entries.now) c.args.numbers.now in
     found c.bounds_follow_acts.ensures c.wrap_keeps_the_range.ensures.stays cfa elem act all
-    c.know.new.all c.step.new.all elem others c.written_by-written.result c.in_ok-lows.lows.values
-    c.know.result c.step.result c.requires.act c.requires.shaped c.requires.ranges
-    (c.know.ensures
+    c.know.new.all.each c.step.new.all.each elem others c.written_by-written.result c.in_ok-lows.lows.values
+    c.in_ok-is_known.is_known c.in_ok-is_done.is_done c.requires.act c.requires.shaped c.requires.ranges
+    (c.in_ok-is_known.ensures.each
     ∙ ap (λ (facts : List Fact). tested facts act all) c.as_slice-facts.ensures)
     c.written_by-written.ensures c.in_ok-lows.ensures
-    (c.step.ensures
-    ∙ ap (λ (cells : List Cell). stepped cells act c.written_by-written.result c.know.new.all)
-    c.as_slice-cells.ensures)
-    (λ done. absurd (cc (done, c.if-step.false)))
+    (c.in_ok-is_done.ensures.each
+    ∙ ap (λ (cells : List Cell). stepped cells act c.written_by-written.result
+    c.know.new.all.each) (c.know.ensures.cells ∙ c.requires.cells))
+    (λ done. absurd (cc (done, c.if-is_done.false)))

@@ -5,4 +5,5 @@ use Rattle.cpa_recheck_bounds.proofs.behind.cut_by_all.Given as goal
 
 abbrev pub invariant-loop-fact : goal.invariant-loop-fact
 invariant-loop-fact l =
-    cut_by_all l.facts l.fn.all ≡ cut_by_all (drop l.fact-index l.facts) l.all
+    (l.all.cells ≡ l.fn.all.cells)
+    × (cut_by_all l.facts l.fn.all.each ≡ cut_by_all (drop l.fact-index l.facts) l.all.each)

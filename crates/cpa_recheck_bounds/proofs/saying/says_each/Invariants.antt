@@ -7,4 +7,4 @@ use Rattle.cpa_recheck_bounds.proofs.saying.says_each.Given as goal
 
 abbrev pub invariant-loop-fact : goal.invariant-loop-fact
 invariant-loop-fact l =
-    l.lows.values ≡ lows_of l.all → GivesAll l.all l.elem l.other.facts (iter_rest l.fact-iterator)
+    l.lows.values ≡ lows_of l.all.each → GivesAll l.all.each l.elem l.other.facts (iter_rest l.fact-iterator)

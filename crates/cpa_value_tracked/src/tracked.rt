@@ -15,7 +15,7 @@ const FEW_CELLS: usize = 32;
 
 /// The cells that a precision tracks; contracts see the precision.
 #[derive(Drop)]
-pub(crate) struct Tracked<'a> {
+pub struct Tracked<'a> {
     precision: &'a Precision,
     /// The marks of the cells, where the list is long and each cell has no place of its own in it.
     marks: Option<Vec<bool>>,
@@ -41,7 +41,7 @@ impl<'a> Model for Tracked<'a> {
 
 impl<'a> Tracked<'a> {
     /// The cells of the precision, all of which are below `count`.
-    pub(crate) fn of(
+    pub fn of(
         alloc: Global,
         precision: &'a Precision,
         count: usize,
@@ -63,7 +63,7 @@ impl<'a> Tracked<'a> {
     }
 
     /// Whether the cell is tracked.
-    pub(crate) fn has(&self, cell: u32) -> bool
+    pub fn has(&self, cell: u32) -> bool
         ensures { result ≡ is_tracked self.now cell }
     {
         match &self.marks {
