@@ -1,7 +1,7 @@
-//! The program of core statements that a typed text is. What each form of C becomes is said by the
-//! rules of `c_core_rules`.
+//! The program of core statements that a typed text is, and where it comes from. What each form of
+//! C becomes is said by the rules of `c_core_rules`.
 #![tactic(auto)]
 
 mod program;
 
-pub use program::core;
+pub use program::{Traced, core, trace};

@@ -1,6 +1,6 @@
 -- Calls, by what is called.
-use Rattle.std.proofs.Common.{◌≡◌, ℤ, ◌<◌, ◌≤◌, List, [], ◌∷◌, ◌++◌, map, length, get_or, refl, ap}
-use Rattle.std.proofs.Common.{None, Some, if◌then◌else◌, sym, arith}
+use Rattle.std.proofs.Common.{◌≡◌, ℕ, ℤ, ◌<◌, ◌≤◌, List, [], ◌∷◌, ◌++◌, map, length, get_or, refl}
+use Rattle.std.proofs.Common.{ap, None, Some, if◌then◌else◌, sym, arith}
 use Rattle.c_types_rules.specs.declared.known.KnownFunction.{KnownFunction}
 use Rattle.c_types_rules.specs.declared.known.KnownFunction.TheVariants as known
 use Rattle.c_types_rules.specs.declared.meaning.Function.{Function}
@@ -26,73 +26,75 @@ used_rows frames [] = refl
 used_rows frames (argument ∷ arguments) =
     ap (λ rules. (rows frames argument).used ∷ rules) (used_rows frames arguments)
 
-pub call_Function : (frames : Frames) (usage : Usage) (function : Function)
+pub call_Function : (origin : ℕ) (frames : Frames) (usage : Usage) (function : Function)
     (arguments : List TypedExpression) (taken : Taken) →
-    call_of frames usage (Some (meaning.Function function)) arguments taken
-    ≡ then_by (each (map (used_by frames) arguments)) (called_behind frames usage function) taken
+    call_of origin frames usage (Some (meaning.Function function)) arguments taken
+    ≡ then_by (each (map (used_by frames) arguments)) (called_behind origin frames usage function)
+    taken
 unfolding call_of by_usage called_behind kept_for
-call_Function frames Used function arguments taken =
-    ap (λ (rules : List (Rule Valued)). called frames function rules taken)
+call_Function origin frames Used function arguments taken =
+    ap (λ (rules : List (Rule Valued)). called origin frames function rules taken)
     (used_rows frames arguments)
-call_Function frames Unused function arguments taken =
+call_Function origin frames Unused function arguments taken =
     ap (λ (rules : List (Rule Valued)). then_by (each rules)
-    (called_behind frames Unused function) taken) (used_rows frames arguments)
+    (called_behind origin frames Unused function) taken) (used_rows frames arguments)
 
-pub call_Object : (frames : Frames) (usage : Usage) (object : Object)
+pub call_Object : (origin : ℕ) (frames : Frames) (usage : Usage) (object : Object)
     (arguments : List TypedExpression) (taken : Taken) →
-    call_of frames usage (Some (meaning.Object object)) arguments taken
+    call_of origin frames usage (Some (meaning.Object object)) arguments taken
     ≡ record { taken = taken; made = pure (int 0) }
 unfolding call_of by_usage
-call_Object frames Used object arguments taken = refl
-call_Object frames Unused object arguments taken = refl
+call_Object origin frames Used object arguments taken = refl
+call_Object origin frames Unused object arguments taken = refl
 
-pub call_Enumerator : (frames : Frames) (usage : Usage) (value : ℤ)
+pub call_Enumerator : (origin : ℕ) (frames : Frames) (usage : Usage) (value : ℤ)
     (arguments : List TypedExpression) (taken : Taken) →
-    call_of frames usage (Some (meaning.Enumerator value)) arguments taken
+    call_of origin frames usage (Some (meaning.Enumerator value)) arguments taken
     ≡ record { taken = taken; made = pure (int 0) }
 unfolding call_of by_usage
-call_Enumerator frames Used value arguments taken = refl
-call_Enumerator frames Unused value arguments taken = refl
+call_Enumerator origin frames Used value arguments taken = refl
+call_Enumerator origin frames Unused value arguments taken = refl
 
-pub call_None : (frames : Frames) (usage : Usage) (arguments : List TypedExpression)
-    (taken : Taken) → call_of frames usage None arguments taken
+pub call_None : (origin : ℕ) (frames : Frames) (usage : Usage) (arguments : List TypedExpression)
+    (taken : Taken) → call_of origin frames usage None arguments taken
     ≡ record { taken = taken; made = pure (int 0) }
 unfolding call_of by_usage
-call_None frames Used arguments taken = refl
-call_None frames Unused arguments taken = refl
+call_None origin frames Used arguments taken = refl
+call_None origin frames Unused arguments taken = refl
 
-pub call_Known : (frames : Frames) (usage : Usage) (function : KnownFunction)
+pub call_Known : (origin : ℕ) (frames : Frames) (usage : Usage) (function : KnownFunction)
     (arguments : List TypedExpression) (taken : Taken) →
-    call_of frames usage (Some (meaning.Known function)) arguments taken
-    ≡ (if is_exit function then exit_of frames usage arguments
-    else known_alone usage function) taken
+    call_of origin frames usage (Some (meaning.Known function)) arguments taken
+    ≡ (if is_exit function then exit_of origin frames usage arguments
+    else known_alone origin usage function) taken
 unfolding call_of by_usage exit_of voided kept_for
-call_Known frames Used known.ReachError arguments taken = refl
-call_Known frames Used known.Abort arguments taken = refl
-call_Known frames Used known.Exit arguments taken = refl
-call_Known frames Used known.AssertFail arguments taken = refl
-call_Known frames Used (known.Input t) arguments taken = refl
-call_Known frames Unused known.ReachError arguments taken = refl
-call_Known frames Unused known.Abort arguments taken = refl
-call_Known frames Unused known.Exit arguments taken = refl
-call_Known frames Unused known.AssertFail arguments taken = refl
-call_Known frames Unused (known.Input t) arguments taken = refl
+call_Known origin frames Used known.ReachError arguments taken = refl
+call_Known origin frames Used known.Abort arguments taken = refl
+call_Known origin frames Used known.Exit arguments taken = refl
+call_Known origin frames Used known.AssertFail arguments taken = refl
+call_Known origin frames Used (known.Input t) arguments taken = refl
+call_Known origin frames Unused known.ReachError arguments taken = refl
+call_Known origin frames Unused known.Abort arguments taken = refl
+call_Known origin frames Unused known.Exit arguments taken = refl
+call_Known origin frames Unused known.AssertFail arguments taken = refl
+call_Known origin frames Unused (known.Input t) arguments taken = refl
 
 -- the status of an exit
-pub exit_none : (frames : Frames) (usage : Usage) (xs : List TypedExpression) (taken : Taken) →
-    length xs < 1 → exit_of frames usage xs taken
-    ≡ record { taken = taken; made = voided usage ([] ++ leaf head.Stop ∷ []) }
+pub exit_none : (origin : ℕ) (frames : Frames) (usage : Usage) (xs : List TypedExpression)
+    (taken : Taken) →
+    length xs < 1 → exit_of origin frames usage xs taken
+    ≡ record { taken = taken; made = voided usage ([] ++ leaf origin head.Stop ∷ []) }
 unfolding exit_of
-exit_none frames usage [] taken h = refl
-exit_none frames usage (x ∷ xs) taken h = absurd (omega arith)
+exit_none origin frames usage [] taken h = refl
+exit_none origin frames usage (x ∷ xs) taken h = absurd (omega arith)
 
-pub exit_some : (frames : Frames) (usage : Usage) (xs : List TypedExpression)
+pub exit_some : (origin : ℕ) (frames : Frames) (usage : Usage) (xs : List TypedExpression)
     (x : TypedExpression) (taken : Taken) → 1 ≤ length xs → x ≡ get_or xs 0 x →
-    exit_of frames usage xs taken
+    exit_of origin frames usage xs taken
     ≡ then_by (lowered frames Unused x) (λ status.
-    gives (voided usage (status.statements ++ leaf head.Stop ∷ []))) taken
+    gives (voided usage (status.statements ++ leaf origin head.Stop ∷ []))) taken
 unfolding exit_of lowered by_usage
-exit_some frames usage [] x taken h is = absurd (omega arith)
-exit_some frames usage (y ∷ xs) x taken h is =
+exit_some origin frames usage [] x taken h is = absurd (omega arith)
+exit_some origin frames usage (y ∷ xs) x taken h is =
     ap (λ e. then_by (rows frames e).unused (λ before.
-    gives (voided usage (before ++ leaf head.Stop ∷ []))) taken) (sym is)
+    gives (voided usage (before ++ leaf origin head.Stop ∷ []))) taken) (sym is)

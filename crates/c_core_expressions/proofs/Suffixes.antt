@@ -27,38 +27,43 @@ use Rattle.c_core_expressions.proofs.Variants.{rows_Postfix, suffix_Index, suffi
 use Rattle.c_core_expressions.proofs.Variants.{suffix_Skipped}
 
 -- suffixes up to the one of a number are those before it, and that one behind them
-with_next : (frames : Frames) (base : Rows) (suffixes : List TypedSuffix) (n : ℕ)
+with_next : (origin : ℕ) (frames : Frames) (base : Rows) (suffixes : List TypedSuffix) (n : ℕ)
     (s : TypedSuffix) → n < length suffixes → s ≡ get_or suffixes n s →
-    suffixed frames base (map (suffix_of frames) (take (suc n) suffixes))
-    ≡ suffix_rows frames (suffixed frames base (map (suffix_of frames) (take n suffixes)))
+    suffixed origin frames base (map (suffix_of frames) (take (suc n) suffixes))
+    ≡ suffix_rows origin frames (suffixed origin frames base
+    (map (suffix_of frames) (take n suffixes)))
     (suffix_of frames s)
-with_next frames base [] n s e h = absurd (omega arith)
-with_next frames base (x ∷ xs) zero s e h =
-    ap (λ y. suffix_rows frames base (suffix_of frames y)) (sym h)
-with_next frames base (x ∷ xs) (suc n) s e h =
-    with_next frames (suffix_rows frames base (suffix_of frames x)) xs n s (omega arith) h
+with_next origin frames base [] n s e h = absurd (omega arith)
+with_next origin frames base (x ∷ xs) zero s e h =
+    ap (λ y. suffix_rows origin frames base (suffix_of frames y)) (sym h)
+with_next origin frames base (x ∷ xs) (suc n) s e h =
+    with_next origin frames (suffix_rows origin frames base (suffix_of frames x)) xs n s
+    (omega arith) h
 
 take_all : (suffixes : List TypedSuffix) → take (length suffixes) suffixes ≡ suffixes
 take_all [] = refl
 take_all (s ∷ suffixes) = ap (λ xs. s ∷ xs) (take_all suffixes)
 
 -- the same of the first suffixes of a postfix expression, and of all of them
-front_next : (frames : Frames) (base : TypedExpression) (suffixes : List TypedSuffix) (count n : ℕ)
+front_next : (origin : ℕ) (frames : Frames) (base : TypedExpression) (suffixes : List TypedSuffix)
+    (count n : ℕ)
     (s : TypedSuffix) → count ≡ suc n → count ≤ length suffixes → s ≡ get_or suffixes n s →
-    suffixed_by frames base (take count suffixes)
-    ≡ suffix_rows frames (suffixed_by frames base (take n suffixes)) (suffix_of frames s)
-front_next frames base suffixes count n s e k h =
-    ap (λ m. suffixed_by frames base (take m suffixes)) e
-    ∙ with_next frames (rows frames base) suffixes n s (omega arith) h
+    suffixed_by origin frames base (take count suffixes)
+    ≡ suffix_rows origin frames (suffixed_by origin frames base (take n suffixes))
+    (suffix_of frames s)
+front_next origin frames base suffixes count n s e k h =
+    ap (λ m. suffixed_by origin frames base (take m suffixes)) e
+    ∙ with_next origin frames (rows frames base) suffixes n s (omega arith) h
 
 rows_last : (frames : Frames) (base : TypedExpression) (suffixes : List TypedSuffix) (place n : ℕ)
     (s : TypedSuffix) → length suffixes ≡ suc n → s ≡ get_or suffixes n s →
     rows frames (tree.Postfix base suffixes place)
-    ≡ suffix_rows frames (suffixed_by frames base (take n suffixes)) (suffix_of frames s)
+    ≡ suffix_rows place frames (suffixed_by place frames base (take n suffixes))
+    (suffix_of frames s)
 rows_last frames base suffixes place n s e h =
     rows_Postfix frames base suffixes place
-    ∙ ap (suffixed_by frames base) (sym (take_all suffixes))
-    ∙ front_next frames base suffixes (length suffixes) n s e (omega arith) h
+    ∙ ap (suffixed_by place frames base) (sym (take_all suffixes))
+    ∙ front_next place frames base suffixes (length suffixes) n s e (omega arith) h
 
 -- without a suffix it is its base
 rows_base : (frames : Frames) (base : TypedExpression) (suffixes : List TypedSuffix) (place : ℕ) →
@@ -101,49 +106,52 @@ names_base frames base suffixes place e =
 target_all : (frames : Frames) (base : TypedExpression) (suffixes : List TypedSuffix)
     (place : ℕ) →
     (rows frames (tree.Postfix base suffixes place)).target
-    ≡ (suffixed_by frames base (take (length suffixes) suffixes)).target
+    ≡ (suffixed_by place frames base (take (length suffixes) suffixes)).target
 target_all frames base suffixes place =
     ap (λ r. r.target) (rows_Postfix frames base suffixes place)
-    ∙ ap (λ xs. (suffixed_by frames base xs).target) (sym (take_all suffixes))
+    ∙ ap (λ xs. (suffixed_by place frames base xs).target) (sym (take_all suffixes))
 
 -- what stands behind a suffix has no name
-unnamed : (frames : Frames) (base : Rows) (s : ReadSuffix) →
-    (suffix_rows frames base s).names ≡ None
-unnamed frames base (TypedSuffix-F.Index index kind place) = refl
-unnamed frames base (TypedSuffix-F.Call arguments kind place) = refl
-unnamed frames base (TypedSuffix-F.Step operator kind place) = refl
-unnamed frames base (TypedSuffix-F.Skipped kind place) = refl
+unnamed : (origin : ℕ) (frames : Frames) (base : Rows) (s : ReadSuffix) →
+    (suffix_rows origin frames base s).names ≡ None
+unnamed origin frames base (TypedSuffix-F.Index index kind place) = refl
+unnamed origin frames base (TypedSuffix-F.Call arguments kind place) = refl
+unnamed origin frames base (TypedSuffix-F.Step operator kind place) = refl
+unnamed origin frames base (TypedSuffix-F.Skipped kind place) = refl
 
-unnamed_behind : (frames : Frames) (base : Rows) (suffixes : List TypedSuffix) → base.names ≡ None →
-    (suffixed frames base (map (suffix_of frames) suffixes)).names ≡ None
-unnamed_behind frames base [] e = e
-unnamed_behind frames base (s ∷ suffixes) e =
-    unnamed_behind frames (suffix_rows frames base (suffix_of frames s)) suffixes
-    (unnamed frames base (suffix_of frames s))
+unnamed_behind : (origin : ℕ) (frames : Frames) (base : Rows) (suffixes : List TypedSuffix) →
+    base.names ≡ None →
+    (suffixed origin frames base (map (suffix_of frames) suffixes)).names ≡ None
+unnamed_behind origin frames base [] e = e
+unnamed_behind origin frames base (s ∷ suffixes) e =
+    unnamed_behind origin frames (suffix_rows origin frames base (suffix_of frames s)) suffixes
+    (unnamed origin frames base (suffix_of frames s))
 
-pub names_behind : (frames : Frames) (base : TypedExpression) (suffixes : List TypedSuffix)
+pub names_behind : (origin : ℕ) (frames : Frames) (base : TypedExpression)
+    (suffixes : List TypedSuffix)
     (count : ℕ) → 0 < count → count ≤ length suffixes →
-    (suffixed_by frames base (take count suffixes)).names ≡ None
-names_behind frames base [] count h k = absurd (omega arith)
-names_behind frames base (s ∷ suffixes) zero h k = absurd (omega arith)
-names_behind frames base (s ∷ suffixes) (suc n) h k =
-    unnamed_behind frames (suffix_rows frames (rows frames base) (suffix_of frames s))
-    (take n suffixes) (unnamed frames (rows frames base) (suffix_of frames s))
+    (suffixed_by origin frames base (take count suffixes)).names ≡ None
+names_behind origin frames base [] count h k = absurd (omega arith)
+names_behind origin frames base (s ∷ suffixes) zero h k = absurd (omega arith)
+names_behind origin frames base (s ∷ suffixes) (suc n) h k =
+    unnamed_behind origin frames (suffix_rows origin frames (rows frames base) (suffix_of frames s))
+    (take n suffixes) (unnamed origin frames (rows frames base) (suffix_of frames s))
 
 pub names_Postfix : (frames : Frames) (base : TypedExpression) (suffixes : List TypedSuffix)
     (place : ℕ) → 0 < length suffixes →
     (rows frames (tree.Postfix base suffixes place)).names ≡ None
 names_Postfix frames base suffixes place h =
     ap (λ r. r.names) (rows_Postfix frames base suffixes place)
-    ∙ ap (λ xs. (suffixed_by frames base xs).names) (sym (take_all suffixes))
-    ∙ names_behind frames base suffixes (length suffixes) h (omega arith)
+    ∙ ap (λ xs. (suffixed_by place frames base xs).names) (sym (take_all suffixes))
+    ∙ names_behind place frames base suffixes (length suffixes) h (omega arith)
 
 -- a postfix expression, its base and suffixes read, is the last of these behind the others
 pub rows_of_last : (frames : Frames) (e base first : TypedExpression)
     (suffixes all : List TypedSuffix) (place n : ℕ) (s : TypedSuffix) →
     e ≡ tree.Postfix base suffixes place → first ≡ base → all ≡ suffixes →
     length all ≡ n + 1 → s ≡ get_or all n s →
-    rows frames e ≡ suffix_rows frames (suffixed_by frames first (take n all)) (suffix_of frames s)
+    rows frames e ≡ suffix_rows place frames (suffixed_by place frames first (take n all))
+    (suffix_of frames s)
 rows_of_last frames e base first suffixes all place n s is f a h spot =
     ap (rows frames) (is
     ∙ ap (λ b. tree.Postfix b suffixes place) (sym f)
@@ -157,119 +165,128 @@ unfolding lowered
 last_by frames usage e r taken is = ap (λ x. row_by usage x taken) is
 
 -- a suffix behind what has this name
-index_by : (frames : Frames) (usage : Usage) (front : Rows) (index : TypedExpression)
+index_by : (origin : ℕ) (frames : Frames) (usage : Usage) (front : Rows) (index : TypedExpression)
     (kind : Option Kind) (p : ℕ) (found : Option Meaning) (taken : Taken) →
     front.names ≡ found →
-    row_by usage (suffix_rows frames front (suffix_of frames (behind.Index index kind p))) taken
-    ≡ then_by (lowered frames Used index) (element_behind usage found) taken
+    row_by usage (suffix_rows origin frames front (suffix_of frames (behind.Index index kind p)))
+    taken
+    ≡ then_by (lowered frames Used index) (element_behind origin usage found) taken
 unfolding by_usage lowered element_behind finished
-index_by frames Used front index kind p found taken named =
-    ap (λ s. (suffix_rows frames front s).used taken) (suffix_Index frames index kind p)
-    ∙ ap (λ f. (element_rows f (rows frames index).used).used taken) named
-index_by frames Unused front index kind p found taken named =
-    ap (λ s. row_by Unused (suffix_rows frames front s) taken) (suffix_Index frames index kind p)
-    ∙ ap (λ f. row_by Unused (element_rows f (rows frames index).used) taken) named
+index_by origin frames Used front index kind p found taken named =
+    ap (λ s. (suffix_rows origin frames front s).used taken) (suffix_Index frames index kind p)
+    ∙ ap (λ f. (element_rows origin f (rows frames index).used).used taken) named
+index_by origin frames Unused front index kind p found taken named =
+    ap (λ s. row_by Unused (suffix_rows origin frames front s) taken)
+    (suffix_Index frames index kind p)
+    ∙ ap (λ f. row_by Unused (element_rows origin f (rows frames index).used) taken) named
 
-call_by : (frames : Frames) (usage : Usage) (front : Rows) (arguments : List TypedExpression)
+call_by : (origin : ℕ) (frames : Frames) (usage : Usage) (front : Rows)
+    (arguments : List TypedExpression)
     (kind : Option Kind) (p : ℕ) (found : Option Meaning) (taken : Taken) →
     front.names ≡ found →
-    row_by usage (suffix_rows frames front (suffix_of frames (behind.Call arguments kind p))) taken
-    ≡ call_of frames usage found arguments taken
+    row_by usage (suffix_rows origin frames front (suffix_of frames (behind.Call arguments kind p)))
+    taken
+    ≡ call_of origin frames usage found arguments taken
 unfolding call_of
-call_by frames usage front arguments kind p found taken named =
-    ap (λ s. row_by usage (suffix_rows frames front s) taken)
+call_by origin frames usage front arguments kind p found taken named =
+    ap (λ s. row_by usage (suffix_rows origin frames front s) taken)
     (suffix_Call frames arguments kind p)
-    ∙ ap (λ f. row_by usage (call_rows frames f (map (rows frames) arguments)) taken) named
+    ∙ ap (λ f. row_by usage (call_rows origin frames f (map (rows frames) arguments)) taken) named
 
-skipped_by : (frames : Frames) (usage : Usage) (front : Rows) (kind : Option Kind) (p : ℕ)
+skipped_by : (origin : ℕ) (frames : Frames) (usage : Usage) (front : Rows) (kind : Option Kind)
+    (p : ℕ)
     (found : Option Meaning) (taken : Taken) → front.names ≡ found →
-    row_by usage (suffix_rows frames front (suffix_of frames (behind.Skipped kind p))) taken
-    ≡ call_of frames usage found [] taken
+    row_by usage (suffix_rows origin frames front (suffix_of frames (behind.Skipped kind p))) taken
+    ≡ call_of origin frames usage found [] taken
 unfolding call_of
-skipped_by frames usage front kind p found taken named =
-    ap (λ s. row_by usage (suffix_rows frames front s) taken) (suffix_Skipped frames kind p)
-    ∙ ap (λ f. row_by usage (call_rows frames f []) taken) named
+skipped_by origin frames usage front kind p found taken named =
+    ap (λ s. row_by usage (suffix_rows origin frames front s) taken) (suffix_Skipped frames kind p)
+    ∙ ap (λ f. row_by usage (call_rows origin frames f []) taken) named
 
-step_by : (frames : Frames) (usage : Usage) (front : Rows) (operator : StepOperator)
+step_by : (origin : ℕ) (frames : Frames) (usage : Usage) (front : Rows) (operator : StepOperator)
     (kind : Option Kind) (p : ℕ) (taken : Taken) →
-    row_by usage (suffix_rows frames front (suffix_of frames (behind.Step operator kind p))) taken
-    ≡ then_by (placed true front.target) (stepped_for usage operator) taken
+    row_by usage (suffix_rows origin frames front (suffix_of frames (behind.Step operator kind p)))
+    taken
+    ≡ then_by (placed origin true front.target) (stepped_for origin usage operator) taken
 unfolding by_usage stepped_for
-step_by frames Used front operator kind p taken =
-    ap (λ s. (suffix_rows frames front s).used taken) (suffix_Step frames operator kind p)
-step_by frames Unused front operator kind p taken =
-    ap (λ s. row_by Unused (suffix_rows frames front s) taken)
+step_by origin frames Used front operator kind p taken =
+    ap (λ s. (suffix_rows origin frames front s).used taken) (suffix_Step frames operator kind p)
+step_by origin frames Unused front operator kind p taken =
+    ap (λ s. row_by Unused (suffix_rows origin frames front s) taken)
     (suffix_Step frames operator kind p)
 
 -- what an expression makes that is this suffix behind what has this name
-pub of_Index : (frames : Frames) (usage : Usage) (e : TypedExpression) (front : Rows)
+pub of_Index : (origin : ℕ) (frames : Frames) (usage : Usage) (e : TypedExpression) (front : Rows)
     (s : TypedSuffix) (index : TypedExpression) (kind : Option Kind) (p : ℕ)
     (found : Option Meaning) (taken between : Taken) (i : Valued) →
-    rows frames e ≡ suffix_rows frames front (suffix_of frames s) → s ≡ behind.Index index kind p →
+    rows frames e ≡ suffix_rows origin frames front (suffix_of frames s) →
+    s ≡ behind.Index index kind p →
     front.names ≡ found → between ≡ (lowered frames Used index taken).taken →
     i ≡ (lowered frames Used index taken).made →
-    element_behind usage found i between ≡ lowered frames usage e taken
-of_Index frames usage e front s index kind p found taken between i r is named c m =
-    ap (λ v. element_behind usage found v between) m
-    ∙ ap (element_behind usage found (lowered frames Used index taken).made) c
-    ∙ sym (last_by frames usage e (suffix_rows frames front (suffix_of frames s)) taken r
-    ∙ ap (λ x. row_by usage (suffix_rows frames front (suffix_of frames x)) taken) is
-    ∙ index_by frames usage front index kind p found taken named)
+    element_behind origin usage found i between ≡ lowered frames usage e taken
+of_Index origin frames usage e front s index kind p found taken between i r is named c m =
+    ap (λ v. element_behind origin usage found v between) m
+    ∙ ap (element_behind origin usage found (lowered frames Used index taken).made) c
+    ∙ sym (last_by frames usage e (suffix_rows origin frames front (suffix_of frames s)) taken r
+    ∙ ap (λ x. row_by usage (suffix_rows origin frames front (suffix_of frames x)) taken) is
+    ∙ index_by origin frames usage front index kind p found taken named)
 
-pub of_Call : (frames : Frames) (usage : Usage) (e : TypedExpression) (front : Rows)
+pub of_Call : (origin : ℕ) (frames : Frames) (usage : Usage) (e : TypedExpression) (front : Rows)
     (s : TypedSuffix) (arguments handed : List TypedExpression) (kind : Option Kind) (p : ℕ)
     (found : Option Meaning) (taken : Taken) →
-    rows frames e ≡ suffix_rows frames front (suffix_of frames s) →
+    rows frames e ≡ suffix_rows origin frames front (suffix_of frames s) →
     s ≡ behind.Call arguments kind p → front.names ≡ found → handed ≡ arguments →
-    call_of frames usage found handed taken ≡ lowered frames usage e taken
-of_Call frames usage e front s arguments handed kind p found taken r is named a =
-    ap (λ xs. call_of frames usage found xs taken) a
-    ∙ sym (last_by frames usage e (suffix_rows frames front (suffix_of frames s)) taken r
-    ∙ ap (λ x. row_by usage (suffix_rows frames front (suffix_of frames x)) taken) is
-    ∙ call_by frames usage front arguments kind p found taken named)
+    call_of origin frames usage found handed taken ≡ lowered frames usage e taken
+of_Call origin frames usage e front s arguments handed kind p found taken r is named a =
+    ap (λ xs. call_of origin frames usage found xs taken) a
+    ∙ sym (last_by frames usage e (suffix_rows origin frames front (suffix_of frames s)) taken r
+    ∙ ap (λ x. row_by usage (suffix_rows origin frames front (suffix_of frames x)) taken) is
+    ∙ call_by origin frames usage front arguments kind p found taken named)
 
-pub of_Skipped : (frames : Frames) (usage : Usage) (e : TypedExpression) (front : Rows)
+pub of_Skipped : (origin : ℕ) (frames : Frames) (usage : Usage) (e : TypedExpression) (front : Rows)
     (s : TypedSuffix) (kind : Option Kind) (p : ℕ) (found : Option Meaning) (taken : Taken) →
-    rows frames e ≡ suffix_rows frames front (suffix_of frames s) → s ≡ behind.Skipped kind p →
-    front.names ≡ found → call_of frames usage found [] taken ≡ lowered frames usage e taken
-of_Skipped frames usage e front s kind p found taken r is named =
-    sym (last_by frames usage e (suffix_rows frames front (suffix_of frames s)) taken r
-    ∙ ap (λ x. row_by usage (suffix_rows frames front (suffix_of frames x)) taken) is
-    ∙ skipped_by frames usage front kind p found taken named)
+    rows frames e ≡ suffix_rows origin frames front (suffix_of frames s) →
+    s ≡ behind.Skipped kind p →
+    front.names ≡ found → call_of origin frames usage found [] taken ≡ lowered frames usage e taken
+of_Skipped origin frames usage e front s kind p found taken r is named =
+    sym (last_by frames usage e (suffix_rows origin frames front (suffix_of frames s)) taken r
+    ∙ ap (λ x. row_by usage (suffix_rows origin frames front (suffix_of frames x)) taken) is
+    ∙ skipped_by origin frames usage front kind p found taken named)
 
 -- the target of the suffixes before the last, as `front_target` says it
 front_of : (frames : Frames) (e base first : TypedExpression) (suffixes all : List TypedSuffix)
     (place n : ℕ) → e ≡ tree.Postfix base suffixes place → first ≡ base → all ≡ suffixes →
-    front_target frames (out-TypedExpression e) n ≡ (suffixed_by frames first (take n all)).target
+    front_target frames (out-TypedExpression e) n
+    ≡ (suffixed_by place frames first (take n all)).target
 front_of frames e base first suffixes all place n is f a =
     ap (λ x. front_target frames (out-TypedExpression x) n) is
     ∙ ap (λ x. front_target frames x n)
     (ap out-TypedExpression (sym (tree.rolls-Postfix base suffixes place))
     ∙ out-roll-TypedExpression (TypedExpression-F.Postfix base suffixes place))
-    ∙ ap (λ b. (suffixed_by frames b (take n suffixes)).target) (sym f)
-    ∙ ap (λ xs. (suffixed_by frames first (take n xs)).target) (sym a)
+    ∙ ap (λ b. (suffixed_by place frames b (take n suffixes)).target) (sym f)
+    ∙ ap (λ xs. (suffixed_by place frames first (take n xs)).target) (sym a)
 
 pub of_Step : (frames : Frames) (usage : Usage) (e base first : TypedExpression)
     (suffixes all : List TypedSuffix) (place n : ℕ) (s : TypedSuffix) (operator : StepOperator)
     (kind : Option Kind) (p : ℕ) (taken between : Taken) (spot : Place) →
     e ≡ tree.Postfix base suffixes place → first ≡ base → all ≡ suffixes →
     length all ≡ n + 1 → s ≡ get_or all n s → s ≡ behind.Step operator kind p →
-    between ≡ (placed true (front_target frames (out-TypedExpression e) n) taken).taken →
-    spot ≡ (placed true (front_target frames (out-TypedExpression e) n) taken).made →
-    stepped_for usage operator spot between ≡ lowered frames usage e taken
+    between ≡ (placed place true (front_target frames (out-TypedExpression e) n) taken).taken →
+    spot ≡ (placed place true (front_target frames (out-TypedExpression e) n) taken).made →
+    stepped_for place usage operator spot between ≡ lowered frames usage e taken
 of_Step frames usage e base first suffixes all place n s operator kind p taken between spot is f a h
     g q b m =
-    let front = suffixed_by frames first (take n all) in
+    let front = suffixed_by place frames first (take n all) in
     let whole : lowered frames usage e taken
-    ≡ then_by (placed true front.target) (stepped_for usage operator) taken =
-    last_by frames usage e (suffix_rows frames front (suffix_of frames s)) taken
+    ≡ then_by (placed place true front.target) (stepped_for place usage operator) taken =
+    last_by frames usage e (suffix_rows place frames front (suffix_of frames s)) taken
     (rows_of_last frames e base first suffixes all place n s is f a h g)
-    ∙ ap (λ x. row_by usage (suffix_rows frames front (suffix_of frames x)) taken) q
-    ∙ step_by frames usage front operator kind p taken in
-    ap (λ x. stepped_for usage operator x between) m
-    ∙ ap (stepped_for usage operator (placed true
+    ∙ ap (λ x. row_by usage (suffix_rows place frames front (suffix_of frames x)) taken) q
+    ∙ step_by place frames usage front operator kind p taken in
+    ap (λ x. stepped_for place usage operator x between) m
+    ∙ ap (stepped_for place usage operator (placed place true
     (front_target frames (out-TypedExpression e) n) taken).made) b
-    ∙ ap (λ x. then_by (placed true x) (stepped_for usage operator) taken)
+    ∙ ap (λ x. then_by (placed place true x) (stepped_for place usage operator) taken)
     (front_of frames e base first suffixes all place n is f a)
     ∙ sym whole
 
@@ -289,27 +306,29 @@ pub placed_all : (frames : Frames) (e base : TypedExpression) (suffixes : List T
     front_target frames (out-TypedExpression e) count ≡ (rows frames e).target
 placed_all frames e base suffixes place count is h =
     front_of frames e base base suffixes suffixes place count is refl refl
-    ∙ ap (λ n. (suffixed_by frames base (take n suffixes)).target) h
+    ∙ ap (λ n. (suffixed_by place frames base (take n suffixes)).target) h
     ∙ sym (target_all frames base suffixes place)
     ∙ ap (λ x. (rows frames x).target) (sym is)
 
 -- the first suffixes as a left side, by the last of them
-by_suffix : (frames : Frames) (front : Rows) (s : ReadSuffix) (found : Option Meaning) →
-    front.names ≡ found → (suffix_rows frames front s).target ≡ suffix_target found s
-by_suffix frames front (TypedSuffix-F.Index index kind place) found e =
+by_suffix : (origin : ℕ) (frames : Frames) (front : Rows) (s : ReadSuffix)
+    (found : Option Meaning) →
+    front.names ≡ found → (suffix_rows origin frames front s).target ≡ suffix_target found s
+by_suffix origin frames front (TypedSuffix-F.Index index kind place) found e =
     ap (λ f. element_target f index.used) e
-by_suffix frames front (TypedSuffix-F.Call arguments kind place) found e = refl
-by_suffix frames front (TypedSuffix-F.Step operator kind place) found e = refl
-by_suffix frames front (TypedSuffix-F.Skipped kind place) found e = refl
+by_suffix origin frames front (TypedSuffix-F.Call arguments kind place) found e = refl
+by_suffix origin frames front (TypedSuffix-F.Step operator kind place) found e = refl
+by_suffix origin frames front (TypedSuffix-F.Skipped kind place) found e = refl
 
 pub target_by : (frames : Frames) (e base first : TypedExpression) (suffixes all : List TypedSuffix)
     (place count n : ℕ) (s : TypedSuffix) (found : Option Meaning) →
     e ≡ tree.Postfix base suffixes place → first ≡ base → all ≡ suffixes →
     count ≡ n + 1 → count ≤ length all → s ≡ get_or all n s →
-    (suffixed_by frames first (take n all)).names ≡ found →
+    (suffixed_by place frames first (take n all)).names ≡ found →
     suffix_target found (suffix_of frames s)
     ≡ front_target frames (out-TypedExpression e) count
 target_by frames e base first suffixes all place count n s found is f a c h g named =
     sym (front_of frames e base first suffixes all place count is f a
-    ∙ ap (λ r. r.target) (front_next frames first all count n s (omega arith) h g)
-    ∙ by_suffix frames (suffixed_by frames first (take n all)) (suffix_of frames s) found named)
+    ∙ ap (λ r. r.target) (front_next place frames first all count n s (omega arith) h g)
+    ∙ by_suffix place frames (suffixed_by place frames first (take n all)) (suffix_of frames s)
+    found named)

@@ -84,7 +84,7 @@ lowered_unused frames e taken = refl
 pub of_Name : (frames : Frames) (usage : Usage)
     (found : Option Meaning) (place : ℕ) (taken : Taken) →
     lowered frames usage (tree.Name found place) taken
-    ≡ name_for usage found taken
+    ≡ name_for place usage found taken
 unfolding lowered by_usage name_for finished
 of_Name frames Used found place taken =
     opened_by frames Used (tree.Name found place) (TypedExpression-F.Name found place) taken
@@ -96,7 +96,7 @@ of_Name frames Unused found place taken =
 pub of_Number : (frames : Frames) (usage : Usage)
     (t : IntType) (n : ℤ) (place : ℕ) (taken : Taken) →
     lowered frames usage (tree.Number t n place) taken
-    ≡ finished usage (pure (Const t n)) taken
+    ≡ finished place usage (pure (Const t n)) taken
 unfolding lowered by_usage finished
 of_Number frames Used t n place taken =
     opened_by frames Used (tree.Number t n place) (TypedExpression-F.Number t n place) taken
@@ -107,7 +107,7 @@ of_Number frames Unused t n place taken =
 
 pub of_Character : (frames : Frames) (usage : Usage) (n : ℤ) (place : ℕ) (taken : Taken) →
     lowered frames usage (tree.Character n place) taken
-    ≡ finished usage (pure (Const ty.I32 n)) taken
+    ≡ finished place usage (pure (Const ty.I32 n)) taken
 unfolding lowered by_usage finished
 of_Character frames Used n place taken =
     opened_by frames Used (tree.Character n place) (TypedExpression-F.Character n place) taken
@@ -134,7 +134,8 @@ pub of_PrefixStep : (frames : Frames) (usage : Usage)
     (operator : StepOperator) (operand : TypedExpression)
     (kind : Option Kind) (place : ℕ) (taken : Taken) →
     lowered frames usage (tree.PrefixStep operator operand kind place) taken
-    ≡ then_by (placed true (rows frames operand).target) (incremented_for usage operator) taken
+    ≡ then_by (placed place true (rows frames operand).target)
+    (incremented_for place usage operator) taken
 unfolding lowered by_usage incremented_for kept_for
 of_PrefixStep frames Used operator operand kind place taken =
     opened_by frames Used (tree.PrefixStep operator operand kind place)
@@ -149,7 +150,7 @@ pub of_Unary : (frames : Frames) (usage : Usage)
     (operator : UnaryOperator) (operand : TypedExpression)
     (kind : Option Kind) (place : ℕ) (taken : Taken) →
     lowered frames usage (tree.Unary operator operand kind place) taken
-    ≡ then_by (lowered frames Used operand) (signed_for usage operator) taken
+    ≡ then_by (lowered frames Used operand) (signed_for place usage operator) taken
 unfolding lowered by_usage signed_for finished
 of_Unary frames Used operator operand kind place taken =
     opened_by frames Used (tree.Unary operator operand kind place)
@@ -163,7 +164,7 @@ of_Unary frames Unused operator operand kind place taken =
 pub of_Cast : (frames : Frames) (usage : Usage)
     (operand : TypedExpression) (t : IntType) (place : ℕ) (taken : Taken) →
     lowered frames usage (tree.Cast operand (Some (Value t)) place) taken
-    ≡ then_by (lowered frames Used operand) (cast_for usage t) taken
+    ≡ then_by (lowered frames Used operand) (cast_for place usage t) taken
 unfolding lowered by_usage cast_for finished
 of_Cast frames Used operand t place taken =
     opened_by frames Used (tree.Cast operand (Some (Value t)) place)
@@ -205,18 +206,18 @@ of_Untyped frames Unused operand place taken =
 pub of_Chain : (frames : Frames) (usage : Usage) (first : TypedExpression)
     (rest : List (BinaryOperator × TypedExpression)) (kind : Option Kind) (place : ℕ)
     (taken : Taken) → lowered frames usage (tree.Chain first rest kind place) taken
-    ≡ then_by (lowered frames Used first) (λ left. linked_to frames usage left rest) taken
+    ≡ then_by (lowered frames Used first) (λ left. linked_to place frames usage left rest) taken
 unfolding lowered by_usage finished linked_to
 of_Chain frames Used first rest kind place taken =
     opened_by frames Used (tree.Chain first rest kind place)
     (TypedExpression-F.Chain first rest kind place) taken (tree.rolls-Chain first rest kind place)
-    ∙ ap (λ (m : Made Valued). finished Used m.made m.taken)
-    (chained_from (rows frames first).used (map (link_rows frames) rest) taken)
+    ∙ ap (λ (m : Made Valued). finished place Used m.made m.taken)
+    (chained_from place (rows frames first).used (map (link_rows frames) rest) taken)
 of_Chain frames Unused first rest kind place taken =
     opened_by frames Unused (tree.Chain first rest kind place)
     (TypedExpression-F.Chain first rest kind place) taken (tree.rolls-Chain first rest kind place)
-    ∙ ap (λ (m : Made Valued). finished Unused m.made m.taken)
-    (chained_from (rows frames first).used (map (link_rows frames) rest) taken)
+    ∙ ap (λ (m : Made Valued). finished place Unused m.made m.taken)
+    (chained_from place (rows frames first).used (map (link_rows frames) rest) taken)
 
 pub of_Conditional : (frames : Frames) (usage : Usage) (test first second : TypedExpression)
     (kind : Option Kind) (place : ℕ) (taken : Taken) →
@@ -224,7 +225,7 @@ pub of_Conditional : (frames : Frames) (usage : Usage) (test first second : Type
     ≡ then_by (lowered frames Used test) (λ v.
     then_by (lowered frames (usage_of_ends usage kind) first) (λ a.
     then_by (lowered frames (usage_of_ends usage kind) second) (λ b.
-    chosen_for usage (usage_of_ends usage kind) v a b))) taken
+    chosen_for place usage (usage_of_ends usage kind) v a b))) taken
 unfolding lowered by_usage finished usage_of_ends chosen_for
 of_Conditional frames Used test first second None place taken =
     opened_by frames Used (tree.Conditional test first second None place)
@@ -255,8 +256,8 @@ pub of_Assignment : (frames : Frames) (usage : Usage)
     (left : TypedExpression) (operator : AssignmentOperator)
     (right : TypedExpression) (kind : Option Kind) (place : ℕ) (taken : Taken) →
     lowered frames usage (tree.Assignment left operator right kind place) taken
-    ≡ then_by (placed (is_some (operator_of operator)) (rows frames left).target) (λ p.
-    then_by (lowered frames Used right) (changed_for usage (operator_of operator) p)) taken
+    ≡ then_by (placed place (is_some (operator_of operator)) (rows frames left).target) (λ p.
+    then_by (lowered frames Used right) (changed_for place usage (operator_of operator) p)) taken
 unfolding lowered by_usage changed_for kept_for
 of_Assignment frames Used left operator right kind place taken =
     opened_by frames Used (tree.Assignment left operator right kind place)
@@ -515,7 +516,7 @@ names_Cast frames operand (Some (Value t)) place = names_Valued frames operand t
 
 pub rows_Postfix : (frames : Frames) (base : TypedExpression) (suffixes : List TypedSuffix)
     (place : ℕ) →
-    rows frames (tree.Postfix base suffixes place) ≡ suffixed_by frames base suffixes
+    rows frames (tree.Postfix base suffixes place) ≡ suffixed_by place frames base suffixes
 rows_Postfix frames base suffixes place =
     opened frames (tree.Postfix base suffixes place)
     (TypedExpression-F.Postfix base suffixes place)
@@ -550,11 +551,13 @@ suffix_Skipped frames kind place =
     (behind.rolls-Skipped kind place)
 
 -- an element as a left side, its index evaluated
-pub placed_Index : (frames : Frames) (fixes : Bool) (found : Option Meaning)
+pub placed_Index : (origin : ℕ) (frames : Frames) (fixes : Bool) (found : Option Meaning)
     (index : TypedExpression) (kind : Option Kind) (place : ℕ) (taken : Taken) →
-    placed fixes (suffix_target found (suffix_of frames (behind.Index index kind place))) taken
-    ≡ then_by (lowered frames Used index) (λ i. then_by (fixed_if fixes i) (λ kept.
+    placed origin fixes (suffix_target found (suffix_of frames (behind.Index index kind place)))
+    taken
+    ≡ then_by (lowered frames Used index) (λ i. then_by (fixed_if origin fixes i) (λ kept.
     then_by (located found) (λ location. gives (spot.Element location kept)))) taken
 unfolding lowered by_usage
-placed_Index frames fixes found index kind place taken =
-    ap (λ s. placed fixes (suffix_target found s) taken) (suffix_Index frames index kind place)
+placed_Index origin frames fixes found index kind place taken =
+    ap (λ s. placed origin fixes (suffix_target found s) taken)
+    (suffix_Index frames index kind place)

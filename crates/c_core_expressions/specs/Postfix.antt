@@ -14,5 +14,5 @@ use Rattle.c_core_expressions.specs.Rows.{row_by, suffixed_by}
 abbrev pub postfix_of : Frames → Usage → TypedExpression-F TypedExpression TypedSuffix →
     Rule Valued
 postfix_of frames usage (TypedExpression-F.Postfix base suffixes place) =
-    row_by usage (suffixed_by frames base suffixes)
+    row_by usage (suffixed_by place frames base suffixes)
 postfix_of frames usage _ = gives (pure (int 0))

@@ -56,9 +56,10 @@ kept_for Used v = v
 kept_for Unused v = unvalued v.statements
 
 -- of what is evaluated: the value is dropped where it is not used
-unfoldable pub finished : Usage → Valued → Rule Valued
-finished Used v = gives v
-finished Unused v = then_by (dropped_value v) (λ statements. gives (unvalued statements))
+unfoldable pub finished : ℕ → Usage → Valued → Rule Valued
+finished origin Used v = gives v
+finished origin Unused v = then_by (dropped_value origin v)
+    (λ statements. gives (unvalued statements))
 
 -- of what has no value
 unfoldable pub voided : Usage → Trees → Valued
@@ -66,40 +67,41 @@ voided Used statements = valued statements no_value
 voided Unused statements = unvalued statements
 
 -- a scalar that is read
-unfoldable pub name_for : Usage → Option Meaning → Rule Valued
-name_for usage found = then_by (name_used found) (finished usage)
+unfoldable pub name_for : ℕ → Usage → Option Meaning → Rule Valued
+name_for origin usage found = then_by (name_used found) (finished origin usage)
 
 -- a[i] behind its index
-unfoldable pub element_behind : Usage → Option Meaning → Valued → Rule Valued
-element_behind usage found i =
-    then_by (located found) (λ place. finished usage (valued i.statements (element place i.value)))
+unfoldable pub element_behind : ℕ → Usage → Option Meaning → Valued → Rule Valued
+element_behind origin usage found i =
+    then_by (located found) (λ place. finished origin usage
+    (valued i.statements (element place i.value)))
 
 -- an operator before its operand, and a conversion
-unfoldable pub signed_for : Usage → UnaryOperator → Valued → Rule Valued
-signed_for usage operator v = finished usage (signed operator v)
+unfoldable pub signed_for : ℕ → Usage → UnaryOperator → Valued → Rule Valued
+signed_for origin usage operator v = finished origin usage (signed operator v)
 
-unfoldable pub cast_for : Usage → IntType → Valued → Rule Valued
-cast_for usage t v = finished usage (cast_to t v)
+unfoldable pub cast_for : ℕ → Usage → IntType → Valued → Rule Valued
+cast_for origin usage t v = finished origin usage (cast_to t v)
 
 abbrev pub is_used : Usage → Bool
 is_used Used = true
 is_used Unused = false
 
 -- an assignment behind its operands
-unfoldable pub changed_for : Usage → Option BinaryOperator → Place → Valued → Rule Valued
-changed_for usage operator place v =
-    then_by (changed (is_used usage) operator place v) (λ w. gives (kept_for usage w))
+unfoldable pub changed_for : ℕ → Usage → Option BinaryOperator → Place → Valued → Rule Valued
+changed_for origin usage operator place v =
+    then_by (changed origin (is_used usage) operator place v) (λ w. gives (kept_for usage w))
 
 -- ++l and --l behind the place
-unfoldable pub incremented_for : Usage → StepOperator → Place → Rule Valued
-incremented_for usage operator place =
-    then_by (incremented operator place) (λ v. gives (kept_for usage v))
+unfoldable pub incremented_for : ℕ → Usage → StepOperator → Place → Rule Valued
+incremented_for origin usage operator place =
+    then_by (incremented origin operator place) (λ v. gives (kept_for usage v))
 
 -- l++ and l-- behind the place
-unfoldable pub stepped_for : Usage → StepOperator → Place → Rule Valued
-stepped_for Used operator place = stepped operator place
-stepped_for Unused operator place =
-    then_by (incremented operator place) (λ v. gives (unvalued v.statements))
+unfoldable pub stepped_for : ℕ → Usage → StepOperator → Place → Rule Valued
+stepped_for origin Used operator place = stepped origin operator place
+stepped_for origin Unused operator place =
+    then_by (incremented origin operator place) (λ v. gives (unvalued v.statements))
 
 -- how the ends of a conditional are used
 unfoldable pub usage_of_ends : Usage → Option Kind → Usage
@@ -109,45 +111,46 @@ usage_of_ends Unused (Some Void) = Unused
 usage_of_ends Unused (Some (Value t)) = Used
 
 -- a conditional behind its operands, of which the ends are used so
-unfoldable pub chosen_for : Usage → Usage → Valued → Valued → Valued → Rule Valued
-chosen_for usage Used test first second = then_by (chosen test first second) (finished usage)
-chosen_for usage Unused test first second =
+unfoldable pub chosen_for : ℕ → Usage → Usage → Valued → Valued → Valued → Rule Valued
+chosen_for origin usage Used test first second =
+    then_by (chosen origin test first second) (finished origin usage)
+chosen_for origin usage Unused test first second =
     gives (unvalued (test.statements
-    ++ choice test.value first.statements second.statements ∷ []))
+    ++ choice origin test.value first.statements second.statements ∷ []))
 
 -- a call of a function with a body behind its arguments
-unfoldable pub called_behind : Frames → Usage → Function → List Valued → Rule Valued
-called_behind frames usage function arguments =
-    then_by (hold_all arguments) (λ operands.
-    gives (kept_for usage (called_with frames function operands)))
+unfoldable pub called_behind : ℕ → Frames → Usage → Function → List Valued → Rule Valued
+called_behind origin frames usage function arguments =
+    then_by (hold_all origin arguments) (λ operands.
+    gives (kept_for usage (called_with origin frames function operands)))
 
 -- what a known function without a result does
-abbrev pub ended : KnownFunction → Trees
-ended known.ReachError = leaf head.Error ∷ []
-ended _ = leaf head.Stop ∷ []
+abbrev pub ended : ℕ → KnownFunction → Trees
+ended origin known.ReachError = leaf origin head.Error ∷ []
+ended origin _ = leaf origin head.Stop ∷ []
 
 -- a call of a known function that evaluates no argument
-abbrev pub known_alone : Usage → KnownFunction → Rule Valued
-known_alone usage function = elim (known_result function) [
-  | Void ↦ gives (voided usage (ended function))
-  | Value t ↦ then_by (taken_in function) (λ v. gives (kept_for usage v))
+abbrev pub known_alone : ℕ → Usage → KnownFunction → Rule Valued
+known_alone origin usage function = elim (known_result function) [
+  | Void ↦ gives (voided usage (ended origin function))
+  | Value t ↦ then_by (taken_in origin function) (λ v. gives (kept_for usage v))
 ]
 
 -- a call of exit, whose status is evaluated
-unfoldable pub exit_of : Frames → Usage → List TypedExpression → Rule Valued
-exit_of frames usage arguments =
+unfoldable pub exit_of : ℕ → Frames → Usage → List TypedExpression → Rule Valued
+exit_of origin frames usage arguments =
     then_by (first_unused (map (rows frames) arguments)) (λ before.
-    gives (voided usage (before ++ leaf head.Stop ∷ [])))
+    gives (voided usage (before ++ leaf origin head.Stop ∷ [])))
 
 abbrev pub is_exit : KnownFunction → Bool
 is_exit known.Exit = true
 is_exit _ = false
 
 -- a call of what a name stands for
-unfoldable pub call_of : Frames → Usage → Option Meaning → List TypedExpression → Rule Valued
-call_of frames usage found arguments =
-    by_usage usage (call_used frames found (map (rows frames) arguments))
-    (call_unused frames found (map (rows frames) arguments))
+unfoldable pub call_of : ℕ → Frames → Usage → Option Meaning → List TypedExpression → Rule Valued
+call_of origin frames usage found arguments =
+    by_usage usage (call_used origin frames found (map (rows frames) arguments))
+    (call_unused origin frames found (map (rows frames) arguments))
 
 -- a suffix with rows for each expression in it
 unfoldable pub suffix_of : Frames → TypedSuffix → ReadSuffix
@@ -158,20 +161,20 @@ abbrev pub link_rows : Frames → BinaryOperator × TypedExpression → BinaryOp
 link_rows frames link = (link.0, rows frames link.1)
 
 -- an expression with these suffixes behind it
-abbrev pub suffixed_by : Frames → TypedExpression → List TypedSuffix → Rows
-suffixed_by frames base suffixes =
-    suffixed frames (rows frames base) (map (suffix_of frames) suffixes)
+abbrev pub suffixed_by : ℕ → Frames → TypedExpression → List TypedSuffix → Rows
+suffixed_by origin frames base suffixes =
+    suffixed origin frames (rows frames base) (map (suffix_of frames) suffixes)
 
 -- a value with the links behind it
-unfoldable pub linked_to : Frames → Usage → Valued → List (BinaryOperator × TypedExpression) →
+unfoldable pub linked_to : ℕ → Frames → Usage → Valued → List (BinaryOperator × TypedExpression) →
     Rule Valued
-linked_to frames usage left rest =
-    then_by (chained (gives left) (map (link_rows frames) rest)) (finished usage)
+linked_to origin frames usage left rest =
+    then_by (chained origin (gives left) (map (link_rows frames) rest)) (finished origin usage)
 
 -- what the first suffixes of a postfix expression make as a left side
 abbrev pub front_target : Frames → TypedExpression-F TypedExpression TypedSuffix → ℕ → Target
 front_target frames (TypedExpression-F.Postfix base suffixes place) count =
-    (suffixed_by frames base (take count suffixes)).target
+    (suffixed_by place frames base (take count suffixes)).target
 front_target frames _ count = no_target
 
 -- what a suffix makes as a left side, behind what has this name

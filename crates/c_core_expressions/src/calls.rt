@@ -45,17 +45,18 @@ fn each(
 /// A call behind its operands.
 fn called_with(
     frames: &Frames,
+    origin: u32,
     function: Function,
     operands: Vec<Valued>,
 ) -> Result<Valued, AllocError>
-    ensures { IfOk result (λ v. v ≡ called_with frames.now function operands.items) }
+    ensures { IfOk result (λ v. v ≡ called_with origin frames.now function operands.items) }
 {
     let alloc = frames.alloc();
     let body = function.body.unwrap_or(0);
     let (statements, values) = divided(alloc, operands)?;
     let parameters = frames.parameters(body)?;
-    let writes = passed(alloc, parameters.first, parameters.objects, values)?;
-    let behind = with(writes, leaf(alloc, Head::Call { function: body }))?;
+    let writes = passed(alloc, origin, parameters.first, parameters.objects, values)?;
+    let behind = with(writes, leaf(alloc, origin, Head::Call { function: body }))?;
     let statements = joined(statements, behind)?;
     let cell = frames.result_cell(body).base;
     let value = scalar(alloc, cell_at(function.result.object_type(), cell))?;
@@ -66,72 +67,82 @@ fn called_with(
 #[tactic(auto, unfolding(crate::specs::Rows::called_behind))]
 fn called_behind(
     cells: &mut Cells,
+    origin: u32,
     frames: &Frames,
     usage: Usage,
     function: Function,
     arguments: Vec<Valued>,
 ) -> Result<Valued, AllocError>
     ensures taken { OnOk result (so_far cells.new
-        ≡ (called_behind frames.now usage function arguments.items (so_far cells.old)).taken) }
+        ≡ (called_behind origin frames.now usage function arguments.items
+        (so_far cells.old)).taken) }
     ensures made { IfOk result (λ v. v
-        ≡ (called_behind frames.now usage function arguments.items (so_far cells.old)).made) }
+        ≡ (called_behind origin frames.now usage function arguments.items
+        (so_far cells.old)).made) }
 {
-    let operands = hold_all(cells, arguments)?;
-    let v = called_with(frames, function, operands)?;
+    let operands = hold_all(cells, origin, arguments)?;
+    let v = called_with(frames, origin, function, operands)?;
     kept_for(frames.alloc(), usage, v)
 }
 
 /// An input of a fresh cell.
-fn taken_in(cells: &mut Cells, function: KnownFunction) -> Result<Valued, AllocError>
+fn taken_in(cells: &mut Cells, origin: u32, function: KnownFunction) -> Result<Valued, AllocError>
     ensures taken { OnOk result (so_far cells.new
-        ≡ (taken_in function (so_far cells.old)).taken) }
-    ensures made { IfOk result (λ v. v ≡ (taken_in function (so_far cells.old)).made) }
+        ≡ (taken_in origin function (so_far cells.old)).taken) }
+    ensures made { IfOk result (λ v. v ≡ (taken_in origin function (so_far cells.old)).made) }
 {
     let alloc = cells.alloc();
     let place = cells.fresh(function.result().object_type())?;
-    let statements = list_of(alloc, input(alloc, place.base))?;
+    let statements = list_of(alloc, input(alloc, origin, place.base))?;
     let value = scalar(alloc, place)?;
     Ok(Valued { statements, value })
 }
 
 /// What a known function without a result does.
-fn ended(alloc: Global, function: KnownFunction) -> Result<Seq<CoreTree>, AllocError>
-    ensures { IfOk result (λ trees. trees ≡ ended function) }
+fn ended(alloc: Global, origin: u32, function: KnownFunction) -> Result<Seq<CoreTree>, AllocError>
+    ensures { IfOk result (λ trees. trees ≡ ended origin function) }
 {
     match function {
-        KnownFunction::ReachError => list_of(alloc, leaf(alloc, Head::Error)),
-        _ => list_of(alloc, leaf(alloc, Head::Stop)),
+        KnownFunction::ReachError => list_of(alloc, leaf(alloc, origin, Head::Error)),
+        _ => list_of(alloc, leaf(alloc, origin, Head::Stop)),
     }
 }
 
 /// A call of a known function that evaluates no argument.
 fn known_alone(
     cells: &mut Cells,
+    origin: u32,
     usage: Usage,
     function: KnownFunction,
 ) -> Result<Valued, AllocError>
     ensures taken { OnOk result (so_far cells.new
-        ≡ (known_alone usage function (so_far cells.old)).taken) }
-    ensures made { IfOk result (λ v. v ≡ (known_alone usage function (so_far cells.old)).made) }
+        ≡ (known_alone origin usage function (so_far cells.old)).taken) }
+    ensures made { IfOk result (λ v. v
+        ≡ (known_alone origin usage function (so_far cells.old)).made) }
 {
     let alloc = cells.alloc();
     match function.result() {
         Kind::Void => {
-            let statements = ended(alloc, function)?;
+            let statements = ended(alloc, origin, function)?;
             voided(alloc, usage, statements)
         }
         Kind::Value(_) => {
-            let v = taken_in(cells, function)?;
+            let v = taken_in(cells, origin, function)?;
             kept_for(alloc, usage, v)
         }
     }
 }
 
 /// The end of an execution, behind statements.
-fn stopped(alloc: Global, usage: Usage, before: Seq<CoreTree>) -> Result<Valued, AllocError>
-    ensures { IfOk result (λ v. v ≡ voided usage (before ++ leaf head.Stop ∷ [])) }
+fn stopped(
+    alloc: Global,
+    origin: u32,
+    usage: Usage,
+    before: Seq<CoreTree>,
+) -> Result<Valued, AllocError>
+    ensures { IfOk result (λ v. v ≡ voided usage (before ++ leaf origin head.Stop ∷ [])) }
 {
-    let statements = with(before, leaf(alloc, Head::Stop))?;
+    let statements = with(before, leaf(alloc, origin, Head::Stop))?;
     voided(alloc, usage, statements)
 }
 
@@ -140,21 +151,22 @@ fn stopped(alloc: Global, usage: Usage, before: Seq<CoreTree>) -> Result<Valued,
 #[tactic(auto, using(crate::proofs::CallForms::exit_none, crate::proofs::CallForms::exit_some))]
 fn exit_of(
     cells: &mut Cells,
+    origin: u32,
     frames: &Frames,
     usage: Usage,
     arguments: &[TypedExpression],
 ) -> Result<Valued, AllocError>
     ensures taken { OnOk result (so_far cells.new
-        ≡ (exit_of frames.now usage arguments.now (so_far cells.old)).taken) }
+        ≡ (exit_of origin frames.now usage arguments.now (so_far cells.old)).taken) }
     ensures made { IfOk result (λ v. v
-        ≡ (exit_of frames.now usage arguments.now (so_far cells.old)).made) }
+        ≡ (exit_of origin frames.now usage arguments.now (so_far cells.old)).made) }
 {
     let alloc = frames.alloc();
     match arguments {
-        [] => stopped(alloc, usage, Seq::new(alloc)),
+        [] => stopped(alloc, origin, usage, Seq::new(alloc)),
         [first, ..] => {
             let status = lowered(cells, frames, Usage::Unused, first)?;
-            stopped(alloc, usage, statements_of(status))
+            stopped(alloc, origin, usage, statements_of(status))
         }
     }
 }
@@ -174,26 +186,27 @@ fn is_exit(function: KnownFunction) -> bool
 #[tactic(auto, using(crate::proofs::CallForms::call_Function, crate::proofs::CallForms::call_Known, crate::proofs::CallForms::call_Object, crate::proofs::CallForms::call_Enumerator, crate::proofs::CallForms::call_None))]
 pub(crate) fn call_of(
     cells: &mut Cells,
+    origin: u32,
     frames: &Frames,
     usage: Usage,
     found: Option<Meaning>,
     arguments: &[TypedExpression],
 ) -> Result<Valued, AllocError>
     ensures taken { OnOk result (so_far cells.new
-        ≡ (call_of frames.now usage found arguments.now (so_far cells.old)).taken) }
+        ≡ (call_of origin frames.now usage found arguments.now (so_far cells.old)).taken) }
     ensures made { IfOk result (λ v. v
-        ≡ (call_of frames.now usage found arguments.now (so_far cells.old)).made) }
+        ≡ (call_of origin frames.now usage found arguments.now (so_far cells.old)).made) }
 {
     match found {
         Some(Meaning::Function(function)) => {
             let values = each(cells, frames, arguments)?;
-            called_behind(cells, frames, usage, function, values)
+            called_behind(cells, origin, frames, usage, function, values)
         }
         Some(Meaning::Known(function)) => {
             if is_exit(function) {
-                exit_of(cells, frames, usage, arguments)
+                exit_of(cells, origin, frames, usage, arguments)
             } else {
-                known_alone(cells, usage, function)
+                known_alone(cells, origin, usage, function)
             }
         }
         Some(Meaning::Object(_)) | Some(Meaning::Enumerator(_)) | None => {

@@ -64,64 +64,78 @@ pub(crate) fn lowered(
     ensures made { IfOk result (λ v. v ≡ (lowered frames.now usage e.now (so_far cells.old)).made) }
 {
     match e {
-        TypedExpression::Name { meaning, .. } => name_for(cells, usage, *meaning),
-        TypedExpression::Number { ty, value, .. } => literal(cells, usage, *ty, *value),
-        TypedExpression::Character { value, .. } => literal(cells, usage, IntType::I32, *value),
+        TypedExpression::Name { meaning, place } => name_for(cells, *place, usage, *meaning),
+        TypedExpression::Number { ty, value, place } => literal(cells, *place, usage, *ty, *value),
+        TypedExpression::Character { value, place } => {
+            literal(cells, *place, usage, IntType::I32, *value)
+        }
         TypedExpression::Bracketed { inner, .. } => lowered(cells, frames, usage, inner.get()),
         TypedExpression::Postfix { .. } => postfix_of(cells, frames, usage, e),
         TypedExpression::PrefixStep {
             operator,
             operand,
+            place: origin,
             ..
         } => {
-            let place = placed(cells, frames, true, operand.get())?;
-            incremented_for(cells, usage, *operator, place)
+            let place = placed(cells, *origin, frames, true, operand.get())?;
+            incremented_for(cells, *origin, usage, *operator, place)
         }
         TypedExpression::Unary {
             operator,
             operand,
+            place,
             ..
         } => {
             let v = lowered(cells, frames, Usage::Used, operand.get())?;
-            signed_for(cells, usage, *operator, v)
+            signed_for(cells, *place, usage, *operator, v)
         }
-        TypedExpression::Cast { operand, kind, .. } => match kind {
+        TypedExpression::Cast {
+            operand,
+            kind,
+            place,
+        } => match kind {
             Some(Kind::Value(ty)) => {
                 let v = lowered(cells, frames, Usage::Used, operand.get())?;
-                cast_for(cells, usage, *ty, v)
+                cast_for(cells, *place, usage, *ty, v)
             }
             Some(Kind::Void) | None => {
                 let v = lowered(cells, frames, Usage::Unused, operand.get())?;
                 voided(frames.alloc(), usage, statements_of(v))
             }
         },
-        TypedExpression::Chain { first, rest, .. } => {
+        TypedExpression::Chain {
+            first,
+            rest,
+            place,
+            ..
+        } => {
             let left = lowered(cells, frames, Usage::Used, first.get())?;
-            chained(cells, frames, usage, left, rest.as_slice())
+            chained(cells, *place, frames, usage, left, rest.as_slice())
         }
         TypedExpression::Conditional {
             test,
             yes,
             no,
             kind,
-            ..
+            place,
         } => {
             let ends = usage_of_ends(usage, *kind);
             let test = lowered(cells, frames, Usage::Used, test.get())?;
             let yes = lowered(cells, frames, ends, yes.get())?;
             let no = lowered(cells, frames, ends, no.get())?;
-            chosen_for(cells, usage, ends, test, yes, no)
+            chosen_for(cells, *place, usage, ends, test, yes, no)
         }
         TypedExpression::Assignment {
             left,
             operator,
             right,
+            place: origin,
             ..
         } => {
             let operator = operator_of(*operator);
-            let place = placed(cells, frames, operator.is_some(), left.get())?;
+            let place = placed(cells, *origin, frames, operator.is_some(), left.get())?;
             let v = lowered(cells, frames, Usage::Used, right.get())?;
-            changed_for(cells, usage, operator, place, v)
+            changed_for(cells, *origin, usage, operator, place, v)
         }
         TypedExpression::Comma { items, .. } => comma_of(cells, frames, usage, items.as_slice()),
     }
@@ -141,7 +155,12 @@ fn postfix_of(
     ensures made { IfOk result (λ v. v
         ≡ (postfix_of frames.now usage (out-TypedExpression e.now) (so_far cells.old)).made) }
 {
-    let TypedExpression::Postfix { base, suffixes, .. } = e else {
+    let TypedExpression::Postfix {
+        base,
+        suffixes,
+        place: origin,
+    } = e
+    else {
         return number(frames.alloc(), 0);
     };
     let first = base.get();
@@ -155,20 +174,20 @@ fn postfix_of(
     match &all[last] {
         TypedSuffix::Index { index, .. } => {
             let i = lowered(cells, frames, Usage::Used, index)?;
-            let v = element_behind(cells, usage, names, i)?;
+            let v = element_behind(cells, *origin, usage, names, i)?;
             Ok(v)
         }
         TypedSuffix::Call { arguments, .. } => {
-            let v = call_of(cells, frames, usage, names, arguments.as_slice())?;
+            let v = call_of(cells, *origin, frames, usage, names, arguments.as_slice())?;
             Ok(v)
         }
         TypedSuffix::Step { operator, .. } => {
-            let place = front_placed(cells, frames, true, e, last)?;
-            let v = stepped_for(cells, usage, *operator, place)?;
+            let place = front_placed(cells, *origin, frames, true, e, last)?;
+            let v = stepped_for(cells, *origin, usage, *operator, place)?;
             Ok(v)
         }
         TypedSuffix::Skipped { .. } => {
-            let v = call_of(cells, frames, usage, names, &[])?;
+            let v = call_of(cells, *origin, frames, usage, names, &[])?;
             Ok(v)
         }
     }
@@ -179,24 +198,27 @@ fn postfix_of(
 #[tactic(auto, using(crate::proofs::Variants::target_Name, crate::proofs::Variants::target_Number, crate::proofs::Variants::target_Character, crate::proofs::Variants::target_Bracketed, crate::proofs::Variants::target_PrefixStep, crate::proofs::Variants::target_Unary, crate::proofs::Variants::target_Cast, crate::proofs::Variants::target_Chain, crate::proofs::Variants::target_Conditional, crate::proofs::Variants::target_Assignment, crate::proofs::Variants::target_Comma))]
 fn placed(
     cells: &mut Cells,
+    origin: u32,
     frames: &Frames,
     fixes: bool,
     e: &TypedExpression,
 ) -> Result<Place, AllocError>
     ensures taken { OnOk result (so_far cells.new
-        ≡ (placed fixes (rows frames.now e.now).target (so_far cells.old)).taken) }
+        ≡ (placed origin fixes (rows frames.now e.now).target (so_far cells.old)).taken) }
     ensures made { IfOk result (λ place. place
-        ≡ (placed fixes (rows frames.now e.now).target (so_far cells.old)).made) }
+        ≡ (placed origin fixes (rows frames.now e.now).target (so_far cells.old)).made) }
 {
     match e {
         TypedExpression::Name { meaning, .. } => {
             let location = cells.scalar_place(*meaning)?;
             Ok(Place::Scalar(location))
         }
-        TypedExpression::Bracketed { inner, .. } => placed(cells, frames, fixes, inner.get()),
+        TypedExpression::Bracketed { inner, .. } => {
+            placed(cells, origin, frames, fixes, inner.get())
+        }
         TypedExpression::Postfix { suffixes, .. } => {
             let count = suffixes.len();
-            let place = front_placed(cells, frames, fixes, e, count)?;
+            let place = front_placed(cells, origin, frames, fixes, e, count)?;
             Ok(place)
         }
         TypedExpression::Number { .. }
@@ -215,6 +237,7 @@ fn placed(
 #[cycle(expression)]
 fn front_placed(
     cells: &mut Cells,
+    origin: u32,
     frames: &Frames,
     fixes: bool,
     e: &TypedExpression,
@@ -222,10 +245,10 @@ fn front_placed(
 ) -> Result<Place, AllocError>
     requires { count ≤ suffix_count (out-TypedExpression e.now) }
     ensures taken { OnOk result (so_far cells.new
-        ≡ (placed fixes (front_target frames.now (out-TypedExpression e.now) count)
+        ≡ (placed origin fixes (front_target frames.now (out-TypedExpression e.now) count)
         (so_far cells.old)).taken) }
     ensures made { IfOk result (λ place. place
-        ≡ (placed fixes (front_target frames.now (out-TypedExpression e.now) count)
+        ≡ (placed origin fixes (front_target frames.now (out-TypedExpression e.now) count)
         (so_far cells.old)).made) }
 {
     let TypedExpression::Postfix { base, suffixes, .. } = e else {
@@ -234,11 +257,11 @@ fn front_placed(
     let first = base.get();
     let all = suffixes.as_slice();
     if count == 0 {
-        return placed(cells, frames, fixes, first);
+        return placed(cells, origin, frames, fixes, first);
     }
     let last = count - 1;
     let names = front_names(first, last);
-    suffix_placed(cells, frames, fixes, names, &all[last])
+    suffix_placed(cells, origin, frames, fixes, names, &all[last])
 }
 
 /// What a suffix makes as a left side, behind what has this name.
@@ -246,22 +269,23 @@ fn front_placed(
 #[tactic(auto, using(crate::proofs::Variants::placed_Index, crate::proofs::Variants::suffix_Call, crate::proofs::Variants::suffix_Step, crate::proofs::Variants::suffix_Skipped))]
 fn suffix_placed(
     cells: &mut Cells,
+    origin: u32,
     frames: &Frames,
     fixes: bool,
     found: Option<Meaning>,
     suffix: &TypedSuffix,
 ) -> Result<Place, AllocError>
     ensures taken { OnOk result (so_far cells.new
-        ≡ (placed fixes (suffix_target found (suffix_of frames.now suffix.now))
+        ≡ (placed origin fixes (suffix_target found (suffix_of frames.now suffix.now))
         (so_far cells.old)).taken) }
     ensures made { IfOk result (λ place. place
-        ≡ (placed fixes (suffix_target found (suffix_of frames.now suffix.now))
+        ≡ (placed origin fixes (suffix_target found (suffix_of frames.now suffix.now))
         (so_far cells.old)).made) }
 {
     match suffix {
         TypedSuffix::Index { index, .. } => {
             let i = lowered(cells, frames, Usage::Used, index)?;
-            let kept = fixed_if(cells, fixes, i)?;
+            let kept = fixed_if(cells, origin, fixes, i)?;
             let location = cells.located(found)?;
             Ok(Place::Element(location, kept))
         }
@@ -275,22 +299,23 @@ fn suffix_placed(
 #[cycle(expression)]
 fn chained(
     cells: &mut Cells,
+    origin: u32,
     frames: &Frames,
     usage: Usage,
     left: Valued,
     rest: &[(BinaryOperator, TypedExpression)],
 ) -> Result<Valued, AllocError>
     ensures taken { OnOk result (so_far cells.new
-        ≡ (linked_to frames.now usage left rest.now (so_far cells.old)).taken) }
+        ≡ (linked_to origin frames.now usage left rest.now (so_far cells.old)).taken) }
     ensures made { IfOk result (λ v. v
-        ≡ (linked_to frames.now usage left rest.now (so_far cells.old)).made) }
+        ≡ (linked_to origin frames.now usage left rest.now (so_far cells.old)).made) }
 {
     let mut left = left;
     for link in rest {
         let right = lowered(cells, frames, Usage::Used, &link.1)?;
-        left = linked(cells, link.0, left, right)?;
+        left = linked(cells, origin, link.0, left, right)?;
     }
-    finished(cells, usage, left)
+    finished(cells, origin, usage, left)
 }
 
 /// Items of a comma expression, of which only the value of the last may be used.

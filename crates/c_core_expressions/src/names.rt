@@ -1,6 +1,6 @@
 //! What an expression names (`names` of `rows`, `c_core_rules`, `specs/Expressions.antt`). Proved
 //! with the lemmas of `proofs/Variants.antt` and `proofs/Suffixes.antt`.
-ghost use Rattle.std.specs.Prelude.{◌≡◌, ◌≤◌, List, length, take};
+ghost use Rattle.std.specs.Prelude.{◌≡◌, ◌≤◌, ℕ, List, length, take};
 ghost use Rattle.c_types_rules.specs.declared.typed.TypedSuffix.{TypedSuffix};
 ghost use Rattle.c_core_rules.specs.Expressions.{Frames, rows};
 ghost use Rattle.c_core_expressions.specs.Rows.{suffixed_by};
@@ -36,8 +36,8 @@ fn names_of(e: &TypedExpression) -> Option<Meaning>
 
 /// What an expression with so many suffixes names.
 pub(crate) fn front_names(base: &TypedExpression, count: usize) -> Option<Meaning>
-    ensures { (frames : Frames) (suffixes : List TypedSuffix) → count ≤ length suffixes
-        → (suffixed_by frames base.now (take count suffixes)).names ≡ result }
+    ensures { (origin : ℕ) (frames : Frames) (suffixes : List TypedSuffix) → count ≤ length suffixes
+        → (suffixed_by origin frames base.now (take count suffixes)).names ≡ result }
 {
     if count == 0 { names_of(base) } else { None }
 }

@@ -22,12 +22,13 @@ pub fn cell_behind(first: u32, count: u128) -> Result<u32, AllocError>
 #[tactic(auto, using(crate::proofs::ParameterWrites::pass_step, crate::proofs::ParameterWrites::pass_none, crate::proofs::ParameterWrites::pass_end, crate::proofs::ParameterWrites::pass_past))]
 pub fn passed(
     alloc: Global,
+    origin: u32,
     first: u32,
     objects: &[Object],
     values: Vec<Boxed<Expr>>,
 ) -> Result<Seq<CoreTree>, AllocError>
     ensures { IfOk result (λ trees. trees
-        ≡ passed (cells_from first objects.now) values.items) }
+        ≡ passed origin (cells_from first objects.now) values.items) }
 {
     let mut trees = Seq::new(alloc);
     let mut first = first;
@@ -36,7 +37,7 @@ pub fn passed(
         let [object, more @ ..] = objects else {
             return Ok(trees);
         };
-        let tree = set(alloc, cell_at(object.ty, first), v)?;
+        let tree = set(alloc, origin, cell_at(object.ty, first), v)?;
         trees.push(tree)?;
         first = cell_behind(first, cells_of(*object))?;
         objects = more;

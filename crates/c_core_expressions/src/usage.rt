@@ -69,15 +69,20 @@ pub(crate) fn kept_for(alloc: Global, usage: Usage, v: Valued) -> Result<Valued,
 
 /// What is evaluated.
 #[tactic(auto, unfolding(crate::specs::Rows::finished))]
-pub(crate) fn finished(cells: &mut Cells, usage: Usage, v: Valued) -> Result<Valued, AllocError>
+pub(crate) fn finished(
+    cells: &mut Cells,
+    origin: u32,
+    usage: Usage,
+    v: Valued,
+) -> Result<Valued, AllocError>
     ensures taken { OnOk result (so_far cells.new
-        ≡ (finished usage v (so_far cells.old)).taken) }
-    ensures made { IfOk result (λ w. w ≡ (finished usage v (so_far cells.old)).made) }
+        ≡ (finished origin usage v (so_far cells.old)).taken) }
+    ensures made { IfOk result (λ w. w ≡ (finished origin usage v (so_far cells.old)).made) }
 {
     match usage {
         Usage::Used => Ok(v),
         Usage::Unused => {
-            let statements = dropped_value(cells, v)?;
+            let statements = dropped_value(cells, origin, v)?;
             unvalued(cells.alloc(), statements)
         }
     }
@@ -111,106 +116,113 @@ pub(crate) fn voided(
 /// A number.
 pub(crate) fn literal(
     cells: &mut Cells,
+    origin: u32,
     usage: Usage,
     ty: IntType,
     value: i128,
 ) -> Result<Valued, AllocError>
     ensures taken { OnOk result (so_far cells.new
-        ≡ (finished usage (pure (Const ty value)) (so_far cells.old)).taken) }
+        ≡ (finished origin usage (pure (Const ty value)) (so_far cells.old)).taken) }
     ensures made { IfOk result (λ v. v
-        ≡ (finished usage (pure (Const ty value)) (so_far cells.old)).made) }
+        ≡ (finished origin usage (pure (Const ty value)) (so_far cells.old)).made) }
 {
     let alloc = cells.alloc();
     let number = constant(alloc, ty, value)?;
-    finished(cells, usage, pure(alloc, number))
+    finished(cells, origin, usage, pure(alloc, number))
 }
 
 /// A scalar that is read, or the constant of an enumerator.
 #[tactic(auto, unfolding(crate::specs::Rows::name_for))]
 pub(crate) fn name_for(
     cells: &mut Cells,
+    origin: u32,
     usage: Usage,
     found: Option<Meaning>,
 ) -> Result<Valued, AllocError>
     ensures taken { OnOk result (so_far cells.new
-        ≡ (name_for usage found (so_far cells.old)).taken) }
-    ensures made { IfOk result (λ v. v ≡ (name_for usage found (so_far cells.old)).made) }
+        ≡ (name_for origin usage found (so_far cells.old)).taken) }
+    ensures made { IfOk result (λ v. v ≡ (name_for origin usage found (so_far cells.old)).made) }
 {
     if let Some(Meaning::Enumerator(value)) = found {
-        return literal(cells, usage, IntType::I32, value);
+        return literal(cells, origin, usage, IntType::I32, value);
     }
     let place = cells.scalar_place(found)?;
     let alloc = cells.alloc();
     let v = pure(alloc, scalar(alloc, place)?);
-    finished(cells, usage, v)
+    finished(cells, origin, usage, v)
 }
 
 /// An element that is read, behind its index.
 #[tactic(auto, unfolding(crate::specs::Rows::element_behind))]
 pub(crate) fn element_behind(
     cells: &mut Cells,
+    origin: u32,
     usage: Usage,
     found: Option<Meaning>,
     index: Valued,
 ) -> Result<Valued, AllocError>
     ensures taken { OnOk result (so_far cells.new
-        ≡ (element_behind usage found index (so_far cells.old)).taken) }
+        ≡ (element_behind origin usage found index (so_far cells.old)).taken) }
     ensures made { IfOk result (λ v. v
-        ≡ (element_behind usage found index (so_far cells.old)).made) }
+        ≡ (element_behind origin usage found index (so_far cells.old)).made) }
 {
     let Valued { statements, value } = index;
     let place = cells.located(found)?;
     let value = element(cells.alloc(), place, value)?;
-    finished(cells, usage, Valued { statements, value })
+    finished(cells, origin, usage, Valued { statements, value })
 }
 
 /// An operator before an operand.
 #[tactic(auto, unfolding(crate::specs::Rows::signed_for))]
 pub(crate) fn signed_for(
     cells: &mut Cells,
+    origin: u32,
     usage: Usage,
     operator: UnaryOperator,
     v: Valued,
 ) -> Result<Valued, AllocError>
     ensures taken { OnOk result (so_far cells.new
-        ≡ (signed_for usage operator v (so_far cells.old)).taken) }
-    ensures made { IfOk result (λ w. w ≡ (signed_for usage operator v (so_far cells.old)).made) }
+        ≡ (signed_for origin usage operator v (so_far cells.old)).taken) }
+    ensures made { IfOk result (λ w. w
+        ≡ (signed_for origin usage operator v (so_far cells.old)).made) }
 {
     let v = signed(cells.alloc(), operator, v)?;
-    finished(cells, usage, v)
+    finished(cells, origin, usage, v)
 }
 
 /// A value converted to a type.
 #[tactic(auto, unfolding(crate::specs::Rows::cast_for))]
 pub(crate) fn cast_for(
     cells: &mut Cells,
+    origin: u32,
     usage: Usage,
     ty: IntType,
     v: Valued,
 ) -> Result<Valued, AllocError>
     ensures taken { OnOk result (so_far cells.new
-        ≡ (cast_for usage ty v (so_far cells.old)).taken) }
-    ensures made { IfOk result (λ w. w ≡ (cast_for usage ty v (so_far cells.old)).made) }
+        ≡ (cast_for origin usage ty v (so_far cells.old)).taken) }
+    ensures made { IfOk result (λ w. w ≡ (cast_for origin usage ty v (so_far cells.old)).made) }
 {
     let v = cast_to(cells.alloc(), ty, v)?;
-    finished(cells, usage, v)
+    finished(cells, origin, usage, v)
 }
 
 /// An assignment, behind its operands.
 #[tactic(auto, unfolding(crate::specs::Rows::changed_for))]
 pub(crate) fn changed_for(
     cells: &mut Cells,
+    origin: u32,
     usage: Usage,
     operator: Option<BinaryOperator>,
     place: Place,
     v: Valued,
 ) -> Result<Valued, AllocError>
     ensures taken { OnOk result (so_far cells.new
-        ≡ (changed_for usage operator place v (so_far cells.old)).taken) }
+        ≡ (changed_for origin usage operator place v (so_far cells.old)).taken) }
     ensures made { IfOk result (λ w. w
-        ≡ (changed_for usage operator place v (so_far cells.old)).made) }
+        ≡ (changed_for origin usage operator place v (so_far cells.old)).made) }
 {
-    let w = changed(cells, is_used(usage), operator, place, v)?;
+    let w = changed(cells, origin, is_used(usage), operator, place, v)?;
     kept_for(cells.alloc(), usage, w)
 }
 
@@ -218,16 +230,17 @@ pub(crate) fn changed_for(
 #[tactic(auto, unfolding(crate::specs::Rows::incremented_for))]
 pub(crate) fn incremented_for(
     cells: &mut Cells,
+    origin: u32,
     usage: Usage,
     operator: StepOperator,
     place: Place,
 ) -> Result<Valued, AllocError>
     ensures taken { OnOk result (so_far cells.new
-        ≡ (incremented_for usage operator place (so_far cells.old)).taken) }
+        ≡ (incremented_for origin usage operator place (so_far cells.old)).taken) }
     ensures made { IfOk result (λ v. v
-        ≡ (incremented_for usage operator place (so_far cells.old)).made) }
+        ≡ (incremented_for origin usage operator place (so_far cells.old)).made) }
 {
-    let v = incremented(cells, operator, place)?;
+    let v = incremented(cells, origin, operator, place)?;
     kept_for(cells.alloc(), usage, v)
 }
 
@@ -235,19 +248,20 @@ pub(crate) fn incremented_for(
 #[tactic(auto, unfolding(crate::specs::Rows::stepped_for))]
 pub(crate) fn stepped_for(
     cells: &mut Cells,
+    origin: u32,
     usage: Usage,
     operator: StepOperator,
     place: Place,
 ) -> Result<Valued, AllocError>
     ensures taken { OnOk result (so_far cells.new
-        ≡ (stepped_for usage operator place (so_far cells.old)).taken) }
+        ≡ (stepped_for origin usage operator place (so_far cells.old)).taken) }
     ensures made { IfOk result (λ v. v
-        ≡ (stepped_for usage operator place (so_far cells.old)).made) }
+        ≡ (stepped_for origin usage operator place (so_far cells.old)).made) }
 {
     match usage {
-        Usage::Used => stepped(cells, operator, place),
+        Usage::Used => stepped(cells, origin, operator, place),
         Usage::Unused => {
-            let v = incremented(cells, operator, place)?;
+            let v = incremented(cells, origin, operator, place)?;
             unvalued(cells.alloc(), statements_of(v))
         }
     }
@@ -271,6 +285,7 @@ pub(crate) fn usage_of_ends(usage: Usage, kind: Option<Kind>) -> Usage
 #[tactic(auto, unfolding(crate::specs::Rows::chosen_for))]
 pub(crate) fn chosen_for(
     cells: &mut Cells,
+    origin: u32,
     usage: Usage,
     ends: Usage,
     test: Valued,
@@ -278,18 +293,24 @@ pub(crate) fn chosen_for(
     no: Valued,
 ) -> Result<Valued, AllocError>
     ensures taken { OnOk result (so_far cells.new
-        ≡ (chosen_for usage ends test yes no (so_far cells.old)).taken) }
+        ≡ (chosen_for origin usage ends test yes no (so_far cells.old)).taken) }
     ensures made { IfOk result (λ v. v
-        ≡ (chosen_for usage ends test yes no (so_far cells.old)).made) }
+        ≡ (chosen_for origin usage ends test yes no (so_far cells.old)).made) }
 {
     match ends {
         Usage::Used => {
-            let v = chosen(cells, test, yes, no)?;
-            finished(cells, usage, v)
+            let v = chosen(cells, origin, test, yes, no)?;
+            finished(cells, origin, usage, v)
         }
         Usage::Unused => {
             let alloc = cells.alloc();
-            let statements = chosen_unused(alloc, test, statements_of(yes), statements_of(no))?;
+            let statements = chosen_unused(
+                alloc,
+                origin,
+                test,
+                statements_of(yes),
+                statements_of(no),
+            )?;
             unvalued(alloc, statements)
         }
     }
@@ -298,13 +319,14 @@ pub(crate) fn chosen_for(
 /// A test, and a choice by it between statements.
 pub fn chosen_unused(
     alloc: Global,
+    origin: u32,
     test: Valued,
     yes: Seq<CoreTree>,
     no: Seq<CoreTree>,
 ) -> Result<Seq<CoreTree>, AllocError>
     ensures { IfOk result (λ trees. trees
-        ≡ test.statements ++ choice test.value yes no ∷ []) }
+        ≡ test.statements ++ choice origin test.value yes no ∷ []) }
 {
-    let tree = choice(alloc, test.value, yes, no)?;
+    let tree = choice(alloc, origin, test.value, yes, no)?;
     with(test.statements, tree)
 }

@@ -103,7 +103,7 @@ same_value t u is = cc
 -- the result and the parameters, where what they take is there
 front_stands : (kind : Kind) (objects : List Object) (function : TypedFunction) →
     function.result ≡ kind → function.parameters ≡ objects → (taken : Taken) (all : List Cell) →
-    Extends (receiving objects (resulting kind taken).taken).taken.cells all →
+    Extends (receiving objects (resulting function.place kind taken).taken).taken.cells all →
     FrameStands (types_of all) (frame_of (length taken.cells) function) function
 front_stands Void objects function is are taken all e = record {
   result = λ t so. absurd (cc (is, so));
@@ -119,7 +119,7 @@ front_stands Void objects function is are taken all e = record {
       (ap (λ (ts : List IntType). slice_get ts i) (receiving_types objects own taken) ∙ at))));
 }
 front_stands (Value u) objects function is are taken all e =
-    let m = (resulting (Value u) taken).taken in
+    let m = (resulting function.place (Value u) taken).taken in
     let pushed : types m ≡ types taken ++ u ∷ [] =
     map-append (λ (cell : Cell). cell.ty) taken.cells (zero_cell u ∷ []) in
     record {
@@ -151,7 +151,7 @@ function_stands : (frames : Frames) (function : TypedFunction) (taken : Taken) (
 function_stands frames function taken all e =
     let first = length taken.cells in
     let place = cell_at (object_type function.result) first in
-    let m = resulting function.result taken in
+    let m = resulting function.place function.result taken in
     let r = receiving function.parameters m.taken in
     let items = in_order (map (item_rule frames place) function.items) in
     let behind : Extends r.taken.cells all =

@@ -74,11 +74,11 @@ no_break n None is = tt
 no_break n (Some label) is = absurd (cc)
 
 function_fits : (text : Text) (before : Before) (specifiers : Specifiers)
-    (declarator : FunctionDeclarator) (items : List BlockItem) (place : ℕ) →
+    (declarator : FunctionDeclarator) (items : List BlockItem) (place end : ℕ) →
     NoFaults (flat_map (site_faults text)
-    (body_sites text before specifiers declarator (body.Block items place))) →
-    JumpsFit (function_jumps (typed_function text before specifiers declarator items))
-function_fits text before specifiers declarator items place none =
+    (body_sites text before specifiers declarator (body.Block items place end))) →
+    JumpsFit (function_jumps (typed_function text before specifiers declarator items place end))
+function_fits text before specifiers declarator items place end none =
     let front = in_order (map receiving (listed declarator.parameters)) in
     let first = around_body (function_behind true specifiers declarator before) specifiers items in
     let around = front.behind first in
@@ -100,11 +100,11 @@ function_fits text before specifiers declarator items place none =
     } in
     let h = items_fit text items (all_jumped text items) around stands in
     let many : length around.labels
-    ≡ (function_jumps (typed_function text before specifiers declarator items)).labels =
+    ≡ (function_jumps (typed_function text before specifiers declarator items place end)).labels =
     long ∙ sym h.marked in (
       h.bound here (keeps.looping first),
       subst (λ n. AllByRecursion (λ l. l < n) (function_jumps (typed_function text before specifiers
-          declarator items)).gotos) many (h.named here),
+          declarator items place end)).gotos) many (h.named here),
     )
 
 abbrev pub FunctionsFit : List TypedFunction → Type 0
@@ -135,15 +135,15 @@ functions_fit text (item.Function specifiers declarator body.Skipped ∷ more) b
     functions_fit text more (item_behind text one before)
     (none_right (item_faults text one before) (items_faults text more (item_behind text one before))
     none)
-functions_fit text (item.Function specifiers declarator (body.Block items place) ∷ more) before
+functions_fit text (item.Function specifiers declarator (body.Block items place end) ∷ more) before
     none =
-    let one = item.Function specifiers declarator (body.Block items place) in
+    let one = item.Function specifiers declarator (body.Block items place end) in
     let rest = items_faults text more (item_behind text one before) in
-    let sites = body_sites text before specifiers declarator (body.Block items place) in
+    let sites = body_sites text before specifiers declarator (body.Block items place end) in
     let own = none_left (item_faults text one before) rest none in
     let of_body = none_right (head_faults text before true specifiers declarator)
     (flat_map (site_faults text) sites ++ jump_faults sites) own in (
-      function_fits text before specifiers declarator items place
+      function_fits text before specifiers declarator items place end
           (none_left (flat_map (site_faults text) sites) (jump_faults sites) of_body),
       functions_fit text more (item_behind text one before)
           (none_right (item_faults text one before) rest none),

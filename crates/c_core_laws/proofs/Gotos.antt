@@ -144,7 +144,7 @@ bare_marked y = map-CoreTree HeldMarked CoreTree (λ t. t.0) y
 layer_marked : (y : CoreTree-F HeldMarked) (n : ℕ) → AllFit (node_of (bare_marked y)) →
     length (labels_from n (node_of (bare_marked y)))
     ≡ (node_jumps (map-CoreTree CoreTree Jumps tree_jumps (bare_marked y))).labels
-layer_marked (CoreTree-F.Node h held) n fits =
+layer_marked (CoreTree-F.Node h held place) n fits =
     let trees = map (λ (t : HeldMarked). t.0) held in
     let others = joined (map statements trees) in
     length-append (label_here h n) (labels_from (n + 1) others)
@@ -236,7 +236,7 @@ module _ (n : ℕ) where
   layer : (y : CoreTree-F Held) → AllFit (node_of (bare y)) →
       AllBelow n (node_jumps (map-CoreTree CoreTree Jumps tree_jumps (bare y))).gotos →
       GotosBelow n (node_of (bare y))
-  layer (CoreTree-F.Node h held) fits below =
+  layer (CoreTree-F.Node h held place) fits below =
       node_going h (map (λ (t : Held). t.0) held) (all_held held) fits.0.0 fits.1 below
 
   at_tree : (y : CoreTree-F Held) (x : CoreTree-F CoreTree) → bare y ≡ x →

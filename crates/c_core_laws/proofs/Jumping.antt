@@ -78,12 +78,12 @@ joined_jumps (t ∷ xs) ys =
     ∙ sym (then_assoc (tree_jumps t) (trees_jumps xs) (trees_jumps ys))
     ∙ ap (λ (a : Jumps). then_jumps a (trees_jumps ys)) (sym (more_trees t xs))
 
-pub node_jumping : (h : Head) (parts : Trees) →
-    tree_jumps (Node h parts) ≡ head_jumps h (trees_jumps parts)
+pub node_jumping : (origin : ℕ) (h : Head) (parts : Trees) →
+    tree_jumps (Node h parts origin) ≡ head_jumps h (trees_jumps parts)
 unfolding tree_jumps trees_jumps
-node_jumping h parts =
-    ap tree_jumps (sym (rolls-Node h parts))
-    ∙ fold-roll-CoreTree Jumps node_jumps (CoreTree-F.Node h parts)
+node_jumping origin h parts =
+    ap tree_jumps (sym (rolls-Node h parts origin))
+    ∙ fold-roll-CoreTree Jumps node_jumps (CoreTree-F.Node h parts origin)
 
 -- plain trees have no jumps
 
@@ -135,7 +135,7 @@ all_quiet (t ∷ held) h =
 layer : (y : CoreTree-F Held) →
     Plain (node_statements (map-CoreTree CoreTree (List Placed) statements (bare y))) →
     node_jumps (map-CoreTree CoreTree Jumps tree_jumps (bare y)) ≡ no_jumps
-layer (CoreTree-F.Node h held) plain =
+layer (CoreTree-F.Node h held place) plain =
     plain_head h (all_jumps (map tree_jumps (map (λ (t : Held). t.0) held))) plain.0.1
     ∙ all_quiet held plain.1
 
@@ -204,31 +204,37 @@ plain_then a xs ys h k =
     subst (λ (c : Jumps). Has c (xs ++ ys)) (none_then a)
     (has_append no_jumps a xs ys (has_plain xs h) k)
 
-pub node_has : (h : Head) (parts : Trees) (a : Jumps) → HasParts h (length parts) →
-    Has a parts → TreeHas (head_jumps h a) (Node h parts)
-node_has h parts a has k = record {
-  shaped = shaped_node Anything h parts has tt k.shaped;
-  are = node_jumping h parts ∙ ap (head_jumps h) k.are;
+pub node_has : (origin : ℕ) (h : Head) (parts : Trees) (a : Jumps) → HasParts h (length parts) →
+    Has a parts → TreeHas (head_jumps h a) (Node h parts origin)
+node_has origin h parts a has k = record {
+  shaped = shaped_node Anything h parts origin has tt k.shaped;
+  are = node_jumping origin h parts ∙ ap (head_jumps h) k.are;
 }
 
-pub leaf_has : (h : Head) → HasParts h 0 → TreeHas (head_jumps h no_jumps) (leaf h)
-leaf_has h has = node_has h [] no_jumps has has_none
+pub leaf_has : (origin : ℕ) (h : Head) → HasParts h 0 →
+    TreeHas (head_jumps h no_jumps) (leaf origin h)
+leaf_has origin h has = node_has origin h [] no_jumps has has_none
 
-pub block_has : (a : Jumps) (items : Trees) → Has a items → TreeHas a (block items)
-block_has a items h = node_has head.Block items a tt h
+pub block_has : (origin : ℕ) (a : Jumps) (items : Trees) → Has a items →
+    TreeHas a (block origin items)
+block_has origin a items h = node_has origin head.Block items a tt h
 
 two_have : (a b : Jumps) (t u : CoreTree) → TreeHas a t → TreeHas b u →
     Has (then_jumps a b) (t ∷ u ∷ [])
 two_have a b t u h k = has_append a b (t ∷ []) (u ∷ []) (has_one a t h) (has_one b u k)
 
-pub choice_has : (a b : Jumps) (test : Expr) (first second : Trees) → Has a first → Has b second →
-    TreeHas (then_jumps a b) (choice test first second)
-choice_has a b test first second h k =
-    node_has (head.If test) (block first ∷ block second ∷ []) (then_jumps a b) refl
-    (two_have a b (block first) (block second) (block_has a first h) (block_has b second k))
+pub choice_has : (origin : ℕ) (a b : Jumps) (test : Expr) (first second : Trees) → Has a first →
+    Has b second →
+    TreeHas (then_jumps a b) (choice origin test first second)
+choice_has origin a b test first second h k =
+    node_has origin (head.If test) (block origin first ∷ block origin second ∷ []) (then_jumps a b)
+    refl
+    (two_have a b (block origin first) (block origin second) (block_has origin a first h)
+    (block_has origin b second k))
 
-pub loop_has : (a b : Jumps) (body step : Trees) → Has a body → Has b step →
-    TreeHas (in_loop (then_jumps a b)) (repeated body step)
-loop_has a b body step h k =
-    node_has head.Loop (block body ∷ block step ∷ []) (then_jumps a b) refl
-    (two_have a b (block body) (block step) (block_has a body h) (block_has b step k))
+pub loop_has : (origin : ℕ) (a b : Jumps) (body step : Trees) → Has a body → Has b step →
+    TreeHas (in_loop (then_jumps a b)) (repeated origin body step)
+loop_has origin a b body step h k =
+    node_has origin head.Loop (block origin body ∷ block origin step ∷ []) (then_jumps a b) refl
+    (two_have a b (block origin body) (block origin step) (block_has origin a body h)
+    (block_has origin b step k))

@@ -32,13 +32,12 @@ use Rattle.c_types_rules.specs.Sound.{unit_globals, unit_functions}
 use Rattle.c_types_rules.specs.Types.{object_type}
 use Rattle.c_types_rules.specs.Tables.{cells_of}
 use Rattle.cpa_model_trees.specs.declared.tree.CoreTree.{CoreTree}
-use Rattle.cpa_model_trees.specs.declared.tree.CoreTree.TheVariants.{Node}
 use Rattle.cpa_model_trees.specs.declared.tree.Head.{Head}
 use Rattle.cpa_model_trees.specs.declared.tree.Head.TheVariants as head
 use Rattle.c_core_rules.specs.declared.tree.Location.{Location}
 use Rattle.c_core_rules.specs.Values.{cell_at, promote}
 use Rattle.cpa_model_trees.specs.Numbering.{Trees}
-use Rattle.c_core_rules.specs.Trees.{leaf, block, choice, repeated, set, valued}
+use Rattle.c_core_rules.specs.Trees.{leaf, block, labeled, choice, repeated, set, valued}
 use Rattle.c_core_rules.specs.Acts.{held}
 use Rattle.c_core_rules.specs.Cells as core
 use Rattle.c_core_rules.specs.Expressions as rows
@@ -88,28 +87,30 @@ makes_weaker {rule = rule} f h = record {
 quietly : {rule : core.Rule Trees} → Makes AllShaped rule → Makes (Has no_jumps) rule
 quietly h = makes_weaker has_plain h
 
-inputs_shaped : (first n : ℕ) → AllShaped (statement.inputs first n)
-inputs_shaped first zero = tt
-inputs_shaped first (suc n) = (leaf_shaped (head.Input first) refl tt, inputs_shaped (first + 1) n)
+inputs_shaped : (origin : ℕ) (first n : ℕ) → AllShaped (statement.inputs origin first n)
+inputs_shaped origin first zero = tt
+inputs_shaped origin first (suc n) =
+    (leaf_shaped origin (head.Input first) refl tt, inputs_shaped origin (first + 1) n)
 
-zeros_shaped : (t : IntType) (first n : ℕ) → AllShaped (statement.zeros t first n)
-zeros_shaped t first zero = tt
-zeros_shaped t first (suc n) =
-    (set_shaped (cell_at t first) (Const t (pos 0)), zeros_shaped t (first + 1) n)
+zeros_shaped : (origin : ℕ) (t : IntType) (first n : ℕ) →
+    AllShaped (statement.zeros origin t first n)
+zeros_shaped origin t first zero = tt
+zeros_shaped origin t first (suc n) =
+    (set_shaped origin (cell_at t first) (Const t (pos 0)), zeros_shaped origin t (first + 1) n)
 
-pub resulting_makes : (kind : Kind) → Makes AllShaped (statement.resulting kind)
-resulting_makes Void = makes AllShaped [] tt
-resulting_makes (Value t) =
-    makes_freshly AllShaped t (λ place. set place (Const t (pos 0)) ∷ [])
-    (λ place. (set_shaped place (Const t (pos 0)), tt))
+pub resulting_makes : (origin : ℕ) (kind : Kind) → Makes AllShaped (statement.resulting origin kind)
+resulting_makes origin Void = makes AllShaped [] tt
+resulting_makes origin (Value t) =
+    makes_freshly AllShaped t (λ place. set origin place (Const t (pos 0)) ∷ [])
+    (λ place. (set_shaped origin place (Const t (pos 0)), tt))
 
 -- some jumps, but no label and no goto
 pub record Loose (trees : Trees) : Type 0 where
   pub loose : Bool
   pub has : Has (record { labels = 0; gotos = []; loose = loose }) trees
 
-break_has : Has leaving (leaf head.Break ∷ [])
-break_has = has_one leaving (leaf head.Break) (leaf_has head.Break refl)
+break_has : (origin : ℕ) → Has leaving (leaf origin head.Break ∷ [])
+break_has origin = has_one leaving (leaf origin head.Break) (leaf_has origin head.Break refl)
 
 no_label : (n : ℕ) → 0 + n ≡ n
 no_label n = omega arith
@@ -134,24 +135,25 @@ behind_loop a loose =
 at_jumps : (a b : Jumps) (trees : Trees) → a ≡ b → Has a trees → Has b trees
 at_jumps a b trees is h = subst (λ (c : Jumps). Has c trees) is h
 
-front_has : (a : Jumps) (front inside behind : Trees) → Loose front → Has a inside →
-    Has no_jumps behind → Has (in_loop a) (repeated (front ++ inside) behind ∷ [])
-front_has a front inside behind f h k =
+front_has : (origin : ℕ) (a : Jumps) (front inside behind : Trees) → Loose front → Has a inside →
+    Has no_jumps behind → Has (in_loop a) (repeated origin (front ++ inside) behind ∷ [])
+front_has origin a front inside behind f h k =
     let b : Jumps = record { labels = 0; gotos = []; loose = f.loose } in
     at_jumps (in_loop (then_jumps (then_jumps b a) no_jumps)) (in_loop a)
-    (repeated (front ++ inside) behind ∷ []) (front_loop a f.loose)
-    (has_one (in_loop (then_jumps (then_jumps b a) no_jumps)) (repeated (front ++ inside) behind)
-    (loop_has (then_jumps b a) no_jumps (front ++ inside) behind
+    (repeated origin (front ++ inside) behind ∷ []) (front_loop a f.loose)
+    (has_one (in_loop (then_jumps (then_jumps b a) no_jumps))
+    (repeated origin (front ++ inside) behind)
+    (loop_has origin (then_jumps b a) no_jumps (front ++ inside) behind
     (has_append b a front inside f.has h) k))
 
-behind_has : (a : Jumps) (inside behind : Trees) → Has a inside → Loose behind →
-    Has (in_loop a) (repeated inside behind ∷ [])
-behind_has a inside behind h f =
+behind_has : (origin : ℕ) (a : Jumps) (inside behind : Trees) → Has a inside → Loose behind →
+    Has (in_loop a) (repeated origin inside behind ∷ [])
+behind_has origin a inside behind h f =
     let b : Jumps = record { labels = 0; gotos = []; loose = f.loose } in
-    at_jumps (in_loop (then_jumps a b)) (in_loop a) (repeated inside behind ∷ [])
+    at_jumps (in_loop (then_jumps a b)) (in_loop a) (repeated origin inside behind ∷ [])
     (behind_loop a f.loose)
-    (has_one (in_loop (then_jumps a b)) (repeated inside behind)
-    (loop_has a b inside behind h f.has))
+    (has_one (in_loop (then_jumps a b)) (repeated origin inside behind)
+    (loop_has origin a b inside behind h f.has))
 
 -- rules in order
 pub data EachHas : List (core.Rule Trees) → List Jumps → Type 0 where
@@ -170,8 +172,9 @@ ordered_has (more_has {rule = rule} {a = a} {rules = rules} {all = all} h more) 
     (λ xs are. makes (Has (then_jumps a (all_jumps all))) (x ++ xs)
     (has_append a (all_jumps all) x xs is are)))
 
-one_makes : (a : Jumps) (h : Head) → TreeHas a (leaf h) → Makes (Has a) (core.gives (leaf h ∷ []))
-one_makes a h has = makes (Has a) (leaf h ∷ []) (has_one a (leaf h) has)
+one_makes : (origin : ℕ) (a : Jumps) (h : Head) → TreeHas a (leaf origin h) →
+    Makes (Has a) (core.gives (leaf origin h ∷ []))
+one_makes origin a h has = makes (Has a) (leaf origin h ∷ []) (has_one a (leaf origin h) has)
 
 as_one_makes : (a b : Jumps) (make : Trees → CoreTree) {r : core.Rule Trees} →
     ((trees : Trees) → Has a trees → TreeHas b (make trees)) → Makes (Has a) r →
@@ -190,108 +193,116 @@ switch_jumps choices otherwise inside =
 abbrev pub asking : Expr → Choice → Expr
 asking v one = Cmp cmp.Eq (type_of v) v (Const (type_of v) (wrapped (type_of v) one.value))
 
-goto_has : (label : ℕ) → Has (goto label) (leaf (head.Goto label) ∷ [])
-goto_has label =
-    has_one (goto label) (leaf (head.Goto label)) (leaf_has (head.Goto label) refl)
+goto_has : (origin : ℕ) (label : ℕ) → Has (goto label) (leaf origin (head.Goto label) ∷ [])
+goto_has origin label =
+    has_one (goto label) (leaf origin (head.Goto label)) (leaf_has origin (head.Goto label) refl)
 
-selecting_has : (v : Expr) (choices : List Choice) →
-    Has (all_jumps (map (λ one. goto one.label) choices)) (map (statement.selecting v) choices)
-selecting_has v [] = has_none
-selecting_has v (one ∷ choices) =
+selecting_has : (origin : ℕ) (v : Expr) (choices : List Choice) →
+    Has (all_jumps (map (λ one. goto one.label) choices))
+    (map (statement.selecting origin v) choices)
+selecting_has origin v [] = has_none
+selecting_has origin v (one ∷ choices) =
     let own = goto one.label in
     let others = all_jumps (map (λ (other : Choice). goto other.label) choices) in
-    let t = statement.selecting v one in
-    let rest = map (statement.selecting v) choices in
+    let t = statement.selecting origin v one in
+    let rest = map (statement.selecting origin v) choices in
     let first : TreeHas (then_jumps own no_jumps) t =
-    choice_has own no_jumps (asking v one)
-    (leaf (head.Goto one.label) ∷ []) [] (goto_has one.label) has_none in
+    choice_has origin own no_jumps (asking v one)
+    (leaf origin (head.Goto one.label) ∷ []) [] (goto_has origin one.label) has_none in
     at_jumps (then_jumps (then_jumps own no_jumps) others) (then_jumps own others) (t ∷ rest)
     (ap (λ (a : Jumps). then_jumps a others) (then_none own))
     (has_append (then_jumps own no_jumps) others (t ∷ []) rest
-    (has_one (then_jumps own no_jumps) t first) (selecting_has v choices))
+    (has_one (then_jumps own no_jumps) t first) (selecting_has origin v choices))
 
-selected_has : (v : Expr) (choices : List Choice) (otherwise : ℕ) (a : Jumps) (inside : Trees) →
+selected_has : (origin : ℕ) (v : Expr) (choices : List Choice) (otherwise : ℕ) (a : Jumps)
+    (inside : Trees) →
     Has a inside →
-    Has (switch_jumps choices otherwise a) (statement.selected_by v choices otherwise inside)
-selected_has v choices otherwise a inside h =
-    let end = leaf head.Labeled in
+    Has (switch_jumps choices otherwise a) (statement.selected_by origin v choices otherwise inside)
+selected_has origin v choices otherwise a inside h =
+    let end = leaf origin head.Labeled in
     let behind = then_jumps a (labelled no_jumps) in
     has_append (all_jumps (map (λ (one : Choice). goto one.label) choices))
-    (then_jumps (goto otherwise) behind) (map (statement.selecting v) choices)
-    (leaf (head.Goto otherwise) ∷ (inside ++ end ∷ [])) (selecting_has v choices)
-    (has_append (goto otherwise) behind (leaf (head.Goto otherwise) ∷ []) (inside ++ end ∷ [])
-    (goto_has otherwise)
+    (then_jumps (goto otherwise) behind) (map (statement.selecting origin v) choices)
+    (leaf origin (head.Goto otherwise) ∷ (inside ++ end ∷ [])) (selecting_has origin v choices)
+    (has_append (goto otherwise) behind (leaf origin (head.Goto otherwise) ∷ [])
+    (inside ++ end ∷ [])
+    (goto_has origin otherwise)
     (has_append a (labelled no_jumps) inside (end ∷ []) h
-    (has_one (labelled no_jumps) end (leaf_has head.Labeled tt))))
+    (has_one (labelled no_jumps) end (leaf_has origin head.Labeled tt))))
 
 module _ (frames : rows.Frames) where
   -- a switch, by the rule of its body
-  abbrev pub switch_rule : TypedExpression → List Choice → ℕ → core.Rule Trees → core.Rule Trees
-  switch_rule value choices otherwise body =
+  abbrev pub switch_rule : ℕ → TypedExpression → List Choice → ℕ → core.Rule Trees → core.Rule Trees
+  switch_rule origin value choices otherwise body =
       core.then_by (rows.rows frames value).used (λ v.
-      core.then_by (held (valued v.statements (promote v.value))) (λ kept. core.then_by body
+      core.then_by (held origin (valued v.statements (promote v.value))) (λ kept. core.then_by body
       (λ inside. core.gives (kept.statements
-      ++ statement.selected_by kept.value choices otherwise inside))))
+      ++ statement.selected_by origin kept.value choices otherwise inside))))
 
   -- what each body makes that is handed to it
-  pub switch_makes : {P Q : Trees → Type 0} (value : TypedExpression) (choices : List Choice)
+  pub switch_makes : (origin : ℕ) {P Q : Trees → Type 0} (value : TypedExpression)
+      (choices : List Choice)
       (otherwise : ℕ) {body : core.Rule Trees} → Makes P body →
       ((before : Trees) (v : Expr) (inside : Trees) → AllShaped before → P inside →
-      Q (before ++ statement.selected_by v choices otherwise inside)) →
-      Makes Q (switch_rule value choices otherwise body)
-  switch_makes {Q = Q} value choices otherwise {body = body} h made =
-      makes_then (λ v. core.then_by (held (valued v.statements (promote v.value)))
+      Q (before ++ statement.selected_by origin v choices otherwise inside)) →
+      Makes Q (switch_rule origin value choices otherwise body)
+  switch_makes origin {Q = Q} value choices otherwise {body = body} h made =
+      makes_then (λ v. core.then_by (held origin (valued v.statements (promote v.value)))
       (λ kept. core.then_by body (λ inside. core.gives (kept.statements
-      ++ statement.selected_by kept.value choices otherwise inside))))
+      ++ statement.selected_by origin kept.value choices otherwise inside))))
       (expression_makes frames value).used
       (λ v is. makes_then (λ kept. core.then_by body (λ inside. core.gives (kept.statements
-      ++ statement.selected_by kept.value choices otherwise inside)))
-      (held_makes (valued v.statements (promote v.value)) is)
+      ++ statement.selected_by origin kept.value choices otherwise inside)))
+      (held_makes origin (valued v.statements (promote v.value)) is)
       (λ kept so. makes_then (λ inside. core.gives (kept.statements
-      ++ statement.selected_by kept.value choices otherwise inside)) h
+      ++ statement.selected_by origin kept.value choices otherwise inside)) h
       (λ inside has. makes Q (kept.statements
-      ++ statement.selected_by kept.value choices otherwise inside)
+      ++ statement.selected_by origin kept.value choices otherwise inside)
       (made kept.statements kept.value inside so has))))
 
   pub unused_makes : (e : Option TypedExpression) → Makes AllShaped (statement.some_unused frames e)
   unused_makes None = makes AllShaped [] tt
   unused_makes (Some e) = (expression_makes frames e).unused
 
-  initialized_makes : (place : Location) (e : TypedExpression) →
-      Makes AllShaped (statement.initialized frames place e)
-  initialized_makes place e =
-      makes_then (λ v. core.gives (v.statements ++ set place v.value ∷ []))
+  initialized_makes : (origin : ℕ) (place : Location) (e : TypedExpression) →
+      Makes AllShaped (statement.initialized origin frames place e)
+  initialized_makes origin place e =
+      makes_then (λ v. core.gives (v.statements ++ set origin place v.value ∷ []))
       (expression_makes frames e).used
-      (λ v is. makes AllShaped (v.statements ++ set place v.value ∷ [])
-      (push_shaped v.statements (set place v.value) is (set_shaped place v.value)))
+      (λ v is. makes AllShaped (v.statements ++ set origin place v.value ∷ [])
+      (push_shaped v.statements (set origin place v.value) is (set_shaped origin place v.value)))
 
-  each_initialized : (t : IntType) (first : ℕ) (items : List TypedExpression) →
-      EachMakes AllShaped (statement.initialized_each frames t first items)
-  each_initialized t first [] = none_makes
-  each_initialized t first (item ∷ items) =
-      more_make (initialized_makes (cell_at t first) item) (each_initialized t (first + 1) items)
+  each_initialized : (origin : ℕ) (t : IntType) (first : ℕ) (items : List TypedExpression) →
+      EachMakes AllShaped (statement.initialized_each origin frames t first items)
+  each_initialized origin t first [] = none_makes
+  each_initialized origin t first (item ∷ items) =
+      more_make (initialized_makes origin (cell_at t first) item)
+      (each_initialized origin t (first + 1) items)
 
-  initializing_makes : (object : Object) (given : Option TypedInitializer) (first : ℕ) →
-      Makes AllShaped (statement.initializing frames object given first)
-  initializing_makes object None first =
-      makes AllShaped (statement.inputs first (cells_of object))
-      (inputs_shaped first (cells_of object))
-  initializing_makes object (Some (initializer.Scalar value)) first =
-      initialized_makes (cell_at object.ty first) value
-  initializing_makes object (Some (initializer.List items)) first =
-      let behind = statement.zeros object.ty (first + length items)
+  initializing_makes : (origin : ℕ) (object : Object) (given : Option TypedInitializer)
+      (first : ℕ) →
+      Makes AllShaped (statement.initializing origin frames object given first)
+  initializing_makes origin object None first =
+      makes AllShaped (statement.inputs origin first (cells_of object))
+      (inputs_shaped origin first (cells_of object))
+  initializing_makes origin object (Some (initializer.Scalar value)) first =
+      initialized_makes origin (cell_at object.ty first) value
+  initializing_makes origin object (Some (initializer.List items)) first =
+      let behind = statement.zeros origin object.ty (first + length items)
       (cells_of object - length items) in
       makes_then (λ before. core.gives (before ++ behind))
-      (makes_ordered (each_initialized object.ty first items))
+      (makes_ordered (each_initialized origin object.ty first items))
       (λ before is. makes AllShaped (before ++ behind) (append_shaped before behind is
-      (zeros_shaped object.ty (first + length items) (cells_of object - length items))))
+      (zeros_shaped origin object.ty (first + length items) (cells_of object - length items))))
 
   declared_makes : (declarator : TypedDeclarator) →
       Makes AllShaped (statement.declared frames declarator)
   declared_makes declarator =
-      makes_then (statement.initializing frames declarator.object declarator.initializer)
+      makes_then (statement.initializing declarator.place frames declarator.object
+      declarator.initializer)
       (taking_makes declarator.object)
-      (λ first is. initializing_makes declarator.object declarator.initializer first)
+      (λ first is. initializing_makes declarator.place declarator.object declarator.initializer
+      first)
 
   pub each_declared : (declarators : List TypedDeclarator) →
       EachMakes AllShaped (map (statement.declared frames) declarators)
@@ -303,84 +314,94 @@ module _ (frames : rows.Frames) where
   started_makes (start.Declaration declarators) = makes_ordered (each_declared declarators)
   started_makes (start.Expression expression) = unused_makes expression
 
-  pub left_makes : (test : Option TypedExpression) → Makes Loose (statement.left_unless frames test)
-  left_makes None = makes Loose [] (record { loose = false; has = has_none })
-  left_makes (Some test) =
-      makes_then (λ v. core.gives (statement.leaving v)) (expression_makes frames test).used
-      (λ v is. makes Loose (statement.leaving v) (record {
+  pub left_makes : (origin : ℕ) (test : Option TypedExpression) →
+      Makes Loose (statement.left_unless origin frames test)
+  left_makes origin None = makes Loose [] (record { loose = false; has = has_none })
+  left_makes origin (Some test) =
+      makes_then (λ v. core.gives (statement.leaving origin v)) (expression_makes frames test).used
+      (λ v is. makes Loose (statement.leaving origin v) (record {
         loose = true;
-        has = plain_then leaving v.statements (choice v.value [] (leaf head.Break ∷ []) ∷ []) is
-            (has_one leaving (choice v.value [] (leaf head.Break ∷ []))
-            (choice_has no_jumps leaving v.value [] (leaf head.Break ∷ []) has_none break_has));
+        has = plain_then leaving v.statements
+            (choice origin v.value [] (leaf origin head.Break ∷ []) ∷ []) is
+            (has_one leaving (choice origin v.value [] (leaf origin head.Break ∷ []))
+            (choice_has origin no_jumps leaving v.value [] (leaf origin head.Break ∷ []) has_none
+            (break_has origin)));
       }))
 
-  pub returned_makes : (place : Location) (value : Option TypedExpression) →
-      Makes (Has no_jumps) (statement.returned frames place value)
-  returned_makes place None = one_makes no_jumps head.Leave (leaf_has head.Leave refl)
-  returned_makes place (Some value) =
-      makes_then (λ before. core.gives (before ++ leaf head.Leave ∷ []))
-      (initialized_makes place value)
-      (λ before is. makes (Has no_jumps) (before ++ leaf head.Leave ∷ [])
-      (plain_then no_jumps before (leaf head.Leave ∷ []) is
-      (has_one no_jumps (leaf head.Leave) (leaf_has head.Leave refl))))
+  pub returned_makes : (origin : ℕ) (place : Location) (value : Option TypedExpression) →
+      Makes (Has no_jumps) (statement.returned origin frames place value)
+  returned_makes origin place None =
+      one_makes origin no_jumps head.Leave (leaf_has origin head.Leave refl)
+  returned_makes origin place (Some value) =
+      makes_then (λ before. core.gives (before ++ leaf origin head.Leave ∷ []))
+      (initialized_makes origin place value)
+      (λ before is. makes (Has no_jumps) (before ++ leaf origin head.Leave ∷ [])
+      (plain_then no_jumps before (leaf origin head.Leave ∷ []) is
+      (has_one no_jumps (leaf origin head.Leave) (leaf_has origin head.Leave refl))))
 
-  if_makes : (test : TypedExpression) (p q : Jumps) {a b : core.Rule Trees} → Makes (Has p) a →
+  if_makes : (origin : ℕ) (test : TypedExpression) (p q : Jumps) {a b : core.Rule Trees} →
+      Makes (Has p) a →
       Makes (Has q) b →
       Makes (Has (then_jumps p q)) (core.then_by (rows.rows frames test).used
       (λ v. core.then_by a (λ x. core.then_by b (λ y.
-      core.gives (v.statements ++ choice v.value x y ∷ [])))))
-  if_makes test p q {a = a} {b = b} first second =
+      core.gives (v.statements ++ choice origin v.value x y ∷ [])))))
+  if_makes origin test p q {a = a} {b = b} first second =
       makes_then (λ v. core.then_by a (λ x. core.then_by b (λ y.
-      core.gives (v.statements ++ choice v.value x y ∷ [])))) (expression_makes frames test).used
+      core.gives (v.statements ++ choice origin v.value x y ∷ []))))
+      (expression_makes frames test).used
       (λ v is. makes_then (λ x. core.then_by b (λ y.
-      core.gives (v.statements ++ choice v.value x y ∷ []))) first
-      (λ x so. makes_then (λ y. core.gives (v.statements ++ choice v.value x y ∷ [])) second
-      (λ y also. makes (Has (then_jumps p q)) (v.statements ++ choice v.value x y ∷ [])
-      (plain_then (then_jumps p q) v.statements (choice v.value x y ∷ []) is
-      (has_one (then_jumps p q) (choice v.value x y) (choice_has p q v.value x y so also))))))
+      core.gives (v.statements ++ choice origin v.value x y ∷ []))) first
+      (λ x so. makes_then (λ y. core.gives (v.statements ++ choice origin v.value x y ∷ [])) second
+      (λ y also. makes (Has (then_jumps p q)) (v.statements ++ choice origin v.value x y ∷ [])
+      (plain_then (then_jumps p q) v.statements (choice origin v.value x y ∷ []) is
+      (has_one (then_jumps p q) (choice origin v.value x y)
+      (choice_has origin p q v.value x y so also))))))
 
-while_makes : (p : Jumps) {a b : core.Rule Trees} → Makes Loose a → Makes (Has p) b →
+while_makes : (origin : ℕ) (p : Jumps) {a b : core.Rule Trees} → Makes Loose a → Makes (Has p) b →
     Makes (Has (in_loop p)) (core.then_by a (λ front. core.then_by b (λ inside.
-    core.gives (repeated (front ++ inside) [] ∷ []))))
-while_makes p {b = b} test body =
+    core.gives (repeated origin (front ++ inside) [] ∷ []))))
+while_makes origin p {b = b} test body =
     makes_then (λ front. core.then_by b (λ inside.
-    core.gives (repeated (front ++ inside) [] ∷ []))) test
-    (λ front is. makes_then (λ inside. core.gives (repeated (front ++ inside) [] ∷ [])) body
-    (λ inside so. makes (Has (in_loop p)) (repeated (front ++ inside) [] ∷ [])
-    (front_has p front inside [] is so has_none)))
+    core.gives (repeated origin (front ++ inside) [] ∷ []))) test
+    (λ front is. makes_then (λ inside. core.gives (repeated origin (front ++ inside) [] ∷ [])) body
+    (λ inside so. makes (Has (in_loop p)) (repeated origin (front ++ inside) [] ∷ [])
+    (front_has origin p front inside [] is so has_none)))
 
-do_makes : (p : Jumps) {a b : core.Rule Trees} → Makes (Has p) a → Makes Loose b →
+do_makes : (origin : ℕ) (p : Jumps) {a b : core.Rule Trees} → Makes (Has p) a → Makes Loose b →
     Makes (Has (in_loop p)) (core.then_by a (λ inside. core.then_by b (λ behind.
-    core.gives (repeated inside behind ∷ []))))
-do_makes p {b = b} body test =
-    makes_then (λ inside. core.then_by b (λ behind. core.gives (repeated inside behind ∷ []))) body
-    (λ inside is. makes_then (λ behind. core.gives (repeated inside behind ∷ [])) test
-    (λ behind so. makes (Has (in_loop p)) (repeated inside behind ∷ [])
-    (behind_has p inside behind is so)))
+    core.gives (repeated origin inside behind ∷ []))))
+do_makes origin p {b = b} body test =
+    makes_then (λ inside. core.then_by b
+    (λ behind. core.gives (repeated origin inside behind ∷ []))) body
+    (λ inside is. makes_then (λ behind. core.gives (repeated origin inside behind ∷ [])) test
+    (λ behind so. makes (Has (in_loop p)) (repeated origin inside behind ∷ [])
+    (behind_has origin p inside behind is so)))
 
 -- a for, by its parts
-abbrev pub for_tree : Trees → Trees → Trees → Trees → CoreTree
-for_tree before front inside behind =
-    block (before ++ repeated (front ++ inside) behind ∷ [])
+abbrev pub for_tree : ℕ → Trees → Trees → Trees → Trees → CoreTree
+for_tree origin before front inside behind =
+    block origin (before ++ repeated origin (front ++ inside) behind ∷ [])
 
-for_makes : (a : Jumps) {p q r s : core.Rule Trees} → Makes AllShaped p → Makes Loose q →
+for_makes : (origin : ℕ) (a : Jumps) {p q r s : core.Rule Trees} → Makes AllShaped p →
+    Makes Loose q →
     Makes (Has a) r → Makes AllShaped s →
     Makes (Has (in_loop a)) (core.then_by p (λ before. core.then_by q (λ front.
     core.then_by r (λ inside. core.then_by s (λ behind.
-    core.gives (for_tree before front inside behind ∷ []))))))
-for_makes a {q = q} {r = r} {s = s} first test body step =
+    core.gives (for_tree origin before front inside behind ∷ []))))))
+for_makes origin a {q = q} {r = r} {s = s} first test body step =
     makes_then (λ before. core.then_by q (λ front. core.then_by r (λ inside. core.then_by s
-    (λ behind. core.gives (for_tree before front inside behind ∷ []))))) first
+    (λ behind. core.gives (for_tree origin before front inside behind ∷ []))))) first
     (λ before f. makes_then (λ front. core.then_by r (λ inside. core.then_by s
-    (λ behind. core.gives (for_tree before front inside behind ∷ [])))) test
+    (λ behind. core.gives (for_tree origin before front inside behind ∷ [])))) test
     (λ front t. makes_then (λ inside. core.then_by s
-    (λ behind. core.gives (for_tree before front inside behind ∷ []))) body
-    (λ inside h. makes_then (λ behind. core.gives (for_tree before front inside behind ∷ [])) step
-    (λ behind k. makes (Has (in_loop a)) (for_tree before front inside behind ∷ [])
-    (has_one (in_loop a) (for_tree before front inside behind)
-    (block_has (in_loop a) (before ++ repeated (front ++ inside) behind ∷ [])
-    (plain_then (in_loop a) before (repeated (front ++ inside) behind ∷ []) f
-    (front_has a front inside behind t h (has_plain behind k)))))))))
+    (λ behind. core.gives (for_tree origin before front inside behind ∷ []))) body
+    (λ inside h. makes_then (λ behind. core.gives (for_tree origin before front inside behind ∷ []))
+    step
+    (λ behind k. makes (Has (in_loop a)) (for_tree origin before front inside behind ∷ [])
+    (has_one (in_loop a) (for_tree origin before front inside behind)
+    (block_has origin (in_loop a) (before ++ repeated origin (front ++ inside) behind ∷ [])
+    (plain_then (in_loop a) before (repeated origin (front ++ inside) behind ∷ []) f
+    (front_has origin a front inside behind t h (has_plain behind k)))))))))
 
 abbrev pub jumps_in : TypedStatement → Jumps
 jumps_in = fold-TypedStatement Jumps Jumps item_layer_jumps statement_jumps
@@ -444,35 +465,39 @@ module _ (frames : rows.Frames) (place : Location) where
   each_item (item ∷ held) = more_has item.1 (each_item held)
 
   layer : (y : TypedStatement-F HeldItem HeldStatement) → Makes (Has (jumps_layer y)) (core_layer y)
-  layer (TypedStatement-F.Block items) =
+  layer (TypedStatement-F.Block items origin) =
       let all = all_jumps (map item_jumps (map (λ (e : HeldItem). e.0) items)) in
-      as_one_makes all all block (block_has all) (ordered_has (each_item items))
-  layer (TypedStatement-F.Expression expression) = quietly (unused_makes frames expression)
-  layer (TypedStatement-F.If test first None) =
-      if_makes frames test (jumps_in first.0) no_jumps first.1 (makes (Has no_jumps) [] has_none)
-  layer (TypedStatement-F.If test first (Some second)) =
-      if_makes frames test (jumps_in first.0) (jumps_in second.0) first.1 second.1
-  layer (TypedStatement-F.While test body) =
-      while_makes (jumps_in body.0) (left_makes frames (Some test)) body.1
-  layer (TypedStatement-F.Do body test) =
-      do_makes (jumps_in body.0) body.1 (left_makes frames (Some test))
-  layer (TypedStatement-F.For first test step body) =
-      for_makes (jumps_in body.0) (started_makes frames first) (left_makes frames test) body.1
+      as_one_makes all all (block origin) (block_has origin all) (ordered_has (each_item items))
+  layer (TypedStatement-F.Expression expression origin) = quietly (unused_makes frames expression)
+  layer (TypedStatement-F.If test first None origin) =
+      if_makes frames origin test (jumps_in first.0) no_jumps first.1
+      (makes (Has no_jumps) [] has_none)
+  layer (TypedStatement-F.If test first (Some second) origin) =
+      if_makes frames origin test (jumps_in first.0) (jumps_in second.0) first.1 second.1
+  layer (TypedStatement-F.While test body origin) =
+      while_makes origin (jumps_in body.0) (left_makes frames origin (Some test)) body.1
+  layer (TypedStatement-F.Do body test origin) =
+      do_makes origin (jumps_in body.0) body.1 (left_makes frames origin (Some test))
+  layer (TypedStatement-F.For first test step body origin) =
+      for_makes origin (jumps_in body.0) (started_makes frames first)
+      (left_makes frames origin test) body.1
       (unused_makes frames step)
-  layer (TypedStatement-F.Goto label) =
-      one_makes (goto label) (head.Goto label) (leaf_has (head.Goto label) refl)
-  layer TypedStatement-F.Break = one_makes leaving head.Break (leaf_has head.Break refl)
-  layer TypedStatement-F.Continue = one_makes leaving head.Continue (leaf_has head.Continue refl)
-  layer (TypedStatement-F.Return value) = returned_makes frames place value
-  layer (TypedStatement-F.Labeled label body) =
-      as_one_makes (jumps_in body.0) (labelled (jumps_in body.0)) (Node head.Labeled)
-      (λ trees h. node_has head.Labeled trees (jumps_in body.0) tt h) body.1
-  layer (TypedStatement-F.Switch value choices otherwise body end) =
+  layer (TypedStatement-F.Goto label origin) =
+      one_makes origin (goto label) (head.Goto label) (leaf_has origin (head.Goto label) refl)
+  layer (TypedStatement-F.Break origin) =
+      one_makes origin leaving head.Break (leaf_has origin head.Break refl)
+  layer (TypedStatement-F.Continue origin) =
+      one_makes origin leaving head.Continue (leaf_has origin head.Continue refl)
+  layer (TypedStatement-F.Return value origin) = returned_makes frames origin place value
+  layer (TypedStatement-F.Labeled label body origin) =
+      as_one_makes (jumps_in body.0) (labelled (jumps_in body.0)) (labeled origin)
+      (λ trees h. node_has origin head.Labeled trees (jumps_in body.0) tt h) body.1
+  layer (TypedStatement-F.Switch value choices otherwise body end origin) =
       let all = switch_jumps choices otherwise (jumps_in body.0) in
-      switch_makes frames value choices otherwise body.1
+      switch_makes frames origin value choices otherwise body.1
       (λ before v inside is so. plain_then all before
-      (statement.selected_by v choices otherwise inside) is
-      (selected_has v choices otherwise (jumps_in body.0) inside so))
+      (statement.selected_by origin v choices otherwise inside) is
+      (selected_has origin v choices otherwise (jumps_in body.0) inside so))
 
   item_layer : (y : TypedItem-F HeldItem HeldStatement) →
       Makes (Has (jumps_item_layer y)) (core_item_layer y)
@@ -513,11 +538,11 @@ module _ (frames : rows.Frames) (place : Location) where
 -- a function whose cells begin at a number
 abbrev pub function_from : rows.Frames → TypedFunction → ℕ → core.Rule CoreTree
 function_from frames function first =
-    core.then_by (statement.resulting function.result) (λ before.
+    core.then_by (statement.resulting function.place function.result) (λ before.
     core.then_by (statement.receiving function.parameters) (λ u.
     core.then_by (core.in_order (map (statement.item_rule frames
     (cell_at (object_type function.result) first)) function.items)) (λ inside.
-    core.gives (block (before ++ inside)))))
+    core.gives (block function.place (before ++ inside)))))
 
 from_makes : (frames : rows.Frames) (function : TypedFunction) (first : ℕ) →
     Makes (TreeHas (function_jumps function)) (function_from frames function first)
@@ -526,15 +551,15 @@ from_makes frames function first =
     let items = core.in_order (map (statement.item_rule frames place) function.items) in
     let all = function_jumps function in
     makes_then (λ before. core.then_by (statement.receiving function.parameters) (λ u.
-    core.then_by items (λ inside. core.gives (block (before ++ inside)))))
-    (resulting_makes function.result)
+    core.then_by items (λ inside. core.gives (block function.place (before ++ inside)))))
+    (resulting_makes function.place function.result)
     (λ before is. makes_then (λ u. core.then_by items
-    (λ inside. core.gives (block (before ++ inside))))
+    (λ inside. core.gives (block function.place (before ++ inside))))
     (receiving_makes function.parameters)
-    (λ u any. makes_then (λ inside. core.gives (block (before ++ inside)))
+    (λ u any. makes_then (λ inside. core.gives (block function.place (before ++ inside)))
     (ordered_has (items_keep frames place function.items))
-    (λ inside so. makes (TreeHas all) (block (before ++ inside))
-    (block_has all (before ++ inside) (plain_then all before inside is so)))))
+    (λ inside so. makes (TreeHas all) (block function.place (before ++ inside))
+    (block_has function.place all (before ++ inside) (plain_then all before inside is so)))))
 
 function_makes : (frames : rows.Frames) (function : TypedFunction) →
     Makes (TreeHas (function_jumps function)) (statement.function_rule frames function)

@@ -143,7 +143,8 @@ goto_leads trees P N n s r label below f inside =
     let there : InFunction P r.function m =
     subst (InFunction P r.function) (sym l.2) (in_function trees P n s r l.0 l.1 l.3) in
     let own : InFunction P r.function n =
-    subst (InFunction P r.function) (sym r.here) (in_function trees P n s r r.index r.placed r.at) in
+    subst (InFunction P r.function) (sym r.here) (in_function trees P n s r r.index r.placed r.at)
+    in
     let same : r.function ≡ f = one_function P N r.function f n own inside in
     let to_there : InFunction P f (part labels label) =
     subst (λ g. InFunction P g (part labels label)) same

@@ -95,70 +95,81 @@ pub record Fits (text : Text) (sites : List Site) (looping : Bool) (names own : 
 
 -- what the forms of a statement have
 
-of_block : (items : List TypedItem) →
-    jumps_in (tree.Block items) ≡ all_jumps (map item_jumps items)
-of_block items =
-    ap jumps_in (sym (tree.rolls-Block items)) ∙ open_jumps (TypedStatement-F.Block items)
+of_block : (items : List TypedItem) (place : ℕ) →
+    jumps_in (tree.Block items place) ≡ all_jumps (map item_jumps items)
+of_block items place =
+    ap jumps_in (sym (tree.rolls-Block items place)) ∙ open_jumps
+    (TypedStatement-F.Block items place)
 
-of_expression : (e : Option TypedExpression) → jumps_in (tree.Expression e) ≡ no_jumps
-of_expression e =
-    ap jumps_in (sym (tree.rolls-Expression e)) ∙ open_jumps (TypedStatement-F.Expression e)
+of_expression : (e : Option TypedExpression) (place : ℕ) →
+    jumps_in (tree.Expression e place) ≡ no_jumps
+of_expression e place =
+    ap jumps_in (sym (tree.rolls-Expression e place)) ∙ open_jumps
+    (TypedStatement-F.Expression e place)
 
-of_if : (test : TypedExpression) (first : TypedStatement) →
-    jumps_in (tree.If test first None) ≡ then_jumps (jumps_in first) no_jumps
-of_if test first =
-    ap jumps_in (sym (tree.rolls-If test first None))
-    ∙ open_jumps (TypedStatement-F.If test first None)
+of_if : (test : TypedExpression) (first : TypedStatement) (place : ℕ) →
+    jumps_in (tree.If test first None place) ≡ then_jumps (jumps_in first) no_jumps
+of_if test first place =
+    ap jumps_in (sym (tree.rolls-If test first None place))
+    ∙ open_jumps (TypedStatement-F.If test first None place)
 
-of_if_else : (test : TypedExpression) (first second : TypedStatement) →
-    jumps_in (tree.If test first (Some second)) ≡ then_jumps (jumps_in first) (jumps_in second)
-of_if_else test first second =
-    ap jumps_in (sym (tree.rolls-If test first (Some second)))
-    ∙ open_jumps (TypedStatement-F.If test first (Some second))
+of_if_else : (test : TypedExpression) (first second : TypedStatement) (place : ℕ) →
+    jumps_in (tree.If test first (Some second) place) ≡ then_jumps (jumps_in first)
+    (jumps_in second)
+of_if_else test first second place =
+    ap jumps_in (sym (tree.rolls-If test first (Some second) place))
+    ∙ open_jumps (TypedStatement-F.If test first (Some second) place)
 
-of_while : (test : TypedExpression) (body : TypedStatement) →
-    jumps_in (tree.While test body) ≡ in_loop (jumps_in body)
-of_while test body =
-    ap jumps_in (sym (tree.rolls-While test body)) ∙ open_jumps (TypedStatement-F.While test body)
+of_while : (test : TypedExpression) (body : TypedStatement) (place : ℕ) →
+    jumps_in (tree.While test body place) ≡ in_loop (jumps_in body)
+of_while test body place =
+    ap jumps_in (sym (tree.rolls-While test body place)) ∙ open_jumps
+    (TypedStatement-F.While test body place)
 
-of_do : (body : TypedStatement) (test : TypedExpression) →
-    jumps_in (tree.Do body test) ≡ in_loop (jumps_in body)
-of_do body test =
-    ap jumps_in (sym (tree.rolls-Do body test)) ∙ open_jumps (TypedStatement-F.Do body test)
+of_do : (body : TypedStatement) (test : TypedExpression) (place : ℕ) →
+    jumps_in (tree.Do body test place) ≡ in_loop (jumps_in body)
+of_do body test place =
+    ap jumps_in (sym (tree.rolls-Do body test place)) ∙ open_jumps
+    (TypedStatement-F.Do body test place)
 
-of_for : (first : TypedForStart) (test step : Option TypedExpression) (body : TypedStatement) →
-    jumps_in (tree.For first test step body) ≡ in_loop (jumps_in body)
-of_for first test step body =
-    ap jumps_in (sym (tree.rolls-For first test step body))
-    ∙ open_jumps (TypedStatement-F.For first test step body)
+of_for : (first : TypedForStart) (test step : Option TypedExpression) (body : TypedStatement)
+    (place : ℕ) →
+    jumps_in (tree.For first test step body place) ≡ in_loop (jumps_in body)
+of_for first test step body place =
+    ap jumps_in (sym (tree.rolls-For first test step body place))
+    ∙ open_jumps (TypedStatement-F.For first test step body place)
 
-of_goto : (label : ℕ) → jumps_in (tree.Goto label) ≡ goto label
-of_goto label =
-    ap jumps_in (sym (tree.rolls-Goto label)) ∙ open_jumps (TypedStatement-F.Goto label)
+of_goto : (label : ℕ) (place : ℕ) → jumps_in (tree.Goto label place) ≡ goto label
+of_goto label place =
+    ap jumps_in (sym (tree.rolls-Goto label place)) ∙ open_jumps (TypedStatement-F.Goto label place)
 
-of_break : jumps_in tree.Break ≡ jumping.leaving
-of_break = ap jumps_in (sym tree.rolls-Break) ∙ open_jumps TypedStatement-F.Break
+of_break : (place : ℕ) → jumps_in (tree.Break place) ≡ jumping.leaving
+of_break place = ap jumps_in (sym (tree.rolls-Break place)) ∙ open_jumps
+    (TypedStatement-F.Break place)
 
-of_continue : jumps_in tree.Continue ≡ jumping.leaving
-of_continue = ap jumps_in (sym tree.rolls-Continue) ∙ open_jumps TypedStatement-F.Continue
+of_continue : (place : ℕ) → jumps_in (tree.Continue place) ≡ jumping.leaving
+of_continue place = ap jumps_in (sym (tree.rolls-Continue place)) ∙ open_jumps
+    (TypedStatement-F.Continue place)
 
-of_return : (value : Option TypedExpression) → jumps_in (tree.Return value) ≡ no_jumps
-of_return value =
-    ap jumps_in (sym (tree.rolls-Return value)) ∙ open_jumps (TypedStatement-F.Return value)
+of_return : (value : Option TypedExpression) (place : ℕ) →
+    jumps_in (tree.Return value place) ≡ no_jumps
+of_return value place =
+    ap jumps_in (sym (tree.rolls-Return value place)) ∙ open_jumps
+    (TypedStatement-F.Return value place)
 
-of_labeled : (label : ℕ) (body : TypedStatement) →
-    jumps_in (tree.Labeled label body) ≡ labelled (jumps_in body)
-of_labeled label body =
-    ap jumps_in (sym (tree.rolls-Labeled label body))
-    ∙ open_jumps (TypedStatement-F.Labeled label body)
+of_labeled : (label : ℕ) (body : TypedStatement) (place : ℕ) →
+    jumps_in (tree.Labeled label body place) ≡ labelled (jumps_in body)
+of_labeled label body place =
+    ap jumps_in (sym (tree.rolls-Labeled label body place))
+    ∙ open_jumps (TypedStatement-F.Labeled label body place)
 
 of_switch : (value : TypedExpression) (choices : List Choice) (otherwise : ℕ)
-    (body : TypedStatement) (end : ℕ) →
-    jumps_in (tree.Switch value choices otherwise body end)
+    (body : TypedStatement) (end : ℕ) (place : ℕ) →
+    jumps_in (tree.Switch value choices otherwise body end place)
     ≡ switch_jumps choices otherwise (jumps_in body)
-of_switch value choices otherwise body end =
-    ap jumps_in (sym (tree.rolls-Switch value choices otherwise body end))
-    ∙ open_jumps (TypedStatement-F.Switch value choices otherwise body end)
+of_switch value choices otherwise body end place =
+    ap jumps_in (sym (tree.rolls-Switch value choices otherwise body end place))
+    ∙ open_jumps (TypedStatement-F.Switch value choices otherwise body end place)
 
 of_declaration : (declarators : List TypedDeclarator) →
     item_jumps (typed_item.Declaration declarators) ≡ no_jumps
@@ -482,15 +493,15 @@ module _ (text : Text) where
   fits_break : (around : Around) (place : ℕ) (to : Option ℕ) → around.break_to ≡ to →
       BelowSome (length around.labels) to →
       FitsAt around (record { around = around; act = breaks place } ∷ []) 0
-      (jumps_in (typed_break to))
+      (jumps_in (typed_break to place))
   fits_break around place None is below =
       fits_is (record { around = around; act = breaks place } ∷ []) around.in_loop
-      (length around.labels) 0 (jumps_in tree.Break) jumping.leaving of_break
+      (length around.labels) 0 (jumps_in (tree.Break place)) jumping.leaving (of_break place)
       (fits_breaking around place is)
   fits_break around place (Some label) is below =
       let sites = record { around = around; act = breaks place } ∷ [] in
-      fits_is sites around.in_loop (length around.labels) 0 (jumps_in (tree.Goto label))
-      (goto label) (of_goto label)
+      fits_is sites around.in_loop (length around.labels) 0 (jumps_in (tree.Goto label place))
+      (goto label) (of_goto label place)
       (fits_label_below sites around.in_loop (length around.labels) label below)
 
   -- the gotos of a switch, and the labels of its body and behind it
@@ -849,8 +860,9 @@ module _ (text : Text) where
             (subst (λ k. Stands around k) (length-append (labels_in first.0) []) stands) in
             fits_is (site_of around test ∷ sites) around.in_loop (length around.labels)
             (length (labels_in first.0 ++ []))
-            (jumps_in (tree.If (typed_expression text around test) (g.typed around) None))
-            (then_jumps a no_jumps) (of_if (typed_expression text around test) (g.typed around))
+            (jumps_in (tree.If (typed_expression text around test) (g.typed around) None place))
+            (then_jumps a no_jumps) (of_if (typed_expression text around test) (g.typed around)
+            place)
             (subst (λ n. FitsAt around (site_of around test ∷ sites) n (then_jumps a no_jumps))
             (sym (length-append (labels_in first.0) []))
             (fits_behind (site_of around test ∷ []) sites around.in_loop (length around.labels)
@@ -891,8 +903,8 @@ module _ (text : Text) where
             let test_of = typed_expression text around test in
             fits_is (site_of around test ∷ sites) around.in_loop (length around.labels)
             (length (labels_in first.0 ++ labels_in second.0))
-            (jumps_in (tree.If test_of (g.typed around) (Some (h.typed behind))))
-            (then_jumps a b) (of_if_else test_of (g.typed around) (h.typed behind))
+            (jumps_in (tree.If test_of (g.typed around) (Some (h.typed behind)) place))
+            (then_jumps a b) (of_if_else test_of (g.typed around) (h.typed behind) place)
             (subst (λ k. FitsAt around (site_of around test ∷ sites) k (then_jumps a b))
             (sym (length-append (labels_in first.0) (labels_in second.0)))
             (fits_behind (site_of around test ∷ []) sites around.in_loop (length around.labels)
@@ -918,8 +930,9 @@ module _ (text : Text) where
             let sites = g.walk.sites (loop around) in
             let n = length (labels_in body.0) in
             fits_is (site_of around test ∷ sites) around.in_loop (length around.labels) n
-            (jumps_in (tree.While (typed_expression text around test) (g.typed (loop around))))
-            (in_loop a) (of_while (typed_expression text around test) (g.typed (loop around)))
+            (jumps_in (tree.While (typed_expression text around test) (g.typed (loop around))
+            place))
+            (in_loop a) (of_while (typed_expression text around test) (g.typed (loop around)) place)
             (fits_behind (site_of around test ∷ []) sites around.in_loop (length around.labels) n
             (in_loop a)
             (fits_loop sites around.in_loop (length around.labels) n a
@@ -942,8 +955,8 @@ module _ (text : Text) where
             let behind = (looped g.walk).behind around in
             let n = length (labels_in body.0) in
             fits_is (sites ++ site_of behind test ∷ []) around.in_loop (length around.labels) n
-            (jumps_in (tree.Do (g.typed (loop around)) (typed_expression text around test)))
-            (in_loop a) (of_do (g.typed (loop around)) (typed_expression text around test))
+            (jumps_in (tree.Do (g.typed (loop around)) (typed_expression text around test) place))
+            (in_loop a) (of_do (g.typed (loop around)) (typed_expression text around test) place)
             (fits_before sites (site_of behind test ∷ []) around.in_loop (length around.labels) n
             (in_loop a)
             (fits_loop sites around.in_loop (length around.labels) n a
@@ -993,9 +1006,9 @@ module _ (text : Text) where
             ++ (stepped.sites (tested.behind behind) ++ sites))) around.in_loop
             (length around.labels) n
             (jumps_in (tree.For (typed_for_start text first here) (typed_optional text behind test)
-            (typed_optional text behind step) (g.typed (loop behind)))) (in_loop a)
+            (typed_optional text behind step) (g.typed (loop behind)) place)) (in_loop a)
             (of_for (typed_for_start text first here) (typed_optional text behind test)
-            (typed_optional text behind step) (g.typed (loop behind)))
+            (typed_optional text behind step) (g.typed (loop behind)) place)
             (fits_behind (front.sites here) (tested.sites behind
             ++ (stepped.sites (tested.behind behind) ++ sites)) around.in_loop
             (length around.labels) n (in_loop a)
@@ -1006,15 +1019,15 @@ module _ (text : Text) where
       }
 
   -- what stands behind a label, here after this act
-  behind_label : (around : Around) (act : Act) (sites : List Site) (n k : ℕ)
+  behind_label : (around : Around) (act : Act) (sites : List Site) (n k place : ℕ)
       (body : TypedStatement) → FitsAt around sites n (jumps_in body) →
       FitsAt around (record { around = around; act = act } ∷ sites) (suc n)
-      (jumps_in (tree.Labeled k body))
-  behind_label around act sites n k body h =
+      (jumps_in (tree.Labeled k body place))
+  behind_label around act sites n k place body h =
       let mark : Site = record { around = around; act = act } in
       let a = jumps_in body in
       fits_is (mark ∷ sites) around.in_loop (length around.labels) (suc n)
-      (jumps_in (tree.Labeled k body)) (labelled a) (of_labeled k body)
+      (jumps_in (tree.Labeled k body place)) (labelled a) (of_labeled k body place)
       (subst (λ m. FitsAt around (mark ∷ sites) m (labelled a)) (one_more n)
       (fits_behind (mark ∷ []) sites around.in_loop (length around.labels) (n + 1)
       (labelled a) (fits_label sites around.in_loop (length around.labels) n a h)))
@@ -1036,6 +1049,7 @@ module _ (text : Text) where
             (counts_then (marking label) g.walk 1 n (counts_marking label) body.1.counts);
         at = λ around stands.
             behind_label around (marks label) (g.walk.sites (labeled around)) n around.passed
+            label.place
             (g.typed (labeled around)) (body.1.at (labeled around) (record {
               room = next_room around.passed n (length around.labels) stands.room;
               breaks = stands.breaks;
@@ -1060,6 +1074,7 @@ module _ (text : Text) where
         at = λ around stands.
             let after = selected text (Some value) around in
             behind_label around (selects (Some value) place) (g.walk.sites after) n around.passed
+            place
             (g.typed after) (body.1.at after (record {
               room = next_room around.passed n (length around.labels) stands.room;
               breaks = stands.breaks;
@@ -1081,7 +1096,7 @@ module _ (text : Text) where
             (counts_then front g.walk 1 n (counts_selecting text None place) body.1.counts);
         at = λ around stands.
             let after = selected text None around in
-            behind_label around (selects None place) (g.walk.sites after) n around.passed
+            behind_label around (selects None place) (g.walk.sites after) n around.passed place
             (g.typed after) (body.1.at after (record {
               room = next_room around.passed n (length around.labels) stands.room;
               breaks = stands.breaks;
@@ -1129,9 +1144,9 @@ module _ (text : Text) where
             (otherwise_below names end behind.otherwise chosen.1 inside.breaks) in
             fits_is (site_of around value ∷ sites) around.in_loop names
             (length (labels_in body.0 ++ unnamed ∷ []))
-            (jumps_in (tree.Switch e behind.choices other body_of end))
+            (jumps_in (tree.Switch e behind.choices other body_of end place))
             (switch_jumps behind.choices other (jumps_in body_of))
-            (of_switch e behind.choices other body_of end)
+            (of_switch e behind.choices other body_of end place)
             (subst (λ k. FitsAt around (site_of around value ∷ sites) k
             (switch_jumps behind.choices other (jumps_in body_of))) (sym long)
             (fits_behind (site_of around value ∷ []) sites around.in_loop names (n + 1)
@@ -1156,7 +1171,8 @@ module _ (text : Text) where
             let sites = (items_walk items).sites (inner around) in
             fits_is sites around.in_loop (length around.labels)
             (length (flat_map (λ (names : List Name). names) (map labels_of items)))
-            (jumps_in (tree.Block typed)) (all_jumps (map item_jumps typed)) (of_block typed)
+            (jumps_in (tree.Block typed place)) (all_jumps (map item_jumps typed))
+            (of_block typed place)
             (subst (λ (names : List Name). FitsAt around sites (length names)
             (all_jumps (map item_jumps typed))) (sym (flat_items items))
             (items_fit items (all_held held) (inner around)
@@ -1165,7 +1181,7 @@ module _ (text : Text) where
   layer (Statement-F.Expression expression place) =
       quiet_layer (Statement-F.Expression expression place)
       (keeps_evaluating Evaluated expression) (quiet_evaluating Evaluated expression) refl
-      (λ around. of_expression (typed_optional text around expression))
+      (λ around. of_expression (typed_optional text around expression) place)
   layer (Statement-F.If test first None place) = if_layer test first place
   layer (Statement-F.If test first (Some second) place) = else_layer test first second place
   layer (Statement-F.While test body place) = while_layer test body place
@@ -1176,8 +1192,8 @@ module _ (text : Text) where
     counts = counts_quiet (doing (jumps label)) (quiet_doing (jumps label));
     at = λ around stands.
         fits_is (record { around = around; act = jumps label } ∷ []) around.in_loop
-        (length around.labels) 0 (jumps_in (tree.Goto (label_number around label)))
-        (goto (label_number around label)) (of_goto (label_number around label))
+        (length around.labels) 0 (jumps_in (tree.Goto (label_number around label) place))
+        (goto (label_number around label)) (of_goto (label_number around label) place)
         (fits_goto around label);
   }
   layer (Statement-F.Switch value body place) = switch_layer value body place
@@ -1193,7 +1209,8 @@ module _ (text : Text) where
     counts = counts_quiet (doing (continues place)) (quiet_doing (continues place));
     at = λ around stands.
         fits_is (record { around = around; act = continues place } ∷ []) around.in_loop
-        (length around.labels) 0 (jumps_in tree.Continue) jumping.leaving of_continue
+        (length around.labels) 0 (jumps_in (tree.Continue place)) jumping.leaving
+        (of_continue place)
         (fits_continuing around place);
   }
   layer (Statement-F.Return value place) =
@@ -1202,7 +1219,7 @@ module _ (text : Text) where
       (keeps_doing (returns place (is_some value))) (keeps_evaluating Valued value))
       (quiet_then (doing (returns place (is_some value))) (evaluating Valued value)
       (quiet_doing (returns place (is_some value))) (quiet_evaluating Valued value)) refl
-      (λ around. of_return (typed_optional text around value))
+      (λ around. of_return (typed_optional text around value) place)
   layer (Statement-F.Labeled label body) = labeled_layer label body
 
   item_layer : (y : BlockItem-F HeldItem HeldStatement) →

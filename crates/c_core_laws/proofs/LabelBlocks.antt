@@ -27,7 +27,7 @@ use Rattle.c_core_rules.specs.declared.tree.Location.{Location}
 use Rattle.c_core_rules.specs.Values.{cell_at}
 use Rattle.cpa_model_trees.specs.Numbering.{Trees, Placed, joined, statements, label_here}
 use Rattle.cpa_model_trees.specs.Numbering.{labels_from, part}
-use Rattle.c_core_rules.specs.Trees.{leaf, block, choice, repeated}
+use Rattle.c_core_rules.specs.Trees.{leaf, block, labeled, choice, repeated}
 use Rattle.c_core_rules.specs.Cells.{Taken, nothing_taken}
 use Rattle.c_core_rules.specs.Cells as core
 use Rattle.c_core_rules.specs.Expressions as rows
@@ -161,29 +161,29 @@ again_item x = map-TypedItem (Labelled TypedItem) (Labelled TypedStatement) Type
 
 whole_layer : (y : TypedStatement-F HeldWhole HeldWholeStatement) →
     again (whole_bare y) ≡ whole_bare y
-whole_layer (TypedStatement-F.Block items) =
-    ap (λ (ts : List TypedItem). TypedStatement-F.Block ts) (whole_items items)
-whole_layer (TypedStatement-F.Expression expression) = refl
-whole_layer (TypedStatement-F.If test first None) =
-    ap (λ (s : TypedStatement). TypedStatement-F.If test s None) first.1
-whole_layer (TypedStatement-F.If test first (Some second)) =
-    ap (λ (s : TypedStatement). TypedStatement-F.If test s (Some (labelled_in second.0).whole))
-    first.1
-    ∙ ap (λ (s : TypedStatement). TypedStatement-F.If test first.0 (Some s)) second.1
-whole_layer (TypedStatement-F.While test body) =
-    ap (λ (s : TypedStatement). TypedStatement-F.While test s) body.1
-whole_layer (TypedStatement-F.Do body test) =
-    ap (λ (s : TypedStatement). TypedStatement-F.Do s test) body.1
-whole_layer (TypedStatement-F.For first test step body) =
-    ap (λ (s : TypedStatement). TypedStatement-F.For first test step s) body.1
-whole_layer (TypedStatement-F.Goto label) = refl
-whole_layer TypedStatement-F.Break = refl
-whole_layer TypedStatement-F.Continue = refl
-whole_layer (TypedStatement-F.Return value) = refl
-whole_layer (TypedStatement-F.Labeled label body) =
-    ap (λ (s : TypedStatement). TypedStatement-F.Labeled label s) body.1
-whole_layer (TypedStatement-F.Switch value choices otherwise body end) =
-    ap (λ (s : TypedStatement). TypedStatement-F.Switch value choices otherwise s end) body.1
+whole_layer (TypedStatement-F.Block items origin) =
+    ap (λ (ts : List TypedItem). TypedStatement-F.Block ts origin) (whole_items items)
+whole_layer (TypedStatement-F.Expression expression origin) = refl
+whole_layer (TypedStatement-F.If test first None origin) =
+    ap (λ (s : TypedStatement). TypedStatement-F.If test s None origin) first.1
+whole_layer (TypedStatement-F.If test first (Some second) origin) =
+    ap (λ (s : TypedStatement). TypedStatement-F.If test s (Some (labelled_in second.0).whole)
+    origin) first.1
+    ∙ ap (λ (s : TypedStatement). TypedStatement-F.If test first.0 (Some s) origin) second.1
+whole_layer (TypedStatement-F.While test body origin) =
+    ap (λ (s : TypedStatement). TypedStatement-F.While test s origin) body.1
+whole_layer (TypedStatement-F.Do body test origin) =
+    ap (λ (s : TypedStatement). TypedStatement-F.Do s test origin) body.1
+whole_layer (TypedStatement-F.For first test step body origin) =
+    ap (λ (s : TypedStatement). TypedStatement-F.For first test step s origin) body.1
+whole_layer (TypedStatement-F.Goto label origin) = refl
+whole_layer (TypedStatement-F.Break origin) = refl
+whole_layer (TypedStatement-F.Continue origin) = refl
+whole_layer (TypedStatement-F.Return value origin) = refl
+whole_layer (TypedStatement-F.Labeled label body origin) =
+    ap (λ (s : TypedStatement). TypedStatement-F.Labeled label s origin) body.1
+whole_layer (TypedStatement-F.Switch value choices otherwise body end origin) =
+    ap (λ (s : TypedStatement). TypedStatement-F.Switch value choices otherwise s end origin) body.1
 
 whole_item_layer : (y : TypedItem-F HeldWhole HeldWholeStatement) →
     again_item (whole_bare_item y) ≡ whole_bare_item y
@@ -223,16 +223,17 @@ from_one = omega arith
 
 module _ (frames : rows.Frames) (place : Location) where
   -- the statements of the block of a label
-  abbrev block_of : TypedStatement → Taken → List Placed
-  block_of body taken =
-      statements (Node head.Labeled (core_statement frames place body taken).made)
+  abbrev block_of : ℕ → TypedStatement → Taken → List Placed
+  block_of origin body taken =
+      statements (Node head.Labeled (core_statement frames place body taken).made origin)
 
   -- behind k labelled blocks stands that of this statement
   record StandsAt (placed : List Placed) (k : ℕ) (body : TypedStatement) : Type 0 where
     before : List Placed
     behind : List Placed
     taken : Taken
-    stands : placed ≡ before ++ (block_of body taken ++ behind)
+    origin : ℕ
+    stands : placed ≡ before ++ (block_of origin body taken ++ behind)
     many : Many before k
 
   -- those of these labels stand behind k, k + 1, ..
@@ -244,10 +245,11 @@ module _ (frames : rows.Frames) (place : Location) where
   at_left : (a b : List Placed) (k : ℕ) (body : TypedStatement) → StandsAt a k body →
       StandsAt (a ++ b) k body
   at_left a b k body s =
-      let own = block_of body s.taken in record {
+      let own = block_of s.origin body s.taken in record {
         before = s.before;
         behind = s.behind ++ b;
         taken = s.taken;
+        origin = s.origin;
         stands = ap (λ (ps : List Placed). ps ++ b) s.stands
             ∙ append_assoc s.before (own ++ s.behind) b
             ∙ ap (λ (ps : List Placed). s.before ++ ps) (append_assoc own s.behind b);
@@ -257,10 +259,11 @@ module _ (frames : rows.Frames) (place : Location) where
   at_right : (a b : List Placed) (j k : ℕ) (body : TypedStatement) → Many a j →
       StandsAt b k body → StandsAt (a ++ b) (j + k) body
   at_right a b j k body m s =
-      let own = block_of body s.taken in record {
+      let own = block_of s.origin body s.taken in record {
         before = a ++ s.before;
         behind = s.behind;
         taken = s.taken;
+        origin = s.origin;
         stands = ap (λ (ps : List Placed). a ++ ps) s.stands
             ∙ sym (append_assoc a s.before (own ++ s.behind));
         many = many_then a s.before j k m s.many;
@@ -337,57 +340,66 @@ module _ (frames : rows.Frames) (place : Location) where
   one_mark labels t h =
       record { marks = subst (Marks labels) (sym (append-nil (statements t))) h }
 
-  abbrev root_of : Head → Trees → Placed
-  root_of h parts = record { head = h; sizes = map length (map statements parts) }
+  abbrev root_of : ℕ → Head → Trees → Placed
+  root_of origin h parts = record {
+    head = h;
+    sizes = map length (map statements parts);
+    place = origin;
+  }
 
-  node_marks : (h : Head) → ((n : ℕ) → label_here h n ≡ []) → (labels : List Label)
-      (parts : Trees) → Mark labels parts → Marks labels (statements (Node h parts))
-  node_marks h none labels parts m =
-      let root = root_of h parts in
-      subst (Marks labels) (sym (node_placed h parts))
+  node_marks : (origin : ℕ) (h : Head) → ((n : ℕ) → label_here h n ≡ []) → (labels : List Label)
+      (parts : Trees) → Mark labels parts → Marks labels (statements (Node h parts origin))
+  node_marks origin h none labels parts m =
+      let root = root_of origin h parts in
+      subst (Marks labels) (sym (node_placed h parts origin))
       (marks_then [] labels (root ∷ []) (placed_of parts)
       (no_marks (root ∷ [])
       (record { are = λ n. ap (λ (ls : List ℕ). length (ls ++ [])) (none n) })) m.marks)
 
-  block_marks : (labels : List Label) (items : Trees) → Mark labels items →
-      Marks labels (statements (block items))
-  block_marks labels items m = node_marks head.Block (λ n. refl) labels items m
+  block_marks : (origin : ℕ) (labels : List Label) (items : Trees) → Mark labels items →
+      Marks labels (statements (block origin items))
+  block_marks origin labels items m = node_marks origin head.Block (λ n. refl) labels items m
 
-  two_mark : (xs ys : List Label) (first second : Trees) → Mark xs first → Mark ys second →
-      Mark (xs ++ ys) (block first ∷ block second ∷ [])
-  two_mark xs ys first second h k =
-      mark_then xs ys (block first ∷ []) (block second ∷ [])
-      (one_mark xs (block first) (block_marks xs first h))
-      (one_mark ys (block second) (block_marks ys second k))
+  two_mark : (origin : ℕ) (xs ys : List Label) (first second : Trees) → Mark xs first →
+      Mark ys second →
+      Mark (xs ++ ys) (block origin first ∷ block origin second ∷ [])
+  two_mark origin xs ys first second h k =
+      mark_then xs ys (block origin first ∷ []) (block origin second ∷ [])
+      (one_mark xs (block origin first) (block_marks origin xs first h))
+      (one_mark ys (block origin second) (block_marks origin ys second k))
 
-  choice_mark : (xs ys : List Label) (test : Expr) (first second : Trees) → Mark xs first →
-      Mark ys second → Mark (xs ++ ys) (choice test first second ∷ [])
-  choice_mark xs ys test first second h k =
-      one_mark (xs ++ ys) (choice test first second)
-      (node_marks (head.If test) (λ n. refl) (xs ++ ys) (block first ∷ block second ∷ [])
-      (two_mark xs ys first second h k))
+  choice_mark : (origin : ℕ) (xs ys : List Label) (test : Expr) (first second : Trees) →
+      Mark xs first →
+      Mark ys second → Mark (xs ++ ys) (choice origin test first second ∷ [])
+  choice_mark origin xs ys test first second h k =
+      one_mark (xs ++ ys) (choice origin test first second)
+      (node_marks origin (head.If test) (λ n. refl) (xs ++ ys)
+      (block origin first ∷ block origin second ∷ [])
+      (two_mark origin xs ys first second h k))
 
-  loop_mark : (xs ys : List Label) (body step : Trees) → Mark xs body → Mark ys step →
-      Mark (xs ++ ys) (repeated body step ∷ [])
-  loop_mark xs ys body step h k =
-      one_mark (xs ++ ys) (repeated body step)
-      (node_marks head.Loop (λ n. refl) (xs ++ ys) (block body ∷ block step ∷ [])
-      (two_mark xs ys body step h k))
+  loop_mark : (origin : ℕ) (xs ys : List Label) (body step : Trees) → Mark xs body → Mark ys step →
+      Mark (xs ++ ys) (repeated origin body step ∷ [])
+  loop_mark origin xs ys body step h k =
+      one_mark (xs ++ ys) (repeated origin body step)
+      (node_marks origin head.Loop (λ n. refl) (xs ++ ys)
+      (block origin body ∷ block origin step ∷ [])
+      (two_mark origin xs ys body step h k))
 
-  body_mark : (labels : List Label) (body step : Trees) → Mark labels body →
-      Many (placed_of step) 0 → Mark labels (repeated body step ∷ [])
-  body_mark labels body step h m =
-      subst (λ (ls : List Label). Mark ls (repeated body step ∷ [])) (append-nil labels)
-      (loop_mark labels [] body step h (mark_none step m))
+  body_mark : (origin : ℕ) (labels : List Label) (body step : Trees) → Mark labels body →
+      Many (placed_of step) 0 → Mark labels (repeated origin body step ∷ [])
+  body_mark origin labels body step h m =
+      subst (λ (ls : List Label). Mark ls (repeated origin body step ∷ [])) (append-nil labels)
+      (loop_mark origin labels [] body step h (mark_none step m))
 
-  label_marks : (number : ℕ) (body : TypedStatement) (taken : Taken) (labels : List Label) →
+  label_marks : (origin : ℕ) (number : ℕ) (body : TypedStatement) (taken : Taken)
+      (labels : List Label) →
       Mark labels (core_statement frames place body taken).made →
-      Marks (record { number = number; body = body } ∷ labels) (block_of body taken)
-  label_marks number body taken labels m =
+      Marks (record { number = number; body = body } ∷ labels) (block_of origin body taken)
+  label_marks origin number body taken labels m =
       let inside = (core_statement frames place body taken).made in
-      let whole = block_of body taken in
-      let root = root_of head.Labeled inside in
-      let is = node_placed head.Labeled inside in
+      let whole = block_of origin body taken in
+      let root = root_of origin head.Labeled inside in
+      let is = node_placed head.Labeled inside origin in
       let own : Many (root ∷ []) 1 = record { are = λ n. refl } in record {
         many = subst (λ (ps : List Placed). Many ps (suc (length labels))) (sym is)
             (subst (Many (root ∷ placed_of inside)) (one_and (length labels))
@@ -397,6 +409,7 @@ module _ (frames : rows.Frames) (place : Location) where
             before = [];
             behind = [];
             taken = taken;
+            origin = origin;
             stands = sym (append-nil whole);
             many = record { are = λ n. refl };
           },
@@ -406,120 +419,135 @@ module _ (frames : rows.Frames) (place : Location) where
         );
       }
 
-  nothing_made : (core_statement frames place (typed.Expression None) nothing_taken).made ≡ []
-  nothing_made =
+  nothing_made : (origin : ℕ) →
+      (core_statement frames place (typed.Expression None origin) nothing_taken).made ≡ []
+  nothing_made origin =
       ap (λ (r : core.Rule Trees). (r nothing_taken).made)
-      (ap (core_statement frames place) (sym (typed.rolls-Expression None))
-      ∙ open_core_statement frames place (TypedStatement-F.Expression None))
+      (ap (core_statement frames place) (sym (typed.rolls-Expression None origin))
+      ∙ open_core_statement frames place (TypedStatement-F.Expression None origin))
 
-  end_mark : (number : ℕ) → Mark (end_label number ∷ []) (leaf head.Labeled ∷ [])
-  end_mark number =
-      let own = end_label number ∷ [] in
+  end_mark : (origin : ℕ) (number : ℕ) →
+      Mark (end_label number origin ∷ []) (leaf origin head.Labeled ∷ [])
+  end_mark origin number =
+      let own = end_label number origin ∷ [] in
       let none : Mark [] [] = mark_none [] (record { are = λ n. refl }) in
-      one_mark own (leaf head.Labeled)
-      (subst (λ (xs : Trees). Marks own (statements (Node head.Labeled xs))) nothing_made
-      (label_marks number (typed.Expression None) nothing_taken []
-      (subst (λ (xs : Trees). Mark [] xs) (sym nothing_made) none)))
+      one_mark own (leaf origin head.Labeled)
+      (subst (λ (xs : Trees). Marks own (statements (Node head.Labeled xs origin)))
+      (nothing_made origin)
+      (label_marks origin number (typed.Expression None origin) nothing_taken []
+      (subst (λ (xs : Trees). Mark [] xs) (sym (nothing_made origin)) none)))
 
-  goto_mark : (label : ℕ) → Mark [] (leaf (head.Goto label) ∷ [])
-  goto_mark label =
-      one_mark [] (leaf (head.Goto label))
-      (node_marks (head.Goto label) (λ n. refl) [] [] (mark_none [] (record { are = λ n. refl })))
+  goto_mark : (origin : ℕ) (label : ℕ) → Mark [] (leaf origin (head.Goto label) ∷ [])
+  goto_mark origin label =
+      one_mark [] (leaf origin (head.Goto label))
+      (node_marks origin (head.Goto label) (λ n. refl) [] []
+      (mark_none [] (record { are = λ n. refl })))
 
-  selecting_mark : (v : Expr) (choices : List Choice) →
-      Mark [] (map (statement.selecting v) choices)
-  selecting_mark v [] = mark_none [] (record { are = λ n. refl })
-  selecting_mark v (one ∷ choices) =
-      mark_then [] [] (statement.selecting v one ∷ []) (map (statement.selecting v) choices)
-      (choice_mark [] [] (asking v one)
-      (leaf (head.Goto one.label) ∷ []) [] (goto_mark one.label)
-      (mark_none [] (record { are = λ n. refl }))) (selecting_mark v choices)
+  selecting_mark : (origin : ℕ) (v : Expr) (choices : List Choice) →
+      Mark [] (map (statement.selecting origin v) choices)
+  selecting_mark origin v [] = mark_none [] (record { are = λ n. refl })
+  selecting_mark origin v (one ∷ choices) =
+      mark_then [] [] (statement.selecting origin v one ∷ [])
+      (map (statement.selecting origin v) choices)
+      (choice_mark origin [] [] (asking v one)
+      (leaf origin (head.Goto one.label) ∷ []) [] (goto_mark origin one.label)
+      (mark_none [] (record { are = λ n. refl }))) (selecting_mark origin v choices)
 
-  selected_mark : (xs : List Label) (end : ℕ) (v : Expr) (choices : List Choice) (otherwise : ℕ)
+  selected_mark : (origin : ℕ) (xs : List Label) (end : ℕ) (v : Expr) (choices : List Choice)
+      (otherwise : ℕ)
       (inside : Trees) → Mark xs inside →
-      Mark (xs ++ end_label end ∷ []) (statement.selected_by v choices otherwise inside)
-  selected_mark xs end v choices otherwise inside m =
-      let labels = xs ++ end_label end ∷ [] in
-      let behind = inside ++ leaf head.Labeled ∷ [] in
-      mark_then [] labels (map (statement.selecting v) choices)
-      (leaf (head.Goto otherwise) ∷ behind) (selecting_mark v choices)
-      (mark_then [] labels (leaf (head.Goto otherwise) ∷ []) behind (goto_mark otherwise)
-      (mark_then xs (end_label end ∷ []) inside (leaf head.Labeled ∷ []) m (end_mark end)))
+      Mark (xs ++ end_label end origin ∷ []) (statement.selected_by origin v choices otherwise
+      inside)
+  selected_mark origin xs end v choices otherwise inside m =
+      let labels = xs ++ end_label end origin ∷ [] in
+      let behind = inside ++ leaf origin head.Labeled ∷ [] in
+      mark_then [] labels (map (statement.selecting origin v) choices)
+      (leaf origin (head.Goto otherwise) ∷ behind) (selecting_mark origin v choices)
+      (mark_then [] labels (leaf origin (head.Goto otherwise) ∷ []) behind
+      (goto_mark origin otherwise)
+      (mark_then xs (end_label end origin ∷ []) inside (leaf origin head.Labeled ∷ []) m
+      (end_mark origin end)))
 
   -- the rules of statements
 
   quiet_mark : {rule : core.Rule Trees} → Makes AllShaped rule → Makes (Mark []) rule
   quiet_mark h = makes_weaker (λ trees is. mark_none trees (many_plain trees is)) h
 
-  leaf_mark : (h : Head) → ((n : ℕ) → label_here h n ≡ []) →
-      Makes (Mark []) (core.gives (leaf h ∷ []))
-  leaf_mark h none =
-      makes (Mark []) (leaf h ∷ []) (one_mark [] (leaf h)
-      (node_marks h none [] [] (mark_none [] (record { are = λ n. refl }))))
+  leaf_mark : (origin : ℕ) (h : Head) → ((n : ℕ) → label_here h n ≡ []) →
+      Makes (Mark []) (core.gives (leaf origin h ∷ []))
+  leaf_mark origin h none =
+      makes (Mark []) (leaf origin h ∷ []) (one_mark [] (leaf origin h)
+      (node_marks origin h none [] [] (mark_none [] (record { are = λ n. refl }))))
 
-  if_marks : (test : TypedExpression) (xs ys : List Label) {a b : core.Rule Trees} →
+  if_marks : (origin : ℕ) (test : TypedExpression) (xs ys : List Label) {a b : core.Rule Trees} →
       Makes (Mark xs) a → Makes (Mark ys) b →
       Makes (Mark (xs ++ ys)) (core.then_by (rows.rows frames test).used
       (λ v. core.then_by a (λ x. core.then_by b (λ y.
-      core.gives (v.statements ++ choice v.value x y ∷ [])))))
-  if_marks test xs ys {a = a} {b = b} first second =
+      core.gives (v.statements ++ choice origin v.value x y ∷ [])))))
+  if_marks origin test xs ys {a = a} {b = b} first second =
       makes_then (λ v. core.then_by a (λ x. core.then_by b (λ y.
-      core.gives (v.statements ++ choice v.value x y ∷ [])))) (expression_makes frames test).used
+      core.gives (v.statements ++ choice origin v.value x y ∷ []))))
+      (expression_makes frames test).used
       (λ v is. makes_then (λ x. core.then_by b (λ y.
-      core.gives (v.statements ++ choice v.value x y ∷ []))) first
-      (λ x so. makes_then (λ y. core.gives (v.statements ++ choice v.value x y ∷ [])) second
-      (λ y also. makes (Mark (xs ++ ys)) (v.statements ++ choice v.value x y ∷ [])
-      (mark_behind (xs ++ ys) v.statements (choice v.value x y ∷ [])
-      (many_plain v.statements is) (choice_mark xs ys v.value x y so also)))))
+      core.gives (v.statements ++ choice origin v.value x y ∷ []))) first
+      (λ x so. makes_then (λ y. core.gives (v.statements ++ choice origin v.value x y ∷ [])) second
+      (λ y also. makes (Mark (xs ++ ys)) (v.statements ++ choice origin v.value x y ∷ [])
+      (mark_behind (xs ++ ys) v.statements (choice origin v.value x y ∷ [])
+      (many_plain v.statements is) (choice_mark origin xs ys v.value x y so also)))))
 
-  while_marks : (xs : List Label) {a b : core.Rule Trees} → Makes Loose a → Makes (Mark xs) b →
+  while_marks : (origin : ℕ) (xs : List Label) {a b : core.Rule Trees} → Makes Loose a →
+      Makes (Mark xs) b →
       Makes (Mark xs) (core.then_by a (λ front. core.then_by b (λ inside.
-      core.gives (repeated (front ++ inside) [] ∷ []))))
-  while_marks xs {b = b} test body =
+      core.gives (repeated origin (front ++ inside) [] ∷ []))))
+  while_marks origin xs {b = b} test body =
       makes_then (λ front. core.then_by b (λ inside.
-      core.gives (repeated (front ++ inside) [] ∷ []))) test
-      (λ front is. makes_then (λ inside. core.gives (repeated (front ++ inside) [] ∷ [])) body
-      (λ inside so. makes (Mark xs) (repeated (front ++ inside) [] ∷ [])
-      (body_mark xs (front ++ inside) []
+      core.gives (repeated origin (front ++ inside) [] ∷ []))) test
+      (λ front is. makes_then (λ inside. core.gives (repeated origin (front ++ inside) [] ∷ []))
+      body
+      (λ inside so. makes (Mark xs) (repeated origin (front ++ inside) [] ∷ [])
+      (body_mark origin xs (front ++ inside) []
       (mark_behind xs front inside (many_loose front is) so) (record { are = λ n. refl }))))
 
-  do_marks : (xs : List Label) {a b : core.Rule Trees} → Makes (Mark xs) a → Makes Loose b →
+  do_marks : (origin : ℕ) (xs : List Label) {a b : core.Rule Trees} → Makes (Mark xs) a →
+      Makes Loose b →
       Makes (Mark xs) (core.then_by a (λ inside. core.then_by b (λ behind.
-      core.gives (repeated inside behind ∷ []))))
-  do_marks xs {b = b} body test =
-      makes_then (λ inside. core.then_by b (λ behind. core.gives (repeated inside behind ∷ [])))
+      core.gives (repeated origin inside behind ∷ []))))
+  do_marks origin xs {b = b} body test =
+      makes_then (λ inside. core.then_by b
+      (λ behind. core.gives (repeated origin inside behind ∷ [])))
       body
-      (λ inside is. makes_then (λ behind. core.gives (repeated inside behind ∷ [])) test
-      (λ behind so. makes (Mark xs) (repeated inside behind ∷ [])
-      (body_mark xs inside behind is (many_loose behind so))))
+      (λ inside is. makes_then (λ behind. core.gives (repeated origin inside behind ∷ [])) test
+      (λ behind so. makes (Mark xs) (repeated origin inside behind ∷ [])
+      (body_mark origin xs inside behind is (many_loose behind so))))
 
-  for_marks : (xs : List Label) {p q r s : core.Rule Trees} → Makes AllShaped p →
+  for_marks : (origin : ℕ) (xs : List Label) {p q r s : core.Rule Trees} → Makes AllShaped p →
       Makes Loose q → Makes (Mark xs) r → Makes AllShaped s →
       Makes (Mark xs) (core.then_by p (λ before. core.then_by q (λ front.
       core.then_by r (λ inside. core.then_by s (λ behind.
-      core.gives (for_tree before front inside behind ∷ []))))))
-  for_marks xs {q = q} {r = r} {s = s} first test body step =
+      core.gives (for_tree origin before front inside behind ∷ []))))))
+  for_marks origin xs {q = q} {r = r} {s = s} first test body step =
       makes_then (λ before. core.then_by q (λ front. core.then_by r (λ inside. core.then_by s
-      (λ behind. core.gives (for_tree before front inside behind ∷ []))))) first
+      (λ behind. core.gives (for_tree origin before front inside behind ∷ []))))) first
       (λ before f. makes_then (λ front. core.then_by r (λ inside. core.then_by s
-      (λ behind. core.gives (for_tree before front inside behind ∷ [])))) test
+      (λ behind. core.gives (for_tree origin before front inside behind ∷ [])))) test
       (λ front t. makes_then (λ inside. core.then_by s
-      (λ behind. core.gives (for_tree before front inside behind ∷ []))) body
-      (λ inside h. makes_then (λ behind. core.gives (for_tree before front inside behind ∷ []))
+      (λ behind. core.gives (for_tree origin before front inside behind ∷ []))) body
+      (λ inside h. makes_then (λ behind. core.gives
+      (for_tree origin before front inside behind ∷ []))
       step
-      (λ behind k. makes (Mark xs) (for_tree before front inside behind ∷ [])
-      (one_mark xs (for_tree before front inside behind)
-      (block_marks xs (before ++ repeated (front ++ inside) behind ∷ [])
-      (mark_behind xs before (repeated (front ++ inside) behind ∷ []) (many_plain before f)
-      (body_mark xs (front ++ inside) behind
+      (λ behind k. makes (Mark xs) (for_tree origin before front inside behind ∷ [])
+      (one_mark xs (for_tree origin before front inside behind)
+      (block_marks origin xs (before ++ repeated origin (front ++ inside) behind ∷ [])
+      (mark_behind xs before (repeated origin (front ++ inside) behind ∷ []) (many_plain before f)
+      (body_mark origin xs (front ++ inside) behind
       (mark_behind xs front inside (many_loose front t) h) (many_plain behind k)))))))))
 
-  as_one_marks : (xs : List Label) {r : core.Rule Trees} → Makes (Mark xs) r →
-      Makes (Mark xs) (statement.as_one block r)
-  as_one_marks xs h =
-      makes_then (λ inside. core.gives (block inside ∷ [])) h
-      (λ inside is. makes (Mark xs) (block inside ∷ [])
-      (one_mark xs (block inside) (block_marks xs inside is)))
+  as_one_marks : (origin : ℕ) (xs : List Label) {r : core.Rule Trees} → Makes (Mark xs) r →
+      Makes (Mark xs) (statement.as_one (block origin) r)
+  as_one_marks origin xs h =
+      makes_then (λ inside. core.gives (block origin inside ∷ [])) h
+      (λ inside is. makes (Mark xs) (block origin inside ∷ [])
+      (one_mark xs (block origin inside) (block_marks origin xs inside is)))
 
   abbrev labels_in : TypedStatement → List Label
   labels_in s = (labelled_in s).labels
@@ -590,46 +618,48 @@ module _ (frames : rows.Frames) (place : Location) where
 
   layer : (y : TypedStatement-F HeldItem HeldStatement) →
       Makes (Mark (labels_layer y)) (core_layer y)
-  layer (TypedStatement-F.Block held) =
+  layer (TypedStatement-F.Block held origin) =
       let items = map (λ (e : HeldItem). e.0) held in
-      subst (λ (ls : List Label). Makes (Mark ls) (core_layer (TypedStatement-F.Block held)))
+      subst (λ (ls : List Label). Makes (Mark ls) (core_layer (TypedStatement-F.Block held origin)))
       (flat_items items)
-      (as_one_marks (flat_map item_labels items) (items_mark items (all_held held)))
-  layer (TypedStatement-F.Expression expression) = quiet_mark (unused_makes frames expression)
-  layer (TypedStatement-F.If test first None) =
-      if_marks test (labels_in first.0) [] first.1
+      (as_one_marks origin (flat_map item_labels items) (items_mark items (all_held held)))
+  layer (TypedStatement-F.Expression expression origin) =
+      quiet_mark (unused_makes frames expression)
+  layer (TypedStatement-F.If test first None origin) =
+      if_marks origin test (labels_in first.0) [] first.1
       (makes (Mark []) [] (mark_none [] (record { are = λ n. refl })))
-  layer (TypedStatement-F.If test first (Some second)) =
-      if_marks test (labels_in first.0) (labels_in second.0) first.1 second.1
-  layer (TypedStatement-F.While test body) =
-      while_marks (labels_in body.0) (left_makes frames (Some test)) body.1
-  layer (TypedStatement-F.Do body test) =
-      do_marks (labels_in body.0) body.1 (left_makes frames (Some test))
-  layer (TypedStatement-F.For first test step body) =
-      for_marks (labels_in body.0) (started_makes frames first) (left_makes frames test) body.1
+  layer (TypedStatement-F.If test first (Some second) origin) =
+      if_marks origin test (labels_in first.0) (labels_in second.0) first.1 second.1
+  layer (TypedStatement-F.While test body origin) =
+      while_marks origin (labels_in body.0) (left_makes frames origin (Some test)) body.1
+  layer (TypedStatement-F.Do body test origin) =
+      do_marks origin (labels_in body.0) body.1 (left_makes frames origin (Some test))
+  layer (TypedStatement-F.For first test step body origin) =
+      for_marks origin (labels_in body.0) (started_makes frames first)
+      (left_makes frames origin test) body.1
       (unused_makes frames step)
-  layer (TypedStatement-F.Goto label) = leaf_mark (head.Goto label) (λ n. refl)
-  layer TypedStatement-F.Break = leaf_mark head.Break (λ n. refl)
-  layer TypedStatement-F.Continue = leaf_mark head.Continue (λ n. refl)
-  layer (TypedStatement-F.Return value) =
+  layer (TypedStatement-F.Goto label origin) = leaf_mark origin (head.Goto label) (λ n. refl)
+  layer (TypedStatement-F.Break origin) = leaf_mark origin head.Break (λ n. refl)
+  layer (TypedStatement-F.Continue origin) = leaf_mark origin head.Continue (λ n. refl)
+  layer (TypedStatement-F.Return value origin) =
       makes_weaker (λ trees h. mark_none trees (many_has false trees h))
-      (returned_makes frames place value)
-  layer (TypedStatement-F.Labeled label body) =
+      (returned_makes frames origin place value)
+  layer (TypedStatement-F.Labeled label body origin) =
       subst (λ (s : TypedStatement). Makes (Mark (record { number = label; body = s }
-      ∷ labels_in body.0)) (core_layer (TypedStatement-F.Labeled label body)))
+      ∷ labels_in body.0)) (core_layer (TypedStatement-F.Labeled label body origin)))
       (sym (whole_statement body.0)) (record {
         at = λ taken.
             one_mark (record { number = label; body = body.0 } ∷ labels_in body.0)
-            (Node head.Labeled (core_statement frames place body.0 taken).made)
-            (label_marks label body.0 taken (labels_in body.0) (body.1.at taken));
+            (labeled origin (core_statement frames place body.0 taken).made)
+            (label_marks origin label body.0 taken (labels_in body.0) (body.1.at taken));
         extends = λ taken. body.1.extends taken;
       })
-  layer (TypedStatement-F.Switch value choices otherwise body end) =
-      let labels = labels_in body.0 ++ end_label end ∷ [] in
-      switch_makes frames value choices otherwise body.1
+  layer (TypedStatement-F.Switch value choices otherwise body end origin) =
+      let labels = labels_in body.0 ++ end_label end origin ∷ [] in
+      switch_makes frames origin value choices otherwise body.1
       (λ before v inside is so. mark_behind labels before
-      (statement.selected_by v choices otherwise inside) (many_plain before is)
-      (selected_mark (labels_in body.0) end v choices otherwise inside so))
+      (statement.selected_by origin v choices otherwise inside) (many_plain before is)
+      (selected_mark origin (labels_in body.0) end v choices otherwise inside so))
 
   item_layer : (y : TypedItem-F HeldItem HeldStatement) →
       Makes (Mark (labels_item_layer y)) (core_item_layer y)
@@ -679,13 +709,13 @@ module _ (frames : rows.Frames) (place : Location) where
       (n : ℕ) → part (labels_from n (statements t)) k ≡ n + length s.before
   leads_there t k body s n =
       let inside = (core_statement frames place body s.taken).made in
-      let own = block_of body s.taken in
+      let own = block_of s.origin body s.taken in
       let m = n + length s.before in
       let front = labels_from n s.before in
       let placed : labels_from m (own ++ s.behind)
       ≡ m ∷ labels_from (m + 1) (placed_of inside ++ s.behind) =
       ap (λ (ps : List Placed). labels_from m (ps ++ s.behind))
-      (node_placed head.Labeled inside) in
+      (node_placed head.Labeled inside s.origin) in
       let all : labels_from n (statements t)
       ≡ front ++ (m ∷ labels_from (m + 1) (placed_of inside ++ s.behind)) =
       ap (λ (ps : List Placed). labels_from n ps) s.stands
@@ -703,6 +733,7 @@ module _ (frames : rows.Frames) (place : Location) where
     before = s.before;
     behind = s.behind;
     taken = s.taken;
+    origin = s.origin;
     stands = s.stands;
     leads = λ n.
         ap (λ i. part (labels_from n (statements t)) i) is ∙ leads_there t k label.body s n;
@@ -731,15 +762,16 @@ from_marks frames function first =
     let items = core.in_order (map (statement.item_rule frames place) function.items) in
     let labels = function_labels function in
     makes_then (λ before. core.then_by (statement.receiving function.parameters) (λ u.
-    core.then_by items (λ inside. core.gives (block (before ++ inside)))))
-    (resulting_makes function.result)
+    core.then_by items (λ inside. core.gives (block function.place (before ++ inside)))))
+    (resulting_makes function.place function.result)
     (λ before is. makes_then (λ u. core.then_by items
-    (λ inside. core.gives (block (before ++ inside))))
+    (λ inside. core.gives (block function.place (before ++ inside))))
     (receiving_makes function.parameters)
-    (λ u any. makes_then (λ inside. core.gives (block (before ++ inside)))
+    (λ u any. makes_then (λ inside. core.gives (block function.place (before ++ inside)))
     (items_mark frames place function.items (all_items frames place function.items))
-    (λ inside so. makes (TreeMark frames place labels) (block (before ++ inside)) (record {
-      marks = block_marks frames place labels (before ++ inside)
+    (λ inside so. makes (TreeMark frames place labels) (block function.place (before ++ inside))
+    (record {
+      marks = block_marks frames place function.place labels (before ++ inside)
           (mark_behind frames place labels before inside (many_plain before is) so);
     }))))
 

@@ -780,11 +780,11 @@ named_append [] b h k = k
 named_append (site ∷ a) b h k = (h.0, named_append a b h.1 k)
 
 body_named : (text : Text) (before : Before) (specifiers : Specifiers)
-    (declarator : FunctionDeclarator) (items : List BlockItem) (place : ℕ) →
+    (declarator : FunctionDeclarator) (items : List BlockItem) (place end : ℕ) →
     NoFaults (jump_faults
-    (body_sites text before specifiers declarator (made.Block items place))) →
-    AllNamed (body_sites text before specifiers declarator (made.Block items place))
-body_named text before specifiers declarator items place none =
+    (body_sites text before specifiers declarator (made.Block items place end))) →
+    AllNamed (body_sites text before specifiers declarator (made.Block items place end))
+body_named text before specifiers declarator items place end none =
     let front = in_order (map receiving (listed declarator.parameters)) in
     let first = around_body (function_behind true specifiers declarator before) specifiers items in
     let around = front.behind first in
@@ -854,16 +854,16 @@ items_named text (item.Function specifiers declarator made.Skipped ∷ more) bef
     (items_named text more (item_behind text one before)
     (none_right (item_faults text one before)
     (items_faults text more (item_behind text one before)) none))
-items_named text (item.Function specifiers declarator (made.Block items place) ∷ more) before
+items_named text (item.Function specifiers declarator (made.Block items place end) ∷ more) before
     none =
-    let one = item.Function specifiers declarator (made.Block items place) in
+    let one = item.Function specifiers declarator (made.Block items place end) in
     let rest = items_faults text more (item_behind text one before) in
-    let sites = body_sites text before specifiers declarator (made.Block items place) in
+    let sites = body_sites text before specifiers declarator (made.Block items place end) in
     let of_body = none_right (head_faults text before true specifiers declarator)
     (flat_map (site_faults text) sites ++ jump_faults sites)
     (none_left (item_faults text one before) rest none) in
     named_append sites (sites_in text more (item_behind text one before))
-    (body_named text before specifiers declarator items place
+    (body_named text before specifiers declarator items place end
     (none_right (flat_map (site_faults text) sites) (jump_faults sites) of_body))
     (items_named text more (item_behind text one before)
     (none_right (item_faults text one before) rest none))

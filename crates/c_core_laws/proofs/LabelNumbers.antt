@@ -134,17 +134,18 @@ ranges_then a b m n xs ys is are at =
     (are ∙ ap (λ c. range_with_len c n) at) ∙ range_append a m n
 
 -- a label in front of a statement
-in_front : (number : ℕ) (names : List Name) (s : TypedStatement) →
+in_front : (number : ℕ) (names : List Name) (s : TypedStatement) (place : ℕ) →
     numbers_in s ≡ range_with_len (number + 1) (length names) →
-    numbers_in (typed.Labeled number s) ≡ range_with_len number (suc (length names))
-in_front number names s is =
-    numbers_are (sym (typed.rolls-Labeled number s))
-    ∙ of_step (TypedStatement-F.Labeled number s) ∙ ap (λ (ns : List ℕ). number ∷ ns) is
+    numbers_in (typed.Labeled number s place) ≡ range_with_len number (suc (length names))
+in_front number names s place is =
+    numbers_are (sym (typed.rolls-Labeled number s place))
+    ∙ of_step (TypedStatement-F.Labeled number s place) ∙ ap (λ (ns : List ℕ). number ∷ ns) is
 
-none_in_break : (to : Option ℕ) → numbers_in (typed_break to) ≡ []
-none_in_break None = numbers_are (sym typed.rolls-Break) ∙ of_step TypedStatement-F.Break
-none_in_break (Some end) =
-    numbers_are (sym (typed.rolls-Goto end)) ∙ of_step (TypedStatement-F.Goto end)
+none_in_break : (to : Option ℕ) (place : ℕ) → numbers_in (typed_break to place) ≡ []
+none_in_break None place = numbers_are (sym (typed.rolls-Break place)) ∙ of_step
+    (TypedStatement-F.Break place)
+none_in_break (Some end) place =
+    numbers_are (sym (typed.rolls-Goto end place)) ∙ of_step (TypedStatement-F.Goto end place)
 
 module _ (text : Text) where
   -- a part with labels of these names: their numbers follow those of the labels before it
@@ -204,7 +205,8 @@ module _ (text : Text) where
       let items = map (λ (e : HeldItem). e.0) held in record {
         numbered = λ around.
             let parts = items_typed text items (inner around) in
-            numbers_are (sym (typed.rolls-Block parts)) ∙ of_step (TypedStatement-F.Block parts)
+            numbers_are (sym (typed.rolls-Block parts place)) ∙ of_step
+            (TypedStatement-F.Block parts place)
             ∙ numbers_held parts ∙ items_numbered items (all_held held) (inner around)
             ∙ ap (λ (ns : List Name). range_with_len around.passed (length ns))
             (sym (flat_items text items));
@@ -212,7 +214,8 @@ module _ (text : Text) where
   layer (Statement-F.Expression expression place) = record {
     numbered = λ around.
         let e = typed_optional text around expression in
-        numbers_are (sym (typed.rolls-Expression e)) ∙ of_step (TypedStatement-F.Expression e);
+        numbers_are (sym (typed.rolls-Expression e place)) ∙ of_step
+        (TypedStatement-F.Expression e place);
   }
   layer (Statement-F.If test first None place) =
       let g = grown_of text first.0 in
@@ -220,7 +223,8 @@ module _ (text : Text) where
         numbered = λ around.
             let e = typed_expression text around test in
             let s = g.typed around in
-            numbers_are (sym (typed.rolls-If e s None)) ∙ of_step (TypedStatement-F.If e s None)
+            numbers_are (sym (typed.rolls-If e s None place)) ∙ of_step
+            (TypedStatement-F.If e s None place)
             ∙ numbers_append (labelled_in s).labels []
             ∙ append-nil (numbers_in s) ∙ first.1.numbered around
             ∙ ap (λ (ns : List Name). range_with_len around.passed (length ns))
@@ -236,8 +240,8 @@ module _ (text : Text) where
             let e = typed_expression text around test in
             let s = g.typed around in
             let t = h.typed behind in
-            numbers_are (sym (typed.rolls-If e s (Some t)))
-            ∙ of_step (TypedStatement-F.If e s (Some t))
+            numbers_are (sym (typed.rolls-If e s (Some t) place))
+            ∙ of_step (TypedStatement-F.If e s (Some t) place)
             ∙ numbers_append (labelled_in s).labels (labelled_in t).labels
             ∙ ranges_then around.passed behind.passed m n (numbers_in s) (numbers_in t)
             (first.1.numbered around) (second.1.numbered behind)
@@ -250,7 +254,8 @@ module _ (text : Text) where
         numbered = λ around.
             let e = typed_expression text around test in
             let s = g.typed (loop around) in
-            numbers_are (sym (typed.rolls-While e s)) ∙ of_step (TypedStatement-F.While e s)
+            numbers_are (sym (typed.rolls-While e s place)) ∙ of_step
+            (TypedStatement-F.While e s place)
             ∙ body.1.numbered (loop around);
       }
   layer (Statement-F.Do body test place) =
@@ -258,7 +263,7 @@ module _ (text : Text) where
         numbered = λ around.
             let e = typed_expression text around test in
             let s = g.typed (loop around) in
-            numbers_are (sym (typed.rolls-Do s e)) ∙ of_step (TypedStatement-F.Do s e)
+            numbers_are (sym (typed.rolls-Do s e place)) ∙ of_step (TypedStatement-F.Do s e place)
             ∙ body.1.numbered (loop around);
       }
   layer (Statement-F.For first test step body place) =
@@ -271,14 +276,15 @@ module _ (text : Text) where
             let b = typed_optional text behind test in
             let c = typed_optional text behind step in
             let s = g.typed (loop behind) in
-            numbers_are (sym (typed.rolls-For a b c s)) ∙ of_step (TypedStatement-F.For a b c s)
+            numbers_are (sym (typed.rolls-For a b c s place)) ∙ of_step
+            (TypedStatement-F.For a b c s place)
             ∙ body.1.numbered (loop behind)
             ∙ ap (λ k. range_with_len k n) ((quiet_start text first).passed here);
       }
   layer (Statement-F.Goto label place) = record {
     numbered = λ around.
         let k = label_number around label in
-        numbers_are (sym (typed.rolls-Goto k)) ∙ of_step (TypedStatement-F.Goto k);
+        numbers_are (sym (typed.rolls-Goto k place)) ∙ of_step (TypedStatement-F.Goto k place);
   }
   layer (Statement-F.Switch value body place) =
       let g = grown_of text body.0 in
@@ -290,9 +296,9 @@ module _ (text : Text) where
             let e = typed_expression text around value in
             let s = g.typed within in
             let other = unwrap_or behind.otherwise end in
-            let last = labelling.end_label end ∷ [] in
-            numbers_are (sym (typed.rolls-Switch e behind.choices other s end))
-            ∙ of_step (TypedStatement-F.Switch e behind.choices other s end)
+            let last = labelling.end_label end place ∷ [] in
+            numbers_are (sym (typed.rolls-Switch e behind.choices other s end place))
+            ∙ of_step (TypedStatement-F.Switch e behind.choices other s end place)
             ∙ numbers_append (labelled_in s).labels last
             ∙ ranges_then around.passed end n 1 (numbers_in s) (end ∷ [])
             (body.1.numbered within) refl
@@ -303,30 +309,32 @@ module _ (text : Text) where
   layer (Statement-F.Case value body place) = record {
     numbered = λ around.
         let after = selected text (Some value) around in
-        in_front around.passed (labels_in text body.0) ((grown_of text body.0).typed after)
+        in_front around.passed (labels_in text body.0) ((grown_of text body.0).typed after) place
         (body.1.numbered after);
   }
   layer (Statement-F.Default body place) = record {
     numbered = λ around.
         let after = selected text None around in
-        in_front around.passed (labels_in text body.0) ((grown_of text body.0).typed after)
+        in_front around.passed (labels_in text body.0) ((grown_of text body.0).typed after) place
         (body.1.numbered after);
   }
   layer (Statement-F.Break place) = record {
-    numbered = λ around. none_in_break around.break_to;
+    numbered = λ around. none_in_break around.break_to place;
   }
   layer (Statement-F.Continue place) = record {
-    numbered = λ around. numbers_are (sym typed.rolls-Continue) ∙ of_step TypedStatement-F.Continue;
+    numbered = λ around. numbers_are (sym (typed.rolls-Continue place)) ∙ of_step
+        (TypedStatement-F.Continue place);
   }
   layer (Statement-F.Return value place) = record {
     numbered = λ around.
         let e = typed_optional text around value in
-        numbers_are (sym (typed.rolls-Return e)) ∙ of_step (TypedStatement-F.Return e);
+        numbers_are (sym (typed.rolls-Return e place)) ∙ of_step (TypedStatement-F.Return e place);
   }
   layer (Statement-F.Labeled label body) = record {
     numbered = λ around.
         let after = labeled around in
         in_front around.passed (labels_in text body.0) ((grown_of text body.0).typed after)
+        label.place
         (body.1.numbered after);
   }
 
@@ -381,10 +389,10 @@ range_long a (suc n) = ap suc (range_long (a + 1) n)
 -- functions
 
 function_in_order : (text : Text) (before : Before) (specifiers : Specifiers)
-    (declarator : FunctionDeclarator) (items : List BlockItem) →
-    AreInOrder (typed_function text before specifiers declarator items)
-function_in_order text before specifiers declarator items =
-    let function = typed_function text before specifiers declarator items in
+    (declarator : FunctionDeclarator) (items : List BlockItem) (place end : ℕ) →
+    AreInOrder (typed_function text before specifiers declarator items place end)
+function_in_order text before specifiers declarator items place end =
+    let function = typed_function text before specifiers declarator items place end in
     let front = in_order (map receiving (listed declarator.parameters)) in
     let first = around_body (function_behind true specifiers declarator before) specifiers items in
     let around = front.behind first in
@@ -413,11 +421,12 @@ functions_in_order text (item.Prototype specifiers declarator ∷ more) before =
 functions_in_order text (item.Function specifiers declarator made.Skipped ∷ more) before =
     functions_in_order text more
     (item_behind text (item.Function specifiers declarator made.Skipped) before)
-functions_in_order text (item.Function specifiers declarator (made.Block items place) ∷ more)
+functions_in_order text (item.Function specifiers declarator (made.Block items place end) ∷ more)
     before = (
-      function_in_order text before specifiers declarator items,
+      function_in_order text before specifiers declarator items place end,
       functions_in_order text more
-          (item_behind text (item.Function specifiers declarator (made.Block items place)) before),
+          (item_behind text (item.Function specifiers declarator (made.Block items place end))
+          before),
     )
 
 pub numbers_in_order : (tree : UnitTree) → Sound tree →

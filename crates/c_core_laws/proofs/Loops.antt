@@ -183,21 +183,32 @@ module _ (P : Program) (labels : List ℕ) where
   own_loop first head.Stop inside so (inl e) = absurd (cc)
   own_loop first head.Error inside so (inl e) = absurd (cc)
 
-  node_loops : (first : ℕ) (h : Head) (trees : Trees) → AllByRecursion (LoopsIn P labels) trees →
-      PlacedAt P labels first (record { head = h; sizes = lengths trees }
+  node_loops : (first : ℕ) (h : Head) (trees : Trees) (place : ℕ) →
+      AllByRecursion (LoopsIn P labels) trees →
+      PlacedAt P labels first (record { head = h; sizes = lengths trees; place = place }
       ∷ joined (map statements trees)) →
-      AllFit (record { head = h; sizes = lengths trees } ∷ joined (map statements trees)) →
+      AllFit (record {
+        head = h;
+        sizes = lengths trees;
+        place =
+            place;
+      } ∷ joined (map statements trees)) →
       ((head_jumps h (all_jumps (map tree_jumps trees))).loose ≡ false) ⊎ IsInLoop P first →
       (i : ℕ) (p : Placed) →
-      slice_get (record { head = h; sizes = lengths trees } ∷ joined (map statements trees)) i
+      slice_get (record {
+        head = h;
+        sizes = lengths trees;
+        place =
+            place;
+      } ∷ joined (map statements trees)) i
       ≡ Some p → leaves p.head ≡ true → IsInLoop P (first + i)
-  node_loops first h trees all placed fits free zero p e so =
-      let q : Placed = record { head = h; sizes = lengths trees } in
+  node_loops first h trees place all placed fits free zero p e so =
+      let q : Placed = record { head = h; sizes = lengths trees; place = place } in
       subst (IsInLoop P) (sym (nothing_further first))
       (own_loop first h (all_jumps (map tree_jumps trees))
       (ap (λ (r : Placed). leaves r.head) (same_Some q p e) ∙ so) free)
-  node_loops first h trees all placed fits free (suc i) p e so =
-      let q : Placed = record { head = h; sizes = lengths trees } in
+  node_loops first h trees place all placed fits free (suc i) p e so =
+      let q : Placed = record { head = h; sizes = lengths trees; place = place } in
       let others = joined (map statements trees) in
       subst (IsInLoop P) (sym (one_further first i))
       (forest_loops trees all (first + 1) (placed_tail P labels first q others placed) fits.1
@@ -220,8 +231,9 @@ module _ (P : Program) (labels : List ℕ) where
       ⊎ IsInLoop P first →
       (i : ℕ) (p : Placed) → slice_get (node_of (bare y)) i ≡ Some p → leaves p.head ≡ true →
       IsInLoop P (first + i)
-  layer (CoreTree-F.Node h held) first placed fits free i p e so =
-      node_loops first h (map (λ (t : Held). t.0) held) (all_held held) placed fits free i p e so
+  layer (CoreTree-F.Node h held place) first placed fits free i p e so =
+      node_loops first h (map (λ (t : Held). t.0) held) place (all_held held) placed fits free i p e
+      so
 
   at_tree : (y : CoreTree-F Held) (x : CoreTree-F CoreTree) → bare y ≡ x →
       LoopsIn P labels (roll-CoreTree x)

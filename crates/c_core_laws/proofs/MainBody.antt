@@ -44,9 +44,10 @@ functions_many text (item.Prototype specifiers declarator ∷ more) before =
 functions_many text (item.Function specifiers declarator body.Skipped ∷ more) before =
     functions_many text more
     (item_behind text (item.Function specifiers declarator body.Skipped) before)
-functions_many text (item.Function specifiers declarator (body.Block items place) ∷ more) before =
+functions_many text (item.Function specifiers declarator (body.Block items place end) ∷ more) before
+    =
     ap suc (functions_many text more
-    (item_behind text (item.Function specifiers declarator (body.Block items place)) before))
+    (item_behind text (item.Function specifiers declarator (body.Block items place end)) before))
 
 -- a name that is found
 
@@ -100,7 +101,7 @@ main_named (item.Typedef specifiers names place ∷ more) h = main_named more h
 main_named (item.Objects declaration ∷ more) h = main_named more h
 main_named (item.Prototype specifiers declarator ∷ more) h = main_named more h
 main_named (item.Function specifiers declarator body.Skipped ∷ more) h = main_named more h
-main_named (item.Function specifiers declarator (body.Block items place) ∷ more) h =
+main_named (item.Function specifiers declarator (body.Block items place end) ∷ more) h =
     let name = declarator.name.bytes in
     let a = bytes_eq name main_name in
     let b = same_kind (kind_of specifiers) (Value ty.I32) in

@@ -116,18 +116,28 @@ module _ (P : Program) (labels : List ℕ) (Q : ℕ → Type 0)
       (λ k c found. roots (suc k) c found) j p at)
       (get_split own others i p e)
 
-  node_spreads : (first : ℕ) (h : Head) (trees : Trees) →
+  node_spreads : (first : ℕ) (h : Head) (trees : Trees) (place : ℕ) →
       AllByRecursion (Spreads P labels Q) trees →
-      PlacedAt P labels first (record { head = h; sizes = lengths trees }
+      PlacedAt P labels first (record { head = h; sizes = lengths trees; place = place }
       ∷ joined (map statements trees)) →
-      AllFit (record { head = h; sizes = lengths trees } ∷ joined (map statements trees)) →
+      AllFit (record {
+        head = h;
+        sizes = lengths trees;
+        place =
+            place;
+      } ∷ joined (map statements trees)) →
       Q first → (i : ℕ) (p : Placed) →
-      slice_get (record { head = h; sizes = lengths trees } ∷ joined (map statements trees)) i
+      slice_get (record {
+        head = h;
+        sizes = lengths trees;
+        place =
+            place;
+      } ∷ joined (map statements trees)) i
       ≡ Some p → Q (first + i)
-  node_spreads first h trees all placed fits root zero p e =
+  node_spreads first h trees place all placed fits root zero p e =
       subst Q (sym (nothing_further first)) root
-  node_spreads first h trees all placed fits root (suc i) p e =
-      let q : Placed = record { head = h; sizes = lengths trees } in
+  node_spreads first h trees place all placed fits root (suc i) p e =
+      let q : Placed = record { head = h; sizes = lengths trees; place = place } in
       let others = joined (map statements trees) in
       subst Q (sym (one_further first i))
       (forest_spreads trees all (first + 1) (placed_tail P labels first q others placed) fits.1
@@ -151,8 +161,9 @@ module _ (P : Program) (labels : List ℕ) (Q : ℕ → Type 0)
   layer : (y : CoreTree-F Held) (first : ℕ) → PlacedAt P labels first (node_of (bare y)) →
       AllFit (node_of (bare y)) → Q first → (i : ℕ) (p : Placed) →
       slice_get (node_of (bare y)) i ≡ Some p → Q (first + i)
-  layer (CoreTree-F.Node h held) first placed fits root i p e =
-      node_spreads first h (map (λ (t : Held). t.0) held) (all_held held) placed fits root i p e
+  layer (CoreTree-F.Node h held place) first placed fits root i p e =
+      node_spreads first h (map (λ (t : Held). t.0) held) place (all_held held) placed fits root i p
+      e
 
   at_tree : (y : CoreTree-F Held) (x : CoreTree-F CoreTree) → bare y ≡ x →
       Spreads P labels Q (roll-CoreTree x)

@@ -77,31 +77,33 @@ module _ (frames : rows.Frames) where
   each_link (link ∷ held) = (link.1.1, each_link held)
 
   layer : (y : TypedExpression-F Held HeldSuffix) → MakesRows (core_layer y)
-  layer (TypedExpression-F.Name found place) = name_makes found
-  layer (TypedExpression-F.Number t n place) = plain_makes (makes Good (pure (Const t n)) tt)
-  layer (TypedExpression-F.Character n place) = plain_makes (makes Good (pure (Const ty.I32 n)) tt)
+  layer (TypedExpression-F.Name found place) = name_makes place found
+  layer (TypedExpression-F.Number t n place) = plain_makes place (makes Good (pure (Const t n)) tt)
+  layer (TypedExpression-F.Character n place) =
+      plain_makes place (makes Good (pure (Const ty.I32 n)) tt)
   layer (TypedExpression-F.Bracketed inside place) = inside.1
   layer (TypedExpression-F.Postfix base suffixes place) =
-      suffixed_makes frames (map (core_suffix frames) (map (λ (s : HeldSuffix). s.0) suffixes))
+      suffixed_makes place frames (map (core_suffix frames)
+      (map (λ (s : HeldSuffix). s.0) suffixes))
       (rows.rows frames base.0) base.1 (each_suffix suffixes)
   layer (TypedExpression-F.PrefixStep operator operand kind place) =
-      act_makes (incrementing_makes operator operand.1.target)
-      (only_makes (incrementing_makes operator operand.1.target))
+      act_makes (incrementing_makes place operator operand.1.target)
+      (only_makes (incrementing_makes place operator operand.1.target))
   layer (TypedExpression-F.Unary operator operand kind place) =
-      plain_makes (makes_then (λ v. core.gives (acts.signed operator v)) operand.1.used
+      plain_makes place (makes_then (λ v. core.gives (acts.signed operator v)) operand.1.used
       (λ v is. makes Good (acts.signed operator v) is))
   layer (TypedExpression-F.Cast operand kind place) =
-      cast_makes kind (rows.rows frames operand.0) operand.1
+      cast_makes place kind (rows.rows frames operand.0) operand.1
   layer (TypedExpression-F.Chain first rest kind place) =
-      plain_makes (chained_makes
+      plain_makes place (chained_makes place
       (map (λ (link : BinaryOperator × TypedExpression). (link.0, rows.rows frames link.1))
       (map (λ (link : Link). (link.0, link.1.0)) rest)) (rows.rows frames first.0).used
       first.1.used (each_link rest))
   layer (TypedExpression-F.Conditional test first second kind place) =
-      either_makes (is_void kind) test.1 first.1 second.1
+      either_makes place (is_void kind) test.1 first.1 second.1
   layer (TypedExpression-F.Assignment left operator right kind place) =
-      act_makes (assigning_makes true operator left.1.target right.1.used)
-      (only_makes (assigning_makes false operator left.1.target right.1.used))
+      act_makes (assigning_makes place true operator left.1.target right.1.used)
+      (only_makes (assigning_makes place false operator left.1.target right.1.used))
   layer (TypedExpression-F.Comma items kind place) =
       act_makes
       (comma_used_makes (map (rows.rows frames) (map (λ (e : Held). e.0) items)) (each_row items))

@@ -1,5 +1,5 @@
 -- The rules of expressions make trees whose nodes have the parts of their heads.
-use Rattle.std.proofs.Common.{Bool, true, if◌then◌else◌, ◌&&◌, List, [], ◌∷◌, ◌++◌, map, Option}
+use Rattle.std.proofs.Common.{ℕ, Bool, true, if◌then◌else◌, ◌&&◌, List, [], ◌∷◌, ◌++◌, map, Option}
 use Rattle.std.proofs.Common.{None, Some, refl}
 use Rattle.std.specs.List.{AllByRecursion}
 use Rattle.std.specs.Prelude.{is_some, unwrap_or}
@@ -62,17 +62,19 @@ AllShaped trees = AllByRecursion Shaped trees
 abbrev pub Good : Valued → Type 0
 Good v = AllShaped v.statements
 
-pub leaf_shaped : (h : Head) → HasParts h 0 → IsPlain h → Shaped (leaf h)
+pub leaf_shaped : (origin : ℕ) (h : Head) → HasParts h 0 → IsPlain h → Shaped (leaf origin h)
 leaf_shaped = shapes.leaf_shaped IsPlain own
 
-pub set_shaped : (place : Location) (v : Expr) → Shaped (set place v)
+pub set_shaped : (origin : ℕ) (place : Location) (v : Expr) → Shaped (set origin place v)
 set_shaped = shapes.set_shaped IsPlain own
 
-write_shaped : (place : Location) (index v : Expr) → Shaped (write place index v)
+write_shaped : (origin : ℕ) (place : Location) (index v : Expr) →
+    Shaped (write origin place index v)
 write_shaped = shapes.write_shaped IsPlain own
 
-choice_shaped : (test : Expr) (first second : Trees) → AllShaped first → AllShaped second →
-    Shaped (choice test first second)
+choice_shaped : (origin : ℕ) (test : Expr) (first second : Trees) → AllShaped first →
+    AllShaped second →
+    Shaped (choice origin test first second)
 choice_shaped = shapes.choice_shaped IsPlain own
 
 pub append_shaped : (xs ys : Trees) → AllShaped xs → AllShaped ys → AllShaped (xs ++ ys)
@@ -87,24 +89,27 @@ makes_ordered h = shapes.makes_ordered AllShaped tt append_shaped h
 
 -- acts
 
-pub held_makes : (v : Valued) → Good v → Makes Good (acts.held v)
-held_makes v h =
+pub held_makes : (origin : ℕ) (v : Valued) → Good v → Makes Good (acts.held origin v)
+held_makes origin v h =
     makes_freshly Good (type_of v.value)
-    (λ t. valued (v.statements ++ set t v.value ∷ []) (scalar t))
-    (λ t. push_shaped v.statements (set t v.value) h (set_shaped t v.value))
+    (λ t. valued (v.statements ++ set origin t v.value ∷ []) (scalar t))
+    (λ t. push_shaped v.statements (set origin t v.value) h (set_shaped origin t v.value))
 
-held_before_makes : (v later : Valued) → Good v → Makes Good (acts.held_before v later)
-held_before_makes v later h =
-    makes_either (acts.is_pure later) (core.gives v) (acts.held v) (makes Good v h) (held_makes v h)
+held_before_makes : (origin : ℕ) (v later : Valued) → Good v →
+    Makes Good (acts.held_before origin v later)
+held_before_makes origin v later h =
+    makes_either (acts.is_pure later) (core.gives v) (acts.held origin v) (makes Good v h)
+    (held_makes origin v h)
 
-hold_all_makes : (vs : List Valued) → AllByRecursion Good vs →
-    Makes (AllByRecursion Good) (acts.hold_all vs)
-hold_all_makes [] h = makes (AllByRecursion Good) [] tt
-hold_all_makes (v ∷ vs) h =
-    makes_then (λ first. core.then_by (acts.hold_all vs) (λ rest. core.gives (first ∷ rest)))
-    (makes_either (acts.have_statements vs) (acts.held v) (core.gives v) (held_makes v h.0)
+hold_all_makes : (origin : ℕ) (vs : List Valued) → AllByRecursion Good vs →
+    Makes (AllByRecursion Good) (acts.hold_all origin vs)
+hold_all_makes origin [] h = makes (AllByRecursion Good) [] tt
+hold_all_makes origin (v ∷ vs) h =
+    makes_then (λ first. core.then_by (acts.hold_all origin vs) (λ rest. core.gives (first ∷ rest)))
+    (makes_either (acts.have_statements vs) (acts.held origin v) (core.gives v)
+    (held_makes origin v h.0)
     (makes Good v h.0))
-    (λ x is. makes_then (λ rest. core.gives (x ∷ rest)) (hold_all_makes vs h.1)
+    (λ x is. makes_then (λ rest. core.gives (x ∷ rest)) (hold_all_makes origin vs h.1)
     (λ xs are. makes (AllByRecursion Good) (x ∷ xs) (is, are)))
 
 all_statements : (vs : List Valued) → AllByRecursion Good vs → AllShaped (acts.statements_of vs)
@@ -113,130 +118,150 @@ all_statements (v ∷ vs) h =
     append_shaped v.statements (acts.statements_of vs) h.0 (all_statements vs h.1)
 
 -- S1, if (v1) { first } else { second }
-pub chosen_shaped : (before : Trees) (test : Expr) (first second : Trees) → AllShaped before →
-    AllShaped first → AllShaped second → AllShaped (before ++ choice test first second ∷ [])
-chosen_shaped before test first second a b c =
-    push_shaped before (choice test first second) a (choice_shaped test first second b c)
+pub chosen_shaped : (origin : ℕ) (before : Trees) (test : Expr) (first second : Trees) →
+    AllShaped before →
+    AllShaped first → AllShaped second → AllShaped (before ++ choice origin test first second ∷ [])
+chosen_shaped origin before test first second a b c =
+    push_shaped before (choice origin test first second) a
+    (choice_shaped origin test first second b c)
 
-logical_makes : (left right : Valued) (simple : Expr) (first second : Location → Trees) →
+logical_makes : (origin : ℕ) (left right : Valued) (simple : Expr) (first second : Location →
+    Trees) →
     Good left →
     ((t : Location) → AllShaped (first t)) → ((t : Location) → AllShaped (second t)) →
     Makes Good (if acts.is_pure right then core.gives (valued left.statements simple)
     else core.then_by (core.fresh ty.I32) (λ t. core.gives
-    (valued (left.statements ++ choice left.value (first t) (second t) ∷ []) (scalar t))))
-logical_makes left right simple first second h a b =
+    (valued (left.statements ++ choice origin left.value (first t) (second t) ∷ []) (scalar t))))
+logical_makes origin left right simple first second h a b =
     let made = λ (t : Location).
-    valued (left.statements ++ choice left.value (first t) (second t) ∷ []) (scalar t) in
+    valued (left.statements ++ choice origin left.value (first t) (second t) ∷ []) (scalar t) in
     makes_either (acts.is_pure right) (core.gives (valued left.statements simple))
     (core.then_by (core.fresh ty.I32) (λ t. core.gives (made t)))
     (makes Good (valued left.statements simple) h)
     (makes_freshly Good ty.I32 made
-    (λ t. chosen_shaped left.statements left.value (first t) (second t) h (a t) (b t)))
+    (λ t. chosen_shaped origin left.statements left.value (first t) (second t) h (a t) (b t)))
 
-operands_make : (operator : BinaryOperator) (left right : Valued) → Good left → Good right →
-    Makes Good (core.then_by (acts.held_before left right)
+operands_make : (origin : ℕ) (operator : BinaryOperator) (left right : Valued) → Good left →
+    Good right →
+    Makes Good (core.then_by (acts.held_before origin left right)
     (λ first. core.gives (acts.operated operator first right)))
-operands_make operator left right h k =
+operands_make origin operator left right h k =
     makes_then (λ first. core.gives (acts.operated operator first right))
-    (held_before_makes left right h)
+    (held_before_makes origin left right h)
     (λ v is. makes Good (acts.operated operator v right)
     (append_shaped v.statements right.statements is k))
 
-linked_makes : (operator : BinaryOperator) (left right : Valued) → Good left → Good right →
-    Makes Good (acts.linked operator left right)
-linked_makes binary.LogicalAnd left right h k =
-    logical_makes left right (expr.And left.value right.value)
-    (λ t. right.statements ++ set t (truth_of right.value) ∷ []) (λ t. set t (int 0) ∷ []) h
-    (λ t. push_shaped right.statements (set t (truth_of right.value)) k
-    (set_shaped t (truth_of right.value)))
-    (λ t. (set_shaped t (int 0), tt))
-linked_makes binary.LogicalOr left right h k =
-    logical_makes left right (expr.Or left.value right.value) (λ t. set t (int 1) ∷ [])
-    (λ t. right.statements ++ set t (truth_of right.value) ∷ []) h
-    (λ t. (set_shaped t (int 1), tt))
-    (λ t. push_shaped right.statements (set t (truth_of right.value)) k
-    (set_shaped t (truth_of right.value)))
-linked_makes binary.BitOr left right h k = operands_make binary.BitOr left right h k
-linked_makes binary.BitXor left right h k = operands_make binary.BitXor left right h k
-linked_makes binary.BitAnd left right h k = operands_make binary.BitAnd left right h k
-linked_makes binary.Equal left right h k = operands_make binary.Equal left right h k
-linked_makes binary.NotEqual left right h k = operands_make binary.NotEqual left right h k
-linked_makes binary.Less left right h k = operands_make binary.Less left right h k
-linked_makes binary.Greater left right h k = operands_make binary.Greater left right h k
-linked_makes binary.LessEqual left right h k = operands_make binary.LessEqual left right h k
-linked_makes binary.GreaterEqual left right h k = operands_make binary.GreaterEqual left right h k
-linked_makes binary.ShiftLeft left right h k = operands_make binary.ShiftLeft left right h k
-linked_makes binary.ShiftRight left right h k = operands_make binary.ShiftRight left right h k
-linked_makes binary.Add left right h k = operands_make binary.Add left right h k
-linked_makes binary.Subtract left right h k = operands_make binary.Subtract left right h k
-linked_makes binary.Multiply left right h k = operands_make binary.Multiply left right h k
-linked_makes binary.Divide left right h k = operands_make binary.Divide left right h k
-linked_makes binary.Remainder left right h k = operands_make binary.Remainder left right h k
+linked_makes : (origin : ℕ) (operator : BinaryOperator) (left right : Valued) → Good left →
+    Good right →
+    Makes Good (acts.linked origin operator left right)
+linked_makes origin binary.LogicalAnd left right h k =
+    logical_makes origin left right (expr.And left.value right.value)
+    (λ t. right.statements ++ set origin t (truth_of right.value) ∷ [])
+    (λ t. set origin t (int 0) ∷ []) h
+    (λ t. push_shaped right.statements (set origin t (truth_of right.value)) k
+    (set_shaped origin t (truth_of right.value)))
+    (λ t. (set_shaped origin t (int 0), tt))
+linked_makes origin binary.LogicalOr left right h k =
+    logical_makes origin left right (expr.Or left.value right.value)
+    (λ t. set origin t (int 1) ∷ [])
+    (λ t. right.statements ++ set origin t (truth_of right.value) ∷ []) h
+    (λ t. (set_shaped origin t (int 1), tt))
+    (λ t. push_shaped right.statements (set origin t (truth_of right.value)) k
+    (set_shaped origin t (truth_of right.value)))
+linked_makes origin binary.BitOr left right h k = operands_make origin binary.BitOr left right h k
+linked_makes origin binary.BitXor left right h k = operands_make origin binary.BitXor left right h k
+linked_makes origin binary.BitAnd left right h k = operands_make origin binary.BitAnd left right h k
+linked_makes origin binary.Equal left right h k = operands_make origin binary.Equal left right h k
+linked_makes origin binary.NotEqual left right h k =
+    operands_make origin binary.NotEqual left right h k
+linked_makes origin binary.Less left right h k = operands_make origin binary.Less left right h k
+linked_makes origin binary.Greater left right h k =
+    operands_make origin binary.Greater left right h k
+linked_makes origin binary.LessEqual left right h k =
+    operands_make origin binary.LessEqual left right h k
+linked_makes origin binary.GreaterEqual left right h k =
+    operands_make origin binary.GreaterEqual left right h k
+linked_makes origin binary.ShiftLeft left right h k =
+    operands_make origin binary.ShiftLeft left right h k
+linked_makes origin binary.ShiftRight left right h k =
+    operands_make origin binary.ShiftRight left right h k
+linked_makes origin binary.Add left right h k = operands_make origin binary.Add left right h k
+linked_makes origin binary.Subtract left right h k =
+    operands_make origin binary.Subtract left right h k
+linked_makes origin binary.Multiply left right h k =
+    operands_make origin binary.Multiply left right h k
+linked_makes origin binary.Divide left right h k = operands_make origin binary.Divide left right h k
+linked_makes origin binary.Remainder left right h k =
+    operands_make origin binary.Remainder left right h k
 
-chosen_makes : (test first second : Valued) → Good test → Good first → Good second →
-    Makes Good (acts.chosen test first second)
-chosen_makes test first second h k l =
+chosen_makes : (origin : ℕ) (test first second : Valued) → Good test → Good first → Good second →
+    Makes Good (acts.chosen origin test first second)
+chosen_makes origin test first second h k l =
     let t = common_type (type_of first.value) (type_of second.value) in
     let pair = valued test.statements (chosen_value test.value first.value second.value) in
-    let a = λ (place : Location). first.statements ++ set place first.value ∷ [] in
-    let b = λ (place : Location). second.statements ++ set place second.value ∷ [] in
+    let a = λ (place : Location). first.statements ++ set origin place first.value ∷ [] in
+    let b = λ (place : Location). second.statements ++ set origin place second.value ∷ [] in
     let made = λ (place : Location).
-    valued (test.statements ++ choice test.value (a place) (b place) ∷ []) (scalar place) in
+    valued (test.statements ++ choice origin test.value (a place) (b place) ∷ []) (scalar place) in
     makes_either (acts.is_pure first && acts.is_pure second) (core.gives pair)
-    (acts.chosen_by t test first second) (makes Good pair h)
+    (acts.chosen_by origin t test first second) (makes Good pair h)
     (makes_freshly Good t made
-    (λ place. chosen_shaped test.statements test.value (a place) (b place) h
-    (push_shaped first.statements (set place first.value) k (set_shaped place first.value))
-    (push_shaped second.statements (set place second.value) l (set_shaped place second.value))))
+    (λ place. chosen_shaped origin test.statements test.value (a place) (b place) h
+    (push_shaped first.statements (set origin place first.value) k
+    (set_shaped origin place first.value))
+    (push_shaped second.statements (set origin place second.value) l
+    (set_shaped origin place second.value))))
 
-dropped_makes : (v : Valued) → Good v → Makes AllShaped (acts.dropped_value v)
-dropped_makes v h =
+dropped_makes : (origin : ℕ) (v : Valued) → Good v → Makes AllShaped (acts.dropped_value origin v)
+dropped_makes origin v h =
     makes_either (is_constant v.value) (core.gives v.statements)
-    (core.then_by (acts.held v) (λ kept. core.gives kept.statements))
+    (core.then_by (acts.held origin v) (λ kept. core.gives kept.statements))
     (makes AllShaped v.statements h)
-    (makes_then (λ kept. core.gives kept.statements) (held_makes v h)
+    (makes_then (λ kept. core.gives kept.statements) (held_makes origin v h)
     (λ kept is. makes AllShaped kept.statements is))
 
-fixed_makes : (index : Valued) → Good index → Makes Good (acts.fixed index)
-fixed_makes index h =
-    makes_either (is_constant index.value) (core.gives index) (acts.held index)
-    (makes Good index h) (held_makes index h)
+fixed_makes : (origin : ℕ) (index : Valued) → Good index → Makes Good (acts.fixed origin index)
+fixed_makes origin index h =
+    makes_either (is_constant index.value) (core.gives index) (acts.held origin index)
+    (makes Good index h) (held_makes origin index h)
 
 -- assignments
 
-written_good : (place : Location) (index v : Valued) → Good index → Good v →
-    Good (places.written place index v)
-written_good place index v h k =
-    append_shaped index.statements (v.statements ++ write place index.value v.value ∷ []) h
-    (push_shaped v.statements (write place index.value v.value) k
-    (write_shaped place index.value v.value))
+written_good : (origin : ℕ) (place : Location) (index v : Valued) → Good index → Good v →
+    Good (places.written origin place index v)
+written_good origin place index v h k =
+    append_shaped index.statements (v.statements ++ write origin place index.value v.value ∷ []) h
+    (push_shaped v.statements (write origin place index.value v.value) k
+    (write_shaped origin place index.value v.value))
 
-fixed_if_makes : (fixes : Bool) (index : Valued) → Good index →
-    Makes Good (places.fixed_if fixes index)
-fixed_if_makes fixes index h =
-    makes_either fixes (acts.fixed index) (core.gives index) (fixed_makes index h)
+fixed_if_makes : (origin : ℕ) (fixes : Bool) (index : Valued) → Good index →
+    Makes Good (places.fixed_if origin fixes index)
+fixed_if_makes origin fixes index h =
+    makes_either fixes (acts.fixed origin index) (core.gives index) (fixed_makes origin index h)
     (makes Good index h)
 
-set_element_makes : (keeps : Bool) (place : Location) (index v : Valued) → Good index → Good v →
-    Makes Good (places.set_element keeps place index v)
-set_element_makes keeps place index v h k =
-    makes_then (λ first. core.then_by (places.fixed_if keeps
+set_element_makes : (origin : ℕ) (keeps : Bool) (place : Location) (index v : Valued) → Good index →
+    Good v →
+    Makes Good (places.set_element origin keeps place index v)
+set_element_makes origin keeps place index v h k =
+    makes_then (λ first. core.then_by (places.fixed_if origin keeps
     (valued (first.statements ++ v.statements) first.value))
-    (λ kept. core.gives (places.written place kept (pure v.value))))
-    (held_before_makes index v h)
-    (λ first is. makes_then (λ kept. core.gives (places.written place kept (pure v.value)))
-    (fixed_if_makes keeps (valued (first.statements ++ v.statements) first.value)
+    (λ kept. core.gives (places.written origin place kept (pure v.value))))
+    (held_before_makes origin index v h)
+    (λ first is. makes_then (λ kept. core.gives (places.written origin place kept (pure v.value)))
+    (fixed_if_makes origin keeps (valued (first.statements ++ v.statements) first.value)
     (append_shaped first.statements v.statements is k))
-    (λ kept so. makes Good (places.written place kept (pure v.value))
-    (written_good place kept (pure v.value) so tt)))
+    (λ kept so. makes Good (places.written origin place kept (pure v.value))
+    (written_good origin place kept (pure v.value) so tt)))
 
-updated_at_makes : (operator : BinaryOperator) (place : Location) (index v : Valued) →
-    Good index → Good v → Makes Good (places.updated_at operator place index v)
-updated_at_makes operator place index v h k =
-    makes_then (λ old. core.gives (places.written place index (acts.operated operator old v)))
-    (held_before_makes (pure (element place index.value)) v tt)
-    (λ old is. makes Good (places.written place index (acts.operated operator old v))
-    (written_good place index (acts.operated operator old v) h
+updated_at_makes : (origin : ℕ) (operator : BinaryOperator) (place : Location) (index v : Valued) →
+    Good index → Good v → Makes Good (places.updated_at origin operator place index v)
+updated_at_makes origin operator place index v h k =
+    makes_then (λ old. core.gives (places.written origin place index
+    (acts.operated operator old v)))
+    (held_before_makes origin (pure (element place index.value)) v tt)
+    (λ old is. makes Good (places.written origin place index (acts.operated operator old v))
+    (written_good origin place index (acts.operated operator old v) h
     (append_shaped old.statements v.statements is k)))
 
 -- a place whose index has such trees
@@ -245,39 +270,44 @@ GoodPlace (place.Scalar location) = Unit {0}
 GoodPlace (place.Element location index) = Good index
 GoodPlace place.Neither = Unit {0}
 
-changed_makes : (keeps : Bool) (operator : Option BinaryOperator) (where_to : Place) (v : Valued) →
-    GoodPlace where_to → Good v → Makes Good (places.changed keeps operator where_to v)
-changed_makes keeps None (place.Scalar location) v h k =
-    makes Good (places.set_scalar location v) (written_good location (pure first_index) v tt k)
-changed_makes keeps None (place.Element location index) v h k =
-    set_element_makes keeps location index v h k
-changed_makes keeps None place.Neither v h k = makes Good v k
-changed_makes keeps (Some operator) (place.Scalar location) v h k =
-    updated_at_makes operator location (pure first_index) v tt k
-changed_makes keeps (Some operator) (place.Element location index) v h k =
-    updated_at_makes operator location index v h k
-changed_makes keeps (Some operator) place.Neither v h k = makes Good v k
+changed_makes : (origin : ℕ) (keeps : Bool) (operator : Option BinaryOperator) (where_to : Place)
+    (v : Valued) →
+    GoodPlace where_to → Good v → Makes Good (places.changed origin keeps operator where_to v)
+changed_makes origin keeps None (place.Scalar location) v h k =
+    makes Good (places.set_scalar origin location v)
+    (written_good origin location (pure first_index) v tt k)
+changed_makes origin keeps None (place.Element location index) v h k =
+    set_element_makes origin keeps location index v h k
+changed_makes origin keeps None place.Neither v h k = makes Good v k
+changed_makes origin keeps (Some operator) (place.Scalar location) v h k =
+    updated_at_makes origin operator location (pure first_index) v tt k
+changed_makes origin keeps (Some operator) (place.Element location index) v h k =
+    updated_at_makes origin operator location index v h k
+changed_makes origin keeps (Some operator) place.Neither v h k = makes Good v k
 
-stepped_at_makes : (operator : StepOperator) (location : Location) (index : Valued) → Good index →
-    Makes Good (places.stepped_at operator location index)
-stepped_at_makes operator location index h =
-    makes_then (λ old. core.then_by (places.updated_at (places.step_operator operator) location
+stepped_at_makes : (origin : ℕ) (operator : StepOperator) (location : Location) (index : Valued) →
+    Good index →
+    Makes Good (places.stepped_at origin operator location index)
+stepped_at_makes origin operator location index h =
+    makes_then (λ old. core.then_by (places.updated_at origin (places.step_operator operator)
+    location
     (pure index.value) (pure (int 1)))
     (λ new. core.gives (valued (old.statements ++ new.statements) old.value)))
-    (held_makes (valued index.statements (element location index.value)) h)
+    (held_makes origin (valued index.statements (element location index.value)) h)
     (λ old is. makes_then
     (λ new. core.gives (valued (old.statements ++ new.statements) old.value))
-    (updated_at_makes (places.step_operator operator) location (pure index.value) (pure
+    (updated_at_makes origin (places.step_operator operator) location (pure index.value) (pure
     (int 1)) tt tt)
     (λ new so. makes Good (valued (old.statements ++ new.statements) old.value)
     (append_shaped old.statements new.statements is so)))
 
-stepped_makes : (operator : StepOperator) (where_to : Place) → GoodPlace where_to →
-    Makes Good (places.stepped operator where_to)
-stepped_makes operator (place.Scalar location) h = stepped_at_makes operator location
+stepped_makes : (origin : ℕ) (operator : StepOperator) (where_to : Place) → GoodPlace where_to →
+    Makes Good (places.stepped origin operator where_to)
+stepped_makes origin operator (place.Scalar location) h = stepped_at_makes origin operator location
     (pure first_index) tt
-stepped_makes operator (place.Element location index) h = stepped_at_makes operator location index h
-stepped_makes operator place.Neither h = makes Good (pure (int 0)) tt
+stepped_makes origin operator (place.Element location index) h =
+    stepped_at_makes origin operator location index h
+stepped_makes origin operator place.Neither h = makes Good (pure (int 0)) tt
 
 -- rows
 
@@ -292,56 +322,65 @@ pub record MakesRows (r : rows.Rows) : Type 0 where
   pub unused : Makes AllShaped r.unused
   pub target : GoodTarget r.target
 
-placed_makes : (fixes : Bool) {target : rows.Target} → GoodTarget target →
-    Makes GoodPlace (rows.placed fixes target)
-placed_makes fixes (good_scalar found) =
+placed_makes : (origin : ℕ) (fixes : Bool) {target : rows.Target} → GoodTarget target →
+    Makes GoodPlace (rows.placed origin fixes target)
+placed_makes origin fixes (good_scalar found) =
     makes_at (λ taken. core.gives (place.Scalar (cell_at (location_in taken found).ty
     (location_in taken found).base)))
     (λ taken. makes GoodPlace (place.Scalar (cell_at (location_in taken found).ty
     (location_in taken found).base)) tt)
-placed_makes fixes (good_element found h) =
-    makes_then (λ i. core.then_by (places.fixed_if fixes i) (λ kept. core.then_by
+placed_makes origin fixes (good_element found h) =
+    makes_then (λ i. core.then_by (places.fixed_if origin fixes i) (λ kept. core.then_by
     (core.located found) (λ location. core.gives (place.Element location kept)))) h
     (λ i is. makes_then (λ kept. core.then_by (core.located found)
-    (λ location. core.gives (place.Element location kept))) (fixed_if_makes fixes i is)
+    (λ location. core.gives (place.Element location kept))) (fixed_if_makes origin fixes i is)
     (λ kept so. makes_at (λ taken. core.gives (place.Element (location_in taken found) kept))
     (λ taken. makes GoodPlace (place.Element (location_in taken found) kept) so)))
-placed_makes fixes good_none = makes GoodPlace place.Neither tt
+placed_makes origin fixes good_none = makes GoodPlace place.Neither tt
 
-pub assigning_makes : (keeps : Bool) (operator : AssignmentOperator) {target : rows.Target}
+pub assigning_makes : (origin : ℕ) (keeps : Bool) (operator : AssignmentOperator)
+    {target : rows.Target}
     {right : core.Rule Valued} → GoodTarget target → Makes Good right →
-    Makes Good (rows.assigning keeps operator target right)
-assigning_makes keeps operator {right = right} target h =
+    Makes Good (rows.assigning origin keeps operator target right)
+assigning_makes origin keeps operator {right = right} target h =
     makes_then (λ where_to. core.then_by right
-    (λ v. places.changed keeps (operator_of operator) where_to v))
-    (placed_makes (is_some (operator_of operator)) target)
-    (λ where_to is. makes_then (λ v. places.changed keeps (operator_of operator) where_to v) h
-    (λ v so. changed_makes keeps (operator_of operator) where_to v is so))
+    (λ v. places.changed origin keeps (operator_of operator) where_to v))
+    (placed_makes origin (is_some (operator_of operator)) target)
+    (λ where_to is. makes_then (λ v. places.changed origin keeps (operator_of operator) where_to v)
+    h
+    (λ v so. changed_makes origin keeps (operator_of operator) where_to v is so))
 
-updated_makes : (operator : BinaryOperator) (where_to : Place) (v : Valued) → GoodPlace where_to →
-    Good v → Makes Good (places.updated operator where_to v)
-updated_makes operator where_to v h k = changed_makes true (Some operator) where_to v h k
+updated_makes : (origin : ℕ) (operator : BinaryOperator) (where_to : Place) (v : Valued) →
+    GoodPlace where_to →
+    Good v → Makes Good (places.updated origin operator where_to v)
+updated_makes origin operator where_to v h k =
+    changed_makes origin true (Some operator) where_to v h k
 
-pub incrementing_makes : (operator : StepOperator) {target : rows.Target} → GoodTarget target →
-    Makes Good (rows.incrementing operator target)
-incrementing_makes operator target =
-    makes_then (places.incremented operator) (placed_makes true target)
-    (λ where_to is. updated_makes (places.step_operator operator) where_to (pure (int 1)) is tt)
+pub incrementing_makes : (origin : ℕ) (operator : StepOperator) {target : rows.Target} →
+    GoodTarget target →
+    Makes Good (rows.incrementing origin operator target)
+incrementing_makes origin operator target =
+    makes_then (places.incremented origin operator) (placed_makes origin true target)
+    (λ where_to is. updated_makes origin (places.step_operator operator) where_to (pure (int 1)) is
+    tt)
 
-stepping_makes : (operator : StepOperator) {target : rows.Target} → GoodTarget target →
-    Makes Good (rows.stepping operator target)
-stepping_makes operator target =
-    makes_then (places.stepped operator) (placed_makes true target)
-    (λ where_to is. stepped_makes operator where_to is)
+stepping_makes : (origin : ℕ) (operator : StepOperator) {target : rows.Target} → GoodTarget target →
+    Makes Good (rows.stepping origin operator target)
+stepping_makes origin operator target =
+    makes_then (places.stepped origin operator) (placed_makes origin true target)
+    (λ where_to is. stepped_makes origin operator where_to is)
 
-pub dropped_rule_makes : {r : core.Rule Valued} → Makes Good r → Makes AllShaped (rows.dropped r)
-dropped_rule_makes h = makes_then acts.dropped_value h (λ v is. dropped_makes v is)
+pub dropped_rule_makes : (origin : ℕ) {r : core.Rule Valued} → Makes Good r →
+    Makes AllShaped (rows.dropped origin r)
+dropped_rule_makes origin h = makes_then (acts.dropped_value origin) h
+    (λ v is. dropped_makes origin v is)
 
 pub only_makes : {r : core.Rule Valued} → Makes Good r → Makes AllShaped (rows.only_statements r)
 only_makes h = makes_then (λ v. core.gives v.statements) h (λ v is. makes AllShaped v.statements is)
 
-pub plain_makes : {r : core.Rule Valued} → Makes Good r → MakesRows (rows.plain r)
-plain_makes h = record { used = h; unused = dropped_rule_makes h; target = good_none }
+pub plain_makes : (origin : ℕ) {r : core.Rule Valued} → Makes Good r →
+    MakesRows (rows.plain origin r)
+plain_makes origin h = record { used = h; unused = dropped_rule_makes origin h; target = good_none }
 
 pub act_makes : {r : core.Rule Valued} {s : core.Rule Trees} → Makes Good r → Makes AllShaped s →
     MakesRows (rows.act r s)
@@ -362,45 +401,51 @@ used_makes (Some (meaning.Function function)) = read_makes (Some (meaning.Functi
 used_makes (Some (meaning.Known function)) = read_makes (Some (meaning.Known function))
 used_makes (Some (meaning.Enumerator value)) = makes Good (pure (expr.Const ty.I32 value)) tt
 
-pub name_makes : (found : Option Meaning) → MakesRows (rows.name_rows found)
-name_makes found =
+pub name_makes : (origin : ℕ) (found : Option Meaning) → MakesRows (rows.name_rows origin found)
+name_makes origin found =
     let used = used_makes found in
-    record { used = used; unused = dropped_rule_makes used; target = good_scalar found }
+    record { used = used; unused = dropped_rule_makes origin used; target = good_scalar found }
 
-element_makes : (found : Option Meaning) {index : core.Rule Valued} → Makes Good index →
-    MakesRows (rows.element_rows found index)
-element_makes found {index = index} h =
+element_makes : (origin : ℕ) (found : Option Meaning) {index : core.Rule Valued} →
+    Makes Good index →
+    MakesRows (rows.element_rows origin found index)
+element_makes origin found {index = index} h =
     let used : Makes Good (rows.element_used found index) =
     makes_then (λ i taken. core.gives
     (valued i.statements (element (location_in taken found) i.value)) taken) h
     (λ i is. makes_at (λ taken. core.gives
     (valued i.statements (element (location_in taken found) i.value)))
     (λ taken. makes Good (valued i.statements (element (location_in taken found) i.value)) is)) in
-    record { used = used; unused = dropped_rule_makes used; target = good_element found h }
+    record { used = used; unused = dropped_rule_makes origin used; target = good_element found h }
 
 -- calls
 
-passed_shaped : (where_to : List Location) (values : List Expr) →
-    AllShaped (rows.passed where_to values)
-passed_shaped [] values = tt
-passed_shaped (p ∷ where_to) [] = tt
-passed_shaped (p ∷ where_to) (v ∷ values) = (set_shaped p v, passed_shaped where_to values)
+passed_shaped : (origin : ℕ) (where_to : List Location) (values : List Expr) →
+    AllShaped (rows.passed origin where_to values)
+passed_shaped origin [] values = tt
+passed_shaped origin (p ∷ where_to) [] = tt
+passed_shaped origin (p ∷ where_to) (v ∷ values) =
+    (set_shaped origin p v, passed_shaped origin where_to values)
 
-called_makes : (frames : rows.Frames) (function : Function) {rules : List (core.Rule Valued)} →
-    EachMakes Good rules → Makes Good (rows.called frames function rules)
-called_makes frames function h =
+called_makes : (origin : ℕ) (frames : rows.Frames) (function : Function)
+    {rules : List (core.Rule Valued)} →
+    EachMakes Good rules → Makes Good (rows.called origin frames function rules)
+called_makes origin frames function h =
     let body = unwrap_or function.body 0 in
     let where_to = (rows.frame_at frames body).parameters in
-    makes_then (λ vs. core.then_by (acts.hold_all vs)
-    (λ operands. core.gives (rows.called_with frames function operands))) (makes_each Good h)
-    (λ vs are. makes_then (λ operands. core.gives (rows.called_with frames function operands))
-    (hold_all_makes vs are)
-    (λ operands so. makes Good (rows.called_with frames function operands)
+    makes_then (λ vs. core.then_by (acts.hold_all origin vs)
+    (λ operands. core.gives (rows.called_with origin frames function operands))) (makes_each Good h)
+    (λ vs are. makes_then (λ operands. core.gives
+    (rows.called_with origin frames function operands))
+    (hold_all_makes origin vs are)
+    (λ operands so. makes Good (rows.called_with origin frames function operands)
     (append_shaped (acts.statements_of operands)
-    (rows.passed where_to (acts.values_of operands) ++ leaf (head.Call body) ∷ [])
+    (rows.passed origin where_to (acts.values_of operands) ++ leaf origin (head.Call body) ∷ [])
     (all_statements operands so)
-    (push_shaped (rows.passed where_to (acts.values_of operands)) (leaf (head.Call body))
-    (passed_shaped where_to (acts.values_of operands)) (leaf_shaped (head.Call body) refl tt)))))
+    (push_shaped (rows.passed origin where_to (acts.values_of operands))
+    (leaf origin (head.Call body))
+    (passed_shaped origin where_to (acts.values_of operands))
+    (leaf_shaped origin (head.Call body) refl tt)))))
 
 each_used_makes : (rs : List rows.Rows) → AllByRecursion MakesRows rs →
     EachMakes Good (map (λ row. row.used) rs)
@@ -412,55 +457,57 @@ valueless_makes h =
     makes_then (λ before. core.gives (valued before rows.no_value)) h
     (λ before is. makes Good (valued before rows.no_value) is)
 
-taken_in_makes : (function : KnownFunction) → Makes Good (rows.taken_in function)
-taken_in_makes function =
+taken_in_makes : (origin : ℕ) (function : KnownFunction) →
+    Makes Good (rows.taken_in origin function)
+taken_in_makes origin function =
     makes_freshly Good (object_type (known_result function))
-    (λ t. valued (input t.base ∷ []) (scalar t))
-    (λ t. (leaf_shaped (head.Input t.base) refl tt, tt))
+    (λ t. valued (input origin t.base ∷ []) (scalar t))
+    (λ t. (leaf_shaped origin (head.Input t.base) refl tt, tt))
 
-stop_makes : Makes AllShaped (core.gives (leaf head.Stop ∷ []))
-stop_makes = makes AllShaped (leaf head.Stop ∷ []) (leaf_shaped head.Stop refl tt, tt)
+stop_makes : (origin : ℕ) → Makes AllShaped (core.gives (leaf origin head.Stop ∷ []))
+stop_makes origin = makes AllShaped (leaf origin head.Stop ∷ [])
+    (leaf_shaped origin head.Stop refl tt, tt)
 
 first_makes : (rs : List rows.Rows) → AllByRecursion MakesRows rs →
     Makes AllShaped (rows.first_unused rs)
 first_makes [] h = makes AllShaped [] tt
 first_makes (r ∷ rs) h = h.0.unused
 
-known_unused_makes : (function : KnownFunction) (rs : List rows.Rows) →
-    AllByRecursion MakesRows rs → Makes AllShaped (rows.known_unused function rs)
-known_unused_makes known.ReachError rs h =
-    makes AllShaped (leaf head.Error ∷ []) (leaf_shaped head.Error refl tt, tt)
-known_unused_makes known.Abort rs h = stop_makes
-known_unused_makes known.AssertFail rs h = stop_makes
-known_unused_makes known.Exit rs h =
-    makes_then (λ before. core.gives (before ++ leaf head.Stop ∷ [])) (first_makes rs h)
-    (λ before is. makes AllShaped (before ++ leaf head.Stop ∷ [])
-    (push_shaped before (leaf head.Stop) is (leaf_shaped head.Stop refl tt)))
-known_unused_makes (known.Input t) rs h = only_makes (taken_in_makes (known.Input t))
+known_unused_makes : (origin : ℕ) (function : KnownFunction) (rs : List rows.Rows) →
+    AllByRecursion MakesRows rs → Makes AllShaped (rows.known_unused origin function rs)
+known_unused_makes origin known.ReachError rs h =
+    makes AllShaped (leaf origin head.Error ∷ []) (leaf_shaped origin head.Error refl tt, tt)
+known_unused_makes origin known.Abort rs h = stop_makes origin
+known_unused_makes origin known.AssertFail rs h = stop_makes origin
+known_unused_makes origin known.Exit rs h =
+    makes_then (λ before. core.gives (before ++ leaf origin head.Stop ∷ [])) (first_makes rs h)
+    (λ before is. makes AllShaped (before ++ leaf origin head.Stop ∷ [])
+    (push_shaped before (leaf origin head.Stop) is (leaf_shaped origin head.Stop refl tt)))
+known_unused_makes origin (known.Input t) rs h = only_makes (taken_in_makes origin (known.Input t))
 
-known_used_by : (kind : Kind) (function : KnownFunction) (rs : List rows.Rows) →
+known_used_by : (origin : ℕ) (kind : Kind) (function : KnownFunction) (rs : List rows.Rows) →
     AllByRecursion MakesRows rs →
     Makes Good (elim kind [
-      | Void ↦ rows.valueless (rows.known_unused function rs)
-      | Value t ↦ rows.taken_in function
+      | Void ↦ rows.valueless (rows.known_unused origin function rs)
+      | Value t ↦ rows.taken_in origin function
     ])
-known_used_by Void function rs h = valueless_makes (known_unused_makes function rs h)
-known_used_by (Value t) function rs h = taken_in_makes function
+known_used_by origin Void function rs h = valueless_makes (known_unused_makes origin function rs h)
+known_used_by origin (Value t) function rs h = taken_in_makes origin function
 
-call_makes : (frames : rows.Frames) (found : Option Meaning) (rs : List rows.Rows) →
-    AllByRecursion MakesRows rs → MakesRows (rows.call_rows frames found rs)
-call_makes frames None rs h =
+call_makes : (origin : ℕ) (frames : rows.Frames) (found : Option Meaning) (rs : List rows.Rows) →
+    AllByRecursion MakesRows rs → MakesRows (rows.call_rows origin frames found rs)
+call_makes origin frames None rs h =
     act_makes (makes Good (pure (int 0)) tt) (only_makes (makes Good (pure (int 0)) tt))
-call_makes frames (Some (meaning.Object object)) rs h =
+call_makes origin frames (Some (meaning.Object object)) rs h =
     act_makes (makes Good (pure (int 0)) tt) (only_makes (makes Good (pure (int 0)) tt))
-call_makes frames (Some (meaning.Enumerator value)) rs h =
+call_makes origin frames (Some (meaning.Enumerator value)) rs h =
     act_makes (makes Good (pure (int 0)) tt) (only_makes (makes Good (pure (int 0)) tt))
-call_makes frames (Some (meaning.Function function)) rs h =
-    act_makes (called_makes frames function (each_used_makes rs h))
-    (only_makes (called_makes frames function (each_used_makes rs h)))
-call_makes frames (Some (meaning.Known function)) rs h =
-    act_makes (known_used_by (known_result function) function rs h)
-    (known_unused_makes function rs h)
+call_makes origin frames (Some (meaning.Function function)) rs h =
+    act_makes (called_makes origin frames function (each_used_makes rs h))
+    (only_makes (called_makes origin frames function (each_used_makes rs h)))
+call_makes origin frames (Some (meaning.Known function)) rs h =
+    act_makes (known_used_by origin (known_result function) function rs h)
+    (known_unused_makes origin function rs h)
 
 -- suffixes
 abbrev pub SuffixMakes : rows.ReadSuffix → Type 0
@@ -469,35 +516,37 @@ SuffixMakes (TypedSuffix-F.Call arguments kind place) = AllByRecursion MakesRows
 SuffixMakes (TypedSuffix-F.Step operator kind place) = Unit {0}
 SuffixMakes (TypedSuffix-F.Skipped kind place) = Unit {0}
 
-suffix_makes : (frames : rows.Frames) (base : rows.Rows) (suffix : rows.ReadSuffix) →
-    MakesRows base → SuffixMakes suffix → MakesRows (rows.suffix_rows frames base suffix)
-suffix_makes frames base (TypedSuffix-F.Index index kind place) h k =
-    element_makes base.names k.used
-suffix_makes frames base (TypedSuffix-F.Call arguments kind place) h k =
-    call_makes frames base.names arguments k
-suffix_makes frames base (TypedSuffix-F.Step operator kind place) h k =
-    act_makes (stepping_makes operator h.target) (only_makes (incrementing_makes operator h.target))
-suffix_makes frames base (TypedSuffix-F.Skipped kind place) h k =
-    call_makes frames base.names [] tt
+suffix_makes : (origin : ℕ) (frames : rows.Frames) (base : rows.Rows) (suffix : rows.ReadSuffix) →
+    MakesRows base → SuffixMakes suffix → MakesRows (rows.suffix_rows origin frames base suffix)
+suffix_makes origin frames base (TypedSuffix-F.Index index kind place) h k =
+    element_makes origin base.names k.used
+suffix_makes origin frames base (TypedSuffix-F.Call arguments kind place) h k =
+    call_makes origin frames base.names arguments k
+suffix_makes origin frames base (TypedSuffix-F.Step operator kind place) h k =
+    act_makes (stepping_makes origin operator h.target)
+    (only_makes (incrementing_makes origin operator h.target))
+suffix_makes origin frames base (TypedSuffix-F.Skipped kind place) h k =
+    call_makes origin frames base.names [] tt
 
-pub suffixed_makes : (frames : rows.Frames) (suffixes : List rows.ReadSuffix)
+pub suffixed_makes : (origin : ℕ) (frames : rows.Frames) (suffixes : List rows.ReadSuffix)
     (base : rows.Rows) → MakesRows base → AllByRecursion SuffixMakes suffixes →
-    MakesRows (rows.suffixed frames base suffixes)
-suffixed_makes frames [] base h all = h
-suffixed_makes frames (suffix ∷ suffixes) base h all =
-    suffixed_makes frames suffixes (rows.suffix_rows frames base suffix)
-    (suffix_makes frames base suffix h all.0) all.1
+    MakesRows (rows.suffixed origin frames base suffixes)
+suffixed_makes origin frames [] base h all = h
+suffixed_makes origin frames (suffix ∷ suffixes) base h all =
+    suffixed_makes origin frames suffixes (rows.suffix_rows origin frames base suffix)
+    (suffix_makes origin frames base suffix h all.0) all.1
 
-pub chained_makes : (rest : List (BinaryOperator × rows.Rows)) (left : core.Rule Valued) →
+pub chained_makes : (origin : ℕ) (rest : List (BinaryOperator × rows.Rows))
+    (left : core.Rule Valued) →
     Makes Good left → AllByRecursion (λ link. MakesRows link.1) rest →
-    Makes Good (rows.chained left rest)
-chained_makes [] left h all = h
-chained_makes (link ∷ rest) left h all =
-    chained_makes rest
-    (core.then_by left (λ v. core.then_by link.1.used (λ w. acts.linked link.0 v w)))
-    (makes_then (λ v. core.then_by link.1.used (λ w. acts.linked link.0 v w)) h
-    (λ v is. makes_then (λ w. acts.linked link.0 v w) all.0.used
-    (λ w so. linked_makes link.0 v w is so))) all.1
+    Makes Good (rows.chained origin left rest)
+chained_makes origin [] left h all = h
+chained_makes origin (link ∷ rest) left h all =
+    chained_makes origin rest
+    (core.then_by left (λ v. core.then_by link.1.used (λ w. acts.linked origin link.0 v w)))
+    (makes_then (λ v. core.then_by link.1.used (λ w. acts.linked origin link.0 v w)) h
+    (λ v is. makes_then (λ w. acts.linked origin link.0 v w) all.0.used
+    (λ w so. linked_makes origin link.0 v w is so))) all.1
 
 pub comma_used_makes : (items : List rows.Rows) → AllByRecursion MakesRows items →
     Makes Good (rows.comma_used items)
@@ -520,38 +569,43 @@ pub comma_unused_makes : (items : List rows.Rows) → AllByRecursion MakesRows i
     Makes AllShaped (rows.comma_unused items)
 comma_unused_makes items h = makes_ordered (each_unused_makes items h)
 
-void_makes : {r s t : rows.Rows} → MakesRows r → MakesRows s → MakesRows t →
-    Makes AllShaped (rows.void_choice r s t)
-void_makes {s = s} {t = t} test first second =
+void_makes : (origin : ℕ) {r s t : rows.Rows} → MakesRows r → MakesRows s → MakesRows t →
+    Makes AllShaped (rows.void_choice origin r s t)
+void_makes origin {s = s} {t = t} test first second =
     makes_then (λ v. core.then_by s.unused (λ a. core.then_by t.unused (λ b.
-    core.gives (v.statements ++ choice v.value a b ∷ [])))) test.used
+    core.gives (v.statements ++ choice origin v.value a b ∷ [])))) test.used
     (λ v is. makes_then (λ a. core.then_by t.unused (λ b.
-    core.gives (v.statements ++ choice v.value a b ∷ []))) first.unused
-    (λ a so. makes_then (λ b. core.gives (v.statements ++ choice v.value a b ∷ [])) second.unused
-    (λ b also. makes AllShaped (v.statements ++ choice v.value a b ∷ [])
-    (chosen_shaped v.statements v.value a b is so also))))
+    core.gives (v.statements ++ choice origin v.value a b ∷ []))) first.unused
+    (λ a so. makes_then (λ b. core.gives (v.statements ++ choice origin v.value a b ∷ []))
+    second.unused
+    (λ b also. makes AllShaped (v.statements ++ choice origin v.value a b ∷ [])
+    (chosen_shaped origin v.statements v.value a b is so also))))
 
-conditional_makes : {r s t : rows.Rows} → MakesRows r → MakesRows s → MakesRows t →
-    Makes Good (rows.conditional r s t)
-conditional_makes {s = s} {t = t} test first second =
-    makes_then (λ v. core.then_by s.used (λ a. core.then_by t.used (λ b. acts.chosen v a b)))
+conditional_makes : (origin : ℕ) {r s t : rows.Rows} → MakesRows r → MakesRows s → MakesRows t →
+    Makes Good (rows.conditional origin r s t)
+conditional_makes origin {s = s} {t = t} test first second =
+    makes_then (λ v. core.then_by s.used (λ a. core.then_by t.used (λ b. acts.chosen origin v a b)))
     test.used
-    (λ v is. makes_then (λ a. core.then_by t.used (λ b. acts.chosen v a b)) first.used
-    (λ a so. makes_then (λ b. acts.chosen v a b) second.used
-    (λ b also. chosen_makes v a b is so also)))
+    (λ v is. makes_then (λ a. core.then_by t.used (λ b. acts.chosen origin v a b)) first.used
+    (λ a so. makes_then (λ b. acts.chosen origin v a b) second.used
+    (λ b also. chosen_makes origin v a b is so also)))
 
-pub either_makes : (void : Bool) {r s t : rows.Rows} → MakesRows r → MakesRows s → MakesRows t →
-    MakesRows (rows.act (rows.conditional r s t)
-    (if void then rows.void_choice r s t else rows.dropped (rows.conditional r s t)))
-either_makes void {r = r} {s = s} {t = t} test first second =
-    act_makes (conditional_makes test first second)
-    (makes_either void (rows.void_choice r s t) (rows.dropped (rows.conditional r s t))
-    (void_makes test first second) (dropped_rule_makes (conditional_makes test first second)))
+pub either_makes : (origin : ℕ) (void : Bool) {r s t : rows.Rows} → MakesRows r → MakesRows s →
+    MakesRows t →
+    MakesRows (rows.act (rows.conditional origin r s t)
+    (if void then rows.void_choice origin r s t else rows.dropped origin
+    (rows.conditional origin r s t)))
+either_makes origin void {r = r} {s = s} {t = t} test first second =
+    act_makes (conditional_makes origin test first second)
+    (makes_either void (rows.void_choice origin r s t)
+    (rows.dropped origin (rows.conditional origin r s t))
+    (void_makes origin test first second)
+    (dropped_rule_makes origin (conditional_makes origin test first second)))
 
-pub cast_makes : (kind : Option Kind) (r : rows.Rows) → MakesRows r →
-    MakesRows (rows.cast_rows kind r)
-cast_makes None r h = act_makes (valueless_makes h.unused) h.unused
-cast_makes (Some Void) r h = act_makes (valueless_makes h.unused) h.unused
-cast_makes (Some (Value t)) r h =
-    plain_makes (makes_then (λ v. core.gives (acts.cast_to t v)) h.used
+pub cast_makes : (origin : ℕ) (kind : Option Kind) (r : rows.Rows) → MakesRows r →
+    MakesRows (rows.cast_rows origin kind r)
+cast_makes origin None r h = act_makes (valueless_makes h.unused) h.unused
+cast_makes origin (Some Void) r h = act_makes (valueless_makes h.unused) h.unused
+cast_makes origin (Some (Value t)) r h =
+    plain_makes origin (makes_then (λ v. core.gives (acts.cast_to t v)) h.used
     (λ v is. makes Good (acts.cast_to t v) is))

@@ -1,5 +1,5 @@
 -- The trees that the rules make have nodes with as many parts as their heads ask for.
-use Rattle.std.proofs.Common.{Bool, true, false, if◌then◌else◌, List, [], ◌∷◌, ◌++◌, length, refl}
+use Rattle.std.proofs.Common.{ℕ, Bool, true, false, if◌then◌else◌, List, [], ◌∷◌, ◌++◌, length, refl}
 use Rattle.std.specs.List.{AllByRecursion}
 use Rattle.cpa_ints.specs.declared.integers.IntType.{IntType}
 use Rattle.cpa_expr.specs.declared.tree.Expr.{Expr}
@@ -26,33 +26,36 @@ IsPlain head.Leave = ⊥
 IsPlain _ = Unit {0}
 
 module _ (H : Head → Type 0) (plain : (h : Head) → IsPlain h → H h) where
-  pub leaf_shaped : (h : Head) → HasParts h 0 → H h → Shaped H (leaf h)
-  leaf_shaped h has is = shaped_node H h [] has is tt
+  pub leaf_shaped : (origin : ℕ) (h : Head) → HasParts h 0 → H h → Shaped H (leaf origin h)
+  leaf_shaped origin h has is = shaped_node H h [] origin has is tt
 
-  pub set_shaped : (place : Location) (v : Expr) → Shaped H (set place v)
-  set_shaped place v =
+  pub set_shaped : (origin : ℕ) (place : Location) (v : Expr) → Shaped H (set origin place v)
+  set_shaped origin place v =
       let h = head.Assign place.base place.len first_index (conv v place.ty) in
-      leaf_shaped h refl (plain h tt)
+      leaf_shaped origin h refl (plain h tt)
 
-  pub write_shaped : (place : Location) (index v : Expr) → Shaped H (write place index v)
-  write_shaped place index v =
+  pub write_shaped : (origin : ℕ) (place : Location) (index v : Expr) →
+      Shaped H (write origin place index v)
+  write_shaped origin place index v =
       let h = head.Assign place.base place.len index (conv v place.ty) in
-      leaf_shaped h refl (plain h tt)
+      leaf_shaped origin h refl (plain h tt)
 
-  pub block_shaped : (items : Trees) → AllShaped H items → Shaped H (block items)
-  block_shaped items all = shaped_node H head.Block items tt (plain head.Block tt) all
+  pub block_shaped : (origin : ℕ) (items : Trees) → AllShaped H items →
+      Shaped H (block origin items)
+  block_shaped origin items all = shaped_node H head.Block items origin tt (plain head.Block tt) all
 
-  pub choice_shaped : (test : Expr) (first second : Trees) → AllShaped H first →
-      AllShaped H second → Shaped H (choice test first second)
-  choice_shaped test first second a b =
-      shaped_node H (head.If test) (block first ∷ block second ∷ []) refl (plain (head.If test) tt)
-      (block_shaped first a, (block_shaped second b, tt))
+  pub choice_shaped : (origin : ℕ) (test : Expr) (first second : Trees) → AllShaped H first →
+      AllShaped H second → Shaped H (choice origin test first second)
+  choice_shaped origin test first second a b =
+      shaped_node H (head.If test) (block origin first ∷ block origin second ∷ []) origin refl
+      (plain (head.If test) tt)
+      (block_shaped origin first a, (block_shaped origin second b, tt))
 
-  pub repeated_shaped : (body step : Trees) → H head.Loop → AllShaped H body →
-      AllShaped H step → Shaped H (repeated body step)
-  repeated_shaped body step is a b =
-      shaped_node H head.Loop (block body ∷ block step ∷ []) refl is
-      (block_shaped body a, (block_shaped step b, tt))
+  pub repeated_shaped : (origin : ℕ) (body step : Trees) → H head.Loop → AllShaped H body →
+      AllShaped H step → Shaped H (repeated origin body step)
+  repeated_shaped origin body step is a b =
+      shaped_node H head.Loop (block origin body ∷ block origin step ∷ []) origin refl is
+      (block_shaped origin body a, (block_shaped origin step b, tt))
 
 -- what a rule makes, whatever is taken before it; and that the cells which it takes start at 0
 pub record Makes {S : Type 0} (P : S → Type 0) (rule : core.Rule S) : Type 0 where

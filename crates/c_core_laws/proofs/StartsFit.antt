@@ -346,7 +346,7 @@ body_kept : (text : Text) (specifiers : Specifiers) (declarator : FunctionDeclar
     IsObject t name before.names →
     IsObject t name (body_behind text specifiers declarator made before).names
 body_kept text specifiers declarator body.Skipped before t name h = h
-body_kept text specifiers declarator (body.Block items place) before t name h = h
+body_kept text specifiers declarator (body.Block items place end) before t name h = h
 
 item_kept : (text : Text) (one : Item) (before : Before) (t : IntType) (name : List ℕ) →
     NoFaults (item_faults text one before) → IsObject t name before.names →

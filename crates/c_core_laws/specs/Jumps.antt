@@ -58,7 +58,7 @@ head_jumps head.Continue inside = leaving
 head_jumps _ inside = inside
 
 abbrev pub node_jumps : CoreTree-F Jumps → Jumps
-node_jumps (CoreTree-F.Node h parts) = head_jumps h (all_jumps parts)
+node_jumps (CoreTree-F.Node h parts place) = head_jumps h (all_jumps parts)
 
 -- those of a tree of core statements
 unfoldable pub tree_jumps : CoreTree → Jumps
@@ -69,19 +69,19 @@ perhaps_jumps None = no_jumps
 perhaps_jumps (Some jumps) = jumps
 
 abbrev pub statement_jumps : TypedStatement-F Jumps Jumps → Jumps
-statement_jumps (TypedStatement-F.Block items) = all_jumps items
-statement_jumps (TypedStatement-F.Expression expression) = no_jumps
-statement_jumps (TypedStatement-F.If test first second) =
+statement_jumps (TypedStatement-F.Block items place) = all_jumps items
+statement_jumps (TypedStatement-F.Expression expression place) = no_jumps
+statement_jumps (TypedStatement-F.If test first second place) =
     then_jumps first (perhaps_jumps second)
-statement_jumps (TypedStatement-F.While test body) = in_loop body
-statement_jumps (TypedStatement-F.Do body test) = in_loop body
-statement_jumps (TypedStatement-F.For first test step body) = in_loop body
-statement_jumps (TypedStatement-F.Goto label) = goto label
-statement_jumps TypedStatement-F.Break = leaving
-statement_jumps TypedStatement-F.Continue = leaving
-statement_jumps (TypedStatement-F.Return value) = no_jumps
-statement_jumps (TypedStatement-F.Labeled label body) = labelled body
-statement_jumps (TypedStatement-F.Switch value choices otherwise body end) =
+statement_jumps (TypedStatement-F.While test body place) = in_loop body
+statement_jumps (TypedStatement-F.Do body test place) = in_loop body
+statement_jumps (TypedStatement-F.For first test step body place) = in_loop body
+statement_jumps (TypedStatement-F.Goto label place) = goto label
+statement_jumps (TypedStatement-F.Break place) = leaving
+statement_jumps (TypedStatement-F.Continue place) = leaving
+statement_jumps (TypedStatement-F.Return value place) = no_jumps
+statement_jumps (TypedStatement-F.Labeled label body place) = labelled body
+statement_jumps (TypedStatement-F.Switch value choices otherwise body end place) =
     then_jumps (all_jumps (map (λ one. goto one.label) choices)) (then_jumps (goto otherwise)
     (then_jumps body (labelled no_jumps)))
 

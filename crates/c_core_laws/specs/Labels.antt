@@ -42,22 +42,23 @@ abbrev pub perhaps_labels : Option (Labelled TypedStatement) → List Label
 perhaps_labels None = []
 perhaps_labels (Some one) = one.labels
 
--- the label behind a switch, behind which nothing stands
-abbrev pub end_label : ℕ → Label
-end_label number = record { number = number; body = typed.Expression None }
+-- the label behind a switch, behind which nothing stands; what it stands before is put at the place
+-- of the switch
+abbrev pub end_label : ℕ → ℕ → Label
+end_label number place = record { number = number; body = typed.Expression None place }
 
 -- the labels of a statement in the order of the text, those of each part given
 abbrev pub labels_step : TypedStatement-F (Labelled TypedItem) (Labelled TypedStatement)
     → List Label
-labels_step (TypedStatement-F.Block items) = flat_map (λ item. item.labels) items
-labels_step (TypedStatement-F.If test first second) = first.labels ++ perhaps_labels second
-labels_step (TypedStatement-F.While test body) = body.labels
-labels_step (TypedStatement-F.Do body test) = body.labels
-labels_step (TypedStatement-F.For first test step body) = body.labels
-labels_step (TypedStatement-F.Labeled label body) =
+labels_step (TypedStatement-F.Block items place) = flat_map (λ item. item.labels) items
+labels_step (TypedStatement-F.If test first second place) = first.labels ++ perhaps_labels second
+labels_step (TypedStatement-F.While test body place) = body.labels
+labels_step (TypedStatement-F.Do body test place) = body.labels
+labels_step (TypedStatement-F.For first test step body place) = body.labels
+labels_step (TypedStatement-F.Labeled label body place) =
     record { number = label; body = body.whole } ∷ body.labels
-labels_step (TypedStatement-F.Switch value choices otherwise body end) =
-    body.labels ++ end_label end ∷ []
+labels_step (TypedStatement-F.Switch value choices otherwise body end place) =
+    body.labels ++ end_label end place ∷ []
 labels_step _ = []
 
 abbrev pub labelled_statement : TypedStatement-F (Labelled TypedItem) (Labelled TypedStatement)
@@ -124,8 +125,9 @@ pub record IsBlockOf (frames : Frames) (place : Location) (tree : CoreTree) (lab
   pub before : List Placed
   pub behind : List Placed
   pub taken : Taken
+  pub origin : ℕ
   pub stands : statements tree
       ≡ before
-      ++ (statements (Node head.Labeled (core_statement frames place label.body taken).made)
+      ++ (statements (Node head.Labeled (core_statement frames place label.body taken).made origin)
       ++ behind)
   pub leads : (n : ℕ) → part (labels_from n (statements tree)) label.number ≡ n + length before

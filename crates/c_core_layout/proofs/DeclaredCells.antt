@@ -48,71 +48,80 @@ pub cells_Statement : (s : TypedStatement) → item_cells (item.Statement s) ≡
 cells_Statement s =
     opened_item (item.Statement s) (TypedItem-F.Statement s) (item.rolls-Statement s)
 
-pub cells_Block : (items : List TypedItem) →
-    statement_cells (tree.Block items) ≡ items_cells items
-cells_Block items =
-    opened (tree.Block items) (TypedStatement-F.Block items) (tree.rolls-Block items)
+pub cells_Block : (items : List TypedItem) (place : ℕ) →
+    statement_cells (tree.Block items place) ≡ items_cells items
+cells_Block items place =
+    opened (tree.Block items place) (TypedStatement-F.Block items place)
+    (tree.rolls-Block items place)
 
-pub cells_Expression : (expression : Option TypedExpression) →
-    statement_cells (tree.Expression expression) ≡ 0
-cells_Expression expression =
-    opened (tree.Expression expression) (TypedStatement-F.Expression expression)
-    (tree.rolls-Expression expression)
+pub cells_Expression : (expression : Option TypedExpression) (place : ℕ) →
+    statement_cells (tree.Expression expression place) ≡ 0
+cells_Expression expression place =
+    opened (tree.Expression expression place) (TypedStatement-F.Expression expression place)
+    (tree.rolls-Expression expression place)
 
 abbrev pub other_cells : Option TypedStatement → ℕ
 other_cells None = 0
 other_cells (Some other) = statement_cells other
 
-pub cells_If : (test : TypedExpression) (first : TypedStatement) (second : Option TypedStatement) →
-    statement_cells (tree.If test first second) ≡ statement_cells first + other_cells second
-cells_If test first None =
-    opened (tree.If test first None) (TypedStatement-F.If test first None)
-    (tree.rolls-If test first None)
-cells_If test first (Some other) =
-    opened (tree.If test first (Some other)) (TypedStatement-F.If test first (Some other))
-    (tree.rolls-If test first (Some other))
+pub cells_If : (test : TypedExpression) (first : TypedStatement) (second : Option TypedStatement)
+    (place : ℕ) →
+    statement_cells (tree.If test first second place) ≡ statement_cells first + other_cells second
+cells_If test first None place =
+    opened (tree.If test first None place) (TypedStatement-F.If test first None place)
+    (tree.rolls-If test first None place)
+cells_If test first (Some other) place =
+    opened (tree.If test first (Some other) place)
+    (TypedStatement-F.If test first (Some other) place)
+    (tree.rolls-If test first (Some other) place)
 
-pub cells_While : (test : TypedExpression) (body : TypedStatement) →
-    statement_cells (tree.While test body) ≡ statement_cells body
-cells_While test body =
-    opened (tree.While test body) (TypedStatement-F.While test body) (tree.rolls-While test body)
+pub cells_While : (test : TypedExpression) (body : TypedStatement) (place : ℕ) →
+    statement_cells (tree.While test body place) ≡ statement_cells body
+cells_While test body place =
+    opened (tree.While test body place) (TypedStatement-F.While test body place)
+    (tree.rolls-While test body place)
 
-pub cells_Do : (body : TypedStatement) (test : TypedExpression) →
-    statement_cells (tree.Do body test) ≡ statement_cells body
-cells_Do body test =
-    opened (tree.Do body test) (TypedStatement-F.Do body test) (tree.rolls-Do body test)
+pub cells_Do : (body : TypedStatement) (test : TypedExpression) (place : ℕ) →
+    statement_cells (tree.Do body test place) ≡ statement_cells body
+cells_Do body test place =
+    opened (tree.Do body test place) (TypedStatement-F.Do body test place)
+    (tree.rolls-Do body test place)
 
 pub cells_For : (first : TypedForStart) (test step : Option TypedExpression)
-    (body : TypedStatement) →
-    statement_cells (tree.For first test step body) ≡ start_cells first + statement_cells body
-cells_For first test step body =
-    opened (tree.For first test step body) (TypedStatement-F.For first test step body)
-    (tree.rolls-For first test step body)
+    (body : TypedStatement) (place : ℕ) →
+    statement_cells (tree.For first test step body place) ≡ start_cells first + statement_cells body
+cells_For first test step body place =
+    opened (tree.For first test step body place) (TypedStatement-F.For first test step body place)
+    (tree.rolls-For first test step body place)
 
-pub cells_Goto : (label : ℕ) → statement_cells (tree.Goto label) ≡ 0
-cells_Goto label =
-    opened (tree.Goto label) (TypedStatement-F.Goto label) (tree.rolls-Goto label)
+pub cells_Goto : (label : ℕ) (place : ℕ) → statement_cells (tree.Goto label place) ≡ 0
+cells_Goto label place =
+    opened (tree.Goto label place) (TypedStatement-F.Goto label place) (tree.rolls-Goto label place)
 
-pub cells_Break : statement_cells tree.Break ≡ 0
-cells_Break = opened tree.Break TypedStatement-F.Break tree.rolls-Break
+pub cells_Break : (place : ℕ) → statement_cells (tree.Break place) ≡ 0
+cells_Break place = opened (tree.Break place) (TypedStatement-F.Break place)
+    (tree.rolls-Break place)
 
-pub cells_Continue : statement_cells tree.Continue ≡ 0
-cells_Continue = opened tree.Continue TypedStatement-F.Continue tree.rolls-Continue
+pub cells_Continue : (place : ℕ) → statement_cells (tree.Continue place) ≡ 0
+cells_Continue place = opened (tree.Continue place) (TypedStatement-F.Continue place)
+    (tree.rolls-Continue place)
 
-pub cells_Return : (value : Option TypedExpression) → statement_cells (tree.Return value) ≡ 0
-cells_Return value =
-    opened (tree.Return value) (TypedStatement-F.Return value) (tree.rolls-Return value)
+pub cells_Return : (value : Option TypedExpression) (place : ℕ) →
+    statement_cells (tree.Return value place) ≡ 0
+cells_Return value place =
+    opened (tree.Return value place) (TypedStatement-F.Return value place)
+    (tree.rolls-Return value place)
 
-pub cells_Labeled : (label : ℕ) (body : TypedStatement) →
-    statement_cells (tree.Labeled label body) ≡ statement_cells body
-cells_Labeled label body =
-    opened (tree.Labeled label body) (TypedStatement-F.Labeled label body)
-    (tree.rolls-Labeled label body)
+pub cells_Labeled : (label : ℕ) (body : TypedStatement) (place : ℕ) →
+    statement_cells (tree.Labeled label body place) ≡ statement_cells body
+cells_Labeled label body place =
+    opened (tree.Labeled label body place) (TypedStatement-F.Labeled label body place)
+    (tree.rolls-Labeled label body place)
 
 pub cells_Switch : (value : TypedExpression) (choices : List Choice) (other : ℕ)
-    (body : TypedStatement) (end : ℕ) →
-    statement_cells (tree.Switch value choices other body end) ≡ statement_cells body
-cells_Switch value choices other body end =
-    opened (tree.Switch value choices other body end)
-    (TypedStatement-F.Switch value choices other body end)
-    (tree.rolls-Switch value choices other body end)
+    (body : TypedStatement) (end : ℕ) (place : ℕ) →
+    statement_cells (tree.Switch value choices other body end place) ≡ statement_cells body
+cells_Switch value choices other body end place =
+    opened (tree.Switch value choices other body end place)
+    (TypedStatement-F.Switch value choices other body end place)
+    (tree.rolls-Switch value choices other body end place)

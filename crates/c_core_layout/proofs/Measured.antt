@@ -21,19 +21,19 @@ grown_append size (x ∷ xs) ys =
     grown_append (record { points = size.points + 1; tallest = max size.tallest x }) xs ys
 
 -- a tree: its root, and then its parts
-pub node_grown : (size : Size) (h : Head) (parts : Trees) →
-    grown size (heights_of (Node h parts ∷ []))
+pub node_grown : (size : Size) (h : Head) (parts : Trees) (place : ℕ) →
+    grown size (heights_of (Node h parts place ∷ []))
     ≡ grown (grown size (head_height h ∷ [])) (heights_of parts)
-node_grown size h parts = ap (grown size) (heights_node h parts)
+node_grown size h parts place = ap (grown size) (heights_node place h parts)
 
 -- the same, of a root that is measured first
-pub node_measured : (size root : Size) (h : Head) (height : ℕ) (parts : Trees) →
+pub node_measured : (size root : Size) (h : Head) (height : ℕ) (parts : Trees) (place : ℕ) →
     height ≡ head_height h → root ≡ grown size (height ∷ []) →
-    grown root (heights_of parts) ≡ grown size (heights_of (Node h parts ∷ []))
-node_measured size root h height parts high is =
+    grown root (heights_of parts) ≡ grown size (heights_of (Node h parts place ∷ []))
+node_measured size root h height parts place high is =
     ap (λ (s : Size). grown s (heights_of parts))
     (is ∙ ap (λ n. grown size (n ∷ [])) high)
-    ∙ sym (node_grown size h parts)
+    ∙ sym (node_grown size h parts place)
 
 -- trees: the first, and then the others
 pub row_grown : (size : Size) (tree : CoreTree) (trees : Trees) →

@@ -21,12 +21,11 @@ use Rattle.c_types_rules.specs.declared.typed.Global.{Global}
 use Rattle.c_types_rules.specs.Types.{object_type}
 use Rattle.c_types_rules.specs.Tables.{cells_of}
 use Rattle.cpa_model_trees.specs.declared.tree.CoreTree.{CoreTree}
-use Rattle.cpa_model_trees.specs.declared.tree.CoreTree.TheVariants.{Node}
 use Rattle.cpa_model_trees.specs.declared.tree.Head.TheVariants as head
 use Rattle.cpa_model_trees.specs.Numbering.{Trees}
 use Rattle.c_core_rules.specs.declared.tree.Location.{Location}
 use Rattle.c_core_rules.specs.Values.{cell_at, promote}
-use Rattle.c_core_rules.specs.Trees.{block, choice, repeated, valued}
+use Rattle.c_core_rules.specs.Trees.{leaf, block, labeled, choice, repeated, valued}
 use Rattle.c_core_rules.specs.Acts.{held}
 use Rattle.c_core_rules.specs.Cells.{Taken, Rule, gives, then_by, each, in_order, taking}
 use Rattle.c_core_rules.specs.Cells.{cells_with}
@@ -142,9 +141,11 @@ module _ (F : Frames) (same : SameFrames F F) where
       let n = cells_of declarator.object in
       let zero : n + 0 ≡ n = omega arith in
       least_is zero
-      (least_then n 0 (statement.initializing F declarator.object declarator.initializer)
+      (least_then n 0 (statement.initializing declarator.place F declarator.object
+      declarator.initializer)
       (least_taking declarator.object [])
-      (λ x. least_none (alike_initializing F F same declarator.object declarator.initializer x x)))
+      (λ x. least_none (alike_initializing F F same declarator.place declarator.object
+      declarator.initializer x x)))
 
   each_declared : (declarators : List TypedDeclarator) →
       EachTakes (map (λ (one : TypedDeclarator). cells_of one.object) declarators)
@@ -169,95 +170,99 @@ module _ (F : Frames) (same : SameFrames F F) where
       least_is zero
       (least_then n 0 (λ inside. gives (make inside ∷ [])) h (λ x. least_given (make x ∷ [])))
 
-  least_if : (test : TypedExpression) (m n : ℕ) {a b : Rule Trees} → TakesAtLeast m a →
+  least_if : (origin : ℕ) (test : TypedExpression) (m n : ℕ) {a b : Rule Trees} → TakesAtLeast m a →
       TakesAtLeast n b →
       TakesAtLeast (m + n)
       (then_by (rows F test).used (λ v. then_by a (λ x. then_by b (λ y.
-      gives (v.statements ++ choice v.value x y ∷ [])))))
-  least_if test m n {a = a} {b = b} first second =
+      gives (v.statements ++ choice origin v.value x y ∷ [])))))
+  least_if origin test m n {a = a} {b = b} first second =
       let zero : 0 + (m + (n + 0)) ≡ m + n = omega arith in
       least_is zero
       (least_then 0 (m + (n + 0)) (λ v. then_by a (λ x. then_by b (λ y.
-      gives (v.statements ++ choice v.value x y ∷ []))))
+      gives (v.statements ++ choice origin v.value x y ∷ []))))
       (least_none (alike_expression F F same test).used)
       (λ v. least_then m (n + 0) (λ x. then_by b (λ y.
-      gives (v.statements ++ choice v.value x y ∷ []))) first
-      (λ x. least_then n 0 (λ y. gives (v.statements ++ choice v.value x y ∷ [])) second
-      (λ y. least_given (v.statements ++ choice v.value x y ∷ [])))))
+      gives (v.statements ++ choice origin v.value x y ∷ []))) first
+      (λ x. least_then n 0 (λ y. gives (v.statements ++ choice origin v.value x y ∷ [])) second
+      (λ y. least_given (v.statements ++ choice origin v.value x y ∷ [])))))
 
-  least_while : (test : Option TypedExpression) (n : ℕ) {body : Rule Trees} →
+  least_while : (origin : ℕ) (test : Option TypedExpression) (n : ℕ) {body : Rule Trees} →
       TakesAtLeast n body →
       TakesAtLeast n
-      (then_by (statement.left_unless F test) (λ front. then_by body (λ inside.
-      gives (repeated (front ++ inside) [] ∷ []))))
-  least_while test n {body = body} h =
+      (then_by (statement.left_unless origin F test) (λ front. then_by body (λ inside.
+      gives (repeated origin (front ++ inside) [] ∷ []))))
+  least_while origin test n {body = body} h =
       let zero : 0 + (n + 0) ≡ n = omega arith in
       least_is zero
       (least_then 0 (n + 0) (λ front. then_by body (λ inside.
-      gives (repeated (front ++ inside) [] ∷ []))) (least_none (alike_left F F same test))
-      (λ x. least_then n 0 (λ inside. gives (repeated (x ++ inside) [] ∷ [])) h
-      (λ y. least_given (repeated (x ++ y) [] ∷ []))))
+      gives (repeated origin (front ++ inside) [] ∷ [])))
+      (least_none (alike_left F F same origin test))
+      (λ x. least_then n 0 (λ inside. gives (repeated origin (x ++ inside) [] ∷ [])) h
+      (λ y. least_given (repeated origin (x ++ y) [] ∷ []))))
 
-  least_do : (test : Option TypedExpression) (n : ℕ) {body : Rule Trees} → TakesAtLeast n body →
+  least_do : (origin : ℕ) (test : Option TypedExpression) (n : ℕ) {body : Rule Trees} →
+      TakesAtLeast n body →
       TakesAtLeast n
-      (then_by body (λ inside. then_by (statement.left_unless F test) (λ behind.
-      gives (repeated inside behind ∷ []))))
-  least_do test n {body = body} h =
+      (then_by body (λ inside. then_by (statement.left_unless origin F test) (λ behind.
+      gives (repeated origin inside behind ∷ []))))
+  least_do origin test n {body = body} h =
       let zero : n + (0 + 0) ≡ n = omega arith in
       least_is zero
-      (least_then n (0 + 0) (λ inside. then_by (statement.left_unless F test) (λ behind.
-      gives (repeated inside behind ∷ []))) h
-      (λ x. least_then 0 0 (λ behind. gives (repeated x behind ∷ []))
-      (least_none (alike_left F F same test)) (λ y. least_given (repeated x y ∷ []))))
+      (least_then n (0 + 0) (λ inside. then_by (statement.left_unless origin F test) (λ behind.
+      gives (repeated origin inside behind ∷ []))) h
+      (λ x. least_then 0 0 (λ behind. gives (repeated origin x behind ∷ []))
+      (least_none (alike_left F F same origin test)) (λ y. least_given (repeated origin x y ∷ []))))
 
-  least_switch : (value : TypedExpression) (choices : List Choice) (otherwise n : ℕ)
+  least_switch : (origin : ℕ) (value : TypedExpression) (choices : List Choice) (otherwise n : ℕ)
       {body : Rule Trees} → TakesAtLeast n body →
       TakesAtLeast n
-      (then_by (rows F value).used (λ v. then_by (held (valued v.statements (promote v.value)))
+      (then_by (rows F value).used (λ v. then_by
+      (held origin (valued v.statements (promote v.value)))
       (λ kept. then_by body (λ inside. gives (kept.statements
-      ++ statement.selected_by kept.value choices otherwise inside)))))
-  least_switch value choices otherwise n {body = body} h =
+      ++ statement.selected_by origin kept.value choices otherwise inside)))))
+  least_switch origin value choices otherwise n {body = body} h =
       let zero : 0 + (0 + (n + 0)) ≡ n = omega arith in
       least_is zero
       (least_then 0 (0 + (n + 0))
-      (λ v. then_by (held (valued v.statements (promote v.value))) (λ kept. then_by body
+      (λ v. then_by (held origin (valued v.statements (promote v.value))) (λ kept. then_by body
       (λ inside. gives (kept.statements
-      ++ statement.selected_by kept.value choices otherwise inside))))
+      ++ statement.selected_by origin kept.value choices otherwise inside))))
       (least_none (alike_expression F F same value).used)
       (λ v. least_then 0 (n + 0) (λ kept. then_by body (λ inside. gives (kept.statements
-      ++ statement.selected_by kept.value choices otherwise inside)))
-      (least_none (alike_held (valued_self (valued v.statements (promote v.value)))))
+      ++ statement.selected_by origin kept.value choices otherwise inside)))
+      (least_none (alike_held origin (valued_self (valued v.statements (promote v.value)))))
       (λ kept. least_then n 0 (λ inside. gives (kept.statements
-      ++ statement.selected_by kept.value choices otherwise inside)) h
+      ++ statement.selected_by origin kept.value choices otherwise inside)) h
       (λ x. least_given (kept.statements
-      ++ statement.selected_by kept.value choices otherwise x)))))
+      ++ statement.selected_by origin kept.value choices otherwise x)))))
 
   -- a for, by its parts
-  abbrev for_form : Trees → Trees → Trees → Trees → Trees
-  for_form before front inside behind =
-      block (before ++ repeated (front ++ inside) behind ∷ []) ∷ []
+  abbrev for_form : ℕ → Trees → Trees → Trees → Trees → Trees
+  for_form origin before front inside behind =
+      block origin (before ++ repeated origin (front ++ inside) behind ∷ []) ∷ []
 
-  least_for : (first : TypedForStart) (test step : Option TypedExpression) (n : ℕ)
+  least_for : (origin : ℕ) (first : TypedForStart) (test step : Option TypedExpression) (n : ℕ)
       {body : Rule Trees} → TakesAtLeast n body →
       TakesAtLeast (start_cells first + n)
-      (then_by (statement.started F first) (λ before. then_by (statement.left_unless F test)
+      (then_by (statement.started F first) (λ before. then_by (statement.left_unless origin F test)
       (λ front. then_by body (λ inside. then_by (statement.some_unused F step) (λ behind.
-      gives (for_form before front inside behind))))))
-  least_for first test step n {body = body} h =
+      gives (for_form origin before front inside behind))))))
+  least_for origin first test step n {body = body} h =
       let m = start_cells first in
       let zero : m + (0 + (n + (0 + 0))) ≡ m + n = omega arith in
       least_is zero
       (least_then m (0 + (n + (0 + 0)))
-      (λ before. then_by (statement.left_unless F test) (λ front. then_by body (λ inside.
+      (λ before. then_by (statement.left_unless origin F test) (λ front. then_by body (λ inside.
       then_by (statement.some_unused F step) (λ behind.
-      gives (for_form before front inside behind))))) (least_started first)
+      gives (for_form origin before front inside behind))))) (least_started first)
       (λ a. least_then 0 (n + (0 + 0)) (λ front. then_by body (λ inside.
       then_by (statement.some_unused F step) (λ behind.
-      gives (for_form a front inside behind)))) (least_none (alike_left F F same test))
+      gives (for_form origin a front inside behind))))
+      (least_none (alike_left F F same origin test))
       (λ b. least_then n (0 + 0) (λ inside. then_by (statement.some_unused F step) (λ behind.
-      gives (for_form a b inside behind))) h
-      (λ c. least_then 0 0 (λ behind. gives (for_form a b c behind))
-      (least_none (alike_unused F F same step)) (λ d. least_given (for_form a b c d))))))
+      gives (for_form origin a b inside behind))) h
+      (λ c. least_then 0 0 (λ behind. gives (for_form origin a b c behind))
+      (least_none (alike_unused F F same step)) (λ d. least_given (for_form origin a b c d))))))
 
   module _ (place : Location) where
     abbrev ItemTakes : TypedItem → Type 0
@@ -305,25 +310,28 @@ module _ (F : Frames) (same : SameFrames F F) where
 
     layer : (y : TypedStatement-F HeldItem HeldStatement) →
         TakesAtLeast (cells_layer y) (rule_layer y)
-    layer (TypedStatement-F.Block items) = least_one block (least_order (each_held items))
-    layer (TypedStatement-F.Expression expression) = least_none (alike_unused F F same expression)
-    layer (TypedStatement-F.If test first None) =
-        least_if test (statement_cells first.0) 0 first.1 (least_given [])
-    layer (TypedStatement-F.If test first (Some second)) =
-        least_if test (statement_cells first.0) (statement_cells second.0) first.1 second.1
-    layer (TypedStatement-F.While test body) =
-        least_while (Some test) (statement_cells body.0) body.1
-    layer (TypedStatement-F.Do body test) = least_do (Some test) (statement_cells body.0) body.1
-    layer (TypedStatement-F.For first test step body) =
-        least_for first test step (statement_cells body.0) body.1
-    layer (TypedStatement-F.Goto label) = least_given (Node (head.Goto label) [] ∷ [])
-    layer TypedStatement-F.Break = least_given (Node head.Break [] ∷ [])
-    layer TypedStatement-F.Continue = least_given (Node head.Continue [] ∷ [])
-    layer (TypedStatement-F.Return value) =
-        least_none (alike_returned F F same place place value (record { type = refl }))
-    layer (TypedStatement-F.Labeled label body) = least_one (Node head.Labeled) body.1
-    layer (TypedStatement-F.Switch value choices otherwise body end) =
-        least_switch value choices otherwise (statement_cells body.0) body.1
+    layer (TypedStatement-F.Block items origin) =
+        least_one (block origin) (least_order (each_held items))
+    layer (TypedStatement-F.Expression expression origin) =
+        least_none (alike_unused F F same expression)
+    layer (TypedStatement-F.If test first None origin) =
+        least_if origin test (statement_cells first.0) 0 first.1 (least_given [])
+    layer (TypedStatement-F.If test first (Some second) origin) =
+        least_if origin test (statement_cells first.0) (statement_cells second.0) first.1 second.1
+    layer (TypedStatement-F.While test body origin) =
+        least_while origin (Some test) (statement_cells body.0) body.1
+    layer (TypedStatement-F.Do body test origin) =
+        least_do origin (Some test) (statement_cells body.0) body.1
+    layer (TypedStatement-F.For first test step body origin) =
+        least_for origin first test step (statement_cells body.0) body.1
+    layer (TypedStatement-F.Goto label origin) = least_given (leaf origin (head.Goto label) ∷ [])
+    layer (TypedStatement-F.Break origin) = least_given (leaf origin head.Break ∷ [])
+    layer (TypedStatement-F.Continue origin) = least_given (leaf origin head.Continue ∷ [])
+    layer (TypedStatement-F.Return value origin) =
+        least_none (alike_returned F F same origin place place value (record { type = refl }))
+    layer (TypedStatement-F.Labeled label body origin) = least_one (labeled origin) body.1
+    layer (TypedStatement-F.Switch value choices otherwise body end origin) =
+        least_switch origin value choices otherwise (statement_cells body.0) body.1
 
     item_layer : (y : TypedItem-F HeldItem HeldStatement) →
         TakesAtLeast (cells_item_layer y) (rule_item_layer y)
@@ -363,10 +371,10 @@ module _ (F : Frames) (same : SameFrames F F) where
   -- one whose cells begin at a number
   abbrev from : TypedFunction → ℕ → Rule CoreTree
   from function first =
-      then_by (statement.resulting function.result) (λ before.
+      then_by (statement.resulting function.place function.result) (λ before.
       then_by (statement.receiving function.parameters) (λ u.
       then_by (in_order (map (item_rule F (cell_at (object_type function.result) first))
-      function.items)) (λ inside. gives (block (before ++ inside)))))
+      function.items)) (λ inside. gives (block function.place (before ++ inside)))))
 
   least_from : (function : TypedFunction) (first : ℕ) →
       TakesAtLeast (function_cells function) (from function first)
@@ -378,12 +386,14 @@ module _ (F : Frames) (same : SameFrames F F) where
       let zero : 0 + (m + (n + 0)) ≡ m + n = omega arith in
       least_is zero
       (least_then 0 (m + (n + 0)) (λ before. then_by (statement.receiving function.parameters)
-      (λ u. then_by items (λ inside. gives (block (before ++ inside)))))
-      (least_none (alike_resulting function.result))
-      (λ x. least_then m (n + 0) (λ u. then_by items (λ inside. gives (block (x ++ inside))))
+      (λ u. then_by items (λ inside. gives (block function.place (before ++ inside)))))
+      (least_none (alike_resulting function.place function.result))
+      (λ x. least_then m (n + 0) (λ u. then_by items
+      (λ inside. gives (block function.place (x ++ inside))))
       (least_receiving function.parameters)
-      (λ u. least_then n 0 (λ inside. gives (block (x ++ inside)))
-      (least_order (each_item place function.items)) (λ y. least_given (block (x ++ y))))))
+      (λ u. least_then n 0 (λ inside. gives (block function.place (x ++ inside)))
+      (least_order (each_item place function.items))
+      (λ y. least_given (block function.place (x ++ y))))))
 
   least_function : (function : TypedFunction) →
       TakesAtLeast (function_cells function) (function_rule F function)

@@ -30,13 +30,13 @@ perhaps_cells (Some n) = n
 
 -- those of a statement, by those of its parts
 abbrev pub statement_step : TypedStatement-F ℕ ℕ → ℕ
-statement_step (TypedStatement-F.Block items) = sum items
-statement_step (TypedStatement-F.If test first second) = first + perhaps_cells second
-statement_step (TypedStatement-F.While test body) = body
-statement_step (TypedStatement-F.Do body test) = body
-statement_step (TypedStatement-F.For first test step body) = start_cells first + body
-statement_step (TypedStatement-F.Labeled label body) = body
-statement_step (TypedStatement-F.Switch value choices otherwise body end) = body
+statement_step (TypedStatement-F.Block items place) = sum items
+statement_step (TypedStatement-F.If test first second place) = first + perhaps_cells second
+statement_step (TypedStatement-F.While test body place) = body
+statement_step (TypedStatement-F.Do body test place) = body
+statement_step (TypedStatement-F.For first test step body place) = start_cells first + body
+statement_step (TypedStatement-F.Labeled label body place) = body
+statement_step (TypedStatement-F.Switch value choices otherwise body end place) = body
 statement_step _ = 0
 
 abbrev pub item_step : TypedItem-F ℕ ℕ → ℕ

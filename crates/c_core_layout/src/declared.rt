@@ -58,7 +58,7 @@ fn statement_cells(s: &TypedStatement) -> Result<u128, AllocError>
     ensures { IfOk result (λ n. n ≡ statement_cells s.now) }
 {
     match s {
-        TypedStatement::Block { items } => items_cells(items.as_slice()),
+        TypedStatement::Block { items, .. } => items_cells(items.as_slice()),
         TypedStatement::Expression { .. } => Ok(0),
         TypedStatement::If { yes, no, .. } => {
             let first = statement_cells(yes.get())?;
@@ -74,8 +74,8 @@ fn statement_cells(s: &TypedStatement) -> Result<u128, AllocError>
             plus(first, statement_cells(body.get())?)
         }
         TypedStatement::Goto { .. } => Ok(0),
-        TypedStatement::Break => Ok(0),
-        TypedStatement::Continue => Ok(0),
+        TypedStatement::Break { .. } => Ok(0),
+        TypedStatement::Continue { .. } => Ok(0),
         TypedStatement::Return { .. } => Ok(0),
         TypedStatement::Labeled { body, .. } => statement_cells(body.get()),
         TypedStatement::Switch { body, .. } => statement_cells(body.get()),

@@ -100,7 +100,7 @@ pub fn layout(
     let found = first_cells(&mut cells, &frames, functions)?;
     match found {
         Some(first_cells) => Ok(TextLayout {
-            cells: cells.into_cells(),
+            cells: cells.into_cells().cells,
             first_cells,
         }),
         None => Err(CoreError::TooLarge),

@@ -71,15 +71,17 @@ fn behind_tree(size: Size, tree: &CoreTree) -> Result<Size, AllocError>
     ensures { IfOk result (λ more. more ≡ grown size (heights_of (tree.now ∷ []))) }
 {
     match tree {
-        CoreTree::Node { head, parts } => behind_node(size, head, parts.as_slice()),
+        CoreTree::Node { head, parts, place } => {
+            behind_node(size, head, parts.as_slice(), *place)
+        }
     }
 }
 
-/// Those of a tree with this root and these parts.
+/// Those of a tree with this root and these parts. The place is there for the contract alone.
 #[cycle(measuring)]
-fn behind_node(size: Size, head: &Head, parts: &[CoreTree]) -> Result<Size, AllocError>
+fn behind_node(size: Size, head: &Head, parts: &[CoreTree], _place: u32) -> Result<Size, AllocError>
     ensures { IfOk result (λ more. more
-        ≡ grown size (heights_of (Node head.now parts.now ∷ []))) }
+        ≡ grown size (heights_of (Node head.now parts.now _place ∷ []))) }
 {
     let height = head_height(head)?;
     let root = one_more(size, height)?;

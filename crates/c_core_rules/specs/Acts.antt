@@ -1,6 +1,7 @@
 -- The rules on values and their statements (C11 6.5, operands from left to right, this project's
--- profile). S is the list of statements before a value v; t is a fresh cell.
-use Rattle.std.specs.Prelude.{◌+◌, Bool, true, false, ◌&&◌, if◌then◌else◌, List, [], ◌∷◌, ◌++◌, map}
+-- profile). S is the list of statements before a value v; t is a fresh cell. What a rule makes, it
+-- makes at the origin that it is given, the place of the expression that asks for it.
+use Rattle.std.specs.Prelude.{ℕ, ◌+◌, Bool, true, false, ◌&&◌, if◌then◌else◌, List, [], ◌∷◌, ◌++◌, map}
 use Rattle.cpa_ints.specs.declared.integers.IntType.{IntType}
 use Rattle.cpa_ints.specs.declared.integers.IntType.TheVariants as ty
 use Rattle.cpa_ints.specs.Conversions.{common_type}
@@ -26,14 +27,14 @@ abbrev pub is_pure : Valued → Bool
 is_pure v = is_nil v.statements
 
 -- S, t := v, and then t
-abbrev pub held : Valued → Rule Valued
-held v =
+abbrev pub held : ℕ → Valued → Rule Valued
+held origin v =
     then_by (fresh (type_of v.value)) (λ t.
-    gives (valued (v.statements ++ set t v.value ∷ []) (scalar t)))
+    gives (valued (v.statements ++ set origin t v.value ∷ []) (scalar t)))
 
 -- of two operands the first is held where the second has statements
-abbrev pub held_before : Valued → Valued → Rule Valued
-held_before v later = if is_pure later then gives v else held v
+abbrev pub held_before : ℕ → Valued → Valued → Rule Valued
+held_before origin v later = if is_pure later then gives v else held origin v
 
 -- some of these have statements
 abbrev pub have_statements : List Valued → Bool
@@ -41,11 +42,11 @@ have_statements [] = false
 have_statements (v ∷ vs) = elim (is_pure v) [ true ↦ have_statements vs | false ↦ true ]
 
 -- of any number of operands each is held that has statements behind it
-abbrev pub hold_all : List Valued → Rule (List Valued)
-hold_all [] = gives []
-hold_all (v ∷ vs) =
-    then_by (if have_statements vs then held v else gives v) (λ first.
-    then_by (hold_all vs) (λ rest. gives (first ∷ rest)))
+abbrev pub hold_all : ℕ → List Valued → Rule (List Valued)
+hold_all origin [] = gives []
+hold_all origin (v ∷ vs) =
+    then_by (if have_statements vs then held origin v else gives v) (λ first.
+    then_by (hold_all origin vs) (λ rest. gives (first ∷ rest)))
 
 -- the statements of operands, and their values
 abbrev pub statements_of : List Valued → Trees
@@ -62,29 +63,29 @@ operated operator left right =
     valued (left.statements ++ right.statements) (operator_value operator left.value right.value)
 
 -- && (6.5.13p4): S1, if (v1) { S2, t := !!v2 } else { t := 0 }; pure where S2 is empty
-abbrev pub both_hold : Valued → Valued → Rule Valued
-both_hold left right =
+abbrev pub both_hold : ℕ → Valued → Valued → Rule Valued
+both_hold origin left right =
     if is_pure right then gives (valued left.statements (And left.value right.value))
     else then_by (fresh ty.I32) (λ t.
-    gives (valued (left.statements ++ choice left.value
-    (right.statements ++ set t (truth_of right.value) ∷ [])
-    (set t (int 0) ∷ []) ∷ []) (scalar t)))
+    gives (valued (left.statements ++ choice origin left.value
+    (right.statements ++ set origin t (truth_of right.value) ∷ [])
+    (set origin t (int 0) ∷ []) ∷ []) (scalar t)))
 
 -- || (6.5.14p4): S1, if (v1) { t := 1 } else { S2, t := !!v2 }; pure where S2 is empty
-abbrev pub one_holds : Valued → Valued → Rule Valued
-one_holds left right =
+abbrev pub one_holds : ℕ → Valued → Valued → Rule Valued
+one_holds origin left right =
     if is_pure right then gives (valued left.statements (Or left.value right.value))
     else then_by (fresh ty.I32) (λ t.
-    gives (valued (left.statements ++ choice left.value (set t (int 1) ∷ [])
-    (right.statements ++ set t (truth_of right.value) ∷ []) ∷ []) (scalar t)))
+    gives (valued (left.statements ++ choice origin left.value (set origin t (int 1) ∷ [])
+    (right.statements ++ set origin t (truth_of right.value) ∷ []) ∷ []) (scalar t)))
 
 -- a link of a chain (6.5.5 to 6.5.14; 6.5p3 leaves open which operand is evaluated first: here the
 -- left one, this project's profile, as 6.5.13p4 and 6.5.14p4 say of && and ||)
-abbrev pub linked : BinaryOperator → Valued → Valued → Rule Valued
-linked binary.LogicalAnd left right = both_hold left right
-linked binary.LogicalOr left right = one_holds left right
-linked operator left right =
-    then_by (held_before left right) (λ first. gives (operated operator first right))
+abbrev pub linked : ℕ → BinaryOperator → Valued → Valued → Rule Valued
+linked origin binary.LogicalAnd left right = both_hold origin left right
+linked origin binary.LogicalOr left right = one_holds origin left right
+linked origin operator left right =
+    then_by (held_before origin left right) (λ first. gives (operated operator first right))
 
 -- + - ~ ! (6.5.3.3)
 abbrev pub signed : UnaryOperator → Valued → Valued
@@ -95,27 +96,28 @@ abbrev pub cast_to : IntType → Valued → Valued
 cast_to t v = valued v.statements (conv v.value t)
 
 -- S1, if (v1) { S2, t := v2 } else { S3, t := v3 }, both converted to the type of t
-abbrev pub chosen_by : IntType → Valued → Valued → Valued → Rule Valued
-chosen_by common test first second =
+abbrev pub chosen_by : ℕ → IntType → Valued → Valued → Valued → Rule Valued
+chosen_by origin common test first second =
     then_by (fresh common) (λ t.
-    gives (valued (test.statements ++ choice test.value
-    (first.statements ++ set t first.value ∷ [])
-    (second.statements ++ set t second.value ∷ []) ∷ []) (scalar t)))
+    gives (valued (test.statements ++ choice origin test.value
+    (first.statements ++ set origin t first.value ∷ [])
+    (second.statements ++ set origin t second.value ∷ []) ∷ []) (scalar t)))
 
 -- test ? first : second (6.5.15p4 and p5): pure where S2 and S3 are empty
-abbrev pub chosen : Valued → Valued → Valued → Rule Valued
-chosen test first second =
+abbrev pub chosen : ℕ → Valued → Valued → Valued → Rule Valued
+chosen origin test first second =
     if is_pure first && is_pure second
     then gives (valued test.statements (chosen_value test.value first.value second.value))
-    else chosen_by (common_type (type_of first.value) (type_of second.value)) test first second
+    else chosen_by origin (common_type (type_of first.value) (type_of second.value)) test first
+    second
 
 -- a value that is not used is evaluated all the same: S, and t := v where v is no constant
 -- (6.8.3p2; this project's profile, so that what traps in it does)
-abbrev pub dropped_value : Valued → Rule Trees
-dropped_value v =
+abbrev pub dropped_value : ℕ → Valued → Rule Trees
+dropped_value origin v =
     if is_constant v.value then gives v.statements
-    else then_by (held v) (λ kept. gives kept.statements)
+    else then_by (held origin v) (λ kept. gives kept.statements)
 
 -- an index that is no constant is held, so that it is evaluated once
-abbrev pub fixed : Valued → Rule Valued
-fixed index = if is_constant index.value then gives index else held index
+abbrev pub fixed : ℕ → Valued → Rule Valued
+fixed origin index = if is_constant index.value then gives index else held origin index

@@ -11,10 +11,11 @@ use Rattle.cpa_model.specs.declared.program.Cell.{Cell}
 use Rattle.c_core_rules.specs.declared.tree.Location.{Location}
 use Rattle.c_core_rules.specs.Values.{cell_at}
 
--- the cells taken so far, in order, and where those of each object begin, by its number, if it is
--- declared so far
+-- the cells taken so far, in order; the place of the name of each, if it is one of an object or of a
+-- parameter; and where those of each object begin, by its number, if it is declared so far
 pub record Taken : Type 0 where
   pub cells : List Cell
+  pub names : List (Option ℕ)
   pub starts : ℕ → Option ℕ
 
 pub record Made (T : Type 0) : Type 0 where
@@ -49,10 +50,13 @@ next_cell taken = record { taken = taken; made = length taken.cells }
 abbrev pub cell : IntType → ℤ → Cell
 cell t n = record { ty = t; start = n }
 
--- a fresh cell of this type: the next free one
+-- a fresh cell of this type: the next free one, which has no name
 abbrev pub fresh : IntType → Rule Location
 fresh t taken = record {
-  taken = record taken { cells = taken.cells ++ cell t (pos 0) ∷ [] };
+  taken = record taken {
+    cells = taken.cells ++ cell t (pos 0) ∷ [];
+    names = taken.names ++ None ∷ [];
+  };
   made = cell_at t (length taken.cells);
 }
 
@@ -65,18 +69,19 @@ begun number cell starts other = if number == other then Some cell else starts o
 abbrev pub cells_with : IntType → ℕ → List ℤ → List Cell
 cells_with t count values = map (cell t) (take count (values ++ replicate count (pos 0)))
 
--- an object takes its cells, the next free ones; the first of them
+-- an object takes its cells, the next free ones, each at the place of its name; the first of them
 abbrev pub taking : Object → List ℤ → Rule ℕ
 taking object values taken = record {
   taken = record {
     cells = taken.cells ++ cells_with object.ty (cells_of object) values;
+    names = taken.names ++ replicate (cells_of object) object.place;
     starts = begun object.number (length taken.cells) taken.starts;
   };
   made = length taken.cells;
 }
 
 abbrev pub nothing_taken : Taken
-nothing_taken = record { cells = []; starts = λ number. None }
+nothing_taken = record { cells = []; names = []; starts = λ number. None }
 
 -- the cells of what a name stands for; beside a fault, of nothing
 abbrev pub location_in : Taken → Option Meaning → Location

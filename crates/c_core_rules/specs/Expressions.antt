@@ -98,24 +98,29 @@ element_used found index =
 
 -- the place that is assigned to: the index of an element is evaluated, and fixed where that is
 -- wanted
-abbrev pub placed : Bool → Target → Rule Place
-placed fixes (scalar_target found) =
+abbrev pub placed : ℕ → Bool → Target → Rule Place
+placed origin fixes (scalar_target found) =
     then_by (scalar_place found) (λ location. gives (place.Scalar location))
-placed fixes (element_target found index) =
-    then_by index (λ i. then_by (fixed_if fixes i) (λ kept.
+placed origin fixes (element_target found index) =
+    then_by index (λ i. then_by (fixed_if origin fixes i) (λ kept.
     then_by (located found) (λ location. gives (place.Element location kept))))
-placed fixes no_target = gives place.Neither
+placed origin fixes no_target = gives place.Neither
 
 -- D of any other expression: its statements, and then its value is dropped
-abbrev pub dropped : Rule Valued → Rule Trees
-dropped used = then_by used dropped_value
+abbrev pub dropped : ℕ → Rule Valued → Rule Trees
+dropped origin used = then_by used (dropped_value origin)
 
 abbrev pub only_statements : Rule Valued → Rule Trees
 only_statements rule = then_by rule (λ v. gives v.statements)
 
 -- an expression that is no left side and no name
-abbrev pub plain : Rule Valued → Rows
-plain used = record { used = used; unused = dropped used; target = no_target; names = None }
+abbrev pub plain : ℕ → Rule Valued → Rows
+plain origin used = record {
+  used = used;
+  unused = dropped origin used;
+  target = no_target;
+  names = None;
+}
 
 -- an expression of which D has statements of its own
 abbrev pub act : Rule Valued → Rule Trees → Rows
@@ -123,30 +128,30 @@ act used unused = record { used = used; unused = unused; target = no_target; nam
 
 -- an assignment (6.5.16): the place, the right side, the write; the index of l operator= v is fixed
 -- first
-abbrev pub assigning : Bool → AssignmentOperator → Target → Rule Valued → Rule Valued
-assigning keeps operator target right =
-    then_by (placed (is_some (operator_of operator)) target) (λ place. then_by right (λ v.
-    changed keeps (operator_of operator) place v))
+abbrev pub assigning : ℕ → Bool → AssignmentOperator → Target → Rule Valued → Rule Valued
+assigning origin keeps operator target right =
+    then_by (placed origin (is_some (operator_of operator)) target) (λ place. then_by right (λ v.
+    changed origin keeps (operator_of operator) place v))
 
 -- the writes to a function's parameters, as far as there are arguments (6.5.2.2p4 and p7)
-abbrev pub passed : List Location → List Expr → Trees
-passed (place ∷ places) (v ∷ vs) = set place v ∷ passed places vs
-passed _ _ = []
+abbrev pub passed : ℕ → List Location → List Expr → Trees
+passed origin (place ∷ places) (v ∷ vs) = set origin place v ∷ passed origin places vs
+passed origin _ _ = []
 
 -- a call of a function with a body (6.5.2.2): operands, a write to each parameter, the call; then
 -- its result is read, at the type of the function that is called (6.5.2.2p5)
-abbrev pub called_with : Frames → Function → List Valued → Valued
-called_with frames function operands =
+abbrev pub called_with : ℕ → Frames → Function → List Valued → Valued
+called_with origin frames function operands =
     let body = unwrap_or function.body 0 in
     let frame = frame_at frames body in
-    valued (statements_of operands ++ (passed frame.parameters (values_of operands)
-    ++ leaf (head.Call body) ∷ []))
+    valued (statements_of operands ++ (passed origin frame.parameters (values_of operands)
+    ++ leaf origin (head.Call body) ∷ []))
     (scalar (cell_at (object_type function.result) frame.result_cell.base))
 
-abbrev pub called : Frames → Function → List (Rule Valued) → Rule Valued
-called frames function arguments =
-    then_by (each arguments) (λ vs. then_by (hold_all vs) (λ operands.
-    gives (called_with frames function operands)))
+abbrev pub called : ℕ → Frames → Function → List (Rule Valued) → Rule Valued
+called origin frames function arguments =
+    then_by (each arguments) (λ vs. then_by (hold_all origin vs) (λ operands.
+    gives (called_with origin frames function operands)))
 
 -- D of the first of the arguments
 abbrev pub first_unused : List Rows → Rule Trees
@@ -154,19 +159,19 @@ first_unused [] = gives []
 first_unused (argument ∷ more) = argument.unused
 
 -- an input of a fresh t of the function's type (this project's own)
-abbrev pub taken_in : KnownFunction → Rule Valued
-taken_in function =
+abbrev pub taken_in : ℕ → KnownFunction → Rule Valued
+taken_in origin function =
     then_by (fresh (object_type (known_result function))) (λ t.
-    gives (valued (input t.base ∷ []) (scalar t)))
+    gives (valued (input origin t.base ∷ []) (scalar t)))
 
 -- a call of a known function: an error, a stop, or an input (this project's own)
-abbrev pub known_unused : KnownFunction → List Rows → Rule Trees
-known_unused known.ReachError arguments = gives (leaf head.Error ∷ [])
-known_unused known.Abort arguments = gives (leaf head.Stop ∷ [])
-known_unused known.AssertFail arguments = gives (leaf head.Stop ∷ [])
-known_unused known.Exit arguments =
-    then_by (first_unused arguments) (λ before. gives (before ++ leaf head.Stop ∷ []))
-known_unused function arguments = only_statements (taken_in function)
+abbrev pub known_unused : ℕ → KnownFunction → List Rows → Rule Trees
+known_unused origin known.ReachError arguments = gives (leaf origin head.Error ∷ [])
+known_unused origin known.Abort arguments = gives (leaf origin head.Stop ∷ [])
+known_unused origin known.AssertFail arguments = gives (leaf origin head.Stop ∷ [])
+known_unused origin known.Exit arguments =
+    then_by (first_unused arguments) (λ before. gives (before ++ leaf origin head.Stop ∷ []))
+known_unused origin function arguments = only_statements (taken_in origin function)
 
 -- the value of what has none, which stands only beside a fault
 abbrev pub no_value : Expr
@@ -175,51 +180,56 @@ no_value = scalar (cell_at ty.I32 0)
 abbrev pub valueless : Rule Trees → Rule Valued
 valueless unused = then_by unused (λ before. gives (valued before no_value))
 
-abbrev pub known_used : KnownFunction → List Rows → Rule Valued
-known_used function arguments = elim (known_result function) [
-  | Void ↦ valueless (known_unused function arguments)
-  | Value t ↦ taken_in function
+abbrev pub known_used : ℕ → KnownFunction → List Rows → Rule Valued
+known_used origin function arguments = elim (known_result function) [
+  | Void ↦ valueless (known_unused origin function arguments)
+  | Value t ↦ taken_in origin function
 ]
 
-abbrev pub call_used : Frames → Option Meaning → List Rows → Rule Valued
-call_used frames (Some (meaning.Function function)) arguments =
-    called frames function (map (λ row. row.used) arguments)
-call_used frames (Some (meaning.Known function)) arguments = known_used function arguments
-call_used frames _ arguments = gives (pure (int 0))
+abbrev pub call_used : ℕ → Frames → Option Meaning → List Rows → Rule Valued
+call_used origin frames (Some (meaning.Function function)) arguments =
+    called origin frames function (map (λ row. row.used) arguments)
+call_used origin frames (Some (meaning.Known function)) arguments =
+    known_used origin function arguments
+call_used origin frames _ arguments = gives (pure (int 0))
 
-abbrev pub call_unused : Frames → Option Meaning → List Rows → Rule Trees
-call_unused frames (Some (meaning.Known function)) arguments = known_unused function arguments
-call_unused frames found arguments = only_statements (call_used frames found arguments)
+abbrev pub call_unused : ℕ → Frames → Option Meaning → List Rows → Rule Trees
+call_unused origin frames (Some (meaning.Known function)) arguments =
+    known_unused origin function arguments
+call_unused origin frames found arguments =
+    only_statements (call_used origin frames found arguments)
 
-abbrev pub call_rows : Frames → Option Meaning → List Rows → Rows
-call_rows frames found arguments =
-    act (call_used frames found arguments) (call_unused frames found arguments)
+abbrev pub call_rows : ℕ → Frames → Option Meaning → List Rows → Rows
+call_rows origin frames found arguments =
+    act (call_used origin frames found arguments) (call_unused origin frames found arguments)
 
-abbrev pub name_rows : Option Meaning → Rows
-name_rows found = record {
+abbrev pub name_rows : ℕ → Option Meaning → Rows
+name_rows origin found = record {
   used = name_used found;
-  unused = dropped (name_used found);
+  unused = dropped origin (name_used found);
   target = scalar_target found;
   names = found;
 }
 
-abbrev pub element_rows : Option Meaning → Rule Valued → Rows
-element_rows found index = record {
+abbrev pub element_rows : ℕ → Option Meaning → Rule Valued → Rows
+element_rows origin found index = record {
   used = element_used found index;
-  unused = dropped (element_used found index);
+  unused = dropped origin (element_used found index);
   target = element_target found index;
   names = None;
 }
 
 -- ++l and --l (6.5.3.1p2), and what l++ and l-- do where their value is not used (6.5.2.4p2)
-abbrev pub incrementing : StepOperator → Target → Rule Valued
-incrementing operator target = then_by (placed true target) (incremented operator)
+abbrev pub incrementing : ℕ → StepOperator → Target → Rule Valued
+incrementing origin operator target =
+    then_by (placed origin true target) (incremented origin operator)
 
 -- l++ and l--, where it is
-abbrev pub stepping : StepOperator → Target → Rule Valued
-stepping operator target = then_by (placed true target) (stepped operator)
+abbrev pub stepping : ℕ → StepOperator → Target → Rule Valued
+stepping origin operator target = then_by (placed origin true target) (stepped origin operator)
 
--- a suffix with rows for each expression in it, behind what stands before it
+-- a suffix with rows for each expression in it, behind what stands before it; what it makes has the
+-- place of the whole postfix expression, which is that of its first token
 abbrev pub ReadSuffix : Type 0
 ReadSuffix = TypedSuffix-F Rows (Unit {0})
 
@@ -229,25 +239,27 @@ read_suffix (TypedSuffix-F.Call arguments kind place) = TypedSuffix-F.Call argum
 read_suffix (TypedSuffix-F.Step operator kind place) = TypedSuffix-F.Step operator kind place
 read_suffix (TypedSuffix-F.Skipped kind place) = TypedSuffix-F.Skipped kind place
 
-abbrev pub suffix_rows : Frames → Rows → ReadSuffix → Rows
-suffix_rows frames base (TypedSuffix-F.Index index kind place) =
-    element_rows base.names index.used
-suffix_rows frames base (TypedSuffix-F.Call arguments kind place) =
-    call_rows frames base.names arguments
-suffix_rows frames base (TypedSuffix-F.Step operator kind place) =
-    act (stepping operator base.target) (only_statements (incrementing operator base.target))
-suffix_rows frames base (TypedSuffix-F.Skipped kind place) = call_rows frames base.names []
+abbrev pub suffix_rows : ℕ → Frames → Rows → ReadSuffix → Rows
+suffix_rows origin frames base (TypedSuffix-F.Index index kind place) =
+    element_rows origin base.names index.used
+suffix_rows origin frames base (TypedSuffix-F.Call arguments kind place) =
+    call_rows origin frames base.names arguments
+suffix_rows origin frames base (TypedSuffix-F.Step operator kind place) =
+    act (stepping origin operator base.target)
+    (only_statements (incrementing origin operator base.target))
+suffix_rows origin frames base (TypedSuffix-F.Skipped kind place) =
+    call_rows origin frames base.names []
 
-abbrev pub suffixed : Frames → Rows → List ReadSuffix → Rows
-suffixed frames base [] = base
-suffixed frames base (suffix ∷ suffixes) =
-    suffixed frames (suffix_rows frames base suffix) suffixes
+abbrev pub suffixed : ℕ → Frames → Rows → List ReadSuffix → Rows
+suffixed origin frames base [] = base
+suffixed origin frames base (suffix ∷ suffixes) =
+    suffixed origin frames (suffix_rows origin frames base suffix) suffixes
 
 -- a chain belongs together from the left, two at a time (6.5p3 and the syntax of 6.5.5 to 6.5.14)
-abbrev pub chained : Rule Valued → List (BinaryOperator × Rows) → Rule Valued
-chained left [] = left
-chained left ((operator, right) ∷ rest) =
-    chained (then_by left (λ v. then_by right.used (λ w. linked operator v w))) rest
+abbrev pub chained : ℕ → Rule Valued → List (BinaryOperator × Rows) → Rule Valued
+chained origin left [] = left
+chained origin left ((operator, right) ∷ rest) =
+    chained origin (then_by left (λ v. then_by right.used (λ w. linked origin operator v w))) rest
 
 -- e1, e2 (6.5.17p2): D of each but the last, which has the value
 abbrev pub comma_used : List Rows → Rule Valued
@@ -261,45 +273,47 @@ abbrev pub comma_unused : List Rows → Rule Trees
 comma_unused items = in_order (map (λ item. item.unused) items)
 
 -- a conditional with void ends (6.5.15p3 and p4): S1, if (v1) { D(e2) } else { D(e3) }
-abbrev pub void_choice : Rows → Rows → Rows → Rule Trees
-void_choice test first second =
+abbrev pub void_choice : ℕ → Rows → Rows → Rows → Rule Trees
+void_choice origin test first second =
     then_by test.used (λ v. then_by first.unused (λ a. then_by second.unused (λ b.
-    gives (v.statements ++ choice v.value a b ∷ []))))
+    gives (v.statements ++ choice origin v.value a b ∷ []))))
 
-abbrev pub conditional : Rows → Rows → Rows → Rule Valued
-conditional test first second =
-    then_by test.used (λ v. then_by first.used (λ a. then_by second.used (λ b. chosen v a b)))
+abbrev pub conditional : ℕ → Rows → Rows → Rows → Rule Valued
+conditional origin test first second =
+    then_by test.used (λ v. then_by first.used (λ a. then_by second.used (λ b.
+    chosen origin v a b)))
 
 -- (type) e (6.5.4p5), and (void) e, which is D of e (6.3.2.2p1)
-abbrev pub cast_rows : Option Kind → Rows → Rows
-cast_rows (Some (Value t)) operand = plain (then_by operand.used (λ v. gives (cast_to t v)))
-cast_rows _ operand = act (valueless operand.unused) operand.unused
+abbrev pub cast_rows : ℕ → Option Kind → Rows → Rows
+cast_rows origin (Some (Value t)) operand =
+    plain origin (then_by operand.used (λ v. gives (cast_to t v)))
+cast_rows origin _ operand = act (valueless operand.unused) operand.unused
 
 -- an expression with rows for each part of it
 abbrev pub rows_step : Frames → TypedExpression-F Rows ReadSuffix → Rows
-rows_step frames (TypedExpression-F.Name found place) = name_rows found
+rows_step frames (TypedExpression-F.Name found place) = name_rows place found
 -- an integer has the type that the typed text gives it (6.4.4.1p5), a character int (6.4.4.4p10)
-rows_step frames (TypedExpression-F.Number t n place) = plain (gives (pure (Const t n)))
-rows_step frames (TypedExpression-F.Character n place) = plain (gives (pure (Const ty.I32 n)))
+rows_step frames (TypedExpression-F.Number t n place) = plain place (gives (pure (Const t n)))
+rows_step frames (TypedExpression-F.Character n place) = plain place (gives (pure (Const ty.I32 n)))
 -- 6.5.1p5
 rows_step frames (TypedExpression-F.Bracketed inside place) = inside
 rows_step frames (TypedExpression-F.Postfix base suffixes place) =
-    suffixed frames base suffixes
+    suffixed place frames base suffixes
 rows_step frames (TypedExpression-F.PrefixStep operator operand kind place) =
-    act (incrementing operator operand.target)
-    (only_statements (incrementing operator operand.target))
+    act (incrementing place operator operand.target)
+    (only_statements (incrementing place operator operand.target))
 rows_step frames (TypedExpression-F.Unary operator operand kind place) =
-    plain (then_by operand.used (λ v. gives (signed operator v)))
-rows_step frames (TypedExpression-F.Cast operand kind place) = cast_rows kind operand
+    plain place (then_by operand.used (λ v. gives (signed operator v)))
+rows_step frames (TypedExpression-F.Cast operand kind place) = cast_rows place kind operand
 rows_step frames (TypedExpression-F.Chain first rest kind place) =
-    plain (chained first.used rest)
+    plain place (chained place first.used rest)
 rows_step frames (TypedExpression-F.Conditional test first second kind place) =
-    act (conditional test first second)
-    (if is_void kind then void_choice test first second
-    else dropped (conditional test first second))
+    act (conditional place test first second)
+    (if is_void kind then void_choice place test first second
+    else dropped place (conditional place test first second))
 rows_step frames (TypedExpression-F.Assignment left operator right kind place) =
-    act (assigning true operator left.target right.used)
-    (only_statements (assigning false operator left.target right.used))
+    act (assigning place true operator left.target right.used)
+    (only_statements (assigning place false operator left.target right.used))
 rows_step frames (TypedExpression-F.Comma items kind place) =
     act (comma_used items) (comma_unused items)
 

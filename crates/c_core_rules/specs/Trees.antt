@@ -1,4 +1,5 @@
--- The trees of core statements that the rules make (this project's own).
+-- The trees of core statements that the rules make (this project's own), each at the place of the
+-- text that it comes from.
 use Rattle.std.specs.Prelude.{ℕ, [], ◌∷◌}
 use Rattle.cpa_expr.specs.declared.tree.Expr.{Expr}
 use Rattle.cpa_model_trees.specs.declared.tree.CoreTree.{CoreTree}
@@ -11,30 +12,37 @@ use Rattle.c_core_rules.specs.declared.tree.Valued.{Valued}
 use Rattle.c_core_rules.specs.Values.{conv, first_index}
 
 -- a statement without parts
-abbrev pub leaf : Head → CoreTree
-leaf h = Node h []
+abbrev pub leaf : ℕ → Head → CoreTree
+leaf origin h = Node h [] origin
 
-abbrev pub block : Trees → CoreTree
-block items = Node head.Block items
+abbrev pub block : ℕ → Trees → CoreTree
+block origin items = Node head.Block items origin
+
+-- what a label stands before
+abbrev pub labeled : ℕ → Trees → CoreTree
+labeled origin items = Node head.Labeled items origin
 
 -- if (test) first else second
-abbrev pub choice : Expr → Trees → Trees → CoreTree
-choice test first second = Node (head.If test) (block first ∷ block second ∷ [])
+abbrev pub choice : ℕ → Expr → Trees → Trees → CoreTree
+choice origin test first second =
+    Node (head.If test) (block origin first ∷ block origin second ∷ []) origin
 
 -- body, then step, and again without end
-abbrev pub repeated : Trees → Trees → CoreTree
-repeated body step = Node head.Loop (block body ∷ block step ∷ [])
+abbrev pub repeated : ℕ → Trees → Trees → CoreTree
+repeated origin body step =
+    Node head.Loop (block origin body ∷ block origin step ∷ []) origin
 
 -- a write of v to the place, converted to the type of what is written (C11 6.5.16.1p2)
-abbrev pub write : Location → Expr → Expr → CoreTree
-write place index v = leaf (head.Assign place.base place.len index (conv v place.ty))
+abbrev pub write : ℕ → Location → Expr → Expr → CoreTree
+write origin place index v =
+    leaf origin (head.Assign place.base place.len index (conv v place.ty))
 
 -- a write to a scalar
-abbrev pub set : Location → Expr → CoreTree
-set place v = write place first_index v
+abbrev pub set : ℕ → Location → Expr → CoreTree
+set origin place v = write origin place first_index v
 
-abbrev pub input : ℕ → CoreTree
-input cell = leaf (head.Input cell)
+abbrev pub input : ℕ → ℕ → CoreTree
+input origin cell = leaf origin (head.Input cell)
 
 -- a value behind these statements
 abbrev pub valued : Trees → Expr → Valued

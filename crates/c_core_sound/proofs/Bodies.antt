@@ -136,17 +136,18 @@ found_body text (item.Function specifiers declarator body.Skipped ∷ more) befo
     let next = item_behind text one before in
     found_body text more next
     (none_right (item_faults text one before) (items_faults text more next) none) name k is
-found_body text (item.Function specifiers declarator (body.Block items place) ∷ more) before none
+found_body text (item.Function specifiers declarator (body.Block items place end) ∷ more) before
+    none
     name k is =
-    let one = item.Function specifiers declarator (body.Block items place) in
+    let one = item.Function specifiers declarator (body.Block items place end) in
     let next = item_behind text one before in
     let own = item_faults text one before in
     let rest = items_faults text more next in
     let head = head_faults text before true specifiers declarator in
-    let sites = body_sites text before specifiers declarator (body.Block items place) in
+    let sites = body_sites text before specifiers declarator (body.Block items place end) in
     let none_head = none_left head (flat_map (site_faults text) sites ++ jump_faults sites)
     (none_left own rest none) in
-    let function = typed_function text before specifiers declarator items in
+    let function = typed_function text before specifiers declarator items place end in
     found_by (bytes_eq name declarator.name.bytes) declarator.name.bytes name function
     (functions_of text more next) (items_behind text more next).names k
     (place_of (bytes_eq name) (filter_map body_name more)) refl

@@ -67,14 +67,14 @@ module _ (G : Ground) where
   joined_fit (t ∷ trees) h =
       placed_append (statements t) (joined (map statements trees)) h.0.all (joined_fit trees h.1)
 
-  pub node_fits : (h : Head) (parts : Trees) → HeadFits G h → TreesFit G parts →
-      TreeFits G (Node h parts)
-  node_fits h parts is all = record {
-    all = subst (PlacedFit G) (sym (node_placed h parts)) (is, joined_fit parts all);
+  pub node_fits : (origin : ℕ) (h : Head) (parts : Trees) → HeadFits G h → TreesFit G parts →
+      TreeFits G (Node h parts origin)
+  node_fits origin h parts is all = record {
+    all = subst (PlacedFit G) (sym (node_placed h parts origin)) (is, joined_fit parts all);
   }
 
-  pub leaf_fits : (h : Head) → HeadFits G h → TreeFits G (leaf h)
-  leaf_fits h is = node_fits h [] is tt
+  pub leaf_fits : (origin : ℕ) (h : Head) → HeadFits G h → TreeFits G (leaf origin h)
+  leaf_fits origin h is = node_fits origin h [] is tt
 
   pub append_fits : (xs ys : Trees) → TreesFit G xs → TreesFit G ys → TreesFit G (xs ++ ys)
   append_fits [] ys a b = b
@@ -84,35 +84,37 @@ module _ (G : Ground) where
       TreesFit G (xs ++ t ∷ [])
   push_fits xs t a b = append_fits xs (t ∷ []) a (b, tt)
 
-  pub block_fits : (items : Trees) → TreesFit G items → TreeFits G (block items)
-  block_fits items all = node_fits head.Block items tt all
+  pub block_fits : (origin : ℕ) (items : Trees) → TreesFit G items → TreeFits G (block origin items)
+  block_fits origin items all = node_fits origin head.Block items tt all
 
-  pub choice_fits : (test : Expr) (first second : Trees) → IsTyped G.cells test →
-      TreesFit G first → TreesFit G second → TreeFits G (choice test first second)
-  choice_fits test first second h a b =
-      node_fits (head.If test) (block first ∷ block second ∷ []) h
-      (block_fits first a, (block_fits second b, tt))
+  pub choice_fits : (origin : ℕ) (test : Expr) (first second : Trees) → IsTyped G.cells test →
+      TreesFit G first → TreesFit G second → TreeFits G (choice origin test first second)
+  choice_fits origin test first second h a b =
+      node_fits origin (head.If test) (block origin first ∷ block origin second ∷ []) h
+      (block_fits origin first a, (block_fits origin second b, tt))
 
-  pub repeated_fits : (body step : Trees) → TreesFit G body → TreesFit G step →
-      TreeFits G (repeated body step)
-  repeated_fits body step a b =
-      node_fits head.Loop (block body ∷ block step ∷ []) tt
-      (block_fits body a, (block_fits step b, tt))
+  pub repeated_fits : (origin : ℕ) (body step : Trees) → TreesFit G body → TreesFit G step →
+      TreeFits G (repeated origin body step)
+  repeated_fits origin body step a b =
+      node_fits origin head.Loop (block origin body ∷ block origin step ∷ []) tt
+      (block_fits origin body a, (block_fits origin step b, tt))
 
-  pub write_fits : (place : Location) (index v : Expr) → PlaceFits G.cells place →
-      IsTyped G.cells index → IsTyped G.cells v → TreeFits G (write place index v)
-  write_fits place index v p h k =
+  pub write_fits : (origin : ℕ) (place : Location) (index v : Expr) → PlaceFits G.cells place →
+      IsTyped G.cells index → IsTyped G.cells v → TreeFits G (write origin place index v)
+  write_fits origin place index v p h k =
       let value = conv v place.ty in
-      leaf_fits (head.Assign place.base place.len index value) (
+      leaf_fits origin (head.Assign place.base place.len index value) (
         p.some,
         h,
         conv_typed G.cells v place.ty k,
         subst (AreCells G.cells place.base place.len) (sym (conv_type v place.ty)) p.there,
       )
 
-  pub set_fits : (place : Location) (v : Expr) → PlaceFits G.cells place → IsTyped G.cells v →
-      TreeFits G (set place v)
-  set_fits place v p k = write_fits place first_index v p (zero_typed G.cells ty.I32) k
+  pub set_fits : (origin : ℕ) (place : Location) (v : Expr) → PlaceFits G.cells place →
+      IsTyped G.cells v →
+      TreeFits G (set origin place v)
+  set_fits origin place v p k = write_fits origin place first_index v p (zero_typed G.cells ty.I32)
+      k
 
 -- more is taken
 pub record Extends (before after : Taken) : Type 0 where

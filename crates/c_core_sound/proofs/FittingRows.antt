@@ -104,9 +104,11 @@ module _ (W : World) where
       first_fits W.ground.cells (location_in taken (Some (meaning.Object object)))
       (located_fits object h taken k)
 
-  pub dropped_rule : {r : core.Rule Valued} → GoodRule r → TreesRule (rows.dropped r)
-  dropped_rule h =
-      fits_then W acts.dropped_value h (λ v. fits_weaker W (λ g. g.1) (dropped_fits W v))
+  pub dropped_rule : (origin : ℕ) {r : core.Rule Valued} → GoodRule r →
+      TreesRule (rows.dropped origin r)
+  dropped_rule origin h =
+      fits_then W (acts.dropped_value origin) h
+      (λ v. fits_weaker W (λ g. g.1) (dropped_fits W origin v))
 
   pub only_fits : {r : core.Rule Valued} → GoodRule r → TreesRule (rows.only_statements r)
   only_fits h =
@@ -151,80 +153,89 @@ module _ (W : World) where
       g.0.1.value))))
 
   -- assignments
-  placed_fits : (fixes : Bool) {target : rows.Target} → TargetFits W target →
-      Fits W (Unit {0}) (FitPlace W) (rows.placed fixes target)
-  placed_fits fixes (fit_scalar object h) =
+  placed_fits : (origin : ℕ) (fixes : Bool) {target : rows.Target} → TargetFits W target →
+      Fits W (Unit {0}) (FitPlace W) (rows.placed origin fixes target)
+  placed_fits origin fixes (fit_scalar object h) =
       let found = Some (meaning.Object object) in
       fits_at W (λ taken. core.gives (place.Scalar (cell_at object.ty
       (location_in taken found).base)))
       (λ taken. fits_gives W (FitPlace W) (place.Scalar (cell_at object.ty
       (location_in taken found).base)) (λ g. scalar_at object h taken g.1))
-  placed_fits fixes (fit_element object h i) =
+  placed_fits origin fixes (fit_element object h i) =
       let found = Some (meaning.Object object) in
-      fits_then W (λ i. core.then_by (places.fixed_if fixes i) (λ kept. core.then_by
+      fits_then W (λ i. core.then_by (places.fixed_if origin fixes i) (λ kept. core.then_by
       (core.located found) (λ location. core.gives (place.Element location kept)))) i
       (λ i. fits_then W (λ kept. core.then_by (core.located found)
       (λ location. core.gives (place.Element location kept)))
-      (fits_weaker W (λ g. g.1) (fixed_if_fits W fixes i))
+      (fits_weaker W (λ g. g.1) (fixed_if_fits W origin fixes i))
       (λ kept. fits_at W (λ taken. core.gives (place.Element (location_in taken found) kept))
       (λ taken. fits_gives W (FitPlace W) (place.Element (location_in taken found) kept)
       (λ g. (located_fits object h taken g.1, g.0.1)))))
 
-  pub assigning_fits : (keeps : Bool) (operator : AssignmentOperator) {target : rows.Target}
+  pub assigning_fits : (origin : ℕ) (keeps : Bool) (operator : AssignmentOperator)
+      {target : rows.Target}
       {right : core.Rule Valued} → TargetFits W target → GoodRule right →
-      GoodRule (rows.assigning keeps operator target right)
-  assigning_fits keeps operator {right = right} target h =
+      GoodRule (rows.assigning origin keeps operator target right)
+  assigning_fits origin keeps operator {right = right} target h =
       fits_then W (λ where_to. core.then_by right
-      (λ v. places.changed keeps (operator_of operator) where_to v))
-      (placed_fits (is_some (operator_of operator)) target)
-      (λ where_to. fits_then W (λ v. places.changed keeps (operator_of operator) where_to v)
+      (λ v. places.changed origin keeps (operator_of operator) where_to v))
+      (placed_fits origin (is_some (operator_of operator)) target)
+      (λ where_to. fits_then W (λ v. places.changed origin keeps (operator_of operator) where_to v)
       (fits_weaker W (λ g. tt) h)
-      (λ v. fits_weaker W (λ g. (g.0.1, g.1)) (changed_fits W keeps (operator_of operator) where_to
+      (λ v. fits_weaker W (λ g. (g.0.1, g.1)) (changed_fits W origin keeps (operator_of operator)
+      where_to
       v)))
 
-  pub incrementing_fits : (operator : StepOperator) {target : rows.Target} → TargetFits W target →
-      GoodRule (rows.incrementing operator target)
-  incrementing_fits operator target =
-      fits_then W (places.incremented operator) (placed_fits true target)
+  pub incrementing_fits : (origin : ℕ) (operator : StepOperator) {target : rows.Target} →
+      TargetFits W target →
+      GoodRule (rows.incrementing origin operator target)
+  incrementing_fits origin operator target =
+      fits_then W (places.incremented origin operator) (placed_fits origin true target)
       (λ where_to. fits_weaker W (λ g. (g.1, good W [] (int 1) tt (one_typed W.ground.cells)))
-      (changed_fits W true (Some (places.step_operator operator)) where_to (pure (int 1))))
+      (changed_fits W origin true (Some (places.step_operator operator)) where_to (pure (int 1))))
 
-  pub stepping_fits : (operator : StepOperator) {target : rows.Target} → TargetFits W target →
-      GoodRule (rows.stepping operator target)
-  stepping_fits operator target =
-      fits_then W (places.stepped operator) (placed_fits true target)
-      (λ where_to. fits_weaker W (λ g. g.1) (stepped_fits W operator where_to))
+  pub stepping_fits : (origin : ℕ) (operator : StepOperator) {target : rows.Target} →
+      TargetFits W target →
+      GoodRule (rows.stepping origin operator target)
+  stepping_fits origin operator target =
+      fits_then W (places.stepped origin operator) (placed_fits origin true target)
+      (λ where_to. fits_weaker W (λ g. g.1) (stepped_fits W origin operator where_to))
 
   -- calls
-  passed_fit : (where_to : List Location) (values : List Expr) →
+  passed_fit : (origin : ℕ) (where_to : List Location) (values : List Expr) →
       AllByRecursion (PlaceFits W.ground.cells) where_to → AllByRecursion (IsTyped W.ground.cells)
       values →
-      TreesFit W.ground (rows.passed where_to values)
-  passed_fit [] values h k = tt
-  passed_fit (p ∷ where_to) [] h k = tt
-  passed_fit (p ∷ where_to) (v ∷ values) h k =
-      (set_fits W.ground p v h.0 k.0, passed_fit where_to values h.1 k.1)
+      TreesFit W.ground (rows.passed origin where_to values)
+  passed_fit origin [] values h k = tt
+  passed_fit origin (p ∷ where_to) [] h k = tt
+  passed_fit origin (p ∷ where_to) (v ∷ values) h k =
+      (set_fits W.ground origin p v h.0 k.0, passed_fit origin where_to values h.1 k.1)
 
-  call_trees : (frames : rows.Frames) (function : Function) → FunctionFits W.ground frames function
+  call_trees : (origin : ℕ) (frames : rows.Frames) (function : Function) →
+      FunctionFits W.ground frames function
       →
       (operands : List Valued) → AllGood W operands →
-      TreesFit W.ground (rows.called_with frames function operands).statements
-  call_trees frames function f operands h =
+      TreesFit W.ground (rows.called_with origin frames function operands).statements
+  call_trees origin frames function f operands h =
       let body = unwrap_or function.body 0 in
-      let writes = rows.passed (rows.frame_at frames body).parameters (acts.values_of operands) in
-      append_fits W.ground (acts.statements_of operands) (writes ++ leaf (head.Call body) ∷ [])
+      let writes = rows.passed origin (rows.frame_at frames body).parameters
+      (acts.values_of operands) in
+      append_fits W.ground (acts.statements_of operands)
+      (writes ++ leaf origin (head.Call body) ∷ [])
       (all_statements W operands h)
-      (push_fits W.ground writes (leaf (head.Call body))
-      (passed_fit (rows.frame_at frames body).parameters (acts.values_of operands) f.parameters
-      (all_values W operands h)) (leaf_fits W.ground (head.Call body) f.lands))
+      (push_fits W.ground writes (leaf origin (head.Call body))
+      (passed_fit origin (rows.frame_at frames body).parameters (acts.values_of operands)
+      f.parameters
+      (all_values W operands h)) (leaf_fits W.ground origin (head.Call body) f.lands))
 
   -- of a call that has a value
-  called_good : (frames : rows.Frames) (function : Function) → FunctionFits W.ground frames function
+  called_good : (origin : ℕ) (frames : rows.Frames) (function : Function) →
+      FunctionFits W.ground frames function
       →
       (t : IntType) → function.result ≡ Value t → (operands : List Valued) → AllGood W operands →
-      Good W (rows.called_with frames function operands)
-  called_good frames function f t is operands h = record {
-    statements = call_trees frames function f operands h;
+      Good W (rows.called_with origin frames function operands)
+  called_good origin frames function f t is operands h = record {
+    statements = call_trees origin frames function f operands h;
     value =
         let base = (rows.frame_at frames (unwrap_or function.body 0)).result_cell.base in
         scalar_typed W.ground.cells (cell_at (object_type function.result) base)
@@ -233,54 +244,58 @@ module _ (W : World) where
         (f.result t is));
   }
 
-  pub called_fits : (frames : rows.Frames) (function : Function) → MayCall W frames function →
+  pub called_fits : (origin : ℕ) (frames : rows.Frames) (function : Function) →
+      MayCall W frames function →
       (t : IntType) → function.result ≡ Value t → {rules : List (core.Rule Valued)} →
-      EachFits W (Unit {0}) (Good W) rules → GoodRule (rows.called frames function rules)
-  called_fits frames function f t is all =
-      fits_then W (λ vs. core.then_by (acts.hold_all vs)
-      (λ operands. core.gives (rows.called_with frames function operands)))
+      EachFits W (Unit {0}) (Good W) rules → GoodRule (rows.called origin frames function rules)
+  called_fits origin frames function f t is all =
+      fits_then W (λ vs. core.then_by (acts.hold_all origin vs)
+      (λ operands. core.gives (rows.called_with origin frames function operands)))
       (fits_each W (Unit {0}) (Good W) all)
-      (λ vs. fits_then W (λ operands. core.gives (rows.called_with frames function operands))
-      (fits_weaker W (λ g. g.1) (hold_all_fits W vs))
-      (λ operands. fits_at W (λ taken. core.gives (rows.called_with frames function operands))
-      (λ taken. fits_gives W (Good W) (rows.called_with frames function operands)
-      (λ g. called_good frames function (f.fits taken.starts g.1) t is operands g.0.1))))
+      (λ vs. fits_then W (λ operands. core.gives (rows.called_with origin frames function operands))
+      (fits_weaker W (λ g. g.1) (hold_all_fits W origin vs))
+      (λ operands. fits_at W (λ taken. core.gives
+      (rows.called_with origin frames function operands))
+      (λ taken. fits_gives W (Good W) (rows.called_with origin frames function operands)
+      (λ g. called_good origin frames function (f.fits taken.starts g.1) t is operands g.0.1))))
 
-  pub called_unused_fits : (frames : rows.Frames) (function : Function) →
+  pub called_unused_fits : (origin : ℕ) (frames : rows.Frames) (function : Function) →
       MayCall W frames function → {rules : List (core.Rule Valued)} →
       EachFits W (Unit {0}) (Good W) rules →
-      TreesRule (rows.only_statements (rows.called frames function rules))
-  called_unused_fits frames function f all =
+      TreesRule (rows.only_statements (rows.called origin frames function rules))
+  called_unused_fits origin frames function f all =
       let made = λ (v : Valued). TreesFit W.ground v.statements in
       fits_then W (λ v. core.gives v.statements)
-      (fits_then W (λ vs. core.then_by (acts.hold_all vs)
-      (λ operands. core.gives (rows.called_with frames function operands)))
+      (fits_then W (λ vs. core.then_by (acts.hold_all origin vs)
+      (λ operands. core.gives (rows.called_with origin frames function operands)))
       (fits_each W (Unit {0}) (Good W) all)
-      (λ vs. fits_then W (λ operands. core.gives (rows.called_with frames function operands))
-      (fits_weaker W (λ g. g.1) (hold_all_fits W vs))
-      (λ operands. fits_at W (λ taken. core.gives (rows.called_with frames function operands))
-      (λ taken. fits_gives W made (rows.called_with frames function operands)
-      (λ g. call_trees frames function (f.fits taken.starts g.1) operands g.0.1)))))
+      (λ vs. fits_then W (λ operands. core.gives (rows.called_with origin frames function operands))
+      (fits_weaker W (λ g. g.1) (hold_all_fits W origin vs))
+      (λ operands. fits_at W (λ taken. core.gives
+      (rows.called_with origin frames function operands))
+      (λ taken. fits_gives W made (rows.called_with origin frames function operands)
+      (λ g. call_trees origin frames function (f.fits taken.starts g.1) operands g.0.1)))))
       (λ v. fits_gives W (TreesFit W.ground) v.statements (λ g. g.1))
 
-  taken_in_fits : (function : KnownFunction) → GoodRule (rows.taken_in function)
-  taken_in_fits function =
+  taken_in_fits : (origin : ℕ) (function : KnownFunction) → GoodRule (rows.taken_in origin function)
+  taken_in_fits origin function =
       fits_freshly W (Good W) (object_type (known_result function))
-      (λ t. valued (input t.base ∷ []) (scalar t))
-      (λ t g p is. good W (input t.base ∷ []) (scalar t)
-      (leaf_fits W.ground (head.Input t.base) (cell_below W.ground.cells t p), tt)
+      (λ t. valued (input origin t.base ∷ []) (scalar t))
+      (λ t g p is. good W (input origin t.base ∷ []) (scalar t)
+      (leaf_fits W.ground origin (head.Input t.base) (cell_below W.ground.cells t p), tt)
       (scalar_typed W.ground.cells t p))
 
-  stop_fits : TreesRule (core.gives (leaf head.Stop ∷ []))
-  stop_fits = fits_gives W (TreesFit W.ground) (leaf head.Stop ∷ [])
-      (λ g. (leaf_fits W.ground head.Stop tt, tt))
+  stop_fits : (origin : ℕ) → TreesRule (core.gives (leaf origin head.Stop ∷ []))
+  stop_fits origin = fits_gives W (TreesFit W.ground) (leaf origin head.Stop ∷ [])
+      (λ g. (leaf_fits W.ground origin head.Stop tt, tt))
 
-  exit_fits : {before : core.Rule Trees} → TreesRule before →
-      TreesRule (core.then_by before (λ trees. core.gives (trees ++ leaf head.Stop ∷ [])))
-  exit_fits h =
-      fits_then W (λ trees. core.gives (trees ++ leaf head.Stop ∷ [])) h
-      (λ trees. fits_gives W (TreesFit W.ground) (trees ++ leaf head.Stop ∷ [])
-      (λ g. push_fits W.ground trees (leaf head.Stop) g.1 (leaf_fits W.ground head.Stop tt)))
+  exit_fits : (origin : ℕ) {before : core.Rule Trees} → TreesRule before →
+      TreesRule (core.then_by before (λ trees. core.gives (trees ++ leaf origin head.Stop ∷ [])))
+  exit_fits origin h =
+      fits_then W (λ trees. core.gives (trees ++ leaf origin head.Stop ∷ [])) h
+      (λ trees. fits_gives W (TreesFit W.ground) (trees ++ leaf origin head.Stop ∷ [])
+      (λ g. push_fits W.ground trees (leaf origin head.Stop) g.1
+      (leaf_fits W.ground origin head.Stop tt)))
 
   first_fits_of : (rs : List rows.Rows) → AllByRecursion (λ (r : rows.Rows). TreesRule r.unused) rs
       →
@@ -288,39 +303,42 @@ module _ (W : World) where
   first_fits_of [] h = fits_gives W (TreesFit W.ground) [] (λ g. tt)
   first_fits_of (r ∷ rs) h = h.0
 
-  pub known_unused_fits : (function : KnownFunction) (rs : List rows.Rows) →
+  pub known_unused_fits : (origin : ℕ) (function : KnownFunction) (rs : List rows.Rows) →
       AllByRecursion (λ (r : rows.Rows). TreesRule r.unused) rs →
-      TreesRule (rows.known_unused function rs)
-  known_unused_fits known.ReachError rs h =
-      fits_gives W (TreesFit W.ground) (leaf head.Error ∷ [])
-      (λ g. (leaf_fits W.ground head.Error tt, tt))
-  known_unused_fits known.Abort rs h = stop_fits
-  known_unused_fits known.AssertFail rs h = stop_fits
-  known_unused_fits known.Exit rs h = exit_fits (first_fits_of rs h)
-  known_unused_fits (known.Input t) rs h = only_fits (taken_in_fits (known.Input t))
+      TreesRule (rows.known_unused origin function rs)
+  known_unused_fits origin known.ReachError rs h =
+      fits_gives W (TreesFit W.ground) (leaf origin head.Error ∷ [])
+      (λ g. (leaf_fits W.ground origin head.Error tt, tt))
+  known_unused_fits origin known.Abort rs h = stop_fits origin
+  known_unused_fits origin known.AssertFail rs h = stop_fits origin
+  known_unused_fits origin known.Exit rs h = exit_fits origin (first_fits_of rs h)
+  known_unused_fits origin (known.Input t) rs h = only_fits (taken_in_fits origin (known.Input t))
 
   -- of a known function that has a value
-  known_by : (kind : Kind) (function : KnownFunction) (rs : List rows.Rows) (t : IntType) →
+  known_by : (origin : ℕ) (kind : Kind) (function : KnownFunction) (rs : List rows.Rows)
+      (t : IntType) →
       kind ≡ Value t →
       GoodRule (elim kind [
-        | Void ↦ rows.valueless (rows.known_unused function rs)
-        | Value u ↦ rows.taken_in function
+        | Void ↦ rows.valueless (rows.known_unused origin function rs)
+        | Value u ↦ rows.taken_in origin function
       ])
-  known_by Void function rs t is = absurd (cc)
-  known_by (Value u) function rs t is = taken_in_fits function
+  known_by origin Void function rs t is = absurd (cc)
+  known_by origin (Value u) function rs t is = taken_in_fits origin function
 
-  pub known_used_fits : (function : KnownFunction) (rs : List rows.Rows) (t : IntType) →
-      known_result function ≡ Value t → GoodRule (rows.known_used function rs)
-  known_used_fits function rs t is = known_by (known_result function) function rs t is
+  pub known_used_fits : (origin : ℕ) (function : KnownFunction) (rs : List rows.Rows)
+      (t : IntType) →
+      known_result function ≡ Value t → GoodRule (rows.known_used origin function rs)
+  known_used_fits origin function rs t is = known_by origin (known_result function) function rs t is
 
   -- chains, commas, conditionals
-  pub linking_fits : (operator : BinaryOperator) {left right : core.Rule Valued} → GoodRule left →
+  pub linking_fits : (origin : ℕ) (operator : BinaryOperator) {left right : core.Rule Valued} →
+      GoodRule left →
       GoodRule right →
-      GoodRule (core.then_by left (λ v. core.then_by right (λ w. acts.linked operator v w)))
-  linking_fits operator {right = right} h k =
-      fits_then W (λ v. core.then_by right (λ w. acts.linked operator v w)) h
-      (λ v. fits_then W (λ w. acts.linked operator v w) (fits_weaker W (λ g. tt) k)
-      (λ w. fits_weaker W (λ g. (g.0.1, g.1)) (linked_fits W operator v w)))
+      GoodRule (core.then_by left (λ v. core.then_by right (λ w. acts.linked origin operator v w)))
+  linking_fits origin operator {right = right} h k =
+      fits_then W (λ v. core.then_by right (λ w. acts.linked origin operator v w)) h
+      (λ v. fits_then W (λ w. acts.linked origin operator v w) (fits_weaker W (λ g. tt) k)
+      (λ w. fits_weaker W (λ g. (g.0.1, g.1)) (linked_fits W origin operator v w)))
 
   pub behind_fits : {before : core.Rule Trees} {last : core.Rule Valued} → TreesRule before →
       GoodRule last →
@@ -335,31 +353,33 @@ module _ (W : World) where
       (λ g. good W (trees ++ v.statements) v.value
       (append_fits W.ground trees v.statements g.0.1 g.1.statements) g.1.value)))
 
-  pub void_choice_fits : {test : core.Rule Valued} {first second : core.Rule Trees} →
+  pub void_choice_fits : (origin : ℕ) {test : core.Rule Valued} {first second : core.Rule Trees} →
       GoodRule test → TreesRule first → TreesRule second →
       TreesRule (core.then_by test (λ v. core.then_by first (λ a. core.then_by second (λ b.
-      core.gives (v.statements ++ choice v.value a b ∷ [])))))
-  void_choice_fits {first = first} {second = second} h k l =
+      core.gives (v.statements ++ choice origin v.value a b ∷ [])))))
+  void_choice_fits origin {first = first} {second = second} h k l =
       fits_then W (λ v. core.then_by first (λ a. core.then_by second (λ b.
-      core.gives (v.statements ++ choice v.value a b ∷ [])))) h
+      core.gives (v.statements ++ choice origin v.value a b ∷ [])))) h
       (λ v. fits_then W (λ a. core.then_by second (λ b.
-      core.gives (v.statements ++ choice v.value a b ∷ []))) (fits_weaker W (λ g. tt) k)
-      (λ a. fits_then W (λ b. core.gives (v.statements ++ choice v.value a b ∷ []))
+      core.gives (v.statements ++ choice origin v.value a b ∷ []))) (fits_weaker W (λ g. tt) k)
+      (λ a. fits_then W (λ b. core.gives (v.statements ++ choice origin v.value a b ∷ []))
       (fits_weaker W (λ g. tt) l)
-      (λ b. fits_gives W (TreesFit W.ground) (v.statements ++ choice v.value a b ∷ [])
-      (λ g. push_fits W.ground v.statements (choice v.value a b) g.0.0.1.statements
-      (choice_fits W.ground v.value a b g.0.0.1.value g.0.1 g.1)))))
+      (λ b. fits_gives W (TreesFit W.ground) (v.statements ++ choice origin v.value a b ∷ [])
+      (λ g. push_fits W.ground v.statements (choice origin v.value a b) g.0.0.1.statements
+      (choice_fits W.ground origin v.value a b g.0.0.1.value g.0.1 g.1)))))
 
-  pub conditional_fits : {test first second : core.Rule Valued} → GoodRule test → GoodRule first →
+  pub conditional_fits : (origin : ℕ) {test first second : core.Rule Valued} → GoodRule test →
+      GoodRule first →
       GoodRule second →
       GoodRule (core.then_by test (λ v. core.then_by first (λ a. core.then_by second (λ b.
-      acts.chosen v a b))))
-  conditional_fits {first = first} {second = second} h k l =
-      fits_then W (λ v. core.then_by first (λ a. core.then_by second (λ b. acts.chosen v a b))) h
-      (λ v. fits_then W (λ a. core.then_by second (λ b. acts.chosen v a b))
+      acts.chosen origin v a b))))
+  conditional_fits origin {first = first} {second = second} h k l =
+      fits_then W (λ v. core.then_by first
+      (λ a. core.then_by second (λ b. acts.chosen origin v a b))) h
+      (λ v. fits_then W (λ a. core.then_by second (λ b. acts.chosen origin v a b))
       (fits_weaker W (λ g. tt) k)
-      (λ a. fits_then W (λ b. acts.chosen v a b) (fits_weaker W (λ g. tt) l)
-      (λ b. fits_weaker W (λ g. (g.0.0.1, g.0.1, g.1)) (chosen_fits W v a b))))
+      (λ a. fits_then W (λ b. acts.chosen origin v a b) (fits_weaker W (λ g. tt) l)
+      (λ b. fits_weaker W (λ g. (g.0.0.1, g.0.1, g.1)) (chosen_fits W origin v a b))))
 
   pub cast_fits : (t : IntType) {r : core.Rule Valued} → GoodRule r →
       GoodRule (core.then_by r (λ v. core.gives (acts.cast_to t v)))

@@ -145,10 +145,11 @@ module _ (W : World) (frames : rows.Frames) (caller : ℕ) (text : Text) (names 
       map (λ (link : BinaryOperator × TypedExpression). (link.0, rows.rows frames link.1))
       (map (λ (link : Link). (link.0, link.1.typed)) rest)
 
-  record ChainReads (left : core.Rule CoreValued) (t : IntType) (rest : List Link) : Type 0 where
+  record ChainReads (origin : ℕ) (left : core.Rule CoreValued) (t : IntType) (rest : List Link)
+      : Type 0 where
     type : IntType
     is : chain_type (Some t) (links_of rest) ≡ Some type
-    good : GoodRule W (rows.chained left (link_rows rest))
+    good : GoodRule W (rows.chained origin left (link_rows rest))
 
   joined_is : (t : IntType) (operator : BinaryOperator) (part : Part) (u : IntType) →
       part.kind ≡ Some (Value u) →
@@ -156,20 +157,21 @@ module _ (W : World) (frames : rows.Frames) (caller : ℕ) (text : Text) (names 
   joined_is t operator part u is =
       ap (λ (kind : Option Kind). option_map (λ v. binary_type operator t v) (value_kind kind)) is
 
-  chain_reads : (rest : List Link) → AllByRecursion (λ (link : Link). Where link.1) rest →
+  chain_reads : (origin : ℕ) (rest : List Link) →
+      AllByRecursion (λ (link : Link). Where link.1) rest →
       UsesFit W caller (flat_map (λ (link : Link). used Valued link.1) rest) →
-      (left : core.Rule CoreValued) (t : IntType) → GoodRule W left → ChainReads left t rest
-  chain_reads [] all uses left t h = record { type = t; is = refl; good = h }
-  chain_reads (link ∷ rest) all uses left t h =
+      (left : core.Rule CoreValued) (t : IntType) → GoodRule W left → ChainReads origin left t rest
+  chain_reads origin [] all uses left t h = record { type = t; is = refl; good = h }
+  chain_reads origin (link ∷ rest) all uses left t h =
       let own = used Valued link.1 in
       let others = flat_map (λ (one : Link). used Valued one.1) rest in
       let a = used_reads W frames caller link.1 all.0 (uses_left W caller own others uses) in
       let right = (rows.rows frames link.1.typed).used in
       let next = core.then_by left (λ v. core.then_by right
-      (λ w. acts.linked link.0 v w)) in
+      (λ w. acts.linked origin link.0 v w)) in
       let u = binary_type link.0 t a.type in
-      let r = chain_reads rest all.1 (uses_right W caller own others uses) next u
-      (linking_fits W link.0 h a.used) in
+      let r = chain_reads origin rest all.1 (uses_right W caller own others uses) next u
+      (linking_fits W origin link.0 h a.used) in
       record {
         type = r.type;
         is = ap (λ (o : Option IntType). chain_type o (links_of rest))
@@ -241,11 +243,12 @@ module _ (W : World) (frames : rows.Frames) (caller : ℕ) (text : Text) (names 
   abbrev row_of : Reading → rows.Rows
   row_of r = rows.rows frames r.typed
 
-  abbrev choice_rows : Option Kind → Reading → Reading → Reading → rows.Rows
-  choice_rows kind test first second =
-      rows.act (rows.conditional (row_of test) (row_of first) (row_of second))
-      (if is_void kind then rows.void_choice (row_of test) (row_of first) (row_of second)
-      else rows.dropped (rows.conditional (row_of test) (row_of first) (row_of second)))
+  abbrev choice_rows : ℕ → Option Kind → Reading → Reading → Reading → rows.Rows
+  choice_rows origin kind test first second =
+      rows.act (rows.conditional origin (row_of test) (row_of first) (row_of second))
+      (if is_void kind then rows.void_choice origin (row_of test) (row_of first) (row_of second)
+      else rows.dropped origin (rows.conditional origin (row_of test) (row_of first)
+      (row_of second)))
 
   mixed_first : (first second : Part) (v : IntType) → first.kind ≡ Some Void →
       second.kind ≡ Some (Value v) → void_end first second ≡ first.place ∷ []
@@ -266,43 +269,46 @@ module _ (W : World) (frames : rows.Frames) (caller : ℕ) (text : Text) (names 
       (record { rule = rule.N5; place = place }) (inl refl)
 
   -- both ends are void, or both have values
-  ends_read : (test first second : Reading) → ArgumentReads W frames caller test → As first →
+  ends_read : (origin : ℕ) (test first second : Reading) → ArgumentReads W frames caller test →
+      As first →
       As second → (k l : Kind) → first.part.kind ≡ Some k → second.part.kind ≡ Some l →
       NoFaults (broken rule.N5 (void_end first.part second.part)) →
       (kind : Option Kind) → kind ≡ ends_kind (Some k) (Some l) →
-      ReadsAs W frames caller kind Plain (choice_rows kind test first second)
-  ends_read test first second t a b Void Void e f none kind is =
-      subst (λ (o : Option Kind). ReadsAs W frames caller o Plain (choice_rows o test first second))
+      ReadsAs W frames caller kind Plain (choice_rows origin kind test first second)
+  ends_read origin test first second t a b Void Void e f none kind is =
+      subst (λ (o : Option Kind). ReadsAs W frames caller o Plain
+      (choice_rows origin o test first second))
       (sym is) (act_reads W frames caller (Some Void) (Void, refl) (λ u so. absurd (cc))
-      (λ k so. void_choice_fits W t.used (a.unused Void e) (b.unused Void f)))
-  ends_read test first second t a b (Value u) (Value v) e f none kind is =
-      let c = conditional_fits W t.used (a.used u e) (b.used v f) in
-      subst (λ (o : Option Kind). ReadsAs W frames caller o Plain (choice_rows o test first second))
+      (λ k so. void_choice_fits W origin t.used (a.unused Void e) (b.unused Void f)))
+  ends_read origin test first second t a b (Value u) (Value v) e f none kind is =
+      let c = conditional_fits W origin t.used (a.used u e) (b.used v f) in
+      subst (λ (o : Option Kind). ReadsAs W frames caller o Plain
+      (choice_rows origin o test first second))
       (sym is) (act_reads W frames caller (Some (Value (common_type u v)))
-      (Value (common_type u v), refl) (λ w so. c) (λ k so. dropped_rule W c))
-  ends_read test first second t a b Void (Value v) e f none kind is =
+      (Value (common_type u v), refl) (λ w so. c) (λ k so. dropped_rule W origin c))
+  ends_read origin test first second t a b Void (Value v) e f none kind is =
       absurd (no_end (void_end first.part second.part) first.part.place
       (mixed_first first.part second.part v e f) none)
-  ends_read test first second t a b (Value u) Void e f none kind is =
+  ends_read origin test first second t a b (Value u) Void e f none kind is =
       absurd (no_end (void_end first.part second.part) second.part.place
       (mixed_second first.part second.part u e f) none)
 
   -- casts
-  cast_reads : (wanted : Kind) (operand : Reading) → Where operand →
+  cast_reads : (origin : ℕ) (wanted : Kind) (operand : Reading) → Where operand →
       UsesFit W caller (used (cast_role wanted) operand) →
       ReadsAs W frames caller (cast_kind wanted operand.part.kind) Plain
-      (rows.cast_rows (cast_kind wanted operand.part.kind) (row_of operand))
-  cast_reads Void operand reads uses =
+      (rows.cast_rows origin (cast_kind wanted operand.part.kind) (row_of operand))
+  cast_reads origin Void operand reads uses =
       let e = evaluated_reads operand reads uses in
       subst (λ (o : Option Kind). ReadsAs W frames caller (cast_kind Void o) Plain
-      (rows.cast_rows (cast_kind Void o) (row_of operand))) (sym e.0.1)
+      (rows.cast_rows origin (cast_kind Void o) (row_of operand))) (sym e.0.1)
       (act_reads W frames caller (Some Void) (Void, refl) (λ t so. absurd (cc))
       (λ k so. e.1.unused e.0.0 e.0.1))
-  cast_reads (Value t) operand reads uses =
+  cast_reads origin (Value t) operand reads uses =
       let a = used_reads W frames caller operand reads uses in
       subst (λ (o : Option Kind). ReadsAs W frames caller (cast_kind (Value t) o) Plain
-      (rows.cast_rows (cast_kind (Value t) o) (row_of operand))) (sym a.is)
-      (plain_reads W frames caller (Some (Value t)) (Value t, refl) (cast_fits W t a.used))
+      (rows.cast_rows origin (cast_kind (Value t) o) (row_of operand))) (sym a.is)
+      (plain_reads W frames caller origin (Some (Value t)) (Value t, refl) (cast_fits W t a.used))
 
   -- each expression, by what its parts are
   abbrev pub IsRead : Expression → Type 0
@@ -428,11 +434,12 @@ module _ (W : World) (frames : rows.Frames) (caller : ℕ) (text : Text) (names 
       with_value_is W frames caller (ends_kind a.part.kind b.part.kind) t.part.kind r.type r.is
       ∙ ap (λ (o : Option Kind). ends_kind o b.part.kind) x.0.1
       ∙ ap (ends_kind (Some x.0.0)) y.0.1 in
-      at_row kind (tree.Conditional t.typed a.typed b.typed kind place) (choice_rows kind t a b)
+      at_row kind (tree.Conditional t.typed a.typed b.typed kind place)
+      (choice_rows place kind t a b)
       (opened frames (tree.Conditional t.typed a.typed b.typed kind place)
       (TypedExpression-F.Conditional t.typed a.typed b.typed kind place)
       (tree.rolls-Conditional t.typed a.typed b.typed kind place))
-      (ends_read t a b r x.1 y.1 x.0.0 y.0.0 x.0.1 y.0.1
+      (ends_read place t a b r x.1 y.1 x.0.0 y.0.0 x.0.1 y.0.1
       (unbroken (paired a.part b.part) one.none).n5 kind is)
 
   layer : (y : Expression-F Held HeldSuffix) → whole_layer y ≡ true → Where (read_layer y)
@@ -444,18 +451,18 @@ module _ (W : World) (frames : rows.Frames) (caller : ℕ) (text : Text) (names 
       (name_reads W frames caller name.place found (known name.bytes) uses.0.none)
   layer (Expression-F.Number t n place) whole uses =
       at_row (Some (Value t)) (tree.Number t n place)
-      (rows.plain (core.gives (pure (Const t n))))
+      (rows.plain place (core.gives (pure (Const t n))))
       (opened frames (tree.Number t n place) (TypedExpression-F.Number t n place)
       (tree.rolls-Number t n place))
-      (plain_reads W frames caller (Some (Value t)) (Value t, refl)
+      (plain_reads W frames caller place (Some (Value t)) (Value t, refl)
       (fits_gives W (Good W) (pure (Const t n))
       (λ g. good W [] (Const t n) tt (const_typed W.ground.cells t n (has_range t n whole)))))
   layer (Expression-F.Character n place) whole uses =
       at_row (Some (Value ty.I32)) (tree.Character n place)
-      (rows.plain (core.gives (pure (Const ty.I32 n))))
+      (rows.plain place (core.gives (pure (Const ty.I32 n))))
       (opened frames (tree.Character n place) (TypedExpression-F.Character n place)
       (tree.rolls-Character n place))
-      (plain_reads W frames caller (Some (Value ty.I32)) (Value ty.I32, refl)
+      (plain_reads W frames caller place (Some (Value ty.I32)) (Value ty.I32, refl)
       (fits_gives W (Good W) (pure (Const ty.I32 n))
       (λ g. good W [] (Const ty.I32 n) tt (const_typed W.ground.cells ty.I32 n
       (has_range ty.I32 n whole)))))
@@ -474,7 +481,8 @@ module _ (W : World) (frames : rows.Frames) (caller : ℕ) (text : Text) (names 
       (sym (opened frames (tree.Postfix r.typed all.typed place)
       (TypedExpression-F.Postfix r.typed all.typed place)
       (tree.rolls-Postfix r.typed all.typed place)))
-      (suffixed_reads W frames caller suffixes (each_suffix held (and_right own rest whole)) r.part
+      (suffixed_reads W frames caller place suffixes (each_suffix held (and_right own rest whole))
+      r.part
       (row_of r) (base.1 (and_left own rest whole) (uses_left W caller r.uses all.uses uses))
       (uses_right W caller r.uses all.uses uses))
   layer (Expression-F.PrefixStep operator operand place) whole uses =
@@ -484,13 +492,13 @@ module _ (W : World) (frames : rows.Frames) (caller : ℕ) (text : Text) (names 
       let c = changed_reads W frames caller r.part (row_of r) h
       (uses_right W caller r.uses (taken Changed r.part ∷ []) uses).0.none in
       at_row kind (tree.PrefixStep operator r.typed kind place)
-      (rows.act (rows.incrementing operator (row_of r).target)
-      (rows.only_statements (rows.incrementing operator (row_of r).target)))
+      (rows.act (rows.incrementing place operator (row_of r).target)
+      (rows.only_statements (rows.incrementing place operator (row_of r).target)))
       (opened frames (tree.PrefixStep operator r.typed kind place)
       (TypedExpression-F.PrefixStep operator r.typed kind place)
       (tree.rolls-PrefixStep operator r.typed kind place))
-      (act_reads W frames caller kind (c.0, c.1) (λ t so. incrementing_fits W operator c.2)
-      (λ k so. only_fits W (incrementing_fits W operator c.2)))
+      (act_reads W frames caller kind (c.0, c.1) (λ t so. incrementing_fits W place operator c.2)
+      (λ k so. only_fits W (incrementing_fits W place operator c.2)))
   layer (Expression-F.Unary operator operand place) whole uses =
       let r = read_of operand in
       let a = used_reads W frames caller r (operand.1 whole) uses in
@@ -499,20 +507,21 @@ module _ (W : World) (frames : rows.Frames) (caller : ℕ) (text : Text) (names 
         | Some t ↦ Some (unary_type operator t)
       ]) in
       at_row kind (tree.Unary operator r.typed kind place)
-      (rows.plain (core.then_by (row_of r).used (λ v. core.gives (acts.signed operator v))))
+      (rows.plain place (core.then_by (row_of r).used (λ v. core.gives (acts.signed operator v))))
       (opened frames (tree.Unary operator r.typed kind place)
       (TypedExpression-F.Unary operator r.typed kind place)
       (tree.rolls-Unary operator r.typed kind place))
-      (plain_reads W frames caller kind (unary_is (unary_type operator) r.part.kind a.type a.is)
+      (plain_reads W frames caller place kind (unary_is (unary_type operator) r.part.kind a.type
+      a.is)
       (signed_fits W operator a.used))
   layer (Expression-F.Cast to operand place) whole uses =
       let r = read_of operand in
       let wanted = kind_of_type_name to in
       let kind = cast_kind wanted r.part.kind in
-      at_row kind (tree.Cast r.typed kind place) (rows.cast_rows kind (row_of r))
+      at_row kind (tree.Cast r.typed kind place) (rows.cast_rows place kind (row_of r))
       (opened frames (tree.Cast r.typed kind place) (TypedExpression-F.Cast r.typed kind place)
       (tree.rolls-Cast r.typed kind place))
-      (cast_reads wanted r (operand.1 whole)
+      (cast_reads place wanted r (operand.1 whole)
       (uses_right W caller (tag_uses names to) (used (cast_role wanted) r) uses))
   layer (Expression-F.Chain first held place) whole uses =
       let r = read_of first in
@@ -523,16 +532,17 @@ module _ (W : World) (frames : rows.Frames) (caller : ℕ) (text : Text) (names 
       let behind_uses = flat_map (λ (link : Link). used Valued link.1) rest in
       let a = used_reads W frames caller r (first.1 (and_left own others whole))
       (uses_left W caller front behind_uses uses) in
-      let c = chain_reads rest (each_link held (and_right own others whole))
+      let c = chain_reads place rest (each_link held (and_right own others whole))
       (uses_right W caller front behind_uses uses) (row_of r).used a.type a.used in
       let typed = map (λ (link : Link). (link.0, link.1.typed)) rest in
       let kind = value (chain_type (value_kind r.part.kind) (links_of rest)) in
       at_row kind (tree.Chain r.typed typed kind place)
-      (rows.plain (rows.chained (row_of r).used (link_rows rest)))
+      (rows.plain place (rows.chained place (row_of r).used (link_rows rest)))
       (opened frames (tree.Chain r.typed typed kind place)
       (TypedExpression-F.Chain r.typed typed kind place)
       (tree.rolls-Chain r.typed typed kind place))
-      (plain_reads W frames caller kind (chain_is r.part.kind a.type a.is rest c.type c.is) c.good)
+      (plain_reads W frames caller place kind (chain_is r.part.kind a.type a.is rest c.type c.is)
+      c.good)
   layer (Expression-F.Conditional test first second place) whole uses =
       conditional_reads test first second place
       (and_left (is_whole test.0) (is_whole first.0 && is_whole second.0) whole)
@@ -557,15 +567,16 @@ module _ (W : World) (frames : rows.Frames) (caller : ℕ) (text : Text) (names 
       (uses_right W caller front back uses) in
       let kind = with_value (changed_kind l.part) r.part.kind in
       at_row kind (tree.Assignment l.typed operator r.typed kind place)
-      (rows.act (rows.assigning true operator (row_of l).target (row_of r).used)
-      (rows.only_statements (rows.assigning false operator (row_of l).target (row_of r).used)))
+      (rows.act (rows.assigning place true operator (row_of l).target (row_of r).used)
+      (rows.only_statements (rows.assigning place false operator (row_of l).target
+      (row_of r).used)))
       (opened frames (tree.Assignment l.typed operator r.typed kind place)
       (TypedExpression-F.Assignment l.typed operator r.typed kind place)
       (tree.rolls-Assignment l.typed operator r.typed kind place))
       (act_reads W frames caller kind
       (c.0, with_value_is W frames caller (changed_kind l.part) r.part.kind a.type a.is ∙ c.1)
-      (λ t so. assigning_fits W true operator c.2 a.used)
-      (λ k so. only_fits W (assigning_fits W false operator c.2 a.used)))
+      (λ t so. assigning_fits W place true operator c.2 a.used)
+      (λ k so. only_fits W (assigning_fits W place false operator c.2 a.used)))
   layer (Expression-F.Comma held place) whole uses =
       let items = map (reading text names) (map (λ (e : Held). e.0) held) in
       let bools = map is_whole (map (λ (e : Held). e.0) held) in

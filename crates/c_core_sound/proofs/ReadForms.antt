@@ -59,12 +59,12 @@ module _ (W : World) (frames : rows.Frames) (caller : ℕ) where
   ReadsAs kind form row = Reads W frames kind form row
 
   -- an expression that is no name and no left side
-  pub plain_reads : (kind : Option Kind) {rule : core.Rule CoreValued} → HasKind kind →
-      GoodRule W rule → ReadsAs kind Plain (rows.plain rule)
-  plain_reads kind has h = record {
+  pub plain_reads : (origin : ℕ) (kind : Option Kind) {rule : core.Rule CoreValued} → HasKind kind →
+      GoodRule W rule → ReadsAs kind Plain (rows.plain origin rule)
+  plain_reads origin kind has h = record {
     stands = inl has;
     used = λ t is. h;
-    unused = λ k is. dropped_rule W h;
+    unused = λ k is. dropped_rule W origin h;
     target = λ k is so. absurd (cc);
     form = tt;
   }
@@ -90,11 +90,11 @@ module _ (W : World) (frames : rows.Frames) (caller : ℕ) where
   object_reads : (place : ℕ) (object : Object) (length : Option ℤ) → object.length ≡ length →
       ObjectFits W object →
       ReadsAs (named_by length object.ty) (Bare place (Some (meaning.Object object)))
-      (rows.name_rows (Some (meaning.Object object)))
+      (rows.name_rows place (Some (meaning.Object object)))
   object_reads place object None is h = record {
     stands = inl (Value object.ty, refl);
     used = λ t so. name_fits W object h;
-    unused = λ k so. dropped_rule W (name_fits W object h);
+    unused = λ k so. dropped_rule W place (name_fits W object h);
     target = λ k so also. fit_scalar object h;
     form = (refl, h);
   }
@@ -109,7 +109,7 @@ module _ (W : World) (frames : rows.Frames) (caller : ℕ) where
 
   pub name_reads : (place : ℕ) (found : Option Meaning) → MeaningFits W frames found →
       NoFaults (use_faults (named place found)) →
-      ReadsAs (named_kind found) (Bare place found) (rows.name_rows found)
+      ReadsAs (named_kind found) (Bare place found) (rows.name_rows place found)
   name_reads place None h none =
       absurd ((unbroken (named place None) none).n1 (record { rule = rule.N1; place = place })
       (inl refl))
@@ -132,7 +132,7 @@ module _ (W : World) (frames : rows.Frames) (caller : ℕ) where
   name_reads place (Some (meaning.Enumerator value)) h none = record {
     stands = inl (Value ty.I32, refl);
     used = λ t so. enumerator_fits W value h;
-    unused = λ k so. dropped_rule W (enumerator_fits W value h);
+    unused = λ k so. dropped_rule W place (enumerator_fits W value h);
     target = λ k so also. absurd (cc);
     form = (refl, h);
   }
@@ -152,23 +152,24 @@ module _ (W : World) (frames : rows.Frames) (caller : ℕ) where
   element_is (Some n) t is = refl
 
   -- an element of an array
-  array_reads : (object : Object) (at : ℕ) → is_some object.length ≡ true → (base : rows.Rows) →
+  array_reads : (origin : ℕ) (object : Object) (at : ℕ) → is_some object.length ≡ true →
+      (base : rows.Rows) →
       (base.names ≡ Some (meaning.Object object)) × ObjectFits W object →
       (kind : Option Kind) (t : IntType) → kind ≡ Some (Value t) → {index : core.Rule CoreValued} →
       GoodRule W index →
       ReadsAs (with_value (element_kind (Some (meaning.Object object))) kind)
-      (Element (Some (meaning.Object object))) (rows.element_rows base.names index)
-  array_reads object at is base fits kind t so {index = index} h =
+      (Element (Some (meaning.Object object))) (rows.element_rows origin base.names index)
+  array_reads origin object at is base fits kind t so {index = index} h =
       let found = Some (meaning.Object object) in
       let has : with_value (element_kind found) kind ≡ Some (Value object.ty) =
       with_value_is (element_kind found) kind t so
       ∙ element_is object.length object.ty is in
       let good = element_fits W object fits.1 h in
       subst (λ (names : Option Meaning). ReadsAs (with_value (element_kind found) kind)
-      (Element found) (rows.element_rows names index)) (sym fits.0) (record {
+      (Element found) (rows.element_rows origin names index)) (sym fits.0) (record {
         stands = inl (Value object.ty, has);
         used = λ u is. good;
-        unused = λ k is. dropped_rule W good;
+        unused = λ k is. dropped_rule W origin good;
         target = λ k is also. fit_element object fits.1 h;
         form = tt;
       })
@@ -176,47 +177,49 @@ module _ (W : World) (frames : rows.Frames) (caller : ℕ) where
   no_kind : (kind : Option Kind) → HasKind kind → is_some kind ≡ false → ⊥
   no_kind kind has none = no_two (is_some kind) (ap (λ (o : Option Kind). is_some o) has.1) none
 
-  named_array : (place at : ℕ) (kind : Option Kind) (found : Option Meaning) (base : rows.Rows) →
+  named_array : (origin : ℕ) (place at : ℕ) (kind : Option Kind) (found : Option Meaning)
+      (base : rows.Rows) →
       names_array found ≡ true → FormFits W frames base (Bare at found) →
       (index : Option Kind) (t : IntType) → index ≡ Some (Value t) → {rule : core.Rule CoreValued} →
       GoodRule W rule →
       ReadsAs (with_value (element_kind found) index) (Element found)
-      (rows.element_rows base.names rule)
-  named_array place at kind None base is fits index t so h = absurd (cc)
-  named_array place at kind (Some (meaning.Object object)) base is fits index t so h =
-      array_reads object at is base fits index t so h
-  named_array place at kind (Some (meaning.Function function)) base is fits index t so h =
+      (rows.element_rows origin base.names rule)
+  named_array origin place at kind None base is fits index t so h = absurd (cc)
+  named_array origin place at kind (Some (meaning.Object object)) base is fits index t so h =
+      array_reads origin object at is base fits index t so h
+  named_array origin place at kind (Some (meaning.Function function)) base is fits index t so h =
       absurd (cc)
-  named_array place at kind (Some (meaning.Known function)) base is fits index t so h =
+  named_array origin place at kind (Some (meaning.Known function)) base is fits index t so h =
       absurd (cc)
-  named_array place at kind (Some (meaning.Enumerator value)) base is fits index t so h =
+  named_array origin place at kind (Some (meaning.Enumerator value)) base is fits index t so h =
       absurd (cc)
 
-  indexed_by : (place : ℕ) (kind : Option Kind) (form : Form) (base : rows.Rows) → IsName form →
+  indexed_by : (origin : ℕ) (place : ℕ) (kind : Option Kind) (form : Form) (base : rows.Rows) →
+      IsName form →
       FormFits W frames base form → Taken Indexed place kind form → (index : Option Kind)
       (t : IntType) → index ≡ Some (Value t) → {rule : core.Rule CoreValued} → GoodRule W rule →
       ReadsAs (with_value (element_of form) index) (element_form form)
-      (rows.element_rows base.names rule)
-  indexed_by place kind form base (of_function at found is) fits none index t so h =
+      (rows.element_rows origin base.names rule)
+  indexed_by origin place kind form base (of_function at found is) fits none index t so h =
       absurd (no_two (names_function found) is
       (not_broken rule.N3 (names_function found) at
       (unbroken (taken Indexed (at_place place kind (Bare at found))) none).n3))
-  indexed_by place kind form base (of_array at found is) fits none index t so h =
-      named_array place at kind found base is fits index t so h
+  indexed_by origin place kind form base (of_array at found is) fits none index t so h =
+      named_array origin place at kind found base is fits index t so h
 
-  by_stands : (place : ℕ) (kind : Option Kind) (form : Form) (base : rows.Rows) →
+  by_stands : (origin : ℕ) (place : ℕ) (kind : Option Kind) (form : Form) (base : rows.Rows) →
       HasKind kind ⊎ IsName form → FormFits W frames base form → Taken Indexed place kind form →
       (index : Option Kind) (t : IntType) → index ≡ Some (Value t) →
       {rule : core.Rule CoreValued} → GoodRule W rule →
       ReadsAs (with_value (element_of form) index) (element_form form)
-      (rows.element_rows base.names rule)
-  by_stands place kind form base (inl has) fits none index t so h =
+      (rows.element_rows origin base.names rule)
+  by_stands origin place kind form base (inl has) fits none index t so h =
       let part = at_place place kind form in
       absurd (no_kind kind has (not_broken rule.N5 (is_some kind) place
       (broken_left rule.N5 (misused_array Indexed part) (void_value Indexed part)
       (unbroken (taken Indexed part) none).n5)))
-  by_stands place kind form base (inr name) fits none index t so h =
-      indexed_by place kind form base name fits none index t so h
+  by_stands origin place kind form base (inr name) fits none index t so h =
+      indexed_by origin place kind form base name fits none index t so h
 
   -- calls
 
@@ -278,53 +281,56 @@ module _ (W : World) (frames : rows.Frames) (caller : ℕ) where
       (unbroken (given form count) one.none).n14)) in
       fits body.0 body.1 (callee_is at function.body body.0 body.1 one.calls)
 
-  call_reads_by : (found : Option Meaning) (at count : ℕ) →
+  call_reads_by : (origin : ℕ) (found : Option Meaning) (at count : ℕ) →
       (names_function found ≡ true) → MeaningFits W frames found →
       UseFits W caller (given (Bare at found) count) → (arguments : List Reading) →
       AllByRecursion ArgumentReads arguments →
       ReadsAs (with_values (result_kind found) (parts_of arguments)) Plain
-      (rows.call_rows frames found (map (rows.rows frames) (trees_of arguments)))
-  call_reads_by None at count is fits one arguments all = absurd (cc)
-  call_reads_by (Some (meaning.Object object)) at count is fits one arguments all = absurd (cc)
-  call_reads_by (Some (meaning.Enumerator value)) at count is fits one arguments all = absurd (cc)
-  call_reads_by (Some (meaning.Function function)) at count is fits one arguments all =
+      (rows.call_rows origin frames found (map (rows.rows frames) (trees_of arguments)))
+  call_reads_by origin None at count is fits one arguments all = absurd (cc)
+  call_reads_by origin (Some (meaning.Object object)) at count is fits one arguments all =
+      absurd (cc)
+  call_reads_by origin (Some (meaning.Enumerator value)) at count is fits one arguments all =
+      absurd (cc)
+  call_reads_by origin (Some (meaning.Function function)) at count is fits one arguments all =
       let kind = with_values (Some function.result) (parts_of arguments) in
       let same : kind ≡ Some function.result =
       arguments_typed (Some function.result) arguments all in
       let may = callable at count function fits one in
       act_reads kind (function.result, same)
-      (λ t so. called_fits W frames function may t
+      (λ t so. called_fits W origin frames function may t
       (same_kind function.result (Value t) (sym same ∙ so)) (arguments_used arguments all))
-      (λ k so. called_unused_fits W frames function may (arguments_used arguments all))
-  call_reads_by (Some (meaning.Known function)) at count is fits one arguments all =
+      (λ k so. called_unused_fits W origin frames function may (arguments_used arguments all))
+  call_reads_by origin (Some (meaning.Known function)) at count is fits one arguments all =
       let kind = with_values (Some (known_result function)) (parts_of arguments) in
       let same : kind ≡ Some (known_result function) =
       arguments_typed (Some (known_result function)) arguments all in
       let given_rows = map (rows.rows frames) (trees_of arguments) in
       act_reads kind (known_result function, same)
-      (λ t so. known_used_fits W function given_rows t
+      (λ t so. known_used_fits W origin function given_rows t
       (same_kind (known_result function) (Value t) (sym same ∙ so)))
-      (λ k so. known_unused_fits W function given_rows (arguments_unused arguments all))
+      (λ k so. known_unused_fits W origin function given_rows (arguments_unused arguments all))
 
-  call_form : (place count : ℕ) (kind : Option Kind) (form : Form) (base : rows.Rows) →
+  call_form : (origin : ℕ) (place count : ℕ) (kind : Option Kind) (form : Form) (base : rows.Rows) →
       FormFits W frames base form → Taken Called place kind form →
       UseFits W caller (given form count) → (arguments : List Reading) →
       AllByRecursion ArgumentReads arguments →
       ReadsAs (with_values (result_of form) (parts_of arguments)) Plain
-      (rows.call_rows frames base.names (map (rows.rows frames) (trees_of arguments)))
-  call_form place count kind (Bare at None) base fits none one arguments all = absurd fits
-  call_form place count kind (Bare at (Some m)) base fits none one arguments all =
+      (rows.call_rows origin frames base.names (map (rows.rows frames) (trees_of arguments)))
+  call_form origin place count kind (Bare at None) base fits none one arguments all = absurd fits
+  call_form origin place count kind (Bare at (Some m)) base fits none one arguments all =
       subst (λ (names : Option Meaning). ReadsAs (with_values (result_kind (Some m))
       (parts_of arguments)) Plain
-      (rows.call_rows frames names (map (rows.rows frames) (trees_of arguments)))) (sym fits.0)
-      (call_reads_by (Some m) at count
+      (rows.call_rows origin frames names (map (rows.rows frames) (trees_of arguments))))
+      (sym fits.0)
+      (call_reads_by origin (Some m) at count
       (not_true (names_function (Some m)) (not_broken rule.N3 (not (names_function (Some m))) place
       (unbroken (taken Called (at_place place kind (Bare at (Some m)))) none).n3)) fits.1 one
       arguments all)
-  call_form place count kind (Element found) base fits none one arguments all =
+  call_form origin place count kind (Element found) base fits none one arguments all =
       absurd (no_two true refl (not_broken rule.N3 true place
       (unbroken (taken Called (at_place place kind (Element found))) none).n3))
-  call_form place count kind Plain base fits none one arguments all =
+  call_form origin place count kind Plain base fits none one arguments all =
       absurd (no_two true refl (not_broken rule.N3 true place
       (unbroken (taken Called (at_place place kind Plain)) none).n3))
 
@@ -372,47 +378,49 @@ module _ (W : World) (frames : rows.Frames) (caller : ℕ) where
       let c = is_changed W frames row part.place part.kind part.form reads none in
       (Value c.1.0, changed_is part c.1.0 c.1.1, reads.target (Value c.1.0) c.1.1 c.0)
 
-  suffix_reads : (base : Part) (row : rows.Rows) (suffix : ReadSuffix) →
+  suffix_reads : (origin : ℕ) (base : Part) (row : rows.Rows) (suffix : ReadSuffix) →
       ReadsAs base.kind base.form row → SuffixReads suffix →
       UsesFit W caller (suffix_uses base suffix) →
       ReadsAs (suffix_part base suffix).kind (suffix_part base suffix).form
-      (rows.suffix_rows frames row (core_suffix frames (suffix_typed base suffix)))
-  suffix_reads base row (Suffix-F.Index index place) reads inside uses =
+      (rows.suffix_rows origin frames row (core_suffix frames (suffix_typed base suffix)))
+  suffix_reads origin base row (Suffix-F.Index index place) reads inside uses =
       let kind = (suffix_part base (Suffix-F.Index index place)).kind in
       let i = used_reads index inside uses.1 in
       subst (λ (s : rows.ReadSuffix). ReadsAs kind (element_form base.form)
-      (rows.suffix_rows frames row s)) (sym (open_index frames index.typed kind place))
-      (by_stands base.place base.kind base.form row reads.stands reads.form uses.0.none
+      (rows.suffix_rows origin frames row s)) (sym (open_index frames index.typed kind place))
+      (by_stands origin base.place base.kind base.form row reads.stands reads.form uses.0.none
       index.part.kind i.type i.is i.used)
-  suffix_reads base row (Suffix-F.Call arguments place) reads inside uses =
+  suffix_reads origin base row (Suffix-F.Call arguments place) reads inside uses =
       let kind = (suffix_part base (Suffix-F.Call arguments place)).kind in
-      subst (λ (s : rows.ReadSuffix). ReadsAs kind Plain (rows.suffix_rows frames row s))
+      subst (λ (s : rows.ReadSuffix). ReadsAs kind Plain (rows.suffix_rows origin frames row s))
       (sym (open_call frames (trees_of arguments) kind place))
-      (call_form base.place (length arguments) base.kind base.form row reads.form uses.0.none
+      (call_form origin base.place (length arguments) base.kind base.form row reads.form uses.0.none
       uses.1.0 arguments (all_used arguments inside uses.1.1))
-  suffix_reads base row (Suffix-F.Step operator place) reads inside uses =
+  suffix_reads origin base row (Suffix-F.Step operator place) reads inside uses =
       let c = changed_reads base row reads uses.0.none in
       subst (λ (s : rows.ReadSuffix). ReadsAs (changed_kind base) Plain
-      (rows.suffix_rows frames row s)) (sym (open_step frames operator (changed_kind base) place))
-      (act_reads (changed_kind base) (c.0, c.1) (λ t so. stepping_fits W operator c.2)
-      (λ k so. only_fits W (incrementing_fits W operator c.2)))
-  suffix_reads base row (Suffix-F.Skipped place) reads inside uses =
+      (rows.suffix_rows origin frames row s))
+      (sym (open_step frames operator (changed_kind base) place))
+      (act_reads (changed_kind base) (c.0, c.1) (λ t so. stepping_fits W origin operator c.2)
+      (λ k so. only_fits W (incrementing_fits W origin operator c.2)))
+  suffix_reads origin base row (Suffix-F.Skipped place) reads inside uses =
       let kind = result_of base.form in
-      subst (λ (s : rows.ReadSuffix). ReadsAs kind Plain (rows.suffix_rows frames row s))
+      subst (λ (s : rows.ReadSuffix). ReadsAs kind Plain (rows.suffix_rows origin frames row s))
       (sym (open_skipped frames kind place))
-      (call_form base.place 0 base.kind base.form row reads.form uses.0.none uses.1.0 [] tt)
+      (call_form origin base.place 0 base.kind base.form row reads.form uses.0.none uses.1.0 [] tt)
 
-  pub suffixed_reads : (suffixes : List ReadSuffix) → AllByRecursion SuffixReads suffixes →
+  pub suffixed_reads : (origin : ℕ) (suffixes : List ReadSuffix) →
+      AllByRecursion SuffixReads suffixes →
       (base : Part) (row : rows.Rows) → ReadsAs base.kind base.form row →
       UsesFit W caller (suffixed base suffixes).uses →
       ReadsAs (suffixed base suffixes).part.kind (suffixed base suffixes).part.form
-      (rows.suffixed frames row (map (core_suffix frames) (suffixed base suffixes).typed))
-  suffixed_reads [] all base row reads uses = reads
-  suffixed_reads (suffix ∷ suffixes) all base row reads uses =
+      (rows.suffixed origin frames row (map (core_suffix frames) (suffixed base suffixes).typed))
+  suffixed_reads origin [] all base row reads uses = reads
+  suffixed_reads origin (suffix ∷ suffixes) all base row reads uses =
       let next = suffix_part base suffix in
       let rest = (suffixed next suffixes).uses in
-      suffixed_reads suffixes all.1 next
-      (rows.suffix_rows frames row (core_suffix frames (suffix_typed base suffix)))
-      (suffix_reads base row suffix reads all.0
+      suffixed_reads origin suffixes all.1 next
+      (rows.suffix_rows origin frames row (core_suffix frames (suffix_typed base suffix)))
+      (suffix_reads origin base row suffix reads all.0
       (uses_left W caller (suffix_uses base suffix) rest uses))
       (uses_right W caller (suffix_uses base suffix) rest uses)

@@ -151,35 +151,37 @@ module _ (G : Ground) (frames : rows.Frames) (text : Text) (caller : ℕ) where
   first_cell first n t cells =
       cell_fits G.cells t first (ap (slice_get G.cells) (omega arith) ∙ cells 0 (omega arith))
 
-  inputs_fit : (first n : ℕ) (t : IntType) → AreCells G.cells first n t →
-      TreesFit G (statement.inputs first n)
-  inputs_fit first zero t cells = tt
-  inputs_fit first (suc n) t cells = (
-    leaf_fits G (head.Input first) (cell_below G.cells (cell_at t first) (first_cell first n t
+  inputs_fit : (origin first n : ℕ) (t : IntType) → AreCells G.cells first n t →
+      TreesFit G (statement.inputs origin first n)
+  inputs_fit origin first zero t cells = tt
+  inputs_fit origin first (suc n) t cells = (
+    leaf_fits G origin (head.Input first)
+        (cell_below G.cells (cell_at t first) (first_cell first n t
         cells)),
-    inputs_fit (first + 1) n t (later_cells first n t cells),
+    inputs_fit origin (first + 1) n t (later_cells first n t cells),
   )
 
-  zeros_fit : (first n : ℕ) (t : IntType) → AreCells G.cells first n t →
-      TreesFit G (statement.zeros t first n)
-  zeros_fit first zero t cells = tt
-  zeros_fit first (suc n) t cells = (
-    set_fits G (cell_at t first) (Const t (pos 0)) (first_cell first n t cells)
+  zeros_fit : (origin first n : ℕ) (t : IntType) → AreCells G.cells first n t →
+      TreesFit G (statement.zeros origin t first n)
+  zeros_fit origin first zero t cells = tt
+  zeros_fit origin first (suc n) t cells = (
+    set_fits G origin (cell_at t first) (Const t (pos 0)) (first_cell first n t cells)
         (zero_typed G.cells t),
-    zeros_fit (first + 1) n t (later_cells first n t cells),
+    zeros_fit origin (first + 1) n t (later_cells first n t cells),
   )
 
   -- S, place := v
-  pub initialized_fits : (names : List Entry) (place : Location) (e : TypedExpression) →
+  pub initialized_fits : (origin : ℕ) (names : List Entry) (place : Location)
+      (e : TypedExpression) →
       GoodRule (world G names) (rows.rows frames e).used →
       Fits (world G names) (PlaceFits G.cells place) (TreesFit G)
-      (statement.initialized frames place e)
-  initialized_fits names place e h =
-      fits_then (world G names) (λ v. core.gives (v.statements ++ set place v.value ∷ []))
+      (statement.initialized origin frames place e)
+  initialized_fits origin names place e h =
+      fits_then (world G names) (λ v. core.gives (v.statements ++ set origin place v.value ∷ []))
       (fits_weaker (world G names) (λ g. tt) h)
-      (λ v. fits_gives (world G names) (TreesFit G) (v.statements ++ set place v.value ∷ [])
-      (λ g. push_fits G v.statements (set place v.value) g.1.statements
-      (set_fits G place v.value g.0 g.1.value)))
+      (λ v. fits_gives (world G names) (TreesFit G) (v.statements ++ set origin place v.value ∷ [])
+      (λ g. push_fits G v.statements (set origin place v.value) g.1.statements
+      (set_fits G origin place v.value g.0 g.1.value)))
 
   abbrev typed_list : List Entry → List Expression → List TypedExpression
   typed_list names items = map (λ (item : Expression). (reading text names item).typed) items
@@ -195,18 +197,19 @@ module _ (G : Ground) (frames : rows.Frames) (text : Text) (caller : ℕ) where
   each_weaker names f (more_fit h more) =
       more_fit (fits_weaker (world G names) f h) (each_weaker names f more)
 
-  each_initialized : (names : List Entry) (t : IntType) (first : ℕ) (items : List Expression) →
+  each_initialized : (origin : ℕ) (names : List Entry) (t : IntType) (first : ℕ)
+      (items : List Expression) →
       AllByRecursion (ItemGood names) items →
       EachFits (world G names) (AreCells G.cells first (length items) t) (TreesFit G)
-      (statement.initialized_each frames t first (typed_list names items))
-  each_initialized names t first [] all = none_fits
-  each_initialized names t first (item ∷ items) all =
+      (statement.initialized_each origin frames t first (typed_list names items))
+  each_initialized origin names t first [] all = none_fits
+  each_initialized origin names t first (item ∷ items) all =
       let n = length items in
       more_fit
       (fits_weaker (world G names) (λ cells. first_cell first n t cells)
-      (initialized_fits names (cell_at t first) (reading text names item).typed all.0))
+      (initialized_fits origin names (cell_at t first) (reading text names item).typed all.0))
       (each_weaker names (λ cells. later_cells first n t cells)
-      (each_initialized names t (first + 1) items all.1))
+      (each_initialized origin names t (first + 1) items all.1))
 
   no_more : (n : ℕ) → n ≡ n + 0
   no_more n = omega arith
@@ -217,30 +220,34 @@ module _ (G : Ground) (frames : rows.Frames) (text : Text) (caller : ℕ) where
       ap (slice_get G.cells) (add_assoc first m i) ∙ cells (m + i) (omega (arith, less))
 
   -- an object begins with its initializer
-  initializing_fits : (names : List Entry) (object : Object) (given : Option Initializer)
+  initializing_fits : (origin : ℕ) (names : List Entry) (object : Object)
+      (given : Option Initializer)
       (first : ℕ) → 1 ≤ cells_of object → items_count given ≤ cells_of object →
       AllByRecursion (ItemGood names) (items_of given) →
       Fits (world G names) (AreCells G.cells first (cells_of object) object.ty) (TreesFit G)
-      (statement.initializing frames object (option_map (typed_items text names) given) first)
-  initializing_fits names object None first some few all =
-      fits_gives (world G names) (TreesFit G) (statement.inputs first (cells_of object))
-      (λ cells. inputs_fit first (cells_of object) object.ty cells)
-  initializing_fits names object (Some (initializer.Scalar value)) first some few all =
+      (statement.initializing origin frames object (option_map (typed_items text names) given)
+      first)
+  initializing_fits origin names object None first some few all =
+      fits_gives (world G names) (TreesFit G) (statement.inputs origin first (cells_of object))
+      (λ cells. inputs_fit origin first (cells_of object) object.ty cells)
+  initializing_fits origin names object (Some (initializer.Scalar value)) first some few all =
       fits_weaker (world G names) (λ cells. cell_fits G.cells object.ty first
       (ap (slice_get G.cells) (no_more first) ∙ cells 0 some))
-      (initialized_fits names (cell_at object.ty first) (reading text names value).typed all.0)
-  initializing_fits names object (Some (initializer.List items place)) first some few all =
+      (initialized_fits origin names (cell_at object.ty first) (reading text names value).typed
+      all.0)
+  initializing_fits origin names object (Some (initializer.List items place)) first some few all =
       let W = world G names in
       let n = cells_of object in
       let m = length items in
       let typed = typed_list names items in
-      let rest = statement.zeros object.ty (first + length typed) (n - length typed) in
+      let rest = statement.zeros origin object.ty (first + length typed) (n - length typed) in
       fits_then W (λ before. core.gives (before ++ rest))
       (fits_weaker W (λ cells i less. cells i (omega (arith, less, few)))
       (fits_ordered W (AreCells G.cells first m object.ty)
-      (each_initialized names object.ty first items all)))
+      (each_initialized origin names object.ty first items all)))
       (λ before. fits_gives W (TreesFit G) (before ++ rest)
-      (λ g. append_fits G before rest g.1 (zeros_fit (first + length typed) (n - length typed)
+      (λ g. append_fits G before rest g.1
+      (zeros_fit origin (first + length typed) (n - length typed)
       object.ty (rest_cells first n (length typed) object.ty g.0))))
 
   module _ (K : Kind) where
@@ -350,12 +357,13 @@ module _ (G : Ground) (frames : rows.Frames) (text : Text) (caller : ℕ) where
         sites.0.none in
         let ready = ready_behind around specifiers declarator h in
         runs_then G around behind behind
-        (statement.initializing frames object
+        (statement.initializing declarator.name.place frames object
         (option_map (typed_items text behind.names) declarator.initializer))
         (one_more around.objects) (not_less behind.objects)
         (taking_runs around specifiers declarator h.below e.0)
         (λ first. runs_weaker G (λ g. g.1) (runs_fits G behind
-        (initializing_fits behind.names object declarator.initializer first e.0 e.1
+        (initializing_fits declarator.name.place behind.names object declarator.initializer first
+        e.0 e.1
         (items_good behind (items_of declarator.initializer) ready.functions sites.1
         (and_right own others whole)))))
 

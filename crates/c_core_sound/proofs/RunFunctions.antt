@@ -44,21 +44,21 @@ use Rattle.c_core_sound.proofs.RunStatements.{Returns, items_walk, items_typed, 
 use Rattle.c_core_sound.proofs.RunStatements.{items_run, all_run, no_more, two_steps}
 
 -- the cell of the result, which starts at 0
-pub record Results (G : Ground) (K : Kind) (taken : Taken) : Type 0 where
-  pub extends : Extends taken (statement.resulting K taken).taken
-  pub keeps : (statement.resulting K taken).taken.starts ≡ taken.starts
-  pub at : Within G.cells (statement.resulting K taken).taken →
-      TreesFit G (statement.resulting K taken).made
+pub record Results (G : Ground) (origin : ℕ) (K : Kind) (taken : Taken) : Type 0 where
+  pub extends : Extends taken (statement.resulting origin K taken).taken
+  pub keeps : (statement.resulting origin K taken).taken.starts ≡ taken.starts
+  pub at : Within G.cells (statement.resulting origin K taken).taken →
+      TreesFit G (statement.resulting origin K taken).made
       × (is_void_kind K ≡ false
       → PlaceFits G.cells (cell_at (object_type K) (length taken.cells)))
 
-results : (G : Ground) (K : Kind) (taken : Taken) → Results G K taken
-results G Void taken = record {
+results : (G : Ground) (origin : ℕ) (K : Kind) (taken : Taken) → Results G origin K taken
+results G origin Void taken = record {
   extends = extends_none taken;
   keeps = refl;
   at = λ w. (tt, λ so. absurd (cc));
 }
-results G (Value t) taken = record {
+results G origin (Value t) taken = record {
   extends = record { more = t ∷ []; is = pushed t taken };
   keeps = refl;
   at = λ w.
@@ -71,7 +71,7 @@ results G (Value t) taken = record {
       ∙ ap (slice_get ((types_of taken.cells ++ t ∷ []) ++ w.more)) many
       ∙ get_behind (types_of taken.cells) t w.more in
       let p = cell_fits G.cells t n here in
-      ((set_fits G (cell_at t n) (Const t (pos 0)) p (zero_typed G.cells t), tt), λ so. p);
+      ((set_fits G origin (cell_at t n) (Const t (pos 0)) p (zero_typed G.cells t), tt), λ so. p);
 }
 
 module _ (G : Ground) (frames : rows.Frames) (text : Text) (caller : ℕ) (K : Kind) where
@@ -181,11 +181,11 @@ module _ (G : Ground) (frames : rows.Frames) (text : Text) (caller : ℕ) (K : K
   abbrev place_of : ℕ → Location
   place_of first = cell_at (object_type K) first
 
-  abbrev rest_rule : ℕ → Trees → List Object → List TypedItem → core.Rule CoreTree
-  rest_rule first before objects typed =
+  abbrev rest_rule : ℕ → ℕ → Trees → List Object → List TypedItem → core.Rule CoreTree
+  rest_rule origin first before objects typed =
       core.then_by (statement.receiving objects) (λ u.
       core.then_by (core.in_order (map (statement.item_rule frames (place_of first)) typed))
-      (λ inside. core.gives (block (before ++ inside))))
+      (λ inside. core.gives (block origin (before ++ inside))))
 
   abbrev pub last_of : Around → List Parameter → List BlockItem → Around
   last_of around parameters items =
@@ -201,17 +201,17 @@ module _ (G : Ground) (frames : rows.Frames) (text : Text) (caller : ℕ) (K : K
       (items_rise G frames text caller K (place_of 0) items
       (all_run G frames text caller K (place_of 0) items) mid)
 
-  rest_runs : (around : Around) (parameters : List Parameter) (items : List BlockItem)
+  rest_runs : (origin : ℕ) (around : Around) (parameters : List Parameter) (items : List BlockItem)
       (first : ℕ) (before : Trees) → ReadyAt around →
       SitesFit G text caller ((in_order (map walk_in (map (grown text) items))).sites
       ((receiving_walk parameters).behind around)) →
       all_whole (map whole_block_item items) ≡ true →
       Runs G (TreesFit G before × Returns G frames text caller K (place_of first)) around
       (last_of around parameters items) (TreeFits G)
-      (rest_rule first before (parameter_objects around.objects parameters)
+      (rest_rule origin first before (parameter_objects around.objects parameters)
       (items_typed G frames text caller K (place_of 0) items
       ((receiving_walk parameters).behind around)))
-  rest_runs around parameters items first before h sites whole =
+  rest_runs origin around parameters items first before h sites whole =
       let place = place_of first in
       let mid = (receiving_walk parameters).behind around in
       let last = last_of around parameters items in
@@ -219,18 +219,18 @@ module _ (G : Ground) (frames : rows.Frames) (text : Text) (caller : ℕ) (K : K
       let typed = items_typed G frames text caller K place items mid in
       let inner_rule = core.in_order (map (statement.item_rule frames place) typed) in
       runs_then G around mid last
-      (λ u. core.then_by inner_rule (λ inside. core.gives (block (before ++ inside))))
+      (λ u. core.then_by inner_rule (λ inside. core.gives (block origin (before ++ inside))))
       (parameters_rise around parameters) (items_rise G frames text caller K place items all mid)
       (runs_weaker G (λ g. tt) (parameters_run around parameters h))
-      (λ u. runs_then G mid last last (λ inside. core.gives (block (before ++ inside)))
+      (λ u. runs_then G mid last last (λ inside. core.gives (block origin (before ++ inside)))
       (items_rise G frames text caller K place items all mid) (no_more last.objects)
       (runs_weaker G (λ g. g.0.1) (items_run G frames text caller K place items all mid
       (parameters_ready around parameters h) sites whole))
-      (λ inside. runs_gives G last (TreeFits G) (block (before ++ inside))
-      (λ g. block_fits G (before ++ inside) (append_fits G before inside g.0.0.0 g.1))))
+      (λ inside. runs_gives G last (TreeFits G) (block origin (before ++ inside))
+      (λ g. block_fits G origin (before ++ inside) (append_fits G before inside g.0.0.0 g.1))))
 
-  pub function_runs : (around : Around) (parameters : List Parameter) (items : List BlockItem) →
-      ReadyAt around →
+  pub function_runs : (around : Around) (parameters : List Parameter) (items : List BlockItem)
+      (origin end : ℕ) → ReadyAt around →
       SitesFit G text caller ((in_order (map walk_in (map (grown text) items))).sites
       ((receiving_walk parameters).behind around)) →
       all_whole (map whole_block_item items) ≡ true →
@@ -240,21 +240,26 @@ module _ (G : Ground) (frames : rows.Frames) (text : Text) (caller : ℕ) (K : K
         parameters = parameter_objects around.objects parameters;
         items = items_typed G frames text caller K (place_of 0) items
             ((receiving_walk parameters).behind around);
+        place = origin;
+        end = end;
       }))
-  function_runs around parameters items h sites whole = record {
+  function_runs around parameters items origin end h sites whole = record {
     extends = λ taken.
         let n = length taken.cells in
-        let m = statement.resulting K taken in
-        let rest = rest_runs around parameters items n m.made h sites whole in
-        extends_both taken m.taken _ (results G K taken).extends (rest.extends m.taken);
+        let m = statement.resulting origin K taken in
+        let rest = rest_runs origin around parameters items n m.made h sites whole in
+        extends_both taken m.taken _ (results G origin K taken).extends (rest.extends m.taken);
     keeps = λ taken n side.
-        let m = statement.resulting K taken in
-        let rest = rest_runs around parameters items (length taken.cells) m.made h sites whole in
+        let m = statement.resulting origin K taken in
+        let rest = rest_runs origin around parameters items (length taken.cells) m.made h sites
+        whole in
         rest.keeps m.taken n side
-        ∙ ap (λ (starts : ℕ → Option ℕ). starts n) (results G K taken).keeps;
+        ∙ ap (λ (starts : ℕ → Option ℕ). starts n) (results G origin K taken).keeps;
     at = λ taken g k w.
-        let m = statement.resulting K taken in
-        let rest = rest_runs around parameters items (length taken.cells) m.made h sites whole in
-        let r = (results G K taken).at (within_before G.cells m.taken _ (rest.extends m.taken) w) in
-        rest.at m.taken r (subst (Known G around.names) (sym (results G K taken).keeps) k) w;
+        let m = statement.resulting origin K taken in
+        let rest = rest_runs origin around parameters items (length taken.cells) m.made h sites
+        whole in
+        let r = (results G origin K taken).at
+        (within_before G.cells m.taken _ (rest.extends m.taken) w) in
+        rest.at m.taken r (subst (Known G around.names) (sym (results G origin K taken).keeps) k) w;
   }

@@ -45,14 +45,13 @@ use Rattle.c_types_rules.specs.TypedStatements.{Grown, grown, grown_item, grown_
 use Rattle.c_types_rules.specs.TypedStatements.{typed_in_order, typed_expression, typed_optional}
 use Rattle.c_types_rules.specs.TypedStatements.{typed_for_start, typed_declarators, label_number}
 use Rattle.c_types_rules.specs.TypedStatements.{walk_in, typed_break}
-use Rattle.cpa_model_trees.specs.declared.tree.CoreTree.TheVariants.{Node}
 use Rattle.cpa_model_trees.specs.declared.tree.Head.{Head}
 use Rattle.cpa_model_trees.specs.declared.tree.Head.TheVariants as head
 use Rattle.c_core_rules.specs.declared.tree.Location.{Location}
 use Rattle.c_core_rules.specs.declared.tree.Valued.{Valued as CoreValued}
 use Rattle.cpa_model_trees.specs.Numbering.{Trees}
 use Rattle.c_core_rules.specs.Values.{promote}
-use Rattle.c_core_rules.specs.Trees.{leaf, block, choice, repeated, valued}
+use Rattle.c_core_rules.specs.Trees.{leaf, block, labeled as labeled_tree, choice, repeated, valued}
 use Rattle.c_core_rules.specs.Acts.{held}
 use Rattle.c_core_rules.specs.Cells as core
 use Rattle.c_core_rules.specs.Expressions as rows
@@ -162,23 +161,24 @@ module _ (G : Ground) (frames : rows.Frames) (text : Text) (caller : ℕ) (K : K
       (λ x. runs_gives G b (TreesFit G) (make x) (λ g. fits x g.1))
 
   -- S, if (v) {} else { break }
-  leaving_fits : (names : List Entry) (test : TypedExpression) →
+  leaving_fits : (origin : ℕ) (names : List Entry) (test : TypedExpression) →
       GoodRule (world G names) (rows.rows frames test).used →
-      TreesRule (world G names) (statement.left_unless frames (Some test))
-  leaving_fits names test h =
-      fits_then (world G names) (λ v. core.gives (statement.leaving v)) h
-      (λ v. fits_gives (world G names) (TreesFit G) (statement.leaving v)
-      (λ g. push_fits G v.statements (choice v.value [] (leaf head.Break ∷ [])) g.1.statements
-      (choice_fits G v.value [] (leaf head.Break ∷ []) g.1.value tt
-      (leaf_fits G head.Break tt, tt))))
+      TreesRule (world G names) (statement.left_unless origin frames (Some test))
+  leaving_fits origin names test h =
+      fits_then (world G names) (λ v. core.gives (statement.leaving origin v)) h
+      (λ v. fits_gives (world G names) (TreesFit G) (statement.leaving origin v)
+      (λ g. push_fits G v.statements (choice origin v.value [] (leaf origin head.Break ∷ []))
+      g.1.statements
+      (choice_fits G origin v.value [] (leaf origin head.Break ∷ []) g.1.value tt
+      (leaf_fits G origin head.Break tt, tt))))
 
-  left_runs : (around : Around) (test : Option Expression) → ReadyAt around →
+  left_runs : (origin : ℕ) (around : Around) (test : Option Expression) → ReadyAt around →
       SitesAt ((evaluating Valued test).sites around) → whole_optional test ≡ true →
-      RunsAt around around (statement.left_unless frames (typed_optional text around test))
-  left_runs around None h sites whole = runs_gives G around (TreesFit G) [] (λ g. tt)
-  left_runs around (Some test) h sites whole =
+      RunsAt around around (statement.left_unless origin frames (typed_optional text around test))
+  left_runs origin around None h sites whole = runs_gives G around (TreesFit G) [] (λ g. tt)
+  left_runs origin around (Some test) h sites whole =
       runs_weaker G (λ g. tt) (runs_fits G around
-      (leaving_fits around.names (typed_expression text around test)
+      (leaving_fits origin around.names (typed_expression text around test)
       (value_rule G frames text caller around test h.functions sites.0 whole)))
 
   unused_runs : (around : Around) (e : Option Expression) → ReadyAt around →
@@ -336,31 +336,35 @@ module _ (G : Ground) (frames : rows.Frames) (text : Text) (caller : ℕ) (K : K
       runs_scoped G around mid h.below (runs_loop G around mid
       (body.1.runs (loop around) (ready_loop around h) sites whole))
 
-  abbrev if_tree : CoreValued → Trees → Trees → Trees
-  if_tree v a b = v.statements ++ choice v.value a b ∷ []
+  abbrev if_tree : ℕ → CoreValued → Trees → Trees → Trees
+  if_tree origin v a b = v.statements ++ choice origin v.value a b ∷ []
 
-  if_fits : (names : List Entry) (v : CoreValued) (a b : Trees) → Good (world G names) v →
-      TreesFit G a → TreesFit G b → TreesFit G (if_tree v a b)
-  if_fits names v a b h f s =
-      push_fits G v.statements (choice v.value a b) h.statements
-      (choice_fits G v.value a b h.value f s)
+  if_fits : (origin : ℕ) (names : List Entry) (v : CoreValued) (a b : Trees) →
+      Good (world G names) v →
+      TreesFit G a → TreesFit G b → TreesFit G (if_tree origin v a b)
+  if_fits origin names v a b h f s =
+      push_fits G v.statements (choice origin v.value a b) h.statements
+      (choice_fits G origin v.value a b h.value f s)
 
-  if_runs : (around mid last : Around) (test : Expression) {a b : core.Rule Trees} →
+  if_runs : (origin : ℕ) (around mid last : Around) (test : Expression) {a b : core.Rule Trees} →
       ReadyAt around → SiteFits G text caller (test_site around test) → is_whole test ≡ true →
       around.objects ≤ mid.objects → mid.objects ≤ last.objects → RunsAt around mid a →
       RunsAt mid last b →
       RunsAt around last (core.then_by (rows.rows frames (typed_expression text around test)).used
-      (λ v. core.then_by a (λ x. core.then_by b (λ y. core.gives (if_tree v x y)))))
-  if_runs around mid last test {a = a} {b = b} h site whole le more first second =
+      (λ v. core.then_by a (λ x. core.then_by b (λ y. core.gives (if_tree origin v x y)))))
+  if_runs origin around mid last test {a = a} {b = b} h site whole le more first second =
       tested_runs around last test
-      (λ v. core.then_by a (λ x. core.then_by b (λ y. core.gives (if_tree v x y)))) h site whole
+      (λ v. core.then_by a (λ x. core.then_by b (λ y. core.gives (if_tree origin v x y)))) h site
+      whole
       (two_steps around.objects mid.objects last.objects le more)
-      (λ v. runs_then G around mid last (λ x. core.then_by b (λ y. core.gives (if_tree v x y))) le
+      (λ v. runs_then G around mid last
+      (λ x. core.then_by b (λ y. core.gives (if_tree origin v x y))) le
       more (runs_weaker G (λ g. g.0) first)
-      (λ x. runs_then G mid last last (λ y. core.gives (if_tree v x y)) more (no_more last.objects)
+      (λ x. runs_then G mid last last (λ y. core.gives (if_tree origin v x y)) more
+      (no_more last.objects)
       (runs_weaker G (λ g. g.0.0) second)
-      (λ y. runs_gives G last (TreesFit G) (if_tree v x y)
-      (λ g. if_fits around.names v x y g.0.0.1 g.0.1 g.1))))
+      (λ y. runs_gives G last (TreesFit G) (if_tree origin v x y)
+      (λ g. if_fits origin around.names v x y g.0.0.1 g.0.1 g.1))))
 
   if_layer : (test : Expression) (first : HeldStatement) (at : ℕ) →
       Part statement_of (grown_layer (Statement-F.If test first None at))
@@ -374,10 +378,10 @@ module _ (G : Ground) (frames : rows.Frames) (text : Text) (caller : ℕ) (K : K
             let inside = g.walk.sites around in
             let more = whole_in first.0 && true in
             let typed = typed_expression text around test in
-            at_rule around last (opened frames place (tree.If typed (g.typed around) None)
-            (TypedStatement-F.If typed (g.typed around) None)
-            (tree.rolls-If typed (g.typed around) None))
-            (if_runs around last last test h sites.0 (and_left (is_whole test) more whole)
+            at_rule around last (opened frames place (tree.If typed (g.typed around) None at)
+            (TypedStatement-F.If typed (g.typed around) None at)
+            (tree.rolls-If typed (g.typed around) None at))
+            (if_runs at around last last test h sites.0 (and_left (is_whole test) more whole)
             (first.1.rises around) (no_more last.objects)
             (first.1.runs around h (sites_left G text caller inside [] sites.1)
             (and_left (whole_in first.0) true (and_right (is_whole test) more whole)))
@@ -404,10 +408,10 @@ module _ (G : Ground) (frames : rows.Frames) (text : Text) (caller : ℕ) (K : K
             let rest = and_right (is_whole test) more whole in
             let typed = typed_expression text around test in
             at_rule around last
-            (opened frames place (tree.If typed (g.typed around) (Some (o.typed mid)))
-            (TypedStatement-F.If typed (g.typed around) (Some (o.typed mid)))
-            (tree.rolls-If typed (g.typed around) (Some (o.typed mid))))
-            (if_runs around mid last test h sites.0 (and_left (is_whole test) more whole)
+            (opened frames place (tree.If typed (g.typed around) (Some (o.typed mid)) at)
+            (TypedStatement-F.If typed (g.typed around) (Some (o.typed mid)) at)
+            (tree.rolls-If typed (g.typed around) (Some (o.typed mid)) at))
+            (if_runs at around mid last test h sites.0 (and_left (is_whole test) more whole)
             (first.1.rises around) (second.1.rises mid)
             (first.1.runs around h (sites_left G text caller one two sites.1)
             (and_left (whole_in first.0) (whole_in second.0) rest))
@@ -428,15 +432,15 @@ module _ (G : Ground) (frames : rows.Frames) (text : Text) (caller : ℕ) (K : K
             let last = left_by around (g.walk.behind (loop around)) in
             let typed = typed_expression text around test in
             let inside = g.typed (loop around) in
-            at_rule around last (opened frames place (tree.While typed inside)
-            (TypedStatement-F.While typed inside) (tree.rolls-While typed inside))
+            at_rule around last (opened frames place (tree.While typed inside at)
+            (TypedStatement-F.While typed inside at) (tree.rolls-While typed inside at))
             (pair_runs around around last (no_more around.objects) (body.1.rises (loop around))
-            (left_runs around (Some test) h (sites.0, tt)
+            (left_runs at around (Some test) h (sites.0, tt)
             (and_left (is_whole test) (whole_in body.0) whole))
             (body_runs around body h sites.1 (and_right (is_whole test) (whole_in body.0) whole))
-            (λ front rest. repeated (front ++ rest) [] ∷ [])
+            (λ front rest. repeated at (front ++ rest) [] ∷ [])
             (λ front rest f s. (
-              repeated_fits G (front ++ rest) []
+              repeated_fits G at (front ++ rest) []
                   (append_fits G front rest f s) tt,
               tt,
             )));
@@ -457,16 +461,16 @@ module _ (G : Ground) (frames : rows.Frames) (text : Text) (caller : ℕ) (K : K
             let typed = typed_expression text around test in
             let inside = g.typed (loop around) in
             let behind = test_site last test ∷ [] in
-            at_rule around last (opened frames place (tree.Do inside typed)
-            (TypedStatement-F.Do inside typed) (tree.rolls-Do inside typed))
+            at_rule around last (opened frames place (tree.Do inside typed at)
+            (TypedStatement-F.Do inside typed at) (tree.rolls-Do inside typed at))
             (pair_runs around last last (body.1.rises (loop around)) (no_more last.objects)
             (body_runs around body h (sites_left G text caller own behind sites)
             (and_left (whole_in body.0) (is_whole test) whole))
-            (left_runs last (Some test) (ready_left around mid (body.1.rises (loop around)) h)
+            (left_runs at last (Some test) (ready_left around mid (body.1.rises (loop around)) h)
             (sites_right G text caller own behind sites)
             (and_right (whole_in body.0) (is_whole test) whole))
-            (λ rest back. repeated rest back ∷ [])
-            (λ rest back f s. (repeated_fits G rest back f s, tt)));
+            (λ rest back. repeated at rest back ∷ [])
+            (λ rest back f s. (repeated_fits G at rest back f s, tt)));
       }
 
   -- a for, in a scope round the whole statement
@@ -476,39 +480,43 @@ module _ (G : Ground) (frames : rows.Frames) (text : Text) (caller : ℕ) (K : K
       (scoped (followed (start_walk text first) (followed (evaluating Valued test)
       (followed (evaluating Evaluated step) (looped (grown_of text body.0).walk))))).behind around
 
-  abbrev for_tree : Trees → Trees → Trees → Trees → Trees
-  for_tree before front inside behind =
-      block (before ++ repeated (front ++ inside) behind ∷ []) ∷ []
+  abbrev for_tree : ℕ → Trees → Trees → Trees → Trees → Trees
+  for_tree origin before front inside behind =
+      block origin (before ++ repeated origin (front ++ inside) behind ∷ []) ∷ []
 
-  for_fits : (before front inside behind : Trees) → TreesFit G before → TreesFit G front →
-      TreesFit G inside → TreesFit G behind → TreesFit G (for_tree before front inside behind)
-  for_fits before front inside behind a b c d = (
-    block_fits G (before ++ repeated (front ++ inside) behind ∷ [])
-        (push_fits G before (repeated (front ++ inside) behind) a
-        (repeated_fits G (front ++ inside) behind (append_fits G front inside b c) d)),
+  for_fits : (origin : ℕ) (before front inside behind : Trees) → TreesFit G before →
+      TreesFit G front →
+      TreesFit G inside → TreesFit G behind →
+      TreesFit G (for_tree origin before front inside behind)
+  for_fits origin before front inside behind a b c d = (
+    block_fits G origin (before ++ repeated origin (front ++ inside) behind ∷ [])
+        (push_fits G before (repeated origin (front ++ inside) behind) a
+        (repeated_fits G origin (front ++ inside) behind (append_fits G front inside b c) d)),
     tt,
   )
 
-  four_runs : (a b c : Around) {p q r s : core.Rule Trees} → a.objects ≤ b.objects →
+  four_runs : (origin : ℕ) (a b c : Around) {p q r s : core.Rule Trees} → a.objects ≤ b.objects →
       b.objects ≤ c.objects → RunsAt a b p → RunsAt b b q → RunsAt b c r → RunsAt c c s →
       RunsAt a c (core.then_by p (λ before. core.then_by q (λ front. core.then_by r (λ inside.
-      core.then_by s (λ behind. core.gives (for_tree before front inside behind))))))
-  four_runs a b c {q = q} {r = r} {s = s} le more first test body step =
+      core.then_by s (λ behind. core.gives (for_tree origin before front inside behind))))))
+  four_runs origin a b c {q = q} {r = r} {s = s} le more first test body step =
       runs_then G a b c (λ before. core.then_by q (λ front. core.then_by r (λ inside.
-      core.then_by s (λ behind. core.gives (for_tree before front inside behind))))) le more first
+      core.then_by s (λ behind. core.gives (for_tree origin before front inside behind))))) le more
+      first
       (λ before. runs_then G b b c (λ front. core.then_by r (λ inside.
-      core.then_by s (λ behind. core.gives (for_tree before front inside behind))))
+      core.then_by s (λ behind. core.gives (for_tree origin before front inside behind))))
       (no_more b.objects) more (runs_weaker G (λ g. g.0) test)
       (λ front. runs_then G b c c (λ inside.
-      core.then_by s (λ behind. core.gives (for_tree before front inside behind))) more
+      core.then_by s (λ behind. core.gives (for_tree origin before front inside behind))) more
       (no_more c.objects) (runs_weaker G (λ g. g.0.0) body)
-      (λ inside. runs_then G c c c (λ behind. core.gives (for_tree before front inside behind))
+      (λ inside. runs_then G c c c (λ behind. core.gives
+      (for_tree origin before front inside behind))
       (no_more c.objects) (no_more c.objects) (runs_weaker G (λ g. g.0.0.0) step)
-      (λ behind. runs_gives G c (TreesFit G) (for_tree before front inside behind)
-      (λ g. for_fits before front inside behind g.0.0.0.1 g.0.0.1 g.0.1 g.1)))))
+      (λ behind. runs_gives G c (TreesFit G) (for_tree origin before front inside behind)
+      (λ g. for_fits origin before front inside behind g.0.0.0.1 g.0.0.1 g.0.1 g.1)))))
 
   for_runs : (around : Around) (first : ForStart) (test step : Option Expression)
-      (body : HeldStatement) → ReadyAt around →
+      (body : HeldStatement) (at : ℕ) → ReadyAt around →
       SitesAt ((scoped (followed (start_walk text first) (followed (evaluating Valued test)
       (followed (evaluating Evaluated step) (looped (grown_of text body.0).walk))))).sites around) →
       (whole_start first && (whole_optional test && (whole_optional step && whole_in body.0)))
@@ -517,8 +525,8 @@ module _ (G : Ground) (frames : rows.Frames) (text : Text) (caller : ℕ) (K : K
       (statement_of (tree.For (typed_for_start text first (inner around))
       (typed_optional text ((start_walk text first).behind (inner around)) test)
       (typed_optional text ((start_walk text first).behind (inner around)) step)
-      ((grown_of text body.0).typed (loop ((start_walk text first).behind (inner around))))))
-  for_runs around first test step body h sites whole =
+      ((grown_of text body.0).typed (loop ((start_walk text first).behind (inner around)))) at))
+  for_runs around first test step body at h sites whole =
       let g = grown_of text body.0 in
       let here = inner around in
       let front = start_walk text first in
@@ -553,21 +561,21 @@ module _ (G : Ground) (frames : rows.Frames) (text : Text) (caller : ℕ) (K : K
       let test_of = typed_optional text b test in
       let step_of = typed_optional text b step in
       let inside = g.typed (loop b) in
-      let all : RunsAt here c (statement_of (tree.For start_of test_of step_of inside)) =
-      at_rule here c (opened frames place (tree.For start_of test_of step_of inside)
-      (TypedStatement-F.For start_of test_of step_of inside)
-      (tree.rolls-For start_of test_of step_of inside))
-      (four_runs here b c le more
+      let all : RunsAt here c (statement_of (tree.For start_of test_of step_of inside at)) =
+      at_rule here c (opened frames place (tree.For start_of test_of step_of inside at)
+      (TypedStatement-F.For start_of test_of step_of inside at)
+      (tree.rolls-For start_of test_of step_of inside at))
+      (four_runs at here b c le more
       (start_runs here first (ready_inner around h)
       (sites_left G text caller s1 (s2 ++ (s3 ++ s4)) sites)
       (and_left (whole_start first) w1 whole))
-      (left_runs b test ready (sites_left G text caller s2 (s3 ++ s4) of_rest)
+      (left_runs at b test ready (sites_left G text caller s2 (s3 ++ s4) of_rest)
       (and_left (whole_optional test) w2 rest))
       (body_runs b body ready of_body (and_right (whole_optional step) (whole_in body.0) later))
       (unused_runs c step (ready_left b mid more ready) (step_at b mid step of_step)
       (and_left (whole_optional step) (whole_in body.0) later))) in
       subst (λ (z : Around). RunsAt around (left_by around (left_by z (g.walk.behind (loop z))))
-      (statement_of (tree.For start_of test_of step_of inside))) (sym same)
+      (statement_of (tree.For start_of test_of step_of inside at))) (sym same)
       (runs_scoped G around c h.below (runs_inner G around c all))
 
   for_layer : (first : ForStart) (test step : Option Expression) (body : HeldStatement) (at : ℕ) →
@@ -598,30 +606,32 @@ module _ (G : Ground) (frames : rows.Frames) (text : Text) (caller : ℕ) (K : K
             ready_left around (in_order_of.behind (inner around))
             (subst (λ n. around.objects ≤ n) (sym (objects_of around)) (rises_of around)) h;
         runs = λ around h sites whole.
-            for_runs around first test step body h sites whole;
+            for_runs around first test step body at h sites whole;
       }
 
   -- a leaf, and what stands before it
-  leaf_runs : (around : Around) (h : Head) → HeadFits G h →
-      RunsAt around around (core.gives (leaf h ∷ []))
-  leaf_runs around h is =
-      runs_gives G around (TreesFit G) (leaf h ∷ []) (λ g. (leaf_fits G h is, tt))
+  leaf_runs : (origin : ℕ) (around : Around) (h : Head) → HeadFits G h →
+      RunsAt around around (core.gives (leaf origin h ∷ []))
+  leaf_runs origin around h is =
+      runs_gives G around (TreesFit G) (leaf origin h ∷ []) (λ g. (leaf_fits G origin h is, tt))
 
-  leaf_part : (act : Act) (t : Around → TypedStatement) (h : Head) → HeadFits G h →
-      ((around : Around) → statement_of (t around) ≡ core.gives (leaf h ∷ [])) → (whole : Bool) →
+  leaf_part : (origin : ℕ) (act : Act) (t : Around → TypedStatement) (h : Head) → HeadFits G h →
+      ((around : Around) → statement_of (t around) ≡ core.gives (leaf origin h ∷ [])) →
+      (whole : Bool) →
       Part statement_of (record { walk = doing act; typed = t }) whole
-  leaf_part act t h is same whole = record {
+  leaf_part origin act t h is same whole = record {
     rises = λ around. no_more around.objects;
     ready = λ around ready. ready;
-    runs = λ around ready sites so. at_rule around around (same around) (leaf_runs around h is);
+    runs = λ around ready sites so. at_rule around around (same around)
+        (leaf_runs origin around h is);
   }
 
   -- a value is returned by a function that has one
   returned_runs : (around : Around) (value : Option Expression) (at : ℕ) → ReadyAt around →
       SitesAt ((followed (doing (returns at (is_some value))) (evaluating Valued value)).sites
       around) → whole_optional value ≡ true →
-      RunsAt around around (statement.returned frames place (typed_optional text around value))
-  returned_runs around None at h sites whole = leaf_runs around head.Leave tt
+      RunsAt around around (statement.returned at frames place (typed_optional text around value))
+  returned_runs around None at h sites whole = leaf_runs at around head.Leave tt
   returned_runs around (Some e) at h sites whole =
       let names = around.names in
       let W = world G names in
@@ -630,12 +640,12 @@ module _ (G : Ground) (frames : rows.Frames) (text : Text) (caller : ℕ) (K : K
       ap is_void_kind (sym h.result) ∙ not_broken rule.N16 (is_void_kind around.result) at
       (none_left n16 [] (none_left (n16 ++ []) [] (none_left (n16 ++ [] ++ []) []
       sites.0.none))) in
-      runs_fits G around (fits_then W (λ before. core.gives (before ++ leaf head.Leave ∷ []))
+      runs_fits G around (fits_then W (λ before. core.gives (before ++ leaf at head.Leave ∷ []))
       (fits_weaker W (λ g. g not_void)
-      (initialized_fits G frames text caller names place (typed_expression text around e)
+      (initialized_fits G frames text caller at names place (typed_expression text around e)
       (value_rule G frames text caller around e h.functions sites.1.0 whole)))
-      (λ before. fits_gives W (TreesFit G) (before ++ leaf head.Leave ∷ [])
-      (λ g. push_fits G before (leaf head.Leave) g.1 (leaf_fits G head.Leave tt))))
+      (λ before. fits_gives W (TreesFit G) (before ++ leaf at head.Leave ∷ [])
+      (λ g. push_fits G before (leaf at head.Leave) g.1 (leaf_fits G at head.Leave tt))))
 
   -- what stands behind a label
   ready_labeled : (around : Around) → ReadyAt around → ReadyAt (labeled around)
@@ -662,63 +672,65 @@ module _ (G : Ground) (frames : rows.Frames) (text : Text) (caller : ℕ) (K : K
   abbrev part_of : HeldStatement → Around → Around
   part_of body around = (grown_of text body.0).walk.behind around
 
-  labeled_runs : (around last : Around) (n : ℕ) (body : TypedStatement) →
+  labeled_runs : (around last : Around) (n : ℕ) (body : TypedStatement) (at : ℕ) →
       around.objects ≤ last.objects → RunsAt around last (statement_of body) →
-      RunsAt around last (statement_of (tree.Labeled n body))
-  labeled_runs around last n body le h =
-      at_rule around last (opened frames place (tree.Labeled n body)
-      (TypedStatement-F.Labeled n body) (tree.rolls-Labeled n body))
-      (one_runs around last le h (λ x. Node head.Labeled x ∷ [])
-      (λ x f. (node_fits G head.Labeled x tt f, tt)))
+      RunsAt around last (statement_of (tree.Labeled n body at))
+  labeled_runs around last n body at le h =
+      at_rule around last (opened frames place (tree.Labeled n body at)
+      (TypedStatement-F.Labeled n body at) (tree.rolls-Labeled n body at))
+      (one_runs around last le h (λ x. labeled_tree at x ∷ [])
+      (λ x f. (node_fits G at head.Labeled x tt f, tt)))
 
   -- a break, by where it goes
-  break_runs : (around : Around) (to : Option ℕ) →
-      RunsAt around around (statement_of (typed_break to))
-  break_runs around None =
-      at_rule around around (opened frames place tree.Break TypedStatement-F.Break tree.rolls-Break)
-      (leaf_runs around head.Break tt)
-  break_runs around (Some n) =
-      at_rule around around (opened frames place (tree.Goto n) (TypedStatement-F.Goto n)
-      (tree.rolls-Goto n)) (leaf_runs around (head.Goto n) tt)
+  break_runs : (around : Around) (to : Option ℕ) (at : ℕ) →
+      RunsAt around around (statement_of (typed_break to at))
+  break_runs around None at =
+      at_rule around around (opened frames place (tree.Break at) (TypedStatement-F.Break at)
+      (tree.rolls-Break at))
+      (leaf_runs at around head.Break tt)
+  break_runs around (Some n) at =
+      at_rule around around (opened frames place (tree.Goto n at) (TypedStatement-F.Goto n at)
+      (tree.rolls-Goto n at)) (leaf_runs at around (head.Goto n) tt)
 
   -- a switch
 
-  selecting_fits : (v : Expr) (choices : List Choice) → IsTyped G.cells v →
-      TreesFit G (map (statement.selecting v) choices)
-  selecting_fits v [] h = tt
-  selecting_fits v (one ∷ choices) h = (
-    choice_fits G
+  selecting_fits : (origin : ℕ) (v : Expr) (choices : List Choice) → IsTyped G.cells v →
+      TreesFit G (map (statement.selecting origin v) choices)
+  selecting_fits origin v [] h = tt
+  selecting_fits origin v (one ∷ choices) h = (
+    choice_fits G origin
         (Cmp cmp.Eq (type_of v) v (Const (type_of v) (wrapped (type_of v) one.value)))
-        (leaf (head.Goto one.label) ∷ []) [] (asked_typed G.cells v one.value h)
-        (leaf_fits G (head.Goto one.label) tt, tt) tt,
-    selecting_fits v choices h,
+        (leaf origin (head.Goto one.label) ∷ []) [] (asked_typed G.cells v one.value h)
+        (leaf_fits G origin (head.Goto one.label) tt, tt) tt,
+    selecting_fits origin v choices h,
   )
 
-  selected_fits : (names : List Entry) (kept : CoreValued) (choices : List Choice) (other : ℕ)
+  selected_fits : (origin : ℕ) (names : List Entry) (kept : CoreValued) (choices : List Choice)
+      (other : ℕ)
       (inside : Trees) → Good (world G names) kept → TreesFit G inside →
-      TreesFit G (kept.statements ++ statement.selected_by kept.value choices other inside)
-  selected_fits names kept choices other inside h f =
-      append_fits G kept.statements (statement.selected_by kept.value choices other inside)
+      TreesFit G (kept.statements ++ statement.selected_by origin kept.value choices other inside)
+  selected_fits origin names kept choices other inside h f =
+      append_fits G kept.statements (statement.selected_by origin kept.value choices other inside)
       h.statements
-      (append_fits G (map (statement.selecting kept.value) choices)
-      (leaf (head.Goto other) ∷ (inside ++ leaf head.Labeled ∷ []))
-      (selecting_fits kept.value choices h.value) (
-        leaf_fits G (head.Goto other) tt,
-        push_fits G inside (leaf head.Labeled) f (leaf_fits G head.Labeled tt),
+      (append_fits G (map (statement.selecting origin kept.value) choices)
+      (leaf origin (head.Goto other) ∷ (inside ++ leaf origin head.Labeled ∷ []))
+      (selecting_fits origin kept.value choices h.value) (
+        leaf_fits G origin (head.Goto other) tt,
+        push_fits G inside (leaf origin head.Labeled) f (leaf_fits G origin head.Labeled tt),
       ))
 
   abbrev promoted_value : CoreValued → CoreValued
   promoted_value v = valued v.statements (promote v.value)
 
-  held_runs : (around : Around) (v : CoreValued) →
+  held_runs : (origin : ℕ) (around : Around) (v : CoreValued) →
       Runs G (Returns × Good (world G around.names) v) around around (Good (world G around.names))
-      (held (promoted_value v))
-  held_runs around v =
+      (held origin (promoted_value v))
+  held_runs origin around v =
       let W = world G around.names in
       runs_fits G around (fits_weaker W
       (λ g. good W v.statements (promote v.value) g.1.statements
       (conv_typed G.cells v.value (promoted (type_of v.value)) g.1.value))
-      (held_fits W (promoted_value v)))
+      (held_fits W origin (promoted_value v)))
 
   switch_layer : (value : Expression) (body : HeldStatement) (at : ℕ) →
       Part statement_of (grown_layer (Statement-F.Switch value body at))
@@ -752,21 +764,21 @@ module _ (G : Ground) (frames : rows.Frames) (text : Text) (caller : ℕ) (K : K
             (body.1.runs inner_of (ready_within around h) sites.1
             (and_right (is_whole value) (whole_in body.0) whole)) in
             let made = λ (kept : CoreValued) (x : Trees). kept.statements
-            ++ statement.selected_by kept.value choices other x in
-            at_rule around last (opened frames place (tree.Switch typed choices other inside end)
-            (TypedStatement-F.Switch typed choices other inside end)
-            (tree.rolls-Switch typed choices other inside end))
+            ++ statement.selected_by at kept.value choices other x in
+            at_rule around last (opened frames place (tree.Switch typed choices other inside end at)
+            (TypedStatement-F.Switch typed choices other inside end at)
+            (tree.rolls-Switch typed choices other inside end at))
             (tested_runs around last value
-            (λ v. core.then_by (held (promoted_value v)) (λ kept. core.then_by rule
+            (λ v. core.then_by (held at (promoted_value v)) (λ kept. core.then_by rule
             (λ x. core.gives (made kept x)))) h sites.0
             (and_left (is_whole value) (whole_in body.0) whole) le
             (λ v. runs_then G around around last
             (λ kept. core.then_by rule (λ x. core.gives (made kept x))) (no_more around.objects) le
-            (held_runs around v)
+            (held_runs at around v)
             (λ kept. runs_then G around last last (λ x. core.gives (made kept x)) le
             (no_more last.objects) (runs_weaker G (λ g. g.0.0) body_runs_so)
             (λ x. runs_gives G last (TreesFit G) (made kept x)
-            (λ g. selected_fits around.names kept choices other x g.0.1 g.1)))));
+            (λ g. selected_fits at around.names kept choices other x g.0.1 g.1)))));
       }
 
   layer : (y : Statement-F HeldItem HeldStatement) →
@@ -781,11 +793,11 @@ module _ (G : Ground) (frames : rows.Frames) (text : Text) (caller : ℕ) (K : K
             let mid = (items_walk items).behind (inner around) in
             let typed = items_typed items (inner around) in
             runs_scoped G around mid h.below (runs_inner G around mid
-            (at_rule (inner around) mid (opened frames place (tree.Block typed)
-            (TypedStatement-F.Block typed) (tree.rolls-Block typed))
+            (at_rule (inner around) mid (opened frames place (tree.Block typed at)
+            (TypedStatement-F.Block typed at) (tree.rolls-Block typed at))
             (one_runs (inner around) mid (items_rise items all (inner around))
             (items_run items all (inner around) (ready_inner around h) sites whole)
-            (λ x. block x ∷ []) (λ x f. (block_fits G x f, tt)))));
+            (λ x. block at x ∷ []) (λ x f. (block_fits G at x f, tt)))));
       }
   layer (Statement-F.Expression e at) = record {
     rises = λ around.
@@ -794,10 +806,10 @@ module _ (G : Ground) (frames : rows.Frames) (text : Text) (caller : ℕ) (K : K
     ready = λ around h. subst ReadyAt (sym (evaluating_stays Evaluated e around)) h;
     runs = λ around h sites whole.
         let typed = typed_optional text around e in
-        subst (λ (b : Around). RunsAt around b (statement_of (tree.Expression typed)))
+        subst (λ (b : Around). RunsAt around b (statement_of (tree.Expression typed at)))
         (sym (evaluating_stays Evaluated e around))
-        (at_rule around around (opened frames place (tree.Expression typed)
-        (TypedStatement-F.Expression typed) (tree.rolls-Expression typed))
+        (at_rule around around (opened frames place (tree.Expression typed at)
+        (TypedStatement-F.Expression typed at) (tree.rolls-Expression typed at))
         (unused_runs around e h sites whole));
   }
   layer (Statement-F.If test first None at) = if_layer test first at
@@ -811,8 +823,8 @@ module _ (G : Ground) (frames : rows.Frames) (text : Text) (caller : ℕ) (K : K
         ready = λ around h. h;
         runs = λ around h sites whole.
             let n = label_number around label in
-            at_rule around around (opened frames place (tree.Goto n) (TypedStatement-F.Goto n)
-            (tree.rolls-Goto n)) (leaf_runs around (head.Goto n) tt);
+            at_rule around around (opened frames place (tree.Goto n at) (TypedStatement-F.Goto n at)
+            (tree.rolls-Goto n at)) (leaf_runs at around (head.Goto n) tt);
       }
   layer (Statement-F.Switch value body at) = switch_layer value body at
   layer (Statement-F.Case value body at) = record {
@@ -822,7 +834,7 @@ module _ (G : Ground) (frames : rows.Frames) (text : Text) (caller : ℕ) (K : K
     runs = λ around h sites whole.
         let after = selected text (Some value) around in
         labeled_runs around (part_of body after) around.passed ((grown_of text body.0).typed after)
-        (body.1.rises after) (runs_selected around (part_of body after) (Some value)
+        at (body.1.rises after) (runs_selected around (part_of body after) (Some value)
         (body.1.runs after (ready_selected around (Some value) h) sites.1
         (and_right (is_whole value) (whole_in body.0) whole)));
   }
@@ -832,17 +844,18 @@ module _ (G : Ground) (frames : rows.Frames) (text : Text) (caller : ℕ) (K : K
     runs = λ around h sites whole.
         let after = selected text None around in
         labeled_runs around (part_of body after) around.passed ((grown_of text body.0).typed after)
-        (body.1.rises after) (runs_selected around (part_of body after) None
+        at (body.1.rises after) (runs_selected around (part_of body after) None
         (body.1.runs after (ready_selected around None h) sites.1 whole));
   }
   layer (Statement-F.Break at) = record {
     rises = λ around. no_more around.objects;
     ready = λ around h. h;
-    runs = λ around h sites whole. break_runs around around.break_to;
+    runs = λ around h sites whole. break_runs around around.break_to at;
   }
   layer (Statement-F.Continue at) =
-      leaf_part (continues at) (λ around. tree.Continue) head.Continue tt
-      (λ around. opened frames place tree.Continue TypedStatement-F.Continue tree.rolls-Continue)
+      leaf_part at (continues at) (λ around. tree.Continue at) head.Continue tt
+      (λ around. opened frames place (tree.Continue at) (TypedStatement-F.Continue at)
+      (tree.rolls-Continue at))
       true
   layer (Statement-F.Return value at) = record {
     rises = λ around.
@@ -851,10 +864,10 @@ module _ (G : Ground) (frames : rows.Frames) (text : Text) (caller : ℕ) (K : K
     ready = λ around h. subst ReadyAt (sym (evaluating_stays Valued value around)) h;
     runs = λ around h sites whole.
         let typed = typed_optional text around value in
-        subst (λ (b : Around). RunsAt around b (statement_of (tree.Return typed)))
+        subst (λ (b : Around). RunsAt around b (statement_of (tree.Return typed at)))
         (sym (evaluating_stays Valued value around))
-        (at_rule around around (opened frames place (tree.Return typed)
-        (TypedStatement-F.Return typed) (tree.rolls-Return typed))
+        (at_rule around around (opened frames place (tree.Return typed at)
+        (TypedStatement-F.Return typed at) (tree.rolls-Return typed at))
         (returned_runs around value at h sites whole));
   }
   layer (Statement-F.Labeled label body) = record {
@@ -863,7 +876,7 @@ module _ (G : Ground) (frames : rows.Frames) (text : Text) (caller : ℕ) (K : K
     runs = λ around h sites whole.
         let after = labeled around in
         labeled_runs around (part_of body after) around.passed ((grown_of text body.0).typed after)
-        (body.1.rises after) (runs_labeled around (part_of body after)
+        label.place (body.1.rises after) (runs_labeled around (part_of body after)
         (body.1.runs after (ready_labeled around h) sites.1 whole));
   }
 

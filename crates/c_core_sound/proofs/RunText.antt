@@ -100,10 +100,11 @@ item_lasts text (item.Function specifiers declarator body.Skipped) before none =
     function_lasts text before true specifiers declarator
     (none_left (head_faults text before true specifiers declarator)
     (body_faults text (body_sites text before specifiers declarator body.Skipped)) none)
-item_lasts text (item.Function specifiers declarator (body.Block items place)) before none =
+item_lasts text (item.Function specifiers declarator (body.Block items place close)) before none =
     function_lasts text before true specifiers declarator
     (none_left (head_faults text before true specifiers declarator)
-    (body_faults text (body_sites text before specifiers declarator (body.Block items place))) none)
+    (body_faults text (body_sites text before specifiers declarator (body.Block items place close)))
+    none)
 
 pub items_last : (text : Text) (items : List Item) (before : Before) →
     NoFaults (items_faults text items before) →
@@ -371,26 +372,28 @@ module _ (all : List IntType) (calls : List Call) (bodies : ℕ) (frames : rows.
   -- a body, where its function stands
   body_runs : (same : (one : BlockItem) → (grown text one).walk ≡ walk_of text one)
       (before : Before) (specifiers : Specifiers) (declarator : FunctionDeclarator)
-      (items : List BlockItem) (place : ℕ) → FunctionsStand →
-      NoFaults (item_faults text (item.Function specifiers declarator (body.Block items place))
+      (items : List BlockItem) (place close : ℕ) → FunctionsStand →
+      NoFaults (item_faults text (item.Function specifiers declarator
+      (body.Block items place close))
       before) → all_whole (map whole_block_item items) ≡ true →
       ((c : Call) → Among c (item_calls text (item.Function specifiers declarator
-      (body.Block items place)) before) → Among c calls) →
+      (body.Block items place close)) before) → Among c calls) →
       FileScope before.names before.objects →
       Lasts (function_behind true specifiers declarator before).names last →
       Runs (ground before.bodies) (Unit {0}) (body_around before specifiers declarator items)
       (last_of (ground before.bodies) frames text before.bodies (kind_of specifiers)
       (body_around before specifiers declarator items) (listed declarator.parameters) items)
       (TreeFits (ground before.bodies))
-      (statement.function_rule frames (typed_function text before specifiers declarator items))
-  body_runs same before specifiers declarator items place stand none whole among f l =
+      (statement.function_rule frames (typed_function text before specifiers declarator items
+      place close))
+  body_runs same before specifiers declarator items place close stand none whole among f l =
       let k = before.bodies in
       let G = ground k in
       let b = function_behind true specifiers declarator before in
       let around = body_around before specifiers declarator items in
       let front = params_walk declarator in
       let head = head_faults text before true specifiers declarator in
-      let sites = body_sites text before specifiers declarator (body.Block items place) in
+      let sites = body_sites text before specifiers declarator (body.Block items place close) in
       let of_body = none_right head (flat_map (site_faults text) sites ++ jump_faults sites) none in
       let fit : SitesFit G text k sites =
       sites_fit k sites (none_left (flat_map (site_faults text) sites) (jump_faults sites) of_body)
@@ -406,7 +409,7 @@ module _ (all : List IntType) (calls : List Call) (bodies : ℕ) (frames : rows.
       let scope = function_scope text before true specifiers declarator
       (none_left head (flat_map (site_faults text) sites ++ jump_faults sites) none) f in
       function_runs G frames text k (kind_of specifiers) around (listed declarator.parameters) items
-      (record {
+      place close (record {
         functions = functions_fit k stand b.names before.objects l scope;
         below = scope.below;
         result = refl;
@@ -415,7 +418,7 @@ module _ (all : List IntType) (calls : List Call) (bodies : ℕ) (frames : rows.
   -- where the objects of file scope begin behind a body
   body_stays : (same : (one : BlockItem) → (grown text one).walk ≡ walk_of text one)
       (before : Before) (specifiers : Specifiers) (declarator : FunctionDeclarator)
-      (items : List BlockItem) (place : ℕ) (starts later : ℕ → Option ℕ) →
+      (items : List BlockItem) (place close : ℕ) (starts later : ℕ → Option ℕ) →
       ((n : ℕ) → (n < before.objects) ⊎ ((last_of (ground before.bodies) frames text before.bodies
       (kind_of specifiers) (body_around before specifiers declarator items)
       (listed declarator.parameters) items).objects ≤ n) → later n ≡ starts n) →
@@ -424,11 +427,12 @@ module _ (all : List IntType) (calls : List Call) (bodies : ℕ) (frames : rows.
       (listed declarator.parameters) items).objects →
       FileScope (function_behind true specifiers declarator before).names before.objects →
       Stay first (function_behind true specifiers declarator before).names before.objects starts →
-      Stay first (item_behind text (item.Function specifiers declarator (body.Block items place))
+      Stay first (item_behind text (item.Function specifiers declarator
+      (body.Block items place close))
       before).names
-      (item_behind text (item.Function specifiers declarator (body.Block items place))
+      (item_behind text (item.Function specifiers declarator (body.Block items place close))
       before).objects later
-  body_stays same before specifiers declarator items place starts later kept le scope h =
+  body_stays same before specifiers declarator items place close starts later kept le scope h =
       let around = body_around before specifiers declarator items in
       let front = params_walk declarator in
       let objects : (in_order (map walk_in (map (grown text) items))).behind (front.behind around)
@@ -450,16 +454,17 @@ module _ (all : List IntType) (calls : List Call) (bodies : ℕ) (frames : rows.
   -- the names of file scope behind a body
   pub later_scope : (same : (one : BlockItem) → (grown text one).walk ≡ walk_of text one)
       (before : Before) (specifiers : Specifiers) (declarator : FunctionDeclarator)
-      (items : List BlockItem) (place : ℕ) →
+      (items : List BlockItem) (place close : ℕ) →
       before.objects ≤ (last_of (ground before.bodies) frames text before.bodies
       (kind_of specifiers) (body_around before specifiers declarator items)
       (listed declarator.parameters) items).objects →
       FileScope (function_behind true specifiers declarator before).names before.objects →
-      FileScope (item_behind text (item.Function specifiers declarator (body.Block items place))
+      FileScope (item_behind text (item.Function specifiers declarator
+      (body.Block items place close))
       before).names
-      (item_behind text (item.Function specifiers declarator (body.Block items place))
+      (item_behind text (item.Function specifiers declarator (body.Block items place close))
       before).objects
-  later_scope same before specifiers declarator items place le f =
+  later_scope same before specifiers declarator items place close le f =
       let around = body_around before specifiers declarator items in
       let front = params_walk declarator in
       let names = (function_behind true specifiers declarator before).names in
@@ -559,29 +564,30 @@ module _ (all : List IntType) (calls : List Call) (bodies : ℕ) (frames : rows.
             stay) w;
       }
   text_runs same stand
-      (item.Function specifiers declarator (body.Block items place) ∷ more) before none whole among
+      (item.Function specifiers declarator (body.Block items place close) ∷ more) before none whole
+      among
       f end =
-      let one = item.Function specifiers declarator (body.Block items place) in
+      let one = item.Function specifiers declarator (body.Block items place close) in
       let k = before.bodies in
       let G = ground k in
       let next = item_behind text one before in
       let own = item_faults text one before in
       let rest = items_faults text more next in
       let head = head_faults text before true specifiers declarator in
-      let sites = body_sites text before specifiers declarator (body.Block items place) in
+      let sites = body_sites text before specifiers declarator (body.Block items place close) in
       let none_own = none_left own rest none in
       let none_head = none_left head (flat_map (site_faults text) sites ++ jump_faults sites)
       none_own in
       let whole_one = all_whole (map whole_block_item items) in
       let others = all_whole (map whole_item more) in
-      let function = typed_function text before specifiers declarator items in
+      let function = typed_function text before specifiers declarator items place close in
       let rule = statement.function_rule frames function in
       let rules = rules_of (functions_of text more next) in
       let around = body_around before specifiers declarator items in
       let l = subst (Lasts (function_behind true specifiers declarator before).names) end
       (items_last text more next (none_right own rest none)) in
       let scope = function_scope text before true specifiers declarator none_head f in
-      let R = body_runs same before specifiers declarator items place stand none_own
+      let R = body_runs same before specifiers declarator items place close stand none_own
       (and_left whole_one others whole)
       (λ c here. among c (among_left c (item_calls text one before) (items_calls text more next)
       here)) f l in
@@ -590,7 +596,7 @@ module _ (all : List IntType) (calls : List Call) (bodies : ℕ) (frames : rows.
       let r = text_runs same stand more next (none_right own rest none)
       (and_right whole_one others whole)
       (λ c here. among c (among_right c (item_calls text one before) (items_calls text more next)
-      here)) (later_scope same before specifiers declarator items place rises scope) end in
+      here)) (later_scope same before specifiers declarator items place close rises scope) end in
       record {
         extends = λ taken.
             let m = rule taken in
@@ -605,7 +611,7 @@ module _ (all : List IntType) (calls : List Call) (bodies : ℕ) (frames : rows.
             let known = known_here k begin (function_behind true specifiers declarator before).names
             before.objects taken.starts l here in (
               (R.at taken tt known inside).0,
-              r.at m.taken begin (body_stays same before specifiers declarator items place
+              r.at m.taken begin (body_stays same before specifiers declarator items place close
                   taken.starts
                   m.taken.starts (λ n side. R.keeps taken n side) rises scope here) w,
             );

@@ -245,14 +245,15 @@ module _ (walks : (text : Text) (one : BlockItem) → (grown text one).walk ≡ 
       (none_left (head_faults text before true specifiers declarator)
       (body_faults text (body_sites text before specifiers declarator body.Skipped))
       (none_left own rest none)) f)
-  items_scope text (item.Function specifiers declarator (body.Block items place) ∷ more) before none
+  items_scope text (item.Function specifiers declarator (body.Block items place end) ∷ more) before
+      none
       whole f =
-      let one = item.Function specifiers declarator (body.Block items place) in
+      let one = item.Function specifiers declarator (body.Block items place end) in
       let next = item_behind text one before in
       let own = item_faults text one before in
       let rest = items_faults text more next in
       let head = head_faults text before true specifiers declarator in
-      let sites = body_sites text before specifiers declarator (body.Block items place) in
+      let sites = body_sites text before specifiers declarator (body.Block items place end) in
       let none_head = none_left head (flat_map (site_faults text) sites ++ jump_faults sites)
       (none_left own rest none) in
       let G = ground [] [] 0 [] text (λ n. None) [] before.bodies in
@@ -260,7 +261,7 @@ module _ (walks : (text : Text) (one : BlockItem) → (grown text one).walk ≡ 
       items_scope text more next (none_right own rest none)
       (and_right (all_whole (map whole_block_item items)) (all_whole (map whole_item more)) whole)
       (later_scope [] [] 0 [] text (λ n. None) [] (walks text) before specifiers declarator items
-      place (function_rises G [] text before.bodies (kind_of specifiers) around
+      place end (function_rises G [] text before.bodies (kind_of specifiers) around
       (listed declarator.parameters) items)
       (function_scope text before true specifiers declarator none_head f))
 

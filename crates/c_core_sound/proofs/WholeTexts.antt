@@ -42,9 +42,11 @@ use Rattle.c_grammar_tree.specs.Declarations.{element, list, initializer_of, arr
 use Rattle.c_grammar_tree.specs.Declarations.{Rest}
 use Rattle.c_grammar_tree.specs.Declarations.{declarator_rest, declarator, more_declarators}
 use Rattle.c_grammar_tree.specs.Declarations.{declarators, declarators_by, declaration_by}
-use Rattle.c_grammar_tree.specs.Statements.{items, condition, optional, for_start, behind_comma_at}
+use Rattle.c_grammar_tree.specs.Statements.{block_items, items, condition, optional, for_start}
+use Rattle.c_grammar_tree.specs.Statements.{behind_comma_at}
 use Rattle.c_grammar_tree.specs.Statements.{labeled_or_not, statement_at, statement, item_by, item}
-use Rattle.c_grammar_tree.specs.Items.{body_of, is_known, function_end_at, have_pointer, Named}
+use Rattle.c_grammar_tree.specs.Items.{closed_items, body_of, is_known, function_end_at}
+use Rattle.c_grammar_tree.specs.Items.{have_pointer, Named}
 use Rattle.c_grammar_tree.specs.Items.{function}
 use Rattle.c_grammar_tree.specs.Items.{objects, named_at, declared_of, declared_at, unit_item_at}
 use Rattle.c_grammar_tree.specs.Items.{unit_item}
@@ -209,7 +211,7 @@ evaluated_whole leaf (made, Some parts) h = labeled_whole parts.0 parts.1 h.1
 
 abbrev WholeBody : Body → Type 0
 WholeBody body.Skipped = Unit {0}
-WholeBody (body.Block items place) = all_whole (map whole_block_item items) ≡ true
+WholeBody (body.Block items place end) = all_whole (map whole_block_item items) ≡ true
 
 abbrev MaybeBody : Option Body → Type 0
 MaybeBody None = Unit {0}
@@ -422,10 +424,13 @@ module _ {w : World Leaf} {G : Grammar} (g : WholeGrammar w G)
 
   -- statements
 
+  w_block_items : Yields w (block_items G) (λ is. all_whole (map whole_block_item is) ≡ true)
+  w_block_items =
+      yield_many (is_not terminal.RightBrace) whole_block_item (yield_deeper g.item)
+
   w_items : Yields w (items G) (λ is. all_whole (map whole_block_item is) ≡ true)
   unfolding items
-  w_items = yield_before
-      (yield_many (is_not terminal.RightBrace) whole_block_item (yield_deeper g.item))
+  w_items = yield_before w_block_items
 
   w_condition : Yields w (condition G) Whole
   unfolding condition
@@ -512,10 +517,15 @@ module _ {w : World Leaf} {G : Grammar} (g : WholeGrammar w G)
 
   -- items of file scope
 
+  w_closed_items : Yields w (closed_items G)
+      (λ parts. (all_whole (map whole_block_item parts.0) ≡ true) × Unit {0})
+  unfolding closed_items
+  w_closed_items = yield_pair w_block_items yield_any
+
   w_body_of : (known : Bool) → Yields w (body_of G known) WholeBody
   unfolding body_of
   w_body_of true = yield_node _ yield_any (λ leaf u h. tt)
-  w_body_of false = yield_node _ (yield_skip w_items) (λ leaf made h. h)
+  w_body_of false = yield_node _ (yield_skip w_closed_items) (λ leaf parts h. h.0)
 
   w_function_end_at : (name : Name) (pointer : Bool) (s : Symbol) →
       Yields w (function_end_at G name pointer s) MaybeBody
@@ -556,7 +566,7 @@ module _ {w : World Leaf} {G : Grammar} (g : WholeGrammar w G)
   named_whole leaf front None h = refl
   named_whole leaf front (Some (name, function found None)) h = refl
   named_whole leaf front (Some (name, function found (Some body.Skipped))) h = refl
-  named_whole leaf front (Some (name, function found (Some (body.Block items place)))) h = h
+  named_whole leaf front (Some (name, function found (Some (body.Block items place end)))) h = h
   named_whole leaf front (Some (name, objects rest more)) h = both (both h.0.0 h.0.1) h.1
 
   w_unit_item_at : (s : Symbol) → Yields w (unit_item_at G s) WholeItem

@@ -109,7 +109,7 @@ unfoldable pub whole_block_item : BlockItem → Bool
 whole_block_item = fold-BlockItem Bool Bool whole_item_layer whole_statement
 
 abbrev pub whole_item : Item → Bool
-whole_item (item.Function specifiers declarator (body.Block items place)) =
+whole_item (item.Function specifiers declarator (body.Block items place end)) =
     all_whole (map whole_block_item items)
 whole_item (item.Objects declaration) = whole_declaration declaration
 whole_item _ = true

@@ -1,6 +1,6 @@
 -- Rules of statements on their own (`c_core_rules`, `specs/Statements.antt`), and rules that begin
 -- behind what is made already.
-use Rattle.std.specs.Prelude.{List, [], ◌∷◌, ◌++◌, Option, None, Some}
+use Rattle.std.specs.Prelude.{ℕ, List, [], ◌∷◌, ◌++◌, Option, None, Some}
 use Rattle.c_types_rules.specs.declared.typed.TypedExpression.{TypedExpression}
 use Rattle.c_types_rules.specs.declared.typed.TypedForStart.{TypedForStart}
 use Rattle.c_types_rules.specs.declared.typed.TypedItem.TheFolds.{fold-TypedStatement}
@@ -27,30 +27,30 @@ otherwise frames place None = gives []
 otherwise frames place (Some other) = statement_rule frames place other
 
 -- the way out of a loop with this test
-abbrev pub left : Frames → TypedExpression → Rule Trees
-left frames test = then_by (rows frames test).used (λ v. gives (leaving v))
+abbrev pub left : ℕ → Frames → TypedExpression → Rule Trees
+left origin frames test = then_by (rows frames test).used (λ v. gives (leaving origin v))
 
 -- rules in order, behind what is made already
 unfoldable pub in_behind : Trees → List (Rule Trees) → Rule Trees
 in_behind before rules = then_by (in_order rules) (λ trees. gives (before ++ trees))
 
 -- a do behind its body
-abbrev pub do_behind : Frames → Trees → TypedExpression → Rule Trees
-do_behind frames inside test =
-    then_by (left frames test) (λ behind. gives (repeated inside behind ∷ []))
+abbrev pub do_behind : ℕ → Frames → Trees → TypedExpression → Rule Trees
+do_behind origin frames inside test =
+    then_by (left origin frames test) (λ behind. gives (repeated origin inside behind ∷ []))
 
 -- the value of a switch, promoted and held
-abbrev pub switch_front : Frames → TypedExpression → Rule Valued
-switch_front frames value = then_by (rows frames value).used (λ v.
-    held (valued v.statements (promote v.value)))
+abbrev pub switch_front : ℕ → Frames → TypedExpression → Rule Valued
+switch_front origin frames value = then_by (rows frames value).used (λ v.
+    held origin (valued v.statements (promote v.value)))
 
 -- what stands before the body of a for, and the for behind its body
-abbrev pub for_front : Frames → TypedForStart → Option TypedExpression → Rule (Trees × Trees)
-for_front frames first test =
-    then_by (started frames first) (λ before. then_by (left_unless frames test) (λ head.
+abbrev pub for_front : ℕ → Frames → TypedForStart → Option TypedExpression → Rule (Trees × Trees)
+for_front origin frames first test =
+    then_by (started frames first) (λ before. then_by (left_unless origin frames test) (λ head.
     gives (before, head)))
 
-abbrev pub for_behind : Frames → Trees × Trees → Trees → Option TypedExpression → Rule Trees
-for_behind frames front inside step =
+abbrev pub for_behind : ℕ → Frames → Trees × Trees → Trees → Option TypedExpression → Rule Trees
+for_behind origin frames front inside step =
     then_by (some_unused frames step) (λ behind.
-    gives (block (front.0 ++ repeated (front.1 ++ inside) behind ∷ []) ∷ []))
+    gives (block origin (front.0 ++ repeated origin (front.1 ++ inside) behind ∷ []) ∷ []))

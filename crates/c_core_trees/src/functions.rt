@@ -9,7 +9,7 @@ ghost use Rattle.c_core_values.specs.Found.{so_far};
 
 use crate::statements::in_order;
 use c_core_expressions::Frames;
-use c_core_values::{Cells, block, cell_at, joined, list_of, set};
+use c_core_values::{Cells, TakenCells, block, cell_at, joined, list_of, set};
 use c_types_rules::{Global, Kind, Object, TypedFunction};
 use cpa_expr::constant;
 use cpa_ints::Seq;
@@ -21,16 +21,18 @@ use std::alloc::{AllocError, Global as Memory};
 #[derive(Drop)]
 pub struct TextTrees {
     pub cells: Seq<Cell>,
+    /// Of each cell of an object or of a parameter the place of its name.
+    pub names: Seq<Option<u32>>,
     /// A block for each function.
     pub trees: Vec<CoreTree>,
 }
 
 /// The cell of a result, which is set to 0.
-fn resulting(cells: &mut Cells, result_kind: Kind) -> Result<Seq<CoreTree>, AllocError>
+fn resulting(cells: &mut Cells, origin: u32, result_kind: Kind) -> Result<Seq<CoreTree>, AllocError>
     ensures taken { OnOk result (so_far cells.new
-        ≡ (resulting result_kind (so_far cells.old)).taken) }
+        ≡ (resulting origin result_kind (so_far cells.old)).taken) }
     ensures made { IfOk result (λ trees. trees
-        ≡ (resulting result_kind (so_far cells.old)).made) }
+        ≡ (resulting origin result_kind (so_far cells.old)).made) }
 {
     let alloc = cells.alloc();
     match result_kind {
@@ -38,7 +40,7 @@ fn resulting(cells: &mut Cells, result_kind: Kind) -> Result<Seq<CoreTree>, Allo
         Kind::Value(ty) => {
             let place = cells.fresh(ty)?;
             let zero = constant(alloc, ty, 0)?;
-            let tree = set(alloc, place, zero)?;
+            let tree = set(alloc, origin, place, zero)?;
             list_of(alloc, tree)
         }
     }
@@ -77,10 +79,10 @@ pub fn function_tree(
         ≡ (function_rule frames.now function.now (so_far cells.old)).made) }
 {
     let place = cell_at(function.result.object_type(), cells.next()?);
-    let before = resulting(cells, function.result)?;
+    let before = resulting(cells, function.place, function.result)?;
     receiving(cells, function.parameters.as_slice())?;
     let inside = in_order(cells, frames, place, function.items.as_slice())?;
-    Ok(block(joined(before, inside)?))
+    Ok(block(function.place, joined(before, inside)?))
 }
 
 /// Functions, in order.
@@ -112,6 +114,9 @@ pub fn text_trees(
     ensures cells { IfOk result (λ text. text.cells
         ≡ (text_rule (frames_of first_cells.now functions.now) globals.now functions.now
         nothing_taken).taken.cells) }
+    ensures names { IfOk result (λ text. text.names
+        ≡ (text_rule (frames_of first_cells.now functions.now) globals.now functions.now
+        nothing_taken).taken.names) }
     ensures trees { IfOk result (λ text. text.trees.items
         ≡ (text_rule (frames_of first_cells.now functions.now) globals.now functions.now
         nothing_taken).made) }
@@ -120,8 +125,10 @@ pub fn text_trees(
     let mut cells = Cells::new(alloc);
     receiving_globals(&mut cells, globals)?;
     let trees = function_trees(&mut cells, &frames, functions)?;
+    let TakenCells { cells, names } = cells.into_cells();
     Ok(TextTrees {
-        cells: cells.into_cells(),
+        cells,
+        names,
         trees,
     })
 }

@@ -7,15 +7,15 @@ ghost use Rattle.c_core_rules.specs.Statements.{initialized_each, initializing, 
 ghost use Rattle.c_core_rules.specs.Statements.{declaration, started, leaving, left_unless};
 ghost use Rattle.c_core_rules.specs.Statements.{returned, item_rule};
 ghost use Rattle.c_core_rules.specs.Trees.{set, block, repeated};
-ghost use Rattle.cpa_model_trees.specs.declared.tree.CoreTree.TheVariants.{Node};
-ghost use Rattle.cpa_model_trees.specs.declared.tree.Head.TheVariants as head;
 ghost use Rattle.c_core_values.specs.Found.{so_far};
 ghost use Rattle.c_core_trees.specs.Items.{statement_rule, left, do_behind, for_front, for_behind};
 
 use crate::switches::{switch_behind, switch_front};
 use c_core_expressions::{Frames, cell_behind, chosen_unused, unused, used};
 use c_core_rules::{Location, Valued};
-use c_core_values::{Cells, block, cell_at, input, joined, leaf, list_of, repeated, set, with};
+use c_core_values::{
+    Cells, block, cell_at, input, joined, labeled, leaf, list_of, repeated, set, with,
+};
 use c_types_rules::{
     Object, TypedDeclarator, TypedExpression, TypedForStart, TypedInitializer, TypedItem,
     TypedStatement, cells_of,
@@ -43,52 +43,64 @@ fn some_unused(
 }
 
 /// A write of a value to a cell behind its statements.
-fn stored(alloc: Global, place: Location, v: Valued) -> Result<Seq<CoreTree>, AllocError>
-    ensures { IfOk result (λ trees. trees ≡ v.statements ++ set place v.value ∷ []) }
+fn stored(
+    alloc: Global,
+    origin: u32,
+    place: Location,
+    v: Valued,
+) -> Result<Seq<CoreTree>, AllocError>
+    ensures { IfOk result (λ trees. trees ≡ v.statements ++ set origin place v.value ∷ []) }
 {
-    let written = set(alloc, place, v.value)?;
+    let written = set(alloc, origin, place, v.value)?;
     with(v.statements, written)
 }
 
 /// A write of an expression to a cell.
 fn initialized(
     cells: &mut Cells,
+    origin: u32,
     frames: &Frames,
     place: Location,
     value: &TypedExpression,
 ) -> Result<Seq<CoreTree>, AllocError>
     ensures taken { OnOk result (so_far cells.new
-        ≡ (initialized frames.now place value.now (so_far cells.old)).taken) }
+        ≡ (initialized origin frames.now place value.now (so_far cells.old)).taken) }
     ensures made { IfOk result (λ trees. trees
-        ≡ (initialized frames.now place value.now (so_far cells.old)).made) }
+        ≡ (initialized origin frames.now place value.now (so_far cells.old)).made) }
 {
     let v = used(cells, frames, value)?;
-    stored(frames.alloc(), place, v)
+    stored(frames.alloc(), origin, place, v)
 }
 
 /// An input of each of so many cells from one on.
 #[tactic(auto, using(crate::proofs::Runs::input_more, crate::proofs::Runs::input_none))]
-fn inputs(alloc: Global, first: u32, count: u128) -> Result<Seq<CoreTree>, AllocError>
-    ensures { IfOk result (λ trees. trees ≡ inputs first count) }
+fn inputs(alloc: Global, origin: u32, first: u32, count: u128) -> Result<Seq<CoreTree>, AllocError>
+    ensures { IfOk result (λ trees. trees ≡ inputs origin first count) }
 {
     let mut trees = Seq::new(alloc);
     for place in 0..count {
         let cell = cell_behind(first, place)?;
-        trees.push(input(alloc, cell))?;
+        trees.push(input(alloc, origin, cell))?;
     }
     Ok(trees)
 }
 
 /// A write of 0 to each of so many cells from one on.
 #[tactic(auto, using(crate::proofs::Runs::zero_more, crate::proofs::Runs::zero_none))]
-fn zeros(alloc: Global, ty: IntType, first: u32, count: u128) -> Result<Seq<CoreTree>, AllocError>
-    ensures { IfOk result (λ trees. trees ≡ zeros ty first count) }
+fn zeros(
+    alloc: Global,
+    origin: u32,
+    ty: IntType,
+    first: u32,
+    count: u128,
+) -> Result<Seq<CoreTree>, AllocError>
+    ensures { IfOk result (λ trees. trees ≡ zeros origin ty first count) }
 {
     let mut trees = Seq::new(alloc);
     for place in 0..count {
         let cell = cell_behind(first, place)?;
         let zero = constant(alloc, ty, 0)?;
-        trees.push(set(alloc, cell_at(ty, cell), zero)?)?;
+        trees.push(set(alloc, origin, cell_at(ty, cell), zero)?)?;
     }
     Ok(trees)
 }
@@ -97,20 +109,23 @@ fn zeros(alloc: Global, ty: IntType, first: u32, count: u128) -> Result<Seq<Core
 #[tactic(auto, using(crate::proofs::InOrder::in_first))]
 fn initialized_each(
     cells: &mut Cells,
+    origin: u32,
     frames: &Frames,
     ty: IntType,
     first: u32,
     values: &[TypedExpression],
 ) -> Result<Seq<CoreTree>, AllocError>
     ensures taken { OnOk result (so_far cells.new
-        ≡ (in_order (initialized_each frames.now ty first values.now) (so_far cells.old)).taken) }
+        ≡ (in_order (initialized_each origin frames.now ty first values.now)
+        (so_far cells.old)).taken) }
     ensures made { IfOk result (λ trees. trees
-        ≡ (in_order (initialized_each frames.now ty first values.now) (so_far cells.old)).made) }
+        ≡ (in_order (initialized_each origin frames.now ty first values.now)
+        (so_far cells.old)).made) }
 {
     let mut before = Seq::new(frames.alloc());
     let mut cell = first;
     for value in values {
-        let trees = initialized(cells, frames, cell_at(ty, cell), value)?;
+        let trees = initialized(cells, origin, frames, cell_at(ty, cell), value)?;
         before = joined(before, trees)?;
         cell = cell_behind(cell, 1)?;
     }
@@ -120,27 +135,35 @@ fn initialized_each(
 /// What an object starts with whose cells begin here.
 fn initializing(
     cells: &mut Cells,
+    origin: u32,
     frames: &Frames,
     object: Object,
     initializer: &Option<TypedInitializer>,
     first: u32,
 ) -> Result<Seq<CoreTree>, AllocError>
     ensures taken { OnOk result (so_far cells.new
-        ≡ (initializing frames.now object initializer.now first (so_far cells.old)).taken) }
+        ≡ (initializing origin frames.now object initializer.now first (so_far cells.old)).taken) }
     ensures made { IfOk result (λ trees. trees
-        ≡ (initializing frames.now object initializer.now first (so_far cells.old)).made) }
+        ≡ (initializing origin frames.now object initializer.now first (so_far cells.old)).made) }
 {
     match initializer {
-        None => inputs(frames.alloc(), first, cells_of(object)),
+        None => inputs(frames.alloc(), origin, first, cells_of(object)),
         Some(TypedInitializer::Scalar(value)) => {
-            initialized(cells, frames, cell_at(object.ty, first), value)
+            initialized(cells, origin, frames, cell_at(object.ty, first), value)
         }
         Some(TypedInitializer::List(items)) => {
-            let before = initialized_each(cells, frames, object.ty, first, items.as_slice())?;
+            let before = initialized_each(
+                cells,
+                origin,
+                frames,
+                object.ty,
+                first,
+                items.as_slice(),
+            )?;
             let count = items.len() as u128;
             let behind = cell_behind(first, count)?;
             let left = cells_of(object).saturating_sub(count);
-            let zeros = zeros(frames.alloc(), object.ty, behind, left)?;
+            let zeros = zeros(frames.alloc(), origin, object.ty, behind, left)?;
             joined(before, zeros)
         }
     }
@@ -159,7 +182,8 @@ fn declared(
 {
     let object = declarator.object;
     let first = cells.take(object, &[])?;
-    initializing(cells, frames, object, &declarator.initializer, first)
+    let given = &declarator.initializer;
+    initializing(cells, declarator.place, frames, object, given, first)
 }
 
 /// A declaration.
@@ -202,112 +226,119 @@ fn started(
 }
 
 /// The way out of a loop where a test does not hold.
-fn leaving(alloc: Global, test: Valued) -> Result<Seq<CoreTree>, AllocError>
-    ensures { IfOk result (λ trees. trees ≡ leaving test) }
+fn leaving(alloc: Global, origin: u32, test: Valued) -> Result<Seq<CoreTree>, AllocError>
+    ensures { IfOk result (λ trees. trees ≡ leaving origin test) }
 {
     let nothing = Seq::new(alloc);
-    let end = list_of(alloc, leaf(alloc, Head::Break))?;
-    chosen_unused(alloc, test, nothing, end)
+    let end = list_of(alloc, leaf(alloc, origin, Head::Break))?;
+    chosen_unused(alloc, origin, test, nothing, end)
 }
 
 /// The same of an expression.
 fn left(
     cells: &mut Cells,
+    origin: u32,
     frames: &Frames,
     test: &TypedExpression,
 ) -> Result<Seq<CoreTree>, AllocError>
     ensures taken { OnOk result (so_far cells.new
-        ≡ (left frames.now test.now (so_far cells.old)).taken) }
+        ≡ (left origin frames.now test.now (so_far cells.old)).taken) }
     ensures made { IfOk result (λ trees. trees
-        ≡ (left frames.now test.now (so_far cells.old)).made) }
+        ≡ (left origin frames.now test.now (so_far cells.old)).made) }
 {
     let v = used(cells, frames, test)?;
-    leaving(frames.alloc(), v)
+    leaving(frames.alloc(), origin, v)
 }
 
 /// The same of a test that may be left out.
 fn left_unless(
     cells: &mut Cells,
+    origin: u32,
     frames: &Frames,
     test: &Option<TypedExpression>,
 ) -> Result<Seq<CoreTree>, AllocError>
     ensures taken { OnOk result (so_far cells.new
-        ≡ (left_unless frames.now test.now (so_far cells.old)).taken) }
+        ≡ (left_unless origin frames.now test.now (so_far cells.old)).taken) }
     ensures made { IfOk result (λ trees. trees
-        ≡ (left_unless frames.now test.now (so_far cells.old)).made) }
+        ≡ (left_unless origin frames.now test.now (so_far cells.old)).made) }
 {
     match test {
         None => Ok(Seq::new(frames.alloc())),
-        Some(test) => left(cells, frames, test),
+        Some(test) => left(cells, origin, frames, test),
     }
 }
 
 /// A loop, as a list.
 fn looped(
     alloc: Global,
+    origin: u32,
     body: Seq<CoreTree>,
     step: Seq<CoreTree>,
 ) -> Result<Seq<CoreTree>, AllocError>
-    ensures { IfOk result (λ trees. trees ≡ repeated body step ∷ []) }
+    ensures { IfOk result (λ trees. trees ≡ repeated origin body step ∷ []) }
 {
-    let tree = repeated(alloc, body, step)?;
+    let tree = repeated(alloc, origin, body, step)?;
     list_of(alloc, tree)
 }
 
 /// A `while`, by its test and its body.
 fn while_loop(
     alloc: Global,
+    origin: u32,
     test: Seq<CoreTree>,
     body: Seq<CoreTree>,
 ) -> Result<Seq<CoreTree>, AllocError>
-    ensures { IfOk result (λ trees. trees ≡ repeated (test ++ body) [] ∷ []) }
+    ensures { IfOk result (λ trees. trees ≡ repeated origin (test ++ body) [] ∷ []) }
 {
     let turn = joined(test, body)?;
-    looped(alloc, turn, Seq::new(alloc))
+    looped(alloc, origin, turn, Seq::new(alloc))
 }
 
 /// A `do`, which tests behind its body.
 fn do_loop(
     alloc: Global,
+    origin: u32,
     body: Seq<CoreTree>,
     test: Seq<CoreTree>,
 ) -> Result<Seq<CoreTree>, AllocError>
-    ensures { IfOk result (λ trees. trees ≡ repeated body test ∷ []) }
+    ensures { IfOk result (λ trees. trees ≡ repeated origin body test ∷ []) }
 {
-    looped(alloc, body, test)
+    looped(alloc, origin, body, test)
 }
 
 /// A `for`, by what stands before it, its test, its body and its step.
 fn for_loop(
     alloc: Global,
+    origin: u32,
     before: Seq<CoreTree>,
     test: Seq<CoreTree>,
     body: Seq<CoreTree>,
     step: Seq<CoreTree>,
 ) -> Result<Seq<CoreTree>, AllocError>
     ensures { IfOk result (λ trees. trees
-        ≡ block (before ++ repeated (test ++ body) step ∷ []) ∷ []) }
+        ≡ block origin (before ++ repeated origin (test ++ body) step ∷ []) ∷ []) }
 {
     let turn = joined(test, body)?;
-    let turns = repeated(alloc, turn, step)?;
+    let turns = repeated(alloc, origin, turn, step)?;
     let inside = with(before, turns)?;
-    list_of(alloc, block(inside))
+    list_of(alloc, block(origin, inside))
 }
 
 /// A `do` behind its body.
 fn do_behind(
     cells: &mut Cells,
+    origin: u32,
     frames: &Frames,
     body: Seq<CoreTree>,
     test: &TypedExpression,
 ) -> Result<Seq<CoreTree>, AllocError>
     ensures taken { OnOk result (so_far cells.new
-        ≡ (do_behind frames.now body test.now (so_far cells.old)).taken) }
+        ≡ (do_behind origin frames.now body test.now (so_far cells.old)).taken) }
     ensures made { IfOk result (λ trees. trees
-        ≡ (do_behind frames.now body test.now (so_far cells.old)).made) }
+        ≡ (do_behind origin frames.now body test.now (so_far cells.old)).made) }
 {
-    let behind = left(cells, frames, test)?;
-    do_loop(frames.alloc(), body, behind)
+    let behind = left(cells, origin, frames, test)?;
+    do_loop(frames.alloc(), origin, body, behind)
 }
 
 /// What stands before the body of a `for`.
@@ -320,57 +351,67 @@ struct ForFront {
 /// What stands before the body of a `for`.
 fn for_front(
     cells: &mut Cells,
+    origin: u32,
     frames: &Frames,
     start: &TypedForStart,
     test: &Option<TypedExpression>,
 ) -> Result<ForFront, AllocError>
     ensures taken { OnOk result (so_far cells.new
-        ≡ (for_front frames.now start.now test.now (so_far cells.old)).taken) }
+        ≡ (for_front origin frames.now start.now test.now (so_far cells.old)).taken) }
     ensures made { IfOk result (λ front. (front.start, front.test)
-        ≡ (for_front frames.now start.now test.now (so_far cells.old)).made) }
+        ≡ (for_front origin frames.now start.now test.now (so_far cells.old)).made) }
 {
     let start = started(cells, frames, start)?;
-    let test = left_unless(cells, frames, test)?;
+    let test = left_unless(cells, origin, frames, test)?;
     Ok(ForFront { start, test })
 }
 
 /// A `for` behind its body.
 fn for_behind(
     cells: &mut Cells,
+    origin: u32,
     frames: &Frames,
     front: ForFront,
     body: Seq<CoreTree>,
     step: &Option<TypedExpression>,
 ) -> Result<Seq<CoreTree>, AllocError>
     ensures taken { OnOk result (so_far cells.new
-        ≡ (for_behind frames.now (front.start, front.test) body step.now
+        ≡ (for_behind origin frames.now (front.start, front.test) body step.now
         (so_far cells.old)).taken) }
     ensures made { IfOk result (λ trees. trees
-        ≡ (for_behind frames.now (front.start, front.test) body step.now
+        ≡ (for_behind origin frames.now (front.start, front.test) body step.now
         (so_far cells.old)).made) }
 {
     let behind = some_unused(cells, frames, step)?;
-    for_loop(frames.alloc(), front.start, front.test, body, behind)
+    for_loop(
+        frames.alloc(),
+        origin,
+        front.start,
+        front.test,
+        body,
+        behind,
+    )
 }
 
 /// A return.
 fn returned(
     cells: &mut Cells,
+    origin: u32,
     frames: &Frames,
     place: Location,
     value: &Option<TypedExpression>,
 ) -> Result<Seq<CoreTree>, AllocError>
     ensures taken { OnOk result (so_far cells.new
-        ≡ (returned frames.now place value.now (so_far cells.old)).taken) }
+        ≡ (returned origin frames.now place value.now (so_far cells.old)).taken) }
     ensures made { IfOk result (λ trees. trees
-        ≡ (returned frames.now place value.now (so_far cells.old)).made) }
+        ≡ (returned origin frames.now place value.now (so_far cells.old)).made) }
 {
     let alloc = frames.alloc();
     match value {
-        None => list_of(alloc, leaf(alloc, Head::Leave)),
+        None => list_of(alloc, leaf(alloc, origin, Head::Leave)),
         Some(value) => {
-            let before = initialized(cells, frames, place, value)?;
-            with(before, leaf(alloc, Head::Leave))
+            let before = initialized(cells, origin, frames, place, value)?;
+            with(before, leaf(alloc, origin, Head::Leave))
         }
     }
 }
@@ -391,73 +432,94 @@ fn statement(
 {
     let alloc = frames.alloc();
     match s {
-        TypedStatement::Block { items } => {
+        TypedStatement::Block {
+            items,
+            place: origin,
+        } => {
             let inside = in_order(cells, frames, place, items.as_slice())?;
-            list_of(alloc, block(inside))
+            list_of(alloc, block(*origin, inside))
         }
-        TypedStatement::Expression { expression } => some_unused(cells, frames, expression),
-        TypedStatement::If { test, yes, no } => {
+        TypedStatement::Expression { expression, .. } => some_unused(cells, frames, expression),
+        TypedStatement::If {
+            test,
+            yes,
+            no,
+            place: origin,
+        } => {
             let v = used(cells, frames, test)?;
             let first = statement(cells, frames, place, yes.get())?;
             match no {
-                None => chosen_unused(alloc, v, first, Seq::new(alloc)),
+                None => chosen_unused(alloc, *origin, v, first, Seq::new(alloc)),
                 Some(no) => {
                     let second = statement(cells, frames, place, no.get())?;
-                    let trees = chosen_unused(alloc, v, first, second)?;
+                    let trees = chosen_unused(alloc, *origin, v, first, second)?;
                     Ok(trees)
                 }
             }
         }
-        TypedStatement::While { test, body } => {
-            let head = left(cells, frames, test)?;
+        TypedStatement::While {
+            test,
+            body,
+            place: origin,
+        } => {
+            let head = left(cells, *origin, frames, test)?;
             let inside = statement(cells, frames, place, body.get())?;
-            while_loop(alloc, head, inside)
+            while_loop(alloc, *origin, head, inside)
         }
-        TypedStatement::Do { body, test } => {
+        TypedStatement::Do {
+            body,
+            test,
+            place: origin,
+        } => {
             let inside = statement(cells, frames, place, body.get())?;
-            do_behind(cells, frames, inside, test)
+            do_behind(cells, *origin, frames, inside, test)
         }
         TypedStatement::For {
             start,
             test,
             step,
             body,
+            place: origin,
         } => {
-            let front = for_front(cells, frames, start, test)?;
+            let front = for_front(cells, *origin, frames, start, test)?;
             let inside = statement(cells, frames, place, body.get())?;
-            for_behind(cells, frames, front, inside, step)
+            for_behind(cells, *origin, frames, front, inside, step)
         }
-        TypedStatement::Goto { label } => list_of(alloc, leaf(alloc, Head::Goto { label: *label })),
-        TypedStatement::Break => list_of(alloc, leaf(alloc, Head::Break)),
-        TypedStatement::Continue => list_of(alloc, leaf(alloc, Head::Continue)),
-        TypedStatement::Return { value } => returned(cells, frames, place, value),
-        TypedStatement::Labeled { body, .. } => {
+        TypedStatement::Goto {
+            label,
+            place: origin,
+        } => list_of(alloc, leaf(alloc, *origin, Head::Goto { label: *label })),
+        TypedStatement::Break { place: origin } => {
+            list_of(alloc, leaf(alloc, *origin, Head::Break))
+        }
+        TypedStatement::Continue { place: origin } => {
+            list_of(alloc, leaf(alloc, *origin, Head::Continue))
+        }
+        TypedStatement::Return {
+            value,
+            place: origin,
+        } => returned(cells, *origin, frames, place, value),
+        TypedStatement::Labeled {
+            body,
+            place: origin,
+            ..
+        } => {
             let inside = statement(cells, frames, place, body.get())?;
-            labeled(alloc, inside)
+            list_of(alloc, labeled(*origin, inside))
         }
         TypedStatement::Switch {
             value,
             choices,
             otherwise,
             body,
+            place: origin,
             ..
         } => {
-            let kept = switch_front(cells, frames, value)?;
+            let kept = switch_front(cells, *origin, frames, value)?;
             let inside = statement(cells, frames, place, body.get())?;
-            switch_behind(alloc, kept, choices.as_slice(), *otherwise, inside)
+            switch_behind(alloc, *origin, kept, choices.as_slice(), *otherwise, inside)
         }
     }
-}
-
-/// The statement of a label, as a list.
-fn labeled(alloc: Global, inside: Seq<CoreTree>) -> Result<Seq<CoreTree>, AllocError>
-    ensures { IfOk result (λ trees. trees ≡ Node head.Labeled inside ∷ []) }
-{
-    let tree = CoreTree::Node {
-        head: Head::Labeled,
-        parts: inside,
-    };
-    list_of(alloc, tree)
 }
 
 /// Items of a block, in order.

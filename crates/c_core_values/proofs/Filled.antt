@@ -1,8 +1,8 @@
--- The cells of an object, one by one: what is left to fill makes what the whole makes (`fill_kept`,
--- `fill_done`).
+-- The cells of an object, one by one, and their names: what is left to fill makes what the whole
+-- makes (`fill_kept`, `fill_done`, `name_kept`, `names_done`).
 use Rattle.std.proofs.Common.{◌≡◌, ◌<◌, ◌≤◌, ℕ, zero, suc, ◌+◌, ◌-◌, ℤ, pos, List, [], ◌∷◌, ◌++◌}
 use Rattle.std.proofs.Common.{take, length, map, replicate, refl, ap, sym, ◌∙◌, append_assoc}
-use Rattle.std.proofs.Common.{append-nil, arith}
+use Rattle.std.proofs.Common.{append-nil, arith, Option}
 use Rattle.cpa_ints.specs.declared.integers.IntType.{IntType}
 use Rattle.cpa_model.specs.declared.program.Cell.{Cell}
 use Rattle.c_core_rules.specs.Cells.{cell, cells_with}
@@ -58,3 +58,19 @@ fill_done t before n i given whole h w =
     let e : n - i ≡ 0 = omega arith in
     sym (append-nil before)
     ∙ ap (λ k. before ++ cells_with t k given) (sym e) ∙ w
+
+-- a name more
+pub name_kept : (x : Option ℕ) (before after : List (Option ℕ)) (n i : ℕ)
+    (whole : List (Option ℕ)) → i < n → after ≡ before ++ x ∷ [] →
+    before ++ replicate (n - i) x ≡ whole → after ++ replicate (n - (i + 1)) x ≡ whole
+name_kept x before after n i whole h a w =
+    let m = n - (i + 1) in
+    let e : n - i ≡ suc m = omega arith in
+    ap (λ xs. xs ++ replicate m x) a ∙ append_assoc before (x ∷ []) (replicate m x)
+    ∙ ap (λ k. before ++ replicate k x) (sym e) ∙ w
+
+pub names_done : (x : Option ℕ) (before : List (Option ℕ)) (n i : ℕ)
+    (whole : List (Option ℕ)) → n ≤ i → before ++ replicate (n - i) x ≡ whole → before ≡ whole
+names_done x before n i whole h w =
+    let e : n - i ≡ 0 = omega arith in
+    sym (append-nil before) ∙ ap (λ k. before ++ replicate k x) (sym e) ∙ w

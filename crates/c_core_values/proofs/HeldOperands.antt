@@ -20,28 +20,28 @@ full_have (v ∷ vs) = elim (is_pure v) as (λ b.
       | false ↦ grind (arith, nat_tests)
     ]
 
-chosen_either : (b : Bool) (v : Valued) →
-    (if b then held v else gives v) ≡ (if not b then gives v else held v)
-chosen_either true v = refl
-chosen_either false v = refl
+chosen_either : (origin : ℕ) (b : Bool) (v : Valued) →
+    (if b then held origin v else gives v) ≡ (if not b then gives v else held origin v)
+chosen_either origin true v = refl
+chosen_either origin false v = refl
 
-held_full : (v : Valued) (vs : List Valued) →
-    (if have_statements vs then held v else gives v) ≡ held_where (full_count vs) v
-held_full v vs =
-    chosen_either (have_statements vs) v
-    ∙ ap (λ (b : Bool). if b then gives v else held v) (sym (full_have vs))
+held_full : (origin : ℕ) (v : Valued) (vs : List Valued) →
+    (if have_statements vs then held origin v else gives v) ≡ held_where origin (full_count vs) v
+held_full origin v vs =
+    chosen_either origin (have_statements vs) v
+    ∙ ap (λ (b : Bool). if b then gives v else held origin v) (sym (full_have vs))
 
-hold_more : (v : Valued) (vs : List Valued) (taken : Taken) →
-    hold_all (v ∷ vs) taken
-    ≡ (let m = held_where (full_count vs) v taken in
-    let n = hold_all vs m.taken in
+hold_more : (origin : ℕ) (v : Valued) (vs : List Valued) (taken : Taken) →
+    hold_all origin (v ∷ vs) taken
+    ≡ (let m = held_where origin (full_count vs) v taken in
+    let n = hold_all origin vs m.taken in
     record { taken = n.taken; made = m.made ∷ n.made })
-hold_more v vs taken =
+hold_more origin v vs taken =
     ap (λ (rule : Rule Valued).
     let m = rule taken in
-    let n = hold_all vs m.taken in
+    let n = hold_all origin vs m.taken in
     record { taken = n.taken; made = m.made ∷ n.made })
-    (held_full v vs)
+    (held_full origin v vs)
 
 less_one : (b : Bool) (n : ℕ) →
     (if b then elim b [ true ↦ n | false ↦ n + 1 ] else elim b [ true ↦ n | false ↦ n + 1 ] - 1)
@@ -49,32 +49,32 @@ less_one : (b : Bool) (n : ℕ) →
 less_one true n = refl
 less_one false n = omega arith
 
-pub hold_kept : (kept new vs xs : List Valued) (v y : Valued) (left less : ℕ)
+pub hold_kept : (origin : ℕ) (kept new vs xs : List Valued) (v y : Valued) (left less : ℕ)
     (taken later : Taken) (whole : Made (List Valued)) → xs ≡ v ∷ vs → left ≡ full_count xs →
-    less ≡ left_behind left v → later ≡ (held_where less v taken).taken →
-    y ≡ (held_where less v taken).made → new ≡ kept ++ y ∷ [] →
-    (hold_all xs taken).taken ≡ whole.taken →
-    kept ++ (hold_all xs taken).made ≡ whole.made →
-    (less ≡ full_count vs) × ((hold_all vs later).taken ≡ whole.taken)
-    × (new ++ (hold_all vs later).made ≡ whole.made)
-hold_kept kept new vs xs v y left less taken later whole x l b t m n c w =
+    less ≡ left_behind left v → later ≡ (held_where origin less v taken).taken →
+    y ≡ (held_where origin less v taken).made → new ≡ kept ++ y ∷ [] →
+    (hold_all origin xs taken).taken ≡ whole.taken →
+    kept ++ (hold_all origin xs taken).made ≡ whole.made →
+    (less ≡ full_count vs) × ((hold_all origin vs later).taken ≡ whole.taken)
+    × (new ++ (hold_all origin vs later).made ≡ whole.made)
+hold_kept origin kept new vs xs v y left less taken later whole x l b t m n c w =
     let e : less ≡ full_count vs =
     b ∙ ap (λ k. left_behind k v) (l ∙ ap full_count x) ∙ less_one (is_pure v) (full_count vs) in
-    let same : held_where less v taken ≡ held_where (full_count vs) v taken =
-    ap (λ k. held_where k v taken) e in
-    let one = held_where (full_count vs) v taken in
-    let s : hold_all xs taken ≡ (let n = hold_all vs one.taken in
+    let same : held_where origin less v taken ≡ held_where origin (full_count vs) v taken =
+    ap (λ k. held_where origin k v taken) e in
+    let one = held_where origin (full_count vs) v taken in
+    let s : hold_all origin xs taken ≡ (let n = hold_all origin vs one.taken in
     record { taken = n.taken; made = one.made ∷ n.made }) =
-    ap (λ ys. hold_all ys taken) x ∙ hold_more v vs taken in
+    ap (λ ys. hold_all origin ys taken) x ∙ hold_more origin v vs taken in
     let g : later ≡ one.taken = t ∙ ap (λ (k : Made Valued). k.taken) same in
     let u : y ≡ one.made = m ∙ ap (λ (k : Made Valued). k.made) same in (
       e,
-      ap (λ k. (hold_all vs k).taken) g
+      ap (λ k. (hold_all origin vs k).taken) g
           ∙ sym (ap (λ (k : Made (List Valued)). k.taken) s) ∙ c,
-      ap (λ ys. ys ++ (hold_all vs later).made) n
-          ∙ append_assoc kept (y ∷ []) (hold_all vs later).made
-          ∙ ap (λ k. kept ++ (y ∷ (hold_all vs k).made)) g
-          ∙ ap (λ k. kept ++ (k ∷ (hold_all vs one.taken).made)) u
+      ap (λ ys. ys ++ (hold_all origin vs later).made) n
+          ∙ append_assoc kept (y ∷ []) (hold_all origin vs later).made
+          ∙ ap (λ k. kept ++ (y ∷ (hold_all origin vs k).made)) g
+          ∙ ap (λ k. kept ++ (k ∷ (hold_all origin vs one.taken).made)) u
           ∙ ap (λ k. kept ++ k) (sym (ap (λ (k : Made (List Valued)). k.made) s)) ∙ w,
     )
 

@@ -8,7 +8,11 @@ abbrev pub found_starts : {S : Type 0} → HashMap ℕ ℕ S → ℕ → Option 
 found_starts starts number = get nat_eq starts number
 
 unfoldable pub so_far : Cells → Taken
-so_far cells = record { cells = cells.cells.items; starts = found_starts cells.starts }
+so_far cells = record {
+  cells = cells.cells.items;
+  names = cells.names.items;
+  starts = found_starts cells.starts;
+}
 
 -- what a cell starts at that takes the first of these values, and the values behind it
 abbrev pub first_value : List ℤ → ℤ

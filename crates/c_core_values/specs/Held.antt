@@ -15,5 +15,5 @@ abbrev pub left_behind : ℕ → Valued → ℕ
 left_behind n v = if is_pure v then n else n - 1
 
 -- a value, held where some behind it have statements
-abbrev pub held_where : ℕ → Valued → Rule Valued
-held_where n v = if n == 0 then gives v else held v
+abbrev pub held_where : ℕ → ℕ → Valued → Rule Valued
+held_where origin n v = if n == 0 then gives v else held origin v

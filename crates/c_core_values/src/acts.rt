@@ -56,11 +56,16 @@ pub(crate) fn followed(v: Valued, behind: Seq<CoreTree>) -> Result<Valued, Alloc
 }
 
 /// Statements that end with a value in a cell.
-fn value_in(alloc: Global, place: Location, v: Valued) -> Result<Seq<CoreTree>, AllocError>
-    ensures { IfOk result (λ trees. trees ≡ v.statements ++ set place v.value ∷ []) }
+fn value_in(
+    alloc: Global,
+    origin: u32,
+    place: Location,
+    v: Valued,
+) -> Result<Seq<CoreTree>, AllocError>
+    ensures { IfOk result (λ trees. trees ≡ v.statements ++ set origin place v.value ∷ []) }
 {
     let Valued { statements, value } = v;
-    let written = set(alloc, place, value)?;
+    let written = set(alloc, origin, place, value)?;
     with(statements, written)
 }
 
@@ -84,54 +89,55 @@ struct Kept {
 }
 
 /// A value in a fresh cell of this type.
-fn keep(cells: &mut Cells, ty: IntType, v: Valued) -> Result<Kept, AllocError>
+fn keep(cells: &mut Cells, origin: u32, ty: IntType, v: Valued) -> Result<Kept, AllocError>
     ensures taken { OnOk result (so_far cells.new ≡ (fresh ty (so_far cells.old)).taken) }
     ensures place { IfOk result (λ k. k.place ≡ (fresh ty (so_far cells.old)).made) }
     ensures statements { IfOk result (λ k. k.statements
-        ≡ v.statements ++ set (fresh ty (so_far cells.old)).made v.value ∷ []) }
+        ≡ v.statements ++ set origin (fresh ty (so_far cells.old)).made v.value ∷ []) }
 {
     let place = cells.fresh(ty)?;
-    let statements = value_in(cells.alloc(), place, v)?;
+    let statements = value_in(cells.alloc(), origin, place, v)?;
     Ok(Kept { place, statements })
 }
 
 /// A value that is held in a fresh cell.
-pub(crate) fn held(cells: &mut Cells, v: Valued) -> Result<Valued, AllocError>
+pub(crate) fn held(cells: &mut Cells, origin: u32, v: Valued) -> Result<Valued, AllocError>
     ensures taken { OnOk result (so_far cells.new
-        ≡ (held v (so_far cells.old)).taken) }
-    ensures made { IfOk result (λ w. w ≡ (held v (so_far cells.old)).made) }
+        ≡ (held origin v (so_far cells.old)).taken) }
+    ensures made { IfOk result (λ w. w ≡ (held origin v (so_far cells.old)).made) }
 {
     let ty = type_of(v.value.get());
-    let Kept { place, statements } = keep(cells, ty, v)?;
+    let Kept { place, statements } = keep(cells, origin, ty, v)?;
     read_behind(cells.alloc(), statements, place)
 }
 
 /// A value that is held with its type promoted.
-pub fn held_promoted(cells: &mut Cells, v: Valued) -> Result<Valued, AllocError>
+pub fn held_promoted(cells: &mut Cells, origin: u32, v: Valued) -> Result<Valued, AllocError>
     ensures taken { OnOk result (so_far cells.new
-        ≡ (held (valued v.statements (promote v.value)) (so_far cells.old)).taken) }
+        ≡ (held origin (valued v.statements (promote v.value)) (so_far cells.old)).taken) }
     ensures made { IfOk result (λ w. w
-        ≡ (held (valued v.statements (promote v.value)) (so_far cells.old)).made) }
+        ≡ (held origin (valued v.statements (promote v.value)) (so_far cells.old)).made) }
 {
     let Valued { statements, value } = v;
     let value = promote(cells.alloc(), value)?;
-    held(cells, Valued { statements, value })
+    held(cells, origin, Valued { statements, value })
 }
 
 /// A value that is held where a later one has statements.
 pub(crate) fn held_before(
     cells: &mut Cells,
+    origin: u32,
     v: Valued,
     later: &Valued,
 ) -> Result<Valued, AllocError>
     ensures taken { OnOk result (so_far cells.new
-        ≡ (held_before v later.now (so_far cells.old)).taken) }
-    ensures made { IfOk result (λ w. w ≡ (held_before v later.now (so_far cells.old)).made) }
+        ≡ (held_before origin v later.now (so_far cells.old)).taken) }
+    ensures made { IfOk result (λ w. w ≡ (held_before origin v later.now (so_far cells.old)).made) }
 {
     if is_pure(later) {
         Ok(v)
     } else {
-        held(cells, v)
+        held(cells, origin, v)
     }
 }
 
@@ -157,23 +163,29 @@ pub(crate) fn operated(
 }
 
 /// The truth of a value in a fresh cell.
-fn keep_truth(cells: &mut Cells, v: Valued) -> Result<Kept, AllocError>
+fn keep_truth(cells: &mut Cells, origin: u32, v: Valued) -> Result<Kept, AllocError>
     ensures taken { OnOk result (so_far cells.new ≡ (fresh ty.I32 (so_far cells.old)).taken) }
     ensures place { IfOk result (λ k. k.place ≡ (fresh ty.I32 (so_far cells.old)).made) }
     ensures statements { IfOk result (λ k. k.statements
-        ≡ v.statements ++ set (fresh ty.I32 (so_far cells.old)).made (truth_of v.value) ∷ []) }
+        ≡ v.statements ++ set origin (fresh ty.I32 (so_far cells.old)).made
+        (truth_of v.value) ∷ []) }
 {
     let Valued { statements, value } = v;
     let value = truth_of(cells.alloc(), value)?;
-    keep(cells, IntType::I32, Valued { statements, value })
+    keep(cells, origin, IntType::I32, Valued { statements, value })
 }
 
 /// A small number in a cell.
-fn number_in(alloc: Global, place: Location, number: u32) -> Result<Seq<CoreTree>, AllocError>
-    ensures { IfOk result (λ trees. trees ≡ set place (int number) ∷ []) }
+fn number_in(
+    alloc: Global,
+    origin: u32,
+    place: Location,
+    number: u32,
+) -> Result<Seq<CoreTree>, AllocError>
+    ensures { IfOk result (λ trees. trees ≡ set origin place (int number) ∷ []) }
 {
     let value = int(alloc, number)?;
-    let written = set(alloc, place, value)?;
+    let written = set(alloc, origin, place, value)?;
     list_of(alloc, written)
 }
 
@@ -188,26 +200,27 @@ struct Ends {
 /// A test, and a choice by it.
 fn chosen_behind(
     alloc: Global,
+    origin: u32,
     test: Valued,
     yes: Seq<CoreTree>,
     no: Seq<CoreTree>,
 ) -> Result<Seq<CoreTree>, AllocError>
     ensures { IfOk result (λ trees. trees
-        ≡ test.statements ++ choice test.value yes no ∷ []) }
+        ≡ test.statements ++ choice origin test.value yes no ∷ []) }
 {
     let Valued { statements, value } = test;
-    let choice = choice(alloc, value, yes, no)?;
+    let choice = choice(alloc, origin, value, yes, no)?;
     with(statements, choice)
 }
 
 /// A test, a choice by it that leaves a value in a cell, and the cell.
-fn chosen_into(alloc: Global, test: Valued, ends: Ends) -> Result<Valued, AllocError>
+fn chosen_into(alloc: Global, origin: u32, test: Valued, ends: Ends) -> Result<Valued, AllocError>
     ensures { IfOk result (λ v. v
-        ≡ valued (test.statements ++ choice test.value ends.yes ends.no ∷ [])
+        ≡ valued (test.statements ++ choice origin test.value ends.yes ends.no ∷ [])
         (scalar ends.place)) }
 {
     let Ends { place, yes, no } = ends;
-    let statements = chosen_behind(alloc, test, yes, no)?;
+    let statements = chosen_behind(alloc, origin, test, yes, no)?;
     read_behind(alloc, statements, place)
 }
 
@@ -221,16 +234,16 @@ fn both_purely(alloc: Global, left: Valued, right: Boxed<Expr>) -> Result<Valued
 }
 
 /// The ends of `left && right`: the truth of the right side, and 0.
-fn both_ends(cells: &mut Cells, right: Valued) -> Result<Ends, AllocError>
+fn both_ends(cells: &mut Cells, origin: u32, right: Valued) -> Result<Ends, AllocError>
     ensures taken { OnOk result (so_far cells.new ≡ (fresh ty.I32 (so_far cells.old)).taken) }
     ensures place { IfOk result (λ ends. ends.place ≡ (fresh ty.I32 (so_far cells.old)).made) }
     ensures yes { IfOk result (λ ends. ends.yes ≡ right.statements
-        ++ set (fresh ty.I32 (so_far cells.old)).made (truth_of right.value) ∷ []) }
+        ++ set origin (fresh ty.I32 (so_far cells.old)).made (truth_of right.value) ∷ []) }
     ensures no { IfOk result (λ ends. ends.no
-        ≡ set (fresh ty.I32 (so_far cells.old)).made (int 0) ∷ []) }
+        ≡ set origin (fresh ty.I32 (so_far cells.old)).made (int 0) ∷ []) }
 {
-    let yes = keep_truth(cells, right)?;
-    let no = number_in(cells.alloc(), yes.place, 0)?;
+    let yes = keep_truth(cells, origin, right)?;
+    let no = number_in(cells.alloc(), origin, yes.place, 0)?;
     Ok(Ends {
         place: yes.place,
         yes: yes.statements,
@@ -239,16 +252,21 @@ fn both_ends(cells: &mut Cells, right: Valued) -> Result<Ends, AllocError>
 }
 
 /// `left && right`.
-fn both_hold(cells: &mut Cells, left: Valued, right: Valued) -> Result<Valued, AllocError>
+fn both_hold(
+    cells: &mut Cells,
+    origin: u32,
+    left: Valued,
+    right: Valued,
+) -> Result<Valued, AllocError>
     ensures taken { OnOk result (so_far cells.new
-        ≡ (both_hold left right (so_far cells.old)).taken) }
-    ensures made { IfOk result (λ v. v ≡ (both_hold left right (so_far cells.old)).made) }
+        ≡ (both_hold origin left right (so_far cells.old)).taken) }
+    ensures made { IfOk result (λ v. v ≡ (both_hold origin left right (so_far cells.old)).made) }
 {
     if is_pure(&right) {
         return both_purely(cells.alloc(), left, value_of(right));
     }
-    let ends = both_ends(cells, right)?;
-    chosen_into(cells.alloc(), left, ends)
+    let ends = both_ends(cells, origin, right)?;
+    chosen_into(cells.alloc(), origin, left, ends)
 }
 
 /// `left || right` without a fresh cell.
@@ -261,16 +279,16 @@ fn one_purely(alloc: Global, left: Valued, right: Boxed<Expr>) -> Result<Valued,
 }
 
 /// The ends of `left || right`: 1, and the truth of the right side.
-fn one_ends(cells: &mut Cells, right: Valued) -> Result<Ends, AllocError>
+fn one_ends(cells: &mut Cells, origin: u32, right: Valued) -> Result<Ends, AllocError>
     ensures taken { OnOk result (so_far cells.new ≡ (fresh ty.I32 (so_far cells.old)).taken) }
     ensures place { IfOk result (λ ends. ends.place ≡ (fresh ty.I32 (so_far cells.old)).made) }
     ensures yes { IfOk result (λ ends. ends.yes
-        ≡ set (fresh ty.I32 (so_far cells.old)).made (int 1) ∷ []) }
+        ≡ set origin (fresh ty.I32 (so_far cells.old)).made (int 1) ∷ []) }
     ensures no { IfOk result (λ ends. ends.no ≡ right.statements
-        ++ set (fresh ty.I32 (so_far cells.old)).made (truth_of right.value) ∷ []) }
+        ++ set origin (fresh ty.I32 (so_far cells.old)).made (truth_of right.value) ∷ []) }
 {
-    let no = keep_truth(cells, right)?;
-    let yes = number_in(cells.alloc(), no.place, 1)?;
+    let no = keep_truth(cells, origin, right)?;
+    let yes = number_in(cells.alloc(), origin, no.place, 1)?;
     Ok(Ends {
         place: no.place,
         yes,
@@ -279,34 +297,41 @@ fn one_ends(cells: &mut Cells, right: Valued) -> Result<Ends, AllocError>
 }
 
 /// `left || right`.
-fn one_holds(cells: &mut Cells, left: Valued, right: Valued) -> Result<Valued, AllocError>
+fn one_holds(
+    cells: &mut Cells,
+    origin: u32,
+    left: Valued,
+    right: Valued,
+) -> Result<Valued, AllocError>
     ensures taken { OnOk result (so_far cells.new
-        ≡ (one_holds left right (so_far cells.old)).taken) }
-    ensures made { IfOk result (λ v. v ≡ (one_holds left right (so_far cells.old)).made) }
+        ≡ (one_holds origin left right (so_far cells.old)).taken) }
+    ensures made { IfOk result (λ v. v ≡ (one_holds origin left right (so_far cells.old)).made) }
 {
     if is_pure(&right) {
         return one_purely(cells.alloc(), left, value_of(right));
     }
-    let ends = one_ends(cells, right)?;
-    chosen_into(cells.alloc(), left, ends)
+    let ends = one_ends(cells, origin, right)?;
+    chosen_into(cells.alloc(), origin, left, ends)
 }
 
 /// `left operator right` in a chain.
 pub fn linked(
     cells: &mut Cells,
+    origin: u32,
     operator: BinaryOperator,
     left: Valued,
     right: Valued,
 ) -> Result<Valued, AllocError>
     ensures taken { OnOk result (so_far cells.new
-        ≡ (linked operator left right (so_far cells.old)).taken) }
-    ensures made { IfOk result (λ v. v ≡ (linked operator left right (so_far cells.old)).made) }
+        ≡ (linked origin operator left right (so_far cells.old)).taken) }
+    ensures made { IfOk result (λ v. v
+        ≡ (linked origin operator left right (so_far cells.old)).made) }
 {
     match operator {
-        BinaryOperator::LogicalAnd => both_hold(cells, left, right),
-        BinaryOperator::LogicalOr => one_holds(cells, left, right),
+        BinaryOperator::LogicalAnd => both_hold(cells, origin, left, right),
+        BinaryOperator::LogicalOr => one_holds(cells, origin, left, right),
         _ => {
-            let first = held_before(cells, left, &right)?;
+            let first = held_before(cells, origin, left, &right)?;
             operated(cells.alloc(), operator, first, right)
         }
     }
@@ -331,16 +356,22 @@ pub fn cast_to(alloc: Global, ty: IntType, v: Valued) -> Result<Valued, AllocErr
 }
 
 /// The ends of a conditional: each value in one cell of this type.
-fn chosen_ends(cells: &mut Cells, ty: IntType, yes: Valued, no: Valued) -> Result<Ends, AllocError>
+fn chosen_ends(
+    cells: &mut Cells,
+    origin: u32,
+    ty: IntType,
+    yes: Valued,
+    no: Valued,
+) -> Result<Ends, AllocError>
     ensures taken { OnOk result (so_far cells.new ≡ (fresh ty (so_far cells.old)).taken) }
     ensures place { IfOk result (λ ends. ends.place ≡ (fresh ty (so_far cells.old)).made) }
     ensures yes { IfOk result (λ ends. ends.yes
-        ≡ yes.statements ++ set (fresh ty (so_far cells.old)).made yes.value ∷ []) }
+        ≡ yes.statements ++ set origin (fresh ty (so_far cells.old)).made yes.value ∷ []) }
     ensures no { IfOk result (λ ends. ends.no
-        ≡ no.statements ++ set (fresh ty (so_far cells.old)).made no.value ∷ []) }
+        ≡ no.statements ++ set origin (fresh ty (so_far cells.old)).made no.value ∷ []) }
 {
-    let yes = keep(cells, ty, yes)?;
-    let no = value_in(cells.alloc(), yes.place, no)?;
+    let yes = keep(cells, origin, ty, yes)?;
+    let no = value_in(cells.alloc(), origin, yes.place, no)?;
     Ok(Ends {
         place: yes.place,
         yes: yes.statements,
@@ -351,17 +382,19 @@ fn chosen_ends(cells: &mut Cells, ty: IntType, yes: Valued, no: Valued) -> Resul
 /// A conditional with a fresh cell for its value.
 fn chosen_by(
     cells: &mut Cells,
+    origin: u32,
     ty: IntType,
     test: Valued,
     yes: Valued,
     no: Valued,
 ) -> Result<Valued, AllocError>
     ensures taken { OnOk result (so_far cells.new
-        ≡ (chosen_by ty test yes no (so_far cells.old)).taken) }
-    ensures made { IfOk result (λ v. v ≡ (chosen_by ty test yes no (so_far cells.old)).made) }
+        ≡ (chosen_by origin ty test yes no (so_far cells.old)).taken) }
+    ensures made { IfOk result (λ v. v
+        ≡ (chosen_by origin ty test yes no (so_far cells.old)).made) }
 {
-    let ends = chosen_ends(cells, ty, yes, no)?;
-    chosen_into(cells.alloc(), test, ends)
+    let ends = chosen_ends(cells, origin, ty, yes, no)?;
+    chosen_into(cells.alloc(), origin, test, ends)
 }
 
 /// A conditional without a fresh cell.
@@ -382,43 +415,44 @@ fn chosen_purely(
 /// `test ? yes : no`.
 pub fn chosen(
     cells: &mut Cells,
+    origin: u32,
     test: Valued,
     yes: Valued,
     no: Valued,
 ) -> Result<Valued, AllocError>
     ensures taken { OnOk result (so_far cells.new
-        ≡ (chosen test yes no (so_far cells.old)).taken) }
-    ensures made { IfOk result (λ v. v ≡ (chosen test yes no (so_far cells.old)).made) }
+        ≡ (chosen origin test yes no (so_far cells.old)).taken) }
+    ensures made { IfOk result (λ v. v ≡ (chosen origin test yes no (so_far cells.old)).made) }
 {
     if is_pure(&yes) && is_pure(&no) {
         return chosen_purely(cells.alloc(), test, value_of(yes), value_of(no));
     }
     let ty = common(type_of(yes.value.get()), type_of(no.value.get()));
-    chosen_by(cells, ty, test, yes, no)
+    chosen_by(cells, origin, ty, test, yes, no)
 }
 
 /// A value that is not used.
-pub fn dropped_value(cells: &mut Cells, v: Valued) -> Result<Seq<CoreTree>, AllocError>
+pub fn dropped_value(cells: &mut Cells, origin: u32, v: Valued) -> Result<Seq<CoreTree>, AllocError>
     ensures taken { OnOk result (so_far cells.new
-        ≡ (dropped_value v (so_far cells.old)).taken) }
-    ensures made { IfOk result (λ trees. trees ≡ (dropped_value v (so_far cells.old)).made) }
+        ≡ (dropped_value origin v (so_far cells.old)).taken) }
+    ensures made { IfOk result (λ trees. trees ≡ (dropped_value origin v (so_far cells.old)).made) }
 {
     if is_constant(v.value.get()) {
         return Ok(statements_of(v));
     }
-    let kept = held(cells, v)?;
+    let kept = held(cells, origin, v)?;
     Ok(statements_of(kept))
 }
 
 /// An index that stays as it is.
-pub(crate) fn fixed(cells: &mut Cells, index: Valued) -> Result<Valued, AllocError>
+pub(crate) fn fixed(cells: &mut Cells, origin: u32, index: Valued) -> Result<Valued, AllocError>
     ensures taken { OnOk result (so_far cells.new
-        ≡ (fixed index (so_far cells.old)).taken) }
-    ensures made { IfOk result (λ v. v ≡ (fixed index (so_far cells.old)).made) }
+        ≡ (fixed origin index (so_far cells.old)).taken) }
+    ensures made { IfOk result (λ v. v ≡ (fixed origin index (so_far cells.old)).made) }
 {
     if is_constant(index.value.get()) {
         Ok(index)
     } else {
-        held(cells, index)
+        held(cells, origin, index)
     }
 }

@@ -1,6 +1,6 @@
-//! The cells taken so far, and where those of each object begin, found by hash (`c_core_rules`,
-//! `specs/Cells.antt`). Proved with `proofs/Filled.antt`.
-ghost use Rattle.std.specs.Prelude.{◌≡◌, [], ◌∷◌, ◌++◌, length, IfOk, OnOk, None, Some};
+//! The cells taken so far, with their names, and where those of each object begin, found by hash
+//! (`c_core_rules`, `specs/Cells.antt`). Proved with `proofs/Filled.antt`.
+ghost use Rattle.std.specs.Prelude.{◌≡◌, [], ◌∷◌, ◌++◌, length, replicate, IfOk, OnOk, None, Some};
 ghost use Rattle.c_types_rules.specs.declared.meaning.Meaning.TheVariants as meaning;
 ghost use Rattle.c_types_rules.specs.Tables.{cells_of};
 ghost use Rattle.c_core_rules.specs.Cells.{nothing_taken, fresh, taking, begun};
@@ -23,7 +23,15 @@ type Starts = HashMap<u32, u32>;
 pub struct Cells {
     alloc: Global,
     cells: Vec<Cell>,
+    names: Vec<Option<u32>>,
     starts: Starts,
+}
+
+/// All cells, in order, and of each of an object or of a parameter the place of its name.
+#[derive(Drop)]
+pub struct TakenCells {
+    pub cells: Seq<Cell>,
+    pub names: Seq<Option<u32>>,
 }
 
 impl Cells {
@@ -35,6 +43,7 @@ impl Cells {
         Cells {
             alloc,
             cells: Vec::new(alloc),
+            names: Vec::new(alloc),
             starts: no_starts(alloc),
         }
     }
@@ -60,6 +69,7 @@ impl Cells {
     {
         let number = self.next()?;
         self.cells.push(Cell { ty, start: 0 })?;
+        self.names.push(None)?;
         Ok(cell_at(ty, number))
     }
 
@@ -74,6 +84,7 @@ impl Cells {
     {
         let first = self.next()?;
         fill(&mut self.cells, object.ty, cells_of(object), values)?;
+        push_names(&mut self.names, cells_of(object), object.place)?;
         begin(&mut self.starts, object.number, first)?;
         Ok(first)
     }
@@ -113,12 +124,16 @@ impl Cells {
         Ok(cell_at(place.ty, place.base))
     }
 
-    /// The cells, in order.
+    /// The cells, in order, and their names.
     #[tactic(auto, unfolding(crate::specs::Found::so_far))]
-    pub fn into_cells(self) -> Seq<Cell>
-        ensures { result ≡ (so_far self).cells }
+    pub fn into_cells(self) -> TakenCells
+        ensures cells { result.cells ≡ (so_far self).cells }
+        ensures names { result.names ≡ (so_far self).names }
     {
-        Seq::from_vec(self.cells)
+        TakenCells {
+            cells: Seq::from_vec(self.cells),
+            names: Seq::from_vec(self.names),
+        }
     }
 }
 
@@ -185,6 +200,20 @@ fn fill(cells: &mut Vec<Cell>, ty: IntType, count: u128, values: &[i128]) -> Res
     for _place in 0..count {
         push_cell(cells, ty, values)?;
         values = values_behind(values);
+    }
+    Ok(())
+}
+
+/// Adds so many cells of the name at this place.
+fn push_names(
+    names: &mut Vec<Option<u32>>,
+    count: u128,
+    place: Option<u32>,
+) -> Result<(), AllocError>
+    ensures { OnOk result (names.new.items ≡ names.old.items ++ replicate count place) }
+{
+    for _cell in 0..count {
+        names.push(place)?;
     }
     Ok(())
 }

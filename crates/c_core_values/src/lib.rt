@@ -10,8 +10,8 @@ mod trees;
 mod values;
 
 pub use acts::{cast_to, chosen, dropped_value, held_promoted, linked, signed};
-pub use cells::Cells;
+pub use cells::{Cells, TakenCells};
 pub use operands::{divided, hold_all};
 pub use places::{changed, fixed_if, incremented, stepped};
-pub use trees::{block, choice, input, joined, leaf, list_of, pure, repeated, set, with};
+pub use trees::{block, choice, input, joined, labeled, leaf, list_of, pure, repeated, set, with};
 pub use values::{cell_at, element, int, number, scalar};

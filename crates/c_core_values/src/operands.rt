@@ -39,26 +39,34 @@ fn left_behind(count: usize, first: &Valued) -> usize
 }
 
 /// A value that is held where some behind it have statements.
-fn held_where(cells: &mut Cells, count: usize, v: Valued) -> Result<Valued, AllocError>
+fn held_where(cells: &mut Cells, origin: u32, count: usize, v: Valued) -> Result<Valued, AllocError>
     ensures taken { OnOk result (so_far cells.new
-        ≡ (held_where count v (so_far cells.old)).taken) }
-    ensures made { IfOk result (λ w. w ≡ (held_where count v (so_far cells.old)).made) }
+        ≡ (held_where origin count v (so_far cells.old)).taken) }
+    ensures made { IfOk result (λ w. w ≡ (held_where origin count v (so_far cells.old)).made) }
 {
-    if count == 0 { Ok(v) } else { held(cells, v) }
+    if count == 0 {
+        Ok(v)
+    } else {
+        held(cells, origin, v)
+    }
 }
 
 /// Operands, each held that has statements behind it.
-pub fn hold_all(cells: &mut Cells, operands: Vec<Valued>) -> Result<Vec<Valued>, AllocError>
+pub fn hold_all(
+    cells: &mut Cells,
+    origin: u32,
+    operands: Vec<Valued>,
+) -> Result<Vec<Valued>, AllocError>
     ensures taken { OnOk result (so_far cells.new
-        ≡ (hold_all operands.items (so_far cells.old)).taken) }
+        ≡ (hold_all origin operands.items (so_far cells.old)).taken) }
     ensures made { IfOk result (λ vs. vs.items
-        ≡ (hold_all operands.items (so_far cells.old)).made) }
+        ≡ (hold_all origin operands.items (so_far cells.old)).made) }
 {
     let mut left = full_count(&operands);
     let mut kept = Vec::new(cells.alloc());
     for v in operands {
         left = left_behind(left, &v);
-        kept.push(held_where(cells, left, v)?)?;
+        kept.push(held_where(cells, origin, left, v)?)?;
     }
     Ok(kept)
 }

@@ -1,7 +1,8 @@
-//! Core statements and lists of them (`c_core_rules`, `specs/Trees.antt`). Proved by the checker
-//! alone.
+//! Core statements and lists of them (`c_core_rules`, `specs/Trees.antt`), each at the place of the
+//! text that it comes from. Proved by the checker alone.
 ghost use Rattle.std.specs.Prelude.{◌≡◌, [], ◌∷◌, ◌++◌, IfOk};
-ghost use Rattle.c_core_rules.specs.Trees.{leaf, block, choice, repeated, write, set, input, pure};
+ghost use Rattle.c_core_rules.specs.Trees.{leaf, block, labeled, choice, repeated, write, set};
+ghost use Rattle.c_core_rules.specs.Trees.{input, pure};
 
 use crate::values::int;
 use c_core_operators::conv;
@@ -40,77 +41,96 @@ pub fn joined(trees: Seq<CoreTree>, behind: Seq<CoreTree>) -> Result<Seq<CoreTre
 }
 
 /// A statement without parts.
-pub fn leaf(alloc: Global, head: Head) -> CoreTree
-    ensures { result ≡ leaf head }
+pub fn leaf(alloc: Global, origin: u32, head: Head) -> CoreTree
+    ensures { result ≡ leaf origin head }
 {
     CoreTree::Node {
         head,
         parts: Seq::new(alloc),
+        place: origin,
     }
 }
 
 /// A block of these.
-pub fn block(items: Seq<CoreTree>) -> CoreTree
-    ensures { result ≡ block items }
+pub fn block(origin: u32, items: Seq<CoreTree>) -> CoreTree
+    ensures { result ≡ block origin items }
 {
     CoreTree::Node {
         head: Head::Block,
         parts: items,
+        place: origin,
+    }
+}
+
+/// What a label stands before.
+pub fn labeled(origin: u32, items: Seq<CoreTree>) -> CoreTree
+    ensures { result ≡ labeled origin items }
+{
+    CoreTree::Node {
+        head: Head::Labeled,
+        parts: items,
+        place: origin,
     }
 }
 
 /// Two blocks.
 fn blocks(
     alloc: Global,
+    origin: u32,
     first: Seq<CoreTree>,
     second: Seq<CoreTree>,
 ) -> Result<Seq<CoreTree>, AllocError>
-    ensures { IfOk result (λ parts. parts ≡ block first ∷ block second ∷ []) }
+    ensures { IfOk result (λ parts. parts ≡ block origin first ∷ block origin second ∷ []) }
 {
-    let parts = list_of(alloc, block(first))?;
-    with(parts, block(second))
+    let parts = list_of(alloc, block(origin, first))?;
+    with(parts, block(origin, second))
 }
 
 /// A choice by a test.
 pub fn choice(
     alloc: Global,
+    origin: u32,
     test: Boxed<Expr>,
     yes: Seq<CoreTree>,
     no: Seq<CoreTree>,
 ) -> Result<CoreTree, AllocError>
-    ensures { IfOk result (λ tree. tree ≡ choice test yes no) }
+    ensures { IfOk result (λ tree. tree ≡ choice origin test yes no) }
 {
-    let parts = blocks(alloc, yes, no)?;
+    let parts = blocks(alloc, origin, yes, no)?;
     let test = test.into_inner();
     Ok(CoreTree::Node {
         head: Head::If { test },
         parts,
+        place: origin,
     })
 }
 
 /// A loop with this body and this step.
 pub fn repeated(
     alloc: Global,
+    origin: u32,
     body: Seq<CoreTree>,
     step: Seq<CoreTree>,
 ) -> Result<CoreTree, AllocError>
-    ensures { IfOk result (λ tree. tree ≡ repeated body step) }
+    ensures { IfOk result (λ tree. tree ≡ repeated origin body step) }
 {
-    let parts = blocks(alloc, body, step)?;
+    let parts = blocks(alloc, origin, body, step)?;
     Ok(CoreTree::Node {
         head: Head::Loop,
         parts,
+        place: origin,
     })
 }
 
 /// A write of a value, converted, to a place.
 pub(crate) fn write(
     alloc: Global,
+    origin: u32,
     place: Location,
     index: Boxed<Expr>,
     v: Boxed<Expr>,
 ) -> Result<CoreTree, AllocError>
-    ensures { IfOk result (λ tree. tree ≡ write place index v) }
+    ensures { IfOk result (λ tree. tree ≡ write origin place index v) }
 {
     let value = conv(alloc, v, place.ty)?;
     let head = Head::Assign {
@@ -119,22 +139,27 @@ pub(crate) fn write(
         index: index.into_inner(),
         value: value.into_inner(),
     };
-    Ok(leaf(alloc, head))
+    Ok(leaf(alloc, origin, head))
 }
 
 /// A write to a scalar.
-pub fn set(alloc: Global, place: Location, v: Boxed<Expr>) -> Result<CoreTree, AllocError>
-    ensures { IfOk result (λ tree. tree ≡ set place v) }
+pub fn set(
+    alloc: Global,
+    origin: u32,
+    place: Location,
+    v: Boxed<Expr>,
+) -> Result<CoreTree, AllocError>
+    ensures { IfOk result (λ tree. tree ≡ set origin place v) }
 {
     let index = int(alloc, 0)?;
-    write(alloc, place, index, v)
+    write(alloc, origin, place, index, v)
 }
 
 /// An input of a cell.
-pub fn input(alloc: Global, cell: u32) -> CoreTree
-    ensures { result ≡ input cell }
+pub fn input(alloc: Global, origin: u32, cell: u32) -> CoreTree
+    ensures { result ≡ input origin cell }
 {
-    leaf(alloc, Head::Input { cell })
+    leaf(alloc, origin, Head::Input { cell })
 }
 
 /// A value without statements.

@@ -41,10 +41,12 @@ use Rattle.c_grammar_tree.specs.Declarations.{comma_or_end_at, element, list, in
 use Rattle.c_grammar_tree.specs.Declarations.{array_part, declarator_rest, declarator}
 use Rattle.c_grammar_tree.specs.Declarations.{more_declarators}
 use Rattle.c_grammar_tree.specs.Declarations.{declarators, declarators_by, declaration_by}
-use Rattle.c_grammar_tree.specs.Statements.{items, condition, optional, for_start, behind_comma_at}
+use Rattle.c_grammar_tree.specs.Statements.{block_items, items, condition, optional, for_start}
+use Rattle.c_grammar_tree.specs.Statements.{behind_comma_at}
 use Rattle.c_grammar_tree.specs.Statements.{statement_at, statement, item_by, item}
 use Rattle.c_grammar_tree.specs.Items.{Named, is_known, have_pointer, parameter, parameter_list}
-use Rattle.c_grammar_tree.specs.Items.{function_rest, skipped_body, body_of, function_end_at}
+use Rattle.c_grammar_tree.specs.Items.{function_rest, skipped_body, closing_brace, closed_items}
+use Rattle.c_grammar_tree.specs.Items.{body_of, function_end_at}
 use Rattle.c_grammar_tree.specs.Items.{named_at}
 use Rattle.c_grammar_tree.specs.Items.{typedef_name, typedef_names, seen_behind}
 use Rattle.c_grammar_tree.specs.Items.{declared_at, unit_item_at, unit_item, unit_items}
@@ -401,11 +403,13 @@ module _ (G : Grammar) (c : ClosedGrammar G) where
       (λ front. closes_declared_by (is_listed front.enumeration))
       (λ front. starts_by (declared_by_first (is_listed front.enumeration))))
 
+  closes_block_items : Closes (block_items G) (is_not terminal.RightBrace)
+  closes_block_items = closes_many (is_not terminal.RightBrace) _ {inner = no_token}
+      (closes_deeper c.item) (λ t e. refl) (λ t e. refl) (λ t e. e)
+
   closes_items : {more : Leaf → Bool} → Closes (items G) more
   unfolding items
-  closes_items = closes_before {inner = is_not terminal.RightBrace}
-      (closes_many (is_not terminal.RightBrace) _ {inner = no_token} (closes_deeper c.item)
-      (λ t e. refl) (λ t e. refl) (λ t e. e))
+  closes_items = closes_before {inner = is_not terminal.RightBrace} closes_block_items
       _ (open_at terminal.RightBrace)
 
   closes_condition : {more : Leaf → Bool} → Closes (condition G) more
@@ -501,10 +505,24 @@ module _ (G : Grammar) (c : ClosedGrammar G) where
   unfolding item
   closes_item = closes_choice is_local_specifier closes_item_by
 
+  closes_closing_brace : {more : Leaf → Bool} → Closes closing_brace more
+  unfolding closing_brace
+  closes_closing_brace = closes_node _ (closes_such (is terminal.RightBrace))
+
+  closing_brace_first : Begins closing_brace (is_not terminal.RightBrace)
+  unfolding closing_brace
+  closing_brace_first =
+      starts_node _ (starts_such (is terminal.RightBrace) (open_at terminal.RightBrace))
+
+  closes_closed_items : {more : Leaf → Bool} → Closes (closed_items G) more
+  unfolding closed_items
+  closes_closed_items = closes_pair {inner = is_not terminal.RightBrace} closes_block_items
+      closes_closing_brace (starts_by closing_brace_first)
+
   closes_body_of : (known : Bool) → Closes (body_of G known) no_token
   unfolding body_of
   closes_body_of true = closes_node _ (closes_skip closes_skipped_body)
-  closes_body_of false = closes_node _ (closes_skip closes_items)
+  closes_body_of false = closes_node _ (closes_skip closes_closed_items)
 
   closes_function_end_at : (name : Name) (pointer : Bool) (s : Symbol) →
       Closes (function_end_at G name pointer s) no_token

@@ -38,7 +38,8 @@ use Rattle.c_grammar_tree.specs.Declarations.{attribute, attributes}
 use Rattle.c_grammar_tree.specs.Declarations.{declarator_rest, more_declarators}
 use Rattle.c_grammar_tree.specs.Items.{is_known, points_or_not, parameter, is_void, is_only_void}
 use Rattle.c_grammar_tree.specs.Items.{parameters_of, parameter_list, function_rest, have_pointer}
-use Rattle.c_grammar_tree.specs.Items.{skipped_body, body_of, function_end_at, Named, function}
+use Rattle.c_grammar_tree.specs.Items.{skipped_body, closing_brace, closed_items, body_of}
+use Rattle.c_grammar_tree.specs.Items.{function_end_at, Named, function}
 use Rattle.c_grammar_tree.specs.Items.{objects}
 use Rattle.c_grammar_tree.specs.Items.{named_at, declared_of, declared_at, unit_item_at, unit_item}
 use Rattle.c_grammar_tree.specs.Items.{typedef_name, typedef_names, seen_behind, unit_items_behind}
@@ -53,13 +54,15 @@ use Rattle.c_grammar_spelling.specs.Spelling.{spelled_expression}
 use Rattle.c_grammar_spelling.specs.Spelling.{spelled_initializer, spelled_rest, spelled_declarator}
 use Rattle.c_grammar_spelling.specs.Spelling.{spelled_specifiers, spelled_parameter}
 use Rattle.c_grammar_spelling.specs.Spelling.{spelled_parameters}
-use Rattle.c_grammar_spelling.specs.Spelling.{spelled_function, spelled_body, spelled_item}
+use Rattle.c_grammar_spelling.specs.Spelling.{spelled_function, spelled_block_item, spelled_body}
+use Rattle.c_grammar_spelling.specs.Spelling.{spelled_item}
 use Rattle.c_grammar_spelling.proofs.Spells.{Laid, spells_one, spells_piece, opened, only}
-use Rattle.c_grammar_spelling.proofs.Spelt.{Look, blind, sharp, Any, Is, Spelt, Exactly, Made}
+use Rattle.c_grammar_spelling.proofs.Spelt.{Look, blind, careful, sharp, Any, Is, Spelt, Exactly}
+use Rattle.c_grammar_spelling.proofs.Spelt.{Made}
 use Rattle.c_grammar_spelling.proofs.Spelt.{plainly, at_place, spelt_nothing, spelt_any}
 use Rattle.c_grammar_spelling.proofs.Spelt.{spelt_behind}
 use Rattle.c_grammar_spelling.proofs.Spelt.{spelt_front, spelt_deeper, spelt_one, spelt_skip}
-use Rattle.c_grammar_spelling.proofs.Spelt.{spelt_closed}
+use Rattle.c_grammar_spelling.proofs.Spelt.{spelt_closed, spelt_such}
 use Rattle.c_grammar_spelling.proofs.Spelt.{spelt_pair, spelt_then, spelt_node, spelt_choice}
 use Rattle.c_grammar_spelling.proofs.Spelt.{spelt_many}
 use Rattle.c_grammar_spelling.proofs.Spelt.{spelt_perhaps, behind_place}
@@ -69,7 +72,7 @@ use Rattle.c_grammar_spelling.proofs.SpeltText.{spelt_identifier, spelt_specifie
 use Rattle.c_grammar_spelling.proofs.SpeltText.{spelt_enumeration}
 use Rattle.c_grammar_spelling.proofs.SpeltText.{same_attributes, spelt_attributes}
 use Rattle.c_grammar_spelling.proofs.SpeltText.{spelt_declarator_rest}
-use Rattle.c_grammar_spelling.proofs.SpeltText.{spelt_more_declarators, spelt_items}
+use Rattle.c_grammar_spelling.proofs.SpeltText.{spelt_more_declarators, spelt_block_items}
 
 pointer_is : (allowed : Bool) (s : Symbol) → (allowed && points s) ≡ true →
     s ≡ symbol.Binary binary.Multiply
@@ -483,7 +486,21 @@ spelt_typedef_names = spelt_node _ (spelt_pair {inner = blind} spelt_typedef_nam
     (spelt_skip (symbol.Terminal terminal.Comma) spelt_typedef_name)))
     (λ parts. plainly (λ x. refl) (λ x y. refl))
 
+-- the brace that closes a body, by its place
+spelt_closing_brace : {left : ℕ} {behind : Look} → Spelt Any closing_brace
+    (λ place. placed place ∷ mark terminal.RightBrace ∷ []) left behind sharp
+unfolding closing_brace
+spelt_closing_brace = spelt_node _ (spelt_such (is_mark terminal.RightBrace))
+    (λ u. at_place (λ x. refl) (λ x y e. e))
+
 module _ (G : Grammar) (left : ℕ) (g : SpeltGrammar G left) (some : 0 < left) where
+  spelt_closed_items : {behind : Look} → Spelt Any (closed_items G)
+      (λ parts. in_order spelled_block_item parts.0 ++ placed parts.1 ∷ mark terminal.RightBrace ∷
+      []) left behind careful
+  unfolding closed_items
+  spelt_closed_items =
+      spelt_pair (spelt_block_items G left g) (spelt_front spelt_closing_brace)
+
   spelt_body_of : {behind : Look} (known : Bool) →
       Spelt (Is (symbol.Terminal terminal.LeftBrace))
       (body_of G known) spelled_body left behind sharp
@@ -491,8 +508,9 @@ module _ (G : Grammar) (left : ℕ) (g : SpeltGrammar G left) (some : 0 < left) 
   spelt_body_of true = spelt_node _ (spelt_skip (symbol.Terminal terminal.LeftBrace)
       (spelt_behind spelt_skipped_body)) (λ u. plainly (λ x. refl) (λ x y. refl))
   spelt_body_of false = spelt_node _
-      (spelt_skip (symbol.Terminal terminal.LeftBrace) (spelt_items G left g))
-      (λ made. at_place (λ x. refl) (λ x y e. ap (body.Block made) e))
+      (spelt_skip (symbol.Terminal terminal.LeftBrace) spelt_closed_items)
+      (λ parts. at_place (λ x. refl)
+      (λ x y e. ap (λ place. body.Block parts.0 place parts.1) e))
 
   spelt_function_end_at : {behind : Look} (name : Name) (pointer : Bool) (s : Symbol) →
       Spelt (Is s) (function_end_at G name pointer s) spelled_end left behind sharp

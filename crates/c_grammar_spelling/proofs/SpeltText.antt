@@ -43,7 +43,8 @@ use Rattle.c_grammar_tree.specs.Declarations.{comma_or_end_at, element, list, in
 use Rattle.c_grammar_tree.specs.Declarations.{array_part, declarator_rest, declarator}
 use Rattle.c_grammar_tree.specs.Declarations.{more_declarators, declarators, declarators_by}
 use Rattle.c_grammar_tree.specs.Declarations.{declaration_by}
-use Rattle.c_grammar_tree.specs.Statements.{items, condition, optional as optional_before}
+use Rattle.c_grammar_tree.specs.Statements.{block_items, items, condition}
+use Rattle.c_grammar_tree.specs.Statements.{optional as optional_before}
 use Rattle.c_grammar_tree.specs.Statements.{for_start}
 use Rattle.c_grammar_tree.specs.Statements.{behind_comma_at, labeled_or_not, statement_at}
 use Rattle.c_grammar_tree.specs.Statements.{statement}
@@ -645,12 +646,16 @@ module _ (G : Grammar) (left : ℕ) (g : SpeltGrammar G left) where
       (spelt_declarators_by (is_listed front.enumeration))))
       (λ parts. plainly (λ x. refl) (λ x y. refl))
 
-  pub spelt_items : {behind : Look} → Spelt Any (items G)
+  pub spelt_block_items :
+      Spelt Any (block_items G) (in_order spelled_block_item) left careful careful
+  spelt_block_items =
+      spelt_many (λ s. not (is_terminal terminal.RightBrace s)) {K = Any} (λ x e. tt) g.item
+
+  spelt_items : {behind : Look} → Spelt Any (items G)
       (λ made. in_order spelled_block_item made ++ mark terminal.RightBrace ∷
       []) left behind careful
   unfolding items
-  spelt_items = spelt_closed (is_mark terminal.RightBrace)
-      (spelt_many (λ s. not (is_terminal terminal.RightBrace s)) {K = Any} (λ x e. tt) g.item)
+  spelt_items = spelt_closed (is_mark terminal.RightBrace) spelt_block_items
 
   spelt_condition : {behind : Look} → Spelt Any (condition G)
       (λ test. in_brackets (spelled_expression test)) left behind sharp

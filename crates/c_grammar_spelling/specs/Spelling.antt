@@ -320,8 +320,8 @@ spelled_function parameters = mark terminal.LeftParen ∷
     ((spelled_parameters parameters ++ mark terminal.RightParen ∷ []) ++ any_attributes ∷ [])
 
 abbrev pub spelled_body : Body → List Piece
-spelled_body (body.Block items place) = placed place ∷ mark terminal.LeftBrace ∷
-    (in_order spelled_block_item items ++ mark terminal.RightBrace ∷ [])
+spelled_body (body.Block items place end) = placed place ∷ mark terminal.LeftBrace ∷
+    (in_order spelled_block_item items ++ placed end ∷ mark terminal.RightBrace ∷ [])
 spelled_body body.Skipped = mark terminal.LeftBrace ∷ any_body ∷ []
 
 -- an item (C11 6.9)

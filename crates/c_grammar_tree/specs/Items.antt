@@ -18,6 +18,7 @@ use Rattle.c_grammar_tree.specs.declared.declaration.SpecifierKind.{SpecifierKin
 use Rattle.c_grammar_tree.specs.declared.declaration.SpecifierKind.TheVariants as kind
 use Rattle.c_grammar_tree.specs.declared.declaration.Specifiers.{Specifiers}
 use Rattle.c_grammar_tree.specs.declared.declaration.Declarator.{Declarator}
+use Rattle.c_grammar_tree.specs.declared.statement.BlockItem.{BlockItem}
 use Rattle.c_grammar_tree.specs.declared.item.Parameter.{Parameter}
 use Rattle.c_grammar_tree.specs.declared.item.Parameters.{Parameters}
 use Rattle.c_grammar_tree.specs.declared.item.Parameters.TheVariants as parameters
@@ -33,7 +34,7 @@ use Rattle.c_grammar_tree.specs.Declarations.{identifier, tag, enumeration, spec
 use Rattle.c_grammar_tree.specs.Declarations.{Rest}
 use Rattle.c_grammar_tree.specs.Declarations.{declarator_of}
 use Rattle.c_grammar_tree.specs.Declarations.{declarator_rest, more_declarators}
-use Rattle.c_grammar_tree.specs.Statements.{items}
+use Rattle.c_grammar_tree.specs.Statements.{block_items}
 
 -- functions whose meaning the checker gives itself, this project's own (the names are SV-COMP's):
 -- what a text says of them in a body is skipped
@@ -100,10 +101,19 @@ have_pointer _ = false
 unfoldable pub skipped_body : Form Leaf (Unit {0})
 skipped_body = Balanced (is terminal.LeftBrace) (is terminal.RightBrace) is_end
 
+-- "}", by its place
+unfoldable pub closing_brace : Form Leaf ℕ
+closing_brace = Node (λ leaf u. leaf.place) (Such (is terminal.RightBrace))
+
+-- {item} "}", with the place of the brace
+unfoldable pub closed_items : Grammar → Form Leaf (List BlockItem × ℕ)
+closed_items G = Pair (block_items G) closing_brace
+
 -- "{" {item} "}", or of a known function any tokens with balanced braces
 unfoldable pub body_of : Grammar → Bool → Form Leaf Body
 body_of G true = Node (λ leaf u. body.Skipped) (Skip skipped_body)
-body_of G false = Node (λ leaf made. body.Block made leaf.place) (Skip (items G))
+body_of G false =
+    Node (λ leaf parts. body.Block parts.0 leaf.place parts.1) (Skip (closed_items G))
 
 -- behind a function's declarator: ";" of a prototype ; a body, where no parameter is a pointer
 unfoldable pub function_end_at : Grammar → Name → Bool → Symbol → Form Leaf (Option Body)

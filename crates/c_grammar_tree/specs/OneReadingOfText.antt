@@ -24,11 +24,13 @@ use Rattle.c_grammar_tree.specs.Declarations.{more_declarators}
 use Rattle.c_grammar_tree.specs.Declarations.{enumerator, enumerators, enumerator_list}
 use Rattle.c_grammar_tree.specs.Declarations.{enumeration_by, enumeration, declarators}
 use Rattle.c_grammar_tree.specs.Declarations.{declarators_by, declaration_by}
-use Rattle.c_grammar_tree.specs.Statements.{items, condition, optional, for_start, behind_comma_at}
+use Rattle.c_grammar_tree.specs.Statements.{block_items, items, condition, optional, for_start}
+use Rattle.c_grammar_tree.specs.Statements.{behind_comma_at}
 use Rattle.c_grammar_tree.specs.Statements.{statement_at, statement, item_by, item}
 use Rattle.c_grammar_tree.specs.Items.{is_known, have_pointer, parameter, parameter_list}
 use Rattle.c_grammar_tree.specs.Items.{function_rest}
-use Rattle.c_grammar_tree.specs.Items.{skipped_body, body_of, function_end_at, named_at}
+use Rattle.c_grammar_tree.specs.Items.{skipped_body, closing_brace, closed_items, body_of}
+use Rattle.c_grammar_tree.specs.Items.{function_end_at, named_at}
 use Rattle.c_grammar_tree.specs.Items.{declared_at}
 use Rattle.c_grammar_tree.specs.Items.{typedef_name, typedef_names, seen_behind}
 use Rattle.c_grammar_tree.specs.Items.{unit_item_at, unit_item, unit_items}
@@ -195,9 +197,12 @@ module _ (G H : Grammar) (g : GoodGrammar G H) where
   good_declaration_by braces = good_node _ (good_then (good_specifiers (good_enumeration braces) _)
       (λ front. good_before (good_declarators_by (is_listed front.enumeration)) _))
 
+  pub good_block_items : Good (block_items G) (block_items H)
+  good_block_items = good_many _ (good_deeper g.item)
+
   pub good_items : Good (items G) (items H)
   unfolding items
-  good_items = good_before (good_many _ (good_deeper g.item)) _
+  good_items = good_before good_block_items _
 
   pub good_condition : Good (condition G) (condition H)
   unfolding condition
@@ -264,10 +269,18 @@ module _ (G H : Grammar) (g : GoodGrammar G H) where
   unfolding item
   good_item = good_choice is_local_specifier good_item_by
 
+  good_closing_brace : Good closing_brace closing_brace
+  unfolding closing_brace
+  good_closing_brace = good_node _ (good_such _)
+
+  pub good_closed_items : Good (closed_items G) (closed_items H)
+  unfolding closed_items
+  good_closed_items = good_pair good_block_items good_closing_brace
+
   pub good_body_of : (known : Bool) → Good (body_of G known) (body_of H known)
   unfolding body_of
   good_body_of true = good_node _ (good_skip good_skipped_body)
-  good_body_of false = good_node _ (good_skip good_items)
+  good_body_of false = good_node _ (good_skip good_closed_items)
 
   pub good_function_end_at : (name : Name) (pointer : Bool) (s : Symbol) →
       Good (function_end_at G name pointer s) (function_end_at H name pointer s)

@@ -21,9 +21,13 @@ use Rattle.c_grammar_tree.specs.Nested.{Grammar}
 use Rattle.c_grammar_tree.specs.Expressions.{comma}
 use Rattle.c_grammar_tree.specs.Declarations.{identifier, block_declaration}
 
--- "{" {declaration ; statement} "}" without its first brace (C11 6.8.2)
+-- {declaration ; statement} before "}" (C11 6.8.2)
+abbrev pub block_items : Grammar → Form Leaf (List BlockItem)
+block_items G = Many (is_not terminal.RightBrace) (Deeper G.item)
+
+-- the same and "}"
 unfoldable pub items : Grammar → Form Leaf (List BlockItem)
-items G = Before (Many (is_not terminal.RightBrace) (Deeper G.item)) (is terminal.RightBrace)
+items G = Before (block_items G) (is terminal.RightBrace)
 
 -- "(" comma ")"
 unfoldable pub condition : Grammar → Form Leaf Expression

@@ -32,8 +32,12 @@ pub struct FunctionDeclarator {
 /// The body of a function.
 #[derive(Drop)]
 pub enum Body {
-    /// `{items}`, and the place of the first brace.
-    Block { items: Seq<BlockItem>, place: u32 },
+    /// `{items}`, and the places of the first brace and of the closing one.
+    Block {
+        items: Seq<BlockItem>,
+        place: u32,
+        end: u32,
+    },
     /// That of a known function: any tokens with balanced braces.
     Skipped,
 }

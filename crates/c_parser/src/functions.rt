@@ -17,7 +17,7 @@ ghost use Rattle.c_parser.specs.Forms.{item_named};
 use c_grammar_forms::ReadError;
 use c_grammar_symbols::{Source, Terminal};
 use c_grammar_tree::{Body, FunctionDeclarator, Item, Name, Parameter, Parameters, Specifiers};
-use c_parser_statements::items;
+use c_parser_statements::closed_items;
 use c_parser_words::{function_rest, skipped_body};
 use std::alloc::Global;
 
@@ -83,9 +83,9 @@ fn body(
         let behind = skipped_body(source, at + 1)?;
         return Ok((Body::Skipped, behind));
     }
-    let (items, behind) = items(alloc, source, at + 1, left)?;
+    let ((items, end), behind) = closed_items(alloc, source, at + 1, left)?;
     let place = source.place(at);
-    Ok((Body::Block { items, place }, behind))
+    Ok((Body::Block { items, place, end }, behind))
 }
 
 /// Whether the body of a function begins here, of which no parameter may be a pointer.

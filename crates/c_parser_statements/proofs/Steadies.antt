@@ -9,12 +9,12 @@ use Rattle.c_grammar_tree.specs.Grammar.{grammar}
 use Rattle.c_grammar_tree.specs.Parts.{is_local_specifier}
 use Rattle.c_grammar_tree.specs.Expressions.{comma}
 use Rattle.c_grammar_tree.specs.Declarations.{identifier}
-use Rattle.c_grammar_tree.specs.Statements.{condition, optional, for_start}
+use Rattle.c_grammar_tree.specs.Statements.{block_items, condition, optional, for_start}
 use Rattle.c_grammar_tree.specs.OneReading.{good_comma}
 use Rattle.c_grammar_tree.specs.OneReadingOfText.{good_grammar, good_identifier, good_condition}
 use Rattle.c_grammar_tree.specs.OneReadingOfText.{good_optional, good_for_start}
 use Rattle.c_parser_statements.specs.Forms.{optional_comma, optional_value, case_value}
-use Rattle.c_parser_statements.specs.Forms.{block_items, for_head}
+use Rattle.c_parser_statements.specs.Forms.{for_head}
 
 pub steady_identifier : Steady (λ n. identifier)
 steady_identifier = record { good = λ n m. good_identifier }

@@ -1,7 +1,6 @@
 -- Parts of the grammar of statements that have readers of their own (C11 6.8).
-use Rattle.std.specs.Prelude.{ℕ, List, Option, None, Some}
+use Rattle.std.specs.Prelude.{ℕ, Option, None, Some}
 use Rattle.c_grammar_forms.specs.Forms.{Form, Skip, Behind, Before, Pair, Node, Deeper, Choice}
-use Rattle.c_grammar_forms.specs.Forms.{Many}
 use Rattle.c_grammar_forms.specs.Forms.{Perhaps}
 use Rattle.c_grammar_forms.specs.Forms.{Nearest}
 use Rattle.c_grammar_symbols.specs.declared.words.Terminal.{Terminal}
@@ -67,10 +66,6 @@ branches G = Pair (Deeper G.statement) (optional_else G)
 -- conditional ":" of a case
 abbrev pub case_value : Grammar → Form Leaf Expression
 case_value G = Before (Deeper G.conditional) (is terminal.Colon)
-
--- {declaration ; statement} before "}"
-abbrev pub block_items : Grammar → Form Leaf (List BlockItem)
-block_items G = Many (is_not terminal.RightBrace) (Deeper G.item)
 
 -- parts one level deeper
 abbrev pub deeper_statement : Grammar → Form Leaf Statement

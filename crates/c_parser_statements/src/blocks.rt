@@ -1,11 +1,12 @@
 //! Readers of statements by their first token and of blocks, which are `statement`, `item` and
-//! `items` of `Statements.antt` of `c_grammar_tree`.
+//! `items` of `Statements.antt` of `c_grammar_tree`, and of bodies, `closed_items` of `Items.antt`.
 ghost use Rattle.std.specs.Prelude.{◌<◌, length};
 ghost use Rattle.c_grammar_symbols.specs.declared.words.Terminal.TheVariants.{LeftBrace, Semicolon};
 ghost use Rattle.c_grammar_symbols.specs.Sources.{GoesOn};
-ghost use Rattle.c_grammar_tree.specs.Statements.{items, item, statement};
+ghost use Rattle.c_grammar_tree.specs.Statements.{block_items, items, item, statement};
+ghost use Rattle.c_grammar_tree.specs.Items.{closed_items};
 ghost use Rattle.c_grammar_tree.specs.Reading.{Gives, HasRoom, HasRoomBelow};
-ghost use Rattle.c_parser_statements.specs.Forms.{block_items, deeper_item, deeper_statement};
+ghost use Rattle.c_parser_statements.specs.Forms.{deeper_item, deeper_statement};
 ghost use Rattle.c_parser_statements.specs.Forms.{statement_with};
 
 use crate::jumps::{break_statement, continue_statement, goto, return_statement};
@@ -178,7 +179,7 @@ fn block_items(
 /// What stands in a block, with the brace that ends it, behind the one that opens it: each one
 /// level deeper.
 #[cycle(statement)]
-pub fn items(
+fn items(
     alloc: Global,
     source: &Source,
     at: usize,
@@ -191,4 +192,21 @@ pub fn items(
     let (items, closer) = block_items(alloc, source, at, left)?;
     let behind = source.expect(closer, Terminal::RightBrace)?;
     Ok((items, behind))
+}
+
+/// The same in the body of a function, and the place of the brace that ends it.
+pub fn closed_items(
+    alloc: Global,
+    source: &Source,
+    at: usize,
+    left: u32,
+) -> Result<((Seq<BlockItem>, u32), usize), ReadError>
+    requires within { at < length source.now }
+    requires room { HasRoomBelow left at }
+    ensures { Gives closed_items source.now left at result }
+{
+    let (items, closer) = block_items(alloc, source, at, left)?;
+    let behind = source.expect(closer, Terminal::RightBrace)?;
+    let end = source.place(closer);
+    Ok(((items, end), behind))
 }

@@ -10,4 +10,4 @@ mod loops;
 mod parts;
 mod switches;
 
-pub use blocks::items;
+pub use blocks::closed_items;

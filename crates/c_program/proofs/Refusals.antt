@@ -1,5 +1,5 @@
 -- From the fault of each stage to that of the text, over what the laws of the stages say.
-use Rattle.std.specs.Prelude.{◌≡◌, ℕ, List}
+use Rattle.std.specs.Prelude.{◌≡◌, ℕ, List, Option}
 use Rattle.std.proofs.Common.{subst, ◌∙◌}
 use Rattle.c_lexer.specs.declared.token.Token.{Token}
 use Rattle.c_lexer.specs.declared.fault.TextFault.{TextFault}
@@ -13,13 +13,13 @@ use Rattle.c_grammar_tree.specs.declared.item.Unit.{Unit as UnitTree}
 use Rattle.c_grammar_tree.specs.Grammar.{Tree}
 use Rattle.c_grammar_tree.specs.Faults.{IsTreeFault}
 use Rattle.c_core_checked.specs.declared.text.TypedText.{TypedText}
-use Rattle.c_core_checked.specs.Texts.{IsTypedText, IsCore}
+use Rattle.c_core_checked.specs.Texts.{IsTypedText, IsCore, AreOrigins}
 use Rattle.c_core_checked.specs.Sound.{IsFirstBroken, IsChecked}
 use Rattle.cpa_model.specs.declared.program.Program.{Program}
 use Rattle.cpa_model.specs.Programs.{IsWellFormed}
 use Rattle.std.specs.Prelude.{Ok, Err}
 use Rattle.c_program.specs.Programs.{IsTheProgram, IsProgram, IsTextFault, IsTreeOf, NoProgram}
-use Rattle.c_program.specs.Programs.{IsRefused}
+use Rattle.c_program.specs.Programs.{IsRefused, AreTheOrigins}
 use Rattle.c_program.specs.Programs.{no_tokens, no_tree, unsound}
 
 -- bytes have one list of tokens
@@ -130,3 +130,15 @@ the_program law sound bytes tree typed P of checked core =
       length_is = core.text_len ∙ checked.1.text_len ∙ of.reads.length_is;
       well_formed = sound bytes P is;
     }
+
+-- and where it comes from is what the rules give for the text
+pub the_origins : (bytes : List ℕ) (tree : UnitTree) (typed : TypedText) (points : List ℕ)
+    (cells : List (Option ℕ)) → IsTreeOf bytes tree → IsChecked tree (Ok typed)
+    → AreOrigins typed points cells → AreTheOrigins bytes points cells
+the_origins bytes tree typed points cells of checked origins = record {
+  tree = tree;
+  typed = typed;
+  of = of;
+  of_tree = checked.1;
+  origins = origins;
+}

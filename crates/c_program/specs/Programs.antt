@@ -1,6 +1,6 @@
 -- The program that the bytes of a text stand for, and the fault of bytes that stand for none: a
 -- text is cut into tokens, read as a tree and checked, in this order (C11 5.1.1.2).
-use Rattle.std.specs.Prelude.{◌≡◌, ℕ, List, length}
+use Rattle.std.specs.Prelude.{◌≡◌, ℕ, List, length, Option}
 use Rattle.c_lexer.specs.declared.token.Token.{Token}
 use Rattle.c_lexer.specs.declared.fault.TextFault.{TextFault}
 use Rattle.c_lexer.specs.declared.fault.TextError.{TextError}
@@ -11,7 +11,7 @@ use Rattle.c_grammar_tree.specs.declared.item.Unit.{Unit as UnitTree}
 use Rattle.c_grammar_tree.specs.Grammar.{Tree}
 use Rattle.c_grammar_tree.specs.Faults.{IsTreeFault}
 use Rattle.c_core_checked.specs.declared.text.TypedText.{TypedText}
-use Rattle.c_core_checked.specs.Texts.{IsTypedText, IsCore}
+use Rattle.c_core_checked.specs.Texts.{IsTypedText, IsCore, AreOrigins}
 use Rattle.c_core_checked.specs.Sound.{Sound, IsFirstBroken}
 use Rattle.cpa_model.specs.declared.program.Program.{Program}
 use Rattle.cpa_model.specs.Programs.{IsWellFormed}
@@ -40,6 +40,15 @@ pub record IsTreeOf (bytes : List ℕ) (tree : UnitTree) : Type 0 where
   pub tokens : List Token
   pub falls : Tokens bytes tokens
   pub reads : Tree bytes tokens tree
+
+-- where the points and the cells of the program of the bytes come from: what the rules give for
+-- the typed text of the tree of the bytes
+pub record AreTheOrigins (bytes points : List ℕ) (cells : List (Option ℕ)) : Type 0 where
+  pub tree : UnitTree
+  pub typed : TypedText
+  pub of : IsTreeOf bytes tree
+  pub of_tree : IsTypedText tree typed
+  pub origins : AreOrigins typed points cells
 
 -- the fault of the bytes: that of the tokens where there are none, else that of the tree where
 -- there is none, else the first broken rule

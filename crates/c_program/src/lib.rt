@@ -6,4 +6,4 @@ mod laws;
 mod text;
 
 pub use laws::{no_program_has_a_fault, one_program, programs_are_well_formed};
-pub use text::program;
+pub use text::{program, traced_program};

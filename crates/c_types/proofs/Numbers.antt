@@ -393,7 +393,7 @@ numbered_body : (text : Text) (specifiers : Specifiers) (declarator : FunctionDe
     → Numbered (item_behind text (item.Function specifiers declarator made) before)
 numbered_body text specifiers declarator body.Skipped before h =
     numbered_function true specifiers declarator before h
-numbered_body text specifiers declarator (body.Block items place) before h =
+numbered_body text specifiers declarator (body.Block items place end) before h =
     let now = function_behind true specifiers declarator before in
     more_numbers now.objects _ (filter_map object_number now.names)
     (rises_body text declarator.parameters items (begins now.names now.objects specifiers items))

@@ -8,15 +8,16 @@ use Rattle.c_core_rules_laws.specs.Layouts.{AreFirst, IsTooLarge, text_from}
 use Rattle.c_core_layout.specs.declared.placing.TextLayout.{TextLayout}
 use Rattle.c_core_layout.specs.Layouts.{IsLaidOut}
 use Rattle.c_core_checked.specs.declared.text.TypedText.{TypedText}
-use Rattle.c_core_checked.specs.Texts.{IsTypedText, unit_main}
+use Rattle.c_core_checked.specs.Texts.{IsTypedText, unit_main, ends_of}
 
 pub typed_is : (unit : UnitTree) (globals : List Global) (functions : List TypedFunction)
     (layout : TextLayout) (typed : TypedText) → globals ≡ unit_globals unit →
     functions ≡ unit_functions unit → IsLaidOut globals functions layout →
     typed.cells ≡ (text_from layout.first_cells globals functions).taken.cells →
+    typed.names ≡ (text_from layout.first_cells globals functions).taken.names →
     typed.trees ≡ (text_from layout.first_cells globals functions).made →
-    typed.main ≡ unit_main unit → typed.text_len ≡ unit.length → IsTypedText unit typed
-typed_is unit globals functions layout typed g f is cells trees main length =
+    typed.ends ≡ ends_of functions → typed.main ≡ unit_main unit → typed.text_len ≡ unit.length → IsTypedText unit typed
+typed_is unit globals functions layout typed g f is cells names trees ends main length =
     let firsts = layout.first_cells in
     let own = unit_globals unit in
     record {
@@ -26,9 +27,13 @@ typed_is unit globals functions layout typed g f is cells trees main length =
       cells = cells
           ∙ ap (λ (gs : List Global). (text_from firsts gs functions).taken.cells) g
           ∙ ap (λ (fs : List TypedFunction). (text_from firsts own fs).taken.cells) f;
+      names = names
+          ∙ ap (λ (gs : List Global). (text_from firsts gs functions).taken.names) g
+          ∙ ap (λ (fs : List TypedFunction). (text_from firsts own fs).taken.names) f;
       trees = trees
           ∙ ap (λ (gs : List Global). (text_from firsts gs functions).made) g
           ∙ ap (λ (fs : List TypedFunction). (text_from firsts own fs).made) f;
+      ends = ends ∙ ap (λ (fs : List TypedFunction). ends_of fs) f;
       main = main;
       text_len = length;
     }

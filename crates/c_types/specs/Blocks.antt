@@ -1,6 +1,6 @@
 -- A function's body behind its name's declaration: what `item_behind`, `item_faults` and the others
 -- of c_types_rules say of it, from there on.
-use Rattle.std.specs.Prelude.{◌+◌, List}
+use Rattle.std.specs.Prelude.{ℕ, ◌+◌, List}
 use Rattle.std.specs.List.{flat_map}
 use Rattle.c_lexer.specs.declared.fault.TextFault.{TextFault}
 use Rattle.c_grammar_tree.specs.declared.declaration.Specifiers.{Specifiers}
@@ -34,7 +34,7 @@ abbrev pub block_calls : Text → Specifiers → FunctionDeclarator → List Blo
 block_calls text specifiers declarator items before =
     flat_map (site_calls text before.bodies) (block_sites text specifiers declarator items before)
 
-abbrev pub block_function : Text → Specifiers → FunctionDeclarator → List BlockItem → Before
-    → TypedFunction
-block_function text specifiers declarator items before =
-    typed_body text before.names before.objects specifiers declarator.parameters items
+abbrev pub block_function : Text → Specifiers → FunctionDeclarator → List BlockItem → ℕ → ℕ
+    → Before → TypedFunction
+block_function text specifiers declarator items place end before =
+    typed_body text before.names before.objects specifiers declarator.parameters items place end

@@ -59,6 +59,8 @@ fn gather_block(
     specifiers: &Specifiers,
     declarator: &FunctionDeclarator,
     items: &[BlockItem],
+    place: u32,
+    end: u32,
 ) -> Result<(), AllocError>
     requires { AreNumbered gathered.old.scope.objects gathered.old.scope.names }
     ensures scope { OnOk result (before_of gathered.new.scope ≡ block_behind survey.now
@@ -70,7 +72,7 @@ fn gather_block(
         ++ block_calls survey.now specifiers.now declarator.now items.now
         (before_of gathered.old.scope)) }
     ensures functions { OnOk result (gathered.new.functions.items ≡ gathered.old.functions.items
-        ++ block_function survey.now specifiers.now declarator.now items.now
+        ++ block_function survey.now specifiers.now declarator.now items.now place end
         (before_of gathered.old.scope) ∷ []) }
     ensures starts { gathered.new.starts.items ≡ gathered.old.starts.items }
 {
@@ -84,6 +86,8 @@ fn gather_block(
         specifiers,
         &declarator.parameters,
         items,
+        place,
+        end,
         &mut gathered.first,
         &mut gathered.calls,
     )?;
@@ -121,6 +125,8 @@ fn gather_parameters(
         specifiers,
         &declarator.parameters,
         &[],
+        0,
+        0,
         &mut gathered.first,
         &mut gathered.calls,
     )?;
@@ -182,9 +188,11 @@ fn gather_item(
             declare_function(alloc, survey, scope, true, specifiers, declarator, first)?;
             match body {
                 Body::Skipped => gather_parameters(alloc, survey, gathered, specifiers, declarator),
-                Body::Block { items, .. } => {
+                Body::Block { items, place, end } => {
                     let items = items.as_slice();
-                    gather_block(alloc, survey, gathered, specifiers, declarator, items)
+                    gather_block(
+                        alloc, survey, gathered, specifiers, declarator, items, *place, *end,
+                    )
                 }
             }
         }

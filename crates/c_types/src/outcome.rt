@@ -4,7 +4,7 @@ ghost use Rattle.std.specs.Prelude.{◌≡◌, None, IfOk};
 ghost use Rattle.c_types_rules.specs.Items.{text_of, nothing_before};
 ghost use Rattle.c_types_rules.specs.Sound.{items_behind, starts_of, functions_of, BreaksTree};
 ghost use Rattle.c_types_rules.specs.Sound.{unit_globals, unit_functions};
-ghost use Rattle.c_core_checked.specs.Texts.{unit_main};
+ghost use Rattle.c_core_checked.specs.Texts.{unit_main, ends_of};
 ghost use Rattle.c_types.specs.Firsts.{FindsFirst};
 ghost use Rattle.c_types.specs.Outcomes.{IsFoundLayout, IsOutcome};
 
@@ -44,6 +44,17 @@ fn found_layout(
     }
 }
 
+/// Where these functions are left.
+fn ends_of(alloc: Memory, functions: &[TypedFunction]) -> Result<Seq<u32>, AllocError>
+    ensures { IfOk result (λ ends. ends ≡ ends_of functions.now) }
+{
+    let mut ends = Seq::new(alloc);
+    for function in functions {
+        ends.push(function.end)?;
+    }
+    Ok(ends)
+}
+
 /// What is found where no rule is broken but perhaps N13, of a text with these globals and
 /// functions, and with this main.
 fn outcome_of(
@@ -67,9 +78,12 @@ fn outcome_of(
         })),
         Some(layout) => {
             let text = text_trees(alloc, globals, functions, layout.first_cells.as_slice())?;
+            let ends = ends_of(alloc, functions)?;
             Ok(Outcome::Sound(TypedText {
                 cells: text.cells,
+                names: text.names,
                 trees: Seq::from_vec(text.trees),
+                ends,
                 main,
                 text_len: unit.length,
             }))

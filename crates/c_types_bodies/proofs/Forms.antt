@@ -29,37 +29,39 @@ use Rattle.c_types_bodies.specs.Grown.{grown_of, walk_of_statement, grown_typed}
 
 -- a typed for, by its parts
 pub for_same : (a one : TypedForStart) (b two : Option TypedExpression)
-    (c three : Option TypedExpression) (d four : TypedStatement) → a ≡ one → b ≡ two → c ≡ three
-    → d ≡ four → typed_tree.For a b c d ≡ typed_tree.For one two three four
-for_same a one b two c three d four e f g h =
-    ap (λ (x : TypedForStart). typed_tree.For x b c d) e
-    ∙ ap (λ (x : Option TypedExpression). typed_tree.For one x c d) f
-    ∙ ap (λ (x : Option TypedExpression). typed_tree.For one two x d) g
-    ∙ ap (λ (x : TypedStatement). typed_tree.For one two three x) h
+    (c three : Option TypedExpression) (d four : TypedStatement) (place : ℕ) → a ≡ one → b ≡ two
+    → c ≡ three → d ≡ four → typed_tree.For a b c d place ≡ typed_tree.For one two three four place
+for_same a one b two c three d four place e f g h =
+    ap (λ (x : TypedForStart). typed_tree.For x b c d place) e
+    ∙ ap (λ (x : Option TypedExpression). typed_tree.For one x c d place) f
+    ∙ ap (λ (x : Option TypedExpression). typed_tree.For one two x d place) g
+    ∙ ap (λ (x : TypedStatement). typed_tree.For one two three x place) h
 
 pub if_same : (a one : TypedExpression) (b two : TypedStatement) (c three : Option TypedStatement)
-    → a ≡ one → b ≡ two → c ≡ three → typed_tree.If a b c ≡ typed_tree.If one two three
-if_same a one b two c three e f g =
-    ap (λ (x : TypedExpression). typed_tree.If x b c) e
-    ∙ ap (λ (x : TypedStatement). typed_tree.If one x c) f
-    ∙ ap (λ (x : Option TypedStatement). typed_tree.If one two x) g
+    (place : ℕ) → a ≡ one → b ≡ two → c ≡ three
+    → typed_tree.If a b c place ≡ typed_tree.If one two three place
+if_same a one b two c three place e f g =
+    ap (λ (x : TypedExpression). typed_tree.If x b c place) e
+    ∙ ap (λ (x : TypedStatement). typed_tree.If one x c place) f
+    ∙ ap (λ (x : Option TypedStatement). typed_tree.If one two x place) g
 
-pub labeled_same : (n one : ℕ) (a two : TypedStatement) → n ≡ one → a ≡ two
-    → typed_tree.Labeled n a ≡ typed_tree.Labeled one two
-labeled_same n one a two e f =
-    ap (λ (x : ℕ). typed_tree.Labeled x a) e
-    ∙ ap (λ (x : TypedStatement). typed_tree.Labeled one x) f
+pub labeled_same : (n one : ℕ) (a two : TypedStatement) (place : ℕ) → n ≡ one → a ≡ two
+    → typed_tree.Labeled n a place ≡ typed_tree.Labeled one two place
+labeled_same n one a two place e f =
+    ap (λ (x : ℕ). typed_tree.Labeled x a place) e
+    ∙ ap (λ (x : TypedStatement). typed_tree.Labeled one x place) f
 
 -- a typed switch, by its parts
 pub switch_same : (a one : TypedExpression) (b two : List Choice) (c three : ℕ)
-    (d four : TypedStatement) (e five : ℕ) → a ≡ one → b ≡ two → c ≡ three → d ≡ four → e ≡ five
-    → typed_tree.Switch a b c d e ≡ typed_tree.Switch one two three four five
-switch_same a one b two c three d four e five f g h i j =
-    ap (λ (x : TypedExpression). typed_tree.Switch x b c d e) f
-    ∙ ap (λ (x : List Choice). typed_tree.Switch one x c d e) g
-    ∙ ap (λ (x : ℕ). typed_tree.Switch one two x d e) h
-    ∙ ap (λ (x : TypedStatement). typed_tree.Switch one two three x e) i
-    ∙ ap (λ (x : ℕ). typed_tree.Switch one two three four x) j
+    (d four : TypedStatement) (e five place : ℕ) → a ≡ one → b ≡ two → c ≡ three → d ≡ four
+    → e ≡ five
+    → typed_tree.Switch a b c d e place ≡ typed_tree.Switch one two three four five place
+switch_same a one b two c three d four e five place f g h i j =
+    ap (λ (x : TypedExpression). typed_tree.Switch x b c d e place) f
+    ∙ ap (λ (x : List Choice). typed_tree.Switch one x c d e place) g
+    ∙ ap (λ (x : ℕ). typed_tree.Switch one two x d e place) h
+    ∙ ap (λ (x : TypedStatement). typed_tree.Switch one two three x e place) i
+    ∙ ap (λ (x : ℕ). typed_tree.Switch one two three four x place) j
 
 module _ (text : Text) where
   opened : (s : Statement) (x : Statement-F BlockItem Statement) → roll-Statement x ≡ s →
@@ -98,13 +100,13 @@ module _ (text : Text) where
 
   pub of_Block : (items : List BlockItem) (place : ℕ) →
       grown_of text (tree.Block items place)
-      ≡ grown_statement text (Statement-F.Block (map (grown text) items) 0)
+      ≡ grown_statement text (Statement-F.Block (map (grown text) items) place)
   of_Block items place =
       opened (tree.Block items place) (Statement-F.Block items place) (tree.rolls-Block items place)
 
   pub of_Expression : (expression : Option Expression) (place : ℕ) →
       grown_of text (tree.Expression expression place)
-      ≡ grown_statement text (Statement-F.Expression expression 0)
+      ≡ grown_statement text (Statement-F.Expression expression place)
   of_Expression expression place =
       opened (tree.Expression expression place) (Statement-F.Expression expression place)
       (tree.rolls-Expression expression place)
@@ -115,7 +117,7 @@ module _ (text : Text) where
             (perhaps (option_map (walk_of_statement text) second)));
         typed = λ around. typed_tree.If (typed_expression text around test)
             ((grown_of text first).typed around)
-            (option_map (grown_typed text ((grown_of text first).walk.behind around)) second);
+            (option_map (grown_typed text ((grown_of text first).walk.behind around)) second) place;
       }
   of_If test first None place =
       opened (tree.If test first None place) (Statement-F.If test first None place)
@@ -127,27 +129,27 @@ module _ (text : Text) where
 
   pub of_While : (test : Expression) (body : Statement) (place : ℕ) →
       grown_of text (tree.While test body place)
-      ≡ grown_statement text (Statement-F.While test (grown_of text body) 0)
+      ≡ grown_statement text (Statement-F.While test (grown_of text body) place)
   of_While test body place =
       opened (tree.While test body place) (Statement-F.While test body place)
       (tree.rolls-While test body place)
 
   pub of_Do : (body : Statement) (test : Expression) (place : ℕ) →
       grown_of text (tree.Do body test place)
-      ≡ grown_statement text (Statement-F.Do (grown_of text body) test 0)
+      ≡ grown_statement text (Statement-F.Do (grown_of text body) test place)
   of_Do body test place =
       opened (tree.Do body test place) (Statement-F.Do body test place)
       (tree.rolls-Do body test place)
 
   pub of_For : (start : ForStart) (test step : Option Expression) (body : Statement) (place : ℕ) →
       grown_of text (tree.For start test step body place)
-      ≡ grown_statement text (Statement-F.For start test step (grown_of text body) 0)
+      ≡ grown_statement text (Statement-F.For start test step (grown_of text body) place)
   of_For start test step body place =
       opened (tree.For start test step body place) (Statement-F.For start test step body place)
       (tree.rolls-For start test step body place)
 
   pub of_Goto : (label : Name) (place : ℕ) →
-      grown_of text (tree.Goto label place) ≡ grown_statement text (Statement-F.Goto label 0)
+      grown_of text (tree.Goto label place) ≡ grown_statement text (Statement-F.Goto label place)
   of_Goto label place =
       opened (tree.Goto label place) (Statement-F.Goto label place) (tree.rolls-Goto label place)
 
@@ -177,7 +179,7 @@ module _ (text : Text) where
 
   pub of_Switch : (value : Expression) (body : Statement) (place : ℕ) →
       grown_of text (tree.Switch value body place)
-      ≡ grown_statement text (Statement-F.Switch value (grown_of text body) 0)
+      ≡ grown_statement text (Statement-F.Switch value (grown_of text body) place)
   of_Switch value body place =
       opened (tree.Switch value body place) (Statement-F.Switch value body place)
       (tree.rolls-Switch value body place)

@@ -124,21 +124,28 @@ is_read frame nest old mid last start between found specifiers all items ps note
           around_is;
     }
 
-abbrev pub function_of : Kind → List Object → List TypedItem → TypedFunction
-function_of result parameters items =
-    record { result = result; parameters = parameters; items = items }
+abbrev pub function_of : Kind → List Object → List TypedItem → ℕ → ℕ → TypedFunction
+function_of result parameters items place end = record {
+  result = result;
+  parameters = parameters;
+  items = items;
+  place = place;
+  end = end;
+}
 
 pub typed_is : (frame : Frame) (nest : Nest) (old mid : Walker) (start between : Found)
     (specifiers : Specifiers) (all : Parameters) (items : List BlockItem) (ps : List Parameter)
-    (os : List Object) (ts : List TypedItem) → IsTied frame mid between → ps ≡ listed all
+    (os : List Object) (ts : List TypedItem) (place end : ℕ) → IsTied frame mid between
+    → ps ≡ listed all
     → around_of frame nest old ≡ begins old.names old.objects specifiers items
     → state_of frame nest mid between ≡ walked frame.survey.now frame.caller
     (in_order (map receiving ps)) (state_of frame nest old start)
     → frame.result ≡ kind_of specifiers → os ≡ parameter_objects old.objects ps
     → ts ≡ typed_in_order (map (grown frame.survey.now) items) (around_of frame nest mid)
-    → function_of frame.result os ts
-    ≡ typed_body frame.survey.now old.names old.objects specifiers all items
-typed_is frame nest old mid start between specifiers all items ps os ts tied ps_are around_is first
+    → function_of frame.result os ts place end
+    ≡ typed_body frame.survey.now old.names old.objects specifiers all items place end
+typed_is frame nest old mid start between specifiers all items ps os ts place end tied ps_are
+    around_is first
     result os_are ts_are =
     let text = frame.survey.now in
     let behind = is_behind text frame.caller (in_order (map receiving ps))
@@ -152,10 +159,10 @@ typed_is frame nest old mid start between specifiers all items ps os ts tied ps_
     (behind.around ∙ ap (λ (a : Around). (in_order (map receiving ps)).behind a) around_is
     ∙ ap (λ (qs : List Parameter). (in_order (map receiving qs)).behind
     (begins old.names old.objects specifiers items)) ps_are) in
-    ap (λ (k : Kind). function_of k os ts) result
-    ∙ ap (λ (xs : List Object). function_of (kind_of specifiers) xs ts) objects
+    ap (λ (k : Kind). function_of k os ts place end) result
+    ∙ ap (λ (xs : List Object). function_of (kind_of specifiers) xs ts place end) objects
     ∙ ap (λ (ys : List TypedItem). function_of (kind_of specifiers)
-    (parameter_objects old.objects (listed all)) ys) items_are
+    (parameter_objects old.objects (listed all)) ys place end) items_are
 
 pub tied_from : (frame : Frame) (walker : Walker) (start : Found)
     → start ≡ nothing_found walker.objects → frame.file ≡ length walker.names

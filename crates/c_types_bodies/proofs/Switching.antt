@@ -135,15 +135,15 @@ tied_cases frame old new jumps tied names objects cases =
 -- a typed switch, whose body stands behind this
 pub switch_typed : (text : Text) (value : Expression) (part : Grown TypedStatement)
     (around mid : Around) (t : TypedExpression) (choices : List Choice) (otherwise : Option ℕ)
-    (rest : ℕ) (body : TypedStatement) (end : ℕ) → mid ≡ around
+    (rest : ℕ) (body : TypedStatement) (end place : ℕ) → mid ≡ around
     → t ≡ typed_of text around.names value → end ≡ end_behind part.walk mid
     → choices ≡ (part.walk.behind (within_switch text value part.walk mid)).choices
     → otherwise ≡ (part.walk.behind (within_switch text value part.walk mid)).otherwise
     → rest ≡ unwrap_or otherwise end
     → body ≡ part.typed (within_switch text value part.walk mid)
-    → typed_tree.Switch t choices rest body end
-    ≡ typed_statement text (Statement-F.Switch value part 0) around
-switch_typed text value part around mid t choices otherwise rest body end mid_is t_is end_is
+    → typed_tree.Switch t choices rest body end place
+    ≡ typed_statement text (Statement-F.Switch value part place) around
+switch_typed text value part around mid t choices otherwise rest body end place mid_is t_is end_is
     choices_are otherwise_is rest_is body_is =
     let last = part.walk.behind (within_switch text value part.walk around) in
     let end_to : end ≡ end_behind part.walk around =
@@ -154,7 +154,8 @@ switch_typed text value part around mid t choices otherwise rest body end mid_is
     mid_is in
     switch_same t (typed_of text around.names value) choices last.choices rest
     (unwrap_or last.otherwise (end_behind part.walk around)) body
-    (part.typed (within_switch text value part.walk around)) end (end_behind part.walk around) t_is
+    (part.typed (within_switch text value part.walk around)) end (end_behind part.walk around) place
+    t_is
     (choices_are
     ∙ ap (λ (a : Around). (part.walk.behind (within_switch text value part.walk a)).choices) mid_is)
     (rest_is ∙ ap (λ (o : Option ℕ). unwrap_or o end) otherwise_to

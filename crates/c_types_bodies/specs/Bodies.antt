@@ -29,14 +29,16 @@ abbrev pub objects_behind : Text → List Entry → ℕ → Specifiers → Param
 objects_behind text names objects specifiers all items =
     ((body_walk text all items).behind (begins names objects specifiers items)).objects
 
--- the typed function
+-- the typed function, whose braces stand at these places
 abbrev pub typed_body : Text → List Entry → ℕ → Specifiers → Parameters → List BlockItem
-    → TypedFunction
-typed_body text names objects specifiers all items = record {
+    → ℕ → ℕ → TypedFunction
+typed_body text names objects specifiers all items place end = record {
   result = kind_of specifiers;
   parameters = parameter_objects objects (listed all);
   items = typed_in_order (map (grown text) items)
       ((in_order (map receiving (listed all))).behind (begins names objects specifiers items));
+  place = place;
+  end = end;
 }
 
 -- each object of these names is one of so many

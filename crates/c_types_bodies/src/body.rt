@@ -48,6 +48,8 @@ fn walk_function(
     specifiers: &Specifiers,
     parameters: &Parameters,
     items: &[BlockItem],
+    place: u32,
+    end: u32,
 ) -> Result<TypedFunction, AllocError>
     requires numbered { AreNumbered walker.old.objects walker.old.names }
     requires fresh { IsFresh walker.old }
@@ -55,7 +57,7 @@ fn walk_function(
     ensures objects { OnOk result (walker.new.objects ≡ objects_behind survey.now walker.old.names
         walker.old.objects specifiers.now parameters.now items.now) }
     ensures typed { IfOk result (λ t. t ≡ typed_body survey.now walker.old.names
-        walker.old.objects specifiers.now parameters.now items.now) }
+        walker.old.objects specifiers.now parameters.now items.now place end) }
     ensures first { OnOk result (walker.new.first ≡ first_with walker.old.first (body_faults
         survey.now (acts_of survey.now walker.old.names walker.old.objects specifiers.now
         parameters.now items.now))) }
@@ -88,10 +90,12 @@ fn walk_function(
         result,
         parameters,
         items,
+        place,
+        end,
     })
 }
 
-/// Reads the body of this number, behind so many objects.
+/// Reads the body of this number, behind so many objects, between braces at these places.
 pub fn read_body(
     alloc: Global,
     survey: &Survey,
@@ -101,6 +105,8 @@ pub fn read_body(
     specifiers: &Specifiers,
     parameters: &Parameters,
     items: &[BlockItem],
+    place: u32,
+    end: u32,
     first: &mut Option<TextFault>,
     calls: &mut Vec<Call>,
 ) -> Result<ReadBody, AllocError>
@@ -109,7 +115,7 @@ pub fn read_body(
     ensures objects { IfOk result (λ r. r.objects ≡ objects_behind survey.now names.old objects
         specifiers.now parameters.now items.now) }
     ensures typed { IfOk result (λ r. r.typed ≡ typed_body survey.now names.old objects
-        specifiers.now parameters.now items.now) }
+        specifiers.now parameters.now items.now place end) }
     ensures first { OnOk result (first.new ≡ first_with first.old (body_faults survey.now
         (acts_of survey.now names.old objects specifiers.now parameters.now items.now))) }
     ensures calls { OnOk result (calls.new.items ≡ calls.old.items
@@ -132,6 +138,8 @@ pub fn read_body(
         specifiers,
         parameters,
         items,
+        place,
+        end,
     )?;
     let Walker {
         names: walked_names,

@@ -44,12 +44,12 @@ fn label_number(frame: &Frame, name: &Name) -> u32
 }
 
 /// What a `break` is: a goto where the nearest loop or switch is a switch.
-fn typed_break(break_to: Option<u32>) -> TypedStatement
-    ensures { result ≡ typed_break break_to }
+fn typed_break(break_to: Option<u32>, place: u32) -> TypedStatement
+    ensures { result ≡ typed_break break_to place }
 {
     match break_to {
-        Some(label) => TypedStatement::Goto { label },
-        None => TypedStatement::Break,
+        Some(label) => TypedStatement::Goto { label, place },
+        None => TypedStatement::Break { place },
     }
 }
 
@@ -74,34 +74,43 @@ pub(crate) fn walk_statement(
         (state_of frame.now nest walker.old jumps.old)) }
 {
     match statement {
-        Statement::Block { items, .. } => {
-            walk_block(alloc, frame, walker, jumps, nest, items.as_slice())
+        Statement::Block { items, place } => {
+            walk_block(alloc, frame, walker, jumps, nest, items.as_slice(), *place)
         }
-        Statement::Expression { expression, .. } => {
+        Statement::Expression { expression, place } => {
             let expression = evaluate_optional(alloc, frame, walker, Role::Evaluated, expression)?;
-            Ok(TypedStatement::Expression { expression })
+            Ok(TypedStatement::Expression {
+                expression,
+                place: *place,
+            })
         }
-        Statement::If { test, yes, no, .. } => {
+        Statement::If {
+            test,
+            yes,
+            no,
+            place,
+        } => {
             let tested = walk_tested(alloc, frame, walker, jumps, nest, yes.get(), test)?;
             let no = walk_optional(alloc, frame, walker, jumps, nest, no)?;
             Ok(TypedStatement::If {
                 test: tested.test,
                 yes: tested.yes,
                 no,
+                place: *place,
             })
         }
-        Statement::While { test, body, .. } => {
-            walk_while(alloc, frame, walker, jumps, nest, body.get(), test)
+        Statement::While { test, body, place } => {
+            walk_while(alloc, frame, walker, jumps, nest, body.get(), test, *place)
         }
-        Statement::Do { body, test, .. } => {
-            walk_do(alloc, frame, walker, jumps, nest, body.get(), test)
+        Statement::Do { body, test, place } => {
+            walk_do(alloc, frame, walker, jumps, nest, body.get(), test, *place)
         }
         Statement::For {
             start,
             test,
             step,
             body,
-            ..
+            place,
         } => {
             walk_for(
                 alloc,
@@ -113,16 +122,18 @@ pub(crate) fn walk_statement(
                 start,
                 test,
                 step,
+                *place,
             )
         }
-        Statement::Goto { label, .. } => {
+        Statement::Goto { label, place } => {
             jump(alloc, frame, walker, jumps, label)?;
             Ok(TypedStatement::Goto {
                 label: label_number(frame, label),
+                place: *place,
             })
         }
-        Statement::Switch { value, body, .. } => {
-            walk_switch(alloc, frame, walker, jumps, nest, body.get(), value)
+        Statement::Switch { value, body, place } => {
+            walk_switch(alloc, frame, walker, jumps, nest, body.get(), value, *place)
         }
         Statement::Case { value, body, place } => {
             walk_case(alloc, frame, walker, jumps, nest, body.get(), value, *place)
@@ -132,15 +143,18 @@ pub(crate) fn walk_statement(
         }
         Statement::Break { place } => {
             leave(frame, walker, nest, *place);
-            Ok(typed_break(nest.break_to))
+            Ok(typed_break(nest.break_to, *place))
         }
         Statement::Continue { place } => {
             turn(frame, walker, nest, *place);
-            Ok(TypedStatement::Continue)
+            Ok(TypedStatement::Continue { place: *place })
         }
         Statement::Return { value, place } => {
             let value = finish(alloc, frame, walker, value, *place)?;
-            Ok(TypedStatement::Return { value })
+            Ok(TypedStatement::Return {
+                value,
+                place: *place,
+            })
         }
         Statement::Labeled { label, body } => {
             walk_labeled(alloc, frame, walker, jumps, nest, label, body.get())
@@ -278,21 +292,22 @@ fn walk_while(
     nest: Nest,
     body: &Statement,
     test: &Expression,
+    place: u32,
 ) -> Result<TypedStatement, AllocError>
     requires { IsTied frame.now walker.old jumps.old }
     ensures tied { OnOk result (IsTied frame.now walker.new jumps.new) }
     ensures names { OnOk result (walker.new.names ≡ walker.old.names) }
     ensures typed { IfOk result (λ t. t ≡ (grown_statement frame.now.survey.now
-        (Statement-F.While test.now (grown_of frame.now.survey.now body.now) 0)).typed
+        (Statement-F.While test.now (grown_of frame.now.survey.now body.now) place)).typed
         (around_of frame.now nest walker.old)) }
     ensures state { OnOk result (state_of frame.now nest walker.new jumps.new
         ≡ walked frame.now.survey.now frame.now.caller (grown_statement frame.now.survey.now
-        (Statement-F.While test.now (grown_of frame.now.survey.now body.now) 0)).walk
+        (Statement-F.While test.now (grown_of frame.now.survey.now body.now) place)).walk
         (state_of frame.now nest walker.old jumps.old)) }
 {
     let test = evaluate(alloc, frame, walker, Role::Valued, test)?;
     let body = walk_looped(alloc, frame, walker, jumps, nest, body)?;
-    Ok(TypedStatement::While { test, body })
+    Ok(TypedStatement::While { test, body, place })
 }
 
 /// Walks through a `do`.
@@ -305,21 +320,22 @@ fn walk_do(
     nest: Nest,
     body: &Statement,
     test: &Expression,
+    place: u32,
 ) -> Result<TypedStatement, AllocError>
     requires { IsTied frame.now walker.old jumps.old }
     ensures tied { OnOk result (IsTied frame.now walker.new jumps.new) }
     ensures names { OnOk result (walker.new.names ≡ walker.old.names) }
     ensures typed { IfOk result (λ t. t ≡ (grown_statement frame.now.survey.now
-        (Statement-F.Do (grown_of frame.now.survey.now body.now) test.now 0)).typed
+        (Statement-F.Do (grown_of frame.now.survey.now body.now) test.now place)).typed
         (around_of frame.now nest walker.old)) }
     ensures state { OnOk result (state_of frame.now nest walker.new jumps.new
         ≡ walked frame.now.survey.now frame.now.caller (grown_statement frame.now.survey.now
-        (Statement-F.Do (grown_of frame.now.survey.now body.now) test.now 0)).walk
+        (Statement-F.Do (grown_of frame.now.survey.now body.now) test.now place)).walk
         (state_of frame.now nest walker.old jumps.old)) }
 {
     let body = walk_looped(alloc, frame, walker, jumps, nest, body)?;
     let test = evaluate(alloc, frame, walker, Role::Valued, test)?;
-    Ok(TypedStatement::Do { body, test })
+    Ok(TypedStatement::Do { body, test, place })
 }
 
 /// Walks through the first part of a `for`.
@@ -413,18 +429,19 @@ fn walk_for(
     start: &ForStart,
     test: &Option<Expression>,
     step: &Option<Expression>,
+    place: u32,
 ) -> Result<TypedStatement, AllocError>
     requires { IsTied frame.now walker.old jumps.old }
     ensures tied { OnOk result (IsTied frame.now walker.new jumps.new) }
     ensures names { OnOk result (walker.new.names ≡ walker.old.names) }
     ensures typed { IfOk result (λ t. t ≡ (grown_statement frame.now.survey.now
         (Statement-F.For start.now test.now step.now
-        (grown_of frame.now.survey.now body.now) 0)).typed
+        (grown_of frame.now.survey.now body.now) place)).typed
         (around_of frame.now nest walker.old)) }
     ensures state { OnOk result (state_of frame.now nest walker.new jumps.new
         ≡ walked frame.now.survey.now frame.now.caller (grown_statement frame.now.survey.now
         (Statement-F.For start.now test.now step.now
-        (grown_of frame.now.survey.now body.now) 0)).walk
+        (grown_of frame.now.survey.now body.now) place)).walk
         (state_of frame.now nest walker.old jumps.old)) }
 {
     let count = walker.names.len();
@@ -444,6 +461,7 @@ fn walk_for(
         test: head.test,
         step: head.step,
         body,
+        place,
     })
 }
 
@@ -533,16 +551,17 @@ fn walk_switch(
     nest: Nest,
     body: &Statement,
     value: &Expression,
+    place: u32,
 ) -> Result<TypedStatement, AllocError>
     requires { IsTied frame.now walker.old jumps.old }
     ensures tied { OnOk result (IsTied frame.now walker.new jumps.new) }
     ensures names { OnOk result (walker.new.names ≡ walker.old.names) }
     ensures typed { IfOk result (λ t. t ≡ (grown_statement frame.now.survey.now
-        (Statement-F.Switch value.now (grown_of frame.now.survey.now body.now) 0)).typed
+        (Statement-F.Switch value.now (grown_of frame.now.survey.now body.now) place)).typed
         (around_of frame.now nest walker.old)) }
     ensures state { OnOk result (state_of frame.now nest walker.new jumps.new
         ≡ walked frame.now.survey.now frame.now.caller (grown_statement frame.now.survey.now
-        (Statement-F.Switch value.now (grown_of frame.now.survey.now body.now) 0)).walk
+        (Statement-F.Switch value.now (grown_of frame.now.survey.now body.now) place)).walk
         (state_of frame.now nest walker.old jumps.old)) }
 {
     let end = end_behind(walker.passed, body)?;
@@ -555,6 +574,7 @@ fn walk_switch(
         otherwise: switched.otherwise.unwrap_or(end),
         body: switched.body,
         end,
+        place,
     })
 }
 
@@ -583,7 +603,7 @@ fn walk_case(
 {
     let label = select_value(alloc, frame, walker, jumps, nest, value, place)?;
     let body = walk_part(alloc, frame, walker, jumps, nest, body)?;
-    Ok(TypedStatement::Labeled { label, body })
+    Ok(TypedStatement::Labeled { label, body, place })
 }
 
 /// Walks through a `default`.
@@ -610,7 +630,7 @@ fn walk_default(
 {
     let label = select_rest(frame, walker, jumps, nest, place)?;
     let body = walk_part(alloc, frame, walker, jumps, nest, body)?;
-    Ok(TypedStatement::Labeled { label, body })
+    Ok(TypedStatement::Labeled { label, body, place })
 }
 
 /// Walks through a labeled statement.
@@ -641,6 +661,7 @@ fn walk_labeled(
     Ok(TypedStatement::Labeled {
         label: number,
         body,
+        place: label.place,
     })
 }
 
@@ -653,16 +674,17 @@ fn walk_block(
     jumps: &mut Jumps,
     nest: Nest,
     items: &[BlockItem],
+    place: u32,
 ) -> Result<TypedStatement, AllocError>
     requires { IsTied frame.now walker.old jumps.old }
     ensures tied { OnOk result (IsTied frame.now walker.new jumps.new) }
     ensures names { OnOk result (walker.new.names ≡ walker.old.names) }
     ensures typed { IfOk result (λ t. t ≡ (grown_statement frame.now.survey.now
-        (Statement-F.Block (map (grown frame.now.survey.now) items.now) 0)).typed
+        (Statement-F.Block (map (grown frame.now.survey.now) items.now) place)).typed
         (around_of frame.now nest walker.old)) }
     ensures state { OnOk result (state_of frame.now nest walker.new jumps.new
         ≡ walked frame.now.survey.now frame.now.caller (grown_statement frame.now.survey.now
-        (Statement-F.Block (map (grown frame.now.survey.now) items.now) 0)).walk
+        (Statement-F.Block (map (grown frame.now.survey.now) items.now) place)).walk
         (state_of frame.now nest walker.old jumps.old)) }
 {
     let count = walker.names.len();
@@ -676,7 +698,7 @@ fn walk_block(
     let items = walk_items(alloc, frame, walker, jumps, inside, items)?;
     walker.names.keep(count);
     jumps.leave(depth);
-    Ok(TypedStatement::Block { items })
+    Ok(TypedStatement::Block { items, place })
 }
 
 /// Walks through the items of a block.

@@ -50,6 +50,7 @@ object_by text names number kind is_const declarator = record {
   ty = object_type kind;
   length = length_of text names declarator;
   is_const = is_const;
+  place = Some declarator.name.place;
 }
 
 -- the faults of the type and the length
@@ -79,6 +80,7 @@ local_by text names number kind is_const declarator = record {
   object = object_by text names number kind is_const declarator;
   initializer = option_map (typed_items text
       (names_behind text names number kind is_const declarator)) declarator.initializer;
+  place = declarator.name.place;
 }
 
 -- the value that a cell of this type starts at

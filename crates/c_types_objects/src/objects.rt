@@ -58,6 +58,7 @@ pub fn read_object(
         ty: qualified.kind.object_type(),
         length,
         is_const: qualified.is_const,
+        place: Some(declarator.name.place),
     })
 }
 
@@ -115,5 +116,6 @@ pub fn read_local(
     Ok(TypedDeclarator {
         object,
         initializer,
+        place: declarator.name.place,
     })
 }

@@ -1,6 +1,7 @@
 //! What a parameter declares (`parameter_type`, `parameter_object` and `void_parameter` of
 //! `c_types_rules`, `specs/Declarations.antt`). Proved by the checker alone.
-ghost use Rattle.std.specs.Prelude.{◌≡◌, IfOk, OnOk};
+ghost use Rattle.std.specs.Prelude.{◌≡◌, IfOk, OnOk, option_map};
+ghost use Rattle.c_grammar_tree.specs.declared.name.Name.{Name as NameTree};
 ghost use Rattle.c_lexer.specs.declared.fault.Rule.TheVariants as rule;
 ghost use Rattle.c_types_rules.specs.First.{first_with};
 ghost use Rattle.c_types_rules.specs.ExpressionRules.{broken, option_places};
@@ -8,7 +9,7 @@ ghost use Rattle.c_types_rules.specs.Declarations.{parameter_type, parameter_obj
 ghost use Rattle.c_types_rules.specs.Declarations.{kind_of, void_parameter};
 
 use crate::specifiers::{is_void_word, kind_of, read_specifiers};
-use c_grammar_tree::{Parameter, Specifier};
+use c_grammar_tree::{Name, Parameter, Specifier};
 use c_lexer::{Rule, TextFault};
 use c_types_rules::{Kind, Object, ParameterType, note_place};
 use std::alloc::{AllocError, Global};
@@ -22,6 +23,16 @@ pub fn parameter_type(alloc: Global, parameter: &Parameter) -> Result<ParameterT
         ty: kind.object_type(),
         is_pointer: parameter.is_pointer,
     })
+}
+
+/// The place of a parameter's name, where it has one.
+fn name_place(name: &Option<Name>) -> Option<u32>
+    ensures { result ≡ option_map (λ (one : NameTree). one.place) name.now }
+{
+    match name {
+        Some(name) => Some(name.place),
+        None => None,
+    }
 }
 
 /// The object of this number that a parameter is.
@@ -38,6 +49,7 @@ pub fn parameter_object(
         ty: qualified.kind.object_type(),
         length: None,
         is_const: qualified.is_const,
+        place: name_place(&parameter.name),
     })
 }
 

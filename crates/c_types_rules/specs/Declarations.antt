@@ -1,7 +1,7 @@
 -- What a declaration of an object declares, and the rules of its type and length (C11 6.7).
 use Rattle.std.specs.Prelude.{ℕ, ℤ, pos, int_le, int_lt, Bool, true, false, not}
 use Rattle.std.specs.Prelude.{◌&&◌, ◌||◌, if◌then◌else◌, List, [], ◌∷◌, ◌++◌, length, map}
-use Rattle.std.specs.Prelude.{Option, None, Some, is_some, unwrap_or, option_and_then}
+use Rattle.std.specs.Prelude.{Option, None, Some, is_some, unwrap_or, option_map, option_and_then}
 use Rattle.std.specs.List.{list_any}
 use Rattle.std.specs.Ordering.{int_eq}
 use Rattle.std.specs.Str.{bytes_eq}
@@ -148,6 +148,7 @@ object_of text names number specifiers declarator = record {
   ty = object_type (kind_of specifiers);
   length = length_of text names declarator;
   is_const = has_const specifiers;
+  place = Some declarator.name.place;
 }
 
 -- the declared name of an object in a function
@@ -219,6 +220,7 @@ parameter_object number parameter = record {
   ty = object_type (kind_of parameter.specifiers);
   length = None;
   is_const = has_const parameter.specifiers;
+  place = option_map (λ name. name.place) parameter.name;
 }
 
 -- the place of the word void, the first of these

@@ -63,7 +63,7 @@ parameter_types defines all =
 
 -- what the whole text says of its functions
 abbrev pub body_name : Item → Option (List ℕ)
-body_name (item.Function specifiers declarator (body.Block items place)) =
+body_name (item.Function specifiers declarator (body.Block items place end)) =
     Some declarator.name.bytes
 body_name _ = None
 
@@ -280,7 +280,7 @@ body_walk text all items =
 -- the items of a body; a body that is skipped has none
 abbrev pub items_in : Body → List BlockItem
 items_in body.Skipped = []
-items_in (body.Block items place) = items
+items_in (body.Block items place end) = items
 
 -- the acts of a function with this body, its parameters first
 abbrev pub body_sites : Text → Before → Specifiers → FunctionDeclarator → Body → List Site
@@ -293,7 +293,7 @@ body_faults text sites = flat_map (site_faults text) sites ++ jump_faults sites
 
 abbrev pub body_behind : Text → Specifiers → FunctionDeclarator → Body → Before → Before
 body_behind text specifiers declarator body.Skipped before = before
-body_behind text specifiers declarator (body.Block items place) before = record before {
+body_behind text specifiers declarator (body.Block items place end) before = record before {
   objects = ((body_walk text declarator.parameters items).behind
       (around_body before specifiers items)).objects;
   bodies = before.bodies + 1;

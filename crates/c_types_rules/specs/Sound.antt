@@ -40,8 +40,8 @@ items_behind text (one ∷ more) before = items_behind text more (item_behind te
 
 -- the functions with a body, in order
 abbrev pub item_function : Text → Item → Before → List TypedFunction
-item_function text (item.Function specifiers declarator (body.Block items place)) before =
-    typed_function text before specifiers declarator items ∷ []
+item_function text (item.Function specifiers declarator (body.Block items place end)) before =
+    typed_function text before specifiers declarator items place end ∷ []
 item_function text _ before = []
 
 abbrev pub functions_of : Text → List Item → Before → List TypedFunction
@@ -139,7 +139,7 @@ has_no_parameters (parameters.Listed all) = false
 
 -- a main without parameters that returns int and has a body
 abbrev pub is_main : Item → Bool
-is_main (item.Function specifiers declarator (body.Block items place)) =
+is_main (item.Function specifiers declarator (body.Block items place end)) =
     bytes_eq declarator.name.bytes main_name && same_kind (kind_of specifiers) (Value ty.I32)
     && has_no_parameters declarator.parameters
 is_main _ = false

@@ -57,6 +57,7 @@ typed_declarator text specifiers declarator around = record {
   object = object_of text around.names around.objects specifiers declarator;
   initializer = option_map (typed_items text (declaring_behind text specifiers declarator
       around).names) declarator.initializer;
+  place = declarator.name.place;
 }
 
 abbrev pub typed_declarators : Text → Specifiers → List Declarator → Around → List TypedDeclarator
@@ -76,46 +77,48 @@ typed_for_start text (start.Expression expression) around =
 abbrev pub label_number : Around → Name → ℕ
 label_number around name = unwrap_or (place_of (bytes_eq name.bytes) around.labels) 0
 
--- where a break goes
-abbrev pub typed_break : Option ℕ → TypedStatement
-typed_break None = tree.Break
-typed_break (Some end) = tree.Goto end
+-- a break at this place, by where it goes
+abbrev pub typed_break : Option ℕ → ℕ → TypedStatement
+typed_break None place = tree.Break place
+typed_break (Some end) place = tree.Goto end place
 
 -- a statement with a grown part for each statement in it, where it stands
 abbrev pub typed_statement : Text → Statement-F (Grown TypedItem) (Grown TypedStatement) → Around
     → TypedStatement
 typed_statement text (Statement-F.Block items place) around =
-    tree.Block (typed_in_order items (inner around))
+    tree.Block (typed_in_order items (inner around)) place
 typed_statement text (Statement-F.Expression expression place) around =
-    tree.Expression (typed_optional text around expression)
+    tree.Expression (typed_optional text around expression) place
 typed_statement text (Statement-F.If test first second place) around =
     tree.If (typed_expression text around test) (first.typed around)
-    (option_map (λ other. other.typed (first.walk.behind around)) second)
+    (option_map (λ other. other.typed (first.walk.behind around)) second) place
 typed_statement text (Statement-F.While test body place) around =
-    tree.While (typed_expression text around test) (body.typed (loop around))
+    tree.While (typed_expression text around test) (body.typed (loop around)) place
 typed_statement text (Statement-F.Do body test place) around =
-    tree.Do (body.typed (loop around)) (typed_expression text around test)
+    tree.Do (body.typed (loop around)) (typed_expression text around test) place
 typed_statement text (Statement-F.For first test step body place) around =
     let behind = (start_walk text first).behind (inner around) in
     tree.For (typed_for_start text first (inner around)) (typed_optional text behind test)
-    (typed_optional text behind step) (body.typed (loop behind))
-typed_statement text (Statement-F.Goto label place) around = tree.Goto (label_number around label)
+    (typed_optional text behind step) (body.typed (loop behind)) place
+typed_statement text (Statement-F.Goto label place) around =
+    tree.Goto (label_number around label) place
 typed_statement text (Statement-F.Switch value body place) around =
     let end = end_behind body.walk around in
     let within = switched text value end around in
     let behind = body.walk.behind within in
     tree.Switch (typed_expression text around value) behind.choices
-    (unwrap_or behind.otherwise end) (body.typed within) end
+    (unwrap_or behind.otherwise end) (body.typed within) end place
 typed_statement text (Statement-F.Case value body place) around =
-    tree.Labeled around.passed (body.typed (selected text (Some value) around))
+    tree.Labeled around.passed (body.typed (selected text (Some value) around)) place
 typed_statement text (Statement-F.Default body place) around =
-    tree.Labeled around.passed (body.typed (selected text None around))
-typed_statement text (Statement-F.Break place) around = typed_break around.break_to
-typed_statement text (Statement-F.Continue place) around = tree.Continue
+    tree.Labeled around.passed (body.typed (selected text None around)) place
+typed_statement text (Statement-F.Break place) around =
+    typed_break around.break_to place
+typed_statement text (Statement-F.Continue place) around = tree.Continue place
 typed_statement text (Statement-F.Return value place) around =
-    tree.Return (typed_optional text around value)
+    tree.Return (typed_optional text around value) place
 typed_statement text (Statement-F.Labeled label body) around =
-    tree.Labeled around.passed (body.typed (labeled around))
+    tree.Labeled around.passed (body.typed (labeled around)) label.place
 
 abbrev pub typed_block_item : Text → BlockItem-F (Grown TypedItem) (Grown TypedStatement) → Around
     → TypedItem
@@ -156,14 +159,16 @@ parameter_objects number [] = []
 parameter_objects number (parameter ∷ parameters) =
     parameter_object number parameter ∷ parameter_objects (number + 1) parameters
 
--- a function with this body
+-- a function with these items in its body, between braces at these places
 abbrev pub typed_function : Text → Before → Specifiers → FunctionDeclarator → List BlockItem
-    → TypedFunction
-typed_function text before specifiers declarator items =
+    → ℕ → ℕ → TypedFunction
+typed_function text before specifiers declarator items place end =
     let around = around_body (function_behind true specifiers declarator before) specifiers items in
     record {
       result = kind_of specifiers;
       parameters = parameter_objects before.objects (listed declarator.parameters);
       items = typed_in_order (map (grown text) items)
           ((in_order (map receiving (listed declarator.parameters))).behind around);
+      place = place;
+      end = end;
     }

@@ -21,6 +21,8 @@ pub struct Object {
     pub length: Option<i128>,
     /// Whether a declaration so far has the word `const`.
     pub is_const: bool,
+    /// The place of its name in its first declarator; a parameter without a name has none.
+    pub place: Option<u32>,
 }
 
 /// A function that a name stands for, as the whole text declares it.

@@ -114,50 +114,66 @@ pub enum TypedInitializer {
 pub struct TypedDeclarator {
     pub object: Object,
     pub initializer: Option<TypedInitializer>,
+    /// The place of its name.
+    pub place: u32,
 }
 
-/// A statement. A label is its number among the labels of its function, those of cases, of defaults
-/// and behind switches among them. A `break` out of a switch is a goto.
+/// A statement. Its place is that of its first token. A label is its number among the labels of its
+/// function, those of cases, of defaults and behind switches among them. A `break` out of a switch
+/// is a goto.
 #[cycle(typed_statement)]
 #[derive(Drop)]
 pub enum TypedStatement {
     Block {
         items: Seq<TypedItem>,
+        place: u32,
     },
     Expression {
         expression: Option<TypedExpression>,
+        place: u32,
     },
     If {
         test: TypedExpression,
         yes: Boxed<TypedStatement>,
         no: Option<Boxed<TypedStatement>>,
+        place: u32,
     },
     While {
         test: TypedExpression,
         body: Boxed<TypedStatement>,
+        place: u32,
     },
     Do {
         body: Boxed<TypedStatement>,
         test: TypedExpression,
+        place: u32,
     },
     For {
         start: TypedForStart,
         test: Option<TypedExpression>,
         step: Option<TypedExpression>,
         body: Boxed<TypedStatement>,
+        place: u32,
     },
     Goto {
         label: u32,
+        place: u32,
     },
-    Break,
-    Continue,
+    Break {
+        place: u32,
+    },
+    Continue {
+        place: u32,
+    },
     Return {
         value: Option<TypedExpression>,
+        place: u32,
     },
     /// Also a `case` or a `default`, which have labels without a name.
     Labeled {
         label: u32,
         body: Boxed<TypedStatement>,
+        place: u32,
     },
     Switch {
         value: TypedExpression,
@@ -168,6 +184,7 @@ pub enum TypedStatement {
         body: Boxed<TypedStatement>,
         /// The label behind it, to which a `break` goes.
         end: u32,
+        place: u32,
     },
 }
 
@@ -199,6 +216,10 @@ pub struct TypedFunction {
     pub result: Kind,
     pub parameters: Seq<Object>,
     pub items: Seq<TypedItem>,
+    /// The place of the first brace of its body.
+    pub place: u32,
+    /// That of the brace that closes it.
+    pub end: u32,
 }
 
 /// An object of file scope, by the declarations of the whole text, and what its elements start at.

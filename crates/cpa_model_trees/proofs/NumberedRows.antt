@@ -2,40 +2,41 @@
 -- parts (`node_*`), a row its first tree and the others (`row_*`).
 use Rattle.std.proofs.Common.{◌≡◌, ℕ, suc, ◌+◌, List, [], ◌∷◌, ◌++◌, length, refl, ap, sym, ◌<◌}
 use Rattle.std.proofs.Common.{◌≤◌, ◌*◌, get_or, drop, ◌∙◌, arith, append_assoc, set, length-append}
-use Rattle.std.proofs.lemmas.List.{at_drop_more}
+use Rattle.std.proofs.lemmas.List.{at_drop_more, map-append}
 use Rattle.cpa_model.specs.declared.program.Stmt.{Stmt}
 use Rattle.cpa_model_trees.specs.declared.tree.CoreTree.{CoreTree}
 use Rattle.cpa_model_trees.specs.declared.tree.CoreTree.TheVariants as tree
 use Rattle.cpa_model_trees.specs.declared.tree.Head.{Head}
 use Rattle.cpa_model_trees.specs.Numbering.{Placed, statements, numbers_from, stmt_of, label_here}
-use Rattle.cpa_model_trees.specs.Numbering.{labels_from, numbered, numbered_bodies}
-use Rattle.cpa_model_trees.specs.Rows.{row_of, sizes_of}
+use Rattle.cpa_model_trees.specs.Numbering.{labels_from, numbered, numbered_bodies, places_in}
+use Rattle.cpa_model_trees.specs.Rows.{row_of, sizes_of, places_of}
 use Rattle.cpa_model_trees.specs.lemmas.Nodes.{node_placed}
 use Rattle.cpa_model_trees.specs.lemmas.Numbered.{lengths_are, numbered_length, numbered_append}
 
-node_is : (h : Head) (parts : List CoreTree) →
-    statements (tree.Node h parts) ≡ record { head = h; sizes = sizes_of parts } ∷ row_of parts
-node_is h parts =
-    node_placed h parts ∙ ap (λ ns. record { head = h; sizes = ns } ∷ row_of parts)
-    (lengths_are parts)
+node_is : (h : Head) (parts : List CoreTree) (place : ℕ) →
+    statements (tree.Node h parts place)
+    ≡ record { head = h; sizes = sizes_of parts; place = place } ∷ row_of parts
+node_is h parts place =
+    node_placed h parts place
+    ∙ ap (λ ns. record { head = h; sizes = ns; place = place } ∷ row_of parts) (lengths_are parts)
 
-pub node_labels : (h : Head) (parts : List CoreTree) (n : ℕ) →
-    labels_from n (statements (tree.Node h parts))
+pub node_labels : (h : Head) (parts : List CoreTree) (place n : ℕ) →
+    labels_from n (statements (tree.Node h parts place))
     ≡ label_here h n ++ labels_from (n + 1) (row_of parts)
-node_labels h parts n = ap (labels_from n) (node_is h parts)
+node_labels h parts place n = ap (labels_from n) (node_is h parts place)
 
-pub node_length : (h : Head) (parts : List CoreTree) →
-    length (statements (tree.Node h parts)) ≡ 1 + length (row_of parts)
-node_length h parts =
-    let e : length (statements (tree.Node h parts)) ≡ suc (length (row_of parts)) =
-    ap length (node_is h parts) in
+pub node_length : (h : Head) (parts : List CoreTree) (place : ℕ) →
+    length (statements (tree.Node h parts place)) ≡ 1 + length (row_of parts)
+node_length h parts place =
+    let e : length (statements (tree.Node h parts place)) ≡ suc (length (row_of parts)) =
+    ap length (node_is h parts place) in
     omega (arith, e)
 
-pub node_numbered : (labels : List ℕ) (h : Head) (parts : List CoreTree) (n : ℕ) →
-    numbered labels n (statements (tree.Node h parts))
+pub node_numbered : (labels : List ℕ) (h : Head) (parts : List CoreTree) (place n : ℕ) →
+    numbered labels n (statements (tree.Node h parts place))
     ≡ stmt_of labels h (numbers_from (n + 1) (sizes_of parts))
     ∷ numbered labels (n + 1) (row_of parts)
-node_numbered labels h parts n = ap (numbered labels n) (node_is h parts)
+node_numbered labels h parts place n = ap (numbered labels n) (node_is h parts place)
 
 pub labels_append : (n : ℕ) (xs ys : List Placed) →
     labels_from n (xs ++ ys) ≡ labels_from n xs ++ labels_from (n + length xs) ys
@@ -113,13 +114,13 @@ body_numbered before after t ts whole a w =
 
 -- the root in the place that was held for it
 pub root_placed : (before held placed : List Stmt) (labels : List ℕ) (h : Head)
-    (parts : List CoreTree) (holder : Stmt) (number : ℕ) (numbers : List ℕ) →
+    (parts : List CoreTree) (place : ℕ) (holder : Stmt) (number : ℕ) (numbers : List ℕ) →
     number ≡ length before → held ≡ before ++ holder ∷ [] →
     placed ≡ held ++ numbered labels (length held) (row_of parts) →
     numbers ≡ numbers_from (length held) (sizes_of parts) →
     set placed number (stmt_of labels h numbers)
-    ≡ before ++ numbered labels (length before) (statements (tree.Node h parts))
-root_placed before held placed labels h parts holder number numbers e k p n =
+    ≡ before ++ numbered labels (length before) (statements (tree.Node h parts place))
+root_placed before held placed labels h parts place holder number numbers e k p n =
     let m = length before in
     let l : length held ≡ m + 1 = ap length k ∙ length-append before (holder ∷ []) in
     let rest = numbered labels (m + 1) (row_of parts) in
@@ -132,7 +133,7 @@ root_placed before held placed labels h parts holder number numbers e k p n =
     ∙ ap (λ i. set placed i root) e
     ∙ ap (λ ss. set ss m root) all
     ∙ set_behind before holder root rest
-    ∙ ap (λ ss. before ++ ss) (sym (node_numbered labels h parts m))
+    ∙ ap (λ ss. before ++ ss) (sym (node_numbered labels h parts place m))
 
 -- the same in a list that is gone through by its index
 pub note_kept : (before after : List ℕ) (n next : ℕ) (xs : List CoreTree) (i : ℕ) (t : CoreTree)
@@ -201,9 +202,9 @@ tree_below xs ts t n x h =
     ap (λ ys. length (row_of ys)) x ∙ length-append (statements t) (row_of ts) in
     omega (arith, k, h)
 
-pub parts_below : (h : Head) (parts : List CoreTree) →
-    3 * length (row_of parts) + 2 < 3 * length (statements (tree.Node h parts))
-parts_below h parts = omega (arith, node_length h parts)
+pub parts_below : (h : Head) (parts : List CoreTree) (place : ℕ) →
+    3 * length (row_of parts) + 2 < 3 * length (statements (tree.Node h parts place))
+parts_below h parts place = omega (arith, node_length h parts place)
 
 -- the place that is held is there
 pub root_inside : (before held placed more : List Stmt) (holder : Stmt) (number : ℕ) →
@@ -216,11 +217,30 @@ root_inside before held placed more holder number e k p =
     omega (arith, e, l, m)
 
 -- the labels of a node, its own noted first
-pub node_noted : (old own new : List ℕ) (h : Head) (parts : List CoreTree) (n next : ℕ) →
+pub node_noted : (old own new : List ℕ) (h : Head) (parts : List CoreTree) (place n next : ℕ) →
     own ≡ old ++ label_here h n → next ≡ n + 1 → new ≡ own ++ labels_from next (row_of parts) →
-    new ≡ old ++ labels_from n (statements (tree.Node h parts))
-node_noted old own new h parts n next o e w =
+    new ≡ old ++ labels_from n (statements (tree.Node h parts place))
+node_noted old own new h parts place n next o e w =
     w ∙ ap (λ ls. ls ++ labels_from next (row_of parts)) o
     ∙ ap (λ k. (old ++ label_here h n) ++ labels_from k (row_of parts)) e
     ∙ append_assoc old (label_here h n) (labels_from (n + 1) (row_of parts))
-    ∙ ap (λ ls. old ++ ls) (sym (node_labels h parts n))
+    ∙ ap (λ ls. old ++ ls) (sym (node_labels h parts place n))
+
+-- the places of a node, its own noted first
+pub node_traced : (before held after : List ℕ) (h : Head) (parts : List CoreTree) (place : ℕ) →
+    held ≡ before ++ place ∷ [] → after ≡ held ++ places_of parts →
+    after ≡ before ++ places_in (statements (tree.Node h parts place))
+node_traced before held after h parts place k a =
+    a ∙ ap (λ ps. ps ++ places_of parts) k ∙ append_assoc before (place ∷ []) (places_of parts)
+    ∙ ap (λ ps. before ++ places_in ps) (sym (node_is h parts place))
+
+-- the places of a tree more of a row
+pub row_traced : (before after : List ℕ) (xs ts : List CoreTree) (t : CoreTree) (whole : List ℕ) →
+    xs ≡ t ∷ ts → after ≡ before ++ places_in (statements t) →
+    before ++ places_of xs ≡ whole → after ++ places_of ts ≡ whole
+row_traced before after xs ts t whole x a w =
+    let own = places_in (statements t) in
+    ap (λ ps. ps ++ places_of ts) a ∙ append_assoc before own (places_of ts)
+    ∙ ap (λ ps. before ++ ps)
+    (sym (map-append (λ (one : Placed). one.place) (statements t) (row_of ts)))
+    ∙ ap (λ ys. before ++ places_of ys) (sym x) ∙ w

@@ -13,23 +13,28 @@ use Rattle.cpa_model_trees.specs.declared.tree.Head.TheVariants as head
 abbrev pub Trees : Type 0
 Trees = List CoreTree
 
--- a statement of a tree: its head, and of each part how many statements it has
+-- a statement of a tree: its head, of each part how many statements it has, and its place
 pub record Placed : Type 0 where
   pub head : Head
   pub sizes : List ℕ
+  pub place : ℕ
 
 abbrev pub joined : {A : Type 0} → List (List A) → List A
 joined [] = []
 joined (xs ∷ lists) = xs ++ joined lists
 
 abbrev pub node_statements : CoreTree-F (List Placed) → List Placed
-node_statements (CoreTree-F.Node head parts) =
-    record { head = head; sizes = map length parts } ∷ joined parts
+node_statements (CoreTree-F.Node head parts place) =
+    record { head = head; sizes = map length parts; place = place } ∷ joined parts
 
 -- the statements of a tree in the order of the tree: each before its parts, and one part behind the
 -- other
 unfoldable pub statements : CoreTree → List Placed
 statements = fold-CoreTree (List Placed) node_statements
+
+-- the places of statements, in their order
+abbrev pub places_in : List Placed → List ℕ
+places_in all = map (λ (one : Placed). one.place) all
 
 -- the numbers of trees of these sizes, of which the first stands at n
 abbrev pub numbers_from : ℕ → List ℕ → List ℕ

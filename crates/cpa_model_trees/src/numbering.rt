@@ -5,19 +5,21 @@ ghost use Rattle.cpa_model.specs.declared.program.Stmt.TheVariants as stmt;
 ghost use Rattle.cpa_model_trees.specs.declared.tree.CoreTree.TheVariants.{Node};
 ghost use Rattle.cpa_model_trees.specs.Numbering.{statements, numbers_from, part, stmt_of};
 ghost use Rattle.cpa_model_trees.specs.Numbering.{label_here, labels_from, numbered};
-ghost use Rattle.cpa_model_trees.specs.Numbering.{numbered_bodies};
-ghost use Rattle.cpa_model_trees.specs.Rows.{sizes_of, row_of};
+ghost use Rattle.cpa_model_trees.specs.Numbering.{numbered_bodies, places_in};
+ghost use Rattle.cpa_model_trees.specs.Rows.{sizes_of, row_of, places_of};
 
 use crate::{CoreTree, Head};
 use cpa_ints::Seq;
 use cpa_model::Stmt;
 use std::alloc::{AllocError, Global};
 
-/// Numbered statements, and which of them are the functions' bodies.
+/// Numbered statements, which of them are the functions' bodies, and the place in the text that
+/// each comes from.
 #[derive(Drop)]
 pub struct Numbered {
     pub bodies: Seq<u32>,
     pub stmts: Seq<Stmt>,
+    pub places: Seq<u32>,
 }
 
 /// The number of the next statement. More statements than a u32 counts are want of memory.
@@ -55,23 +57,26 @@ fn note_tree(labels: &mut Vec<u32>, tree: &CoreTree, number: u32) -> Result<u32,
     ensures behind { IfOk result (λ next. next ≡ number + length (statements tree.now)) }
 {
     match tree {
-        CoreTree::Node { head, parts } => note_node(labels, head, parts.as_slice(), number),
+        CoreTree::Node { head, parts, place } => {
+            note_node(labels, head, parts.as_slice(), *place, number)
+        }
     }
 }
 
-/// The same of a tree with this root and these parts.
+/// The same of a tree with this root and these parts. The place is there for the contract alone.
 #[cycle(noting)]
 #[tactic(auto, using(crate::proofs::NumberedRows::node_labels, crate::proofs::NumberedRows::node_length))]
 fn note_node(
     labels: &mut Vec<u32>,
     head: &Head,
     parts: &[CoreTree],
+    _place: u32,
     number: u32,
 ) -> Result<u32, AllocError>
     ensures labels { OnOk result (labels.new.items
-        ≡ labels.old.items ++ labels_from number (statements (Node head.now parts.now))) }
+        ≡ labels.old.items ++ labels_from number (statements (Node head.now parts.now _place))) }
     ensures behind { IfOk result (λ next. next
-        ≡ number + length (statements (Node head.now parts.now))) }
+        ≡ number + length (statements (Node head.now parts.now _place))) }
 {
     note(labels, head, number)?;
     note_row(labels, parts, behind(number)?)
@@ -142,17 +147,20 @@ fn stmt_of(labels: &[u32], head: Head, parts: Vec<u32>) -> Stmt
     }
 }
 
-/// Adds a statement that holds the place of a root, and gives its number.
-fn hold_root(stmts: &mut Vec<Stmt>) -> Result<u32, AllocError>
+/// Adds a statement that stands for a root until its parts are known, notes where the root comes
+/// from, and gives its number.
+fn hold_root(stmts: &mut Vec<Stmt>, places: &mut Vec<u32>, origin: u32) -> Result<u32, AllocError>
     ensures number { IfOk result (λ number. number ≡ length stmts.old.items) }
     ensures stmts { OnOk result (stmts.new.items ≡ stmts.old.items ++ stmt.Break ∷ []) }
+    ensures places { OnOk result (places.new.items ≡ places.old.items ++ origin ∷ []) }
 {
     let number = next_number(stmts)?;
     stmts.push(Stmt::Break)?;
+    places.push(origin)?;
     Ok(number)
 }
 
-/// Writes a root into its place.
+/// Writes a root over what stands for it.
 fn write_root(stmts: &mut Vec<Stmt>, labels: &[u32], number: u32, head: Head, parts: Vec<u32>)
     requires { number < length stmts.old.items }
     ensures { stmts.new.items
@@ -167,16 +175,19 @@ fn write_root(stmts: &mut Vec<Stmt>, labels: &[u32], number: u32, head: Head, pa
 fn place(
     alloc: Global,
     stmts: &mut Vec<Stmt>,
+    places: &mut Vec<u32>,
     labels: &[u32],
     tree: CoreTree,
 ) -> Result<u32, AllocError>
     ensures number { IfOk result (λ number. number ≡ length stmts.old.items) }
     ensures stmts { OnOk result (stmts.new.items ≡ stmts.old.items
         ++ numbered labels.now (length stmts.old.items) (statements tree)) }
+    ensures places { OnOk result (places.new.items
+        ≡ places.old.items ++ places_in (statements tree)) }
 {
     match tree {
-        CoreTree::Node { head, parts } => {
-            place_node(alloc, stmts, labels, head, parts.into_vec())
+        CoreTree::Node { head, parts, place } => {
+            place_node(alloc, stmts, places, labels, head, parts.into_vec(), place)
         }
     }
 }
@@ -187,16 +198,21 @@ fn place(
 fn place_node(
     alloc: Global,
     stmts: &mut Vec<Stmt>,
+    places: &mut Vec<u32>,
     labels: &[u32],
     head: Head,
     parts: Vec<CoreTree>,
+    origin: u32,
 ) -> Result<u32, AllocError>
     ensures number { IfOk result (λ number. number ≡ length stmts.old.items) }
     ensures stmts { OnOk result (stmts.new.items ≡ stmts.old.items
-        ++ numbered labels.now (length stmts.old.items) (statements (Node head parts.items))) }
+        ++ numbered labels.now (length stmts.old.items)
+        (statements (Node head parts.items origin))) }
+    ensures places { OnOk result (places.new.items
+        ≡ places.old.items ++ places_in (statements (Node head parts.items origin))) }
 {
-    let number = hold_root(stmts)?;
-    let numbers = place_row(alloc, stmts, labels, parts)?;
+    let number = hold_root(stmts, places, origin)?;
+    let numbers = place_row(alloc, stmts, places, labels, parts)?;
     write_root(stmts, labels, number, head, numbers);
     Ok(number)
 }
@@ -207,6 +223,7 @@ fn place_node(
 fn place_row(
     alloc: Global,
     stmts: &mut Vec<Stmt>,
+    places: &mut Vec<u32>,
     labels: &[u32],
     trees: Vec<CoreTree>,
 ) -> Result<Vec<u32>, AllocError>
@@ -214,39 +231,51 @@ fn place_row(
         ≡ numbers_from (length stmts.old.items) (sizes_of trees.items)) }
     ensures stmts { OnOk result (stmts.new.items ≡ stmts.old.items
         ++ numbered labels.now (length stmts.old.items) (row_of trees.items)) }
+    ensures places { OnOk result (places.new.items
+        ≡ places.old.items ++ places_of trees.items) }
 {
     let mut numbers = Vec::new(alloc);
     for tree in trees {
-        numbers.push(place(alloc, stmts, labels, tree)?)?;
+        numbers.push(place(alloc, stmts, places, labels, tree)?)?;
     }
     Ok(numbers)
 }
 
 /// Adds the statements of a function, and gives the number of its body.
-fn place_body(alloc: Global, stmts: &mut Vec<Stmt>, tree: CoreTree) -> Result<u32, AllocError>
+fn place_body(
+    alloc: Global,
+    stmts: &mut Vec<Stmt>,
+    places: &mut Vec<u32>,
+    tree: CoreTree,
+) -> Result<u32, AllocError>
     ensures number { IfOk result (λ number. number ≡ length stmts.old.items) }
     ensures stmts { OnOk result (stmts.new.items ≡ stmts.old.items
         ++ numbered (labels_from (length stmts.old.items) (statements tree))
         (length stmts.old.items) (statements tree)) }
+    ensures places { OnOk result (places.new.items
+        ≡ places.old.items ++ places_in (statements tree)) }
 {
     let mut labels = Vec::new(alloc);
     note_tree(&mut labels, &tree, next_number(stmts)?)?;
-    place(alloc, stmts, &labels, tree)
+    place(alloc, stmts, places, &labels, tree)
 }
 
-/// The statements of functions, and the numbers of their bodies.
+/// The statements of functions, the numbers of their bodies, and the place of each statement.
 pub fn numbered_bodies(alloc: Global, trees: Vec<CoreTree>) -> Result<Numbered, AllocError>
     ensures bodies { IfOk result (λ all. all.bodies
         ≡ numbers_from 0 (sizes_of trees.items)) }
     ensures stmts { IfOk result (λ all. all.stmts ≡ numbered_bodies 0 trees.items) }
+    ensures places { IfOk result (λ all. all.places ≡ places_of trees.items) }
 {
     let mut bodies = Vec::new(alloc);
     let mut stmts = Vec::new(alloc);
+    let mut places = Vec::new(alloc);
     for tree in trees {
-        bodies.push(place_body(alloc, &mut stmts, tree)?)?;
+        bodies.push(place_body(alloc, &mut stmts, &mut places, tree)?)?;
     }
     Ok(Numbered {
         bodies: Seq::from_vec(bodies),
         stmts: Seq::from_vec(stmts),
+        places: Seq::from_vec(places),
     })
 }

@@ -41,8 +41,12 @@ pub enum Head {
     Error,
 }
 
-/// A core statement with its parts.
+/// A core statement with its parts, and the place in the text that it comes from.
 #[derive(Drop)]
 pub enum CoreTree {
-    Node { head: Head, parts: Seq<CoreTree> },
+    Node {
+        head: Head,
+        parts: Seq<CoreTree>,
+        place: u32,
+    },
 }

@@ -263,15 +263,15 @@ more_grown : (P : Program) (labels : List ℕ) (first end last : ℕ) (s : Stmt)
 more_grown P labels first end last s cs is leads inner others =
     let h = head_of labels s in
     let parts = inner.trees in
-    let tree = Node h parts in
+    let tree = Node h parts 0 in
     let below = joined (map statements parts) in
     let behind = joined (map statements others.trees) in
     let left = drop last P.stmts in
     let many : length parts ≡ length (parts_of s) =
     sym (many_lengths parts) ∙ sym (numbers_length (first + 1) (lengths parts))
     ∙ ap (λ (ns : List ℕ). length ns) inner.numbers in
-    let placed : statements tree ≡ record { head = h; sizes = lengths parts } ∷ below =
-    node_placed h parts in
+    let placed : statements tree ≡ record { head = h; sizes = lengths parts; place = 0 } ∷ below =
+    node_placed h parts 0 in
     let size : length (statements tree) ≡ suc (length below) =
     ap (λ (ps : List Placed). length ps) placed in
     let here_ends : first + length (statements tree) ≡ end = omega (arith, size, inner.ends) in
@@ -282,7 +282,7 @@ more_grown P labels first end last s cs is leads inner others =
     record {
       trees = tree ∷ others.trees;
       shaped = (
-        shaped_node Named h parts (subst (HasParts h) (sym many) (head_parts labels s))
+        shaped_node Named h parts 0 (subst (HasParts h) (sym many) (head_parts labels s))
             (head_named labels s) inner.shaped,
         others.shaped,
       );

@@ -1,6 +1,6 @@
 -- A tree has one typed text; and where its functions begin does not decide whether its core is too
 -- large, so that of a sound text is within the limits.
-use Rattle.std.proofs.Common.{◌≡◌, ℕ, ◌<◌, ◌≤◌, List, length, refl, ap, sym, ◌∙◌, arith}
+use Rattle.std.proofs.Common.{◌≡◌, ℕ, ◌<◌, ◌≤◌, List, length, refl, ap, sym, ◌∙◌, arith, Option}
 use mathlib.Core.Logic.{inl, inr, ⊎_elim}
 use Rattle.std.specs.Prelude.{◌⊎◌}
 use Rattle.std.proofs.lemmas.Bool.Decides.{leb_tells}
@@ -15,32 +15,46 @@ use Rattle.c_core_rules.specs.Cells.{Made}
 use Rattle.c_core_rules_laws.specs.Sizes.{IsWithinLimits, points_of, tallest_of}
 use Rattle.c_core_rules_laws.specs.Laws.{there_is_one_layout, texts_are_as_large}
 use Rattle.c_core_checked.specs.declared.text.TypedText.{TypedText}
-use Rattle.c_core_checked.specs.Texts.{IsTypedText, unit_core, unit_main}
+use Rattle.c_core_checked.specs.Texts.{IsTypedText, unit_core, unit_main, ends_of}
 use Rattle.c_core_checked.specs.Sound.{Sound}
 
 -- typed texts by their parts
-abbrev of_parts : List Cell → Trees → ℕ → ℕ → TypedText
-of_parts cells trees main text_len =
-    record { cells = cells; trees = trees; main = main; text_len = text_len }
+abbrev Names : Type 0
+Names = List (Option ℕ)
 
-same_parts : (cs ds : List Cell) (ts us : Trees) (m n l k : ℕ) → cs ≡ ds → ts ≡ us → m ≡ n →
-    l ≡ k → of_parts cs ts m l ≡ of_parts ds us n k
-same_parts cs ds ts us m n l k c t i j =
-    ap (λ (x : List Cell). of_parts x ts m l) c
-    ∙ ap (λ (x : Trees). of_parts ds x m l) t
-    ∙ ap (λ x. of_parts ds us x l) i
-    ∙ ap (λ x. of_parts ds us n x) j
+abbrev of_parts : List Cell → Names → Trees → List ℕ → ℕ → ℕ → TypedText
+of_parts cells names trees ends main text_len = record {
+  cells = cells;
+  names = names;
+  trees = trees;
+  ends = ends;
+  main = main;
+  text_len = text_len;
+}
+
+same_parts : (cs ds : List Cell) (ns ms : Names) (ts us : Trees) (es fs : List ℕ) (m n l k : ℕ) →
+    cs ≡ ds → ns ≡ ms → ts ≡ us → es ≡ fs → m ≡ n → l ≡ k →
+    of_parts cs ns ts es m l ≡ of_parts ds ms us fs n k
+same_parts cs ds ns ms ts us es fs m n l k c a t e i j =
+    ap (λ (x : List Cell). of_parts x ns ts es m l) c
+    ∙ ap (λ (x : Names). of_parts ds x ts es m l) a
+    ∙ ap (λ (x : Trees). of_parts ds ms x es m l) t
+    ∙ ap (λ (x : List ℕ). of_parts ds ms us x m l) e
+    ∙ ap (λ x. of_parts ds ms us fs x l) i
+    ∙ ap (λ x. of_parts ds ms us fs n x) j
 
 -- a typed text, where its functions begin
 text_at : (tree : UnitTree) (typed : TypedText) (firsts : List ℕ) → (is : IsTypedText tree typed) →
     is.first_cells ≡ firsts →
-    typed ≡ of_parts (unit_core firsts tree).taken.cells (unit_core firsts tree).made
-    (unit_main tree) tree.length
+    typed ≡ of_parts (unit_core firsts tree).taken.cells (unit_core firsts tree).taken.names
+    (unit_core firsts tree).made (ends_of (unit_functions tree)) (unit_main tree) tree.length
 text_at tree typed firsts is same =
-    same_parts typed.cells (unit_core firsts tree).taken.cells typed.trees
-    (unit_core firsts tree).made typed.main (unit_main tree) typed.text_len tree.length
+    same_parts typed.cells (unit_core firsts tree).taken.cells typed.names
+    (unit_core firsts tree).taken.names typed.trees (unit_core firsts tree).made typed.ends
+    (ends_of (unit_functions tree)) typed.main (unit_main tree) typed.text_len tree.length
     (is.cells ∙ ap (λ (ns : List ℕ). (unit_core ns tree).taken.cells) same)
-    (is.trees ∙ ap (λ (ns : List ℕ). (unit_core ns tree).made) same) is.main is.text_len
+    (is.names ∙ ap (λ (ns : List ℕ). (unit_core ns tree).taken.names) same)
+    (is.trees ∙ ap (λ (ns : List ℕ). (unit_core ns tree).made) same) is.ends is.main is.text_len
 
 pub one_text : (tree : UnitTree) (a b : TypedText) → IsTypedText tree a → IsTypedText tree b →
     a ≡ b

@@ -14,19 +14,19 @@ use Rattle.c_core_expressions.proofs.+expression.Goals as goal
 
 pub expressions::chained-loop-link-preserved : goal.expressions::chained-loop-link-preserved
 expressions::chained-loop-link-preserved t c =
-    linked_kept _ _ _ _ _ c.args.rest.now c.loop-link.link-index _ _ _ _ _
+    linked_kept c.args.origin _ _ _ _ _ c.args.rest.now c.loop-link.link-index _ _ _ _ _
     (omega arith) c.link-item.is c.in_ok-right.ensures.taken
     c.in_ok-right.ensures.made c.in_ok-left.ensures.taken c.in_ok-left.ensures.made
     c.loop-link.invariant
 
 pub expressions::chained-returns-clause-taken : goal.expressions::chained-returns-clause-taken
 expressions::chained-returns-clause-taken t c =
-    rw (linked_done _ _ _ c.args.rest.now c.loop-link.link-index _ _
+    rw (linked_done c.args.origin _ _ _ c.args.rest.now c.loop-link.link-index _ _
     (omega arith) c.loop-link.invariant) at c.finished.ensures.taken
 
 pub expressions::chained-returns-clause-made : goal.expressions::chained-returns-clause-made
 expressions::chained-returns-clause-made t c =
-    rw (linked_done _ _ _ c.args.rest.now c.loop-link.link-index _ _
+    rw (linked_done c.args.origin _ _ _ c.args.rest.now c.loop-link.link-index _ _
     (omega arith) c.loop-link.invariant) at c.finished.ensures.made
 
 pub expressions::comma_of-loop-item-preserved :
@@ -71,14 +71,14 @@ pub expressions::placed-returns-in_ok-place-in-Postfix-clause-taken :
     goal.expressions::placed-returns-in_ok-place-in-Postfix-clause-taken
 expressions::placed-returns-in_ok-place-in-Postfix-clause-taken t c =
     c.in_ok-place-in-Postfix.ensures.taken ∙ ap (λ x.
-    (placed c.args.fixes x (so_far c.args.cells.now)).taken)
+    (placed c.args.origin c.args.fixes x (so_far c.args.cells.now)).taken)
     (placed_all _ _ _ _ _ _ c.in-Postfix.is c.len-count.ensures)
 
 pub expressions::placed-returns-in_ok-place-in-Postfix-clause-made :
     goal.expressions::placed-returns-in_ok-place-in-Postfix-clause-made
 expressions::placed-returns-in_ok-place-in-Postfix-clause-made t c =
     c.in_ok-place-in-Postfix.ensures.made ∙ ap (λ x.
-    (placed c.args.fixes x (so_far c.args.cells.now)).made)
+    (placed c.args.origin c.args.fixes x (so_far c.args.cells.now)).made)
     (placed_all _ _ _ _ _ _ c.in-Postfix.is c.len-count.ensures)
 
 pub expressions::front_placed-returns-clause-taken :
@@ -87,11 +87,12 @@ expressions::front_placed-returns-clause-taken t c =
     let k : suffix_count (out-TypedExpression c.args.e.now) ≡ length c.as_slice-all.result.now =
     suffixes_counted _ _ _ _ _ c.in-Postfix.is c.as_slice-all.ensures in
     subst (λ (x : Target). OnOk c.suffix_placed.result
-    (so_far c.suffix_placed.new.cells ≡ (placed c.args.fixes x (so_far c.args.cells.now)).taken))
+    (so_far c.suffix_placed.new.cells
+    ≡ (placed c.args.origin c.args.fixes x (so_far c.args.cells.now)).taken))
     (target_by _ _ _ _ _ c.as_slice-all.result.now _ c.args.count (c.args.count - 1) _ _
     c.in-Postfix.is c.get-first.ensures c.as_slice-all.ensures (omega arith) (omega arith)
     c.index-all-last.is
-    (c.front_names-names.ensures c.args.frames.now c.as_slice-all.result.now
+    (c.front_names-names.ensures _ c.args.frames.now c.as_slice-all.result.now
     (omega arith))) c.suffix_placed.ensures.taken
 
 pub expressions::front_placed-returns-clause-made :
@@ -100,54 +101,54 @@ expressions::front_placed-returns-clause-made t c =
     let k : suffix_count (out-TypedExpression c.args.e.now) ≡ length c.as_slice-all.result.now =
     suffixes_counted _ _ _ _ _ c.in-Postfix.is c.as_slice-all.ensures in
     subst (λ (x : Target). IfOk c.suffix_placed.result
-    (λ place. place ≡ (placed c.args.fixes x (so_far c.args.cells.now)).made))
+    (λ place. place ≡ (placed c.args.origin c.args.fixes x (so_far c.args.cells.now)).made))
     (target_by _ _ _ _ _ c.as_slice-all.result.now _ c.args.count (c.args.count - 1) _ _
     c.in-Postfix.is c.get-first.ensures c.as_slice-all.ensures (omega arith) (omega arith)
     c.index-all-last.is
-    (c.front_names-names.ensures c.args.frames.now c.as_slice-all.result.now
+    (c.front_names-names.ensures _ c.args.frames.now c.as_slice-all.result.now
     (omega arith))) c.suffix_placed.ensures.made
 
 pub expressions::postfix_of-returns-in_ok-v-in-Index-clause-taken :
     goal.expressions::postfix_of-returns-in_ok-v-in-Index-clause-taken
 expressions::postfix_of-returns-in_ok-v-in-Index-clause-taken t c =
-    let front = suffixed_by c.args.frames.now c.get-first.result.now
+    let front = suffixed_by c.in-Postfix.origin c.args.frames.now c.get-first.result.now
     (take (length c.as_slice-all.result.now - 1) c.as_slice-all.result.now) in
     let r = rows_of_last c.args.frames.now c.args.e.now _ _ _ c.as_slice-all.result.now _
     (length c.as_slice-all.result.now - 1) _ c.in-Postfix.is
     c.get-first.ensures c.as_slice-all.ensures (omega arith) c.index-all-last.is in
-    let n = c.front_names-names.ensures c.args.frames.now c.as_slice-all.result.now (omega arith)
-    in
+    let n = c.front_names-names.ensures c.in-Postfix.origin c.args.frames.now
+    c.as_slice-all.result.now (omega arith) in
     c.in_ok-v-in-Index.ensures.taken ∙ ap (λ m. m.taken)
-    (of_Index _ _ _ front _ _ _ _ _ _ _ _ r c.in-Index.is n c.in_ok-i-in-Index.ensures.taken
+    (of_Index _ _ _ _ front _ _ _ _ _ _ _ _ r c.in-Index.is n c.in_ok-i-in-Index.ensures.taken
     c.in_ok-i-in-Index.ensures.made
     ∙ sym (postfix_is _ _ _ _ _ _ _ c.in-Postfix.is))
 
 pub expressions::postfix_of-returns-in_ok-v-in-Call-clause-taken :
     goal.expressions::postfix_of-returns-in_ok-v-in-Call-clause-taken
 expressions::postfix_of-returns-in_ok-v-in-Call-clause-taken t c =
-    let front = suffixed_by c.args.frames.now c.get-first.result.now
+    let front = suffixed_by c.in-Postfix.origin c.args.frames.now c.get-first.result.now
     (take (length c.as_slice-all.result.now - 1) c.as_slice-all.result.now) in
     let r = rows_of_last c.args.frames.now c.args.e.now _ _ _ c.as_slice-all.result.now _
     (length c.as_slice-all.result.now - 1) _ c.in-Postfix.is
     c.get-first.ensures c.as_slice-all.ensures (omega arith) c.index-all-last.is in
-    let n = c.front_names-names.ensures c.args.frames.now c.as_slice-all.result.now (omega arith)
-    in
+    let n = c.front_names-names.ensures c.in-Postfix.origin c.args.frames.now
+    c.as_slice-all.result.now (omega arith) in
     c.in_ok-v-in-Call.ensures.taken ∙ ap (λ m. m.taken)
-    (of_Call _ _ _ front _ _ _ _ _ _ _ r c.in-Call.is n c.as_slice.ensures
+    (of_Call _ _ _ _ front _ _ _ _ _ _ _ r c.in-Call.is n c.as_slice.ensures
     ∙ sym (postfix_is _ _ _ _ _ _ _ c.in-Postfix.is))
 
 pub expressions::postfix_of-returns-in_ok-v-in-Skipped-clause-taken :
     goal.expressions::postfix_of-returns-in_ok-v-in-Skipped-clause-taken
 expressions::postfix_of-returns-in_ok-v-in-Skipped-clause-taken t c =
-    let front = suffixed_by c.args.frames.now c.get-first.result.now
+    let front = suffixed_by c.in-Postfix.origin c.args.frames.now c.get-first.result.now
     (take (length c.as_slice-all.result.now - 1) c.as_slice-all.result.now) in
     let r = rows_of_last c.args.frames.now c.args.e.now _ _ _ c.as_slice-all.result.now _
     (length c.as_slice-all.result.now - 1) _ c.in-Postfix.is
     c.get-first.ensures c.as_slice-all.ensures (omega arith) c.index-all-last.is in
-    let n = c.front_names-names.ensures c.args.frames.now c.as_slice-all.result.now (omega arith)
-    in
+    let n = c.front_names-names.ensures c.in-Postfix.origin c.args.frames.now
+    c.as_slice-all.result.now (omega arith) in
     c.in_ok-v-in-Skipped.ensures.taken ∙ ap (λ m. m.taken)
-    (of_Skipped _ _ _ front _ _ _ _ _ r c.in-Skipped.is n
+    (of_Skipped _ _ _ _ front _ _ _ _ _ r c.in-Skipped.is n
     ∙ sym (postfix_is _ _ _ _ _ _ _ c.in-Postfix.is))
 
 pub expressions::postfix_of-returns-in_ok-v-in-Step-clause-taken :
@@ -163,44 +164,44 @@ expressions::postfix_of-returns-in_ok-v-in-Step-clause-taken t c =
 pub expressions::postfix_of-returns-in_ok-v-in-Index-clause-made :
     goal.expressions::postfix_of-returns-in_ok-v-in-Index-clause-made
 expressions::postfix_of-returns-in_ok-v-in-Index-clause-made t c =
-    let front = suffixed_by c.args.frames.now c.get-first.result.now
+    let front = suffixed_by c.in-Postfix.origin c.args.frames.now c.get-first.result.now
     (take (length c.as_slice-all.result.now - 1) c.as_slice-all.result.now) in
     let r = rows_of_last c.args.frames.now c.args.e.now _ _ _ c.as_slice-all.result.now _
     (length c.as_slice-all.result.now - 1) _ c.in-Postfix.is
     c.get-first.ensures c.as_slice-all.ensures (omega arith) c.index-all-last.is in
-    let n = c.front_names-names.ensures c.args.frames.now c.as_slice-all.result.now (omega arith)
-    in
+    let n = c.front_names-names.ensures c.in-Postfix.origin c.args.frames.now
+    c.as_slice-all.result.now (omega arith) in
     c.in_ok-v-in-Index.ensures.made ∙ ap (λ m. m.made)
-    (of_Index _ _ _ front _ _ _ _ _ _ _ _ r c.in-Index.is n c.in_ok-i-in-Index.ensures.taken
+    (of_Index _ _ _ _ front _ _ _ _ _ _ _ _ r c.in-Index.is n c.in_ok-i-in-Index.ensures.taken
     c.in_ok-i-in-Index.ensures.made
     ∙ sym (postfix_is _ _ _ _ _ _ _ c.in-Postfix.is))
 
 pub expressions::postfix_of-returns-in_ok-v-in-Call-clause-made :
     goal.expressions::postfix_of-returns-in_ok-v-in-Call-clause-made
 expressions::postfix_of-returns-in_ok-v-in-Call-clause-made t c =
-    let front = suffixed_by c.args.frames.now c.get-first.result.now
+    let front = suffixed_by c.in-Postfix.origin c.args.frames.now c.get-first.result.now
     (take (length c.as_slice-all.result.now - 1) c.as_slice-all.result.now) in
     let r = rows_of_last c.args.frames.now c.args.e.now _ _ _ c.as_slice-all.result.now _
     (length c.as_slice-all.result.now - 1) _ c.in-Postfix.is
     c.get-first.ensures c.as_slice-all.ensures (omega arith) c.index-all-last.is in
-    let n = c.front_names-names.ensures c.args.frames.now c.as_slice-all.result.now (omega arith)
-    in
+    let n = c.front_names-names.ensures c.in-Postfix.origin c.args.frames.now
+    c.as_slice-all.result.now (omega arith) in
     c.in_ok-v-in-Call.ensures.made ∙ ap (λ m. m.made)
-    (of_Call _ _ _ front _ _ _ _ _ _ _ r c.in-Call.is n c.as_slice.ensures
+    (of_Call _ _ _ _ front _ _ _ _ _ _ _ r c.in-Call.is n c.as_slice.ensures
     ∙ sym (postfix_is _ _ _ _ _ _ _ c.in-Postfix.is))
 
 pub expressions::postfix_of-returns-in_ok-v-in-Skipped-clause-made :
     goal.expressions::postfix_of-returns-in_ok-v-in-Skipped-clause-made
 expressions::postfix_of-returns-in_ok-v-in-Skipped-clause-made t c =
-    let front = suffixed_by c.args.frames.now c.get-first.result.now
+    let front = suffixed_by c.in-Postfix.origin c.args.frames.now c.get-first.result.now
     (take (length c.as_slice-all.result.now - 1) c.as_slice-all.result.now) in
     let r = rows_of_last c.args.frames.now c.args.e.now _ _ _ c.as_slice-all.result.now _
     (length c.as_slice-all.result.now - 1) _ c.in-Postfix.is
     c.get-first.ensures c.as_slice-all.ensures (omega arith) c.index-all-last.is in
-    let n = c.front_names-names.ensures c.args.frames.now c.as_slice-all.result.now (omega arith)
-    in
+    let n = c.front_names-names.ensures c.in-Postfix.origin c.args.frames.now
+    c.as_slice-all.result.now (omega arith) in
     c.in_ok-v-in-Skipped.ensures.made ∙ ap (λ m. m.made)
-    (of_Skipped _ _ _ front _ _ _ _ _ r c.in-Skipped.is n
+    (of_Skipped _ _ _ _ front _ _ _ _ _ r c.in-Skipped.is n
     ∙ sym (postfix_is _ _ _ _ _ _ _ c.in-Postfix.is))
 
 pub expressions::postfix_of-returns-in_ok-v-in-Step-clause-made :

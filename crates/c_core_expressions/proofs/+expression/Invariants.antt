@@ -7,8 +7,8 @@ use Rattle.c_core_expressions.proofs.+expression.Given as goal
 
 abbrev pub invariant-expressions::chained-loop-link : goal.invariant-expressions::chained-loop-link
 invariant-expressions::chained-loop-link l =
-    linked_to l.frames l.usage l.left (drop l.link-index l.rest) (so_far l.cells)
-    ≡ linked_to l.frames l.usage l.fn.left l.rest (so_far l.fn.cells)
+    linked_to l.origin l.frames l.usage l.left (drop l.link-index l.rest) (so_far l.cells)
+    ≡ linked_to l.origin l.frames l.usage l.fn.left l.rest (so_far l.fn.cells)
 
 abbrev pub invariant-expressions::comma_of-loop-item :
     goal.invariant-expressions::comma_of-loop-item

@@ -29,24 +29,26 @@ use Rattle.c_core_rules_laws.specs.lemmas.Statements.{same_pure, same_valued}
 use Rattle.c_core_rules_laws.specs.lemmas.Runs.{alike_gives, alike_then, alike_if, alike_fresh}
 
 -- statements, and then a write to a place
-abbrev stored : Valued → Location → Trees
-stored v place = v.statements ++ set place v.value ∷ []
+abbrev stored : ℕ → Valued → Location → Trees
+stored origin v place = v.statements ++ set origin place v.value ∷ []
 
-pub same_stored : {v w : Valued} (a b : Location) → SameValued v w → SameLocation a b →
-    SameTrees (v.statements ++ set a v.value ∷ []) (w.statements ++ set b w.value ∷ [])
-same_stored a b is at = same_append is.statements (same_set a b at is.value)
+pub same_stored : (origin : ℕ) {v w : Valued} (a b : Location) → SameValued v w → SameLocation a b →
+    SameTrees (v.statements ++ set origin a v.value ∷ [])
+    (w.statements ++ set origin b w.value ∷ [])
+same_stored origin a b is at = same_append is.statements (same_set origin a b at is.value)
 
-pub alike_held : {v w : Valued} → SameValued v w → Alike SameValued (held v) (held w)
-alike_held {v = v} {w = w} is =
-    alike_then (λ t. gives (valued (stored v t) (scalar t)))
-    (λ t. gives (valued (stored w t) (scalar t)))
+pub alike_held : (origin : ℕ) {v w : Valued} → SameValued v w →
+    Alike SameValued (held origin v) (held origin w)
+alike_held origin {v = v} {w = w} is =
+    alike_then (λ t. gives (valued (stored origin v t) (scalar t)))
+    (λ t. gives (valued (stored origin w t) (scalar t)))
     (alike_fresh (type_of v.value) (type_of w.value) is.value.type)
-    (λ a b at. alike_gives (same_valued (same_stored a b is at) (same_scalar a b at)))
+    (λ a b at. alike_gives (same_valued (same_stored origin a b is at) (same_scalar a b at)))
 
-pub alike_held_before : {v w x y : Valued} → SameValued v w → SameValued x y →
-    Alike SameValued (held_before v x) (held_before w y)
-alike_held_before {x = x} {y = y} is later =
-    alike_if (is_pure x) (is_pure y) (same_pure later) (alike_gives is) (alike_held is)
+pub alike_held_before : (origin : ℕ) {v w x y : Valued} → SameValued v w → SameValued x y →
+    Alike SameValued (held_before origin v x) (held_before origin w y)
+alike_held_before origin {x = x} {y = y} is later =
+    alike_if (is_pure x) (is_pure y) (same_pure later) (alike_gives is) (alike_held origin is)
 
 abbrev some_more : Bool → Bool → Bool
 some_more b others = elim b [ true ↦ others | false ↦ true ]
@@ -61,16 +63,16 @@ have_same (more {x = v} {y = w} {xs = vs} {ys = ws} is all) =
     some_same (is_pure v) (is_pure w) (have_statements vs) (have_statements ws) (same_pure is)
     (have_same all)
 
-pub alike_hold_all : {vs ws : List Valued} → Pairwise SameValued vs ws →
-    Alike (Pairwise SameValued) (hold_all vs) (hold_all ws)
-alike_hold_all none = alike_gives none
-alike_hold_all (more {xs = vs} {ys = ws} is all) =
-    alike_then (λ first. then_by (hold_all vs) (λ rest. gives (first ∷ rest)))
-    (λ first. then_by (hold_all ws) (λ rest. gives (first ∷ rest)))
-    (alike_if (have_statements vs) (have_statements ws) (have_same all) (alike_held is)
+pub alike_hold_all : (origin : ℕ) {vs ws : List Valued} → Pairwise SameValued vs ws →
+    Alike (Pairwise SameValued) (hold_all origin vs) (hold_all origin ws)
+alike_hold_all origin none = alike_gives none
+alike_hold_all origin (more {xs = vs} {ys = ws} is all) =
+    alike_then (λ first. then_by (hold_all origin vs) (λ rest. gives (first ∷ rest)))
+    (λ first. then_by (hold_all origin ws) (λ rest. gives (first ∷ rest)))
+    (alike_if (have_statements vs) (have_statements ws) (have_same all) (alike_held origin is)
     (alike_gives is))
     (λ x y first. alike_then (λ rest. gives (x ∷ rest)) (λ rest. gives (y ∷ rest))
-    (alike_hold_all all) (λ xs ys rest. alike_gives (more first rest)))
+    (alike_hold_all origin all) (λ xs ys rest. alike_gives (more first rest)))
 
 pub same_statements : {vs ws : List Valued} → Pairwise SameValued vs ws →
     SameTrees (statements_of vs) (statements_of ws)
@@ -89,79 +91,86 @@ same_operated operator is are =
     (same_operator operator is.value are.value)
 
 -- S1, if (v1) { first } else { second }
-pub same_split : {p q : Valued} {ks bs cs ds : Trees} → SameValued p q → SameTrees ks bs →
+pub same_split : (origin : ℕ) {p q : Valued} {ks bs cs ds : Trees} → SameValued p q →
+    SameTrees ks bs →
     SameTrees cs ds →
-    SameTrees (p.statements ++ choice p.value ks cs ∷ [])
-    (q.statements ++ choice q.value bs ds ∷ [])
-same_split test first second =
-    same_append test.statements (same_choice test.value first second)
+    SameTrees (p.statements ++ choice origin p.value ks cs ∷ [])
+    (q.statements ++ choice origin q.value bs ds ∷ [])
+same_split origin test first second =
+    same_append test.statements (same_choice origin test.value first second)
 
 -- t := !!v behind the statements of v, and t := n
-same_tested : {v w : Valued} (a b : Location) → SameValued v w → SameLocation a b →
-    SameTrees (v.statements ++ set a (truth_of v.value) ∷ [])
-    (w.statements ++ set b (truth_of w.value) ∷ [])
-same_tested a b is at = same_append is.statements (same_set a b at (same_truth is.value))
+same_tested : (origin : ℕ) {v w : Valued} (a b : Location) → SameValued v w → SameLocation a b →
+    SameTrees (v.statements ++ set origin a (truth_of v.value) ∷ [])
+    (w.statements ++ set origin b (truth_of w.value) ∷ [])
+same_tested origin a b is at =
+    same_append is.statements (same_set origin a b at (same_truth is.value))
 
-same_int : (n : ℕ) (a b : Location) → SameLocation a b →
-    SameTrees (set a (int n) ∷ []) (set b (int n) ∷ [])
-same_int n a b at = same_set a b at (value_self (int n))
+same_int : (origin : ℕ) (n : ℕ) (a b : Location) → SameLocation a b →
+    SameTrees (set origin a (int n) ∷ []) (set origin b (int n) ∷ [])
+same_int origin n a b at = same_set origin a b at (value_self (int n))
 
-alike_both : {v w x y : Valued} → SameValued v w → SameValued x y →
-    Alike SameValued (both_hold v x) (both_hold w y)
-alike_both {v = v} {w = w} {x = x} {y = y} is are =
+alike_both : (origin : ℕ) {v w x y : Valued} → SameValued v w → SameValued x y →
+    Alike SameValued (both_hold origin v x) (both_hold origin w y)
+alike_both origin {v = v} {w = w} {x = x} {y = y} is are =
     alike_if (is_pure x) (is_pure y) (same_pure are)
     (alike_gives (same_valued is.statements (same_and is.value are.value)))
-    (alike_then (λ t. gives (valued (v.statements ++ choice v.value
-    (x.statements ++ set t (truth_of x.value) ∷ []) (set t (int 0) ∷ []) ∷ []) (scalar t)))
-    (λ t. gives (valued (w.statements ++ choice w.value
-    (y.statements ++ set t (truth_of y.value) ∷ []) (set t (int 0) ∷ []) ∷ []) (scalar t)))
+    (alike_then (λ t. gives (valued (v.statements ++ choice origin v.value
+    (x.statements ++ set origin t (truth_of x.value) ∷ []) (set origin t (int 0) ∷ []) ∷ [])
+    (scalar t)))
+    (λ t. gives (valued (w.statements ++ choice origin w.value
+    (y.statements ++ set origin t (truth_of y.value) ∷ []) (set origin t (int 0) ∷ []) ∷ [])
+    (scalar t)))
     (alike_fresh ty.I32 ty.I32 refl)
     (λ a b at. alike_gives (same_valued
-    (same_split is (same_tested a b are at) (same_int 0 a b at)) (same_scalar a b at))))
+    (same_split origin is (same_tested origin a b are at) (same_int origin 0 a b at))
+    (same_scalar a b at))))
 
-alike_one : {v w x y : Valued} → SameValued v w → SameValued x y →
-    Alike SameValued (one_holds v x) (one_holds w y)
-alike_one {v = v} {w = w} {x = x} {y = y} is are =
+alike_one : (origin : ℕ) {v w x y : Valued} → SameValued v w → SameValued x y →
+    Alike SameValued (one_holds origin v x) (one_holds origin w y)
+alike_one origin {v = v} {w = w} {x = x} {y = y} is are =
     alike_if (is_pure x) (is_pure y) (same_pure are)
     (alike_gives (same_valued is.statements (same_or is.value are.value)))
-    (alike_then (λ t. gives (valued (v.statements ++ choice v.value (set t (int 1) ∷ [])
-    (x.statements ++ set t (truth_of x.value) ∷ []) ∷ []) (scalar t)))
-    (λ t. gives (valued (w.statements ++ choice w.value (set t (int 1) ∷ [])
-    (y.statements ++ set t (truth_of y.value) ∷ []) ∷ []) (scalar t)))
+    (alike_then (λ t. gives (valued
+    (v.statements ++ choice origin v.value (set origin t (int 1) ∷ [])
+    (x.statements ++ set origin t (truth_of x.value) ∷ []) ∷ []) (scalar t)))
+    (λ t. gives (valued (w.statements ++ choice origin w.value (set origin t (int 1) ∷ [])
+    (y.statements ++ set origin t (truth_of y.value) ∷ []) ∷ []) (scalar t)))
     (alike_fresh ty.I32 ty.I32 refl)
     (λ a b at. alike_gives (same_valued
-    (same_split is (same_int 1 a b at) (same_tested a b are at)) (same_scalar a b at))))
+    (same_split origin is (same_int origin 1 a b at) (same_tested origin a b are at))
+    (same_scalar a b at))))
 
-alike_operands : (operator : BinaryOperator) {v w x y : Valued} → SameValued v w →
+alike_operands : (origin : ℕ) (operator : BinaryOperator) {v w x y : Valued} → SameValued v w →
     SameValued x y →
     Alike SameValued
-    (then_by (held_before v x) (λ first. gives (operated operator first x)))
-    (then_by (held_before w y) (λ first. gives (operated operator first y)))
-alike_operands operator {x = x} {y = y} is are =
+    (then_by (held_before origin v x) (λ first. gives (operated operator first x)))
+    (then_by (held_before origin w y) (λ first. gives (operated operator first y)))
+alike_operands origin operator {x = x} {y = y} is are =
     alike_then (λ first. gives (operated operator first x))
-    (λ first. gives (operated operator first y)) (alike_held_before is are)
+    (λ first. gives (operated operator first y)) (alike_held_before origin is are)
     (λ a b first. alike_gives (same_operated operator first are))
 
-pub alike_linked : (operator : BinaryOperator) {v w x y : Valued} → SameValued v w →
-    SameValued x y → Alike SameValued (linked operator v x) (linked operator w y)
-alike_linked binary.LogicalAnd is are = alike_both is are
-alike_linked binary.LogicalOr is are = alike_one is are
-alike_linked binary.BitOr is are = alike_operands binary.BitOr is are
-alike_linked binary.BitXor is are = alike_operands binary.BitXor is are
-alike_linked binary.BitAnd is are = alike_operands binary.BitAnd is are
-alike_linked binary.Equal is are = alike_operands binary.Equal is are
-alike_linked binary.NotEqual is are = alike_operands binary.NotEqual is are
-alike_linked binary.Less is are = alike_operands binary.Less is are
-alike_linked binary.Greater is are = alike_operands binary.Greater is are
-alike_linked binary.LessEqual is are = alike_operands binary.LessEqual is are
-alike_linked binary.GreaterEqual is are = alike_operands binary.GreaterEqual is are
-alike_linked binary.ShiftLeft is are = alike_operands binary.ShiftLeft is are
-alike_linked binary.ShiftRight is are = alike_operands binary.ShiftRight is are
-alike_linked binary.Add is are = alike_operands binary.Add is are
-alike_linked binary.Subtract is are = alike_operands binary.Subtract is are
-alike_linked binary.Multiply is are = alike_operands binary.Multiply is are
-alike_linked binary.Divide is are = alike_operands binary.Divide is are
-alike_linked binary.Remainder is are = alike_operands binary.Remainder is are
+pub alike_linked : (origin : ℕ) (operator : BinaryOperator) {v w x y : Valued} → SameValued v w →
+    SameValued x y → Alike SameValued (linked origin operator v x) (linked origin operator w y)
+alike_linked origin binary.LogicalAnd is are = alike_both origin is are
+alike_linked origin binary.LogicalOr is are = alike_one origin is are
+alike_linked origin binary.BitOr is are = alike_operands origin binary.BitOr is are
+alike_linked origin binary.BitXor is are = alike_operands origin binary.BitXor is are
+alike_linked origin binary.BitAnd is are = alike_operands origin binary.BitAnd is are
+alike_linked origin binary.Equal is are = alike_operands origin binary.Equal is are
+alike_linked origin binary.NotEqual is are = alike_operands origin binary.NotEqual is are
+alike_linked origin binary.Less is are = alike_operands origin binary.Less is are
+alike_linked origin binary.Greater is are = alike_operands origin binary.Greater is are
+alike_linked origin binary.LessEqual is are = alike_operands origin binary.LessEqual is are
+alike_linked origin binary.GreaterEqual is are = alike_operands origin binary.GreaterEqual is are
+alike_linked origin binary.ShiftLeft is are = alike_operands origin binary.ShiftLeft is are
+alike_linked origin binary.ShiftRight is are = alike_operands origin binary.ShiftRight is are
+alike_linked origin binary.Add is are = alike_operands origin binary.Add is are
+alike_linked origin binary.Subtract is are = alike_operands origin binary.Subtract is are
+alike_linked origin binary.Multiply is are = alike_operands origin binary.Multiply is are
+alike_linked origin binary.Divide is are = alike_operands origin binary.Divide is are
+alike_linked origin binary.Remainder is are = alike_operands origin binary.Remainder is are
 
 pub same_sign : (operator : UnaryOperator) {v w : Valued} → SameValued v w →
     SameValued (signed operator v) (signed operator w)
@@ -171,36 +180,41 @@ pub same_cast_to : (t : IntType) {v w : Valued} → SameValued v w →
     SameValued (cast_to t v) (cast_to t w)
 same_cast_to t is = same_valued is.statements (same_conv t is.value)
 
-alike_chosen_by : (t u : IntType) {p q v w x y : Valued} → t ≡ u → SameValued p q →
+alike_chosen_by : (origin : ℕ) (t u : IntType) {p q v w x y : Valued} → t ≡ u → SameValued p q →
     SameValued v w → SameValued x y →
-    Alike SameValued (chosen_by t p v x) (chosen_by u q w y)
-alike_chosen_by t u {p = p} {q = q} {v = v} {w = w} {x = x} {y = y} at test is are =
-    alike_then (λ place. gives (valued (p.statements ++ choice p.value (stored v place)
-    (stored x place) ∷ []) (scalar place)))
-    (λ place. gives (valued (q.statements ++ choice q.value (stored w place)
-    (stored y place) ∷ []) (scalar place)))
+    Alike SameValued (chosen_by origin t p v x) (chosen_by origin u q w y)
+alike_chosen_by origin t u {p = p} {q = q} {v = v} {w = w} {x = x} {y = y} at test is are =
+    alike_then (λ place. gives (valued
+    (p.statements ++ choice origin p.value (stored origin v place)
+    (stored origin x place) ∷ []) (scalar place)))
+    (λ place. gives (valued (q.statements ++ choice origin q.value (stored origin w place)
+    (stored origin y place) ∷ []) (scalar place)))
     (alike_fresh t u at)
     (λ a b one. alike_gives (same_valued
-    (same_split test (same_stored a b is one) (same_stored a b are one)) (same_scalar a b one)))
+    (same_split origin test (same_stored origin a b is one) (same_stored origin a b are one))
+    (same_scalar a b one)))
 
-pub alike_chosen : {p q v w x y : Valued} → SameValued p q → SameValued v w → SameValued x y →
-    Alike SameValued (chosen p v x) (chosen q w y)
-alike_chosen {p = p} {q = q} {v = v} {w = w} {x = x} {y = y} test is are =
+pub alike_chosen : (origin : ℕ) {p q v w x y : Valued} → SameValued p q → SameValued v w →
+    SameValued x y →
+    Alike SameValued (chosen origin p v x) (chosen origin q w y)
+alike_chosen origin {p = p} {q = q} {v = v} {w = w} {x = x} {y = y} test is are =
     alike_if (is_pure v && is_pure x) (is_pure w && is_pure y)
     (ap (λ b. b && is_pure x) (same_pure is) ∙ ap (λ b. is_pure w && b) (same_pure are))
     (alike_gives (same_valued test.statements (same_chosen test.value is.value are.value)))
-    (alike_chosen_by (common_type (type_of v.value) (type_of x.value))
+    (alike_chosen_by origin (common_type (type_of v.value) (type_of x.value))
     (common_type (type_of w.value) (type_of y.value)) (common_same is.value are.value) test is are)
 
-pub alike_dropped : {v w : Valued} → SameValued v w →
-    Alike SameTrees (dropped_value v) (dropped_value w)
-alike_dropped {v = v} {w = w} is =
+pub alike_dropped : (origin : ℕ) {v w : Valued} → SameValued v w →
+    Alike SameTrees (dropped_value origin v) (dropped_value origin w)
+alike_dropped origin {v = v} {w = w} is =
     alike_if (is_constant v.value) (is_constant w.value) is.value.constant
     (alike_gives is.statements)
-    (alike_then (λ kept. gives kept.statements) (λ kept. gives kept.statements) (alike_held is)
+    (alike_then (λ kept. gives kept.statements) (λ kept. gives kept.statements)
+    (alike_held origin is)
     (λ x y kept. alike_gives kept.statements))
 
-pub alike_fixed : {v w : Valued} → SameValued v w → Alike SameValued (fixed v) (fixed w)
-alike_fixed {v = v} {w = w} is =
+pub alike_fixed : (origin : ℕ) {v w : Valued} → SameValued v w →
+    Alike SameValued (fixed origin v) (fixed origin w)
+alike_fixed origin {v = v} {w = w} is =
     alike_if (is_constant v.value) (is_constant w.value) is.value.constant (alike_gives is)
-    (alike_held is)
+    (alike_held origin is)

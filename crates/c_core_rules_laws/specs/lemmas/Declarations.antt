@@ -45,29 +45,31 @@ alike_taking object values = record {
   };
 }
 
-same_inputs : (m n count : ℕ) → SameTrees (statement.inputs m count) (statement.inputs n count)
-same_inputs m n zero = trees_self []
-same_inputs m n (suc count) = same_more (same_input m n) (same_inputs (m + 1) (n + 1) count)
+same_inputs : (origin : ℕ) (m n count : ℕ) →
+    SameTrees (statement.inputs origin m count) (statement.inputs origin n count)
+same_inputs origin m n zero = trees_self []
+same_inputs origin m n (suc count) =
+    same_more (same_input origin m n) (same_inputs origin (m + 1) (n + 1) count)
 
 -- cells of one type
 pub same_cell : (t : IntType) (m n : ℕ) → SameLocation (cell_at t m) (cell_at t n)
 same_cell t m n = record { type = refl }
 
-same_zeros : (t : IntType) (m n count : ℕ) →
-    SameTrees (statement.zeros t m count) (statement.zeros t n count)
-same_zeros t m n zero = trees_self []
-same_zeros t m n (suc count) =
-    same_more (same_set (cell_at t m) (cell_at t n) (same_cell t m n)
-    (value_self (Const t (pos 0)))) (same_zeros t (m + 1) (n + 1) count)
+same_zeros : (origin : ℕ) (t : IntType) (m n count : ℕ) →
+    SameTrees (statement.zeros origin t m count) (statement.zeros origin t n count)
+same_zeros origin t m n zero = trees_self []
+same_zeros origin t m n (suc count) =
+    same_more (same_set origin (cell_at t m) (cell_at t n) (same_cell t m n)
+    (value_self (Const t (pos 0)))) (same_zeros origin t (m + 1) (n + 1) count)
 
 -- a function begins with its result, and its parameters take their cells
-pub alike_resulting : (kind : Kind) →
-    Alike SameTrees (statement.resulting kind) (statement.resulting kind)
-alike_resulting Void = alike_gives (trees_self [])
-alike_resulting (Value t) =
-    alike_then (λ place. gives (set place (Const t (pos 0)) ∷ []))
-    (λ place. gives (set place (Const t (pos 0)) ∷ [])) (alike_fresh t t refl)
-    (λ a b at. alike_gives (same_set a b at (value_self (Const t (pos 0)))))
+pub alike_resulting : (origin : ℕ) (kind : Kind) →
+    Alike SameTrees (statement.resulting origin kind) (statement.resulting origin kind)
+alike_resulting origin Void = alike_gives (trees_self [])
+alike_resulting origin (Value t) =
+    alike_then (λ place. gives (set origin place (Const t (pos 0)) ∷ []))
+    (λ place. gives (set origin place (Const t (pos 0)) ∷ [])) (alike_fresh t t refl)
+    (λ a b at. alike_gives (same_set origin a b at (value_self (Const t (pos 0)))))
 
 pub alike_receiving : (objects : List Object) →
     Alike Any (statement.receiving objects) (statement.receiving objects)
@@ -82,43 +84,46 @@ module _ (F G : Frames) (same : SameFrames F G) where
   alike_unused None = alike_gives (trees_self [])
   alike_unused (Some e) = (alike_expression F G same e).unused
 
-  pub alike_initialized : (a b : Location) (e : TypedExpression) → SameLocation a b →
-      Alike SameTrees (statement.initialized F a e) (statement.initialized G b e)
-  alike_initialized a b e at =
-      alike_then (λ v. gives (v.statements ++ set a v.value ∷ []))
-      (λ v. gives (v.statements ++ set b v.value ∷ [])) (alike_expression F G same e).used
-      (λ x y is. alike_gives (same_stored a b is at))
+  pub alike_initialized : (origin : ℕ) (a b : Location) (e : TypedExpression) → SameLocation a b →
+      Alike SameTrees (statement.initialized origin F a e) (statement.initialized origin G b e)
+  alike_initialized origin a b e at =
+      alike_then (λ v. gives (v.statements ++ set origin a v.value ∷ []))
+      (λ v. gives (v.statements ++ set origin b v.value ∷ [])) (alike_expression F G same e).used
+      (λ x y is. alike_gives (same_stored origin a b is at))
 
-  each_initialized : (t : IntType) (m n : ℕ) (items : List TypedExpression) →
-      Pairwise (Alike SameTrees) (statement.initialized_each F t m items)
-      (statement.initialized_each G t n items)
-  each_initialized t m n [] = none
-  each_initialized t m n (item ∷ items) =
-      more (alike_initialized (cell_at t m) (cell_at t n) item (same_cell t m n))
-      (each_initialized t (m + 1) (n + 1) items)
+  each_initialized : (origin : ℕ) (t : IntType) (m n : ℕ) (items : List TypedExpression) →
+      Pairwise (Alike SameTrees) (statement.initialized_each origin F t m items)
+      (statement.initialized_each origin G t n items)
+  each_initialized origin t m n [] = none
+  each_initialized origin t m n (item ∷ items) =
+      more (alike_initialized origin (cell_at t m) (cell_at t n) item (same_cell t m n))
+      (each_initialized origin t (m + 1) (n + 1) items)
 
-  pub alike_initializing : (object : Object) (given : Option TypedInitializer) (m n : ℕ) →
-      Alike SameTrees (statement.initializing F object given m)
-      (statement.initializing G object given n)
-  alike_initializing object None m n = alike_gives (same_inputs m n (cells_of object))
-  alike_initializing object (Some (initializer.Scalar value)) m n =
-      alike_initialized (cell_at object.ty m) (cell_at object.ty n) value (same_cell object.ty m n)
-  alike_initializing object (Some (initializer.List items)) m n =
+  pub alike_initializing : (origin : ℕ) (object : Object) (given : Option TypedInitializer)
+      (m n : ℕ) →
+      Alike SameTrees (statement.initializing origin F object given m)
+      (statement.initializing origin G object given n)
+  alike_initializing origin object None m n = alike_gives (same_inputs origin m n (cells_of object))
+  alike_initializing origin object (Some (initializer.Scalar value)) m n =
+      alike_initialized origin (cell_at object.ty m) (cell_at object.ty n) value
+      (same_cell object.ty m n)
+  alike_initializing origin object (Some (initializer.List items)) m n =
       let count = cells_of object - length items in
-      let first = statement.zeros object.ty (m + length items) count in
-      let second = statement.zeros object.ty (n + length items) count in
+      let first = statement.zeros origin object.ty (m + length items) count in
+      let second = statement.zeros origin object.ty (n + length items) count in
       alike_then (λ before. gives (before ++ first)) (λ before. gives (before ++ second))
-      (alike_order (each_initialized object.ty m n items))
+      (alike_order (each_initialized origin object.ty m n items))
       (λ x y is. alike_gives
-      (same_append is (same_zeros object.ty (m + length items) (n + length items) count)))
+      (same_append is (same_zeros origin object.ty (m + length items) (n + length items) count)))
 
   alike_declared : (declarator : TypedDeclarator) →
       Alike SameTrees (statement.declared F declarator) (statement.declared G declarator)
   alike_declared declarator =
-      alike_then (statement.initializing F declarator.object declarator.initializer)
-      (statement.initializing G declarator.object declarator.initializer)
+      alike_then (statement.initializing declarator.place F declarator.object
+      declarator.initializer)
+      (statement.initializing declarator.place G declarator.object declarator.initializer)
       (alike_taking declarator.object [])
-      (λ m n is. alike_initializing declarator.object declarator.initializer m n)
+      (λ m n is. alike_initializing declarator.place declarator.object declarator.initializer m n)
 
   each_declared : (declarators : List TypedDeclarator) →
       Pairwise (Alike SameTrees) (map (statement.declared F) declarators)
@@ -136,18 +141,21 @@ module _ (F G : Frames) (same : SameFrames F G) where
   alike_started (start.Declaration declarators) = alike_declaration declarators
   alike_started (start.Expression expression) = alike_unused expression
 
-  pub alike_left : (test : Option TypedExpression) →
-      Alike SameTrees (statement.left_unless F test) (statement.left_unless G test)
-  alike_left None = alike_gives (trees_self [])
-  alike_left (Some test) =
-      alike_then (λ v. gives (statement.leaving v)) (λ v. gives (statement.leaving v))
+  pub alike_left : (origin : ℕ) (test : Option TypedExpression) →
+      Alike SameTrees (statement.left_unless origin F test) (statement.left_unless origin G test)
+  alike_left origin None = alike_gives (trees_self [])
+  alike_left origin (Some test) =
+      alike_then (λ v. gives (statement.leaving origin v)) (λ v. gives (statement.leaving origin v))
       (alike_expression F G same test).used
-      (λ x y is. alike_gives (same_split is (trees_self []) (trees_self (leaf head.Break ∷ []))))
+      (λ x y is. alike_gives (same_split origin is (trees_self [])
+      (trees_self (leaf origin head.Break ∷ []))))
 
-  pub alike_returned : (a b : Location) (value : Option TypedExpression) → SameLocation a b →
-      Alike SameTrees (statement.returned F a value) (statement.returned G b value)
-  alike_returned a b None at = alike_gives (trees_self (leaf head.Leave ∷ []))
-  alike_returned a b (Some value) at =
-      alike_then (λ before. gives (before ++ leaf head.Leave ∷ []))
-      (λ before. gives (before ++ leaf head.Leave ∷ [])) (alike_initialized a b value at)
-      (λ x y is. alike_gives (same_append is (trees_self (leaf head.Leave ∷ []))))
+  pub alike_returned : (origin : ℕ) (a b : Location) (value : Option TypedExpression) →
+      SameLocation a b →
+      Alike SameTrees (statement.returned origin F a value) (statement.returned origin G b value)
+  alike_returned origin a b None at = alike_gives (trees_self (leaf origin head.Leave ∷ []))
+  alike_returned origin a b (Some value) at =
+      alike_then (λ before. gives (before ++ leaf origin head.Leave ∷ []))
+      (λ before. gives (before ++ leaf origin head.Leave ∷ []))
+      (alike_initialized origin a b value at)
+      (λ x y is. alike_gives (same_append is (trees_self (leaf origin head.Leave ∷ []))))

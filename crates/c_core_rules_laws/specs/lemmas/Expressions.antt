@@ -81,34 +81,35 @@ module _ (F G : Frames) (same : SameFrames F G) where
   each_link (one ∷ held) = more (link one.0 one.1.1) (each_link held)
 
   layer : (y : TypedExpression-F Held HeldSuffix) → AlikeRows (layer_of F y) (layer_of G y)
-  layer (TypedExpression-F.Name found place) = alike_name found
-  layer (TypedExpression-F.Number t n place) = alike_number t n
-  layer (TypedExpression-F.Character n place) = alike_number ty.I32 n
+  layer (TypedExpression-F.Name found place) = alike_name place found
+  layer (TypedExpression-F.Number t n place) = alike_number place t n
+  layer (TypedExpression-F.Character n place) = alike_number place ty.I32 n
   layer (TypedExpression-F.Bracketed inside place) = inside.1
   layer (TypedExpression-F.Postfix base suffixes place) =
-      alike_suffixed same (each_suffix suffixes) base.1
+      alike_suffixed place same (each_suffix suffixes) base.1
   layer (TypedExpression-F.PrefixStep operator operand kind place) =
       let inside = operand.1 in
-      alike_act (alike_incrementing operator inside.target)
-      (only (alike_incrementing operator inside.target))
+      alike_act (alike_incrementing place operator inside.target)
+      (only (alike_incrementing place operator inside.target))
   layer (TypedExpression-F.Unary operator operand kind place) =
-      alike_plain (alike_then (λ v. gives (signed operator v)) (λ v. gives (signed operator v))
+      alike_plain place (alike_then (λ v. gives (signed operator v))
+      (λ v. gives (signed operator v))
       operand.1.used (λ x y is. alike_gives (same_sign operator is)))
-  layer (TypedExpression-F.Cast operand kind place) = alike_cast kind operand.1
+  layer (TypedExpression-F.Cast operand kind place) = alike_cast place kind operand.1
   layer (TypedExpression-F.Chain first rest kind place) =
-      alike_plain (alike_chained (each_link rest) first.1.used)
+      alike_plain place (alike_chained place (each_link rest) first.1.used)
   layer (TypedExpression-F.Conditional test first second kind place) =
       let r = test.1 in
       let s = first.1 in
       let t = second.1 in
-      alike_act (alike_conditional r s t)
-      (alike_if (is_void kind) (is_void kind) refl (alike_void r s t)
-      (drops (alike_conditional r s t)))
+      alike_act (alike_conditional place r s t)
+      (alike_if (is_void kind) (is_void kind) refl (alike_void place r s t)
+      (drops place (alike_conditional place r s t)))
   layer (TypedExpression-F.Assignment left operator right kind place) =
       let l = left.1 in
       let r = right.1 in
-      alike_act (alike_assigning true operator l.target r.used)
-      (only (alike_assigning false operator l.target r.used))
+      alike_act (alike_assigning place true operator l.target r.used)
+      (only (alike_assigning place false operator l.target r.used))
   layer (TypedExpression-F.Comma items kind place) =
       alike_act (alike_comma (each_row items)) (alike_commas (each_row items))
 

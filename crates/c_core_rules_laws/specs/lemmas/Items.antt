@@ -8,14 +8,13 @@ use Rattle.c_types_rules.specs.declared.typed.TypedItem.TheFolds.{map-TypedItem,
 use Rattle.c_types_rules.specs.declared.typed.TypedItem.TheFolds.{ind-TypedItem}
 use Rattle.c_types_rules.specs.declared.typed.TypedStatement.{TypedStatement, roll-TypedStatement}
 use Rattle.cpa_model_trees.specs.declared.tree.CoreTree.{CoreTree}
-use Rattle.cpa_model_trees.specs.declared.tree.CoreTree.TheVariants.{Node}
 use Rattle.cpa_model_trees.specs.declared.tree.Head.{Head}
 use Rattle.cpa_model_trees.specs.declared.tree.Head.TheVariants as head
 use Rattle.cpa_model_trees.specs.Numbering.{Trees}
 use Rattle.c_core_rules.specs.declared.tree.Location.{Location}
 use Rattle.c_core_rules.specs.declared.tree.Valued.{Valued}
 use Rattle.c_core_rules.specs.Values.{promote}
-use Rattle.c_core_rules.specs.Trees.{leaf, block, choice, repeated, valued}
+use Rattle.c_core_rules.specs.Trees.{leaf, block, labeled, choice, repeated, valued}
 use Rattle.c_core_rules.specs.Cells.{Rule, gives, then_by}
 use Rattle.c_core_rules.specs.Acts.{held}
 use Rattle.c_core_rules.specs.Expressions.{Frames}
@@ -35,8 +34,9 @@ use Rattle.c_core_rules_laws.specs.lemmas.Expressions.{alike_expression}
 use Rattle.c_core_rules_laws.specs.lemmas.Declarations.{alike_unused, alike_declaration}
 use Rattle.c_core_rules_laws.specs.lemmas.Declarations.{alike_started, alike_left, alike_returned}
 
-alike_leaf : (h : Head) → Alike SameTrees (gives (leaf h ∷ [])) (gives (leaf h ∷ []))
-alike_leaf h = alike_gives (trees_self (leaf h ∷ []))
+alike_leaf : (origin : ℕ) (h : Head) →
+    Alike SameTrees (gives (leaf origin h ∷ [])) (gives (leaf origin h ∷ []))
+alike_leaf origin h = alike_gives (trees_self (leaf origin h ∷ []))
 
 -- what a rule makes as one statement around it
 alike_one : (make : Trees → CoreTree) {r s : Rule Trees} →
@@ -46,118 +46,127 @@ alike_one make keeps h =
     alike_then (λ inside. gives (make inside ∷ [])) (λ inside. gives (make inside ∷ [])) h
     (λ xs ys is. alike_gives (keeps xs ys is))
 
-alike_if_form : {t u : Rule Valued} {p q r s : Rule Trees} → Alike SameValued t u →
+alike_if_form : (origin : ℕ) {t u : Rule Valued} {p q r s : Rule Trees} → Alike SameValued t u →
     Alike SameTrees p q → Alike SameTrees r s →
     Alike SameTrees
     (then_by t (λ v. then_by p (λ a. then_by r (λ b.
-    gives (v.statements ++ choice v.value a b ∷ [])))))
+    gives (v.statements ++ choice origin v.value a b ∷ [])))))
     (then_by u (λ v. then_by q (λ a. then_by s (λ b.
-    gives (v.statements ++ choice v.value a b ∷ [])))))
-alike_if_form {p = p} {q = q} {r = r} {s = s} test first second =
+    gives (v.statements ++ choice origin v.value a b ∷ [])))))
+alike_if_form origin {p = p} {q = q} {r = r} {s = s} test first second =
     alike_then
-    (λ v. then_by p (λ a. then_by r (λ b. gives (v.statements ++ choice v.value a b ∷ []))))
-    (λ v. then_by q (λ a. then_by s (λ b. gives (v.statements ++ choice v.value a b ∷ [])))) test
+    (λ v. then_by p (λ a. then_by r (λ b. gives (v.statements ++ choice origin v.value a b ∷ []))))
+    (λ v. then_by q (λ a. then_by s (λ b. gives (v.statements ++ choice origin v.value a b ∷ []))))
+    test
     (λ v w is. alike_then
-    (λ a. then_by r (λ b. gives (v.statements ++ choice v.value a b ∷ [])))
-    (λ a. then_by s (λ b. gives (w.statements ++ choice w.value a b ∷ []))) first
-    (λ a b one. alike_then (λ c. gives (v.statements ++ choice v.value a c ∷ []))
-    (λ c. gives (w.statements ++ choice w.value b c ∷ [])) second
-    (λ c d two. alike_gives (same_split is one two))))
+    (λ a. then_by r (λ b. gives (v.statements ++ choice origin v.value a b ∷ [])))
+    (λ a. then_by s (λ b. gives (w.statements ++ choice origin w.value a b ∷ []))) first
+    (λ a b one. alike_then (λ c. gives (v.statements ++ choice origin v.value a c ∷ []))
+    (λ c. gives (w.statements ++ choice origin w.value b c ∷ [])) second
+    (λ c d two. alike_gives (same_split origin is one two))))
 
-alike_while : {p q r s : Rule Trees} → Alike SameTrees p q → Alike SameTrees r s →
+alike_while : (origin : ℕ) {p q r s : Rule Trees} → Alike SameTrees p q → Alike SameTrees r s →
     Alike SameTrees
-    (then_by p (λ front. then_by r (λ inside. gives (repeated (front ++ inside) [] ∷ []))))
-    (then_by q (λ front. then_by s (λ inside. gives (repeated (front ++ inside) [] ∷ []))))
-alike_while {r = r} {s = s} test body =
-    alike_then (λ front. then_by r (λ inside. gives (repeated (front ++ inside) [] ∷ [])))
-    (λ front. then_by s (λ inside. gives (repeated (front ++ inside) [] ∷ []))) test
-    (λ x y is. alike_then (λ inside. gives (repeated (x ++ inside) [] ∷ []))
-    (λ inside. gives (repeated (y ++ inside) [] ∷ [])) body
-    (λ v w are. alike_gives (same_repeated (same_append is are) (trees_self []))))
+    (then_by p (λ front. then_by r (λ inside. gives (repeated origin (front ++ inside) [] ∷ []))))
+    (then_by q (λ front. then_by s (λ inside. gives (repeated origin (front ++ inside) [] ∷ []))))
+alike_while origin {r = r} {s = s} test body =
+    alike_then (λ front. then_by r (λ inside. gives (repeated origin (front ++ inside) [] ∷ [])))
+    (λ front. then_by s (λ inside. gives (repeated origin (front ++ inside) [] ∷ []))) test
+    (λ x y is. alike_then (λ inside. gives (repeated origin (x ++ inside) [] ∷ []))
+    (λ inside. gives (repeated origin (y ++ inside) [] ∷ [])) body
+    (λ v w are. alike_gives (same_repeated origin (same_append is are) (trees_self []))))
 
-alike_do : {p q r s : Rule Trees} → Alike SameTrees p q → Alike SameTrees r s →
+alike_do : (origin : ℕ) {p q r s : Rule Trees} → Alike SameTrees p q → Alike SameTrees r s →
     Alike SameTrees
-    (then_by p (λ inside. then_by r (λ behind. gives (repeated inside behind ∷ []))))
-    (then_by q (λ inside. then_by s (λ behind. gives (repeated inside behind ∷ []))))
-alike_do {r = r} {s = s} body test =
-    alike_then (λ inside. then_by r (λ behind. gives (repeated inside behind ∷ [])))
-    (λ inside. then_by s (λ behind. gives (repeated inside behind ∷ []))) body
-    (λ x y is. alike_then (λ behind. gives (repeated x behind ∷ []))
-    (λ behind. gives (repeated y behind ∷ [])) test
-    (λ v w are. alike_gives (same_repeated is are)))
+    (then_by p (λ inside. then_by r (λ behind. gives (repeated origin inside behind ∷ []))))
+    (then_by q (λ inside. then_by s (λ behind. gives (repeated origin inside behind ∷ []))))
+alike_do origin {r = r} {s = s} body test =
+    alike_then (λ inside. then_by r (λ behind. gives (repeated origin inside behind ∷ [])))
+    (λ inside. then_by s (λ behind. gives (repeated origin inside behind ∷ []))) body
+    (λ x y is. alike_then (λ behind. gives (repeated origin x behind ∷ []))
+    (λ behind. gives (repeated origin y behind ∷ [])) test
+    (λ v w are. alike_gives (same_repeated origin is are)))
 
 -- a for, by its parts
-abbrev for_form : Trees → Trees → Trees → Trees → Trees
-for_form before front inside behind =
-    block (before ++ repeated (front ++ inside) behind ∷ []) ∷ []
+abbrev for_form : ℕ → Trees → Trees → Trees → Trees → Trees
+for_form origin before front inside behind =
+    block origin (before ++ repeated origin (front ++ inside) behind ∷ []) ∷ []
 
-alike_for : {m n p q r s t u : Rule Trees} → Alike SameTrees m n → Alike SameTrees p q →
+alike_for : (origin : ℕ) {m n p q r s t u : Rule Trees} → Alike SameTrees m n →
+    Alike SameTrees p q →
     Alike SameTrees r s → Alike SameTrees t u →
     Alike SameTrees
     (then_by m (λ before. then_by p (λ front. then_by r (λ inside. then_by t (λ behind.
-    gives (for_form before front inside behind))))))
+    gives (for_form origin before front inside behind))))))
     (then_by n (λ before. then_by q (λ front. then_by s (λ inside. then_by u (λ behind.
-    gives (for_form before front inside behind))))))
-alike_for {p = p} {q = q} {r = r} {s = s} {t = t} {u = u} first test body step =
+    gives (for_form origin before front inside behind))))))
+alike_for origin {p = p} {q = q} {r = r} {s = s} {t = t} {u = u} first test body step =
     alike_then
     (λ before. then_by p (λ front. then_by r (λ inside. then_by t (λ behind.
-    gives (for_form before front inside behind)))))
+    gives (for_form origin before front inside behind)))))
     (λ before. then_by q (λ front. then_by s (λ inside. then_by u (λ behind.
-    gives (for_form before front inside behind))))) first
+    gives (for_form origin before front inside behind))))) first
     (λ a b one. alike_then
-    (λ front. then_by r (λ inside. then_by t (λ behind. gives (for_form a front inside behind))))
-    (λ front. then_by s (λ inside. then_by u (λ behind. gives (for_form b front inside behind))))
+    (λ front. then_by r (λ inside. then_by t
+    (λ behind. gives (for_form origin a front inside behind))))
+    (λ front. then_by s (λ inside. then_by u
+    (λ behind. gives (for_form origin b front inside behind))))
     test
     (λ c d two. alike_then
-    (λ inside. then_by t (λ behind. gives (for_form a c inside behind)))
-    (λ inside. then_by u (λ behind. gives (for_form b d inside behind))) body
-    (λ v w three. alike_then (λ behind. gives (for_form a c v behind))
-    (λ behind. gives (for_form b d w behind)) step
-    (λ x y four. alike_gives (same_block
-    (same_append one (same_repeated (same_append two three) four)))))))
+    (λ inside. then_by t (λ behind. gives (for_form origin a c inside behind)))
+    (λ inside. then_by u (λ behind. gives (for_form origin b d inside behind))) body
+    (λ v w three. alike_then (λ behind. gives (for_form origin a c v behind))
+    (λ behind. gives (for_form origin b d w behind)) step
+    (λ x y four. alike_gives (same_block origin
+    (same_append one (same_repeated origin (same_append two three) four)))))))
 
-same_selecting : {v w : Expr} (choices : List Choice) → SameValue v w →
-    SameTrees (map (selecting v) choices) (map (selecting w) choices)
-same_selecting [] is = trees_self []
-same_selecting (one ∷ choices) is =
+same_selecting : (origin : ℕ) {v w : Expr} (choices : List Choice) → SameValue v w →
+    SameTrees (map (selecting origin v) choices) (map (selecting origin w) choices)
+same_selecting origin [] is = trees_self []
+same_selecting origin (one ∷ choices) is =
     same_more
-    (same_choice (same_asked one.value is) (trees_self (leaf (head.Goto one.label) ∷ []))
-    (trees_self [])) (same_selecting choices is)
+    (same_choice origin (same_asked one.value is)
+    (trees_self (leaf origin (head.Goto one.label) ∷ []))
+    (trees_self [])) (same_selecting origin choices is)
 
-same_selected : (choices : List Choice) (otherwise : ℕ) {v w : Expr} {xs ys : Trees} →
+same_selected : (origin : ℕ) (choices : List Choice) (otherwise : ℕ) {v w : Expr} {xs ys : Trees} →
     SameValue v w → SameTrees xs ys →
-    SameTrees (selected_by v choices otherwise xs) (selected_by w choices otherwise ys)
-same_selected choices otherwise is are =
-    same_append (same_selecting choices is)
-    (same_append (trees_self (leaf (head.Goto otherwise) ∷ []))
-    (same_append are (trees_self (leaf head.Labeled ∷ []))))
+    SameTrees (selected_by origin v choices otherwise xs)
+    (selected_by origin w choices otherwise ys)
+same_selected origin choices otherwise is are =
+    same_append (same_selecting origin choices is)
+    (same_append (trees_self (leaf origin (head.Goto otherwise) ∷ []))
+    (same_append are (trees_self (leaf origin head.Labeled ∷ []))))
 
 -- a switch, by the rule of its value and that of its body
-abbrev switch_form : List Choice → ℕ → Rule Valued → Rule Trees → Rule Trees
-switch_form choices otherwise t p =
-    then_by t (λ v. then_by (held (valued v.statements (promote v.value))) (λ kept. then_by p
-    (λ inside. gives (kept.statements ++ selected_by kept.value choices otherwise inside))))
+abbrev switch_form : ℕ → List Choice → ℕ → Rule Valued → Rule Trees → Rule Trees
+switch_form origin choices otherwise t p =
+    then_by t (λ v. then_by (held origin (valued v.statements (promote v.value))) (λ kept. then_by p
+    (λ inside. gives (kept.statements ++ selected_by origin kept.value choices otherwise inside))))
 
-alike_switch : (choices : List Choice) (otherwise : ℕ) {t u : Rule Valued} {p q : Rule Trees} →
+alike_switch : (origin : ℕ) (choices : List Choice) (otherwise : ℕ) {t u : Rule Valued}
+    {p q : Rule Trees} →
     Alike SameValued t u → Alike SameTrees p q →
-    Alike SameTrees (switch_form choices otherwise t p) (switch_form choices otherwise u q)
-alike_switch choices otherwise {p = p} {q = q} value body =
+    Alike SameTrees (switch_form origin choices otherwise t p)
+    (switch_form origin choices otherwise u q)
+alike_switch origin choices otherwise {p = p} {q = q} value body =
     alike_then
-    (λ v. then_by (held (valued v.statements (promote v.value))) (λ kept. then_by p
-    (λ inside. gives (kept.statements ++ selected_by kept.value choices otherwise inside))))
-    (λ v. then_by (held (valued v.statements (promote v.value))) (λ kept. then_by q
-    (λ inside. gives (kept.statements ++ selected_by kept.value choices otherwise inside)))) value
+    (λ v. then_by (held origin (valued v.statements (promote v.value))) (λ kept. then_by p
+    (λ inside. gives (kept.statements ++ selected_by origin kept.value choices otherwise inside))))
+    (λ v. then_by (held origin (valued v.statements (promote v.value))) (λ kept. then_by q
+    (λ inside. gives (kept.statements ++ selected_by origin kept.value choices otherwise inside))))
+    value
     (λ v w is. alike_then
     (λ kept. then_by p
-    (λ inside. gives (kept.statements ++ selected_by kept.value choices otherwise inside)))
+    (λ inside. gives (kept.statements ++ selected_by origin kept.value choices otherwise inside)))
     (λ kept. then_by q
-    (λ inside. gives (kept.statements ++ selected_by kept.value choices otherwise inside)))
-    (alike_held (same_valued is.statements (same_promote is.value)))
+    (λ inside. gives (kept.statements ++ selected_by origin kept.value choices otherwise inside)))
+    (alike_held origin (same_valued is.statements (same_promote is.value)))
     (λ a b one. alike_then
-    (λ inside. gives (a.statements ++ selected_by a.value choices otherwise inside))
-    (λ inside. gives (b.statements ++ selected_by b.value choices otherwise inside)) body
+    (λ inside. gives (a.statements ++ selected_by origin a.value choices otherwise inside))
+    (λ inside. gives (b.statements ++ selected_by origin b.value choices otherwise inside)) body
     (λ x y two. alike_gives
-    (same_append one.statements (same_selected choices otherwise one.value two)))))
+    (same_append one.statements (same_selected origin choices otherwise one.value two)))))
 
 module _ (F G : Frames) (same : SameFrames F G) (place other : Location)
     (at : SameLocation place other) where
@@ -198,28 +207,31 @@ module _ (F G : Frames) (same : SameFrames F G) (place other : Location)
 
   layer : (y : TypedStatement-F HeldItem HeldStatement) →
       Alike SameTrees (layer_of F place y) (layer_of G other y)
-  layer (TypedStatement-F.Block items) =
-      alike_one block (λ xs ys is. same_block is) (alike_order (each_held items))
-  layer (TypedStatement-F.Expression expression) = alike_unused F G same expression
-  layer (TypedStatement-F.If test first None) =
-      alike_if_form (alike_expression F G same test).used first.1 (alike_gives (trees_self []))
-  layer (TypedStatement-F.If test first (Some second)) =
-      alike_if_form (alike_expression F G same test).used first.1 second.1
-  layer (TypedStatement-F.While test body) =
-      alike_while (alike_left F G same (Some test)) body.1
-  layer (TypedStatement-F.Do body test) =
-      alike_do body.1 (alike_left F G same (Some test))
-  layer (TypedStatement-F.For first test step body) =
-      alike_for (alike_started F G same first) (alike_left F G same test) body.1
+  layer (TypedStatement-F.Block items origin) =
+      alike_one (block origin) (λ xs ys is. same_block origin is) (alike_order (each_held items))
+  layer (TypedStatement-F.Expression expression origin) = alike_unused F G same expression
+  layer (TypedStatement-F.If test first None origin) =
+      alike_if_form origin (alike_expression F G same test).used first.1
+      (alike_gives (trees_self []))
+  layer (TypedStatement-F.If test first (Some second) origin) =
+      alike_if_form origin (alike_expression F G same test).used first.1 second.1
+  layer (TypedStatement-F.While test body origin) =
+      alike_while origin (alike_left F G same origin (Some test)) body.1
+  layer (TypedStatement-F.Do body test origin) =
+      alike_do origin body.1 (alike_left F G same origin (Some test))
+  layer (TypedStatement-F.For first test step body origin) =
+      alike_for origin (alike_started F G same first) (alike_left F G same origin test) body.1
       (alike_unused F G same step)
-  layer (TypedStatement-F.Goto label) = alike_leaf (head.Goto label)
-  layer TypedStatement-F.Break = alike_leaf head.Break
-  layer TypedStatement-F.Continue = alike_leaf head.Continue
-  layer (TypedStatement-F.Return value) = alike_returned F G same place other value at
-  layer (TypedStatement-F.Labeled label body) =
-      alike_one (Node head.Labeled) (λ xs ys is. same_node head.Labeled head.Labeled refl is) body.1
-  layer (TypedStatement-F.Switch value choices otherwise body end) =
-      alike_switch choices otherwise (alike_expression F G same value).used body.1
+  layer (TypedStatement-F.Goto label origin) = alike_leaf origin (head.Goto label)
+  layer (TypedStatement-F.Break origin) = alike_leaf origin head.Break
+  layer (TypedStatement-F.Continue origin) = alike_leaf origin head.Continue
+  layer (TypedStatement-F.Return value origin) =
+      alike_returned F G same origin place other value at
+  layer (TypedStatement-F.Labeled label body origin) =
+      alike_one (labeled origin)
+      (λ xs ys is. same_node origin head.Labeled head.Labeled refl is) body.1
+  layer (TypedStatement-F.Switch value choices otherwise body end origin) =
+      alike_switch origin choices otherwise (alike_expression F G same value).used body.1
 
   item_layer : (y : TypedItem-F HeldItem HeldStatement) →
       Alike SameTrees (item_of F place y) (item_of G other y)

@@ -1,5 +1,5 @@
 -- Assignments are alike where their places and values are.
-use Rattle.std.proofs.Common.{Bool, true, false, [], ◌++◌, Option}
+use Rattle.std.proofs.Common.{ℕ, Bool, true, false, [], ◌++◌, Option}
 use Rattle.std.proofs.Common.{None, Some}
 use Rattle.cpa_expr.specs.declared.tree.Expr.{Expr}
 use Rattle.c_grammar_symbols.specs.declared.operators.BinaryOperator.{BinaryOperator}
@@ -31,94 +31,102 @@ pub data SamePlace : Place → Place → Type 0 where
 pub same_as_pure : {v w : Expr} → SameValue v w → SameValued (pure v) (pure w)
 same_as_pure is = same_valued (trees_self []) is
 
-pub same_written : (a b : Location) {i j v w : Valued} → SameLocation a b → SameValued i j →
-    SameValued v w → SameValued (written a i v) (written b j w)
-same_written a b at index is =
+pub same_written : (origin : ℕ) (a b : Location) {i j v w : Valued} → SameLocation a b →
+    SameValued i j →
+    SameValued v w → SameValued (written origin a i v) (written origin b j w)
+same_written origin a b at index is =
     same_valued
     (same_append index.statements
-    (same_append is.statements (same_write a b at index.value is.value)))
+    (same_append is.statements (same_write origin a b at index.value is.value)))
     (same_read a b at index.value)
 
-pub alike_fixed_if : (fixes : Bool) {v w : Valued} → SameValued v w →
-    Alike SameValued (fixed_if fixes v) (fixed_if fixes w)
-alike_fixed_if true is = alike_fixed is
-alike_fixed_if false is = alike_gives is
+pub alike_fixed_if : (origin : ℕ) (fixes : Bool) {v w : Valued} → SameValued v w →
+    Alike SameValued (fixed_if origin fixes v) (fixed_if origin fixes w)
+alike_fixed_if origin true is = alike_fixed origin is
+alike_fixed_if origin false is = alike_gives is
 
 first_scalar : SameValued (pure first_index) (pure first_index)
 first_scalar = valued_self (pure first_index)
 
-alike_set_element : (keeps : Bool) (a b : Location) {i j v w : Valued} → SameLocation a b →
+alike_set_element : (origin : ℕ) (keeps : Bool) (a b : Location) {i j v w : Valued} →
+    SameLocation a b →
     SameValued i j → SameValued v w →
-    Alike SameValued (set_element keeps a i v) (set_element keeps b j w)
-alike_set_element keeps a b {i = i} {j = j} {v = v} {w = w} at index is =
+    Alike SameValued (set_element origin keeps a i v) (set_element origin keeps b j w)
+alike_set_element origin keeps a b {i = i} {j = j} {v = v} {w = w} at index is =
     alike_then
-    (λ first. then_by (fixed_if keeps (valued (first.statements ++ v.statements) first.value))
-    (λ kept. gives (written a kept (pure v.value))))
-    (λ first. then_by (fixed_if keeps (valued (first.statements ++ w.statements) first.value))
-    (λ kept. gives (written b kept (pure w.value))))
-    (alike_held_before index is)
-    (λ x y first. alike_then (λ kept. gives (written a kept (pure v.value)))
-    (λ kept. gives (written b kept (pure w.value)))
-    (alike_fixed_if keeps
+    (λ first. then_by (fixed_if origin keeps
+    (valued (first.statements ++ v.statements) first.value))
+    (λ kept. gives (written origin a kept (pure v.value))))
+    (λ first. then_by (fixed_if origin keeps
+    (valued (first.statements ++ w.statements) first.value))
+    (λ kept. gives (written origin b kept (pure w.value))))
+    (alike_held_before origin index is)
+    (λ x y first. alike_then (λ kept. gives (written origin a kept (pure v.value)))
+    (λ kept. gives (written origin b kept (pure w.value)))
+    (alike_fixed_if origin keeps
     (same_valued (same_append first.statements is.statements) first.value))
-    (λ k l kept. alike_gives (same_written a b at kept (same_as_pure is.value))))
+    (λ k l kept. alike_gives (same_written origin a b at kept (same_as_pure is.value))))
 
-alike_assigned : (keeps : Bool) {p q : Place} {v w : Valued} → SamePlace p q → SameValued v w →
-    Alike SameValued (assigned keeps p v) (assigned keeps q w)
-alike_assigned keeps (scalar_places a b at) is =
-    alike_gives (same_written a b at first_scalar is)
-alike_assigned keeps (element_places a b at index) is =
-    alike_set_element keeps a b at index is
-alike_assigned keeps no_places is = alike_gives is
+alike_assigned : (origin : ℕ) (keeps : Bool) {p q : Place} {v w : Valued} → SamePlace p q →
+    SameValued v w →
+    Alike SameValued (assigned origin keeps p v) (assigned origin keeps q w)
+alike_assigned origin keeps (scalar_places a b at) is =
+    alike_gives (same_written origin a b at first_scalar is)
+alike_assigned origin keeps (element_places a b at index) is =
+    alike_set_element origin keeps a b at index is
+alike_assigned origin keeps no_places is = alike_gives is
 
-alike_updated_at : (operator : BinaryOperator) (a b : Location) {i j v w : Valued} →
+alike_updated_at : (origin : ℕ) (operator : BinaryOperator) (a b : Location) {i j v w : Valued} →
     SameLocation a b → SameValued i j → SameValued v w →
-    Alike SameValued (updated_at operator a i v) (updated_at operator b j w)
-alike_updated_at operator a b {i = i} {j = j} {v = v} {w = w} at index is =
-    alike_then (λ old. gives (written a i (operated operator old v)))
-    (λ old. gives (written b j (operated operator old w)))
-    (alike_held_before (same_as_pure (same_read a b at index.value)) is)
-    (λ x y old. alike_gives (same_written a b at index (same_operated operator old is)))
+    Alike SameValued (updated_at origin operator a i v) (updated_at origin operator b j w)
+alike_updated_at origin operator a b {i = i} {j = j} {v = v} {w = w} at index is =
+    alike_then (λ old. gives (written origin a i (operated operator old v)))
+    (λ old. gives (written origin b j (operated operator old w)))
+    (alike_held_before origin (same_as_pure (same_read a b at index.value)) is)
+    (λ x y old. alike_gives (same_written origin a b at index (same_operated operator old is)))
 
-alike_updated : (operator : BinaryOperator) {p q : Place} {v w : Valued} → SamePlace p q →
-    SameValued v w → Alike SameValued (updated operator p v) (updated operator q w)
-alike_updated operator (scalar_places a b at) is =
-    alike_updated_at operator a b at first_scalar is
-alike_updated operator (element_places a b at index) is =
-    alike_updated_at operator a b at index is
-alike_updated operator no_places is = alike_gives is
+alike_updated : (origin : ℕ) (operator : BinaryOperator) {p q : Place} {v w : Valued} →
+    SamePlace p q →
+    SameValued v w → Alike SameValued (updated origin operator p v) (updated origin operator q w)
+alike_updated origin operator (scalar_places a b at) is =
+    alike_updated_at origin operator a b at first_scalar is
+alike_updated origin operator (element_places a b at index) is =
+    alike_updated_at origin operator a b at index is
+alike_updated origin operator no_places is = alike_gives is
 
-pub alike_changed : (keeps : Bool) (operator : Option BinaryOperator) {p q : Place}
+pub alike_changed : (origin : ℕ) (keeps : Bool) (operator : Option BinaryOperator) {p q : Place}
     {v w : Valued} → SamePlace p q → SameValued v w →
-    Alike SameValued (changed keeps operator p v) (changed keeps operator q w)
-alike_changed keeps None at is = alike_assigned keeps at is
-alike_changed keeps (Some operator) at is = alike_updated operator at is
+    Alike SameValued (changed origin keeps operator p v) (changed origin keeps operator q w)
+alike_changed origin keeps None at is = alike_assigned origin keeps at is
+alike_changed origin keeps (Some operator) at is = alike_updated origin operator at is
 
 one_value : SameValued (pure (int 1)) (pure (int 1))
 one_value = valued_self (pure (int 1))
 
-pub alike_incremented : (operator : StepOperator) {p q : Place} → SamePlace p q →
-    Alike SameValued (incremented operator p) (incremented operator q)
-alike_incremented operator at = alike_updated (step_operator operator) at one_value
+pub alike_incremented : (origin : ℕ) (operator : StepOperator) {p q : Place} → SamePlace p q →
+    Alike SameValued (incremented origin operator p) (incremented origin operator q)
+alike_incremented origin operator at = alike_updated origin (step_operator operator) at one_value
 
-alike_stepped_at : (operator : StepOperator) (a b : Location) {i j : Valued} →
+alike_stepped_at : (origin : ℕ) (operator : StepOperator) (a b : Location) {i j : Valued} →
     SameLocation a b → SameValued i j →
-    Alike SameValued (stepped_at operator a i) (stepped_at operator b j)
-alike_stepped_at operator a b {i = i} {j = j} at index =
+    Alike SameValued (stepped_at origin operator a i) (stepped_at origin operator b j)
+alike_stepped_at origin operator a b {i = i} {j = j} at index =
     alike_then
-    (λ old. then_by (updated_at (step_operator operator) a (pure i.value) (pure (int 1)))
+    (λ old. then_by (updated_at origin (step_operator operator) a (pure i.value) (pure (int 1)))
     (λ new. gives (valued (old.statements ++ new.statements) old.value)))
-    (λ old. then_by (updated_at (step_operator operator) b (pure j.value) (pure (int 1)))
+    (λ old. then_by (updated_at origin (step_operator operator) b (pure j.value) (pure (int 1)))
     (λ new. gives (valued (old.statements ++ new.statements) old.value)))
-    (alike_held (same_valued index.statements (same_read a b at index.value)))
+    (alike_held origin (same_valued index.statements (same_read a b at index.value)))
     (λ x y old. alike_then (λ new. gives (valued (x.statements ++ new.statements) x.value))
     (λ new. gives (valued (y.statements ++ new.statements) y.value))
-    (alike_updated_at (step_operator operator) a b at (same_as_pure index.value) one_value)
+    (alike_updated_at origin (step_operator operator) a b at (same_as_pure index.value) one_value)
     (λ v w new. alike_gives
     (same_valued (same_append old.statements new.statements) old.value)))
 
-pub alike_stepped : (operator : StepOperator) {p q : Place} → SamePlace p q →
-    Alike SameValued (stepped operator p) (stepped operator q)
-alike_stepped operator (scalar_places a b at) = alike_stepped_at operator a b at first_scalar
-alike_stepped operator (element_places a b at index) = alike_stepped_at operator a b at index
-alike_stepped operator no_places = alike_gives (valued_self (pure (int 0)))
+pub alike_stepped : (origin : ℕ) (operator : StepOperator) {p q : Place} → SamePlace p q →
+    Alike SameValued (stepped origin operator p) (stepped origin operator q)
+alike_stepped origin operator (scalar_places a b at) =
+    alike_stepped_at origin operator a b at first_scalar
+alike_stepped origin operator (element_places a b at index) =
+    alike_stepped_at origin operator a b at index
+alike_stepped origin operator no_places = alike_gives (valued_self (pure (int 0)))

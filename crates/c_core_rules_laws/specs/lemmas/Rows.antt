@@ -50,9 +50,10 @@ use Rattle.c_core_rules_laws.specs.lemmas.Places.{no_places}
 use Rattle.c_core_rules_laws.specs.lemmas.Places.{same_as_pure, alike_fixed_if, alike_changed}
 use Rattle.c_core_rules_laws.specs.lemmas.Places.{alike_incremented, alike_stepped}
 
-pub drops : {r s : Rule Valued} → Alike SameValued r s →
-    Alike SameTrees (rows.dropped r) (rows.dropped s)
-drops h = alike_then dropped_value dropped_value h (λ x y is. alike_dropped is)
+pub drops : (origin : ℕ) {r s : Rule Valued} → Alike SameValued r s →
+    Alike SameTrees (rows.dropped origin r) (rows.dropped origin s)
+drops origin h = alike_then (dropped_value origin) (dropped_value origin) h
+    (λ x y is. alike_dropped origin is)
 
 pub only : {r s : Rule Valued} → Alike SameValued r s →
     Alike SameTrees (rows.only_statements r) (rows.only_statements s)
@@ -68,9 +69,9 @@ valueless h =
     (λ x y is. alike_gives (same_valued is (value_self rows.no_value)))
 
 -- an expression that is no left side and no name
-pub alike_plain : {r s : Rule Valued} → Alike SameValued r s →
-    AlikeRows (rows.plain r) (rows.plain s)
-alike_plain h = record { used = h; unused = drops h; target = neither; names = refl }
+pub alike_plain : (origin : ℕ) {r s : Rule Valued} → Alike SameValued r s →
+    AlikeRows (rows.plain origin r) (rows.plain origin s)
+alike_plain origin h = record { used = h; unused = drops origin h; target = neither; names = refl }
 
 pub alike_act : {r s : Rule Valued} {p q : Rule Trees} → Alike SameValued r s →
     Alike SameTrees p q → AlikeRows (rows.act r p) (rows.act s q)
@@ -94,10 +95,11 @@ name_used (Some (meaning.Function function)) = read_used (Some (meaning.Function
 name_used (Some (meaning.Known function)) = read_used (Some (meaning.Known function))
 name_used (Some (meaning.Enumerator value)) = alike_gives (valued_self (pure (Const ty.I32 value)))
 
-pub alike_name : (found : Option Meaning) → AlikeRows (rows.name_rows found) (rows.name_rows found)
-alike_name found = record {
+pub alike_name : (origin : ℕ) (found : Option Meaning) →
+    AlikeRows (rows.name_rows origin found) (rows.name_rows origin found)
+alike_name origin found = record {
   used = name_used found;
-  unused = drops (name_used found);
+  unused = drops origin (name_used found);
   target = scalars found;
   names = refl;
 }
@@ -112,69 +114,72 @@ element_used found h =
     (λ place. gives (valued y.statements (element place y.value))) (alike_located found)
     (λ a b at. alike_gives (same_valued is.statements (same_read a b at is.value))))
 
-alike_element : (found : Option Meaning) {i j : Rule Valued} → Alike SameValued i j →
-    AlikeRows (rows.element_rows found i) (rows.element_rows found j)
-alike_element found h = record {
+alike_element : (origin : ℕ) (found : Option Meaning) {i j : Rule Valued} → Alike SameValued i j →
+    AlikeRows (rows.element_rows origin found i) (rows.element_rows origin found j)
+alike_element origin found h = record {
   used = element_used found h;
-  unused = drops (element_used found h);
+  unused = drops origin (element_used found h);
   target = elements found h;
   names = refl;
 }
 
 -- left sides
 
-alike_placed : (fixes : Bool) {t u : Target} → AlikeTarget t u →
-    Alike SamePlace (rows.placed fixes t) (rows.placed fixes u)
-alike_placed fixes (scalars found) =
+alike_placed : (origin : ℕ) (fixes : Bool) {t u : Target} → AlikeTarget t u →
+    Alike SamePlace (rows.placed origin fixes t) (rows.placed origin fixes u)
+alike_placed origin fixes (scalars found) =
     alike_then (λ location. gives (Scalar location)) (λ location. gives (Scalar location))
     (alike_scalar_place found) (λ a b at. alike_gives (scalar_places a b at))
-alike_placed fixes (elements found h) =
+alike_placed origin fixes (elements found h) =
     alike_then
-    (λ i. then_by (fixed_if fixes i) (λ kept.
+    (λ i. then_by (fixed_if origin fixes i) (λ kept.
     then_by (located found) (λ location. gives (Element location kept))))
-    (λ i. then_by (fixed_if fixes i) (λ kept.
+    (λ i. then_by (fixed_if origin fixes i) (λ kept.
     then_by (located found) (λ location. gives (Element location kept)))) h
     (λ x y is. alike_then
     (λ kept. then_by (located found) (λ location. gives (Element location kept)))
     (λ kept. then_by (located found) (λ location. gives (Element location kept)))
-    (alike_fixed_if fixes is)
+    (alike_fixed_if origin fixes is)
     (λ k l kept. alike_then (λ location. gives (Element location k))
     (λ location. gives (Element location l)) (alike_located found)
     (λ a b at. alike_gives (element_places a b at kept))))
-alike_placed fixes neither = alike_gives no_places
+alike_placed origin fixes neither = alike_gives no_places
 
-pub alike_assigning : (keeps : Bool) (operator : AssignmentOperator) {t u : Target}
+pub alike_assigning : (origin : ℕ) (keeps : Bool) (operator : AssignmentOperator) {t u : Target}
     {r s : Rule Valued} → AlikeTarget t u → Alike SameValued r s →
-    Alike SameValued (rows.assigning keeps operator t r) (rows.assigning keeps operator u s)
-alike_assigning keeps operator {r = r} {s = s} left right =
-    alike_then (λ place. then_by r (λ v. changed keeps (operator_of operator) place v))
-    (λ place. then_by s (λ v. changed keeps (operator_of operator) place v))
-    (alike_placed (is_some (operator_of operator)) left)
-    (λ p q at. alike_then (λ v. changed keeps (operator_of operator) p v)
-    (λ v. changed keeps (operator_of operator) q v) right
-    (λ v w is. alike_changed keeps (operator_of operator) at is))
+    Alike SameValued (rows.assigning origin keeps operator t r)
+    (rows.assigning origin keeps operator u s)
+alike_assigning origin keeps operator {r = r} {s = s} left right =
+    alike_then (λ place. then_by r (λ v. changed origin keeps (operator_of operator) place v))
+    (λ place. then_by s (λ v. changed origin keeps (operator_of operator) place v))
+    (alike_placed origin (is_some (operator_of operator)) left)
+    (λ p q at. alike_then (λ v. changed origin keeps (operator_of operator) p v)
+    (λ v. changed origin keeps (operator_of operator) q v) right
+    (λ v w is. alike_changed origin keeps (operator_of operator) at is))
 
-pub alike_incrementing : (operator : StepOperator) {t u : Target} → AlikeTarget t u →
-    Alike SameValued (rows.incrementing operator t) (rows.incrementing operator u)
-alike_incrementing operator h =
-    alike_then (incremented operator) (incremented operator) (alike_placed true h)
-    (λ p q at. alike_incremented operator at)
+pub alike_incrementing : (origin : ℕ) (operator : StepOperator) {t u : Target} → AlikeTarget t u →
+    Alike SameValued (rows.incrementing origin operator t) (rows.incrementing origin operator u)
+alike_incrementing origin operator h =
+    alike_then (incremented origin operator) (incremented origin operator)
+    (alike_placed origin true h)
+    (λ p q at. alike_incremented origin operator at)
 
-alike_stepping : (operator : StepOperator) {t u : Target} → AlikeTarget t u →
-    Alike SameValued (rows.stepping operator t) (rows.stepping operator u)
-alike_stepping operator h =
-    alike_then (stepped operator) (stepped operator) (alike_placed true h)
-    (λ p q at. alike_stepped operator at)
+alike_stepping : (origin : ℕ) (operator : StepOperator) {t u : Target} → AlikeTarget t u →
+    Alike SameValued (rows.stepping origin operator t) (rows.stepping origin operator u)
+alike_stepping origin operator h =
+    alike_then (stepped origin operator) (stepped origin operator) (alike_placed origin true h)
+    (λ p q at. alike_stepped origin operator at)
 
 -- calls
 
-same_passed : {ks bs : List Location} {vs ws : List Expr} → Pairwise SameLocation ks bs →
-    Pairwise SameValue vs ws → SameTrees (rows.passed ks vs) (rows.passed bs ws)
-same_passed none none = trees_self []
-same_passed none (more is all) = trees_self []
-same_passed (more at places) none = trees_self []
-same_passed (more {x = a} {y = b} at places) (more is all) =
-    same_more (same_set a b at is) (same_passed places all)
+same_passed : (origin : ℕ) {ks bs : List Location} {vs ws : List Expr} →
+    Pairwise SameLocation ks bs →
+    Pairwise SameValue vs ws → SameTrees (rows.passed origin ks vs) (rows.passed origin bs ws)
+same_passed origin none none = trees_self []
+same_passed origin none (more is all) = trees_self []
+same_passed origin (more at places) none = trees_self []
+same_passed origin (more {x = a} {y = b} at places) (more is all) =
+    same_more (same_set origin a b at is) (same_passed origin places all)
 
 -- one of these, or another where there is none
 or_else : {T : Type 0} {Same : T → T → Type 0} {xs ys : List T} (x y : T) → Same x y →
@@ -191,31 +196,34 @@ frames_at : {F G : Frames} → SameFrames F G → (body : ℕ) →
     SameFrame (frame_at F body) (frame_at G body)
 frames_at same body = or_else no_frame no_frame frame_self same body
 
-same_called : (function : Function) {F G : Frames} {vs ws : List Valued} → SameFrames F G →
+same_called : (origin : ℕ) (function : Function) {F G : Frames} {vs ws : List Valued} →
+    SameFrames F G →
     Pairwise SameValued vs ws →
-    SameValued (rows.called_with F function vs) (rows.called_with G function ws)
-same_called function {F = F} {G = G} same all =
+    SameValued (rows.called_with origin F function vs) (rows.called_with origin G function ws)
+same_called origin function {F = F} {G = G} same all =
     let body = unwrap_or function.body 0 in
     let frames = frames_at same body in
     let t = object_type function.result in
     same_valued
     (same_append (same_statements all)
-    (same_append (same_passed frames.parameters (same_values all)) (trees_self (leaf
+    (same_append (same_passed origin frames.parameters (same_values all)) (trees_self (leaf origin
     (head.Call body) ∷ []))))
     (same_scalar (cell_at t (frame_at F body).result_cell.base)
     (cell_at t (frame_at G body).result_cell.base) (record { type = refl }))
 
-alike_called : (function : Function) {F G : Frames} {rs ss : List (Rule Valued)} →
+alike_called : (origin : ℕ) (function : Function) {F G : Frames} {rs ss : List (Rule Valued)} →
     SameFrames F G → Pairwise (Alike SameValued) rs ss →
-    Alike SameValued (rows.called F function rs) (rows.called G function ss)
-alike_called function {F = F} {G = G} same all =
+    Alike SameValued (rows.called origin F function rs) (rows.called origin G function ss)
+alike_called origin function {F = F} {G = G} same all =
     alike_then
-    (λ vs. then_by (hold_all vs) (λ operands. gives (rows.called_with F function operands)))
-    (λ vs. then_by (hold_all vs) (λ operands. gives (rows.called_with G function operands)))
+    (λ vs. then_by (hold_all origin vs)
+    (λ operands. gives (rows.called_with origin F function operands)))
+    (λ vs. then_by (hold_all origin vs)
+    (λ operands. gives (rows.called_with origin G function operands)))
     (alike_each all)
-    (λ vs ws are. alike_then (λ operands. gives (rows.called_with F function operands))
-    (λ operands. gives (rows.called_with G function operands)) (alike_hold_all are)
-    (λ xs ys held. alike_gives (same_called function same held)))
+    (λ vs ws are. alike_then (λ operands. gives (rows.called_with origin F function operands))
+    (λ operands. gives (rows.called_with origin G function operands)) (alike_hold_all origin are)
+    (λ xs ys held. alike_gives (same_called origin function same held)))
 
 each_used : {rs ss : List Rows} → Pairwise AlikeRows rs ss →
     Pairwise (Alike SameValued) (map (λ row. row.used) rs) (map (λ row. row.used) ss)
@@ -227,52 +235,55 @@ first_unused : {rs ss : List Rows} → Pairwise AlikeRows rs ss →
 first_unused none = alike_gives (trees_self [])
 first_unused (more h all) = h.unused
 
-taken_in : (function : KnownFunction) →
-    Alike SameValued (rows.taken_in function) (rows.taken_in function)
-taken_in function =
+taken_in : (origin : ℕ) (function : KnownFunction) →
+    Alike SameValued (rows.taken_in origin function) (rows.taken_in origin function)
+taken_in origin function =
     let t = object_type (known_result function) in
-    alike_then (λ place. gives (valued (input place.base ∷ []) (scalar place)))
-    (λ place. gives (valued (input place.base ∷ []) (scalar place))) (alike_fresh t t refl)
-    (λ a b at. alike_gives (same_valued (same_input a.base b.base) (same_scalar a b at)))
+    alike_then (λ place. gives (valued (input origin place.base ∷ []) (scalar place)))
+    (λ place. gives (valued (input origin place.base ∷ []) (scalar place))) (alike_fresh t t refl)
+    (λ a b at. alike_gives (same_valued (same_input origin a.base b.base) (same_scalar a b at)))
 
-known_unused : (function : KnownFunction) {rs ss : List Rows} → Pairwise AlikeRows rs ss →
-    Alike SameTrees (rows.known_unused function rs) (rows.known_unused function ss)
-known_unused known.ReachError all = alike_gives (trees_self (leaf head.Error ∷ []))
-known_unused known.Abort all = alike_gives (trees_self (leaf head.Stop ∷ []))
-known_unused known.AssertFail all = alike_gives (trees_self (leaf head.Stop ∷ []))
-known_unused known.Exit all =
-    alike_then (λ before. gives (before ++ leaf head.Stop ∷ []))
-    (λ before. gives (before ++ leaf head.Stop ∷ [])) (first_unused all)
-    (λ x y is. alike_gives (same_append is (trees_self (leaf head.Stop ∷ []))))
-known_unused (known.Input t) all = only (taken_in (known.Input t))
+known_unused : (origin : ℕ) (function : KnownFunction) {rs ss : List Rows} →
+    Pairwise AlikeRows rs ss →
+    Alike SameTrees (rows.known_unused origin function rs) (rows.known_unused origin function ss)
+known_unused origin known.ReachError all = alike_gives (trees_self (leaf origin head.Error ∷ []))
+known_unused origin known.Abort all = alike_gives (trees_self (leaf origin head.Stop ∷ []))
+known_unused origin known.AssertFail all = alike_gives (trees_self (leaf origin head.Stop ∷ []))
+known_unused origin known.Exit all =
+    alike_then (λ before. gives (before ++ leaf origin head.Stop ∷ []))
+    (λ before. gives (before ++ leaf origin head.Stop ∷ [])) (first_unused all)
+    (λ x y is. alike_gives (same_append is (trees_self (leaf origin head.Stop ∷ []))))
+known_unused origin (known.Input t) all = only (taken_in origin (known.Input t))
 
 -- by what it gives
-abbrev used_by : Kind → KnownFunction → List Rows → Rule Valued
-used_by kind function arguments = elim kind [
-  | Void ↦ rows.valueless (rows.known_unused function arguments)
-  | Value t ↦ rows.taken_in function
+abbrev used_by : ℕ → Kind → KnownFunction → List Rows → Rule Valued
+used_by origin kind function arguments = elim kind [
+  | Void ↦ rows.valueless (rows.known_unused origin function arguments)
+  | Value t ↦ rows.taken_in origin function
 ]
 
-known_used_by : (kind : Kind) (function : KnownFunction) {rs ss : List Rows} →
+known_used_by : (origin : ℕ) (kind : Kind) (function : KnownFunction) {rs ss : List Rows} →
     Pairwise AlikeRows rs ss →
-    Alike SameValued (used_by kind function rs) (used_by kind function ss)
-known_used_by Void function all = valueless (known_unused function all)
-known_used_by (Value t) function all = taken_in function
+    Alike SameValued (used_by origin kind function rs) (used_by origin kind function ss)
+known_used_by origin Void function all = valueless (known_unused origin function all)
+known_used_by origin (Value t) function all = taken_in origin function
 
 no_call : Alike SameValued (gives (pure (int 0))) (gives (pure (int 0)))
 no_call = alike_gives (valued_self (pure (int 0)))
 
-alike_call : {F G : Frames} (found : Option Meaning) {rs ss : List Rows} → SameFrames F G →
+alike_call : (origin : ℕ) {F G : Frames} (found : Option Meaning) {rs ss : List Rows} →
+    SameFrames F G →
     Pairwise AlikeRows rs ss →
-    AlikeRows (rows.call_rows F found rs) (rows.call_rows G found ss)
-alike_call None same all = alike_act no_call (only no_call)
-alike_call (Some (meaning.Object object)) same all = alike_act no_call (only no_call)
-alike_call (Some (meaning.Enumerator value)) same all = alike_act no_call (only no_call)
-alike_call (Some (meaning.Function function)) same all =
-    alike_act (alike_called function same (each_used all))
-    (only (alike_called function same (each_used all)))
-alike_call (Some (meaning.Known function)) same all =
-    alike_act (known_used_by (known_result function) function all) (known_unused function all)
+    AlikeRows (rows.call_rows origin F found rs) (rows.call_rows origin G found ss)
+alike_call origin None same all = alike_act no_call (only no_call)
+alike_call origin (Some (meaning.Object object)) same all = alike_act no_call (only no_call)
+alike_call origin (Some (meaning.Enumerator value)) same all = alike_act no_call (only no_call)
+alike_call origin (Some (meaning.Function function)) same all =
+    alike_act (alike_called origin function same (each_used all))
+    (only (alike_called origin function same (each_used all)))
+alike_call origin (Some (meaning.Known function)) same all =
+    alike_act (known_used_by origin (known_result function) function all)
+    (known_unused origin function all)
 
 -- suffixes
 pub data SameSuffix : ReadSuffix → ReadSuffix → Type 0 where
@@ -285,40 +296,47 @@ pub data SameSuffix : ReadSuffix → ReadSuffix → Type 0 where
   same_skipped : (kind : Option Kind) (place : ℕ)
       → SameSuffix (TypedSuffix-F.Skipped kind place) (TypedSuffix-F.Skipped kind place)
 
-alike_suffix : {F G : Frames} {r s : Rows} {a b : ReadSuffix} → SameFrames F G → AlikeRows r s →
-    SameSuffix a b → AlikeRows (rows.suffix_rows F r a) (rows.suffix_rows G s b)
-alike_suffix {r = r} same h (same_index {r = i} {s = j} kind place index) =
-    subst (λ found. AlikeRows (rows.element_rows r.names i.used) (rows.element_rows found j.used))
-    h.names (alike_element r.names index.used)
-alike_suffix {F = F} {G = G} {r = r} same h (same_call {rs = rs} {ss = ss} kind place all) =
-    subst (λ found. AlikeRows (rows.call_rows F r.names rs) (rows.call_rows G found ss)) h.names
-    (alike_call r.names same all)
-alike_suffix same h (same_step operator kind place) =
-    alike_act (alike_stepping operator h.target) (only (alike_incrementing operator h.target))
-alike_suffix {F = F} {G = G} {r = r} same h (same_skipped kind place) =
-    subst (λ found. AlikeRows (rows.call_rows F r.names []) (rows.call_rows G found [])) h.names
-    (alike_call r.names same none)
+alike_suffix : (origin : ℕ) {F G : Frames} {r s : Rows} {a b : ReadSuffix} → SameFrames F G →
+    AlikeRows r s →
+    SameSuffix a b → AlikeRows (rows.suffix_rows origin F r a) (rows.suffix_rows origin G s b)
+alike_suffix origin {r = r} same h (same_index {r = i} {s = j} kind place index) =
+    subst (λ found. AlikeRows (rows.element_rows origin r.names i.used)
+    (rows.element_rows origin found j.used))
+    h.names (alike_element origin r.names index.used)
+alike_suffix origin {F = F} {G = G} {r = r} same h (same_call {rs = rs} {ss = ss} kind place all) =
+    subst (λ found. AlikeRows (rows.call_rows origin F r.names rs)
+    (rows.call_rows origin G found ss)) h.names
+    (alike_call origin r.names same all)
+alike_suffix origin same h (same_step operator kind place) =
+    alike_act (alike_stepping origin operator h.target)
+    (only (alike_incrementing origin operator h.target))
+alike_suffix origin {F = F} {G = G} {r = r} same h (same_skipped kind place) =
+    subst (λ found. AlikeRows (rows.call_rows origin F r.names [])
+    (rows.call_rows origin G found [])) h.names
+    (alike_call origin r.names same none)
 
-pub alike_suffixed : {F G : Frames} {ks bs : List ReadSuffix} → SameFrames F G →
+pub alike_suffixed : (origin : ℕ) {F G : Frames} {ks bs : List ReadSuffix} → SameFrames F G →
     Pairwise SameSuffix ks bs → {r s : Rows} → AlikeRows r s →
-    AlikeRows (rows.suffixed F r ks) (rows.suffixed G s bs)
-alike_suffixed same none h = h
-alike_suffixed same (more is all) h = alike_suffixed same all (alike_suffix same h is)
+    AlikeRows (rows.suffixed origin F r ks) (rows.suffixed origin G s bs)
+alike_suffixed origin same none h = h
+alike_suffixed origin same (more is all) h =
+    alike_suffixed origin same all (alike_suffix origin same h is)
 
 -- chains
 pub data SameLink : BinaryOperator × Rows → BinaryOperator × Rows → Type 0 where
   link : (operator : BinaryOperator) {r s : Rows} → AlikeRows r s
       → SameLink (operator, r) (operator, s)
 
-pub alike_chained : {ks bs : List (BinaryOperator × Rows)} → Pairwise SameLink ks bs →
+pub alike_chained : (origin : ℕ) {ks bs : List (BinaryOperator × Rows)} → Pairwise SameLink ks bs →
     {r s : Rule Valued} → Alike SameValued r s →
-    Alike SameValued (rows.chained r ks) (rows.chained s bs)
-alike_chained none h = h
-alike_chained (more (link operator {r = p} {s = q} right) all) h =
-    alike_chained all (alike_then (λ v. then_by p.used (λ w. linked operator v w))
-    (λ v. then_by q.used (λ w. linked operator v w)) h
-    (λ v w is. alike_then (λ x. linked operator v x) (λ x. linked operator w x) right.used
-    (λ x y are. alike_linked operator is are)))
+    Alike SameValued (rows.chained origin r ks) (rows.chained origin s bs)
+alike_chained origin none h = h
+alike_chained origin (more (link operator {r = p} {s = q} right) all) h =
+    alike_chained origin all (alike_then (λ v. then_by p.used (λ w. linked origin operator v w))
+    (λ v. then_by q.used (λ w. linked origin operator v w)) h
+    (λ v w is. alike_then (λ x. linked origin operator v x) (λ x. linked origin operator w x)
+    right.used
+    (λ x y are. alike_linked origin operator is are)))
 
 -- commas
 pub alike_comma : {rs ss : List Rows} → Pairwise AlikeRows rs ss →
@@ -345,40 +363,43 @@ pub alike_commas : {rs ss : List Rows} → Pairwise AlikeRows rs ss →
 alike_commas all = alike_order (each_unused all)
 
 -- conditionals
-pub alike_void : {p q v w x y : Rows} → AlikeRows p q → AlikeRows v w → AlikeRows x y →
-    Alike SameTrees (rows.void_choice p v x) (rows.void_choice q w y)
-alike_void {v = v} {w = w} {x = x} {y = y} test first second =
+pub alike_void : (origin : ℕ) {p q v w x y : Rows} → AlikeRows p q → AlikeRows v w → AlikeRows x y →
+    Alike SameTrees (rows.void_choice origin p v x) (rows.void_choice origin q w y)
+alike_void origin {v = v} {w = w} {x = x} {y = y} test first second =
     alike_then
     (λ t. then_by v.unused (λ a. then_by x.unused (λ b.
-    gives (t.statements ++ choice t.value a b ∷ []))))
+    gives (t.statements ++ choice origin t.value a b ∷ []))))
     (λ t. then_by w.unused (λ a. then_by y.unused (λ b.
-    gives (t.statements ++ choice t.value a b ∷ [])))) test.used
+    gives (t.statements ++ choice origin t.value a b ∷ [])))) test.used
     (λ s t is. alike_then
-    (λ a. then_by x.unused (λ b. gives (s.statements ++ choice s.value a b ∷ [])))
-    (λ a. then_by y.unused (λ b. gives (t.statements ++ choice t.value a b ∷ []))) first.unused
-    (λ a b one. alike_then (λ c. gives (s.statements ++ choice s.value a c ∷ []))
-    (λ c. gives (t.statements ++ choice t.value b c ∷ [])) second.unused
-    (λ c d two. alike_gives (same_split is one two))))
+    (λ a. then_by x.unused (λ b. gives (s.statements ++ choice origin s.value a b ∷ [])))
+    (λ a. then_by y.unused (λ b. gives (t.statements ++ choice origin t.value a b ∷ [])))
+    first.unused
+    (λ a b one. alike_then (λ c. gives (s.statements ++ choice origin s.value a c ∷ []))
+    (λ c. gives (t.statements ++ choice origin t.value b c ∷ [])) second.unused
+    (λ c d two. alike_gives (same_split origin is one two))))
 
-pub alike_conditional : {p q v w x y : Rows} → AlikeRows p q → AlikeRows v w → AlikeRows x y →
-    Alike SameValued (rows.conditional p v x) (rows.conditional q w y)
-alike_conditional {v = v} {w = w} {x = x} {y = y} test first second =
-    alike_then (λ t. then_by v.used (λ a. then_by x.used (λ b. chosen t a b)))
-    (λ t. then_by w.used (λ a. then_by y.used (λ b. chosen t a b))) test.used
-    (λ s t is. alike_then (λ a. then_by x.used (λ b. chosen s a b))
-    (λ a. then_by y.used (λ b. chosen t a b)) first.used
-    (λ a b one. alike_then (λ c. chosen s a c) (λ c. chosen t b c) second.used
-    (λ c d two. alike_chosen is one two)))
+pub alike_conditional : (origin : ℕ) {p q v w x y : Rows} → AlikeRows p q → AlikeRows v w →
+    AlikeRows x y →
+    Alike SameValued (rows.conditional origin p v x) (rows.conditional origin q w y)
+alike_conditional origin {v = v} {w = w} {x = x} {y = y} test first second =
+    alike_then (λ t. then_by v.used (λ a. then_by x.used (λ b. chosen origin t a b)))
+    (λ t. then_by w.used (λ a. then_by y.used (λ b. chosen origin t a b))) test.used
+    (λ s t is. alike_then (λ a. then_by x.used (λ b. chosen origin s a b))
+    (λ a. then_by y.used (λ b. chosen origin t a b)) first.used
+    (λ a b one. alike_then (λ c. chosen origin s a c) (λ c. chosen origin t b c) second.used
+    (λ c d two. alike_chosen origin is one two)))
 
 -- casts
-pub alike_cast : (kind : Option Kind) {r s : Rows} → AlikeRows r s →
-    AlikeRows (rows.cast_rows kind r) (rows.cast_rows kind s)
-alike_cast None h = alike_act (valueless h.unused) h.unused
-alike_cast (Some Void) h = alike_act (valueless h.unused) h.unused
-alike_cast (Some (Value t)) h =
-    alike_plain (alike_then (λ v. gives (cast_to t v)) (λ v. gives (cast_to t v)) h.used
+pub alike_cast : (origin : ℕ) (kind : Option Kind) {r s : Rows} → AlikeRows r s →
+    AlikeRows (rows.cast_rows origin kind r) (rows.cast_rows origin kind s)
+alike_cast origin None h = alike_act (valueless h.unused) h.unused
+alike_cast origin (Some Void) h = alike_act (valueless h.unused) h.unused
+alike_cast origin (Some (Value t)) h =
+    alike_plain origin (alike_then (λ v. gives (cast_to t v)) (λ v. gives (cast_to t v)) h.used
     (λ x y is. alike_gives (same_cast_to t is)))
 
-pub alike_number : (t : IntType) (n : ℤ) →
-    AlikeRows (rows.plain (gives (pure (Const t n)))) (rows.plain (gives (pure (Const t n))))
-alike_number t n = alike_plain (alike_gives (valued_self (pure (Const t n))))
+pub alike_number : (origin : ℕ) (t : IntType) (n : ℤ) →
+    AlikeRows (rows.plain origin (gives (pure (Const t n))))
+    (rows.plain origin (gives (pure (Const t n))))
+alike_number origin t n = alike_plain origin (alike_gives (valued_self (pure (Const t n))))

@@ -53,11 +53,11 @@ pub heights_only : (t : CoreTree) →
 unfolding heights_of
 heights_only t = nothing_behind (statements t)
 
-pub heights_node : (h : Head) (parts : Trees) →
-    heights_of (Node h parts ∷ []) ≡ head_height h ∷ heights_of parts
+pub heights_node : (origin : ℕ) (h : Head) (parts : Trees) →
+    heights_of (Node h parts origin ∷ []) ≡ head_height h ∷ heights_of parts
 unfolding heights_of
-heights_node h parts =
-    nothing_behind (statements (Node h parts)) ∙ ap heights_in (node_placed h parts)
+heights_node origin h parts =
+    nothing_behind (statements (Node h parts origin)) ∙ ap heights_in (node_placed h parts origin)
 
 -- the relation
 
@@ -78,18 +78,19 @@ pub same_more : {t u : CoreTree} {xs ys : Trees} → SameTrees (t ∷ []) (u ∷
 same_more {t = t} {u = u} {xs = xs} {ys = ys} is are =
     same_append {xs = t ∷ []} {ys = u ∷ []} {vs = xs} {ws = ys} is are
 
-pub same_node : (h k : Head) {xs ys : Trees} → head_height h ≡ head_height k → SameTrees xs ys →
-    SameTrees (Node h xs ∷ []) (Node k ys ∷ [])
-same_node h k {xs = xs} {ys = ys} is are = record {
-  heights = heights_node h xs
+pub same_node : (origin : ℕ) (h k : Head) {xs ys : Trees} → head_height h ≡ head_height k →
+    SameTrees xs ys →
+    SameTrees (Node h xs origin ∷ []) (Node k ys origin ∷ [])
+same_node origin h k {xs = xs} {ys = ys} is are = record {
+  heights = heights_node origin h xs
       ∙ ap (λ n. n ∷ heights_of xs) is
       ∙ ap (λ hs. head_height k ∷ hs) are.heights
-      ∙ sym (heights_node k ys);
+      ∙ sym (heights_node origin k ys);
 }
 
-pub same_leaf : (h k : Head) → head_height h ≡ head_height k →
-    SameTrees (leaf h ∷ []) (leaf k ∷ [])
-same_leaf h k is = same_node h k is (trees_self [])
+pub same_leaf : (origin : ℕ) (h k : Head) → head_height h ≡ head_height k →
+    SameTrees (leaf origin h ∷ []) (leaf origin k ∷ [])
+same_leaf origin h k is = same_node origin h k is (trees_self [])
 
 -- a tree has a statement
 abbrev is_none : List ℕ → Bool
@@ -98,9 +99,9 @@ is_none (n ∷ ns) = false
 
 node_some : (x : CoreTree-F CoreTree) (trees : Trees) →
     is_none (heights_in (statements (roll-CoreTree x) ++ row_of trees)) ≡ false
-node_some (CoreTree-F.Node h parts) trees =
+node_some (CoreTree-F.Node h parts place) trees =
     ap (λ placed. is_none (heights_in (placed ++ row_of trees)))
-    (open_statements (CoreTree-F.Node h parts))
+    (open_statements (CoreTree-F.Node h parts place))
 
 pub heights_nil : (xs : Trees) → is_nil xs ≡ is_none (heights_of xs)
 unfolding heights_of
@@ -124,30 +125,34 @@ same_valued is are = record { statements = is; value = are }
 
 -- the forms
 
-pub same_block : {xs ys : Trees} → SameTrees xs ys → SameTrees (block xs ∷ []) (block ys ∷ [])
-same_block is = same_node head.Block head.Block refl is
+pub same_block : (origin : ℕ) {xs ys : Trees} → SameTrees xs ys →
+    SameTrees (block origin xs ∷ []) (block origin ys ∷ [])
+same_block origin is = same_node origin head.Block head.Block refl is
 
-pub same_choice : {v w : Expr} {ks bs cs ds : Trees} → SameValue v w → SameTrees ks bs →
-    SameTrees cs ds → SameTrees (choice v ks cs ∷ []) (choice w bs ds ∷ [])
-same_choice {v = v} {w = w} test first second =
-    same_node (head.If v) (head.If w) test.height
-    (same_more (same_block first) (same_block second))
+pub same_choice : (origin : ℕ) {v w : Expr} {ks bs cs ds : Trees} → SameValue v w →
+    SameTrees ks bs →
+    SameTrees cs ds → SameTrees (choice origin v ks cs ∷ []) (choice origin w bs ds ∷ [])
+same_choice origin {v = v} {w = w} test first second =
+    same_node origin (head.If v) (head.If w) test.height
+    (same_more (same_block origin first) (same_block origin second))
 
-pub same_repeated : {ks bs cs ds : Trees} → SameTrees ks bs → SameTrees cs ds →
-    SameTrees (repeated ks cs ∷ []) (repeated bs ds ∷ [])
-same_repeated body step =
-    same_node head.Loop head.Loop refl (same_more (same_block body) (same_block step))
+pub same_repeated : (origin : ℕ) {ks bs cs ds : Trees} → SameTrees ks bs → SameTrees cs ds →
+    SameTrees (repeated origin ks cs ∷ []) (repeated origin bs ds ∷ [])
+same_repeated origin body step =
+    same_node origin head.Loop head.Loop refl
+    (same_more (same_block origin body) (same_block origin step))
 
-pub same_write : (a b : Location) {v w x y : Expr} → SameLocation a b → SameValue v w →
-    SameValue x y → SameTrees (write a v x ∷ []) (write b w y ∷ [])
-same_write a b {v = v} {w = w} {x = x} {y = y} at index is =
-    same_leaf (head.Assign a.base a.len v (conv x a.ty)) (head.Assign b.base b.len w (conv y b.ty))
+pub same_write : (origin : ℕ) (a b : Location) {v w x y : Expr} → SameLocation a b → SameValue v w →
+    SameValue x y → SameTrees (write origin a v x ∷ []) (write origin b w y ∷ [])
+same_write origin a b {v = v} {w = w} {x = x} {y = y} at index is =
+    same_leaf origin (head.Assign a.base a.len v (conv x a.ty))
+    (head.Assign b.base b.len w (conv y b.ty))
     (ap (λ n. max n (height (conv x a.ty))) index.height
     ∙ ap (max (height w)) (conv_to a.ty b.ty at.type is).height)
 
-pub same_set : (a b : Location) {v w : Expr} → SameLocation a b → SameValue v w →
-    SameTrees (set a v ∷ []) (set b w ∷ [])
-same_set a b at is = same_write a b at (value_self first_index) is
+pub same_set : (origin : ℕ) (a b : Location) {v w : Expr} → SameLocation a b → SameValue v w →
+    SameTrees (set origin a v ∷ []) (set origin b w ∷ [])
+same_set origin a b at is = same_write origin a b at (value_self first_index) is
 
-pub same_input : (m n : ℕ) → SameTrees (input m ∷ []) (input n ∷ [])
-same_input m n = same_leaf (head.Input m) (head.Input n) refl
+pub same_input : (origin : ℕ) (m n : ℕ) → SameTrees (input origin m ∷ []) (input origin n ∷ [])
+same_input origin m n = same_leaf origin (head.Input m) (head.Input n) refl

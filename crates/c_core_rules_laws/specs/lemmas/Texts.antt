@@ -64,10 +64,11 @@ same_frames_of (m ∷ firsts) (n ∷ others) (function ∷ functions) =
 -- one whose cells begin at a number
 abbrev from : Frames → TypedFunction → ℕ → Rule CoreTree
 from frames function first =
-    then_by (resulting function.result) (λ before. then_by (receiving function.parameters) (λ u.
+    then_by (resulting function.place function.result)
+    (λ before. then_by (receiving function.parameters) (λ u.
     then_by (in_order (map (item_rule frames (cell_at (object_type function.result) first))
     function.items)) (λ inside.
-    gives (block (before ++ inside)))))
+    gives (block function.place (before ++ inside)))))
 
 -- texts
 
@@ -103,19 +104,19 @@ module _ (F G : Frames) (same : SameFrames F G) where
       let q = in_order (map (item_rule G (cell_at t n)) function.items) in
       alike_then
       (λ before. then_by (receiving function.parameters) (λ u.
-      then_by p (λ inside. gives (block (before ++ inside)))))
+      then_by p (λ inside. gives (block function.place (before ++ inside)))))
       (λ before. then_by (receiving function.parameters) (λ u.
-      then_by q (λ inside. gives (block (before ++ inside)))))
-      (alike_resulting function.result)
+      then_by q (λ inside. gives (block function.place (before ++ inside)))))
+      (alike_resulting function.place function.result)
       (λ x y is. alike_then
-      (λ u. then_by p (λ inside. gives (block (x ++ inside))))
-      (λ u. then_by q (λ inside. gives (block (y ++ inside))))
+      (λ u. then_by p (λ inside. gives (block function.place (x ++ inside))))
+      (λ u. then_by q (λ inside. gives (block function.place (y ++ inside))))
       (alike_receiving function.parameters)
-      (λ v w u. alike_then (λ inside. gives (block (x ++ inside)))
-      (λ inside. gives (block (y ++ inside)))
+      (λ v w u. alike_then (λ inside. gives (block function.place (x ++ inside)))
+      (λ inside. gives (block function.place (y ++ inside)))
       (alike_order (each_item F G same (cell_at t m) (cell_at t n) (same_cell t m n)
       function.items))
-      (λ ks bs are. alike_gives (same_block (same_append is are)))))
+      (λ ks bs are. alike_gives (same_block function.place (same_append is are)))))
 
   pub alike_function : (function : TypedFunction) →
       Alike SameTree (function_rule F function) (function_rule G function)

@@ -6,7 +6,7 @@ use Rattle.c_grammar_symbols.specs.declared.words.Terminal.TheVariants.{RightBra
 use Rattle.c_grammar_symbols.specs.Sources.{leaf_at}
 use Rattle.c_grammar_tree.specs.Parts.{is_not}
 use Rattle.c_grammar_tree.specs.Grammar.{grammar}
-use Rattle.c_parser_statements.specs.Forms.{block_items}
+use Rattle.c_grammar_tree.specs.Statements.{block_items}
 use Rattle.c_parser_statements.proofs.+statement.Given as goal
 
 abbrev pub decreases-blocks::inner_statement : goal.decreases-blocks::inner_statement

@@ -28,13 +28,14 @@ pub open_statements : (x : CoreTree-F CoreTree) → statements (roll-CoreTree x)
 unfolding statements
 open_statements x = fold-roll-CoreTree (List Placed) node_statements x
 
-pub node_placed : (h : Head) (parts : Trees) →
-    statements (Node h parts)
-    ≡ record { head = h; sizes = map length (map statements parts) } ∷ joined (map statements parts)
+pub node_placed : (h : Head) (parts : Trees) (place : ℕ) →
+    statements (Node h parts place)
+    ≡ record { head = h; sizes = map length (map statements parts); place = place }
+    ∷ joined (map statements parts)
 unfolding statements
-node_placed h parts =
-    ap statements (sym (rolls-Node h parts))
-    ∙ fold-roll-CoreTree (List Placed) node_statements (CoreTree-F.Node h parts)
+node_placed h parts place =
+    ap statements (sym (rolls-Node h parts place))
+    ∙ fold-roll-CoreTree (List Placed) node_statements (CoreTree-F.Node h parts place)
 
 two_parts : (numbers : List ℕ) → length numbers ≡ 2 →
     part numbers 0 ∷ part numbers 1 ∷ [] ≡ numbers
@@ -76,15 +77,15 @@ module _ (H : Head → Type 0) where
   joined_fit (t ∷ trees) h =
       fits_append (statements t) (joined (map statements trees)) h.0.all (joined_fit trees h.1)
 
-  pub shaped_node : (h : Head) (parts : Trees) → HasParts h (length parts) → H h →
-      AllShaped H parts → Shaped H (Node h parts)
-  shaped_node h parts has is all =
+  pub shaped_node : (h : Head) (parts : Trees) (place : ℕ) → HasParts h (length parts) → H h →
+      AllShaped H parts → Shaped H (Node h parts place)
+  shaped_node h parts place has is all =
       let sizes : List ℕ = map length (map statements parts) in
       let many : length sizes ≡ length parts =
       length-map (map statements parts) (λ (placed : List Placed). length placed)
       ∙ length-map parts statements in
       record {
-        all = subst (AllByRecursion (PlacedFits H)) (sym (node_placed h parts))
+        all = subst (AllByRecursion (PlacedFits H)) (sym (node_placed h parts place))
             ((subst (HasParts h) (sym many) has, is), joined_fit parts all);
       }
 

@@ -219,15 +219,15 @@ module _ (ends : List ℕ) where
 
   layer_root : (y : CoreTree-F Held) (first : ℕ) → Located ends first (node_of (bare y)) →
       slice_get ends first ≡ Some (first + length (node_of (bare y)))
-  layer_root (CoreTree-F.Node h held) first l =
+  layer_root (CoreTree-F.Node h held place) first l =
       let trees = map (λ (t : Held). t.0) held in
-      node_root ends first (record { head = h; sizes = lengths trees }) trees refl l
+      node_root ends first (record { head = h; sizes = lengths trees; place = place }) trees refl l
 
   layer_nodes : (y : CoreTree-F Held) (first : ℕ) → Located ends first (node_of (bare y)) →
       (i : ℕ) (p : Placed) → slice_get (node_of (bare y)) i ≡ Some p → TilesAt ends (first + i) p
-  layer_nodes (CoreTree-F.Node h held) first l i p e =
+  layer_nodes (CoreTree-F.Node h held place) first l i p e =
       let trees = map (λ (t : Held). t.0) held in
-      node_stands ends first (record { head = h; sizes = lengths trees }) trees refl
+      node_stands ends first (record { head = h; sizes = lengths trees; place = place }) trees refl
       (all_held held) l i p e
 
   at_tree : (y : CoreTree-F Held) (x : CoreTree-F CoreTree) → bare y ≡ x →

@@ -6,5 +6,5 @@ use Rattle.c_core_expressions.proofs.passing.passed.Given as goal
 
 abbrev pub invariant-loop-v : goal.invariant-loop-v
 invariant-loop-v l =
-    l.trees ++ passed (cells_from l.first l.objects) (into_iter_items l.v-iterator)
-    ≡ passed (cells_from l.fn.first l.fn.objects) l.fn.values.items
+    l.trees ++ passed l.origin (cells_from l.first l.objects) (into_iter_items l.v-iterator)
+    ≡ passed l.origin (cells_from l.fn.first l.fn.objects) l.fn.values.items

@@ -6,7 +6,7 @@ use Rattle.c_core_layout.proofs.sizes.+measuring.Goals as goal
 pub behind_node-returns : goal.behind_node-returns
 behind_node-returns t c =
     c.in_ok-whole.ensures
-    ∙ node_measured _ _ _ _ _ c.in_ok-height.ensures c.in_ok-root.ensures
+    ∙ node_measured _ _ _ _ _ c.args._place c.in_ok-height.ensures c.in_ok-root.ensures
 
 pub behind_trees-loop-tree-preserved : goal.behind_trees-loop-tree-preserved
 behind_trees-loop-tree-preserved t c =

@@ -22,7 +22,7 @@ in_order-returns-clause-made t c =
 pub statement-returns-in_ok-trees-in-Some-clause-taken :
     goal.statement-returns-in_ok-trees-in-Some-clause-taken
 statement-returns-in_ok-trees-in-Some-clause-taken t c =
-    (if_else c.args.frames.now c.args.place c.args.s.now _ _ _ _ _ _
+    (if_else c.args.frames.now c.args.place c.args.s.now _ _ _ _ _ _ _
     (so_far c.args.cells.now) _ _ _ _ _ _ c.in-If.is c.in-Some.is c.get.ensures
     c.get-in-Some.ensures c.in_ok-v-in-If.ensures.taken c.in_ok-v-in-If.ensures.made
     c.in_ok-first-in-If.ensures.taken c.in_ok-first-in-If.ensures.made
@@ -32,7 +32,7 @@ pub statement-returns-in_ok-trees-in-Some-clause-made :
     goal.statement-returns-in_ok-trees-in-Some-clause-made
 statement-returns-in_ok-trees-in-Some-clause-made t c =
     c.in_ok-trees-in-Some.ensures
-    ∙ (if_else c.args.frames.now c.args.place c.args.s.now _ _ _ _ _ _
+    ∙ (if_else c.args.frames.now c.args.place c.args.s.now _ _ _ _ _ _ _
     (so_far c.args.cells.now) _ _ _ _ _ _ c.in-If.is c.in-Some.is c.get.ensures
     c.get-in-Some.ensures c.in_ok-v-in-If.ensures.taken c.in_ok-v-in-If.ensures.made
     c.in_ok-first-in-If.ensures.taken c.in_ok-first-in-If.ensures.made

@@ -8,6 +8,7 @@ use Rattle.c_core_trees.proofs.statements.initialized_each.Given as goal
 
 abbrev pub invariant-loop-value : goal.invariant-loop-value
 invariant-loop-value l =
-    in_behind l.before (initialized_each l.frames l.ty l.cell (drop l.value-index l.values))
+    in_behind l.before (initialized_each l.origin l.frames l.ty l.cell
+    (drop l.value-index l.values))
     (so_far l.cells)
-    ≡ in_order (initialized_each l.frames l.ty l.first l.values) (so_far l.fn.cells)
+    ≡ in_order (initialized_each l.origin l.frames l.ty l.first l.values) (so_far l.fn.cells)

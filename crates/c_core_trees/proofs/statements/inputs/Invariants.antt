@@ -5,4 +5,5 @@ use Rattle.c_core_trees.proofs.statements.inputs.Given as goal
 
 abbrev pub invariant-loop-place : goal.invariant-loop-place
 invariant-loop-place l =
-    l.trees ++ inputs (l.first + l.place) (l.count - l.place) ≡ inputs l.first l.count
+    l.trees ++ inputs l.origin (l.first + l.place) (l.count - l.place) ≡ inputs l.origin l.first
+    l.count

@@ -5,4 +5,5 @@ use Rattle.c_core_trees.proofs.statements.zeros.Given as goal
 
 abbrev pub invariant-loop-place : goal.invariant-loop-place
 invariant-loop-place l =
-    l.trees ++ zeros l.ty (l.first + l.place) (l.count - l.place) ≡ zeros l.ty l.first l.count
+    l.trees ++ zeros l.origin l.ty (l.first + l.place) (l.count - l.place) ≡ zeros l.origin l.ty
+    l.first l.count

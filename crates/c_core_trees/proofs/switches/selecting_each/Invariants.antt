@@ -5,4 +5,5 @@ use Rattle.c_core_trees.proofs.switches.selecting_each.Given as goal
 
 abbrev pub invariant-loop-one : goal.invariant-loop-one
 invariant-loop-one l =
-    l.trees ++ map (selecting l.v) (drop l.one-index l.choices) ≡ map (selecting l.v) l.choices
+    l.trees ++ map (selecting l.origin l.v) (drop l.one-index l.choices) ≡ map
+    (selecting l.origin l.v) l.choices

@@ -9,8 +9,8 @@ use Rattle.c_core_values.proofs.operands.hold_all.Given as goal
 abbrev pub invariant-loop-v : goal.invariant-loop-v
 invariant-loop-v l = record {
   left : l.left ≡ full_count (into_iter_items l.v-iterator);
-  taken : (hold_all (into_iter_items l.v-iterator) (so_far l.cells)).taken
-      ≡ (hold_all l.fn.operands.items (so_far l.fn.cells)).taken;
-  made : l.kept.items ++ (hold_all (into_iter_items l.v-iterator) (so_far l.cells)).made
-      ≡ (hold_all l.fn.operands.items (so_far l.fn.cells)).made;
+  taken : (hold_all l.origin (into_iter_items l.v-iterator) (so_far l.cells)).taken
+      ≡ (hold_all l.origin l.fn.operands.items (so_far l.fn.cells)).taken;
+  made : l.kept.items ++ (hold_all l.origin (into_iter_items l.v-iterator) (so_far l.cells)).made
+      ≡ (hold_all l.origin l.fn.operands.items (so_far l.fn.cells)).made;
 }

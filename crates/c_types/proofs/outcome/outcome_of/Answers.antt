@@ -15,8 +15,8 @@ returns-in-None c =
     (unit_too_large c.args.unit.now globals functions c.requires.globals c.requires.functions
     (subst (IsFoundLayout globals functions) c.in-None.is c.in_ok-found.ensures))
 
-pub returns-in_ok-text-in-Some : goal.returns-in_ok-text-in-Some
-returns-in_ok-text-in-Some c =
+pub returns-in_ok-ends-in-Some : goal.returns-in_ok-ends-in-Some
+returns-in_ok-ends-in-Some c =
     let unit = c.args.unit.now in
     let globals = c.args.globals.now in
     let functions = c.args.functions.now in
@@ -25,7 +25,9 @@ returns-in_ok-text-in-Some c =
     let laid_out = subst (IsFoundLayout globals functions) c.in-Some.is c.in_ok-found.ensures in
     let typed : TypedText = record {
       cells = c.in_ok-text-in-Some.text.cells;
+      names = c.in_ok-text-in-Some.text.names;
       trees = c.from_vec.result;
+      ends = c.in_ok-ends-in-Some.ends;
       main = c.args.main;
       text_len = unit.length;
     } in (
@@ -35,7 +37,9 @@ returns-in_ok-text-in-Some c =
       typed_is unit globals functions layout typed c.requires.globals c.requires.functions laid_out
           (c.in_ok-text-in-Some.ensures.cells
           ∙ ap (λ (ns : List ℕ). (text_from ns globals functions).taken.cells) firsts)
+          (c.in_ok-text-in-Some.ensures.names
+          ∙ ap (λ (ns : List ℕ). (text_from ns globals functions).taken.names) firsts)
           (c.from_vec.ensures ∙ c.in_ok-text-in-Some.ensures.trees
           ∙ ap (λ (ns : List ℕ). (text_from ns globals functions).made) firsts)
-          c.requires.main refl,
+          c.in_ok-ends-in-Some.ensures c.requires.main refl,
     )

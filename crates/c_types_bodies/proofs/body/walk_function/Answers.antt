@@ -25,7 +25,7 @@ returns-clause-typed c =
     typed_is _ (outermost c.len-file.result) c.args.walker.now c.walk_parameters.new.walker
     c.in_ok-jumps.jumps c.walk_parameters.new.jumps c.args.specifiers.now
     c.args.parameters.now c.args.items.now c.listed.result.now c.in_ok-parameters.parameters
-    c.in_ok-items.items c.in_ok-parameters.ensures.tied c.listed.ensures
+    c.in_ok-items.items c.args.place c.args.end c.in_ok-parameters.ensures.tied c.listed.ensures
     (begins_is _ (outermost c.len-file.result) c.args.walker.now c.args.specifiers.now
     c.args.items.now c.in_ok-parameters.ensures.tied c.len-file.ensures refl c.requires.fresh
     c.in_ok-result.ensures.kind c.in_ok-labels.ensures) c.in_ok-parameters.ensures.state

@@ -68,9 +68,10 @@ walk_while-returns-clause-typed t c =
     let frame = c.args.frame.now in
     let text = frame.survey.now in
     let old = c.args.walker.now in
-    ap (λ (e : TypedExpression). typed_tree.While e c.in_ok-body.body) c.in_ok-test.ensures.typed
+    ap (λ (e : TypedExpression). typed_tree.While e c.in_ok-body.body c.args.place)
+    c.in_ok-test.ensures.typed
     ∙ ap (λ (s : TypedStatement).
-    typed_tree.While (typed_of text old.names c.args.test.now) s)
+    typed_tree.While (typed_of text old.names c.args.test.now) s c.args.place)
     (c.in_ok-body.ensures.typed
     ∙ ap (λ (around : Around). (grown_of text c.args.body.now).typed (loop around))
     (around_walked text frame.caller (doing (evaluates Valued c.args.test.now))
@@ -101,7 +102,7 @@ pub walk_labeled-returns-clause-typed : goal.walk_labeled-returns-clause-typed
 walk_labeled-returns-clause-typed t c =
     let frame = c.args.frame.now in
     let text = frame.survey.now in
-    labeled_same _ _ c.in_ok-body.body _ refl
+    labeled_same _ _ c.in_ok-body.body _ c.args.label.now.place refl
     (c.in_ok-body.ensures.typed
     ∙ ap (λ (around : Around). (grown_of text c.args.body.now).typed around)
     (around_walked text frame.caller (marking c.args.label.now)
@@ -123,7 +124,7 @@ pub walk_case-returns-clause-typed : goal.walk_case-returns-clause-typed
 walk_case-returns-clause-typed t c =
     let frame = c.args.frame.now in
     let text = frame.survey.now in
-    labeled_same c.in_ok-label.label _ c.in_ok-body.body _ c.in_ok-label.ensures.label
+    labeled_same c.in_ok-label.label _ c.in_ok-body.body _ c.args.place c.in_ok-label.ensures.label
     (c.in_ok-body.ensures.typed
     ∙ ap (λ (around : Around). (grown_of text c.args.body.now).typed around)
     (around_walked text frame.caller (selecting text (Some c.args.value.now) c.args.place)
@@ -145,7 +146,7 @@ pub walk_default-returns-clause-typed : goal.walk_default-returns-clause-typed
 walk_default-returns-clause-typed t c =
     let frame = c.args.frame.now in
     let text = frame.survey.now in
-    labeled_same c.in_ok-label.label _ c.in_ok-body.body _ c.in_ok-label.ensures.label
+    labeled_same c.in_ok-label.label _ c.in_ok-body.body _ c.args.place c.in_ok-label.ensures.label
     (c.in_ok-body.ensures.typed
     ∙ ap (λ (around : Around). (grown_of text c.args.body.now).typed around)
     (around_walked text frame.caller (selecting text None c.args.place)
@@ -328,7 +329,7 @@ walk_switch-returns-clause-typed t c =
     switch_typed text value (grown_of text body) (around_of frame c.args.nest old) around
     c.in_ok-read.read.typed c.in_ok-switched.switched.choices
     c.in_ok-switched.switched.otherwise c.unwrap_or.result c.in_ok-switched.switched.body
-    c.in_ok-end.end
+    c.in_ok-end.end c.args.place
     (around_walked text frame.caller (doing (evaluates Valued value))
     (state_of frame c.args.nest old c.args.jumps.now)
     (state_of frame c.args.nest mid c.args.jumps.now)
@@ -467,7 +468,7 @@ walk_for-returns-clause-typed t c =
     let first = start_walk text c.args.start.now in
     let entered = ap (λ (n : ℕ). record outside { outer = n }) c.len-count.ensures in
     for_same c.in_ok-head.head.start _ c.in_ok-head.head.test _ c.in_ok-head.head.step _
-    c.in_ok-body.body _
+    c.in_ok-body.body _ c.args.place
     (c.in_ok-head.ensures.start
     ∙ ap (λ (around : Around). typed_for_start text c.args.start.now around) entered)
     (c.in_ok-head.ensures.test
@@ -606,7 +607,7 @@ pub walk_statement-returns-in_ok-expression-in-Expression-clause-typed :
     goal.walk_statement-returns-in_ok-expression-in-Expression-clause-typed
 walk_statement-returns-in_ok-expression-in-Expression-clause-typed t c =
     rw (c.in-Expression.is, of_Expression)
-    (ap (λ (e : Option TypedExpression). typed_tree.Expression e)
+    (ap (λ (e : Option TypedExpression). typed_tree.Expression e c.in-Expression.place)
     c.in_ok-expression-in-Expression.ensures.typed)
 
 pub walk_statement-returns-in_ok-expression-in-Expression-clause-state :
@@ -619,7 +620,7 @@ pub walk_statement-returns-in_ok-jump-in-Goto-clause-typed :
     goal.walk_statement-returns-in_ok-jump-in-Goto-clause-typed
 walk_statement-returns-in_ok-jump-in-Goto-clause-typed t c =
     rw (c.in-Goto.is, of_Goto)
-    (ap (λ (n : ℕ). typed_tree.Goto n) c.label_number.ensures)
+    (ap (λ (n : ℕ). typed_tree.Goto n c.in-Goto.place) c.label_number.ensures)
 
 pub walk_statement-returns-in_ok-jump-in-Goto-clause-state :
     goal.walk_statement-returns-in_ok-jump-in-Goto-clause-state
@@ -652,7 +653,8 @@ pub walk_statement-returns-in_ok-value-in-Return-clause-typed :
     goal.walk_statement-returns-in_ok-value-in-Return-clause-typed
 walk_statement-returns-in_ok-value-in-Return-clause-typed t c =
     rw (c.in-Return.is, of_Return c.args.frame.now.survey.now c.in-Return.value c.in-Return.place)
-    (ap (λ (e : Option TypedExpression). typed_tree.Return e) c.in_ok-value-in-Return.ensures.typed)
+    (ap (λ (e : Option TypedExpression). typed_tree.Return e c.in-Return.place)
+    c.in_ok-value-in-Return.ensures.typed)
 
 pub walk_statement-returns-in_ok-value-in-Return-clause-state :
     goal.walk_statement-returns-in_ok-value-in-Return-clause-state
@@ -724,7 +726,7 @@ walk_statement-returns-in_ok-no-in-If-clause-typed t c =
     let behind = around_walked text frame.caller both zero_state one then in
     rw (c.in-If.is, of_If)
     (if_same c.in_ok-tested-in-If.tested.test _ c.in_ok-tested-in-If.tested.yes _
-    c.in_ok-no-in-If.no _ c.in_ok-tested-in-If.ensures.test
+    c.in_ok-no-in-If.no _ c.in-If.place c.in_ok-tested-in-If.ensures.test
     (c.in_ok-tested-in-If.ensures.yes
     ∙ ap (λ (s : Statement). (grown_of text s).typed (around_of frame c.args.nest old))
     c.get.ensures)

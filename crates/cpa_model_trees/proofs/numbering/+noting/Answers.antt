@@ -20,5 +20,5 @@ note_node-returns-clause-labels t c =
     (λ (is : c.note_row.new.labels.items ≡ c.note.new.labels.items
     ++ labels_from c.in_ok-behind.field-0 (row_of c.args.parts.now)).
     node_noted c.args.labels.now.items c.note.new.labels.items c.note_row.new.labels.items
-    c.args.head.now c.args.parts.now c.args.number c.in_ok-behind.field-0 c.in_ok-note.ensures
-    c.in_ok-behind.ensures is) c.note_row.ensures.labels
+    c.args.head.now c.args.parts.now c.args._place c.args.number c.in_ok-behind.field-0
+    c.in_ok-note.ensures c.in_ok-behind.ensures is) c.note_row.ensures.labels

@@ -3,7 +3,7 @@
 use Rattle.std.proofs.Common.{◌≡◌, ◌+◌, ◌*◌, ◌≤◌, ◌++◌, length}
 use Rattle.std.specs.Vec.Iter.{into_iter_items}
 use Rattle.cpa_model_trees.specs.Numbering.{statements, numbers_from, numbered}
-use Rattle.cpa_model_trees.specs.Rows.{row_of, sizes_of}
+use Rattle.cpa_model_trees.specs.Rows.{row_of, sizes_of, places_of}
 use Rattle.cpa_model_trees.proofs.numbering.+placing.Given as goal
 
 abbrev pub decreases-place : goal.decreases-place
@@ -25,4 +25,6 @@ invariant-place_row-loop-tree l = record {
       ++ numbered l.labels (length l.stmts.items) (row_of (into_iter_items l.tree-iterator))
       ≡ l.fn.stmts.items
       ++ numbered l.labels (length l.fn.stmts.items) (row_of l.fn.trees.items);
+  places : l.places.items ++ places_of (into_iter_items l.tree-iterator)
+      ≡ l.fn.places.items ++ places_of l.fn.trees.items;
 }

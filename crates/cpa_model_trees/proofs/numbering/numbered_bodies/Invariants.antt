@@ -2,7 +2,7 @@
 use Rattle.std.proofs.Common.{◌≡◌, ◌++◌, length}
 use Rattle.std.specs.Vec.Iter.{into_iter_items}
 use Rattle.cpa_model_trees.specs.Numbering.{numbers_from, numbered_bodies}
-use Rattle.cpa_model_trees.specs.Rows.{sizes_of}
+use Rattle.cpa_model_trees.specs.Rows.{sizes_of, places_of}
 use Rattle.cpa_model_trees.proofs.numbering.numbered_bodies.Given as goal
 
 abbrev pub invariant-loop-tree : goal.invariant-loop-tree
@@ -13,4 +13,6 @@ invariant-loop-tree l = record {
   stmts : l.stmts.items
       ++ numbered_bodies (length l.stmts.items) (into_iter_items l.tree-iterator)
       ≡ numbered_bodies 0 l.fn.trees.items;
+  places : l.places.items ++ places_of (into_iter_items l.tree-iterator)
+      ≡ places_of l.fn.trees.items;
 }
