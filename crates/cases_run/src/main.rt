@@ -7,6 +7,7 @@ mod row;
 use cpa_callstack::Callstack;
 use cpa_composite::Handed;
 use cpa_iface::{Location, Plain};
+use cpa_interpolant_craig::Craig;
 use cpa_outside::{MemoryInputs, MemorySink};
 use cpa_top::run;
 use cpa_value::Value;
@@ -35,6 +36,9 @@ fn answer<R: Threads + Sync>(
             })?,
             "value" => analyses.push(Handed {
                 analysis: Box::new(alloc, Value::new())?,
+            })?,
+            "craig" => analyses.push(Handed {
+                analysis: Box::new(alloc, Craig::new())?,
             })?,
             _ => {}
         }

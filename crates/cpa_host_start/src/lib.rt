@@ -5,6 +5,7 @@
 use cpa_callstack::Callstack;
 use cpa_composite::Handed;
 use cpa_iface::{Location, Plain};
+use cpa_interpolant_craig::Craig;
 use cpa_interval::Interval;
 use cpa_outside::{FileInputs, Sink, StdoutSink, write_whole};
 use cpa_predicate::Predicate;
@@ -65,6 +66,9 @@ pub fn answer<R: Threads + Sync + Files + AllocGlobal, K: Sink>(
     })?;
     analyses.push(Handed {
         analysis: Box::new(alloc, Predicate::new())?,
+    })?;
+    analyses.push(Handed {
+        analysis: Box::new(alloc, Craig::new())?,
     })?;
     let mut inputs = FileInputs::new(rt);
     Ok(run(rt, alloc, words, analyses, &mut inputs, out))
