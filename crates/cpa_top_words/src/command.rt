@@ -1,7 +1,7 @@
 //! The command that the words are read by, as clap takes it: `cpaverify` of
 //! `specs/Commands.antt`.
-ghost use Rattle.std.specs.Prelude.{◌≡◌, IfOk};
-ghost use Rattle.clap.specs.Words.{app_of};
+ghost use Rattle.std.specs.Prelude.{◌≡◌, IfOk, true};
+ghost use Rattle.clap.specs.Words.{App, app_of, with_subcommand};
 ghost use Rattle.cpa_top_words.specs.Commands.{bench_command, cpaverify, recheck_command};
 ghost use Rattle.cpa_top_words.specs.Commands.{replay_command, verify_command};
 
@@ -12,63 +12,62 @@ use std::alloc::{AllocError, Global};
 fn verify_command<'a>(alloc: Global) -> Result<Command<'a>, AllocError>
     ensures { IfOk result (λ command. app_of command ≡ verify_command) }
 {
-    let program = Arg::new(alloc, "PROGRAM").required(true);
-    let config = Arg::new(alloc, "config").long("config");
-    Command::new(alloc, "verify").arg(program)?.arg(config)
+    Command::new(alloc, "verify")
+        .arg(Arg::new(alloc, "PROGRAM").required(true))?
+        .arg(Arg::new(alloc, "config").long("config"))
 }
 
 /// `replay PROGRAM INPUTS [--steps N]`.
 fn replay_command<'a>(alloc: Global) -> Result<Command<'a>, AllocError>
     ensures { IfOk result (λ command. app_of command ≡ replay_command) }
 {
-    let program = Arg::new(alloc, "PROGRAM").required(true);
-    let inputs = Arg::new(alloc, "INPUTS").required(true);
-    let steps = Arg::new(alloc, "steps")
-        .long("steps")
-        .value_parser(value_parser!(u64));
+    let steps = value_parser!(u64);
     Command::new(alloc, "replay")
-        .arg(program)?
-        .arg(inputs)?
-        .arg(steps)
+        .arg(Arg::new(alloc, "PROGRAM").required(true))?
+        .arg(Arg::new(alloc, "INPUTS").required(true))?
+        .arg(Arg::new(alloc, "steps").long("steps").value_parser(steps))
 }
 
 /// `recheck PROGRAM REPORT [--config FILE]`.
 fn recheck_command<'a>(alloc: Global) -> Result<Command<'a>, AllocError>
     ensures { IfOk result (λ command. app_of command ≡ recheck_command) }
 {
-    let program = Arg::new(alloc, "PROGRAM").required(true);
-    let report = Arg::new(alloc, "REPORT").required(true);
-    let config = Arg::new(alloc, "config").long("config");
     Command::new(alloc, "recheck")
-        .arg(program)?
-        .arg(report)?
-        .arg(config)
+        .arg(Arg::new(alloc, "PROGRAM").required(true))?
+        .arg(Arg::new(alloc, "REPORT").required(true))?
+        .arg(Arg::new(alloc, "config").long("config"))
 }
 
 /// `bench N`.
 fn bench_command<'a>(alloc: Global) -> Result<Command<'a>, AllocError>
     ensures { IfOk result (λ command. app_of command ≡ bench_command) }
 {
-    let count = Arg::new(alloc, "N")
-        .required(true)
-        .value_parser(value_parser!(u64).range(..=100));
-    Command::new(alloc, "bench").arg(count)
+    let count = value_parser!(u64).range(..=100);
+    Command::new(alloc, "bench").arg(Arg::new(alloc, "N").required(true).value_parser(count))
+}
+
+/// The command with one more subcommand, where memory sufficed for that.
+fn with_subcommand<'a>(
+    whole: Command<'a>,
+    part: Result<Command<'a>, AllocError>,
+) -> Result<Command<'a>, AllocError>
+    ensures { IfOk result (λ command. (app : App) → app.top.is_plain ≡ true
+        → IfOk part.entry (λ added. app_of added ≡ app)
+        → app_of command ≡ with_subcommand (app_of whole.entry) app.top) }
+{
+    whole.subcommand(part?)
 }
 
 /// The whole command. The words come without the program's own name.
 pub(crate) fn whole_command<'a>(alloc: Global) -> Result<Command<'a>, AllocError>
     ensures { IfOk result (λ command. app_of command ≡ cpaverify) }
 {
-    let verify = verify_command(alloc)?;
-    let replay = replay_command(alloc)?;
-    let recheck = recheck_command(alloc)?;
-    let bench = bench_command(alloc)?;
-    Command::new(alloc, "cpaverify")
+    let top = Command::new(alloc, "cpaverify")
         .no_binary_name(true)
         .disable_help_subcommand(true)
-        .subcommand_required(true)
-        .subcommand(verify)?
-        .subcommand(replay)?
-        .subcommand(recheck)?
-        .subcommand(bench)
+        .subcommand_required(true);
+    let top = with_subcommand(top, verify_command(alloc))?;
+    let top = with_subcommand(top, replay_command(alloc))?;
+    let top = with_subcommand(top, recheck_command(alloc))?;
+    with_subcommand(top, bench_command(alloc))
 }
