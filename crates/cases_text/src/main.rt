@@ -5,6 +5,7 @@
 mod checks;
 mod commands;
 mod configs;
+mod places;
 mod programs;
 mod reports;
 mod tokens;
@@ -28,6 +29,7 @@ fn answer(alloc: Global, row: &str) -> Result<String, AllocError> {
         ("cells", text) => checks::cells(alloc, text),
         ("core", text) => programs::program(alloc, text, Spelled::Statements),
         ("edges", text) => programs::program(alloc, text, Spelled::Edges),
+        ("places", text) => places::answer(alloc, text),
         ("words", words) => commands::answer(alloc, words),
         ("config", rest) => configs::answer(alloc, rest),
         ("comment", rest) => configs::answer_behind_comment(alloc, rest),
