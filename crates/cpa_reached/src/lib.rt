@@ -8,7 +8,6 @@ mod laws;
 mod levels;
 mod links;
 mod lists;
-mod namers;
 mod opening;
 mod pruning;
 mod reached;

@@ -40,9 +40,6 @@ pub(crate) struct Search {
     pub(crate) quality: Quality,
     /// The place of the next literal to propagate.
     pub(crate) next: usize,
-    /// The place before which no decision was found when it was last looked for. None comes there,
-    /// since literals before the first decision stay.
-    pub(crate) ground: usize,
 }
 
 /// How a turn of the search ends.
@@ -228,9 +225,7 @@ impl Search {
         let _vars = cnf.vars;
         let arena = &mut self.arena;
         let trail = &mut self.trail;
-        let ground = first_decision(trail, self.ground);
-        self.ground = ground;
-        if ground < trail.lits.len() {
+        if first_decision(trail) < trail.lits.len() {
             return Ok(());
         }
         if self.quality.is_due() {
@@ -251,7 +246,7 @@ impl Search {
             return Ok(());
         }
         let trail = &mut self.trail;
-        let ground = first_decision(trail, self.ground);
+        let ground = first_decision(trail);
         release(&mut self.order, trail, ground)?;
         trail.cut(ground);
         self.next = self.next.min(ground);
@@ -426,12 +421,12 @@ impl Search {
     }
 }
 
-/// The place of the first decision from a place on, or the height where there is none.
-fn first_decision(trail: &Trail, from: usize) -> usize
+/// The place of the first decision, or the height where there is none.
+fn first_decision(trail: &Trail) -> usize
     requires { IsTrail trail.now }
     ensures { result ≤ height trail.now }
 {
-    for place in from..trail.lits.len() {
+    for place in 0..trail.lits.len() {
         if trail.reason(place) == NONE {
             return place;
         }

@@ -39,7 +39,12 @@ impl Redundancy {
 
     /// Whether the literal of the place is known to be implied.
     fn is_implied(&self, place: u32) -> bool {
-        self.implied.get(place as usize).copied().unwrap_or(false)
+        self.is_implied_at(place as usize)
+    }
+
+    /// `is_implied` of a place as an index.
+    pub(crate) fn is_implied_at(&self, place: usize) -> bool {
+        self.implied.get(place).copied().unwrap_or(false)
     }
 
     /// Forgets what is known, and counts the levels of the marked literals.
@@ -113,7 +118,7 @@ impl Redundancy {
                 self.look(analysis, arena, trail, place)?;
             }
         }
-        self.known.sort()
+        Ok(())
     }
 
     /// Finds out whether the other marked literals imply the literal of the place.
@@ -196,8 +201,14 @@ impl Redundancy {
         Ok(true)
     }
 
-    /// The places that are known to be implied, from the first to the last.
-    pub(crate) fn places(&self) -> &[u32] {
-        self.known.as_slice()
+    /// The least place that is known to be implied, and the one behind the greatest.
+    pub(crate) fn range(&self) -> (usize, usize) {
+        let mut low = usize::MAX;
+        let mut high = 0;
+        for place in &self.known {
+            low = low.min(*place as usize);
+            high = high.max(*place as usize + 1);
+        }
+        (low, high)
     }
 }
