@@ -10,11 +10,13 @@ use std::alloc::{AllocError, Global};
 pub fn copy_elem(alloc: Global, elem: &Elem) -> Result<Elem, AllocError>
     ensures { IfOk result (λ e. e ≡ elem.now) }
 {
-    let mut facts = Seq::new(alloc);
+    let mut facts = Vec::with_capacity(alloc, elem.facts.len())?;
     for fact in &elem.facts {
         facts.push(copy_fact(alloc, fact)?)?;
     }
-    Ok(Elem { facts })
+    Ok(Elem {
+        facts: Seq::from_vec(facts),
+    })
 }
 
 /// An equal fact. It fails only where memory runs out.
