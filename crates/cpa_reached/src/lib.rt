@@ -8,6 +8,7 @@ mod laws;
 mod levels;
 mod links;
 mod lists;
+mod namers;
 mod opening;
 mod pruning;
 mod reached;

@@ -12,6 +12,7 @@ ghost use Rattle.cpa_reached.specs.Keyed.{keyed};
 ghost use Rattle.cpa_reached.specs.Paths.{IsPathTo};
 ghost use Rattle.cpa_reached_key.specs.Rows.{picked};
 
+use crate::lists::reserve_one;
 use crate::table::{self, Table};
 use crate::{finding, index, pruning, tracing};
 use cpa_iface::{Entry, Order, Precision, Turn};
@@ -141,7 +142,8 @@ impl Reached {
         ensures ok { OnOk result (self.new ≡ closed self.old turn) }
         ensures err { OnErr result (self.new ≡ self.old) }
     {
-        self.journal.push(turn)?;
+        reserve_one(&mut self.journal)?;
+        self.journal.push_reserved(turn);
         Ok(())
     }
 

@@ -20,6 +20,7 @@ use crate::finding::{entry, gain, lose, parent_of, place, put_precisions, rest};
 use crate::index::{enter, index_of, leave};
 use crate::links::{Link, depth_at, name_at};
 use crate::lists::{reserve_one, trimmed};
+use crate::namers::Namers;
 use crate::renaming::{rename_among, renumber, succeed};
 use cpa_iface::{Entry, Order, Precision};
 use cpa_ints::Seq;
@@ -112,7 +113,7 @@ pub(crate) fn begin(
     links.push(Link {
         number: 0,
         depth: 0,
-        namers: Seq::new(alloc),
+        namers: Namers::new(alloc),
     })?;
     let mut waiting = VecDeque::new(alloc);
     waiting.push_back(0)?;
@@ -261,7 +262,7 @@ pub(crate) fn add(
 {
     let number = next_number(table.next)?;
     let key = key_of(table.alloc, table.places.as_slice(), &elems)?;
-    let mut namers = Seq::new(table.alloc);
+    let mut namers = Namers::new(table.alloc);
     namers.push(parent.0)?;
     reserve(table)?;
     list_namer(table, parent.0, number)?;
