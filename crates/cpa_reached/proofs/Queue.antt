@@ -1,20 +1,21 @@
--- Ascending numbers: what is taken at either end of them comes first in that order, and a number is
--- found by halving.
+-- Ascending numbers: what is taken at either end of them comes first in that order, and what is
+-- found by halving is what is to be taken out.
 use Rattle.std.proofs.Common.{◌≡◌, ℕ, zero, suc, ◌<◌, ◌≤◌, true, false, eqb}
 use Rattle.std.proofs.Common.{List, [], ◌∷◌, ◌++◌, length, get_or, Option, Some, None, Result}
-use Rattle.std.proofs.Common.{Ok, Err, refl, sym, ap, subst, inl, inr, ⊎_elim, arith}
+use Rattle.std.proofs.Common.{Ok, Err, refl, sym, ap, subst, inl, inr, arith}
 use Rattle.std.specs.List.{AllByRecursion, remove}
 use Rattle.std.specs.List.Sorted.{IsBinarySearchResult}
 use Rattle.std.specs.Option.{option_to_list, IfSome}
 use Rattle.std.specs.Ordering.{nat_cmp}
-use Rattle.std.specs.Result.{is_ok, MatchResult}
-use Rattle.std.proofs.lemmas.Bool.{eq-eqb, ne_eqb, eqb-true, or_cases, cases_Bool, cases_lt}
+use Rattle.std.specs.Result.{MatchResult}
+use Rattle.std.proofs.lemmas.Bool.{eq-eqb, ne_eqb}
 use Rattle.std.proofs.lemmas.List.Sorted.{searched}
 use Rattle.cpa_model.specs.Ascending.{AreAscending}
 use Rattle.cpa_model.specs.lemmas.Ascending.{ascending_by_place}
+use Rattle.cpa_reached_opening.specs.MemberLaws.{found_exactly}
 use Rattle.cpa_reached.specs.Members.{IsIn, is_in}
 use Rattle.cpa_reached.specs.Tables.{but}
-use Rattle.cpa_reached.specs.MemberLaws.{or_left, or_right, all_weaker}
+use Rattle.cpa_reached.specs.MemberLaws.{all_weaker}
 use Rattle.cpa_reached.specs.SuccessorLaws.{or_false}
 
 but_above : (n : ℕ) (ns : List ℕ) → AllByRecursion (λ m. n < m) ns → but n ns ≡ ns
@@ -79,40 +80,6 @@ back_left None old new is up = tt
 back_left (Some n) old new is up =
     subst (λ ns. new ≡ but n ns) (sym is)
     (sym (but_last new n (subst (λ ns. AreAscending ns) is up)))
-
-in_at : (ns : List ℕ) (i n : ℕ) → i < length ns → get_or ns i 0 ≡ n → is_in n ns ≡ true
-in_at [] i n less is = absurd (omega arith)
-in_at (m ∷ ns) zero n less is = or_left (eqb m n) (is_in n ns) (eq-eqb m n is)
-in_at (m ∷ ns) (suc i) n less is = or_right (eqb m n) (is_in n ns) (in_at ns i n (omega arith) is)
-
-at_in : (ns : List ℕ) (n : ℕ) → is_in n ns ≡ true → (i : ℕ) × (i < length ns) × (get_or ns i 0 ≡ n)
-at_in [] n there = absurd (cc)
-at_in (m ∷ ns) n there = ⊎_elim (λ same. (0, omega arith, eqb-true m n same))
-    (λ later. let r = at_in ns n later in
-    (suc r.0, let less : r.0 < length ns = r.1 in omega arith, r.2))
-    (or_cases (eqb m n) (is_in n ns) there)
-
--- A search by halving finds exactly the numbers that are there.
-pub found_exactly : (ns : List ℕ) (n : ℕ) (r : Result ℕ ℕ) → AreAscending ns
-    → IsBinarySearchResult (λ m. nat_cmp m n) ns r → is_ok r ≡ is_in n ns
-found_exactly ns n (Ok i) up h =
-    let at : (i < length ns) × (get_or ns i 0 ≡ n) =
-    searched ns n (Ok i) h (ascending_by_place ns up) in
-    sym (in_at ns i n at.0 at.1)
-found_exactly ns n (Err i) up h =
-    let gap : (i ≤ length ns) × ((k : ℕ) → k < i → get_or ns k 0 < n)
-    × ((k : ℕ) → i ≤ k → k < length ns → n < get_or ns k 0) =
-    searched ns n (Err i) h (ascending_by_place ns up) in
-    ⊎_elim
-    (λ yes.
-    let r = at_in ns n yes in
-    let at : get_or ns r.0 0 ≡ n = r.2 in
-    absurd (⊎_elim
-    (λ less. let low : get_or ns r.0 0 < n = gap.1 r.0 less in omega arith)
-    (λ more. let high : n < get_or ns r.0 0 = gap.2 r.0 more r.1 in omega arith)
-    (cases_lt r.0 i)))
-    (λ no. sym no)
-    (cases_Bool (is_in n ns))
 
 -- all but the number at a place, and all but one that is not there
 but_is_remove : (ns : List ℕ) (i n : ℕ) → AreAscending ns → i < length ns → get_or ns i 0 ≡ n

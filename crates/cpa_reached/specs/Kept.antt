@@ -9,7 +9,8 @@ use Rattle.cpa_model.specs.Ascending.{AreAscending}
 use Rattle.cpa_reached.specs.Members.{IsIn, is_in}
 use Rattle.cpa_reached.specs.Entries.{numbers, waiting_numbers}
 use Rattle.cpa_reached.specs.Calls.{renamed}
-use Rattle.cpa_reached.specs.Removal.{is_opened, left, opened}
+use Rattle.cpa_reached.specs.Removal.{left, opened}
+pub use Rattle.cpa_reached_opening.specs.Opening.{waits_again}
 
 -- the item of this key becomes what f makes of it
 abbrev pub at_key : {X : Type 0} → (X → ℕ) → ℕ → (X → X) → List X → List X
@@ -89,10 +90,6 @@ parent_in ns (Some p) = is_in p.0 ns
 
 abbrev pub has_parent_in : List ℕ → Entry → Bool
 has_parent_in ns e = parent_in ns e.parent
-
--- it is kept, and waits again
-abbrev pub waits_again : List ℕ → ℕ → Entry → Bool
-waits_again gone pivot e = not (is_in e.number gone) && is_opened gone pivot e
 
 -- the entries of these numbers wait, and use nothing
 abbrev pub opened_among : List ℕ → Entry → Entry

@@ -1,22 +1,15 @@
 -- Members of lists and entries by their numbers: that a number has one entry (`one_entry`), and
 -- what a change of each entry, a filter and a push leave. Lemmas for the crates above.
-use Rattle.std.specs.Prelude.{◌≡◌, ℕ, ◌<◌, Bool, true, false, ◌||◌}
+use Rattle.std.specs.Prelude.{◌≡◌, ℕ, ◌<◌, Bool, true, false}
 use Rattle.std.specs.Prelude.{List, [], ◌∷◌, ◌++◌, map, refl, ◌⊎◌}
 use Rattle.std.proofs.Common.{eqb, sym, ap, ◌∙◌, subst, inl, inr, ⊎_elim, arith}
 use Rattle.std.specs.List.{AllByRecursion, filter}
 use Rattle.std.proofs.lemmas.Bool.{cases_Bool, eq-eqb, ne_eqb, eqb-true, or_cases, cond_both}
 use Rattle.cpa_iface.specs.declared.entries.Entry.{Entry}
 use Rattle.cpa_model.specs.Ascending.{AreAscending}
+pub use Rattle.cpa_reached_opening.specs.MemberLaws.{or_left, or_right, member_in, in_member}
 use Rattle.cpa_reached.specs.Members.{IsIn, is_in}
 use Rattle.cpa_reached.specs.Entries.{numbers, IsLive}
-
-pub or_right : (x y : Bool) → y ≡ true → (x || y) ≡ true
-or_right true y h = refl
-or_right false y h = h
-
-pub or_left : (x y : Bool) → x ≡ true → (x || y) ≡ true
-or_left true y h = refl
-or_left false y h = absurd (cc)
 
 -- what holds of all numbers of a list holds of one of them
 pub in_all : (P : ℕ → Type 0) (ns : List ℕ) (n : ℕ) → AllByRecursion P ns → is_in n ns ≡ true → P n
@@ -73,17 +66,6 @@ in_push n (k ∷ ns) m there =
 pub in_last : (ns : List ℕ) (m : ℕ) → is_in m (ns ++ m ∷ []) ≡ true
 in_last [] m = or_left (eqb m m) false (eq-eqb m m refl)
 in_last (k ∷ ns) m = or_right (eqb k m) (is_in m (ns ++ m ∷ [])) (in_last ns m)
-
-pub member_in : (n : ℕ) (ns : List ℕ) → IsIn n ns → is_in n ns ≡ true
-member_in n [] there = absurd there
-member_in n (m ∷ ns) (inl same) = or_left (eqb m n) (is_in n ns) (eq-eqb m n same)
-member_in n (m ∷ ns) (inr later) = or_right (eqb m n) (is_in n ns) (member_in n ns later)
-
-pub in_member : (n : ℕ) (ns : List ℕ) → is_in n ns ≡ true → IsIn n ns
-in_member n [] there = absurd (cc)
-in_member n (m ∷ ns) there =
-    ⊎_elim (λ same. inl (eqb-true m n same)) (λ later. inr (in_member n ns later))
-    (or_cases (eqb m n) (is_in n ns) there)
 
 -- a number that is above all is none of them
 pub above_absent : (n : ℕ) (ns : List ℕ) → AllByRecursion (λ m. m < n) ns → is_in n ns ≡ false

@@ -1,9 +1,9 @@
 -- What `remove_below` leaves (this project's own): descendants by parents, and the entries that
 -- wait again.
-use Rattle.std.specs.Prelude.{◌≡◌, ℕ, ◌==◌, Bool, true, not, ◌||◌, List, [], map, Some}
-use Rattle.std.specs.Prelude.{if◌then◌else◌}
-use Rattle.std.specs.List.{filter, list_any}
+use Rattle.std.specs.Prelude.{◌≡◌, ℕ, true, not, List, map, Some, if◌then◌else◌}
+use Rattle.std.specs.List.{filter}
 use Rattle.cpa_iface.specs.declared.entries.Entry.{Entry}
+pub use Rattle.cpa_reached_opening.specs.Opening.{is_opened, opened}
 use Rattle.cpa_reached.specs.Members.{IsIn, is_in}
 
 -- The number is that of a strict descendant of the pivot, by parents.
@@ -12,14 +12,6 @@ pub data IsBelow (xs : List Entry) (pivot : ℕ) : ℕ → Type 0 where
       → IsBelow xs pivot n
   further : (n p edge : ℕ) (e : Entry) → IsIn e xs → e.number ≡ n → e.parent ≡ Some (p, edge)
       → IsBelow xs pivot p → IsBelow xs pivot n
-
--- it is the pivot, or an entry that covered a successor of its own is gone
-abbrev pub is_opened : List ℕ → ℕ → Entry → Bool
-is_opened gone pivot e = (e.number == pivot) || list_any (λ n. is_in n gone) e.uses
-
--- it uses nothing, and waits
-abbrev pub opened : Entry → Entry
-opened e = record e { uses = []; waiting = true }
 
 -- what is left of a kept entry
 abbrev pub left : List ℕ → ℕ → Entry → Entry

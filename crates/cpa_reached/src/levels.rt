@@ -12,8 +12,8 @@ ghost use Rattle.cpa_reached.specs.Kept.{IsTree, has_parent_in, is_named_by};
 
 use crate::finding::{place, place_of};
 use crate::links::{Link, namers_at};
-use crate::pruning::is_gone;
 use cpa_iface::Entry;
+use cpa_reached_opening::is_gone;
 use std::alloc::{AllocError, Global};
 
 /// The numbers in order, each once.

@@ -2,46 +2,21 @@
 //! are found among the namers of what goes.
 
 ghost use Rattle.std.specs.Prelude.{◌≡◌, ◌++◌, ℕ, map, not, true, IfOk};
-ghost use Rattle.std.specs.List.{AllByRecursion, filter, list_any};
+ghost use Rattle.std.specs.List.{AllByRecursion, filter};
 ghost use Rattle.cpa_model.specs.Ascending.{AreAscending};
 ghost use Rattle.cpa_reached.specs.Members.{is_in};
 ghost use Rattle.cpa_reached.specs.Calls.{at_number};
 ghost use Rattle.cpa_reached.specs.Entries.{IsLive, numbers};
-ghost use Rattle.cpa_reached.specs.Removal.{is_opened, opened};
+ghost use Rattle.cpa_reached.specs.Removal.{opened};
 ghost use Rattle.cpa_reached.specs.Kept.{IsTree, is_named_by, opened_among, waits_again};
 
 use crate::finding::{place, place_of};
 use crate::levels::{namers_of, put_in_order};
 use crate::links::Link;
-use crate::pruning::is_gone;
 use cpa_iface::Entry;
-use cpa_ints::Seq;
+use cpa_reached_opening::{is_gone, open_entry, waits_again};
 use std::alloc::{AllocError, Global};
 use std::collections::VecDeque;
-
-/// Whether one of the uses is among those that go.
-fn uses_gone(uses: &[u32], gone: &[u32]) -> bool
-    requires { AreAscending gone.now }
-    ensures { result ≡ list_any (λ n. is_in n gone.now) uses.now }
-{
-    uses.iter().any(|used| is_gone(gone, *used))
-}
-
-/// Whether a kept entry waits again: it is the pivot, or it used an entry that goes.
-fn is_opened(entry: &Entry, gone: &[u32], pivot: u32) -> bool
-    requires { AreAscending gone.now }
-    ensures { result ≡ is_opened gone.now pivot entry.now }
-{
-    entry.number == pivot || uses_gone(entry.uses.as_slice(), gone)
-}
-
-/// Whether the entry stays and waits again.
-fn waits_again(entry: &Entry, gone: &[u32], pivot: u32) -> bool
-    requires { AreAscending gone.now }
-    ensures { result ≡ waits_again gone.now pivot entry.now }
-{
-    !is_gone(gone, entry.number) && is_opened(entry, gone, pivot)
-}
 
 /// Whether the entry of this number is there, stays and waits again.
 fn is_reopened(entries: &[Entry], gone: &[u32], pivot: u32, number: u32) -> bool
@@ -133,14 +108,6 @@ pub(crate) fn waiting_after(
     after.extend_from_slice(opened)?;
     put_in_order(&mut after)?;
     Ok(VecDeque::from_vec(after))
-}
-
-/// The entry waits and uses nothing. It takes no memory.
-fn open_entry(entry: &mut Entry, alloc: Global)
-    ensures { entry.new ≡ opened entry.old }
-{
-    entry.uses = Seq::new(alloc);
-    entry.waiting = true;
 }
 
 /// The entry of this number waits and uses nothing. It takes no memory.

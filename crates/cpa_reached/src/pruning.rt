@@ -5,7 +5,6 @@ ghost use Rattle.std.specs.Prelude.{◌≡◌, ℕ, List, length, IfOk, OnErr, O
 ghost use Rattle.std.specs.List.{AllByRecursion, filter};
 ghost use Rattle.cpa_iface.specs.declared.entries.Entry.{Entry as AnEntry};
 ghost use Rattle.cpa_model.specs.Ascending.{AreAscending};
-ghost use Rattle.cpa_reached.specs.Members.{is_in};
 ghost use Rattle.cpa_reached.specs.Entries.{IsLive, numbers};
 ghost use Rattle.cpa_reached.specs.Indexes.{AreKeysOf, IsIndex};
 ghost use Rattle.cpa_reached.specs.Removal.{AreBelow, RemovesBelow, is_opened, without};
@@ -20,16 +19,9 @@ use crate::opening::{open_all, reopened, waiting_after};
 use crate::table::Table;
 use cpa_iface::Entry;
 use cpa_reached_key::{Key, key_of};
+use cpa_reached_opening::is_gone;
 use indexmap::IndexMap;
 use std::alloc::{AllocError, Global};
-
-/// Whether the number is one of these, by halving.
-pub(crate) fn is_gone(gone: &[u32], number: u32) -> bool
-    requires { AreAscending gone.now }
-    ensures { result ≡ is_in number gone.now }
-{
-    gone.binary_search(&number).is_ok()
-}
 
 /// The entries that go are taken out, and the others keep their order.
 fn drop_entries(entries: &mut Vec<Entry>, gone: &[u32])

@@ -1,5 +1,5 @@
-use Rattle.cpa_reached.proofs.Queue.{found_exactly}
-use Rattle.cpa_reached.proofs.pruning.is_gone.Goals as goal
+use Rattle.cpa_reached_opening.specs.MemberLaws.{found_exactly}
+use Rattle.cpa_reached_opening.proofs.opening.is_gone.Goals as goal
 
 pub returns : goal.returns
 returns c =
