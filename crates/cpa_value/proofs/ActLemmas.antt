@@ -24,9 +24,10 @@ use Rattle.cpa_model.specs.Expressions.{types_of}
 use Rattle.cpa_model.specs.Standing.{same_bool}
 use Rattle.cpa_model.specs.Steps.{StepsStore}
 use Rattle.cpa_model.specs.Acts.{IsActOf}
-use Rattle.cpa_value.specs.declared.known.Gap.TheVariants.{Unknown, Trap}
-use Rattle.cpa_value.specs.KnownValues.{Known, known_value}
-use Rattle.cpa_value.specs.Acts.{ok_of, is_trap, written, placed, assigned, assumed, after_act}
+use Rattle.cpa_value_changes.specs.declared.known.Gap.TheVariants.{Unknown, Trap}
+use Rattle.cpa_value_changes.specs.KnownValues.{Known, known_value}
+use Rattle.cpa_value_changes.specs.Acts.{ok_of, is_trap, written, placed, assigned, assumed}
+use Rattle.cpa_value_changes.specs.Acts.{after_act}
 use Rattle.cpa_value.proofs.KnownLemmas.{AgreeCells, known_agrees}
 use Rattle.cpa_value.proofs.RangeLemmas.{AreKnown, AreKnown-set, AreKnown-forgotten, typed_cell}
 use Rattle.cpa_value.proofs.RangeLemmas.{known_in_range}

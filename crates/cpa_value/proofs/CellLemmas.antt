@@ -10,7 +10,8 @@ use Rattle.cpa_model.specs.declared.facts.Fact.{Fact}
 use Rattle.cpa_model.specs.declared.facts.Fact.TheVariants.{At, Stack, Equals, Within, Truth}
 use Rattle.cpa_model.specs.declared.program.Cell.{Cell}
 use Rattle.cpa_iface.specs.Pins.{equals_from}
-use Rattle.cpa_value.specs.Cells.{first_value, first_known, known_cells, facts_from}
+use Rattle.cpa_value_changes.specs.Cells.{first_value, known_cells}
+use Rattle.cpa_value.specs.Cells.{first_known, facts_from}
 
 -- the first value of facts with one behind them
 first_value-push : (fs : List Fact) (f : Fact) (cell : ℕ)

@@ -18,28 +18,17 @@ use Rattle.cpa_model.specs.declared.automaton.Cfa.{Cfa}
 use Rattle.cpa_model.specs.Automata.{IsAutomaton}
 use Rattle.cpa_iface.specs.declared.precisions.Precision.{Precision}
 use Rattle.cpa_path_folds.specs.Tracking.{is_tracked}
-use Rattle.cpa_value.specs.Acts.{forgotten, after_act}
-use Rattle.cpa_value.specs.Cells.{first_value, known_cells, facts_from, elem_of}
+use Rattle.cpa_value_changes.specs.Acts.{after_act}
+use Rattle.cpa_value_changes.specs.Cells.{first_value, known_cells}
+use Rattle.cpa_value_changes.specs.lemmas.Ordered.{begins, ordered_on, none_below}
+use Rattle.cpa_value.specs.Cells.{facts_from, elem_of}
 use Rattle.cpa_value.specs.declared.strengthening.Agreement.{Agreement}
 use Rattle.cpa_value.specs.declared.strengthening.Agreement.TheVariants as agreement
 use Rattle.cpa_value.specs.Strengthening.{is_point, has_point, agreed, met, met_elems, strengthened}
 use Rattle.cpa_value.specs.Strengthening.{Agrees}
-use Rattle.cpa_value.specs.Tables.{are_ordered, filled, is_within, facts_within, facts_along}
+use Rattle.cpa_value_changes.specs.Tables.{are_ordered, filled}
+use Rattle.cpa_value.specs.Tables.{is_within, facts_within, facts_along}
 use Rattle.cpa_value.specs.Transfer.{elems_of, next_values}
-use Rattle.cpa_value.proofs.TableLemmas.{begins, ordered_on, none_below}
-
--- ---- what a change is
-
-pub one_filled : (cell : ℕ) (value : Option ℤ) (cells : List (Option ℤ))
-    → filled cell 1 value cells ≡ slice_set cells cell value
-one_filled cell value cells =
-    let here : cell + 0 ≡ cell = omega arith in ap (λ c. slice_set cells c value) here
-
-pub all_forgotten : (base len : ℕ) (cells : List (Option ℤ))
-    → filled base len None cells ≡ forgotten base len cells
-all_forgotten base zero cells = refl
-all_forgotten base (suc len) cells =
-    ap (λ l. slice_set l (base + len) None) (all_forgotten base len cells)
 
 -- ---- the values of cells as a function of the cell
 

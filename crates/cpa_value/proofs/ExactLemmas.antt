@@ -22,10 +22,11 @@ use Rattle.cpa_model.specs.Steps.{StepsStore}
 use Rattle.cpa_iface.specs.declared.analysis.Part.TheVariants.{Store}
 use Rattle.cpa_model.specs.Acts.{IsActOf}
 use Rattle.cpa_iface.specs.Pins.{equals_from, IsSettledBy}
-use Rattle.cpa_value.specs.declared.known.Gap.TheVariants.{Unknown, Trap}
-use Rattle.cpa_value.specs.KnownValues.{Known, known_value}
-use Rattle.cpa_value.specs.Acts.{assigned, assumed, after_act}
-use Rattle.cpa_value.specs.Cells.{first_value, known_cells, facts_from}
+use Rattle.cpa_value_changes.specs.declared.known.Gap.TheVariants.{Unknown, Trap}
+use Rattle.cpa_value_changes.specs.KnownValues.{Known, known_value}
+use Rattle.cpa_value_changes.specs.Acts.{assigned, assumed, after_act}
+use Rattle.cpa_value_changes.specs.Cells.{first_value, known_cells}
+use Rattle.cpa_value.specs.Cells.{facts_from}
 use Rattle.cpa_value.proofs.KnownLemmas.{Agrees, known_agrees, IsSettled, known_settles}
 use Rattle.cpa_value.proofs.StoreLemmas.{some_and, same_bool-means, same_bool-from, zip_length}
 use Rattle.cpa_value.proofs.StoreLemmas.{all_known}

@@ -18,9 +18,9 @@ use Rattle.cpa_expr.specs.Values.{value_of, value_step, cell_at, un_value, bin_v
 use Rattle.cpa_expr.specs.Values.{truth, is_nonzero, truth_of}
 use Rattle.cpa_expr.specs.lemmas.Layers.{value_rolled, values_in}
 use Rattle.cpa_expr.specs.lemmas.Parts.{by_parts, every_rolled}
-use Rattle.cpa_value.specs.declared.known.Gap.TheVariants.{Unknown, Trap}
-use Rattle.cpa_value.specs.KnownValues.{Known, known_then, known_truth, known_at, or_trap}
-use Rattle.cpa_value.specs.KnownValues.{or_unknown, known_step, known_value}
+use Rattle.cpa_value_changes.specs.declared.known.Gap.TheVariants.{Unknown, Trap}
+use Rattle.cpa_value_changes.specs.KnownValues.{Known, known_then, known_truth, known_at, or_trap}
+use Rattle.cpa_value_changes.specs.KnownValues.{or_unknown, known_step, known_value}
 
 -- what is known is true of the value
 abbrev pub Agrees : Known → Option ℤ → Type 0

@@ -1,5 +1,4 @@
 pub mod CellLemmas
-pub mod TableLemmas
 pub mod ChangeLemmas
 pub mod KnownLemmas
 pub mod RangeLemmas

@@ -19,9 +19,10 @@ use Rattle.cpa_model.specs.declared.facts.Fact.{Fact}
 use Rattle.cpa_model.specs.declared.facts.Fact.TheVariants.{At, Stack, Equals, Within, Truth}
 use Rattle.cpa_model.specs.Expressions.{types_of}
 use Rattle.cpa_model.specs.Facts.{IsFact, IsValueOf}
-use Rattle.cpa_value.specs.KnownValues.{known_value}
-use Rattle.cpa_value.specs.Acts.{forgotten}
-use Rattle.cpa_value.specs.Cells.{first_value, known_cells, facts_from}
+use Rattle.cpa_value_changes.specs.KnownValues.{known_value}
+use Rattle.cpa_value_changes.specs.Acts.{forgotten}
+use Rattle.cpa_value_changes.specs.Cells.{first_value, known_cells}
+use Rattle.cpa_value.specs.Cells.{facts_from}
 use Rattle.cpa_value.proofs.KnownLemmas.{Agrees, AgreeCells, known_agrees}
 
 -- each known value lies in the range of its cell, and there is a place for each cell

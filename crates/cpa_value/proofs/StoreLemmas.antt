@@ -8,9 +8,9 @@ use Rattle.std.proofs.lemmas.Bool.Decides.{Decides-eqb}
 use Rattle.cpa_ints.specs.declared.integers.IntType.{IntType}
 use Rattle.cpa_expr.specs.Cells.{AreValues}
 use Rattle.cpa_model.specs.Standing.{same_bool}
-use Rattle.cpa_value.specs.declared.known.Gap.TheVariants.{Unknown, Trap}
-use Rattle.cpa_value.specs.KnownValues.{Known}
-use Rattle.cpa_value.specs.Acts.{forgotten}
+use Rattle.cpa_value_changes.specs.declared.known.Gap.TheVariants.{Unknown, Trap}
+use Rattle.cpa_value_changes.specs.KnownValues.{Known}
+use Rattle.cpa_value_changes.specs.Acts.{forgotten}
 use Rattle.cpa_value.proofs.KnownLemmas.{Agrees, AgreeCells}
 
 -- what is known of a cell after one is set

@@ -24,10 +24,11 @@ use Rattle.cpa_model.specs.Acts.{IsEdgeOf}
 use Rattle.cpa_iface.specs.Meanings.{IsShaped}
 use Rattle.cpa_iface.specs.Pins.{pin_of, equals_from, PinsStep, IsSettledBy, TracksAll}
 use Rattle.cpa_iface.specs.Laws.{TransferLaws, SomeHolds, CoversEdge, PinsEdge, IsBounded}
-use Rattle.cpa_value.specs.Acts.{after_act}
+use Rattle.cpa_value_changes.specs.Acts.{after_act}
 use Rattle.cpa_path_folds.specs.Tracking.{is_tracked}
 use Rattle.cpa_path_folds.specs.lemmas.Appending.{tracks}
-use Rattle.cpa_value.specs.Cells.{first_value, known_cells, facts_from, elem_of}
+use Rattle.cpa_value_changes.specs.Cells.{first_value, known_cells}
+use Rattle.cpa_value.specs.Cells.{facts_from, elem_of}
 use Rattle.cpa_value.specs.Transfer.{elems_of, next_values}
 use Rattle.cpa_value.specs.Values.{values}
 use Rattle.cpa_value.proofs.KnownLemmas.{AgreeCells}

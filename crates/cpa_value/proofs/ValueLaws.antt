@@ -26,7 +26,8 @@ use Rattle.cpa_iface.specs.Pins.{equals_from, IsControlPin}
 use Rattle.cpa_iface.specs.Laws.{InitialLaws, StrengthenLaws, AdjustLaws}
 use Rattle.cpa_iface.specs.Laws.{IsOwnOrNone, IsBounded}
 use Rattle.cpa_path_folds.specs.Tracking.{is_tracked}
-use Rattle.cpa_value.specs.Cells.{known_cells, facts_from, elem_of}
+use Rattle.cpa_value_changes.specs.Cells.{known_cells}
+use Rattle.cpa_value.specs.Cells.{facts_from, elem_of}
 use Rattle.cpa_value.specs.Limits.{is_kept, seen, limited}
 use Rattle.cpa_value.specs.Strengthening.{has_point, agreed, met, met_facts, met_elems}
 use Rattle.cpa_value.specs.Strengthening.{strengthened}

@@ -12,7 +12,8 @@ use Rattle.cpa_iface.specs.declared.precisions.Precision.{Precision}
 use Rattle.cpa_path_folds.specs.Tracking.{is_tracked}
 use Rattle.cpa_value.specs.declared.strengthening.Agreement.{Agreement}
 use Rattle.cpa_value.specs.declared.strengthening.Agreement.TheVariants as agreement
-use Rattle.cpa_value.specs.Cells.{known_cells, elem_of}
+use Rattle.cpa_value_changes.specs.Cells.{known_cells}
+use Rattle.cpa_value.specs.Cells.{elem_of}
 
 -- the fact leaves a tracked cell one value
 abbrev pub is_point : (ℕ → Bool) → Fact → Bool

@@ -5,8 +5,9 @@ use Rattle.cpa_model.specs.declared.automaton.Edge.{Edge}
 use Rattle.cpa_model.specs.declared.automaton.Cfa.{Cfa}
 use Rattle.cpa_iface.specs.declared.precisions.Precision.{Precision}
 use Rattle.cpa_path_folds.specs.Tracking.{is_tracked}
-use Rattle.cpa_value.specs.Cells.{known_cells, elem_of}
-use Rattle.cpa_value.specs.Acts.{after_act}
+use Rattle.cpa_value_changes.specs.Cells.{known_cells}
+use Rattle.cpa_value.specs.Cells.{elem_of}
+use Rattle.cpa_value_changes.specs.Acts.{after_act}
 
 -- the element of the tracked cells, or none
 abbrev pub elems_of : (ℕ → Bool) → Option (List (Option ℤ)) → List Elem

@@ -4,7 +4,8 @@
 ghost use Rattle.std.specs.Prelude.{◌≡◌, ◌<◌, ◌^◌, ℕ, ◌++◌, ◌∷◌, [], None, is_none, true};
 ghost use Rattle.std.specs.Prelude.{length, slice_set, IfOk, OnOk};
 ghost use Rattle.std.specs.List.{slice_index_or};
-ghost use Rattle.cpa_value.specs.Cells.{first_value, first_known, known_cells};
+ghost use Rattle.cpa_value_changes.specs.Cells.{first_value, known_cells};
+ghost use Rattle.cpa_value.specs.Cells.{first_known};
 ghost use Rattle.cpa_value.specs.Cells.{facts_from, elem_of};
 
 use cpa_model::{Elem, Fact, Seq};

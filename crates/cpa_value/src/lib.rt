@@ -2,17 +2,11 @@
 //! stands in `specs/`; that it keeps the laws is proved over these definitions.
 #![tactic(auto)]
 
-mod acts;
 mod cells;
-mod changes;
-mod known;
 mod limits;
 mod strengthening;
-mod table;
 mod transfer;
 mod value;
 
-pub use acts::ScalarValue;
-pub use known::{Gap, known_value};
-pub use table::KnownCells;
+pub use cpa_value_changes::{Gap, KnownCells, ScalarValue, known_value};
 pub use value::Value;

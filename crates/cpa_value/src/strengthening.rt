@@ -8,16 +8,17 @@ ghost use Rattle.std.specs.List.{list_any, slice_index_or};
 ghost use Rattle.cpa_model.specs.Automata.{IsAutomaton};
 ghost use Rattle.cpa_iface.specs.Meanings.{IsPrecision};
 ghost use Rattle.cpa_path_folds.specs.Tracking.{is_tracked};
-ghost use Rattle.cpa_value.specs.Cells.{elem_of, known_cells};
+ghost use Rattle.cpa_value_changes.specs.Cells.{known_cells};
+ghost use Rattle.cpa_value.specs.Cells.{elem_of};
 ghost use Rattle.cpa_value.specs.Strengthening.{is_point, has_point, agreed, met, met_facts};
 ghost use Rattle.cpa_value.specs.Strengthening.{met_elems, strengthened, Agrees};
-ghost use Rattle.cpa_value.specs.Tables.{are_ordered};
+ghost use Rattle.cpa_value_changes.specs.Tables.{are_ordered};
 ghost use Rattle.cpa_value.specs.declared.strengthening.Agreement.TheVariants.{Same};
 
 use crate::cells::{elem_of_known, known_cells, put, value_at};
-use crate::table::{KnownCells, are_ordered};
 use cpa_iface::Precision;
 use cpa_model::{Cfa, Elem, Fact, copy_elem};
+use cpa_value_changes::{KnownCells, are_ordered};
 use cpa_value_tracked::Tracked;
 use std::alloc::{AllocError, Global};
 

@@ -6,18 +6,18 @@ ghost use Rattle.std.specs.Prelude.{IfOk, OnOk};
 ghost use Rattle.cpa_model.specs.Automata.{IsAutomaton};
 ghost use Rattle.cpa_iface.specs.Meanings.{IsPrecision};
 ghost use Rattle.cpa_path_folds.specs.Tracking.{is_tracked};
-ghost use Rattle.cpa_value.specs.Acts.{after_act};
-ghost use Rattle.cpa_value.specs.Cells.{known_cells, elem_of};
-ghost use Rattle.cpa_value.specs.Tables.{are_ordered, changed, is_within, facts_within};
+ghost use Rattle.cpa_value_changes.specs.Acts.{after_act};
+ghost use Rattle.cpa_value_changes.specs.Cells.{known_cells};
+ghost use Rattle.cpa_value.specs.Cells.{elem_of};
+ghost use Rattle.cpa_value_changes.specs.Tables.{are_ordered, changed};
+ghost use Rattle.cpa_value.specs.Tables.{is_within, facts_within};
 ghost use Rattle.cpa_value.specs.Tables.{facts_along};
 ghost use Rattle.cpa_value.specs.Transfer.{elems_of, next_values};
 
-use crate::acts::change_by;
 use crate::cells::{elem_of_known, known_cells, push_fact};
-use crate::changes::Change;
-use crate::table::{KnownCells, are_ordered};
 use cpa_iface::Precision;
 use cpa_model::{Act, Cfa, Edge, Elem, Fact, Seq, copy_fact};
+use cpa_value_changes::{Change, KnownCells, are_ordered, change_by};
 use cpa_value_tracked::Tracked;
 use std::alloc::{AllocError, Global};
 

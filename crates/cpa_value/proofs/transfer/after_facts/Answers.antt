@@ -1,8 +1,8 @@
 -- Facts in order say what the others do.
 use Rattle.std.proofs.Common.{◌∙◌, ap}
 use Rattle.cpa_path_folds.specs.Tracking.{is_tracked}
-use Rattle.cpa_value.specs.Acts.{after_act}
-use Rattle.cpa_value.specs.Cells.{known_cells}
+use Rattle.cpa_value_changes.specs.Acts.{after_act}
+use Rattle.cpa_value_changes.specs.Cells.{known_cells}
 use Rattle.cpa_value.specs.Transfer.{elems_of}
 use Rattle.cpa_value.proofs.transfer.after_facts.Goals as goal
 

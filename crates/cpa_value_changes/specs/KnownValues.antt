@@ -9,8 +9,8 @@ use Rattle.cpa_expr.specs.declared.tree.Expr.{Expr}
 use Rattle.cpa_expr.specs.declared.tree.Expr.TheOpen.{Expr-F}
 use Rattle.cpa_expr.specs.declared.tree.Expr.TheFolds.{fold-Expr}
 use Rattle.cpa_expr.specs.Values.{un_value, bin_value, compares, truth, is_nonzero}
-use Rattle.cpa_value.specs.declared.known.Gap.{Gap}
-use Rattle.cpa_value.specs.declared.known.Gap.TheVariants.{Unknown, Trap}
+use Rattle.cpa_value_changes.specs.declared.known.Gap.{Gap}
+use Rattle.cpa_value_changes.specs.declared.known.Gap.TheVariants.{Unknown, Trap}
 
 -- a value, or why none is known
 abbrev pub Known : Type 0

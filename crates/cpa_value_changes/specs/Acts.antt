@@ -13,9 +13,9 @@ use Rattle.cpa_model.specs.declared.automaton.Act.TheVariants as act
 use Rattle.cpa_model.specs.Standing.{same_bool}
 use Rattle.cpa_path_folds.specs.declared.scalars.Scalar.{Scalar}
 use Rattle.cpa_path_folds.specs.Scalars.{scalar_of, read_of}
-use Rattle.cpa_value.specs.declared.acts.ScalarValue.{ScalarValue}
-use Rattle.cpa_value.specs.declared.known.Gap.TheVariants.{Unknown, Trap}
-use Rattle.cpa_value.specs.KnownValues.{Known, known_value}
+use Rattle.cpa_value_changes.specs.declared.acts.ScalarValue.{ScalarValue}
+use Rattle.cpa_value_changes.specs.declared.known.Gap.TheVariants.{Unknown, Trap}
+use Rattle.cpa_value_changes.specs.KnownValues.{Known, known_value}
 
 -- the known values with no value for len cells from base on
 abbrev pub forgotten : ℕ → ℕ → List (Option ℤ) → List (Option ℤ)

@@ -7,11 +7,12 @@ ghost use Rattle.cpa_expr.specs.declared.tree.Expr.{out-Expr};
 ghost use Rattle.cpa_expr.specs.Values.{is_nonzero};
 ghost use Rattle.cpa_model.specs.Standing.{same_bool};
 ghost use Rattle.cpa_path_folds.specs.Tracking.{is_tracked};
-ghost use Rattle.cpa_value.specs.KnownValues.{known_value};
-ghost use Rattle.cpa_value.specs.Acts.{is_trap, written, assigned};
-ghost use Rattle.cpa_value.specs.Acts.{told, first_told, set_told};
-ghost use Rattle.cpa_value.specs.Acts.{equated, zeroed, says_equal, learned, assumed, after_act};
-ghost use Rattle.cpa_value.specs.Tables.{changed};
+ghost use Rattle.cpa_value_changes.specs.KnownValues.{known_value};
+ghost use Rattle.cpa_value_changes.specs.Acts.{is_trap, written, assigned};
+ghost use Rattle.cpa_value_changes.specs.Acts.{told, first_told, set_told};
+ghost use Rattle.cpa_value_changes.specs.Acts.{equated, zeroed, says_equal, learned, assumed};
+ghost use Rattle.cpa_value_changes.specs.Acts.{after_act};
+ghost use Rattle.cpa_value_changes.specs.Tables.{changed};
 
 use crate::changes::Change;
 use crate::known::{Gap, known_value};
@@ -29,7 +30,7 @@ pub struct ScalarValue {
 }
 
 /// What the act changes, where it can be done.
-pub(crate) fn change_by(act: &Act, cells: &KnownCells, tracked: &Tracked) -> Option<Change>
+pub fn change_by(act: &Act, cells: &KnownCells, tracked: &Tracked) -> Option<Change>
     ensures { option_map (λ c. changed c cells.now) result
         ≡ after_act (is_tracked tracked.now) act.now cells.now }
 {

@@ -2,43 +2,20 @@
 use Rattle.std.proofs.Common.{◌≡◌, ℕ, ◌+◌, ◌-◌, ◌/◌, ◌<◌, ◌≤◌, ℤ, Bool, true, false}
 use Rattle.std.proofs.Common.{List, [], ◌∷◌, ◌++◌}
 use Rattle.std.proofs.Common.{inl, inr, refl, sym, ap, ◌∙◌, arith, cond, take, drop, length}
-use Rattle.std.specs.Prelude.{Option, None, Some, ◌==◌, ◌&&◌, nat_le, nat_lt}
+use Rattle.std.specs.Prelude.{Option, None, Some, ◌==◌, nat_lt}
 use Rattle.std.specs.List.{slice_index_or}
-use Rattle.std.proofs.lemmas.Bool.{and_parts, and_from, leb-true, le-leb, ltb-true, ltb-false}
-use Rattle.std.proofs.lemmas.Bool.{lt-ltb, ne_eqb, cases_lt, false≢true}
+use Rattle.std.proofs.lemmas.Bool.{ltb-true, ltb-false, ne_eqb, cases_lt, false≢true}
 use Rattle.std.proofs.lemmas.List.{take-append-drop, length-take-le, length-drop, get_or_past}
 use Rattle.std.proofs.lemmas.List.FromFn.{length-map-range_with_len, get_or-map-range_with_len}
 use Rattle.cpa_model.specs.declared.facts.Fact.{Fact}
 use Rattle.cpa_model.specs.declared.facts.Fact.TheVariants.{At, Stack, Equals, Within, Truth}
-use Rattle.cpa_value.specs.Cells.{first_value, known_cells}
-use Rattle.cpa_value.specs.Tables.{are_ordered, begins_above, only_value}
+use Rattle.cpa_value_changes.specs.Cells.{first_value, known_cells}
+use Rattle.cpa_value_changes.specs.Tables.{are_ordered, begins_above, only_value}
+use Rattle.cpa_value_changes.specs.lemmas.Ordered.{begins, ordered_on, none_below}
 
 -- ---- facts in the order of the cells
 
--- what the order says of the first fact
-pub record Begins (n low cell : ℕ) (facts : List Fact) : Type 0 where
-  pub above : low ≤ cell
-  pub below : cell < n
-  pub rest : are_ordered n (cell + 1) facts ≡ true
-
-pub begins : (n low cell : ℕ) (v : ℤ) (fs : List Fact)
-    → are_ordered n low (Equals cell v ∷ fs) ≡ true → Begins n low cell fs
-begins n low cell v fs is =
-    let parts = and_parts (nat_le low cell && nat_lt cell n) (are_ordered n (cell + 1) fs) is in
-    let tests = and_parts (nat_le low cell) (nat_lt cell n) parts.0 in
-    record {
-      above = leb-true low cell tests.0;
-      below = ltb-true cell n tests.1;
-      rest = parts.1;
-    }
-
-pub ordered_on : (n low cell : ℕ) (v : ℤ) (fs : List Fact) → low ≤ cell → cell < n
-    → are_ordered n (cell + 1) fs ≡ true → are_ordered n low (Equals cell v ∷ fs) ≡ true
-ordered_on n low cell v fs above below rest =
-    and_from (nat_le low cell && nat_lt cell n) (are_ordered n (cell + 1) fs)
-    (and_from (nat_le low cell) (nat_lt cell n) (le-leb low cell above) (lt-ltb cell n below)) rest
-
-pub lower : (n low lowest : ℕ) (fs : List Fact) → lowest ≤ low → are_ordered n low fs ≡ true
+lower : (n low lowest : ℕ) (fs : List Fact) → lowest ≤ low → are_ordered n low fs ≡ true
     → are_ordered n lowest fs ≡ true
 lower n low lowest [] less is = refl
 lower n low lowest (Equals cell v ∷ fs) less is =
@@ -50,23 +27,8 @@ lower n low lowest (Stack s ∷ fs) less is = absurd (false≢true is)
 lower n low lowest (Within c lo hi ∷ fs) less is = absurd (false≢true is)
 lower n low lowest (Truth e h ∷ fs) less is = absurd (false≢true is)
 
--- nothing is said of a cell below the first one
-pub none_below : (n low cell : ℕ) (fs : List Fact) → are_ordered n low fs ≡ true → cell < low
-    → first_value fs cell ≡ None
-none_below n low cell [] is less = refl
-none_below n low cell (Equals own v ∷ fs) is less =
-    let b = begins n low own v fs is in
-    let above = b.above in
-    ap (λ t. cond t (Some v) (first_value fs cell))
-    (ne_eqb own cell (λ same. let eq : own ≡ cell = same in omega (arith, above, less, eq)))
-    ∙ none_below n (own + 1) cell fs b.rest (omega (arith, above, less))
-none_below n low cell (At p ∷ fs) is less = absurd (false≢true is)
-none_below n low cell (Stack s ∷ fs) is less = absurd (false≢true is)
-none_below n low cell (Within c lo hi ∷ fs) is less = absurd (false≢true is)
-none_below n low cell (Truth e h ∷ fs) is less = absurd (false≢true is)
-
--- nor of one behind the last
-pub none_past : (n low cell : ℕ) (fs : List Fact) → are_ordered n low fs ≡ true → n ≤ cell
+-- nothing is said of a cell behind the last one
+none_past : (n low cell : ℕ) (fs : List Fact) → are_ordered n low fs ≡ true → n ≤ cell
     → first_value fs cell ≡ None
 none_past n low cell [] is past = refl
 none_past n low cell (Equals own v ∷ fs) is past =
@@ -81,7 +43,7 @@ none_past n low cell (Within c lo hi ∷ fs) is past = absurd (false≢true is)
 none_past n low cell (Truth e h ∷ fs) is past = absurd (false≢true is)
 
 -- the value of each cell is what the facts say of it
-pub known_is : (n : ℕ) (fs : List Fact) (cell : ℕ) → are_ordered n 0 fs ≡ true
+known_is : (n : ℕ) (fs : List Fact) (cell : ℕ) → are_ordered n 0 fs ≡ true
     → slice_index_or (known_cells n fs) cell None ≡ first_value fs cell
 known_is n fs cell is = elim (cases_lt cell n) [
   | inl less ↦ get_or-map-range_with_len (first_value fs) 0 n cell cell None less (omega arith)

@@ -4,8 +4,8 @@
 ghost use Rattle.std.specs.Prelude.{◌≡◌, pos, not, if◌then◌else◌, Ok};
 ghost use Rattle.cpa_ints.specs.Wrapping.{wrapped};
 ghost use Rattle.cpa_expr.specs.Values.{un_value, bin_value, compares, truth, is_nonzero};
-ghost use Rattle.cpa_value.specs.KnownValues.{known_then, known_pair, or_trap, known_at};
-ghost use Rattle.cpa_value.specs.KnownValues.{known_truth, known_value};
+ghost use Rattle.cpa_value_changes.specs.KnownValues.{known_then, known_pair, or_trap, known_at};
+ghost use Rattle.cpa_value_changes.specs.KnownValues.{known_truth, known_value};
 
 use crate::table::KnownCells;
 use cpa_expr::{BinOp, CmpOp, Expr, UnOp, bin_value, compares, is_nonzero, truth, un_value};

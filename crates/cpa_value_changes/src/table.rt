@@ -3,8 +3,8 @@
 
 ghost use Rattle.std.specs.Prelude.{◌≡◌, true, None, if◌then◌else◌};
 ghost use Rattle.std.specs.List.{slice_index_or};
-ghost use Rattle.cpa_value.specs.Cells.{known_cells};
-ghost use Rattle.cpa_value.specs.Tables.{are_ordered, begins_above, own_value, only_value};
+ghost use Rattle.cpa_value_changes.specs.Cells.{known_cells};
+ghost use Rattle.cpa_value_changes.specs.Tables.{are_ordered, begins_above, own_value, only_value};
 
 use cpa_model::Fact;
 use std::marker::Model;
@@ -19,8 +19,8 @@ pub struct KnownCells<'a> {
 
 impl<'a> Model for KnownCells<'a> {
     ghost use Rattle.std.specs.Prelude.{◌≡◌, ℤ, List, Option, true};
-    ghost use Rattle.cpa_value.specs.Cells.{known_cells};
-    ghost use Rattle.cpa_value.specs.Tables.{are_ordered};
+    ghost use Rattle.cpa_value_changes.specs.Cells.{known_cells};
+    ghost use Rattle.cpa_value_changes.specs.Tables.{are_ordered};
 
     ghost Value = { List (Option ℤ) };
 
@@ -48,7 +48,7 @@ impl<'a> KnownCells<'a> {
 
 /// Whether each fact says a value of one of the first `count` cells, in the order of the cells, and
 /// no two of one cell.
-pub(crate) fn are_ordered(facts: &[Fact], count: usize) -> bool
+pub fn are_ordered(facts: &[Fact], count: usize) -> bool
     ensures { result ≡ are_ordered count 0 facts.now }
 {
     let mut low = 0;

@@ -1,7 +1,7 @@
 -- A half says of the cell what all facts say, and so does the last one.
 use Rattle.std.proofs.Common.{◌<◌, ◌/◌, length, arith}
-use Rattle.cpa_value.proofs.TableLemmas.{halved, found}
-use Rattle.cpa_value.proofs.table.value_among.Goals as goal
+use Rattle.cpa_value_changes.proofs.TableLemmas.{halved, found}
+use Rattle.cpa_value_changes.proofs.table.value_among.Goals as goal
 
 pub loop-among-preserved : goal.loop-among-preserved
 loop-among-preserved c =

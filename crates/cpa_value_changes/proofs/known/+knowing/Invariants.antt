@@ -1,7 +1,7 @@
 -- A node's form is evaluated by its parts: twice the nodes, and one more for the form alone.
 use Rattle.std.proofs.Common.{◌+◌, ◌*◌}
 use Rattle.cpa_expr.specs.Shape.{size}
-use Rattle.cpa_value.proofs.known.+knowing.Given as goal
+use Rattle.cpa_value_changes.proofs.known.+knowing.Given as goal
 
 abbrev pub decreases-known_value : goal.decreases-known_value
 decreases-known_value l = 2 * size l.e.now

@@ -1,7 +1,7 @@
 -- What is left is in order exactly where all is.
 use Rattle.std.proofs.Common.{◌≡◌, drop}
-use Rattle.cpa_value.specs.Tables.{are_ordered}
-use Rattle.cpa_value.proofs.table.are_ordered.Given as goal
+use Rattle.cpa_value_changes.specs.Tables.{are_ordered}
+use Rattle.cpa_value_changes.proofs.table.are_ordered.Given as goal
 
 abbrev pub invariant-loop-fact : goal.invariant-loop-fact
 invariant-loop-fact l =

@@ -2,15 +2,15 @@
 //! Proved with `proofs/ChangeLemmas.antt`.
 
 ghost use Rattle.std.specs.Prelude.{◌≡◌, ℤ, List, Option, None, slice_set};
-ghost use Rattle.cpa_value.specs.Acts.{forgotten};
-ghost use Rattle.cpa_value.specs.Tables.{changed};
+ghost use Rattle.cpa_value_changes.specs.Acts.{forgotten};
+ghost use Rattle.cpa_value_changes.specs.Tables.{changed};
 
 /// So many cells from the first on have this value, or none that is known.
 #[derive(Clone, Copy)]
-pub(crate) struct Change {
-    pub(crate) first: usize,
-    pub(crate) count: usize,
-    pub(crate) value: Option<i128>,
+pub struct Change {
+    pub first: usize,
+    pub count: usize,
+    pub value: Option<i128>,
 }
 
 impl Change {

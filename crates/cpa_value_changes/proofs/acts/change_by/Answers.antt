@@ -2,8 +2,8 @@
 use Rattle.std.proofs.Common.{Some, ap, sym, ◌∙◌}
 use Rattle.cpa_model.specs.declared.automaton.Act.{Act}
 use Rattle.cpa_path_folds.specs.Tracking.{is_tracked}
-use Rattle.cpa_value.specs.Acts.{after_act}
-use Rattle.cpa_value.proofs.acts.change_by.Goals as goal
+use Rattle.cpa_value_changes.specs.Acts.{after_act}
+use Rattle.cpa_value_changes.proofs.acts.change_by.Goals as goal
 
 pub returns-in-Input : goal.returns-in-Input
 returns-in-Input c =

@@ -1,5 +1,0 @@
-use Rattle.cpa_value.proofs.ChangeLemmas.{all_forgotten}
-use Rattle.cpa_value.proofs.changes.Change.of_array.Goals as goal
-
-pub returns : goal.returns
-returns c = λ cells. all_forgotten c.args.base c.args.len cells
