@@ -172,10 +172,9 @@ fn can_give_way(analysis: &Analysis, trail: &Trail, jump: Jump, place: usize) ->
         && trail.false_at(place) != trail.false_at(jump.at)
 }
 
-/// Resolves the literal of the place away, where the others imply it.
+/// Resolves the literal of the place away, where it can give way.
 fn reduce_at(
     analysis: &mut Analysis,
-    redundancy: &Redundancy,
     arena: &Arena,
     trail: &Trail,
     jump: Jump,
@@ -188,9 +187,6 @@ fn reduce_at(
     ensures asserting { OnOk result (IsAsserting analysis.new trail.now jump) }
     ensures untrue { OnOk result (AreFalseBefore analysis.new trail.now (height trail.now)) }
 {
-    if !redundancy.is_implied_at(place) {
-        return Ok(());
-    }
     if !can_give_way(analysis, trail, jump, place) {
         return Ok(());
     }
@@ -215,9 +211,8 @@ fn reduce(
     ensures untrue { OnOk result (AreFalseBefore analysis.new trail.now (height trail.now)) }
 {
     redundancy.explore(analysis, arena, trail, jump.at)?;
-    let (low, high) = redundancy.range();
-    for place in (low..high).rev() {
-        reduce_at(analysis, redundancy, arena, trail, jump, place)?;
+    for place in redundancy.places().iter().rev() {
+        reduce_at(analysis, arena, trail, jump, *place as usize)?;
     }
     Ok(())
 }

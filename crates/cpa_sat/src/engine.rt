@@ -40,6 +40,9 @@ pub(crate) struct Search {
     pub(crate) quality: Quality,
     /// The place of the next literal to propagate.
     pub(crate) next: usize,
+    /// The place before which no decision was found when it was last looked for. None comes there,
+    /// since literals before the first decision stay.
+    pub(crate) ground: usize,
 }
 
 /// How a turn of the search ends.
@@ -225,7 +228,9 @@ impl Search {
         let _vars = cnf.vars;
         let arena = &mut self.arena;
         let trail = &mut self.trail;
-        if first_decision(trail) < trail.lits.len() {
+        let ground = first_decision(trail, self.ground);
+        self.ground = ground;
+        if ground < trail.lits.len() {
             return Ok(());
         }
         if self.quality.is_due() {
@@ -246,7 +251,7 @@ impl Search {
             return Ok(());
         }
         let trail = &mut self.trail;
-        let ground = first_decision(trail);
+        let ground = first_decision(trail, self.ground);
         release(&mut self.order, trail, ground)?;
         trail.cut(ground);
         self.next = self.next.min(ground);
@@ -421,12 +426,12 @@ impl Search {
     }
 }
 
-/// The place of the first decision, or the height where there is none.
-fn first_decision(trail: &Trail) -> usize
+/// The place of the first decision from a place on, or the height where there is none.
+fn first_decision(trail: &Trail, from: usize) -> usize
     requires { IsTrail trail.now }
     ensures { result ≤ height trail.now }
 {
-    for place in 0..trail.lits.len() {
+    for place in from..trail.lits.len() {
         if trail.reason(place) == NONE {
             return place;
         }

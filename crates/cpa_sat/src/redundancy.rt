@@ -39,12 +39,7 @@ impl Redundancy {
 
     /// Whether the literal of the place is known to be implied.
     fn is_implied(&self, place: u32) -> bool {
-        self.is_implied_at(place as usize)
-    }
-
-    /// `is_implied` of a place as an index.
-    pub(crate) fn is_implied_at(&self, place: usize) -> bool {
-        self.implied.get(place).copied().unwrap_or(false)
+        self.implied.get(place as usize).copied().unwrap_or(false)
     }
 
     /// Forgets what is known, and counts the levels of the marked literals.
@@ -118,7 +113,7 @@ impl Redundancy {
                 self.look(analysis, arena, trail, place)?;
             }
         }
-        Ok(())
+        self.known.sort()
     }
 
     /// Finds out whether the other marked literals imply the literal of the place.
@@ -201,14 +196,8 @@ impl Redundancy {
         Ok(true)
     }
 
-    /// The least place that is known to be implied, and the one behind the greatest.
-    pub(crate) fn range(&self) -> (usize, usize) {
-        let mut low = usize::MAX;
-        let mut high = 0;
-        for place in &self.known {
-            low = low.min(*place as usize);
-            high = high.max(*place as usize + 1);
-        }
-        (low, high)
+    /// The places that are known to be implied, from the first to the last.
+    pub(crate) fn places(&self) -> &[u32] {
+        self.known.as_slice()
     }
 }

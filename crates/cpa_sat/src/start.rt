@@ -77,6 +77,7 @@ fn start(alloc: Global, cnf: &Cnf) -> Result<Search, AllocError>
         redundancy,
         quality,
         next: 0,
+        ground: 0,
     })
 }
 
