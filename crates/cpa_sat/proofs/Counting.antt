@@ -20,7 +20,7 @@ use Rattle.cpa_cnf.specs.declared.formula.Line.{Line}
 use Rattle.cpa_cnf.specs.Clauses.{has, IsClause}
 use Rattle.cpa_cnf.specs.Lines.{AreBelow, known}
 use Rattle.cpa_cnf.specs.lemmas.Chains.{member_below, same_members, has_head}
-use Rattle.cpa_sat.specs.Fresh.{AreNew}
+use Rattle.cpa_sat_search.specs.Fresh.{AreNew}
 
 -- the bits of a set of numbers from n on, as a number of k bits, the lowest first
 number : ℕ → ℕ → (ℕ → Bool) → ℕ

@@ -1,4 +1,1 @@
-pub mod Analyses
-pub mod Fresh
-pub mod States
 pub mod Outcomes

@@ -2,12 +2,7 @@
 //! comes with the chain of resolutions that gives it.
 #![tactic(auto)]
 
-mod analysis;
-mod conflict;
-mod engine;
 mod outcome;
-mod quality;
-mod redundancy;
 mod start;
 
 pub use outcome::Found;

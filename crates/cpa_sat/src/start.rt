@@ -1,143 +1,15 @@
-//! From a formula to a search, and from the end of the search to what it found
-//! (`specs/Outcomes.antt`). Proved with `proofs/Loading.antt`.
+//! From what is left of a search to what it found (`specs/Outcomes.antt`). Proved with
+//! `proofs/Counting.antt`.
 
-ghost use Rattle.std.specs.Prelude.{◌≡◌, ◌<◌, ◌≤◌, ◌^◌, [], ◌∷◌, ◌++◌, length, IfOk, OnOk};
+ghost use Rattle.std.specs.Prelude.{IfOk};
 ghost use Rattle.std.specs.List.{AllByRecursion};
-ghost use Rattle.cpa_cnf.specs.Clauses.{IsClause};
-ghost use Rattle.cpa_cnf.specs.Lines.{AreBelow, IsRefutation};
-ghost use Rattle.cpa_cnf.specs.Models.{IsModel};
-ghost use Rattle.cpa_sat_trail.specs.declared.trail.TheConstants.{NONE};
-ghost use Rattle.cpa_sat_trail.specs.Findings.{AreSatisfied};
-ghost use Rattle.cpa_sat.specs.Outcomes.{IsFound, IsRefutedWithin, IsSpent};
-ghost use Rattle.cpa_sat.specs.States.{AreLoaded, IsEnded, IsState};
+ghost use Rattle.cpa_cnf.specs.Lines.{AreBelow};
+ghost use Rattle.cpa_sat.specs.Outcomes.{IsFound};
 
-use crate::analysis::Analysis;
-use crate::engine::{End, Search, Turn};
 use crate::outcome::Found;
-use crate::quality::Quality;
-use crate::redundancy::Redundancy;
-use cpa_cnf::{Clause, Cnf, Line};
-use cpa_sat_arena::Arena;
-use cpa_sat_trail::{NONE, Order, Restarts, Trail, VARS_LIMIT, values, watch_all};
+use cpa_cnf::Cnf;
+use cpa_sat_search::{Ending, solve};
 use std::alloc::{AllocError, Global};
-use std::mem;
-
-/// Adds a clause of a formula, unless its number would be too great.
-fn load_clause(arena: &mut Arena, clause: &Clause) -> Result<(), AllocError>
-    requires { AllByRecursion (λ l. l < 2 ^ 32) clause.now }
-    ensures loaded { OnOk result (arena.new ≡ arena.old ++ clause.now ∷ []) }
-    ensures sorted { OnOk result (IsClause clause.now) }
-    ensures few { OnOk result (length arena.new < NONE) }
-{
-    if arena.len() >= NONE as usize - 1 {
-        return Err(AllocError);
-    }
-    let _sorted = clause.literals();
-    arena.push(clause)?;
-    Ok(())
-}
-
-/// The clauses of the formula.
-fn load(alloc: Global, cnf: &Cnf) -> Result<Arena, AllocError>
-    requires vars { cnf.now.vars < 2 ^ 31 }
-    requires below { AllByRecursion (AreBelow cnf.now.vars) cnf.now.clauses }
-    ensures { IfOk result (AreLoaded cnf.now (length cnf.now.clauses)) }
-{
-    let mut arena = Arena::new(alloc);
-    for clause in &cnf.clauses {
-        load_clause(&mut arena, clause)?;
-    }
-    Ok(arena)
-}
-
-/// A search at its beginning.
-fn start(alloc: Global, cnf: &Cnf) -> Result<Search, AllocError>
-    requires vars { cnf.now.vars < 2 ^ 31 }
-    requires below { AllByRecursion (AreBelow cnf.now.vars) cnf.now.clauses }
-    ensures state { IfOk result (IsState cnf.now) }
-    ensures lines { IfOk result (λ s. length s.lines.items ≡ 0) }
-{
-    let arena = load(alloc, cnf)?;
-    let trail = Trail::new(alloc, cnf.vars)?;
-    let watches = watch_all(alloc, &arena, &trail)?;
-    let analysis = Analysis::new(alloc, cnf.vars)?;
-    let order = Order::new(alloc, cnf.vars)?;
-    let redundancy = Redundancy::new(alloc, cnf.vars)?;
-    let quality = Quality::new(alloc, arena.len())?;
-    let lines = Vec::new(alloc);
-    Ok(Search {
-        alloc,
-        arena,
-        trail,
-        analysis,
-        lines,
-        watches,
-        order,
-        restarts: Restarts::new(),
-        redundancy,
-        quality,
-        next: 0,
-        ground: 0,
-    })
-}
-
-/// Searches to the end.
-fn solve(search: &mut Search, cnf: &Cnf, learnt: u32) -> Result<End, AllocError>
-    requires state { IsState cnf.now search.old }
-    requires within { length search.old.lines.items ≤ learnt }
-    ensures { IfOk result (IsEnded cnf.now learnt search.new) }
-{
-    match search.begin(cnf, learnt)? {
-        Turn::Again => search.run(cnf, learnt),
-        Turn::Satisfied => Ok(End::Model),
-        Turn::Refuted => Ok(End::Refutation),
-        Turn::Spent => Ok(End::Lines),
-    }
-}
-
-/// The model at the end of a search.
-fn model(search: &mut Search, cnf: &Cnf) -> Result<Vec<bool>, AllocError>
-    requires state { IsState cnf.now search.old }
-    requires satisfied { AreSatisfied search.old.arena search.old.trail }
-    ensures { IfOk result (λ v. IsModel cnf.now v.items) }
-{
-    let _vars = cnf.vars;
-    let trail = &mut search.trail;
-    let found = values(search.alloc, trail)?;
-    Ok(found)
-}
-
-/// The lines at the end of a search that refuted the formula.
-fn refutation(search: &mut Search, cnf: &Cnf, learnt: u32) -> Vec<Line>
-    requires refutes { IsRefutation cnf.now search.old.lines.items }
-    requires within { length search.old.lines.items ≤ learnt }
-    ensures { IsRefutedWithin cnf.now learnt result.items }
-{
-    let _vars = (cnf.vars, learnt);
-    mem::replace(&mut search.lines, Vec::new(search.alloc))
-}
-
-/// The lines at the end of a search that spent them.
-fn spent(search: &mut Search, cnf: &Cnf, learnt: u32) -> Vec<Line>
-    requires state { IsState cnf.now search.old }
-    requires all { length search.old.lines.items ≡ learnt }
-    ensures { IsSpent cnf.now learnt result.items }
-{
-    let _vars = (cnf.vars, learnt);
-    mem::replace(&mut search.lines, Vec::new(search.alloc))
-}
-
-/// What a search found.
-fn conclude(search: &mut Search, cnf: &Cnf, learnt: u32, end: End) -> Result<Found, AllocError>
-    requires { IsEnded cnf.now learnt search.old end }
-    ensures { IfOk result (IsFound cnf.now learnt) }
-{
-    match end {
-        End::Model => Ok(Found::Model(model(search, cnf)?)),
-        End::Refutation => Ok(Found::Refuted(refutation(search, cnf, learnt))),
-        End::Lines => Ok(Found::Spent(spent(search, cnf, learnt))),
-    }
-}
 
 /// Searches for a model of the formula, or a refutation of at most `learnt` lines. Where neither is
 /// found within `learnt` lines, it gives these: they are good, not empty, differ from each other
@@ -147,10 +19,10 @@ pub fn search(alloc: Global, cnf: &Cnf, learnt: u32) -> Result<Found, AllocError
     requires { AllByRecursion (AreBelow cnf.now.vars) cnf.now.clauses }
     ensures { IfOk result (IsFound cnf.now learnt) }
 {
-    if cnf.vars >= VARS_LIMIT {
-        return Err(AllocError);
+    let ending = solve(alloc, cnf, learnt)?;
+    match ending {
+        Ending::Model(values) => Ok(Found::Model(values)),
+        Ending::Refutation(lines) => Ok(Found::Refuted(lines)),
+        Ending::Lines(lines) => Ok(Found::Spent(lines)),
     }
-    let mut search = start(alloc, cnf)?;
-    let end = solve(&mut search, cnf, learnt)?;
-    conclude(&mut search, cnf, learnt, end)
 }

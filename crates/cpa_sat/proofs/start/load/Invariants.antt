@@ -1,6 +1,0 @@
-use Rattle.std.specs.Slice.Iter.{iter_rest}
-use Rattle.cpa_sat.proofs.Loading.{IsLoading}
-use Rattle.cpa_sat.proofs.start.load.Given as goal
-
-abbrev pub invariant-loop-clause : goal.invariant-loop-clause
-invariant-loop-clause l = IsLoading l.cnf (iter_rest l.clause-iterator) l.arena

@@ -1,0 +1,4 @@
+pub mod Marks
+pub mod Conflicts
+pub mod Growth
+pub mod Loading

@@ -1,0 +1,4 @@
+pub mod Analyses
+pub mod Fresh
+pub mod States
+pub mod Endings
