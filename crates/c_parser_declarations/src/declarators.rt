@@ -139,9 +139,9 @@ fn list_of(alloc: Global, first: Declarator) -> Result<Seq<Declarator>, ReadErro
     ensures listed { IfOk result (λ list. list ≡ first ∷ []) }
     ensures memory { IfErr result (λ error. error ≡ OutOfMemory) }
 {
-    let mut list = Seq::new(alloc);
-    list.push(first)?;
-    Ok(list)
+    let mut items = Vec::with_capacity(alloc, 1)?;
+    items.push(first)?;
+    Ok(Seq::from_vec(items))
 }
 
 /// The first declarator, which is read already, and those behind it, each behind a comma.

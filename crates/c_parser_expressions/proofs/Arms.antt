@@ -1,7 +1,8 @@
 -- Which form each token calls for, and what the tests of tokens find.
-use Rattle.std.specs.Prelude.{◌≡◌, ℕ, ℤ, suc, ◌+◌, ◌==◌, Bool, true, false, cond, Option, None}
-use Rattle.std.specs.Prelude.{Some, refl}
-use Rattle.std.proofs.Common.{sym, ◌∙◌, subst, arith}
+use Rattle.std.specs.Prelude.{◌≡◌, ℕ, ℤ, suc, ◌+◌, ◌<◌, ◌≤◌, ◌==◌, ◌&&◌, nat_lt, nat_le, Bool}
+use Rattle.std.specs.Prelude.{true, false, cond, Option, None, Some, refl}
+use Rattle.std.proofs.Common.{sym, ◌∙◌, ap, subst, arith}
+use Rattle.std.proofs.lemmas.Bool.Decides.{nat_tests}
 use Rattle.c_grammar_forms.specs.Forms.{Form, Nothing, Skip, Node, Pair, Then, Before, Deeper}
 use Rattle.c_grammar_forms.specs.Forms.{Choice}
 use Rattle.c_grammar_forms.specs.Choices.{Same, same_form, impossible}
@@ -25,6 +26,7 @@ use Rattle.c_grammar_tree.specs.Expressions.{unary, unary_at, sign, postfix, suf
 use Rattle.c_grammar_tree.specs.Expressions.{suffix_at}
 use Rattle.c_grammar_tree.specs.Expressions.{primary_at, assigns_to}
 use Rattle.c_parser_expressions.specs.Steps.{begins_type, sign_of, operator_of, FindsOperator}
+use Rattle.c_parser_expressions.specs.Steps.{looseness_between}
 
 -- behind "(": a cast
 abbrev pub cast_form : Grammar → Form Leaf Group
@@ -96,24 +98,60 @@ arm_postfix G (symbol.Terminal terminal.Exclamation) e f = no_some (sym e)
 arm_postfix G (symbol.Step operator) e f = impossible (sym f)
 arm_postfix G _ e f = same_form
 
-chosen_some : (b : Bool) (o op : BinaryOperator) → cond b (Some o) None ≡ Some op →
-    (symbol.Binary o ≡ symbol.Binary op) × (b ≡ true)
-chosen_some true o op e = (some_is (λ x. symbol.Binary o ≡ symbol.Binary x) e refl, refl)
-chosen_some false o op e = no_some e
+chosen_some : {T : Type 0} (b : Bool) (x y : T) → cond b (Some x) None ≡ Some y →
+    (x ≡ y) × (b ≡ true)
+chosen_some true x y e = (some_is (λ z. x ≡ z) e refl, refl)
+chosen_some false x y e = no_some e
 
-chosen_none : (b : Bool) (o : BinaryOperator) → cond b (Some o) None ≡ None → b ≡ false
-chosen_none true o e = no_some (sym e)
-chosen_none false o e = refl
+chosen_none : {T : Type 0} (b : Bool) (x : T) → cond b (Some x) None ≡ None → b ≡ false
+chosen_none true x e = no_some (sym e)
+chosen_none false x e = refl
 
 -- the operator that is found binds as loosely as is asked for
 pub operator_found : (rank : ℕ) (s : Symbol) (op : BinaryOperator) → operator_of rank s ≡ Some op →
     (s ≡ symbol.Binary op) × (binds rank s ≡ true)
-operator_found rank (symbol.Binary o) op e = chosen_some (looseness o == rank) o op e
+operator_found rank (symbol.Binary o) op e =
+    let c = chosen_some (looseness o == rank) o op e in (ap (λ x. symbol.Binary x) c.0, c.1)
 operator_found rank _ op e = no_some e
 
 pub no_operator : (rank : ℕ) (s : Symbol) → operator_of rank s ≡ None → binds rank s ≡ false
 no_operator rank (symbol.Binary o) e = chosen_none (looseness o == rank) o e
 no_operator rank _ e = refl
+
+number_between : (tighter rank n k : ℕ) → n ≡ k → (nat_lt tighter n && nat_le n rank) ≡ true →
+    (tighter < k) × (k ≤ rank) × ((n == k) ≡ true)
+number_between tighter rank n k e h =
+    (grind (arith, nat_tests), grind (arith, nat_tests), grind (arith, nat_tests))
+
+no_number_between : (tighter rank n k : ℕ) → (nat_lt tighter n && nat_le n rank) ≡ false →
+    tighter < k → k ≤ rank → (n == k) ≡ false
+no_number_between tighter rank n k h above below = grind (arith, nat_tests)
+
+other_number : (n j k : ℕ) → (n == k) ≡ true → j < k → (n == j) ≡ false
+other_number n j k e below = grind (arith, nat_tests)
+
+-- the looseness that is found is that of the operator, and lies between the two numbers
+between_found : (tighter rank : ℕ) (s : Symbol) (k : ℕ) →
+    looseness_between tighter rank s ≡ Some k →
+    (tighter < k) × (k ≤ rank) × (binds k s ≡ true)
+between_found tighter rank (symbol.Binary o) k e =
+    let c = chosen_some (nat_lt tighter (looseness o) && nat_le (looseness o) rank)
+    (looseness o) k e in
+    number_between tighter rank (looseness o) k c.0 c.1
+between_found tighter rank _ k e = no_some e
+
+none_between : (tighter rank : ℕ) (s : Symbol) → looseness_between tighter rank s ≡ None →
+    (k : ℕ) → tighter < k → k ≤ rank → binds k s ≡ false
+none_between tighter rank (symbol.Binary o) e k above below =
+    no_number_between tighter rank (looseness o) k
+    (chosen_none (nat_lt tighter (looseness o) && nat_le (looseness o) rank) (looseness o) e)
+    above below
+none_between tighter rank _ e k above below = refl
+
+-- an operator of one looseness is none of a tighter one
+pub binds_no_tighter : (j k : ℕ) (s : Symbol) → binds k s ≡ true → j < k → binds j s ≡ false
+binds_no_tighter j k (symbol.Binary o) e below = other_number (looseness o) j k e below
+binds_no_tighter j k _ e below = refl
 
 pub is_left_paren : (s : Symbol) → is_terminal terminal.LeftParen s ≡ true →
     s ≡ symbol.Terminal terminal.LeftParen
@@ -188,6 +226,21 @@ no_operator_here leaf k s found e f none =
     no_operator (suc k) (symbol_of leaf)
     (subst (λ x. operator_of (suc k) x ≡ None) e (subst (λ j. operator_of j s ≡ None) one (sym f ∙
     is_none found none)))
+
+-- the looseness that is found at a token
+pub between_here : (leaf : Leaf) (tighter rank : ℕ) (s : Symbol) (k : ℕ) → s ≡ symbol_of leaf →
+    Some k ≡ looseness_between tighter rank s →
+    (tighter < k) × (k ≤ rank) × (is_operator k leaf ≡ true)
+between_here leaf tighter rank s k e f = between_found tighter rank (symbol_of leaf) k
+    (subst (λ x. looseness_between tighter rank x ≡ Some k) e (sym f))
+
+pub none_between_here : (leaf : Leaf) (tighter rank : ℕ) (s : Symbol) (found : Option ℕ) →
+    s ≡ symbol_of leaf → found ≡ looseness_between tighter rank s →
+    ((x : ℕ) → found ≡ Some x → ⊥) → (k : ℕ) → tighter < k → k ≤ rank →
+    is_operator k leaf ≡ false
+none_between_here leaf tighter rank s found e f none =
+    none_between tighter rank (symbol_of leaf)
+    (subst (λ x. looseness_between tighter rank x ≡ None) e (sym f ∙ is_none found none))
 
 -- no operator of an assignment is found
 pub finds_none : (target : Expression) (leaf : Leaf) (found : Option AssignmentOperator) →

@@ -2,4 +2,5 @@ mod Readers
 mod Steadies
 mod Arms
 mod Productions
+mod Climbing
 mod Tight

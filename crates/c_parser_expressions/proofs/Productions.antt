@@ -1,10 +1,9 @@
 -- Readings of chains, conditionals, assignments and commas from readings of their parts, and none
 -- where a part has none.
-use Rattle.std.specs.Prelude.{◌≡◌, ◌≢◌, ℕ, suc, ◌+◌, true, false, List, [], ◌∷◌, Result, refl}
+use Rattle.std.specs.Prelude.{◌≡◌, ◌≢◌, ℕ, suc, ◌+◌, true, false, List, [], ◌∷◌, refl}
 use Rattle.std.proofs.Common.{sym, ap, subst}
 use Rattle.c_grammar_forms.specs.Forms.{Skip, Before, Pair, Deeper, Choice, Many, Perhaps}
-use Rattle.c_grammar_forms.specs.declared.fault.ReadError.{ReadError}
-use Rattle.c_grammar_forms.specs.Reading.{Reads, NoneThrough, Answers}
+use Rattle.c_grammar_forms.specs.Reading.{Reads, NoneThrough}
 use Rattle.c_grammar_forms.specs.Found.{reads_node, reads_pair, reads_then, reads_skip}
 use Rattle.c_grammar_forms.specs.Found.{reads_choice}
 use Rattle.c_grammar_forms.specs.Found.{reads_no, reads_one_more, reads_end}
@@ -19,13 +18,12 @@ use Rattle.c_grammar_symbols.specs.Symbols.{Leaf, symbol_of}
 use Rattle.c_grammar_symbols.specs.Sources.{is}
 use Rattle.c_grammar_tree.specs.declared.expression.Expression.{Expression}
 use Rattle.c_grammar_tree.specs.declared.expression.Expression.TheVariants as expression
-use Rattle.c_grammar_tree.specs.declared.TheConstants.{MAX_LEVEL}
 use Rattle.c_grammar_tree.specs.Parts.{loosest}
 use Rattle.c_grammar_tree.specs.Grammar.{grammar}
 use Rattle.c_grammar_tree.specs.Expressions.{comma, comma_of, assignment, assignment_of, assigns_to}
 use Rattle.c_grammar_tree.specs.Expressions.{right_side_at, conditional, conditional_of, chain}
 use Rattle.c_grammar_tree.specs.Expressions.{chain_of}
-use Rattle.c_grammar_tree.specs.Expressions.{operand_at, operand, cast}
+use Rattle.c_grammar_tree.specs.Expressions.{operand_at, operand}
 use Rattle.c_parser_expressions.specs.Steps.{more_items, operands}
 use Rattle.c_grammar_tree.specs.Levels.{steady_deeper_comma}
 use Rattle.c_parser_expressions.proofs.Readers.{none_made, tail, reads_tail, goes_not_empty}
@@ -224,12 +222,3 @@ module _ {at : ℕ → Leaf} {size left m : ℕ} where
   unfolding operand_at
   operand_read k {op = op} e r = reads_choice symbol_of (λ n. operand_at (chain k (grammar n))) e
       (reads_node (λ leaf right. (op, right)) refl (reads_skip r))
-
--- the tightest chain is a cast
-pub tightest : (at : ℕ → Leaf) (size left p : ℕ) {rank : ℕ}
-    (answer : Result (Expression × ℕ) ReadError) → rank ≡ 0 →
-    Answers MAX_LEVEL (λ n. cast (grammar n)) at size left p answer →
-    Answers MAX_LEVEL (λ n. chain rank (grammar n)) at size left p answer
-unfolding chain
-tightest at size left p answer e a =
-    subst (λ k. Answers MAX_LEVEL (λ n. chain k (grammar n)) at size left p answer) (sym e) a

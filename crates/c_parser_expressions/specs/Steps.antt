@@ -1,6 +1,6 @@
 -- What single private functions read or compute. No public clause speaks of it.
 use Rattle.std.specs.Prelude.{◌≡◌, ℕ, suc, ◌==◌, cond, Bool, true, false, MatchOption, List, [], ◌∷◌}
-use Rattle.std.specs.Prelude.{Option, None, Some}
+use Rattle.std.specs.Prelude.{Option, None, Some, ◌&&◌, nat_lt, nat_le}
 use Rattle.c_grammar_forms.specs.Forms.{Form, Skip, Node, Deeper, Choice, Many}
 use Rattle.c_grammar_symbols.specs.declared.words.Terminal.TheVariants as terminal
 use Rattle.c_grammar_symbols.specs.declared.operators.AssignmentOperator.{AssignmentOperator}
@@ -55,6 +55,14 @@ deeper_type_name G = Deeper type_name
 abbrev pub operator_of : ℕ → Symbol → Option BinaryOperator
 operator_of rank (symbol.Binary operator) = cond (looseness operator == rank) (Some operator) None
 operator_of rank _ = None
+
+-- how loosely the operator binds that the symbol is, where that is looser than the one number and
+-- no looser than the other
+abbrev pub looseness_between : ℕ → ℕ → Symbol → Option ℕ
+looseness_between tighter rank (symbol.Binary operator) =
+    cond (nat_lt tighter (looseness operator) && nat_le (looseness operator) rank)
+    (Some (looseness operator)) None
+looseness_between tighter rank _ = None
 
 -- the operator on one operand that the symbol is
 abbrev pub sign_of : Symbol → Option UnaryOperator

@@ -1,10 +1,10 @@
 //! Readers of chains of operators of one precedence (C11 6.5.5 to 6.5.14): `chain` of
-//! `Expressions.antt` of `c_grammar_tree`. Proved in `proofs/Productions.antt`.
+//! `Expressions.antt` of `c_grammar_tree`. Proved in `proofs/Climbing.antt`.
 ghost use Rattle.std.specs.Prelude.{◌≡◌, ◌<◌, ◌≤◌, length};
 ghost use Rattle.c_grammar_tree.specs.Parts.{looseness, loosest};
 ghost use Rattle.c_grammar_tree.specs.Expressions.{chain};
 ghost use Rattle.c_grammar_tree.specs.Reading.{Gives, HasRoom};
-ghost use Rattle.c_parser_expressions.specs.Steps.{operands, operator_of};
+ghost use Rattle.c_parser_expressions.specs.Steps.{operands, operator_of, looseness_between};
 
 use crate::unary::cast;
 use c_grammar_forms::ReadError;
@@ -44,6 +44,24 @@ fn operator_of(symbol: Symbol, rank: u32) -> Option<BinaryOperator>
     }
 }
 
+/// How loosely the operator binds that the symbol is, if that is looser than the one number and no
+/// looser than the other.
+fn looseness_between(symbol: Symbol, tighter: u32, rank: u32) -> Option<u32>
+    ensures { result ≡ looseness_between tighter rank symbol }
+{
+    match symbol {
+        Symbol::Binary(operator) => {
+            let found = looseness(operator);
+            if tighter < found && found <= rank {
+                Some(found)
+            } else {
+                None
+            }
+        }
+        _ => None,
+    }
+}
+
 /// The later operands of a chain, each behind its operator.
 #[cycle(expression)]
 fn operands(
@@ -58,7 +76,8 @@ fn operands(
     requires rank { tighter < loosest }
     ensures { Gives (operands tighter) source.now left at result }
 {
-    let mut operands = Seq::new(alloc);
+    let room = Vec::with_capacity(alloc, 1)?;
+    let mut operands = Seq::from_vec(room);
     let mut here = at;
     'list: while let Some(operator) = operator_of(source.symbol(here), tighter + 1) {
         let (operand, behind) = chain(alloc, source, here + 1, left, tighter)?;
@@ -68,7 +87,8 @@ fn operands(
     Ok((operands, here))
 }
 
-/// The chain of operators of this looseness at most that begins here.
+/// The chain of operators of this looseness at most that begins here: the operators behind it are
+/// taken from the tightest on.
 #[cycle(expression)]
 pub(crate) fn chain(
     alloc: Global,
@@ -82,23 +102,15 @@ pub(crate) fn chain(
     requires rank { rank ≤ loosest }
     ensures { Gives (chain rank) source.now left at result }
 {
-    if rank == 0 {
-        return cast(alloc, source, at, left);
+    let (mut whole, mut behind) = cast(alloc, source, at, left)?;
+    let mut tighter = 0;
+    'climb: while let Some(next) = looseness_between(source.symbol(behind), tighter, rank) {
+        let first = Boxed::new(alloc, whole)?;
+        let (rest, end) = operands(alloc, source, behind, left, next - 1)?;
+        let place = source.place(at);
+        whole = Expression::Chain { first, rest, place };
+        behind = end;
+        tighter = next;
     }
-    let tighter = rank - 1;
-    let (first, behind) = chain(alloc, source, at, left, tighter)?;
-    let (rest, end) = operands(alloc, source, behind, left, tighter)?;
-    if rest.is_empty() {
-        return Ok((first, end));
-    }
-    let operand = Boxed::new(alloc, first)?;
-    let place = source.place(at);
-    Ok((
-        Expression::Chain {
-            first: operand,
-            rest,
-            place,
-        },
-        end,
-    ))
+    Ok((whole, behind))
 }

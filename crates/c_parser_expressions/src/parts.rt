@@ -56,9 +56,19 @@ pub(crate) fn list_of(alloc: Global, first: Expression) -> Result<Seq<Expression
     ensures listed { IfOk result (λ list. list ≡ first ∷ []) }
     ensures memory { IfErr result (λ error. error ≡ OutOfMemory) }
 {
-    let mut list = Seq::new(alloc);
-    list.push(first)?;
-    Ok(list)
+    let mut items = Vec::with_capacity(alloc, 1)?;
+    items.push(first)?;
+    Ok(Seq::from_vec(items))
+}
+
+/// The list of this one suffix.
+fn one_suffix(alloc: Global, suffix: Suffix) -> Result<Seq<Suffix>, ReadError>
+    ensures listed { IfOk result (λ list. list ≡ suffix ∷ []) }
+    ensures memory { IfErr result (λ error. error ≡ OutOfMemory) }
+{
+    let mut items = Vec::with_capacity(alloc, 1)?;
+    items.push(suffix)?;
+    Ok(Seq::from_vec(items))
 }
 
 /// The list of the skipped call, if there is one.
@@ -69,11 +79,10 @@ pub(crate) fn list_of_skipped(
     ensures listed { IfOk result (λ list. list ≡ option_list skipped) }
     ensures memory { IfErr result (λ error. error ≡ OutOfMemory) }
 {
-    let mut list = Seq::new(alloc);
-    if let Some(call) = skipped {
-        list.push(call)?;
+    match skipped {
+        None => Ok(Seq::new(alloc)),
+        Some(call) => one_suffix(alloc, call),
     }
-    Ok(list)
 }
 
 /// A base with the suffixes behind it, or the base alone where there are none.

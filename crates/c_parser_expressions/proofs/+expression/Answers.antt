@@ -21,18 +21,19 @@ use Rattle.c_parser_expressions.proofs.Steadies.{steady_skip_item, steady_skip_a
 use Rattle.c_parser_expressions.proofs.Steadies.{steady_operand}
 use Rattle.c_parser_expressions.proofs.Steadies.{steady_suffix}
 use Rattle.c_parser_expressions.proofs.Arms.{no_step, operator_here, no_operator_here, finds_none}
-use Rattle.c_parser_expressions.proofs.Arms.{is_left_paren, is_left_bracket}
+use Rattle.c_parser_expressions.proofs.Arms.{is_left_paren, is_left_bracket, between_here}
+use Rattle.c_parser_expressions.proofs.Arms.{none_between_here}
 use Rattle.c_parser_expressions.proofs.Productions.{comma_none, comma_alone, comma_rest_none}
 use Rattle.c_parser_expressions.proofs.Productions.{comma_many}
-use Rattle.c_parser_expressions.proofs.Productions.{chain_none, chain_rest_none, chain_alone}
-use Rattle.c_parser_expressions.proofs.Productions.{chain_many}
-use Rattle.c_parser_expressions.proofs.Productions.{tightest, operand_none, operand_read}
+use Rattle.c_parser_expressions.proofs.Productions.{operand_none, operand_read}
 use Rattle.c_parser_expressions.proofs.Productions.{conditional_none}
 use Rattle.c_parser_expressions.proofs.Productions.{conditional_alone, conditional_none_yes}
 use Rattle.c_parser_expressions.proofs.Productions.{conditional_no_colon, conditional_none_no}
 use Rattle.c_parser_expressions.proofs.Productions.{conditional_whole, assignment_none}
 use Rattle.c_parser_expressions.proofs.Productions.{assignment_alone}
 use Rattle.c_parser_expressions.proofs.Productions.{assignment_none_right, assignment_whole}
+use Rattle.c_parser_expressions.proofs.Climbing.{looser, tightest, climb_none, link_none}
+use Rattle.c_parser_expressions.proofs.Climbing.{link_read}
 use Rattle.c_parser_expressions.proofs.Tight.{postfix_none, postfix_none_suffixes, postfix_whole}
 use Rattle.c_parser_expressions.proofs.Tight.{unary_none_step, unary_step, unary_none_sign}
 use Rattle.c_parser_expressions.proofs.Tight.{unary_sign}
@@ -363,38 +364,51 @@ unary::cast-returns-else-is t c =
     answers_with MAX_LEVEL c.unary.result (λ u q r. cast_unary_read (sym c.if-is.ensures.value) r)
     (λ i g. cast_unary_none (sym c.if-is.ensures.value) g) c.unary.ensures
 
-pub chains::chain-returns-then-rank-eq0 : goal.chains::chain-returns-then-rank-eq0
-chains::chain-returns-then-rank-eq0 t c = tightest _ _ _ _ _ c.if-rank-eq0.true c.cast.ensures
+pub chains::chain-returns-in_err-whole : goal.chains::chain-returns-in_err-whole
+chains::chain-returns-in_err-whole t c =
+    at_exit MAX_LEVEL _ _ c.from_residual.ensures.1 c.in_err-whole.ensures
+    (λ i g. climb_none c.args.rank g)
 
-pub chains::chain-returns-in_err-first : goal.chains::chain-returns-in_err-first
-chains::chain-returns-in_err-first t c =
-    at_exit MAX_LEVEL _ _ c.from_residual.ensures.1 c.in_err-first.ensures
-    (λ i g. chain_none (c.args.rank - 1) (omega (arith, c.if-rank-eq0.false)) g)
+pub chains::chain-climb-init : goal.chains::chain-climb-init
+chains::chain-climb-init t c = (tightest c.in_ok-whole.ensures, omega arith)
 
 pub chains::chain-returns-in_err-rest : goal.chains::chain-returns-in_err-rest
 chains::chain-returns-in_err-rest t c =
     at_exit MAX_LEVEL _ _ c.from_residual-in_err-rest.ensures.1 c.in_err-rest.ensures
-    (λ i g. chain_rest_none (c.args.rank - 1) (omega (arith, c.if-rank-eq0.false))
-    c.in_ok-first.ensures g)
+    (λ i g. let found = between_here (leaf_at c.args.source.now c.climb.behind) c.climb.tighter
+    c.args.rank _ c.in-Some.next c.symbol.ensures.value c.in-Some.ensures in
+    link_none (c.in-Some.next - 1) (omega (arith, found.0)) found.0 found.2 c.climb.invariant.0
+    found.1 g)
 
-pub chains::chain-returns-then-is_empty : goal.chains::chain-returns-then-is_empty
-chains::chain-returns-then-is_empty t c =
-    chain_alone (c.args.rank - 1) (omega (arith, c.if-rank-eq0.false))
-    c.in_ok-first.ensures c.in_ok-rest.ensures (c.if-is_empty.ensures.0 refl)
+pub chains::chain-climb-preserved : goal.chains::chain-climb-preserved
+chains::chain-climb-preserved t c =
+    let found = between_here (leaf_at c.args.source.now c.climb.behind) c.climb.tighter
+    c.args.rank _ c.in-Some.next c.symbol.ensures.value c.in-Some.ensures in (
+      rw (c.in_ok-first.ensures, c.place-place.ensures) (link_read (c.in-Some.next - 1)
+          (omega (arith, found.0)) found.0 found.2 c.climb.invariant.0 c.in_ok-rest.ensures),
+      found.1,
+    )
+
+pub chains::chain-climb-smaller : goal.chains::chain-climb-smaller
+chains::chain-climb-smaller t c =
+    let found = between_here (leaf_at c.args.source.now c.climb.behind) c.climb.tighter
+    c.args.rank _ c.in-Some.next c.symbol.ensures.value c.in-Some.ensures in
+    omega (arith, found.0, found.1)
 
 pub chains::chain-returns : goal.chains::chain-returns
-chains::chain-returns t c = rw (c.in_ok-operand.ensures, c.place-place.ensures)
-    (chain_many (c.args.rank - 1) (omega (arith, c.if-rank-eq0.false)) c.in_ok-first.ensures
-    c.in_ok-rest.ensures
-    (λ e. let clash : false ≡ true = c.if-is_empty.ensures.1 e in cc))
+chains::chain-returns t c = looser c.climb.invariant.1 c.climb.invariant.0
+    (none_between_here (leaf_at c.args.source.now c.climb.behind) c.climb.tighter c.args.rank _
+    c.looseness_between.result c.symbol.ensures.value c.looseness_between.ensures
+    c.in_default.not-Some)
 
 pub chains::operands-list-init : goal.chains::operands-list-init
 chains::operands-list-init t c = at_items (no_parts (is_operator (suc c.args.tighter))
-    (λ n. operand (chain c.args.tighter (grammar n))) c.requires.within) c.new-operands.ensures
+    (λ n. operand (chain c.args.tighter (grammar n))) c.requires.within)
+    (c.from_vec-operands.ensures ∙ c.in_ok-room.ensures.items)
 
 pub chains::operands-returns-in_err-operand : goal.chains::operands-returns-in_err-operand
 chains::operands-returns-in_err-operand t c =
-    at_exit MAX_LEVEL _ _ c.from_residual.ensures.1 c.in_err-operand.ensures
+    at_exit MAX_LEVEL _ _ c.from_residual-in_err-operand.ensures.1 c.in_err-operand.ensures
     (λ i g. let found = operator_here (leaf_at c.args.source.now c.list.here) c.args.tighter _
     c.in-Some.operator c.symbol.ensures.value c.in-Some.ensures in
     no_part c.list.invariant found.1 (operand_none c.args.tighter found.0 g))

@@ -1,8 +1,9 @@
 -- Each call goes on at a level less, or at the same level to a part of a tighter form.
-use Rattle.std.specs.Prelude.{suc, ◌-◌, length}
+use Rattle.std.specs.Prelude.{suc, ◌-◌, ◌≤◌, length}
 use Rattle.std.proofs.Common.{◌+◌, ◌*◌}
 use Rattle.c_grammar_forms.specs.Forms.{Skip, Deeper}
 use Rattle.c_grammar_forms.specs.Loops.{SoFar}
+use Rattle.c_grammar_forms.specs.Reading.{Reads}
 use Rattle.c_grammar_symbols.specs.declared.words.Terminal.TheVariants as terminal
 use Rattle.c_grammar_symbols.specs.Sources.{leaf_at, is}
 use Rattle.c_grammar_tree.specs.Parts.{begins_suffix, is_operator}
@@ -86,6 +87,13 @@ invariant-arguments::more_arguments-list l = SoFar (λ n. more_arguments l.fn.fi
 
 abbrev pub decreases-arguments::more_arguments-list : goal.decreases-arguments::more_arguments-list
 decreases-arguments::more_arguments-list l = length l.source - l.here
+
+abbrev pub invariant-chains::chain-climb : goal.invariant-chains::chain-climb
+invariant-chains::chain-climb l = Reads (λ n. chain l.tighter (grammar n)) (leaf_at l.source)
+    (length l.source) l.left l.at l.whole l.behind × (l.tighter ≤ l.rank)
+
+abbrev pub decreases-chains::chain-climb : goal.decreases-chains::chain-climb
+decreases-chains::chain-climb l = l.rank - l.tighter
 
 abbrev pub invariant-chains::operands-list : goal.invariant-chains::operands-list
 invariant-chains::operands-list l = SoFar (λ n. operands l.tighter (grammar n))
