@@ -1,8 +1,7 @@
 -- A reading of a chain in front of no looser operator is one of each looser chain, and where a
 -- chain has none no looser one has: what is read of a chain, from the tightest operators on.
-use Rattle.std.specs.Prelude.{◌≡◌, ℕ, zero, suc, ◌+◌, ◌-◌, ◌<◌, ◌≤◌, true, false, List, [], refl}
+use Rattle.std.specs.Prelude.{◌≡◌, ℕ, zero, suc, ◌+◌, ◌-◌, ◌<◌, ◌≤◌, true, false, List, refl}
 use Rattle.std.proofs.Common.{subst, arith}
-use Rattle.c_grammar_forms.specs.Forms.{Many}
 use Rattle.c_grammar_forms.specs.Reading.{Reads, NoneThrough}
 use Rattle.c_grammar_forms.specs.Found.{reads_end}
 use Rattle.c_grammar_symbols.specs.declared.operators.BinaryOperator.{BinaryOperator}

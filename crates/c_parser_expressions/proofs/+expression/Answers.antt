@@ -1,4 +1,4 @@
-use Rattle.std.specs.Prelude.{◌≡◌, suc, ◌-◌, true, false, refl}
+use Rattle.std.specs.Prelude.{suc, ◌-◌, refl}
 use Rattle.std.proofs.Common.{sym, ◌∙◌, arith}
 use Rattle.c_grammar_forms.specs.Forms.{Skip, Deeper}
 use Rattle.c_grammar_forms.specs.Found.{reads_skip}
