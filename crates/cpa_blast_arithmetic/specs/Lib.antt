@@ -1,8 +1,5 @@
 pub mod Products
 pub mod Moves
 pub mod Shifts
-pub mod Dividers
-pub mod Quotients
-pub mod Meanings
 pub mod lemmas
 pub mod Laws

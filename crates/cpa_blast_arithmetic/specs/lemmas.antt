@@ -5,8 +5,3 @@ pub mod StageMeanings
 pub mod ShiftsAtTypes
 pub mod ShiftMeanings
 pub mod Constants
-pub mod StageNumbers
-pub mod DividerMeanings
-pub mod Signs
-pub mod QuotientsAtTypes
-pub mod QuotientMeanings

@@ -1,10 +1,9 @@
-//! Laws of products, shifts and division, stated in specs/Laws. Each function does nothing: its
-//! contract is the law. Proved in specs/lemmas.
+//! Laws of products and shifts, stated in specs/Laws. Each function does nothing: its contract is
+//! the law. Proved in specs/lemmas.
 
 ghost use Rattle.cpa_blast_arithmetic.specs.Laws.{ProductsAreProducts, MovesAreShifts};
 ghost use Rattle.cpa_blast_arithmetic.specs.Laws.{ShiftsMoveWords, ShiftsShift};
-ghost use Rattle.cpa_blast_arithmetic.specs.Laws.{ConstantsMakeNoGates, DividersDivide};
-ghost use Rattle.cpa_blast_arithmetic.specs.Laws.{SignsTurnWords, QuotientsDivide};
+ghost use Rattle.cpa_blast_arithmetic.specs.Laws.{ConstantsMakeNoGates};
 
 /// A product made of words of a net stands, under each assignment under which the new net holds,
 /// for the product of their numbers modulo 2 to the power of the length.
@@ -36,25 +35,4 @@ pub fn shifts_shift_at_types()
 #[tactic(auto, using(crate::specs::Laws::constants_make_no_gates))]
 pub fn constant_amounts_make_no_gates()
     ensures { ConstantsMakeNoGates }
-{}
-
-/// A divider made of words of a net divides their numbers, under each assignment under which the
-/// new net holds and the divisor is not 0; and each assignment of the old net extends to one of the
-/// new.
-#[tactic(auto, using(crate::specs::Laws::dividers_divide))]
-pub fn dividers_divide()
-    ensures { DividersDivide }
-{}
-
-/// A word turned by a sign stands for the two's complement where the sign is true.
-#[tactic(auto, using(crate::specs::Laws::signs_turn_words))]
-pub fn signs_turn_words()
-    ensures { SignsTurnWords }
-{}
-
-/// At each type a quotient made of words stands for the quotient of their numbers, rounded toward
-/// zero and wrapped, and a remainder for what it leaves, where the divisor is not 0; and some bit
-/// of the divisor is true exactly there.
-pub fn quotients_divide_at_types()
-    ensures { QuotientsDivide }
 {}

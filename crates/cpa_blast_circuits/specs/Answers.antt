@@ -14,7 +14,7 @@ use Rattle.cpa_blast_words.specs.Words.{some_bit}
 use Rattle.cpa_blast_words.specs.Words.{opposites, constant_word, cast_word}
 use Rattle.cpa_blast_arithmetic.specs.Products.{product}
 use Rattle.cpa_blast_arithmetic.specs.Shifts.{is_amount, shifted_left, shifted_right}
-use Rattle.cpa_blast_arithmetic.specs.Quotients.{quotient, remainder}
+use Rattle.cpa_blast_quotients.specs.Quotients.{quotient, remainder}
 use Rattle.cpa_expr.specs.declared.tree.UnOp.{UnOp}
 use Rattle.cpa_expr.specs.declared.tree.BinOp.{BinOp}
 use Rattle.cpa_expr.specs.declared.tree.CmpOp.{CmpOp}

@@ -14,8 +14,9 @@ ghost use Rattle.cpa_blast_circuits.specs.Answers.{comparison_in};
 ghost use Rattle.cpa_blast_circuits.specs.Answers.{cast_in};
 
 use crate::answer::Answer;
-use cpa_blast_arithmetic::{is_amount, product, quotient, remainder, shifted_left, shifted_right};
+use cpa_blast_arithmetic::{is_amount, product, shifted_left, shifted_right};
 use cpa_blast_gates::{Net, always, never};
+use cpa_blast_quotients::{quotient, remainder};
 use cpa_blast_words::{
     and_word, cast_word, constant_word, difference_word, equal, less, less_signed, negated_word,
     opposites, or_word, push_repeated, some_bit, sum_word, words_are_long, xor_word,

@@ -4,7 +4,7 @@ use Rattle.cpa_ints.specs.declared.integers.IntType.{IntType}
 use Rattle.cpa_blast_gates.specs.declared.gate.Gate.{Gate}
 use Rattle.cpa_blast_words.specs.Values.{AreWords}
 use Rattle.cpa_blast_arithmetic.specs.Laws.{shifts_shift}
-use Rattle.cpa_blast_arithmetic.specs.Laws.{quotients_divide}
+use Rattle.cpa_blast_quotients.specs.Laws.{quotients_divide}
 use Rattle.cpa_expr.specs.declared.tree.BinOp.{BinOp}
 use Rattle.cpa_expr.specs.declared.tree.BinOp.TheVariants as bin
 use Rattle.cpa_blast_circuits.specs.Answers.{binary_word, binary_test}

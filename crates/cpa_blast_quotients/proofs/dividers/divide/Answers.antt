@@ -1,8 +1,8 @@
 use Rattle.std.proofs.Common.{◌-◌, ◌∙◌, refl, ap, arith, length, take}
 use Rattle.std.proofs.lemmas.List.{take_rest}
-use Rattle.cpa_blast_arithmetic.specs.Dividers.{stage}
-use Rattle.cpa_blast_arithmetic.proofs.Turns.{divide_start, divide_next, empty_divided}
-use Rattle.cpa_blast_arithmetic.proofs.dividers.divide.Goals as goal
+use Rattle.cpa_blast_quotients.specs.Dividers.{stage}
+use Rattle.cpa_blast_quotients.proofs.Turns.{divide_start, divide_next, empty_divided}
+use Rattle.cpa_blast_quotients.proofs.dividers.divide.Goals as goal
 
 pub loop-place-init : goal.loop-place-init
 loop-place-init c = record {

@@ -1,7 +1,7 @@
 use Rattle.std.proofs.Common.{◌-◌, ◌∙◌, ap, arith}
 use Rattle.cpa_blast_gates.specs.Nets.{built, and_in}
-use Rattle.cpa_blast_arithmetic.proofs.Turns.{none_start, none_next}
-use Rattle.cpa_blast_arithmetic.proofs.dividers.no_bit.Goals as goal
+use Rattle.cpa_blast_quotients.proofs.Turns.{none_start, none_next}
+use Rattle.cpa_blast_quotients.proofs.dividers.no_bit.Goals as goal
 
 pub loop-place-init : goal.loop-place-init
 loop-place-init c = record {

@@ -18,8 +18,8 @@ use Rattle.cpa_blast_words.specs.Laws.{words_are_long}
 use Rattle.cpa_blast_words.specs.Laws.{sums_are_sums}
 use Rattle.cpa_blast_words.specs.lemmas.Columns.{still_below}
 use Rattle.cpa_blast_words.specs.lemmas.WordMeanings.{repeated_below, never_below, values_repeated}
-use Rattle.cpa_blast_arithmetic.specs.Quotients.{signed_word}
-use Rattle.cpa_blast_arithmetic.specs.Meanings.{signed_number}
+use Rattle.cpa_blast_quotients.specs.Quotients.{signed_word}
+use Rattle.cpa_blast_quotients.specs.Meanings.{signed_number}
 
 -- ---- truth values
 

@@ -3,7 +3,7 @@
 
 ghost use Rattle.std.specs.Prelude.{◌≡◌, ◌+◌, length, IfOk};
 ghost use Rattle.cpa_blast_gates.specs.Nets.{built};
-ghost use Rattle.cpa_blast_arithmetic.specs.Dividers.{no_bit, stage, divide};
+ghost use Rattle.cpa_blast_quotients.specs.Dividers.{no_bit, stage, divide};
 
 use cpa_blast_gates::{Net, always};
 use cpa_blast_words::{Row, Walked, choose_word, joined, opposites, walk};

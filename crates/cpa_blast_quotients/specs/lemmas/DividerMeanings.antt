@@ -23,10 +23,10 @@ use Rattle.cpa_blast_words.specs.lemmas.WalkMeanings.{all_still_below}
 use Rattle.cpa_blast_words.specs.lemmas.WordMeanings.{opposites_below, values_opposites}
 use Rattle.cpa_blast_words.specs.lemmas.WordMeanings.{always_below}
 use Rattle.cpa_blast_words.specs.lemmas.WordMeanings.{front_below, back_below}
-use Rattle.cpa_blast_arithmetic.specs.declared.dividers.Divided.{Divided}
-use Rattle.cpa_blast_arithmetic.specs.Dividers.{no_bit, stage, divide}
-use Rattle.cpa_blast_arithmetic.specs.Meanings.{Divides, MakesDivision}
-use Rattle.cpa_blast_arithmetic.specs.lemmas.StageNumbers.{stage_number}
+use Rattle.cpa_blast_quotients.specs.declared.dividers.Divided.{Divided}
+use Rattle.cpa_blast_quotients.specs.Dividers.{no_bit, stage, divide}
+use Rattle.cpa_blast_quotients.specs.Meanings.{Divides, MakesDivision}
+use Rattle.cpa_blast_quotients.specs.lemmas.StageNumbers.{stage_number}
 
 -- ---- no bit is true
 

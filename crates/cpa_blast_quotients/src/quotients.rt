@@ -3,8 +3,8 @@
 
 ghost use Rattle.std.specs.Prelude.{◌≡◌, length, IfOk};
 ghost use Rattle.cpa_blast_gates.specs.Nets.{built};
-ghost use Rattle.cpa_blast_arithmetic.specs.Quotients.{signed_word, divided_magnitudes, quotient};
-ghost use Rattle.cpa_blast_arithmetic.specs.Quotients.{remainder};
+ghost use Rattle.cpa_blast_quotients.specs.Quotients.{signed_word, divided_magnitudes, quotient};
+ghost use Rattle.cpa_blast_quotients.specs.Quotients.{remainder};
 
 use crate::dividers::{Divided, divide};
 use cpa_blast_gates::{Net, never};

@@ -10,7 +10,7 @@ use Rattle.std.proofs.lemmas.List.{length-map}
 use Rattle.cpa_blast_words.specs.declared.rows.Row.TheVariants as row
 use Rattle.cpa_blast_words.specs.Truths.{bit, number, walked_bits, walked_carry}
 use Rattle.cpa_blast_words.specs.Laws.{words_are_numbers, sums_are_sums, masks_are_bitwise}
-use Rattle.cpa_blast_arithmetic.specs.Meanings.{Divides}
+use Rattle.cpa_blast_quotients.specs.Meanings.{Divides}
 
 -- whether d fits into what is left, and what is left then
 record Fits (fits : Bool) (left d rest : ℕ) : Type 0 where

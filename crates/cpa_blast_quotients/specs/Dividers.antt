@@ -8,7 +8,7 @@ use Rattle.cpa_blast_gates.specs.Nets.{Built, built, and_in}
 use Rattle.cpa_blast_words.specs.declared.rows.Row.TheVariants as row
 use Rattle.cpa_blast_words.specs.Walks.{walk}
 use Rattle.cpa_blast_words.specs.Words.{opposites, choose_word}
-use Rattle.cpa_blast_arithmetic.specs.declared.dividers.Divided.{Divided}
+use Rattle.cpa_blast_quotients.specs.declared.dividers.Divided.{Divided}
 
 abbrev pub divided : List ℕ → List ℕ → Divided
 divided quotient remainder = record { quotient = quotient; remainder = remainder }

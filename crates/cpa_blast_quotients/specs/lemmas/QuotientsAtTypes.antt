@@ -22,7 +22,7 @@ use Rattle.cpa_blast_words.specs.Laws.{words_are_numbers}
 use Rattle.cpa_blast_words.specs.lemmas.AtTypes.{stand_for}
 use Rattle.cpa_blast_words.specs.lemmas.Orders.{halves, signed_range}
 use Rattle.cpa_blast_words.specs.lemmas.Casts.{by_sign, signed_where}
-use Rattle.cpa_blast_arithmetic.specs.Meanings.{Divides, signed_number, signed}
+use Rattle.cpa_blast_quotients.specs.Meanings.{Divides, signed_number, signed}
 
 -- ---- the magnitude of a number that a word stands for
 

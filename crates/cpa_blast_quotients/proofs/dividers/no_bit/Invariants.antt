@@ -1,7 +1,7 @@
 use Rattle.std.proofs.Common.{◌≡◌, ◌≤◌, length, drop}
 use Rattle.cpa_blast_gates.specs.Nets.{built}
-use Rattle.cpa_blast_arithmetic.specs.Dividers.{no_bit}
-use Rattle.cpa_blast_arithmetic.proofs.dividers.no_bit.Given as goal
+use Rattle.cpa_blast_quotients.specs.Dividers.{no_bit}
+use Rattle.cpa_blast_quotients.proofs.dividers.no_bit.Given as goal
 
 abbrev pub invariant-loop-place : goal.invariant-loop-place
 invariant-loop-place l = record {

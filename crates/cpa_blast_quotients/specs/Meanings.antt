@@ -7,7 +7,7 @@ use Rattle.cpa_blast_gates.specs.declared.gate.Gate.{Gate}
 use Rattle.cpa_blast_gates.specs.Nets.{vars, Holds, Built}
 use Rattle.cpa_blast_gates.specs.Meanings.{Grows}
 use Rattle.cpa_blast_words.specs.Truths.{values, number}
-use Rattle.cpa_blast_arithmetic.specs.declared.dividers.Divided.{Divided}
+use Rattle.cpa_blast_quotients.specs.declared.dividers.Divided.{Divided}
 
 -- d goes q times into a, and r is left
 pub record Divides (d a q r : ℕ) : Type 0 where

@@ -33,15 +33,15 @@ use Rattle.cpa_blast_words.specs.Laws.{comparisons_compare, words_are_equal}
 use Rattle.cpa_blast_words.specs.lemmas.Columns.{still_below}
 use Rattle.cpa_blast_words.specs.lemmas.WalkMeanings.{all_still_below}
 use Rattle.cpa_blast_words.specs.lemmas.WordMeanings.{never_below, values_filling, filling_below}
-use Rattle.cpa_blast_arithmetic.specs.declared.dividers.Divided.{Divided}
-use Rattle.cpa_blast_arithmetic.specs.Dividers.{divide}
-use Rattle.cpa_blast_arithmetic.specs.Quotients.{signed_word, divided_magnitudes, quotient}
-use Rattle.cpa_blast_arithmetic.specs.Quotients.{remainder}
-use Rattle.cpa_blast_arithmetic.specs.Meanings.{Divides, MakesDivision, signed_number, signed}
-use Rattle.cpa_blast_arithmetic.specs.lemmas.DividerMeanings.{divide_is}
-use Rattle.cpa_blast_arithmetic.specs.lemmas.Signs.{signed_is}
-use Rattle.cpa_blast_arithmetic.specs.lemmas.QuotientsAtTypes.{sized, IsDivision, division}
-use Rattle.cpa_blast_arithmetic.specs.lemmas.QuotientsAtTypes.{signed_stands, wraps_alike}
+use Rattle.cpa_blast_quotients.specs.declared.dividers.Divided.{Divided}
+use Rattle.cpa_blast_quotients.specs.Dividers.{divide}
+use Rattle.cpa_blast_quotients.specs.Quotients.{signed_word, divided_magnitudes, quotient}
+use Rattle.cpa_blast_quotients.specs.Quotients.{remainder}
+use Rattle.cpa_blast_quotients.specs.Meanings.{Divides, MakesDivision, signed_number, signed}
+use Rattle.cpa_blast_quotients.specs.lemmas.DividerMeanings.{divide_is}
+use Rattle.cpa_blast_quotients.specs.lemmas.Signs.{signed_is}
+use Rattle.cpa_blast_quotients.specs.lemmas.QuotientsAtTypes.{sized, IsDivision, division}
+use Rattle.cpa_blast_quotients.specs.lemmas.QuotientsAtTypes.{signed_stands, wraps_alike}
 
 pub equal_lengths : (s : List Gate) (xs ys : List ℕ) → IsScoped s → AreBelow (vars s) xs
     → AreBelow (vars s) ys → length xs ≡ length ys → MakesDivision s xs ys (divide s xs ys)

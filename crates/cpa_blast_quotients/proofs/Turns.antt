@@ -6,8 +6,8 @@ use Rattle.std.proofs.lemmas.List.{length-drop}
 use Rattle.cpa_cnf.specs.Literals.{opposite}
 use Rattle.cpa_blast_gates.specs.declared.gate.Gate.{Gate}
 use Rattle.cpa_blast_gates.specs.Nets.{Built, built, and_in}
-use Rattle.cpa_blast_arithmetic.specs.declared.dividers.Divided.{Divided}
-use Rattle.cpa_blast_arithmetic.specs.Dividers.{divided, no_bit, stage, divide}
+use Rattle.cpa_blast_quotients.specs.declared.dividers.Divided.{Divided}
+use Rattle.cpa_blast_quotients.specs.Dividers.{divided, no_bit, stage, divide}
 
 item_at : (zs : List ℕ) (p i d : ℕ) → p ≡ i + 1 → i < length zs → d ≡ get_or zs i d
     → drop i zs ≡ d ∷ drop p zs

@@ -6,8 +6,8 @@ use Rattle.cpa_ints.specs.declared.integers.IntType.{IntType}
 use Rattle.cpa_blast_gates.specs.declared.gate.Gate.{Gate}
 use Rattle.cpa_blast_gates.specs.Nets.{Built, xor_in}
 use Rattle.cpa_blast_words.specs.Words.{filling, xor_word, sum_word}
-use Rattle.cpa_blast_arithmetic.specs.declared.dividers.Divided.{Divided}
-use Rattle.cpa_blast_arithmetic.specs.Dividers.{divide}
+use Rattle.cpa_blast_quotients.specs.declared.dividers.Divided.{Divided}
+use Rattle.cpa_blast_quotients.specs.Dividers.{divide}
 
 -- the two's complement where the sign is true, else the word: each bit is turned by the sign, and
 -- the sign is added
