@@ -156,32 +156,37 @@ halfway_whole cfa cs choice ps place row past half =
     (Some row)) (sym (nothing_left cs place past))
     (ap (λ (xs : List Elem). Some xs) row_is))
 
--- one choice more that gives a row
-pub rows_taken : (cfa : Cfa) (cs : List Component) (ps : List Precision)
-    (choices : List (List Elem)) (choice : List Elem) (rows : List (List Elem)) (row : List Elem)
-    → Strengthens cfa cs [] choice ps (Some row) → EachStrengthened cfa cs ps choices rows
-    → EachStrengthened cfa cs ps (choices ++ choice ∷ []) (rows ++ row ∷ [])
-rows_taken cfa cs ps [] choice rows row made h =
-    subst (λ (rs : List (List Elem)). EachStrengthened cfa cs ps (choice ∷ []) (rs ++ row ∷ []))
-    (sym h) (inr (row, [], refl, made, refl))
-rows_taken cfa cs ps (first ∷ choices) choice rows row made (inl h) =
-    inl (h.0, rows_taken cfa cs ps choices choice rows row made h.1)
-rows_taken cfa cs ps (first ∷ choices) choice rows row made (inr h) =
-    inr (
-      h.0,
-      h.1 ++ row ∷ [],
-      ap (λ (rs : List (List Elem)). rs ++ row ∷ []) h.2,
-      h.3,
-      rows_taken cfa cs ps choices choice h.1 row made h.4,
-    )
+-- What is made of the choices that are left comes behind these rows.
+pub record Remains (cfa : Cfa) (cs : List Component) (ps : List Precision)
+    (choices left rows : List (List Elem)) : Type 0 where
+  pub leads : (later : List (List Elem)) → EachStrengthened cfa cs ps left later
+      → EachStrengthened cfa cs ps choices (rows ++ later)
 
--- one choice more that is dropped
-pub rows_dropped : (cfa : Cfa) (cs : List Component) (ps : List Precision)
-    (choices : List (List Elem)) (choice : List Elem) (rows : List (List Elem))
-    → Strengthens cfa cs [] choice ps None → EachStrengthened cfa cs ps choices rows
-    → EachStrengthened cfa cs ps (choices ++ choice ∷ []) rows
-rows_dropped cfa cs ps [] choice rows none h = inl (none, h)
-rows_dropped cfa cs ps (first ∷ choices) choice rows none (inl h) =
-    inl (h.0, rows_dropped cfa cs ps choices choice rows none h.1)
-rows_dropped cfa cs ps (first ∷ choices) choice rows none (inr h) =
-    inr (h.0, h.1, h.2, h.3, rows_dropped cfa cs ps choices choice h.1 none h.4)
+pub remains_first : (cfa : Cfa) (cs : List Component) (ps : List Precision)
+    (choices : List (List Elem)) → Remains cfa cs ps choices choices []
+remains_first cfa cs ps choices = record { leads = λ later h. h }
+
+-- one choice that gives a row
+pub remains_taken : (cfa : Cfa) (cs : List Component) (ps : List Precision)
+    (choices left rows : List (List Elem)) (choice row : List Elem)
+    → Strengthens cfa cs [] choice ps (Some row) → Remains cfa cs ps choices (choice ∷ left) rows
+    → Remains cfa cs ps choices left (rows ++ row ∷ [])
+remains_taken cfa cs ps choices left rows choice row made is = record {
+  leads = λ later h. subst (EachStrengthened cfa cs ps choices) (sym (joined rows row later))
+      (is.leads (row ∷ later) (inr (row, later, refl, made, h)));
+}
+
+-- one choice that is dropped
+pub remains_dropped : (cfa : Cfa) (cs : List Component) (ps : List Precision)
+    (choices left rows : List (List Elem)) (choice : List Elem)
+    → Strengthens cfa cs [] choice ps None → Remains cfa cs ps choices (choice ∷ left) rows
+    → Remains cfa cs ps choices left rows
+remains_dropped cfa cs ps choices left rows choice none is = record {
+  leads = λ later h. is.leads later (inl (none, h));
+}
+
+pub remains_none : (cfa : Cfa) (cs : List Component) (ps : List Precision)
+    (choices rows : List (List Elem)) → Remains cfa cs ps choices [] rows
+    → EachStrengthened cfa cs ps choices rows
+remains_none cfa cs ps choices rows is =
+    subst (EachStrengthened cfa cs ps choices) (no_more rows) (is.leads [] refl)

@@ -58,8 +58,8 @@ pub(crate) fn successors<A: Analysis>(
     ensures kept { map A.meaning handed.new.items ≡ map A.meaning handed.old.items }
 {
     let lists = rows::transfers(handed, picks, alloc, cfa, edge, elems, precisions)?;
-    let choices = choosing::choices(alloc, &lists)?;
-    choosing::strengthen_all(handed, picks, alloc, cfa, &choices, precisions)
+    let choices = choosing::choices(alloc, lists)?;
+    choosing::strengthen_all(handed, picks, alloc, cfa, choices, precisions)
 }
 
 /// The merged row, if it is another one than the old one.

@@ -1,7 +1,7 @@
 //! Every choice of one element from each list, and what the analyses make of a choice: `choices`
 //! and `Strengthens` of `specs/Laws.antt`, shown in `proofs/Strengthening.antt`.
 
-ghost use Rattle.std.specs.Prelude.{◌≡◌, ◌<◌, [], ◌∷◌, ◌++◌, length, map, IfOk, OnOk};
+ghost use Rattle.std.specs.Prelude.{◌≡◌, ◌<◌, [], ◌∷◌, ◌++◌, length, map, true, IfOk, OnOk};
 ghost use Rattle.std.specs.List.{AllByRecursion, flat_map};
 ghost use Rattle.std.specs.Option.{option_map};
 ghost use Rattle.cpa_model.specs.Automata.{IsAutomaton};
@@ -9,9 +9,11 @@ ghost use Rattle.cpa_iface.specs.Meanings.{IsPrecision, AreShaped};
 ghost use Rattle.cpa_composite.specs.Components.{Component, IsPicked, picked, ArePlaces, AreElems};
 ghost use Rattle.cpa_composite.specs.Components.{ArePrecisions};
 ghost use Rattle.cpa_composite.specs.Laws.{choices, Strengthens, EachStrengthened};
+ghost use Rattle.cpa_composite.specs.Comparisons.{have_one_each};
 ghost use Rattle.cpa_composite.specs.Steps.{StrengthensAt};
 
 use crate::asking;
+use crate::comparing::have_one_each;
 use cpa_iface::{Analysis, Pick, Precision};
 use cpa_model::{Cfa, Elem, copy_elem};
 use std::alloc::{AllocError, Global};
@@ -69,8 +71,8 @@ fn before_each(
     Ok(rows)
 }
 
-/// Every choice of one element from each list, the last one varying fastest.
-pub(crate) fn choices(alloc: Global, lists: &[Vec<Elem>]) -> Result<Vec<Vec<Elem>>, AllocError>
+/// Every choice of one element from each list, each element copied for it.
+fn copied_choices(alloc: Global, lists: &[Vec<Elem>]) -> Result<Vec<Vec<Elem>>, AllocError>
     ensures { IfOk result (λ rows. map (λ row. row.items) rows.items ≡
         choices (map (λ list. list.items) lists.now)) }
 {
@@ -81,10 +83,38 @@ pub(crate) fn choices(alloc: Global, lists: &[Vec<Elem>]) -> Result<Vec<Vec<Elem
             Ok(rows)
         }
         [list, lists @ ..] => {
-            let later = choices(alloc, lists)?;
+            let later = copied_choices(alloc, lists)?;
             before_each(alloc, list, &later)
         }
     }
+}
+
+/// The one choice, where each list has one element, which is moved into it.
+fn only_choice(alloc: Global, lists: Vec<Vec<Elem>>) -> Result<Vec<Elem>, AllocError>
+    requires { have_one_each (map (λ list. list.items) lists.items) ≡ true }
+    ensures { IfOk result (λ row. choices (map (λ list. list.items) lists.items)
+        ≡ row.items ∷ []) }
+{
+    let mut row = Vec::new(alloc);
+    for list in lists {
+        let mut firsts = list;
+        row.append(&mut firsts)?;
+    }
+    Ok(row)
+}
+
+/// Every choice of one element from each list, the last one varying fastest. Mostly each list has
+/// one, and then none is copied.
+pub(crate) fn choices(alloc: Global, lists: Vec<Vec<Elem>>) -> Result<Vec<Vec<Elem>>, AllocError>
+    ensures { IfOk result (λ rows. map (λ row. row.items) rows.items ≡
+        choices (map (λ list. list.items) lists.items)) }
+{
+    if have_one_each(&lists) {
+        let mut rows = Vec::new(alloc);
+        rows.push(only_choice(alloc, lists)?)?;
+        return Ok(rows);
+    }
+    copied_choices(alloc, &lists)
 }
 
 /// Strengthens the element at a place among the others of the row. True where no state is left.
@@ -125,19 +155,19 @@ fn strengthen<A: Analysis>(
     picks: &[Pick],
     alloc: Global,
     cfa: &Cfa,
-    choice: &[Elem],
+    choice: Vec<Elem>,
     precisions: &[Precision],
 ) -> Result<Option<Vec<Elem>>, AllocError>
     requires automaton { IsAutomaton cfa.now }
     requires picks { ArePlaces (length handed.old.items) picks.now }
-    requires choice { AreElems cfa.now (length picks.now) choice.now }
+    requires choice { AreElems cfa.now (length picks.now) choice.items }
     requires precisions { ArePrecisions cfa.now (length picks.now) precisions.now }
     ensures laws { IfOk result (λ row. Strengthens cfa.now
-        (picked (map A.meaning handed.old.items) picks.now) [] choice.now precisions.now
+        (picked (map A.meaning handed.old.items) picks.now) [] choice.items precisions.now
         (option_map (λ list. list.items) row)) }
     ensures kept { map A.meaning handed.new.items ≡ map A.meaning handed.old.items }
 {
-    let mut row = copy_row(alloc, choice)?;
+    let mut row = choice;
     for place in 0..picks.len() {
         let pick = &picks[place];
         let precision = &precisions[place];
@@ -155,17 +185,17 @@ pub(crate) fn strengthen_all<A: Analysis>(
     picks: &[Pick],
     alloc: Global,
     cfa: &Cfa,
-    choices: &[Vec<Elem>],
+    choices: Vec<Vec<Elem>>,
     precisions: &[Precision],
 ) -> Result<Vec<Vec<Elem>>, AllocError>
     requires automaton { IsAutomaton cfa.now }
     requires picks { ArePlaces (length handed.old.items) picks.now }
     requires choices { AllByRecursion (AreElems cfa.now (length picks.now))
-        (map (λ row. row.items) choices.now) }
+        (map (λ row. row.items) choices.items) }
     requires precisions { ArePrecisions cfa.now (length picks.now) precisions.now }
     ensures laws { IfOk result (λ rows. EachStrengthened cfa.now
         (picked (map A.meaning handed.old.items) picks.now) precisions.now
-        (map (λ row. row.items) choices.now) (map (λ row. row.items) rows.items)) }
+        (map (λ row. row.items) choices.items) (map (λ row. row.items) rows.items)) }
     ensures kept { map A.meaning handed.new.items ≡ map A.meaning handed.old.items }
 {
     let mut rows = Vec::new(alloc);

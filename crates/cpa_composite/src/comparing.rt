@@ -1,8 +1,8 @@
 //! Tests on rows. They compute what `specs/Comparisons.antt` and `specs/Laws.antt` say of them, by
 //! the checker alone.
 
-ghost use Rattle.std.specs.Prelude.{◌≡◌};
-ghost use Rattle.cpa_composite.specs.Comparisons.{keeps_apart, agree};
+ghost use Rattle.std.specs.Prelude.{◌≡◌, map};
+ghost use Rattle.cpa_composite.specs.Comparisons.{keeps_apart, agree, have_one_each};
 ghost use Rattle.cpa_composite.specs.Laws.{is_longer, some_longer};
 
 use cpa_iface::{MergeRule, Pick, Precision};
@@ -56,5 +56,15 @@ pub(crate) fn some_longer(old: &[Precision], new: &[Precision]) -> bool
             [] => false,
             [after, new @ ..] => is_longer(before, after) || some_longer(old, new),
         },
+    }
+}
+
+/// Whether each list has one element.
+pub(crate) fn have_one_each(lists: &[Vec<Elem>]) -> bool
+    ensures { result ≡ have_one_each (map (λ list. list.items) lists.now) }
+{
+    match lists {
+        [] => true,
+        [list, lists @ ..] => list.as_slice().len() == 1 && have_one_each(lists),
     }
 }

@@ -1,6 +1,6 @@
 use Rattle.std.specs.declared.vec.Vec.{Vec}
 use Rattle.std.specs.declared.alloc.Global.{Global}
-use Rattle.std.proofs.Common.{◌≡◌, ℕ, List, map, length, sym, ap, ◌∙◌, subst}
+use Rattle.std.proofs.Common.{◌≡◌, ℕ, List, map, length, sym, ◌∙◌, subst}
 use Rattle.std.specs.List.{AllByRecursion}
 use Rattle.std.proofs.lemmas.List.{length-map}
 use Rattle.std.proofs.lemmas.Result.{IfOk-weaker}
@@ -49,10 +49,8 @@ strengthen_all-requires-clause-choices g c =
     let lists : List (List Elem) = map items c.in_ok-lists.lists.items in
     let size : length lists ≡ length picks =
     length-map c.in_ok-lists.lists.items items ∙ c.in_ok-lists.ensures.size in
-    let chosen : map items c.deref-2.result.now ≡ choices lists =
-    ap (map items) c.deref-2.ensures.value
-    ∙ (c.in_ok-choices.ensures
-    ∙ ap (λ (l : List (Vec Elem Global)). choices (map items l)) c.deref.ensures.value) in
+    let chosen : map items c.in_ok-choices.choices.items ≡ choices lists =
+    c.in_ok-choices.ensures in
     let shaped = choices_shaped cfa lists
     (lists_shaped cfa c.args.edge (picked ms picks) c.args.elems.now c.args.precisions.now lists
     c.requires.elems.size c.requires.precisions.size (size ∙ sym many)
@@ -82,10 +80,8 @@ returns-clause-laws g c =
     let lists : List (List Elem) = map items c.in_ok-lists.lists.items in
     let size : length lists ≡ length picks =
     length-map c.in_ok-lists.lists.items items ∙ c.in_ok-lists.ensures.size in
-    let chosen : map items c.deref-2.result.now ≡ choices lists =
-    ap (map items) c.deref-2.ensures.value
-    ∙ (c.in_ok-choices.ensures
-    ∙ ap (λ (l : List (Vec Elem Global)). choices (map items l)) c.deref.ensures.value) in
+    let chosen : map items c.in_ok-choices.choices.items ≡ choices lists =
+    c.in_ok-choices.ensures in
     let cs = picked ms picks in
     let ps = c.args.precisions.now in
     IfOk-weaker _ _ _ (λ (rows : Vec (Vec Elem Global) Global) made.
@@ -93,5 +89,6 @@ returns-clause-laws g c =
     c.requires.elems.size c.requires.precisions.size (size ∙ sym many) c.in_ok-lists.ensures.each
     (subst (λ (l : List (List Elem)). EachStrengthened cfa cs ps l (map items rows.items)) chosen
     (subst (λ (ns : List Meaning). EachStrengthened cfa (picked ns picks) ps
-    (map items c.deref-2.result.now) (map items rows.items)) c.transfers.ensures.kept made)))
+    (map items c.in_ok-choices.choices.items) (map items rows.items)) c.transfers.ensures.kept
+    made)))
     c.strengthen_all.ensures.laws

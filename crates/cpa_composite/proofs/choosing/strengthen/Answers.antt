@@ -1,6 +1,6 @@
 use Rattle.std.proofs.Common.{◌<◌, map, length, refl, sym}
 use Rattle.std.proofs.Common.{◌∙◌}
-use Rattle.std.proofs.Common.{subst, arith}
+use Rattle.std.proofs.Common.{arith}
 use Rattle.std.proofs.lemmas.Option.{slice_get_read, slice_get-get_or}
 use Rattle.cpa_composite.specs.Components.{picked}
 use Rattle.cpa_composite.proofs.Picking.{within_meanings}
@@ -8,7 +8,7 @@ use Rattle.cpa_iface.specs.declared.merging.Pick.{Pick}
 use Rattle.std.proofs.Common.{get_or}
 use Rattle.cpa_composite.proofs.Picking.{picked_length}
 use Rattle.cpa_composite.proofs.Growing.{IsAt}
-use Rattle.cpa_composite.proofs.Strengthening.{Halfway, halfway_none, halfway_more, halfway_stops}
+use Rattle.cpa_composite.proofs.Strengthening.{halfway_none, halfway_more, halfway_stops}
 use Rattle.cpa_composite.proofs.Strengthening.{halfway_whole}
 use Rattle.cpa_composite.proofs.choosing.strengthen.Goals as goal
 
@@ -19,12 +19,10 @@ loop-place-init g c =
     let handed = c.args.handed.now.items in
     let ms = map meaning handed in
     let many = picked_length ms picks (within_meanings meaning handed picks c.requires.picks) in
-    let choice = c.args.choice.now in
+    let choice = c.args.choice.items in
     record {
-      half = subst (Halfway c.args.cfa.now (picked ms picks) choice c.args.precisions.now 0)
-          (sym c.in_ok-row.ensures)
-          (halfway_none c.args.cfa.now (picked ms picks) choice c.args.precisions.now
-          (c.requires.choice.size ∙ sym many) c.requires.choice.shaped);
+      half = halfway_none c.args.cfa.now (picked ms picks) choice c.args.precisions.now
+          (c.requires.choice.size ∙ sym many) c.requires.choice.shaped;
       kept = refl;
     }
 
@@ -59,7 +57,7 @@ returns-then-stuck-clause-laws g c =
     let p = c.index-precisions-place.result in
     let precision = slice_get_read ps (length ps) i p refl
     (omega (arith, inside, c.requires.precisions.size)) c.index-precisions-place.is in
-    halfway_stops cfa ms now picks i _ c.args.choice.now ps p at.row.items
+    halfway_stops cfa ms now picks i _ c.args.choice.items ps p at.row.items
     c.strengthen_at.new.row.items (here _) precision (omega (arith, inside, many))
     c.in_ok-stuck.stuck c.if-stuck.true c.in_ok-stuck.ensures.laws
     at.invariant.half
@@ -86,7 +84,7 @@ loop-place-preserved g c =
     let precision = slice_get_read ps (length ps) i p refl
     (omega (arith, inside, c.requires.precisions.size)) c.index-precisions-place.is in
     record {
-      half = halfway_more cfa ms now picks i _ c.args.choice.now ps p at.row.items
+      half = halfway_more cfa ms now picks i _ c.args.choice.items ps p at.row.items
           c.strengthen_at.new.row.items (here _) precision (omega (arith, inside, many))
           c.in_ok-stuck.stuck c.if-stuck.false c.in_ok-stuck.ensures.laws
           at.invariant.half;
@@ -101,6 +99,6 @@ returns-clause-laws g c =
     let handed = c.args.handed.now.items in
     let ms = map meaning handed in
     let many = picked_length ms picks (within_meanings meaning handed picks c.requires.picks) in
-    halfway_whole c.args.cfa.now (picked ms picks) c.args.choice.now c.args.precisions.now at.place
+    halfway_whole c.args.cfa.now (picked ms picks) c.args.choice.items c.args.precisions.now at.place
     at.row.items (omega (arith, c.loop-place-test.false, many))
     at.invariant.half

@@ -8,6 +8,6 @@ invariant-loop-place g l =
     let meaning = g.A.Analysis.meaning in
     let ms = map meaning l.initial.handed.items in
     record {
-      half : Halfway l.cfa (picked ms l.picks) l.choice l.precisions l.place l.row.items;
+      half : Halfway l.cfa (picked ms l.picks) l.fn.choice.items l.precisions l.place l.row.items;
       kept : map meaning l.handed.items ≡ ms;
     }
