@@ -1,4 +1,3 @@
-pub mod Meant
 pub mod Placed
 pub mod Picking
 pub mod Growing

@@ -11,7 +11,7 @@ use Rattle.cpa_iface.specs.declared.precisions.Precision.{Precision}
 use Rattle.cpa_iface.specs.Meanings.{Meaning}
 use Rattle.cpa_composite.specs.Components.{Component, picked, picked_before, IsPicked, ArePlaces}
 use Rattle.cpa_composite.specs.Components.{StandsAt}
-use Rattle.cpa_composite.proofs.Placed.{there_is}
+use Rattle.cpa_composite_covers.specs.PickLaws.{there_is}
 
 -- there is a component for each pick
 pub picked_length : (ms : List Meaning) (picks : List Pick) → ArePlaces (length ms) picks
@@ -52,12 +52,6 @@ pub within_kept : {A : Type 0} (meaning : A → Meaning) (xs ys : List A) (picks
 within_kept meaning xs ys picks kept within =
     subst (λ (n : ℕ). ArePlaces n picks)
     (sym (length-map xs meaning) ∙ (ap length (sym kept) ∙ length-map ys meaning)) within
-
--- they are within the meanings
-pub within_meanings : {A : Type 0} (meaning : A → Meaning) (xs : List A) (picks : List Pick)
-    → ArePlaces (length xs) picks → ArePlaces (length (map meaning xs)) picks
-within_meanings meaning xs picks within =
-    subst (λ (n : ℕ). ArePlaces n picks) (sym (length-map xs meaning)) within
 
 -- where an element of a row stands, a component and a precision do
 pub stands_there : (cs : List Component) (es : List Elem) (ps : List Precision)

@@ -7,13 +7,6 @@ use Rattle.std.proofs.Math.Seq.{get_or-append_seam}
 use Rattle.std.specs.List.{slice_get, AllByRecursion, remove, insert}
 use Rattle.std.proofs.lemmas.Option.{same_Some}
 
--- within a list there is an item
-pub there_is : {X : Type 0} (xs : List X) (i : ℕ) → i < length xs
-    → (x : X) × (slice_get xs i ≡ Some x)
-there_is [] i h = absurd (omega arith)
-there_is (x ∷ xs) zero h = (x, refl)
-there_is (x ∷ xs) (suc i) h = there_is xs i (omega arith)
-
 -- the front of a longer list
 pub front_at : {X : Type 0} (xs ys : List X) (i : ℕ) → i < length xs
     → slice_get (xs ++ ys) i ≡ slice_get xs i

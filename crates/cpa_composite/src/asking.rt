@@ -1,5 +1,5 @@
 //! One call of one picked analysis. Each clause is the law of the call, of the component that the
-//! pick makes; that it goes through is shown in `proofs/Meant.antt`.
+//! pick makes; that it goes through is `meant` of `cpa_composite_covers`.
 
 ghost use Rattle.std.specs.Prelude.{◌≡◌, ◌<◌, length, map, IfOk};
 ghost use Rattle.std.specs.List.{AllByRecursion};
@@ -111,15 +111,6 @@ pub(crate) fn merge<A: Analysis>(
     ensures kept { map A.meaning handed.new.items ≡ map A.meaning handed.old.items }
 {
     handed[pick.place as usize].merge(alloc, cfa, pick.rule, new, old, precision)
-}
-
-/// Whether the analysis takes the one element for covered by the other.
-pub(crate) fn covers<A: Analysis>(handed: &Vec<A>, pick: &Pick, elem: &Elem, other: &Elem) -> bool
-    requires { pick.now.place < length handed.now.items }
-    ensures { (c : Component) → IsPicked (map A.meaning handed.now.items) pick.now c →
-        result ≡ c.meaning.cover elem.now other.now }
-{
-    handed[pick.place as usize].covered_by(elem, other)
 }
 
 /// What the analysis makes of its element, and the precision that goes with it.

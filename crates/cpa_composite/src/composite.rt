@@ -9,7 +9,8 @@ ghost use Rattle.cpa_composite.specs.Components.{picked, ArePlaces, AreElems};
 ghost use Rattle.cpa_composite.specs.Components.{ArePrecisions, IsEntryOf};
 ghost use Rattle.cpa_composite.specs.Picks.{places-prop};
 
-use crate::{calls, keys, rows};
+use crate::{calls, keys};
+use cpa_composite_covers::covered_by;
 use cpa_iface::{Analysis, Entry, Pick, Precision, Settings};
 use cpa_model::{Cfa, Elem, Path};
 use std::alloc::{AllocError, Global};
@@ -136,7 +137,7 @@ impl<A: Analysis> Composite<A> {
             → length other.now ≡ length (components self.now) → IsTrue result
             → IsWithinRow elems.now other.now }
     {
-        rows::covered_by(&self.handed, &self.picks, elems, other)
+        covered_by(&self.handed, &self.picks, elems, other)
     }
 
     /// A row of all states of this one, and the precisions that go with it, in view of what is

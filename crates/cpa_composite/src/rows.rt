@@ -7,7 +7,6 @@ ghost use Rattle.cpa_model.specs.Automata.{IsAutomaton};
 ghost use Rattle.cpa_iface.specs.Meanings.{IsPathOf};
 ghost use Rattle.cpa_composite.specs.Components.{picked, ArePlaces, AreElems, ArePrecisions};
 ghost use Rattle.cpa_composite.specs.Components.{IsEntryOf};
-ghost use Rattle.cpa_composite.specs.Covers.{all_cover};
 ghost use Rattle.cpa_composite.specs.Laws.{EachInitial, EachTransfer, EachMerged, EachAdjusted};
 ghost use Rattle.cpa_composite.specs.Laws.{EachRefined};
 
@@ -40,34 +39,6 @@ pub(crate) fn initial<A: Analysis>(
         precisions.push(asking::first_precision(handed, pick, alloc, cfa, settings)?)?;
     }
     Ok((elems, precisions))
-}
-
-/// Whether each analysis takes its element of the one row for covered by that of the other. The
-/// last ones are asked first: those in front tell control apart, and rows of one key agree on them.
-#[tactic(auto, using(crate::proofs::Compared::no_elems_cover, crate::proofs::Compared::no_fellows_cover))]
-pub(crate) fn covered_by<A: Analysis>(
-    handed: &Vec<A>,
-    picks: &[Pick],
-    elems: &[Elem],
-    other: &[Elem],
-) -> bool
-    requires { ArePlaces (length handed.now.items) picks.now }
-    ensures { result ≡
-        all_cover (picked (map A.meaning handed.now.items) picks.now) elems.now other.now }
-{
-    match picks {
-        [] => true,
-        [pick, picks @ ..] => match elems {
-            [] => true,
-            [elem, elems @ ..] => match other {
-                [] => true,
-                [fellow, other @ ..] => {
-                    covered_by(handed, picks, elems, other)
-                        && asking::covers(handed, pick, elem, fellow)
-                }
-            },
-        },
-    }
 }
 
 /// The successors that each analysis gives.

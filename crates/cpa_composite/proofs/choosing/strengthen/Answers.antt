@@ -3,7 +3,7 @@ use Rattle.std.proofs.Common.{◌∙◌}
 use Rattle.std.proofs.Common.{arith}
 use Rattle.std.proofs.lemmas.Option.{slice_get_read, slice_get-get_or}
 use Rattle.cpa_composite.specs.Components.{picked}
-use Rattle.cpa_composite.proofs.Picking.{within_meanings}
+use Rattle.cpa_composite_covers.specs.PickLaws.{within_meanings}
 use Rattle.cpa_iface.specs.declared.merging.Pick.{Pick}
 use Rattle.std.proofs.Common.{get_or}
 use Rattle.cpa_composite.proofs.Picking.{picked_length}

@@ -12,4 +12,4 @@ returns-clause-within g c = λ many long yes.
     let fs = c.args.other.now in
     cover_within (picked ms c.args.self.now.picks.items) es fs many long
     (subst (λ (l : List Pick). all_cover (picked ms l) es fs ≡ true) c.deref.ensures.value
-    (sym c.covered_by.ensures ∙ yes))
+    (sym c.covered_by.ensures.value ∙ yes))

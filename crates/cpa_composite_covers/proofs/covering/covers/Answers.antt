@@ -1,7 +1,7 @@
 use Rattle.std.proofs.Common.{◌∙◌, ap}
 use Rattle.cpa_iface.specs.Meanings.{Meaning}
-use Rattle.cpa_composite.proofs.Meant.{meant}
-use Rattle.cpa_composite.proofs.asking.covers.Goals as goal
+use Rattle.cpa_composite_covers.specs.PickLaws.{meant}
+use Rattle.cpa_composite_covers.proofs.covering.covers.Goals as goal
 
 pub returns : goal.returns
 returns g c = λ k is.

@@ -1,0 +1,4 @@
+pub mod Components
+pub mod PickLaws
+pub mod Covers
+pub mod CoverLaws
