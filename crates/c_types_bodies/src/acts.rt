@@ -20,7 +20,7 @@ ghost use Rattle.c_types_bodies.specs.Views.{state_of, with_passed, IsTied};
 use crate::walker::{Frame, Nest, Walker};
 use c_grammar_tree::{Expression, Name};
 use c_lexer::Rule;
-use c_types_expressions::{Read, read_used};
+use c_types_expressions::{Notes, Read, Reader};
 use c_types_jumps::Jumps;
 use c_types_objects::note_if;
 use c_types_rules::{Kind, Role, TypedExpression};
@@ -46,16 +46,16 @@ pub(crate) fn evaluate_part(
         (state_of frame.now nest walker.new found ≡ done frame.now.survey.now frame.now.caller
         (evaluates role expression.now) (state_of frame.now nest walker.old found)) }
 {
-    let read = read_used(
+    let reader = Reader {
         alloc,
-        frame.survey,
-        &walker.names,
-        frame.caller,
-        role,
-        expression,
-        &mut walker.first,
-        &mut walker.calls,
-    )?;
+        survey: frame.survey,
+        names: &walker.names,
+        caller: frame.caller,
+    };
+    let mut notes = Notes::lent(alloc, walker.first, &mut walker.calls);
+    let read = reader.read_used(role, expression, &mut notes)?;
+    walker.first = notes.first;
+    walker.calls = notes.calls;
     Ok(read)
 }
 

@@ -7,41 +7,39 @@ ghost use Rattle.c_types_rules.specs.Names.{Text};
 ghost use Rattle.c_types_rules.specs.First.{first_with};
 ghost use Rattle.c_types_expressions.specs.Read.{part_of, typed_of, faults_of};
 
-use crate::read::Read;
+use crate::read::{Read, Reader};
 use c_grammar_tree::Name;
 use c_lexer::TextFault;
-use c_types_names::{Names, Survey};
 use c_types_rules::{Form, Kind, Part, TypedExpression, named_kind, note_named};
 use cpa_ints::IntType;
 
-/// Reads a name.
-#[tactic(auto, using(crate::proofs::Variants::part_Name, crate::proofs::Variants::typed_Name, crate::proofs::Variants::first_Name))]
-pub(crate) fn read_name(
-    survey: &Survey,
-    names: &Names,
-    name: &Name,
-    first: &mut Option<TextFault>,
-) -> Read
-    ensures part { result.part ≡ part_of survey.now names.now (Expression.Name name.now) }
-    ensures typed { result.typed ≡ typed_of survey.now names.now (Expression.Name name.now) }
-    ensures first { first.new
-        ≡ first_with first.old (faults_of survey.now names.now (Expression.Name name.now)) }
-{
-    let found = names.meaning(survey, name.bytes.as_slice());
-    note_named(first, name.place, found);
-    Read {
-        part: Part {
-            place: name.place,
-            kind: named_kind(found),
-            form: Form::Bare {
+impl Reader<'_> {
+    /// Reads a name.
+    #[tactic(auto, using(crate::proofs::Variants::part_Name, crate::proofs::Variants::typed_Name, crate::proofs::Variants::first_Name))]
+    pub(crate) fn read_name(&self, name: &Name, first: &mut Option<TextFault>) -> Read
+        ensures part { result.part
+            ≡ part_of self.now.survey.now self.now.names.now (Expression.Name name.now) }
+        ensures typed { result.typed
+            ≡ typed_of self.now.survey.now self.now.names.now (Expression.Name name.now) }
+        ensures first { first.new ≡ first_with first.old
+            (faults_of self.now.survey.now self.now.names.now (Expression.Name name.now)) }
+    {
+        let found = self.names.meaning(self.survey, name.bytes.as_slice());
+        note_named(first, name.place, found);
+        Read {
+            part: Part {
                 place: name.place,
-                meaning: found,
+                kind: named_kind(found),
+                form: Form::Bare {
+                    place: name.place,
+                    meaning: found,
+                },
             },
-        },
-        typed: TypedExpression::Name {
-            meaning: found,
-            place: name.place,
-        },
+            typed: TypedExpression::Name {
+                meaning: found,
+                place: name.place,
+            },
+        }
     }
 }
 

@@ -14,15 +14,13 @@ ghost use Rattle.c_types_expressions.specs.Read.{link_part, link_typed, link_fau
 ghost use Rattle.c_types_expressions.specs.Read.{role_faults, role_calls};
 
 use crate::combine::{joined_type, kind_before, next_kind};
-use crate::read::{Read, read_used};
+use crate::notes::Notes;
+use crate::read::{Read, Reader};
 use c_grammar_symbols::BinaryOperator;
 use c_grammar_tree::Expression;
-use c_lexer::TextFault;
-use c_types_names::{Names, Survey};
-use c_types_recursion::Call;
 use c_types_rules::{Kind, Part, Role, TypedExpression, as_kind};
 use cpa_ints::{Boxed, IntType, Seq};
-use std::alloc::{AllocError, Global};
+use std::alloc::AllocError;
 
 /// The type of a chain, and its typed operands behind the first.
 #[derive(Drop)]
@@ -31,45 +29,36 @@ pub(crate) struct Links {
     pub(crate) typed: Vec<(BinaryOperator, TypedExpression)>,
 }
 
-/// Reads the operands of a chain behind what has a type or none.
-#[cycle(read)]
-#[tactic(auto, using(c_types_rules::specs::First::first_append))]
-pub(crate) fn read_links(
-    alloc: Global,
-    survey: &Survey,
-    names: &Names,
-    caller: u32,
-    left: Option<IntType>,
-    rest: &[(BinaryOperator, Expression)],
-    first: &mut Option<TextFault>,
-    calls: &mut Vec<Call>,
-) -> Result<Links, AllocError>
-    ensures ty { IfOk result (λ r. r.ty
-        ≡ chain_type left (map (link_part survey.now names.now) rest.now)) }
-    ensures typed { IfOk result (λ r. r.typed.items
-        ≡ map (link_typed survey.now names.now) rest.now) }
-    ensures first { OnOk result (first.new
-        ≡ first_with first.old (flat_map (link_faults survey.now names.now) rest.now)) }
-    ensures calls { OnOk result (calls.new.items ≡ calls.old.items
-        ++ flat_map (link_calls survey.now names.now caller) rest.now) }
-{
-    let mut ty = left;
-    let mut typed = Vec::new(alloc);
-    for link in rest {
-        let read = read_used(
-            alloc,
-            survey,
-            names,
-            caller,
-            Role::Valued,
-            &link.1,
-            first,
-            calls,
-        )?;
-        ty = joined_type(ty, link.0, read.part);
-        typed.push((link.0, read.typed))?;
+impl Reader<'_> {
+    /// Reads the operands of a chain behind what has a type or none.
+    #[cycle(read)]
+    #[tactic(auto, using(c_types_rules::specs::First::first_append))]
+    pub(crate) fn read_links(
+        &self,
+        left: Option<IntType>,
+        rest: &[(BinaryOperator, Expression)],
+        notes: &mut Notes,
+    ) -> Result<Links, AllocError>
+        ensures ty { IfOk result (λ r. r.ty
+            ≡ chain_type left (map (link_part self.now.survey.now self.now.names.now) rest.now)) }
+        ensures typed { IfOk result (λ r. r.typed.items
+            ≡ map (link_typed self.now.survey.now self.now.names.now) rest.now) }
+        ensures first { OnOk result (notes.new.first
+            ≡ first_with notes.old.first (flat_map (link_faults self.now.survey.now
+            self.now.names.now) rest.now)) }
+        ensures calls { OnOk result (notes.new.calls.items
+            ≡ notes.old.calls.items ++ flat_map (link_calls self.now.survey.now self.now.names.now
+            self.now.caller) rest.now) }
+    {
+        let mut ty = left;
+        let mut typed = Vec::new(self.alloc);
+        for link in rest {
+            let read = self.read_used(Role::Valued, &link.1, notes)?;
+            ty = joined_type(ty, link.0, read.part);
+            typed.push((link.0, read.typed))?;
+        }
+        Ok(Links { ty, typed })
     }
-    Ok(Links { ty, typed })
 }
 
 /// A chain of what is read of its operands.
@@ -96,77 +85,66 @@ struct Items {
     typed: Vec<TypedExpression>,
 }
 
-/// Reads items that are evaluated one after the other, behind what has a type or none.
-#[cycle(read)]
-#[tactic(auto, using(c_types_rules::specs::First::first_append))]
-fn read_items(
-    alloc: Global,
-    survey: &Survey,
-    names: &Names,
-    caller: u32,
-    before: Option<Kind>,
-    items: &[Expression],
-    first: &mut Option<TextFault>,
-    calls: &mut Vec<Call>,
-) -> Result<Items, AllocError>
-    ensures kind { IfOk result (λ r. r.kind
-        ≡ last_kind before (map (part_of survey.now names.now) items.now)) }
-    ensures typed { IfOk result (λ r. r.typed.items
-        ≡ map (typed_of survey.now names.now) items.now) }
-    ensures first { OnOk result (first.new
-        ≡ first_with first.old (flat_map (role_faults survey.now names.now Evaluated) items.now)) }
-    ensures calls { OnOk result (calls.new.items ≡ calls.old.items
-        ++ flat_map (role_calls survey.now names.now caller Evaluated) items.now) }
-{
-    let mut kind = before;
-    let mut typed = Vec::new(alloc);
-    for item in items {
-        let read = read_used(
-            alloc,
-            survey,
-            names,
-            caller,
-            Role::Evaluated,
-            item,
-            first,
-            calls,
-        )?;
-        kind = next_kind(kind, read.part);
-        typed.push(read.typed)?;
+impl Reader<'_> {
+    /// Reads items that are evaluated one after the other, behind what has a type or none.
+    #[cycle(read)]
+    #[tactic(auto, using(c_types_rules::specs::First::first_append))]
+    fn read_items(
+        &self,
+        before: Option<Kind>,
+        items: &[Expression],
+        notes: &mut Notes,
+    ) -> Result<Items, AllocError>
+        ensures kind { IfOk result (λ r. r.kind
+            ≡ last_kind before (map (part_of self.now.survey.now self.now.names.now) items.now)) }
+        ensures typed { IfOk result (λ r. r.typed.items
+            ≡ map (typed_of self.now.survey.now self.now.names.now) items.now) }
+        ensures first { OnOk result (notes.new.first
+            ≡ first_with notes.old.first (flat_map (role_faults self.now.survey.now
+            self.now.names.now Evaluated) items.now)) }
+        ensures calls { OnOk result (notes.new.calls.items
+            ≡ notes.old.calls.items ++ flat_map (role_calls self.now.survey.now self.now.names.now
+            self.now.caller Evaluated) items.now) }
+    {
+        let mut kind = before;
+        let mut typed = Vec::new(self.alloc);
+        for item in items {
+            let read = self.read_used(Role::Evaluated, item, notes)?;
+            kind = next_kind(kind, read.part);
+            typed.push(read.typed)?;
+        }
+        Ok(Items { kind, typed })
     }
-    Ok(Items { kind, typed })
-}
 
-/// Reads expressions with commas between them.
-#[cycle(read)]
-#[tactic(auto, using(crate::proofs::Variants::part_Comma, crate::proofs::Variants::typed_Comma, crate::proofs::Variants::first_Comma, crate::proofs::Variants::calls_Comma))]
-pub(crate) fn read_comma(
-    alloc: Global,
-    survey: &Survey,
-    names: &Names,
-    caller: u32,
-    items: &[Expression],
-    place: u32,
-    first: &mut Option<TextFault>,
-    calls: &mut Vec<Call>,
-) -> Result<Read, AllocError>
-    ensures part { IfOk result (λ r. r.part
-        ≡ part_of survey.now names.now (Expression.Comma items.now place)) }
-    ensures typed { IfOk result (λ r. r.typed
-        ≡ typed_of survey.now names.now (Expression.Comma items.now place)) }
-    ensures first { OnOk result (first.new ≡ first_with first.old
-        (faults_of survey.now names.now (Expression.Comma items.now place))) }
-    ensures calls { OnOk result (calls.new.items ≡ calls.old.items
-        ++ calls_of survey.now names.now caller (Expression.Comma items.now place)) }
-{
-    let before = kind_before(items);
-    let read = read_items(alloc, survey, names, caller, before, items, first, calls)?;
-    Ok(Read {
-        part: Part::plain(place, read.kind),
-        typed: TypedExpression::Comma {
-            items: Seq::from_vec(read.typed),
-            kind: read.kind,
-            place,
-        },
-    })
+    /// Reads expressions with commas between them.
+    #[cycle(read)]
+    #[tactic(auto, using(crate::proofs::Variants::part_Comma, crate::proofs::Variants::typed_Comma, crate::proofs::Variants::first_Comma, crate::proofs::Variants::calls_Comma))]
+    pub(crate) fn read_comma(
+        &self,
+        items: &[Expression],
+        place: u32,
+        notes: &mut Notes,
+    ) -> Result<Read, AllocError>
+        ensures part { IfOk result (λ r. r.part
+            ≡ part_of self.now.survey.now self.now.names.now (Expression.Comma items.now place)) }
+        ensures typed { IfOk result (λ r. r.typed
+            ≡ typed_of self.now.survey.now self.now.names.now (Expression.Comma items.now place)) }
+        ensures first { OnOk result (notes.new.first
+            ≡ first_with notes.old.first (faults_of self.now.survey.now self.now.names.now
+            (Expression.Comma items.now place))) }
+        ensures calls { OnOk result (notes.new.calls.items
+            ≡ notes.old.calls.items ++ calls_of self.now.survey.now self.now.names.now
+            self.now.caller (Expression.Comma items.now place)) }
+    {
+        let before = kind_before(items);
+        let read = self.read_items(before, items, notes)?;
+        Ok(Read {
+            part: Part::plain(place, read.kind),
+            typed: TypedExpression::Comma {
+                items: Seq::from_vec(read.typed),
+                kind: read.kind,
+                place,
+            },
+        })
+    }
 }

@@ -6,8 +6,10 @@ mod atoms;
 mod calls;
 mod chains;
 mod combine;
+mod notes;
 mod operators;
 mod postfix;
 mod read;
 
-pub use read::{Read, read_expression, read_used};
+pub use notes::Notes;
+pub use read::{Read, Reader};

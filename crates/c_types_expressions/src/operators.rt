@@ -10,199 +10,177 @@ ghost use Rattle.c_types_rules.specs.ExpressionRules.{uses_faults};
 ghost use Rattle.c_types_expressions.specs.Read.{part_of, typed_of, faults_of, calls_of};
 
 use crate::combine::unary_kind;
-use crate::read::{Read, ReadPart, read_expression, read_used};
+use crate::notes::Notes;
+use crate::read::{Read, ReadPart, Reader};
 use c_grammar_symbols::{AssignmentOperator, StepOperator};
 use c_grammar_tree::{Expression, TypeName, UnaryOperator};
 use c_lexer::TextFault;
-use c_types_names::{Names, Survey};
-use c_types_recursion::Call;
 use c_types_rules::{
     Part, Role, TypedExpression, as_kind, cast_kind, cast_role, ends_kind, kind_of_type_name,
     note_tagged, with_value,
 };
 use cpa_ints::Boxed;
-use std::alloc::{AllocError, Global};
+use std::alloc::AllocError;
 
-/// Reads `(inner)`.
-#[cycle(read)]
-#[tactic(auto, using(crate::proofs::Variants::part_Bracketed, crate::proofs::Variants::typed_Bracketed, crate::proofs::Variants::first_Bracketed, crate::proofs::Variants::calls_Bracketed))]
-pub(crate) fn read_bracketed(
-    alloc: Global,
-    survey: &Survey,
-    names: &Names,
-    caller: u32,
-    inner: &Expression,
-    place: u32,
-    first: &mut Option<TextFault>,
-    calls: &mut Vec<Call>,
-) -> Result<Read, AllocError>
-    ensures part { IfOk result (λ r. r.part
-        ≡ part_of survey.now names.now (Expression.Bracketed inner.now place)) }
-    ensures typed { IfOk result (λ r. r.typed
-        ≡ typed_of survey.now names.now (Expression.Bracketed inner.now place)) }
-    ensures first { OnOk result (first.new ≡ first_with first.old
-        (faults_of survey.now names.now (Expression.Bracketed inner.now place))) }
-    ensures calls { OnOk result (calls.new.items ≡ calls.old.items
-        ++ calls_of survey.now names.now caller (Expression.Bracketed inner.now place)) }
-{
-    let read = read_expression(alloc, survey, names, caller, inner, first, calls)?;
-    Ok(Read {
-        part: Part {
-            place,
-            kind: read.part.kind,
-            form: read.part.form,
-        },
-        typed: TypedExpression::Bracketed {
-            inner: Boxed::new(alloc, read.typed)?,
-            place,
-        },
-    })
-}
-
-/// Reads `++operand` or `--operand`.
-#[cycle(read)]
-#[tactic(auto, using(crate::proofs::Variants::part_PrefixStep, crate::proofs::Variants::typed_PrefixStep, crate::proofs::Variants::first_PrefixStep, crate::proofs::Variants::calls_PrefixStep))]
-pub(crate) fn read_prefix_step(
-    alloc: Global,
-    survey: &Survey,
-    names: &Names,
-    caller: u32,
-    operator: StepOperator,
-    operand: &Expression,
-    place: u32,
-    first: &mut Option<TextFault>,
-    calls: &mut Vec<Call>,
-) -> Result<Read, AllocError>
-    ensures part { IfOk result (λ r. r.part
-        ≡ part_of survey.now names.now (Expression.PrefixStep operator operand.now place)) }
-    ensures typed { IfOk result (λ r. r.typed
-        ≡ typed_of survey.now names.now (Expression.PrefixStep operator operand.now place)) }
-    ensures first { OnOk result (first.new ≡ first_with first.old
-        (faults_of survey.now names.now (Expression.PrefixStep operator operand.now place))) }
-    ensures calls { OnOk result (calls.new.items ≡ calls.old.items ++ calls_of survey.now names.now
-        caller (Expression.PrefixStep operator operand.now place)) }
-{
-    let read = read_used(
-        alloc,
-        survey,
-        names,
-        caller,
-        Role::Changed,
-        operand,
-        first,
-        calls,
-    )?;
-    let kind = read.part.changed_kind();
-    Ok(Read {
-        part: Part::plain(place, kind),
-        typed: TypedExpression::PrefixStep {
-            operator,
-            operand: Boxed::new(alloc, read.typed)?,
-            kind,
-            place,
-        },
-    })
-}
-
-/// Reads an operator before an operand.
-#[cycle(read)]
-#[tactic(auto, using(crate::proofs::Variants::part_Unary, crate::proofs::Variants::typed_Unary, crate::proofs::Variants::first_Unary, crate::proofs::Variants::calls_Unary))]
-pub(crate) fn read_unary(
-    alloc: Global,
-    survey: &Survey,
-    names: &Names,
-    caller: u32,
-    operator: UnaryOperator,
-    operand: &Expression,
-    place: u32,
-    first: &mut Option<TextFault>,
-    calls: &mut Vec<Call>,
-) -> Result<Read, AllocError>
-    ensures part { IfOk result (λ r. r.part
-        ≡ part_of survey.now names.now (Expression.Unary operator operand.now place)) }
-    ensures typed { IfOk result (λ r. r.typed
-        ≡ typed_of survey.now names.now (Expression.Unary operator operand.now place)) }
-    ensures first { OnOk result (first.new ≡ first_with first.old
-        (faults_of survey.now names.now (Expression.Unary operator operand.now place))) }
-    ensures calls { OnOk result (calls.new.items ≡ calls.old.items
-        ++ calls_of survey.now names.now caller (Expression.Unary operator operand.now place)) }
-{
-    let read = read_used(
-        alloc,
-        survey,
-        names,
-        caller,
-        Role::Valued,
-        operand,
-        first,
-        calls,
-    )?;
-    let kind = as_kind(unary_kind(operator, read.part.kind));
-    Ok(Read {
-        part: Part::plain(place, kind),
-        typed: TypedExpression::Unary {
-            operator,
-            operand: Boxed::new(alloc, read.typed)?,
-            kind,
-            place,
-        },
-    })
-}
-
-/// Notes the fault of the tag in the type of a cast, where it has one.
-#[tactic(auto, using(crate::proofs::Uses::uses_one))]
-fn note_type_name(
-    alloc: Global,
-    names: &Names,
-    to: &TypeName,
-    first: &mut Option<TextFault>,
-) -> Result<(), AllocError>
-    ensures { OnOk result
-        (first.new ≡ first_with first.old (uses_faults (tag_uses names.now to.now))) }
-{
-    if let TypeName::Enum { tag, .. } = to {
-        let is_declared = names.has_tag(alloc, tag.bytes.as_slice())?;
-        note_tagged(first, tag.place, is_declared);
+impl Reader<'_> {
+    /// Reads `(inner)`.
+    #[cycle(read)]
+    #[tactic(auto, using(crate::proofs::Variants::part_Bracketed, crate::proofs::Variants::typed_Bracketed, crate::proofs::Variants::first_Bracketed, crate::proofs::Variants::calls_Bracketed))]
+    pub(crate) fn read_bracketed(
+        &self,
+        inner: &Expression,
+        place: u32,
+        notes: &mut Notes,
+    ) -> Result<Read, AllocError>
+        ensures part { IfOk result (λ r. r.part
+            ≡ part_of self.now.survey.now self.now.names.now (Expression.Bracketed inner.now
+            place)) }
+        ensures typed { IfOk result (λ r. r.typed
+            ≡ typed_of self.now.survey.now self.now.names.now (Expression.Bracketed inner.now
+            place)) }
+        ensures first { OnOk result (notes.new.first
+            ≡ first_with notes.old.first (faults_of self.now.survey.now self.now.names.now
+            (Expression.Bracketed inner.now place))) }
+        ensures calls { OnOk result (notes.new.calls.items
+            ≡ notes.old.calls.items ++ calls_of self.now.survey.now self.now.names.now
+            self.now.caller (Expression.Bracketed inner.now place)) }
+    {
+        let read = self.read_expression(inner, notes)?;
+        Ok(Read {
+            part: Part {
+                place,
+                kind: read.part.kind,
+                form: read.part.form,
+            },
+            typed: TypedExpression::Bracketed {
+                inner: Boxed::new(self.alloc, read.typed)?,
+                place,
+            },
+        })
     }
-    Ok(())
-}
 
-/// Reads `(to) operand`.
-#[cycle(read)]
-#[tactic(auto, using(crate::proofs::Variants::part_Cast, crate::proofs::Variants::typed_Cast, crate::proofs::Variants::first_Cast, crate::proofs::Variants::calls_Cast))]
-pub(crate) fn read_cast(
-    alloc: Global,
-    survey: &Survey,
-    names: &Names,
-    caller: u32,
-    to: &TypeName,
-    operand: &Expression,
-    place: u32,
-    first: &mut Option<TextFault>,
-    calls: &mut Vec<Call>,
-) -> Result<Read, AllocError>
-    ensures part { IfOk result (λ r. r.part
-        ≡ part_of survey.now names.now (Expression.Cast to.now operand.now place)) }
-    ensures typed { IfOk result (λ r. r.typed
-        ≡ typed_of survey.now names.now (Expression.Cast to.now operand.now place)) }
-    ensures first { OnOk result (first.new ≡ first_with first.old
-        (faults_of survey.now names.now (Expression.Cast to.now operand.now place))) }
-    ensures calls { OnOk result (calls.new.items ≡ calls.old.items
-        ++ calls_of survey.now names.now caller (Expression.Cast to.now operand.now place)) }
-{
-    note_type_name(alloc, names, to, first)?;
-    let wanted = kind_of_type_name(to);
-    let role = cast_role(wanted);
-    let read = read_used(alloc, survey, names, caller, role, operand, first, calls)?;
-    let kind = cast_kind(wanted, read.part.kind);
-    Ok(Read {
-        part: Part::plain(place, kind),
-        typed: TypedExpression::Cast {
-            operand: Boxed::new(alloc, read.typed)?,
-            kind,
-            place,
-        },
-    })
+    /// Reads `++operand` or `--operand`.
+    #[cycle(read)]
+    #[tactic(auto, using(crate::proofs::Variants::part_PrefixStep, crate::proofs::Variants::typed_PrefixStep, crate::proofs::Variants::first_PrefixStep, crate::proofs::Variants::calls_PrefixStep))]
+    pub(crate) fn read_prefix_step(
+        &self,
+        operator: StepOperator,
+        operand: &Expression,
+        place: u32,
+        notes: &mut Notes,
+    ) -> Result<Read, AllocError>
+        ensures part { IfOk result (λ r. r.part
+            ≡ part_of self.now.survey.now self.now.names.now (Expression.PrefixStep operator
+            operand.now place)) }
+        ensures typed { IfOk result (λ r. r.typed
+            ≡ typed_of self.now.survey.now self.now.names.now (Expression.PrefixStep operator
+            operand.now place)) }
+        ensures first { OnOk result (notes.new.first
+            ≡ first_with notes.old.first (faults_of self.now.survey.now self.now.names.now
+            (Expression.PrefixStep operator operand.now place))) }
+        ensures calls { OnOk result (notes.new.calls.items
+            ≡ notes.old.calls.items ++ calls_of self.now.survey.now self.now.names.now
+            self.now.caller (Expression.PrefixStep operator operand.now place)) }
+    {
+        let read = self.read_used(Role::Changed, operand, notes)?;
+        let kind = read.part.changed_kind();
+        Ok(Read {
+            part: Part::plain(place, kind),
+            typed: TypedExpression::PrefixStep {
+                operator,
+                operand: Boxed::new(self.alloc, read.typed)?,
+                kind,
+                place,
+            },
+        })
+    }
+
+    /// Reads an operator before an operand.
+    #[cycle(read)]
+    #[tactic(auto, using(crate::proofs::Variants::part_Unary, crate::proofs::Variants::typed_Unary, crate::proofs::Variants::first_Unary, crate::proofs::Variants::calls_Unary))]
+    pub(crate) fn read_unary(
+        &self,
+        operator: UnaryOperator,
+        operand: &Expression,
+        place: u32,
+        notes: &mut Notes,
+    ) -> Result<Read, AllocError>
+        ensures part { IfOk result (λ r. r.part
+            ≡ part_of self.now.survey.now self.now.names.now (Expression.Unary operator operand.now
+            place)) }
+        ensures typed { IfOk result (λ r. r.typed
+            ≡ typed_of self.now.survey.now self.now.names.now (Expression.Unary operator operand.now
+            place)) }
+        ensures first { OnOk result (notes.new.first
+            ≡ first_with notes.old.first (faults_of self.now.survey.now self.now.names.now
+            (Expression.Unary operator operand.now place))) }
+        ensures calls { OnOk result (notes.new.calls.items
+            ≡ notes.old.calls.items ++ calls_of self.now.survey.now self.now.names.now
+            self.now.caller (Expression.Unary operator operand.now place)) }
+    {
+        let read = self.read_used(Role::Valued, operand, notes)?;
+        let kind = as_kind(unary_kind(operator, read.part.kind));
+        Ok(Read {
+            part: Part::plain(place, kind),
+            typed: TypedExpression::Unary {
+                operator,
+                operand: Boxed::new(self.alloc, read.typed)?,
+                kind,
+                place,
+            },
+        })
+    }
+
+    /// Notes the fault of the tag in the type of a cast, where it has one.
+    #[tactic(auto, using(crate::proofs::Uses::uses_one))]
+    fn note_type_name(&self, to: &TypeName, first: &mut Option<TextFault>) -> Result<(), AllocError>
+        ensures { OnOk result (first.new
+            ≡ first_with first.old (uses_faults (tag_uses self.now.names.now to.now))) }
+    {
+        if let TypeName::Enum { tag, .. } = to {
+            let is_declared = self.names.has_tag(self.alloc, tag.bytes.as_slice())?;
+            note_tagged(first, tag.place, is_declared);
+        }
+        Ok(())
+    }
+
+    /// Reads `(to) operand`.
+    #[cycle(read)]
+    #[tactic(auto, using(crate::proofs::Variants::part_Cast, crate::proofs::Variants::typed_Cast, crate::proofs::Variants::first_Cast, crate::proofs::Variants::calls_Cast))]
+    pub(crate) fn read_cast(
+        &self,
+        to: &TypeName,
+        operand: &Expression,
+        place: u32,
+        notes: &mut Notes,
+    ) -> Result<Read, AllocError>
+        ensures part { IfOk result (λ r. r.part
+            ≡ part_of self.now.survey.now self.now.names.now (Expression.Cast to.now operand.now
+            place)) }
+        ensures typed { IfOk result (λ r. r.typed
+            ≡ typed_of self.now.survey.now self.now.names.now (Expression.Cast to.now operand.now
+            place)) }
+        ensures first { OnOk result (notes.new.first
+            ≡ first_with notes.old.first (faults_of self.now.survey.now self.now.names.now
+            (Expression.Cast to.now operand.now place))) }
+        ensures calls { OnOk result (notes.new.calls.items
+            ≡ notes.old.calls.items ++ calls_of self.now.survey.now self.now.names.now
+            self.now.caller (Expression.Cast to.now operand.now place)) }
+    {
+        self.note_type_name(to, &mut notes.first)?;
+        let wanted = kind_of_type_name(to);
+        let role = cast_role(wanted);
+        let read = self.read_used(role, operand, notes)?;
+        let kind = cast_kind(wanted, read.part.kind);
+        Ok(Read {
+            part: Part::plain(place, kind),
+            typed: TypedExpression::Cast {
+                operand: Boxed::new(self.alloc, read.typed)?,
+                kind,
+                place,
+            },
+        })
+    }
 }
 
 /// A conditional of what is read of its parts.

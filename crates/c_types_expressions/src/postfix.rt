@@ -16,17 +16,16 @@ ghost use Rattle.c_types_expressions.specs.Read.{part_behind, typed_behind, faul
 ghost use Rattle.c_types_expressions.specs.Read.{calls_behind};
 
 use crate::calls::note_call;
-use crate::read::{Read, read_used};
+use crate::notes::Notes;
+use crate::read::{Read, Reader};
 use c_grammar_symbols::StepOperator;
 use c_grammar_tree::{Expression, Suffix};
 use c_lexer::TextFault;
-use c_types_names::{Names, Survey};
-use c_types_recursion::Call;
 use c_types_rules::{
     Kind, Part, Role, TypedExpression, TypedSuffix, note_given, note_taken, with_value,
 };
 use cpa_ints::{Boxed, Seq};
-use std::alloc::{AllocError, Global};
+use std::alloc::AllocError;
 
 /// What the rules see of an expression that ends with a suffix, and the typed suffix.
 #[derive(Drop)]
@@ -49,132 +48,115 @@ struct Arguments {
     typed: Vec<TypedExpression>,
 }
 
-/// Reads arguments, the type of a call with values alone given.
-#[cycle(read)]
-#[tactic(auto, using(c_types_rules::specs::First::first_append))]
-fn read_arguments(
-    alloc: Global,
-    survey: &Survey,
-    names: &Names,
-    caller: u32,
-    result_kind: Option<Kind>,
-    arguments: &[Expression],
-    first: &mut Option<TextFault>,
-    calls: &mut Vec<Call>,
-) -> Result<Arguments, AllocError>
-    ensures kind { IfOk result (λ r. r.kind
-        ≡ with_values result_kind (map (part_of survey.now names.now) arguments.now)) }
-    ensures typed { IfOk result (λ r. r.typed.items
-        ≡ map (typed_of survey.now names.now) arguments.now) }
-    ensures first { OnOk result (first.new
-        ≡ first_with first.old (flat_map (role_faults survey.now names.now Valued) arguments.now)) }
-    ensures calls { OnOk result (calls.new.items ≡ calls.old.items
-        ++ flat_map (role_calls survey.now names.now caller Valued) arguments.now) }
-{
-    let mut kind = result_kind;
-    let mut typed = Vec::new(alloc);
-    for argument in arguments {
-        let read = read_used(
-            alloc,
-            survey,
-            names,
-            caller,
-            Role::Valued,
-            argument,
-            first,
-            calls,
-        )?;
-        kind = with_value(kind, read.part.kind);
-        typed.push(read.typed)?;
+impl Reader<'_> {
+    /// Reads arguments, the type of a call with values alone given.
+    #[cycle(read)]
+    #[tactic(auto, using(c_types_rules::specs::First::first_append))]
+    fn read_arguments(
+        &self,
+        result_kind: Option<Kind>,
+        arguments: &[Expression],
+        notes: &mut Notes,
+    ) -> Result<Arguments, AllocError>
+        ensures kind { IfOk result (λ r. r.kind
+            ≡ with_values result_kind (map (part_of self.now.survey.now self.now.names.now)
+            arguments.now)) }
+        ensures typed { IfOk result (λ r. r.typed.items
+            ≡ map (typed_of self.now.survey.now self.now.names.now) arguments.now) }
+        ensures first { OnOk result (notes.new.first
+            ≡ first_with notes.old.first (flat_map (role_faults self.now.survey.now
+            self.now.names.now Valued) arguments.now)) }
+        ensures calls { OnOk result (notes.new.calls.items
+            ≡ notes.old.calls.items ++ flat_map (role_calls self.now.survey.now self.now.names.now
+            self.now.caller Valued) arguments.now) }
+    {
+        let mut kind = result_kind;
+        let mut typed = Vec::new(self.alloc);
+        for argument in arguments {
+            let read = self.read_used(Role::Valued, argument, notes)?;
+            kind = with_value(kind, read.part.kind);
+            typed.push(read.typed)?;
+        }
+        Ok(Arguments { kind, typed })
     }
-    Ok(Arguments { kind, typed })
-}
 
-/// Reads `[index]` behind an expression.
-#[cycle(read)]
-#[tactic(auto, using(crate::proofs::Suffixes::part_Index, crate::proofs::Suffixes::typed_Index, crate::proofs::Suffixes::first_Index, crate::proofs::Suffixes::calls_Index))]
-fn read_index(
-    alloc: Global,
-    survey: &Survey,
-    names: &Names,
-    caller: u32,
-    base: Part,
-    index: &Expression,
-    place: u32,
-    first: &mut Option<TextFault>,
-    calls: &mut Vec<Call>,
-) -> Result<Behind, AllocError>
-    ensures part { IfOk result (λ r. r.part
-        ≡ part_behind survey.now names.now base (Suffix.Index index.now place)) }
-    ensures typed { IfOk result (λ r. r.typed
-        ≡ typed_behind survey.now names.now base (Suffix.Index index.now place)) }
-    ensures first { OnOk result (first.new ≡ first_with first.old
-        (faults_behind survey.now names.now base (Suffix.Index index.now place))) }
-    ensures calls { OnOk result (calls.new.items ≡ calls.old.items
-        ++ calls_behind survey.now names.now caller base (Suffix.Index index.now place)) }
-{
-    note_taken(first, Role::Indexed, base);
-    let index = read_used(
-        alloc,
-        survey,
-        names,
-        caller,
-        Role::Valued,
-        index,
-        first,
-        calls,
-    )?;
-    let kind = with_value(base.form.element_kind(), index.part.kind);
-    Ok(Behind {
-        part: Part {
-            place: base.place,
-            kind,
-            form: base.form.element(),
-        },
-        typed: TypedSuffix::Index {
-            index: index.typed,
-            kind,
-            place,
-        },
-    })
-}
+    /// Reads `[index]` behind an expression.
+    #[cycle(read)]
+    #[tactic(auto, using(crate::proofs::Suffixes::part_Index, crate::proofs::Suffixes::typed_Index, crate::proofs::Suffixes::first_Index, crate::proofs::Suffixes::calls_Index))]
+    fn read_index(
+        &self,
+        base: Part,
+        index: &Expression,
+        place: u32,
+        notes: &mut Notes,
+    ) -> Result<Behind, AllocError>
+        ensures part { IfOk result (λ r. r.part
+            ≡ part_behind self.now.survey.now self.now.names.now base (Suffix.Index index.now
+            place)) }
+        ensures typed { IfOk result (λ r. r.typed
+            ≡ typed_behind self.now.survey.now self.now.names.now base (Suffix.Index index.now
+            place)) }
+        ensures first { OnOk result (notes.new.first
+            ≡ first_with notes.old.first (faults_behind self.now.survey.now self.now.names.now base
+            (Suffix.Index index.now place))) }
+        ensures calls { OnOk result (notes.new.calls.items
+            ≡ notes.old.calls.items ++ calls_behind self.now.survey.now self.now.names.now
+            self.now.caller base (Suffix.Index index.now place)) }
+    {
+        note_taken(&mut notes.first, Role::Indexed, base);
+        let index = self.read_used(Role::Valued, index, notes)?;
+        let kind = with_value(base.form.element_kind(), index.part.kind);
+        Ok(Behind {
+            part: Part {
+                place: base.place,
+                kind,
+                form: base.form.element(),
+            },
+            typed: TypedSuffix::Index {
+                index: index.typed,
+                kind,
+                place,
+            },
+        })
+    }
 
-/// Reads `(arguments)` behind an expression.
-#[cycle(read)]
-#[tactic(auto, using(crate::proofs::Suffixes::part_Call, crate::proofs::Suffixes::typed_Call, crate::proofs::Suffixes::first_Call, crate::proofs::Suffixes::calls_Call))]
-fn read_call(
-    alloc: Global,
-    survey: &Survey,
-    names: &Names,
-    caller: u32,
-    base: Part,
-    arguments: &[Expression],
-    place: u32,
-    first: &mut Option<TextFault>,
-    calls: &mut Vec<Call>,
-) -> Result<Behind, AllocError>
-    ensures part { IfOk result (λ r. r.part
-        ≡ part_behind survey.now names.now base (Suffix.Call arguments.now place)) }
-    ensures typed { IfOk result (λ r. r.typed
-        ≡ typed_behind survey.now names.now base (Suffix.Call arguments.now place)) }
-    ensures first { OnOk result (first.new ≡ first_with first.old
-        (faults_behind survey.now names.now base (Suffix.Call arguments.now place))) }
-    ensures calls { OnOk result (calls.new.items ≡ calls.old.items
-        ++ calls_behind survey.now names.now caller base (Suffix.Call arguments.now place)) }
-{
-    note_taken(first, Role::Called, base);
-    note_given(first, base.form, arguments.len());
-    note_call(calls, caller, base.form)?;
-    let kind = base.form.result_kind();
-    let read = read_arguments(alloc, survey, names, caller, kind, arguments, first, calls)?;
-    Ok(Behind {
-        part: Part::plain(base.place, read.kind),
-        typed: TypedSuffix::Call {
-            arguments: Seq::from_vec(read.typed),
-            kind: read.kind,
-            place,
-        },
-    })
+    /// Reads `(arguments)` behind an expression.
+    #[cycle(read)]
+    #[tactic(auto, using(crate::proofs::Suffixes::part_Call, crate::proofs::Suffixes::typed_Call, crate::proofs::Suffixes::first_Call, crate::proofs::Suffixes::calls_Call))]
+    fn read_call(
+        &self,
+        base: Part,
+        arguments: &[Expression],
+        place: u32,
+        notes: &mut Notes,
+    ) -> Result<Behind, AllocError>
+        ensures part { IfOk result (λ r. r.part
+            ≡ part_behind self.now.survey.now self.now.names.now base (Suffix.Call arguments.now
+            place)) }
+        ensures typed { IfOk result (λ r. r.typed
+            ≡ typed_behind self.now.survey.now self.now.names.now base (Suffix.Call arguments.now
+            place)) }
+        ensures first { OnOk result (notes.new.first
+            ≡ first_with notes.old.first (faults_behind self.now.survey.now self.now.names.now base
+            (Suffix.Call arguments.now place))) }
+        ensures calls { OnOk result (notes.new.calls.items
+            ≡ notes.old.calls.items ++ calls_behind self.now.survey.now self.now.names.now
+            self.now.caller base (Suffix.Call arguments.now place)) }
+    {
+        note_taken(&mut notes.first, Role::Called, base);
+        note_given(&mut notes.first, base.form, arguments.len());
+        note_call(&mut notes.calls, self.caller, base.form)?;
+        let kind = base.form.result_kind();
+        let read = self.read_arguments(kind, arguments, notes)?;
+        Ok(Behind {
+            part: Part::plain(base.place, read.kind),
+            typed: TypedSuffix::Call {
+                arguments: Seq::from_vec(read.typed),
+                kind: read.kind,
+                place,
+            },
+        })
+    }
 }
 
 /// Reads `++` or `--` behind an expression.
@@ -204,104 +186,92 @@ fn read_step(
     }
 }
 
-/// Reads brackets whose tokens do not matter, behind an expression.
-#[tactic(auto, using(crate::proofs::Suffixes::part_Skipped, crate::proofs::Suffixes::typed_Skipped, crate::proofs::Suffixes::first_Skipped, crate::proofs::Suffixes::calls_Skipped))]
-fn read_skipped(
-    caller: u32,
-    base: Part,
-    place: u32,
-    first: &mut Option<TextFault>,
-    calls: &mut Vec<Call>,
-) -> Result<Behind, AllocError>
-    ensures part { (text : Text) (names : List Entry) → IfOk result (λ r. r.part
-        ≡ part_behind text names base (Suffix.Skipped place)) }
-    ensures typed { (text : Text) (names : List Entry) → IfOk result (λ r. r.typed
-        ≡ typed_behind text names base (Suffix.Skipped place)) }
-    ensures first { (text : Text) (names : List Entry) → OnOk result (first.new
-        ≡ first_with first.old
-        (faults_behind text names base (Suffix.Skipped place))) }
-    ensures calls { (text : Text) (names : List Entry) → OnOk result (calls.new.items
-        ≡ calls.old.items
-        ++ calls_behind text names caller base (Suffix.Skipped place)) }
-{
-    note_taken(first, Role::Called, base);
-    note_given(first, base.form, 0);
-    note_call(calls, caller, base.form)?;
-    let kind = base.form.result_kind();
-    Ok(Behind {
-        part: Part::plain(base.place, kind),
-        typed: TypedSuffix::Skipped { kind, place },
-    })
-}
-
-/// Reads a suffix behind an expression.
-#[cycle(read)]
-#[tactic(auto, using(crate::proofs::Suffixes::calls_Step))]
-fn read_suffix(
-    alloc: Global,
-    survey: &Survey,
-    names: &Names,
-    caller: u32,
-    base: Part,
-    suffix: &Suffix,
-    first: &mut Option<TextFault>,
-    calls: &mut Vec<Call>,
-) -> Result<Behind, AllocError>
-    ensures part { IfOk result (λ r. r.part
-        ≡ part_behind survey.now names.now base suffix.now) }
-    ensures typed { IfOk result (λ r. r.typed
-        ≡ typed_behind survey.now names.now base suffix.now) }
-    ensures first { OnOk result (first.new ≡ first_with first.old
-        (faults_behind survey.now names.now base suffix.now)) }
-    ensures calls { OnOk result (calls.new.items ≡ calls.old.items
-        ++ calls_behind survey.now names.now caller base suffix.now) }
-{
-    match suffix {
-        Suffix::Index { index, place } => {
-            read_index(
-                alloc, survey, names, caller, base, index, *place, first, calls,
-            )
-        }
-        Suffix::Call { arguments, place } => {
-            let arguments = arguments.as_slice();
-            read_call(
-                alloc, survey, names, caller, base, arguments, *place, first, calls,
-            )
-        }
-        Suffix::Step { operator, place } => Ok(read_step(base, *operator, *place, first)),
-        Suffix::Skipped { place } => read_skipped(caller, base, *place, first, calls),
+impl Reader<'_> {
+    /// Reads brackets whose tokens do not matter, behind an expression.
+    #[tactic(auto, using(crate::proofs::Suffixes::part_Skipped, crate::proofs::Suffixes::typed_Skipped, crate::proofs::Suffixes::first_Skipped, crate::proofs::Suffixes::calls_Skipped))]
+    fn read_skipped(&self, base: Part, place: u32, notes: &mut Notes) -> Result<Behind, AllocError>
+        ensures part { (text : Text) (names : List Entry) → IfOk result (λ r. r.part
+            ≡ part_behind text names base (Suffix.Skipped place)) }
+        ensures typed { (text : Text) (names : List Entry) → IfOk result (λ r. r.typed
+            ≡ typed_behind text names base (Suffix.Skipped place)) }
+        ensures first { (text : Text) (names : List Entry) → OnOk result (notes.new.first
+            ≡ first_with notes.old.first
+            (faults_behind text names base (Suffix.Skipped place))) }
+        ensures calls { (text : Text) (names : List Entry) → OnOk result (notes.new.calls.items
+            ≡ notes.old.calls.items
+            ++ calls_behind text names self.now.caller base (Suffix.Skipped place)) }
+    {
+        note_taken(&mut notes.first, Role::Called, base);
+        note_given(&mut notes.first, base.form, 0);
+        note_call(&mut notes.calls, self.caller, base.form)?;
+        let kind = base.form.result_kind();
+        Ok(Behind {
+            part: Part::plain(base.place, kind),
+            typed: TypedSuffix::Skipped { kind, place },
+        })
     }
-}
 
-/// Reads suffixes behind an expression.
-#[cycle(read)]
-pub(crate) fn read_suffixes(
-    alloc: Global,
-    survey: &Survey,
-    names: &Names,
-    caller: u32,
-    base: Part,
-    suffixes: &[Suffix],
-    first: &mut Option<TextFault>,
-    calls: &mut Vec<Call>,
-) -> Result<Suffixes, AllocError>
-    ensures part { IfOk result (λ r. r.part
-        ≡ (suffixed_of survey.now names.now base suffixes.now).part) }
-    ensures typed { IfOk result (λ r. r.typed.items
-        ≡ (suffixed_of survey.now names.now base suffixes.now).typed) }
-    ensures first { OnOk result (first.new ≡ first_with first.old
-        (uses_faults (suffixed_of survey.now names.now base suffixes.now).uses)) }
-    ensures calls { OnOk result (calls.new.items ≡ calls.old.items
-        ++ uses_calls caller (suffixed_of survey.now names.now base suffixes.now).uses) }
-{
-    let mut part = base;
-    let mut typed = Vec::new(alloc);
-    for suffix in suffixes {
-        let read = read_suffix(alloc, survey, names, caller, part, suffix, first, calls)?;
-        part = read.part;
-        typed.push(read.typed)?;
+    /// Reads a suffix behind an expression.
+    #[cycle(read)]
+    #[tactic(auto, using(crate::proofs::Suffixes::calls_Step))]
+    fn read_suffix(
+        &self,
+        base: Part,
+        suffix: &Suffix,
+        notes: &mut Notes,
+    ) -> Result<Behind, AllocError>
+        ensures part { IfOk result (λ r. r.part
+            ≡ part_behind self.now.survey.now self.now.names.now base suffix.now) }
+        ensures typed { IfOk result (λ r. r.typed
+            ≡ typed_behind self.now.survey.now self.now.names.now base suffix.now) }
+        ensures first { OnOk result (notes.new.first
+            ≡ first_with notes.old.first (faults_behind self.now.survey.now self.now.names.now base
+            suffix.now)) }
+        ensures calls { OnOk result (notes.new.calls.items
+            ≡ notes.old.calls.items ++ calls_behind self.now.survey.now self.now.names.now
+            self.now.caller base suffix.now) }
+    {
+        match suffix {
+            Suffix::Index { index, place } => self.read_index(base, index, *place, notes),
+            Suffix::Call { arguments, place } => {
+                self.read_call(base, arguments.as_slice(), *place, notes)
+            }
+            Suffix::Step { operator, place } => {
+                let first = &mut notes.first;
+                Ok(read_step(base, *operator, *place, first))
+            }
+            Suffix::Skipped { place } => self.read_skipped(base, *place, notes),
+        }
     }
-    Ok(Suffixes { part, typed })
+
+    /// Reads suffixes behind an expression.
+    #[cycle(read)]
+    pub(crate) fn read_suffixes(
+        &self,
+        base: Part,
+        suffixes: &[Suffix],
+        notes: &mut Notes,
+    ) -> Result<Suffixes, AllocError>
+        ensures part { IfOk result (λ r. r.part
+            ≡ (suffixed_of self.now.survey.now self.now.names.now base suffixes.now).part) }
+        ensures typed { IfOk result (λ r. r.typed.items
+            ≡ (suffixed_of self.now.survey.now self.now.names.now base suffixes.now).typed) }
+        ensures first { OnOk result (notes.new.first
+            ≡ first_with notes.old.first (uses_faults (suffixed_of self.now.survey.now
+            self.now.names.now base suffixes.now).uses)) }
+        ensures calls { OnOk result (notes.new.calls.items
+            ≡ notes.old.calls.items ++ uses_calls self.now.caller (suffixed_of self.now.survey.now
+            self.now.names.now base suffixes.now).uses) }
+    {
+        let mut part = base;
+        let mut typed = Vec::new(self.alloc);
+        for suffix in suffixes {
+            let read = self.read_suffix(part, suffix, notes)?;
+            part = read.part;
+            typed.push(read.typed)?;
+        }
+        Ok(Suffixes { part, typed })
+    }
 }
 
 /// A postfix expression of what is read of its base and of its suffixes.

@@ -11,7 +11,7 @@ ghost use Rattle.c_types_objects.specs.Objects.{number_by, inconstant_by};
 use c_grammar_tree::Expression;
 use c_lexer::TextFault;
 use c_types_constants::constant;
-use c_types_expressions::read_used;
+use c_types_expressions::{Notes, Reader};
 use c_types_names::{Names, Survey};
 use c_types_recursion::Call;
 use c_types_rules::{Constant, Kind, Part, Role, value_kind};
@@ -68,7 +68,16 @@ pub fn read_fixed(
     ensures calls { OnOk result (calls.new.items
         ≡ calls.old.items ++ role_calls survey.now names.now caller Valued e.now) }
 {
-    let read = read_used(alloc, survey, names, caller, Role::Valued, e, first, calls)?;
+    let reader = Reader {
+        alloc,
+        survey,
+        names,
+        caller,
+    };
+    let mut notes = Notes::lent(alloc, *first, calls);
+    let read = reader.read_used(Role::Valued, e, &mut notes)?;
+    *first = notes.first;
+    *calls = notes.calls;
     let found = constant(&read.typed);
     Ok(Fixed {
         place: read.part.place,

@@ -12,7 +12,7 @@ ghost use Rattle.c_types_objects.specs.Objects.{start_value};
 use crate::constants::read_fixed;
 use c_grammar_tree::{Expression, Initializer};
 use c_lexer::{Rule, TextFault};
-use c_types_expressions::read_used;
+use c_types_expressions::{Notes, Reader};
 use c_types_names::{Names, Survey};
 use c_types_recursion::Call;
 use c_types_rules::{Role, TypedExpression, TypedInitializer, note_place};
@@ -22,35 +22,52 @@ use std::alloc::{AllocError, Global};
 /// Reads the items of a list, each a value.
 #[tactic(auto, using(c_types_rules::specs::First::first_append))]
 fn read_items(
-    alloc: Global,
-    survey: &Survey,
-    names: &Names,
-    caller: u32,
+    reader: &Reader,
     items: &[Expression],
-    first: &mut Option<TextFault>,
-    calls: &mut Vec<Call>,
+    notes: &mut Notes,
 ) -> Result<Vec<TypedExpression>, AllocError>
-    ensures typed { IfOk result (λ r. r.items ≡ map (typed_of survey.now names.now) items.now) }
-    ensures first { OnOk result (first.new
-        ≡ first_with first.old (flat_map (role_faults survey.now names.now Valued) items.now)) }
-    ensures calls { OnOk result (calls.new.items ≡ calls.old.items
-        ++ flat_map (role_calls survey.now names.now caller Valued) items.now) }
+    ensures typed { IfOk result (λ r. r.items
+        ≡ map (typed_of reader.now.survey.now reader.now.names.now) items.now) }
+    ensures first { OnOk result (notes.new.first ≡ first_with notes.old.first
+        (flat_map (role_faults reader.now.survey.now reader.now.names.now Valued) items.now)) }
+    ensures calls { OnOk result (notes.new.calls.items ≡ notes.old.calls.items
+        ++ flat_map (role_calls reader.now.survey.now reader.now.names.now reader.now.caller Valued)
+        items.now) }
 {
-    let mut typed = Vec::new(alloc);
+    let mut typed = Vec::new(reader.alloc);
     for item in items {
-        let read = read_used(
-            alloc,
-            survey,
-            names,
-            caller,
-            Role::Valued,
-            item,
-            first,
-            calls,
-        )?;
+        let read = reader.read_used(Role::Valued, item, notes)?;
         typed.push(read.typed)?;
     }
     Ok(typed)
+}
+
+/// Reads an initializer with a reader, if there is one.
+fn read_optional(
+    reader: &Reader,
+    initializer: &Option<Initializer>,
+    notes: &mut Notes,
+) -> Result<Option<TypedInitializer>, AllocError>
+    ensures typed { IfOk result (λ r. r
+        ≡ option_map (typed_items reader.now.survey.now reader.now.names.now) initializer.now) }
+    ensures first { OnOk result (notes.new.first ≡ first_with notes.old.first
+        (flat_map (role_faults reader.now.survey.now reader.now.names.now Valued)
+        (items_of initializer.now))) }
+    ensures calls { OnOk result (notes.new.calls.items ≡ notes.old.calls.items
+        ++ flat_map (role_calls reader.now.survey.now reader.now.names.now reader.now.caller Valued)
+        (items_of initializer.now)) }
+{
+    match initializer {
+        None => Ok(None),
+        Some(Initializer::Scalar(value)) => {
+            let read = reader.read_used(Role::Valued, value, notes)?;
+            Ok(Some(TypedInitializer::Scalar(read.typed)))
+        }
+        Some(Initializer::List { items, .. }) => {
+            let typed = read_items(reader, items.as_slice(), notes)?;
+            Ok(Some(TypedInitializer::List(Seq::from_vec(typed))))
+        }
+    }
 }
 
 /// Reads an initializer in a function, if there is one.
@@ -70,27 +87,17 @@ pub fn read_initializer(
     ensures calls { OnOk result (calls.new.items ≡ calls.old.items
         ++ flat_map (role_calls survey.now names.now caller Valued) (items_of initializer.now)) }
 {
-    match initializer {
-        None => Ok(None),
-        Some(Initializer::Scalar(value)) => {
-            let read = read_used(
-                alloc,
-                survey,
-                names,
-                caller,
-                Role::Valued,
-                value,
-                first,
-                calls,
-            )?;
-            Ok(Some(TypedInitializer::Scalar(read.typed)))
-        }
-        Some(Initializer::List { items, .. }) => {
-            let items = items.as_slice();
-            let typed = read_items(alloc, survey, names, caller, items, first, calls)?;
-            Ok(Some(TypedInitializer::List(Seq::from_vec(typed))))
-        }
-    }
+    let reader = Reader {
+        alloc,
+        survey,
+        names,
+        caller,
+    };
+    let mut notes = Notes::lent(alloc, *first, calls);
+    let typed = read_optional(&reader, initializer, &mut notes)?;
+    *first = notes.first;
+    *calls = notes.calls;
+    Ok(typed)
 }
 
 /// Reads the value that a cell of this type starts at. It stands in no body, so that its calls,

@@ -8,12 +8,14 @@ use Rattle.c_types_objects.proofs.initializers.read_items.Given as goal
 
 abbrev pub invariant-loop-item : goal.invariant-loop-item
 invariant-loop-item l =
+    let s = l.reader.survey.now in
+    let n = l.reader.names.now in
+    let caller = l.reader.caller in
     let rest = drop l.item-index l.items in
     record {
-      typed : l.typed.items ++ map (typed_of l.survey l.names) rest
-          ≡ map (typed_of l.survey l.names) l.items;
-      first : first_with l.first (flat_map (role_faults l.survey l.names Valued) rest)
-          ≡ first_with l.fn.first (flat_map (role_faults l.survey l.names Valued) l.items);
-      calls : l.calls.items ++ flat_map (role_calls l.survey l.names l.caller Valued) rest
-          ≡ l.fn.calls.items ++ flat_map (role_calls l.survey l.names l.caller Valued) l.items;
+      typed : l.typed.items ++ map (typed_of s n) rest ≡ map (typed_of s n) l.items;
+      first : first_with l.notes.first (flat_map (role_faults s n Valued) rest)
+          ≡ first_with l.fn.notes.first (flat_map (role_faults s n Valued) l.items);
+      calls : l.notes.calls.items ++ flat_map (role_calls s n caller Valued) rest
+          ≡ l.fn.notes.calls.items ++ flat_map (role_calls s n caller Valued) l.items;
     }
