@@ -21,7 +21,7 @@ use c_types_rules::{
     TypedStatement, cells_of,
 };
 use cpa_expr::constant;
-use cpa_ints::{IntType, Seq};
+use cpa_ints::{Boxed, IntType, Seq};
 use cpa_model_trees::{CoreTree, Head};
 use std::alloc::{AllocError, Global};
 
@@ -29,7 +29,7 @@ use std::alloc::{AllocError, Global};
 fn some_unused(
     cells: &mut Cells,
     frames: &Frames,
-    e: &Option<TypedExpression>,
+    e: &Option<Boxed<TypedExpression>>,
 ) -> Result<Seq<CoreTree>, AllocError>
     ensures taken { OnOk result (so_far cells.new
         ≡ (some_unused frames.now e.now (so_far cells.old)).taken) }
@@ -38,7 +38,7 @@ fn some_unused(
 {
     match e {
         None => Ok(Seq::new(frames.alloc())),
-        Some(e) => unused(cells, frames, e),
+        Some(e) => unused(cells, frames, e.get()),
     }
 }
 
@@ -149,7 +149,13 @@ fn initializing(
     match initializer {
         None => inputs(frames.alloc(), origin, first, cells_of(object)),
         Some(TypedInitializer::Scalar(value)) => {
-            initialized(cells, origin, frames, cell_at(object.ty, first), value)
+            initialized(
+                cells,
+                origin,
+                frames,
+                cell_at(object.ty, first),
+                value.get(),
+            )
         }
         Some(TypedInitializer::List(items)) => {
             let before = initialized_each(
@@ -255,7 +261,7 @@ fn left_unless(
     cells: &mut Cells,
     origin: u32,
     frames: &Frames,
-    test: &Option<TypedExpression>,
+    test: &Option<Boxed<TypedExpression>>,
 ) -> Result<Seq<CoreTree>, AllocError>
     ensures taken { OnOk result (so_far cells.new
         ≡ (left_unless origin frames.now test.now (so_far cells.old)).taken) }
@@ -264,7 +270,7 @@ fn left_unless(
 {
     match test {
         None => Ok(Seq::new(frames.alloc())),
-        Some(test) => left(cells, origin, frames, test),
+        Some(test) => left(cells, origin, frames, test.get()),
     }
 }
 
@@ -354,7 +360,7 @@ fn for_front(
     origin: u32,
     frames: &Frames,
     start: &TypedForStart,
-    test: &Option<TypedExpression>,
+    test: &Option<Boxed<TypedExpression>>,
 ) -> Result<ForFront, AllocError>
     ensures taken { OnOk result (so_far cells.new
         ≡ (for_front origin frames.now start.now test.now (so_far cells.old)).taken) }
@@ -373,7 +379,7 @@ fn for_behind(
     frames: &Frames,
     front: ForFront,
     body: Seq<CoreTree>,
-    step: &Option<TypedExpression>,
+    step: &Option<Boxed<TypedExpression>>,
 ) -> Result<Seq<CoreTree>, AllocError>
     ensures taken { OnOk result (so_far cells.new
         ≡ (for_behind origin frames.now (front.start, front.test) body step.now
@@ -399,7 +405,7 @@ fn returned(
     origin: u32,
     frames: &Frames,
     place: Location,
-    value: &Option<TypedExpression>,
+    value: &Option<Boxed<TypedExpression>>,
 ) -> Result<Seq<CoreTree>, AllocError>
     ensures taken { OnOk result (so_far cells.new
         ≡ (returned origin frames.now place value.now (so_far cells.old)).taken) }
@@ -410,7 +416,7 @@ fn returned(
     match value {
         None => list_of(alloc, leaf(alloc, origin, Head::Leave)),
         Some(value) => {
-            let before = initialized(cells, origin, frames, place, value)?;
+            let before = initialized(cells, origin, frames, place, value.get())?;
             with(before, leaf(alloc, origin, Head::Leave))
         }
     }
@@ -446,6 +452,7 @@ fn statement(
             no,
             place: origin,
         } => {
+            let test = test.get();
             let v = used(cells, frames, test)?;
             let first = statement(cells, frames, place, yes.get())?;
             match no {
@@ -462,7 +469,7 @@ fn statement(
             body,
             place: origin,
         } => {
-            let head = left(cells, *origin, frames, test)?;
+            let head = left(cells, *origin, frames, test.get())?;
             let inside = statement(cells, frames, place, body.get())?;
             while_loop(alloc, *origin, head, inside)
         }
@@ -472,7 +479,7 @@ fn statement(
             place: origin,
         } => {
             let inside = statement(cells, frames, place, body.get())?;
-            do_behind(cells, *origin, frames, inside, test)
+            do_behind(cells, *origin, frames, inside, test.get())
         }
         TypedStatement::For {
             start,
@@ -515,7 +522,7 @@ fn statement(
             place: origin,
             ..
         } => {
-            let kept = switch_front(cells, *origin, frames, value)?;
+            let kept = switch_front(cells, *origin, frames, value.get())?;
             let inside = statement(cells, frames, place, body.get())?;
             switch_behind(alloc, *origin, kept, choices.as_slice(), *otherwise, inside)
         }

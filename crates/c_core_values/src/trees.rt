@@ -12,19 +12,22 @@ use cpa_ints::{Boxed, Seq};
 use cpa_model_trees::{CoreTree, Head};
 use std::alloc::{AllocError, Global};
 
-/// A list of one statement.
+/// A list of one statement, with room for no other: most lists stay as they are.
 pub fn list_of(alloc: Global, tree: CoreTree) -> Result<Seq<CoreTree>, AllocError>
     ensures { IfOk result (λ trees. trees ≡ tree ∷ []) }
 {
-    let mut trees = Seq::new(alloc);
-    trees.push(tree)?;
-    Ok(trees)
+    let trees = Vec::from_array(alloc, [tree])?;
+    Ok(Seq::from_vec(trees))
 }
 
 /// Statements with one more behind them.
 pub fn with(trees: Seq<CoreTree>, tree: CoreTree) -> Result<Seq<CoreTree>, AllocError>
     ensures { IfOk result (λ all. all ≡ trees ++ tree ∷ []) }
 {
+    if trees.is_empty() {
+        let none = trees.into_vec();
+        return list_of(*none.allocator(), tree);
+    }
     let mut trees = trees;
     trees.push(tree)?;
     Ok(trees)
@@ -34,6 +37,12 @@ pub fn with(trees: Seq<CoreTree>, tree: CoreTree) -> Result<Seq<CoreTree>, Alloc
 pub fn joined(trees: Seq<CoreTree>, behind: Seq<CoreTree>) -> Result<Seq<CoreTree>, AllocError>
     ensures { IfOk result (λ all. all ≡ trees ++ behind) }
 {
+    if trees.is_empty() {
+        return Ok(behind);
+    }
+    if behind.is_empty() {
+        return Ok(trees);
+    }
     let mut trees = trees.into_vec();
     let mut behind = behind.into_vec();
     trees.append(&mut behind)?;
@@ -82,8 +91,8 @@ fn blocks(
 ) -> Result<Seq<CoreTree>, AllocError>
     ensures { IfOk result (λ parts. parts ≡ block origin first ∷ block origin second ∷ []) }
 {
-    let parts = list_of(alloc, block(origin, first))?;
-    with(parts, block(origin, second))
+    let parts = Vec::from_array(alloc, [block(origin, first), block(origin, second)])?;
+    Ok(Seq::from_vec(parts))
 }
 
 /// A choice by a test.

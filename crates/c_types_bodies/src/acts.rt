@@ -23,11 +23,12 @@ use c_lexer::Rule;
 use c_types_expressions::{Notes, Read, Reader};
 use c_types_jumps::Jumps;
 use c_types_objects::note_if;
-use c_types_rules::{Kind, Role, TypedExpression};
+use c_types_rules::{Kind, Part, Role, TypedExpression};
+use cpa_ints::Boxed;
 use std::alloc::{AllocError, Global};
 
 /// Evaluates an expression in a role, of which the rules see a part.
-pub(crate) fn evaluate_part(
+fn evaluate_part(
     alloc: Global,
     frame: &Frame,
     walker: &mut Walker,
@@ -59,6 +60,39 @@ pub(crate) fn evaluate_part(
     Ok(read)
 }
 
+/// What the rules see of an expression, and its typed tree.
+#[derive(Drop)]
+pub(crate) struct ReadPart {
+    pub(crate) part: Part,
+    pub(crate) typed: Boxed<TypedExpression>,
+}
+
+/// Evaluates an expression in a role, its tree in a box before anything else is read.
+pub(crate) fn evaluate_boxed(
+    alloc: Global,
+    frame: &Frame,
+    walker: &mut Walker,
+    role: Role,
+    expression: &Expression,
+) -> Result<ReadPart, AllocError>
+    ensures part { IfOk result (λ r. r.part
+        ≡ part_of frame.now.survey.now walker.old.names expression.now) }
+    ensures typed { IfOk result (λ r. r.typed
+        ≡ typed_of frame.now.survey.now walker.old.names expression.now) }
+    ensures names { OnOk result (walker.new.names ≡ walker.old.names) }
+    ensures objects { OnOk result (walker.new.objects ≡ walker.old.objects) }
+    ensures cases { OnOk result (walker.new.cases ≡ walker.old.cases) }
+    ensures passed { OnOk result (walker.new.passed ≡ walker.old.passed) }
+    ensures state { (nest : Nesting) (found : Found) → OnOk result
+        (state_of frame.now nest walker.new found ≡ done frame.now.survey.now frame.now.caller
+        (evaluates role expression.now) (state_of frame.now nest walker.old found)) }
+{
+    let read = evaluate_part(alloc, frame, walker, role, expression)?;
+    let Read { part, typed } = read;
+    let typed = Boxed::new(alloc, typed)?;
+    Ok(ReadPart { part, typed })
+}
+
 /// Evaluates an expression in a role.
 pub(crate) fn evaluate(
     alloc: Global,
@@ -66,7 +100,7 @@ pub(crate) fn evaluate(
     walker: &mut Walker,
     role: Role,
     expression: &Expression,
-) -> Result<TypedExpression, AllocError>
+) -> Result<Boxed<TypedExpression>, AllocError>
     ensures typed { IfOk result (λ t. t
         ≡ typed_of frame.now.survey.now walker.old.names expression.now) }
     ensures names { OnOk result (walker.new.names ≡ walker.old.names) }
@@ -76,7 +110,7 @@ pub(crate) fn evaluate(
         (state_of frame.now nest walker.new found ≡ done frame.now.survey.now frame.now.caller
         (evaluates role expression.now) (state_of frame.now nest walker.old found)) }
 {
-    let read = evaluate_part(alloc, frame, walker, role, expression)?;
+    let read = evaluate_boxed(alloc, frame, walker, role, expression)?;
     Ok(read.typed)
 }
 
@@ -87,7 +121,7 @@ pub(crate) fn evaluate_optional(
     walker: &mut Walker,
     role: Role,
     expression: &Option<Expression>,
-) -> Result<Option<TypedExpression>, AllocError>
+) -> Result<Option<Boxed<TypedExpression>>, AllocError>
     ensures typed { IfOk result (λ t. t
         ≡ option_map (typed_of frame.now.survey.now walker.old.names) expression.now) }
     ensures names { OnOk result (walker.new.names ≡ walker.old.names) }
@@ -109,8 +143,8 @@ pub(crate) fn evaluate_optional(
 /// The test and the step of a `for`.
 #[derive(Drop)]
 pub(crate) struct Tests {
-    pub(crate) test: Option<TypedExpression>,
-    pub(crate) step: Option<TypedExpression>,
+    pub(crate) test: Option<Boxed<TypedExpression>>,
+    pub(crate) step: Option<Boxed<TypedExpression>>,
 }
 
 /// Evaluates the test and the step of a `for`.
@@ -187,7 +221,7 @@ pub(crate) fn finish(
     walker: &mut Walker,
     value: &Option<Expression>,
     place: u32,
-) -> Result<Option<TypedExpression>, AllocError>
+) -> Result<Option<Boxed<TypedExpression>>, AllocError>
     ensures typed { IfOk result (λ t. t
         ≡ option_map (typed_of frame.now.survey.now walker.old.names) value.now) }
     ensures names { OnOk result (walker.new.names ≡ walker.old.names) }

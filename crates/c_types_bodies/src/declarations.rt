@@ -122,7 +122,7 @@ fn walk_declarators(
         (state_of frame.now nest walker.old jumps.old)) }
 {
     let qualified = read_specifiers(alloc, specifiers)?;
-    let mut typed = Vec::new(alloc);
+    let mut typed = Vec::with_capacity(alloc, declarators.len())?;
     for declarator in declarators {
         let one = walk_declarator(
             alloc, frame, walker, jumps, nest, specifiers, qualified, declarator,

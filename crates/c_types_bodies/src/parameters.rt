@@ -138,7 +138,7 @@ pub(crate) fn walk_parameters(
         ≡ walked frame.now.survey.now frame.now.caller (in_order (map receiving parameters.now))
         (state_of frame.now nest walker.old jumps.old)) }
 {
-    let mut objects = Vec::new(alloc);
+    let mut objects = Vec::with_capacity(alloc, parameters.len())?;
     for parameter in parameters {
         let object = walk_parameter(alloc, frame, walker, jumps, nest, parameter)?;
         objects.push(object)?;

@@ -20,7 +20,7 @@ ghost use Rattle.c_types_bodies.specs.Views.{state_of, around_of, IsTied, Extend
 ghost use Rattle.c_types_bodies.specs.Views.{IsSwitchOn, within_switch};
 
 use crate::acts::{
-    evaluate, evaluate_optional, evaluate_part, evaluate_tests, finish, jump, leave, mark,
+    evaluate, evaluate_boxed, evaluate_optional, evaluate_tests, finish, jump, leave, mark,
     pass_label, turn,
 };
 use crate::declarations::walk_declaration;
@@ -220,7 +220,7 @@ fn walk_looped(
 /// A test and what stands behind it.
 #[derive(Drop)]
 struct Tested {
-    test: TypedExpression,
+    test: Boxed<TypedExpression>,
     yes: Boxed<TypedStatement>,
 }
 
@@ -373,8 +373,8 @@ fn walk_start(
 #[derive(Drop)]
 struct Head {
     start: TypedForStart,
-    test: Option<TypedExpression>,
-    step: Option<TypedExpression>,
+    test: Option<Boxed<TypedExpression>>,
+    step: Option<Boxed<TypedExpression>>,
 }
 
 /// Walks through what stands in the brackets of a `for`.
@@ -565,7 +565,7 @@ fn walk_switch(
         (state_of frame.now nest walker.old jumps.old)) }
 {
     let end = end_behind(walker.passed, body)?;
-    let read = evaluate_part(alloc, frame, walker, Role::Valued, value)?;
+    let read = evaluate_boxed(alloc, frame, walker, Role::Valued, value)?;
     let kind = read.part.kind;
     let switched = walk_switched(alloc, frame, walker, jumps, nest, body, kind, end)?;
     Ok(TypedStatement::Switch {
@@ -721,7 +721,7 @@ pub(crate) fn walk_items(
         (in_order (map (grown_walk frame.now.survey.now) items.now))
         (state_of frame.now nest walker.old jumps.old)) }
 {
-    let mut typed = Vec::new(alloc);
+    let mut typed = Vec::with_capacity(alloc, items.len())?;
     for item in items {
         let one = walk_item(alloc, frame, walker, jumps, nest, item)?;
         typed.push(one)?;

@@ -16,7 +16,7 @@ use c_types_expressions::{Notes, Reader};
 use c_types_names::{Names, Survey};
 use c_types_recursion::Call;
 use c_types_rules::{Role, TypedExpression, TypedInitializer, note_place};
-use cpa_ints::{IntType, Seq, wrap};
+use cpa_ints::{Boxed, IntType, Seq, wrap};
 use std::alloc::{AllocError, Global};
 
 /// Reads the items of a list, each a value.
@@ -34,7 +34,7 @@ fn read_items(
         ++ flat_map (role_calls reader.now.survey.now reader.now.names.now reader.now.caller Valued)
         items.now) }
 {
-    let mut typed = Vec::new(reader.alloc);
+    let mut typed = Vec::with_capacity(reader.alloc, items.len())?;
     for item in items {
         let read = reader.read_used(Role::Valued, item, notes)?;
         typed.push(read.typed)?;
@@ -61,7 +61,8 @@ fn read_optional(
         None => Ok(None),
         Some(Initializer::Scalar(value)) => {
             let read = reader.read_used(Role::Valued, value, notes)?;
-            Ok(Some(TypedInitializer::Scalar(read.typed)))
+            let typed = Boxed::new(reader.alloc, read.typed)?;
+            Ok(Some(TypedInitializer::Scalar(typed)))
         }
         Some(Initializer::List { items, .. }) => {
             let typed = read_items(reader, items.as_slice(), notes)?;
@@ -136,7 +137,7 @@ fn read_start_items(
     ensures first { OnOk result (first.new
         ≡ first_with first.old (flat_map (start_faults survey.now names.now) items.now)) }
 {
-    let mut values = Vec::new(alloc);
+    let mut values = Vec::with_capacity(alloc, items.len())?;
     for item in items {
         let value = read_start(alloc, survey, names, ty, item, first)?;
         values.push(value)?;
@@ -163,8 +164,7 @@ pub fn read_starts(
         None => Ok(Vec::new(alloc)),
         Some(Initializer::Scalar(item)) => {
             let value = read_start(alloc, survey, names, ty, item, first)?;
-            let mut values = Vec::new(alloc);
-            values.push(value)?;
+            let values = Vec::from_array(alloc, [value])?;
             Ok(values)
         }
         Some(Initializer::List { items, .. }) => {

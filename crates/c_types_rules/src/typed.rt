@@ -105,7 +105,7 @@ pub enum TypedSuffix {
 /// What an object is initialized with.
 #[derive(Drop)]
 pub enum TypedInitializer {
-    Scalar(TypedExpression),
+    Scalar(Boxed<TypedExpression>),
     List(Seq<TypedExpression>),
 }
 
@@ -129,29 +129,29 @@ pub enum TypedStatement {
         place: u32,
     },
     Expression {
-        expression: Option<TypedExpression>,
+        expression: Option<Boxed<TypedExpression>>,
         place: u32,
     },
     If {
-        test: TypedExpression,
+        test: Boxed<TypedExpression>,
         yes: Boxed<TypedStatement>,
         no: Option<Boxed<TypedStatement>>,
         place: u32,
     },
     While {
-        test: TypedExpression,
+        test: Boxed<TypedExpression>,
         body: Boxed<TypedStatement>,
         place: u32,
     },
     Do {
         body: Boxed<TypedStatement>,
-        test: TypedExpression,
+        test: Boxed<TypedExpression>,
         place: u32,
     },
     For {
         start: TypedForStart,
-        test: Option<TypedExpression>,
-        step: Option<TypedExpression>,
+        test: Option<Boxed<TypedExpression>>,
+        step: Option<Boxed<TypedExpression>>,
         body: Boxed<TypedStatement>,
         place: u32,
     },
@@ -166,7 +166,7 @@ pub enum TypedStatement {
         place: u32,
     },
     Return {
-        value: Option<TypedExpression>,
+        value: Option<Boxed<TypedExpression>>,
         place: u32,
     },
     /// Also a `case` or a `default`, which have labels without a name.
@@ -176,7 +176,7 @@ pub enum TypedStatement {
         place: u32,
     },
     Switch {
-        value: TypedExpression,
+        value: Boxed<TypedExpression>,
         /// Its cases in the order of the text.
         choices: Seq<Choice>,
         /// The label of its default, or else the one behind it.
@@ -207,7 +207,7 @@ pub enum TypedItem {
 #[derive(Drop)]
 pub enum TypedForStart {
     Declaration(Seq<TypedDeclarator>),
-    Expression(Option<TypedExpression>),
+    Expression(Option<Boxed<TypedExpression>>),
 }
 
 /// A function with a body.

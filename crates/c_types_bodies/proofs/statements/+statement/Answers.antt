@@ -292,7 +292,7 @@ walk_switched-returns-clause-state t c = λ value on.
 pub walk_switch-walk_switched-requires : goal.walk_switch-walk_switched-requires
 walk_switch-walk_switched-requires t c = (
   first_of (search rules, grind arith, grind (arith, common_steps)),
-  tied_same c.args.frame.now c.args.walker.now c.evaluate_part.new.walker c.args.jumps.now
+  tied_same c.args.frame.now c.args.walker.now c.evaluate_boxed.new.walker c.args.jumps.now
       c.requires c.in_ok-read.ensures.names c.in_ok-read.ensures.objects
       c.in_ok-read.ensures.cases,
 )
@@ -301,7 +301,7 @@ pub walk_switch-returns-clause-state : goal.walk_switch-returns-clause-state
 walk_switch-returns-clause-state t c =
     let frame = c.args.frame.now in
     let text = frame.survey.now in
-    let mid = c.evaluate_part.new.walker in
+    let mid = c.evaluate_boxed.new.walker in
     let value = c.args.value.now in
     let body = c.args.body.now in
     two_walks text frame.caller (doing (evaluates Valued value))
@@ -319,7 +319,7 @@ walk_switch-returns-clause-typed t c =
     let frame = c.args.frame.now in
     let text = frame.survey.now in
     let old = c.args.walker.now in
-    let mid = c.evaluate_part.new.walker in
+    let mid = c.evaluate_boxed.new.walker in
     let value = c.args.value.now in
     let body = c.args.body.now in
     let around = around_of frame c.args.nest mid in
