@@ -1,26 +1,22 @@
 //! The rules on values and their statements (`c_core_rules`, `specs/Acts.antt`). Proved by the
 //! checker alone.
-ghost use Rattle.std.specs.Prelude.{◌≡◌, ◌∷◌, ◌++◌, [], IfOk, OnOk};
-ghost use Rattle.cpa_ints.specs.declared.integers.IntType.TheVariants as ty;
-ghost use Rattle.cpa_expr.specs.declared.tree.Expr.TheVariants.{And, Or};
-ghost use Rattle.c_core_rules.specs.Cells.{fresh};
+ghost use Rattle.std.specs.Prelude.{◌≡◌, ◌++◌, IfOk, OnOk};
 ghost use Rattle.c_core_rules.specs.Acts.{is_pure, held, held_before, operated, both_hold};
 ghost use Rattle.c_core_rules.specs.Acts.{one_holds, linked, signed, cast_to, chosen_by, chosen};
 ghost use Rattle.c_core_rules.specs.Acts.{dropped_value, fixed};
-ghost use Rattle.c_core_rules.specs.Trees.{set, choice, valued};
-ghost use Rattle.c_core_rules.specs.Values.{chosen_value, truth_of, promote, scalar, int};
+ghost use Rattle.c_core_rules.specs.Trees.{valued};
+ghost use Rattle.c_core_rules.specs.Values.{promote};
 ghost use Rattle.c_core_values.specs.Found.{so_far};
 
 use crate::cells::Cells;
-use crate::trees::{choice, joined, list_of, set, with};
-use crate::values::{int, scalar};
-use c_core_operators::{
-    chosen_value, conv, is_constant, operator_value, promote, signed_value, truth_of,
+use c_core_choices::{
+    both_into, both_purely, chosen_into, chosen_purely, held_in, joined, one_into, one_purely,
 };
-use c_core_rules::{Location, Valued};
+use c_core_operators::{conv, is_constant, operator_value, promote, signed_value};
+use c_core_rules::Valued;
 use c_grammar_symbols::BinaryOperator;
 use c_grammar_tree::UnaryOperator;
-use cpa_expr::{Expr, both, either, type_of};
+use cpa_expr::{Expr, type_of};
 use cpa_ints::{Boxed, IntType, Seq, common};
 use cpa_model_trees::CoreTree;
 use std::alloc::{AllocError, Global};
@@ -55,51 +51,6 @@ pub(crate) fn followed(v: Valued, behind: Seq<CoreTree>) -> Result<Valued, Alloc
     Ok(Valued { statements, value })
 }
 
-/// Statements that end with a value in a cell.
-fn value_in(
-    alloc: Global,
-    origin: u32,
-    place: Location,
-    v: Valued,
-) -> Result<Seq<CoreTree>, AllocError>
-    ensures { IfOk result (λ trees. trees ≡ v.statements ++ set origin place v.value ∷ []) }
-{
-    let Valued { statements, value } = v;
-    let written = set(alloc, origin, place, value)?;
-    with(statements, written)
-}
-
-/// A cell that is read behind statements.
-fn read_behind(
-    alloc: Global,
-    statements: Seq<CoreTree>,
-    place: Location,
-) -> Result<Valued, AllocError>
-    ensures { IfOk result (λ v. v ≡ valued statements (scalar place)) }
-{
-    let value = scalar(alloc, place)?;
-    Ok(Valued { statements, value })
-}
-
-/// A fresh cell, and statements that end with a value in it.
-#[derive(Drop)]
-struct Kept {
-    place: Location,
-    statements: Seq<CoreTree>,
-}
-
-/// A value in a fresh cell of this type.
-fn keep(cells: &mut Cells, origin: u32, ty: IntType, v: Valued) -> Result<Kept, AllocError>
-    ensures taken { OnOk result (so_far cells.new ≡ (fresh ty (so_far cells.old)).taken) }
-    ensures place { IfOk result (λ k. k.place ≡ (fresh ty (so_far cells.old)).made) }
-    ensures statements { IfOk result (λ k. k.statements
-        ≡ v.statements ++ set origin (fresh ty (so_far cells.old)).made v.value ∷ []) }
-{
-    let place = cells.fresh(ty)?;
-    let statements = value_in(cells.alloc(), origin, place, v)?;
-    Ok(Kept { place, statements })
-}
-
 /// A value that is held in a fresh cell.
 pub(crate) fn held(cells: &mut Cells, origin: u32, v: Valued) -> Result<Valued, AllocError>
     ensures taken { OnOk result (so_far cells.new
@@ -107,8 +58,8 @@ pub(crate) fn held(cells: &mut Cells, origin: u32, v: Valued) -> Result<Valued, 
     ensures made { IfOk result (λ w. w ≡ (held origin v (so_far cells.old)).made) }
 {
     let ty = type_of(v.value.get());
-    let Kept { place, statements } = keep(cells, origin, ty, v)?;
-    read_behind(cells.alloc(), statements, place)
+    let place = cells.fresh(ty)?;
+    held_in(cells.alloc(), origin, place, v)
 }
 
 /// A value that is held with its type promoted.
@@ -162,95 +113,6 @@ pub(crate) fn operated(
     followed(Valued { statements, value }, behind)
 }
 
-/// The truth of a value in a fresh cell.
-fn keep_truth(cells: &mut Cells, origin: u32, v: Valued) -> Result<Kept, AllocError>
-    ensures taken { OnOk result (so_far cells.new ≡ (fresh ty.I32 (so_far cells.old)).taken) }
-    ensures place { IfOk result (λ k. k.place ≡ (fresh ty.I32 (so_far cells.old)).made) }
-    ensures statements { IfOk result (λ k. k.statements
-        ≡ v.statements ++ set origin (fresh ty.I32 (so_far cells.old)).made
-        (truth_of v.value) ∷ []) }
-{
-    let Valued { statements, value } = v;
-    let value = truth_of(cells.alloc(), value)?;
-    keep(cells, origin, IntType::I32, Valued { statements, value })
-}
-
-/// A small number in a cell.
-fn number_in(
-    alloc: Global,
-    origin: u32,
-    place: Location,
-    number: u32,
-) -> Result<Seq<CoreTree>, AllocError>
-    ensures { IfOk result (λ trees. trees ≡ set origin place (int number) ∷ []) }
-{
-    let value = int(alloc, number)?;
-    let written = set(alloc, origin, place, value)?;
-    list_of(alloc, written)
-}
-
-/// The ends of a choice, which leave a value in a fresh cell.
-#[derive(Drop)]
-struct Ends {
-    place: Location,
-    yes: Seq<CoreTree>,
-    no: Seq<CoreTree>,
-}
-
-/// A test, and a choice by it.
-fn chosen_behind(
-    alloc: Global,
-    origin: u32,
-    test: Valued,
-    yes: Seq<CoreTree>,
-    no: Seq<CoreTree>,
-) -> Result<Seq<CoreTree>, AllocError>
-    ensures { IfOk result (λ trees. trees
-        ≡ test.statements ++ choice origin test.value yes no ∷ []) }
-{
-    let Valued { statements, value } = test;
-    let choice = choice(alloc, origin, value, yes, no)?;
-    with(statements, choice)
-}
-
-/// A test, a choice by it that leaves a value in a cell, and the cell.
-fn chosen_into(alloc: Global, origin: u32, test: Valued, ends: Ends) -> Result<Valued, AllocError>
-    ensures { IfOk result (λ v. v
-        ≡ valued (test.statements ++ choice origin test.value ends.yes ends.no ∷ [])
-        (scalar ends.place)) }
-{
-    let Ends { place, yes, no } = ends;
-    let statements = chosen_behind(alloc, origin, test, yes, no)?;
-    read_behind(alloc, statements, place)
-}
-
-/// `left && right` without a fresh cell.
-fn both_purely(alloc: Global, left: Valued, right: Boxed<Expr>) -> Result<Valued, AllocError>
-    ensures { IfOk result (λ v. v ≡ valued left.statements (And left.value right)) }
-{
-    let Valued { statements, value } = left;
-    let value = both(alloc, value, right)?;
-    Ok(Valued { statements, value })
-}
-
-/// The ends of `left && right`: the truth of the right side, and 0.
-fn both_ends(cells: &mut Cells, origin: u32, right: Valued) -> Result<Ends, AllocError>
-    ensures taken { OnOk result (so_far cells.new ≡ (fresh ty.I32 (so_far cells.old)).taken) }
-    ensures place { IfOk result (λ ends. ends.place ≡ (fresh ty.I32 (so_far cells.old)).made) }
-    ensures yes { IfOk result (λ ends. ends.yes ≡ right.statements
-        ++ set origin (fresh ty.I32 (so_far cells.old)).made (truth_of right.value) ∷ []) }
-    ensures no { IfOk result (λ ends. ends.no
-        ≡ set origin (fresh ty.I32 (so_far cells.old)).made (int 0) ∷ []) }
-{
-    let yes = keep_truth(cells, origin, right)?;
-    let no = number_in(cells.alloc(), origin, yes.place, 0)?;
-    Ok(Ends {
-        place: yes.place,
-        yes: yes.statements,
-        no,
-    })
-}
-
 /// `left && right`.
 fn both_hold(
     cells: &mut Cells,
@@ -265,35 +127,8 @@ fn both_hold(
     if is_pure(&right) {
         return both_purely(cells.alloc(), left, value_of(right));
     }
-    let ends = both_ends(cells, origin, right)?;
-    chosen_into(cells.alloc(), origin, left, ends)
-}
-
-/// `left || right` without a fresh cell.
-fn one_purely(alloc: Global, left: Valued, right: Boxed<Expr>) -> Result<Valued, AllocError>
-    ensures { IfOk result (λ v. v ≡ valued left.statements (Or left.value right)) }
-{
-    let Valued { statements, value } = left;
-    let value = either(alloc, value, right)?;
-    Ok(Valued { statements, value })
-}
-
-/// The ends of `left || right`: 1, and the truth of the right side.
-fn one_ends(cells: &mut Cells, origin: u32, right: Valued) -> Result<Ends, AllocError>
-    ensures taken { OnOk result (so_far cells.new ≡ (fresh ty.I32 (so_far cells.old)).taken) }
-    ensures place { IfOk result (λ ends. ends.place ≡ (fresh ty.I32 (so_far cells.old)).made) }
-    ensures yes { IfOk result (λ ends. ends.yes
-        ≡ set origin (fresh ty.I32 (so_far cells.old)).made (int 1) ∷ []) }
-    ensures no { IfOk result (λ ends. ends.no ≡ right.statements
-        ++ set origin (fresh ty.I32 (so_far cells.old)).made (truth_of right.value) ∷ []) }
-{
-    let no = keep_truth(cells, origin, right)?;
-    let yes = number_in(cells.alloc(), origin, no.place, 1)?;
-    Ok(Ends {
-        place: no.place,
-        yes,
-        no: no.statements,
-    })
+    let place = cells.fresh(IntType::I32)?;
+    both_into(cells.alloc(), origin, place, left, right)
 }
 
 /// `left || right`.
@@ -310,8 +145,8 @@ fn one_holds(
     if is_pure(&right) {
         return one_purely(cells.alloc(), left, value_of(right));
     }
-    let ends = one_ends(cells, origin, right)?;
-    chosen_into(cells.alloc(), origin, left, ends)
+    let place = cells.fresh(IntType::I32)?;
+    one_into(cells.alloc(), origin, place, left, right)
 }
 
 /// `left operator right` in a chain.
@@ -355,30 +190,6 @@ pub fn cast_to(alloc: Global, ty: IntType, v: Valued) -> Result<Valued, AllocErr
     Ok(Valued { statements, value })
 }
 
-/// The ends of a conditional: each value in one cell of this type.
-fn chosen_ends(
-    cells: &mut Cells,
-    origin: u32,
-    ty: IntType,
-    yes: Valued,
-    no: Valued,
-) -> Result<Ends, AllocError>
-    ensures taken { OnOk result (so_far cells.new ≡ (fresh ty (so_far cells.old)).taken) }
-    ensures place { IfOk result (λ ends. ends.place ≡ (fresh ty (so_far cells.old)).made) }
-    ensures yes { IfOk result (λ ends. ends.yes
-        ≡ yes.statements ++ set origin (fresh ty (so_far cells.old)).made yes.value ∷ []) }
-    ensures no { IfOk result (λ ends. ends.no
-        ≡ no.statements ++ set origin (fresh ty (so_far cells.old)).made no.value ∷ []) }
-{
-    let yes = keep(cells, origin, ty, yes)?;
-    let no = value_in(cells.alloc(), origin, yes.place, no)?;
-    Ok(Ends {
-        place: yes.place,
-        yes: yes.statements,
-        no,
-    })
-}
-
 /// A conditional with a fresh cell for its value.
 fn chosen_by(
     cells: &mut Cells,
@@ -393,23 +204,8 @@ fn chosen_by(
     ensures made { IfOk result (λ v. v
         ≡ (chosen_by origin ty test yes no (so_far cells.old)).made) }
 {
-    let ends = chosen_ends(cells, origin, ty, yes, no)?;
-    chosen_into(cells.alloc(), origin, test, ends)
-}
-
-/// A conditional without a fresh cell.
-fn chosen_purely(
-    alloc: Global,
-    test: Valued,
-    yes: Boxed<Expr>,
-    no: Boxed<Expr>,
-) -> Result<Valued, AllocError>
-    ensures { IfOk result (λ v. v
-        ≡ valued test.statements (chosen_value test.value yes no)) }
-{
-    let Valued { statements, value } = test;
-    let value = chosen_value(alloc, value, yes, no)?;
-    Ok(Valued { statements, value })
+    let place = cells.fresh(ty)?;
+    chosen_into(cells.alloc(), origin, place, test, yes, no)
 }
 
 /// `test ? yes : no`.

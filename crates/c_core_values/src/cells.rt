@@ -7,7 +7,7 @@ ghost use Rattle.c_core_rules.specs.Cells.{nothing_taken, fresh, taking, begun};
 ghost use Rattle.c_core_rules.specs.Cells.{location_in, scalar_place, cell, cells_with};
 ghost use Rattle.c_core_values.specs.Found.{found_starts, so_far, first_value, values_behind};
 
-use crate::values::cell_at;
+use c_core_choices::cell_at;
 use c_core_rules::Location;
 use c_types_rules::{Meaning, Object, cells_of};
 use cpa_ints::{IntType, Seq};

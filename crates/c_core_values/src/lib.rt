@@ -6,12 +6,12 @@ mod acts;
 mod cells;
 mod operands;
 mod places;
-mod trees;
-mod values;
 
 pub use acts::{cast_to, chosen, dropped_value, held_promoted, linked, signed};
+pub use c_core_choices::{
+    block, cell_at, choice, element, input, int, joined, labeled, leaf, list_of, number, pure,
+    repeated, scalar, set, with,
+};
 pub use cells::{Cells, TakenCells};
 pub use operands::{divided, hold_all};
 pub use places::{changed, fixed_if, incremented, stepped};
-pub use trees::{block, choice, input, joined, labeled, leaf, list_of, pure, repeated, set, with};
-pub use values::{cell_at, element, int, number, scalar};

@@ -7,7 +7,7 @@ ghost use Rattle.c_core_values.specs.Found.{so_far};
 
 use crate::acts::{held, is_pure};
 use crate::cells::Cells;
-use crate::trees::joined;
+use c_core_choices::joined;
 use c_core_rules::Valued;
 use cpa_expr::Expr;
 use cpa_ints::{Boxed, Seq};

@@ -11,8 +11,7 @@ ghost use Rattle.c_core_values.specs.Found.{so_far};
 
 use crate::acts::{fixed, followed, held, held_before, operated, statements_of};
 use crate::cells::Cells;
-use crate::trees::{joined, pure, with, write};
-use crate::values::{element, number};
+use c_core_choices::{element, joined, number, pure, with, write};
 use c_core_rules::{Location, Place, Valued};
 use c_grammar_symbols::{BinaryOperator, StepOperator};
 use cpa_expr::{Expr, copied};

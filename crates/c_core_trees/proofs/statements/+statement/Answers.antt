@@ -24,7 +24,8 @@ pub statement-returns-in_ok-trees-in-Some-clause-taken :
 statement-returns-in_ok-trees-in-Some-clause-taken t c =
     (if_else c.args.frames.now c.args.place c.args.s.now _ _ _ _ _ _ _
     (so_far c.args.cells.now) _ _ _ _ _ _ c.in-If.is c.in-Some.is c.get.ensures
-    c.get-in-Some.ensures c.in_ok-v-in-If.ensures.taken c.in_ok-v-in-If.ensures.made
+    c.get-in-Some.ensures (rw c.get-test.ensures at c.in_ok-v-in-If.ensures.taken)
+    (rw c.get-test.ensures at c.in_ok-v-in-If.ensures.made)
     c.in_ok-first-in-If.ensures.taken c.in_ok-first-in-If.ensures.made
     c.in_ok-second-in-Some.ensures.taken c.in_ok-second-in-Some.ensures.made).0
 
@@ -34,6 +35,7 @@ statement-returns-in_ok-trees-in-Some-clause-made t c =
     c.in_ok-trees-in-Some.ensures
     ∙ (if_else c.args.frames.now c.args.place c.args.s.now _ _ _ _ _ _ _
     (so_far c.args.cells.now) _ _ _ _ _ _ c.in-If.is c.in-Some.is c.get.ensures
-    c.get-in-Some.ensures c.in_ok-v-in-If.ensures.taken c.in_ok-v-in-If.ensures.made
+    c.get-in-Some.ensures (rw c.get-test.ensures at c.in_ok-v-in-If.ensures.taken)
+    (rw c.get-test.ensures at c.in_ok-v-in-If.ensures.made)
     c.in_ok-first-in-If.ensures.taken c.in_ok-first-in-If.ensures.made
     c.in_ok-second-in-Some.ensures.taken c.in_ok-second-in-Some.ensures.made).1

@@ -132,7 +132,7 @@ pub fn repeated(
 }
 
 /// A write of a value, converted, to a place.
-pub(crate) fn write(
+pub fn write(
     alloc: Global,
     origin: u32,
     place: Location,
