@@ -9,7 +9,7 @@ ghost use Rattle.cpa_model_trees.specs.Numbering.{numbered_bodies, places_in};
 ghost use Rattle.cpa_model_trees.specs.Rows.{sizes_of, row_of, places_of};
 
 use crate::{CoreTree, Head};
-use cpa_ints::Seq;
+use cpa_ints::{Boxed, Seq};
 use cpa_model::Stmt;
 use std::alloc::{AllocError, Global};
 
@@ -192,7 +192,8 @@ fn place(
     }
 }
 
-/// The same of a tree with this root and these parts.
+/// The same of a tree with this root and these parts. The root is boxed while parts are placed, so
+/// that what is dropped where memory ends is a box.
 #[cycle(placing)]
 #[tactic(auto, using(crate::proofs::NumberedRows::root_inside))]
 fn place_node(
@@ -211,9 +212,10 @@ fn place_node(
     ensures places { OnOk result (places.new.items
         ≡ places.old.items ++ places_in (statements (Node head parts.items origin))) }
 {
+    let head = Boxed::new(alloc, head)?;
     let number = hold_root(stmts, places, origin)?;
     let numbers = place_row(alloc, stmts, places, labels, parts)?;
-    write_root(stmts, labels, number, head, numbers);
+    write_root(stmts, labels, number, head.into_inner(), numbers);
     Ok(number)
 }
 
@@ -241,6 +243,15 @@ fn place_row(
     Ok(numbers)
 }
 
+/// The numbers of the labelled blocks of a tree whose root has this number.
+fn labels_of(alloc: Global, tree: &CoreTree, number: u32) -> Result<Vec<u32>, AllocError>
+    ensures { IfOk result (λ labels. labels.items ≡ labels_from number (statements tree.now)) }
+{
+    let mut labels = Vec::new(alloc);
+    note_tree(&mut labels, tree, number)?;
+    Ok(labels)
+}
+
 /// Adds the statements of a function, and gives the number of its body.
 fn place_body(
     alloc: Global,
@@ -255,9 +266,9 @@ fn place_body(
     ensures places { OnOk result (places.new.items
         ≡ places.old.items ++ places_in (statements tree)) }
 {
-    let mut labels = Vec::new(alloc);
-    note_tree(&mut labels, &tree, next_number(stmts)?)?;
-    place(alloc, stmts, places, &labels, tree)
+    let tree = Boxed::new(alloc, tree)?;
+    let labels = labels_of(alloc, tree.get(), next_number(stmts)?)?;
+    place(alloc, stmts, places, &labels, tree.into_inner())
 }
 
 /// The statements of functions, the numbers of their bodies, and the place of each statement.

@@ -24,7 +24,7 @@ place_row-loop-tree-preserved t c =
 
 pub place_node-returns-clause-stmts : goal.place_node-returns-clause-stmts
 place_node-returns-clause-stmts t c =
-    c.write_root.ensures
+    (rw (c.into_inner.ensures, c.in_ok-head.ensures) at c.write_root.ensures)
     ∙ root_placed c.args.stmts.now.items c.hold_root.new.stmts.items c.place_row.new.stmts.items
     c.args.labels.now c.args.head c.args.parts.items c.args.origin _ _ _
     c.in_ok-number.ensures.number
