@@ -10,11 +10,11 @@ use cases_reader::{RowFault, end_row, next_index, next_part, next_word, push_wor
 use cpa_audit::NoGate;
 use cpa_chains::{Partial, partials, partials_par};
 use cpa_cnf::{Cnf, Line, Marks, check_line};
-use cpa_expr::push_expr;
+use cpa_expr::{Expr, push_expr};
 use cpa_interpolant_bits::Bit;
 use cpa_interpolant_conditions::interpolant;
 use cpa_interpolant_joining::join;
-use cpa_ints::IntType;
+use cpa_ints::{Boxed, IntType};
 use std::alloc::{AllocError, Global};
 use std::str::{Split, SplitWhitespace};
 use std::thread::Threads;
@@ -173,6 +173,11 @@ fn expression(
     parts: &mut Split<'_, char>,
 ) -> Result<(), RowFault> {
     let chains = read_chains(alloc, words, parts)?;
+    push_interpolant(alloc, out, &chains)
+}
+
+/// The expression of the last partial of a refutation.
+fn push_interpolant(alloc: Global, out: &mut String, chains: &Chains) -> Result<(), RowFault> {
     let cnf = &chains.cnf;
     let sides = &chains.sides;
     let log = &chains.log;
@@ -180,12 +185,18 @@ fn expression(
         return Err(RowFault::Unreadable);
     }
     let bits = bits(alloc, cnf.vars)?;
-    match interpolant(alloc, cnf, sides, log, &bits)? {
+    let found = interpolant(alloc, cnf, sides, log, &bits)?;
+    Ok(push_found(out, &found)?)
+}
+
+/// An expression as reports spell it, or `large`.
+fn push_found(out: &mut String, found: &Option<Boxed<Expr>>) -> Result<(), AllocError> {
+    match found {
         Some(expression) => {
             out.push_str(" ")?;
-            Ok(push_expr(out, expression.get())?)
+            push_expr(out, expression.get())
         }
-        None => Ok(push_word(out, "large")?),
+        None => push_word(out, "large"),
     }
 }
 

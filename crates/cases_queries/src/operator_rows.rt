@@ -53,10 +53,10 @@ fn push_operator(
     push_result(alloc, out, &mut query, number, expr)
 }
 
-/// That a cell equals an expression.
+/// That a cell equals an expression, which is boxed before the cell's read is made.
 fn equals(alloc: Global, ty: IntType, number: u32, e: Expr) -> Result<Expr, AllocError> {
-    let left = Boxed::new(alloc, read_scalar(alloc, ty, number)?)?;
     let right = Boxed::new(alloc, e)?;
+    let left = Boxed::new(alloc, read_scalar(alloc, ty, number)?)?;
     Ok(Expr::Cmp {
         op: CmpOp::Eq,
         ty,
@@ -93,16 +93,29 @@ fn push_result(
     query.cells.push(ty)?;
     let e = copy(alloc, expr)?;
     query.wanted.push((equals(alloc, ty, number, e)?, true))?;
-    match ask(alloc, query, LEARNT)? {
+    let found = found_of(ty, number, &ask(alloc, query, LEARNT)?);
+    match found {
+        Found::Value(found) => push_only(alloc, out, query, number, found),
+        Found::Word(word) => Ok(push_word(out, word)?),
+    }
+}
+
+/// What a query says of a cell: its value in the model, or a word where there is none.
+#[derive(Clone, Copy)]
+enum Found {
+    Value(Operand),
+    Word(&'static str),
+}
+
+/// What is found out of the cell of this number, which has the type.
+fn found_of(ty: IntType, number: u32, decided: &Decided) -> Found {
+    match decided {
         Decided::Model(store) => match store.values.get(number as usize) {
-            Some(value) => {
-                let found = Operand { ty, value: *value };
-                push_only(alloc, out, query, number, found)
-            }
-            None => Ok(push_word(out, "wrong")?),
+            Some(value) => Found::Value(Operand { ty, value: *value }),
+            None => Found::Word("wrong"),
         },
-        Decided::NoModel(_) => Ok(push_word(out, "trap")?),
-        Decided::Learnt(_) => Ok(push_word(out, "learnt")?),
+        Decided::NoModel(_) => Found::Word("trap"),
+        Decided::Learnt(_) => Found::Word("learnt"),
     }
 }
 
@@ -117,8 +130,17 @@ fn push_only(
     query
         .wanted
         .push((has_number(alloc, number, found)?, false))?;
-    match ask(alloc, query, LEARNT)? {
-        Decided::NoModel(_) => Ok(push_number(out, found.value)?),
-        _ => Ok(push_word(out, "wrong")?),
+    if is_without_model(&ask(alloc, query, LEARNT)?) {
+        Ok(push_number(out, found.value)?)
+    } else {
+        Ok(push_word(out, "wrong")?)
+    }
+}
+
+/// Whether the query has no model.
+fn is_without_model(decided: &Decided) -> bool {
+    match decided {
+        Decided::NoModel(_) => true,
+        _ => false,
     }
 }

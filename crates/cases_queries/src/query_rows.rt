@@ -19,23 +19,64 @@ pub fn answer(
     parts: &mut Split<'_, char>,
 ) -> Result<bool, RowFault> {
     if word == "solve" {
-        let learnt = next_index(words)?;
-        let query = query(alloc, words, parts)?;
-        push_solved(out, &query, &ask(alloc, &query, learnt)?)?;
+        solve(alloc, out, words, parts)?;
     } else if word == "decide" {
-        let learnt = next_index(words)?;
-        let query = query(alloc, words, parts)?;
-        push_decided(out, &query, &ask(alloc, &query, learnt)?)?;
+        decided(alloc, out, words, parts)?;
     } else if word == "measure" {
-        let learnt = next_index(words)?;
-        let query = query(alloc, words, parts)?;
-        let (vars, clauses) = size(alloc, &query)?;
-        write!(out, " {vars} {clauses}")?;
-        push_decided(out, &query, &ask(alloc, &query, learnt)?)?;
+        measure(alloc, out, words, parts)?;
     } else {
         return Ok(false);
     }
     Ok(true)
+}
+
+/// `solve LEARNT TYPE .. : WANTED ..`: the outcome, with the values of a model.
+fn solve(
+    alloc: Global,
+    out: &mut String,
+    words: &mut SplitWhitespace<'_>,
+    parts: &mut Split<'_, char>,
+) -> Result<(), RowFault> {
+    let learnt = next_index(words)?;
+    let query = query(alloc, words, parts)?;
+    Ok(push_solved(out, &query, &ask(alloc, &query, learnt)?)?)
+}
+
+/// `decide LEARNT TYPE .. : WANTED ..`: the outcome alone.
+fn decided(
+    alloc: Global,
+    out: &mut String,
+    words: &mut SplitWhitespace<'_>,
+    parts: &mut Split<'_, char>,
+) -> Result<(), RowFault> {
+    let learnt = next_index(words)?;
+    let query = query(alloc, words, parts)?;
+    push_asked(alloc, out, &query, learnt)
+}
+
+/// The outcome of a query.
+fn push_asked(alloc: Global, out: &mut String, query: &Query, learnt: u32) -> Result<(), RowFault> {
+    Ok(push_decided(out, query, &ask(alloc, query, learnt)?)?)
+}
+
+/// `measure LEARNT TYPE .. : WANTED ..`: how large the formula is, and the outcome.
+fn measure(
+    alloc: Global,
+    out: &mut String,
+    words: &mut SplitWhitespace<'_>,
+    parts: &mut Split<'_, char>,
+) -> Result<(), RowFault> {
+    let learnt = next_index(words)?;
+    let query = query(alloc, words, parts)?;
+    push_size(alloc, out, &query)?;
+    push_asked(alloc, out, &query, learnt)
+}
+
+/// How many variables and clauses the query's formula has.
+fn push_size(alloc: Global, out: &mut String, query: &Query) -> Result<(), RowFault> {
+    let (vars, clauses) = size(alloc, query)?;
+    write!(out, " {vars} {clauses}")?;
+    Ok(())
 }
 
 /// The query of a row: the types of its cells, and each wanted expression behind a sign.
