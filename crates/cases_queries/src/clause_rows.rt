@@ -1,10 +1,10 @@
 //! Rows on clauses, resolvents and lines: what the public calls of `cpa_cnf` answer.
 //! Proved safe with `proofs/clause_rows/`.
 
-use crate::formulas::{formula, line};
+use crate::formulas::{formula, rest_lines};
 use crate::words::{push_clause, variable_of_word, whole_clause};
 use cases_reader::{RowFault, end_row, next_index, next_part, next_word};
-use cpa_cnf::{Cnf, Line, Marks, check_line, resolve};
+use cpa_cnf::{Clause, Cnf, Line, Marks, check_line, resolve};
 use std::alloc::Global;
 use std::str::{Split, SplitWhitespace};
 
@@ -16,21 +16,28 @@ pub fn answer(
     words: &mut SplitWhitespace<'_>,
     parts: &mut Split<'_, char>,
 ) -> Result<bool, RowFault> {
-    if word == "clause" {
-        end_row(words)?;
-        sorted(alloc, out, next_part(parts)?)?;
+    let pushed = if word == "clause" {
+        sorted(alloc, out, words, parts)
     } else if word == "resolve" {
-        resolvent(alloc, out, words, parts)?;
+        resolvent(alloc, out, words, parts)
     } else if word == "lines" {
-        lines(alloc, out, words, parts)?;
+        lines(alloc, out, words, parts)
     } else {
         return Ok(false);
-    }
+    };
+    pushed?;
     Ok(true)
 }
 
 /// `clause : LITERALS`: the clause of the literals.
-fn sorted(alloc: Global, out: &mut String, text: &str) -> Result<(), RowFault> {
+fn sorted(
+    alloc: Global,
+    out: &mut String,
+    words: &mut SplitWhitespace<'_>,
+    parts: &mut Split<'_, char>,
+) -> Result<(), RowFault> {
+    end_row(words)?;
+    let text = next_part(parts)?;
     push_clause(out, &whole_clause(alloc, text)?)
 }
 
@@ -43,10 +50,17 @@ fn resolvent(
 ) -> Result<(), RowFault> {
     let pivot = variable_of_word(next_word(words)?)?;
     end_row(words)?;
-    let a = whole_clause(alloc, next_part(parts)?)?;
-    let b = whole_clause(alloc, next_part(parts)?)?;
-    match resolve(alloc, &a, &b, pivot)? {
-        Some(clause) => push_clause(out, &clause),
+    let first = next_part(parts)?;
+    let second = next_part(parts)?;
+    let a = whole_clause(alloc, first)?;
+    let b = whole_clause(alloc, second)?;
+    push_resolvent(out, &resolve(alloc, &a, &b, pivot)?)
+}
+
+/// A clause, or `none`.
+fn push_resolvent(out: &mut String, found: &Option<Clause>) -> Result<(), RowFault> {
+    match found {
+        Some(clause) => push_clause(out, clause),
         None => Ok(out.push_str(" none")?),
     }
 }
@@ -60,12 +74,10 @@ fn lines(
 ) -> Result<(), RowFault> {
     let vars = next_index(words)?;
     end_row(words)?;
-    let cnf = formula(alloc, vars, next_part(parts)?)?;
-    let mut log = Vec::new(alloc);
-    for part in parts {
-        log.push(line(alloc, part)?)?;
-    }
+    let text = next_part(parts)?;
     out.push_str(" ")?;
+    let cnf = formula(alloc, vars, text)?;
+    let log = rest_lines(alloc, parts)?;
     push_signs(alloc, out, &cnf, &log)
 }
 

@@ -10,7 +10,7 @@ use cases_reader::{RowFault, next_index};
 use cpa_cnf::{Clause, Cnf, Line, Step};
 use cpa_ints::Seq;
 use std::alloc::Global;
-use std::str::SplitWhitespace;
+use std::str::{Split, SplitWhitespace};
 
 /// The formula of a text over so many variables.
 pub fn formula(alloc: Global, vars: u32, text: &str) -> Result<Cnf, RowFault> {
@@ -38,7 +38,7 @@ fn next_step(words: &mut SplitWhitespace<'_>) -> Result<Option<Step>, RowFault> 
 }
 
 /// The line of a text: its clause, the number of the first clause, and the steps.
-pub fn line(alloc: Global, text: &str) -> Result<Line, RowFault> {
+fn line(alloc: Global, text: &str) -> Result<Line, RowFault> {
     let mut words = text.split_whitespace();
     let clause = next_clause(alloc, &mut words)?.ok_or(RowFault::Unreadable)?;
     let first = next_index(&mut words)?;
@@ -54,6 +54,15 @@ pub fn line(alloc: Global, text: &str) -> Result<Line, RowFault> {
         first,
         steps,
     })
+}
+
+/// The lines of the parts that are left.
+pub fn rest_lines(alloc: Global, parts: &mut Split<'_, char>) -> Result<Vec<Line>, RowFault> {
+    let mut lines = Vec::new(alloc);
+    for part in parts {
+        lines.push(line(alloc, part)?)?;
+    }
+    Ok(lines)
 }
 
 /// Whether each variable of the clause is below `vars`.

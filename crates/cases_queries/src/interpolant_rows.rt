@@ -4,7 +4,7 @@
 ghost use Rattle.std.specs.Prelude.{◌≡◌, ◌-◌, [], Some, map, length, slice_get, IsTrue, IfOk};
 ghost use Rattle.cpa_cnf.specs.Lines.{IsRefutation};
 
-use crate::formulas::{are_below, formula, line};
+use crate::formulas::{are_below, formula, rest_lines};
 use crate::words::{push_clause, variable_of_word};
 use cases_reader::{RowFault, end_row, next_index, next_part, next_word, push_word};
 use cpa_audit::NoGate;
@@ -28,15 +28,16 @@ pub fn answer<R: Threads + Sync>(
     words: &mut SplitWhitespace<'_>,
     parts: &mut Split<'_, char>,
 ) -> Result<bool, RowFault> {
-    if word == "partials" {
-        all_partials(rt, alloc, out, words, parts)?;
+    let pushed = if word == "partials" {
+        all_partials(rt, alloc, out, words, parts)
     } else if word == "interpolant" {
-        expression(alloc, out, words, parts)?;
+        expression(alloc, out, words, parts)
     } else if word == "join" {
-        joined(alloc, out, words, parts)?;
+        joined(alloc, out, words, parts)
     } else {
         return Ok(false);
-    }
+    };
+    pushed?;
     Ok(true)
 }
 
@@ -64,13 +65,12 @@ fn read_chains(
     parts: &mut Split<'_, char>,
 ) -> Result<Chains, RowFault> {
     let vars = next_index(words)?;
-    let sides = sides(alloc, next_word(words)?)?;
+    let letters = next_word(words)?;
     end_row(words)?;
-    let cnf = formula(alloc, vars, next_part(parts)?)?;
-    let mut log = Vec::new(alloc);
-    for part in parts {
-        log.push(line(alloc, part)?)?;
-    }
+    let text = next_part(parts)?;
+    let sides = sides(alloc, letters)?;
+    let cnf = formula(alloc, vars, text)?;
+    let log = rest_lines(alloc, parts)?;
     Ok(Chains { cnf, sides, log })
 }
 
@@ -224,9 +224,12 @@ fn joined(
     let first_vars = next_index(words)?;
     let second_vars = next_index(words)?;
     end_row(words)?;
-    let first = formula(alloc, first_vars, next_part(parts)?)?;
-    let second = formula(alloc, second_vars, next_part(parts)?)?;
-    let names = names(alloc, next_part(parts)?)?;
+    let first_text = next_part(parts)?;
+    let second_text = next_part(parts)?;
+    let names_text = next_part(parts)?;
+    let first = formula(alloc, first_vars, first_text)?;
+    let second = formula(alloc, second_vars, second_text)?;
+    let names = names(alloc, names_text)?;
     let joined = join(alloc, first, &second, &names)?;
     push_joined(out, &joined.cnf, &joined.sides)
 }

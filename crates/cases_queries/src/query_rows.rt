@@ -2,7 +2,8 @@
 //! Proved safe by the checker alone.
 
 use crate::queries::{ask, is_model, size};
-use cases_reader::{RowFault, next_index, push_number, rest_expr, type_of_word};
+use crate::words::next_types;
+use cases_reader::{RowFault, next_index, push_number, rest_expr};
 use cpa_expr::{Expr, Store};
 use cpa_ints::Seq;
 use cpa_query::Query;
@@ -18,15 +19,16 @@ pub fn answer(
     words: &mut SplitWhitespace<'_>,
     parts: &mut Split<'_, char>,
 ) -> Result<bool, RowFault> {
-    if word == "solve" {
-        solve(alloc, out, words, parts)?;
+    let pushed = if word == "solve" {
+        solve(alloc, out, words, parts)
     } else if word == "decide" {
-        decided(alloc, out, words, parts)?;
+        decided(alloc, out, words, parts)
     } else if word == "measure" {
-        measure(alloc, out, words, parts)?;
+        measure(alloc, out, words, parts)
     } else {
         return Ok(false);
-    }
+    };
+    pushed?;
     Ok(true)
 }
 
@@ -39,7 +41,17 @@ fn solve(
 ) -> Result<(), RowFault> {
     let learnt = next_index(words)?;
     let query = query(alloc, words, parts)?;
-    Ok(push_solved(out, &query, &ask(alloc, &query, learnt)?)?)
+    push_asked_solved(alloc, out, &query, learnt)
+}
+
+/// The outcome of a query, with the values of a model.
+fn push_asked_solved(
+    alloc: Global,
+    out: &mut String,
+    query: &Query,
+    learnt: u32,
+) -> Result<(), RowFault> {
+    Ok(push_solved(out, query, &ask(alloc, query, learnt)?)?)
 }
 
 /// `decide LEARNT TYPE .. : WANTED ..`: the outcome alone.
@@ -85,10 +97,7 @@ fn query(
     words: &mut SplitWhitespace<'_>,
     parts: &mut Split<'_, char>,
 ) -> Result<Query, RowFault> {
-    let mut cells = Seq::new(alloc);
-    for word in words {
-        cells.push(type_of_word(word).ok_or(RowFault::Unreadable)?)?;
-    }
+    let cells = next_types(alloc, words)?;
     let mut wanted = Seq::new(alloc);
     for part in parts {
         wanted.push(one_wanted(alloc, part)?)?;

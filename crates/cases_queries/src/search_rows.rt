@@ -17,17 +17,18 @@ pub fn answer(
     words: &mut SplitWhitespace<'_>,
     parts: &mut Split<'_, char>,
 ) -> Result<bool, RowFault> {
-    if word == "search" {
-        one_search(alloc, out, words, parts)?;
+    let pushed = if word == "search" {
+        one_search(alloc, out, words, parts)
     } else if word == "budgets" {
-        budgets(alloc, out, words, parts)?;
+        budgets(alloc, out, words, parts)
     } else if word == "effort" {
-        effort(alloc, out, words, parts)?;
+        effort(alloc, out, words, parts)
     } else if word == "trace" {
-        trace(alloc, out, words, parts)?;
+        trace(alloc, out, words, parts)
     } else {
         return Ok(false);
-    }
+    };
+    pushed?;
     Ok(true)
 }
 

@@ -1,10 +1,23 @@
-//! The words of a row: literals and clauses, as in DIMACS: the literals of variable v are v + 1 and
-//! -(v + 1), and a clause ends with 0.
+//! The words of a row: types, and literals and clauses as in DIMACS: the literals of variable v are
+//! v + 1 and -(v + 1), and a clause ends with 0.
 
-use cases_reader::RowFault;
+use cases_reader::{RowFault, type_of_word};
 use cpa_cnf::{Clause, Lit};
+use cpa_ints::{IntType, Seq};
 use std::alloc::Global;
 use std::str::SplitWhitespace;
+
+/// The types that are left.
+pub fn next_types(
+    alloc: Global,
+    words: &mut SplitWhitespace<'_>,
+) -> Result<Seq<IntType>, RowFault> {
+    let mut types = Seq::new(alloc);
+    for word in words {
+        types.push(type_of_word(word).ok_or(RowFault::Unreadable)?)?;
+    }
+    Ok(types)
+}
 
 /// The variable that a word names, counted from 1.
 pub fn variable_of_word(word: &str) -> Result<u32, RowFault> {

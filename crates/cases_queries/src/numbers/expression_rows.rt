@@ -2,15 +2,15 @@
 //! Proved safe by the checker alone.
 
 use crate::numbers::operator_rows::push_value;
+use crate::words::next_types;
 use cases_reader::{
-    RowFault, next_index, number_of_word, push_number, push_word, type_of_word, whole_expr,
-    yes_or_no,
+    RowFault, next_index, number_of_word, push_number, push_word, whole_expr, yes_or_no,
 };
 use cpa_expr::{
     Expr, Store, copy, height, is_expr, may_read, push_expr, replace_cell, same_expr, size,
     type_of, type_word, value,
 };
-use cpa_ints::{Boxed, IntType, Seq};
+use cpa_ints::{Boxed, Seq};
 use std::alloc::{AllocError, Global};
 use std::str::SplitWhitespace;
 
@@ -42,16 +42,17 @@ fn push_answer(
     words: &mut SplitWhitespace<'_>,
     expr: &Expr,
 ) -> Result<bool, RowFault> {
-    match word {
-        "value" => push_value_of(alloc, out, words, expr)?,
-        "type_of" => push_type_of(out, expr)?,
-        "is_expr" => push_is_expr(alloc, out, words, expr)?,
-        "size" => push_size(out, expr)?,
-        "height" => push_height(out, expr)?,
-        "may_read" => push_may_read(out, words, expr)?,
-        "copy" => push_copy(alloc, out, expr)?,
+    let pushed = match word {
+        "value" => push_value_of(alloc, out, words, expr),
+        "type_of" => push_type_of(out, expr),
+        "is_expr" => push_is_expr(alloc, out, words, expr),
+        "size" => push_size(out, expr),
+        "height" => push_height(out, expr),
+        "may_read" => push_may_read(out, words, expr),
+        "copy" => push_copy(alloc, out, expr),
         _ => return Ok(false),
-    }
+    };
+    pushed?;
     Ok(true)
 }
 
@@ -103,9 +104,9 @@ fn push_may_read(
 }
 
 /// `copy`: how the copy is spelled.
-fn push_copy(alloc: Global, out: &mut String, expr: &Expr) -> Result<(), AllocError> {
-    let copied = copy(alloc, expr)?;
-    push_spelled(out, &copied)
+fn push_copy(alloc: Global, out: &mut String, expr: &Expr) -> Result<(), RowFault> {
+    let copied = Boxed::new(alloc, copy(alloc, expr)?)?;
+    Ok(push_spelled(out, copied.get())?)
 }
 
 /// The answer of a row on two expressions, where the word names one: `same_expr : E : F`, and
@@ -119,12 +120,24 @@ pub fn answer_on_two(
 ) -> Result<bool, RowFault> {
     let first = boxed_expr(alloc, texts.0)?;
     let second = boxed_expr(alloc, texts.1)?;
+    push_on_two(alloc, out, word, words, first.get(), second.get())
+}
+
+/// The answer to a call on two expressions, where the word names one.
+fn push_on_two(
+    alloc: Global,
+    out: &mut String,
+    word: &str,
+    words: &mut SplitWhitespace<'_>,
+    first: &Expr,
+    second: &Expr,
+) -> Result<bool, RowFault> {
     if word == "same_expr" {
-        push_word(out, yes_or_no(same_expr(first.get(), second.get())))?;
+        push_word(out, yes_or_no(same_expr(first, second)))?;
         Ok(true)
     } else if word == "replace_cell" {
         let cell = next_index(words)?;
-        push_replaced(alloc, out, first.get(), cell, second.get())?;
+        push_replaced(alloc, out, first, cell, second)?;
         Ok(true)
     } else {
         Ok(false)
@@ -139,8 +152,8 @@ fn push_replaced(
     cell: u32,
     by: &Expr,
 ) -> Result<(), AllocError> {
-    let replaced = replace_cell(alloc, e, cell, by)?;
-    push_spelled(out, &replaced)
+    let replaced = Boxed::new(alloc, replace_cell(alloc, e, cell, by)?)?;
+    push_spelled(out, replaced.get())
 }
 
 /// The store of the values that are left.
@@ -150,15 +163,6 @@ fn next_store(alloc: Global, words: &mut SplitWhitespace<'_>) -> Result<Store, R
         values.push(number_of_word(word)?)?;
     }
     Ok(Store { values })
-}
-
-/// The types that are left.
-fn next_types(alloc: Global, words: &mut SplitWhitespace<'_>) -> Result<Seq<IntType>, RowFault> {
-    let mut types = Seq::new(alloc);
-    for word in words {
-        types.push(type_of_word(word).ok_or(RowFault::Unreadable)?)?;
-    }
-    Ok(types)
 }
 
 /// Adds an expression as reports spell it.

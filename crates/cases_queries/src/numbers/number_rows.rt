@@ -14,15 +14,16 @@ pub fn answer(
     word: &str,
     words: &mut SplitWhitespace<'_>,
 ) -> Result<bool, RowFault> {
-    match word {
-        "wraps" => wraps(out, words)?,
-        "promote" => promoted(out, words)?,
-        "commons" => commons(out, words)?,
-        "limits" => limits(out, words)?,
-        "contains" => contains(out, words)?,
-        "longs" => longs(out, words)?,
+    let pushed = match word {
+        "wraps" => wraps(out, words),
+        "promote" => promoted(out, words),
+        "commons" => commons(out, words),
+        "limits" => limits(out, words),
+        "contains" => contains(out, words),
+        "longs" => longs(out, words),
         _ => return Ok(false),
-    }
+    };
+    pushed?;
     Ok(true)
 }
 

@@ -13,20 +13,46 @@ pub fn answer(alloc: Global, out: &mut String, row: &str) -> Result<bool, RowFau
         return Ok(false);
     };
     let text = text_of(alloc, written)?;
-    if front == "read" {
-        push_read(alloc, out, text.as_str())?;
+    push_on_text(alloc, out, front, text.as_str())
+}
+
+/// The answer to a call on a text, where the words in front of it name one.
+fn push_on_text(
+    alloc: Global,
+    out: &mut String,
+    front: &str,
+    text: &str,
+) -> Result<bool, RowFault> {
+    let pushed = if front == "read" {
+        push_read(alloc, out, text)
     } else if front == "text" {
-        push_is_text(alloc, out, text.as_str())?;
+        push_is_text(alloc, out, text)
     } else if let Some(count) = front.strip_prefix("nested ") {
-        let whole = negated(alloc, count, text.as_str())?;
-        push_height(alloc, out, whole.as_str())?;
+        push_nested(alloc, out, count, text)
     } else if let Some(count) = front.strip_prefix("text nested ") {
-        let whole = negated(alloc, count, text.as_str())?;
-        push_is_text(alloc, out, whole.as_str())?;
+        push_is_nested(alloc, out, count, text)
     } else {
         return Ok(false);
-    }
+    };
+    pushed?;
     Ok(true)
+}
+
+/// `nested`: how high the expression behind so many negations is.
+fn push_nested(alloc: Global, out: &mut String, count: &str, text: &str) -> Result<(), RowFault> {
+    let whole = negated(alloc, count, text)?;
+    push_height(alloc, out, whole.as_str())
+}
+
+/// `text nested`: whether the text behind so many negations is that of an expression.
+fn push_is_nested(
+    alloc: Global,
+    out: &mut String,
+    count: &str,
+    text: &str,
+) -> Result<(), RowFault> {
+    let whole = negated(alloc, count, text)?;
+    push_is_text(alloc, out, whole.as_str())
 }
 
 /// The text that a row writes.
