@@ -12,3 +12,4 @@ pub mod Deciding
 pub mod Moving
 pub mod Ranked
 pub mod Numbered
+pub mod Apart

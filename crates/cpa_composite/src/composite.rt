@@ -1,11 +1,13 @@
 //! The composite and its calls. Contracts see it as its components (`specs/Composites.antt`); each
 //! clause is a record of `specs/Laws.antt`, and holds since it does of the same call of `calls`.
 
-ghost use Rattle.std.specs.Prelude.{◌≡◌, ◌<◌, length, map, IsTrue, IfOk, IfSome, IfNone};
+ghost use Rattle.std.specs.Prelude.{◌≡◌, ◌<◌, length, map, Some, slice_get, IsTrue, IfOk, IfSome};
+ghost use Rattle.std.specs.Prelude.{IfNone};
 ghost use Rattle.std.specs.List.{AllByRecursion};
 ghost use Rattle.cpa_model.specs.Automata.{IsAutomaton};
 ghost use Rattle.cpa_iface.specs.Meanings.{IsPathOf};
-ghost use Rattle.cpa_composite.specs.Components.{picked, ArePlaces, AreElems};
+ghost use Rattle.cpa_iface.specs.declared.merging.MergeRule.TheVariants.{Sep};
+ghost use Rattle.cpa_composite.specs.Components.{Component, picked, ArePlaces, AreElems};
 ghost use Rattle.cpa_composite.specs.Components.{ArePrecisions, IsEntryOf};
 ghost use Rattle.cpa_composite.specs.Picks.{places-prop};
 
@@ -46,6 +48,14 @@ impl<A: Analysis> Composite<A> {
         ensures { IfOk result (λ places. places.items ≡ key_places (components self.now)) }
     {
         keys::key_places(&self.handed, &self.picks, alloc)
+    }
+
+    /// Whether the pick of this number, counted from 0, keeps its elements apart.
+    pub fn is_apart(&self, place: u32) -> bool
+        ensures { (c : Component) → slice_get (components self.now) place ≡ Some c
+            → IsTrue result → c.rule ≡ Sep }
+    {
+        keys::is_apart(&self.handed, &self.picks, place)
     }
 
     /// The element and the precision of each analysis to begin with.

@@ -17,3 +17,4 @@ pub mod Owning
 pub mod Counting
 pub mod Bounding
 pub mod Pinning
+pub mod Passing

@@ -1,6 +1,7 @@
 -- The steps of which a turn is a chain, and what is known of a stage. Nothing here is promised to a
 -- caller.
 use Rattle.std.specs.Prelude.{◌≡◌, ℕ, ◌+◌, ◌<◌, true, false, List, [], ◌∷◌, ◌++◌, length, ◌⊎◌}
+use Rattle.std.specs.Prelude.{Some, slice_get}
 use Rattle.std.specs.List.{AllByRecursion, remove}
 use Rattle.cpa_model.specs.declared.automaton.Cfa.{Cfa}
 use Rattle.cpa_model.specs.declared.facts.Elem.{Elem}
@@ -8,11 +9,14 @@ use Rattle.cpa_model.specs.declared.states.State.{State}
 use Rattle.cpa_model.specs.Automata.{EdgeStep}
 use Rattle.cpa_model.specs.Facts.{LiesIn}
 use Rattle.cpa_iface.specs.declared.entries.Entry.{Entry}
+use Rattle.cpa_iface.specs.declared.merging.MergeRule.TheVariants.{Sep}
 use Rattle.cpa_iface.specs.declared.precisions.Precision.{Precision}
 use Rattle.cpa_composite.specs.Components.{Component, AreElems, ArePrecisions}
 use Rattle.cpa_composite.specs.Covers.{all_cover}
-use Rattle.cpa_composite.specs.Laws.{MergedRow}
+use Rattle.cpa_composite.specs.Laws.{AgreeOnSep, MergedRow}
 use Rattle.cpa_model.specs.Ascending.{AreAscending}
+use Rattle.cpa_reached.specs.declared.marks.Mark.{Mark}
+use Rattle.cpa_reached.specs.Marks.{IsMarkOf}
 use Rattle.cpa_reached.specs.Members.{IsIn}
 use Rattle.cpa_reached.specs.Entries.{ReachedSet, IsLive, numbers}
 use Rattle.cpa_reached.specs.Calls.{closed, rename}
@@ -61,6 +65,18 @@ pub record LeftAt (ns : List ℕ) (place : ℕ) (todo : List ℕ) : Type 0 where
   pub behind : List ℕ
   pub is : ns ≡ front ++ (todo ++ behind)
   pub size : length front ≡ place
+
+-- The mark is that of the row, and of an element that is kept apart.
+pub record IsApartBy (cs : List Component) (row : List Elem) (m : Mark) : Type 0 where
+  pub marked : IsMarkOf m row
+  pub component : Component
+  pub there : slice_get cs m.place ≡ Some component
+  pub rule : component.rule ≡ Sep
+
+-- The second row does not cover the first one, nor agrees with it where elements are kept apart.
+pub record StandsApart (cs : List Component) (row other : List Elem) : Type 0 where
+  pub uncovered : all_cover cs row other ≡ false
+  pub differs : AgreeOnSep cs row other → ⊥
 
 -- A live entry is noted as one that covers a successor.
 pub record NotesUse (a b : Stage) : Type 0 where

@@ -2,26 +2,60 @@
 //! added. Each clause is a definition of `specs/Stages.antt`.
 
 ghost use Rattle.std.specs.Prelude.{◌≡◌, ℕ, ◌<◌, List, length, map, Some, slice_get, IfOk, OnOk};
+ghost use Rattle.std.specs.Prelude.{IfSome, IsTrue};
 ghost use Rattle.std.specs.List.{AllByRecursion};
 ghost use Rattle.cpa_model.specs.Automata.{IsAutomaton};
 ghost use Rattle.cpa_model.specs.declared.facts.Elem.{Elem as AnElem};
-ghost use Rattle.cpa_composite.specs.Components.{AreElems, ArePrecisions};
+ghost use Rattle.cpa_iface.specs.declared.entries.Entry.{Entry as AnEntry};
+ghost use Rattle.cpa_composite.specs.Components.{Component, AreElems, ArePrecisions};
 ghost use Rattle.cpa_composite.specs.Composites.{components};
+ghost use Rattle.cpa_composite.specs.Covers.{all_cover};
 ghost use Rattle.cpa_reached.specs.Entries.{IsLive, numbers};
+ghost use Rattle.cpa_reached.specs.Members.{IsIn};
 ghost use Rattle.cpa_engine_turn.specs.Keys.{HasPlaces};
 ghost use Rattle.cpa_engine_turn.specs.Stages.{Compares, ComparesAll, under, first_cover};
 ghost use Rattle.cpa_engine_turn.specs.Stages.{covered_or_added};
 ghost use Rattle.cpa_engine_turn.specs.Stages.{Settles, SettlesAll};
 ghost use Rattle.cpa_engine_turn.specs.Steps.{stage, IsOrdered, HasCurrent, MovesFrom};
+ghost use Rattle.cpa_engine_turn.specs.Steps.{IsApartBy, StandsApart};
 ghost use Rattle.cpa_engine_turn.specs.Turns.{AreEntries};
 
 use crate::work::Work;
 use cpa_composite::Composite;
 use cpa_iface::{Analysis, Precision};
 use cpa_model::{Cfa, Elem};
-use cpa_reached::Reached;
+use cpa_reached::{Mark, Reached, watch};
 use cpa_reached_key::Key;
 use std::alloc::{AllocError, Global};
+
+/// The mark of a successor, where it is that of an element which is kept apart.
+fn watched<A: Analysis>(composite: &Composite<A>, successor: &[Elem]) -> Option<Mark>
+    requires { length successor.now ≡ length (components composite.now) }
+    ensures { IfSome result (IsApartBy (components composite.now) successor.now) }
+{
+    match watch(successor) {
+        Some(mark) => {
+            if composite.is_apart(mark.place) {
+                Some(mark)
+            } else {
+                None
+            }
+        }
+        None => None,
+    }
+}
+
+/// Whether the entry of the number is passed over: by its mark it neither merges nor covers.
+fn is_passed(reached: &Reached, number: u32, mark: Option<Mark>) -> bool
+    ensures { (cs : List Component) (row : List AnElem) → IfSome mark (IsApartBy cs row)
+        → IsTrue result → (e : AnEntry) → IsIn e reached.now.live → e.number ≡ number
+        → StandsApart cs row e.elems }
+{
+    match mark {
+        Some(mark) => reached.is_parted(number, mark),
+        None => false,
+    }
+}
 
 /// Merges the successor into the entry of this number. Under a key where it stands the others stay
 /// in order, and what may take its place is the last one.
@@ -31,6 +65,7 @@ fn merge_into<A: Analysis>(
     composite: &mut Composite<A>,
     reached: &mut Reached,
     work: &mut Work,
+    mark: Option<Mark>,
     number: u32,
     successor: &[Elem],
     precisions: &[Precision],
@@ -39,6 +74,7 @@ fn merge_into<A: Analysis>(
     requires entries { AreEntries cfa.now (length (components composite.old)) reached.old.live }
     requires places { HasPlaces (components composite.old) reached.old }
     requires live { IsLive reached.old.live number }
+    requires mark { IfSome mark (IsApartBy (components composite.old) successor.now) }
     requires successor { AreElems cfa.now (length (components composite.old)) successor.now }
     requires precisions { ArePrecisions cfa.now (length (components composite.old))
         precisions.now }
@@ -50,6 +86,9 @@ fn merge_into<A: Analysis>(
         (numbers (under reached.new key)) place) }
     ensures kept { components composite.new ≡ components composite.old }
 {
+    if is_passed(reached, number, mark) {
+        return Ok(());
+    }
     let old = reached.entry(number).elems.as_slice();
     match composite.merge(alloc, cfa, successor, old, precisions)? {
         Some(merged) => {
@@ -69,12 +108,14 @@ fn compare<A: Analysis>(
     reached: &mut Reached,
     work: &mut Work,
     key: &Key,
+    mark: Option<Mark>,
     successor: &[Elem],
     precisions: &[Precision],
 ) -> Result<(), AllocError>
     requires automaton { IsAutomaton cfa.now }
     requires entries { AreEntries cfa.now (length (components composite.old)) reached.old.live }
     requires places { HasPlaces (components composite.old) reached.old }
+    requires mark { IfSome mark (IsApartBy (components composite.old) successor.now) }
     requires successor { AreElems cfa.now (length (components composite.old)) successor.now }
     requires precisions { ArePrecisions cfa.now (length (components composite.old))
         precisions.now }
@@ -86,10 +127,30 @@ fn compare<A: Analysis>(
     let numbers = reached.under(key).to_vec(alloc)?;
     for number in numbers.as_slice() {
         merge_into(
-            alloc, cfa, composite, reached, work, *number, successor, precisions,
+            alloc, cfa, composite, reached, work, mark, *number, successor, precisions,
         )?;
     }
     Ok(())
+}
+
+/// Whether the entry of the number covers the elements.
+fn covers<A: Analysis>(
+    composite: &Composite<A>,
+    reached: &Reached,
+    mark: Option<Mark>,
+    number: u32,
+    elems: &[Elem],
+) -> bool
+    requires live { IsLive reached.now.live number }
+    requires mark { IfSome mark (IsApartBy (components composite.now) elems.now) }
+    ensures { (e : AnEntry) → IsIn e reached.now.live → e.number ≡ number
+        → result ≡ all_cover (components composite.now) elems.now e.elems }
+{
+    if is_passed(reached, number, mark) {
+        return false;
+    }
+    let entry = reached.entry(number);
+    composite.covered_by(elems, entry.elems.as_slice())
 }
 
 /// The number of the first entry under the key that covers the elements.
@@ -97,14 +158,15 @@ fn covering<A: Analysis>(
     composite: &Composite<A>,
     reached: &Reached,
     key: &Key,
+    mark: Option<Mark>,
     elems: &[Elem],
 ) -> Option<u32>
+    requires { IfSome mark (IsApartBy (components composite.now) elems.now) }
     ensures { result ≡ first_cover (components composite.now) elems.now
         (under reached.now key.now.elems) }
 {
     for number in reached.under(key) {
-        let entry = reached.entry(*number);
-        if composite.covered_by(elems, entry.elems.as_slice()) {
+        if covers(composite, reached, mark, *number, elems) {
             return Some(*number);
         }
     }
@@ -118,16 +180,18 @@ fn cover_or_add<A: Analysis>(
     reached: &mut Reached,
     work: &mut Work,
     key: &Key,
+    mark: Option<Mark>,
     edge: u32,
     successor: Vec<Elem>,
     precisions: Vec<Precision>,
 ) -> Result<(), AllocError>
     requires current { HasCurrent (stage reached.old work.old) }
+    requires mark { IfSome mark (IsApartBy (components composite.now) successor.items) }
     ensures { OnOk result (stage reached.new work.new ≡ covered_or_added successor.items
         precisions.items edge (first_cover (components composite.now) successor.items
         (under reached.old key.now.elems)) (stage reached.old work.old)) }
 {
-    match covering(composite, reached, key, &successor) {
+    match covering(composite, reached, key, mark, &successor) {
         Some(by) => reached.note_use(work.current, by),
         None => {
             let number = reached.add(successor, precisions, (work.current, edge))?;
@@ -162,6 +226,7 @@ fn settle<A: Analysis>(
     let live = reached.live();
     let (elems, precisions) = composite.adjust(alloc, cfa, successor, precisions, live)?;
     let key = reached.key_of(&elems)?;
+    let mark = watched(composite, &elems);
     compare(
         alloc,
         cfa,
@@ -169,10 +234,13 @@ fn settle<A: Analysis>(
         reached,
         work,
         &key,
+        mark,
         &elems,
         &precisions,
     )?;
-    cover_or_add(composite, reached, work, &key, edge, elems, precisions)
+    cover_or_add(
+        composite, reached, work, &key, mark, edge, elems, precisions,
+    )
 }
 
 /// The successors by an edge, one after another.

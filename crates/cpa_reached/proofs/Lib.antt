@@ -14,3 +14,4 @@ pub mod Choosing
 pub mod Lowering
 pub mod Reopened
 pub mod Leaving
+pub mod Marking

@@ -9,4 +9,5 @@ pub mod Successors
 pub mod SuccessorLaws
 pub mod Kept
 pub mod Indexes
+pub mod Marks
 pub mod Tables

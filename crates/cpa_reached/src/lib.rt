@@ -8,6 +8,7 @@ mod laws;
 mod levels;
 mod links;
 mod lists;
+mod marks;
 mod namers;
 mod opening;
 mod pruning;
@@ -18,5 +19,6 @@ mod tracing;
 
 pub use cpa_reached_key::Key;
 pub use laws::calls_keep_cover;
+pub use marks::{Mark, watch};
 pub use reached::Reached;
 pub use table::NUMBERS;

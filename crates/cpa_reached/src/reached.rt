@@ -1,18 +1,22 @@
 //! The reached set: its calls, each of which does exactly what a definition of `specs/` says. What
 //! is kept beside the entries stands in `specs/Kept.antt`, and in no contract here.
 
-ghost use Rattle.std.specs.Prelude.{◌≡◌, ℕ, [], List, IfOk, OnOk, OnErr, IfSome, IfNone};
+ghost use Rattle.std.specs.Prelude.{◌≡◌, ℕ, [], List, IfOk, OnOk, OnErr, IfSome, IfNone, IsTrue};
 ghost use Rattle.std.specs.List.{filter};
+ghost use Rattle.cpa_model.specs.declared.facts.Elem.{Elem as AnElem};
+ghost use Rattle.cpa_iface.specs.declared.entries.Entry.{Entry as AnEntry};
 ghost use Rattle.cpa_reached.specs.Entries.{IsLive, IsNext, IsNumbered, numbers, waiting_numbers};
 ghost use Rattle.cpa_reached.specs.Members.{IsIn};
 ghost use Rattle.cpa_reached.specs.Calls.{begun, taken, added, replaced, used, refined, closed};
 ghost use Rattle.cpa_reached.specs.Calls.{restarted, indexed};
 ghost use Rattle.cpa_reached.specs.Removal.{AreBelow, RemovesBelow, is_opened, without};
 ghost use Rattle.cpa_reached.specs.Keyed.{keyed};
+ghost use Rattle.cpa_reached.specs.Marks.{IsMarkOf, IsParted};
 ghost use Rattle.cpa_reached.specs.Paths.{IsPathTo};
 ghost use Rattle.cpa_reached_key.specs.Rows.{picked};
 
 use crate::lists::reserve_one;
+use crate::marks::{Mark, differ, mark_of};
 use crate::table::{self, Table};
 use crate::{finding, index, pruning, tracing};
 use cpa_iface::{Entry, Order, Precision, Turn};
@@ -27,6 +31,8 @@ use std::marker::Model;
 #[derive(Drop)]
 pub struct Reached {
     table: Table,
+    /// The mark of each number that was given out.
+    marks: Vec<Mark>,
     journal: Vec<Turn>,
 }
 
@@ -48,7 +54,7 @@ impl Model for Reached {
       places = r.table.places;
     } };
 
-    ghost invariant = { λ r. IsWholeTable r.table };
+    ghost invariant = { λ r. IsWholeTable r.table r.marks.items };
 }
 
 impl Reached {
@@ -60,8 +66,11 @@ impl Reached {
     ) -> Result<Reached, AllocError>
         ensures { IfOk result (λ r. r ≡ begun elems.items precisions.items) }
     {
+        let mut marks = Vec::new(alloc);
+        marks.push(mark_of(&elems))?;
         Ok(Reached {
             table: table::begin(alloc, elems, precisions)?,
+            marks,
             journal: Vec::new(alloc),
         })
     }
@@ -89,7 +98,11 @@ impl Reached {
             (self.new ≡ added self.old elems.items precisions.items parent) }
         ensures err { OnErr result (self.new ≡ self.old) }
     {
-        table::add(&mut self.table, elems, precisions, parent)
+        let mark = mark_of(&elems);
+        reserve_one(&mut self.marks)?;
+        let number = table::add(&mut self.table, elems, precisions, parent)?;
+        self.marks.push_reserved(mark);
+        Ok(number)
     }
 
     /// An entry that waits, with the next number, in the place of an old one.
@@ -99,7 +112,11 @@ impl Reached {
         ensures ok { OnOk result (self.new ≡ replaced self.old old elems.items) }
         ensures err { OnErr result (self.new ≡ self.old) }
     {
-        table::replace(&mut self.table, old, elems)
+        let mark = mark_of(&elems);
+        reserve_one(&mut self.marks)?;
+        let number = table::replace(&mut self.table, old, elems)?;
+        self.marks.push_reserved(mark);
+        Ok(number)
     }
 
     /// Notes that an entry covers a successor of another one.
@@ -178,6 +195,18 @@ impl Reached {
         index::under(&self.table.index, key)
     }
 
+    /// Whether a state lies in a row of this mark, and not in the entry of the number, by its marks
+    /// alone. Takes no memory.
+    pub fn is_parted(&self, number: u32, mark: Mark) -> bool
+        ensures { (row : List AnElem) → IsMarkOf mark row → IsTrue result → (e : AnEntry)
+            → IsIn e self.now.live → e.number ≡ number → IsParted mark.place row e.elems }
+    {
+        match self.marks.get(number as usize) {
+            Some(kept) => differ(mark, *kept),
+            None => false,
+        }
+    }
+
     /// The entries, in order of numbers. Takes no memory.
     pub fn live(&self) -> &[Entry]
         ensures live { result.now ≡ self.now.live }
@@ -220,7 +249,11 @@ impl Reached {
         ensures live { result.0.items ≡ self.live }
         ensures journal { result.1.items ≡ self.journal }
     {
-        let Reached { table, journal } = self;
+        let Reached {
+            table,
+            marks: _,
+            journal,
+        } = self;
         (table::into_entries(table), journal)
     }
 }

@@ -8,6 +8,7 @@ use Rattle.cpa_reached.specs.Entries.{numbers}
 use Rattle.cpa_engine_turn.specs.Stages.{Stage, Compares, ComparesAll, under}
 use Rattle.cpa_engine_turn.specs.Steps.{stage, LeftAt}
 use Rattle.cpa_engine_turn.proofs.Fellows.{under_at, live_under}
+use Rattle.cpa_engine_turn.proofs.Passing.{mark_under}
 use Rattle.cpa_engine_turn.proofs.Places.{left_first, left_step, left_there, drop_item, take_push}
 use Rattle.cpa_engine_turn.proofs.Places.{take_whole}
 use Rattle.cpa_engine_turn.proofs.Progress.{fits_on}
@@ -67,6 +68,12 @@ merge_into-requires-clause-live g c =
     (slice_get-get_or ns i 0 c.loop-number-test.true)) left.1 in
     live_under at.reached key n (under_at at.reached key left.0 n
     (left_there (numbers (under at.reached key)) left.0 n (drop (i + 1) ns) here))
+
+pub merge_into-requires-clause-mark : goal.merge_into-requires-clause-mark
+merge_into-requires-clause-mark g c =
+    let es = c.args.successor.now in
+    mark_under (components c.args.composite.now) (components c.loop-number.composite) es es
+    c.args.mark (sym c.loop-number.invariant.kept) refl c.requires.mark
 
 pub merge_into-requires-clause-successor : goal.merge_into-requires-clause-successor
 merge_into-requires-clause-successor g c =

@@ -1,8 +1,20 @@
 use Rattle.std.proofs.Common.{◌+◌, refl, inl}
 use Rattle.cpa_composite.specs.Composites.{components}
 use Rattle.cpa_engine_turn.proofs.Fellows.{merged_under, replaced_under}
+use Rattle.cpa_engine_turn.proofs.Passing.{passed_compares}
 use Rattle.cpa_engine_turn.proofs.Settled.{old_shaped, merged_row, merged_compares, left_compares}
 use Rattle.cpa_engine_turn.proofs.settling.merge_into.Goals as goal
+
+pub returns-then-is_passed-clause-compares : goal.returns-then-is_passed-clause-compares
+returns-then-is_passed-clause-compares g c =
+    let cs = components c.args.composite.now in
+    let es = c.args.successor.now in
+    passed_compares c.args.cfa.now cs c.args.reached.now c.args.work.now es
+    c.args.precisions.now c.args.number c.requires.live
+    (c.is_passed.ensures cs es c.requires.mark c.if-is_passed.true)
+
+pub returns-then-is_passed-clause-moves : goal.returns-then-is_passed-clause-moves
+returns-then-is_passed-clause-moves g c = λ key i here. (i + 1, record { step = inl (refl, refl) })
 
 pub merge-requires-clause-old : goal.merge-requires-clause-old
 merge-requires-clause-old g c =

@@ -1,4 +1,4 @@
-use Rattle.std.proofs.Common.{◌≡◌, List, sym, ap, ◌∙◌, subst}
+use Rattle.std.proofs.Common.{◌≡◌, List, length, refl, sym, ap, ◌∙◌, subst}
 use Rattle.std.proofs.lemmas.Result.{on_ok_weaker}
 use Rattle.cpa_model.specs.declared.facts.Elem.{Elem}
 use Rattle.cpa_iface.specs.declared.entries.Entry.{Entry}
@@ -10,13 +10,32 @@ use Rattle.cpa_reached.specs.Entries.{numbers}
 use Rattle.cpa_engine_turn.specs.Stages.{Stage, ComparesAll, under, fellows, first_cover}
 use Rattle.cpa_engine_turn.specs.Stages.{covered_or_added}
 use Rattle.cpa_engine_turn.specs.Steps.{stage}
+use Rattle.cpa_engine_turn.proofs.Passing.{mark_under}
 use Rattle.cpa_engine_turn.proofs.Progress.{current_along, places_along}
 use Rattle.cpa_engine_turn.proofs.Settled.{compares_under}
 use Rattle.cpa_engine_turn.proofs.Working.{all_compares_lead}
 use Rattle.cpa_engine_turn.proofs.settling.settle.Goals as goal
 
-pub cover_or_add-requires : goal.cover_or_add-requires
-cover_or_add-requires g c =
+pub watched-mark-requires : goal.watched-mark-requires
+watched-mark-requires g c =
+    ap (λ (es : List Elem). length es) c.deref-2.ensures.value
+    ∙ (c.in_ok-elems.ensures.laws.elems.size
+    ∙ ap (λ (cs : List Component). length cs) (sym c.adjust.ensures.kept))
+
+pub compare-requires-clause-mark : goal.compare-requires-clause-mark
+compare-requires-clause-mark g c =
+    let cs = components c.adjust.new.self in
+    mark_under cs cs c.deref-2.result.now c.deref-3.result.now c.watched-mark.result refl
+    (c.deref-2.ensures.value ∙ sym c.deref-3.ensures.value) c.watched-mark.ensures
+
+pub cover_or_add-requires-clause-mark : goal.cover_or_add-requires-clause-mark
+cover_or_add-requires-clause-mark g c =
+    mark_under (components c.adjust.new.self) (components c.compare.new.composite)
+    c.deref-2.result.now c.in_ok-elems.elems.items c.watched-mark.result
+    (sym c.compare.ensures.kept) c.deref-2.ensures.value c.watched-mark.ensures
+
+pub cover_or_add-requires-clause-current : goal.cover_or_add-requires-clause-current
+cover_or_add-requires-clause-current g c =
     let cfa = c.args.cfa.now in
     let cs = components c.args.composite.now in
     let es = c.in_ok-elems.elems.items in
@@ -24,15 +43,13 @@ cover_or_add-requires g c =
     let ns = numbers (under c.args.reached.now c.in_ok-key.key.elems) in
     let a : Stage = stage c.args.reached.now c.args.work.now in
     let b : Stage = stage c.compare.new.reached c.compare.new.work in
-    record {
-      current = current_along cfa cs a b
-          (all_compares_lead cfa cs es qs ns a b c.in_ok-elems.ensures.laws.elems
-          c.in_ok-elems.ensures.laws.precisions c.requires.entries
-          (compares_under cfa (components c.adjust.new.self) cs c.deref-2.result.now es
-          c.deref-3.result.now qs ns a b c.adjust.ensures.kept c.deref-2.ensures.value
-          c.deref-3.ensures.value c.in_ok-compare.ensures.compares))
-          c.requires.ordered c.requires.current;
-    }
+    current_along cfa cs a b
+    (all_compares_lead cfa cs es qs ns a b c.in_ok-elems.ensures.laws.elems
+    c.in_ok-elems.ensures.laws.precisions c.requires.entries
+    (compares_under cfa (components c.adjust.new.self) cs c.deref-3.result.now es
+    c.deref-4.result.now qs ns a b c.adjust.ensures.kept c.deref-3.ensures.value
+    c.deref-4.ensures.value c.in_ok-compare.ensures.compares))
+    c.requires.ordered c.requires.current
 
 pub returns-clause-settles : goal.returns-clause-settles
 returns-clause-settles g c =
@@ -47,9 +64,9 @@ returns-clause-settles g c =
     let b : Stage = stage c.compare.new.reached c.compare.new.work in
     let m : Stage = stage c.cover_or_add.new.reached c.cover_or_add.new.work in
     let all : ComparesAll cfa cs es qs (numbers (under r key)) a b =
-    compares_under cfa (components c.adjust.new.self) cs c.deref-2.result.now es
-    c.deref-3.result.now qs (numbers (under r key)) a b c.adjust.ensures.kept
-    c.deref-2.ensures.value c.deref-3.ensures.value c.in_ok-compare.ensures.compares in
+    compares_under cfa (components c.adjust.new.self) cs c.deref-3.result.now es
+    c.deref-4.result.now qs (numbers (under r key)) a b c.adjust.ensures.kept
+    c.deref-3.ensures.value c.deref-4.ensures.value c.in_ok-compare.ensures.compares in
     let is_key : key ≡ picked r.places es =
     c.in_ok-key.ensures ∙ ap (picked r.places) c.deref.ensures.value in
     let places : b.reached.places ≡ r.places =

@@ -1,0 +1,181 @@
+//! Marks of rows, by which entries are passed over without a look at their elements. What a mark
+//! tells stands in `specs/Marks.antt`; proved with `proofs/Marking.antt`.
+
+ghost use Rattle.std.specs.Prelude.{◌≡◌, ◌+◌, ◌<◌, ◌^◌, length, IfSome, IsTrue};
+ghost use Rattle.std.specs.List.{AllByRecursion};
+ghost use Rattle.cpa_model.specs.declared.states.State.{State};
+ghost use Rattle.cpa_model.specs.Facts.{FactHolds};
+ghost use Rattle.cpa_reached.specs.Marks.{mixed, ascend_from, is_above, past, Counts, Tells, IsMarkOf};
+ghost use Rattle.cpa_reached.specs.Marks.{Differ};
+
+use cpa_model::{Elem, Fact};
+
+/// How many prints there are.
+const PRINTS: u64 = 0x1_0000_0000;
+
+/// At most so many cells are counted.
+const LONGEST: u32 = 0x1_0000;
+
+/// The values that an element gives to the cells of a run, told by a number.
+#[derive(Clone, Copy)]
+pub struct Mark {
+    /// The place of the element in its row.
+    pub place: u32,
+    /// The first cell of the run.
+    pub first: u32,
+    /// How many cells it has. None, where nothing is told.
+    pub count: u32,
+    /// What is made of their values.
+    pub print: u32,
+}
+
+/// The print of one value more.
+fn mixed(print: u32, value: i128) -> u32
+    ensures { result ≡ mixed print value }
+{
+    let low = (value.unsigned_abs() % PRINTS as u128) as u64;
+    ((print as u64 * 31 + low) % PRINTS) as u32
+}
+
+/// A mark that tells nothing.
+fn blank(place: u32, first: u32) -> Mark
+    ensures place { result.place ≡ place }
+    ensures counts { (s : State) → Counts s result }
+    ensures none { result.count ≡ 0 }
+    ensures next { result.first + result.count ≡ first }
+{
+    Mark {
+        place,
+        first,
+        count: 0,
+        print: 0,
+    }
+}
+
+/// The run that goes on at this cell: the one so far, or a new one.
+fn run_at(mark: Mark, cell: u32) -> Mark
+    ensures place { result.place ≡ mark.place }
+    ensures counts { (s : State) → Counts s mark → Counts s result }
+    ensures next { result.first + result.count ≡ cell }
+    ensures room { result.count < 2 ^ 16 }
+{
+    let end = mark.first as u64 + mark.count as u64;
+    if end == cell as u64 && mark.count < LONGEST {
+        return mark;
+    }
+    blank(mark.place, cell)
+}
+
+/// What the facts tell with one more.
+fn followed(mark: Mark, fact: &Fact) -> Mark
+    ensures place { result.place ≡ mark.place }
+    ensures counts { (s : State) → FactHolds s fact.now → Counts s mark → Counts s result }
+{
+    match fact {
+        Fact::Equals { cell, value } => {
+            let run = run_at(mark, *cell);
+            Mark {
+                place: run.place,
+                first: run.first,
+                count: run.count + 1,
+                print: mixed(run.print, *value),
+            }
+        }
+        _ => blank(mark.place, 0),
+    }
+}
+
+/// The mark of the facts of the element at a place.
+fn marked(place: u32, facts: &[Fact]) -> Mark
+    ensures place { result.place ≡ place }
+    ensures counts { (s : State) → AllByRecursion (FactHolds s) facts.now → Counts s result }
+{
+    let mut mark = blank(place, 0);
+    for fact in facts {
+        mark = followed(mark, fact);
+    }
+    mark
+}
+
+/// The mark of the element at this place where it tells anything, else the one before.
+fn later(mark: Mark, elems: &[Elem], place: usize) -> Mark
+    requires { place < length elems.now }
+    ensures { Tells mark elems.now → Tells result elems.now }
+{
+    if place > u32::MAX as usize {
+        return mark;
+    }
+    let other = marked(place as u32, elems[place].facts.as_slice());
+    if other.count > 0 { other } else { mark }
+}
+
+/// The mark of a row: that of its last element whose last fact is the value of a cell.
+pub(crate) fn mark_of(elems: &[Elem]) -> Mark
+    ensures { Tells result elems.now }
+{
+    let mut mark = blank(0, 0);
+    for place in 0..elems.len() {
+        mark = later(mark, elems, place);
+    }
+    mark
+}
+
+/// Whether the fact is the value of a cell, and not of one below.
+fn is_above(least: u64, fact: &Fact) -> bool
+    ensures { result ≡ is_above least fact.now }
+{
+    match fact {
+        Fact::Equals { cell, .. } => !((*cell as u64) < least),
+        _ => false,
+    }
+}
+
+/// The least cell that may follow the fact.
+fn past(fact: &Fact) -> u64
+    ensures { result ≡ past fact.now }
+{
+    match fact {
+        Fact::Equals { cell, .. } => *cell as u64 + 1,
+        _ => 0,
+    }
+}
+
+/// Whether the facts are values of ascending cells, so that there is a state of which they hold.
+fn ascend_from(least: u64, facts: &[Fact]) -> bool
+    ensures { result ≡ ascend_from least facts.now }
+{
+    match facts {
+        [] => true,
+        [fact, facts @ ..] => is_above(least, fact) && ascend_from(past(fact), facts),
+    }
+}
+
+/// The mark of a row, where the element that it is of holds of some state. Takes no memory.
+pub fn watch(elems: &[Elem]) -> Option<Mark>
+    ensures { IfSome result (λ mark. IsMarkOf mark elems.now) }
+{
+    let mark = mark_of(elems);
+    if mark.count == 0 {
+        return None;
+    }
+    match elems.get(mark.place as usize) {
+        Some(elem) => {
+            if ascend_from(0, elem.facts.as_slice()) {
+                Some(mark)
+            } else {
+                None
+            }
+        }
+        None => None,
+    }
+}
+
+/// Whether the marks are of the same place and run, and of other values.
+pub(crate) fn differ(mark: Mark, kept: Mark) -> bool
+    ensures { IsTrue result → Differ mark kept }
+{
+    kept.print != mark.print
+        && kept.first == mark.first
+        && kept.count == mark.count
+        && kept.place == mark.place
+}
