@@ -4,11 +4,10 @@ ghost use Rattle.std.specs.Prelude.{◌≡◌, [], ◌∷◌, ◌++◌, IfOk};
 ghost use Rattle.c_core_rules.specs.Trees.{leaf, block, labeled, choice, repeated, write, set};
 ghost use Rattle.c_core_rules.specs.Trees.{input, pure};
 
-use crate::values::int;
 use c_core_operators::conv;
 use c_core_rules::{Location, Valued};
 use cpa_expr::Expr;
-use cpa_ints::{Boxed, Seq};
+use cpa_ints::{Boxed, IntType, Seq};
 use cpa_model_trees::{CoreTree, Head};
 use std::alloc::{AllocError, Global};
 
@@ -151,7 +150,7 @@ pub fn write(
     Ok(leaf(alloc, origin, head))
 }
 
-/// A write to a scalar.
+/// A write to a scalar, at the index 0, which needs no box.
 pub fn set(
     alloc: Global,
     origin: u32,
@@ -160,8 +159,17 @@ pub fn set(
 ) -> Result<CoreTree, AllocError>
     ensures { IfOk result (λ tree. tree ≡ set origin place v) }
 {
-    let index = int(alloc, 0)?;
-    write(alloc, origin, place, index, v)
+    let value = conv(alloc, v, place.ty)?;
+    let head = Head::Assign {
+        base: place.base,
+        len: place.len,
+        index: Expr::Const {
+            ty: IntType::I32,
+            value: 0,
+        },
+        value: value.into_inner(),
+    };
+    Ok(leaf(alloc, origin, head))
 }
 
 /// An input of a cell.

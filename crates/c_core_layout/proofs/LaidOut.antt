@@ -1,9 +1,8 @@
--- The layout that is found under calls that take all functions to begin at cell 0 is that of the
--- text.
-use Rattle.std.proofs.Common.{◌≡◌, ℕ, ◌<◌, List, [], refl, ap, sym}
+-- The layout that is found under calls that take the functions to begin anywhere is that of the
+-- text; and where they begin there, so are the trees.
+use Rattle.std.proofs.Common.{◌≡◌, ℕ, ◌<◌, List, [], ◌++◌, refl, ap, sym}
 use Rattle.std.proofs.Common.{◌∙◌}
 use Rattle.std.proofs.Common.{subst, arith}
-use Rattle.cpa_model.specs.declared.program.Cell.{Cell}
 use Rattle.cpa_model.specs.declared.program.TheConstants.{MAX_CELLS}
 use Rattle.c_types_rules.specs.declared.typed.TypedFunction.{TypedFunction}
 use Rattle.c_types_rules.specs.declared.typed.Global.{Global}
@@ -15,7 +14,7 @@ use Rattle.c_core_rules.specs.Programs.{frames_of}
 use Rattle.c_core_rules_laws.specs.Sizes.{IsWithinLimits}
 use Rattle.c_core_rules_laws.specs.Layouts.{begins, file_cells, text_from, IsTooLarge}
 use Rattle.c_core_rules_laws.specs.Laws.{frames_are_alike, functions_begin_alike}
-use Rattle.c_core_rules_laws.specs.Laws.{texts_take_the_same_cells, texts_are_as_large}
+use Rattle.c_core_rules_laws.specs.Laws.{texts_are_as_large}
 use Rattle.c_core_layout.specs.declared.placing.TextLayout.{TextLayout}
 use Rattle.c_core_layout.specs.ObjectCells.{declared_cells}
 use Rattle.c_core_layout.specs.Measures.{nothing, grown, marks_of, IsWithin}
@@ -46,31 +45,35 @@ within_gathered m is =
       low = omega (arith, is.heights, grown_tallest nothing marks, marks_greatest m.made);
     }
 
-pub laid_out : (globals : List Global) (functions : List TypedFunction) (layout : TextLayout) →
-    layout.first_cells ≡ begins (frames_of [] functions) functions (file_cells globals) →
-    layout.cells ≡ (rest_of (frames_of [] functions) functions (file_cells globals)).taken.cells →
-    AreWithin (frames_of [] functions) functions (file_cells globals) →
+pub laid_out : (globals : List Global) (functions : List TypedFunction) (others : List ℕ)
+    (layout : TextLayout) →
+    layout.first_cells ≡ begins (frames_of others functions) functions (file_cells globals) →
+    layout.cells ≡ (text_from layout.first_cells globals functions).taken.cells →
+    layout.names ≡ (text_from layout.first_cells globals functions).taken.names →
+    layout.trees ≡ (text_from layout.first_cells globals functions).made →
+    AreWithin (frames_of others functions) functions (file_cells globals) →
     IsLaidOut globals functions layout
-laid_out globals functions layout first cells within =
+laid_out globals functions others layout first cells names trees within =
     let firsts = layout.first_cells in
     record {
       first_cells = first
-          ∙ functions_begin_alike (frames_of [] functions) (frames_of firsts functions)
-          (frames_are_alike [] firsts functions) functions (file_cells globals)
+          ∙ functions_begin_alike (frames_of others functions) (frames_of firsts functions)
+          (frames_are_alike others firsts functions) functions (file_cells globals)
           (file_cells globals) refl;
-      cells = cells
-          ∙ texts_take_the_same_cells globals functions [] firsts;
-      within = texts_are_as_large globals functions [] firsts
-          (gathered_within (text_from [] globals functions) within);
+      cells = cells;
+      names = names;
+      trees = trees;
+      within = texts_are_as_large globals functions others firsts
+          (gathered_within (text_from others globals functions) within);
     }
 
-pub too_large : (globals : List Global) (functions : List TypedFunction) →
-    (AreWithin (frames_of [] functions) functions (file_cells globals) → ⊥) →
+pub too_large : (globals : List Global) (functions : List TypedFunction) (others : List ℕ) →
+    (AreWithin (frames_of others functions) functions (file_cells globals) → ⊥) →
     IsTooLarge globals functions
-too_large globals functions large =
+too_large globals functions others large =
     λ firsts within.
-    large (within_gathered (text_from [] globals functions)
-    (texts_are_as_large globals functions firsts [] within))
+    large (within_gathered (text_from others globals functions)
+    (texts_are_as_large globals functions firsts others within))
 
 pub declared_too_large : (globals : List Global) (functions : List TypedFunction) →
     MAX_CELLS < declared_cells globals functions → IsTooLarge globals functions
@@ -86,28 +89,67 @@ declared_too_large globals functions large =
 
 -- the same of what is found behind the cells of file scope
 
-pub layout_found : (globals : List Global) (functions : List TypedFunction) (F : Frames)
-    (begin start after : Taken) (cells : List Cell) (firsts : List ℕ) →
-    F ≡ frames_of [] functions → begin ≡ nothing_taken →
-    start ≡ (receiving_globals globals begin).taken → AreFound F functions start after firsts →
-    cells ≡ after.cells →
-    IsLaidOut globals functions (record { cells = cells; first_cells = firsts })
-layout_found globals functions F begin start after cells firsts frames empty file found all =
-    let behind : start ≡ file_cells globals =
-    file ∙ ap (λ (t : Taken). (receiving_globals globals t).taken) empty in
-    let so : AreFound (frames_of [] functions) functions (file_cells globals) after firsts =
-    subst (λ t. AreFound (frames_of [] functions) functions t after firsts) behind
-    (subst (λ G. AreFound G functions start after firsts) frames found) in
-    laid_out globals functions (record { cells = cells; first_cells = firsts }) so.first_cells
-    (all ∙ ap (λ (t : Taken). t.cells) so.taken) so.within
+pub behind_file : (globals : List Global) (begin start : Taken) → begin ≡ nothing_taken →
+    start ≡ (receiving_globals globals begin).taken → start ≡ file_cells globals
+behind_file globals begin start empty file =
+    file ∙ ap (λ (t : Taken). (receiving_globals globals t).taken) empty
 
-pub layout_refused : (globals : List Global) (functions : List TypedFunction) (F : Frames)
-    (begin start : Taken) → F ≡ frames_of [] functions → begin ≡ nothing_taken →
+pub found_behind : (globals : List Global) (functions : List TypedFunction) (others : List ℕ)
+    (F : Frames) (start after : Taken) (firsts : List ℕ) → F ≡ frames_of others functions →
+    start ≡ file_cells globals → AreFound F functions start after firsts →
+    AreFound (frames_of others functions) functions (file_cells globals) after firsts
+found_behind globals functions others F start after firsts frames behind found =
+    subst (λ t. AreFound (frames_of others functions) functions t after firsts) behind
+    (subst (λ G. AreFound G functions start after firsts) frames found)
+
+pub made_behind : (globals : List Global) (functions : List TypedFunction) (others : List ℕ)
+    (F : Frames) (start : Taken) (trees all : Trees) → F ≡ frames_of others functions →
+    start ≡ file_cells globals → trees ≡ [] → all ≡ trees ++ (rest_of F functions start).made →
+    all ≡ (rest_of (frames_of others functions) functions (file_cells globals)).made
+made_behind globals functions others F start trees all frames behind empty made =
+    made ∙ ap (λ (ts : Trees). ts ++ (rest_of F functions start).made) empty
+    ∙ ap (λ (G : Frames). (rest_of G functions start).made) frames
+    ∙ ap (λ (t : Taken). (rest_of (frames_of others functions) functions t).made) behind
+
+-- the core is made again
+pub layout_found : (globals : List Global) (functions : List TypedFunction)
+    (others : List ℕ) (after : Taken) (firsts : List ℕ) (layout : TextLayout) →
+    AreFound (frames_of others functions) functions (file_cells globals) after firsts →
+    layout.first_cells ≡ firsts →
+    layout.cells ≡ (text_from firsts globals functions).taken.cells →
+    layout.names ≡ (text_from firsts globals functions).taken.names →
+    layout.trees ≡ (text_from firsts globals functions).made →
+    IsLaidOut globals functions layout
+layout_found globals functions others after firsts layout found first cells names trees =
+    laid_out globals functions others layout (first ∙ found.first_cells)
+    (cells ∙ ap (λ (ns : List ℕ). (text_from ns globals functions).taken.cells) (sym first))
+    (names ∙ ap (λ (ns : List ℕ). (text_from ns globals functions).taken.names) (sym first))
+    (trees ∙ ap (λ (ns : List ℕ). (text_from ns globals functions).made) (sym first))
+    found.within
+
+-- the functions begin where it was likely
+pub layout_kept : (globals : List Global) (functions : List TypedFunction)
+    (others : List ℕ) (after : Taken) (firsts : List ℕ) (layout : TextLayout) →
+    AreFound (frames_of others functions) functions (file_cells globals) after firsts →
+    firsts ≡ others → layout.first_cells ≡ firsts → layout.cells ≡ after.cells →
+    layout.names ≡ after.names →
+    layout.trees ≡ (rest_of (frames_of others functions) functions (file_cells globals)).made →
+    IsLaidOut globals functions layout
+layout_kept globals functions others after firsts layout found same first cells names trees =
+    let made : text_from others globals functions ≡ text_from firsts globals functions =
+    ap (λ (ns : List ℕ). text_from ns globals functions) (sym same) in
+    let taken : after ≡ (text_from firsts globals functions).taken =
+    found.taken ∙ ap (λ (m : Made Trees). m.taken) made in
+    layout_found globals functions others after firsts layout found first
+    (cells ∙ ap (λ (t : Taken). t.cells) taken) (names ∙ ap (λ (t : Taken). t.names) taken)
+    (trees ∙ ap (λ (m : Made Trees). m.made) made)
+
+pub layout_refused : (globals : List Global) (functions : List TypedFunction) (others : List ℕ)
+    (F : Frames) (begin start : Taken) → F ≡ frames_of others functions → begin ≡ nothing_taken →
     start ≡ (receiving_globals globals begin).taken → (AreWithin F functions start → ⊥) →
     IsTooLarge globals functions
-layout_refused globals functions F begin start frames empty file large =
-    let behind : start ≡ file_cells globals =
-    file ∙ ap (λ (t : Taken). (receiving_globals globals t).taken) empty in
-    too_large globals functions
+layout_refused globals functions others F begin start frames empty file large =
+    let behind : start ≡ file_cells globals = behind_file globals begin start empty file in
+    too_large globals functions others
     (λ within. large (subst (λ t. AreWithin F functions t) (sym behind)
     (subst (λ G. AreWithin G functions (file_cells globals)) (sym frames) within)))

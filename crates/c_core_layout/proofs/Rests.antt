@@ -6,6 +6,7 @@ use Rattle.std.proofs.Common.{arith, length-append, append_assoc, append-nil}
 use Rattle.std.proofs.Math.ListN.{drop_of_length-le}
 use Rattle.std.proofs.lemmas.List.{drop_more}
 use Rattle.c_types_rules.specs.declared.typed.TypedFunction.{TypedFunction}
+use Rattle.cpa_model_trees.specs.Numbering.{Trees}
 use Rattle.c_core_rules.specs.declared.tree.Location.{Location}
 use Rattle.c_core_rules.specs.Cells.{Taken, Rule}
 use Rattle.c_core_rules.specs.Expressions.{Frames}
@@ -139,3 +140,31 @@ found F all i a now firsts size n false h many tells is so = absurd (cc)
 found F all i a now firsts size n true h many tells is so =
     all_found F all (drop i all) a now firsts size (drop_of_length-le all h)
     (subst (λ k. Fits k size) many (tells.0 refl)) so
+
+-- the trees so far, and behind them those of the functions that are left, are all of them
+pub made_turn : (F : Frames) (all : List TypedFunction) (i : ℕ) (function : TypedFunction)
+    (now later : Taken) (trees trees_later whole : Trees) → i < length all →
+    function ≡ get_or all i function → later ≡ (function_rule F function now).taken →
+    trees_later ≡ trees ++ (function_rule F function now).made ∷ [] →
+    trees ++ (rest_of F (drop i all) now).made ≡ whole →
+    trees_later ++ (rest_of F (drop (i + 1) all) later).made ≡ whole
+made_turn F all i function now later trees trees_later whole h item is made so =
+    let left = drop (i + 1) all in
+    let next = (function_rule F function now).taken in
+    let tree = (function_rule F function now).made in
+    let here : drop i all ≡ function ∷ left =
+    drop_more all i function h ∙ ap (λ f. f ∷ left) (sym item) in
+    ap (λ (t : Taken). trees_later ++ (rest_of F left t).made) is
+    ∙ ap (λ (ts : Trees). ts ++ (rest_of F left next).made) made
+    ∙ append_assoc trees (tree ∷ []) (rest_of F left next).made
+    ∙ ap (λ (fs : List TypedFunction). trees ++ (rest_of F fs now).made) (sym here)
+    ∙ so
+
+pub made_end : (F : Frames) (all : List TypedFunction) (i : ℕ) (now : Taken)
+    (trees whole : Trees) → length all ≤ i → trees ++ (rest_of F (drop i all) now).made ≡ whole →
+    trees ≡ whole
+made_end F all i now trees whole h so =
+    sym (append-nil trees)
+    ∙ ap (λ (fs : List TypedFunction). trees ++ (rest_of F fs now).made)
+    (sym (drop_of_length-le all h))
+    ∙ so

@@ -1,5 +1,5 @@
 -- What a text's functions come to, one behind the other (this project's own).
-use Rattle.std.specs.Prelude.{◌≡◌, ℕ, List, map, Option, None, Some}
+use Rattle.std.specs.Prelude.{◌≡◌, ℕ, List, ◌++◌, map, Option, None, Some}
 use Rattle.c_types_rules.specs.declared.typed.TypedFunction.{TypedFunction}
 use Rattle.cpa_model_trees.specs.Numbering.{Trees}
 use Rattle.c_core_rules.specs.Cells.{Taken, Made, each}
@@ -34,3 +34,9 @@ abbrev pub IsFinding : Frames → List TypedFunction → Taken → Taken → Opt
 IsFinding frames functions before after (Some firsts) =
     AreFound frames functions before after firsts
 IsFinding frames functions before after None = AreWithin frames functions before → ⊥
+
+-- the trees of functions behind these cells, which are added to others, where they are not too large
+abbrev pub AreMade : Frames → List TypedFunction → Taken → Trees → Trees → Option (List ℕ) → Type 0
+AreMade frames functions before trees all (Some firsts) =
+    all ≡ trees ++ (rest_of frames functions before).made
+AreMade frames functions before trees all None = Unit {0}

@@ -4,6 +4,7 @@
 
 mod declared;
 mod fault;
+mod hints;
 mod placing;
 mod sizes;
 

@@ -68,12 +68,13 @@ pub enum Initializer {
     List { items: Seq<Expression>, place: u32 },
 }
 
-/// A declared object. Its attributes are skipped.
+/// A declared object. Its attributes are skipped. What may be left out is in boxes, since most
+/// objects have little of it.
 #[derive(Drop)]
 pub struct Declarator {
     pub name: Name,
-    pub array: Option<Array>,
-    pub initializer: Option<Initializer>,
+    pub array: Option<Boxed<Array>>,
+    pub initializer: Option<Boxed<Initializer>>,
 }
 
 /// Specifiers and the objects that they declare.

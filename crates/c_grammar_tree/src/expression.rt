@@ -71,7 +71,7 @@ pub enum Expression {
     },
     /// `(type) operand`
     Cast {
-        to: TypeName,
+        to: Boxed<TypeName>,
         operand: Boxed<Expression>,
         place: u32,
     },
@@ -110,7 +110,7 @@ pub enum Expression {
 pub enum Suffix {
     /// `[index]`
     Index {
-        index: Expression,
+        index: Boxed<Expression>,
         place: u32,
     },
     /// `(arguments)`

@@ -3,7 +3,8 @@
 use crate::{Declaration, Expression, Name};
 use cpa_ints::{Boxed, Seq};
 
-/// A statement. Its place is that of its first token; a labeled one has that of its label.
+/// A statement. Its place is that of its first token; a labeled one has that of its label. Its parts
+/// are in boxes, since a list of statements has for each the room of the largest form.
 #[cycle(statement)]
 #[derive(Drop)]
 pub enum Statement {
@@ -14,45 +15,45 @@ pub enum Statement {
     },
     /// `expression;`, or `;` alone
     Expression {
-        expression: Option<Expression>,
+        expression: Option<Boxed<Expression>>,
         place: u32,
     },
     /// `if (test) yes else no`; an `else` belongs to the nearest `if`.
     If {
-        test: Expression,
+        test: Boxed<Expression>,
         yes: Boxed<Statement>,
         no: Option<Boxed<Statement>>,
         place: u32,
     },
     /// `while (test) body`
     While {
-        test: Expression,
+        test: Boxed<Expression>,
         body: Boxed<Statement>,
         place: u32,
     },
     /// `do body while (test);`
     Do {
         body: Boxed<Statement>,
-        test: Expression,
+        test: Boxed<Expression>,
         place: u32,
     },
     /// `for (start; test; step) body`
     For {
-        start: ForStart,
-        test: Option<Expression>,
-        step: Option<Expression>,
+        start: Boxed<ForStart>,
+        test: Boxed<Option<Expression>>,
+        step: Boxed<Option<Expression>>,
         body: Boxed<Statement>,
         place: u32,
     },
     /// `switch (value) body`
     Switch {
-        value: Expression,
+        value: Boxed<Expression>,
         body: Boxed<Statement>,
         place: u32,
     },
     /// `case value: body`
     Case {
-        value: Expression,
+        value: Boxed<Expression>,
         body: Boxed<Statement>,
         place: u32,
     },
@@ -76,7 +77,7 @@ pub enum Statement {
     },
     /// `return value;`, or `return;`
     Return {
-        value: Option<Expression>,
+        value: Option<Boxed<Expression>>,
         place: u32,
     },
     /// `label: body`
@@ -90,7 +91,7 @@ pub enum Statement {
 #[cycle(statement)]
 #[derive(Drop)]
 pub enum BlockItem {
-    Declaration(Declaration),
+    Declaration(Boxed<Declaration>),
     Statement(Statement),
 }
 

@@ -18,7 +18,7 @@ use c_grammar_symbols::{Source, Terminal};
 use c_grammar_tree::{Array, Declarator, Expression, Initializer, Name};
 use c_parser_expressions::inner_conditional;
 use c_parser_words::{attributes, identifier};
-use cpa_ints::Seq;
+use cpa_ints::{Boxed, Seq};
 use std::alloc::Global;
 
 /// The length of an array, where the bracket does not close at once.
@@ -45,7 +45,7 @@ fn optional_array(
     source: &Source,
     at: usize,
     left: u32,
-) -> Result<(Option<Array>, usize), ReadError>
+) -> Result<(Option<Boxed<Array>>, usize), ReadError>
     requires within { at < length source.now }
     requires room { HasRoom left at }
     ensures { Gives (λ G. Perhaps (is LeftBracket) (array G)) source.now left at result }
@@ -54,9 +54,10 @@ fn optional_array(
         return Ok((None, at));
     }
     let (length, closer) = optional_length(alloc, source, at + 1, left)?;
-    let behind = source.expect(closer, Terminal::RightBracket)?;
     let place = source.place(at);
-    Ok((Some(Array { length, place }), behind))
+    let array = Boxed::new(alloc, Array { length, place })?;
+    let behind = source.expect(closer, Terminal::RightBracket)?;
+    Ok((Some(array), behind))
 }
 
 /// The initializer, where its `=` stands here: a list where what is declared is an array.
@@ -66,7 +67,7 @@ fn optional_initializer(
     at: usize,
     left: u32,
     is_array: bool,
-) -> Result<(Option<Initializer>, usize), ReadError>
+) -> Result<(Option<Boxed<Initializer>>, usize), ReadError>
     requires within { at < length source.now }
     requires room { HasRoom left at }
     ensures { Gives (λ G. Perhaps is_initializing (Skip (initializer_of G is_array)))
@@ -75,8 +76,9 @@ fn optional_initializer(
     if !is_initializing(source, at) {
         return Ok((None, at));
     }
-    let (initializer, behind) = initializer(alloc, source, at + 1, left, is_array)?;
-    Ok((Some(initializer), behind))
+    let (made, behind) = initializer(alloc, source, at + 1, left, is_array)?;
+    let whole = Boxed::new(alloc, made)?;
+    Ok((Some(whole), behind))
 }
 
 /// The declarator of which this name is read already: what stands behind it, in any function or

@@ -14,6 +14,7 @@ use c_grammar_forms::ReadError;
 use c_grammar_symbols::{Source, Terminal};
 use c_grammar_tree::{Expression, Initializer};
 use c_parser_expressions::inner_assignment;
+use c_parser_words::trimmed;
 use cpa_ints::Seq;
 use std::alloc::Global;
 
@@ -65,7 +66,7 @@ fn elements(
         items.push(item)?;
         here = behind;
     }
-    Ok((items, here))
+    Ok((trimmed(items), here))
 }
 
 /// The list in braces that begins here.

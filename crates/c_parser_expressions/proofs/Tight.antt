@@ -1,8 +1,8 @@
 -- Readings of primaries, suffixes, unaries and casts from readings of their parts, and none where a
 -- part has none.
 use Rattle.std.specs.Prelude.{◌≡◌, ℕ, ◌+◌, ◌<◌, Bool, true, false, not, List, [], ◌∷◌, ◌++◌, Option}
-use Rattle.std.specs.Prelude.{None, Some, refl}
-use Rattle.std.proofs.Common.{ap}
+use Rattle.std.specs.Prelude.{None, Some, refl, ◌||◌, ◌&&◌}
+use Rattle.std.proofs.Common.{ap, sym}
 use Rattle.c_grammar_forms.specs.Forms.{Before, Pair, Node, Deeper, Many, Nearest, listed}
 use Rattle.c_grammar_forms.specs.Steady.{Good, good_deeper, good_before}
 use Rattle.c_grammar_forms.specs.Reading.{Reads, NoneThrough}
@@ -13,8 +13,8 @@ use Rattle.c_grammar_forms.specs.NotFound.{none_node, none_first, none_second, n
 use Rattle.c_grammar_forms.specs.NotFound.{none_then_first, none_skip, none_choice, none_perhaps}
 use Rattle.c_grammar_forms.specs.NotFound.{none_nearest, none_before, none_before_here}
 use Rattle.c_grammar_forms.specs.Loops.{SoFar, Strict, strict_choice, strict_node, strict_skip}
-use Rattle.c_grammar_forms.specs.Loops.{strict_one, at_items}
-use Rattle.c_grammar_forms.specs.Choices.{reads_arm, none_arm}
+use Rattle.c_grammar_forms.specs.Loops.{strict_one, at_items, no_more}
+use Rattle.c_grammar_forms.specs.Choices.{reads_arm, none_arm, impossible}
 use Rattle.c_grammar_symbols.specs.declared.words.Terminal.TheVariants as terminal
 use Rattle.c_grammar_symbols.specs.declared.operators.StepOperator.{StepOperator}
 use Rattle.c_grammar_symbols.specs.declared.symbol.Symbol.{Symbol}
@@ -376,6 +376,37 @@ module _ {at : ℕ → Leaf} {size left p : ℕ} where
   unfolding skipped_call
   skipped_none asserts goes g =
       none_nearest (opens_skipped asserts) goes (none_node _ (none_skip g))
+
+or_middle : (a b c : Bool) → (a || b || c) ≡ false → b ≡ false
+or_middle false false c e = refl
+or_middle false true c e = impossible (sym e)
+or_middle true b c e = impossible (sym e)
+
+and_false : (a b : Bool) → b ≡ false → (a && b) ≡ false
+and_false false b e = refl
+and_false true b e = e
+
+module _ {at : ℕ → Leaf} {size left : ℕ} where
+  -- no suffix begins here
+  suffixes_absent : {p : ℕ} (asserts : Bool) → begins_suffix (at p) ≡ false → p < size →
+      Reads (λ n. suffixes (grammar n) asserts) at size left p [] p
+  suffixes_absent {p} asserts e fits = no_more (suffixes_begin asserts
+      (skipped_no asserts (and_false asserts (is terminal.LeftParen (at p)) (or_middle
+      (is terminal.LeftBracket (at p)) (is terminal.LeftParen (at p)) (steps (symbol_of (at p))) e))
+      fits) refl) e
+
+  pub postfix_alone : {p : ℕ} {u : Expression} {m : ℕ} →
+      Reads (λ n. primary (grammar n)) at size left p u m → begins_suffix (at m) ≡ false →
+      Reads (λ n. postfix (grammar n)) at size left p u m
+  postfix_alone {u = u} r e = postfix_whole r (suffixes_absent (names_assert u) e r.within) refl
+
+  pub group_alone : {p : ℕ} → begins_type (symbol_of (at (p + 1))) ≡ false → {u : Expression}
+      {k : ℕ} →
+      Reads (λ n. Before (Deeper ((grammar n).comma)) (is terminal.RightParen)) at size left
+      (p + 1) u k → begins_suffix (at k) ≡ false →
+      Reads (λ n. group (grammar n)) at size left p (expression.Bracketed u (at p).place) k
+  group_alone typed {u} r e =
+      group_bracket typed r (suffixes_absent (names_assert u) e r.within) refl
 
 strict_suffix_at : (G : Grammar) → Good (arguments G) (arguments G) → Good G.comma G.comma →
     (s : Symbol) → Strict (suffix_at G s)

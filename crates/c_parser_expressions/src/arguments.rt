@@ -18,7 +18,7 @@ use c_grammar_forms::ReadError;
 use c_grammar_symbols::{Source, Symbol, Terminal};
 use c_grammar_tree::{Expression, Suffix};
 use c_parser_words::round_brackets;
-use cpa_ints::Seq;
+use cpa_ints::{Boxed, Seq};
 use std::alloc::Global;
 
 /// The first argument, which is read already, and those behind it, each behind a comma.
@@ -66,7 +66,7 @@ fn arguments(
 }
 
 /// Whether the token begins a suffix.
-fn begins_suffix(source: &Source, at: usize) -> bool
+pub(crate) fn begins_suffix(source: &Source, at: usize) -> bool
     requires { at < length source.now }
     ensures { result ≡ begins_suffix (leaf_at source.now at) }
 {
@@ -106,7 +106,8 @@ fn suffix(
 {
     let place = source.place(at);
     if source.is(at, Terminal::LeftBracket) {
-        let (index, closer) = inner_comma(alloc, source, at + 1, left)?;
+        let (inside, closer) = inner_comma(alloc, source, at + 1, left)?;
+        let index = Boxed::new(alloc, inside)?;
         let behind = source.expect(closer, Terminal::RightBracket)?;
         return Ok((Suffix::Index { index, place }, behind));
     }

@@ -71,6 +71,15 @@ fn one_suffix(alloc: Global, suffix: Suffix) -> Result<Seq<Suffix>, ReadError>
     Ok(Seq::from_vec(items))
 }
 
+/// No suffix, and room for one: most bases have one suffix, where they have any.
+fn no_suffix(alloc: Global) -> Result<Seq<Suffix>, ReadError>
+    ensures listed { IfOk result (λ list. list ≡ []) }
+    ensures memory { IfErr result (λ error. error ≡ OutOfMemory) }
+{
+    let items = Vec::with_capacity(alloc, 1)?;
+    Ok(Seq::from_vec(items))
+}
+
 /// The list of the skipped call, if there is one.
 pub(crate) fn list_of_skipped(
     alloc: Global,
@@ -80,28 +89,21 @@ pub(crate) fn list_of_skipped(
     ensures memory { IfErr result (λ error. error ≡ OutOfMemory) }
 {
     match skipped {
-        None => Ok(Seq::new(alloc)),
+        None => no_suffix(alloc),
         Some(call) => one_suffix(alloc, call),
     }
 }
 
 /// A base with the suffixes behind it, or the base alone where there are none.
-pub(crate) fn suffixed(
-    alloc: Global,
-    place: u32,
-    base: Expression,
-    suffixes: Seq<Suffix>,
-) -> Result<Expression, ReadError>
-    ensures made { IfOk result (λ whole. whole ≡ suffixed place base suffixes) }
-    ensures memory { IfErr result (λ error. error ≡ OutOfMemory) }
+pub(crate) fn suffixed(place: u32, base: Boxed<Expression>, suffixes: Seq<Suffix>) -> Expression
+    ensures { result ≡ suffixed place base suffixes }
 {
     if suffixes.is_empty() {
-        return Ok(base);
+        return base.into_inner();
     }
-    let base = Boxed::new(alloc, base)?;
-    Ok(Expression::Postfix {
+    Expression::Postfix {
         base,
         suffixes,
         place,
-    })
+    }
 }

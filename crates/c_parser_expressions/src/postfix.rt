@@ -6,7 +6,7 @@ ghost use Rattle.c_grammar_symbols.specs.Sources.{leaf_at, is};
 ghost use Rattle.c_grammar_tree.specs.Expressions.{primary, postfix};
 ghost use Rattle.c_grammar_tree.specs.Reading.{Gives, HasRoom};
 
-use crate::arguments::suffixes;
+use crate::arguments::{begins_suffix, suffixes};
 use crate::nested::inner_comma;
 use crate::parts::{character, names_assert, number, suffixed};
 use c_grammar_forms::ReadError;
@@ -65,9 +65,13 @@ pub(crate) fn postfix(
     requires room { HasRoom left at }
     ensures { Gives postfix source.now left at result }
 {
-    let (base, behind) = primary(alloc, source, at, left)?;
-    let asserts = names_assert(&base);
+    let (made, behind) = primary(alloc, source, at, left)?;
+    if !begins_suffix(source, behind) {
+        return Ok((made, behind));
+    }
+    let asserts = names_assert(&made);
+    let base = Boxed::new(alloc, made)?;
     let (suffixes, end) = suffixes(alloc, source, behind, left, asserts)?;
-    let whole = suffixed(alloc, source.place(at), base, suffixes)?;
-    Ok((whole, end))
+    let place = source.place(at);
+    Ok((suffixed(place, base, suffixes), end))
 }

@@ -8,7 +8,7 @@ ghost use Rattle.c_grammar_tree.specs.Reading.{Gives, HasRoom, HasRoomBelow};
 ghost use Rattle.c_parser_expressions.specs.Steps.{sign_of, group, begins_type};
 ghost use Rattle.c_parser_expressions.specs.Steps.{deeper_type_name};
 
-use crate::arguments::suffixes;
+use crate::arguments::{begins_suffix, suffixes};
 use crate::nested::{inner_cast, inner_comma, inner_unary};
 use crate::parts::{names_assert, suffixed};
 use crate::postfix::postfix;
@@ -117,7 +117,8 @@ fn group(
 {
     let place = source.place(at);
     if begins_type(source, at + 1) {
-        let (to, closer) = inner_type_name(alloc, source, at + 1, left)?;
+        let (named, closer) = inner_type_name(alloc, source, at + 1, left)?;
+        let to = Boxed::new(alloc, named)?;
         let start = source.expect(closer, Terminal::RightParen)?;
         let (inner, behind) = inner_cast(alloc, source, start, left)?;
         let operand = Boxed::new(alloc, inner)?;
@@ -127,10 +128,12 @@ fn group(
     let asserts = names_assert(&inside);
     let inner = Boxed::new(alloc, inside)?;
     let behind = source.expect(closer, Terminal::RightParen)?;
+    if !begins_suffix(source, behind) {
+        return Ok((Expression::Bracketed { inner, place }, behind));
+    }
+    let base = Boxed::new(alloc, Expression::Bracketed { inner, place })?;
     let (suffixes, end) = suffixes(alloc, source, behind, left, asserts)?;
-    let base = Expression::Bracketed { inner, place };
-    let whole = suffixed(alloc, place, base, suffixes)?;
-    Ok((whole, end))
+    Ok((suffixed(place, base, suffixes), end))
 }
 
 /// The cast or unary expression that begins here.

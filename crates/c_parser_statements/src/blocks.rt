@@ -18,6 +18,7 @@ use c_grammar_forms::ReadError;
 use c_grammar_symbols::{Source, Terminal};
 use c_grammar_tree::{BlockItem, Statement};
 use c_parser_declarations::{begins_declaration, block_declaration, no_level};
+use c_parser_words::trimmed;
 use cpa_ints::{Boxed, Seq};
 use std::alloc::Global;
 
@@ -129,7 +130,8 @@ fn item(
     ensures { Gives item source.now left at result }
 {
     if begins_declaration(source, at) {
-        let (declaration, behind) = block_declaration(alloc, source, at, left)?;
+        let (made, behind) = block_declaration(alloc, source, at, left)?;
+        let declaration = Boxed::new(alloc, made)?;
         return Ok((BlockItem::Declaration(declaration), behind));
     }
     let (statement, behind) = statement(alloc, source, at, left)?;
@@ -173,7 +175,7 @@ fn block_items(
         items.push(item)?;
         here = behind;
     }
-    Ok((items, here))
+    Ok((trimmed(items), here))
 }
 
 /// What stands in a block, with the brace that ends it, behind the one that opens it: each one

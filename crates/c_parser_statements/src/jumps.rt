@@ -13,6 +13,7 @@ use c_grammar_symbols::{Source, Terminal};
 use c_grammar_tree::{Expression, Statement};
 use c_parser_expressions::comma;
 use c_parser_words::identifier;
+use cpa_ints::Boxed;
 use std::alloc::Global;
 
 /// The `goto` that begins here.
@@ -66,7 +67,7 @@ fn optional_value(
     source: &Source,
     at: usize,
     left: u32,
-) -> Result<(Option<Expression>, usize), ReadError>
+) -> Result<(Option<Boxed<Expression>>, usize), ReadError>
     requires within { at < length source.now }
     requires room { HasRoom left at }
     ensures { Gives optional_value source.now left at result }
@@ -74,7 +75,8 @@ fn optional_value(
     if source.is(at, Terminal::Semicolon) {
         return Ok((None, at));
     }
-    let (value, behind) = comma(alloc, source, at, left)?;
+    let (made, behind) = comma(alloc, source, at, left)?;
+    let value = Boxed::new(alloc, made)?;
     Ok((Some(value), behind))
 }
 

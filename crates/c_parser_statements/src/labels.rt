@@ -12,6 +12,7 @@ use c_grammar_forms::ReadError;
 use c_grammar_symbols::{Source, Terminal};
 use c_grammar_tree::{Expression, Statement};
 use c_parser_expressions::comma;
+use cpa_ints::Boxed;
 use std::alloc::Global;
 
 /// The statement that this expression labels, behind the colon that stands here. An expression that
@@ -56,9 +57,10 @@ fn behind_comma(
     if source.is(at, Terminal::Colon) {
         return labeled(alloc, source, at, left, made, place);
     }
+    let whole = Boxed::new(alloc, made)?;
     let behind = source.expect(at, Terminal::Semicolon)?;
     let statement = Statement::Expression {
-        expression: Some(made),
+        expression: Some(whole),
         place,
     };
     Ok((statement, behind))

@@ -124,10 +124,9 @@ pub(crate) fn for_statement(
     requires room { HasRoom left at }
     ensures { Gives (statement_with For) source.now left at result }
 {
-    let (head, closed) = for_head(alloc, source, at + 1, left)?;
+    let ((start, (test, step)), closed) = for_head(alloc, source, at + 1, left)?;
     let (body, behind) = boxed_statement(alloc, source, closed, left)?;
     let place = source.place(at);
-    let (start, (test, step)) = head.into_inner();
     let statement = Statement::For {
         start,
         test,

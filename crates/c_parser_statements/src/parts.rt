@@ -32,13 +32,14 @@ pub(crate) fn condition(
     source: &Source,
     at: usize,
     left: u32,
-) -> Result<(Expression, usize), ReadError>
+) -> Result<(Boxed<Expression>, usize), ReadError>
     requires within { at < length source.now }
     requires room { HasRoom left at }
     ensures { Gives condition source.now left at result }
 {
     let start = source.expect(at, Terminal::LeftParen)?;
-    let (test, closer) = inner_comma(alloc, source, start, left)?;
+    let (inside, closer) = inner_comma(alloc, source, start, left)?;
+    let test = Boxed::new(alloc, inside)?;
     let behind = source.expect(closer, Terminal::RightParen)?;
     Ok((test, behind))
 }
@@ -49,12 +50,13 @@ pub(crate) fn case_value(
     source: &Source,
     at: usize,
     left: u32,
-) -> Result<(Expression, usize), ReadError>
+) -> Result<(Boxed<Expression>, usize), ReadError>
     requires within { at < length source.now }
     requires room { HasRoomBelow left at }
     ensures { Gives case_value source.now left at result }
 {
-    let (value, colon) = inner_conditional(alloc, source, at, left)?;
+    let (given, colon) = inner_conditional(alloc, source, at, left)?;
+    let value = Boxed::new(alloc, given)?;
     let behind = source.expect(colon, Terminal::Colon)?;
     Ok((value, behind))
 }
@@ -66,16 +68,18 @@ fn optional_comma(
     at: usize,
     left: u32,
     closer: Terminal,
-) -> Result<(Option<Expression>, usize), ReadError>
+) -> Result<(Boxed<Option<Expression>>, usize), ReadError>
     requires within { at < length source.now }
     requires room { HasRoomBelow left at }
     ensures { Gives (optional_comma closer) source.now left at result }
 {
     if source.is(at, closer) {
-        return Ok((None, at));
+        let nothing = Boxed::new(alloc, None)?;
+        return Ok((nothing, at));
     }
-    let (expression, behind) = inner_comma(alloc, source, at, left)?;
-    Ok((Some(expression), behind))
+    let (inside, behind) = inner_comma(alloc, source, at, left)?;
+    let whole = Boxed::new(alloc, Some(inside))?;
+    Ok((whole, behind))
 }
 
 /// The same with the terminal.
@@ -85,7 +89,7 @@ pub(crate) fn optional(
     at: usize,
     left: u32,
     closer: Terminal,
-) -> Result<(Option<Expression>, usize), ReadError>
+) -> Result<(Boxed<Option<Expression>>, usize), ReadError>
     requires within { at < length source.now }
     requires room { HasRoomBelow left at }
     ensures { Gives (optional closer) source.now left at result }
@@ -111,8 +115,11 @@ pub(crate) fn for_start(
         return Ok((ForStart::Declaration(declaration), behind));
     }
     let (expression, behind) = optional(alloc, source, at, left, Terminal::Semicolon)?;
-    Ok((ForStart::Expression(expression), behind))
+    Ok((ForStart::Expression(expression.into_inner()), behind))
 }
+
+/// The test and the step of a `for`, each in a box.
+pub(crate) type ForEnds = (Boxed<Option<Expression>>, Boxed<Option<Expression>>);
 
 /// The test and the step of a `for`, each with the token that ends it.
 fn test_and_step(
@@ -120,7 +127,7 @@ fn test_and_step(
     source: &Source,
     at: usize,
     left: u32,
-) -> Result<((Option<Expression>, Option<Expression>), usize), ReadError>
+) -> Result<(ForEnds, usize), ReadError>
     requires within { at < length source.now }
     requires room { HasRoomBelow left at }
     ensures { Gives test_and_step source.now left at result }
@@ -131,23 +138,23 @@ fn test_and_step(
 }
 
 /// The parts of a `for` that its brackets hold: the first one, the test and the step.
-pub(crate) type ForHead = (ForStart, (Option<Expression>, Option<Expression>));
+pub(crate) type ForHead = (Boxed<ForStart>, ForEnds);
 
-/// What stands in the brackets of a `for`, with its brackets. It comes in a box, which is given
-/// back by one call where the body behind it cannot be read.
+/// What stands in the brackets of a `for`, with its brackets. Each part comes in a box, which is
+/// given back by one call where the body behind it cannot be read.
 pub(crate) fn for_head(
     alloc: Global,
     source: &Source,
     at: usize,
     left: u32,
-) -> Result<(Boxed<ForHead>, usize), ReadError>
+) -> Result<(ForHead, usize), ReadError>
     requires within { at < length source.now }
     requires room { HasRoom left at }
     ensures { Gives for_head source.now left at result }
 {
     let opened = source.expect(at, Terminal::LeftParen)?;
-    let (start, next) = for_start(alloc, source, opened, left)?;
+    let (first, next) = for_start(alloc, source, opened, left)?;
+    let start = Boxed::new(alloc, first)?;
     let (ends, behind) = test_and_step(alloc, source, next, left)?;
-    let head = Boxed::new(alloc, (start, ends))?;
-    Ok((head, behind))
+    Ok(((start, ends), behind))
 }

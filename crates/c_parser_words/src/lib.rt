@@ -5,6 +5,7 @@
 
 mod brackets;
 mod classes;
+mod lists;
 mod named;
 mod names;
 mod parameters;
@@ -13,6 +14,7 @@ mod words;
 
 pub use brackets::{attributes, round_brackets, skipped_body};
 pub use classes::is_name;
+pub use lists::trimmed;
 pub use named::named_type;
 pub use names::{identifier, name, optional_identifier, typedef_names};
 pub use parameters::{function_rest, parameter, parameter_list};

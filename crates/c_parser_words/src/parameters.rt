@@ -107,8 +107,8 @@ pub fn parameter_list(
     requires room { HasRoomBelow left at }
     ensures { Gives (λ G. parameter_list) source.now left at result }
 {
+    let mut listed = Vec::with_capacity(alloc, 1)?;
     let (first, next) = inner_parameter(alloc, source, at, left)?;
-    let mut listed = Vec::new(alloc);
     listed.push(first)?;
     let mut here = next;
     while source.is(here, Terminal::Comma) {

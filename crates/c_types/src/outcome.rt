@@ -14,7 +14,6 @@ use crate::items::Gathered;
 use crate::listing::globals_of;
 use c_core_checked::TypedText;
 use c_core_layout::{CoreError, TextLayout, layout};
-use c_core_trees::text_trees;
 use c_grammar_tree::Unit;
 use c_lexer::{Rule, TextFault};
 use c_types_names::Survey;
@@ -77,12 +76,11 @@ fn outcome_of(
             place: unit.length,
         })),
         Some(layout) => {
-            let text = text_trees(alloc, globals, functions, layout.first_cells.as_slice())?;
             let ends = ends_of(alloc, functions)?;
             Ok(Outcome::Sound(TypedText {
-                cells: text.cells,
-                names: text.names,
-                trees: Seq::from_vec(text.trees),
+                cells: layout.cells,
+                names: layout.names,
+                trees: layout.trees,
                 ends,
                 main,
                 text_len: unit.length,

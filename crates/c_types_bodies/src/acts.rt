@@ -140,6 +140,32 @@ pub(crate) fn evaluate_optional(
     }
 }
 
+/// Evaluates an expression in a box that may be left out.
+pub(crate) fn evaluate_held(
+    alloc: Global,
+    frame: &Frame,
+    walker: &mut Walker,
+    role: Role,
+    expression: &Option<Boxed<Expression>>,
+) -> Result<Option<Boxed<TypedExpression>>, AllocError>
+    ensures typed { IfOk result (λ t. t
+        ≡ option_map (typed_of frame.now.survey.now walker.old.names) expression.now) }
+    ensures names { OnOk result (walker.new.names ≡ walker.old.names) }
+    ensures objects { OnOk result (walker.new.objects ≡ walker.old.objects) }
+    ensures cases { OnOk result (walker.new.cases ≡ walker.old.cases) }
+    ensures state { (nest : Nesting) (found : Found) → OnOk result
+        (state_of frame.now nest walker.new found ≡ walked frame.now.survey.now frame.now.caller
+        (evaluating role expression.now) (state_of frame.now nest walker.old found)) }
+{
+    match expression {
+        None => Ok(None),
+        Some(expression) => {
+            let typed = evaluate(alloc, frame, walker, role, expression.get())?;
+            Ok(Some(typed))
+        }
+    }
+}
+
 /// The test and the step of a `for`.
 #[derive(Drop)]
 pub(crate) struct Tests {
@@ -219,7 +245,7 @@ pub(crate) fn finish(
     alloc: Global,
     frame: &Frame,
     walker: &mut Walker,
-    value: &Option<Expression>,
+    value: &Option<Boxed<Expression>>,
     place: u32,
 ) -> Result<Option<Boxed<TypedExpression>>, AllocError>
     ensures typed { IfOk result (λ t. t
@@ -234,7 +260,7 @@ pub(crate) fn finish(
 {
     let is_wrong = is_misreturned(frame.result, value.is_some());
     note_if(&mut walker.first, Rule::N16, is_wrong, place);
-    let typed = evaluate_optional(alloc, frame, walker, Role::Valued, value)?;
+    let typed = evaluate_held(alloc, frame, walker, Role::Valued, value)?;
     Ok(typed)
 }
 

@@ -20,8 +20,8 @@ ghost use Rattle.c_types_bodies.specs.Views.{state_of, around_of, IsTied, Extend
 ghost use Rattle.c_types_bodies.specs.Views.{IsSwitchOn, within_switch};
 
 use crate::acts::{
-    evaluate, evaluate_boxed, evaluate_optional, evaluate_tests, finish, jump, leave, mark,
-    pass_label, turn,
+    evaluate, evaluate_boxed, evaluate_held, evaluate_optional, evaluate_tests, finish, jump,
+    leave, mark, pass_label, turn,
 };
 use crate::declarations::walk_declaration;
 use crate::labels::count_labels;
@@ -78,7 +78,7 @@ pub(crate) fn walk_statement(
             walk_block(alloc, frame, walker, jumps, nest, items.as_slice(), *place)
         }
         Statement::Expression { expression, place } => {
-            let expression = evaluate_optional(alloc, frame, walker, Role::Evaluated, expression)?;
+            let expression = evaluate_held(alloc, frame, walker, Role::Evaluated, expression)?;
             Ok(TypedStatement::Expression {
                 expression,
                 place: *place,
@@ -90,7 +90,8 @@ pub(crate) fn walk_statement(
             no,
             place,
         } => {
-            let tested = walk_tested(alloc, frame, walker, jumps, nest, yes.get(), test)?;
+            let if_test = test.get();
+            let tested = walk_tested(alloc, frame, walker, jumps, nest, yes.get(), if_test)?;
             let no = walk_optional(alloc, frame, walker, jumps, nest, no)?;
             Ok(TypedStatement::If {
                 test: tested.test,
@@ -100,10 +101,30 @@ pub(crate) fn walk_statement(
             })
         }
         Statement::While { test, body, place } => {
-            walk_while(alloc, frame, walker, jumps, nest, body.get(), test, *place)
+            let while_test = test.get();
+            walk_while(
+                alloc,
+                frame,
+                walker,
+                jumps,
+                nest,
+                body.get(),
+                while_test,
+                *place,
+            )
         }
         Statement::Do { body, test, place } => {
-            walk_do(alloc, frame, walker, jumps, nest, body.get(), test, *place)
+            let do_test = test.get();
+            walk_do(
+                alloc,
+                frame,
+                walker,
+                jumps,
+                nest,
+                body.get(),
+                do_test,
+                *place,
+            )
         }
         Statement::For {
             start,
@@ -112,6 +133,9 @@ pub(crate) fn walk_statement(
             body,
             place,
         } => {
+            let for_start = start.get();
+            let for_test = test.get();
+            let for_step = step.get();
             walk_for(
                 alloc,
                 frame,
@@ -119,9 +143,9 @@ pub(crate) fn walk_statement(
                 jumps,
                 nest,
                 body.get(),
-                start,
-                test,
-                step,
+                for_start,
+                for_test,
+                for_step,
                 *place,
             )
         }
@@ -133,10 +157,30 @@ pub(crate) fn walk_statement(
             })
         }
         Statement::Switch { value, body, place } => {
-            walk_switch(alloc, frame, walker, jumps, nest, body.get(), value, *place)
+            let switched = value.get();
+            walk_switch(
+                alloc,
+                frame,
+                walker,
+                jumps,
+                nest,
+                body.get(),
+                switched,
+                *place,
+            )
         }
         Statement::Case { value, body, place } => {
-            walk_case(alloc, frame, walker, jumps, nest, body.get(), value, *place)
+            let selected = value.get();
+            walk_case(
+                alloc,
+                frame,
+                walker,
+                jumps,
+                nest,
+                body.get(),
+                selected,
+                *place,
+            )
         }
         Statement::Default { body, place } => {
             walk_default(alloc, frame, walker, jumps, nest, body.get(), *place)
@@ -751,7 +795,8 @@ fn walk_item(
 {
     match item {
         BlockItem::Declaration(declaration) => {
-            let typed = walk_declaration(alloc, frame, walker, jumps, nest, declaration)?;
+            let declared = declaration.get();
+            let typed = walk_declaration(alloc, frame, walker, jumps, nest, declared)?;
             Ok(TypedItem::Declaration(typed))
         }
         BlockItem::Statement(statement) => {

@@ -51,7 +51,7 @@ impl Reader<'_> {
             self.now.caller) rest.now) }
     {
         let mut ty = left;
-        let mut typed = Vec::new(self.alloc);
+        let mut typed = Vec::with_capacity(self.alloc, rest.len())?;
         for link in rest {
             let read = self.read_used(Role::Valued, &link.1, notes)?;
             ty = joined_type(ty, link.0, read.part);
@@ -107,7 +107,7 @@ impl Reader<'_> {
             self.now.caller Evaluated) items.now) }
     {
         let mut kind = before;
-        let mut typed = Vec::new(self.alloc);
+        let mut typed = Vec::with_capacity(self.alloc, items.len())?;
         for item in items {
             let read = self.read_used(Role::Evaluated, item, notes)?;
             kind = next_kind(kind, read.part);

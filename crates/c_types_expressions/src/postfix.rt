@@ -71,7 +71,7 @@ impl Reader<'_> {
             self.now.caller Valued) arguments.now) }
     {
         let mut kind = result_kind;
-        let mut typed = Vec::new(self.alloc);
+        let mut typed = Vec::with_capacity(self.alloc, arguments.len())?;
         for argument in arguments {
             let read = self.read_used(Role::Valued, argument, notes)?;
             kind = with_value(kind, read.part.kind);
@@ -232,7 +232,7 @@ impl Reader<'_> {
             self.now.caller base suffix.now) }
     {
         match suffix {
-            Suffix::Index { index, place } => self.read_index(base, index, *place, notes),
+            Suffix::Index { index, place } => { self.read_index(base, index.get(), *place, notes) }
             Suffix::Call { arguments, place } => {
                 self.read_call(base, arguments.as_slice(), *place, notes)
             }
@@ -264,7 +264,7 @@ impl Reader<'_> {
             self.now.names.now base suffixes.now).uses) }
     {
         let mut part = base;
-        let mut typed = Vec::new(self.alloc);
+        let mut typed = Vec::with_capacity(self.alloc, suffixes.len())?;
         for suffix in suffixes {
             let read = self.read_suffix(part, suffix, notes)?;
             part = read.part;

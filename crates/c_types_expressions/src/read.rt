@@ -133,7 +133,7 @@ impl Reader<'_> {
                 place,
             } => { self.read_unary(*operator, operand.get(), *place, notes) }
             Expression::Cast { to, operand, place } => {
-                self.read_cast(to, operand.get(), *place, notes)
+                self.read_cast(to.get(), operand.get(), *place, notes)
             }
             Expression::Chain {
                 first: head,

@@ -230,9 +230,9 @@ pub(crate) fn meaning(table: &Table, survey: &Survey, name: &[u8]) -> Option<Mea
     requires { IsTied table.now }
     ensures { result ≡ meaning_of survey.now table.now.entries.items name.now }
 {
-    let known = known_function(name);
     match declared(table, name) {
-        Some(declared) => meaning_by(survey, name, known, declared),
-        None => known.map(Meaning::Known),
+        Some(Declared::Object { object, .. }) => Some(Meaning::Object(*object)),
+        Some(declared) => meaning_by(survey, name, known_function(name), declared),
+        None => known_function(name).map(Meaning::Known),
     }
 }

@@ -45,7 +45,7 @@ fn read_items(
 /// Reads an initializer with a reader, if there is one.
 fn read_optional(
     reader: &Reader,
-    initializer: &Option<Initializer>,
+    initializer: &Option<Boxed<Initializer>>,
     notes: &mut Notes,
 ) -> Result<Option<TypedInitializer>, AllocError>
     ensures typed { IfOk result (λ r. r
@@ -59,15 +59,17 @@ fn read_optional(
 {
     match initializer {
         None => Ok(None),
-        Some(Initializer::Scalar(value)) => {
-            let read = reader.read_used(Role::Valued, value, notes)?;
-            let typed = Boxed::new(reader.alloc, read.typed)?;
-            Ok(Some(TypedInitializer::Scalar(typed)))
-        }
-        Some(Initializer::List { items, .. }) => {
-            let typed = read_items(reader, items.as_slice(), notes)?;
-            Ok(Some(TypedInitializer::List(Seq::from_vec(typed))))
-        }
+        Some(initializer) => match initializer.get() {
+            Initializer::Scalar(value) => {
+                let read = reader.read_used(Role::Valued, value, notes)?;
+                let typed = Boxed::new(reader.alloc, read.typed)?;
+                Ok(Some(TypedInitializer::Scalar(typed)))
+            }
+            Initializer::List { items, .. } => {
+                let typed = read_items(reader, items.as_slice(), notes)?;
+                Ok(Some(TypedInitializer::List(Seq::from_vec(typed))))
+            }
+        },
     }
 }
 
@@ -77,7 +79,7 @@ pub fn read_initializer(
     survey: &Survey,
     names: &Names,
     caller: u32,
-    initializer: &Option<Initializer>,
+    initializer: &Option<Boxed<Initializer>>,
     first: &mut Option<TextFault>,
     calls: &mut Vec<Call>,
 ) -> Result<Option<TypedInitializer>, AllocError>
@@ -152,7 +154,7 @@ pub fn read_starts(
     survey: &Survey,
     names: &Names,
     ty: IntType,
-    initializer: &Option<Initializer>,
+    initializer: &Option<Boxed<Initializer>>,
     first: &mut Option<TextFault>,
 ) -> Result<Vec<i128>, AllocError>
     ensures values { IfOk result (λ r. r.items
@@ -162,13 +164,15 @@ pub fn read_starts(
 {
     match initializer {
         None => Ok(Vec::new(alloc)),
-        Some(Initializer::Scalar(item)) => {
-            let value = read_start(alloc, survey, names, ty, item, first)?;
-            let values = Vec::from_array(alloc, [value])?;
-            Ok(values)
-        }
-        Some(Initializer::List { items, .. }) => {
-            read_start_items(alloc, survey, names, ty, items.as_slice(), first)
-        }
+        Some(initializer) => match initializer.get() {
+            Initializer::Scalar(item) => {
+                let value = read_start(alloc, survey, names, ty, item, first)?;
+                let values = Vec::from_array(alloc, [value])?;
+                Ok(values)
+            }
+            Initializer::List { items, .. } => {
+                read_start_items(alloc, survey, names, ty, items.as_slice(), first)
+            }
+        },
     }
 }

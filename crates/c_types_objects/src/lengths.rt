@@ -18,16 +18,19 @@ use c_lexer::{Rule, TextFault};
 use c_types_names::{Names, Survey};
 use c_types_recursion::Call;
 use c_types_rules::{MAX_ELEMENTS, note_place};
+use cpa_ints::Boxed;
 use std::alloc::{AllocError, Global};
 
 /// How many items an initializer has.
-fn item_count(initializer: &Option<Initializer>) -> usize
+fn item_count(initializer: &Option<Boxed<Initializer>>) -> usize
     ensures { result ≡ length (items_of initializer.now) }
 {
     match initializer {
         None => 0,
-        Some(Initializer::Scalar(_)) => 1,
-        Some(Initializer::List { items, .. }) => items.len(),
+        Some(initializer) => match initializer.get() {
+            Initializer::Scalar(_) => 1,
+            Initializer::List { items, .. } => items.len(),
+        },
     }
 }
 
@@ -120,7 +123,7 @@ pub(crate) fn read_length(
             );
             Ok(None)
         }
-        Some(array) => match &array.length {
+        Some(array) => match &array.get().length {
             None => {
                 let number = item_count(&declarator.initializer) as i128;
                 note_if(first, Rule::N12, !is_length(number), declarator.name.place);

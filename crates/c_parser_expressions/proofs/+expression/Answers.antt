@@ -35,6 +35,7 @@ use Rattle.c_parser_expressions.proofs.Productions.{assignment_none_right, assig
 use Rattle.c_parser_expressions.proofs.Climbing.{looser, tightest, climb_none, link_none}
 use Rattle.c_parser_expressions.proofs.Climbing.{link_read}
 use Rattle.c_parser_expressions.proofs.Tight.{postfix_none, postfix_none_suffixes, postfix_whole}
+use Rattle.c_parser_expressions.proofs.Tight.{postfix_alone, group_alone}
 use Rattle.c_parser_expressions.proofs.Tight.{unary_none_step, unary_step, unary_none_sign}
 use Rattle.c_parser_expressions.proofs.Tight.{unary_sign}
 use Rattle.c_parser_expressions.proofs.Tight.{unary_none_postfix, unary_postfix, cast_group_none}
@@ -193,21 +194,21 @@ arguments::arguments-returns t c = arguments_whole (sym c.if-is.ensures.value)
     (assignments_read (sym c.if-is.ensures.value) c.in_ok-first.ensures c.in_ok-arguments.ensures)
     c.in_ok-behind.ensures.passes c.in_ok-behind.ensures.behind_it c.in_ok-behind.ensures.within
 
-pub arguments::suffix-returns-in_err-index : goal.arguments::suffix-returns-in_err-index
-arguments::suffix-returns-in_err-index t c =
-    at_exit MAX_LEVEL _ _ c.from_residual.ensures.1 c.in_err-index.ensures
+pub arguments::suffix-returns-in_err-inside : goal.arguments::suffix-returns-in_err-inside
+arguments::suffix-returns-in_err-inside t c =
+    at_exit MAX_LEVEL _ _ c.from_residual.ensures.1 c.in_err-inside.ensures
     (λ i g. index_none (is_left_bracket _ (sym c.if-is.ensures.value)) g)
 
 pub arguments::suffix-returns-in_err-behind : goal.arguments::suffix-returns-in_err-behind
 arguments::suffix-returns-in_err-behind t c =
     at_lack MAX_LEVEL _ _ c.from_residual-in_err-behind.ensures.1 c.in_err-behind.ensures
     (λ fails. index_open (is_left_bracket _ (sym c.if-is.ensures.value))
-    c.in_ok-index.ensures fails)
+    c.in_ok-inside.ensures fails)
 
 pub arguments::suffix-returns-then-is : goal.arguments::suffix-returns-then-is
-arguments::suffix-returns-then-is t c = rw c.place-place.ensures
+arguments::suffix-returns-then-is t c = rw (c.in_ok-index.ensures, c.place-place.ensures)
     (index_read (is_left_bracket _ (sym c.if-is.ensures.value))
-    (reads_closed c.in_ok-index.ensures c.in_ok-behind.ensures))
+    (reads_closed c.in_ok-inside.ensures c.in_ok-behind.ensures))
 
 pub arguments::suffix-returns-in_err-arguments : goal.arguments::suffix-returns-in_err-arguments
 arguments::suffix-returns-in_err-arguments t c =
@@ -265,21 +266,26 @@ postfix::primary-returns t c = rw (c.in_ok-inner.ensures, c.place-place.ensures)
     (primary_bracketed (is_left_paren _ (sym c.if-not-is.ensures.value))
     (reads_closed c.in_ok-inside.ensures c.in_ok-behind.ensures))
 
-pub postfix::postfix-returns-in_err-base : goal.postfix::postfix-returns-in_err-base
-postfix::postfix-returns-in_err-base t c =
-    at_exit MAX_LEVEL _ _ c.from_residual.ensures.1 c.in_err-base.ensures
+pub postfix::postfix-returns-in_err-made : goal.postfix::postfix-returns-in_err-made
+postfix::postfix-returns-in_err-made t c =
+    at_exit MAX_LEVEL _ _ c.from_residual.ensures.1 c.in_err-made.ensures
     (λ i g. postfix_none g)
+
+pub postfix::postfix-returns-then-not-begins_suffix :
+    goal.postfix::postfix-returns-then-not-begins_suffix
+postfix::postfix-returns-then-not-begins_suffix t c =
+    postfix_alone c.in_ok-made.ensures (sym c.if-not-begins_suffix.ensures)
 
 pub postfix::postfix-returns-in_err-suffixes : goal.postfix::postfix-returns-in_err-suffixes
 postfix::postfix-returns-in_err-suffixes t c = at_exit MAX_LEVEL _ _
     c.from_residual-in_err-suffixes.ensures.1 (rw c.names_assert-asserts.ensures at
     c.in_err-suffixes.ensures)
-    (λ i g. postfix_none_suffixes c.in_ok-base.ensures g)
+    (λ i g. postfix_none_suffixes c.in_ok-made.ensures g)
 
 pub postfix::postfix-returns : goal.postfix::postfix-returns
-postfix::postfix-returns t c = postfix_whole c.in_ok-base.ensures
+postfix::postfix-returns t c = postfix_whole c.in_ok-made.ensures
     (rw c.names_assert-asserts.ensures at c.in_ok-suffixes.ensures)
-    (rw c.place.ensures at c.in_ok-whole.ensures.made)
+    (rw (c.in_ok-base.ensures, c.place-place.ensures) at c.suffixed.ensures)
 
 pub unary::unary-returns-in_err-inner : goal.unary::unary-returns-in_err-inner
 unary::unary-returns-in_err-inner t c =
@@ -310,25 +316,26 @@ unary::unary-returns-in-None t c =
     answers_with MAX_LEVEL c.postfix.result (λ u q r. unary_postfix no_sign no_steps r)
     (λ i g. unary_none_postfix no_sign no_steps g) c.postfix.ensures
 
-pub unary::group-returns-in_err-to : goal.unary::group-returns-in_err-to
-unary::group-returns-in_err-to t c =
-    at_exit MAX_LEVEL _ _ c.from_residual.ensures.1 c.in_err-to.ensures
+pub unary::group-returns-in_err-named : goal.unary::group-returns-in_err-named
+unary::group-returns-in_err-named t c =
+    at_exit MAX_LEVEL _ _ c.from_residual.ensures.1 c.in_err-named.ensures
     (λ i g. group_none_type (sym c.if-begins_type.ensures) g)
 
 pub unary::group-returns-in_err-start : goal.unary::group-returns-in_err-start
 unary::group-returns-in_err-start t c =
     at_lack MAX_LEVEL _ _ c.from_residual-in_err-start.ensures.1 c.in_err-start.ensures
-    (λ fails. group_type_open (sym c.if-begins_type.ensures) c.in_ok-to.ensures fails)
+    (λ fails. group_type_open (sym c.if-begins_type.ensures) c.in_ok-named.ensures fails)
 
 pub unary::group-returns-in_err-inner : goal.unary::group-returns-in_err-inner
 unary::group-returns-in_err-inner t c =
     at_exit MAX_LEVEL _ _ c.from_residual-in_err-inner.ensures.1 c.in_err-inner.ensures
     (λ i g. group_none_operand (sym c.if-begins_type.ensures)
-    (reads_closed c.in_ok-to.ensures c.in_ok-start.ensures) g)
+    (reads_closed c.in_ok-named.ensures c.in_ok-start.ensures) g)
 
 pub unary::group-returns-then-begins_type : goal.unary::group-returns-then-begins_type
-unary::group-returns-then-begins_type t c = rw (c.in_ok-operand.ensures, c.place-place.ensures)
-    (group_cast (sym c.if-begins_type.ensures) (reads_closed c.in_ok-to.ensures
+unary::group-returns-then-begins_type t c =
+    rw (c.in_ok-to.ensures, c.in_ok-operand.ensures, c.place-place.ensures)
+    (group_cast (sym c.if-begins_type.ensures) (reads_closed c.in_ok-named.ensures
     c.in_ok-start.ensures) c.in_ok-inner.ensures)
 
 pub unary::group-returns-in_err-inside : goal.unary::group-returns-in_err-inside
@@ -348,11 +355,19 @@ unary::group-returns-in_err-suffixes t c = at_exit MAX_LEVEL _ _
     (λ i g. group_none_suffixes (sym c.if-begins_type.ensures)
     (reads_closed c.in_ok-inside.ensures c.in_ok-behind.ensures) g)
 
+pub unary::group-returns-then-not-begins_suffix : goal.unary::group-returns-then-not-begins_suffix
+unary::group-returns-then-not-begins_suffix t c =
+    rw (c.in_ok-inner-2.ensures, c.place-place.ensures)
+    (group_alone (sym c.if-begins_type.ensures)
+    (reads_closed c.in_ok-inside.ensures c.in_ok-behind.ensures)
+    (sym c.if-not-begins_suffix.ensures))
+
 pub unary::group-returns : goal.unary::group-returns
 unary::group-returns t c = group_bracket (sym c.if-begins_type.ensures)
     (reads_closed c.in_ok-inside.ensures c.in_ok-behind.ensures)
     (rw c.names_assert-asserts.ensures at c.in_ok-suffixes.ensures)
-    (rw (c.in_ok-inner-2.ensures, c.place-place.ensures) at c.in_ok-whole.ensures.made)
+    (rw (c.in_ok-base.ensures, c.in_ok-inner-2.ensures, c.place-place.ensures) at
+    c.suffixed.ensures)
 
 pub unary::cast-returns-then-is : goal.unary::cast-returns-then-is
 unary::cast-returns-then-is t c =

@@ -65,18 +65,18 @@ blocks::boxed_statement-returns-in_err-inner t c =
 pub blocks::boxed_statement-returns : goal.blocks::boxed_statement-returns
 blocks::boxed_statement-returns t c = rw c.in_ok-whole.ensures c.in_ok-inner.ensures
 
-pub blocks::item-returns-in_err-declaration : goal.blocks::item-returns-in_err-declaration
+pub blocks::item-returns-in_err-made : goal.blocks::item-returns-in_err-made
 unfolding item item_by
-blocks::item-returns-in_err-declaration t c =
-    at_exit MAX_LEVEL _ _ c.from_residual.ensures.1 c.in_err-declaration.ensures
+blocks::item-returns-in_err-made t c =
+    at_exit MAX_LEVEL _ _ c.from_residual.ensures.1 c.in_err-made.ensures
     (λ i g. none_choice is_local_specifier (λ n. item_by (grammar n))
     (sym c.if-begins_declaration.ensures) (none_node _ g))
 
 pub blocks::item-returns-then-begins_declaration : goal.blocks::item-returns-then-begins_declaration
 unfolding item item_by
-blocks::item-returns-then-begins_declaration t c =
-    reads_choice is_local_specifier (λ n. item_by (grammar n)) (sym c.if-begins_declaration.ensures)
-    (reads_node _ refl c.in_ok-declaration.ensures)
+blocks::item-returns-then-begins_declaration t c = rw c.in_ok-declaration.ensures
+    (reads_choice is_local_specifier (λ n. item_by (grammar n))
+    (sym c.if-begins_declaration.ensures) (reads_node _ refl c.in_ok-made.ensures))
 
 pub blocks::item-returns-in_err-statement : goal.blocks::item-returns-in_err-statement
 unfolding item item_by
@@ -111,7 +111,8 @@ blocks::block_items-list-smaller t c =
     let r = c.in_ok-item.ensures in omega (arith, item_ahead r, r.within)
 
 pub blocks::block_items-returns : goal.blocks::block_items-returns
-blocks::block_items-returns t c = no_more c.list.invariant (ap not (sym c.list-test.ensures.value))
+blocks::block_items-returns t c = rw c.trimmed.ensures
+    (no_more c.list.invariant (ap not (sym c.list-test.ensures.value)))
 
 pub blocks::items-returns-in_err-items : goal.blocks::items-returns-in_err-items
 unfolding items
@@ -239,22 +240,22 @@ loops::do_statement-returns t c = rw c.place-place.ensures
     (reads_skip (reads_pair (reads_closed c.in_ok-body.ensures c.in_ok-start.ensures)
     (reads_closed c.in_ok-test.ensures c.in_ok-behind.ensures))))
 
-pub loops::for_statement-returns-in_err-head : goal.loops::for_statement-returns-in_err-head
+pub loops::for_statement-returns-in_err-start : goal.loops::for_statement-returns-in_err-start
 unfolding statement_at
-loops::for_statement-returns-in_err-head t c =
-    at_exit MAX_LEVEL _ _ c.from_residual.ensures.1 c.in_err-head.ensures
+loops::for_statement-returns-in_err-start t c =
+    at_exit MAX_LEVEL _ _ c.from_residual.ensures.1 c.in_err-start.ensures
     (λ i g. none_node _ (none_skip (none_head (λ n. Deeper ((grammar n).statement)) g)))
 
 pub loops::for_statement-returns-in_err-body : goal.loops::for_statement-returns-in_err-body
 unfolding statement_at
 loops::for_statement-returns-in_err-body t c =
     at_exit MAX_LEVEL _ _ c.from_residual-in_err-body.ensures.1 c.in_err-body.ensures
-    (λ i g. none_node _ (none_skip (none_body steady_head c.in_ok-head.ensures g)))
+    (λ i g. none_node _ (none_skip (none_body steady_head c.in_ok-start.ensures g)))
 
 pub loops::for_statement-returns : goal.loops::for_statement-returns
 unfolding statement_at
-loops::for_statement-returns t c = rw (c.place-place.ensures, c.into_inner-start.ensures)
-    (reads_node _ refl (reads_skip (reads_head c.in_ok-head.ensures c.in_ok-body.ensures)))
+loops::for_statement-returns t c = rw c.place-place.ensures
+    (reads_node _ refl (reads_skip (reads_head c.in_ok-start.ensures c.in_ok-body.ensures)))
 
 pub switches::switch_statement-returns-in_err-value :
     goal.switches::switch_statement-returns-in_err-value
@@ -332,12 +333,13 @@ labels::labeled-returns-in-None t c =
 
 pub labels::behind_comma-returns-in_err-behind : goal.labels::behind_comma-returns-in_err-behind
 labels::behind_comma-returns-in_err-behind t c =
-    at_lack MAX_LEVEL _ _ c.from_residual.ensures.1 c.in_err-behind.ensures
+    at_lack MAX_LEVEL _ _ c.from_residual-in_err-behind.ensures.1 c.in_err-behind.ensures
     (λ fails. none_alone _ _ _ c.args.place c.args.made
     (sym c.if-is.ensures.value) fails c.requires.within)
 
 pub labels::behind_comma-returns : goal.labels::behind_comma-returns
-labels::behind_comma-returns t c = reads_alone _ _ _ c.args.place c.args.made c.in_ok-behind.ensures
+labels::behind_comma-returns t c = rw c.in_ok-whole.ensures
+    (reads_alone _ _ _ c.args.place c.args.made c.in_ok-behind.ensures)
 
 pub labels::expression_statement-returns-in_err-made :
     goal.labels::expression_statement-returns-in_err-made

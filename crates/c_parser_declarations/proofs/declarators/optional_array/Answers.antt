@@ -34,6 +34,6 @@ returns-in_err-behind c =
 
 pub returns : goal.returns
 unfolding array
-returns c = rw c.place-place.ensures
+returns c = rw (c.in_ok-array.ensures, c.place-place.ensures)
     (reads_one_more (is LeftBracket) (sym c.if-not-is.ensures.value)
     (reads_node _ refl (reads_skip (reads_closed c.in_ok-length.ensures c.in_ok-behind.ensures))))

@@ -16,12 +16,12 @@ returns-then-not-is_initializing c =
     (sym c.if-not-is_initializing.ensures.value)
     c.requires.within
 
-pub returns-in_err-initializer : goal.returns-in_err-initializer
-returns-in_err-initializer c =
-    at_exit MAX_LEVEL _ _ c.from_residual.ensures.1 c.in_err-initializer.ensures
+pub returns-in_err-made : goal.returns-in_err-made
+returns-in_err-made c =
+    at_exit MAX_LEVEL _ _ c.from_residual.ensures.1 c.in_err-made.ensures
     (λ i g. none_perhaps is_initializing (sym c.if-not-is_initializing.ensures.value) (none_skip g))
 
 pub returns : goal.returns
-returns c =
-    reads_one_more is_initializing (sym c.if-not-is_initializing.ensures.value)
-    (reads_skip c.in_ok-initializer.ensures)
+returns c = rw c.in_ok-whole.ensures
+    (reads_one_more is_initializing (sym c.if-not-is_initializing.ensures.value)
+    (reads_skip c.in_ok-made.ensures))

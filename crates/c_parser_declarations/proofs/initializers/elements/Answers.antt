@@ -30,4 +30,5 @@ pub list-smaller : goal.list-smaller
 list-smaller c = let r = c.in_ok-item.ensures in omega (arith, element_ahead r, r.within)
 
 pub returns : goal.returns
-returns c = no_more c.list.invariant (ap not (sym c.list-test.ensures.value))
+returns c =
+    rw c.trimmed.ensures (no_more c.list.invariant (ap not (sym c.list-test.ensures.value)))

@@ -14,11 +14,11 @@ pub returns-then-is : goal.returns-then-is
 returns-then-is c = reads_no (λ n. comma (grammar n)) (is_not Semicolon)
     (ap not (sym c.if-is.ensures.value)) c.requires.within
 
-pub returns-in_err-value : goal.returns-in_err-value
-returns-in_err-value c =
-    at_exit MAX_LEVEL _ _ c.from_residual.ensures.1 c.in_err-value.ensures
+pub returns-in_err-made : goal.returns-in_err-made
+returns-in_err-made c =
+    at_exit MAX_LEVEL _ _ c.from_residual.ensures.1 c.in_err-made.ensures
     (λ i g. none_perhaps (is_not Semicolon) (ap not (sym c.if-is.ensures.value)) g)
 
 pub returns : goal.returns
-returns c =
-    reads_one_more (is_not Semicolon) (ap not (sym c.if-is.ensures.value)) c.in_ok-value.ensures
+returns c = rw c.in_ok-value.ensures
+    (reads_one_more (is_not Semicolon) (ap not (sym c.if-is.ensures.value)) c.in_ok-made.ensures)

@@ -18,10 +18,10 @@ returns-in_err-start c =
     (λ fails. none_behind_here (λ n. Before (Deeper ((grammar n).comma)) (is RightParen))
     (is LeftParen) fails c.requires.within)
 
-pub returns-in_err-test : goal.returns-in_err-test
+pub returns-in_err-inside : goal.returns-in_err-inside
 unfolding condition
-returns-in_err-test c =
-    at_exit MAX_LEVEL _ _ c.from_residual-in_err-test.ensures.1 c.in_err-test.ensures
+returns-in_err-inside c =
+    at_exit MAX_LEVEL _ _ c.from_residual-in_err-inside.ensures.1 c.in_err-inside.ensures
     (λ i g. none_opened c.in_ok-start.ensures (none_before (is RightParen) g))
 
 pub returns-in_err-behind : goal.returns-in_err-behind
@@ -29,9 +29,9 @@ unfolding condition
 returns-in_err-behind c =
     at_lack MAX_LEVEL _ _ c.from_residual-in_err-behind.ensures.1 c.in_err-behind.ensures
     (λ fails. none_opened c.in_ok-start.ensures (none_before_here
-    (is RightParen) steady_test c.in_ok-test.ensures fails))
+    (is RightParen) steady_test c.in_ok-inside.ensures fails))
 
 pub returns : goal.returns
 unfolding condition
-returns c =
-    reads_opened c.in_ok-start.ensures (reads_closed c.in_ok-test.ensures c.in_ok-behind.ensures)
+returns c = rw c.in_ok-test.ensures
+    (reads_opened c.in_ok-start.ensures (reads_closed c.in_ok-inside.ensures c.in_ok-behind.ensures))

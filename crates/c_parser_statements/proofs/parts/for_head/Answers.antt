@@ -21,16 +21,16 @@ returns-in_err-opened c =
     (test_and_step (grammar n)))
     (is LeftParen) fails c.requires.within)
 
-pub returns-in_err-start : goal.returns-in_err-start
-returns-in_err-start c =
-    at_exit MAX_LEVEL _ _ c.from_residual-in_err-start.ensures.1 c.in_err-start.ensures
+pub returns-in_err-first : goal.returns-in_err-first
+returns-in_err-first c =
+    at_exit MAX_LEVEL _ _ c.from_residual-in_err-first.ensures.1 c.in_err-first.ensures
     (λ i g. none_opened c.in_ok-opened.ensures (none_first (λ n. test_and_step (grammar n)) g))
 
 pub returns-in_err-ends : goal.returns-in_err-ends
 returns-in_err-ends c =
     at_exit MAX_LEVEL _ _ c.from_residual-in_err-ends.ensures.1 c.in_err-ends.ensures
-    (λ i g. none_opened c.in_ok-opened.ensures (none_second steady_start c.in_ok-start.ensures g))
+    (λ i g. none_opened c.in_ok-opened.ensures (none_second steady_start c.in_ok-first.ensures g))
 
 pub returns : goal.returns
-returns c = rw c.in_ok-head.ensures
-    (reads_opened c.in_ok-opened.ensures (reads_pair c.in_ok-start.ensures c.in_ok-ends.ensures))
+returns c = rw c.in_ok-start.ensures
+    (reads_opened c.in_ok-opened.ensures (reads_pair c.in_ok-first.ensures c.in_ok-ends.ensures))

@@ -32,7 +32,6 @@ returns-in_err-expression c =
 
 pub returns : goal.returns
 unfolding for_start
-returns c =
-    reads_choice is_local_specifier (λ n. for_start (grammar n))
-    (sym c.if-begins_declaration.ensures)
-    (reads_node _ refl c.in_ok-expression.ensures)
+returns c = rw c.into_inner.ensures
+    (reads_choice is_local_specifier (λ n. for_start (grammar n))
+    (sym c.if-begins_declaration.ensures) (reads_node _ refl c.in_ok-expression.ensures))

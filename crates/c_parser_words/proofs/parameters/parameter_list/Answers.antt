@@ -13,14 +13,14 @@ use Rattle.c_parser_words.proofs.parameters.parameter_list.Goals as goal
 
 pub returns-in_err-first : goal.returns-in_err-first
 returns-in_err-first c =
-    at_exit MAX_LEVEL _ _ c.from_residual.ensures.1 c.in_err-first.ensures
+    at_exit MAX_LEVEL _ _ c.from_residual-in_err-first.ensures.1 c.in_err-first.ensures
     (λ i g. parameters_fail_first _ _ _ i g)
 
 pub loop-alloc-init : goal.loop-alloc-init
 loop-alloc-init c =
     parameters_first _ _ _ _ _ _
     (c.in_ok-push.ensures.items ∙ ap (λ list. list ++ c.in_ok-first.first ∷
-    []) c.new-listed.ensures.items) c.in_ok-first.ensures
+    []) c.in_ok-listed.ensures.items) c.in_ok-first.ensures
 
 pub returns-in_err-parameter : goal.returns-in_err-parameter
 returns-in_err-parameter c =

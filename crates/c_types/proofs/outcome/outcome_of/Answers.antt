@@ -1,6 +1,5 @@
--- The layout that is found is that of the text, and so is what the rules make with it.
-use Rattle.std.proofs.Common.{ℕ, List, refl, ap, ◌∙◌, subst}
-use Rattle.c_core_rules_laws.specs.Layouts.{text_from}
+-- The layout that is found is that of the text.
+use Rattle.std.proofs.Common.{refl, subst}
 use Rattle.c_core_checked.specs.declared.text.TypedText.{TypedText}
 use Rattle.c_types.specs.Outcomes.{IsFoundLayout}
 use Rattle.c_types.proofs.Law.{large_checked, sound_checked}
@@ -21,12 +20,11 @@ returns-in_ok-ends-in-Some c =
     let globals = c.args.globals.now in
     let functions = c.args.functions.now in
     let layout = c.in-Some.layout in
-    let firsts = c.as_slice.ensures in
     let laid_out = subst (IsFoundLayout globals functions) c.in-Some.is c.in_ok-found.ensures in
     let typed : TypedText = record {
-      cells = c.in_ok-text-in-Some.text.cells;
-      names = c.in_ok-text-in-Some.text.names;
-      trees = c.from_vec.result;
+      cells = layout.cells;
+      names = layout.names;
+      trees = layout.trees;
       ends = c.in_ok-ends-in-Some.ends;
       main = c.args.main;
       text_len = unit.length;
@@ -35,11 +33,6 @@ returns-in_ok-ends-in-Some c =
           (unit_laid_out unit globals functions layout c.requires.globals c.requires.functions
           laid_out).within,
       typed_is unit globals functions layout typed c.requires.globals c.requires.functions laid_out
-          (c.in_ok-text-in-Some.ensures.cells
-          ∙ ap (λ (ns : List ℕ). (text_from ns globals functions).taken.cells) firsts)
-          (c.in_ok-text-in-Some.ensures.names
-          ∙ ap (λ (ns : List ℕ). (text_from ns globals functions).taken.names) firsts)
-          (c.from_vec.ensures ∙ c.in_ok-text-in-Some.ensures.trees
-          ∙ ap (λ (ns : List ℕ). (text_from ns globals functions).made) firsts)
-          c.in_ok-ends-in-Some.ensures c.requires.main refl,
+          laid_out.cells laid_out.names laid_out.trees c.in_ok-ends-in-Some.ensures
+          c.requires.main refl,
     )

@@ -1,7 +1,9 @@
 use Rattle.std.proofs.Common.{◌≡◌, ℕ, List, map, take, Option, Some, None, option_map, refl}
-use Rattle.std.proofs.Common.{sym, ap, ◌∙◌, ◌+◌, subst, arith, rules}
+use Rattle.std.proofs.Common.{sym, ap, ◌∙◌, ◌+◌, subst, arith, rules, IfOk, OnOk}
 use Rattle.std.proofs.lemmas.Grind.{common_steps}
+use Rattle.c_grammar_tree.specs.declared.expression.Expression.{Expression}
 use Rattle.c_grammar_tree.specs.declared.statement.BlockItem.{BlockItem}
+use Rattle.c_grammar_tree.specs.declared.statement.BlockItem.TheOpen.{Statement-F}
 use Rattle.c_grammar_tree.specs.declared.statement.Statement.{Statement}
 use Rattle.c_types_rules.specs.declared.typed.TypedExpression.{TypedExpression}
 use Rattle.c_types_rules.specs.declared.typed.TypedItem.{TypedItem}
@@ -14,7 +16,8 @@ use Rattle.c_types_rules.specs.declared.typed.TypedStatement.{TypedStatement}
 use Rattle.c_types_rules.specs.Statements.{Around, Walk, followed, doing, evaluating, evaluates}
 use Rattle.c_types_rules.specs.Statements.{marking, selecting, switching}
 use Rattle.c_types_rules.specs.Statements.{looped, scoped, in_order, start_walk, loop, perhaps}
-use Rattle.c_types_rules.specs.TypedStatements.{Grown, typed_for_start, typed_optional}
+use Rattle.c_types_rules.specs.TypedStatements.{Grown, grown_statement, typed_for_start}
+use Rattle.c_types_rules.specs.TypedStatements.{typed_optional}
 use Rattle.c_types_expressions.specs.Read.{typed_of}
 use Rattle.c_types_jumps.specs.Found.{Found}
 use Rattle.c_types_bodies.specs.Grown.{grown_of, grown_walk, grown_typed, walk_of_statement}
@@ -156,19 +159,29 @@ walk_default-returns-clause-typed t c =
 
 pub walk_statement-returns-in-Case-clause-typed : goal.walk_statement-returns-in-Case-clause-typed
 walk_statement-returns-in-Case-clause-typed t c =
-    rw (
-      c.in-Case.is,
-      of_Case c.args.frame.now.survey.now c.in-Case.value c.in-Case.body c.in-Case.place,
-    )
-    (rw c.get-in-Case.ensures at c.walk_case.ensures.typed)
+    let frame = c.args.frame.now in
+    let text = frame.survey.now in
+    rw (c.in-Case.is, of_Case text c.in-Case.value c.in-Case.body c.in-Case.place)
+    (subst (λ (s : Statement). IfOk c.walk_case.result (λ (r : TypedStatement).
+    r ≡ (grown_statement text (Statement-F.Case c.in-Case.value (grown_of text s)
+    c.in-Case.place)).typed (around_of frame c.args.nest c.args.walker.now)))
+    c.get-in-Case.ensures
+    (subst (λ (e : Expression). IfOk c.walk_case.result (λ (r : TypedStatement).
+    r ≡ (grown_statement text (Statement-F.Case e (grown_of text c.get-in-Case.result.now)
+    c.in-Case.place)).typed (around_of frame c.args.nest c.args.walker.now)))
+    c.get-selected.ensures c.walk_case.ensures.typed))
 
 pub walk_statement-returns-in-Case-clause-state : goal.walk_statement-returns-in-Case-clause-state
 walk_statement-returns-in-Case-clause-state t c =
-    rw (
-      c.in-Case.is,
-      of_Case c.args.frame.now.survey.now c.in-Case.value c.in-Case.body c.in-Case.place,
-    )
-    (rw c.get-in-Case.ensures at c.walk_case.ensures.state)
+    let frame = c.args.frame.now in
+    let text = frame.survey.now in
+    let before = state_of frame c.args.nest c.args.walker.now c.args.jumps.now in
+    let after = state_of frame c.args.nest c.walk_case.new.walker c.walk_case.new.jumps in
+    rw (c.in-Case.is, of_Case text c.in-Case.value c.in-Case.body c.in-Case.place)
+    (subst (λ (e : Expression). OnOk c.walk_case.result (after ≡ walked text frame.caller
+    (grown_statement text (Statement-F.Case e (grown_of text c.in-Case.body)
+    c.in-Case.place)).walk before)) c.get-selected.ensures
+    (rw c.get-in-Case.ensures at c.walk_case.ensures.state))
 
 pub walk_statement-returns-in-Default-clause-typed :
     goal.walk_statement-returns-in-Default-clause-typed
@@ -346,7 +359,7 @@ walk_statement-returns-in-Switch-clause-typed t c =
       c.in-Switch.is,
       of_Switch c.args.frame.now.survey.now c.in-Switch.value c.in-Switch.body c.in-Switch.place,
     )
-    (rw c.get-in-Switch.ensures at c.walk_switch.ensures.typed)
+    (rw c.get-switched.ensures at (rw c.get-in-Switch.ensures at c.walk_switch.ensures.typed))
 
 pub walk_statement-returns-in-Switch-clause-state :
     goal.walk_statement-returns-in-Switch-clause-state
@@ -355,7 +368,7 @@ walk_statement-returns-in-Switch-clause-state t c =
       c.in-Switch.is,
       of_Switch c.args.frame.now.survey.now c.in-Switch.value c.in-Switch.body c.in-Switch.place,
     )
-    (rw c.get-in-Switch.ensures at c.walk_switch.ensures.state)
+    (rw c.get-switched.ensures at (rw c.get-in-Switch.ensures at c.walk_switch.ensures.state))
 
 pub walk_item-returns-in_ok-typed-in-Declaration-clause-typed :
     goal.walk_item-returns-in_ok-typed-in-Declaration-clause-typed
@@ -366,7 +379,7 @@ walk_item-returns-in_ok-typed-in-Declaration-clause-typed t c =
           c.in-Declaration.declaration,
     )
     (ap (λ (all : List TypedDeclarator). typed_item.Declaration all)
-    c.in_ok-typed-in-Declaration.ensures.typed)
+    (rw c.get-declared.ensures at c.in_ok-typed-in-Declaration.ensures.typed))
 
 pub walk_item-returns-in_ok-typed-in-Statement-clause-typed :
     goal.walk_item-returns-in_ok-typed-in-Statement-clause-typed
@@ -526,7 +539,7 @@ pub walk_item-returns-in_ok-typed-in-Declaration-clause-state :
 walk_item-returns-in_ok-typed-in-Declaration-clause-state t c =
     let frame = c.args.frame.now in
     let text = frame.survey.now in
-    c.in_ok-typed-in-Declaration.ensures.state
+    (rw c.get-declared.ensures at c.in_ok-typed-in-Declaration.ensures.state)
     ∙ ap (λ (w : Walk). walked text frame.caller w
     (state_of frame c.args.nest c.args.walker.now c.args.jumps.now))
     (sym (ap (λ (i : BlockItem). grown_walk text i) c.in-Declaration.is
@@ -556,32 +569,34 @@ walk_statement-returns-in-Block-clause-state t c =
 pub walk_statement-returns-in-While-clause-typed : goal.walk_statement-returns-in-While-clause-typed
 walk_statement-returns-in-While-clause-typed t c =
     rw (c.in-While.is, of_While)
-    (rw c.get-in-While.ensures at c.walk_while.ensures.typed)
+    (rw c.get-while_test.ensures at (rw c.get-in-While.ensures at c.walk_while.ensures.typed))
 
 pub walk_statement-returns-in-While-clause-state : goal.walk_statement-returns-in-While-clause-state
 walk_statement-returns-in-While-clause-state t c =
     rw (c.in-While.is, of_While)
-    (rw c.get-in-While.ensures at c.walk_while.ensures.state)
+    (rw c.get-while_test.ensures at (rw c.get-in-While.ensures at c.walk_while.ensures.state))
 
 pub walk_statement-returns-in-Do-clause-typed : goal.walk_statement-returns-in-Do-clause-typed
 walk_statement-returns-in-Do-clause-typed t c =
     rw (c.in-Do.is, of_Do)
-    (rw c.get-in-Do.ensures at c.walk_do.ensures.typed)
+    (rw c.get-do_test.ensures at (rw c.get-in-Do.ensures at c.walk_do.ensures.typed))
 
 pub walk_statement-returns-in-Do-clause-state : goal.walk_statement-returns-in-Do-clause-state
 walk_statement-returns-in-Do-clause-state t c =
     rw (c.in-Do.is, of_Do)
-    (rw c.get-in-Do.ensures at c.walk_do.ensures.state)
+    (rw c.get-do_test.ensures at (rw c.get-in-Do.ensures at c.walk_do.ensures.state))
 
 pub walk_statement-returns-in-For-clause-typed : goal.walk_statement-returns-in-For-clause-typed
 walk_statement-returns-in-For-clause-typed t c =
     rw (c.in-For.is, of_For)
-    (rw c.get-in-For.ensures at c.walk_for.ensures.typed)
+    (rw c.get-for_start.ensures at (rw c.get-for_test.ensures at
+    (rw c.get-for_step.ensures at (rw c.get-in-For.ensures at c.walk_for.ensures.typed))))
 
 pub walk_statement-returns-in-For-clause-state : goal.walk_statement-returns-in-For-clause-state
 walk_statement-returns-in-For-clause-state t c =
     rw (c.in-For.is, of_For)
-    (rw c.get-in-For.ensures at c.walk_for.ensures.state)
+    (rw c.get-for_start.ensures at (rw c.get-for_test.ensures at
+    (rw c.get-for_step.ensures at (rw c.get-in-For.ensures at c.walk_for.ensures.state))))
 
 pub walk_statement-returns-in-Labeled-clause-typed :
     goal.walk_statement-returns-in-Labeled-clause-typed
@@ -703,7 +718,7 @@ walk_statement-returns-in_ok-no-in-If-clause-state t c =
     let both = followed (doing (evaluates Valued c.in-If.test)) (grown_of text c.in-If.yes).walk in
     let then = subst (λ (s : Statement). one ≡ walked text frame.caller
     (followed (doing (evaluates Valued c.in-If.test)) (grown_of text s).walk) zero_state)
-    c.get.ensures c.in_ok-tested-in-If.ensures.state in
+    c.get.ensures (rw c.get-if_test.ensures at c.in_ok-tested-in-If.ensures.state) in
     let last = perhaps (option_map (walk_of_statement text) c.in-If.no) in
     rw (c.in-If.is, of_If)
     (c.in_ok-no-in-If.ensures.state
@@ -722,11 +737,12 @@ walk_statement-returns-in_ok-no-in-If-clause-typed t c =
     let both = followed (doing (evaluates Valued c.in-If.test)) (grown_of text c.in-If.yes).walk in
     let then = subst (λ (s : Statement). one ≡ walked text frame.caller
     (followed (doing (evaluates Valued c.in-If.test)) (grown_of text s).walk) zero_state)
-    c.get.ensures c.in_ok-tested-in-If.ensures.state in
+    c.get.ensures (rw c.get-if_test.ensures at c.in_ok-tested-in-If.ensures.state) in
     let behind = around_walked text frame.caller both zero_state one then in
     rw (c.in-If.is, of_If)
     (if_same c.in_ok-tested-in-If.tested.test _ c.in_ok-tested-in-If.tested.yes _
-    c.in_ok-no-in-If.no _ c.in-If.place c.in_ok-tested-in-If.ensures.test
+    c.in_ok-no-in-If.no _ c.in-If.place
+    (rw c.get-if_test.ensures at c.in_ok-tested-in-If.ensures.test)
     (c.in_ok-tested-in-If.ensures.yes
     ∙ ap (λ (s : Statement). (grown_of text s).typed (around_of frame c.args.nest old))
     c.get.ensures)
