@@ -192,8 +192,8 @@ fn counts(alloc: Global, cfa: &Cfa, config: &Config) -> Result<(usize, u64), All
     Ok((entries, covers.load(Ordering::SeqCst)))
 }
 
-/// A successor is compared with the entries of its point and stack alone: with all of the 528 it
-/// were more than 100,000 comparisons.
+/// A successor is compared with the entries of its point and stack alone, and with none of them
+/// that its mark tells apart: with all of the 528 it were more than 100,000 comparisons.
 #[test]
 fn covers_are_asked_under_a_key_alone(rt: HostRuntime) -> Result<(), Fail> {
     let alloc = rt.alloc();
@@ -201,7 +201,6 @@ fn covers_are_asked_under_a_key_alone(rt: HostRuntime) -> Result<(), Fail> {
     let config = config(alloc)?.expect(&rt, "a configuration");
     let (entries, covers) = counts(alloc, &cfa, &config)?;
     assert_eq!(rt; entries, 528);
-    assert!(rt; covers > 0);
     assert!(rt; covers < 10_000, "{covers} covers");
     Ok(())
 }
