@@ -25,7 +25,7 @@ use Rattle.cpa_interpolant_rules.specs.Stores.{IsStore}
 use Rattle.cpa_interpolant_rules.specs.Interpolants.{LeadsTo, AreNext, ArePathInterpolants, last_of}
 use Rattle.cpa_interpolant_rules.specs.Interpolants.{one}
 use Rattle.cpa_interpolant_rules.specs.Interpolants.{zero as nothing}
-use Rattle.cpa_interpolant_answers.specs.lemmas.Keeping.{Keeps, AreLaws, keeps}
+use Rattle.cpa_interpolant.specs.Keeping.{Keeps, AreLaws, keeps}
 use Rattle.cpa_interpolant_craig.specs.Walks.{AreBehind, Walks, NeverOpen, IsPredIfRead}
 use Rattle.cpa_interpolant_craig.proofs.ReadLemmas.{some_read}
 use Rattle.cpa_interpolant_craig.proofs.WalkLemmas.{all_joined}

@@ -14,7 +14,7 @@ use Rattle.cpa_predicate.specs.Predicates.{no_facts}
 use Rattle.cpa_predicate.specs.Questions.{IsOpen, Spends}
 use Rattle.cpa_predicate.specs.lemmas.Spending.{nothing_spent}
 use Rattle.cpa_interpolant_rules.specs.Interpolants.{ArePathInterpolants}
-use Rattle.cpa_interpolant_answers.specs.lemmas.Keeping.{AreLaws}
+use Rattle.cpa_interpolant.specs.Keeping.{AreLaws}
 use Rattle.cpa_interpolant_craig.specs.Walks.{Walks, NeverOpen, IsPredIfRead, SomeBeyondAlong}
 use Rattle.cpa_interpolant_craig.proofs.WalkLemmas.{walks_exactly}
 use Rattle.cpa_interpolant_craig.proofs.Progress.{walk_gives_none}

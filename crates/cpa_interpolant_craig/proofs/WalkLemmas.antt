@@ -10,7 +10,7 @@ use Rattle.cpa_model.specs.declared.facts.Elem.{Elem}
 use Rattle.cpa_model.specs.declared.automaton.Edge.{Edge}
 use Rattle.cpa_model.specs.declared.automaton.Cfa.{Cfa}
 use Rattle.cpa_iface.specs.Meanings.{IsShaped, AreShaped}
-use Rattle.cpa_interpolant_answers.specs.lemmas.Keeping.{edge_there}
+use Rattle.cpa_interpolant.specs.Keeping.{edge_there}
 use Rattle.cpa_predicate.specs.declared.asking.Budgets.{Budgets}
 use Rattle.cpa_predicate.specs.Questions.{Question, IsOpen, form_asked, SomeBeyond, Spends}
 use Rattle.cpa_predicate.specs.Transfer.{IsCartesian}

@@ -1,6 +1,6 @@
 -- One edge more.
 use Rattle.std.proofs.Common.{length}
-use Rattle.cpa_interpolant_answers.specs.lemmas.Keeping.{edge_in}
+use Rattle.cpa_interpolant.specs.Keeping.{edge_in}
 use Rattle.cpa_interpolant_craig.proofs.WalkLemmas.{walk_more, walk_spent}
 use Rattle.cpa_interpolant_craig.proofs.walking.walk_from.Goals as goal
 
