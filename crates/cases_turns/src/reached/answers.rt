@@ -64,7 +64,7 @@ fn push_without_parts(
     }
 }
 
-/// The answer to a call whose row is its word alone.
+/// The answer to a call whose row is its word alone. `round` leaves an empty journal.
 fn push_alone(
     alloc: Global,
     out: &mut String,
@@ -75,7 +75,10 @@ fn push_alone(
         "live" => push_entries(out, reached.live()),
         "waiting" => push_waiting(alloc, out, reached.live()),
         "journal" => push_turns(out, reached.journal()),
-        "round" => round(out, reached),
+        "round" => {
+            reached.start_round();
+            done(out)
+        }
         "parts" => take_parts(alloc, out, reached),
         _ => Err(RowFault::Unreadable),
     }
@@ -101,9 +104,11 @@ fn new(
     words: &mut SplitWhitespace<'_>,
     parts: &mut Split<'_, char>,
 ) -> Result<(), RowFault> {
-    let elems = elems_of(alloc, next_part(parts)?)?;
-    let precisions = precisions_of(alloc, next_part(parts)?)?;
+    let points = next_part(parts)?;
+    let limits = next_part(parts)?;
     end(words, parts)?;
+    let elems = elems_of(alloc, points)?;
+    let precisions = precisions_of(alloc, limits)?;
     *reached = Reached::new(alloc, elems, precisions)?;
     done(out)
 }
@@ -118,12 +123,14 @@ fn add(
 ) -> Result<(), RowFault> {
     let parent = next_index(words)?;
     let edge = next_index(words)?;
-    let elems = elems_of(alloc, next_part(parts)?)?;
-    let precisions = precisions_of(alloc, next_part(parts)?)?;
+    let points = next_part(parts)?;
+    let limits = next_part(parts)?;
     end(words, parts)?;
     if !is_live(reached, parent) {
         return Err(RowFault::Unreadable);
     }
+    let elems = elems_of(alloc, points)?;
+    let precisions = precisions_of(alloc, limits)?;
     let number = reached.add(elems, precisions, (parent, edge))?;
     push_number(out, number)
 }
@@ -137,11 +144,12 @@ fn replace(
     parts: &mut Split<'_, char>,
 ) -> Result<(), RowFault> {
     let old = next_index(words)?;
-    let elems = elems_of(alloc, next_part(parts)?)?;
+    let points = next_part(parts)?;
     end(words, parts)?;
     if !is_live(reached, old) {
         return Err(RowFault::Unreadable);
     }
+    let elems = elems_of(alloc, points)?;
     let number = reached.replace(old, elems)?;
     push_number(out, number)
 }
@@ -155,11 +163,12 @@ fn refine(
     parts: &mut Split<'_, char>,
 ) -> Result<(), RowFault> {
     let entry = next_index(words)?;
-    let precisions = precisions_of(alloc, next_part(parts)?)?;
+    let limits = next_part(parts)?;
     end(words, parts)?;
     if !is_live(reached, entry) {
         return Err(RowFault::Unreadable);
     }
+    let precisions = precisions_of(alloc, limits)?;
     reached.set_precisions(entry, precisions);
     done(out)
 }
@@ -173,9 +182,11 @@ fn turn(
     parts: &mut Split<'_, char>,
 ) -> Result<(), RowFault> {
     let taken = next_index(words)?;
-    let added = indices_of(alloc, next_part(parts)?)?;
-    let replaced = pairs_of(alloc, next_part(parts)?)?;
+    let numbers = next_part(parts)?;
+    let pairs = next_part(parts)?;
     end(words, parts)?;
+    let added = indices_of(alloc, numbers)?;
+    let replaced = pairs_of(alloc, pairs)?;
     reached.close_turn(Turn {
         taken,
         added,
@@ -192,8 +203,9 @@ fn index_by(
     words: &mut SplitWhitespace<'_>,
     parts: &mut Split<'_, char>,
 ) -> Result<(), RowFault> {
-    let places = indices_of(alloc, next_part(parts)?)?;
+    let text = next_part(parts)?;
     end(words, parts)?;
+    let places = indices_of(alloc, text)?;
     reached.index_by(places.as_slice())?;
     done(out)
 }
@@ -206,8 +218,9 @@ fn key(
     words: &mut SplitWhitespace<'_>,
     parts: &mut Split<'_, char>,
 ) -> Result<(), RowFault> {
-    let elems = elems_of(alloc, next_part(parts)?)?;
+    let points = next_part(parts)?;
     end(words, parts)?;
+    let elems = elems_of(alloc, points)?;
     push_key(out, &reached.key_of(elems.as_slice())?)
 }
 
@@ -219,8 +232,9 @@ fn under(
     words: &mut SplitWhitespace<'_>,
     parts: &mut Split<'_, char>,
 ) -> Result<(), RowFault> {
-    let elems = Seq::from_vec(elems_of(alloc, next_part(parts)?)?);
+    let points = next_part(parts)?;
     end(words, parts)?;
+    let elems = Seq::from_vec(elems_of(alloc, points)?);
     push_some(out, reached.under(&Key { elems }))
 }
 
@@ -286,19 +300,18 @@ fn path(
     push_path(out, &reached.path_to(entry)?)
 }
 
-/// `round`: an empty journal.
-fn round(out: &mut String, reached: &mut Reached) -> Result<(), RowFault> {
-    reached.start_round();
-    done(out)
-}
-
 /// `parts`: the entries and the journal, taken out of the set. A set of one entry is left.
 fn take_parts(alloc: Global, out: &mut String, reached: &mut Reached) -> Result<(), RowFault> {
     let left = Reached::new(alloc, Vec::new(alloc), Vec::new(alloc))?;
     let (entries, turns) = mem::replace(reached, left).into_parts();
-    push_entries(out, entries.as_slice())?;
+    push_parts(out, entries.as_slice(), turns.as_slice())
+}
+
+/// Entries and a journal, a semicolon between them.
+fn push_parts(out: &mut String, entries: &[Entry], turns: &[Turn]) -> Result<(), RowFault> {
+    push_entries(out, entries)?;
     out.push_str(";")?;
-    push_turns(out, turns.as_slice())
+    push_turns(out, turns)
 }
 
 /// Whether an entry of the number is there.
