@@ -7,14 +7,11 @@ use std::str::SplitWhitespace;
 
 /// The rule that a word names: `sep`, `join` or `widen`.
 pub fn rule_of_word(word: &str) -> Result<MergeRule, RowFault> {
-    if word == "sep" {
-        Ok(MergeRule::Sep)
-    } else if word == "join" {
-        Ok(MergeRule::Join)
-    } else if word == "widen" {
-        Ok(MergeRule::Widen)
-    } else {
-        Err(RowFault::Unreadable)
+    match word {
+        "sep" => Ok(MergeRule::Sep),
+        "join" => Ok(MergeRule::Join),
+        "widen" => Ok(MergeRule::Widen),
+        _ => Err(RowFault::Unreadable),
     }
 }
 
@@ -33,11 +30,9 @@ pub fn next_settings(words: &mut SplitWhitespace<'_>) -> Result<Settings, RowFau
 
 /// Whether a word names all cells, or none.
 fn is_all(word: &str) -> Result<bool, RowFault> {
-    if word == "all" {
-        Ok(true)
-    } else if word == "none" {
-        Ok(false)
-    } else {
-        Err(RowFault::Unreadable)
+    match word {
+        "all" => Ok(true),
+        "none" => Ok(false),
+        _ => Err(RowFault::Unreadable),
     }
 }

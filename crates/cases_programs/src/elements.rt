@@ -11,12 +11,19 @@ use std::str::{Split, SplitWhitespace};
 pub fn elem_of(alloc: Global, text: &str) -> Result<Elem, RowFault> {
     let mut facts = Seq::new(alloc);
     for part in text.split(',') {
-        let mut words = part.split_whitespace();
-        if let Some(kind) = words.next() {
-            facts.push(fact_of(alloc, kind, &mut words)?)?;
-        }
+        push_fact(alloc, &mut facts, part)?;
     }
     Ok(Elem { facts })
+}
+
+/// Adds the fact that a part spells, if it has words.
+fn push_fact(alloc: Global, facts: &mut Seq<Fact>, part: &str) -> Result<(), RowFault> {
+    let mut words = part.split_whitespace();
+    if let Some(kind) = words.next() {
+        let fact = fact_of(alloc, kind, &mut words)?;
+        facts.push(fact)?;
+    }
+    Ok(())
 }
 
 /// The elements that the parts which are left spell, one each.
@@ -30,18 +37,13 @@ pub fn elems_of(alloc: Global, parts: &mut Split<'_, char>) -> Result<Vec<Elem>,
 
 /// The fact whose first word is taken already. No word is left behind it.
 fn fact_of(alloc: Global, kind: &str, words: &mut SplitWhitespace<'_>) -> Result<Fact, RowFault> {
-    if kind == "at" {
-        point_of(words)
-    } else if kind == "stack" {
-        stack_of(alloc, words)
-    } else if kind == "equals" {
-        equals_of(words)
-    } else if kind == "within" {
-        within_of(words)
-    } else if kind == "truth" {
-        truth_of(alloc, words)
-    } else {
-        Err(RowFault::Unreadable)
+    match kind {
+        "at" => point_of(words),
+        "stack" => stack_of(alloc, words),
+        "equals" => equals_of(words),
+        "within" => within_of(words),
+        "truth" => truth_of(alloc, words),
+        _ => Err(RowFault::Unreadable),
     }
 }
 

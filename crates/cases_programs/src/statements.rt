@@ -3,6 +3,7 @@
 
 use crate::table::rest_indices;
 use cases_reader::{RowFault, next_index, next_part, next_word, whole_expr};
+use cpa_ints::Boxed;
 use cpa_model::Stmt;
 use std::alloc::Global;
 use std::str::{Split, SplitWhitespace};
@@ -14,23 +15,32 @@ pub(crate) fn stmt_of(
     parts: &mut Split<'_, char>,
 ) -> Result<Stmt, RowFault> {
     let word = next_word(words)?;
-    if word == "block" {
-        let items = rest_indices(alloc, words)?;
-        Ok(Stmt::Block { items })
-    } else if word == "if" {
-        if_of(alloc, words, parts)
-    } else if word == "assign" {
-        assign_of(alloc, words, parts)
-    } else if word == "loop" {
-        let body = next_index(words)?;
-        let step = next_index(words)?;
-        Ok(Stmt::Loop { body, step })
-    } else {
-        bare_stmt(word, words)
+    match word {
+        "block" => block_of(alloc, words),
+        "if" => if_of(alloc, words, parts),
+        "assign" => assign_of(alloc, words, parts),
+        "loop" => loop_of(words),
+        "leave" => Ok(Stmt::Leave),
+        "stop" => Ok(Stmt::Stop),
+        "error" => Ok(Stmt::Error),
+        _ => numbered_stmt(word, words),
     }
 }
 
-/// `if YES NO : TEST`, behind its first word.
+/// `block N ..`, behind its first word, as the next three are.
+fn block_of(alloc: Global, words: &mut SplitWhitespace<'_>) -> Result<Stmt, RowFault> {
+    let items = rest_indices(alloc, words)?;
+    Ok(Stmt::Block { items })
+}
+
+/// `loop BODY STEP`.
+fn loop_of(words: &mut SplitWhitespace<'_>) -> Result<Stmt, RowFault> {
+    let body = next_index(words)?;
+    let step = next_index(words)?;
+    Ok(Stmt::Loop { body, step })
+}
+
+/// `if YES NO : TEST`.
 fn if_of(
     alloc: Global,
     words: &mut SplitWhitespace<'_>,
@@ -42,7 +52,7 @@ fn if_of(
     Ok(Stmt::If { test, yes, no })
 }
 
-/// `assign BASE LEN : INDEX : VALUE`, behind its first word.
+/// `assign BASE LEN : INDEX : VALUE`.
 fn assign_of(
     alloc: Global,
     words: &mut SplitWhitespace<'_>,
@@ -52,34 +62,23 @@ fn assign_of(
     let len = next_index(words)?;
     let index = next_part(parts)?;
     let value = next_part(parts)?;
-    let index = whole_expr(alloc, index)?;
+    let index = Boxed::new(alloc, whole_expr(alloc, index)?)?;
     let value = whole_expr(alloc, value)?;
     Ok(Stmt::Assign {
         base,
         len,
-        index,
+        index: index.into_inner(),
         value,
     })
 }
 
-/// A statement without parts and expressions.
-fn bare_stmt(word: &str, words: &mut SplitWhitespace<'_>) -> Result<Stmt, RowFault> {
-    if word == "input" {
-        let cell = next_index(words)?;
-        Ok(Stmt::Input { cell })
-    } else if word == "call" {
-        let function = next_index(words)?;
-        Ok(Stmt::Call { function })
-    } else if word == "goto" {
-        let to = next_index(words)?;
-        Ok(Stmt::Goto { to })
-    } else if word == "leave" {
-        Ok(Stmt::Leave)
-    } else if word == "stop" {
-        Ok(Stmt::Stop)
-    } else if word == "error" {
-        Ok(Stmt::Error)
-    } else {
-        Err(RowFault::Unreadable)
+/// `input CELL`, `call FUNCTION` or `goto STATEMENT`.
+fn numbered_stmt(word: &str, words: &mut SplitWhitespace<'_>) -> Result<Stmt, RowFault> {
+    let number = next_index(words)?;
+    match word {
+        "input" => Ok(Stmt::Input { cell: number }),
+        "call" => Ok(Stmt::Call { function: number }),
+        "goto" => Ok(Stmt::Goto { to: number }),
+        _ => Err(RowFault::Unreadable),
     }
 }

@@ -3,7 +3,7 @@
 
 use crate::statements::stmt_of;
 use cases_reader::{
-    RowFault, end_parts, end_row, index_of_word, next_index, next_word, number_of_word,
+    RowFault, end_parts, end_row, index_of_word, next_index, next_part, next_word, number_of_word,
     type_of_word,
 };
 use cpa_model::{Cell, Program, Seq};
@@ -46,20 +46,15 @@ impl Table {
     /// the statement N.
     pub fn set(&mut self, alloc: Global, line: &str) -> Result<bool, RowFault> {
         let mut parts = line.split(':');
-        let mut words = parts.next().unwrap_or("").split_whitespace();
+        let mut words = next_part(&mut parts)?.split_whitespace();
         let word = next_word(&mut words)?;
-        if word == "program" {
-            *self = Table::new(alloc);
-        } else if word == "main" {
-            self.program.main = next_index(&mut words)?;
-        } else if word == "cells" {
-            self.program.cells = cells_of(alloc, &mut words)?;
-        } else if word == "stmt" {
-            self.push_stmt(alloc, &mut words, &mut parts)?;
-        } else if word == "put" {
-            self.put_stmt(alloc, &mut words, &mut parts)?;
-        } else {
-            return self.set_numbers(alloc, word, &mut words);
+        match word {
+            "program" => *self = Table::new(alloc),
+            "main" => self.program.main = next_index(&mut words)?,
+            "cells" => self.program.cells = next_cells(alloc, &mut words)?,
+            "stmt" => self.push_stmt(alloc, &mut words, &mut parts)?,
+            "put" => self.put_stmt(alloc, &mut words, &mut parts)?,
+            _ => return self.set_numbers(alloc, word, &mut words),
         }
         end_row(&mut words)?;
         end_parts(&mut parts)?;
@@ -113,17 +108,14 @@ impl Table {
         word: &str,
         words: &mut SplitWhitespace<'_>,
     ) -> Result<bool, RowFault> {
-        if word == "bodies" {
-            self.program.bodies = rest_indices(alloc, words)?;
-        } else if word == "ends" {
-            self.ends = rest_indices(alloc, words)?;
-        } else if word == "owners" {
-            self.owners = rest_indices(alloc, words)?;
-        } else if word == "levels" {
-            self.levels = rest_indices(alloc, words)?;
-        } else {
-            return Ok(false);
-        }
+        let list = match word {
+            "bodies" => &mut self.program.bodies,
+            "ends" => &mut self.ends,
+            "owners" => &mut self.owners,
+            "levels" => &mut self.levels,
+            _ => return Ok(false),
+        };
+        *list = rest_indices(alloc, words)?;
         Ok(true)
     }
 }
@@ -138,13 +130,18 @@ pub fn rest_indices(alloc: Global, words: &mut SplitWhitespace<'_>) -> Result<Se
 }
 
 /// The cells of the words that are left, a type and a start each.
-fn cells_of(alloc: Global, words: &mut SplitWhitespace<'_>) -> Result<Seq<Cell>, RowFault> {
+fn next_cells(alloc: Global, words: &mut SplitWhitespace<'_>) -> Result<Seq<Cell>, RowFault> {
     let mut all: Vec<&str> = Vec::new(alloc);
     for word in words {
         all.push(word)?;
     }
+    cells_of(alloc, &all)
+}
+
+/// The cells of these words.
+fn cells_of(alloc: Global, words: &[&str]) -> Result<Seq<Cell>, RowFault> {
     let mut cells = Seq::new(alloc);
-    let mut rest = all.as_slice();
+    let mut rest = words;
     while let [ty, start, behind @ ..] = rest {
         cells.push(cell_of(ty, start)?)?;
         rest = behind;

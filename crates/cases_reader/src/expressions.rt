@@ -10,18 +10,31 @@ use cpa_ints::{Boxed, IntType};
 use std::alloc::Global;
 use std::str::SplitWhitespace;
 
-/// A node, without its parts.
+/// A node, without its words and parts.
+#[derive(Clone, Copy)]
 enum Head {
     Const,
     Read,
+    One(One),
+    Two(Two),
+    Cond,
+}
+
+/// A node of one part.
+#[derive(Clone, Copy)]
+enum One {
     Un(UnOp),
+    Cast,
+    Not,
+}
+
+/// A node of two parts.
+#[derive(Clone, Copy)]
+enum Two {
     Bin(BinOp),
     Cmp(CmpOp),
-    Cast,
     Both,
     Either,
-    Not,
-    Cond,
 }
 
 /// The expression that a text spells.
@@ -36,6 +49,11 @@ pub fn rest_expr(alloc: Global, left: &mut SplitWhitespace<'_>) -> Result<Expr, 
     for word in left {
         words.push(word)?;
     }
+    spelled(alloc, &words)
+}
+
+/// The expression that these words spell.
+fn spelled(alloc: Global, words: &[&str]) -> Result<Expr, RowFault> {
     let mut pending = Pending {
         words: Vec::new(alloc),
         parts: Vec::new(alloc),
@@ -46,37 +64,39 @@ pub fn rest_expr(alloc: Global, left: &mut SplitWhitespace<'_>) -> Result<Expr, 
     pending.last()
 }
 
-/// The node that a word begins.
+/// The node that a word begins: of the operator that it names, or `const`, `read`, `cast`, and
+/// `both` for `&&`, `either` for `||`, `not` for `!` and `cond` for `?:`.
 fn named_head(word: &str) -> Option<Head> {
-    if word == "const" {
-        Some(Head::Const)
-    } else if word == "read" {
-        Some(Head::Read)
-    } else if word == "cast" {
-        Some(Head::Cast)
-    } else if word == "both" {
-        Some(Head::Both)
-    } else if word == "either" {
-        Some(Head::Either)
-    } else if word == "not" {
-        Some(Head::Not)
-    } else if word == "cond" {
-        Some(Head::Cond)
-    } else {
-        operator(word)
+    match word {
+        "const" => Some(Head::Const),
+        "read" => Some(Head::Read),
+        "cast" => Some(Head::One(One::Cast)),
+        "not" => Some(Head::One(One::Not)),
+        "both" => Some(Head::Two(Two::Both)),
+        "either" => Some(Head::Two(Two::Either)),
+        "cond" => Some(Head::Cond),
+        _ => operator(word),
     }
 }
 
 /// The node of the operator that a word names.
 fn operator(word: &str) -> Option<Head> {
     if let Some(op) = unary_of_word(word) {
-        Some(Head::Un(op))
+        Some(Head::One(One::Un(op)))
     } else if let Some(op) = binary_of_word(word) {
-        Some(Head::Bin(op))
+        Some(Head::Two(Two::Bin(op)))
     } else if let Some(op) = comparison_of_word(word) {
-        Some(Head::Cmp(op))
+        Some(Head::Two(Two::Cmp(op)))
     } else {
         None
+    }
+}
+
+/// Whether a type stands behind the node's first word.
+fn is_typed(head: Head) -> bool {
+    match head {
+        Head::One(One::Not) | Head::Two(Two::Both) | Head::Two(Two::Either) => false,
+        _ => true,
     }
 }
 
@@ -91,48 +111,43 @@ impl<'a> Pending<'a> {
     /// Takes the next word to the left.
     fn take(&mut self, alloc: Global, word: &'a str) -> Result<(), RowFault> {
         match named_head(word) {
-            Some(head) => {
-                let expr = self.node(head)?;
-                self.put(alloc, expr)?;
-            }
-            None => self.words.push(word)?,
+            Some(head) => self.put(alloc, head),
+            None => Ok(self.words.push(word)?),
         }
-        Ok(())
     }
 
-    /// Holds an expression for the node to the left of it.
-    fn put(&mut self, alloc: Global, expr: Expr) -> Result<(), RowFault> {
-        let part = Boxed::new(alloc, expr)?;
-        self.parts.push(part)?;
-        Ok(())
+    /// Holds the node of this head for the one to the left of it.
+    fn put(&mut self, alloc: Global, head: Head) -> Result<(), RowFault> {
+        let node = self.node(head)?;
+        let part = Boxed::new(alloc, node)?;
+        Ok(self.parts.push(part)?)
     }
 
-    /// The node of this head, with the words and parts that stand right behind it.
+    /// The node of this head, with the words and parts that stand right behind it: a type, where it
+    /// has one, and what its form asks for.
     fn node(&mut self, head: Head) -> Result<Expr, RowFault> {
+        let ty = if is_typed(head) {
+            self.ty()?
+        } else {
+            IntType::Bool
+        };
         match head {
-            Head::Const => self.constant(),
-            Head::Read => self.read(),
-            Head::Un(op) => self.unary(op),
-            Head::Bin(op) => self.binary(op),
-            Head::Cmp(op) => self.comparison(op),
-            Head::Cast => self.cast(),
-            Head::Both => self.both(),
-            Head::Either => self.either(),
-            Head::Not => self.negation(),
-            Head::Cond => self.conditional(),
+            Head::Const => self.constant(ty),
+            Head::Read => self.read(ty),
+            Head::One(one) => self.of_one(one, ty),
+            Head::Two(two) => self.of_two(two, ty),
+            Head::Cond => self.conditional(ty),
         }
     }
 
     /// A number of the type T: `const T NUMBER`.
-    fn constant(&mut self) -> Result<Expr, RowFault> {
-        let ty = self.ty()?;
+    fn constant(&mut self, ty: IntType) -> Result<Expr, RowFault> {
         let value = number_of_word(self.word()?)?;
         Ok(Expr::Const { ty, value })
     }
 
     /// One of LEN cells from BASE on, which have the type T: `read T BASE LEN INDEX`.
-    fn read(&mut self) -> Result<Expr, RowFault> {
-        let ty = self.ty()?;
+    fn read(&mut self, ty: IntType) -> Result<Expr, RowFault> {
         let base = index_of_word(self.word()?)?;
         let len = index_of_word(self.word()?)?;
         let index = self.part()?;
@@ -144,69 +159,41 @@ impl<'a> Pending<'a> {
         })
     }
 
-    /// An operator whose result has the type T: `OP T ARG`.
-    fn unary(&mut self, op: UnOp) -> Result<Expr, RowFault> {
-        let ty = self.ty()?;
+    /// `OP T ARG`, an operator whose result has the type T, `cast T ARG` or `not ARG`.
+    fn of_one(&mut self, one: One, ty: IntType) -> Result<Expr, RowFault> {
         let arg = self.part()?;
-        Ok(Expr::Un { op, ty, arg })
-    }
-
-    /// An operator whose result has the type T: `OP T LEFT RIGHT`.
-    fn binary(&mut self, op: BinOp) -> Result<Expr, RowFault> {
-        let ty = self.ty()?;
-        let left = self.part()?;
-        let right = self.part()?;
-        Ok(Expr::Bin {
-            op,
-            ty,
-            left,
-            right,
+        Ok(match one {
+            One::Un(op) => Expr::Un { op, ty, arg },
+            One::Cast => Expr::Cast { ty, arg },
+            One::Not => Expr::Not { arg },
         })
     }
 
-    /// A comparison of two values of the type T: `OP T LEFT RIGHT`.
-    fn comparison(&mut self, op: CmpOp) -> Result<Expr, RowFault> {
-        let ty = self.ty()?;
+    /// `OP T LEFT RIGHT`, an operator whose result has the type T or a comparison of two values of
+    /// the type T, `both LEFT RIGHT` or `either LEFT RIGHT`.
+    fn of_two(&mut self, two: Two, ty: IntType) -> Result<Expr, RowFault> {
         let left = self.part()?;
         let right = self.part()?;
-        Ok(Expr::Cmp {
-            op,
-            ty,
-            left,
-            right,
+        Ok(match two {
+            Two::Bin(op) => Expr::Bin {
+                op,
+                ty,
+                left,
+                right,
+            },
+            Two::Cmp(op) => Expr::Cmp {
+                op,
+                ty,
+                left,
+                right,
+            },
+            Two::Both => Expr::And { left, right },
+            Two::Either => Expr::Or { left, right },
         })
     }
 
-    /// A conversion to the type T: `cast T ARG`.
-    fn cast(&mut self) -> Result<Expr, RowFault> {
-        let ty = self.ty()?;
-        let arg = self.part()?;
-        Ok(Expr::Cast { ty, arg })
-    }
-
-    /// `both LEFT RIGHT`, which stands for `&&`.
-    fn both(&mut self) -> Result<Expr, RowFault> {
-        let left = self.part()?;
-        let right = self.part()?;
-        Ok(Expr::And { left, right })
-    }
-
-    /// `either LEFT RIGHT`, which stands for `||`.
-    fn either(&mut self) -> Result<Expr, RowFault> {
-        let left = self.part()?;
-        let right = self.part()?;
-        Ok(Expr::Or { left, right })
-    }
-
-    /// `not ARG`, which stands for `!`.
-    fn negation(&mut self) -> Result<Expr, RowFault> {
-        let arg = self.part()?;
-        Ok(Expr::Not { arg })
-    }
-
-    /// One of two values of the type T: `cond T TEST YES NO`, which stands for `?:`.
-    fn conditional(&mut self) -> Result<Expr, RowFault> {
-        let ty = self.ty()?;
+    /// One of two values of the type T: `cond T TEST YES NO`.
+    fn conditional(&mut self, ty: IntType) -> Result<Expr, RowFault> {
         let test = self.part()?;
         let yes = self.part()?;
         let no = self.part()?;
@@ -229,12 +216,10 @@ impl<'a> Pending<'a> {
     }
 
     /// The one expression that is left.
-    fn last(mut self) -> Result<Expr, RowFault> {
-        let expr = self.part()?;
-        if self.parts.is_empty() && self.words.is_empty() {
-            Ok(expr.into_inner())
-        } else {
-            Err(RowFault::Unreadable)
+    fn last(&mut self) -> Result<Expr, RowFault> {
+        if self.parts.len() != 1 || !self.words.is_empty() {
+            return Err(RowFault::Unreadable);
         }
+        Ok(self.part()?.into_inner())
     }
 }

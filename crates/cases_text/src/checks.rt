@@ -1,12 +1,12 @@
-//! What a check of a row's text says, as a line: what `check` of `c_types` answers.
+//! What a check of a text says, as a line: what `check` of `c_types` answers.
 //! Proved safe by the checker alone.
 ghost use Rattle.std.specs.Prelude.{◌≤◌, length};
 ghost use Rattle.c_lexer.specs.declared.lexer.TheConstants.{MAX_TEXT};
 
-use c_core_checked::TypedText;
-use c_lexer::{MAX_TEXT, TextError};
-use cases_reader::{bytes_of, fault_line};
+use crate::texts::{Asked, answer};
+use c_lexer::TextError;
 use cpa_expr::type_word;
+use cpa_ints::Seq;
 use cpa_model::Cell;
 use std::alloc::{AllocError, Global};
 
@@ -20,68 +20,56 @@ const HEAD: &str = "\
     unsigned int fu(void){return 0;}long fl(void){return 0;}\
     unsigned long fm(void){return 0;}void v(void){}";
 
-/// What a text is to a check.
-#[derive(Drop)]
-enum Checked {
-    Sound(TypedText),
-    Refused(String),
-}
-
-/// A written text, checked; or why it is not.
-fn check_row(alloc: Global, row: &str) -> Result<Checked, AllocError> {
-    let Some(text) = bytes_of(alloc, row)? else {
-        return refused(alloc, "no text");
-    };
-    if text.len() > MAX_TEXT {
-        return refused(alloc, "longer than a text may be");
-    }
-    match typed(alloc, &text) {
-        Ok(found) => Ok(Checked::Sound(found)),
-        Err(TextError::Fault(fault)) => Ok(Checked::Refused(fault_line(alloc, &text, fault)?)),
-        Err(TextError::OutOfMemory) => Err(AllocError),
-    }
-}
-
-/// What is said of a row that is no text.
-fn refused(alloc: Global, why: &str) -> Result<Checked, AllocError> {
-    Ok(Checked::Refused(String::from_str(alloc, why)?))
-}
-
-/// The typed text of a text, or its first fault.
-fn typed(alloc: Global, text: &[u8]) -> Result<TypedText, TextError>
+/// The cells of a text's core.
+fn cells_of(alloc: Global, text: &[u8]) -> Result<Seq<Cell>, TextError>
     requires { length text.now ≤ MAX_TEXT }
 {
     let tokens = c_lexer::tokens(alloc, text)?;
     let unit = c_parser::parse(alloc, text, &tokens)?;
-    c_types::check(alloc, &unit)
-}
-
-/// The word "sound", or the rule that is broken first and the place.
-pub(crate) fn soundness(alloc: Global, row: &str) -> Result<String, AllocError> {
-    match check_row(alloc, row)? {
-        Checked::Sound(_) => String::from_str(alloc, "sound"),
-        Checked::Refused(line) => Ok(line),
+    match c_types::check(alloc, &unit) {
+        Ok(typed) => Ok(typed.cells),
+        Err(error) => Err(error),
     }
 }
 
-/// What a check says of a statement behind the objects and functions of `HEAD`.
-fn check_statement(alloc: Global, statement: &str) -> Result<Checked, AllocError> {
-    let text = format!(in alloc; "{HEAD}int main(void){{{statement};}}")?;
-    check_row(alloc, text.as_str())
+/// The word "sound".
+pub(crate) fn soundness(alloc: Global, text: &[u8]) -> Result<String, TextError>
+    requires { length text.now ≤ MAX_TEXT }
+{
+    cells_of(alloc, text)?;
+    Ok(String::from_str(alloc, "sound")?)
 }
 
-/// The type of an expression behind the objects and functions of `HEAD`: that of the cell that
-/// keeps its value while the right operand of a `==` is written. One that has no value is void.
-pub(crate) fn expression_type(alloc: Global, row: &str) -> Result<String, AllocError> {
-    if let Checked::Refused(line) = check_statement(alloc, row)? {
-        return Ok(line);
-    }
-    let compared = format!(in alloc; "return ({row})==(i=1)")?;
-    let word = match check_statement(alloc, compared.as_str())? {
-        Checked::Sound(typed) => typed.cells.as_slice().last().map_or("none", kept_type),
-        Checked::Refused(_) => "void",
+/// The cells of a text.
+pub(crate) fn cells(alloc: Global, text: &[u8]) -> Result<String, TextError>
+    requires { length text.now ≤ MAX_TEXT }
+{
+    let cells = cells_of(alloc, text)?;
+    Ok(cell_list(alloc, cells.as_slice())?)
+}
+
+/// The first cell of a text.
+pub(crate) fn first_start(alloc: Global, text: &[u8]) -> Result<String, TextError>
+    requires { length text.now ≤ MAX_TEXT }
+{
+    let first = cells_of(alloc, text)?.as_slice().first().copied();
+    let line = match first {
+        Some(cell) => cell_words(alloc, cell),
+        None => String::from_str(alloc, "none"),
     };
-    String::from_str(alloc, word)
+    Ok(line?)
+}
+
+/// The type of the last cell of a text, or "void" where the text breaks a rule.
+pub(crate) fn last_type(alloc: Global, text: &[u8]) -> Result<String, TextError>
+    requires { length text.now ≤ MAX_TEXT }
+{
+    let word = match cells_of(alloc, text) {
+        Ok(cells) => cells.as_slice().last().map_or("none", kept_type),
+        Err(TextError::Fault(_)) => "void",
+        Err(TextError::OutOfMemory) => return Err(TextError::OutOfMemory),
+    };
+    Ok(String::from_str(alloc, word)?)
 }
 
 /// The word of a cell's type.
@@ -89,41 +77,56 @@ fn kept_type(cell: &Cell) -> &'static str {
     type_word(cell.ty)
 }
 
-/// The first cell of a text that begins with a declaration: its type, and what it starts at.
-pub(crate) fn first_start(alloc: Global, row: &str) -> Result<String, AllocError> {
-    let text = format!(in alloc; "{row}int main(void){{}}")?;
-    match check_row(alloc, text.as_str())? {
-        Checked::Sound(typed) => match typed.cells.as_slice().first() {
-            Some(cell) => cell_words(alloc, *cell),
-            None => String::from_str(alloc, "none"),
-        },
-        Checked::Refused(line) => Ok(line),
+/// What is asked of a text that ends in a `main` with this statement, behind the objects and
+/// functions of `HEAD`.
+fn behind_head(alloc: Global, statement: &str, asked: Asked) -> Result<String, AllocError> {
+    let text = format!(in alloc; "{HEAD}int main(void){{{statement};}}")?;
+    answer(alloc, text.as_str(), asked)
+}
+
+/// The type of an expression behind the objects and functions of `HEAD`: that of the cell that
+/// keeps its value while the right operand of a `==` is written. One that has no value is void.
+pub(crate) fn expression_type(alloc: Global, row: &str) -> Result<String, AllocError> {
+    let line = behind_head(alloc, row, Asked::Soundness)?;
+    if line.as_str() == "sound" {
+        compared_type(alloc, row)
+    } else {
+        Ok(line)
     }
+}
+
+/// The type of the cell that keeps the value of a left operand.
+fn compared_type(alloc: Global, row: &str) -> Result<String, AllocError> {
+    let compared = format!(in alloc; "return ({row})==(i=1)")?;
+    behind_head(alloc, compared.as_str(), Asked::Kept)
+}
+
+/// The first cell of a text that begins with a declaration: its type, and what it starts at.
+pub(crate) fn declared_start(alloc: Global, row: &str) -> Result<String, AllocError> {
+    let text = format!(in alloc; "{row}int main(void){{}}")?;
+    answer(alloc, text.as_str(), Asked::Start)
 }
 
 /// A cell's type, and what it starts at.
 fn cell_words(alloc: Global, cell: Cell) -> Result<String, AllocError> {
     let word = type_word(cell.ty);
-    let start = cell.start;
-    format!(in alloc; "{word} {start}")
-}
-
-/// The cells of the core of a text.
-pub(crate) fn cells(alloc: Global, row: &str) -> Result<String, AllocError> {
-    match check_row(alloc, row)? {
-        Checked::Sound(typed) => cell_list(alloc, typed.cells.as_slice()),
-        Checked::Refused(line) => Ok(line),
-    }
+    format!(in alloc; "{word} {}", cell.start)
 }
 
 /// These cells in a line.
 fn cell_list(alloc: Global, cells: &[Cell]) -> Result<String, AllocError> {
     let mut line = String::new(alloc);
     for cell in cells {
-        if !line.is_empty() {
-            line.push_str(", ")?;
-        }
-        line.push_str(cell_words(alloc, *cell)?.as_str())?;
+        push_cell(&mut line, *cell)?;
     }
     Ok(line)
+}
+
+/// Adds a cell behind those that are there.
+fn push_cell(line: &mut String, cell: Cell) -> Result<(), AllocError> {
+    if !line.is_empty() {
+        line.push_str(", ")?;
+    }
+    let word = type_word(cell.ty);
+    write!(line, "{word} {}", cell.start)
 }

@@ -5,20 +5,13 @@ use cases_reader::bytes_of;
 use cpa_config::{Config, ConfigError};
 use cpa_iface::{MergeRule, Order, Pick};
 use std::alloc::{AllocError, Global};
-use std::fmt;
 
-/// A pick by its place among the handed analyses, with its rule.
-#[derive(Clone, Copy)]
-struct Shown(Pick);
-
-impl fmt::Display for Shown {
-    fn fmt<W: fmt::Write>(&self, f: &mut fmt::Formatter<W>) -> fmt::Result {
-        let rule = match self.0.rule {
-            MergeRule::Sep => "sep",
-            MergeRule::Join => "join",
-            MergeRule::Widen => "widen",
-        };
-        write!(f, "{} {rule}", self.0.place)
+/// The word of a rule.
+fn rule_word(rule: MergeRule) -> &'static str {
+    match rule {
+        MergeRule::Sep => "sep",
+        MergeRule::Join => "join",
+        MergeRule::Widen => "widen",
     }
 }
 
@@ -30,27 +23,35 @@ fn order_word(order: Order) -> &'static str {
     }
 }
 
-/// The picks of a configuration in a line.
-fn picks_line(alloc: Global, picks: &[Pick]) -> Result<String, AllocError> {
+/// A configuration in a line.
+fn line_of(alloc: Global, config: &Config) -> Result<String, AllocError> {
     let mut line = String::new(alloc);
-    for pick in picks {
-        line.push_str(format!(in alloc; "{}, ", Shown(*pick))?.as_str())?;
-    }
+    push_picks(&mut line, config.picks.as_slice())?;
+    push_numbers(&mut line, config)?;
     Ok(line)
 }
 
-/// A configuration in a line.
-fn line_of(alloc: Global, config: &Config) -> Result<String, AllocError> {
-    let mut line = picks_line(alloc, config.picks.as_slice())?;
+/// Adds picks, each by its place among the handed analyses, with its rule.
+fn push_picks(line: &mut String, picks: &[Pick]) -> Result<(), AllocError> {
+    for pick in picks {
+        let rule = rule_word(pick.rule);
+        write!(line, "{} {rule}, ", pick.place)?;
+    }
+    Ok(())
+}
+
+/// Adds what stands behind the picks.
+fn push_numbers(line: &mut String, config: &Config) -> Result<(), AllocError> {
+    let order = order_word(config.order);
     let settings = config.settings;
     let tracked = if settings.tracked_all { "all" } else { "none" };
-    let order = order_word(config.order);
-    line.push_str(format!(in alloc; "{order}, turns {}, ", config.turns)?.as_str())?;
-    line.push_str(format!(in alloc; "rounds {}, tracked {tracked}, ", config.rounds)?.as_str())?;
-    line.push_str(format!(in alloc; "limit {}, ", settings.limit)?.as_str())?;
-    line.push_str(format!(in alloc; "learnt {}, ", settings.learnt)?.as_str())?;
-    line.push_str(format!(in alloc; "gates {}", settings.gates)?.as_str())?;
-    Ok(line)
+    write!(
+        line,
+        "{order}, turns {}, rounds {}, ",
+        config.turns, config.rounds
+    )?;
+    write!(line, "tracked {tracked}, limit {}, ", settings.limit)?;
+    write!(line, "learnt {}, gates {}", settings.learnt, settings.gates)
 }
 
 /// The names of a row, one blank between two of them.
@@ -89,13 +90,31 @@ fn configuration(
     comment: usize,
     row: &str,
 ) -> Result<String, AllocError> {
-    let names = names_of(alloc, names)?;
-    let Some(written) = bytes_of(alloc, row)? else {
-        return String::from_str(alloc, "no text");
-    };
+    match text_of(alloc, comment, row)? {
+        Some(text) => read_for(alloc, names, &text),
+        None => String::from_str(alloc, "no text"),
+    }
+}
+
+/// The bytes of a comment and of a written text behind it, if it is one.
+fn text_of(alloc: Global, comment: usize, row: &str) -> Result<Option<Vec<u8>>, AllocError> {
+    match bytes_of(alloc, row)? {
+        Some(written) => Ok(Some(behind_comment(alloc, comment, &written)?)),
+        None => Ok(None),
+    }
+}
+
+/// A comment of so many bytes, and these bytes.
+fn behind_comment(alloc: Global, comment: usize, written: &[u8]) -> Result<Vec<u8>, AllocError> {
     let mut text = vec![in alloc; b'#'; comment]?;
-    text.extend_from_slice(&written)?;
-    match cpa_config::read(alloc, &text, &names) {
+    text.extend_from_slice(written)?;
+    Ok(text)
+}
+
+/// The configuration of a text for these names, or its refusal.
+fn read_for(alloc: Global, names: &str, text: &[u8]) -> Result<String, AllocError> {
+    let names = names_of(alloc, names)?;
+    match cpa_config::read(alloc, text, &names) {
         Ok(config) => line_of(alloc, &config),
         Err(ConfigError::Fault(fault)) => format!(in alloc; "{fault}"),
         Err(ConfigError::OutOfMemory) => Err(AllocError),

@@ -8,32 +8,35 @@ mod configs;
 mod places;
 mod programs;
 mod reports;
+mod texts;
 mod tokens;
 mod trees;
 mod words;
 
-use programs::Spelled;
 use std::alloc::{AllocError, Global};
 use std::io;
 use std::io::{BufRead, BufReader};
+use texts::asked_of;
 
 /// The answer to a row: a word for what is asked, and the text that it is asked of. A word alone
 /// asks it of the empty text.
 fn answer(alloc: Global, row: &str) -> Result<String, AllocError> {
-    match row.split_once(' ').unwrap_or((row, "")) {
-        ("tokens", text) => tokens::answer(alloc, text),
-        ("tree", text) => trees::answer(alloc, text),
-        ("check", text) => checks::soundness(alloc, text),
-        ("type", expression) => checks::expression_type(alloc, expression),
-        ("start", declaration) => checks::first_start(alloc, declaration),
-        ("cells", text) => checks::cells(alloc, text),
-        ("core", text) => programs::program(alloc, text, Spelled::Statements),
-        ("edges", text) => programs::program(alloc, text, Spelled::Edges),
-        ("places", text) => places::answer(alloc, text),
-        ("words", words) => commands::answer(alloc, words),
-        ("config", rest) => configs::answer(alloc, rest),
-        ("comment", rest) => configs::answer_behind_comment(alloc, rest),
-        ("report", rest) => reports::answer(alloc, rest),
+    let (word, text) = row.split_once(' ').unwrap_or((row, ""));
+    match asked_of(word) {
+        Some(asked) => texts::answer(alloc, text, asked),
+        None => answer_of_part(alloc, word, text),
+    }
+}
+
+/// The answer to a row on a part of a C text, or on another text than C.
+fn answer_of_part(alloc: Global, word: &str, text: &str) -> Result<String, AllocError> {
+    match word {
+        "type" => checks::expression_type(alloc, text),
+        "start" => checks::declared_start(alloc, text),
+        "words" => commands::answer(alloc, text),
+        "config" => configs::answer(alloc, text),
+        "comment" => configs::answer_behind_comment(alloc, text),
+        "report" => reports::answer(alloc, text),
         _ => String::from_str(alloc, "no row"),
     }
 }

@@ -4,7 +4,7 @@
 use cases_reader::{RowFault, bytes_of, next_index, next_word, type_of_word};
 use cpa_ints::Seq;
 use cpa_model::{Act, Cell, Cfa, Edge};
-use cpa_report::{ReportError, ReportRule, Verdict};
+use cpa_report::{Report, ReportError, ReportRule, Verdict, print, read};
 use std::alloc::{AllocError, Global};
 use std::str::SplitWhitespace;
 
@@ -49,9 +49,10 @@ fn cells_of(alloc: Global, words: &mut SplitWhitespace<'_>) -> Result<Seq<Cell>,
 /// What a row gives of a program: its points, edges, length in bytes and the types of its cells.
 fn automaton(alloc: Global, words: &mut SplitWhitespace<'_>) -> Result<Cfa, RowFault> {
     let points = next_index(words)?;
-    let edges = edges_of(alloc, next_index(words)?)?;
+    let count = next_index(words)?;
     let text_len = next_index(words)?;
     let cells = cells_of(alloc, words)?;
+    let edges = edges_of(alloc, count)?;
     Ok(Cfa {
         cells,
         points,
@@ -76,19 +77,24 @@ fn rule_word(rule: ReportRule) -> &'static str {
 
 /// What is read of the text.
 fn found(alloc: Global, text: &[u8], cfa: &Cfa, take: Verdict) -> Result<&'static str, AllocError> {
-    match cpa_report::read(alloc, text, cfa, take) {
-        Ok(report) => {
-            let back = cpa_report::print(alloc, &report)?;
-            let word = if back.as_slice() == text {
-                "read"
-            } else {
-                "another text"
-            };
-            Ok(word)
-        }
+    match read(alloc, text, cfa, take) {
+        Ok(report) => printed(alloc, text, &report),
         Err(ReportError::Fault(rule)) => Ok(rule_word(rule)),
         Err(ReportError::OutOfMemory) => Err(AllocError),
     }
+}
+
+/// Whether the report is printed as the text.
+fn printed(alloc: Global, text: &[u8], report: &Report) -> Result<&'static str, AllocError> {
+    let back = print(alloc, report)?;
+    let is_same = back.as_slice() == text;
+    Ok(if is_same { "read" } else { "another text" })
+}
+
+/// What is read of a written text.
+fn found_in(alloc: Global, row: &str, cfa: &Cfa, take: Verdict) -> Result<&'static str, RowFault> {
+    let text = bytes_of(alloc, row)?.ok_or(RowFault::Unreadable)?;
+    Ok(found(alloc, text.as_slice(), cfa, take)?)
 }
 
 /// The answer to a row that can be read.
@@ -96,10 +102,7 @@ fn answered(alloc: Global, front: &str, row: &str) -> Result<&'static str, RowFa
     let mut words = front.split_whitespace();
     let take = verdict_of_word(next_word(&mut words)?)?;
     let cfa = automaton(alloc, &mut words)?;
-    let Some(text) = bytes_of(alloc, row)? else {
-        return Err(RowFault::Unreadable);
-    };
-    Ok(found(alloc, text.as_slice(), &cfa, take)?)
+    found_in(alloc, row, &cfa, take)
 }
 
 /// The answer to a row: the verdict that is wanted and what the program has, and behind ` |` the text.

@@ -1,53 +1,45 @@
 //! The tokens of a text, or its first fault, as a line: what `tokens` of `c_lexer` answers.
 //! Proved safe by the checker alone.
+ghost use Rattle.std.specs.Prelude.{◌≤◌, length};
+ghost use Rattle.c_lexer.specs.declared.lexer.TheConstants.{MAX_TEXT};
 
-use c_lexer::{MAX_TEXT, TextError, Token, TokenKind};
-use cases_reader::{bytes_of, fault_line};
+use c_lexer::{TextError, Token, TokenKind, tokens};
 use std::alloc::{AllocError, Global};
-use std::fmt;
 
-/// A token with its kind, type and value, and its first and last place.
-#[derive(Clone, Copy)]
-struct Listed(Token);
-
-impl fmt::Display for Listed {
-    fn fmt<W: fmt::Write>(&self, f: &mut fmt::Formatter<W>) -> fmt::Result {
-        let token = self.0;
-        match token.kind {
-            TokenKind::Word => write!(f, "word")?,
-            TokenKind::Number { ty, value } => write!(f, "number {ty:?} {value}")?,
-            TokenKind::Character { value } => write!(f, "character {value}")?,
-            TokenKind::Text => write!(f, "text")?,
-            TokenKind::Mark => write!(f, "mark")?,
-            TokenKind::End => write!(f, "end")?,
-        }
-        write!(f, " {}-{}", token.from, token.to)
-    }
+/// The tokens of a text in a line.
+pub(crate) fn line(alloc: Global, text: &[u8]) -> Result<String, TextError>
+    requires { length text.now ≤ MAX_TEXT }
+{
+    let tokens = tokens(alloc, text)?;
+    Ok(line_of(alloc, &tokens)?)
 }
 
-/// The tokens in a line.
+/// These tokens in a line.
 fn line_of(alloc: Global, tokens: &[Token]) -> Result<String, AllocError> {
     let mut line = String::new(alloc);
     for token in tokens {
-        if !line.is_empty() {
-            line.push_str(", ")?;
-        }
-        line.push_str(format!(in alloc; "{}", Listed(*token))?.as_str())?;
+        push_token(&mut line, *token)?;
     }
     Ok(line)
 }
 
-/// The tokens of a written text, or the rule that it breaks and the place.
-pub(crate) fn answer(alloc: Global, row: &str) -> Result<String, AllocError> {
-    let Some(text) = bytes_of(alloc, row)? else {
-        return String::from_str(alloc, "no text");
-    };
-    if text.len() > MAX_TEXT {
-        return String::from_str(alloc, "longer than a text may be");
+/// Adds a token with its kind, type and value, and its first and last place.
+fn push_token(line: &mut String, token: Token) -> Result<(), AllocError> {
+    if !line.is_empty() {
+        line.push_str(", ")?;
     }
-    match c_lexer::tokens(alloc, &text) {
-        Ok(tokens) => line_of(alloc, &tokens),
-        Err(TextError::Fault(fault)) => fault_line(alloc, &text, fault),
-        Err(TextError::OutOfMemory) => Err(AllocError),
+    push_kind(line, token.kind)?;
+    write!(line, " {}-{}", token.from, token.to)
+}
+
+/// Adds what a token is.
+fn push_kind(line: &mut String, kind: TokenKind) -> Result<(), AllocError> {
+    match kind {
+        TokenKind::Word => line.push_str("word"),
+        TokenKind::Number { ty, value } => write!(line, "number {ty:?} {value}"),
+        TokenKind::Character { value } => write!(line, "character {value}"),
+        TokenKind::Text => line.push_str("text"),
+        TokenKind::Mark => line.push_str("mark"),
+        TokenKind::End => line.push_str("end"),
     }
 }

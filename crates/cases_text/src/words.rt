@@ -7,66 +7,67 @@ use std::alloc::{AllocError, Global};
 
 /// A program in a line.
 pub(crate) fn program_line(alloc: Global, program: &Program) -> Result<String, AllocError> {
-    let length = program.text_len;
-    let mut line = format!(in alloc; "text {length}")?;
+    let mut line = String::new(alloc);
+    push_program(&mut line, program)?;
+    Ok(line)
+}
+
+/// Adds a program.
+fn push_program(line: &mut String, program: &Program) -> Result<(), AllocError> {
+    write!(line, "text {}", program.text_len)?;
     for cell in &program.cells {
-        line.push_str(cell_words(alloc, *cell)?.as_str())?;
+        push_cell(line, *cell)?;
     }
     for body in &program.bodies {
-        line.push_str(format!(in alloc; "; body {body}")?.as_str())?;
+        write!(line, "; body {body}")?;
     }
-    let main = program.main;
-    line.push_str(format!(in alloc; "; main {main}")?.as_str())?;
+    write!(line, "; main {}", program.main)?;
     for statement in &program.stmts {
         line.push_str("; ")?;
-        push_statement(alloc, &mut line, statement)?;
+        push_statement(line, statement)?;
     }
-    Ok(line)
+    Ok(())
 }
 
 /// An automaton in a line: its points, where it starts, its error points, its edges.
 pub(crate) fn automaton_line(alloc: Global, cfa: &Cfa) -> Result<String, AllocError> {
-    let points = cfa.points;
-    let start = cfa.start;
-    let mut line = format!(in alloc; "points {points}; start {start}; errors ")?;
-    push_list(&mut line, cfa.errors.as_slice())?;
-    for edge in &cfa.edges {
-        line.push_str("; ")?;
-        edge.spell(&mut line)?;
-    }
+    let mut line = String::new(alloc);
+    push_automaton(&mut line, cfa)?;
     Ok(line)
 }
 
-/// A cell: its type, and what it starts at.
-fn cell_words(alloc: Global, cell: Cell) -> Result<String, AllocError> {
+/// Adds an automaton.
+fn push_automaton(line: &mut String, cfa: &Cfa) -> Result<(), AllocError> {
+    write!(line, "points {}; start {}; errors ", cfa.points, cfa.start)?;
+    push_list(line, cfa.errors.as_slice())?;
+    for edge in &cfa.edges {
+        line.push_str("; ")?;
+        edge.spell(line)?;
+    }
+    Ok(())
+}
+
+/// Adds a cell: its type, and what it starts at.
+fn push_cell(line: &mut String, cell: Cell) -> Result<(), AllocError> {
     let word = type_word(cell.ty);
-    let start = cell.start;
-    format!(in alloc; "; cell {word} start {start}")
+    write!(line, "; cell {word} start {}", cell.start)
 }
 
 /// Adds a statement.
-fn push_statement(alloc: Global, line: &mut String, statement: &Stmt) -> Result<(), AllocError> {
+fn push_statement(line: &mut String, statement: &Stmt) -> Result<(), AllocError> {
     match statement {
-        Stmt::Block { items } => push_block(alloc, line, items.as_slice()),
-        Stmt::If { test, yes, no } => {
-            line.push_str(format!(in alloc; "If yes {yes} no {no} test (")?.as_str())?;
-            push_expr(line, test)?;
-            line.push_str(")")
-        }
-        Stmt::Loop { body, step } => {
-            line.push_str(format!(in alloc; "Loop body {body} step {step}")?.as_str())
-        }
+        Stmt::Block { items } => push_block(line, items.as_slice()),
+        Stmt::If { test, yes, no } => push_if(line, test, *yes, *no),
+        Stmt::Loop { body, step } => write!(line, "Loop body {body} step {step}"),
         Stmt::Assign {
             base,
             len,
             index,
             value,
-        } => push_assign(alloc, line, *base, *len, index, value),
-        Stmt::Input { cell } => line.push_str(format!(in alloc; "Input {cell}")?.as_str()),
-        Stmt::Call { function } => {
-            line.push_str(format!(in alloc; "Call function {function}")?.as_str())
-        }
-        Stmt::Goto { to } => line.push_str(format!(in alloc; "Goto {to}")?.as_str()),
+        } => push_assign(line, *base, *len, index, value),
+        Stmt::Input { cell } => write!(line, "Input {cell}"),
+        Stmt::Call { function } => write!(line, "Call function {function}"),
+        Stmt::Goto { to } => write!(line, "Goto {to}"),
         Stmt::Break => line.push_str("Break"),
         Stmt::Continue => line.push_str("Continue"),
         Stmt::Leave => line.push_str("Leave"),
@@ -76,24 +77,30 @@ fn push_statement(alloc: Global, line: &mut String, statement: &Stmt) -> Result<
 }
 
 /// Adds a block.
-fn push_block(alloc: Global, line: &mut String, items: &[u32]) -> Result<(), AllocError> {
+fn push_block(line: &mut String, items: &[u32]) -> Result<(), AllocError> {
     line.push_str("Block")?;
     for item in items {
-        line.push_str(format!(in alloc; " {item}")?.as_str())?;
+        write!(line, " {item}")?;
     }
     Ok(())
 }
 
+/// Adds a choice between two statements.
+fn push_if(line: &mut String, test: &Expr, yes: u32, no: u32) -> Result<(), AllocError> {
+    write!(line, "If yes {yes} no {no} test (")?;
+    push_expr(line, test)?;
+    line.push_str(")")
+}
+
 /// Adds an assignment.
 fn push_assign(
-    alloc: Global,
     line: &mut String,
     base: u32,
     len: u32,
     index: &Expr,
     value: &Expr,
 ) -> Result<(), AllocError> {
-    line.push_str(format!(in alloc; "Assign {base} {len} (")?.as_str())?;
+    write!(line, "Assign {base} {len} (")?;
     push_expr(line, index)?;
     line.push_str(") := (")?;
     push_expr(line, value)?;

@@ -1,0 +1,76 @@
+//! What a row asks of a C text: its bytes, the line that is asked for, or the fault of the text. It
+//! owes safety alone, proved by the checker alone.
+ghost use Rattle.std.specs.Prelude.{◌≤◌, length};
+ghost use Rattle.c_lexer.specs.declared.lexer.TheConstants.{MAX_TEXT};
+
+use crate::{checks, places, programs, tokens, trees};
+use c_lexer::{MAX_TEXT, TextError};
+use cases_reader::{bytes_of, fault_line};
+use std::alloc::{AllocError, Global};
+
+/// What is asked of a text.
+#[derive(Clone, Copy)]
+pub(crate) enum Asked {
+    Tokens,
+    Tree,
+    Soundness,
+    /// The type of the last cell.
+    Kept,
+    /// The first cell.
+    Start,
+    Cells,
+    Statements,
+    Edges,
+    Places,
+}
+
+/// What a row's word asks of its text, where it is one of these.
+pub(crate) fn asked_of(word: &str) -> Option<Asked> {
+    match word {
+        "tokens" => Some(Asked::Tokens),
+        "tree" => Some(Asked::Tree),
+        "check" => Some(Asked::Soundness),
+        "cells" => Some(Asked::Cells),
+        "core" => Some(Asked::Statements),
+        "edges" => Some(Asked::Edges),
+        "places" => Some(Asked::Places),
+        _ => None,
+    }
+}
+
+/// What is asked of a written text, in a line; or why it is not answered.
+pub(crate) fn answer(alloc: Global, row: &str, asked: Asked) -> Result<String, AllocError> {
+    match bytes_of(alloc, row)? {
+        Some(text) => bounded(alloc, &text, asked),
+        None => String::from_str(alloc, "no text"),
+    }
+}
+
+/// The answer to a text of any length.
+fn bounded(alloc: Global, text: &[u8], asked: Asked) -> Result<String, AllocError> {
+    if text.len() > MAX_TEXT {
+        return String::from_str(alloc, "longer than a text may be");
+    }
+    match line_of(alloc, text, asked) {
+        Ok(line) => Ok(line),
+        Err(TextError::Fault(fault)) => fault_line(alloc, text, fault),
+        Err(TextError::OutOfMemory) => Err(AllocError),
+    }
+}
+
+/// The line of a text that is short enough. Its fault is handed on.
+fn line_of(alloc: Global, text: &[u8], asked: Asked) -> Result<String, TextError>
+    requires { length text.now ≤ MAX_TEXT }
+{
+    match asked {
+        Asked::Tokens => tokens::line(alloc, text),
+        Asked::Tree => trees::line(alloc, text),
+        Asked::Soundness => checks::soundness(alloc, text),
+        Asked::Kept => checks::last_type(alloc, text),
+        Asked::Start => checks::first_start(alloc, text),
+        Asked::Cells => checks::cells(alloc, text),
+        Asked::Statements => programs::statements(alloc, text),
+        Asked::Edges => programs::edges(alloc, text),
+        Asked::Places => places::line(alloc, text),
+    }
+}
