@@ -2,6 +2,7 @@
 //! `proofs/TakenWords.antt` has that words which clap takes ask for a job.
 ghost use Rattle.std.specs.Prelude.{◌≡◌, [], ◌⊎◌, IfOk, IfErr, Some, None, map, true, option_map};
 ghost use Rattle.std.specs.Prelude.{codes};
+ghost use Rattle.std.specs.Option.{option_map_or};
 ghost use Rattle.std.specs.String.{string_bytes};
 ghost use Rattle.clap.specs.Words.{takes, fault_of, first_of, found_of, rows_of, kind_of};
 ghost use Rattle.clap.specs.Words.{subcommand_of, subcommand_rows_of};
@@ -112,6 +113,15 @@ fn job_of<'a>(name: &str, matches: &ArgMatches<'a>) -> Option<Job<'a>>
     }
 }
 
+/// The job of the subcommand that clap found.
+fn job_found<'a>(matches: &ArgMatches<'a>) -> Option<Job<'a>>
+    ensures { option_map meant result
+        ≡ option_map_or (λ p. job_of p.0 p.1) (subcommand_rows_of matches.now) None }
+{
+    let (name, of_it) = matches.subcommand()?;
+    job_of(name, of_it)
+}
+
 /// The job of the words, where clap takes them and names a subcommand that has one.
 fn job_in<'a>(alloc: Global, words: &'a [String]) -> Result<Job<'a>, WordsError>
     ensures job { IfOk result (λ job. asked_by (map string_bytes words.entry.now)
@@ -123,13 +133,7 @@ fn job_in<'a>(alloc: Global, words: &'a [String]) -> Result<Job<'a>, WordsError>
         ⊎ (asked_by (map string_bytes words.entry.now) ≡ None)) }
 {
     let matches = matches_of(alloc, words)?;
-    match matches.subcommand() {
-        Some((name, of_it)) => match job_of(name, of_it) {
-            Some(job) => Ok(job),
-            None => Err(WordsError::Refused),
-        },
-        None => Err(WordsError::Refused),
-    }
+    job_found(&matches).ok_or(WordsError::Refused)
 }
 
 /// What the words ask for. They come without the program's own name.

@@ -14,11 +14,14 @@ third_false true false true d e = sym e
 plain : App → Bool
 plain a = a.top.is_plain
 
-pub returns : goal.returns
+pub returns-in-Ok-part : goal.returns-in-Ok-part
 unfolding plain
-returns c =
-    IfOk-weaker c.subcommand.result _ _ (λ r adds app is_plain made.
-    let is : app_of c.in_ok-part.field-0 ≡ app =
-    subst (λ p. IfOk p (λ added. app_of added ≡ app)) c.in_ok-part.was made in
-    adds.shape (third_false _ _ _ _ (ap plain is ∙ is_plain))
-    ∙ ap (λ (a : App). with_subcommand (app_of c.args.whole) a.top) is) c.subcommand.ensures
+returns-in-Ok-part c app added is_plain made given =
+    let is : app_of c.in-Ok.command ≡ app =
+    subst (λ p. IfOk p (λ command. app_of command ≡ app)) c.in-Ok.is made in
+    let is_added : app_of c.in-Ok-part.added ≡ added =
+    subst (λ p. IfOk p (λ command. app_of command ≡ added)) c.in-Ok-part.is given in
+    IfOk-weaker c.subcommand.result _ _ (λ r adds.
+    adds.shape (third_false _ _ _ _ (ap plain is_added ∙ is_plain))
+    ∙ ap (λ (a : App). with_subcommand a (app_of c.in-Ok-part.added).top) is
+    ∙ ap (λ (a : App). with_subcommand app a.top) is_added) c.subcommand.ensures
