@@ -1,7 +1,7 @@
 use Rattle.std.proofs.Common.{refl}
-use Rattle.cpa_top_words.specs.Commands.{bench_command, recheck_command, replay_command}
-use Rattle.cpa_top_words.specs.Commands.{verify_command}
-use Rattle.cpa_top_words.proofs.command.whole_command.Goals as goal
+use Rattle.cpa_top_words_command.specs.Commands.{bench_command, recheck_command, replay_command}
+use Rattle.cpa_top_words_command.specs.Commands.{verify_command}
+use Rattle.cpa_top_words_command.proofs.command.whole_command.Goals as goal
 
 pub returns : goal.returns
 returns c =

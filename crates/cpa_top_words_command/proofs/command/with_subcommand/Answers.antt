@@ -2,7 +2,7 @@ use Rattle.std.proofs.Common.{ap, sym, subst, refl, ◌∙◌, ◌≡◌, IfOk, 
 use Rattle.std.specs.Prelude.{◌&&◌, not}
 use Rattle.std.proofs.lemmas.Result.{IfOk-weaker}
 use Rattle.clap.specs.Words.{App, app_of, with_subcommand}
-use Rattle.cpa_top_words.proofs.command.with_subcommand.Goals as goal
+use Rattle.cpa_top_words_command.proofs.command.with_subcommand.Goals as goal
 
 -- a plain command has no global argument
 third_false : (a b c d : Bool) → (a && (not b && (not c && d))) ≡ true → c ≡ false
