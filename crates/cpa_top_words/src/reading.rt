@@ -1,6 +1,6 @@
 //! The job of a list of words, over what clap promises (`Asks` of `specs/Jobs.antt`).
 //! `proofs/TakenWords.antt` has that words which clap takes ask for a job.
-ghost use Rattle.std.specs.Prelude.{◌≡◌, [], ◌⊎◌, IfOk, IfErr, Some, None, map, true, option_map};
+ghost use Rattle.std.specs.Prelude.{◌≡◌, [], ◌⊎◌, IfOk, IfErr, Some, None, map, option_map};
 ghost use Rattle.std.specs.Prelude.{codes};
 ghost use Rattle.std.specs.Option.{option_map_or};
 ghost use Rattle.std.specs.String.{string_bytes};

@@ -4,7 +4,8 @@ ghost use Rattle.std.specs.Prelude.{◌≡◌, IfOk, true};
 ghost use Rattle.clap.specs.Words.{App, app_of, with_rule, with_subcommand};
 ghost use Rattle.cpa_top_words_command.specs.Commands.{bench_command, cpaverify, recheck_command};
 ghost use Rattle.cpa_top_words_command.specs.Commands.{replay_command, top_command, verify_command};
-ghost use Rattle.cpa_top_words_command.specs.Commands.{config_rule, on_program, steps_rule, word_rule};
+ghost use Rattle.cpa_top_words_command.specs.Commands.{config_rule, on_program, steps_rule};
+ghost use Rattle.cpa_top_words_command.specs.Commands.{word_rule};
 
 use clap::{Arg, Command, value_parser};
 use std::alloc::{AllocError, Global};
