@@ -12,7 +12,7 @@ use Rattle.clap.specs.Words.{Row, Text, one_of, subcommand_of}
 use Rattle.clap.specs.ValueTests.{accepts}
 use Rattle.clap.specs.declared.builder.value_parser.ValueParser.TheVariants as vp
 use Rattle.clap.proofs.ValueTestLemmas.{accepts-Accepts, Accepts-accepts}
-use Rattle.cpa_top_words.specs.Commands.{cpaverify}
+use Rattle.cpa_top_words_command.specs.Commands.{cpaverify}
 use Rattle.cpa_top_words.specs.Jobs.{verify, replay, recheck, bench, asked_by, count_in}
 use Rattle.cpa_top_words.specs.Jobs.{job_of}
 use Rattle.cpa_top_words.specs.Laws.{IsPlain}

@@ -10,7 +10,7 @@ use Rattle.clap.specs.Lexer.{long_of, short_of}
 use Rattle.clap.specs.ValueTests.{accepts}
 use Rattle.clap.specs.declared.builder.value_parser.ValueParser.TheVariants as vp
 use Rattle.clap.proofs.OnLiterals.{clap_on_literals}
-use Rattle.cpa_top_words.specs.Commands.{cpaverify}
+use Rattle.cpa_top_words_command.specs.Commands.{cpaverify}
 use Rattle.cpa_top_words.specs.Jobs.{asked_by, count_in, verify, replay, recheck, bench}
 use Rattle.cpa_top_words.specs.Laws.{AskAsIsCustomary, IsPlain}
 use Rattle.cpa_top_words.proofs.Benches.{numeral_is_plain, small_is_taken, small_is_counted}

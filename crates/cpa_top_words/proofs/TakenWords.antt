@@ -10,7 +10,7 @@ use Rattle.clap.specs.Takes.{is_given}
 use Rattle.clap.specs.Words.{Row, Shape, Text, fault_of, subcommand_of, built}
 use Rattle.clap.specs.Simple.{argument_words, entered, names_of, rows_at}
 use Rattle.clap.specs.Walk.{finished, nothing_held, settled, stop_after, walk, walk_from}
-use Rattle.cpa_top_words.specs.Commands.{cpaverify}
+use Rattle.cpa_top_words_command.specs.Commands.{cpaverify}
 use Rattle.cpa_top_words.specs.Jobs.{Job, asked_by, job_of}
 use Rattle.cpa_top_words.specs.Laws.{AskForAJobWhereTaken}
 

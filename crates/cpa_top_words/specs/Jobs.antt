@@ -8,7 +8,7 @@ use Rattle.std.specs.Str.Parse.{digits_value, without_leading_plus}
 use Rattle.clap.specs.Words.{Row, fault_of, first_of, one_of, subcommand_of}
 use Rattle.clap.specs.ValueTests.{accepts}
 use Rattle.clap.specs.declared.builder.value_parser.ValueParser.TheVariants as vp
-use Rattle.cpa_top_words.specs.Commands.{cpaverify}
+use Rattle.cpa_top_words_command.specs.Commands.{cpaverify}
 use Rattle.cpa_top_words.specs.declared.job.Job.{Job as Held}
 use Rattle.cpa_top_words.specs.declared.job.Job.TheVariants as held
 use Rattle.cpa_top_words.specs.declared.job.TheConstants.{STEPS}

@@ -2,7 +2,7 @@
 use Rattle.std.specs.Prelude.{◌≡◌, ℕ, ◌≤◌, List, [], ◌∷◌, Some, None, codes, decimal}
 use Rattle.clap.specs.Words.{fault_of}
 use Rattle.clap.specs.Lexer.{strip_byte}
-use Rattle.cpa_top_words.specs.Commands.{cpaverify}
+use Rattle.cpa_top_words_command.specs.Commands.{cpaverify}
 use Rattle.cpa_top_words.specs.Jobs.{Asks, Job, verify, replay, recheck, bench}
 use Rattle.cpa_top_words.specs.declared.job.TheConstants.{MAX_BENCH}
 

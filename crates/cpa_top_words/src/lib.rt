@@ -2,7 +2,6 @@
 //! `specs/Jobs.antt`.
 #![tactic(auto)]
 
-mod command;
 mod job;
 mod laws;
 mod reading;

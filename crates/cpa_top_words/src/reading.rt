@@ -1,20 +1,21 @@
 //! The job of a list of words, over what clap promises (`Asks` of `specs/Jobs.antt`).
 //! `proofs/TakenWords.antt` has that words which clap takes ask for a job.
-ghost use Rattle.std.specs.Prelude.{◌≡◌, [], ◌⊎◌, IfOk, IfErr, Some, None, map, true, option_map};
+ghost use Rattle.std.specs.Prelude.{◌≡◌, [], ◌⊎◌, IfOk, IfErr, Some, None, map, option_map};
 ghost use Rattle.std.specs.Prelude.{codes};
+ghost use Rattle.std.specs.Option.{option_map_or};
 ghost use Rattle.std.specs.String.{string_bytes};
-ghost use Rattle.clap.specs.Words.{takes, fault_of, first_of, found_of, rows_of, kind_of};
-ghost use Rattle.clap.specs.Words.{subcommand_of, subcommand_rows_of};
+ghost use Rattle.clap.specs.Words.{fault_of, first_of, found_of, rows_of, kind_of};
+ghost use Rattle.clap.specs.Words.{subcommand_rows_of};
 ghost use Rattle.clap.specs.declared.error.ErrorKind.TheVariants.{OutOfMemory};
-ghost use Rattle.cpa_top_words.specs.Commands.{cpaverify};
+ghost use Rattle.cpa_top_words_command.specs.Commands.{cpaverify};
 ghost use Rattle.cpa_top_words.specs.Jobs.{Asks, IsNoJob, asked_by, job_of, meant, name_of};
 ghost use Rattle.cpa_top_words.specs.Jobs.{count_of, steps_of};
 ghost use Rattle.cpa_top_words.specs.declared.job.WordsError.TheVariants.{Refused};
 
-use crate::command::whole_command;
 use crate::{Job, MAX_BENCH, STEPS, WordsError};
 use clap::error::ErrorKind;
 use clap::{ArgMatches, Error};
+use cpa_top_words_command::matches_of;
 use std::alloc::Global;
 
 /// What an error of clap is: of the words, or of memory.
@@ -24,26 +25,6 @@ fn fault_of(error: &Error) -> WordsError
     match error.kind() {
         ErrorKind::OutOfMemory => WordsError::OutOfMemory,
         _ => WordsError::Refused,
-    }
-}
-
-/// What clap finds in the words.
-fn matches_of<'a>(alloc: Global, words: &'a [String]) -> Result<ArgMatches<'a>, WordsError>
-    ensures found { IfOk result (λ matches. subcommand_rows_of matches
-        ≡ subcommand_of cpaverify (map string_bytes words.entry.now)) }
-    ensures taken { IfOk result (λ matches. fault_of cpaverify (map string_bytes words.entry.now)
-        ≡ []) }
-    ensures refused { IfErr result (λ error. error ≡ Refused
-        → takes cpaverify (map string_bytes words.entry.now) ≡ true → ⊥) }
-    ensures fault { IfErr result (λ error. error ≡ Refused
-        → fault_of cpaverify (map string_bytes words.entry.now) ≡ [] → ⊥) }
-{
-    let Ok(command) = whole_command(alloc) else {
-        return Err(WordsError::OutOfMemory);
-    };
-    match command.try_get_matches_from(words) {
-        Ok(matches) => Ok(matches),
-        Err(error) => Err(fault_of(&error)),
     }
 }
 
@@ -112,6 +93,15 @@ fn job_of<'a>(name: &str, matches: &ArgMatches<'a>) -> Option<Job<'a>>
     }
 }
 
+/// The job of the subcommand that clap found.
+fn job_found<'a>(matches: &ArgMatches<'a>) -> Option<Job<'a>>
+    ensures { option_map meant result
+        ≡ option_map_or (λ p. job_of p.0 p.1) (subcommand_rows_of matches.now) None }
+{
+    let (name, of_it) = matches.subcommand()?;
+    job_of(name, of_it)
+}
+
 /// The job of the words, where clap takes them and names a subcommand that has one.
 fn job_in<'a>(alloc: Global, words: &'a [String]) -> Result<Job<'a>, WordsError>
     ensures job { IfOk result (λ job. asked_by (map string_bytes words.entry.now)
@@ -122,13 +112,9 @@ fn job_in<'a>(alloc: Global, words: &'a [String]) -> Result<Job<'a>, WordsError>
         → (fault_of cpaverify (map string_bytes words.entry.now) ≡ [] → ⊥)
         ⊎ (asked_by (map string_bytes words.entry.now) ≡ None)) }
 {
-    let matches = matches_of(alloc, words)?;
-    match matches.subcommand() {
-        Some((name, of_it)) => match job_of(name, of_it) {
-            Some(job) => Ok(job),
-            None => Err(WordsError::Refused),
-        },
-        None => Err(WordsError::Refused),
+    match matches_of(alloc, words) {
+        Ok(matches) => job_found(&matches).ok_or(WordsError::Refused),
+        Err(error) => Err(fault_of(&error)),
     }
 }
 

@@ -1,21 +1,13 @@
 -- The command by which the words are read (this project's own), as the data that clap's promises
 -- speak of.
 use Rattle.std.specs.Prelude.{Some, codes, true}
-use Rattle.clap.specs.Words.{App, Rule, new_app, new_rule, with_rule, with_subcommand}
+use Rattle.clap.specs.Words.{App, Rule, Text, new_app, new_rule, with_rule, with_subcommand}
 use Rattle.clap.specs.Simple.{on_top}
 use Rattle.clap.specs.declared.builder.value_parser.ValueParser.TheVariants as vp
 
--- PROGRAM, a word that must be there
-abbrev pub program_rule : Rule
-program_rule = record (new_rule (codes "PROGRAM")) { required = true }
-
--- INPUTS, a word that must be there
-abbrev pub inputs_rule : Rule
-inputs_rule = record (new_rule (codes "INPUTS")) { required = true }
-
--- REPORT, a word that must be there
-abbrev pub report_rule : Rule
-report_rule = record (new_rule (codes "REPORT")) { required = true }
+-- a word that must be there
+abbrev pub word_rule : Text → Rule
+word_rule name = record (new_rule name) { required = true }
 
 -- --config FILE
 abbrev pub config_rule : Rule
@@ -35,20 +27,23 @@ count_rule = record (new_rule (codes "N")) {
   parser = Some (vp.Unsigned 0 100);
 }
 
+-- NAME PROGRAM
+abbrev pub on_program : Text → App
+on_program name = with_rule (new_app name) (word_rule (codes "PROGRAM"))
+
 -- verify PROGRAM [--config FILE]
 abbrev pub verify_command : App
-verify_command = with_rule (with_rule (new_app (codes "verify")) program_rule) config_rule
+verify_command = with_rule (on_program (codes "verify")) config_rule
 
 -- replay PROGRAM INPUTS [--steps N]
 abbrev pub replay_command : App
 replay_command =
-    with_rule (with_rule (with_rule (new_app (codes "replay")) program_rule) inputs_rule) steps_rule
+    with_rule (with_rule (on_program (codes "replay")) (word_rule (codes "INPUTS"))) steps_rule
 
 -- recheck PROGRAM REPORT [--config FILE]
 abbrev pub recheck_command : App
 recheck_command =
-    with_rule (with_rule (with_rule (new_app (codes "recheck")) program_rule) report_rule)
-    config_rule
+    with_rule (with_rule (on_program (codes "recheck")) (word_rule (codes "REPORT"))) config_rule
 
 -- bench N
 abbrev pub bench_command : App
