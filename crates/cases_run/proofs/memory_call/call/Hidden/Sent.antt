@@ -5,7 +5,7 @@ use denote.Param.{layout}
 use denote.Param.Send.{arg_send}
 use denote.Param.Sent.{Sends}
 use mir.Raw.{raw}
-use Rattle.cases_run.proofs.answer.OwnLists.{part-1-4}
+use Rattle.cases_run.proofs.memory_call.call.OwnLists.{part-1-4}
 use Rattle.cpa_interpolant_craig.specs.Sending.{craig_sent}
 use Rattle.cpa_interpolant_craig.specs.contracts.craig.Craig
 

@@ -1,4 +1,4 @@
--- An analysis for tests (this project's own): it knows nothing, and is exact on nothing.
+-- An analysis for rows (this project's own): it knows nothing, and is exact on nothing.
 use Rattle.std.specs.Prelude.{[], ◌∷◌, codes}
 use Rattle.cpa_model.specs.declared.facts.Elem.{Elem}
 use Rattle.cpa_iface.specs.declared.analysis.Part.TheVariants as part
