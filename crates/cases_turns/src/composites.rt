@@ -17,5 +17,5 @@ pub use blind::Blind;
 pub use counter::Counter;
 pub use eager::Eager;
 pub use guess::Guess;
-pub use rows::push_answer;
+pub use rows::push_asked;
 pub use setting::Setting;

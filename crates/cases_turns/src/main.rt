@@ -10,45 +10,53 @@ mod rows;
 
 use analyses::Boxes;
 use cpa_callstack::Callstack;
+use cpa_composite::Handed;
 use cpa_iface::{Location, Plain};
 use cpa_interval::Interval;
-use cpa_reached::Reached;
 use cpa_value::Value;
-use predicates::Session;
-use rows::{Rows, Subject};
+use rows::Rows;
+use std::alloc::Global;
 use std::io::{self, BufRead, BufReader, BufWriter, Write};
 
-/// What the rows set lives from the first row to the last. The reached set begins with one entry
-/// that has no elements.
+/// What the rows set lives from the first row to the last.
 fn main(rt: HostRuntime) -> io::Result<()> {
     let alloc = rt.alloc();
-    let boxes = Boxes {
-        location: Box::new(alloc, Plain(Location))?,
-        callstack: Box::new(alloc, Plain(Callstack))?,
-        value: Box::new(alloc, Value::new())?,
-        interval: Box::new(alloc, Interval::new())?,
+    let mut boxes = Boxes {
+        location: Handed {
+            analysis: Box::new(alloc, Plain(Location))?,
+        },
+        callstack: Handed {
+            analysis: Box::new(alloc, Plain(Callstack))?,
+        },
+        value: Handed {
+            analysis: Box::new(alloc, Value::new())?,
+        },
+        interval: Handed {
+            analysis: Box::new(alloc, Interval::new())?,
+        },
     };
-    let session = Box::new(alloc, Session::new(alloc)?)?;
-    let reached = Reached::new(alloc, Vec::new(alloc), Vec::new(alloc))?;
-    let mut rows = Rows {
-        subject: Subject::Analyses,
-        boxes,
-        analyses: analyses::Setting::new(alloc),
-        session,
-        reached,
-        composites: composites::Setting::new(alloc),
-    };
-    answer_all(&rt, &mut rows)
+    let mut rows = Rows::new(alloc)?;
+    answer_all(&rt, &mut boxes, &mut rows)
 }
 
 /// Answers row by row.
-fn answer_all(rt: &HostRuntime, rows: &mut Rows) -> io::Result<()> {
+fn answer_all(rt: &HostRuntime, boxes: &mut Boxes, rows: &mut Rows) -> io::Result<()> {
     let alloc = rt.alloc();
     let mut out = BufWriter::new(alloc, io::writer(rt))?;
     for line in BufReader::new(alloc, rt.reader())?.lines(alloc) {
-        let line = line?;
-        let printed = rows.answered(alloc, line.as_str())?;
-        writeln!(out, "{printed}")?;
+        print_row(alloc, &mut out, boxes, rows, line?.as_str())?;
     }
     out.flush()
+}
+
+/// Prints a row with its answer.
+fn print_row<W: Write>(
+    alloc: Global,
+    out: &mut W,
+    boxes: &mut Boxes,
+    rows: &mut Rows,
+    line: &str,
+) -> io::Result<()> {
+    let printed = rows.answered(alloc, boxes, line)?;
+    writeln!(out, "{printed}")
 }

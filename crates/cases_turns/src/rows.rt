@@ -27,42 +27,62 @@ pub enum Subject {
 /// What the rows so far have set, for each subject.
 #[derive(Drop)]
 pub struct Rows {
-    pub subject: Subject,
-    pub boxes: Boxes,
-    pub analyses: analyses::Setting,
-    pub session: Box<Session>,
-    pub reached: Reached,
-    pub composites: composites::Setting,
+    subject: Subject,
+    analyses: analyses::Setting,
+    session: Box<Session>,
+    reached: Reached,
+    composites: composites::Setting,
 }
 
 impl Rows {
-    /// A row with its answer. An empty line, a remark and a row that sets something stay as they are.
-    pub fn answered(&mut self, alloc: Global, line: &str) -> Result<String, AllocError> {
-        let mut out = String::from_str(alloc, line)?;
-        if line.is_empty() || line.starts_with("#") {
-            return Ok(out);
-        }
-        match self.push_answer(alloc, line, &mut out) {
-            Ok(()) => Ok(out),
-            Err(RowFault::Unreadable) => {
-                out.push_str(" = unreadable")?;
-                Ok(out)
-            }
-            Err(RowFault::OutOfMemory) => Err(AllocError),
-        }
+    /// Nothing is set. The reached set begins with one entry that has no elements.
+    pub fn new(alloc: Global) -> Result<Rows, AllocError> {
+        let session = Box::new(alloc, Session::new(alloc)?)?;
+        let reached = Reached::new(alloc, Vec::new(alloc), Vec::new(alloc))?;
+        Ok(Rows {
+            subject: Subject::Analyses,
+            analyses: analyses::Setting::new(alloc),
+            session,
+            reached,
+            composites: composites::Setting::new(alloc),
+        })
     }
 
-    /// Adds the answer, or nothing where the row sets something. `rows SUBJECT` says whose calls the
-    /// next rows name.
-    fn push_answer(&mut self, alloc: Global, line: &str, out: &mut String) -> Result<(), RowFault> {
+    /// A row with its answer. An empty line, a remark and a row that sets something stay as they are.
+    pub fn answered(
+        &mut self,
+        alloc: Global,
+        boxes: &mut Boxes,
+        line: &str,
+    ) -> Result<String, AllocError> {
+        let mut answer = String::new(alloc);
+        let answered = self.push_answer(alloc, boxes, line, &mut answer);
+        let text = match answered {
+            Ok(()) => answer.as_str(),
+            Err(RowFault::Unreadable) => " = unreadable",
+            Err(RowFault::OutOfMemory) => return Err(AllocError),
+        };
+        format!(in alloc; "{line}{text}")
+    }
+
+    /// Adds the answer, or nothing where the row asks nothing. `rows SUBJECT` says whose calls the
+    /// next rows name. What a row that is not answered has added is dropped by the caller.
+    fn push_answer(
+        &mut self,
+        alloc: Global,
+        boxes: &mut Boxes,
+        line: &str,
+        out: &mut String,
+    ) -> Result<(), RowFault> {
+        if line.is_empty() || line.starts_with("#") {
+            return Ok(());
+        }
         if let Some(word) = line.strip_prefix("rows ") {
             self.subject = subject_of(word)?;
             return Ok(());
         }
         match self.subject {
-            Subject::Analyses => {
-                analyses::push_answer(alloc, &mut self.boxes, &mut self.analyses, line, out)
-            }
+            Subject::Analyses => analyses::push_answer(alloc, boxes, &mut self.analyses, line, out),
             Subject::Predicates => predicates::push_answer(alloc, &mut *self.session, line, out),
             Subject::ReachedSet => reached::push_answer(alloc, &mut self.reached, line, out),
             Subject::Composites => push_composites(alloc, &mut self.composites, line, out),
@@ -81,11 +101,25 @@ fn subject_of(word: &str) -> Result<Subject, RowFault> {
     }
 }
 
-/// Adds the answer of a row that calls a composite. Its analyses are new for each row, so that no row
-/// depends on what another one asked.
+/// Adds the answer of a row that calls a composite, or nothing where the row sets something.
 fn push_composites(
     alloc: Global,
     setting: &mut composites::Setting,
+    line: &str,
+    out: &mut String,
+) -> Result<(), RowFault> {
+    if setting.set(alloc, line)? {
+        return Ok(());
+    }
+    out.push_str(" = ")?;
+    push_asked(alloc, setting, line, out)
+}
+
+/// Adds the answer of a composite. Its analyses are new for each row, so that no row depends on what
+/// another one asked.
+fn push_asked(
+    alloc: Global,
+    setting: &composites::Setting,
     line: &str,
     out: &mut String,
 ) -> Result<(), RowFault> {
@@ -115,5 +149,5 @@ fn push_composites(
     handed.push_reserved(Handed {
         analysis: Box::new(alloc, Eager)?,
     });
-    composites::push_answer(alloc, handed, setting, line, out)
+    composites::push_asked(alloc, handed, setting, line, out)
 }

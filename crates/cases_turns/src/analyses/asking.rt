@@ -9,51 +9,40 @@ ghost use Rattle.cpa_iface.specs.Meanings.{HasPlace, IsPrecision};
 use crate::analyses::questions::{Call, Question};
 use cases_programs::{are_elems, are_precisions, is_path};
 use cases_reader::{RowFault, yes_or_no};
+use cpa_composite::Handed;
 use cpa_iface::{Analysis, Entry, MergeRule, Part, Precision, Settings, copy_precision};
 use cpa_model::{Cfa, Elem, Path, Seq, Spell, copy_elem, is_elem, push_list};
 use std::alloc::Global;
 
-/// What the analysis answers to both ways of calling it.
-#[derive(Drop)]
-struct Answers {
-    /// Through the bound of a type parameter.
-    plain: String,
-    /// Through a box.
-    boxed: String,
-}
-
-/// What the analysis answers, behind a space, and what it answers through the box, where that is
-/// something else.
-pub fn answer<A: Analysis>(
+/// Adds what the analysis answers behind ` = `, and what it answers through the box, where that is
+/// something else. Nothing stands in front of it.
+pub fn push_both<A: Analysis>(
     alloc: Global,
+    out: &mut String,
     plain: &mut A,
-    boxed: &mut Box<dyn Analysis + Send>,
+    boxed: &mut Handed,
     cfa: &Cfa,
     precision: &Precision,
     question: &Question,
-) -> Result<String, RowFault>
+) -> Result<(), RowFault>
     requires automaton { IsAutomaton cfa.now }
     requires precision { IsPrecision cfa.now precision.now }
 {
-    let mut out = Answers {
-        plain: String::from_str(alloc, " ")?,
-        boxed: String::from_str(alloc, " ")?,
-    };
-    push_answers(alloc, &mut out, plain, boxed, cfa, precision, question)?;
-    let Answers { plain, boxed } = out;
-    if plain.as_str() == boxed.as_str() {
-        Ok(plain)
-    } else {
-        Ok(format!(in alloc; "{plain}, through the box{boxed}")?)
+    out.push_str(" = ")?;
+    push_called(alloc, out, plain, cfa, precision, question)?;
+    let mut through = String::from_str(alloc, " = ")?;
+    push_called(alloc, &mut through, boxed, cfa, precision, question)?;
+    if out.as_str() != through.as_str() {
+        write!(out, ", through the box{through}")?;
     }
+    Ok(())
 }
 
-/// Adds the answers of the call to both ways of calling it.
-fn push_answers<A: Analysis>(
+/// Adds the answer to a call.
+pub fn push_called<A: Analysis>(
     alloc: Global,
-    out: &mut Answers,
-    plain: &mut A,
-    boxed: &mut Box<dyn Analysis + Send>,
+    out: &mut String,
+    analysis: &mut A,
     cfa: &Cfa,
     precision: &Precision,
     question: &Question,
@@ -62,36 +51,25 @@ fn push_answers<A: Analysis>(
     requires precision { IsPrecision cfa.now precision.now }
 {
     let elems = question.elems.as_slice();
-    match &question.call {
-        Call::Means => push_meanings(out, plain, boxed),
-        Call::Initial => push_initial(alloc, out, plain, boxed, cfa),
-        Call::First { settings } => push_first(alloc, out, plain, boxed, cfa, settings),
+    match question.call {
+        Call::Means => push_meaning(out, analysis),
+        Call::Initial => push_initial(alloc, out, analysis, cfa),
+        Call::First { settings } => push_first(alloc, out, analysis, cfa, &settings),
         Call::Transfer { edge } => {
-            push_transfer(alloc, out, plain, boxed, cfa, precision, *edge, elems)
+            push_transfer(alloc, out, analysis, cfa, precision, edge, elems)
         }
-        Call::Strengthen => push_strengthen(alloc, out, plain, boxed, cfa, precision, elems),
-        Call::Merge { rule } => {
-            push_merge(alloc, out, plain, boxed, cfa, precision, *rule, elems)
-        }
-        Call::Covered => push_covered(out, plain, boxed, elems),
-        Call::Adjust => push_adjust(alloc, out, plain, boxed, cfa, precision, elems),
-        Call::Refine { path } => push_refine(alloc, out, plain, boxed, cfa, precision, path),
+        Call::Strengthen => push_strengthen(alloc, out, analysis, cfa, precision, elems),
+        Call::Merge { rule } => push_merge(alloc, out, analysis, cfa, precision, rule, elems),
+        Call::Covered => push_covered(out, analysis, elems),
+        Call::Adjust => push_adjust(alloc, out, analysis, cfa, precision, elems),
+        Call::Refine => push_refine(alloc, out, analysis, cfa, precision, &question.path),
     }
 }
 
-/// `means`: what the calls `name` and `exact_on` answer.
-fn push_meanings<A: Analysis>(
-    out: &mut Answers,
-    plain: &mut A,
-    boxed: &mut Box<dyn Analysis + Send>,
-) -> Result<(), RowFault> {
-    push_meaning(&mut out.plain, plain.name(), plain.exact_on())?;
-    push_meaning(&mut out.boxed, boxed.name(), boxed.exact_on())
-}
-
-/// `NAME, exact on PART`.
-fn push_meaning(out: &mut String, name: &str, part: Part) -> Result<(), RowFault> {
-    let part = match part {
+/// `means`: `NAME, exact on PART`.
+fn push_meaning<A: Analysis>(out: &mut String, analysis: &A) -> Result<(), RowFault> {
+    let name = analysis.name();
+    let part = match analysis.exact_on() {
         Part::Nothing => "nothing",
         Part::Point => "the point",
         Part::Stack => "the stack",
@@ -104,45 +82,34 @@ fn push_meaning(out: &mut String, name: &str, part: Part) -> Result<(), RowFault
 /// `initial`: the element of the initial states.
 fn push_initial<A: Analysis>(
     alloc: Global,
-    out: &mut Answers,
-    plain: &mut A,
-    boxed: &mut Box<dyn Analysis + Send>,
+    out: &mut String,
+    analysis: &mut A,
     cfa: &Cfa,
 ) -> Result<(), RowFault>
     requires { IsAutomaton cfa.now }
 {
-    plain.initial(alloc, cfa)?.spell(&mut out.plain)?;
-    boxed.initial(alloc, cfa)?.spell(&mut out.boxed)?;
+    analysis.initial(alloc, cfa)?.spell(out)?;
     Ok(())
 }
 
 /// `first`: the first precision under the settings.
 fn push_first<A: Analysis>(
     alloc: Global,
-    out: &mut Answers,
-    plain: &mut A,
-    boxed: &mut Box<dyn Analysis + Send>,
+    out: &mut String,
+    analysis: &mut A,
     cfa: &Cfa,
     settings: &Settings,
 ) -> Result<(), RowFault>
     requires { IsAutomaton cfa.now }
 {
-    push_precision(
-        &mut out.plain,
-        &plain.first_precision(alloc, cfa, settings)?,
-    )?;
-    push_precision(
-        &mut out.boxed,
-        &boxed.first_precision(alloc, cfa, settings)?,
-    )
+    push_precision(out, &analysis.first_precision(alloc, cfa, settings)?)
 }
 
 /// `transfer`: the successors of the one element by the edge, which is to be there.
 fn push_transfer<A: Analysis>(
     alloc: Global,
-    out: &mut Answers,
-    plain: &mut A,
-    boxed: &mut Box<dyn Analysis + Send>,
+    out: &mut String,
+    analysis: &mut A,
     cfa: &Cfa,
     precision: &Precision,
     edge: u32,
@@ -156,10 +123,8 @@ fn push_transfer<A: Analysis>(
             if cfa.edges.len() <= edge as usize || !is_elem(elem, cfa) {
                 return Err(RowFault::Unreadable);
             }
-            let next = plain.transfer(alloc, cfa, edge, elem, precision)?;
-            push_list(&mut out.plain, next.as_slice())?;
-            let next = boxed.transfer(alloc, cfa, edge, elem, precision)?;
-            push_list(&mut out.boxed, next.as_slice())?;
+            let next = analysis.transfer(alloc, cfa, edge, elem, precision)?;
+            push_list(out, next.as_slice())?;
             Ok(())
         }
         _ => Err(RowFault::Unreadable),
@@ -169,9 +134,8 @@ fn push_transfer<A: Analysis>(
 /// `strengthen`: the first element with what the others tell.
 fn push_strengthen<A: Analysis>(
     alloc: Global,
-    out: &mut Answers,
-    plain: &mut A,
-    boxed: &mut Box<dyn Analysis + Send>,
+    out: &mut String,
+    analysis: &mut A,
     cfa: &Cfa,
     precision: &Precision,
     elems: &[Elem],
@@ -184,10 +148,10 @@ fn push_strengthen<A: Analysis>(
             if !is_elem(own, cfa) || !are_elems(others, cfa) {
                 return Err(RowFault::Unreadable);
             }
-            let stronger = plain.strengthen(alloc, cfa, own, others, precision)?;
-            push_perhaps(&mut out.plain, &stronger)?;
-            let stronger = boxed.strengthen(alloc, cfa, own, others, precision)?;
-            push_perhaps(&mut out.boxed, &stronger)
+            push_perhaps(
+                out,
+                &analysis.strengthen(alloc, cfa, own, others, precision)?,
+            )
         }
         [] => Err(RowFault::Unreadable),
     }
@@ -205,9 +169,8 @@ fn push_perhaps(out: &mut String, elem: &Option<Elem>) -> Result<(), RowFault> {
 /// `merge`: the two elements, the new one before the old one, as one.
 fn push_merge<A: Analysis>(
     alloc: Global,
-    out: &mut Answers,
-    plain: &mut A,
-    boxed: &mut Box<dyn Analysis + Send>,
+    out: &mut String,
+    analysis: &mut A,
     cfa: &Cfa,
     precision: &Precision,
     rule: MergeRule,
@@ -221,12 +184,9 @@ fn push_merge<A: Analysis>(
             if !is_elem(new, cfa) || !is_elem(old, cfa) {
                 return Err(RowFault::Unreadable);
             }
-            plain
+            analysis
                 .merge(alloc, cfa, rule, new, old, precision)?
-                .spell(&mut out.plain)?;
-            boxed
-                .merge(alloc, cfa, rule, new, old, precision)?
-                .spell(&mut out.boxed)?;
+                .spell(out)?;
             Ok(())
         }
         _ => Err(RowFault::Unreadable),
@@ -235,19 +195,12 @@ fn push_merge<A: Analysis>(
 
 /// `covered`: whether the other element covers the first one. Any two elements may be asked.
 fn push_covered<A: Analysis>(
-    out: &mut Answers,
-    plain: &mut A,
-    boxed: &mut Box<dyn Analysis + Send>,
+    out: &mut String,
+    analysis: &A,
     elems: &[Elem],
 ) -> Result<(), RowFault> {
     match elems {
-        [elem, other] => {
-            out.plain
-                .push_str(yes_or_no(plain.covered_by(elem, other)))?;
-            out.boxed
-                .push_str(yes_or_no(boxed.covered_by(elem, other)))?;
-            Ok(())
-        }
+        [elem, other] => Ok(out.push_str(yes_or_no(analysis.covered_by(elem, other)))?),
         _ => Err(RowFault::Unreadable),
     }
 }
@@ -255,9 +208,8 @@ fn push_covered<A: Analysis>(
 /// `adjust`: the first element and its precision, where the others are reached.
 fn push_adjust<A: Analysis>(
     alloc: Global,
-    out: &mut Answers,
-    plain: &mut A,
-    boxed: &mut Box<dyn Analysis + Send>,
+    out: &mut String,
+    analysis: &mut A,
     cfa: &Cfa,
     precision: &Precision,
     elems: &[Elem],
@@ -268,21 +220,40 @@ fn push_adjust<A: Analysis>(
     match elems {
         [elem, others @ ..] => {
             let reached = entries(alloc, precision, others)?;
-            if !is_elem(elem, cfa) || !have_place(reached.as_slice(), cfa) {
-                return Err(RowFault::Unreadable);
-            }
-            let reached = reached.as_slice();
-            push_adjusted(
-                &mut out.plain,
-                &plain.adjust(alloc, cfa, elem, precision, reached, 0)?,
-            )?;
-            push_adjusted(
-                &mut out.boxed,
-                &boxed.adjust(alloc, cfa, elem, precision, reached, 0)?,
+            push_among(
+                alloc,
+                out,
+                analysis,
+                cfa,
+                precision,
+                elem,
+                reached.as_slice(),
             )
         }
         [] => Err(RowFault::Unreadable),
     }
+}
+
+/// The element and its precision after `adjust`, where these entries are reached.
+fn push_among<A: Analysis>(
+    alloc: Global,
+    out: &mut String,
+    analysis: &mut A,
+    cfa: &Cfa,
+    precision: &Precision,
+    elem: &Elem,
+    reached: &[Entry],
+) -> Result<(), RowFault>
+    requires automaton { IsAutomaton cfa.now }
+    requires precision { IsPrecision cfa.now precision.now }
+{
+    if !is_elem(elem, cfa) || !have_place(reached, cfa) {
+        return Err(RowFault::Unreadable);
+    }
+    push_adjusted(
+        out,
+        &analysis.adjust(alloc, cfa, elem, precision, reached, 0)?,
+    )
 }
 
 /// `ELEMENT, PRECISION`.
@@ -295,9 +266,8 @@ fn push_adjusted(out: &mut String, after: &(Elem, Precision)) -> Result<(), RowF
 /// `refine`: the precision after a path that has no run.
 fn push_refine<A: Analysis>(
     alloc: Global,
-    out: &mut Answers,
-    plain: &mut A,
-    boxed: &mut Box<dyn Analysis + Send>,
+    out: &mut String,
+    analysis: &mut A,
     cfa: &Cfa,
     precision: &Precision,
     path: &Path,
@@ -308,8 +278,7 @@ fn push_refine<A: Analysis>(
     if !is_path(path, cfa) {
         return Err(RowFault::Unreadable);
     }
-    push_precision(&mut out.plain, &plain.refine(alloc, cfa, path, precision)?)?;
-    push_precision(&mut out.boxed, &boxed.refine(alloc, cfa, path, precision)?)
+    push_precision(out, &analysis.refine(alloc, cfa, path, precision)?)
 }
 
 /// `limit LIMIT, tracked [CELL,..], predicates [PREDICATE,..]`.

@@ -1,29 +1,20 @@
-//! A call of an analysis, as a row names it: the analysis, the call, its words, and behind colons
-//! the elements that it takes.
+//! A call of an analysis, as a row names it: the call, its words, and behind colons the elements
+//! that it takes. Words are read before what owns memory.
 
 use cases_programs::{elems_of, next_settings, rest_indices, rule_of_word};
 use cases_reader::{RowFault, end_row, next_index, next_word};
 use cpa_iface::{MergeRule, Settings};
-use cpa_model::{Elem, Path};
+use cpa_model::{Elem, Path, Seq};
 use std::alloc::Global;
-use std::str::SplitWhitespace;
+use std::str::{Split, SplitWhitespace};
 
-/// Which analysis is called.
+/// Which call it is, with what it takes beside elements and a path.
 #[derive(Clone, Copy)]
-pub enum Called {
-    Location,
-    Callstack,
-    Value,
-    Interval,
-}
-
-/// Which call it is, with what it takes beside elements.
-#[derive(Drop)]
 pub enum Call {
     /// `means`: the name, and the part on which the analysis is exact.
     Means,
     Initial,
-    /// `first all LIMIT` or `first none LIMIT`
+    /// `first all LIMIT` or `first none LIMIT`; `first` alone where the settings are given
     First { settings: Settings },
     /// `transfer EDGE : ELEMENT`
     Transfer { edge: u32 },
@@ -36,52 +27,59 @@ pub enum Call {
     /// `adjust : ELEMENT : REACHED : ..`
     Adjust,
     /// `refine EDGE ..`
-    Refine { path: Path },
+    Refine,
 }
 
-/// A call with its elements.
+/// A call with its path, which is empty where it takes none, and its elements.
 #[derive(Drop)]
 pub struct Question {
-    pub called: Called,
     pub call: Call,
+    pub path: Path,
     pub elems: Vec<Elem>,
 }
 
-/// The call that a row names.
-pub fn question_of(alloc: Global, line: &str) -> Result<Question, RowFault> {
-    let mut parts = line.split(':');
-    let mut words = parts.next().unwrap_or("").split_whitespace();
-    let called = called_of(next_word(&mut words)?)?;
-    let call = call_of(alloc, &mut words)?;
-    end_row(&mut words)?;
-    let elems = elems_of(alloc, &mut parts)?;
-    Ok(Question {
-        called,
-        call,
-        elems,
+/// The call that the words and parts which are left name. Where settings are given, `first` takes
+/// these.
+pub fn question_of(
+    alloc: Global,
+    words: &mut SplitWhitespace<'_>,
+    parts: &mut Split<'_, char>,
+    given: Option<Settings>,
+) -> Result<Question, RowFault> {
+    let call = call_of(words, given)?;
+    let takes_path = match call {
+        Call::Refine => true,
+        _ => false,
+    };
+    let path = path_of(alloc, words, takes_path)?;
+    let elems = elems_of(alloc, parts)?;
+    Ok(Question { call, path, elems })
+}
+
+/// The path of the edges that are left, or none where no word is to be left.
+pub fn path_of(
+    alloc: Global,
+    words: &mut SplitWhitespace<'_>,
+    is_taken: bool,
+) -> Result<Path, RowFault> {
+    if is_taken {
+        let edges = rest_indices(alloc, words)?;
+        return Ok(Path { edges });
+    }
+    end_row(words)?;
+    Ok(Path {
+        edges: Seq::new(alloc),
     })
 }
 
-/// The analysis that a word names, as the analysis itself does.
-fn called_of(word: &str) -> Result<Called, RowFault> {
-    if word == "location" {
-        Ok(Called::Location)
-    } else if word == "callstack" {
-        Ok(Called::Callstack)
-    } else if word == "value" {
-        Ok(Called::Value)
-    } else if word == "interval" {
-        Ok(Called::Interval)
-    } else {
-        Err(RowFault::Unreadable)
-    }
-}
-
-/// The call that the next words name, without the elements behind colons.
-fn call_of(alloc: Global, words: &mut SplitWhitespace<'_>) -> Result<Call, RowFault> {
+/// The call that the next words name, without its path and the elements behind colons.
+fn call_of(words: &mut SplitWhitespace<'_>, given: Option<Settings>) -> Result<Call, RowFault> {
     let word = next_word(words)?;
     if word == "first" {
-        let settings = next_settings(words)?;
+        let settings = match given {
+            Some(settings) => settings,
+            None => next_settings(words)?,
+        };
         Ok(Call::First { settings })
     } else if word == "transfer" {
         let edge = next_index(words)?;
@@ -89,16 +87,12 @@ fn call_of(alloc: Global, words: &mut SplitWhitespace<'_>) -> Result<Call, RowFa
     } else if word == "merge" {
         let rule = rule_of_word(next_word(words)?)?;
         Ok(Call::Merge { rule })
-    } else if word == "refine" {
-        let edges = rest_indices(alloc, words)?;
-        let path = Path { edges };
-        Ok(Call::Refine { path })
     } else {
         bare_call(word)
     }
 }
 
-/// A call that takes elements alone.
+/// A call that takes a path or elements alone.
 fn bare_call(word: &str) -> Result<Call, RowFault> {
     if word == "means" {
         Ok(Call::Means)
@@ -110,6 +104,8 @@ fn bare_call(word: &str) -> Result<Call, RowFault> {
         Ok(Call::Covered)
     } else if word == "adjust" {
         Ok(Call::Adjust)
+    } else if word == "refine" {
+        Ok(Call::Refine)
     } else {
         Err(RowFault::Unreadable)
     }

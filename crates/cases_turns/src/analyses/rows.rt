@@ -4,12 +4,12 @@
 ghost use Rattle.cpa_model.specs.Automata.{IsAutomaton};
 ghost use Rattle.cpa_iface.specs.Meanings.{IsPrecision};
 
-use crate::analyses::asking::answer;
+use crate::analyses::asking::push_both;
 use crate::analyses::boxes::Boxes;
-use crate::analyses::questions::{Called, Question, question_of};
+use crate::analyses::questions::{Question, question_of};
 use crate::analyses::setting::Setting;
 use cases_programs::{automaton, is_precision};
-use cases_reader::RowFault;
+use cases_reader::{RowFault, next_word};
 use cpa_callstack::Callstack;
 use cpa_iface::{Location, Plain, Precision};
 use cpa_interval::Interval;
@@ -17,7 +17,32 @@ use cpa_model::Cfa;
 use cpa_value::Value;
 use std::alloc::Global;
 
-/// Adds the answer behind ` =`, or nothing where the row sets something.
+/// Which analysis is called.
+#[derive(Clone, Copy)]
+enum Called {
+    Location,
+    Callstack,
+    Value,
+    Interval,
+}
+
+/// The analysis that a word names, as the analysis itself does.
+fn called_of(word: &str) -> Result<Called, RowFault> {
+    if word == "location" {
+        Ok(Called::Location)
+    } else if word == "callstack" {
+        Ok(Called::Callstack)
+    } else if word == "value" {
+        Ok(Called::Value)
+    } else if word == "interval" {
+        Ok(Called::Interval)
+    } else {
+        Err(RowFault::Unreadable)
+    }
+}
+
+/// Adds the answer, or nothing where the row sets something. The automaton is made again for each
+/// call, as rows may change the program.
 pub fn push_answer(
     alloc: Global,
     boxes: &mut Boxes,
@@ -25,44 +50,52 @@ pub fn push_answer(
     line: &str,
     out: &mut String,
 ) -> Result<(), RowFault> {
-    if !setting.set(alloc, line)? {
-        let answer = asked(alloc, boxes, setting, line)?;
-        write!(out, " ={answer}")?;
+    if setting.set(alloc, line)? {
+        return Ok(());
     }
-    Ok(())
-}
-
-/// The answer to a call. The automaton is made again for each, as rows may change the program.
-fn asked(
-    alloc: Global,
-    boxes: &mut Boxes,
-    setting: &Setting,
-    line: &str,
-) -> Result<String, RowFault> {
     let cfa = automaton(alloc, &setting.table)?;
-    let question = question_of(alloc, line)?;
-    if is_precision(&setting.precision, &cfa) {
-        asked_of(alloc, boxes, &cfa, &setting.precision, &question)
-    } else {
-        Err(RowFault::Unreadable)
-    }
+    push_asked(alloc, boxes, &cfa, &setting.precision, line, out)
 }
 
-/// The answer of the analysis: a new one through the bound, one that lives on through the box.
-fn asked_of(
+/// Adds the answer to the call that a row names.
+fn push_asked(
     alloc: Global,
     boxes: &mut Boxes,
     cfa: &Cfa,
     precision: &Precision,
+    line: &str,
+    out: &mut String,
+) -> Result<(), RowFault>
+    requires { IsAutomaton cfa.now }
+{
+    if !is_precision(precision, cfa) {
+        return Err(RowFault::Unreadable);
+    }
+    let mut parts = line.split(':');
+    let mut words = parts.next().unwrap_or("").split_whitespace();
+    let called = called_of(next_word(&mut words)?)?;
+    let question = question_of(alloc, &mut words, &mut parts, None)?;
+    push_asked_of(alloc, boxes, cfa, precision, called, &question, out)
+}
+
+/// Adds the answer of the analysis: a new one through the bound, one that lives on through the box.
+fn push_asked_of(
+    alloc: Global,
+    boxes: &mut Boxes,
+    cfa: &Cfa,
+    precision: &Precision,
+    called: Called,
     question: &Question,
-) -> Result<String, RowFault>
+    out: &mut String,
+) -> Result<(), RowFault>
     requires automaton { IsAutomaton cfa.now }
     requires precision { IsPrecision cfa.now precision.now }
 {
-    match question.called {
+    match called {
         Called::Location => {
-            answer(
+            push_both(
                 alloc,
+                out,
                 &mut Plain(Location),
                 &mut boxes.location,
                 cfa,
@@ -71,8 +104,9 @@ fn asked_of(
             )
         }
         Called::Callstack => {
-            answer(
+            push_both(
                 alloc,
+                out,
                 &mut Plain(Callstack),
                 &mut boxes.callstack,
                 cfa,
@@ -81,8 +115,9 @@ fn asked_of(
             )
         }
         Called::Value => {
-            answer(
+            push_both(
                 alloc,
+                out,
                 &mut Value::new(),
                 &mut boxes.value,
                 cfa,
@@ -91,8 +126,9 @@ fn asked_of(
             )
         }
         Called::Interval => {
-            answer(
+            push_both(
                 alloc,
+                out,
                 &mut Interval::new(),
                 &mut boxes.interval,
                 cfa,

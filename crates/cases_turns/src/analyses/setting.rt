@@ -4,7 +4,7 @@
 use cases_programs::Table;
 use cases_reader::{RowFault, end_row, indices_of, next_index, next_part, next_word, whole_expr};
 use cpa_iface::{Precision, Shared, empty_precision};
-use cpa_model::Seq;
+use cpa_model::{Expr, Seq};
 use std::alloc::Global;
 use std::str::{Split, SplitWhitespace};
 
@@ -45,14 +45,21 @@ fn precision_of(
 ) -> Result<Precision, RowFault> {
     let limit = next_index(words)?;
     end_row(words)?;
-    let tracked = indices_of(alloc, next_part(parts)?)?;
-    let mut preds = Seq::new(alloc);
-    for part in parts {
-        preds.push(whole_expr(alloc, part)?)?;
-    }
+    let cells = next_part(parts)?;
+    let tracked = indices_of(alloc, cells)?;
+    let preds = exprs_of(alloc, parts)?;
     Ok(Precision {
         tracked: Shared::from_seq(alloc, tracked)?,
         limit,
         preds: Shared::from_seq(alloc, preds)?,
     })
+}
+
+/// An expression for each part that is left.
+pub fn exprs_of(alloc: Global, parts: &mut Split<'_, char>) -> Result<Seq<Expr>, RowFault> {
+    let mut exprs = Seq::new(alloc);
+    for part in parts {
+        exprs.push(whole_expr(alloc, part)?)?;
+    }
+    Ok(exprs)
 }

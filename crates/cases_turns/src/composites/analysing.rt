@@ -3,6 +3,7 @@
 
 ghost use Rattle.cpa_model.specs.Automata.{IsAutomaton};
 
+use crate::composites::questions::Search;
 use cases_reader::{RowFault, next_part};
 use cpa_composite::{Composite, copy_row};
 use cpa_config::Config;
@@ -12,18 +13,26 @@ use cpa_model::{Cfa, Seq};
 use cpa_report_print::{Body, Listed, Report, print};
 use std::alloc::{AllocError, Global};
 
-/// The answer of the analysis, or the words of its verdict alone.
+/// The answer of the analysis, or the words of its verdict alone. The picks of a configuration are
+/// not read here.
 pub fn push_analysis<A: Analysis>(
     alloc: Global,
     out: &mut String,
     composite: &mut Composite<A>,
     cfa: &Cfa,
-    config: &Config,
+    search: &Search,
     is_whole: bool,
 ) -> Result<(), RowFault>
     requires { IsAutomaton cfa.now }
 {
-    let answer = analyse(alloc, cfa, composite, config)?;
+    let config = Config {
+        picks: Seq::new(alloc),
+        order: search.order,
+        turns: search.turns,
+        rounds: search.rounds,
+        settings: search.settings,
+    };
+    let answer = analyse(alloc, cfa, composite, &config)?;
     push_answer(alloc, out, cfa, answer, is_whole)
 }
 

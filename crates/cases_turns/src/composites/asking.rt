@@ -50,8 +50,8 @@ pub fn push_called<A: Analysis>(
             settings,
             turns,
         } => explore(alloc, out, composite, cfa, settings, *order, *turns),
-        Call::Analyse { config, is_whole } => {
-            push_analysis(alloc, out, composite, cfa, config, *is_whole)
+        Call::Analyse { search, is_whole } => {
+            push_analysis(alloc, out, composite, cfa, search, *is_whole)
         }
         _ => {
             if !precisions_fit(precisions, count, cfa) {
@@ -88,7 +88,7 @@ fn push_at<A: Analysis>(
         Call::Merge => push_merge(alloc, out, composite, count, cfa, precisions, elems),
         Call::Covered => push_covered(out, composite, count, elems),
         Call::Adjust => push_adjust(alloc, out, composite, count, cfa, precisions, elems),
-        Call::Refine { path } => push_refine(alloc, out, composite, cfa, precisions, path),
+        Call::Refine => push_refine(alloc, out, composite, cfa, precisions, &question.path),
         Call::Initial { .. } | Call::Explore { .. } | Call::Analyse { .. } => {
             Err(RowFault::Unreadable)
         }
@@ -206,8 +206,13 @@ fn push_merge<A: Analysis>(
     if !fit(new, count, cfa) || !fit(old, count, cfa) {
         return Err(RowFault::Unreadable);
     }
-    match composite.merge(alloc, cfa, new, old, precisions)? {
-        Some(merged) => push_list(out, merged.as_slice())?,
+    push_perhaps(out, &composite.merge(alloc, cfa, new, old, precisions)?)
+}
+
+/// The elements; `none` where there are none.
+fn push_perhaps(out: &mut String, elems: &Option<Vec<Elem>>) -> Result<(), RowFault> {
+    match elems {
+        Some(elems) => push_list(out, elems.as_slice())?,
         None => out.push_str("none")?,
     }
     Ok(())

@@ -55,7 +55,8 @@ fn turns<A: Analysis>(
     Ok(true)
 }
 
-/// The journal of at most so many turns, and behind a bar the entries that are there then.
+/// The journal of at most so many turns from the initial state on, and behind a bar the entries that
+/// are there then.
 pub fn explore<A: Analysis>(
     alloc: Global,
     out: &mut String,
@@ -68,7 +69,24 @@ pub fn explore<A: Analysis>(
     requires { IsAutomaton cfa.now }
 {
     let mut reached = begin(alloc, cfa, composite, settings)?;
-    let waits = turns(alloc, cfa, composite, &mut reached, order, count)?;
+    push_explored(alloc, out, composite, cfa, &mut reached, order, count)
+}
+
+/// The journal of at most so many turns more, and behind a bar the entries.
+fn push_explored<A: Analysis>(
+    alloc: Global,
+    out: &mut String,
+    composite: &mut Composite<A>,
+    cfa: &Cfa,
+    reached: &mut Reached,
+    order: Order,
+    count: u32,
+) -> Result<(), RowFault>
+    requires automaton { IsAutomaton cfa.now }
+    requires entries { AreEntries cfa.now (length (components composite.old)) reached.old.live }
+    requires places { HasPlaces (components composite.old) reached.old }
+{
+    let waits = turns(alloc, cfa, composite, reached, order, count)?;
     push_turns(out, reached.journal())?;
     out.push_str(if waits { " |" } else { ", done |" })?;
     push_entries(out, reached.live())

@@ -1,16 +1,25 @@
 //! A call of a composite, as a row names it: the call, its words, and behind colons the elements
-//! that it takes. Nothing is proved of what is read.
+//! that it takes. Words are read before what owns memory. Nothing is proved of what is read.
 
-use cases_programs::{elems_of, next_settings, rest_indices};
-use cases_reader::{RowFault, end_row, next_index, next_word};
-use cpa_config::Config;
+use crate::analyses::path_of;
+use cases_programs::{elems_of, next_settings};
+use cases_reader::{RowFault, next_index, next_word};
 use cpa_iface::{Order, Settings};
-use cpa_model::{Elem, Path, Seq};
+use cpa_model::{Elem, Path};
 use std::alloc::Global;
 use std::str::SplitWhitespace;
 
-/// Which call it is, with what it takes beside elements.
-#[derive(Drop)]
+/// What a configuration says beside its picks.
+#[derive(Clone, Copy)]
+pub struct Search {
+    pub order: Order,
+    pub turns: u64,
+    pub rounds: u32,
+    pub settings: Settings,
+}
+
+/// Which call it is, with what it takes beside elements and a path.
+#[derive(Clone, Copy)]
 pub enum Call {
     /// `initial all LIMIT` or `initial none LIMIT`
     Initial {
@@ -28,9 +37,7 @@ pub enum Call {
     /// `adjust : ELEMENT : ..`, where nothing is reached
     Adjust,
     /// `refine EDGE ..`
-    Refine {
-        path: Path,
-    },
+    Refine,
     /// `explore first all LIMIT TURNS`, with `last` and `none`, too
     Explore {
         order: Order,
@@ -40,15 +47,16 @@ pub enum Call {
     /// `analyse first all LIMIT TURNS ROUNDS LEARNT GATES`, with `last` and `none`, too; or
     /// `verdict` in the place of `analyse`, which tells no more than the verdict
     Analyse {
-        config: Config,
+        search: Search,
         is_whole: bool,
     },
 }
 
-/// A call with its elements.
+/// A call with its path, which is empty where it takes none, and its elements.
 #[derive(Drop)]
 pub struct Question {
     pub call: Call,
+    pub path: Path,
     pub elems: Vec<Elem>,
 }
 
@@ -56,14 +64,18 @@ pub struct Question {
 pub fn question_of(alloc: Global, line: &str) -> Result<Question, RowFault> {
     let mut parts = line.split(':');
     let mut words = parts.next().unwrap_or("").split_whitespace();
-    let call = call_of(alloc, &mut words)?;
-    end_row(&mut words)?;
+    let call = call_of(&mut words)?;
+    let takes_path = match call {
+        Call::Refine => true,
+        _ => false,
+    };
+    let path = path_of(alloc, &mut words, takes_path)?;
     let elems = elems_of(alloc, &mut parts)?;
-    Ok(Question { call, elems })
+    Ok(Question { call, path, elems })
 }
 
-/// The call that the next words name, without the elements behind colons.
-fn call_of(alloc: Global, words: &mut SplitWhitespace<'_>) -> Result<Call, RowFault> {
+/// The call that the next words name, without its path and the elements behind colons.
+fn call_of(words: &mut SplitWhitespace<'_>) -> Result<Call, RowFault> {
     let word = next_word(words)?;
     if word == "initial" {
         let settings = next_settings(words)?;
@@ -72,20 +84,16 @@ fn call_of(alloc: Global, words: &mut SplitWhitespace<'_>) -> Result<Call, RowFa
         let edge = next_index(words)?;
         let times = next_index(words)?;
         Ok(Call::Successors { edge, times })
-    } else if word == "refine" {
-        let edges = rest_indices(alloc, words)?;
-        let path = Path { edges };
-        Ok(Call::Refine { path })
     } else if word == "explore" {
         explore_of(words)
     } else if word == "analyse" || word == "verdict" {
-        analyse_of(alloc, words, word == "analyse")
+        analyse_of(words, word == "analyse")
     } else {
         bare_call(word)
     }
 }
 
-/// A call that takes elements alone.
+/// A call that takes a path or elements alone.
 fn bare_call(word: &str) -> Result<Call, RowFault> {
     if word == "merge" {
         Ok(Call::Merge)
@@ -93,6 +101,8 @@ fn bare_call(word: &str) -> Result<Call, RowFault> {
         Ok(Call::Covered)
     } else if word == "adjust" {
         Ok(Call::Adjust)
+    } else if word == "refine" {
+        Ok(Call::Refine)
     } else {
         Err(RowFault::Unreadable)
     }
@@ -110,13 +120,8 @@ fn explore_of(words: &mut SplitWhitespace<'_>) -> Result<Call, RowFault> {
     })
 }
 
-/// `ORDER SETTINGS TURNS ROUNDS LEARNT GATES`: a whole analysis with this configuration, whose picks
-/// are not read.
-fn analyse_of(
-    alloc: Global,
-    words: &mut SplitWhitespace<'_>,
-    is_whole: bool,
-) -> Result<Call, RowFault> {
+/// `ORDER SETTINGS TURNS ROUNDS LEARNT GATES`: a whole analysis with this configuration.
+fn analyse_of(words: &mut SplitWhitespace<'_>, is_whole: bool) -> Result<Call, RowFault> {
     let order = order_of(next_word(words)?)?;
     let settings = next_settings(words)?;
     let turns = next_word(words)?.parse::<u64>()?;
@@ -129,14 +134,13 @@ fn analyse_of(
         learnt,
         gates,
     };
-    let config = Config {
-        picks: Seq::new(alloc),
+    let search = Search {
         order,
         turns,
         rounds,
         settings,
     };
-    Ok(Call::Analyse { config, is_whole })
+    Ok(Call::Analyse { search, is_whole })
 }
 
 /// `first` or `last`: which waiting entry is taken.

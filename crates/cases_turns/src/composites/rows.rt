@@ -13,47 +13,41 @@ use cpa_composite::Composite;
 use cpa_iface::Analysis;
 use std::alloc::Global;
 
-/// Adds the answer behind ` = `, or nothing where the row sets something.
-pub fn push_answer<A: Analysis>(
+/// Adds the answer to the call that a row names.
+pub fn push_asked<A: Analysis>(
     alloc: Global,
     handed: Vec<A>,
-    setting: &mut Setting,
+    setting: &Setting,
     line: &str,
     out: &mut String,
 ) -> Result<(), RowFault>
     requires { length handed.items ≡ 8 }
 {
-    if setting.set(alloc, line)? {
-        return Ok(());
-    }
     let question = question_of(alloc, line)?;
-    let answer = asked(alloc, handed, setting, &question)?;
-    out.push_str(answer.as_str())?;
-    Ok(())
+    push_asked_of(alloc, handed, setting, &question, out)
 }
 
-/// The answer to a question, behind a sign.
-fn asked<A: Analysis>(
+/// Adds the answer of the composite that the rows have set.
+fn push_asked_of<A: Analysis>(
     alloc: Global,
     handed: Vec<A>,
     setting: &Setting,
     question: &Question,
-) -> Result<String, RowFault>
+    out: &mut String,
+) -> Result<(), RowFault>
     requires { length handed.items ≡ 8 }
 {
     let cfa = automaton(alloc, &setting.table)?;
     let picks = picks_of(alloc, setting.picks.as_str())?;
     let count = picks.len();
     let mut composite = Composite::new(handed, picks);
-    let mut out = String::from_str(alloc, " = ")?;
     push_called(
         alloc,
-        &mut out,
+        out,
         &mut composite,
         count,
         &cfa,
         &setting.precisions,
         question,
-    )?;
-    Ok(out)
+    )
 }

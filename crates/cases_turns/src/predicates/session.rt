@@ -1,13 +1,13 @@
 //! What the rows so far have set: the program, the budgets, and the predicates that are handed in.
 //! Nothing is proved of it here.
 
+use crate::analyses::exprs_of;
 use cases_programs::Table;
-use cases_reader::{RowFault, end_row, next_index, next_number, next_word, whole_expr};
+use cases_reader::{RowFault, end_row, next_index, next_number, next_word};
 use cpa_iface::{Precision, Settings, Shared, empty_precision};
-use cpa_model::{Expr, Seq};
 use cpa_predicate::Predicate;
 use std::alloc::{AllocError, Global};
-use std::str::{Split, SplitWhitespace};
+use std::str::SplitWhitespace;
 
 /// What the rows have set, and the analysis that they call.
 #[derive(Drop)]
@@ -48,25 +48,15 @@ impl Session {
             Ok(true)
         } else if word == "new" {
             end_row(&mut words)?;
-            *self.predicate = Predicate::new();
+            self.predicate = Box::new(alloc, Predicate::new())?;
             Ok(true)
         } else if word == "settings" {
-            let settings = settings_of(&mut words)?;
-            self.settings = settings;
+            self.settings = settings_of(&mut words)?;
             Ok(true)
         } else {
             self.table.set(alloc, line)
         }
     }
-}
-
-/// An expression for each part that is left.
-fn exprs_of(alloc: Global, parts: &mut Split<'_, char>) -> Result<Seq<Expr>, RowFault> {
-    let mut exprs = Seq::new(alloc);
-    for part in parts {
-        exprs.push(whole_expr(alloc, part)?)?;
-    }
-    Ok(exprs)
 }
 
 /// `LEARNT GATES`

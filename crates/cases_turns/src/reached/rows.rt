@@ -13,8 +13,6 @@ pub fn push_answer(
     line: &str,
     out: &mut String,
 ) -> Result<(), RowFault> {
-    let mut answer = String::new(alloc);
-    push_words(alloc, &mut answer, reached, line)?;
-    write!(out, " ={answer}")?;
-    Ok(())
+    out.push_str(" =")?;
+    push_words(alloc, out, reached, line)
 }
