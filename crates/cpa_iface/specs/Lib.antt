@@ -1,3 +1,4 @@
+pub mod Rows
 pub mod Sharing
 pub mod Meanings
 pub mod Pins

@@ -1,7 +1,9 @@
 //! What an exploration keeps and tells: the entries of its reached set, its turns and its
 //! refinements. These are plain data; the crates above say what they must meet.
 
+use crate::numbers::FewNumbers;
 use crate::precisions::Precision;
+use crate::rows::Row;
 use cpa_model::{Elem, Path, Seq};
 
 /// An entry of a reached set (CAV 2007, section 2).
@@ -11,12 +13,12 @@ pub struct Entry {
     pub number: u32,
     /// An element for each picked analysis, in the order of the picks.
     pub elems: Seq<Elem>,
-    /// The precision that goes with each element.
-    pub precisions: Seq<Precision>,
+    /// The precision that goes with each element, in a row that entries may share.
+    pub precisions: Row<Precision>,
     /// The entry from which this one came, and the edge that led to it. The first one has none.
     pub parent: Option<(u32, u32)>,
     /// The numbers of the entries that cover the successors of this one.
-    pub uses: Seq<u32>,
+    pub uses: FewNumbers,
     /// Whether its successors are still to be found.
     pub waiting: bool,
 }

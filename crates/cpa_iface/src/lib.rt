@@ -7,8 +7,10 @@ mod analysis;
 mod entries;
 mod location;
 mod merging;
+mod numbers;
 mod plain;
 mod precisions;
+mod rows;
 mod shared;
 mod standing;
 mod unchanged;
@@ -17,8 +19,12 @@ pub use analysis::{Analysis, DEFAULT_GATES, DEFAULT_LEARNT, Part, Settings};
 pub use entries::{Entry, Refined, Turn};
 pub use location::Location;
 pub use merging::{MergeRule, Order, Pick, merge_facts};
+pub use numbers::FewNumbers;
 pub use plain::{Plain, Steps};
-pub use precisions::{Precision, copy_cells, copy_precision, copy_preds, empty_precision};
+pub use precisions::{
+    Precision, copy_cells, copy_precision, copy_preds, empty_precision, same_precisions,
+};
+pub use rows::Row;
 pub use shared::Shared;
 pub use standing::covers;
 pub use unchanged::{unadjusted, unrefined, unstrengthened};

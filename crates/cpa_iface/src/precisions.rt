@@ -1,7 +1,7 @@
 //! What an analysis is asked to keep, and an equal copy of it.
 //! `no_precision` stands in `specs/Common.antt`. Proved with `proofs/precisions/`.
 
-ghost use Rattle.std.specs.Prelude.{◌≡◌, IfOk};
+ghost use Rattle.std.specs.Prelude.{◌≡◌, ◌↔◌, IfOk, IsTrue};
 ghost use Rattle.cpa_iface.specs.Common.{no_precision};
 
 use crate::shared::Shared;
@@ -60,4 +60,42 @@ pub fn copy_preds(alloc: Global, preds: &[Expr]) -> Result<Seq<Expr>, AllocError
         copies.push(copy(alloc, pred)?)?;
     }
     Ok(copies)
+}
+
+/// Whether two lists have the same cells in the same order.
+fn same_cells(cells: &Shared<u32>, others: &Shared<u32>) -> bool
+    ensures { IsTrue result ↔ (cells.now ≡ others.now) }
+{
+    cells == others
+}
+
+/// Whether two lists have the same predicates in the same order.
+fn same_preds(preds: &Shared<Expr>, others: &Shared<Expr>) -> bool
+    ensures { IsTrue result ↔ (preds.now ≡ others.now) }
+{
+    preds == others
+}
+
+/// Whether two precisions are the same.
+fn same_precision(precision: &Precision, other: &Precision) -> bool
+    ensures { IsTrue result ↔ (precision.now ≡ other.now) }
+{
+    precision.limit == other.limit
+        && same_cells(&precision.tracked, &other.tracked)
+        && same_preds(&precision.preds, &other.preds)
+}
+
+/// Whether two rows have the same precisions. It takes no memory.
+pub fn same_precisions(precisions: &[Precision], others: &[Precision]) -> bool
+    ensures { IsTrue result ↔ (precisions.now ≡ others.now) }
+{
+    match precisions {
+        [] => others.is_empty(),
+        [precision, precisions @ ..] => match others {
+            [] => false,
+            [other, others @ ..] => {
+                same_precision(precision, other) && same_precisions(precisions, others)
+            }
+        },
+    }
 }

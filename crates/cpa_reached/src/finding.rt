@@ -12,10 +12,8 @@ ghost use Rattle.cpa_reached.specs.Entries.{numbers, IsLive};
 ghost use Rattle.cpa_reached.specs.Calls.{at_number, rests, gains, with_precisions};
 
 use crate::lists::trimmed;
-use cpa_iface::{Entry, Precision};
-use cpa_ints::Seq;
-use std::alloc::{AllocError, Global};
-use std::mem;
+use cpa_iface::{Entry, Precision, Row};
+use std::alloc::AllocError;
 
 /// How many entries have lower numbers.
 fn first_from(entries: &[Entry], number: u32) -> usize
@@ -120,17 +118,8 @@ pub(crate) fn gain(entries: &mut Vec<Entry>, number: u32, by: u32) -> Result<(),
     entries[at].uses.push(by)
 }
 
-/// The last of some numbers goes.
-fn take_back(items: &mut Seq<u32>, alloc: Global)
-    ensures { (ns : List ℕ) (n : ℕ) → items.old ≡ ns ++ n ∷ [] → items.new ≡ ns }
-{
-    let mut rest = mem::replace(items, Seq::new(alloc)).into_vec();
-    rest.pop();
-    *items = Seq::from_vec(rest);
-}
-
 /// Takes back a use that was just noted. It takes no memory.
-pub(crate) fn lose(entries: &mut Vec<Entry>, alloc: Global, number: u32)
+pub(crate) fn lose(entries: &mut Vec<Entry>, number: u32)
     requires ascend { AreAscending (numbers entries.old.items) }
     requires live { IsLive entries.old.items number }
     ensures items { (xs : List AnEntry) (by : ℕ)
@@ -138,7 +127,7 @@ pub(crate) fn lose(entries: &mut Vec<Entry>, alloc: Global, number: u32)
     ensures capacity { vec_capacity entries.new ≡ vec_capacity entries.old }
 {
     let at = place(entries, number);
-    take_back(&mut entries[at].uses, alloc);
+    entries[at].uses.pop();
 }
 
 /// The entry of this number has these precisions in place of its own.
@@ -149,5 +138,5 @@ pub(crate) fn put_precisions(entries: &mut Vec<Entry>, number: u32, precisions: 
         at_number number (with_precisions precisions.items) entries.old.items }
 {
     let at = place(entries, number);
-    entries[at].precisions = trimmed(precisions);
+    entries[at].precisions = Row::own(trimmed(precisions));
 }

@@ -9,11 +9,11 @@ mod levels;
 mod links;
 mod lists;
 mod marks;
-mod namers;
 mod opening;
 mod pruning;
 mod reached;
 mod renaming;
+mod sharing;
 mod table;
 mod tracing;
 

@@ -8,7 +8,7 @@ ghost use Rattle.cpa_reached.specs.Kept.{at_link, lists, link_numbers, depth_of}
 ghost use Rattle.cpa_reached.specs.Kept.{is_named_by};
 ghost use Rattle.cpa_reached.specs.Members.{is_in};
 
-use crate::namers::Namers;
+use cpa_iface::FewNumbers;
 use std::alloc::AllocError;
 
 /// What is kept of an entry.
@@ -19,7 +19,7 @@ pub(crate) struct Link {
     /// How many entries lie above it by parents.
     pub(crate) depth: u32,
     /// All entries that name it as their parent or in their uses, and maybe some that did.
-    pub(crate) namers: Namers,
+    pub(crate) namers: FewNumbers,
 }
 
 /// Notes that an entry names the one at this place. Where memory runs out nothing has changed.

@@ -13,11 +13,9 @@ ghost use Rattle.cpa_reached.specs.Kept.{renumbered};
 use crate::finding::place_of;
 use crate::links::Link;
 use crate::lists::trimmed;
-use cpa_iface::Entry;
-use cpa_ints::Seq;
+use cpa_iface::{Entry, FewNumbers};
 use cpa_model::Elem;
 use std::alloc::Global;
-use std::mem;
 
 /// The next number in place of the old one; any other stays.
 fn rename(old: u32, next: u32, number: u32) -> u32
@@ -37,50 +35,42 @@ fn rename_parent(old: u32, next: u32, parent: Option<(u32, u32)>) -> Option<(u32
 }
 
 /// So with each of the uses. It takes no memory.
-fn rename_uses(old: u32, next: u32, uses: Seq<u32>) -> Seq<u32>
-    ensures { result ≡ map (rename old next) uses }
+fn rename_uses(old: u32, next: u32, uses: &mut FewNumbers)
+    ensures { uses.new ≡ map (rename old next) uses.old }
 {
-    let mut items = uses.into_vec();
-    for place in 0..items.len() {
-        items[place] = rename(old, next, items[place]);
+    for place in 0..uses.len() {
+        let number = rename(old, next, uses.as_slice()[place]);
+        uses.put(place, number);
     }
-    Seq::from_vec(items)
 }
 
 /// The entry names the next one where it named the old one. It takes no memory.
-fn rename_in(entry: &mut Entry, alloc: Global, old: u32, next: u32)
+fn rename_in(entry: &mut Entry, old: u32, next: u32)
     ensures { entry.new ≡ renamed old next entry.old }
 {
     entry.parent = rename_parent(old, next, entry.parent);
-    let uses = mem::replace(&mut entry.uses, Seq::new(alloc));
-    entry.uses = rename_uses(old, next, uses);
+    rename_uses(old, next, &mut entry.uses);
 }
 
 /// So does the entry of this number, where it is there.
-fn rename_at(entries: &mut Vec<Entry>, alloc: Global, namer: u32, old: u32, next: u32)
+fn rename_at(entries: &mut Vec<Entry>, namer: u32, old: u32, next: u32)
     requires { AreAscending (numbers entries.old.items) }
     ensures { entries.new.items ≡ at_number namer (renamed old next) entries.old.items }
 {
     match place_of(entries, namer) {
-        Some(place) => rename_in(&mut entries[place], alloc, old, next),
+        Some(place) => rename_in(&mut entries[place], old, next),
         None => {}
     }
 }
 
 /// So do the entries of these numbers.
-pub(crate) fn rename_among(
-    entries: &mut Vec<Entry>,
-    alloc: Global,
-    namers: &[u32],
-    old: u32,
-    next: u32,
-)
+pub(crate) fn rename_among(entries: &mut Vec<Entry>, namers: &[u32], old: u32, next: u32)
     requires ascend { AreAscending (numbers entries.old.items) }
     requires apart { old < next }
     ensures { entries.new.items ≡ map (renamed_among namers.now old next) entries.old.items }
 {
     for namer in namers {
-        rename_at(entries, alloc, *namer, old, next);
+        rename_at(entries, *namer, old, next);
     }
 }
 
@@ -105,7 +95,7 @@ pub(crate) fn succeed(
         elems: trimmed(elems),
         precisions: entry.precisions,
         parent: entry.parent,
-        uses: Seq::new(alloc),
+        uses: FewNumbers::new(alloc),
         waiting: true,
     });
 }

@@ -20,9 +20,9 @@ use crate::finding::{entry, gain, lose, parent_of, place, put_precisions, rest};
 use crate::index::{enter, index_of, leave};
 use crate::links::{Link, depth_at, name_at};
 use crate::lists::{reserve_one, trimmed};
-use crate::namers::Namers;
 use crate::renaming::{rename_among, renumber, succeed};
-use cpa_iface::{Entry, Order, Precision};
+use crate::sharing::row_below;
+use cpa_iface::{Entry, FewNumbers, Order, Precision, Row};
 use cpa_ints::Seq;
 use cpa_model::Elem;
 use cpa_reached_key::{Key, key_of};
@@ -104,16 +104,16 @@ pub(crate) fn begin(
     entries.push(Entry {
         number: 0,
         elems: trimmed(elems),
-        precisions: trimmed(precisions),
+        precisions: Row::common(alloc, trimmed(precisions))?,
         parent: None,
-        uses: Seq::new(alloc),
+        uses: FewNumbers::new(alloc),
         waiting: true,
     })?;
     let mut links = Vec::new(alloc);
     links.push(Link {
         number: 0,
         depth: 0,
-        namers: Namers::new(alloc),
+        namers: FewNumbers::new(alloc),
     })?;
     let mut waiting = VecDeque::new(alloc);
     waiting.push_back(0)?;
@@ -234,7 +234,7 @@ fn adopt(table: &mut Table, parent: u32, key: Key, number: u32) -> Result<(), Al
     match enter(&mut table.index, table.alloc, key, number) {
         Ok(()) => Ok(()),
         Err(error) => {
-            lose(&mut table.entries, table.alloc, parent);
+            lose(&mut table.entries, parent);
             Err(error)
         }
     }
@@ -262,7 +262,9 @@ pub(crate) fn add(
 {
     let number = next_number(table.next)?;
     let key = key_of(table.alloc, table.places.as_slice(), &elems)?;
-    let mut namers = Namers::new(table.alloc);
+    let above = entry(&table.entries, parent.0);
+    let row = row_below(table.alloc, &above.precisions, &elems, precisions)?;
+    let mut namers = FewNumbers::new(table.alloc);
     namers.push(parent.0)?;
     reserve(table)?;
     list_namer(table, parent.0, number)?;
@@ -272,9 +274,9 @@ pub(crate) fn add(
     table.entries.push_reserved(Entry {
         number,
         elems: trimmed(elems),
-        precisions: trimmed(precisions),
+        precisions: row,
         parent: Some(parent),
-        uses: Seq::new(table.alloc),
+        uses: FewNumbers::new(table.alloc),
         waiting: true,
     });
     table.links.push_reserved(Link {
@@ -337,7 +339,6 @@ pub(crate) fn replace(table: &mut Table, old: u32, elems: Vec<Elem>) -> Result<u
     succeed(&mut table.entries, table.alloc, at, number, elems);
     rename_among(
         &mut table.entries,
-        table.alloc,
         table.links[at].namers.as_slice(),
         old,
         number,

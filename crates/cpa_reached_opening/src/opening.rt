@@ -7,8 +7,7 @@ ghost use Rattle.cpa_model.specs.Ascending.{AreAscending};
 ghost use Rattle.cpa_reached_opening.specs.Members.{is_in};
 ghost use Rattle.cpa_reached_opening.specs.Opening.{WaitsAgain, is_opened, opened, waits_again};
 
-use cpa_iface::Entry;
-use cpa_ints::Seq;
+use cpa_iface::{Entry, FewNumbers};
 use std::alloc::Global;
 
 /// Whether the number is one of these, by halving.
@@ -48,6 +47,6 @@ pub fn waits_again(entry: &Entry, gone: &[u32], pivot: u32) -> bool
 pub fn open_entry(entry: &mut Entry, alloc: Global)
     ensures { entry.new ≡ opened entry.old }
 {
-    entry.uses = Seq::new(alloc);
+    entry.uses = FewNumbers::new(alloc);
     entry.waiting = true;
 }

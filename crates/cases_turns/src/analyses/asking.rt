@@ -10,7 +10,9 @@ use crate::analyses::questions::{Call, Question};
 use cases_programs::{are_elems, are_precisions, is_path};
 use cases_reader::{RowFault, yes_or_no};
 use cpa_composite::Handed;
-use cpa_iface::{Analysis, Entry, MergeRule, Part, Precision, Settings, copy_precision};
+use cpa_iface::{
+    Analysis, Entry, FewNumbers, MergeRule, Part, Precision, Row, Settings, copy_precision,
+};
 use cpa_model::{Cfa, Elem, Path, Seq, Spell, copy_elem, is_elem, push_list};
 use std::alloc::Global;
 
@@ -309,9 +311,9 @@ fn entry(alloc: Global, precision: &Precision, elem: &Elem) -> Result<Entry, Row
     Ok(Entry {
         number: 0,
         elems,
-        precisions,
+        precisions: Row::own(precisions),
         parent: None,
-        uses: Seq::new(alloc),
+        uses: FewNumbers::new(alloc),
         waiting: false,
     })
 }

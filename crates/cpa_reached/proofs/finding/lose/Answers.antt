@@ -10,7 +10,7 @@ use Rattle.cpa_reached.proofs.finding.lose.Goals as goal
 pub returns-clause-items : goal.returns-clause-items
 returns-clause-items c = λ xs by is.
     let there = c.index_mut.result.now in
-    let rest = c.take_back.new.items in
+    let rest = c.pop.new.self in
     let at = rw c.deref.ensures.value at c.place-at.ensures.at in
     let same : numbers c.args.entries.now.items ≡ numbers xs =
     ap (λ (ys : List Entry). numbers ys) is
@@ -20,4 +20,4 @@ returns-clause-items c = λ xs by is.
     (subst (λ (ns : List ℕ). AreAscending ns) same c.requires.ascend)
     (subst (λ (ns : List ℕ). slice_get ns c.place-at.result ≡ Some c.args.number) same at)
     (c.index_mut.ensures.value ∙ ap (λ (ys : List Entry). get_or ys c.place-at.result there) is)
-    c.take_back.ensures
+    c.pop.ensures

@@ -32,8 +32,8 @@ overflow_add-depth c =
     let t = c.list_namer.new.table in
     let p = c.args.parent.0 in
     let kept = c.in_ok-list_namer.ensures.kept in
-    let at = rw c.deref-2.ensures.value at c.place-above.ensures.at in
-    let read = rw c.deref-3.ensures.value at c.depth_at-depth.ensures in
+    let at = rw c.deref-4.ensures.value at c.place-above.ensures.at in
+    let read = rw c.deref-5.ensures.value at c.depth_at-depth.ensures in
     let depth : c.depth_at-depth.result ≡ depth_of p t.links.items =
     depth_read t.entries.items t.links.items c.place-above.result p c.depth_at-depth.result
     kept.tree at read in
@@ -54,8 +54,8 @@ returns-clause-kept c =
     let t = c.list_namer.new.table in
     let p = c.args.parent.0 in
     let kept = c.in_ok-list_namer.ensures.kept in
-    let at = rw c.deref-2.ensures.value at c.place-above.ensures.at in
-    let read = rw c.deref-3.ensures.value at c.depth_at-depth.ensures in
+    let at = rw c.deref-4.ensures.value at c.place-above.ensures.at in
+    let read = rw c.deref-5.ensures.value at c.depth_at-depth.ensures in
     let depth : c.depth_at-depth.result ≡ depth_of p t.links.items =
     depth_read t.entries.items t.links.items c.place-above.result p c.depth_at-depth.result
     kept.tree at read in
@@ -71,7 +71,7 @@ returns-clause-kept c =
       c.push_reserved.ensures.items,
       c.in_ok-adopt.ensures.ok,
       c.trimmed.ensures,
-      c.trimmed-2.ensures,
+      c.in_ok-row.ensures,
       c.new.ensures,
       c.push_reserved-2.ensures.items,
       c.in_ok-adopt.ensures.links,

@@ -1,6 +1,6 @@
 use Rattle.std.proofs.lemmas.Slice.Eq.{slice_eq-Decides}
 use Rattle.cpa_expr.specs.lemmas.SameTrees.{same_expr_decides}
-use Rattle.cpa_engine_rounds.proofs.precisions.same_preds.Goals as goal
+use Rattle.cpa_iface.proofs.precisions.same_preds.Goals as goal
 
 pub returns : goal.returns
 returns c =

@@ -1,5 +1,0 @@
-use Rattle.std.proofs.Common.{length}
-use Rattle.cpa_engine_rounds.proofs.precisions.+same_row.Given as goal
-
-abbrev pub decreases-same_row : goal.decreases-same_row
-decreases-same_row l = length l.precisions.now
