@@ -471,7 +471,7 @@ module _ (W : World) (frames : rows.Frames) (caller : ℕ) (text : Text) (names 
       subst (λ (row : rows.Rows). ReadsAs W frames caller r.part.kind r.part.form row)
       (sym (opened frames (tree.Bracketed r.typed place) (TypedExpression-F.Bracketed r.typed place)
       (tree.rolls-Bracketed r.typed place))) (inner.1 whole uses)
-  layer (Expression-F.Postfix base held place) whole uses =
+  layer (Expression-F.Postfix place base held) whole uses =
       let r = read_of base in
       let suffixes = map reading_suffix (map (λ (s : HeldSuffix). s.0) held) in
       let all = suffixed r.part suffixes in
@@ -523,7 +523,7 @@ module _ (W : World) (frames : rows.Frames) (caller : ℕ) (text : Text) (names 
       (tree.rolls-Cast r.typed kind place))
       (cast_reads place wanted r (operand.1 whole)
       (uses_right W caller (tag_uses names to) (used (cast_role wanted) r) uses))
-  layer (Expression-F.Chain first held place) whole uses =
+  layer (Expression-F.Chain place first held) whole uses =
       let r = read_of first in
       let rest = read_links (bare_links held) in
       let own = is_whole first.0 in

@@ -89,10 +89,10 @@ bracketed_whole inner place h =
 
 pub postfix_whole : (base : Expression) (more : List Suffix) (place : ℕ) →
     is_whole base ≡ true → all_whole (map suffix_whole more) ≡ true →
-    is_whole (expression.Postfix base more place) ≡ true
+    is_whole (expression.Postfix place base more) ≡ true
 postfix_whole base more place h k =
-    ap is_whole (sym (expression.rolls-Postfix base more place))
-    ∙ rolled (Expression-F.Postfix base more place) ∙ both h k
+    ap is_whole (sym (expression.rolls-Postfix place base more))
+    ∙ rolled (Expression-F.Postfix place base more) ∙ both h k
 
 pub prefix_whole : (operator : StepOperator) (operand : Expression) (place : ℕ) →
     is_whole operand ≡ true → is_whole (expression.PrefixStep operator operand place) ≡ true
@@ -124,10 +124,10 @@ links_map (link ∷ links) = ap (λ bs. is_whole link.1 ∷ bs) (links_map links
 
 pub chain_whole : (first : Expression) (rest : List (BinaryOperator × Expression)) (place : ℕ) →
     is_whole first ≡ true → all_whole (map link_whole rest) ≡ true →
-    is_whole (expression.Chain first rest place) ≡ true
+    is_whole (expression.Chain place first rest) ≡ true
 chain_whole first rest place h k =
-    ap is_whole (sym (expression.rolls-Chain first rest place))
-    ∙ rolled (Expression-F.Chain first rest place) ∙ both h (ap all_whole (links_map rest) ∙ k)
+    ap is_whole (sym (expression.rolls-Chain place first rest))
+    ∙ rolled (Expression-F.Chain place first rest) ∙ both h (ap all_whole (links_map rest) ∙ k)
 
 pub conditional_whole : (test first second : Expression) (place : ℕ) → is_whole test ≡ true →
     is_whole first ≡ true → is_whole second ≡ true →

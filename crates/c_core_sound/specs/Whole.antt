@@ -46,11 +46,11 @@ whole_expression (Expression-F.Name name) = true
 whole_expression (Expression-F.Number t n place) = has_value t n
 whole_expression (Expression-F.Character n place) = has_value ty.I32 n
 whole_expression (Expression-F.Bracketed inner place) = inner
-whole_expression (Expression-F.Postfix base suffixes place) = base && all_whole suffixes
+whole_expression (Expression-F.Postfix place base suffixes) = base && all_whole suffixes
 whole_expression (Expression-F.PrefixStep operator operand place) = operand
 whole_expression (Expression-F.Unary operator operand place) = operand
 whole_expression (Expression-F.Cast to operand place) = operand
-whole_expression (Expression-F.Chain first rest place) =
+whole_expression (Expression-F.Chain place first rest) =
     first && all_whole (map (λ link. link.1) rest)
 whole_expression (Expression-F.Conditional test first second place) = test && (first && second)
 whole_expression (Expression-F.Assignment left operator right place) = left && right

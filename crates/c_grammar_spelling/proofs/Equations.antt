@@ -68,12 +68,12 @@ bracketed_pieces inner place =
     (Expression-F.Bracketed inner place)
 
 pub postfix_pieces : (base : Expression) (suffixes : List Suffix) (place : ℕ) →
-    spelled_expression (expression.Postfix base suffixes place) ≡
+    spelled_expression (expression.Postfix place base suffixes) ≡
     placed place ∷ (spelled_expression base ++ in_order spelled_suffix suffixes)
 postfix_pieces base suffixes place =
-    ap spelled_expression (sym (expression.rolls-Postfix base suffixes place))
+    ap spelled_expression (sym (expression.rolls-Postfix place base suffixes))
     ∙ (fold-roll-Expression (List Piece) (List Piece) expression_layer suffix_layer
-    (Expression-F.Postfix base suffixes place)
+    (Expression-F.Postfix place base suffixes)
     ∙ ap (λ pieces. placed place ∷ (spelled_expression base ++ pieces))
     (in_order_map itself spelled_suffix suffixes))
 
@@ -102,12 +102,12 @@ cast_pieces to operand place =
     (Expression-F.Cast to operand place)
 
 pub chain_pieces : (first : Expression) (rest : List (BinaryOperator × Expression)) (place : ℕ) →
-    spelled_expression (expression.Chain first rest place) ≡
+    spelled_expression (expression.Chain place first rest) ≡
     placed place ∷ (spelled_expression first ++ in_order (operated spelled_expression) rest)
 chain_pieces first rest place =
-    ap spelled_expression (sym (expression.rolls-Chain first rest place))
+    ap spelled_expression (sym (expression.rolls-Chain place first rest))
     ∙ (fold-roll-Expression (List Piece) (List Piece) expression_layer suffix_layer
-    (Expression-F.Chain first rest place)
+    (Expression-F.Chain place first rest)
     ∙ ap (λ pieces. placed place ∷ (spelled_expression first ++ pieces))
     (in_order_map (operated itself) (λ operand. (operand.0, spelled_expression operand.1)) rest))
 

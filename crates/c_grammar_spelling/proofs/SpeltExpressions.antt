@@ -229,7 +229,7 @@ suffixed_made : (base : Expression) (more : List Suffix) →
 suffixed_made base [] =
     plainly (λ x. sym (append-nil (spelled_expression base))) (λ x y. refl)
 suffixed_made base (one ∷ more) = at_place (λ x. equation.postfix_pieces base (one ∷ more) x.place)
-    (λ x y e. ap (expression.Postfix base (one ∷ more)) e)
+    (λ x y e. ap (λ place. expression.Postfix place base (one ∷ more)) e)
 
 group_made : (group : Group) → Made group_of
     (λ group. mark terminal.LeftParen ∷ spelled_group group) spelled_expression group
@@ -246,8 +246,8 @@ group_made (bracket_group inner (one ∷ more)) =
     (one ∷ more) x.place
     ∙ ap (λ list. placed x.place ∷ (list ++ in_order spelled_suffix (one ∷ more)))
     (equation.bracketed_pieces inner x.place))
-    (λ x y e. ap (λ place. expression.Postfix (expression.Bracketed inner place)
-    (one ∷ more) place) e)
+    (λ x y e. ap (λ place. expression.Postfix place
+    (expression.Bracketed inner place) (one ∷ more)) e)
 
 chain_made : (parts : Expression × List (BinaryOperator × Expression)) → Made chain_of
     (λ parts. spelled_expression parts.0 ++ in_order (operated spelled_expression) parts.1)
@@ -255,7 +255,7 @@ chain_made : (parts : Expression × List (BinaryOperator × Expression)) → Mad
 chain_made (first, []) = plainly (λ x. sym (append-nil (spelled_expression first))) (λ x y. refl)
 chain_made (first, operand ∷ operands) =
     at_place (λ x. equation.chain_pieces first (operand ∷ operands) x.place)
-    (λ x y e. ap (expression.Chain first (operand ∷ operands)) e)
+    (λ x y e. ap (λ place. expression.Chain place first (operand ∷ operands)) e)
 
 conditional_made : (parts : Expression × Option (Expression × Expression)) → Made conditional_of
     (λ parts. spelled_expression parts.0 ++ optional (λ ends. mark terminal.Question ∷

@@ -153,7 +153,7 @@ expression_layer (Expression-F.Character value place) =
     placed place ∷ token (symbol.Character value) ∷ []
 expression_layer (Expression-F.Bracketed inner place) =
     placed place ∷ mark terminal.LeftParen ∷ (inner ++ mark terminal.RightParen ∷ [])
-expression_layer (Expression-F.Postfix base suffixes place) =
+expression_layer (Expression-F.Postfix place base suffixes) =
     placed place ∷ (base ++ in_order itself suffixes)
 expression_layer (Expression-F.PrefixStep operator operand place) =
     placed place ∷ token (symbol.Step operator) ∷ operand
@@ -162,7 +162,7 @@ expression_layer (Expression-F.Unary operator operand place) =
 expression_layer (Expression-F.Cast to operand place) =
     placed place ∷ mark terminal.LeftParen ∷
     ((spelled_type_name to ++ mark terminal.RightParen ∷ []) ++ operand)
-expression_layer (Expression-F.Chain first rest place) =
+expression_layer (Expression-F.Chain place first rest) =
     placed place ∷ (first ++ in_order (operated itself) rest)
 expression_layer (Expression-F.Conditional test chosen other place) =
     placed place ∷ (test ++ mark terminal.Question ∷

@@ -33,7 +33,7 @@ identifier = Node name_of (Such is_name)
 -- no suffix, no postfix expression
 abbrev pub suffixed : ℕ → Expression → List Suffix → Expression
 suffixed place base [] = base
-suffixed place base (one ∷ more) = expression.Postfix base (one ∷ more) place
+suffixed place base (one ∷ more) = expression.Postfix place base (one ∷ more)
 
 -- the skipped call, where there is one, in front of the suffixes behind it
 abbrev pub in_front : Leaf → Option Suffix × List Suffix → List Suffix
@@ -43,7 +43,7 @@ in_front leaf (Some skipped, more) = skipped ∷ more
 -- one operand is itself
 abbrev pub chain_of : Leaf → Expression × List (BinaryOperator × Expression) → Expression
 chain_of leaf (first, []) = first
-chain_of leaf (first, operand ∷ operands) = expression.Chain first (operand ∷ operands) leaf.place
+chain_of leaf (first, operand ∷ operands) = expression.Chain leaf.place first (operand ∷ operands)
 
 -- no operator, no conditional
 abbrev pub conditional_of : Leaf → Expression × Option (Expression × Expression) → Expression

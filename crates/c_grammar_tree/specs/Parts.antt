@@ -136,7 +136,7 @@ begins_expression leaf = begins (symbol_of leaf)
 -- one layer of an expression: a unary expression (C11 6.5.3)
 abbrev pub unary_layer : Expression-F Expression Suffix → Bool
 unary_layer (Expression-F.Cast to operand place) = false
-unary_layer (Expression-F.Chain first rest place) = false
+unary_layer (Expression-F.Chain place first rest) = false
 unary_layer (Expression-F.Conditional test chosen other place) = false
 unary_layer (Expression-F.Assignment left operator right place) = false
 unary_layer (Expression-F.Comma items place) = false

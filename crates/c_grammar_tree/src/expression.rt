@@ -1,6 +1,6 @@
 //! The tree of expressions (C11 6.5).
 //! Which one a text has is said by their grammar, `specs/Expressions.antt`.
-use crate::Name;
+use crate::{Integer, Name};
 use c_grammar_symbols::{AssignmentOperator, BinaryOperator, NamedType, StepOperator, TypeWord};
 use cpa_ints::{Boxed, IntType, Seq};
 
@@ -28,7 +28,8 @@ pub enum TypeName {
     Enum { tag: Name, place: u32 },
 }
 
-/// An expression. Its place is that of its first token; a name has its own.
+/// An expression. Its place is that of its first token; a name has its own. The place stands first
+/// in the largest forms, since it takes no room there.
 #[cycle(expression)]
 #[derive(Drop)]
 pub enum Expression {
@@ -37,12 +38,12 @@ pub enum Expression {
     /// An integer constant.
     Number {
         ty: IntType,
-        value: i128,
+        value: Integer,
         place: u32,
     },
     /// A character constant.
     Character {
-        value: i128,
+        value: Integer,
         place: u32,
     },
     /// `(inner)`
@@ -53,9 +54,9 @@ pub enum Expression {
     /// A base and the suffixes behind it, one at least, each applied to what stands before it. They
     /// are a list, since no suffix adds a level: walks over the tree stay within `MAX_LEVEL`.
     Postfix {
+        place: u32,
         base: Boxed<Expression>,
         suffixes: Seq<Suffix>,
-        place: u32,
     },
     /// `++operand` or `--operand`
     PrefixStep {
@@ -78,9 +79,9 @@ pub enum Expression {
     /// Two operands or more between operators of one precedence: the first, and each other behind
     /// its operator. They belong together from the left.
     Chain {
+        place: u32,
         first: Boxed<Expression>,
         rest: Seq<(BinaryOperator, Expression)>,
-        place: u32,
     },
     /// `test ? yes : no`
     Conditional {

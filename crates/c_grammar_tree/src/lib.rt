@@ -4,6 +4,7 @@
 
 mod declaration;
 mod expression;
+mod integer;
 mod item;
 mod laws;
 mod name;
@@ -14,9 +15,10 @@ pub use declaration::{
     Specifiers,
 };
 pub use expression::{Expression, Suffix, TypeName, UnaryOperator};
+pub use integer::Integer;
 pub use item::{Body, FunctionDeclarator, Item, Parameter, Parameters, Unit};
 pub use laws::{no_tree_has_a_fault, one_tree, trees_agree_through_each_token};
-pub use name::Name;
+pub use name::{Name, Spelling};
 pub use statement::{BlockItem, ForStart, Statement};
 
 /// How deep the parts of a text may stand: this project's own limit, which bounds the stack of

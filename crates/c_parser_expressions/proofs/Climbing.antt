@@ -86,7 +86,7 @@ module _ {at : ℕ → Leaf} {size left p : ℕ} where
 
     pub link_read : {us : List (BinaryOperator × Expression)} {q : ℕ} →
         Reads (λ n. operands j (grammar n)) at size left m us q →
-        Reads (λ n. chain next (grammar n)) at size left p (expression.Chain u us (at p).place) q
+        Reads (λ n. chain next (grammar n)) at size left p (expression.Chain (at p).place u us) q
     link_read {us} {q} s = chain_many j e first_operand s (λ none.
         goes_not_empty (is_operator (suc j)) (λ n. operand (chain j (grammar n))) {at = at}
         {size = size} {left = left} {p = m} {q = q}

@@ -38,7 +38,7 @@ comma_made leaf u [] items e some = absurd (some refl)
 comma_made leaf u (v ∷ vs) items e some = ap (λ list. expression.Comma list leaf.place) e
 
 chain_made : (leaf : Leaf) (u : Expression) (us : List (BinaryOperator × Expression)) → us ≢ [] →
-    expression.Chain u us leaf.place ≡ chain_of leaf (u, us)
+    expression.Chain leaf.place u us ≡ chain_of leaf (u, us)
 chain_made leaf u [] some = absurd (some refl)
 chain_made leaf u (v ∷ vs) some = refl
 
@@ -110,11 +110,11 @@ module _ {at : ℕ → Leaf} {size left p : ℕ} where
     pub chain_many : {u : Expression} {m : ℕ} {us : List (BinaryOperator × Expression)} {q : ℕ} →
         Reads (λ n. chain k (grammar n)) at size left p u m →
         Reads (λ n. operands k (grammar n)) at size left m us q → us ≢ [] →
-        Reads (λ n. chain rank (grammar n)) at size left p (expression.Chain u us (at p).place) q
+        Reads (λ n. chain rank (grammar n)) at size left p (expression.Chain (at p).place u us) q
     unfolding chain
     chain_many {u} {us = us} {q = q} r s some =
         subst (λ j. Reads (λ n. chain j (grammar n)) at size left p
-        (expression.Chain u us (at p).place) q) (sym e)
+        (expression.Chain (at p).place u us) q) (sym e)
         (reads_node {A = λ n. Pair (chain k (grammar n)) (operands k (grammar n))} chain_of
         (chain_made (at p) u us some) (reads_pair r s))
 

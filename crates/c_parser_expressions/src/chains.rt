@@ -108,7 +108,7 @@ pub(crate) fn chain(
         let first = Boxed::new(alloc, whole)?;
         let (rest, end) = operands(alloc, source, behind, left, next - 1)?;
         let place = source.place(at);
-        whole = Expression::Chain { first, rest, place };
+        whole = Expression::Chain { place, first, rest };
         behind = end;
         tighter = next;
     }

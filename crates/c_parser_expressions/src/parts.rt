@@ -8,7 +8,7 @@ ghost use Rattle.c_grammar_tree.specs.Expressions.{suffixed};
 ghost use Rattle.c_parser_expressions.specs.Steps.{option_list};
 
 use c_grammar_forms::ReadError;
-use c_grammar_tree::{Expression, Suffix};
+use c_grammar_tree::{Expression, Integer, Suffix};
 use cpa_ints::{Boxed, IntType, Seq};
 use std::alloc::Global;
 
@@ -16,6 +16,7 @@ use std::alloc::Global;
 pub(crate) fn number(ty: IntType, value: i128, place: u32) -> Expression
     ensures { result ≡ expression.Number ty value place }
 {
+    let value = Integer::new(value);
     Expression::Number { ty, value, place }
 }
 
@@ -23,6 +24,7 @@ pub(crate) fn number(ty: IntType, value: i128, place: u32) -> Expression
 pub(crate) fn character(value: i128, place: u32) -> Expression
     ensures { result ≡ expression.Character value place }
 {
+    let value = Integer::new(value);
     Expression::Character { value, place }
 }
 
@@ -102,8 +104,8 @@ pub(crate) fn suffixed(place: u32, base: Boxed<Expression>, suffixes: Seq<Suffix
         return base.into_inner();
     }
     Expression::Postfix {
+        place,
         base,
         suffixes,
-        place,
     }
 }

@@ -12,7 +12,7 @@ ghost use Rattle.c_parser_words.specs.Answers.{Finds};
 use crate::classes::{is_any_name, is_name};
 use c_grammar_forms::ReadError;
 use c_grammar_symbols::{Source, Terminal};
-use c_grammar_tree::Name;
+use c_grammar_tree::{Name, Spelling};
 use cpa_ints::Seq;
 use std::alloc::Global;
 
@@ -22,9 +22,8 @@ pub fn name(alloc: Global, source: &Source, at: usize) -> Result<Name, ReadError
     ensures name { IfOk result (λ name. name ≡ name_of (leaf_at source.now at) tt) }
     ensures memory { IfErr result (λ error. error ≡ OutOfMemory) }
 {
-    let bytes = Seq::from_vec(source.bytes(at).to_vec(alloc)?);
     Ok(Name {
-        bytes,
+        bytes: Spelling::new(alloc, source.bytes(at))?,
         place: source.place(at),
     })
 }

@@ -210,15 +210,15 @@ module _ (text : Text) (names : List Entry) where
       ap (λ (r : Reading). held ++ uses_calls caller r.uses) (open_Bracketed inside place)
 
   open_Postfix : (base : Expression) (suffixes : List Suffix) (place : ℕ) →
-      reading text names (tree.Postfix base suffixes place)
-      ≡ reading_step text names (Expression-F.Postfix (reading text names base)
-      (map (suffix_of text names) suffixes) place)
+      reading text names (tree.Postfix place base suffixes)
+      ≡ reading_step text names (Expression-F.Postfix place
+      (reading text names base) (map (suffix_of text names) suffixes))
   open_Postfix base suffixes place =
-      opened (tree.Postfix base suffixes place) (Expression-F.Postfix base suffixes place)
-      (tree.rolls-Postfix base suffixes place)
+      opened (tree.Postfix place base suffixes) (Expression-F.Postfix place base suffixes)
+      (tree.rolls-Postfix place base suffixes)
 
   pub part_Postfix : (base : Expression) (suffixes : List Suffix) (place : ℕ) →
-      part_of text names (tree.Postfix base suffixes place)
+      part_of text names (tree.Postfix place base suffixes)
       ≡ record {
         place = place;
         kind = (suffixed_of text names (part_of text names base) suffixes).part.kind;
@@ -228,7 +228,7 @@ module _ (text : Text) (names : List Entry) where
       ap (λ (r : Reading). r.part) (open_Postfix base suffixes place)
 
   pub typed_Postfix : (base : Expression) (suffixes : List Suffix) (place : ℕ) →
-      typed_of text names (tree.Postfix base suffixes place)
+      typed_of text names (tree.Postfix place base suffixes)
       ≡ typed.Postfix (typed_of text names base)
       (suffixed_of text names (part_of text names base) suffixes).typed place
   typed_Postfix base suffixes place =
@@ -236,7 +236,7 @@ module _ (text : Text) (names : List Entry) where
 
   pub first_Postfix : (held : Option TextFault) (base : Expression) (suffixes : List Suffix)
       (place : ℕ) →
-      first_with held (faults_of text names (tree.Postfix base suffixes place))
+      first_with held (faults_of text names (tree.Postfix place base suffixes))
       ≡ first_with (first_with held (faults_of text names base))
       (uses_faults (suffixed_of text names (part_of text names base) suffixes).uses)
   first_Postfix held base suffixes place =
@@ -246,7 +246,7 @@ module _ (text : Text) (names : List Entry) where
 
   pub calls_Postfix : (held : List Call) (caller : ℕ) (base : Expression) (suffixes : List Suffix)
       (place : ℕ) →
-      held ++ calls_of text names caller (tree.Postfix base suffixes place)
+      held ++ calls_of text names caller (tree.Postfix place base suffixes)
       ≡ (held ++ calls_of text names caller base)
       ++ uses_calls caller (suffixed_of text names (part_of text names base) suffixes).uses
   calls_Postfix held caller base suffixes place =
@@ -370,15 +370,15 @@ module _ (text : Text) (names : List Entry) where
       (ap (λ (cs : List Call). held ++ cs) (tag_calls caller names to_type) ∙ append-nil held))
 
   open_Chain : (head : Expression) (rest : List (BinaryOperator × Expression)) (place : ℕ) →
-      reading text names (tree.Chain head rest place)
-      ≡ reading_step text names (Expression-F.Chain (reading text names head)
-      (map (read_link text names) rest) place)
+      reading text names (tree.Chain place head rest)
+      ≡ reading_step text names (Expression-F.Chain place
+      (reading text names head) (map (read_link text names) rest))
   open_Chain head rest place =
-      opened (tree.Chain head rest place) (Expression-F.Chain head rest place)
-      (tree.rolls-Chain head rest place)
+      opened (tree.Chain place head rest) (Expression-F.Chain place head rest)
+      (tree.rolls-Chain place head rest)
 
   pub part_Chain : (head : Expression) (rest : List (BinaryOperator × Expression)) (place : ℕ) →
-      part_of text names (tree.Chain head rest place)
+      part_of text names (tree.Chain place head rest)
       ≡ plain place (value (chain_type (value_kind (part_of text names head).kind)
       (map (link_part text names) rest)))
   part_Chain head rest place =
@@ -388,7 +388,7 @@ module _ (text : Text) (names : List Entry) where
       (links_read text names rest)
 
   pub typed_Chain : (head : Expression) (rest : List (BinaryOperator × Expression)) (place : ℕ) →
-      typed_of text names (tree.Chain head rest place)
+      typed_of text names (tree.Chain place head rest)
       ≡ typed.Chain (typed_of text names head) (map (link_typed text names) rest)
       (value (chain_type (value_kind (part_of text names head).kind)
       (map (link_part text names) rest))) place
@@ -405,7 +405,7 @@ module _ (text : Text) (names : List Entry) where
 
   pub first_Chain : (held : Option TextFault) (head : Expression)
       (rest : List (BinaryOperator × Expression)) (place : ℕ) →
-      first_with held (faults_of text names (tree.Chain head rest place))
+      first_with held (faults_of text names (tree.Chain place head rest))
       ≡ first_with (first_with held (role_faults text names Valued head))
       (flat_map (link_faults text names) rest)
   first_Chain held head rest place =
@@ -418,7 +418,7 @@ module _ (text : Text) (names : List Entry) where
 
   pub calls_Chain : (held : List Call) (caller : ℕ) (head : Expression)
       (rest : List (BinaryOperator × Expression)) (place : ℕ) →
-      held ++ calls_of text names caller (tree.Chain head rest place)
+      held ++ calls_of text names caller (tree.Chain place head rest)
       ≡ (held ++ role_calls text names caller Valued head)
       ++ flat_map (link_calls text names caller) rest
   calls_Chain held caller head rest place =

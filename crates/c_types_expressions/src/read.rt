@@ -106,8 +106,8 @@ impl Reader<'_> {
     {
         match e {
             Expression::Name(name) => Ok(self.read_name(name, &mut notes.first)),
-            Expression::Number { ty, value, place } => Ok(read_number(*ty, *value, *place)),
-            Expression::Character { value, place } => Ok(read_character(*value, *place)),
+            Expression::Number { ty, value, place } => Ok(read_number(*ty, value.get(), *place)),
+            Expression::Character { value, place } => Ok(read_character(value.get(), *place)),
             Expression::Bracketed { inner, place } => {
                 self.read_bracketed(inner.get(), *place, notes)
             }

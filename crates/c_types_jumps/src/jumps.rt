@@ -13,9 +13,8 @@ ghost use Rattle.c_types_jumps.specs.Found.{with_base};
 
 use crate::noting::{Placed, note_entering, note_repeated};
 use crate::tree::{self, Tree};
-use c_grammar_tree::Name;
+use c_grammar_tree::{Name, Spelling};
 use c_lexer::TextFault;
-use cpa_ints::Seq;
 use std::alloc::{AllocError, Global};
 use std::marker::Model;
 
@@ -116,9 +115,8 @@ fn placed(alloc: Global, name: &Name, position: usize) -> Result<Placed, AllocEr
     ensures name { IfOk result (λ placed. placed.name ≡ name.now) }
     ensures position { IfOk result (λ placed. placed.position ≡ position) }
 {
-    let bytes = Seq::from_vec(name.bytes.as_slice().to_vec(alloc)?);
     let name = Name {
-        bytes,
+        bytes: Spelling::new(alloc, name.bytes.as_slice())?,
         place: name.place,
     };
     Ok(Placed { name, position })

@@ -159,7 +159,7 @@ reading_step text names (Expression-F.Bracketed inner place) = record {
   uses = inner.uses;
   typed = tree.Bracketed inner.typed place;
 }
-reading_step text names (Expression-F.Postfix base suffixes place) =
+reading_step text names (Expression-F.Postfix place base suffixes) =
     let all = suffixed base.part suffixes in
     record {
       part = record { place = place; kind = all.part.kind; form = all.part.form };
@@ -192,7 +192,7 @@ reading_step text names (Expression-F.Cast to operand place) =
       uses = tag_uses names to ++ used (cast_role wanted) operand;
       typed = tree.Cast operand.typed kind place;
     }
-reading_step text names (Expression-F.Chain first rest place) =
+reading_step text names (Expression-F.Chain place first rest) =
     let kind = value (chain_type (value_kind first.part.kind) (links_of rest)) in
     record {
       part = plain place kind;
