@@ -6,7 +6,7 @@ ghost use Rattle.c_core_rules.specs.Trees.{input, pure};
 
 use c_core_operators::conv;
 use c_core_rules::{Location, Valued};
-use cpa_expr::Expr;
+use cpa_expr::{Expr, constant};
 use cpa_ints::{Boxed, IntType, Seq};
 use cpa_model_trees::{CoreTree, Head};
 use std::alloc::{AllocError, Global};
@@ -105,7 +105,6 @@ pub fn choice(
     ensures { IfOk result (λ tree. tree ≡ choice origin test yes no) }
 {
     let parts = blocks(alloc, origin, yes, no)?;
-    let test = test.into_inner();
     Ok(CoreTree::Node {
         head: Head::If { test },
         parts,
@@ -144,13 +143,13 @@ pub fn write(
     let head = Head::Assign {
         base: place.base,
         len: place.len,
-        index: index.into_inner(),
-        value: value.into_inner(),
+        index,
+        value,
     };
     Ok(leaf(alloc, origin, head))
 }
 
-/// A write to a scalar, at the index 0, which needs no box.
+/// A write to a scalar, at the index 0.
 pub fn set(
     alloc: Global,
     origin: u32,
@@ -163,11 +162,8 @@ pub fn set(
     let head = Head::Assign {
         base: place.base,
         len: place.len,
-        index: Expr::Const {
-            ty: IntType::I32,
-            value: 0,
-        },
-        value: value.into_inner(),
+        index: constant(alloc, IntType::I32, 0)?,
+        value,
     };
     Ok(leaf(alloc, origin, head))
 }

@@ -64,7 +64,7 @@ pub(crate) fn lowered(
     ensures made { IfOk result (λ v. v ≡ (lowered frames.now usage e.now (so_far cells.old)).made) }
 {
     match e {
-        TypedExpression::Name { meaning, place } => name_for(cells, *place, usage, *meaning),
+        TypedExpression::Name { meaning, place } => name_for(cells, *place, usage, meaning.get()),
         TypedExpression::Number { ty, value, place } => literal(cells, *place, usage, *ty, *value),
         TypedExpression::Character { value, place } => {
             literal(cells, *place, usage, IntType::I32, *value)
@@ -210,7 +210,7 @@ fn placed(
 {
     match e {
         TypedExpression::Name { meaning, .. } => {
-            let location = cells.scalar_place(*meaning)?;
+            let location = cells.scalar_place(meaning.get())?;
             Ok(Place::Scalar(location))
         }
         TypedExpression::Bracketed { inner, .. } => {

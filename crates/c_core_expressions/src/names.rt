@@ -13,7 +13,7 @@ fn names_of(e: &TypedExpression) -> Option<Meaning>
     ensures { (frames : Frames) → (rows frames e.now).names ≡ result }
 {
     match e {
-        TypedExpression::Name { meaning, .. } => *meaning,
+        TypedExpression::Name { meaning, .. } => meaning.get(),
         TypedExpression::Bracketed { inner, .. } => names_of(inner.get()),
         TypedExpression::Postfix { base, suffixes, .. } => {
             if suffixes.len() == 0 {

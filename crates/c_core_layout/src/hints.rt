@@ -75,8 +75,8 @@ fn named(meaning: Option<Meaning>) -> Hint {
 /// The known function that an expression names.
 fn known(base: &TypedExpression) -> Option<KnownFunction> {
     match base {
-        TypedExpression::Name { meaning, .. } => match meaning {
-            Some(Meaning::Known(function)) => Some(*function),
+        TypedExpression::Name { meaning, .. } => match meaning.get() {
+            Some(Meaning::Known(function)) => Some(function),
             _ => None,
         },
         _ => None,
@@ -138,7 +138,7 @@ fn assigned(index: Option<Hint>, updates: bool, right: Hint, is_used: bool) -> u
 #[cycle(hinting)]
 fn hint_of(e: &TypedExpression, is_used: bool) -> Hint {
     match e {
-        TypedExpression::Name { meaning, .. } => finished(named(*meaning), is_used),
+        TypedExpression::Name { meaning, .. } => finished(named(meaning.get()), is_used),
         TypedExpression::Number { .. } | TypedExpression::Character { .. } => constant(),
         TypedExpression::Bracketed { inner, .. } => hint_of(inner.get(), is_used),
         TypedExpression::Postfix { base, suffixes, .. } => {

@@ -55,10 +55,10 @@ fn head_height(head: &Head) -> Result<u32, AllocError>
     ensures { IfOk result (λ found. found ≡ head_height head.now) }
 {
     match head {
-        Head::If { test } => exact_height(test),
+        Head::If { test } => exact_height(test.get()),
         Head::Assign { index, value, .. } => {
-            let first = exact_height(index)?;
-            let second = exact_height(value)?;
+            let first = exact_height(index.get())?;
+            let second = exact_height(value.get())?;
             Ok(first.max(second))
         }
         _ => Ok(0),

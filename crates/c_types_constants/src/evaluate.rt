@@ -254,7 +254,7 @@ pub fn constant(e: &TypedExpression) -> Constant
     ensures { result ≡ constant e.now }
 {
     match e {
-        TypedExpression::Name { meaning, .. } => named_constant(*meaning),
+        TypedExpression::Name { meaning, .. } => named_constant(meaning.get()),
         TypedExpression::Number { ty, value, .. } => Constant {
             is_impure: false,
             ty: Some(*ty),

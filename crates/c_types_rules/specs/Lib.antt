@@ -1,6 +1,7 @@
 pub mod Types
 pub mod Known
 pub mod Names
+pub mod Held
 pub mod Parts
 pub mod Expressions
 pub mod ExpressionRules

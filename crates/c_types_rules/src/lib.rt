@@ -7,6 +7,7 @@ mod kinds;
 mod known;
 mod laws;
 mod meaning;
+mod named;
 mod parts;
 mod tables;
 mod typed;
@@ -22,6 +23,7 @@ pub use laws::{known_functions_are_found, limits};
 pub use meaning::{
     Constant, Declared, Entry, Form, Function, Kind, Meaning, Object, ParameterType, Part, Role,
 };
+pub use named::Named;
 pub use parts::{cast_role, named_kind, with_value};
 pub use tables::{cells_of, is_shift, operator_of};
 pub use typed::{

@@ -115,7 +115,7 @@ fn stmt_of(labels: &[u32], head: Head, parts: Vec<u32>) -> Stmt
             items: Seq::from_vec(parts),
         },
         Head::If { test } => Stmt::If {
-            test,
+            test: test.into_inner(),
             yes: part(&parts, 0),
             no: part(&parts, 1),
         },
@@ -131,8 +131,8 @@ fn stmt_of(labels: &[u32], head: Head, parts: Vec<u32>) -> Stmt
         } => Stmt::Assign {
             base,
             len,
-            index,
-            value,
+            index: index.into_inner(),
+            value: value.into_inner(),
         },
         Head::Input { cell } => Stmt::Input { cell },
         Head::Call { function } => Stmt::Call { function },

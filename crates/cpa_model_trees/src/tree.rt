@@ -1,10 +1,11 @@
 //! Trees of core statements, of any origin. The types have no functions to prove.
 
 use cpa_expr::Expr;
-use cpa_ints::Seq;
+use cpa_ints::{Boxed, Seq};
 
 /// A core statement without its parts. Cells and functions are named by number, a label by its
-/// number among those of its function.
+/// number among those of its function. Expressions are in boxes, so that a statement without one is
+/// no larger for it.
 #[derive(Drop)]
 pub enum Head {
     /// The parts in order.
@@ -13,7 +14,7 @@ pub enum Head {
     Labeled,
     /// The first part where the test is nonzero, the second where it is zero.
     If {
-        test: Expr,
+        test: Boxed<Expr>,
     },
     /// The first part, then the second, and again without end.
     Loop,
@@ -21,8 +22,8 @@ pub enum Head {
     Assign {
         base: u32,
         len: u32,
-        index: Expr,
-        value: Expr,
+        index: Boxed<Expr>,
+        value: Boxed<Expr>,
     },
     /// Gives the cell any value of its type.
     Input {
