@@ -50,9 +50,10 @@ pub fn unused(
     Ok(v.statements)
 }
 
-/// An expression, by whether its value is used.
+/// An expression, by whether its value is used. A name and a number are lowered here, since a
+/// function takes the time at its start that the room for its other forms asks for.
 #[cycle(expression)]
-#[tactic(auto, using(crate::proofs::Variants::of_Name, crate::proofs::Variants::of_Number, crate::proofs::Variants::of_Character, crate::proofs::Variants::of_Bracketed, crate::proofs::Variants::of_PrefixStep, crate::proofs::Variants::of_Unary, crate::proofs::Variants::of_Cast, crate::proofs::Variants::of_Voided, crate::proofs::Variants::of_Untyped, crate::proofs::Variants::of_Chain, crate::proofs::Variants::of_Conditional, crate::proofs::Variants::of_Assignment, crate::proofs::Variants::of_Comma))]
+#[tactic(auto, using(crate::proofs::Variants::of_Name, crate::proofs::Variants::of_Number))]
 pub(crate) fn lowered(
     cells: &mut Cells,
     frames: &Frames,
@@ -65,9 +66,38 @@ pub(crate) fn lowered(
 {
     match e {
         TypedExpression::Name { meaning, place } => name_for(cells, *place, usage, meaning.get()),
-        TypedExpression::Number { ty, value, place } => literal(cells, *place, usage, *ty, *value),
+        TypedExpression::Number { ty, value, place } => {
+            literal(cells, *place, usage, *ty, value.get())
+        }
+        _ => form_lowered(cells, frames, usage, e),
+    }
+}
+
+/// The same of an expression of any form.
+#[inline(never)]
+#[cycle(expression)]
+#[tactic(auto, using(crate::proofs::Variants::of_Name, crate::proofs::Variants::of_Number, crate::proofs::Variants::of_Character, crate::proofs::Variants::of_Bracketed, crate::proofs::Variants::of_PrefixStep, crate::proofs::Variants::of_Unary, crate::proofs::Variants::of_Cast, crate::proofs::Variants::of_Voided, crate::proofs::Variants::of_Untyped, crate::proofs::Variants::of_Chain, crate::proofs::Variants::of_Conditional, crate::proofs::Variants::of_Assignment, crate::proofs::Variants::of_Comma))]
+fn form_lowered(
+    cells: &mut Cells,
+    frames: &Frames,
+    usage: Usage,
+    e: &TypedExpression,
+) -> Result<Valued, AllocError>
+    ensures taken { OnOk result (so_far cells.new
+        ≡ (lowered frames.now usage e.now (so_far cells.old)).taken) }
+    ensures made { IfOk result (λ v. v ≡ (lowered frames.now usage e.now (so_far cells.old)).made) }
+{
+    match e {
+        TypedExpression::Name { meaning, place } => name_for(cells, *place, usage, meaning.get()),
+        TypedExpression::Number { ty, value, place } => literal(
+            cells,
+            *place,
+            usage,
+            *ty,
+            value.get(),
+        ),
         TypedExpression::Character { value, place } => {
-            literal(cells, *place, usage, IntType::I32, *value)
+            literal(cells, *place, usage, IntType::I32, value.get())
         }
         TypedExpression::Bracketed { inner, .. } => lowered(cells, frames, usage, inner.get()),
         TypedExpression::Postfix { .. } => postfix_of(cells, frames, usage, e),

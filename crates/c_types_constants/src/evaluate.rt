@@ -258,12 +258,12 @@ pub fn constant(e: &TypedExpression) -> Constant
         TypedExpression::Number { ty, value, .. } => Constant {
             is_impure: false,
             ty: Some(*ty),
-            value: Some(*value),
+            value: Some(value.get()),
         },
         TypedExpression::Character { value, .. } => Constant {
             is_impure: false,
             ty: Some(IntType::I32),
-            value: Some(*value),
+            value: Some(value.get()),
         },
         TypedExpression::Bracketed { inner, .. } => constant(inner.get()),
         TypedExpression::Postfix { base, suffixes, .. } => Constant {

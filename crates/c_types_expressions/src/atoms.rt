@@ -1,6 +1,6 @@
 //! Reading names and constants (`reading_step` of `c_types_rules`, `specs/Expressions.antt`).
 //! Proved with `proofs/Variants.antt`.
-ghost use Rattle.std.specs.Prelude.{◌≡◌, List};
+ghost use Rattle.std.specs.Prelude.{◌≡◌, List, IfOk, OnOk};
 ghost use Rattle.c_grammar_tree.specs.declared.expression.Expression.{Expression};
 ghost use Rattle.c_types_rules.specs.declared.meaning.Entry.{Entry};
 ghost use Rattle.c_types_rules.specs.Names.{Text};
@@ -8,25 +8,31 @@ ghost use Rattle.c_types_rules.specs.First.{first_with};
 ghost use Rattle.c_types_expressions.specs.Read.{part_of, typed_of, faults_of};
 
 use crate::read::{Read, Reader};
-use c_grammar_tree::Name;
+use c_grammar_tree::{Integer, Name};
 use c_lexer::TextFault;
-use c_types_rules::{Form, Kind, Part, TypedExpression, named_kind, note_named};
+use c_types_rules::{Form, Kind, Named, Part, TypedExpression, named_kind, note_named};
 use cpa_ints::IntType;
+use std::alloc::AllocError;
 
 impl Reader<'_> {
     /// Reads a name.
     #[tactic(auto, using(crate::proofs::Variants::part_Name, crate::proofs::Variants::typed_Name, crate::proofs::Variants::first_Name))]
-    pub(crate) fn read_name(&self, name: &Name, first: &mut Option<TextFault>) -> Read
-        ensures part { result.part
-            ≡ part_of self.now.survey.now self.now.names.now (Expression.Name name.now) }
-        ensures typed { result.typed
-            ≡ typed_of self.now.survey.now self.now.names.now (Expression.Name name.now) }
-        ensures first { first.new ≡ first_with first.old
-            (faults_of self.now.survey.now self.now.names.now (Expression.Name name.now)) }
+    pub(crate) fn read_name(
+        &self,
+        name: &Name,
+        first: &mut Option<TextFault>,
+    ) -> Result<Read, AllocError>
+        ensures part { IfOk result (λ r. r.part
+            ≡ part_of self.now.survey.now self.now.names.now (Expression.Name name.now)) }
+        ensures typed { IfOk result (λ r. r.typed
+            ≡ typed_of self.now.survey.now self.now.names.now (Expression.Name name.now)) }
+        ensures first { OnOk result (first.new ≡ first_with first.old
+            (faults_of self.now.survey.now self.now.names.now (Expression.Name name.now))) }
     {
         let found = self.names.meaning(self.survey, name.bytes.as_slice());
         note_named(first, name.place, found);
-        Read {
+        let meaning = Named::new(self.alloc, found)?;
+        Ok(Read {
             part: Part {
                 place: name.place,
                 kind: named_kind(found),
@@ -36,10 +42,10 @@ impl Reader<'_> {
                 },
             },
             typed: TypedExpression::Name {
-                meaning: found,
+                meaning,
                 place: name.place,
             },
-        }
+        })
     }
 }
 
@@ -53,7 +59,11 @@ pub(crate) fn read_number(ty: IntType, value: i128, place: u32) -> Read
 {
     Read {
         part: Part::plain(place, Some(Kind::Value(ty))),
-        typed: TypedExpression::Number { ty, value, place },
+        typed: TypedExpression::Number {
+            ty,
+            value: Integer::new(value),
+            place,
+        },
     }
 }
 
@@ -67,6 +77,9 @@ pub(crate) fn read_character(value: i128, place: u32) -> Read
 {
     Read {
         part: Part::plain(place, Some(Kind::Value(IntType::I32))),
-        typed: TypedExpression::Character { value, place },
+        typed: TypedExpression::Character {
+            value: Integer::new(value),
+            place,
+        },
     }
 }

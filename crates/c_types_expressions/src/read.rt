@@ -90,9 +90,10 @@ impl Reader<'_> {
         Ok(ReadPart { part, typed })
     }
 
-    /// Reads an expression: holds its first fault, and notes its calls.
+    /// Reads an expression: holds its first fault, and notes its calls. A name and a number are read
+    /// here, since a function takes the time at its start that the room for its other forms asks for.
     #[cycle(read)]
-    #[tactic(auto, using(crate::proofs::Variants::first_Number, crate::proofs::Variants::first_Character, crate::proofs::Variants::calls_Name, crate::proofs::Variants::calls_Number, crate::proofs::Variants::calls_Character, crate::proofs::Variants::part_Postfix, crate::proofs::Variants::typed_Postfix, crate::proofs::Variants::first_Postfix, crate::proofs::Variants::calls_Postfix, crate::proofs::Variants::part_Chain, crate::proofs::Variants::typed_Chain, crate::proofs::Variants::first_Chain, crate::proofs::Variants::calls_Chain, crate::proofs::Variants::part_Conditional, crate::proofs::Variants::typed_Conditional, crate::proofs::Variants::first_Conditional, crate::proofs::Variants::calls_Conditional, crate::proofs::Variants::part_Assignment, crate::proofs::Variants::typed_Assignment, crate::proofs::Variants::first_Assignment, crate::proofs::Variants::calls_Assignment))]
+    #[tactic(auto, using(crate::proofs::Variants::first_Number, crate::proofs::Variants::calls_Name, crate::proofs::Variants::calls_Number))]
     pub fn read_expression(&self, e: &Expression, notes: &mut Notes) -> Result<Read, AllocError>
         ensures part { IfOk result (λ r. r.part
             ≡ part_of self.now.survey.now self.now.names.now e.now) }
@@ -105,7 +106,29 @@ impl Reader<'_> {
             self.now.caller e.now) }
     {
         match e {
-            Expression::Name(name) => Ok(self.read_name(name, &mut notes.first)),
+            Expression::Name(name) => self.read_name(name, &mut notes.first),
+            Expression::Number { ty, value, place } => Ok(read_number(*ty, value.get(), *place)),
+            _ => self.read_form(e, notes),
+        }
+    }
+
+    /// Reads an expression of any form.
+    #[inline(never)]
+    #[cycle(read)]
+    #[tactic(auto, using(crate::proofs::Variants::first_Number, crate::proofs::Variants::first_Character, crate::proofs::Variants::calls_Name, crate::proofs::Variants::calls_Number, crate::proofs::Variants::calls_Character, crate::proofs::Variants::part_Postfix, crate::proofs::Variants::typed_Postfix, crate::proofs::Variants::first_Postfix, crate::proofs::Variants::calls_Postfix, crate::proofs::Variants::part_Chain, crate::proofs::Variants::typed_Chain, crate::proofs::Variants::first_Chain, crate::proofs::Variants::calls_Chain, crate::proofs::Variants::part_Conditional, crate::proofs::Variants::typed_Conditional, crate::proofs::Variants::first_Conditional, crate::proofs::Variants::calls_Conditional, crate::proofs::Variants::part_Assignment, crate::proofs::Variants::typed_Assignment, crate::proofs::Variants::first_Assignment, crate::proofs::Variants::calls_Assignment))]
+    fn read_form(&self, e: &Expression, notes: &mut Notes) -> Result<Read, AllocError>
+        ensures part { IfOk result (λ r. r.part
+            ≡ part_of self.now.survey.now self.now.names.now e.now) }
+        ensures typed { IfOk result (λ r. r.typed
+            ≡ typed_of self.now.survey.now self.now.names.now e.now) }
+        ensures first { OnOk result (notes.new.first
+            ≡ first_with notes.old.first (faults_of self.now.survey.now self.now.names.now e.now)) }
+        ensures calls { OnOk result (notes.new.calls.items
+            ≡ notes.old.calls.items ++ calls_of self.now.survey.now self.now.names.now
+            self.now.caller e.now) }
+    {
+        match e {
+            Expression::Name(name) => self.read_name(name, &mut notes.first),
             Expression::Number { ty, value, place } => Ok(read_number(*ty, value.get(), *place)),
             Expression::Character { value, place } => Ok(read_character(value.get(), *place)),
             Expression::Bracketed { inner, place } => {

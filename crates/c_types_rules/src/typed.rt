@@ -2,7 +2,7 @@
 //! it stands for. `unit_globals` and `unit_functions` of `specs/Sound.antt` say which one is a text's.
 use crate::{Kind, Named, Object};
 use c_grammar_symbols::{AssignmentOperator, BinaryOperator, StepOperator};
-use c_grammar_tree::UnaryOperator;
+use c_grammar_tree::{Integer, UnaryOperator};
 use cpa_ints::{Boxed, IntType, Seq};
 
 /// An expression. A `kind` is its type; only what breaks a rule, the name of an array and the name
@@ -16,11 +16,11 @@ pub enum TypedExpression {
     },
     Number {
         ty: IntType,
-        value: i128,
+        value: Integer,
         place: u32,
     },
     Character {
-        value: i128,
+        value: Integer,
         place: u32,
     },
     Bracketed {

@@ -214,12 +214,12 @@ expressions::postfix_of-returns-in_ok-v-in-Step-clause-made t c =
     c.in_ok-place-in-Step.ensures.made
     ∙ sym (postfix_is _ _ _ _ _ _ _ c.in-Postfix.is))
 
-pub expressions::lowered-returns-in-Postfix-clause-taken :
-    goal.expressions::lowered-returns-in-Postfix-clause-taken
-expressions::lowered-returns-in-Postfix-clause-taken t c =
+pub expressions::form_lowered-returns-in-Postfix-clause-taken :
+    goal.expressions::form_lowered-returns-in-Postfix-clause-taken
+expressions::form_lowered-returns-in-Postfix-clause-taken t c =
     rw (postfix_is _ _ _ _ _ _ _ c.in-Postfix.is) at c.postfix_of.ensures.taken
 
-pub expressions::lowered-returns-in-Postfix-clause-made :
-    goal.expressions::lowered-returns-in-Postfix-clause-made
-expressions::lowered-returns-in-Postfix-clause-made t c =
+pub expressions::form_lowered-returns-in-Postfix-clause-made :
+    goal.expressions::form_lowered-returns-in-Postfix-clause-made
+expressions::form_lowered-returns-in-Postfix-clause-made t c =
     rw (postfix_is _ _ _ _ _ _ _ c.in-Postfix.is) at c.postfix_of.ensures.made
