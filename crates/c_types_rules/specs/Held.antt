@@ -5,7 +5,7 @@ use Rattle.c_types_rules.specs.declared.meaning.Meaning.TheVariants as meaning
 use Rattle.c_types_rules.specs.declared.named.HeldNumber.{HeldNumber}
 use Rattle.c_types_rules.specs.declared.named.HeldNumber.TheVariants as number
 use Rattle.c_types_rules.specs.declared.named.HeldLength.{HeldLength}
-use Rattle.c_types_rules.specs.declared.named.HeldLength.TheVariants as length
+use Rattle.c_types_rules.specs.declared.named.HeldLength.TheVariants as lengths
 use Rattle.c_types_rules.specs.declared.named.Held.{Held}
 use Rattle.c_types_rules.specs.declared.named.Held.TheVariants as held
 
@@ -16,9 +16,9 @@ number_of_held (number.Long n) = n
 
 -- the length
 abbrev pub length_of_held : HeldLength → Option ℤ
-length_of_held length.Scalar = None
-length_of_held (length.Short n) = Some n
-length_of_held (length.Long n) = Some n
+length_of_held lengths.Scalar = None
+length_of_held (lengths.Short n) = Some n
+length_of_held (lengths.Long n) = Some n
 
 -- the meaning
 abbrev pub meaning_of_held : Held → Option Meaning
