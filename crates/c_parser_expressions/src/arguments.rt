@@ -17,7 +17,7 @@ use crate::parts::{list_of, list_of_skipped};
 use c_grammar_forms::ReadError;
 use c_grammar_symbols::{Source, Symbol, Terminal};
 use c_grammar_tree::{Expression, Suffix};
-use c_parser_words::round_brackets;
+use c_parser_words::{round_brackets, trimmed};
 use cpa_ints::{Boxed, Seq};
 use std::alloc::Global;
 
@@ -62,7 +62,7 @@ fn arguments(
     let (first, behind) = inner_assignment(alloc, source, at, left)?;
     let (arguments, closer) = more_arguments(alloc, source, behind, left, first)?;
     let behind = source.expect(closer, Terminal::RightParen)?;
-    Ok((arguments, behind))
+    Ok((trimmed(arguments), behind))
 }
 
 /// Whether the token begins a suffix.

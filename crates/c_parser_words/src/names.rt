@@ -79,7 +79,7 @@ pub fn typedef_names(
     ensures { Finds typedef_names source.now at result }
 {
     let (first, next) = typedef_name(alloc, source, at)?;
-    let mut names = Vec::new(alloc);
+    let mut names = Vec::with_capacity(alloc, 1)?;
     names.push(first)?;
     let mut here = next;
     while source.is(here, Terminal::Comma) {

@@ -13,6 +13,7 @@ ghost use Rattle.c_parser_words.specs.Steps.{HasPointer, is_char, is_void_alone}
 
 use crate::brackets::attributes;
 use crate::classes::is_pointer;
+use crate::lists::trimmed;
 use crate::names::optional_identifier;
 use crate::words::{AllowedStorage, specifiers};
 use c_grammar_forms::ReadError;
@@ -116,7 +117,7 @@ pub fn parameter_list(
         listed.push(parameter)?;
         here = behind;
     }
-    Ok((Seq::from_vec(listed), here))
+    Ok((trimmed(Seq::from_vec(listed)), here))
 }
 
 /// The parameters that stand here, where no bracket closes them at once.

@@ -95,7 +95,7 @@ fn words_of_type(alloc: Global, source: &Source, at: usize) -> Result<(TypeName,
     requires { at < length source.now }
     ensures { Finds words_of_type source.now at result }
 {
-    let mut words = Vec::new(alloc);
+    let mut words = Vec::with_capacity(alloc, 1)?;
     let mut here = at;
     while let Symbol::TypeWord(word) = source.symbol(here) {
         push_type(&mut words, SpecifierKind::TypeWord(word), here)?;

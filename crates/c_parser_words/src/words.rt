@@ -102,7 +102,7 @@ pub fn keywords(
     requires { at < length source.now }
     ensures { Finds (keywords (goes_in allowed)) source.now at result }
 {
-    let mut words = Vec::new(alloc);
+    let mut words = Vec::with_capacity(alloc, 1)?;
     let mut types = Vec::new(alloc);
     let mut here = at;
     while let Some(kind) = specifier_kind(allowed, source.symbol(here)) {
@@ -163,7 +163,7 @@ fn in_front(
 ) -> Result<Seq<Specifier>, AllocError>
     ensures { IfOk result (λ words. words ≡ record { kind = kind; place = place } ∷ behind.now) }
 {
-    let mut words = Vec::new(alloc);
+    let mut words = Vec::with_capacity(alloc, 1)?;
     words.push(Specifier { kind, place })?;
     words.extend_from_slice(behind)?;
     Ok(Seq::from_vec(words))

@@ -190,9 +190,10 @@ arguments::arguments-returns-in_err-behind t c =
     c.in_ok-arguments.ensures) fails)
 
 pub arguments::arguments-returns : goal.arguments::arguments-returns
-arguments::arguments-returns t c = arguments_whole (sym c.if-is.ensures.value)
+arguments::arguments-returns t c = rw c.trimmed.ensures
+    (arguments_whole (sym c.if-is.ensures.value)
     (assignments_read (sym c.if-is.ensures.value) c.in_ok-first.ensures c.in_ok-arguments.ensures)
-    c.in_ok-behind.ensures.passes c.in_ok-behind.ensures.behind_it c.in_ok-behind.ensures.within
+    c.in_ok-behind.ensures.passes c.in_ok-behind.ensures.behind_it c.in_ok-behind.ensures.within)
 
 pub arguments::suffix-returns-in_err-inside : goal.arguments::suffix-returns-in_err-inside
 arguments::suffix-returns-in_err-inside t c =

@@ -19,7 +19,7 @@ pub loop-alloc-init : goal.loop-alloc-init
 loop-alloc-init c =
     names_first _ _ _ _ _
     (c.in_ok-push.ensures.items ∙ ap (λ list. list ++ c.in_ok-first.first ∷
-    []) c.new-names.ensures.items) c.in_ok-first.ensures
+    []) c.in_ok-names.ensures.items) c.in_ok-first.ensures
 
 pub returns-in_err-name : goal.returns-in_err-name
 returns-in_err-name c = λ left.

@@ -37,5 +37,5 @@ pub returns : goal.returns
 returns c =
     subst (λ list. Reads (λ n. parameter_list) (leaf_at c.args.source.now)
     (length c.args.source.now) c.args.left c.args.at list
-    c.loop-alloc.here) (sym c.from_vec.ensures)
+    c.loop-alloc.here) (sym (c.trimmed.ensures ∙ c.from_vec.ensures))
     (no_more c.loop-alloc.invariant.so_far (sym c.loop-alloc-test.ensures.value))

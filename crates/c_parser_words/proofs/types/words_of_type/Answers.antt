@@ -16,7 +16,7 @@ loop-word-preserved c =
 
 pub returns-in_err-push_type : goal.returns-in_err-push_type
 returns-in_err-push_type c = λ left.
-    at_exit MAX_LEVEL _ _ c.from_residual.ensures.1
+    at_exit MAX_LEVEL _ _ c.from_residual-in_err-push_type.ensures.1
     (type_words_refused _ _ _ _ c.loop-word.invariant left _
     (sym c.in-TypeWord.ensures.value) _ c.in_err-push_type.ensures.refused)
     (λ i g. g)

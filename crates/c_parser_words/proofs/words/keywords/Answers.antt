@@ -25,7 +25,7 @@ loop-kind-preserved c =
 
 pub returns-in_err-push_type : goal.returns-in_err-push_type
 returns-in_err-push_type c = λ left.
-    at_exit MAX_LEVEL _ _ c.from_residual.ensures.1
+    at_exit MAX_LEVEL _ _ c.from_residual-in_err-push_type.ensures.1
     (specifiers_refused _ _ _ _ _ _ c.loop-kind.invariant left c.in-Some.kind
     (ap (keeps_on c.args.allowed) (sym c.symbol.ensures.value) ∙ c.in-Some.ensures.0)
     (ap kind_of (sym c.symbol.ensures.value) ∙ c.in-Some.ensures.1) _
