@@ -14,7 +14,7 @@ ghost use Rattle.c_types_bodies.specs.Views.{state_of, with_objects, IsTied, Ext
 
 use crate::declarations::with_object;
 use crate::walker::{Frame, Nest, Walker};
-use c_grammar_tree::{Name, Parameter};
+use c_grammar_tree::{Name, Parameter, Spelling};
 use c_lexer::Rule;
 use c_types_jumps::Jumps;
 use c_types_objects::{note_if, parameter_object};
@@ -27,7 +27,7 @@ fn parameter_entry(alloc: Global, name: &[u8], object: Object) -> Result<Entry, 
     ensures { IfOk result (λ entry. entry ≡ local_entry name.now object) }
 {
     Ok(Entry {
-        name: Seq::from_vec(name.to_vec(alloc)?),
+        name: Spelling::new(alloc, name)?,
         declared: Declared::Object {
             object,
             is_initialized: false,

@@ -10,7 +10,7 @@ use crate::Scope;
 use crate::enumerations::{note_enumeration, note_enumerations};
 use crate::merging::{is_said, merged_function, redeclares_function};
 use crate::parameters::{listed, note_void_parameters, parameter_types};
-use c_grammar_tree::{FunctionDeclarator, Specifiers};
+use c_grammar_tree::{FunctionDeclarator, Specifiers, Spelling};
 use c_lexer::{Rule, TextFault};
 use c_types_names::{Names, Survey};
 use c_types_objects::{note_if, read_specifiers};
@@ -36,7 +36,7 @@ fn declare_name(
         return names.declare_again(alloc, name);
     }
     let declared = merged_function(alloc, names.declared(name), kind, types, defines)?;
-    let name = Seq::from_vec(name.to_vec(alloc)?);
+    let name = Spelling::new(alloc, name)?;
     names.declare(alloc, Entry { name, declared })
 }
 

@@ -14,7 +14,7 @@ ghost use Rattle.c_types_globals.specs.Globals.{all_starts_by};
 
 use crate::merging::{merged_object, redeclares_object};
 use crate::{Scope, Start};
-use c_grammar_tree::{Declaration, Declarator};
+use c_grammar_tree::{Declaration, Declarator, Spelling};
 use c_lexer::{Rule, TextFault};
 use c_types_names::Survey;
 use c_types_objects::{Qualified, note_found, note_if, read_object, read_specifiers, read_starts};
@@ -41,7 +41,7 @@ fn declare_global(
     note_if(first, Rule::N2, is_taken, declarator.name.place);
     let declared = merged_object(scope.names.declared(name), global, initializes);
     let objects = scope.objects.checked_add(1).ok_or(AllocError)?;
-    let name = Seq::from_vec(name.to_vec(alloc)?);
+    let name = Spelling::new(alloc, name)?;
     scope.names.declare(alloc, Entry { name, declared })?;
     scope.objects = objects;
     Ok(())

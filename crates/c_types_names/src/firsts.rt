@@ -8,7 +8,7 @@ ghost use Rattle.c_types_rules.specs.Names.{place_of};
 ghost use Rattle.c_types_names.specs.Found.{HasFirsts};
 
 use crate::numbers::{Numbers, number_of, set_first};
-use cpa_ints::Seq;
+use c_grammar_tree::Spelling;
 use std::alloc::{AllocError, Global};
 use std::collections::HashMap;
 use std::marker::Model;
@@ -16,7 +16,7 @@ use std::marker::Model;
 /// Names in order. One may stand twice.
 #[derive(Drop)]
 pub struct Firsts {
-    names: Vec<Seq<u8>>,
+    names: Vec<Spelling>,
     /// How many stand before the first of each name.
     places: Numbers,
 }
@@ -73,7 +73,7 @@ impl Firsts {
 /// Adds a name at the end.
 fn push(
     alloc: Global,
-    names: &mut Vec<Seq<u8>>,
+    names: &mut Vec<Spelling>,
     places: &mut Numbers,
     name: &[u8],
 ) -> Result<(), AllocError>
@@ -86,7 +86,7 @@ fn push(
     if number > u32::MAX as usize {
         return Err(AllocError);
     }
-    let item = Seq::from_vec(name.to_vec(alloc)?);
+    let item = Spelling::new(alloc, name)?;
     names.reserve(1)?;
     set_first(alloc, places, name, number as u32)?;
     names.push_reserved(item);

@@ -1,3 +1,4 @@
 pub mod Objects
 pub mod Enumerations
 pub mod Named
+pub mod OneWord

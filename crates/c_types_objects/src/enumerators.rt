@@ -22,12 +22,12 @@ ghost use Rattle.c_types_objects.specs.Enumerations.{outside_places, listed_walk
 
 use crate::constants::read_fixed;
 use crate::noting::{note_found, note_if};
-use c_grammar_tree::{Enumeration, Enumerator, Expression, Name};
+use c_grammar_tree::{Enumeration, Enumerator, Expression, Name, Spelling};
 use c_lexer::{Rule, TextFault};
 use c_types_names::{Names, Survey, tag_key};
 use c_types_recursion::Call;
 use c_types_rules::{Declared, Entry, note_place};
-use cpa_ints::{Boxed, IntType, Seq, wrap};
+use cpa_ints::{Boxed, IntType, wrap};
 use std::alloc::{AllocError, Global};
 
 /// Whether a number is one of type int.
@@ -130,7 +130,7 @@ fn declare_enumerator(
     ensures { OnOk result (names.new ≡ names.old ++ enumerator_entry name.now value ∷ []) }
 {
     let entry = Entry {
-        name: Seq::from_vec(name.to_vec(alloc)?),
+        name: Spelling::new(alloc, name)?,
         declared: Declared::Enumerator { value },
     };
     names.declare(alloc, entry)

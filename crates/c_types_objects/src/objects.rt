@@ -12,12 +12,11 @@ use crate::Qualified;
 use crate::initializers::read_initializer;
 use crate::lengths::read_length;
 use crate::noting::note_if;
-use c_grammar_tree::Declarator;
+use c_grammar_tree::{Declarator, Spelling};
 use c_lexer::{Rule, TextFault};
 use c_types_names::{Names, Survey};
 use c_types_recursion::Call;
 use c_types_rules::{Declared, Entry, Kind, Object, TypedDeclarator};
-use cpa_ints::Seq;
 use std::alloc::{AllocError, Global};
 
 /// Whether a type is void.
@@ -72,7 +71,7 @@ fn declare_local(
     ensures { OnOk result (names.new ≡ names.old ++ local_entry name.now object ∷ []) }
 {
     let entry = Entry {
-        name: Seq::from_vec(name.to_vec(alloc)?),
+        name: Spelling::new(alloc, name)?,
         declared: Declared::Object {
             object,
             is_initialized: false,

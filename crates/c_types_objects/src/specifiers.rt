@@ -3,6 +3,7 @@
 ghost use Rattle.std.specs.Prelude.{◌≡◌, ◌++◌, ◌∷◌, [], IfOk, OnOk};
 ghost use Rattle.c_grammar_tree.specs.Parts.{type_words, named_by, named_among, is_const_word};
 ghost use Rattle.c_types_rules.specs.Declarations.{is_void_word, kind_of, has_const};
+ghost use Rattle.c_types_objects.specs.OneWord.{kind_by};
 
 use c_grammar_symbols::{NamedType, SpecifierWord, TypeWord};
 use c_grammar_tree::{Specifier, SpecifierKind, Specifiers};
@@ -32,11 +33,28 @@ pub fn read_specifiers(alloc: Global, specifiers: &Specifiers) -> Result<Qualifi
 pub(crate) fn kind_of(alloc: Global, specifiers: &Specifiers) -> Result<Kind, AllocError>
     ensures { IfOk result (λ kind. kind ≡ kind_of specifiers.now) }
 {
-    match named_among(specifiers.words.as_slice()) {
+    let words = specifiers.words.as_slice();
+    if let [word] = words {
+        return Ok(kind_of_one(*word));
+    }
+    match named_among(words) {
         Some(named) => Ok(Kind::Value(type_of_named(named))),
         None => {
-            let words = type_words(alloc, specifiers.words.as_slice())?;
+            let words = type_words(alloc, words)?;
             Ok(kind_of_words(words.as_slice()))
+        }
+    }
+}
+
+/// The type that a single word names, without a list of it.
+fn kind_of_one(word: Specifier) -> Kind
+    ensures { result ≡ kind_by (word ∷ []) }
+{
+    match word.kind {
+        SpecifierKind::TypedefName(named) => Kind::Value(type_of_named(named)),
+        SpecifierKind::TypeWord(type_word) => kind_of_words(&[type_word]),
+        SpecifierKind::Storage(_) | SpecifierKind::Other(_) | SpecifierKind::Enum => {
+            kind_of_words(&[])
         }
     }
 }

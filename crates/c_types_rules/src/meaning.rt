@@ -1,6 +1,7 @@
 //! What names are declared as and stand for, and what is known of an expression: the tables of
 //! `specs/Names.antt` and `specs/Expressions.antt` are over these types.
 use crate::KnownFunction;
+use c_grammar_tree::Spelling;
 use cpa_ints::{IntType, Seq};
 
 /// The type of an expression, or of a function's result (C11 6.2.5).
@@ -76,7 +77,7 @@ pub enum Declared {
 /// A declared name.
 #[derive(Drop)]
 pub struct Entry {
-    pub name: Seq<u8>,
+    pub name: Spelling,
     pub declared: Declared,
 }
 
