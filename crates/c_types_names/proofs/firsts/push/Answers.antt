@@ -9,11 +9,10 @@ use Rattle.c_types_names.proofs.firsts.push.Goals as goal
 pub returns-clause-firsts : goal.returns-clause-firsts
 returns-clause-firsts c =
     let names = c.args.names.now.items in
-    let named : c.from_vec-item.result ≡ c.args.name.now =
-    c.from_vec-item.ensures ∙ c.in_ok-to_vec.ensures.items_if_clones_equal (λ x y is. is) in
+    let named : c.in_ok-item.item ≡ c.args.name.now = c.in_ok-item.ensures in
     let pushed : c.push_reserved.new.self.items ≡ names ++ c.args.name.now ∷ [] =
     c.push_reserved.ensures.items
-    ∙ ap (λ (all : List (List ℕ)). all ++ c.from_vec-item.result ∷ []) c.reserve.ensures.items
+    ∙ ap (λ (all : List (List ℕ)). all ++ c.in_ok-item.item ∷ []) c.reserve.ensures.items
     ∙ ap (λ (name : List ℕ). names ++ name ∷ []) named in
     let count : c.len-number.result ≡ length names = omega arith in
     let first = λ (q : List ℕ). c.in_ok-set_first.ensures.set q ∙ ap (λ n.
