@@ -154,7 +154,7 @@ fn cells_of(alloc: Global, words: &[&str]) -> Result<Seq<Cell>, RowFault> {
 
 /// A cell of the type, with the number that it has at the start.
 fn cell_of(ty: &str, start: &str) -> Result<Cell, RowFault> {
-    let ty = type_of_word(ty).ok_or(RowFault::Unreadable)?;
+    let ty = type_of_word(ty)?;
     let start = number_of_word(start)?;
     Ok(Cell { ty, start })
 }

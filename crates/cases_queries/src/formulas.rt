@@ -6,14 +6,15 @@ ghost use Rattle.std.specs.List.{AllByRecursion};
 ghost use Rattle.cpa_cnf.specs.Lines.{AreBelow};
 
 use crate::words::{next_clause, variable_of_word};
-use cases_reader::{RowFault, next_index};
+use cases_reader::{RowFault, index_of_word, next_index};
 use cpa_cnf::{Clause, Cnf, Line, Step};
 use cpa_ints::Seq;
 use std::alloc::Global;
-use std::str::{Split, SplitWhitespace};
+use std::str::SplitWhitespace;
 
-/// The formula of a text over so many variables.
-pub fn formula(alloc: Global, vars: u32, text: &str) -> Result<Cnf, RowFault> {
+/// The formula of a text, over as many variables as a word says.
+pub fn formula(alloc: Global, vars: &str, text: &str) -> Result<Cnf, RowFault> {
+    let vars = index_of_word(vars)?;
     let mut clauses = Seq::new(alloc);
     let mut words = text.split_whitespace();
     for _ in 0..text.len() {
@@ -25,30 +26,12 @@ pub fn formula(alloc: Global, vars: u32, text: &str) -> Result<Cnf, RowFault> {
     Ok(Cnf { vars, clauses })
 }
 
-/// A step's pivot and clause, if a word is left.
-fn next_step(words: &mut SplitWhitespace<'_>) -> Result<Option<Step>, RowFault> {
-    match words.next() {
-        Some(word) => {
-            let pivot = variable_of_word(word)?;
-            let clause = next_index(words)?;
-            Ok(Some(Step { pivot, clause }))
-        }
-        None => Ok(None),
-    }
-}
-
 /// The line of a text: its clause, the number of the first clause, and the steps.
 fn line(alloc: Global, text: &str) -> Result<Line, RowFault> {
     let mut words = text.split_whitespace();
     let clause = next_clause(alloc, &mut words)?.ok_or(RowFault::Unreadable)?;
     let first = next_index(&mut words)?;
-    let mut steps = Seq::new(alloc);
-    for _ in 0..text.len() {
-        match next_step(&mut words)? {
-            Some(step) => steps.push(step)?,
-            None => break,
-        }
-    }
+    let steps = rest_steps(alloc, &mut words)?;
     Ok(Line {
         clause,
         first,
@@ -56,11 +39,34 @@ fn line(alloc: Global, text: &str) -> Result<Line, RowFault> {
     })
 }
 
-/// The lines of the parts that are left.
-pub fn rest_lines(alloc: Global, parts: &mut Split<'_, char>) -> Result<Vec<Line>, RowFault> {
+/// The steps of the words that are left, a pivot and the number of a clause each.
+fn rest_steps(alloc: Global, words: &mut SplitWhitespace<'_>) -> Result<Seq<Step>, RowFault> {
+    let mut steps = Seq::new(alloc);
+    let mut pivot = None;
+    for word in words {
+        match pivot {
+            None => pivot = Some(variable_of_word(word)?),
+            Some(variable) => {
+                let clause = index_of_word(word)?;
+                steps.push(Step {
+                    pivot: variable,
+                    clause,
+                })?;
+                pivot = None;
+            }
+        }
+    }
+    if pivot.is_some() {
+        return Err(RowFault::Unreadable);
+    }
+    Ok(steps)
+}
+
+/// The lines of texts.
+pub fn lines_of(alloc: Global, texts: &[&str]) -> Result<Vec<Line>, RowFault> {
     let mut lines = Vec::new(alloc);
-    for part in parts {
-        lines.push(line(alloc, part)?)?;
+    for text in texts {
+        lines.push(line(alloc, text)?)?;
     }
     Ok(lines)
 }

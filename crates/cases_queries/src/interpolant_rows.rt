@@ -4,9 +4,10 @@
 ghost use Rattle.std.specs.Prelude.{◌≡◌, ◌-◌, [], Some, map, length, slice_get, IsTrue, IfOk};
 ghost use Rattle.cpa_cnf.specs.Lines.{IsRefutation};
 
-use crate::formulas::{are_below, formula, rest_lines};
+use crate::formulas::{are_below, formula, lines_of};
+use crate::query_rows;
 use crate::words::{push_clause, variable_of_word};
-use cases_reader::{RowFault, end_row, next_index, next_part, next_word, push_word};
+use cases_reader::{RowFault, index_of_word, push_word};
 use cpa_audit::NoGate;
 use cpa_chains::{Partial, partials, partials_par};
 use cpa_cnf::{Cnf, Line, Marks, check_line};
@@ -16,29 +17,22 @@ use cpa_interpolant_conditions::interpolant;
 use cpa_interpolant_joining::join;
 use cpa_ints::{Boxed, IntType};
 use std::alloc::{AllocError, Global};
-use std::str::{Split, SplitWhitespace};
 use std::thread::Threads;
 
-/// The answer of a row on interpolants; false where the word names none.
-pub fn answer<R: Threads + Sync>(
+/// Adds the answer of a row on interpolants. All others have no threads.
+pub fn push_answer<R: Threads + Sync>(
     rt: &R,
     alloc: Global,
     out: &mut String,
-    word: &str,
-    words: &mut SplitWhitespace<'_>,
-    parts: &mut Split<'_, char>,
-) -> Result<bool, RowFault> {
-    let pushed = if word == "partials" {
-        all_partials(rt, alloc, out, words, parts)
-    } else if word == "interpolant" {
-        expression(alloc, out, words, parts)
-    } else if word == "join" {
-        joined(alloc, out, words, parts)
-    } else {
-        return Ok(false);
-    };
-    pushed?;
-    Ok(true)
+    words: &[&str],
+    parts: &[&str],
+) -> Result<(), RowFault> {
+    match words {
+        ["partials", workers, words @ ..] => all_partials(rt, alloc, out, workers, words, parts),
+        ["interpolant", words @ ..] => last_partial(alloc, out, words, parts),
+        ["join", words @ ..] => joined(alloc, out, words, parts),
+        _ => query_rows::push_answer(alloc, out, words, parts),
+    }
 }
 
 /// A formula with the side of each clause, and lines.
@@ -59,18 +53,13 @@ fn sides(alloc: Global, word: &str) -> Result<Vec<bool>, AllocError> {
 }
 
 /// `VARS SIDES : FORMULA : LINE : LINE ..`
-fn read_chains(
-    alloc: Global,
-    words: &mut SplitWhitespace<'_>,
-    parts: &mut Split<'_, char>,
-) -> Result<Chains, RowFault> {
-    let vars = next_index(words)?;
-    let letters = next_word(words)?;
-    end_row(words)?;
-    let text = next_part(parts)?;
-    let sides = sides(alloc, letters)?;
+fn chains_of(alloc: Global, words: &[&str], parts: &[&str]) -> Result<Chains, RowFault> {
+    let ([vars, letters], [text, lines @ ..]) = (words, parts) else {
+        return Err(RowFault::Unreadable);
+    };
     let cnf = formula(alloc, vars, text)?;
-    let log = rest_lines(alloc, parts)?;
+    let sides = sides(alloc, letters)?;
+    let log = lines_of(alloc, lines)?;
     Ok(Chains { cnf, sides, log })
 }
 
@@ -104,12 +93,13 @@ fn all_partials<R: Threads + Sync>(
     rt: &R,
     alloc: Global,
     out: &mut String,
-    words: &mut SplitWhitespace<'_>,
-    parts: &mut Split<'_, char>,
+    workers: &str,
+    words: &[&str],
+    parts: &[&str],
 ) -> Result<(), RowFault> {
-    let workers = next_index(words)?;
-    let chains = read_chains(alloc, words, parts)?;
-    push_partials(out, &some_partials(rt, alloc, workers, &chains)?)
+    let workers = index_of_word(workers)?;
+    let chains = chains_of(alloc, words, parts)?;
+    Ok(push_partials(out, &some_partials(rt, alloc, workers, &chains)?)?)
 }
 
 /// The partials by so many workers.
@@ -133,7 +123,7 @@ fn some_partials<R: Threads + Sync>(
 }
 
 /// Writes partials: of each the first number, and `and` or `or` with each other one.
-fn push_partials(out: &mut String, partials: &[Partial]) -> Result<(), RowFault> {
+fn push_partials(out: &mut String, partials: &[Partial]) -> Result<(), AllocError> {
     for partial in partials {
         let first = partial.first;
         write!(out, " | {first}")?;
@@ -143,7 +133,7 @@ fn push_partials(out: &mut String, partials: &[Partial]) -> Result<(), RowFault>
 }
 
 /// Writes the joints of a partial.
-fn push_joints(out: &mut String, partial: &Partial) -> Result<(), RowFault> {
+fn push_joints(out: &mut String, partial: &Partial) -> Result<(), AllocError> {
     for joint in &partial.joints {
         let word = if joint.or { "or" } else { "and" };
         let clause = joint.clause;
@@ -166,13 +156,13 @@ fn bits(alloc: Global, vars: u32) -> Result<Vec<Option<Bit>>, AllocError> {
 }
 
 /// `interpolant VARS SIDES : FORMULA : LINE ..`: the expression of the last partial, or `large`.
-fn expression(
+fn last_partial(
     alloc: Global,
     out: &mut String,
-    words: &mut SplitWhitespace<'_>,
-    parts: &mut Split<'_, char>,
+    words: &[&str],
+    parts: &[&str],
 ) -> Result<(), RowFault> {
-    let chains = read_chains(alloc, words, parts)?;
+    let chains = chains_of(alloc, words, parts)?;
     push_interpolant(alloc, out, &chains)
 }
 
@@ -201,7 +191,7 @@ fn push_found(out: &mut String, found: &Option<Boxed<Expr>>) -> Result<(), Alloc
 }
 
 /// The names of a text: a variable, or `-` for none.
-fn names(alloc: Global, text: &str) -> Result<Vec<Option<u32>>, RowFault> {
+fn names_of(alloc: Global, text: &str) -> Result<Vec<Option<u32>>, RowFault> {
     let mut names = Vec::new(alloc);
     for word in text.split_whitespace() {
         if word == "-" {
@@ -215,27 +205,31 @@ fn names(alloc: Global, text: &str) -> Result<Vec<Option<u32>>, RowFault> {
 
 /// `join VARS VARS : FORMULA : FORMULA : NAMES`: the variables of the joined formula, its sides as
 /// letters, and its clauses behind bars.
-fn joined(
+fn joined(alloc: Global, out: &mut String, words: &[&str], parts: &[&str]) -> Result<(), RowFault> {
+    let ([vars, others], [first, second, names]) = (words, parts) else {
+        return Err(RowFault::Unreadable);
+    };
+    let second = formula(alloc, others, second)?;
+    push_join(alloc, out, vars, first, &second, names)
+}
+
+/// A formula joined with a second one.
+fn push_join(
     alloc: Global,
     out: &mut String,
-    words: &mut SplitWhitespace<'_>,
-    parts: &mut Split<'_, char>,
+    vars: &str,
+    first: &str,
+    second: &Cnf,
+    names: &str,
 ) -> Result<(), RowFault> {
-    let first_vars = next_index(words)?;
-    let second_vars = next_index(words)?;
-    end_row(words)?;
-    let first_text = next_part(parts)?;
-    let second_text = next_part(parts)?;
-    let names_text = next_part(parts)?;
-    let first = formula(alloc, first_vars, first_text)?;
-    let second = formula(alloc, second_vars, second_text)?;
-    let names = names(alloc, names_text)?;
-    let joined = join(alloc, first, &second, &names)?;
-    push_joined(out, &joined.cnf, &joined.sides)
+    let names = names_of(alloc, names)?;
+    let first = formula(alloc, vars, first)?;
+    let joined = join(alloc, first, second, &names)?;
+    Ok(push_joined(out, &joined.cnf, &joined.sides)?)
 }
 
 /// Writes a formula with the sides of its clauses.
-fn push_joined(out: &mut String, cnf: &Cnf, sides: &[bool]) -> Result<(), RowFault> {
+fn push_joined(out: &mut String, cnf: &Cnf, sides: &[bool]) -> Result<(), AllocError> {
     let vars = cnf.vars;
     write!(out, " {vars} ")?;
     for side in sides {

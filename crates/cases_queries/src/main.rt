@@ -9,11 +9,10 @@ mod numbers;
 mod operator_rows;
 mod queries;
 mod query_rows;
-mod row;
 mod search_rows;
 mod words;
 
-use cases_reader::RowFault;
+use cases_reader::{Row, RowFault};
 use std::alloc::{AllocError, Global};
 use std::io;
 use std::io::{BufRead, BufReader};
@@ -26,19 +25,14 @@ enum Subject {
     Numbers,
 }
 
-/// Each row is answered from itself alone. `rows SUBJECT` says whose calls the next rows name.
+/// Each row is answered from itself alone, but that `rows SUBJECT` says whose calls the next rows
+/// name.
 fn main(rt: HostRuntime) -> io::Result<()> {
     let alloc = rt.alloc();
     let mut subject = Subject::Queries;
     for line in BufReader::new(alloc, rt.reader())?.lines(alloc) {
-        let line = line?;
-        if let Some(word) = line.strip_prefix("rows ") {
-            subject = subject_of(word);
-            println!(rt; "{line}")?;
-        } else {
-            let printed = answered(&rt, alloc, subject, line.as_str())?;
-            println!(rt; "{printed}")?;
-        }
+        let printed = answered(&rt, alloc, &mut subject, line?.as_str())?;
+        println!(rt; "{printed}")?;
     }
     Ok(())
 }
@@ -51,30 +45,52 @@ fn subject_of(word: &str) -> Subject {
     }
 }
 
-/// A row with its answer. An empty line and a remark stay as they are.
+/// A row with its answer. An empty line, a remark and a row that names a subject stay as they are.
 fn answered<R: Threads + Sync>(
     rt: &R,
     alloc: Global,
-    subject: Subject,
+    subject: &mut Subject,
     line: &str,
 ) -> Result<String, AllocError> {
-    let mut out = String::from_str(alloc, line)?;
-    if line.is_empty() || line.starts_with("#") {
-        return Ok(out);
-    }
-    let answer = match subject {
-        Subject::Queries => row::answer(rt, alloc, line),
-        Subject::Numbers => numbers::answer(alloc, line),
+    let mut answer = String::new(alloc);
+    let text = match push_answer(rt, alloc, &mut answer, subject, line) {
+        Ok(()) => answer.as_str(),
+        Err(RowFault::Unreadable) => " = unreadable",
+        Err(RowFault::OutOfMemory) => return Err(AllocError),
     };
-    match answer {
-        Ok(answer) => {
-            write!(out, " ={answer}")?;
-            Ok(out)
-        }
-        Err(RowFault::Unreadable) => {
-            out.push_str(" = unreadable")?;
-            Ok(out)
-        }
-        Err(RowFault::OutOfMemory) => Err(AllocError),
+    format!(in alloc; "{line}{text}")
+}
+
+/// Adds the answer of a row, its words each behind a space, or nothing where the row asks nothing.
+/// What a row that cannot be read has added is dropped by the caller.
+fn push_answer<R: Threads + Sync>(
+    rt: &R,
+    alloc: Global,
+    out: &mut String,
+    subject: &mut Subject,
+    line: &str,
+) -> Result<(), RowFault> {
+    if line.is_empty() || line.starts_with("#") {
+        return Ok(());
     }
+    if let Some(word) = line.strip_prefix("rows ") {
+        *subject = subject_of(word);
+        return Ok(());
+    }
+    out.push_str(" =")?;
+    match *subject {
+        Subject::Queries => push_on_queries(rt, alloc, out, line),
+        Subject::Numbers => numbers::push_answer(alloc, out, line),
+    }
+}
+
+/// Adds the answer of a row that calls the solver or what stands below it.
+fn push_on_queries<R: Threads + Sync>(
+    rt: &R,
+    alloc: Global,
+    out: &mut String,
+    line: &str,
+) -> Result<(), RowFault> {
+    let row = Row::of(alloc, line)?;
+    interpolant_rows::push_answer(rt, alloc, out, &row.words, &row.parts)
 }

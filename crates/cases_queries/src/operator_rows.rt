@@ -8,27 +8,29 @@ use cpa_ints::{Boxed, IntType, Seq};
 use cpa_query::Query;
 use cpa_solver::Decided;
 use std::alloc::{AllocError, Global};
-use std::str::SplitWhitespace;
 
 /// How many lines each answer may take.
 const LEARNT: u32 = 20000;
 
-/// The answer of a row on operators; false where the word names none.
-pub fn answer(
+/// Adds the answer of a row on operators, which has no parts.
+pub fn push_answer(
     alloc: Global,
     out: &mut String,
-    word: &str,
-    words: &mut SplitWhitespace<'_>,
-) -> Result<bool, RowFault> {
-    match operators_of(alloc, word, words)? {
-        Some(row) => {
-            for expr in &row.exprs {
-                push_operator(alloc, out, &row, expr)?;
-            }
-            Ok(true)
-        }
-        None => Ok(false),
+    words: &[&str],
+    parts: &[&str],
+) -> Result<(), RowFault> {
+    if !parts.is_empty() {
+        return Err(RowFault::Unreadable);
     }
+    push_row(alloc, out, &operators_of(alloc, words)?)
+}
+
+/// Appends the value of each operator.
+fn push_row(alloc: Global, out: &mut String, row: &OperatorRow) -> Result<(), RowFault> {
+    for expr in &row.exprs {
+        push_operator(alloc, out, row, expr)?;
+    }
+    Ok(())
 }
 
 /// Appends the value of an operator of the row.
@@ -77,7 +79,12 @@ fn has_number(alloc: Global, number: u32, fixed: Operand) -> Result<Expr, AllocE
 /// Adds the cell of this number, which has a number of its type.
 fn fix(alloc: Global, query: &mut Query, number: u32, fixed: Operand) -> Result<(), AllocError> {
     query.cells.push(fixed.ty)?;
-    query.wanted.push((has_number(alloc, number, fixed)?, true))
+    want(query, has_number(alloc, number, fixed)?, true)
+}
+
+/// Adds an expression that is wanted true, or false.
+fn want(query: &mut Query, e: Expr, holds: bool) -> Result<(), AllocError> {
+    query.wanted.push((e, holds))
 }
 
 /// Appends the value of one more cell, the one of this number, where it equals the expression, or
@@ -90,14 +97,24 @@ fn push_result(
     expr: &Expr,
 ) -> Result<(), RowFault> {
     let ty = type_of(expr);
-    query.cells.push(ty)?;
-    let e = copy(alloc, expr)?;
-    query.wanted.push((equals(alloc, ty, number, e)?, true))?;
-    let found = found_of(ty, number, &ask(alloc, query, LEARNT)?);
-    match found {
+    add_result(alloc, query, ty, number, expr)?;
+    match found_of(ty, number, &ask(alloc, query, LEARNT)?) {
         Found::Value(found) => push_only(alloc, out, query, number, found),
         Found::Word(word) => Ok(push_word(out, word)?),
     }
+}
+
+/// Adds a cell of the type, which equals the expression.
+fn add_result(
+    alloc: Global,
+    query: &mut Query,
+    ty: IntType,
+    number: u32,
+    expr: &Expr,
+) -> Result<(), AllocError> {
+    query.cells.push(ty)?;
+    let e = copy(alloc, expr)?;
+    want(query, equals(alloc, ty, number, e)?, true)
 }
 
 /// What a query says of a cell: its value in the model, or a word where there is none.
@@ -127,14 +144,14 @@ fn push_only(
     number: u32,
     found: Operand,
 ) -> Result<(), RowFault> {
-    query
-        .wanted
-        .push((has_number(alloc, number, found)?, false))?;
-    if is_without_model(&ask(alloc, query, LEARNT)?) {
-        Ok(push_number(out, found.value)?)
+    want(query, has_number(alloc, number, found)?, false)?;
+    let is_only = is_without_model(&ask(alloc, query, LEARNT)?);
+    let pushed = if is_only {
+        push_number(out, found.value)
     } else {
-        Ok(push_word(out, "wrong")?)
-    }
+        push_word(out, "wrong")
+    };
+    Ok(pushed?)
 }
 
 /// Whether the query has no model.

@@ -1,48 +1,101 @@
 //! Rows on searches: each outcome is looked at again, a model by evaluation, lines by `check_line`.
 //! Proved safe with `proofs/search_rows/`.
 
+use crate::clause_rows;
 use crate::formulas::{are_below, formula};
 use crate::words::push_clause;
-use cases_reader::{RowFault, end_row, next_index, next_part, push_word};
+use cases_reader::{RowFault, index_of_word, push_word};
 use cpa_cnf::{Clause, Cnf, Line, Marks, check_line};
 use cpa_sat::{Found, search};
-use std::alloc::Global;
-use std::str::{Split, SplitWhitespace};
+use std::alloc::{AllocError, Global};
 
-/// The answer of a row on searches; false where the word names none.
-pub fn answer(
+/// What a row tells of searches in its formula.
+#[derive(Clone, Copy)]
+enum Told {
+    /// `search VARS LEARNT : FORMULA`: the outcome, looked at again.
+    Outcome,
+    /// `budgets VARS LAST : FORMULA`: the outcomes of the budgets from 0 to the last, a letter each.
+    Budgets,
+    /// `effort VARS LEARNT : FORMULA`: the outcome, with the numbers of lines, steps and literals.
+    Effort,
+    /// `trace VARS LEARNT : FORMULA`: the model as literals, or each line behind a bar, as its
+    /// clause, 0, its first clause, and its steps.
+    Trace,
+}
+
+/// What a word asks to be told.
+fn told_of(word: &str) -> Result<Told, RowFault> {
+    match word {
+        "search" => Ok(Told::Outcome),
+        "budgets" => Ok(Told::Budgets),
+        "effort" => Ok(Told::Effort),
+        "trace" => Ok(Told::Trace),
+        _ => Err(RowFault::Unreadable),
+    }
+}
+
+/// Adds the answer of a row of three words and one part, which is on searches. All others are on
+/// clauses.
+pub fn push_answer(
+    alloc: Global,
+    out: &mut String,
+    words: &[&str],
+    parts: &[&str],
+) -> Result<(), RowFault> {
+    match (words, parts) {
+        ([word, vars, learnt], [text]) => searched(alloc, out, word, vars, learnt, text),
+        _ => clause_rows::push_answer(alloc, out, words, parts),
+    }
+}
+
+/// `WORD VARS LEARNT : FORMULA`: what the word asks of searches in the formula.
+fn searched(
     alloc: Global,
     out: &mut String,
     word: &str,
-    words: &mut SplitWhitespace<'_>,
-    parts: &mut Split<'_, char>,
-) -> Result<bool, RowFault> {
-    let pushed = if word == "search" {
-        one_search(alloc, out, words, parts)
-    } else if word == "budgets" {
-        budgets(alloc, out, words, parts)
-    } else if word == "effort" {
-        effort(alloc, out, words, parts)
-    } else if word == "trace" {
-        trace(alloc, out, words, parts)
-    } else {
-        return Ok(false);
-    };
-    pushed?;
-    Ok(true)
+    vars: &str,
+    learnt: &str,
+    text: &str,
+) -> Result<(), RowFault> {
+    let told = told_of(word)?;
+    let learnt = index_of_word(learnt)?;
+    push_searched(alloc, out, told, learnt, &formula(alloc, vars, text)?)
 }
 
-/// The two numbers and the formula of a row.
-fn query(
+/// What a row tells of searches in a formula.
+fn push_searched(
     alloc: Global,
-    words: &mut SplitWhitespace<'_>,
-    parts: &mut Split<'_, char>,
-) -> Result<(Cnf, u32), RowFault> {
-    let vars = next_index(words)?;
-    let learnt = next_index(words)?;
-    end_row(words)?;
-    let cnf = formula(alloc, vars, next_part(parts)?)?;
-    Ok((cnf, learnt))
+    out: &mut String,
+    told: Told,
+    learnt: u32,
+    cnf: &Cnf,
+) -> Result<(), RowFault> {
+    match told {
+        Told::Outcome => push_outcome(alloc, out, cnf, learnt),
+        Told::Budgets => push_letters(alloc, out, cnf, learnt),
+        Told::Effort | Told::Trace => push_found(alloc, out, told, cnf, learnt),
+    }
+}
+
+/// The outcome within a budget.
+fn push_outcome(alloc: Global, out: &mut String, cnf: &Cnf, learnt: u32) -> Result<(), RowFault> {
+    Ok(push_word(out, outcome(alloc, cnf, learnt)?)?)
+}
+
+/// What is found within a budget, not looked at again.
+fn push_found(
+    alloc: Global,
+    out: &mut String,
+    told: Told,
+    cnf: &Cnf,
+    learnt: u32,
+) -> Result<(), RowFault> {
+    let found = find(alloc, cnf, learnt)?;
+    let pushed = match told {
+        Told::Trace => push_traced(out, &found),
+        _ => push_effort(out, &found),
+    };
+    Ok(pushed?)
 }
 
 /// What a search within a budget finds; no answer where a variable is out of range.
@@ -53,28 +106,11 @@ fn find(alloc: Global, cnf: &Cnf, learnt: u32) -> Result<Found, RowFault> {
     Ok(search(alloc, cnf, learnt)?)
 }
 
-/// `search VARS LEARNT : FORMULA`: the outcome, looked at again.
-fn one_search(
-    alloc: Global,
-    out: &mut String,
-    words: &mut SplitWhitespace<'_>,
-    parts: &mut Split<'_, char>,
-) -> Result<(), RowFault> {
-    let (cnf, learnt) = query(alloc, words, parts)?;
-    Ok(push_word(out, outcome(alloc, &cnf, learnt)?)?)
-}
-
-/// `budgets VARS LAST : FORMULA`: the outcomes of the budgets from 0 to the last, a letter each.
-fn budgets(
-    alloc: Global,
-    out: &mut String,
-    words: &mut SplitWhitespace<'_>,
-    parts: &mut Split<'_, char>,
-) -> Result<(), RowFault> {
-    let (cnf, last) = query(alloc, words, parts)?;
+/// The outcomes of the budgets from 0 to the last, a letter each.
+fn push_letters(alloc: Global, out: &mut String, cnf: &Cnf, last: u32) -> Result<(), RowFault> {
     out.push_str(" ")?;
     for learnt in 0..last.min(1000) + 1 {
-        out.push_str(letter(outcome(alloc, &cnf, learnt)?))?;
+        out.push_str(letter(outcome(alloc, cnf, learnt)?))?;
     }
     Ok(())
 }
@@ -87,14 +123,11 @@ fn outcome(alloc: Global, cnf: &Cnf, learnt: u32) -> Result<&'static str, RowFau
 
 /// The first letter of an outcome.
 fn letter(outcome: &'static str) -> &'static str {
-    if outcome == "model" {
-        "m"
-    } else if outcome == "refuted" {
-        "r"
-    } else if outcome == "spent" {
-        "s"
-    } else {
-        "!"
+    match outcome {
+        "model" => "m",
+        "refuted" => "r",
+        "spent" => "s",
+        _ => "!",
     }
 }
 
@@ -127,7 +160,7 @@ fn judged_model(cnf: &Cnf, values: &[bool]) -> &'static str {
 }
 
 /// Whether each line is good.
-fn are_good(alloc: Global, cnf: &Cnf, lines: &[Line]) -> Result<bool, RowFault> {
+fn are_good(alloc: Global, cnf: &Cnf, lines: &[Line]) -> Result<bool, AllocError> {
     let mut marks = Marks::new(alloc, cnf.vars)?;
     for i in 0..lines.len().min(4294967295) {
         if !check_line(cnf, lines, i as u32, &mut marks) {
@@ -195,28 +228,17 @@ fn is_same(a: &Clause, b: &Clause) -> bool {
     a.literals() == b.literals()
 }
 
-/// `effort VARS LEARNT : FORMULA`: the outcome, with the numbers of lines, steps and literals.
-fn effort(
-    alloc: Global,
-    out: &mut String,
-    words: &mut SplitWhitespace<'_>,
-    parts: &mut Split<'_, char>,
-) -> Result<(), RowFault> {
-    let (cnf, learnt) = query(alloc, words, parts)?;
-    push_measured(out, &find(alloc, &cnf, learnt)?)
-}
-
 /// The word of the outcome, and behind it what its lines take.
-fn push_measured(out: &mut String, found: &Found) -> Result<(), RowFault> {
+fn push_effort(out: &mut String, found: &Found) -> Result<(), AllocError> {
     match found {
-        Found::Model(_) => Ok(push_word(out, "model")?),
+        Found::Model(_) => out.push_str(" model"),
         Found::Refuted(lines) => push_sizes(out, "refuted", lines),
         Found::Spent(lines) => push_sizes(out, "spent", lines),
     }
 }
 
 /// The numbers of lines, steps and literals.
-fn push_sizes(out: &mut String, outcome: &str, lines: &[Line]) -> Result<(), RowFault> {
+fn push_sizes(out: &mut String, outcome: &str, lines: &[Line]) -> Result<(), AllocError> {
     let mut steps: u64 = 0;
     let mut literals: u64 = 0;
     for line in lines {
@@ -224,24 +246,11 @@ fn push_sizes(out: &mut String, outcome: &str, lines: &[Line]) -> Result<(), Row
         literals = literals.saturating_add(line.clause.len() as u64);
     }
     let count = lines.len();
-    write!(out, " {outcome} {count} {steps} {literals}")?;
-    Ok(())
-}
-
-/// `trace VARS LEARNT : FORMULA`: the model as literals, or each line behind a bar, as its clause,
-/// 0, its first clause, and its steps.
-fn trace(
-    alloc: Global,
-    out: &mut String,
-    words: &mut SplitWhitespace<'_>,
-    parts: &mut Split<'_, char>,
-) -> Result<(), RowFault> {
-    let (cnf, learnt) = query(alloc, words, parts)?;
-    push_traced(out, &find(alloc, &cnf, learnt)?)
+    write!(out, " {outcome} {count} {steps} {literals}")
 }
 
 /// The word of the outcome, and behind it all that was found.
-fn push_traced(out: &mut String, found: &Found) -> Result<(), RowFault> {
+fn push_traced(out: &mut String, found: &Found) -> Result<(), AllocError> {
     match found {
         Found::Model(values) => push_values(out, values),
         Found::Refuted(lines) => push_lines(out, " refuted", lines),
@@ -250,7 +259,7 @@ fn push_traced(out: &mut String, found: &Found) -> Result<(), RowFault> {
 }
 
 /// A digit for each variable.
-fn push_values(out: &mut String, values: &[bool]) -> Result<(), RowFault> {
+fn push_values(out: &mut String, values: &[bool]) -> Result<(), AllocError> {
     out.push_str(" model")?;
     for value in values {
         out.push_str(if *value { " 1" } else { " 0" })?;
@@ -259,7 +268,7 @@ fn push_values(out: &mut String, values: &[bool]) -> Result<(), RowFault> {
 }
 
 /// The outcome, and each line behind a bar.
-fn push_lines(out: &mut String, outcome: &str, lines: &[Line]) -> Result<(), RowFault> {
+fn push_lines(out: &mut String, outcome: &str, lines: &[Line]) -> Result<(), AllocError> {
     out.push_str(outcome)?;
     for line in lines {
         push_line(out, line)?;
@@ -268,7 +277,7 @@ fn push_lines(out: &mut String, outcome: &str, lines: &[Line]) -> Result<(), Row
 }
 
 /// One line.
-fn push_line(out: &mut String, line: &Line) -> Result<(), RowFault> {
+fn push_line(out: &mut String, line: &Line) -> Result<(), AllocError> {
     let first = line.first;
     out.push_str(" |")?;
     if !line.clause.is_empty() {

@@ -4,17 +4,14 @@
 use cases_reader::{RowFault, type_of_word};
 use cpa_cnf::{Clause, Lit};
 use cpa_ints::{IntType, Seq};
-use std::alloc::Global;
+use std::alloc::{AllocError, Global};
 use std::str::SplitWhitespace;
 
-/// The types that are left.
-pub fn next_types(
-    alloc: Global,
-    words: &mut SplitWhitespace<'_>,
-) -> Result<Seq<IntType>, RowFault> {
+/// The types of words.
+pub fn types_of(alloc: Global, words: &[&str]) -> Result<Seq<IntType>, RowFault> {
     let mut types = Seq::new(alloc);
     for word in words {
-        types.push(type_of_word(word).ok_or(RowFault::Unreadable)?)?;
+        types.push(type_of_word(word)?)?;
     }
     Ok(types)
 }
@@ -30,10 +27,11 @@ pub fn variable_of_word(word: &str) -> Result<u32, RowFault> {
 
 /// The literal that a word spells.
 fn literal_of_word(word: &str) -> Result<Lit, RowFault> {
-    match word.strip_prefix("-") {
-        Some(rest) => Ok(Lit::new(variable_of_word(rest)?, true)),
-        None => Ok(Lit::new(variable_of_word(word)?, false)),
-    }
+    let (rest, is_negative) = match word.strip_prefix("-") {
+        Some(rest) => (rest, true),
+        None => (word, false),
+    };
+    Ok(Lit::new(variable_of_word(rest)?, is_negative))
 }
 
 /// The clause of the words up to a 0 or the end; None where no word is left.
@@ -57,7 +55,7 @@ pub fn next_clause(
 }
 
 /// The clause of a whole text.
-pub fn whole_clause(alloc: Global, text: &str) -> Result<Clause, RowFault> {
+pub fn clause_of(alloc: Global, text: &str) -> Result<Clause, RowFault> {
     let mut literals = Vec::new(alloc);
     for word in text.split_whitespace() {
         literals.push(literal_of_word(word)?)?;
@@ -66,7 +64,7 @@ pub fn whole_clause(alloc: Global, text: &str) -> Result<Clause, RowFault> {
 }
 
 /// Writes a clause, each literal behind a space; `empty` where it has none.
-pub fn push_clause(out: &mut String, clause: &Clause) -> Result<(), RowFault> {
+pub fn push_clause(out: &mut String, clause: &Clause) -> Result<(), AllocError> {
     if clause.is_empty() {
         out.push_str(" empty")?;
     }

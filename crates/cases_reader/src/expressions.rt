@@ -2,6 +2,7 @@
 //! The words are taken from the last one on, so that a node's parts are there before it.
 
 use crate::fault::RowFault;
+use crate::row::words_of;
 use crate::words::{
     binary_of_word, comparison_of_word, index_of_word, number_of_word, type_of_word, unary_of_word,
 };
@@ -39,8 +40,8 @@ enum Two {
 
 /// The expression that a text spells.
 pub fn whole_expr(alloc: Global, text: &str) -> Result<Expr, RowFault> {
-    let mut words = text.split_whitespace();
-    rest_expr(alloc, &mut words)
+    let words = words_of(alloc, text)?;
+    expr_of(alloc, &words)
 }
 
 /// The expression that the words which are left spell.
@@ -49,11 +50,11 @@ pub fn rest_expr(alloc: Global, left: &mut SplitWhitespace<'_>) -> Result<Expr, 
     for word in left {
         words.push(word)?;
     }
-    spelled(alloc, &words)
+    expr_of(alloc, &words)
 }
 
 /// The expression that these words spell.
-fn spelled(alloc: Global, words: &[&str]) -> Result<Expr, RowFault> {
+pub fn expr_of(alloc: Global, words: &[&str]) -> Result<Expr, RowFault> {
     let mut pending = Pending {
         words: Vec::new(alloc),
         parts: Vec::new(alloc),
@@ -207,7 +208,7 @@ impl<'a> Pending<'a> {
 
     /// The next word of the node that is read, as a type.
     fn ty(&mut self) -> Result<IntType, RowFault> {
-        type_of_word(self.word()?).ok_or(RowFault::Unreadable)
+        type_of_word(self.word()?)
     }
 
     /// The next part of the node that is read.

@@ -9,16 +9,18 @@ mod operators;
 mod parts;
 mod place;
 mod queries;
+mod row;
 mod text_faults;
 mod words;
 mod written;
 
-pub use expressions::{rest_expr, whole_expr};
+pub use expressions::{expr_of, rest_expr, whole_expr};
 pub use fault::RowFault;
 pub use operators::{Operand, OperatorRow, operators_of};
 pub use parts::{end_parts, indices_of, next_part};
 pub use place::Place;
 pub use queries::is_query;
+pub use row::{Row, words_of};
 pub use text_faults::fault_line;
 pub use words::{
     BINARY, COMPARISONS, TYPES, UNARY, binary_of_word, comparison_of_word, end_row, index_of_word,

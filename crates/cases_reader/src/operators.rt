@@ -2,11 +2,10 @@
 //! but that reading is safe and ends.
 
 use crate::fault::RowFault;
-use crate::words::{BINARY, COMPARISONS, TYPES, UNARY, next_number, next_type};
+use crate::words::{BINARY, COMPARISONS, TYPES, UNARY, number_of_word, type_of_word};
 use cpa_expr::{BinOp, Expr, read_scalar};
 use cpa_ints::{Boxed, IntType};
 use std::alloc::{AllocError, Global};
-use std::str::SplitWhitespace;
 
 /// A number of a type.
 #[derive(Clone, Copy)]
@@ -25,83 +24,66 @@ pub struct OperatorRow {
     pub exprs: Vec<Expr>,
 }
 
-/// The columns that a row's word asks for.
+/// The columns that a row asks for.
 #[derive(Clone, Copy)]
 enum Columns {
-    /// `arithmetic T A B`: A + B, and so on for - * / % & | ^.
+    /// A + B, and so on for - * / % & | ^.
     Arithmetic,
-    /// `shifts T U A B`: A << B and A >> B, where the amount B has the type U.
+    /// A << B and A >> B.
     Shifts,
-    /// `unary T A`: -A and ~A.
+    /// -A and ~A.
     Unary,
-    /// `comparisons T A B`: whether A == B, and so on for != < <= > >=.
+    /// Whether A == B, and so on for != < <= > >=.
     Comparisons,
-    /// `casts T A`: what A of the type T becomes in each type.
+    /// What A becomes in each type.
     Casts,
 }
 
-/// The row that begins with the word; None where the word names none on operators.
-pub fn operators_of(
-    alloc: Global,
-    word: &str,
-    words: &mut SplitWhitespace<'_>,
-) -> Result<Option<OperatorRow>, RowFault> {
-    match columns_of_word(word) {
-        Some(columns) => Ok(Some(row_of(alloc, columns, words)?)),
-        None => Ok(None),
+/// The row of these words: `arithmetic T A B`, `shifts T U A B`, where the amount B has the type U,
+/// `unary T A`, `comparisons T A B` or `casts T A`.
+pub fn operators_of(alloc: Global, words: &[&str]) -> Result<OperatorRow, RowFault> {
+    match words {
+        ["arithmetic", ty, a, b] => on_two(alloc, Columns::Arithmetic, (ty, a), (ty, b)),
+        ["shifts", ty, amount, a, b] => on_two(alloc, Columns::Shifts, (ty, a), (amount, b)),
+        ["unary", ty, a] => on_one(alloc, Columns::Unary, (ty, a)),
+        ["comparisons", ty, a, b] => on_two(alloc, Columns::Comparisons, (ty, a), (ty, b)),
+        ["casts", ty, a] => on_one(alloc, Columns::Casts, (ty, a)),
+        _ => Err(RowFault::Unreadable),
     }
 }
 
-/// The columns of a row that begins with the word.
-fn columns_of_word(word: &str) -> Option<Columns> {
-    match word {
-        "arithmetic" => Some(Columns::Arithmetic),
-        "shifts" => Some(Columns::Shifts),
-        "unary" => Some(Columns::Unary),
-        "comparisons" => Some(Columns::Comparisons),
-        "casts" => Some(Columns::Casts),
-        _ => None,
-    }
-}
-
-/// The row of these columns.
-fn row_of(
-    alloc: Global,
-    columns: Columns,
-    words: &mut SplitWhitespace<'_>,
-) -> Result<OperatorRow, RowFault> {
-    let (first, second) = operands_of(columns, words)?;
-    let right = second.unwrap_or(first).ty;
-    let exprs = exprs_of(alloc, columns, first.ty, right)?;
+/// The row of columns on one operand.
+fn on_one(alloc: Global, columns: Columns, words: (&str, &str)) -> Result<OperatorRow, RowFault> {
+    let first = operand_of(words)?;
+    let exprs = exprs_of(alloc, columns, first.ty, first.ty)?;
     Ok(OperatorRow {
         first,
-        second,
+        second: None,
         exprs,
     })
 }
 
-/// What the operators of these columns are applied to. The types stand in front of the numbers, and
-/// a second operand has the type of the first but where it is the amount of a shift.
-fn operands_of(
+/// The row of columns on two operands.
+fn on_two(
+    alloc: Global,
     columns: Columns,
-    words: &mut SplitWhitespace<'_>,
-) -> Result<(Operand, Option<Operand>), RowFault> {
-    let left = next_type(words)?;
-    let right = match columns {
-        Columns::Shifts => next_type(words)?,
-        _ => left,
-    };
-    let first = next_operand(left, words)?;
-    let second = match columns {
-        Columns::Unary | Columns::Casts => None,
-        _ => Some(next_operand(right, words)?),
-    };
-    Ok((first, second))
+    left: (&str, &str),
+    right: (&str, &str),
+) -> Result<OperatorRow, RowFault> {
+    let first = operand_of(left)?;
+    let second = operand_of(right)?;
+    let exprs = exprs_of(alloc, columns, first.ty, second.ty)?;
+    Ok(OperatorRow {
+        first,
+        second: Some(second),
+        exprs,
+    })
 }
 
-/// The next number, of the type.
-fn next_operand(ty: IntType, words: &mut SplitWhitespace<'_>) -> Result<Operand, RowFault> {
-    let value = next_number(words)?;
+/// The operand of its type's word and its number's.
+fn operand_of(words: (&str, &str)) -> Result<Operand, RowFault> {
+    let ty = type_of_word(words.0)?;
+    let value = number_of_word(words.1)?;
     Ok(Operand { ty, value })
 }
 

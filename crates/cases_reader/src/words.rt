@@ -72,7 +72,7 @@ pub fn next_index(words: &mut SplitWhitespace<'_>) -> Result<u32, RowFault> {
 
 /// The next word as a type.
 pub fn next_type(words: &mut SplitWhitespace<'_>) -> Result<IntType, RowFault> {
-    type_of_word(next_word(words)?).ok_or(RowFault::Unreadable)
+    type_of_word(next_word(words)?)
 }
 
 /// The number that a word spells.
@@ -86,13 +86,13 @@ pub fn index_of_word(word: &str) -> Result<u32, RowFault> {
 }
 
 /// The type that a word names.
-pub fn type_of_word(word: &str) -> Option<IntType> {
+pub fn type_of_word(word: &str) -> Result<IntType, RowFault> {
     for ty in TYPES {
         if type_word(ty) == word {
-            return Some(ty);
+            return Ok(ty);
         }
     }
-    None
+    Err(RowFault::Unreadable)
 }
 
 /// The unary operator that a word names.

@@ -40,7 +40,7 @@ fn edges_of(alloc: Global, count: u32) -> Result<Seq<Edge>, AllocError> {
 fn cells_of(alloc: Global, words: &mut SplitWhitespace<'_>) -> Result<Seq<Cell>, RowFault> {
     let mut cells = Seq::new(alloc);
     for word in words {
-        let ty = type_of_word(word).ok_or(RowFault::Unreadable)?;
+        let ty = type_of_word(word)?;
         cells.push(Cell { ty, start: 0 })?;
     }
     Ok(cells)

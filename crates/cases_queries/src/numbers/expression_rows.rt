@@ -2,9 +2,9 @@
 //! Proved safe by the checker alone.
 
 use crate::numbers::operator_rows::push_value;
-use crate::words::next_types;
+use crate::words::types_of;
 use cases_reader::{
-    RowFault, next_index, number_of_word, push_number, push_word, whole_expr, yes_or_no,
+    RowFault, index_of_word, number_of_word, push_number, push_word, whole_expr, yes_or_no,
 };
 use cpa_expr::{
     Expr, Store, copy, height, is_expr, may_read, push_expr, replace_cell, same_expr, size,
@@ -12,20 +12,16 @@ use cpa_expr::{
 };
 use cpa_ints::{Boxed, Seq};
 use std::alloc::{AllocError, Global};
-use std::str::SplitWhitespace;
 
-/// The answer of a row on one expression, where the word names one: `value V .. : E`, where the
-/// cells have the values V, `type_of : E`, `is_expr T .. : E`, where they have the types T,
-/// `size : E`, `height : E`, `may_read CELL : E` and `copy : E`.
-pub fn answer(
+/// Adds the answer of a row on the expression of a text.
+pub fn push_on_one(
     alloc: Global,
     out: &mut String,
-    word: &str,
-    words: &mut SplitWhitespace<'_>,
+    words: &[&str],
     text: &str,
-) -> Result<bool, RowFault> {
+) -> Result<(), RowFault> {
     let expr = boxed_expr(alloc, text)?;
-    push_answer(alloc, out, word, words, expr.get())
+    push_called(alloc, out, words, expr.get())
 }
 
 /// The expression that a text spells. It is boxed where it is read, so that what is dropped where a
@@ -34,135 +30,112 @@ fn boxed_expr(alloc: Global, text: &str) -> Result<Boxed<Expr>, RowFault> {
     Ok(Boxed::new(alloc, whole_expr(alloc, text)?)?)
 }
 
-/// The answer to a call on the expression, where the word names one.
-fn push_answer(
+/// The answer to a call on the expression.
+fn push_called(
     alloc: Global,
     out: &mut String,
-    word: &str,
-    words: &mut SplitWhitespace<'_>,
-    expr: &Expr,
-) -> Result<bool, RowFault> {
-    let pushed = match word {
-        "value" => push_value_of(alloc, out, words, expr),
-        "type_of" => push_type_of(out, expr),
-        "is_expr" => push_is_expr(alloc, out, words, expr),
-        "size" => push_size(out, expr),
-        "height" => push_height(out, expr),
-        "may_read" => push_may_read(out, words, expr),
-        "copy" => push_copy(alloc, out, expr),
-        _ => return Ok(false),
-    };
-    pushed?;
-    Ok(true)
-}
-
-/// `value`: the value in the store of the words that are left; `trap` where there is none.
-fn push_value_of(
-    alloc: Global,
-    out: &mut String,
-    words: &mut SplitWhitespace<'_>,
+    words: &[&str],
     expr: &Expr,
 ) -> Result<(), RowFault> {
-    let store = next_store(alloc, words)?;
-    Ok(push_value(out, value(expr, &store))?)
-}
-
-/// `type_of`: the word of the type.
-fn push_type_of(out: &mut String, expr: &Expr) -> Result<(), RowFault> {
-    Ok(push_word(out, type_word(type_of(expr)))?)
-}
-
-/// `is_expr`: whether it is well typed over cells of the types that are left.
-fn push_is_expr(
-    alloc: Global,
-    out: &mut String,
-    words: &mut SplitWhitespace<'_>,
-    expr: &Expr,
-) -> Result<(), RowFault> {
-    let cells = next_types(alloc, words)?;
-    Ok(push_word(out, yes_or_no(is_expr(expr, cells.as_slice())))?)
-}
-
-/// `size`: how many nodes it has.
-fn push_size(out: &mut String, expr: &Expr) -> Result<(), RowFault> {
-    Ok(push_number(out, i128::from(size(expr)))?)
-}
-
-/// `height`: how many nodes lie on the longest way down.
-fn push_height(out: &mut String, expr: &Expr) -> Result<(), RowFault> {
-    Ok(push_number(out, i128::from(height(expr)))?)
-}
-
-/// `may_read`: whether some node may read the cell.
-fn push_may_read(
-    out: &mut String,
-    words: &mut SplitWhitespace<'_>,
-    expr: &Expr,
-) -> Result<(), RowFault> {
-    let cell = next_index(words)?;
-    Ok(push_word(out, yes_or_no(may_read(expr, cell)))?)
-}
-
-/// `copy`: how the copy is spelled.
-fn push_copy(alloc: Global, out: &mut String, expr: &Expr) -> Result<(), RowFault> {
-    let copied = Boxed::new(alloc, copy(alloc, expr)?)?;
-    Ok(push_spelled(out, copied.get())?)
-}
-
-/// The answer of a row on two expressions, where the word names one: `same_expr : E : F`, and
-/// `replace_cell CELL : E : BY` for the text of E with BY in the cell's place.
-pub fn answer_on_two(
-    alloc: Global,
-    out: &mut String,
-    word: &str,
-    words: &mut SplitWhitespace<'_>,
-    texts: (&str, &str),
-) -> Result<bool, RowFault> {
-    let first = boxed_expr(alloc, texts.0)?;
-    let second = boxed_expr(alloc, texts.1)?;
-    push_on_two(alloc, out, word, words, first.get(), second.get())
-}
-
-/// The answer to a call on two expressions, where the word names one.
-fn push_on_two(
-    alloc: Global,
-    out: &mut String,
-    word: &str,
-    words: &mut SplitWhitespace<'_>,
-    first: &Expr,
-    second: &Expr,
-) -> Result<bool, RowFault> {
-    if word == "same_expr" {
-        push_word(out, yes_or_no(same_expr(first, second)))?;
-        Ok(true)
-    } else if word == "replace_cell" {
-        let cell = next_index(words)?;
-        push_replaced(alloc, out, first, cell, second)?;
-        Ok(true)
-    } else {
-        Ok(false)
+    match words {
+        ["value", numbers @ ..] => push_value_of(alloc, out, numbers, expr),
+        ["is_expr", types @ ..] => push_is_expr(alloc, out, types, expr),
+        ["may_read", cell] => push_may_read(out, cell, expr),
+        [asked] => push_alone(alloc, out, asked, expr),
+        _ => Err(RowFault::Unreadable),
     }
 }
 
-/// `replace_cell`: how the first expression is spelled with the second in the cell's place.
+/// `value V ..`: the value where the cells have the values V; `trap` where there is none.
+fn push_value_of(
+    alloc: Global,
+    out: &mut String,
+    numbers: &[&str],
+    expr: &Expr,
+) -> Result<(), RowFault> {
+    let store = store_of(alloc, numbers)?;
+    Ok(push_value(out, value(expr, &store))?)
+}
+
+/// The store of the numbers.
+fn store_of(alloc: Global, numbers: &[&str]) -> Result<Store, RowFault> {
+    let mut values = Seq::new(alloc);
+    for word in numbers {
+        values.push(number_of_word(word)?)?;
+    }
+    Ok(Store { values })
+}
+
+/// `is_expr T ..`: whether it is well typed over cells of the types T.
+fn push_is_expr(
+    alloc: Global,
+    out: &mut String,
+    types: &[&str],
+    expr: &Expr,
+) -> Result<(), RowFault> {
+    let cells = types_of(alloc, types)?;
+    Ok(push_word(out, yes_or_no(is_expr(expr, cells.as_slice())))?)
+}
+
+/// `may_read CELL`: whether some node may read the cell.
+fn push_may_read(out: &mut String, cell: &str, expr: &Expr) -> Result<(), RowFault> {
+    let cell = index_of_word(cell)?;
+    Ok(push_word(out, yes_or_no(may_read(expr, cell)))?)
+}
+
+/// `type_of`: the word of the type; `size`: how many nodes it has; `height`: how many of them lie
+/// on the longest way down; `copy`: how the copy is spelled.
+fn push_alone(alloc: Global, out: &mut String, asked: &str, expr: &Expr) -> Result<(), RowFault> {
+    let pushed = match asked {
+        "type_of" => push_word(out, type_word(type_of(expr))),
+        "size" => push_number(out, i128::from(size(expr))),
+        "height" => push_number(out, i128::from(height(expr))),
+        "copy" => push_copy(alloc, out, expr),
+        _ => return Err(RowFault::Unreadable),
+    };
+    Ok(pushed?)
+}
+
+/// How the copy is spelled.
+fn push_copy(alloc: Global, out: &mut String, expr: &Expr) -> Result<(), AllocError> {
+    let copied = Boxed::new(alloc, copy(alloc, expr)?)?;
+    push_spelled(out, copied.get())
+}
+
+/// Adds the answer of a row on the expressions of two texts: `same_expr : E : F`, or
+/// `replace_cell CELL : E : BY` for the text of E with BY in the cell's place.
+pub fn push_on_two(
+    alloc: Global,
+    out: &mut String,
+    words: &[&str],
+    first: &str,
+    second: &str,
+) -> Result<(), RowFault> {
+    let first = boxed_expr(alloc, first)?;
+    let second = boxed_expr(alloc, second)?;
+    match words {
+        ["same_expr"] => push_same(out, first.get(), second.get()),
+        ["replace_cell", cell] => push_replaced(alloc, out, first.get(), cell, second.get()),
+        _ => Err(RowFault::Unreadable),
+    }
+}
+
+/// Whether the expressions are the same.
+fn push_same(out: &mut String, first: &Expr, second: &Expr) -> Result<(), RowFault> {
+    Ok(push_word(out, yes_or_no(same_expr(first, second)))?)
+}
+
+/// How the first expression is spelled with the second in the cell's place.
 fn push_replaced(
     alloc: Global,
     out: &mut String,
     e: &Expr,
-    cell: u32,
+    cell: &str,
     by: &Expr,
-) -> Result<(), AllocError> {
+) -> Result<(), RowFault> {
+    let cell = index_of_word(cell)?;
     let replaced = Boxed::new(alloc, replace_cell(alloc, e, cell, by)?)?;
-    push_spelled(out, replaced.get())
-}
-
-/// The store of the values that are left.
-fn next_store(alloc: Global, words: &mut SplitWhitespace<'_>) -> Result<Store, RowFault> {
-    let mut values = Seq::new(alloc);
-    for word in words {
-        values.push(number_of_word(word)?)?;
-    }
-    Ok(Store { values })
+    Ok(push_spelled(out, replaced.get())?)
 }
 
 /// Adds an expression as reports spell it.

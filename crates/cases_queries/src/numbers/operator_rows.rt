@@ -5,22 +5,10 @@ use cases_reader::{OperatorRow, RowFault, operators_of, push_number, push_word};
 use cpa_expr::{Store, value};
 use cpa_ints::Seq;
 use std::alloc::{AllocError, Global};
-use std::str::SplitWhitespace;
 
-/// The answer of a row on operators; false where the word names none.
-pub fn answer(
-    alloc: Global,
-    out: &mut String,
-    word: &str,
-    words: &mut SplitWhitespace<'_>,
-) -> Result<bool, RowFault> {
-    match operators_of(alloc, word, words)? {
-        Some(row) => {
-            push_values(alloc, out, &row)?;
-            Ok(true)
-        }
-        None => Ok(false),
-    }
+/// Adds the answer of a row on operators.
+pub fn push_answer(alloc: Global, out: &mut String, words: &[&str]) -> Result<(), RowFault> {
+    Ok(push_values(alloc, out, &operators_of(alloc, words)?)?)
 }
 
 /// Appends the value of each operator.
