@@ -11,3 +11,5 @@ pub mod Kept
 pub mod Indexes
 pub mod Marks
 pub mod Tables
+pub mod Passed
+pub mod PassedLaws

@@ -56,6 +56,12 @@ pub record Differ (m k : Mark) : Type 0 where
   pub count : k.count ≡ m.count
   pub print : k.print ≢ m.print
 
+-- A mark that differs stands at the number.
+pub record DiffersAt (m : Mark) (ms : List Mark) (n : ℕ) : Type 0 where
+  pub kept : Mark
+  pub at : slice_get ms n ≡ Some kept
+  pub differ : Differ m kept
+
 -- A state lies in the one row's element at a place, and not in that of the other row.
 pub record IsParted (place : ℕ) (es fs : List Elem) : Type 0 where
   pub elem : Elem

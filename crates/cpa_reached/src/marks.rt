@@ -1,14 +1,16 @@
 //! Marks of rows, by which entries are passed over without a look at their elements. What a mark
 //! tells stands in `specs/Marks.antt`; proved with `proofs/Marking.antt`.
 
-ghost use Rattle.std.specs.Prelude.{◌≡◌, ◌+◌, ◌<◌, ◌^◌, length, IfSome, IsTrue};
+ghost use Rattle.std.specs.Prelude.{◌≡◌, ◌+◌, ◌<◌, ◌^◌, length, IfSome, IfOk, IsTrue};
 ghost use Rattle.std.specs.List.{AllByRecursion};
 ghost use Rattle.cpa_model.specs.declared.states.State.{State};
 ghost use Rattle.cpa_model.specs.Facts.{FactHolds};
 ghost use Rattle.cpa_reached.specs.Marks.{mixed, ascend_from, is_above, past, Counts, Tells, IsMarkOf};
-ghost use Rattle.cpa_reached.specs.Marks.{Differ};
+ghost use Rattle.cpa_reached.specs.Marks.{Differ, DiffersAt};
+ghost use Rattle.cpa_reached.specs.Passed.{LeavesOut};
 
 use cpa_model::{Elem, Fact};
+use std::alloc::{AllocError, Global};
 
 /// How many prints there are.
 const PRINTS: u64 = 0x1_0000_0000;
@@ -171,11 +173,40 @@ pub fn watch(elems: &[Elem]) -> Option<Mark>
 }
 
 /// Whether the marks are of the same place and run, and of other values.
-pub(crate) fn differ(mark: Mark, kept: Mark) -> bool
+fn differ(mark: Mark, kept: Mark) -> bool
     ensures { IsTrue result → Differ mark kept }
 {
     kept.print != mark.print
         && kept.first == mark.first
         && kept.count == mark.count
         && kept.place == mark.place
+}
+
+/// Whether such a mark stands at the number.
+fn differs_at(mark: Mark, marks: &[Mark], number: u32) -> bool
+    ensures { IsTrue result → DiffersAt mark marks.now number }
+{
+    match marks.get(number as usize) {
+        Some(kept) => differ(mark, *kept),
+        None => false,
+    }
+}
+
+/// These numbers but those at which a mark stands that differs.
+pub(crate) fn left(
+    alloc: Global,
+    mark: Mark,
+    marks: &[Mark],
+    numbers: &[u32],
+) -> Result<Vec<u32>, AllocError>
+    ensures { IfOk result (λ left.
+        LeavesOut (DiffersAt mark marks.now) numbers.now left.items) }
+{
+    let mut left = Vec::new(alloc);
+    for number in numbers {
+        if !differs_at(mark, marks, *number) {
+            left.push(*number)?;
+        }
+    }
+    Ok(left)
 }

@@ -1,22 +1,22 @@
 //! The reached set: its calls, each of which does exactly what a definition of `specs/` says. What
 //! is kept beside the entries stands in `specs/Kept.antt`, and in no contract here.
 
-ghost use Rattle.std.specs.Prelude.{◌≡◌, ℕ, [], List, IfOk, OnOk, OnErr, IfSome, IfNone, IsTrue};
+ghost use Rattle.std.specs.Prelude.{◌≡◌, ℕ, [], List, IfOk, OnOk, OnErr, IfSome, IfNone};
 ghost use Rattle.std.specs.List.{filter};
 ghost use Rattle.cpa_model.specs.declared.facts.Elem.{Elem as AnElem};
-ghost use Rattle.cpa_iface.specs.declared.entries.Entry.{Entry as AnEntry};
 ghost use Rattle.cpa_reached.specs.Entries.{IsLive, IsNext, IsNumbered, numbers, waiting_numbers};
 ghost use Rattle.cpa_reached.specs.Members.{IsIn};
 ghost use Rattle.cpa_reached.specs.Calls.{begun, taken, added, replaced, used, refined, closed};
 ghost use Rattle.cpa_reached.specs.Calls.{restarted, indexed};
 ghost use Rattle.cpa_reached.specs.Removal.{AreBelow, RemovesBelow, is_opened, without};
 ghost use Rattle.cpa_reached.specs.Keyed.{keyed};
-ghost use Rattle.cpa_reached.specs.Marks.{IsMarkOf, IsParted};
+ghost use Rattle.cpa_reached.specs.Marks.{IsMarkOf};
+ghost use Rattle.cpa_reached.specs.Passed.{LeavesOut, IsPassedBy};
 ghost use Rattle.cpa_reached.specs.Paths.{IsPathTo};
 ghost use Rattle.cpa_reached_key.specs.Rows.{picked};
 
 use crate::lists::reserve_one;
-use crate::marks::{Mark, differ, mark_of};
+use crate::marks::{self, Mark, mark_of};
 use crate::table::{self, Table};
 use crate::{finding, index, pruning, tracing};
 use cpa_iface::{Entry, Order, Precision, Turn};
@@ -195,15 +195,24 @@ impl Reached {
         index::under(&self.table.index, key)
     }
 
-    /// Whether a state lies in a row of this mark, and not in the entry of the number, by its marks
-    /// alone. Takes no memory.
-    pub fn is_parted(&self, number: u32, mark: Mark) -> bool
-        ensures { (row : List AnElem) → IsMarkOf mark row → IsTrue result → (e : AnEntry)
-            → IsIn e self.now.live → e.number ≡ number → IsParted mark.place row e.elems }
+    /// The numbers under the key but those of entries that the mark tells apart from its row, by
+    /// their marks alone.
+    pub fn left_under(&self, key: &Key, mark: Option<Mark>) -> Result<Vec<u32>, AllocError>
+        ensures left { (row : List AnElem) → IfSome mark (λ m. IsMarkOf m row)
+            → IfOk result (λ left. LeavesOut (IsPassedBy mark row self.now.live)
+            (keyed self.now.places key.now.elems self.now.live) left.items) }
+        ensures numbered { IsNumbered self.now }
     {
-        match self.marks.get(number as usize) {
-            Some(kept) => differ(mark, *kept),
-            None => false,
+        let numbers = self.under(key);
+        match mark {
+            Some(mark) => {
+                let left = marks::left(self.table.alloc, mark, &self.marks, numbers)?;
+                Ok(left)
+            }
+            None => {
+                let all = numbers.to_vec(self.table.alloc)?;
+                Ok(all)
+            }
         }
     }
 

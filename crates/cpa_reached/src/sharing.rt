@@ -1,7 +1,7 @@
 //! The row of precisions of a new entry: that of its parent, where it is known to be equal. So an
 //! entry takes no memory for it as long as no analysis asks for more.
 
-ghost use Rattle.std.specs.Prelude.{◌≡◌, IfOk};
+ghost use Rattle.std.specs.Prelude.{◌≡◌, IfOk, IsTrue};
 
 use crate::lists::trimmed;
 use cpa_iface::{Precision, Row, same_precisions};
@@ -32,9 +32,16 @@ fn is_short(precisions: &[Precision], elems: &[Elem]) -> bool {
     named(precisions) <= facts(elems).saturating_add(COMPARED)
 }
 
+/// Whether the rows are known to be the same. Longer ones are not compared, so that no entry costs
+/// what the program has.
+fn is_same(row: &[Precision], precisions: &[Precision], elems: &[Elem]) -> bool
+    ensures { IsTrue result → row.now ≡ precisions.now }
+{
+    is_short(precisions, elems) && same_precisions(row, precisions)
+}
+
 /// The row of an entry with these elements below one of the row `above`: that one once more, where
-/// both are the same, and short. A longer one is not compared, so that no entry costs what the
-/// program has.
+/// both are known to be the same.
 pub(crate) fn row_below(
     alloc: Global,
     above: &Row<Precision>,
@@ -44,8 +51,7 @@ pub(crate) fn row_below(
     ensures { IfOk result (λ row. row ≡ precisions.items) }
 {
     match above.share() {
-        Some(row) if is_short(&precisions, elems) && same_precisions(row.as_slice(), &precisions) =>
-            { Ok(row) }
+        Some(row) if is_same(row.as_slice(), &precisions, elems) => Ok(row),
         _ => Row::common(alloc, trimmed(precisions)),
     }
 }

@@ -4,5 +4,4 @@ use Rattle.cpa_reached.proofs.renaming.rename_uses.Given as goal
 
 abbrev pub invariant-loop-place : goal.invariant-loop-place
 invariant-loop-place l =
-    l.items.items ≡ map (rename l.old l.next) (take l.place l.initial.items.items) ++ drop l.place
-    l.initial.items.items
+    l.uses ≡ map (rename l.old l.next) (take l.place l.initial.uses) ++ drop l.place l.initial.uses
