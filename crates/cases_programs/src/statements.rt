@@ -1,67 +1,66 @@
 //! Reads a statement: `block N ..`, `if YES NO : TEST`, `loop BODY STEP`,
 //! `assign BASE LEN : INDEX : VALUE`, `input CELL`, `call F`, `goto N`, `leave`, `stop`, `error`.
 
-use crate::table::rest_indices;
-use cases_reader::{RowFault, next_index, next_part, next_word, whole_expr};
+use crate::table::indices_of_words;
+use cases_reader::{RowFault, index_of_word, whole_expr};
 use cpa_ints::Boxed;
 use cpa_model::Stmt;
 use std::alloc::Global;
-use std::str::{Split, SplitWhitespace};
 
 /// The statement that the words and parts spell.
-pub(crate) fn stmt_of(
-    alloc: Global,
-    words: &mut SplitWhitespace<'_>,
-    parts: &mut Split<'_, char>,
-) -> Result<Stmt, RowFault> {
-    let word = next_word(words)?;
-    match word {
-        "block" => block_of(alloc, words),
-        "if" => if_of(alloc, words, parts),
-        "assign" => assign_of(alloc, words, parts),
-        "loop" => loop_of(words),
-        "leave" => Ok(Stmt::Leave),
-        "stop" => Ok(Stmt::Stop),
-        "error" => Ok(Stmt::Error),
-        _ => numbered_stmt(word, words),
+pub(crate) fn stmt_of(alloc: Global, words: &[&str], parts: &[&str]) -> Result<Stmt, RowFault> {
+    match (words, parts) {
+        (["if", yes, no], [test]) => if_of(alloc, yes, no, test),
+        (["assign", base, len], [index, value]) => assign_of(alloc, base, len, index, value),
+        (words, []) => stmt_of_words(alloc, words),
+        _ => Err(RowFault::Unreadable),
     }
 }
 
-/// `block N ..`, behind its first word, as the next three are.
-fn block_of(alloc: Global, words: &mut SplitWhitespace<'_>) -> Result<Stmt, RowFault> {
-    let items = rest_indices(alloc, words)?;
+/// A statement without expressions.
+fn stmt_of_words(alloc: Global, words: &[&str]) -> Result<Stmt, RowFault> {
+    match words {
+        ["block", items @ ..] => block_of(alloc, items),
+        ["loop", body, step] => loop_of(body, step),
+        ["leave"] => Ok(Stmt::Leave),
+        ["stop"] => Ok(Stmt::Stop),
+        ["error"] => Ok(Stmt::Error),
+        [word, number] => numbered_stmt(word, number),
+        _ => Err(RowFault::Unreadable),
+    }
+}
+
+/// `block N ..`.
+fn block_of(alloc: Global, items: &[&str]) -> Result<Stmt, RowFault> {
+    let items = indices_of_words(alloc, items)?;
     Ok(Stmt::Block { items })
 }
 
 /// `loop BODY STEP`.
-fn loop_of(words: &mut SplitWhitespace<'_>) -> Result<Stmt, RowFault> {
-    let body = next_index(words)?;
-    let step = next_index(words)?;
+fn loop_of(body: &str, step: &str) -> Result<Stmt, RowFault> {
+    let body = index_of_word(body)?;
+    let step = index_of_word(step)?;
     Ok(Stmt::Loop { body, step })
 }
 
 /// `if YES NO : TEST`.
-fn if_of(
-    alloc: Global,
-    words: &mut SplitWhitespace<'_>,
-    parts: &mut Split<'_, char>,
-) -> Result<Stmt, RowFault> {
-    let yes = next_index(words)?;
-    let no = next_index(words)?;
-    let test = whole_expr(alloc, next_part(parts)?)?;
+fn if_of(alloc: Global, yes: &str, no: &str, test: &str) -> Result<Stmt, RowFault> {
+    let yes = index_of_word(yes)?;
+    let no = index_of_word(no)?;
+    let test = whole_expr(alloc, test)?;
     Ok(Stmt::If { test, yes, no })
 }
 
 /// `assign BASE LEN : INDEX : VALUE`.
 fn assign_of(
     alloc: Global,
-    words: &mut SplitWhitespace<'_>,
-    parts: &mut Split<'_, char>,
+    base: &str,
+    len: &str,
+    index: &str,
+    value: &str,
 ) -> Result<Stmt, RowFault> {
-    let base = next_index(words)?;
-    let len = next_index(words)?;
-    let index = next_part(parts)?;
-    let value = next_part(parts)?;
+    let base = index_of_word(base)?;
+    let len = index_of_word(len)?;
     let index = Boxed::new(alloc, whole_expr(alloc, index)?)?;
     let value = whole_expr(alloc, value)?;
     Ok(Stmt::Assign {
@@ -73,8 +72,8 @@ fn assign_of(
 }
 
 /// `input CELL`, `call FUNCTION` or `goto STATEMENT`.
-fn numbered_stmt(word: &str, words: &mut SplitWhitespace<'_>) -> Result<Stmt, RowFault> {
-    let number = next_index(words)?;
+fn numbered_stmt(word: &str, number: &str) -> Result<Stmt, RowFault> {
+    let number = index_of_word(number)?;
     match word {
         "input" => Ok(Stmt::Input { cell: number }),
         "call" => Ok(Stmt::Call { function: number }),

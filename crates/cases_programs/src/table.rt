@@ -2,14 +2,11 @@
 //! it here.
 
 use crate::statements::stmt_of;
-use cases_reader::{
-    RowFault, end_parts, end_row, index_of_word, next_index, next_part, next_word, number_of_word,
-    type_of_word,
-};
+use cases_reader::{Row, RowFault, index_of_word, number_of_word, type_of_word};
 use cpa_model::{Cell, Program, Seq};
 use std::alloc::Global;
 use std::mem;
-use std::str::{Split, SplitWhitespace};
+use std::str::SplitWhitespace;
 
 /// A program of rows, with its tables.
 #[derive(Drop)]
@@ -40,48 +37,58 @@ impl Table {
         }
     }
 
-    /// Sets what a row names, and says whether it names something: `program`, which begins another
-    /// one, `main FUNCTION`, `cells T START ..`, `bodies N ..`, `ends N ..`, `owners N ..`,
-    /// `levels N ..`, `stmt` with one more statement, or `put N` with another one in the place of
-    /// the statement N.
+    /// Sets what a row names, and says whether it names something: a part of `set_part`, `stmt`
+    /// with one more statement, or `put N` with another one in the place of the statement N.
     pub fn set(&mut self, alloc: Global, line: &str) -> Result<bool, RowFault> {
-        let mut parts = line.split(':');
-        let mut words = next_part(&mut parts)?.split_whitespace();
-        let word = next_word(&mut words)?;
-        match word {
-            "program" => *self = Table::new(alloc),
-            "main" => self.program.main = next_index(&mut words)?,
-            "cells" => self.program.cells = next_cells(alloc, &mut words)?,
-            "stmt" => self.push_stmt(alloc, &mut words, &mut parts)?,
-            "put" => self.put_stmt(alloc, &mut words, &mut parts)?,
-            _ => return self.set_numbers(alloc, word, &mut words),
+        let row = Row::of(alloc, line)?;
+        self.set_named(alloc, &row.words, &row.parts)
+    }
+
+    /// Sets what words and parts name.
+    fn set_named(
+        &mut self,
+        alloc: Global,
+        words: &[&str],
+        parts: &[&str],
+    ) -> Result<bool, RowFault> {
+        match words {
+            ["stmt", words @ ..] => self.push_stmt(alloc, words, parts)?,
+            ["put", number, words @ ..] => self.put_stmt(alloc, number, words, parts)?,
+            _ => return self.set_part(alloc, words),
         }
-        end_row(&mut words)?;
-        end_parts(&mut parts)?;
+        Ok(true)
+    }
+
+    /// Sets what words name: `program`, which begins another one, `main FUNCTION`,
+    /// `cells T START ..`, or a list of `set_numbers`.
+    fn set_part(&mut self, alloc: Global, words: &[&str]) -> Result<bool, RowFault> {
+        match words {
+            ["program"] => *self = Table::new(alloc),
+            ["main", function] => self.program.main = index_of_word(function)?,
+            ["cells", cells @ ..] => self.program.cells = cells_of(alloc, cells)?,
+            [word, numbers @ ..] => return self.set_numbers(alloc, word, numbers),
+            [] => return Ok(false),
+        }
         Ok(true)
     }
 
     /// Adds the statement that the words and parts spell.
-    fn push_stmt(
-        &mut self,
-        alloc: Global,
-        words: &mut SplitWhitespace<'_>,
-        parts: &mut Split<'_, char>,
-    ) -> Result<(), RowFault> {
+    fn push_stmt(&mut self, alloc: Global, words: &[&str], parts: &[&str]) -> Result<(), RowFault> {
         let stmt = stmt_of(alloc, words, parts)?;
         self.program.stmts.push(stmt)?;
         Ok(())
     }
 
-    /// `N STATEMENT`: the statement comes in the place of the one of the number N. It is added
-    /// first, since a statement that lives on beside another one is dear to prove.
+    /// The statement comes in the place of the one of this number. It is added first, since a
+    /// statement that lives on beside another one is dear to prove.
     fn put_stmt(
         &mut self,
         alloc: Global,
-        words: &mut SplitWhitespace<'_>,
-        parts: &mut Split<'_, char>,
+        number: &str,
+        words: &[&str],
+        parts: &[&str],
     ) -> Result<(), RowFault> {
-        let number = next_index(words)? as usize;
+        let number = index_of_word(number)? as usize;
         if self.program.stmts.len() <= number {
             return Err(RowFault::Unreadable);
         }
@@ -101,12 +108,13 @@ impl Table {
         self.program.stmts = Seq::from_vec(stmts);
     }
 
-    /// Sets the list that the word names, to the numbers that are left; false where it names none.
+    /// Sets `bodies N ..`, `ends N ..`, `owners N ..` or `levels N ..`; false where the word names
+    /// none of them.
     fn set_numbers(
         &mut self,
         alloc: Global,
         word: &str,
-        words: &mut SplitWhitespace<'_>,
+        numbers: &[&str],
     ) -> Result<bool, RowFault> {
         let list = match word {
             "bodies" => &mut self.program.bodies,
@@ -115,7 +123,7 @@ impl Table {
             "levels" => &mut self.levels,
             _ => return Ok(false),
         };
-        *list = rest_indices(alloc, words)?;
+        *list = indices_of_words(alloc, numbers)?;
         Ok(true)
     }
 }
@@ -129,16 +137,16 @@ pub fn rest_indices(alloc: Global, words: &mut SplitWhitespace<'_>) -> Result<Se
     Ok(numbers)
 }
 
-/// The cells of the words that are left, a type and a start each.
-fn next_cells(alloc: Global, words: &mut SplitWhitespace<'_>) -> Result<Seq<Cell>, RowFault> {
-    let mut all: Vec<&str> = Vec::new(alloc);
+/// The indices of words.
+pub(crate) fn indices_of_words(alloc: Global, words: &[&str]) -> Result<Seq<u32>, RowFault> {
+    let mut numbers = Seq::new(alloc);
     for word in words {
-        all.push(word)?;
+        numbers.push(index_of_word(word)?)?;
     }
-    cells_of(alloc, &all)
+    Ok(numbers)
 }
 
-/// The cells of these words.
+/// The cells of these words, a type and a start each.
 fn cells_of(alloc: Global, words: &[&str]) -> Result<Seq<Cell>, RowFault> {
     let mut cells = Seq::new(alloc);
     let mut rest = words;
