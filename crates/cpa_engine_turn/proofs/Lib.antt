@@ -18,3 +18,4 @@ pub mod Counting
 pub mod Bounding
 pub mod Pinning
 pub mod Passing
+pub mod Looking

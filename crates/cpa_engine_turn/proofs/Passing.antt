@@ -2,7 +2,7 @@
 -- of the entry, the entry does not cover the successor, and where such elements are kept apart it
 -- does not merge (`stands_apart`).
 use Rattle.std.proofs.Common.{◌≡◌, ℕ, zero, suc, Bool, true, false, List, [], ◌∷◌, length}
-use Rattle.std.proofs.Common.{Option, Some, refl, ap, ◌∙◌, subst, inl, ⊎_elim, arith}
+use Rattle.std.proofs.Common.{Option, None, Some, refl, ap, ◌∙◌, subst, inl, ⊎_elim, arith}
 use Rattle.std.specs.Prelude.{◌&&◌, IfSome}
 use Rattle.std.specs.List.{slice_get}
 use Rattle.std.proofs.lemmas.Bool.{cases_Bool}
@@ -103,3 +103,9 @@ pub mark_under : (ds cs : List Component) (fs es : List Elem) (o : Option Mark) 
 mark_under ds cs fs es o same_cs same_es by =
     subst (λ (gs : List Elem). IfSome o (IsApartBy cs gs)) same_es
     (subst (λ (bs : List Component). IfSome o (IsApartBy bs fs)) same_cs by)
+
+-- it is a mark of the row
+pub mark_of : (cs : List Component) (row : List Elem) (o : Option Mark)
+    → IfSome o (IsApartBy cs row) → IfSome o (λ m. IsMarkOf m row)
+mark_of cs row None by = by
+mark_of cs row (Some m) by = by.marked

@@ -18,12 +18,12 @@ gone_first : {X : Type 0} (front : List X) (x : X) (rest : List X)
 gone_first [] x rest = refl
 gone_first {X} (y ∷ front) x rest = ap (λ (l : List X). y ∷ l) (gone_first front x rest)
 
-shifted : {X : Type 0} (front : List X) (x : X) (rest : List X)
+pub shifted : {X : Type 0} (front : List X) (x : X) (rest : List X)
     → front ++ x ∷ rest ≡ (front ++ x ∷ []) ++ rest
 shifted [] x rest = refl
 shifted {X} (y ∷ front) x rest = ap (λ (l : List X). y ∷ l) (shifted front x rest)
 
-grouped : {X : Type 0} (xs ys zs : List X) → (xs ++ ys) ++ zs ≡ xs ++ (ys ++ zs)
+pub grouped : {X : Type 0} (xs ys zs : List X) → (xs ++ ys) ++ zs ≡ xs ++ (ys ++ zs)
 grouped [] ys zs = refl
 grouped {X} (x ∷ xs) ys zs = ap (λ (l : List X). x ∷ l) (grouped xs ys zs)
 
@@ -31,7 +31,7 @@ size_push : {X : Type 0} (xs : List X) (x : X) → length (xs ++ x ∷ []) ≡ l
 size_push [] x = omega arith
 size_push (y ∷ xs) x = let h = size_push xs x in omega (arith, h)
 
-none_behind : (xs : List ℕ) → xs ≡ xs ++ []
+pub none_behind : (xs : List ℕ) → xs ≡ xs ++ []
 none_behind [] = refl
 none_behind (x ∷ xs) = ap (λ (l : List ℕ). x ∷ l) (none_behind xs)
 

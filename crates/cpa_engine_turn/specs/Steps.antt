@@ -1,6 +1,6 @@
 -- The steps of which a turn is a chain, and what is known of a stage. Nothing here is promised to a
 -- caller.
-use Rattle.std.specs.Prelude.{◌≡◌, ℕ, ◌+◌, ◌<◌, true, false, List, [], ◌∷◌, ◌++◌, length, ◌⊎◌}
+use Rattle.std.specs.Prelude.{◌≡◌, ℕ, ◌+◌, ◌<◌, ◌≤◌, true, false, List, [], ◌∷◌, ◌++◌, length, ◌⊎◌}
 use Rattle.std.specs.Prelude.{Some, slice_get}
 use Rattle.std.specs.List.{AllByRecursion, remove}
 use Rattle.cpa_model.specs.declared.automaton.Cfa.{Cfa}
@@ -77,6 +77,22 @@ pub record IsApartBy (cs : List Component) (row : List Elem) (m : Mark) : Type 0
 pub record StandsApart (cs : List Component) (row other : List Elem) : Type 0 where
   pub uncovered : all_cover cs row other ≡ false
   pub differs : AgreeOnSep cs row other → ⊥
+
+-- the entry of the number stands apart from the row
+abbrev pub IsOff : List Component → List Elem → List Entry → ℕ → Type 0
+IsOff cs row xs n = (e : Entry) → IsIn e xs → e.number ≡ n → StandsApart cs row e.elems
+
+-- An entry of the list has the number and the elements of this one.
+pub record HasSame (xs : List Entry) (e : Entry) : Type 0 where
+  pub entry : Entry
+  pub is_in : IsIn entry xs
+  pub number : entry.number ≡ e.number
+  pub elems : entry.elems ≡ e.elems
+
+-- Each entry of a number that was given out before has the elements that it had then.
+pub record StaysSo (old new : ReachedSet) : Type 0 where
+  pub next : old.next ≤ new.next
+  pub there : (e : Entry) → IsIn e new.live → e.number < old.next → HasSame old.live e
 
 -- A live entry is noted as one that covers a successor.
 pub record NotesUse (a b : Stage) : Type 0 where

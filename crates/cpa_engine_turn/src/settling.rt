@@ -1,8 +1,8 @@
 //! One successor: it is adjusted, merged into the live entries of its key, and noted as covered or
 //! added. Each clause is a definition of `specs/Stages.antt`.
 
-ghost use Rattle.std.specs.Prelude.{◌≡◌, ℕ, ◌<◌, List, length, map, Some, slice_get, IfOk, OnOk};
-ghost use Rattle.std.specs.Prelude.{IfSome, IsTrue};
+ghost use Rattle.std.specs.Prelude.{◌≡◌, ℕ, ◌<◌, false, List, length, map, Some, slice_get};
+ghost use Rattle.std.specs.Prelude.{IfOk, OnOk, IfSome};
 ghost use Rattle.std.specs.List.{AllByRecursion};
 ghost use Rattle.cpa_model.specs.Automata.{IsAutomaton};
 ghost use Rattle.cpa_model.specs.declared.facts.Elem.{Elem as AnElem};
@@ -12,12 +12,13 @@ ghost use Rattle.cpa_composite.specs.Composites.{components};
 ghost use Rattle.cpa_composite.specs.Covers.{all_cover};
 ghost use Rattle.cpa_reached.specs.Entries.{IsLive, numbers};
 ghost use Rattle.cpa_reached.specs.Members.{IsIn};
+ghost use Rattle.cpa_reached.specs.Passed.{LeavesOut};
 ghost use Rattle.cpa_engine_turn.specs.Keys.{HasPlaces};
 ghost use Rattle.cpa_engine_turn.specs.Stages.{Compares, ComparesAll, under, first_cover};
 ghost use Rattle.cpa_engine_turn.specs.Stages.{covered_or_added};
 ghost use Rattle.cpa_engine_turn.specs.Stages.{Settles, SettlesAll};
 ghost use Rattle.cpa_engine_turn.specs.Steps.{stage, IsOrdered, HasCurrent, MovesFrom};
-ghost use Rattle.cpa_engine_turn.specs.Steps.{IsApartBy, StandsApart};
+ghost use Rattle.cpa_engine_turn.specs.Steps.{IsApartBy, IsOff, StaysSo};
 ghost use Rattle.cpa_engine_turn.specs.Turns.{AreEntries};
 
 use crate::work::Work;
@@ -45,36 +46,55 @@ fn watched<A: Analysis>(composite: &Composite<A>, successor: &[Elem]) -> Option<
     }
 }
 
-/// Whether the entry of the number is passed over: by its mark it neither merges nor covers.
-fn is_passed(reached: &Reached, number: u32, mark: Option<Mark>) -> bool
+/// The numbers of the entries under the key that the mark does not tell apart: any other neither
+/// merges nor covers.
+fn left_under(reached: &Reached, key: &Key, mark: Option<Mark>) -> Result<Vec<u32>, AllocError>
     ensures { (cs : List Component) (row : List AnElem) → IfSome mark (IsApartBy cs row)
-        → IsTrue result → (e : AnEntry) → IsIn e reached.now.live → e.number ≡ number
-        → StandsApart cs row e.elems }
+        → IfOk result (λ left. LeavesOut (IsOff cs row reached.now.live)
+        (numbers (under reached.now key.now.elems)) left.items) }
 {
-    match mark {
-        Some(mark) => reached.is_parted(number, mark),
-        None => false,
+    let left = reached.left_under(key, mark)?;
+    Ok(left)
+}
+
+/// The same numbers where nothing has changed since, or else what a new look gives.
+fn left_after(
+    reached: &Reached,
+    key: &Key,
+    mark: Option<Mark>,
+    left: Vec<u32>,
+    is_changed: bool,
+) -> Result<Vec<u32>, AllocError>
+    ensures { (cs : List Component) (row : List AnElem) → IfSome mark (IsApartBy cs row)
+        → (is_changed ≡ false → LeavesOut (IsOff cs row reached.now.live)
+        (numbers (under reached.now key.now.elems)) left.items)
+        → IfOk result (λ later. LeavesOut (IsOff cs row reached.now.live)
+        (numbers (under reached.now key.now.elems)) later.items) }
+{
+    if is_changed {
+        let later = left_under(reached, key, mark)?;
+        Ok(later)
+    } else {
+        Ok(left)
     }
 }
 
-/// Merges the successor into the entry of this number. Under a key where it stands the others stay
-/// in order, and what may take its place is the last one.
+/// Merges the successor into the entry of this number, and tells whether that one gave way. Under a
+/// key where it stands the others stay in order, and what takes its place is the last one.
 fn merge_into<A: Analysis>(
     alloc: Global,
     cfa: &Cfa,
     composite: &mut Composite<A>,
     reached: &mut Reached,
     work: &mut Work,
-    mark: Option<Mark>,
     number: u32,
     successor: &[Elem],
     precisions: &[Precision],
-) -> Result<(), AllocError>
+) -> Result<bool, AllocError>
     requires automaton { IsAutomaton cfa.now }
     requires entries { AreEntries cfa.now (length (components composite.old)) reached.old.live }
     requires places { HasPlaces (components composite.old) reached.old }
     requires live { IsLive reached.old.live number }
-    requires mark { IfSome mark (IsApartBy (components composite.old) successor.now) }
     requires successor { AreElems cfa.now (length (components composite.old)) successor.now }
     requires precisions { ArePrecisions cfa.now (length (components composite.old))
         precisions.now }
@@ -84,89 +104,91 @@ fn merge_into<A: Analysis>(
         → slice_get (numbers (under reached.old key)) place ≡ Some number
         → OnOk result (MovesFrom (numbers (under reached.old key))
         (numbers (under reached.new key)) place) }
+    ensures stays { OnOk result (StaysSo reached.old reached.new) }
+    ensures same { IfOk result (λ gave_way. gave_way ≡ false → reached.new ≡ reached.old) }
     ensures kept { components composite.new ≡ components composite.old }
 {
-    if is_passed(reached, number, mark) {
-        return Ok(());
-    }
     let old = reached.entry(number).elems.as_slice();
     match composite.merge(alloc, cfa, successor, old, precisions)? {
         Some(merged) => {
             let next = reached.replace(number, merged)?;
             work.note_replaced(number, next)?;
-            Ok(())
+            Ok(true)
         }
-        None => Ok(()),
+        None => Ok(false),
     }
 }
 
-/// Merges the successor into each entry that stands under the key now, in order of numbers.
+/// Merges the successor into each entry that stands under the key now, in order of numbers, and
+/// tells whether one gave way. Only those that are left are looked at.
 fn compare<A: Analysis>(
     alloc: Global,
     cfa: &Cfa,
     composite: &mut Composite<A>,
     reached: &mut Reached,
     work: &mut Work,
-    key: &Key,
-    mark: Option<Mark>,
+    _key: &Key,
+    left: &[u32],
     successor: &[Elem],
     precisions: &[Precision],
-) -> Result<(), AllocError>
+) -> Result<bool, AllocError>
     requires automaton { IsAutomaton cfa.now }
     requires entries { AreEntries cfa.now (length (components composite.old)) reached.old.live }
     requires places { HasPlaces (components composite.old) reached.old }
-    requires mark { IfSome mark (IsApartBy (components composite.old) successor.now) }
+    requires ordered { IsOrdered reached.old }
+    requires left { LeavesOut (IsOff (components composite.old) successor.now reached.old.live)
+        (numbers (under reached.old _key.now.elems)) left.now }
     requires successor { AreElems cfa.now (length (components composite.old)) successor.now }
     requires precisions { ArePrecisions cfa.now (length (components composite.old))
         precisions.now }
     ensures compares { OnOk result (ComparesAll cfa.now (components composite.old) successor.now
-        precisions.now (numbers (under reached.old key.now.elems)) (stage reached.old work.old)
+        precisions.now (numbers (under reached.old _key.now.elems)) (stage reached.old work.old)
         (stage reached.new work.new)) }
+    ensures same { IfOk result (λ is_changed. is_changed ≡ false → reached.new ≡ reached.old) }
     ensures kept { components composite.new ≡ components composite.old }
 {
-    let numbers = reached.under(key).to_vec(alloc)?;
-    for number in numbers.as_slice() {
-        merge_into(
-            alloc, cfa, composite, reached, work, mark, *number, successor, precisions,
-        )?;
+    let mut is_changed = false;
+    for number in left {
+        if merge_into(
+            alloc, cfa, composite, reached, work, *number, successor, precisions,
+        )? {
+            is_changed = true;
+        }
     }
-    Ok(())
+    Ok(is_changed)
 }
 
 /// Whether the entry of the number covers the elements.
 fn covers<A: Analysis>(
     composite: &Composite<A>,
     reached: &Reached,
-    mark: Option<Mark>,
     number: u32,
     elems: &[Elem],
 ) -> bool
-    requires live { IsLive reached.now.live number }
-    requires mark { IfSome mark (IsApartBy (components composite.now) elems.now) }
+    requires { IsLive reached.now.live number }
     ensures { (e : AnEntry) → IsIn e reached.now.live → e.number ≡ number
         → result ≡ all_cover (components composite.now) elems.now e.elems }
 {
-    if is_passed(reached, number, mark) {
-        return false;
-    }
     let entry = reached.entry(number);
     composite.covered_by(elems, entry.elems.as_slice())
 }
 
-/// The number of the first entry under the key that covers the elements.
+/// The number of the first entry under the key that covers the elements. Only those that are left
+/// are looked at.
 fn covering<A: Analysis>(
     composite: &Composite<A>,
     reached: &Reached,
-    key: &Key,
-    mark: Option<Mark>,
+    _key: &Key,
+    left: &[u32],
     elems: &[Elem],
 ) -> Option<u32>
-    requires { IfSome mark (IsApartBy (components composite.now) elems.now) }
+    requires { LeavesOut (IsOff (components composite.now) elems.now reached.now.live)
+        (numbers (under reached.now _key.now.elems)) left.now }
     ensures { result ≡ first_cover (components composite.now) elems.now
-        (under reached.now key.now.elems) }
+        (under reached.now _key.now.elems) }
 {
-    for number in reached.under(key) {
-        if covers(composite, reached, mark, *number, elems) {
+    for number in left {
+        if covers(composite, reached, *number, elems) {
             return Some(*number);
         }
     }
@@ -180,18 +202,19 @@ fn cover_or_add<A: Analysis>(
     reached: &mut Reached,
     work: &mut Work,
     key: &Key,
-    mark: Option<Mark>,
+    left: &[u32],
     edge: u32,
     successor: Vec<Elem>,
     precisions: Vec<Precision>,
 ) -> Result<(), AllocError>
     requires current { HasCurrent (stage reached.old work.old) }
-    requires mark { IfSome mark (IsApartBy (components composite.now) successor.items) }
+    requires left { LeavesOut (IsOff (components composite.now) successor.items reached.old.live)
+        (numbers (under reached.old key.now.elems)) left.now }
     ensures { OnOk result (stage reached.new work.new ≡ covered_or_added successor.items
         precisions.items edge (first_cover (components composite.now) successor.items
         (under reached.old key.now.elems)) (stage reached.old work.old)) }
 {
-    match covering(composite, reached, key, mark, &successor) {
+    match covering(composite, reached, key, left, &successor) {
         Some(by) => reached.note_use(work.current, by),
         None => {
             let number = reached.add(successor, precisions, (work.current, edge))?;
@@ -227,19 +250,21 @@ fn settle<A: Analysis>(
     let (elems, precisions) = composite.adjust(alloc, cfa, successor, precisions, live)?;
     let key = reached.key_of(&elems)?;
     let mark = watched(composite, &elems);
-    compare(
+    let left = left_under(reached, &key, mark)?;
+    let is_changed = compare(
         alloc,
         cfa,
         composite,
         reached,
         work,
         &key,
-        mark,
+        &left,
         &elems,
         &precisions,
     )?;
+    let later = left_after(reached, &key, mark, left, is_changed)?;
     cover_or_add(
-        composite, reached, work, &key, mark, edge, elems, precisions,
+        composite, reached, work, &key, &later, edge, elems, precisions,
     )
 }
 

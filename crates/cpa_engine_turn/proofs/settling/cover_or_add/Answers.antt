@@ -1,19 +1,23 @@
-use Rattle.std.proofs.Common.{◌≡◌, refl, sym}
+use Rattle.std.proofs.Common.{◌≡◌, List, sym, subst}
 use Rattle.std.proofs.lemmas.Result.{on_ok_weaker}
 use Rattle.cpa_composite.specs.Composites.{components}
+use Rattle.cpa_model.specs.declared.facts.Elem.{Elem}
+use Rattle.cpa_reached.specs.Entries.{numbers}
+use Rattle.cpa_reached.specs.Passed.{LeavesOut}
 use Rattle.cpa_reached.specs.Calls.{used}
 use Rattle.cpa_engine_turn.specs.Stages.{under}
-use Rattle.cpa_engine_turn.specs.Steps.{with_added}
+use Rattle.cpa_engine_turn.specs.Steps.{IsOff, with_added}
 use Rattle.cpa_engine_turn.proofs.Fellows.{live_cover}
-use Rattle.cpa_engine_turn.proofs.Passing.{mark_under}
 use Rattle.cpa_engine_turn.proofs.Settled.{found_in, covered_is, added_is}
 use Rattle.cpa_engine_turn.proofs.settling.cover_or_add.Goals as goal
 
 pub covering-requires : goal.covering-requires
 covering-requires g c =
     let cs = components c.args.composite.now in
-    mark_under cs cs c.args.successor.items c.deref.result.now c.args.mark refl
-    (sym c.deref.ensures.value) c.requires.mark
+    let r = c.args.reached.now in
+    subst (λ (es : List Elem). LeavesOut (IsOff cs es r.live)
+    (numbers (under r c.args.key.now.elems)) c.args.left.now) (sym c.deref.ensures.value)
+    c.requires.left
 
 pub note_use-requires-clause-by : goal.note_use-requires-clause-by
 note_use-requires-clause-by g c =

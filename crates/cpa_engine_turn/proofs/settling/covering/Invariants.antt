@@ -1,12 +1,11 @@
--- What is left has the first entry that covers, if all under the key have one.
-use Rattle.std.proofs.Common.{◌≡◌, drop}
+-- Those under the key that are behind, and do not stand apart, are left.
+use Rattle.std.proofs.Common.{drop}
 use Rattle.cpa_composite.specs.Composites.{components}
-use Rattle.cpa_engine_turn.specs.Stages.{first_cover, under}
+use Rattle.cpa_engine_turn.proofs.Looking.{CoversSo}
 use Rattle.cpa_engine_turn.proofs.settling.covering.Given as goal
 
 abbrev pub invariant-loop-number : goal.invariant-loop-number
 invariant-loop-number g l = record {
-  left : first_cover (components l.composite) l.elems (under l.reached l.key.elems)
-      ≡ first_cover (components l.composite) l.elems
-      (drop l.number-index (under l.reached l.key.elems));
+  so : CoversSo (components l.composite) l.elems l._key.elems l.reached
+      (drop l.number-index l.left);
 }

@@ -5,11 +5,6 @@ use Rattle.cpa_composite.specs.Covers.{all_cover}
 use Rattle.cpa_reached.specs.MemberLaws.{one_entry}
 use Rattle.cpa_engine_turn.proofs.settling.covers.Goals as goal
 
-pub returns-then-is_passed : goal.returns-then-is_passed
-returns-then-is_passed g c = λ e there number.
-    sym (c.is_passed.ensures (components c.args.composite.now) c.args.elems.now c.requires.mark
-    c.if-is_passed.true e there number).uncovered
-
 pub returns : goal.returns
 returns g c = λ e there number.
     let cs = components c.args.composite.now in

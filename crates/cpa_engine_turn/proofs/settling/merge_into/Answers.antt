@@ -1,20 +1,9 @@
 use Rattle.std.proofs.Common.{◌+◌, refl, inl}
 use Rattle.cpa_composite.specs.Composites.{components}
 use Rattle.cpa_engine_turn.proofs.Fellows.{merged_under, replaced_under}
-use Rattle.cpa_engine_turn.proofs.Passing.{passed_compares}
+use Rattle.cpa_engine_turn.proofs.Looking.{stays_replaced, stays_same}
 use Rattle.cpa_engine_turn.proofs.Settled.{old_shaped, merged_row, merged_compares, left_compares}
 use Rattle.cpa_engine_turn.proofs.settling.merge_into.Goals as goal
-
-pub returns-then-is_passed-clause-compares : goal.returns-then-is_passed-clause-compares
-returns-then-is_passed-clause-compares g c =
-    let cs = components c.args.composite.now in
-    let es = c.args.successor.now in
-    passed_compares c.args.cfa.now cs c.args.reached.now c.args.work.now es
-    c.args.precisions.now c.args.number c.requires.live
-    (c.is_passed.ensures cs es c.requires.mark c.if-is_passed.true)
-
-pub returns-then-is_passed-clause-moves : goal.returns-then-is_passed-clause-moves
-returns-then-is_passed-clause-moves g c = λ key i here. (i + 1, record { step = inl (refl, refl) })
 
 pub merge-requires-clause-old : goal.merge-requires-clause-old
 merge-requires-clause-old g c =
@@ -56,6 +45,17 @@ returns-in_ok-note_replaced-in-Some-clause-moves g c = λ key i here.
           c.in_ok-next-in-Some.ensures.ok,
     )
 
+pub returns-in_ok-note_replaced-in-Some-clause-stays :
+    goal.returns-in_ok-note_replaced-in-Some-clause-stays
+returns-in_ok-note_replaced-in-Some-clause-stays g c =
+    stays_replaced c.args.reached.now c.replace.new.self c.entry.result.now c.args.number
+    c.in-Some.merged.items c.entry.ensures.numbered.ascend c.entry.ensures.is_in
+    c.entry.ensures.number c.in_ok-next-in-Some.ensures.ok
+
+pub returns-in_ok-note_replaced-in-Some-clause-same :
+    goal.returns-in_ok-note_replaced-in-Some-clause-same
+returns-in_ok-note_replaced-in-Some-clause-same g c = λ is. absurd (cc)
+
 pub returns-in-None-clause-compares : goal.returns-in-None-clause-compares
 returns-in-None-clause-compares g c =
     left_compares c.args.cfa.now (components c.args.composite.now) c.args.reached.now
@@ -66,3 +66,9 @@ returns-in-None-clause-compares g c =
 
 pub returns-in-None-clause-moves : goal.returns-in-None-clause-moves
 returns-in-None-clause-moves g c = λ key i here. (i + 1, record { step = inl (refl, refl) })
+
+pub returns-in-None-clause-stays : goal.returns-in-None-clause-stays
+returns-in-None-clause-stays g c = stays_same c.args.reached.now
+
+pub returns-in-None-clause-same : goal.returns-in-None-clause-same
+returns-in-None-clause-same g c = λ _. refl

@@ -1,4 +1,4 @@
-use Rattle.std.proofs.Common.{◌≡◌, List, length, refl, sym, ap, ◌∙◌, subst}
+use Rattle.std.proofs.Common.{◌≡◌, ℕ, List, length, refl, sym, ap, ◌∙◌, subst}
 use Rattle.std.proofs.lemmas.Result.{on_ok_weaker}
 use Rattle.cpa_model.specs.declared.facts.Elem.{Elem}
 use Rattle.cpa_iface.specs.declared.entries.Entry.{Entry}
@@ -6,10 +6,11 @@ use Rattle.cpa_composite.specs.Components.{Component}
 use Rattle.cpa_composite.specs.Composites.{components}
 use Rattle.cpa_composite.specs.Laws.{AdjustedRow}
 use Rattle.cpa_reached_key.specs.Rows.{picked}
-use Rattle.cpa_reached.specs.Entries.{numbers}
+use Rattle.cpa_reached.specs.Entries.{ReachedSet, numbers}
+use Rattle.cpa_reached.specs.Passed.{LeavesOut}
 use Rattle.cpa_engine_turn.specs.Stages.{Stage, ComparesAll, under, fellows, first_cover}
 use Rattle.cpa_engine_turn.specs.Stages.{covered_or_added}
-use Rattle.cpa_engine_turn.specs.Steps.{stage}
+use Rattle.cpa_engine_turn.specs.Steps.{stage, IsOff}
 use Rattle.cpa_engine_turn.proofs.Passing.{mark_under}
 use Rattle.cpa_engine_turn.proofs.Progress.{current_along, places_along}
 use Rattle.cpa_engine_turn.proofs.Settled.{compares_under}
@@ -22,17 +23,33 @@ watched-mark-requires g c =
     ∙ (c.in_ok-elems.ensures.laws.elems.size
     ∙ ap (λ (cs : List Component). length cs) (sym c.adjust.ensures.kept))
 
-pub compare-requires-clause-mark : goal.compare-requires-clause-mark
-compare-requires-clause-mark g c =
+pub compare-requires-clause-left : goal.compare-requires-clause-left
+compare-requires-clause-left g c =
     let cs = components c.adjust.new.self in
-    mark_under cs cs c.deref-2.result.now c.deref-3.result.now c.watched-mark.result refl
-    (c.deref-2.ensures.value ∙ sym c.deref-3.ensures.value) c.watched-mark.ensures
+    let es = c.deref-4.result.now in
+    let r = c.args.reached.now in
+    let by = mark_under cs cs c.deref-2.result.now es c.watched-mark.result refl
+    (c.deref-2.ensures.value ∙ sym c.deref-4.ensures.value) c.watched-mark.ensures in
+    subst (λ (ns : List ℕ). LeavesOut (IsOff cs es r.live)
+    (numbers (under r c.in_ok-key.key.elems)) ns) (sym c.deref-3.ensures.value)
+    (c.in_ok-left.ensures cs es by)
 
-pub cover_or_add-requires-clause-mark : goal.cover_or_add-requires-clause-mark
-cover_or_add-requires-clause-mark g c =
-    mark_under (components c.adjust.new.self) (components c.compare.new.composite)
-    c.deref-2.result.now c.in_ok-elems.elems.items c.watched-mark.result
-    (sym c.compare.ensures.kept) c.deref-2.ensures.value c.watched-mark.ensures
+pub cover_or_add-requires-clause-left : goal.cover_or_add-requires-clause-left
+cover_or_add-requires-clause-left g c =
+    let cs = components c.compare.new.composite in
+    let es = c.in_ok-elems.elems.items in
+    let key = c.in_ok-key.key.elems in
+    let r = c.compare.new.reached in
+    let by = mark_under (components c.adjust.new.self) cs c.deref-2.result.now es
+    c.watched-mark.result (sym c.compare.ensures.kept) c.deref-2.ensures.value
+    c.watched-mark.ensures in
+    subst (λ (ns : List ℕ). LeavesOut (IsOff cs es r.live) (numbers (under r key)) ns)
+    (sym c.deref-6.ensures.value)
+    (c.in_ok-later.ensures cs es by
+    (λ same.
+    subst (λ (s : ReachedSet). LeavesOut (IsOff cs es s.live) (numbers (under s key))
+    c.in_ok-left.left.items) (sym (c.in_ok-is_changed.ensures.same same))
+    (c.in_ok-left.ensures cs es by)))
 
 pub cover_or_add-requires-clause-current : goal.cover_or_add-requires-clause-current
 cover_or_add-requires-clause-current g c =
@@ -46,9 +63,9 @@ cover_or_add-requires-clause-current g c =
     current_along cfa cs a b
     (all_compares_lead cfa cs es qs ns a b c.in_ok-elems.ensures.laws.elems
     c.in_ok-elems.ensures.laws.precisions c.requires.entries
-    (compares_under cfa (components c.adjust.new.self) cs c.deref-3.result.now es
-    c.deref-4.result.now qs ns a b c.adjust.ensures.kept c.deref-3.ensures.value
-    c.deref-4.ensures.value c.in_ok-compare.ensures.compares))
+    (compares_under cfa (components c.adjust.new.self) cs c.deref-4.result.now es
+    c.deref-5.result.now qs ns a b c.adjust.ensures.kept c.deref-4.ensures.value
+    c.deref-5.ensures.value c.in_ok-is_changed.ensures.compares))
     c.requires.ordered c.requires.current
 
 pub returns-clause-settles : goal.returns-clause-settles
@@ -64,9 +81,9 @@ returns-clause-settles g c =
     let b : Stage = stage c.compare.new.reached c.compare.new.work in
     let m : Stage = stage c.cover_or_add.new.reached c.cover_or_add.new.work in
     let all : ComparesAll cfa cs es qs (numbers (under r key)) a b =
-    compares_under cfa (components c.adjust.new.self) cs c.deref-3.result.now es
-    c.deref-4.result.now qs (numbers (under r key)) a b c.adjust.ensures.kept
-    c.deref-3.ensures.value c.deref-4.ensures.value c.in_ok-compare.ensures.compares in
+    compares_under cfa (components c.adjust.new.self) cs c.deref-4.result.now es
+    c.deref-5.result.now qs (numbers (under r key)) a b c.adjust.ensures.kept
+    c.deref-4.ensures.value c.deref-5.ensures.value c.in_ok-is_changed.ensures.compares in
     let is_key : key ≡ picked r.places es =
     c.in_ok-key.ensures ∙ ap (picked r.places) c.deref.ensures.value in
     let places : b.reached.places ≡ r.places =
