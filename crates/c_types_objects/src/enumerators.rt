@@ -262,6 +262,7 @@ fn read_listed(
 }
 
 /// Declares what an enumerated type declares.
+#[inline(never)]
 fn read_found(
     alloc: Global,
     survey: &Survey,
