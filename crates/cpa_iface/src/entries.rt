@@ -17,10 +17,10 @@ pub struct Entry {
     pub precisions: Row<Precision>,
     /// The entry from which this one came, and the edge that led to it. The first one has none.
     pub parent: Option<(u32, u32)>,
-    /// The numbers of the entries that cover the successors of this one.
-    pub uses: FewNumbers,
     /// Whether its successors are still to be found.
     pub waiting: bool,
+    /// The numbers of the entries that cover the successors of this one.
+    pub uses: FewNumbers,
 }
 
 /// What one turn of an exploration did: a row of its journal.
