@@ -48,22 +48,24 @@ in_end : {A : Type 0} (f : A → Rule Trees) (before : Trees) (xs : List A) (i :
 in_end f before xs i taken h =
     at_drop_all (λ ys. in_behind before (map f ys) taken) xs i h ∙ in_none before taken
 
--- a loop over a list of rules: what is left makes what the whole makes
-pub in_kept : {A : Type 0} (f : A → Rule Trees) (before kept after : Trees) (xs : List A) (i : ℕ)
+-- a loop over a list of rules: what is left makes what the whole makes, behind what was made before
+pub in_kept : {A : Type 0} (f : A → Rule Trees) (before after : Trees) (xs : List A) (i : ℕ)
     (x : A) (taken later : Taken) (whole : Made Trees) → i < length xs → x ≡ get_or xs i x →
-    later ≡ (f x taken).taken → kept ≡ (f x taken).made → after ≡ before ++ kept →
+    later ≡ (f x taken).taken → after ≡ before ++ (f x taken).made →
     in_behind before (map f (drop i xs)) taken ≡ whole →
     in_behind after (map f (drop (i + 1) xs)) later ≡ whole
-in_kept f before kept after xs i x taken later whole h is c k a w =
-    ap (λ s. in_behind s (map f (drop (i + 1) xs)) later) (a ∙ ap (λ (s : Trees). before ++ s) k)
+in_kept f before after xs i x taken later whole h is c a w =
+    ap (λ s. in_behind s (map f (drop (i + 1) xs)) later) a
     ∙ ap (in_behind (before ++ (f x taken).made) (map f (drop (i + 1) xs))) c
     ∙ sym (in_step f before xs i x taken h is) ∙ w
 
-pub in_done : {A : Type 0} (f : A → Rule Trees) (before : Trees) (xs : List A) (i : ℕ)
-    (taken : Taken) (whole : Made Trees) → length xs ≤ i →
-    in_behind before (map f (drop i xs)) taken ≡ whole →
-    (taken ≡ whole.taken) × (before ≡ whole.made)
-in_done f before xs i taken whole h w =
+pub in_done : {A : Type 0} (f : A → Rule Trees) (front before : Trees) (xs : List A) (i : ℕ)
+    (start taken : Taken) → length xs ≤ i →
+    in_behind before (map f (drop i xs)) taken ≡ in_behind front (map f xs) start →
+    (taken ≡ (in_order (map f xs) start).taken)
+    × (before ≡ front ++ (in_order (map f xs) start).made)
+unfolding in_behind
+in_done f front before xs i start taken h w =
     let e = sym (in_end f before xs i taken h) ∙ w in
     (ap (λ (m : Made Trees). m.taken) e, ap (λ (m : Made Trees). m.made) e)
 

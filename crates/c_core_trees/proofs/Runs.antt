@@ -50,20 +50,25 @@ zero_none origin t before first count i h =
     let e : count - i ≡ 0 = omega arith in
     ap (λ k. before ++ zeros origin t (first + i) k) e ∙ append-nil before
 
+-- a write behind statements that stand behind others
+pub behind_both : (front before behind : Trees) →
+    (front ++ before) ++ behind ≡ front ++ (before ++ behind)
+behind_both front before behind = append_assoc front before behind
+
 -- a loop over initializers: what is left makes what the whole makes
 pub set_kept : (origin : ℕ) (frames : Frames) (t : IntType) (cell next : ℕ)
-    (before kept after : Trees)
+    (before after : Trees)
     (xs : List TypedExpression) (i : ℕ) (x : TypedExpression) (taken later : Taken)
     (whole : Made Trees) → i < length xs → x ≡ get_or xs i x → next ≡ cell + 1 →
     later ≡ (initialized origin frames (cell_at t cell) x taken).taken →
-    kept ≡ (initialized origin frames (cell_at t cell) x taken).made → after ≡ before ++ kept →
+    after ≡ before ++ (initialized origin frames (cell_at t cell) x taken).made →
     in_behind before (initialized_each origin frames t cell (drop i xs)) taken ≡ whole →
     in_behind after (initialized_each origin frames t next (drop (i + 1) xs)) later ≡ whole
-set_kept origin frames t cell next before kept after xs i x taken later whole h is n c k a w =
+set_kept origin frames t cell next before after xs i x taken later whole h is n c a w =
     let m = initialized origin frames (cell_at t cell) x taken in
     let rest = initialized_each origin frames t (cell + 1) (drop (i + 1) xs) in
     ap (λ j. in_behind after (initialized_each origin frames t j (drop (i + 1) xs)) later) n
-    ∙ ap (λ s. in_behind s rest later) (a ∙ ap (λ (s : Trees). before ++ s) k)
+    ∙ ap (λ s. in_behind s rest later) a
     ∙ ap (in_behind (before ++ m.made) rest) c
     ∙ sym (in_more before (initialized origin frames (cell_at t cell) x) rest taken)
     ∙ ap (λ y. in_behind before (initialized origin frames (cell_at t cell) y ∷ rest) taken) is

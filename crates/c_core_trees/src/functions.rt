@@ -9,7 +9,7 @@ ghost use Rattle.c_core_values.specs.Found.{so_far};
 
 use crate::statements::in_order;
 use c_core_expressions::Frames;
-use c_core_values::{Cells, TakenCells, block, cell_at, joined, list_of, set};
+use c_core_values::{Cells, TakenCells, block, cell_at, list_of, set};
 use c_types_rules::{Global, Kind, Object, TypedFunction};
 use cpa_expr::constant;
 use cpa_ints::Seq;
@@ -81,8 +81,8 @@ pub fn function_tree(
     let place = cell_at(function.result.object_type(), cells.next()?);
     let before = resulting(cells, function.place, function.result)?;
     receiving(cells, function.parameters.as_slice())?;
-    let inside = in_order(cells, frames, place, function.items.as_slice())?;
-    Ok(block(function.place, joined(before, inside)?))
+    let inside = in_order(cells, frames, place, function.items.as_slice(), before)?;
+    Ok(block(function.place, inside))
 }
 
 /// Functions, in order.

@@ -42,34 +42,40 @@ fn some_unused(
     }
 }
 
-/// A write of a value to a cell behind its statements.
+/// A write of a value to a cell, behind its statements and those in front of them.
+#[tactic(auto, using(crate::proofs::Runs::behind_both))]
 fn stored(
     alloc: Global,
     origin: u32,
     place: Location,
     v: Valued,
+    front: Seq<CoreTree>,
 ) -> Result<Seq<CoreTree>, AllocError>
-    ensures { IfOk result (λ trees. trees ≡ v.statements ++ set origin place v.value ∷ []) }
+    ensures { IfOk result (λ trees. trees
+        ≡ front ++ (v.statements ++ set origin place v.value ∷ [])) }
 {
     let written = set(alloc, origin, place, v.value)?;
-    with(v.statements, written)
+    let before = joined(front, v.statements)?;
+    with(before, written)
 }
 
-/// A write of an expression to a cell.
+/// A write of an expression to a cell, behind what is made already: a list of its own would be
+/// moved at once.
 fn initialized(
     cells: &mut Cells,
     origin: u32,
     frames: &Frames,
     place: Location,
     value: &TypedExpression,
+    front: Seq<CoreTree>,
 ) -> Result<Seq<CoreTree>, AllocError>
     ensures taken { OnOk result (so_far cells.new
         ≡ (initialized origin frames.now place value.now (so_far cells.old)).taken) }
     ensures made { IfOk result (λ trees. trees
-        ≡ (initialized origin frames.now place value.now (so_far cells.old)).made) }
+        ≡ front ++ (initialized origin frames.now place value.now (so_far cells.old)).made) }
 {
     let v = used(cells, frames, value)?;
-    stored(frames.alloc(), origin, place, v)
+    stored(frames.alloc(), origin, place, v, front)
 }
 
 /// An input of each of so many cells from one on.
@@ -125,14 +131,13 @@ fn initialized_each(
     let mut before = Seq::new(frames.alloc());
     let mut cell = first;
     for value in values {
-        let trees = initialized(cells, origin, frames, cell_at(ty, cell), value)?;
-        before = joined(before, trees)?;
+        before = initialized(cells, origin, frames, cell_at(ty, cell), value, before)?;
         cell = cell_behind(cell, 1)?;
     }
     Ok(before)
 }
 
-/// What an object starts with whose cells begin here.
+/// What an object starts with whose cells begin here, behind what is made already.
 fn initializing(
     cells: &mut Cells,
     origin: u32,
@@ -140,22 +145,21 @@ fn initializing(
     object: Object,
     initializer: &Option<TypedInitializer>,
     first: u32,
+    front: Seq<CoreTree>,
 ) -> Result<Seq<CoreTree>, AllocError>
     ensures taken { OnOk result (so_far cells.new
         ≡ (initializing origin frames.now object initializer.now first (so_far cells.old)).taken) }
-    ensures made { IfOk result (λ trees. trees
-        ≡ (initializing origin frames.now object initializer.now first (so_far cells.old)).made) }
+    ensures made { IfOk result (λ trees. trees ≡ front
+        ++ (initializing origin frames.now object initializer.now first (so_far cells.old)).made) }
 {
     match initializer {
-        None => inputs(frames.alloc(), origin, first, cells_of(object)),
+        None => {
+            let trees = inputs(frames.alloc(), origin, first, cells_of(object))?;
+            joined(front, trees)
+        }
         Some(TypedInitializer::Scalar(value)) => {
-            initialized(
-                cells,
-                origin,
-                frames,
-                cell_at(object.ty, first),
-                value.get(),
-            )
+            let place = cell_at(object.ty, first);
+            initialized(cells, origin, frames, place, value.get(), front)
         }
         Some(TypedInitializer::List(items)) => {
             let before = initialized_each(
@@ -170,44 +174,45 @@ fn initializing(
             let behind = cell_behind(first, count)?;
             let left = cells_of(object).saturating_sub(count);
             let zeros = zeros(frames.alloc(), origin, object.ty, behind, left)?;
-            joined(before, zeros)
+            let trees = joined(before, zeros)?;
+            joined(front, trees)
         }
     }
 }
 
-/// An object that is declared.
+/// An object that is declared, behind what is made already.
 fn declared(
     cells: &mut Cells,
     frames: &Frames,
     declarator: &TypedDeclarator,
+    front: Seq<CoreTree>,
 ) -> Result<Seq<CoreTree>, AllocError>
     ensures taken { OnOk result (so_far cells.new
         ≡ (declared frames.now declarator.now (so_far cells.old)).taken) }
     ensures made { IfOk result (λ trees. trees
-        ≡ (declared frames.now declarator.now (so_far cells.old)).made) }
+        ≡ front ++ (declared frames.now declarator.now (so_far cells.old)).made) }
 {
     let object = declarator.object;
     let first = cells.take(object, &[])?;
     let given = &declarator.initializer;
-    initializing(cells, declarator.place, frames, object, given, first)
+    initializing(cells, declarator.place, frames, object, given, first, front)
 }
 
-/// A declaration.
-#[tactic(auto, using(crate::proofs::InOrder::in_first))]
+/// A declaration, behind what is made already.
 fn declaration(
     cells: &mut Cells,
     frames: &Frames,
     declarators: &[TypedDeclarator],
+    front: Seq<CoreTree>,
 ) -> Result<Seq<CoreTree>, AllocError>
     ensures taken { OnOk result (so_far cells.new
         ≡ (declaration frames.now declarators.now (so_far cells.old)).taken) }
     ensures made { IfOk result (λ trees. trees
-        ≡ (declaration frames.now declarators.now (so_far cells.old)).made) }
+        ≡ front ++ (declaration frames.now declarators.now (so_far cells.old)).made) }
 {
-    let mut before = Seq::new(frames.alloc());
+    let mut before = front;
     for declarator in declarators {
-        let trees = declared(cells, frames, declarator)?;
-        before = joined(before, trees)?;
+        before = declared(cells, frames, declarator, before)?;
     }
     Ok(before)
 }
@@ -225,7 +230,8 @@ fn started(
 {
     match start {
         TypedForStart::Declaration(declarators) => {
-            declaration(cells, frames, declarators.as_slice())
+            let nothing = Seq::new(frames.alloc());
+            declaration(cells, frames, declarators.as_slice(), nothing)
         }
         TypedForStart::Expression(e) => some_unused(cells, frames, e),
     }
@@ -416,7 +422,8 @@ fn returned(
     match value {
         None => list_of(alloc, leaf(alloc, origin, Head::Leave)),
         Some(value) => {
-            let before = initialized(cells, origin, frames, place, value.get())?;
+            let nothing = Seq::new(alloc);
+            let before = initialized(cells, origin, frames, place, value.get(), nothing)?;
             with(before, leaf(alloc, origin, Head::Leave))
         }
     }
@@ -442,7 +449,8 @@ fn statement(
             items,
             place: origin,
         } => {
-            let inside = in_order(cells, frames, place, items.as_slice())?;
+            let nothing = Seq::new(alloc);
+            let inside = in_order(cells, frames, place, items.as_slice(), nothing)?;
             list_of(alloc, block(*origin, inside))
         }
         TypedStatement::Expression { expression, .. } => some_unused(cells, frames, expression),
@@ -529,29 +537,29 @@ fn statement(
     }
 }
 
-/// Items of a block, in order.
+/// Items of a block, in order, behind what is made already.
 #[cycle(statement)]
-#[tactic(auto, using(crate::proofs::InOrder::in_first))]
 pub(crate) fn in_order(
     cells: &mut Cells,
     frames: &Frames,
     place: Location,
     items: &[TypedItem],
+    front: Seq<CoreTree>,
 ) -> Result<Seq<CoreTree>, AllocError>
     ensures taken { OnOk result (so_far cells.new
         ≡ (in_order (map (item_rule frames.now place) items.now) (so_far cells.old)).taken) }
-    ensures made { IfOk result (λ trees. trees
-        ≡ (in_order (map (item_rule frames.now place) items.now) (so_far cells.old)).made) }
+    ensures made { IfOk result (λ trees. trees ≡ front
+        ++ (in_order (map (item_rule frames.now place) items.now) (so_far cells.old)).made) }
 {
-    let mut before = Seq::new(frames.alloc());
+    let mut before = front;
     for item in items {
-        let trees = item_trees(cells, frames, place, item)?;
-        before = joined(before, trees)?;
+        before = item_trees(cells, frames, place, item, before)?;
     }
     Ok(before)
 }
 
-/// An item of a block.
+/// An item of a block, behind what is made already. The list comes last: that the calls end is
+/// seen by the item.
 #[cycle(statement)]
 #[tactic(auto, using(crate::proofs::StatementForms::item_Declaration, crate::proofs::StatementForms::item_Statement))]
 fn item_trees(
@@ -559,14 +567,20 @@ fn item_trees(
     frames: &Frames,
     place: Location,
     item: &TypedItem,
+    front: Seq<CoreTree>,
 ) -> Result<Seq<CoreTree>, AllocError>
     ensures taken { OnOk result (so_far cells.new
         ≡ (item_rule frames.now place item.now (so_far cells.old)).taken) }
     ensures made { IfOk result (λ trees. trees
-        ≡ (item_rule frames.now place item.now (so_far cells.old)).made) }
+        ≡ front ++ (item_rule frames.now place item.now (so_far cells.old)).made) }
 {
     match item {
-        TypedItem::Declaration(declarators) => declaration(cells, frames, declarators.as_slice()),
-        TypedItem::Statement(s) => statement(cells, frames, place, s),
+        TypedItem::Declaration(declarators) => {
+            declaration(cells, frames, declarators.as_slice(), front)
+        }
+        TypedItem::Statement(s) => {
+            let trees = statement(cells, frames, place, s)?;
+            joined(front, trees)
+        }
     }
 }

@@ -1,6 +1,5 @@
 -- What is left of a list makes what the whole makes.
 use Rattle.std.proofs.Common.{◌≡◌, drop, map}
-use Rattle.c_core_rules.specs.Cells.{in_order}
 use Rattle.c_core_rules.specs.Statements.{item_rule}
 use Rattle.c_core_values.specs.Found.{so_far}
 use Rattle.c_core_trees.specs.Items.{in_behind}
@@ -10,4 +9,4 @@ abbrev pub invariant-in_order-loop-item : goal.invariant-in_order-loop-item
 invariant-in_order-loop-item l =
     in_behind l.before (map (item_rule l.frames l.place) (drop l.item-index l.items))
     (so_far l.cells)
-    ≡ in_order (map (item_rule l.frames l.place) l.items) (so_far l.fn.cells)
+    ≡ in_behind l.fn.front (map (item_rule l.frames l.place) l.items) (so_far l.fn.cells)

@@ -5,11 +5,11 @@ use Rattle.c_core_trees.proofs.statements.initialized_each.Goals as goal
 
 pub loop-value-preserved : goal.loop-value-preserved
 loop-value-preserved c =
-    set_kept c.args.origin _ _ _ _ _ _ _ c.args.values.now c.loop-value.value-index _ _ _ _
-    (omega arith)
-    c.value-item.is c.in_ok-cell.ensures c.in_ok-trees.ensures.taken
-    (rw c.cell_at.ensures at c.in_ok-trees.ensures.made)
-    c.in_ok-before.ensures c.loop-value.invariant
+    set_kept c.args.origin _ _ _ _ _ _ c.args.values.now c.loop-value.value-index _ _ _ _
+    (omega arith) c.value-item.is c.in_ok-cell.ensures
+    (rw c.cell_at.ensures at c.in_ok-before.ensures.taken)
+    (rw c.cell_at.ensures at c.in_ok-before.ensures.made)
+    c.loop-value.invariant
 
 pub returns-clause-taken : goal.returns-clause-taken
 returns-clause-taken c =
