@@ -1,7 +1,7 @@
 //! A number for each of some names, found by hash: `number_of` of `specs/Found.antt`. What a change
 //! leaves at each name is proved in `proofs/Numbering`.
 
-ghost use Rattle.std.specs.Prelude.{◌≡◌, List, ℕ, Some, None, cond, IsSome, OnOk, OnErr};
+ghost use Rattle.std.specs.Prelude.{◌≡◌, List, ℕ, Some, None, cond, IsSome, IfOk, OnOk, OnErr};
 ghost use Rattle.std.specs.Str.{bytes_eq};
 ghost use Rattle.c_types_rules.specs.Names.{or_else};
 ghost use Rattle.c_types_names.specs.Found.{number_of};
@@ -19,21 +19,22 @@ pub(crate) fn number_of(numbers: &Numbers, name: &[u8]) -> Option<u32>
     numbers.get(name).copied()
 }
 
-/// Gives a name a number, in the place of the one that it has.
+/// Gives a name a number, in the place of the one that it has, which is told: one search serves both.
 pub(crate) fn set(
     alloc: Global,
     numbers: &mut Numbers,
     name: &[u8],
     number: u32,
-) -> Result<(), AllocError>
+) -> Result<Option<u32>, AllocError>
+    ensures earlier { IfOk result (λ earlier. earlier ≡ number_of numbers.old name.now) }
     ensures set { (q : List ℕ) → OnOk result (number_of numbers.new q
         ≡ cond (bytes_eq name.now q) (Some number) (number_of numbers.old q)) }
     ensures kept { (q : List ℕ) → OnErr result (number_of numbers.new q
         ≡ number_of numbers.old q) }
 {
     let key = name.to_vec(alloc)?;
-    numbers.insert(key, number)?;
-    Ok(())
+    let earlier = numbers.insert(key, number)?;
+    Ok(earlier)
 }
 
 /// Gives a name a number, unless it has one.

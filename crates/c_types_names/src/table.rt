@@ -82,8 +82,7 @@ fn push(table: &mut Table, alloc: Global, declaration: Declaration) -> Result<()
     }
     reserve(table)?;
     let name = declaration.entry().name.as_slice();
-    let earlier = number_of(&table.latest, name);
-    set(alloc, &mut table.latest, name, number as u32)?;
+    let earlier = set(alloc, &mut table.latest, name, number as u32)?;
     table.earlier.push_reserved(earlier);
     table.entries.push_reserved(declaration);
     Ok(())

@@ -16,13 +16,13 @@ returns-clause-tied c =
     let count : c.len-number.result ≡ length table.entries.items = omega arith in
     let entries = c.push_reserved-2.ensures.items
     ∙ ap (λ (es : List Entry). es ++ entry ∷ []) room.entries in
-    let number = c.number_of-earlier.ensures
+    let number = c.in_ok-earlier.ensures.earlier
     ∙ ap (λ (name : List ℕ). number_of c.reserve.new.table.latest name) name
     ∙ ap (λ latest. number_of latest entry.name) room.latest in
     let earlier = c.push_reserved.ensures.items
-    ∙ ap (λ (ns : List (Option ℕ)). ns ++ c.number_of-earlier.result ∷ []) room.earlier
+    ∙ ap (λ (ns : List (Option ℕ)). ns ++ c.in_ok-earlier.earlier ∷ []) room.earlier
     ∙ ap (λ (n : Option ℕ). table.earlier.items ++ n ∷ []) number in
-    let latest = λ (q : List ℕ). c.in_ok-set.ensures.set q
+    let latest = λ (q : List ℕ). c.in_ok-earlier.ensures.set q
     ∙ ap (λ (name : List ℕ). cond (bytes_eq name q) (Some c.len-number.result)
     (number_of c.reserve.new.table.latest q)) name
     ∙ ap (λ latest. cond (bytes_eq entry.name q) (Some c.len-number.result)
