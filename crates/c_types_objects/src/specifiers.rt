@@ -3,11 +3,13 @@
 ghost use Rattle.std.specs.Prelude.{◌≡◌, ◌++◌, ◌∷◌, [], IfOk, OnOk};
 ghost use Rattle.c_grammar_tree.specs.Parts.{type_words, named_by, named_among, is_const_word};
 ghost use Rattle.c_types_rules.specs.Declarations.{is_void_word, kind_of, has_const};
+ghost use Rattle.c_types_rules.specs.Types.{kind_of_words};
 ghost use Rattle.c_types_objects.specs.OneWord.{kind_by};
 
 use c_grammar_symbols::{NamedType, SpecifierWord, TypeWord};
 use c_grammar_tree::{Specifier, SpecifierKind, Specifiers};
 use c_types_rules::{Kind, kind_of_words, type_of_named};
+use cpa_ints::IntType;
 use std::alloc::{AllocError, Global};
 
 /// What specifiers say of an object: its type, and whether it is const.
@@ -46,13 +48,28 @@ pub(crate) fn kind_of(alloc: Global, specifiers: &Specifiers) -> Result<Kind, Al
     }
 }
 
+/// The type that a word of a type names where it stands alone.
+fn kind_of_word(word: TypeWord) -> Kind
+    ensures { result ≡ kind_of_words (word ∷ []) }
+{
+    match word {
+        TypeWord::Void => Kind::Void,
+        TypeWord::Bool => Kind::Value(IntType::Bool),
+        TypeWord::Char => Kind::Value(IntType::I8),
+        TypeWord::Short => Kind::Value(IntType::I16),
+        TypeWord::Int | TypeWord::Signed => Kind::Value(IntType::I32),
+        TypeWord::Long => Kind::Value(IntType::I64),
+        TypeWord::Unsigned => Kind::Value(IntType::U32),
+    }
+}
+
 /// The type that a single word names, without a list of it.
 fn kind_of_one(word: Specifier) -> Kind
     ensures { result ≡ kind_by (word ∷ []) }
 {
     match word.kind {
         SpecifierKind::TypedefName(named) => Kind::Value(type_of_named(named)),
-        SpecifierKind::TypeWord(type_word) => kind_of_words(&[type_word]),
+        SpecifierKind::TypeWord(type_word) => kind_of_word(type_word),
         SpecifierKind::Storage(_) | SpecifierKind::Other(_) | SpecifierKind::Enum => {
             kind_of_words(&[])
         }
