@@ -2,12 +2,13 @@
 use Rattle.std.proofs.Common.{refl, inl, inr, ⊎_elim}
 use Rattle.std.specs.Prelude.{Result, Err}
 use Rattle.cpa_top_words.specs.Jobs.{Job, Asks, IsNoJob}
-use Rattle.cpa_top.specs.declared.answers.Conclusion.{Conclusion}
-use Rattle.cpa_top.specs.declared.refusal.Refusal.{Refusal}
-use Rattle.cpa_top.specs.declared.refusal.Refusal.TheVariants as refusal
+use Rattle.cpa_top_jobs.specs.declared.conclusion.Conclusion.{Conclusion}
+use Rattle.cpa_top_jobs.specs.declared.refusal.Refusal.{Refusal}
+use Rattle.cpa_top_jobs.specs.declared.refusal.Refusal.TheVariants as refusal
 use Rattle.cpa_top.specs.Answers.{MayAnswer}
-use Rattle.cpa_top.specs.Calls.{Call, NoReadFailed}
-use Rattle.cpa_top.specs.Refusals.{status_of, text_of, IsDone}
+use Rattle.cpa_top.specs.Calls.{Call}
+use Rattle.cpa_top_jobs.specs.Files.{NoReadFailed}
+use Rattle.cpa_top_jobs.specs.Refusals.{status_of, text_of, IsDone}
 
 -- the job that is asked for was done
 pub may_answer : (call : Call) (job : Job) (result : Result Conclusion Refusal)

@@ -11,12 +11,13 @@ use Rattle.cpa_top_recheck.specs.declared.finding.Rechecked.{Rechecked}
 use Rattle.cpa_top_recheck.specs.Findings.{IsConfirmation, IsRefutation, IsUndecided}
 use Rattle.cpa_top_recheck.specs.Rechecks.{IsRechecked}
 use Rattle.cpa_top_words.specs.Jobs.{recheck, Asks}
-use Rattle.cpa_top.specs.declared.status.Status.{Status}
-use Rattle.cpa_top.specs.Answers.{AreRechecked, IsRecheckedBy, MayAnswer, config_bytes}
-use Rattle.cpa_top.specs.Answers.{IsConfirmedText, IsRefutedText, IsUndecidedText}
-use Rattle.cpa_top.specs.Calls.{Call, Output, HoldsOf}
-use Rattle.cpa_top.specs.Refusals.{IsDelivered}
-use Rattle.cpa_top.specs.Statuses.{code_of, finding_status}
+use Rattle.cpa_top_jobs.specs.declared.status.Status.{Status}
+use Rattle.cpa_top.specs.Answers.{AreRechecked, MayAnswer, IsConfirmedText, IsRefutedText}
+use Rattle.cpa_top.specs.Answers.{IsUndecidedText, IsDelivered}
+use Rattle.cpa_top_jobs.specs.Ends.{IsRecheckedBy, config_bytes}
+use Rattle.cpa_top.specs.Calls.{Call, Output}
+use Rattle.cpa_top_jobs.specs.Files.{HoldsOf}
+use Rattle.cpa_top_jobs.specs.Statuses.{code_of, finding_status}
 use Rattle.cpa_top.proofs.Headline.{AskForOneJob, concluded}
 
 -- ---- the laws that are called

@@ -22,16 +22,17 @@ use Rattle.cpa_top_verdict.specs.declared.reporting.Told.{Told}
 use Rattle.cpa_top_verdict.specs.Reports.{IsSafeReport, IsErrorReport, IsTextOf}
 use Rattle.cpa_top_verdict.specs.Verdicts.{IsTold, body_of, body_of_why, report_of}
 use Rattle.cpa_top_words.specs.Jobs.{Job, verify, Asks}
-use Rattle.cpa_top.specs.declared.status.Status.{Status}
-use Rattle.cpa_top.specs.declared.status.Status.TheVariants as status
-use Rattle.cpa_top.specs.Answers.{MayAnswer, DoesJob, Stops, Ends, Refuses, Concludes, IsWritten}
-use Rattle.cpa_top.specs.Answers.{IsShortOfMemory, IsUsage, IsVerified, config_bytes}
-use Rattle.cpa_top.specs.Answers.{IsSafeText, IsCalledText, IsUnknownText}
-use Rattle.cpa_top.specs.Calls.{Call, Files, Output, HoldsOf}
-use Rattle.cpa_top.specs.Jobs.{Stage, reading, parsing, listing, matching, configuring, picking}
-use Rattle.cpa_top.specs.Jobs.{composing, stages_of, names_of}
-use Rattle.cpa_top.specs.Refusals.{IsDelivered}
-use Rattle.cpa_top.specs.Statuses.{code_of, verdict_status}
+use Rattle.cpa_top_jobs.specs.declared.status.Status.{Status}
+use Rattle.cpa_top_jobs.specs.declared.status.Status.TheVariants as status
+use Rattle.cpa_top.specs.Answers.{MayAnswer, DoesJob, IsWritten, IsUsage, IsSafeText, IsCalledText}
+use Rattle.cpa_top.specs.Answers.{IsUnknownText, IsDelivered}
+use Rattle.cpa_top_jobs.specs.Ends.{Stops, Ends, Refuses, Concludes, IsShortOfMemory, IsVerified}
+use Rattle.cpa_top_jobs.specs.Ends.{config_bytes}
+use Rattle.cpa_top.specs.Calls.{Call, Output}
+use Rattle.cpa_top_jobs.specs.Files.{Files, HoldsOf}
+use Rattle.cpa_top_jobs.specs.Jobs.{Stage, reading, parsing, listing, matching, configuring}
+use Rattle.cpa_top_jobs.specs.Jobs.{picking, composing, stages_of, names_of}
+use Rattle.cpa_top_jobs.specs.Statuses.{code_of, verdict_status}
 
 -- ---- the laws that are called
 

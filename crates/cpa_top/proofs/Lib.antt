@@ -1,11 +1,4 @@
 pub mod Answering
-pub mod Benches
-pub mod Configurations
-pub mod Ends
 pub mod Findings
 pub mod Headline
 pub mod Measurements
-pub mod Places
-pub mod Rechecks
-pub mod Stages
-pub mod Taking

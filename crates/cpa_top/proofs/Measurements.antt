@@ -23,11 +23,11 @@ use Rattle.cpa_top_bench.specs.Measurements.{bench_line, count_of}
 use Rattle.cpa_top_verdict.specs.Reports.{IsSafeReport}
 use Rattle.cpa_top_verdict.specs.Verdicts.{body_of, listed, listed_entry, report_of}
 use Rattle.cpa_top_words.specs.Jobs.{bench, Asks}
-use Rattle.cpa_top.specs.declared.status.Status.{Status}
-use Rattle.cpa_top.specs.Answers.{IsLineWritten, IsMeasuredBy, IsSafeLine, MayAnswer}
+use Rattle.cpa_top_jobs.specs.declared.status.Status.{Status}
+use Rattle.cpa_top.specs.Answers.{IsLineWritten, IsSafeLine, MayAnswer, IsDelivered}
+use Rattle.cpa_top_jobs.specs.Ends.{IsMeasuredBy}
 use Rattle.cpa_top.specs.Calls.{Call, Output}
-use Rattle.cpa_top.specs.Refusals.{IsDelivered}
-use Rattle.cpa_top.specs.Statuses.{code_of}
+use Rattle.cpa_top_jobs.specs.Statuses.{code_of}
 use Rattle.cpa_top.proofs.Headline.{AskForOneJob, concluded, number_of, unknown_number}
 
 -- entries that prove a program safe make a report of TRUE

@@ -1,14 +1,7 @@
 -- What a call of the program is given and what it leaves (this project's own).
-use Rattle.std.specs.Prelude.{◌≡◌, ℕ, List, Option, IfSome}
+use Rattle.std.specs.Prelude.{◌≡◌, ℕ, List, Option}
 use Rattle.cpa_iface.specs.Meanings.{Meaning}
 use Rattle.cpa_outside.specs.Outside.{Rose, grown, GrewByPrefix}
-
--- What the inputs tell of files by their names, and how many reads of each have failed before the
--- call and after it.
-pub record Files : Type 0 where
-  pub bytes_of : List ℕ → Option (List ℕ)
-  pub before : List ℕ → ℕ
-  pub after : List ℕ → ℕ
 
 -- What was written, where it is told, and how many writes have failed, before the call and after
 -- it.
@@ -24,10 +17,6 @@ pub record Call : Type 0 where
   pub analyses : List Meaning
   pub files : Files
 
-abbrev pub files_of : (List ℕ → Option (List ℕ)) → (List ℕ → ℕ) → (List ℕ → ℕ) → Files
-files_of bytes_of before after =
-    record { bytes_of = bytes_of; before = before; after = after }
-
 abbrev pub call_of : List (List ℕ) → List Meaning → Files → Call
 call_of words analyses files = record { words = words; analyses = analyses; files = files }
 
@@ -39,10 +28,6 @@ output_of written_before written_after faults_before faults_after = record {
   faults_after = faults_after;
 }
 
--- no read has failed
-abbrev pub NoReadFailed : Files → Type 0
-NoReadFailed files = files.after ≡ files.before
-
 -- the text was written whole, and no write has failed
 pub record IsWhole (output : Output) (text : List ℕ) : Type 0 where
   pub written : output.written_after ≡ grown output.written_before text
@@ -52,9 +37,3 @@ pub record IsWhole (output : Output) (text : List ℕ) : Type 0 where
 pub record IsCutOff (output : Output) (text : List ℕ) : Type 0 where
   pub written : GrewByPrefix output.written_before text output.written_after
   pub faults : Rose output.faults_before output.faults_after
-
--- It holds of some bytes: of those that are told, where they are told.
-pub record HoldsOf (told : Option (List ℕ)) (Has : List ℕ → Type 0) : Type 0 where
-  pub bytes : List ℕ
-  pub same : IfSome told (λ t. bytes ≡ t)
-  pub holds : Has bytes

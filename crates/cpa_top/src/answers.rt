@@ -2,28 +2,17 @@
 //! shown in `proofs/Answering.antt`.
 ghost use Rattle.std.specs.Prelude.{◌≡◌, map};
 ghost use Rattle.std.specs.String.{string_bytes};
-ghost use Rattle.cpa_top.specs.Answers.{MayAnswer};
-ghost use Rattle.cpa_top.specs.Calls.{call_of, files_of, output_of};
-ghost use Rattle.cpa_top.specs.Refusals.{status_of, text_of, IsDelivered};
+ghost use Rattle.cpa_top.specs.Answers.{MayAnswer, IsDelivered};
+ghost use Rattle.cpa_top.specs.Calls.{call_of, output_of};
+ghost use Rattle.cpa_top_jobs.specs.Files.{files_of};
+ghost use Rattle.cpa_top_jobs.specs.Refusals.{status_of, text_of};
 
-use crate::Status;
-use crate::bench_job::bench;
-use crate::recheck_job::recheck;
-use crate::refusal::Refusal;
-use crate::replay_job::replay;
-use crate::verify_job::verify;
 use cpa_iface::Analysis;
 use cpa_outside::{Inputs, Sink, write_whole};
+use cpa_top_jobs::{Conclusion, Refusal, Status, bench, recheck, replay, verify};
 use cpa_top_words::{Job, WordsError, read_words, words_ask_for_small_benches};
 use std::alloc::Global;
 use std::thread::Threads;
-
-/// What a job comes to, and what is written of it.
-#[derive(Drop)]
-pub(crate) struct Conclusion {
-    pub(crate) status: Status,
-    pub(crate) text: Vec<u8>,
-}
 
 /// What the call comes to, before anything is written.
 pub(crate) fn answer<R: Threads + Sync, A: Analysis, I: Inputs>(

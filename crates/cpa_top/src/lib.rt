@@ -3,19 +3,8 @@
 #![tactic(auto)]
 
 mod answers;
-mod bench_job;
-mod configuring;
-mod files;
-mod place;
-mod recheck_job;
-mod refusal;
-mod replay_job;
-mod role;
-mod status;
 mod top;
-mod verify_job;
 
 pub use cpa_top_bench::bench_text;
-pub use role::{MAX_REPORT, Role};
-pub use status::Status;
+pub use cpa_top_jobs::{MAX_REPORT, Role, Status};
 pub use top::run;

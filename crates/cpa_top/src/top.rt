@@ -4,9 +4,10 @@ ghost use Rattle.std.specs.Prelude.{◌≡◌, ◌≤◌, ℕ, List, Option, map
 ghost use Rattle.std.specs.String.{string_bytes};
 ghost use Rattle.cpa_top_words.specs.Jobs.{verify, recheck, bench, Asks};
 ghost use Rattle.cpa_top.specs.Answers.{Answers, IsWritten, IsLineWritten, AreRechecked};
-ghost use Rattle.cpa_top.specs.Answers.{IsSafeText, IsCalledText, IsUnknownText};
-ghost use Rattle.cpa_top.specs.Answers.{IsConfirmedText, IsRefutedText, IsUndecidedText};
-ghost use Rattle.cpa_top.specs.Calls.{call_of, files_of, output_of};
+ghost use Rattle.cpa_top.specs.Answers.{IsSafeText, IsCalledText, IsUnknownText, IsConfirmedText};
+ghost use Rattle.cpa_top.specs.Answers.{IsRefutedText, IsUndecidedText};
+ghost use Rattle.cpa_top.specs.Calls.{call_of, output_of};
+ghost use Rattle.cpa_top_jobs.specs.Files.{files_of};
 
 use crate::answers::{answer, deliver};
 use cpa_iface::Analysis;

@@ -1,6 +1,6 @@
 use Rattle.std.proofs.Common.{arith}
-use Rattle.cpa_top.specs.Answers.{IsSafeText, IsCalledText, IsUnknownText}
-use Rattle.cpa_top.specs.Answers.{IsConfirmedText, IsRefutedText, IsUndecidedText}
+use Rattle.cpa_top.specs.Answers.{IsSafeText, IsCalledText, IsUnknownText, IsConfirmedText}
+use Rattle.cpa_top.specs.Answers.{IsRefutedText, IsUndecidedText}
 use Rattle.cpa_top.proofs.Findings.{texts_written, confirmed_text, refuted_text, undecided_text}
 use Rattle.cpa_top.proofs.Headline.{written, safe_text, called_text, unknown_text}
 use Rattle.cpa_top.proofs.Measurements.{line_written}

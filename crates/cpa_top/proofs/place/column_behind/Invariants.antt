@@ -1,7 +1,0 @@
-use Rattle.std.proofs.Common.{◌≡◌, ◌+◌, ◌≤◌, take}
-use Rattle.cpa_top.specs.Lines.{column_behind}
-use Rattle.cpa_top.proofs.place.column_behind.Given as goal
-
-abbrev pub invariant-loop-byte : goal.invariant-loop-byte
-invariant-loop-byte l =
-    (l.column ≡ column_behind (take l.byte-index l.text)) × (l.column ≤ l.byte-index + 1)
