@@ -15,6 +15,7 @@ use Rattle.c_grammar_forms.specs.Loops.{SoFar, no_parts, one_more, no_more}
 use Rattle.c_grammar_forms.specs.Loops.{no_such_part}
 use Rattle.c_grammar_symbols.specs.declared.words.Terminal.TheVariants as terminal
 use Rattle.c_grammar_symbols.specs.declared.words.TypeWord.{TypeWord}
+use Rattle.c_grammar_symbols.specs.declared.words.TypeWord.TheVariants as word
 use Rattle.c_grammar_symbols.specs.declared.words.StorageWord.{StorageWord}
 use Rattle.c_grammar_symbols.specs.declared.words.SpecifierWord.{SpecifierWord}
 use Rattle.c_grammar_symbols.specs.declared.symbol.Symbol.{Symbol}
@@ -34,7 +35,7 @@ use Rattle.c_parser_words.specs.declared.words.AllowedStorage.{AllowedStorage}
 use Rattle.c_parser_words.specs.declared.words.AllowedStorage.TheVariants.{Any, Register}
 use Rattle.c_parser_words.specs.declared.words.AllowedStorage.TheVariants.{InTypedef}
 use Rattle.c_parser_words.specs.Storage.{goes_in, keeps_on, qualifies}
-use Rattle.c_parser_words.specs.Steps.{words_in, AreGrown, IsRefused, IsKind, IsQualifier}
+use Rattle.c_parser_words.specs.Steps.{words_in, AreGrown, IsRefused, IsKind, IsOnly, IsQualifier}
 use Rattle.c_parser_words.specs.Steps.{kind_of}
 use Rattle.c_parser_words.proofs.TypeParts.{no_part_longer}
 
@@ -169,6 +170,32 @@ module _ (allowed : AllowedStorage) (leaves : List Leaf) (p : ℕ) where
     keywords_found left stops =
         reads_shaped have_part (ap is_part_of_type (sym s.kinds) ∙ s.part)
         (no_more (s.so_far left) stops)
+
+-- each keyword may stand alone
+alone : (k : SpecifierKind) → is_part_of_type (words_in k) ≡ true
+alone (kind.TypeWord word.Void) = refl
+alone (kind.TypeWord word.Bool) = refl
+alone (kind.TypeWord word.Char) = refl
+alone (kind.TypeWord word.Short) = refl
+alone (kind.TypeWord word.Int) = refl
+alone (kind.TypeWord word.Long) = refl
+alone (kind.TypeWord word.Signed) = refl
+alone (kind.TypeWord word.Unsigned) = refl
+alone (kind.Storage w) = refl
+alone (kind.Other w) = refl
+alone (kind.TypedefName t) = refl
+alone kind.Enum = refl
+
+-- a keyword behind which specifiers end
+pub only_found : (allowed : AllowedStorage) (leaves : List Leaf) (p : ℕ) (k : SpecifierKind)
+    (words : List Specifier) → p < length leaves → IsOnly allowed leaves p k
+    → words ≡ record { kind = k; place = (leaf_at leaves p).place } ∷ [] → (left : ℕ)
+    → Reads (λ n. keywords (goes_in allowed)) (leaf_at leaves) (length leaves) left p words (p + 1)
+only_found allowed leaves p k words fits only made left =
+    keywords_found allowed leaves p words (words_in k) (p + 1)
+    (specifiers_more allowed leaves p [] [] p (specifiers_first allowed leaves p fits) k words
+    (words_in k) only.goes_on only.kind only.more.within made (record { all = refl; part = alone k }))
+    left only.ends
 
 -- keywords that are no words of types are read from p up to here
 pub record AreQualifiers (allowed : AllowedStorage) (leaves : List Leaf) (p : ℕ)

@@ -11,7 +11,7 @@ use Rattle.c_grammar_symbols.specs.declared.words.TypeWord.TheVariants as word
 use Rattle.c_grammar_symbols.specs.declared.symbol.Symbol.{Symbol}
 use Rattle.c_grammar_symbols.specs.declared.symbol.Symbol.TheVariants as symbol
 use Rattle.c_grammar_symbols.specs.Symbols.{Leaf, symbol_of}
-use Rattle.c_grammar_symbols.specs.Sources.{leaf_at, is}
+use Rattle.c_grammar_symbols.specs.Sources.{GoesOn, leaf_at, is}
 use Rattle.c_grammar_tree.specs.declared.declaration.Specifier.{Specifier}
 use Rattle.c_grammar_tree.specs.declared.declaration.SpecifierKind.{SpecifierKind}
 use Rattle.c_grammar_tree.specs.declared.declaration.SpecifierKind.TheVariants as kind
@@ -65,6 +65,14 @@ IsKindWhere test symbol answer = MatchOption answer (test symbol ≡ false)
 -- the answer is what the keyword is among specifiers, and none where they end
 abbrev pub IsKind : AllowedStorage → Symbol → Option SpecifierKind → Type 0
 IsKind allowed = IsKindWhere (keeps_on allowed)
+
+-- the keyword at this place is one with which specifiers go on, and behind it they end
+pub record IsOnly (allowed : AllowedStorage) (leaves : List Leaf) (at : ℕ) (found : SpecifierKind)
+    : Type 0 where
+  pub goes_on : keeps_on allowed (symbol_of (leaf_at leaves at)) ≡ true
+  pub kind : kind_of (symbol_of (leaf_at leaves at)) ≡ Some found
+  pub more : GoesOn leaves at
+  pub ends : keeps_on allowed (symbol_of (leaf_at leaves (at + 1))) ≡ false
 
 -- the same among those behind a typedef name
 abbrev pub IsQualifier : AllowedStorage → Symbol → Option SpecifierKind → Type 0

@@ -1,6 +1,6 @@
 //! The reader of specifiers, which are `specifiers` of `Declarations.antt` of `c_grammar_tree`.
 //! Proved with `proofs/SpecifierWords.antt`.
-ghost use Rattle.std.specs.Prelude.{◌≡◌, ◌<◌, ◌∷◌, false, length, IfOk};
+ghost use Rattle.std.specs.Prelude.{◌≡◌, ◌<◌, [], ◌∷◌, false, length, IfOk, IfSome};
 ghost use Rattle.c_grammar_forms.specs.Forms.{Node, Skip, Pair};
 ghost use Rattle.c_grammar_symbols.specs.Sources.{GoesOn};
 ghost use Rattle.c_grammar_tree.specs.Parts.{is_word, have_word};
@@ -9,7 +9,7 @@ ghost use Rattle.c_grammar_tree.specs.Declarations.{enum_words, declared_type, s
 ghost use Rattle.c_parser_words.specs.Answers.{Finds};
 ghost use Rattle.c_grammar_symbols.specs.declared.symbol.Symbol.TheVariants as stands;
 ghost use Rattle.c_parser_words.specs.Storage.{goes, goes_in};
-ghost use Rattle.c_parser_words.specs.Steps.{IsKind, IsQualifier};
+ghost use Rattle.c_parser_words.specs.Steps.{IsKind, IsOnly, IsQualifier};
 ghost use Rattle.c_parser_words.specs.Specified.{AreEnumWords, AreSpecified};
 
 use crate::names::identifier;
@@ -91,9 +91,36 @@ fn qualifier_kind(allowed: AllowedStorage, symbol: Symbol) -> Option<SpecifierKi
 /// Words of specifiers, and the enumerated type of the word `enum` among them.
 pub type Words = (Seq<Specifier>, Option<Boxed<Enumeration>>);
 
-/// The keywords of specifiers that stand here, with words of one type among them, or none, in any
-/// order. A word that no type has with those before it is the fault.
-pub fn keywords(
+/// The keyword that stands here alone among specifiers: what stands behind it is none.
+fn only_keyword(source: &Source, at: usize, allowed: AllowedStorage) -> Option<SpecifierKind>
+    requires { at < length source.now }
+    ensures { IfSome result (IsOnly allowed source.now at) }
+{
+    match specifier_kind(allowed, source.symbol(at)) {
+        Some(kind) => match specifier_kind(allowed, source.symbol(at + 1)) {
+            Some(_) => None,
+            None => Some(kind),
+        },
+        None => None,
+    }
+}
+
+/// The specifier of one keyword.
+fn one_specifier(
+    alloc: Global,
+    kind: SpecifierKind,
+    place: u32,
+) -> Result<Seq<Specifier>, AllocError>
+    ensures { IfOk result (λ words. words ≡ record { kind = kind; place = place } ∷ []) }
+{
+    let mut words = Vec::with_capacity(alloc, 1)?;
+    words.push(Specifier { kind, place })?;
+    Ok(Seq::from_vec(words))
+}
+
+/// The keywords of specifiers that stand here, as they are listed: with the words of their type
+/// beside them, by which one that does not stand with these is found.
+fn listed_keywords(
     alloc: Global,
     source: &Source,
     at: usize,
@@ -112,6 +139,28 @@ pub fn keywords(
         here += 1;
     }
     Ok((Seq::from_vec(words), here))
+}
+
+/// The keywords of specifiers that stand here, with words of one type among them, or none, in any
+/// order. A word that no type has with those before it is the fault. Most specifiers are one
+/// keyword, for which no words of a type are listed.
+pub fn keywords(
+    alloc: Global,
+    source: &Source,
+    at: usize,
+    allowed: AllowedStorage,
+) -> Result<(Seq<Specifier>, usize), ReadError>
+    requires { at < length source.now }
+    ensures { Finds (keywords (goes_in allowed)) source.now at result }
+{
+    match only_keyword(source, at, allowed) {
+        Some(kind) => {
+            let behind = at + 1;
+            let words = one_specifier(alloc, kind, source.place(at))?;
+            Ok((words, behind))
+        }
+        None => listed_keywords(alloc, source, at, allowed),
+    }
 }
 
 /// Whether it is a word of a type.

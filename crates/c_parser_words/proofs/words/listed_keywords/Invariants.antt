@@ -2,7 +2,7 @@
 -- shorter.
 use Rattle.std.proofs.Common.{◌-◌, length}
 use Rattle.c_parser_words.proofs.SpecifierWords.{AreSpecifiers}
-use Rattle.c_parser_words.proofs.words.keywords.Given as goal
+use Rattle.c_parser_words.proofs.words.listed_keywords.Given as goal
 
 abbrev pub invariant-loop-kind : goal.invariant-loop-kind
 invariant-loop-kind l = AreSpecifiers l.allowed l.source l.at l.words.items l.types.items l.here
