@@ -4,4 +4,4 @@
 
 mod laws;
 
-pub use laws::plain_trees_are_trees;
+pub use laws::{plain_agreement_is_agreement, plain_trees_are_trees};
