@@ -1,51 +1,50 @@
 //! Rows on edges and elements as queries: what `decide` of `cpa_solver` answers the query of
 //! `cpa_edgeform`, and what the form has. Proved safe by the checker alone.
 
+ghost use Rattle.cpa_model.specs.Automata.{IsAutomaton};
+
 use crate::additions::{Addition, add, addition_of};
-use crate::asking::{Question, push_decided, push_size};
-use cases_programs::{Table, automaton};
-use cases_reader::{RowFault, next_index, next_word};
+use crate::asking::{Question, push_asked};
+use crate::path_rows;
+use crate::told::Told;
+use cases_reader::{RowFault, index_of_word, push_number};
 use cpa_edgeform::EdgeForm;
 use cpa_model::Cfa;
-use std::alloc::Global;
-use std::str::{Split, SplitWhitespace};
+use std::alloc::{AllocError, Global};
+use std::thread::Threads;
 
-/// The answer of a row on edges; false where the word names none.
-pub fn answer(
+/// Adds the answer of a row on edges. All others are on paths.
+pub fn push_answer<R: Threads + Sync>(
+    rt: &R,
     alloc: Global,
     out: &mut String,
-    table: &Table,
-    word: &str,
-    words: &mut SplitWhitespace<'_>,
-    parts: &mut Split<'_, char>,
-) -> Result<bool, RowFault> {
-    match word {
-        "run" => run(alloc, out, &automaton(alloc, table)?, words, parts, false)?,
-        "only" => run(alloc, out, &automaton(alloc, table)?, words, parts, true)?,
-        "places" => places(alloc, out, &automaton(alloc, table)?, words, parts)?,
-        "weight" => weight(alloc, out, &automaton(alloc, table)?, words, parts)?,
-        "size" => size(alloc, out, &automaton(alloc, table)?, words, parts)?,
-        _ => return Ok(false),
+    cfa: &Cfa,
+    words: &[&str],
+    parts: &[&str],
+) -> Result<(), RowFault>
+    requires { IsAutomaton cfa.now }
+{
+    match words {
+        ["run", from, learnt] => run(alloc, out, cfa, Told::Outcome, from, learnt, parts),
+        ["only", from, learnt] => run(alloc, out, cfa, Told::All, from, learnt, parts),
+        ["places", from, cell] => places(alloc, out, cfa, from, cell, parts),
+        ["weight", from] => weight(alloc, out, cfa, from, parts),
+        ["size", from] => size(alloc, out, cfa, from, parts),
+        _ => path_rows::push_answer(rt, alloc, out, cfa, words, parts),
     }
-    Ok(true)
 }
 
 /// Whether a form begins at the initial store, and else at any store.
-fn begins_initially(words: &mut SplitWhitespace<'_>) -> Result<bool, RowFault> {
-    match next_word(words)? {
+fn is_initial(word: &str) -> Result<bool, RowFault> {
+    match word {
         "initial" => Ok(true),
         "any" => Ok(false),
         _ => Err(RowFault::Unreadable),
     }
 }
 
-fn begun(alloc: Global, cfa: &Cfa, words: &mut SplitWhitespace<'_>) -> Result<EdgeForm, RowFault> {
-    let from_initial = begins_initially(words)?;
-    Ok(EdgeForm::begin(alloc, cfa, from_initial)?)
-}
-
 /// What the parts of a row add.
-fn additions_of(alloc: Global, parts: &mut Split<'_, char>) -> Result<Vec<Addition>, RowFault> {
+fn additions_of(alloc: Global, parts: &[&str]) -> Result<Vec<Addition>, RowFault> {
     let mut additions = Vec::new(alloc);
     for part in parts {
         additions.push(addition_of(alloc, part)?)?;
@@ -53,12 +52,18 @@ fn additions_of(alloc: Global, parts: &mut Split<'_, char>) -> Result<Vec<Additi
     Ok(additions)
 }
 
-/// Adds what the parts of a row say, from left to right.
-fn add_all(form: &mut EdgeForm, cfa: &Cfa, additions: &[Addition]) -> Result<(), RowFault> {
+/// The form that begins so, to which this is added from left to right.
+fn form_of(
+    alloc: Global,
+    cfa: &Cfa,
+    from_initial: bool,
+    additions: &[Addition],
+) -> Result<EdgeForm, RowFault> {
+    let mut form = EdgeForm::begin(alloc, cfa, from_initial)?;
     for addition in additions {
-        add(form, cfa, addition)?;
+        add(&mut form, cfa, addition)?;
     }
-    Ok(())
+    Ok(form)
 }
 
 /// `run BEGINNING LEARNT : ADDITION : ..`, or `only` in the place of `run`: whether there is a run.
@@ -66,23 +71,32 @@ fn run(
     alloc: Global,
     out: &mut String,
     cfa: &Cfa,
-    words: &mut SplitWhitespace<'_>,
-    parts: &mut Split<'_, char>,
-    told: bool,
+    told: Told,
+    from: &str,
+    learnt: &str,
+    parts: &[&str],
 ) -> Result<(), RowFault> {
-    let from_initial = begins_initially(words)?;
-    let mut form = EdgeForm::begin(alloc, cfa, from_initial)?;
-    let learnt = next_index(words)?;
+    let from_initial = is_initial(from)?;
+    let learnt = index_of_word(learnt)?;
     let additions = additions_of(alloc, parts)?;
-    add_all(&mut form, cfa, additions.as_slice())?;
     let question = Question {
         from_initial,
-        additions: additions.as_slice(),
+        additions: &additions,
         learnt,
         told,
     };
-    let asked = form.copy()?;
-    push_decided(alloc, out, cfa, &asked, &question)
+    push_run(alloc, out, cfa, &question)
+}
+
+/// Adds what a copy of the form is answered.
+fn push_run(
+    alloc: Global,
+    out: &mut String,
+    cfa: &Cfa,
+    question: &Question<'_>,
+) -> Result<(), RowFault> {
+    let form = form_of(alloc, cfa, question.from_initial, question.additions)?;
+    push_asked(alloc, out, cfa, &form.copy()?, question)
 }
 
 /// `places BEGINNING CELL : ADDITION : ..`: where the cell stands at the beginning, and after each
@@ -91,27 +105,46 @@ fn places(
     alloc: Global,
     out: &mut String,
     cfa: &Cfa,
-    words: &mut SplitWhitespace<'_>,
-    parts: &mut Split<'_, char>,
+    from: &str,
+    cell: &str,
+    parts: &[&str],
 ) -> Result<(), RowFault> {
-    let mut form = begun(alloc, cfa, words)?;
-    let cell = next_index(words)?;
+    let from_initial = is_initial(from)?;
+    let cell = index_of_word(cell)?;
     if cell as usize >= cfa.cells.len() {
         return Err(RowFault::Unreadable);
     }
-    push_place(out, &form, cell)?;
+    let mut form = EdgeForm::begin(alloc, cfa, from_initial)?;
+    push_places(alloc, out, cfa, &mut form, cell, parts)
+}
+
+/// Adds where the cell stands in the form, and after each part that is added.
+fn push_places(
+    alloc: Global,
+    out: &mut String,
+    cfa: &Cfa,
+    form: &mut EdgeForm,
+    cell: u32,
+    parts: &[&str],
+) -> Result<(), RowFault> {
+    push_place(out, form, cell)?;
     for part in parts {
-        let addition = addition_of(alloc, part)?;
-        add(&mut form, cfa, &addition)?;
-        push_place(out, &form, cell)?;
+        add(form, cfa, &addition_of(alloc, part)?)?;
+        push_place(out, form, cell)?;
     }
     Ok(())
 }
 
-/// Appends the number of the cell of the query at which a cell of the automaton stands now.
-fn push_place(out: &mut String, form: &EdgeForm, cell: u32) -> Result<(), RowFault> {
+/// The number of the cell of the query at which a cell of the automaton stands now.
+fn push_place(out: &mut String, form: &EdgeForm, cell: u32) -> Result<(), AllocError> {
     let place = form.place_now(cell);
-    Ok(write!(out, " {place}")?)
+    write!(out, " {place}")
+}
+
+/// The form of a row: its beginning, and what its parts add.
+fn whole_form(alloc: Global, cfa: &Cfa, from: &str, parts: &[&str]) -> Result<EdgeForm, RowFault> {
+    let from_initial = is_initial(from)?;
+    form_of(alloc, cfa, from_initial, &additions_of(alloc, parts)?)
 }
 
 /// `weight BEGINNING : ADDITION : ..`.
@@ -119,14 +152,11 @@ fn weight(
     alloc: Global,
     out: &mut String,
     cfa: &Cfa,
-    words: &mut SplitWhitespace<'_>,
-    parts: &mut Split<'_, char>,
+    from: &str,
+    parts: &[&str],
 ) -> Result<(), RowFault> {
-    let mut form = begun(alloc, cfa, words)?;
-    let additions = additions_of(alloc, parts)?;
-    add_all(&mut form, cfa, additions.as_slice())?;
-    let weight = form.weight();
-    Ok(write!(out, " {weight}")?)
+    let weight = whole_form(alloc, cfa, from, parts)?.weight();
+    Ok(push_number(out, weight as i128)?)
 }
 
 /// `size BEGINNING : ADDITION : ..`: the numbers of the query's cells and wanted expressions.
@@ -134,11 +164,16 @@ fn size(
     alloc: Global,
     out: &mut String,
     cfa: &Cfa,
-    words: &mut SplitWhitespace<'_>,
-    parts: &mut Split<'_, char>,
+    from: &str,
+    parts: &[&str],
 ) -> Result<(), RowFault> {
-    let mut form = begun(alloc, cfa, words)?;
-    let additions = additions_of(alloc, parts)?;
-    add_all(&mut form, cfa, additions.as_slice())?;
-    push_size(out, &form)
+    Ok(push_size(out, &whole_form(alloc, cfa, from, parts)?)?)
+}
+
+/// The numbers of the query's cells and wanted expressions.
+fn push_size(out: &mut String, form: &EdgeForm) -> Result<(), AllocError> {
+    let query = form.query()?;
+    let cells = query.cells.len();
+    let wanted = query.wanted.len();
+    write!(out, " {cells} {wanted}")
 }

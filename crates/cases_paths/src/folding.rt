@@ -1,16 +1,28 @@
-//! Rows on what `needed` and `carried` answer. Proved safe by the checker alone.
+//! Rows on what `path_weight`, `needed` and `carried` answer. Proved safe by the checker alone.
 
 ghost use Rattle.cpa_iface.specs.Meanings.{IsPathOf};
 ghost use Rattle.cpa_model.specs.Automata.{IsAutomaton};
 
-use cases_reader::{RowFault, push_number};
+use cases_reader::push_number;
 use cpa_expr::push_expr;
 use cpa_model::{Cfa, Path};
-use cpa_path::{carried, needed};
-use std::alloc::Global;
+use cpa_path::{carried, needed, path_weight};
+use std::alloc::{AllocError, Global};
+
+/// `path_weight : EDGE ..`: the weight of the path.
+pub fn push_weight(out: &mut String, cfa: &Cfa, path: &Path) -> Result<(), AllocError>
+    requires { IsPathOf cfa.now path.now }
+{
+    push_number(out, path_weight(cfa, path) as i128)
+}
 
 /// `needed : EDGE ..`: the cells.
-pub fn push_needed(alloc: Global, out: &mut String, cfa: &Cfa, path: &Path) -> Result<(), RowFault>
+pub fn push_needed(
+    alloc: Global,
+    out: &mut String,
+    cfa: &Cfa,
+    path: &Path,
+) -> Result<(), AllocError>
     requires automaton { IsAutomaton cfa.now }
     requires path { IsPathOf cfa.now path.now }
 {
@@ -21,7 +33,12 @@ pub fn push_needed(alloc: Global, out: &mut String, cfa: &Cfa, path: &Path) -> R
 }
 
 /// `carried : EDGE ..`: the expressions, with commas between them.
-pub fn push_carried(alloc: Global, out: &mut String, cfa: &Cfa, path: &Path) -> Result<(), RowFault>
+pub fn push_carried(
+    alloc: Global,
+    out: &mut String,
+    cfa: &Cfa,
+    path: &Path,
+) -> Result<(), AllocError>
     requires automaton { IsAutomaton cfa.now }
     requires path { IsPathOf cfa.now path.now }
 {

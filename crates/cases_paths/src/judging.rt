@@ -1,12 +1,13 @@
-//! Rows on what `judge` and `path_weight` answer. Proved safe by the checker alone.
+//! Rows on what `judge` answers, within the budgets of a row. Proved safe by the checker alone.
 
 ghost use Rattle.cpa_iface.specs.Meanings.{IsPathOf};
 ghost use Rattle.cpa_model.specs.Automata.{IsAutomaton};
 
-use cases_reader::{RowFault, push_number, push_word};
+use crate::told::Told;
+use cases_reader::{RowFault, index_of_word, push_number, push_word};
 use cpa_model::{Cfa, Path};
-use cpa_path::{Judged, judge, path_weight};
-use std::alloc::Global;
+use cpa_path::{Judged, judge};
+use std::alloc::{AllocError, Global};
 
 /// The budgets of a judgement.
 #[derive(Clone, Copy)]
@@ -17,6 +18,16 @@ pub struct Limits {
     pub gates: u64,
 }
 
+/// The budgets of these words, `LEARNT GATES`.
+pub fn limits_of(words: &[&str]) -> Result<Limits, RowFault> {
+    let [learnt, gates] = words else {
+        return Err(RowFault::Unreadable);
+    };
+    let learnt = index_of_word(learnt)?;
+    let gates = gates.parse::<u64>()?;
+    Ok(Limits { learnt, gates })
+}
+
 /// `judge LEARNT GATES : EDGE ..`: `run STEPS`, `none`, `learnt LINES` or `gates WEIGHT`. With
 /// `inputs` in the place of `judge` the inputs of a run are told, since there are these alone.
 pub fn push_judged(
@@ -24,42 +35,38 @@ pub fn push_judged(
     out: &mut String,
     cfa: &Cfa,
     path: &Path,
-    limits: Limits,
-    told: bool,
+    told: Told,
+    limits: &[&str],
 ) -> Result<(), RowFault>
     requires automaton { IsAutomaton cfa.now }
     requires path { IsPathOf cfa.now path.now }
 {
-    let judged = judge(alloc, cfa, path, limits.learnt, limits.gates)?;
+    let Limits { learnt, gates } = limits_of(limits)?;
+    let pushed = push_judgement(out, told, &judge(alloc, cfa, path, learnt, gates)?);
+    Ok(pushed?)
+}
+
+/// What was judged of a path.
+fn push_judgement(out: &mut String, told: Told, judged: &Judged) -> Result<(), AllocError> {
     match judged {
-        Judged::Run { inputs, steps } => push_run(out, inputs.as_slice(), steps, told),
-        Judged::NoRun => Ok(push_word(out, "none")?),
-        Judged::Learnt { lines } => push_count(out, lines.len()),
-        Judged::Gates { weight } => Ok(write!(out, " gates {weight}")?),
+        Judged::Run { inputs, steps } => push_run(out, told, inputs, *steps),
+        Judged::NoRun => push_word(out, "none"),
+        Judged::Learnt { lines } => {
+            let count = lines.len();
+            write!(out, " learnt {count}")
+        }
+        Judged::Gates { weight } => write!(out, " gates {weight}"),
     }
 }
 
-/// Appends how many lines were learnt.
-fn push_count(out: &mut String, count: usize) -> Result<(), RowFault> {
-    Ok(write!(out, " learnt {count}")?)
-}
-
-/// Appends how many steps a run makes, and which inputs it takes.
-fn push_run(out: &mut String, inputs: &[i128], steps: u64, told: bool) -> Result<(), RowFault> {
+/// How many steps a run makes, and which inputs it takes.
+fn push_run(out: &mut String, told: Told, inputs: &[i128], steps: u64) -> Result<(), AllocError> {
     write!(out, " run {steps}")?;
-    if told {
+    if let Told::All = told {
         push_word(out, "inputs")?;
         for input in inputs {
             push_number(out, *input)?;
         }
     }
     Ok(())
-}
-
-/// `weight : EDGE ..`: the weight of the path.
-pub fn push_weight(out: &mut String, cfa: &Cfa, path: &Path) -> Result<(), RowFault>
-    requires { IsPathOf cfa.now path.now }
-{
-    let weight = path_weight(cfa, path);
-    Ok(write!(out, " {weight}")?)
 }

@@ -5,14 +5,16 @@
 mod additions;
 mod asking;
 mod edge_rows;
-mod facts;
+mod fact_rows;
 mod folding;
 mod interpolant_rows;
 mod judging;
+mod numbers;
 mod path_rows;
 mod replay_rows;
 mod rows;
 mod runs;
+mod told;
 
 use cases_programs::Table;
 use std::io::{self, BufRead, BufReader, BufWriter, Write};

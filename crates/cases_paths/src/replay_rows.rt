@@ -1,53 +1,73 @@
-//! Rows on replays, and on elements and states: what `replay` of `cpa_interp` and the calls of
-//! `cpa_model` on facts answer. Proved safe by the checker alone.
+//! Rows on the program: what `replay` of `cpa_interp` answers, and whether an element fits.
+//! Proved safe by the checker alone.
 
-use crate::facts::{push_copy, push_has_facts, push_holds, push_is_elem};
-use cases_programs::{Table, automaton};
-use cases_reader::{RowFault, next_word, number_of_word};
+ghost use Rattle.cpa_model.specs.Automata.{IsAutomaton};
+
+use crate::edge_rows;
+use crate::numbers::numbers_of;
+use cases_programs::{Table, automaton, elem_of};
+use cases_reader::{RowFault, push_word, yes_or_no};
 use cpa_interp::{Outcome, replay};
+use cpa_model::{Cfa, is_elem};
 use std::alloc::{AllocError, Global};
-use std::str::{Split, SplitWhitespace};
+use std::thread::Threads;
 
 /// The most inputs of a row.
 const MAX_INPUTS: usize = 1000;
 
-/// The answer of a row on a replay or on facts; false where the word names none.
-pub fn answer(
+/// Adds the answer of a row on the program that the rows have set.
+pub fn push_answer<R: Threads + Sync>(
+    rt: &R,
     alloc: Global,
     out: &mut String,
     table: &Table,
-    word: &str,
-    words: &mut SplitWhitespace<'_>,
-    parts: &mut Split<'_, char>,
-) -> Result<bool, RowFault> {
-    match word {
-        "replay" => push_replay(alloc, out, table, words)?,
-        "holds" => push_holds(alloc, out, words, parts)?,
-        "is_elem" => push_is_elem(alloc, out, table, parts)?,
-        "has_facts" => push_has_facts(alloc, out, parts)?,
-        "copy" => push_copy(alloc, out, parts)?,
-        _ => return Ok(false),
+    words: &[&str],
+    parts: &[&str],
+) -> Result<(), RowFault> {
+    let cfa = automaton(alloc, table)?;
+    push_asked(rt, alloc, out, &cfa, words, parts)
+}
+
+/// Adds the answer of a row on replays, or on one element. All others are on edges.
+fn push_asked<R: Threads + Sync>(
+    rt: &R,
+    alloc: Global,
+    out: &mut String,
+    cfa: &Cfa,
+    words: &[&str],
+    parts: &[&str],
+) -> Result<(), RowFault>
+    requires { IsAutomaton cfa.now }
+{
+    match (words, parts) {
+        (["replay", steps, inputs @ ..], []) => push_replay(alloc, out, cfa, steps, inputs),
+        (["is_elem"], [elem]) => push_is_elem(alloc, out, cfa, elem),
+        _ => edge_rows::push_answer(rt, alloc, out, cfa, words, parts),
     }
-    Ok(true)
+}
+
+/// `is_elem : ELEMENT`: whether the element fits the automaton of the program.
+fn push_is_elem(alloc: Global, out: &mut String, cfa: &Cfa, elem: &str) -> Result<(), RowFault> {
+    let fits = is_elem(&elem_of(alloc, elem)?, cfa);
+    Ok(push_word(out, yes_or_no(fits))?)
 }
 
 /// `replay STEPS INPUT ..`: what comes of the replay within so many steps.
 fn push_replay(
     alloc: Global,
     out: &mut String,
-    table: &Table,
-    words: &mut SplitWhitespace<'_>,
-) -> Result<(), RowFault> {
-    let steps = next_word(words)?.parse::<u64>()?;
-    let mut inputs = Vec::new(alloc);
-    for word in words {
-        inputs.push(number_of_word(word)?)?;
-    }
+    cfa: &Cfa,
+    steps: &str,
+    inputs: &[&str],
+) -> Result<(), RowFault>
+    requires { IsAutomaton cfa.now }
+{
+    let steps = steps.parse::<u64>()?;
+    let inputs = numbers_of(alloc, inputs)?;
     if inputs.len() > MAX_INPUTS {
         return Err(RowFault::Unreadable);
     }
-    let cfa = automaton(alloc, table)?;
-    Ok(push_outcome(out, replay(alloc, &cfa, inputs.as_slice(), steps)?)?)
+    Ok(push_outcome(out, replay(alloc, cfa, inputs.as_slice(), steps)?)?)
 }
 
 /// The outcome, as the command `replay` writes it.

@@ -1,9 +1,9 @@
 //! A row with its answer. Nothing is proved of a row but that its answer comes: what is right, the
 //! file `stdout` says.
 
-use crate::{edge_rows, path_rows, replay_rows};
+use crate::fact_rows;
 use cases_programs::Table;
-use cases_reader::{RowFault, end_parts, end_row, next_part, next_word};
+use cases_reader::{Row, RowFault, printed};
 use std::alloc::{AllocError, Global};
 use std::thread::Threads;
 
@@ -14,45 +14,38 @@ pub fn answered<R: Threads + Sync>(
     table: &mut Table,
     line: &str,
 ) -> Result<String, AllocError> {
-    let mut out = String::from_str(alloc, line)?;
-    if line.is_empty() || line.starts_with("#") {
-        return Ok(out);
-    }
-    match answer(rt, alloc, table, line) {
-        Ok(None) => Ok(out),
-        Ok(Some(words)) => {
-            write!(out, " ={words}")?;
-            Ok(out)
-        }
-        Err(RowFault::Unreadable) => {
-            out.push_str(" = unreadable")?;
-            Ok(out)
-        }
-        Err(RowFault::OutOfMemory) => Err(AllocError),
-    }
+    let mut answer = String::new(alloc);
+    let told = push_answer(rt, alloc, &mut answer, table, line);
+    printed(alloc, line, answer.as_str(), told)
 }
 
-/// The words of the answer, each behind a space, or nothing where the row sets something.
-fn answer<R: Threads + Sync>(
+/// Adds the answer of a row, or nothing where the row asks nothing.
+fn push_answer<R: Threads + Sync>(
     rt: &R,
     alloc: Global,
+    out: &mut String,
     table: &mut Table,
     line: &str,
-) -> Result<Option<String>, RowFault> {
-    if table.set(alloc, line)? {
-        return Ok(None);
+) -> Result<(), RowFault> {
+    if line.is_empty() || line.starts_with("#") {
+        return Ok(());
     }
-    let mut out = String::new(alloc);
-    let mut parts = line.split(':');
-    let mut words = next_part(&mut parts)?.split_whitespace();
-    let word = next_word(&mut words)?;
-    let known = replay_rows::answer(alloc, &mut out, table, word, &mut words, &mut parts)?
-        || edge_rows::answer(alloc, &mut out, table, word, &mut words, &mut parts)?
-        || path_rows::answer(rt, alloc, &mut out, table, word, &mut words, &mut parts)?;
-    if !known {
-        return Err(RowFault::Unreadable);
+    let row = Row::of(alloc, line)?;
+    set_or_ask(rt, alloc, out, table, &row.words, &row.parts)
+}
+
+/// Adds the words of the answer, each behind a space, or nothing where the row sets something.
+fn set_or_ask<R: Threads + Sync>(
+    rt: &R,
+    alloc: Global,
+    out: &mut String,
+    table: &mut Table,
+    words: &[&str],
+    parts: &[&str],
+) -> Result<(), RowFault> {
+    if table.set(alloc, words, parts)? {
+        return Ok(());
     }
-    end_row(&mut words)?;
-    end_parts(&mut parts)?;
-    Ok(Some(out))
+    out.push_str(" =")?;
+    fact_rows::push_answer(rt, alloc, out, table, words, parts)
 }

@@ -1,9 +1,8 @@
-//! Reads what a call of an analysis takes beside elements: a rule of merging, and settings. Nothing
-//! is proved of what is read but that reading is safe and ends.
+//! Reads what calls take beside elements: a rule of merging, an order, and settings. Nothing is proved
+//! of what is read but that reading is safe and ends.
 
-use cases_reader::{RowFault, next_index, next_word};
-use cpa_iface::{DEFAULT_GATES, DEFAULT_LEARNT, MergeRule, Settings};
-use std::str::SplitWhitespace;
+use cases_reader::{RowFault, index_of_word};
+use cpa_iface::{DEFAULT_GATES, DEFAULT_LEARNT, MergeRule, Order, Settings};
 
 /// The rule that a word names: `sep`, `join` or `widen`.
 pub fn rule_of_word(word: &str) -> Result<MergeRule, RowFault> {
@@ -15,11 +14,20 @@ pub fn rule_of_word(word: &str) -> Result<MergeRule, RowFault> {
     }
 }
 
-/// The settings that the next words spell: `all LIMIT` or `none LIMIT`. Searches and queries have
-/// the budgets of a run without a configuration.
-pub fn next_settings(words: &mut SplitWhitespace<'_>) -> Result<Settings, RowFault> {
-    let tracked_all = is_all(next_word(words)?)?;
-    let limit = next_index(words)?;
+/// Which waiting entry is taken: `first` or `last`.
+pub fn order_of_word(word: &str) -> Result<Order, RowFault> {
+    match word {
+        "first" => Ok(Order::First),
+        "last" => Ok(Order::Last),
+        _ => Err(RowFault::Unreadable),
+    }
+}
+
+/// The settings that two words spell: `all LIMIT` or `none LIMIT`. Searches and queries have the
+/// budgets of a run without a configuration.
+pub fn settings_of(cells: &str, limit: &str) -> Result<Settings, RowFault> {
+    let tracked_all = is_all(cells)?;
+    let limit = index_of_word(limit)?;
     Ok(Settings {
         tracked_all,
         limit,

@@ -1,17 +1,15 @@
 //! Reads elements: facts with commas between them, as `at 3`, `stack 8 9`, `equals 0 5`,
 //! `within 0 1 2` and `truth 1 EXPRESSION`.
 
-use crate::table::indices_of_words;
-use cases_reader::{RowFault, expr_of, index_of_word, number_of_word, words_of};
+use cases_reader::{RowFault, expr_of, index_of_word, indices_of_words, number_of_word, words_of};
 use cpa_model::{Elem, Fact, Seq};
 use std::alloc::Global;
-use std::str::Split;
 
-/// The elements that the parts which are left spell, one each.
-pub fn elems_of(alloc: Global, parts: &mut Split<'_, char>) -> Result<Vec<Elem>, RowFault> {
+/// The elements that texts spell, one each.
+pub fn elems_of(alloc: Global, texts: &[&str]) -> Result<Vec<Elem>, RowFault> {
     let mut elems = Vec::new(alloc);
-    for part in parts {
-        elems.push(elem_of(alloc, part)?)?;
+    for text in texts {
+        elems.push(elem_of(alloc, text)?)?;
     }
     Ok(elems)
 }

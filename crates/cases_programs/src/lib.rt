@@ -13,8 +13,8 @@ mod statements;
 mod table;
 
 pub use automata::automaton;
-pub use calls::{next_settings, rule_of_word};
+pub use calls::{order_of_word, rule_of_word, settings_of};
 pub use elements::{elem_of, elems_of};
 pub use laws::tables_suffice;
 pub use shapes::{are_elems, are_precisions, is_path, is_precision};
-pub use table::{Table, rest_indices};
+pub use table::Table;

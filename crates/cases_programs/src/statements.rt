@@ -1,8 +1,7 @@
 //! Reads a statement: `block N ..`, `if YES NO : TEST`, `loop BODY STEP`,
 //! `assign BASE LEN : INDEX : VALUE`, `input CELL`, `call F`, `goto N`, `leave`, `stop`, `error`.
 
-use crate::table::indices_of_words;
-use cases_reader::{RowFault, index_of_word, whole_expr};
+use cases_reader::{RowFault, index_of_word, indices_of_words, whole_expr};
 use cpa_ints::Boxed;
 use cpa_model::Stmt;
 use std::alloc::Global;

@@ -2,11 +2,10 @@
 //! it here.
 
 use crate::statements::stmt_of;
-use cases_reader::{Row, RowFault, index_of_word, number_of_word, type_of_word};
+use cases_reader::{RowFault, index_of_word, indices_of_words, number_of_word, type_of_word};
 use cpa_model::{Cell, Program, Seq};
 use std::alloc::Global;
 use std::mem;
-use std::str::SplitWhitespace;
 
 /// A program of rows, with its tables.
 #[derive(Drop)]
@@ -37,20 +36,10 @@ impl Table {
         }
     }
 
-    /// Sets what a row names, and says whether it names something: a part of `set_part`, `stmt`
-    /// with one more statement, or `put N` with another one in the place of the statement N.
-    pub fn set(&mut self, alloc: Global, line: &str) -> Result<bool, RowFault> {
-        let row = Row::of(alloc, line)?;
-        self.set_named(alloc, &row.words, &row.parts)
-    }
-
-    /// Sets what words and parts name.
-    fn set_named(
-        &mut self,
-        alloc: Global,
-        words: &[&str],
-        parts: &[&str],
-    ) -> Result<bool, RowFault> {
+    /// Sets what the words and parts of a row name, and says whether they name something: a part of
+    /// `set_part`, `stmt` with one more statement, or `put N` with another one in the place of the
+    /// statement N.
+    pub fn set(&mut self, alloc: Global, words: &[&str], parts: &[&str]) -> Result<bool, RowFault> {
         match words {
             ["stmt", words @ ..] => self.push_stmt(alloc, words, parts)?,
             ["put", number, words @ ..] => self.put_stmt(alloc, number, words, parts)?,
@@ -126,24 +115,6 @@ impl Table {
         *list = indices_of_words(alloc, numbers)?;
         Ok(true)
     }
-}
-
-/// The words that are left, as indices.
-pub fn rest_indices(alloc: Global, words: &mut SplitWhitespace<'_>) -> Result<Seq<u32>, RowFault> {
-    let mut numbers = Seq::new(alloc);
-    for word in words {
-        numbers.push(index_of_word(word)?)?;
-    }
-    Ok(numbers)
-}
-
-/// The indices of words.
-pub(crate) fn indices_of_words(alloc: Global, words: &[&str]) -> Result<Seq<u32>, RowFault> {
-    let mut numbers = Seq::new(alloc);
-    for word in words {
-        numbers.push(index_of_word(word)?)?;
-    }
-    Ok(numbers)
 }
 
 /// The cells of these words, a type and a start each.

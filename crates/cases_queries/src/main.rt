@@ -12,7 +12,7 @@ mod query_rows;
 mod search_rows;
 mod words;
 
-use cases_reader::{Row, RowFault};
+use cases_reader::{Row, RowFault, printed};
 use std::alloc::{AllocError, Global};
 use std::io;
 use std::io::{BufRead, BufReader};
@@ -53,16 +53,11 @@ fn answered<R: Threads + Sync>(
     line: &str,
 ) -> Result<String, AllocError> {
     let mut answer = String::new(alloc);
-    let text = match push_answer(rt, alloc, &mut answer, subject, line) {
-        Ok(()) => answer.as_str(),
-        Err(RowFault::Unreadable) => " = unreadable",
-        Err(RowFault::OutOfMemory) => return Err(AllocError),
-    };
-    format!(in alloc; "{line}{text}")
+    let told = push_answer(rt, alloc, &mut answer, subject, line);
+    printed(alloc, line, answer.as_str(), told)
 }
 
 /// Adds the answer of a row, its words each behind a space, or nothing where the row asks nothing.
-/// What a row that cannot be read has added is dropped by the caller.
 fn push_answer<R: Threads + Sync>(
     rt: &R,
     alloc: Global,

@@ -9,7 +9,6 @@ use crate::words::{
 use cpa_expr::{BinOp, CmpOp, Expr, UnOp};
 use cpa_ints::{Boxed, IntType};
 use std::alloc::Global;
-use std::str::SplitWhitespace;
 
 /// A node, without its words and parts.
 #[derive(Clone, Copy)]
@@ -41,15 +40,6 @@ enum Two {
 /// The expression that a text spells.
 pub fn whole_expr(alloc: Global, text: &str) -> Result<Expr, RowFault> {
     let words = words_of(alloc, text)?;
-    expr_of(alloc, &words)
-}
-
-/// The expression that the words which are left spell.
-pub fn rest_expr(alloc: Global, left: &mut SplitWhitespace<'_>) -> Result<Expr, RowFault> {
-    let mut words: Vec<&str> = Vec::new(alloc);
-    for word in left {
-        words.push(word)?;
-    }
     expr_of(alloc, &words)
 }
 

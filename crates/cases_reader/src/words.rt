@@ -52,27 +52,9 @@ pub fn next_word<'a>(words: &mut SplitWhitespace<'a>) -> Result<&'a str, RowFaul
     words.next().ok_or(RowFault::Unreadable)
 }
 
-/// Nothing is left.
-pub fn end_row(words: &mut SplitWhitespace<'_>) -> Result<(), RowFault> {
-    if words.next().is_some() {
-        return Err(RowFault::Unreadable);
-    }
-    Ok(())
-}
-
-/// The next word as a number.
-pub fn next_number(words: &mut SplitWhitespace<'_>) -> Result<i128, RowFault> {
-    number_of_word(next_word(words)?)
-}
-
 /// The next word as an index.
 pub fn next_index(words: &mut SplitWhitespace<'_>) -> Result<u32, RowFault> {
     index_of_word(next_word(words)?)
-}
-
-/// The next word as a type.
-pub fn next_type(words: &mut SplitWhitespace<'_>) -> Result<IntType, RowFault> {
-    type_of_word(next_word(words)?)
 }
 
 /// The number that a word spells.

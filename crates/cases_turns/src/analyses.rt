@@ -5,10 +5,8 @@ mod asking;
 mod boxes;
 mod questions;
 mod rows;
-mod setting;
 
 pub use asking::push_called;
 pub use boxes::Boxes;
-pub use questions::{Call, Question, path_of, question_of};
+pub use questions::{Call, Question, call_of, path_of, question_of};
 pub use rows::push_answer;
-pub use setting::{Setting, exprs_of};

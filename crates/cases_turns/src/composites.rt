@@ -11,11 +11,11 @@ mod guess;
 mod picking;
 mod questions;
 mod rows;
-mod setting;
 
 pub use blind::Blind;
 pub use counter::Counter;
 pub use eager::Eager;
 pub use guess::Guess;
+pub use picking::picks_of;
+pub use questions::{Question, question_of};
 pub use rows::push_asked;
-pub use setting::Setting;

@@ -7,6 +7,7 @@ mod composites;
 mod predicates;
 mod reached;
 mod rows;
+mod setting;
 
 use analyses::Boxes;
 use cpa_callstack::Callstack;

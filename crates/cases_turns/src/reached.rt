@@ -4,6 +4,5 @@
 mod answers;
 mod printing;
 mod reading;
-mod rows;
 
-pub use rows::push_answer;
+pub use answers::push_answer;

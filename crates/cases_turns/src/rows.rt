@@ -2,13 +2,14 @@
 //! file `stdout` says.
 
 use crate::analyses::{self, Boxes};
-use crate::composites::{self, Blind, Counter, Eager, Guess};
-use crate::predicates::{self, Session};
-use crate::reached;
-use cases_reader::RowFault;
+use crate::composites::{self, Blind, Counter, Eager, Guess, Question, question_of};
+use crate::setting::Setting;
+use crate::{predicates, reached};
+use cases_reader::{Row, RowFault, printed};
 use cpa_callstack::Callstack;
 use cpa_composite::Handed;
 use cpa_iface::{Location, Plain};
+use cpa_predicate::Predicate;
 use cpa_reached::Reached;
 use cpa_value::Value;
 use std::alloc::{AllocError, Global};
@@ -24,27 +25,25 @@ pub enum Subject {
     Composites,
 }
 
-/// What the rows so far have set, for each subject.
+/// What the rows so far have set, and what they call.
 #[derive(Drop)]
 pub struct Rows {
     subject: Subject,
-    analyses: analyses::Setting,
-    session: Box<Session>,
+    setting: Setting,
+    predicate: Box<Predicate>,
     reached: Reached,
-    composites: composites::Setting,
 }
 
 impl Rows {
     /// Nothing is set. The reached set begins with one entry that has no elements.
     pub fn new(alloc: Global) -> Result<Rows, AllocError> {
-        let session = Box::new(alloc, Session::new(alloc)?)?;
+        let predicate = Box::new(alloc, Predicate::new())?;
         let reached = Reached::new(alloc, Vec::new(alloc), Vec::new(alloc))?;
         Ok(Rows {
             subject: Subject::Analyses,
-            analyses: analyses::Setting::new(alloc),
-            session,
+            setting: Setting::new(alloc),
+            predicate,
             reached,
-            composites: composites::Setting::new(alloc),
         })
     }
 
@@ -56,36 +55,58 @@ impl Rows {
         line: &str,
     ) -> Result<String, AllocError> {
         let mut answer = String::new(alloc);
-        let answered = self.push_answer(alloc, boxes, line, &mut answer);
-        let text = match answered {
-            Ok(()) => answer.as_str(),
-            Err(RowFault::Unreadable) => " = unreadable",
-            Err(RowFault::OutOfMemory) => return Err(AllocError),
-        };
-        format!(in alloc; "{line}{text}")
+        let told = self.push_answer(alloc, &mut answer, boxes, line);
+        printed(alloc, line, answer.as_str(), told)
     }
 
-    /// Adds the answer, or nothing where the row asks nothing. `rows SUBJECT` says whose calls the
-    /// next rows name. What a row that is not answered has added is dropped by the caller.
+    /// Adds the answer of a row, or nothing where the row asks nothing.
     fn push_answer(
         &mut self,
         alloc: Global,
+        out: &mut String,
         boxes: &mut Boxes,
         line: &str,
-        out: &mut String,
     ) -> Result<(), RowFault> {
         if line.is_empty() || line.starts_with("#") {
             return Ok(());
         }
-        if let Some(word) = line.strip_prefix("rows ") {
-            self.subject = subject_of(word)?;
+        let row = Row::of(alloc, line)?;
+        match row.words.as_slice() {
+            ["rows", word] => self.turn_to(alloc, word),
+            _ => self.push_named(alloc, out, boxes, &row.words, &row.parts),
+        }
+    }
+
+    /// The next rows name the calls of the subject of this word, for which nothing is set.
+    fn turn_to(&mut self, alloc: Global, word: &str) -> Result<(), RowFault> {
+        self.subject = subject_of(word)?;
+        self.setting = Setting::new(alloc);
+        Ok(())
+    }
+
+    /// Adds the answer of a row on the present subject, or nothing where the row sets something.
+    fn push_named(
+        &mut self,
+        alloc: Global,
+        out: &mut String,
+        boxes: &mut Boxes,
+        words: &[&str],
+        parts: &[&str],
+    ) -> Result<(), RowFault> {
+        if self.setting.set(alloc, words, parts)? {
             return Ok(());
         }
+        let setting = &self.setting;
         match self.subject {
-            Subject::Analyses => analyses::push_answer(alloc, boxes, &mut self.analyses, line, out),
-            Subject::Predicates => predicates::push_answer(alloc, &mut *self.session, line, out),
-            Subject::ReachedSet => reached::push_answer(alloc, &mut self.reached, line, out),
-            Subject::Composites => push_composites(alloc, &mut self.composites, line, out),
+            Subject::Analyses => analyses::push_answer(alloc, out, boxes, setting, words, parts),
+            Subject::Predicates => {
+                let predicate = &mut *self.predicate;
+                predicates::push_answer(alloc, out, predicate, setting, words, parts)
+            }
+            Subject::ReachedSet => {
+                reached::push_answer(alloc, out, &mut self.reached, words, parts)
+            }
+            Subject::Composites => push_composites(alloc, out, setting, words, parts),
         }
     }
 }
@@ -101,27 +122,25 @@ fn subject_of(word: &str) -> Result<Subject, RowFault> {
     }
 }
 
-/// Adds the answer of a row that calls a composite, or nothing where the row sets something.
+/// Adds the answer of a row that calls a composite.
 fn push_composites(
     alloc: Global,
-    setting: &mut composites::Setting,
-    line: &str,
     out: &mut String,
+    setting: &Setting,
+    words: &[&str],
+    parts: &[&str],
 ) -> Result<(), RowFault> {
-    if setting.set(alloc, line)? {
-        return Ok(());
-    }
     out.push_str(" = ")?;
-    push_asked(alloc, setting, line, out)
+    push_asked(alloc, out, setting, &question_of(alloc, words, parts)?)
 }
 
 /// Adds the answer of a composite. Its analyses are new for each row, so that no row depends on what
 /// another one asked.
 fn push_asked(
     alloc: Global,
-    setting: &composites::Setting,
-    line: &str,
     out: &mut String,
+    setting: &Setting,
+    question: &Question,
 ) -> Result<(), RowFault> {
     let mut handed = Vec::new(alloc);
     handed.reserve(8)?;
@@ -149,5 +168,5 @@ fn push_asked(
     handed.push_reserved(Handed {
         analysis: Box::new(alloc, Eager)?,
     });
-    composites::push_asked(alloc, handed, setting, line, out)
+    composites::push_asked(alloc, out, handed, setting, question)
 }

@@ -1,12 +1,11 @@
 //! A call of an analysis, as a row names it: the call, its words, and behind colons the elements
 //! that it takes. Words are read before what owns memory.
 
-use cases_programs::{elems_of, next_settings, rest_indices, rule_of_word};
-use cases_reader::{RowFault, end_row, next_index, next_word};
+use cases_programs::{elems_of, rule_of_word, settings_of};
+use cases_reader::{RowFault, index_of_word, indices_of_words};
 use cpa_iface::{MergeRule, Settings};
-use cpa_model::{Elem, Path, Seq};
+use cpa_model::{Elem, Path};
 use std::alloc::Global;
-use std::str::{Split, SplitWhitespace};
 
 /// Which call it is, with what it takes beside elements and a path.
 #[derive(Clone, Copy)]
@@ -14,7 +13,7 @@ pub enum Call {
     /// `means`: the name, and the part on which the analysis is exact.
     Means,
     Initial,
-    /// `first all LIMIT` or `first none LIMIT`; `first` alone where the settings are given
+    /// `first all LIMIT` or `first none LIMIT`
     First { settings: Settings },
     /// `transfer EDGE : ELEMENT`
     Transfer { edge: u32 },
@@ -38,75 +37,57 @@ pub struct Question {
     pub elems: Vec<Elem>,
 }
 
-/// The call that the words and parts which are left name. Where settings are given, `first` takes
-/// these.
+/// A call with the path and the elements that the words and parts of its row name.
 pub fn question_of(
     alloc: Global,
-    words: &mut SplitWhitespace<'_>,
-    parts: &mut Split<'_, char>,
-    given: Option<Settings>,
+    call: Call,
+    words: &[&str],
+    parts: &[&str],
 ) -> Result<Question, RowFault> {
-    let call = call_of(words, given)?;
-    let takes_path = match call {
-        Call::Refine => true,
-        _ => false,
-    };
-    let path = path_of(alloc, words, takes_path)?;
+    let path = path_of(alloc, words)?;
     let elems = elems_of(alloc, parts)?;
     Ok(Question { call, path, elems })
 }
 
-/// The path of the edges that are left, or none where no word is to be left.
-pub fn path_of(
-    alloc: Global,
-    words: &mut SplitWhitespace<'_>,
-    is_taken: bool,
-) -> Result<Path, RowFault> {
-    if is_taken {
-        let edges = rest_indices(alloc, words)?;
-        return Ok(Path { edges });
-    }
-    end_row(words)?;
-    Ok(Path {
-        edges: Seq::new(alloc),
-    })
+/// The path of the edges behind `refine`; none behind other words.
+pub fn path_of(alloc: Global, words: &[&str]) -> Result<Path, RowFault> {
+    let edges = match words {
+        ["refine", edges @ ..] => edges,
+        _ => &[],
+    };
+    let edges = indices_of_words(alloc, edges)?;
+    Ok(Path { edges })
 }
 
-/// The call that the next words name, without its path and the elements behind colons.
-fn call_of(words: &mut SplitWhitespace<'_>, given: Option<Settings>) -> Result<Call, RowFault> {
-    let word = next_word(words)?;
-    if word == "first" {
-        let settings = match given {
-            Some(settings) => settings,
-            None => next_settings(words)?,
-        };
-        Ok(Call::First { settings })
-    } else if word == "transfer" {
-        let edge = next_index(words)?;
-        Ok(Call::Transfer { edge })
-    } else if word == "merge" {
-        let rule = rule_of_word(next_word(words)?)?;
-        Ok(Call::Merge { rule })
-    } else {
-        bare_call(word)
+/// The call that words name, without its path and the elements behind colons.
+pub fn call_of(words: &[&str]) -> Result<Call, RowFault> {
+    match words {
+        ["first", cells, limit] => {
+            let settings = settings_of(cells, limit)?;
+            Ok(Call::First { settings })
+        }
+        ["transfer", edge] => {
+            let edge = index_of_word(edge)?;
+            Ok(Call::Transfer { edge })
+        }
+        ["merge", rule] => {
+            let rule = rule_of_word(rule)?;
+            Ok(Call::Merge { rule })
+        }
+        ["refine", ..] => Ok(Call::Refine),
+        [word] => bare_call(word),
+        _ => Err(RowFault::Unreadable),
     }
 }
 
-/// A call that takes a path or elements alone.
+/// A call that takes elements alone.
 fn bare_call(word: &str) -> Result<Call, RowFault> {
-    if word == "means" {
-        Ok(Call::Means)
-    } else if word == "initial" {
-        Ok(Call::Initial)
-    } else if word == "strengthen" {
-        Ok(Call::Strengthen)
-    } else if word == "covered" {
-        Ok(Call::Covered)
-    } else if word == "adjust" {
-        Ok(Call::Adjust)
-    } else if word == "refine" {
-        Ok(Call::Refine)
-    } else {
-        Err(RowFault::Unreadable)
+    match word {
+        "means" => Ok(Call::Means),
+        "initial" => Ok(Call::Initial),
+        "strengthen" => Ok(Call::Strengthen),
+        "covered" => Ok(Call::Covered),
+        "adjust" => Ok(Call::Adjust),
+        _ => Err(RowFault::Unreadable),
     }
 }

@@ -6,10 +6,10 @@ ghost use Rattle.cpa_iface.specs.Meanings.{IsPrecision};
 
 use crate::analyses::asking::push_both;
 use crate::analyses::boxes::Boxes;
-use crate::analyses::questions::{Question, question_of};
-use crate::analyses::setting::Setting;
+use crate::analyses::questions::{Question, call_of, question_of};
+use crate::setting::Setting;
 use cases_programs::{automaton, is_precision};
-use cases_reader::{RowFault, next_word};
+use cases_reader::RowFault;
 use cpa_callstack::Callstack;
 use cpa_iface::{Location, Plain, Precision};
 use cpa_interval::Interval;
@@ -28,65 +28,58 @@ enum Called {
 
 /// The analysis that a word names, as the analysis itself does.
 fn called_of(word: &str) -> Result<Called, RowFault> {
-    if word == "location" {
-        Ok(Called::Location)
-    } else if word == "callstack" {
-        Ok(Called::Callstack)
-    } else if word == "value" {
-        Ok(Called::Value)
-    } else if word == "interval" {
-        Ok(Called::Interval)
-    } else {
-        Err(RowFault::Unreadable)
+    match word {
+        "location" => Ok(Called::Location),
+        "callstack" => Ok(Called::Callstack),
+        "value" => Ok(Called::Value),
+        "interval" => Ok(Called::Interval),
+        _ => Err(RowFault::Unreadable),
     }
-}
-
-/// Adds the answer, or nothing where the row sets something. The automaton is made again for each
-/// call, as rows may change the program.
-pub fn push_answer(
-    alloc: Global,
-    boxes: &mut Boxes,
-    setting: &mut Setting,
-    line: &str,
-    out: &mut String,
-) -> Result<(), RowFault> {
-    if setting.set(alloc, line)? {
-        return Ok(());
-    }
-    let cfa = automaton(alloc, &setting.table)?;
-    push_asked(alloc, boxes, &cfa, &setting.precision, line, out)
 }
 
 /// Adds the answer to the call that a row names.
+pub fn push_answer(
+    alloc: Global,
+    out: &mut String,
+    boxes: &mut Boxes,
+    setting: &Setting,
+    words: &[&str],
+    parts: &[&str],
+) -> Result<(), RowFault> {
+    let [name, words @ ..] = words else {
+        return Err(RowFault::Unreadable);
+    };
+    let called = called_of(name)?;
+    let question = question_of(alloc, call_of(words)?, words, parts)?;
+    push_asked(alloc, out, boxes, setting, called, &question)
+}
+
+/// Adds the answer to a call. The automaton is made again for each, as rows may change the program.
 fn push_asked(
     alloc: Global,
-    boxes: &mut Boxes,
-    cfa: &Cfa,
-    precision: &Precision,
-    line: &str,
     out: &mut String,
-) -> Result<(), RowFault>
-    requires { IsAutomaton cfa.now }
-{
-    if !is_precision(precision, cfa) {
+    boxes: &mut Boxes,
+    setting: &Setting,
+    called: Called,
+    question: &Question,
+) -> Result<(), RowFault> {
+    let precision = &setting.precision;
+    let cfa = automaton(alloc, &setting.table)?;
+    if !is_precision(precision, &cfa) {
         return Err(RowFault::Unreadable);
     }
-    let mut parts = line.split(':');
-    let mut words = parts.next().unwrap_or("").split_whitespace();
-    let called = called_of(next_word(&mut words)?)?;
-    let question = question_of(alloc, &mut words, &mut parts, None)?;
-    push_asked_of(alloc, boxes, cfa, precision, called, &question, out)
+    push_asked_of(alloc, out, boxes, &cfa, precision, called, question)
 }
 
 /// Adds the answer of the analysis: a new one through the bound, one that lives on through the box.
 fn push_asked_of(
     alloc: Global,
+    out: &mut String,
     boxes: &mut Boxes,
     cfa: &Cfa,
     precision: &Precision,
     called: Called,
     question: &Question,
-    out: &mut String,
 ) -> Result<(), RowFault>
     requires automaton { IsAutomaton cfa.now }
     requires precision { IsPrecision cfa.now precision.now }

@@ -4,7 +4,7 @@
 ghost use Rattle.cpa_model.specs.Automata.{IsAutomaton};
 
 use crate::composites::questions::Search;
-use cases_reader::{RowFault, next_part};
+use cases_reader::RowFault;
 use cpa_composite::{Composite, copy_row};
 use cpa_config::Config;
 use cpa_engine::{Answer, Why, analyse};
@@ -105,17 +105,15 @@ fn push_report(
         return Ok(out.push_str(report.body.verdict().words())?);
     }
     let bytes = print(alloc, report)?;
-    match String::from_utf8(bytes) {
-        Ok(text) => push_lines(out, text.as_str()),
+    match str::from_utf8(&bytes) {
+        Ok(text) => Ok(push_lines(out, text)?),
         Err(_) => Err(RowFault::Unreadable),
     }
 }
 
-/// The first two lines of the text, a space between them.
-fn push_lines(out: &mut String, text: &str) -> Result<(), RowFault> {
-    let mut lines = text.split('\n');
-    out.push_str(next_part(&mut lines)?)?;
-    out.push_str(" ")?;
-    out.push_str(next_part(&mut lines)?)?;
-    Ok(())
+/// The two lines of a report, a space between them.
+fn push_lines(out: &mut String, text: &str) -> Result<(), AllocError> {
+    let (verdict, rest) = text.split_once('\n').unwrap_or((text, ""));
+    let line = rest.strip_suffix('\n').unwrap_or(rest);
+    write!(out, "{verdict} {line}")
 }

@@ -44,12 +44,12 @@ pub fn push_called<A: Analysis>(
     requires size { length (components composite.old) ≡ count }
 {
     match &question.call {
-        Call::Initial { settings } => push_initial(alloc, out, composite, cfa, settings),
+        Call::Initial { settings } => Ok(push_initial(alloc, out, composite, cfa, settings)?),
         Call::Explore {
             order,
             settings,
             turns,
-        } => explore(alloc, out, composite, cfa, settings, *order, *turns),
+        } => Ok(explore(alloc, out, composite, cfa, settings, *order, *turns)?),
         Call::Analyse { search, is_whole } => {
             push_analysis(alloc, out, composite, cfa, search, *is_whole)
         }
@@ -83,7 +83,7 @@ fn push_at<A: Analysis>(
             if cfa.edges.len() <= *edge as usize || !fit(elems, count, cfa) {
                 return Err(RowFault::Unreadable);
             }
-            push_successors(alloc, out, composite, cfa, precisions, *edge, *times, elems)
+            Ok(push_successors(alloc, out, composite, cfa, precisions, *edge, *times, elems)?)
         }
         Call::Merge => push_merge(alloc, out, composite, count, cfa, precisions, elems),
         Call::Covered => push_covered(out, composite, count, elems),
@@ -102,16 +102,21 @@ fn push_initial<A: Analysis>(
     composite: &mut Composite<A>,
     cfa: &Cfa,
     settings: &Settings,
-) -> Result<(), RowFault>
+) -> Result<(), AllocError>
     requires { IsAutomaton cfa.now }
 {
     let first = composite.initial(alloc, cfa, settings)?;
-    push_list(out, first.0.as_slice())?;
-    push_precisions(out, first.1.as_slice())
+    push_row(out, &first.0, &first.1)
+}
+
+/// The elements, and behind them the precisions.
+fn push_row(out: &mut String, elems: &[Elem], precisions: &[Precision]) -> Result<(), AllocError> {
+    push_list(out, elems)?;
+    push_precisions(out, precisions)
 }
 
 /// `, limit LIMIT tracked [CELL,..]` for each. They are told without their predicates.
-fn push_precisions(out: &mut String, precisions: &[Precision]) -> Result<(), RowFault> {
+fn push_precisions(out: &mut String, precisions: &[Precision]) -> Result<(), AllocError> {
     for precision in precisions {
         let limit = precision.limit;
         write!(out, ", limit {limit} tracked ")?;
@@ -130,7 +135,7 @@ fn push_successors<A: Analysis>(
     edge: u32,
     times: u32,
     elems: &[Elem],
-) -> Result<(), RowFault>
+) -> Result<(), AllocError>
     requires automaton { IsAutomaton cfa.now }
     requires edge { edge < length cfa.now.edges }
     requires elems { AreElems cfa.now (length (components composite.old)) elems.now }
@@ -155,7 +160,7 @@ fn push_once<A: Analysis>(
     precisions: &[Precision],
     edge: u32,
     elems: &[Elem],
-) -> Result<(), RowFault>
+) -> Result<(), AllocError>
     requires automaton { IsAutomaton cfa.now }
     requires edge { edge < length cfa.now.edges }
     requires elems { AreElems cfa.now (length (components composite.old)) elems.now }
@@ -165,12 +170,12 @@ fn push_once<A: Analysis>(
 {
     match composite.successors(alloc, cfa, edge, elems, precisions) {
         Ok(rows) => push_rows(out, rows.as_slice()),
-        Err(AllocError) => Ok(out.push_str("no memory")?),
+        Err(AllocError) => out.push_str("no memory"),
     }
 }
 
 /// Each row, a comma between two; `none` where there is none.
-fn push_rows(out: &mut String, rows: &[Vec<Elem>]) -> Result<(), RowFault> {
+fn push_rows(out: &mut String, rows: &[Vec<Elem>]) -> Result<(), AllocError> {
     if rows.is_empty() {
         out.push_str("none")?;
     }
@@ -206,16 +211,15 @@ fn push_merge<A: Analysis>(
     if !fit(new, count, cfa) || !fit(old, count, cfa) {
         return Err(RowFault::Unreadable);
     }
-    push_perhaps(out, &composite.merge(alloc, cfa, new, old, precisions)?)
+    Ok(push_perhaps(out, &composite.merge(alloc, cfa, new, old, precisions)?)?)
 }
 
 /// The elements; `none` where there are none.
-fn push_perhaps(out: &mut String, elems: &Option<Vec<Elem>>) -> Result<(), RowFault> {
+fn push_perhaps(out: &mut String, elems: &Option<Vec<Elem>>) -> Result<(), AllocError> {
     match elems {
-        Some(elems) => push_list(out, elems.as_slice())?,
-        None => out.push_str("none")?,
+        Some(elems) => push_list(out, elems.as_slice()),
+        None => out.push_str("none"),
     }
-    Ok(())
 }
 
 /// `covered`: whether the second elements cover the first ones, which any may be.
@@ -228,8 +232,7 @@ fn push_covered<A: Analysis>(
     let Some((elems, other)) = elems.split_at_checked(count) else {
         return Err(RowFault::Unreadable);
     };
-    out.push_str(yes_or_no(composite.covered_by(elems, other)))?;
-    Ok(())
+    Ok(out.push_str(yes_or_no(composite.covered_by(elems, other)))?)
 }
 
 /// `adjust`: the elements and precisions after it, with no entry reached.
@@ -251,8 +254,7 @@ fn push_adjust<A: Analysis>(
         return Err(RowFault::Unreadable);
     }
     let after = composite.adjust(alloc, cfa, elems, precisions, &[])?;
-    push_list(out, after.0.as_slice())?;
-    push_precisions(out, after.1.as_slice())
+    Ok(push_row(out, &after.0, &after.1)?)
 }
 
 /// `refine`: the precisions after a path that has no run; `none` where none of them grows.
@@ -271,8 +273,14 @@ fn push_refine<A: Analysis>(
     if !is_path(path, cfa) {
         return Err(RowFault::Unreadable);
     }
-    match composite.refine(alloc, cfa, path, precisions)? {
-        Some(refined) => push_precisions(out, refined.as_slice()),
-        None => Ok(out.push_str("none")?),
+    let refined = composite.refine(alloc, cfa, path, precisions)?;
+    Ok(push_refined(out, &refined)?)
+}
+
+/// The precisions; `none` where there are none.
+fn push_refined(out: &mut String, refined: &Option<Vec<Precision>>) -> Result<(), AllocError> {
+    match refined {
+        Some(precisions) => push_precisions(out, precisions),
+        None => out.push_str("none"),
     }
 }

@@ -7,7 +7,6 @@ ghost use Rattle.cpa_composite.specs.Composites.{components};
 ghost use Rattle.cpa_engine_turn.specs.Keys.{HasPlaces};
 ghost use Rattle.cpa_engine_turn.specs.Turns.{AreEntries};
 
-use cases_reader::RowFault;
 use cpa_composite::Composite;
 use cpa_engine_turn::turn;
 use cpa_iface::{Analysis, Entry, Order, Settings, Turn};
@@ -65,7 +64,7 @@ pub fn explore<A: Analysis>(
     settings: &Settings,
     order: Order,
     count: u32,
-) -> Result<(), RowFault>
+) -> Result<(), AllocError>
     requires { IsAutomaton cfa.now }
 {
     let mut reached = begin(alloc, cfa, composite, settings)?;
@@ -81,7 +80,7 @@ fn push_explored<A: Analysis>(
     reached: &mut Reached,
     order: Order,
     count: u32,
-) -> Result<(), RowFault>
+) -> Result<(), AllocError>
     requires automaton { IsAutomaton cfa.now }
     requires entries { AreEntries cfa.now (length (components composite.old)) reached.old.live }
     requires places { HasPlaces (components composite.old) reached.old }
@@ -93,7 +92,7 @@ fn push_explored<A: Analysis>(
 }
 
 /// Each row as `[TAKEN,[ADDED,..],[[OLD,NEW],..]]`.
-fn push_turns(out: &mut String, turns: &[Turn]) -> Result<(), RowFault> {
+fn push_turns(out: &mut String, turns: &[Turn]) -> Result<(), AllocError> {
     for turn in turns {
         let taken = turn.taken;
         write!(out, "[{taken},")?;
@@ -108,7 +107,7 @@ fn push_turns(out: &mut String, turns: &[Turn]) -> Result<(), RowFault> {
 }
 
 /// Each entry with its elements, its parent, its uses, and a sign where it waits.
-fn push_entries(out: &mut String, entries: &[Entry]) -> Result<(), RowFault> {
+fn push_entries(out: &mut String, entries: &[Entry]) -> Result<(), AllocError> {
     for entry in entries {
         let number = entry.number;
         write!(out, " {number} ")?;

@@ -22,16 +22,10 @@ const NAMES: [&str; 8] = [
     "eager",
 ];
 
-/// The picks that the words name, two words each.
-pub fn picks_of(alloc: Global, text: &str) -> Result<Vec<Pick>, RowFault>
-    ensures { IfOk result (λ picks. ArePlaces 8 picks.items) }
-{
-    let mut words: Vec<&str> = Vec::new(alloc);
-    for word in text.split_whitespace() {
-        words.push(word)?;
-    }
+/// The picks that words name, two words each.
+pub fn picks_of(alloc: Global, words: &[&str]) -> Result<Vec<Pick>, RowFault> {
     let mut picks = Vec::new(alloc);
-    let mut rest = words.as_slice();
+    let mut rest = words;
     while let [name, rule, behind @ ..] = rest {
         picks.push(pick_of(name, rule)?)?;
         rest = behind;
@@ -43,22 +37,32 @@ pub fn picks_of(alloc: Global, text: &str) -> Result<Vec<Pick>, RowFault>
 }
 
 /// The pick of an analysis by its name, with the rule of its merging.
-fn pick_of(name: &str, rule: &str) -> Result<Pick, RowFault>
-    ensures { IfOk result (λ pick. pick.place < 8) }
-{
+fn pick_of(name: &str, rule: &str) -> Result<Pick, RowFault> {
     let place = place_of(name)?;
     let rule = rule_of_word(rule)?;
     Ok(Pick { place, rule })
 }
 
 /// The place of the name among `NAMES`.
-fn place_of(name: &str) -> Result<u32, RowFault>
-    ensures { IfOk result (λ place. place < 8) }
-{
+fn place_of(name: &str) -> Result<u32, RowFault> {
     for place in 0..8 {
         if NAMES[place as usize] == name {
             return Ok(place);
         }
     }
     Err(RowFault::Unreadable)
+}
+
+/// A copy of picks, each of which is to have its place.
+pub fn placed(alloc: Global, picks: &[Pick]) -> Result<Vec<Pick>, RowFault>
+    ensures { IfOk result (λ placed. ArePlaces 8 placed.items) }
+{
+    let mut placed = Vec::new(alloc);
+    for pick in picks {
+        if pick.place >= 8 {
+            return Err(RowFault::Unreadable);
+        }
+        placed.push(*pick)?;
+    }
+    Ok(placed)
 }

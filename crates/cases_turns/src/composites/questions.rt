@@ -2,12 +2,11 @@
 //! that it takes. Words are read before what owns memory. Nothing is proved of what is read.
 
 use crate::analyses::path_of;
-use cases_programs::{elems_of, next_settings};
-use cases_reader::{RowFault, next_index, next_word};
+use cases_programs::{elems_of, order_of_word, settings_of};
+use cases_reader::{RowFault, index_of_word};
 use cpa_iface::{Order, Settings};
 use cpa_model::{Elem, Path};
 use std::alloc::Global;
-use std::str::SplitWhitespace;
 
 /// What a configuration says beside its picks.
 #[derive(Clone, Copy)]
@@ -60,59 +59,53 @@ pub struct Question {
     pub elems: Vec<Elem>,
 }
 
-/// The call that a row names.
-pub fn question_of(alloc: Global, line: &str) -> Result<Question, RowFault> {
-    let mut parts = line.split(':');
-    let mut words = parts.next().unwrap_or("").split_whitespace();
-    let call = call_of(&mut words)?;
-    let takes_path = match call {
-        Call::Refine => true,
-        _ => false,
-    };
-    let path = path_of(alloc, &mut words, takes_path)?;
-    let elems = elems_of(alloc, &mut parts)?;
+/// The call that the words and parts of a row name.
+pub fn question_of(alloc: Global, words: &[&str], parts: &[&str]) -> Result<Question, RowFault> {
+    let call = call_of(words)?;
+    let path = path_of(alloc, words)?;
+    let elems = elems_of(alloc, parts)?;
     Ok(Question { call, path, elems })
 }
 
-/// The call that the next words name, without its path and the elements behind colons.
-fn call_of(words: &mut SplitWhitespace<'_>) -> Result<Call, RowFault> {
-    let word = next_word(words)?;
-    if word == "initial" {
-        let settings = next_settings(words)?;
-        Ok(Call::Initial { settings })
-    } else if word == "successors" {
-        let edge = next_index(words)?;
-        let times = next_index(words)?;
-        Ok(Call::Successors { edge, times })
-    } else if word == "explore" {
-        explore_of(words)
-    } else if word == "analyse" || word == "verdict" {
-        analyse_of(words, word == "analyse")
-    } else {
-        bare_call(word)
+/// The call that words name, without its path and the elements behind colons.
+fn call_of(words: &[&str]) -> Result<Call, RowFault> {
+    match words {
+        ["successors", edge, times] => successors_of(edge, times),
+        ["analyse", search @ ..] => analyse_of(search, true),
+        ["verdict", search @ ..] => analyse_of(search, false),
+        ["merge"] => Ok(Call::Merge),
+        ["covered"] => Ok(Call::Covered),
+        ["adjust"] => Ok(Call::Adjust),
+        ["refine", ..] => Ok(Call::Refine),
+        _ => call_from_first(words),
     }
 }
 
-/// A call that takes a path or elements alone.
-fn bare_call(word: &str) -> Result<Call, RowFault> {
-    if word == "merge" {
-        Ok(Call::Merge)
-    } else if word == "covered" {
-        Ok(Call::Covered)
-    } else if word == "adjust" {
-        Ok(Call::Adjust)
-    } else if word == "refine" {
-        Ok(Call::Refine)
-    } else {
-        Err(RowFault::Unreadable)
+/// A call from the initial state on, of at most one loop: `initial SETTINGS`, or
+/// `explore ORDER SETTINGS TURNS`.
+fn call_from_first(words: &[&str]) -> Result<Call, RowFault> {
+    match words {
+        ["initial", cells, limit] => {
+            let settings = settings_of(cells, limit)?;
+            Ok(Call::Initial { settings })
+        }
+        ["explore", order, cells, limit, turns] => explore_of(order, cells, limit, turns),
+        _ => Err(RowFault::Unreadable),
     }
 }
 
-/// `explore ORDER SETTINGS TURNS`, with the order `first` or `last`.
-fn explore_of(words: &mut SplitWhitespace<'_>) -> Result<Call, RowFault> {
-    let order = order_of(next_word(words)?)?;
-    let settings = next_settings(words)?;
-    let turns = next_index(words)?;
+/// `successors EDGE TIMES`
+fn successors_of(edge: &str, times: &str) -> Result<Call, RowFault> {
+    let edge = index_of_word(edge)?;
+    let times = index_of_word(times)?;
+    Ok(Call::Successors { edge, times })
+}
+
+/// `explore ORDER SETTINGS TURNS`
+fn explore_of(order: &str, cells: &str, limit: &str, turns: &str) -> Result<Call, RowFault> {
+    let order = order_of_word(order)?;
+    let settings = settings_of(cells, limit)?;
+    let turns = index_of_word(turns)?;
     Ok(Call::Explore {
         order,
         settings,
@@ -121,35 +114,41 @@ fn explore_of(words: &mut SplitWhitespace<'_>) -> Result<Call, RowFault> {
 }
 
 /// `ORDER SETTINGS TURNS ROUNDS LEARNT GATES`: a whole analysis with this configuration.
-fn analyse_of(words: &mut SplitWhitespace<'_>, is_whole: bool) -> Result<Call, RowFault> {
-    let order = order_of(next_word(words)?)?;
-    let settings = next_settings(words)?;
-    let turns = next_word(words)?.parse::<u64>()?;
-    let rounds = next_index(words)?;
-    let learnt = next_index(words)?;
-    let gates = next_word(words)?.parse::<u64>()?;
-    let settings = Settings {
+fn analyse_of(words: &[&str], is_whole: bool) -> Result<Call, RowFault> {
+    let [order, cells, limit, turns, rounds, learnt, gates] = words else {
+        return Err(RowFault::Unreadable);
+    };
+    let settings = with_budgets(settings_of(cells, limit)?, learnt, gates)?;
+    let search = search_of(order, turns, rounds, settings)?;
+    Ok(Call::Analyse { search, is_whole })
+}
+
+/// The settings with the budgets of searches and queries that two words spell.
+fn with_budgets(settings: Settings, learnt: &str, gates: &str) -> Result<Settings, RowFault> {
+    let learnt = index_of_word(learnt)?;
+    let gates = gates.parse::<u64>()?;
+    Ok(Settings {
         tracked_all: settings.tracked_all,
         limit: settings.limit,
         learnt,
         gates,
-    };
-    let search = Search {
+    })
+}
+
+/// What a configuration with these settings says.
+fn search_of(
+    order: &str,
+    turns: &str,
+    rounds: &str,
+    settings: Settings,
+) -> Result<Search, RowFault> {
+    let order = order_of_word(order)?;
+    let turns = turns.parse::<u64>()?;
+    let rounds = index_of_word(rounds)?;
+    Ok(Search {
         order,
         turns,
         rounds,
         settings,
-    };
-    Ok(Call::Analyse { search, is_whole })
-}
-
-/// `first` or `last`: which waiting entry is taken.
-fn order_of(word: &str) -> Result<Order, RowFault> {
-    if word == "first" {
-        Ok(Order::First)
-    } else if word == "last" {
-        Ok(Order::Last)
-    } else {
-        Err(RowFault::Unreadable)
-    }
+    })
 }

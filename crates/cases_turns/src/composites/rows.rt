@@ -4,41 +4,27 @@
 ghost use Rattle.std.specs.Prelude.{◌≡◌, length};
 
 use crate::composites::asking::push_called;
-use crate::composites::picking::picks_of;
-use crate::composites::questions::{Question, question_of};
-use crate::composites::setting::Setting;
+use crate::composites::picking::placed;
+use crate::composites::questions::Question;
+use crate::setting::Setting;
 use cases_programs::automaton;
 use cases_reader::RowFault;
 use cpa_composite::Composite;
 use cpa_iface::Analysis;
 use std::alloc::Global;
 
-/// Adds the answer to the call that a row names.
+/// Adds the answer of the composite that the rows have set.
 pub fn push_asked<A: Analysis>(
     alloc: Global,
-    handed: Vec<A>,
-    setting: &Setting,
-    line: &str,
     out: &mut String,
-) -> Result<(), RowFault>
-    requires { length handed.items ≡ 8 }
-{
-    let question = question_of(alloc, line)?;
-    push_asked_of(alloc, handed, setting, &question, out)
-}
-
-/// Adds the answer of the composite that the rows have set.
-fn push_asked_of<A: Analysis>(
-    alloc: Global,
     handed: Vec<A>,
     setting: &Setting,
     question: &Question,
-    out: &mut String,
 ) -> Result<(), RowFault>
     requires { length handed.items ≡ 8 }
 {
     let cfa = automaton(alloc, &setting.table)?;
-    let picks = picks_of(alloc, setting.picks.as_str())?;
+    let picks = placed(alloc, &setting.picks)?;
     let count = picks.len();
     let mut composite = Composite::new(handed, picks);
     push_called(

@@ -1,14 +1,14 @@
 //! Entries, journals and paths as the rows spell them. Nothing is proved of a spelling but that it
 //! comes.
 
-use cases_reader::{RowFault, push_word};
+use cases_reader::push_word;
 use cpa_iface::{Entry, Precision, Turn};
 use cpa_model::{Path, push_list};
 use cpa_reached::Key;
-use std::alloc::Global;
+use std::alloc::{AllocError, Global};
 
 /// Each entry, a comma between two.
-pub fn push_entries(out: &mut String, entries: &[Entry]) -> Result<(), RowFault> {
+pub fn push_entries(out: &mut String, entries: &[Entry]) -> Result<(), AllocError> {
     let mut is_first = true;
     for entry in entries {
         push_comma(out, is_first)?;
@@ -19,30 +19,24 @@ pub fn push_entries(out: &mut String, entries: &[Entry]) -> Result<(), RowFault>
 }
 
 /// A comma, but before the first of several.
-fn push_comma(out: &mut String, is_first: bool) -> Result<(), RowFault> {
-    if !is_first {
-        out.push_str(",")?;
-    }
-    Ok(())
+fn push_comma(out: &mut String, is_first: bool) -> Result<(), AllocError> {
+    out.push_str(if is_first { "" } else { "," })
 }
 
 /// `NUMBER ELEMENTS limits LIMITS`, and then `from PARENT by EDGE`, `uses NUMBERS` and `waits`
 /// where it has a parent, where it uses an entry, and where it waits.
-fn push_entry(out: &mut String, entry: &Entry) -> Result<(), RowFault> {
+fn push_entry(out: &mut String, entry: &Entry) -> Result<(), AllocError> {
     let number = entry.number;
     write!(out, " {number} ")?;
     push_list(out, entry.elems.as_slice())?;
     push_limits(out, entry.precisions.as_slice())?;
     push_parent(out, entry.parent)?;
     push_uses(out, entry.uses.as_slice())?;
-    if entry.waiting {
-        push_word(out, "waits")?;
-    }
-    Ok(())
+    out.push_str(if entry.waiting { " waits" } else { "" })
 }
 
 /// ` limits LIMIT ..`, all that is told of precisions.
-fn push_limits(out: &mut String, precisions: &[Precision]) -> Result<(), RowFault> {
+fn push_limits(out: &mut String, precisions: &[Precision]) -> Result<(), AllocError> {
     push_word(out, "limits")?;
     for precision in precisions {
         let limit = precision.limit;
@@ -52,24 +46,24 @@ fn push_limits(out: &mut String, precisions: &[Precision]) -> Result<(), RowFaul
 }
 
 /// ` from PARENT by EDGE`, or nothing where there is no parent.
-fn push_parent(out: &mut String, parent: Option<(u32, u32)>) -> Result<(), RowFault> {
-    if let Some((number, edge)) = parent {
-        write!(out, " from {number} by {edge}")?;
+fn push_parent(out: &mut String, parent: Option<(u32, u32)>) -> Result<(), AllocError> {
+    match parent {
+        Some((number, edge)) => write!(out, " from {number} by {edge}"),
+        None => Ok(()),
     }
-    Ok(())
 }
 
 /// ` uses NUMBER ..`, or nothing where it uses none.
-fn push_uses(out: &mut String, uses: &[u32]) -> Result<(), RowFault> {
-    if !uses.is_empty() {
-        push_word(out, "uses")?;
-        push_numbers(out, uses)?;
+fn push_uses(out: &mut String, uses: &[u32]) -> Result<(), AllocError> {
+    if uses.is_empty() {
+        return Ok(());
     }
-    Ok(())
+    push_word(out, "uses")?;
+    push_numbers(out, uses)
 }
 
 /// The numbers, each behind a space.
-pub fn push_numbers(out: &mut String, numbers: &[u32]) -> Result<(), RowFault> {
+pub fn push_numbers(out: &mut String, numbers: &[u32]) -> Result<(), AllocError> {
     for number in numbers {
         write!(out, " {number}")?;
     }
@@ -77,7 +71,7 @@ pub fn push_numbers(out: &mut String, numbers: &[u32]) -> Result<(), RowFault> {
 }
 
 /// The numbers of the entries that wait; `none` where none does.
-pub fn push_waiting(alloc: Global, out: &mut String, entries: &[Entry]) -> Result<(), RowFault> {
+pub fn push_waiting(alloc: Global, out: &mut String, entries: &[Entry]) -> Result<(), AllocError> {
     let mut numbers = Vec::new(alloc);
     for entry in entries {
         if entry.waiting {
@@ -88,7 +82,7 @@ pub fn push_waiting(alloc: Global, out: &mut String, entries: &[Entry]) -> Resul
 }
 
 /// The numbers, each behind a space; `none` where there is none.
-pub fn push_some(out: &mut String, numbers: &[u32]) -> Result<(), RowFault> {
+pub fn push_some(out: &mut String, numbers: &[u32]) -> Result<(), AllocError> {
     if numbers.is_empty() {
         push_word(out, "none")?;
     }
@@ -96,14 +90,13 @@ pub fn push_some(out: &mut String, numbers: &[u32]) -> Result<(), RowFault> {
 }
 
 /// The elements of a key, as those of an entry.
-pub fn push_key(out: &mut String, key: &Key) -> Result<(), RowFault> {
+pub fn push_key(out: &mut String, key: &Key) -> Result<(), AllocError> {
     out.push_str(" ")?;
-    push_list(out, key.elems.as_slice())?;
-    Ok(())
+    push_list(out, key.elems.as_slice())
 }
 
 /// Each row of the journal, a comma between two; `none` where there is none.
-pub fn push_turns(out: &mut String, turns: &[Turn]) -> Result<(), RowFault> {
+pub fn push_turns(out: &mut String, turns: &[Turn]) -> Result<(), AllocError> {
     if turns.is_empty() {
         push_word(out, "none")?;
     }
@@ -117,7 +110,7 @@ pub fn push_turns(out: &mut String, turns: &[Turn]) -> Result<(), RowFault> {
 }
 
 /// `TAKEN added NUMBERS replaced OLD by NEW ..`
-fn push_turn(out: &mut String, turn: &Turn) -> Result<(), RowFault> {
+fn push_turn(out: &mut String, turn: &Turn) -> Result<(), AllocError> {
     let taken = turn.taken;
     write!(out, " {taken} added")?;
     push_numbers(out, turn.added.as_slice())?;
@@ -129,7 +122,7 @@ fn push_turn(out: &mut String, turn: &Turn) -> Result<(), RowFault> {
 }
 
 /// The edges, each behind a space; `here` where there is none.
-pub fn push_path(out: &mut String, path: &Path) -> Result<(), RowFault> {
+pub fn push_path(out: &mut String, path: &Path) -> Result<(), AllocError> {
     if path.edges.is_empty() {
         push_word(out, "here")?;
     }

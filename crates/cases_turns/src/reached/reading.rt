@@ -1,28 +1,10 @@
-//! Reads what a row of a call has beside its word: an order, points of elements, limits of
-//! precisions. Nothing is proved of what is read but that reading is safe and ends.
+//! Reads what a row has behind colons: points of elements, limits of precisions, pairs of numbers.
+//! Nothing is proved of what is read but that reading is safe and ends.
 
-use cases_reader::{RowFault, end_parts, end_row, index_of_word, indices_of};
-use cpa_iface::{Order, Precision, Shared};
+use cases_reader::{RowFault, index_of_word, indices_of};
+use cpa_iface::{Precision, Shared};
 use cpa_model::{Elem, Fact, Seq};
 use std::alloc::Global;
-use std::str::{Split, SplitWhitespace};
-
-/// No word and no part is left.
-pub fn end(words: &mut SplitWhitespace<'_>, parts: &mut Split<'_, char>) -> Result<(), RowFault> {
-    end_row(words)?;
-    end_parts(parts)
-}
-
-/// `first` or `last`: which waiting entry is taken.
-pub fn order_of(word: &str) -> Result<Order, RowFault> {
-    if word == "first" {
-        Ok(Order::First)
-    } else if word == "last" {
-        Ok(Order::Last)
-    } else {
-        Err(RowFault::Unreadable)
-    }
-}
 
 /// The pairs of the indices that a text spells.
 pub fn pairs_of(alloc: Global, text: &str) -> Result<Seq<(u32, u32)>, RowFault> {
@@ -40,7 +22,7 @@ pub fn pairs_of(alloc: Global, text: &str) -> Result<Seq<(u32, u32)>, RowFault> 
 }
 
 /// An element for each point that a text names.
-pub fn elems_of(alloc: Global, text: &str) -> Result<Vec<Elem>, RowFault> {
+pub fn elems_at(alloc: Global, text: &str) -> Result<Vec<Elem>, RowFault> {
     let mut elems = Vec::new(alloc);
     for word in text.split_whitespace() {
         elems.push(elem_at(alloc, index_of_word(word)?)?)?;
