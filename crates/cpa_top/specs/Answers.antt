@@ -24,6 +24,7 @@ use Rattle.cpa_top_words.specs.Jobs.{Job, Asks, IsNoJob}
 use Rattle.cpa_top_jobs.specs.declared.status.Status.{Status}
 use Rattle.cpa_top_jobs.specs.declared.status.Status.TheVariants as status
 use Rattle.cpa_top.specs.Calls.{Call, Output, IsWhole, IsCutOff}
+use Rattle.cpa_top_jobs.specs.Ends.{Stops, Ends, IsShortOfMemory, IsMeasuredBy, config_bytes}
 use Rattle.cpa_top_jobs.specs.Files.{NoReadFailed, HoldsOf}
 use Rattle.cpa_top_jobs.specs.Jobs.{stages_of, names_of}
 use Rattle.cpa_top_jobs.specs.Lines.{usage_text}

@@ -1,6 +1,7 @@
 -- What a call of the program is given and what it leaves (this project's own).
 use Rattle.std.specs.Prelude.{◌≡◌, ℕ, List, Option}
 use Rattle.cpa_iface.specs.Meanings.{Meaning}
+use Rattle.cpa_top_jobs.specs.Files.{Files}
 use Rattle.cpa_outside.specs.Outside.{Rose, grown, GrewByPrefix}
 
 -- What was written, where it is told, and how many writes have failed, before the call and after
