@@ -4,7 +4,7 @@
 use cases_programs::{elems_of, rule_of_word, settings_of};
 use cases_reader::{RowFault, index_of_word, indices_of_words};
 use cpa_iface::{MergeRule, Settings};
-use cpa_model::{Elem, Path};
+use cpa_model::{Elem, Path, Seq};
 use std::alloc::Global;
 
 /// Which call it is, with what it takes beside elements and a path.
@@ -52,10 +52,9 @@ pub fn question_of(
 /// The path of the edges behind `refine`; none behind other words.
 pub fn path_of(alloc: Global, words: &[&str]) -> Result<Path, RowFault> {
     let edges = match words {
-        ["refine", edges @ ..] => edges,
-        _ => &[],
+        ["refine", edges @ ..] => indices_of_words(alloc, edges)?,
+        _ => Seq::new(alloc),
     };
-    let edges = indices_of_words(alloc, edges)?;
     Ok(Path { edges })
 }
 
