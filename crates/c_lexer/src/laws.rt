@@ -1,10 +1,15 @@
-//! Laws of the tokens of a text. Each function does nothing: its contract is the law.
+//! Laws of the tokens of a text, and the numbers of the constants that definitions name. Each
+//! function does nothing: its contract is the law.
 //! Proved in `proofs/LexemeFacts.antt` and `proofs/Cuts.antt`.
 
 ghost use Rattle.std.specs.Prelude.{◌≡◌, ◌≢◌, ◌≤◌, ◌-◌, ◌⊎◌, ℕ, ℤ, List, length, slice_get};
 ghost use Rattle.cpa_ints.specs.declared.integers.IntType.{IntType};
 ghost use Rattle.cpa_ints.specs.declared.integers.IntType.TheVariants.{I8};
 ghost use Rattle.cpa_ints.specs.Integers.{IsInRange};
+ghost use Rattle.c_lexer.specs.declared.byte.TheConstants.{ALERT, BACKSPACE, TAB, LINE_FEED};
+ghost use Rattle.c_lexer.specs.declared.byte.TheConstants.{VERTICAL_TAB, FORM_FEED};
+ghost use Rattle.c_lexer.specs.declared.byte.TheConstants.{CARRIAGE_RETURN};
+ghost use Rattle.c_lexer.specs.declared.lexer.TheConstants.{MAX_TEXT};
 ghost use Rattle.c_lexer.specs.declared.token.Token.{Token};
 ghost use Rattle.c_lexer.specs.declared.token.TokenKind.TheVariants.{Number, Character, End};
 ghost use Rattle.c_lexer.specs.declared.fault.TextFault.{TextFault};
@@ -68,4 +73,20 @@ pub fn rules_are_ordered_by_number()
     ensures order { (a b : Rule) →
         ⟦<Rule as Ord>⟧.cmp a b ≡ nat_cmp (rule_number a) (rule_number b) }
     ensures one { (a b : Rule) → rule_number a ≡ rule_number b → a ≡ b }
+{}
+
+/// The limit of this project on a text: the bytes of a program file.
+pub fn limits()
+    ensures { MAX_TEXT ≡ 1048576 }
+{}
+
+/// The bytes that the escapes of letters stand for (C11 5.2.2), by the numbers of ASCII.
+pub fn escapes_are_control_characters()
+    ensures alert { ALERT ≡ 7 }
+    ensures backspace { BACKSPACE ≡ 8 }
+    ensures tab { TAB ≡ 9 }
+    ensures line_feed { LINE_FEED ≡ 10 }
+    ensures vertical_tab { VERTICAL_TAB ≡ 11 }
+    ensures form_feed { FORM_FEED ≡ 12 }
+    ensures carriage_return { CARRIAGE_RETURN ≡ 13 }
 {}

@@ -21,8 +21,9 @@ pub use byte::{
 };
 pub use fault::{Rule, TextError, TextFault};
 pub use laws::{
-    constants_lie_in_range, one_token_list, rules_are_ordered_by_number, tokens_are_spelled,
-    tokens_end_once, tokens_lie_in_order, tokens_or_one_fault,
+    constants_lie_in_range, escapes_are_control_characters, limits, one_token_list,
+    rules_are_ordered_by_number, tokens_are_spelled, tokens_end_once, tokens_lie_in_order,
+    tokens_or_one_fault,
 };
 pub use lexer::{MAX_TEXT, tokens};
 pub use token::{Token, TokenKind};
