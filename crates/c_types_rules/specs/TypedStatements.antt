@@ -24,6 +24,7 @@ use Rattle.c_types_rules.specs.declared.typed.TypedForStart.TheVariants as typed
 use Rattle.c_types_rules.specs.declared.typed.TypedStatement.{TypedStatement}
 use Rattle.c_types_rules.specs.declared.typed.TypedStatement.TheVariants as tree
 use Rattle.c_types_rules.specs.declared.typed.TypedItem.{TypedItem}
+use Rattle.c_types_rules.specs.declared.typed.TypedItem.TheOpen.{TypedStatement-F}
 use Rattle.c_types_rules.specs.declared.typed.TypedItem.TheVariants as typed_item
 use Rattle.c_types_rules.specs.declared.typed.TypedFunction.{TypedFunction}
 use Rattle.c_types_rules.specs.Names.{Text, place_of}
@@ -152,6 +153,21 @@ grown_item text part = record {
 unfoldable pub grown : Text → BlockItem → Grown TypedItem
 grown text =
     fold-BlockItem (Grown TypedItem) (Grown TypedStatement) (grown_item text) (grown_statement text)
+
+-- what the parts of a typed statement give, in the order of the text: the items of a block, both
+-- statements of an if, the one statement in another
+abbrev pub typed_parts : {I S T : Type 0} → (List I → T) → (S → T) → (T → T → T)
+    → TypedStatement-F I S → T
+typed_parts items part both (TypedStatement-F.Block inside place) = items inside
+typed_parts items part both (TypedStatement-F.If test first second place) =
+    both (part first) (unwrap_or (option_map part second) (items []))
+typed_parts items part both (TypedStatement-F.While test body place) = part body
+typed_parts items part both (TypedStatement-F.Do body test place) = part body
+typed_parts items part both (TypedStatement-F.For first test step body place) = part body
+typed_parts items part both (TypedStatement-F.Labeled label body place) = part body
+typed_parts items part both (TypedStatement-F.Switch value choices otherwise body end place) =
+    part body
+typed_parts items part both _ = items []
 
 -- the objects of parameters, from a number on
 abbrev pub parameter_objects : ℕ → List Parameter → List Object
