@@ -1,11 +1,11 @@
 -- The labels and jumps of core statements, and of the statements of a typed text, and jumps that
 -- lead where they may (C11 6.8.1 and 6.8.6).
-use Rattle.std.specs.Prelude.{ℕ, ◌+◌, Bool, true, false, ◌||◌, List, [], ◌∷◌, ◌++◌, map, Option}
-use Rattle.std.specs.Prelude.{None, Some, ⊤}
+use Rattle.std.specs.Prelude.{ℕ, ◌+◌, Bool, true, false, ◌||◌, List, [], ◌∷◌, ◌++◌, map, ⊤}
 use Rattle.c_types_rules.specs.declared.typed.TypedItem.{TypedItem}
 use Rattle.c_types_rules.specs.declared.typed.TypedItem.TheOpen.{TypedItem-F, TypedStatement-F}
 use Rattle.c_types_rules.specs.declared.typed.TypedItem.TheFolds.{fold-TypedItem}
 use Rattle.c_types_rules.specs.declared.typed.TypedFunction.{TypedFunction}
+use Rattle.c_types_rules.specs.TypedStatements.{typed_parts}
 use Rattle.cpa_model_trees.specs.declared.tree.CoreTree.{CoreTree}
 use Rattle.cpa_model_trees.specs.declared.tree.CoreTree.TheOpen.{CoreTree-F}
 use Rattle.cpa_model_trees.specs.declared.tree.CoreTree.TheFolds.{fold-CoreTree}
@@ -64,26 +64,19 @@ node_jumps (CoreTree-F.Node h parts place) = head_jumps h (all_jumps parts)
 unfoldable pub tree_jumps : CoreTree → Jumps
 tree_jumps = fold-CoreTree Jumps node_jumps
 
-abbrev pub perhaps_jumps : Option Jumps → Jumps
-perhaps_jumps None = no_jumps
-perhaps_jumps (Some jumps) = jumps
-
+-- those of a statement, by those of its parts
 abbrev pub statement_jumps : TypedStatement-F Jumps Jumps → Jumps
-statement_jumps (TypedStatement-F.Block items place) = all_jumps items
-statement_jumps (TypedStatement-F.Expression expression place) = no_jumps
-statement_jumps (TypedStatement-F.If test first second place) =
-    then_jumps first (perhaps_jumps second)
 statement_jumps (TypedStatement-F.While test body place) = in_loop body
 statement_jumps (TypedStatement-F.Do body test place) = in_loop body
 statement_jumps (TypedStatement-F.For first test step body place) = in_loop body
 statement_jumps (TypedStatement-F.Goto label place) = goto label
 statement_jumps (TypedStatement-F.Break place) = leaving
 statement_jumps (TypedStatement-F.Continue place) = leaving
-statement_jumps (TypedStatement-F.Return value place) = no_jumps
 statement_jumps (TypedStatement-F.Labeled label body place) = labelled body
 statement_jumps (TypedStatement-F.Switch value choices otherwise body end place) =
     then_jumps (all_jumps (map (λ one. goto one.label) choices)) (then_jumps (goto otherwise)
     (then_jumps body (labelled no_jumps)))
+statement_jumps statement = typed_parts all_jumps (λ part. part) then_jumps statement
 
 abbrev pub item_layer_jumps : TypedItem-F Jumps Jumps → Jumps
 item_layer_jumps (TypedItem-F.Declaration declarators) = no_jumps

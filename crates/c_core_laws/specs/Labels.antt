@@ -1,6 +1,6 @@
 -- The labelled statements of a typed function, and the block of its core tree that a label is (C11
 -- 6.8.1 and 6.8.6.1).
-use Rattle.std.specs.Prelude.{◌≡◌, ℕ, ◌+◌, List, [], ◌∷◌, ◌++◌, map, length, Option, None, Some}
+use Rattle.std.specs.Prelude.{◌≡◌, ℕ, ◌+◌, List, [], ◌∷◌, ◌++◌, map, length, None}
 use Rattle.std.specs.List.{flat_map, range_with_len}
 use Rattle.c_grammar_tree.specs.declared.item.Item.{Item}
 use Rattle.c_grammar_tree.specs.declared.item.Item.TheVariants as item
@@ -14,7 +14,7 @@ use Rattle.c_types_rules.specs.declared.typed.TypedStatement.TheVariants as type
 use Rattle.c_types_rules.specs.declared.typed.TypedFunction.{TypedFunction}
 use Rattle.c_types_rules.specs.Names.{Text}
 use Rattle.c_types_rules.specs.Statements.{Around, Act, Site, marks}
-use Rattle.c_types_rules.specs.TypedStatements.{label_number}
+use Rattle.c_types_rules.specs.TypedStatements.{label_number, typed_parts}
 use Rattle.c_types_rules.specs.Items.{Before, body_sites, item_behind}
 use Rattle.cpa_model_trees.specs.declared.tree.CoreTree.{CoreTree}
 use Rattle.cpa_model_trees.specs.declared.tree.CoreTree.TheVariants.{Node}
@@ -38,10 +38,6 @@ pub record Labelled (T : Type 0) : Type 0 where
 abbrev pub whole_of : {T : Type 0} → Labelled T → T
 whole_of one = one.whole
 
-abbrev pub perhaps_labels : Option (Labelled TypedStatement) → List Label
-perhaps_labels None = []
-perhaps_labels (Some one) = one.labels
-
 -- the label behind a switch, behind which nothing stands; what it stands before is put at the place
 -- of the switch
 abbrev pub end_label : ℕ → ℕ → Label
@@ -50,16 +46,12 @@ end_label number place = record { number = number; body = typed.Expression None 
 -- the labels of a statement in the order of the text, those of each part given
 abbrev pub labels_step : TypedStatement-F (Labelled TypedItem) (Labelled TypedStatement)
     → List Label
-labels_step (TypedStatement-F.Block items place) = flat_map (λ item. item.labels) items
-labels_step (TypedStatement-F.If test first second place) = first.labels ++ perhaps_labels second
-labels_step (TypedStatement-F.While test body place) = body.labels
-labels_step (TypedStatement-F.Do body test place) = body.labels
-labels_step (TypedStatement-F.For first test step body place) = body.labels
 labels_step (TypedStatement-F.Labeled label body place) =
     record { number = label; body = body.whole } ∷ body.labels
 labels_step (TypedStatement-F.Switch value choices otherwise body end place) =
     body.labels ++ end_label end place ∷ []
-labels_step _ = []
+labels_step statement =
+    typed_parts (flat_map (λ item. item.labels)) (λ part. part.labels) (λ a b. a ++ b) statement
 
 abbrev pub labelled_statement : TypedStatement-F (Labelled TypedItem) (Labelled TypedStatement)
     → Labelled TypedStatement

@@ -1,6 +1,6 @@
 -- How many cells the objects take that a text declares (this project's own, for C11 6.7.6.2). A
 -- text takes further cells only in proportion to its length.
-use Rattle.std.specs.Prelude.{ℕ, ◌+◌, List, sum, map, Option, None, Some}
+use Rattle.std.specs.Prelude.{ℕ, ◌+◌, List, sum, map}
 use Rattle.c_types_rules.specs.declared.meaning.Object.{Object}
 use Rattle.c_types_rules.specs.declared.typed.TypedDeclarator.{TypedDeclarator}
 use Rattle.c_types_rules.specs.declared.typed.TypedForStart.{TypedForStart}
@@ -13,6 +13,7 @@ use Rattle.c_types_rules.specs.declared.typed.TypedStatement.{TypedStatement}
 use Rattle.c_types_rules.specs.declared.typed.TypedFunction.{TypedFunction}
 use Rattle.c_types_rules.specs.declared.typed.Global.{Global}
 use Rattle.c_types_rules.specs.Tables.{cells_of}
+use Rattle.c_types_rules.specs.TypedStatements.{typed_parts}
 
 abbrev pub objects_cells : List Object → ℕ
 objects_cells objects = sum (map cells_of objects)
@@ -24,20 +25,10 @@ abbrev pub start_cells : TypedForStart → ℕ
 start_cells (start.Declaration declarators) = declarators_cells declarators
 start_cells (start.Expression expression) = 0
 
-abbrev pub perhaps_cells : Option ℕ → ℕ
-perhaps_cells None = 0
-perhaps_cells (Some n) = n
-
 -- those of a statement, by those of its parts
 abbrev pub statement_step : TypedStatement-F ℕ ℕ → ℕ
-statement_step (TypedStatement-F.Block items place) = sum items
-statement_step (TypedStatement-F.If test first second place) = first + perhaps_cells second
-statement_step (TypedStatement-F.While test body place) = body
-statement_step (TypedStatement-F.Do body test place) = body
 statement_step (TypedStatement-F.For first test step body place) = start_cells first + body
-statement_step (TypedStatement-F.Labeled label body place) = body
-statement_step (TypedStatement-F.Switch value choices otherwise body end place) = body
-statement_step _ = 0
+statement_step statement = typed_parts sum (λ part. part) (λ a b. a + b) statement
 
 abbrev pub item_step : TypedItem-F ℕ ℕ → ℕ
 item_step (TypedItem-F.Declaration declarators) = declarators_cells declarators

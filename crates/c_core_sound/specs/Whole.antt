@@ -92,14 +92,12 @@ whole_statement (Statement-F.While test body place) = is_whole test && body
 whole_statement (Statement-F.Do body test place) = body && is_whole test
 whole_statement (Statement-F.For first test step body place) =
     whole_start first && (whole_optional test && (whole_optional step && body))
-whole_statement (Statement-F.Goto label place) = true
 whole_statement (Statement-F.Switch value body place) = is_whole value && body
 whole_statement (Statement-F.Case value body place) = is_whole value && body
 whole_statement (Statement-F.Default body place) = body
-whole_statement (Statement-F.Break place) = true
-whole_statement (Statement-F.Continue place) = true
 whole_statement (Statement-F.Return value place) = whole_optional value
 whole_statement (Statement-F.Labeled label body) = body
+whole_statement _ = true
 
 abbrev pub whole_item_layer : BlockItem-F Bool Bool → Bool
 whole_item_layer (BlockItem-F.Declaration declaration) = whole_declaration declaration
