@@ -23,7 +23,7 @@ pub fn push_answer<R: Threads + Sync>(
             push_holds(alloc, out, &state_of(alloc, point, sites, values)?, elem)
         }
         (["has_facts"], [elem, other]) => push_has_facts(alloc, out, elem, other),
-        (["copy"], [elem]) => Ok(push_copy(alloc, out, &elem_of(alloc, elem)?)?),
+        (["copy"], [elem]) => Ok(push_copy(out, &elem_of(alloc, elem)?)?),
         _ => replay_rows::push_answer(rt, alloc, out, table, words, parts),
     }
 }
@@ -61,7 +61,7 @@ fn push_has_facts(
 }
 
 /// `copy : ELEMENT`: how a copy of the element is spelled in reports.
-fn push_copy(alloc: Global, out: &mut String, elem: &Elem) -> Result<(), AllocError> {
+fn push_copy(out: &mut String, elem: &Elem) -> Result<(), AllocError> {
     out.push_str(" ")?;
-    copy_elem(alloc, elem)?.spell(out)
+    copy_elem(elem)?.spell(out)
 }

@@ -20,7 +20,7 @@ pub fn elem_of(alloc: Global, text: &str) -> Result<Elem, RowFault> {
     for part in text.split(',') {
         push_fact(alloc, &mut facts, part)?;
     }
-    Ok(Elem { facts })
+    Ok(Elem::new(alloc, facts)?)
 }
 
 /// Adds the fact that a part spells, if it has words.

@@ -4,7 +4,7 @@ ghost use Rattle.std.specs.Prelude.{◌≡◌};
 ghost use Rattle.cases_run.specs.Blind.{no_facts};
 
 use cpa_iface::{Part, Steps};
-use cpa_model::{Cfa, Elem, Seq};
+use cpa_model::{Cfa, Elem};
 use std::alloc::{AllocError, Global};
 
 /// It knows nothing, and is exact on nothing.
@@ -24,8 +24,8 @@ impl Steps for Blind {
         Part::Nothing
     }
 
-    fn initial(&mut self, alloc: Global, _cfa: &Cfa) -> Result<Elem, AllocError> {
-        Ok(no_facts(alloc))
+    fn initial(&mut self, _alloc: Global, _cfa: &Cfa) -> Result<Elem, AllocError> {
+        Ok(no_facts())
     }
 
     fn transfer(
@@ -36,16 +36,14 @@ impl Steps for Blind {
         _elem: &Elem,
     ) -> Result<Vec<Elem>, AllocError> {
         let mut successors = Vec::new(alloc);
-        successors.push(no_facts(alloc))?;
+        successors.push(no_facts())?;
         Ok(successors)
     }
 }
 
 /// The element without facts.
-fn no_facts(alloc: Global) -> Elem
+fn no_facts() -> Elem
     ensures { result ≡ no_facts }
 {
-    Elem {
-        facts: Seq::new(alloc),
-    }
+    Elem::any()
 }

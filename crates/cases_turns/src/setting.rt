@@ -3,8 +3,8 @@
 use crate::composites::picks_of;
 use cases_programs::Table;
 use cases_reader::{RowFault, index_of_word, indices_of, whole_expr};
-use cpa_iface::{Pick, Precision, Settings, Shared, empty_precision};
-use cpa_model::{Expr, Seq};
+use cpa_iface::{Pick, Precision, Settings, empty_precision};
+use cpa_model::{Expr, Seq, Shared};
 use std::alloc::Global;
 
 /// What the rows have set.

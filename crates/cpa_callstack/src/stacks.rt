@@ -65,9 +65,7 @@ fn any_stack(alloc: Global) -> Result<Vec<Elem>, AllocError>
 {
     only(
         alloc,
-        Elem {
-            facts: Seq::new(alloc),
-        },
+        Elem::any(),
     )
 }
 
@@ -84,7 +82,7 @@ fn elem_of_sites(alloc: Global, sites: Seq<u32>) -> Result<Elem, AllocError>
 {
     let mut facts = Seq::new(alloc);
     facts.push(Fact::Stack { sites })?;
-    Ok(Elem { facts })
+    Elem::new(alloc, facts)
 }
 
 /// The stack that the first fact on it names.

@@ -24,7 +24,7 @@ pub fn copy_row(alloc: Global, row: &[Elem]) -> Result<Vec<Elem>, AllocError>
 {
     let mut list = Vec::new(alloc);
     for elem in row {
-        list.push(copy_elem(alloc, elem)?)?;
+        list.push(copy_elem(elem)?)?;
     }
     Ok(list)
 }
@@ -34,7 +34,7 @@ fn with_first(alloc: Global, first: &Elem, row: &[Elem]) -> Result<Vec<Elem>, Al
     ensures { IfOk result (λ list. list.items ≡ first.now ∷ row.now) }
 {
     let mut list = copy_row(alloc, row)?;
-    list.insert(0, copy_elem(alloc, first)?)?;
+    list.insert(0, copy_elem(first)?)?;
     Ok(list)
 }
 

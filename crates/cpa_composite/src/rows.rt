@@ -12,9 +12,8 @@ ghost use Rattle.cpa_composite.specs.Laws.{EachRefined};
 
 use crate::asking;
 use cpa_iface::{Analysis, Entry, Pick, Precision, Settings};
-use cpa_model::{Cfa, Elem, Path, Seq};
+use cpa_model::{Cfa, Elem, Path};
 use std::alloc::{AllocError, Global};
-use std::mem;
 
 /// What each analysis begins with.
 pub(crate) fn initial<A: Analysis>(
@@ -149,26 +148,7 @@ pub(crate) fn adjusts<A: Analysis>(
         after.push(elem)?;
         next.push(precision)?;
     }
-    Ok((trimmed(alloc, after), next))
-}
-
-/// The same row, whose lists have no more room than they need: entries keep it. Takes no memory.
-fn trimmed(alloc: Global, mut row: Vec<Elem>) -> Vec<Elem>
-    ensures { result.items ≡ row.items }
-{
-    for place in 0..row.len() {
-        trim(alloc, &mut row[place]);
-    }
-    row
-}
-
-/// No more room for facts than they need. Takes no memory.
-fn trim(alloc: Global, elem: &mut Elem)
-    ensures { elem.new ≡ elem.old }
-{
-    let mut facts = mem::replace(&mut elem.facts, Seq::new(alloc)).into_vec();
-    facts.shrink_to_fit();
-    elem.facts = Seq::from_vec(facts);
+    Ok((after, next))
 }
 
 /// The precision to which each analysis refines its own.

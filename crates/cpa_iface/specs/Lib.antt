@@ -1,5 +1,4 @@
 pub mod Rows
-pub mod Sharing
 pub mod Meanings
 pub mod Pins
 pub mod Laws

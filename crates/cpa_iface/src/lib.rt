@@ -11,7 +11,6 @@ mod numbers;
 mod plain;
 mod precisions;
 mod rows;
-mod shared;
 mod standing;
 mod unchanged;
 
@@ -25,6 +24,5 @@ pub use precisions::{
     Precision, copy_cells, copy_precision, copy_preds, empty_precision, same_precisions,
 };
 pub use rows::Row;
-pub use shared::Shared;
 pub use standing::covers;
 pub use unchanged::{unadjusted, unrefined, unstrengthened};

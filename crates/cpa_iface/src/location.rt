@@ -58,7 +58,7 @@ fn pin(alloc: Global, point: u32) -> Result<Elem, AllocError>
 {
     let mut facts = Seq::new(alloc);
     facts.push(Fact::At { point })?;
-    Ok(Elem { facts })
+    Elem::new(alloc, facts)
 }
 
 /// Whether each fact on the point names this one, as also where there is no such fact.

@@ -47,7 +47,7 @@ pub fn merge_facts(
     ensures { IfOk result (λ e. e ≡ merged_facts rule new.now old.now) }
 {
     match rule {
-        MergeRule::Sep => copy_elem(alloc, old),
+        MergeRule::Sep => copy_elem(old),
         MergeRule::Join | MergeRule::Widen => common_facts(alloc, new, old),
     }
 }
@@ -64,5 +64,5 @@ fn common_facts(alloc: Global, new: &Elem, old: &Elem) -> Result<Elem, AllocErro
             facts.push(copy_fact(alloc, fact)?)?;
         }
     }
-    Ok(Elem { facts })
+    Elem::new(alloc, facts)
 }

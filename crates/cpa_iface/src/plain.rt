@@ -91,13 +91,13 @@ impl<S: Steps> Analysis for Plain<S> {
 
     fn strengthen(
         &mut self,
-        alloc: Global,
+        _alloc: Global,
         _cfa: &Cfa,
         own: &Elem,
         _others: &[Elem],
         _precision: &Precision,
     ) -> Result<Option<Elem>, AllocError> {
-        unstrengthened(alloc, own)
+        unstrengthened(own)
     }
 
     fn merge(

@@ -4,9 +4,8 @@
 ghost use Rattle.std.specs.Prelude.{◌≡◌, ◌↔◌, IfOk, IsTrue};
 ghost use Rattle.cpa_iface.specs.Common.{no_precision};
 
-use crate::shared::Shared;
 use cpa_expr::copy;
-use cpa_model::{Expr, Seq};
+use cpa_model::{Expr, Seq, Shared};
 use std::alloc::{AllocError, Global};
 
 /// What an analysis is asked to keep (ASE 2008).

@@ -23,7 +23,7 @@ pub fn unstrengthened(alloc: Global, own: &Elem) -> Result<Option<Elem>, AllocEr
         → IsShaped cfa own.now → StrengthenLaws m cfa own.now others p e) }
     ensures given { IfOk result (λ e. e ≡ Some own.now) }
 {
-    Ok(Some(copy_elem(alloc, own)?))
+    Ok(Some(copy_elem(own)?))
 }
 
 /// The element and its precision as they are: what `adjust` gives where nothing is too much.
@@ -40,7 +40,7 @@ pub fn unadjusted(
         → AdjustLaws m cfa elem.now precision.now reached place pair.0 pair.1) }
     ensures given { IfOk result (λ pair. (pair.0 ≡ elem.now) × (pair.1 ≡ precision.now)) }
 {
-    Ok((copy_elem(alloc, elem)?, copy_precision(alloc, precision)?))
+    Ok((copy_elem(elem)?, copy_precision(alloc, precision)?))
 }
 
 /// The precision as it is: what `refine` gives where the path suggests nothing to keep.

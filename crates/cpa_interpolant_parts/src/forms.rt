@@ -20,7 +20,7 @@ fn told(alloc: Global, expr: &Expr) -> Result<Elem, AllocError>
     let mut facts = Seq::new(alloc);
     let expr = copy(alloc, expr)?;
     facts.push(Fact::Truth { expr, holds: true })?;
-    Ok(Elem { facts })
+    Elem::new(alloc, facts)
 }
 
 /// The part before a cut: the expression is nonzero, and then the edge is taken.

@@ -72,7 +72,7 @@ pub(crate) fn elem_of(
 {
     let mut facts = Seq::new(alloc);
     push_tracked(&mut facts, all.cells(), all.known(), tracked)?;
-    Ok(Elem { facts })
+    Elem::new(alloc, facts)
 }
 
 /// Adds the facts of the tracked cells.
@@ -105,7 +105,7 @@ pub(crate) fn elem_of_all(alloc: Global, all: &KnownBounds) -> Result<Elem, Allo
 {
     let mut facts = Seq::new(alloc);
     push_all(&mut facts, all.cells(), all.known())?;
-    Ok(Elem { facts })
+    Elem::new(alloc, facts)
 }
 
 /// Adds the facts of all cells.

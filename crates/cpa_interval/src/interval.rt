@@ -126,7 +126,7 @@ fn starts(alloc: Global, cells: &[Cell]) -> Result<Elem, AllocError>
         let cell = cell_at(cells, place);
         push_fact(&mut facts, true, place as u32, cell.ty, start_of(cell))?;
     }
-    Ok(Elem { facts })
+    Elem::new(alloc, facts)
 }
 
 /// The start alone.

@@ -30,7 +30,7 @@ pub(crate) fn merged(
     ensures { IfOk result (λ e. e ≡ merged cfa.now rule new.now old.now) }
 {
     if is_kept(rule, new, old) {
-        return copy_elem(alloc, old);
+        return copy_elem(old);
     }
     let numbers = numbers_for(alloc, rule, cfa)?;
     merged_all(alloc, rule, &numbers, cfa.cells.as_slice(), new, old)

@@ -34,7 +34,7 @@ pub(crate) fn strengthened(
         e ≡ strengthened cfa.now.cells precision.now own.now others.now) }
 {
     if !some_bound(others) {
-        return Ok(Some(copy_elem(alloc, own)?));
+        return Ok(Some(copy_elem(own)?));
     }
     let cells = cfa.cells.as_slice();
     let tracked = Tracked::of(alloc, precision, cells.len())?;

@@ -1,21 +1,17 @@
 //! Copies of facts and elements, equal to what they copy.
-//! Proved with `proofs/copying/`.
 ghost use Rattle.std.specs.Prelude.{◌≡◌, IfOk};
 
 use crate::facts::{Elem, Fact};
 use cpa_ints::Seq;
 use std::alloc::{AllocError, Global};
 
-/// An equal element. It fails only where memory runs out.
-pub fn copy_elem(alloc: Global, elem: &Elem) -> Result<Elem, AllocError>
+/// An equal element, which shares the facts: it takes no memory, and fails only where so many share
+/// them that they can't be counted.
+pub fn copy_elem(elem: &Elem) -> Result<Elem, AllocError>
     ensures { IfOk result (λ e. e ≡ elem.now) }
 {
-    let mut facts = Vec::with_capacity(alloc, elem.facts.len())?;
-    for fact in &elem.facts {
-        facts.push(copy_fact(alloc, fact)?)?;
-    }
     Ok(Elem {
-        facts: Seq::from_vec(facts),
+        facts: elem.facts.share()?,
     })
 }
 

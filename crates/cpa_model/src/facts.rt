@@ -1,15 +1,17 @@
 //! Facts on states, and elements made of them: whether one holds of a state, and whether it is
 //! shaped for an automaton, by `specs/Facts.antt`.
-ghost use Rattle.std.specs.Prelude.{◌<◌, ◌↔◌, IsTrue};
+ghost use Rattle.std.specs.Prelude.{◌≡◌, ◌<◌, ◌↔◌, [], IfOk, IsTrue};
 ghost use Rattle.std.specs.List.{AllByRecursion};
 ghost use Rattle.cpa_model.specs.Facts.{FactHolds, Holds, IsElem, IsFact, IsValueOf};
 
 use crate::automaton::Cfa;
 use crate::expressions::{has_truth, is_expr};
 use crate::program::Cell;
+use crate::shared::Shared;
 use crate::states::State;
 use cpa_expr::Expr;
 use cpa_ints::Seq;
+use std::alloc::{AllocError, Global};
 
 /// A fact on the point, the stack or the store of a state.
 #[derive(Drop)]
@@ -24,10 +26,31 @@ pub enum Fact {
     Truth { expr: Expr, holds: bool },
 }
 
-/// An element of an analysis: it holds of a state of which all its facts hold.
+/// An element of an analysis: it holds of a state of which all its facts hold. Copies share the
+/// facts, since most of what a turn does leaves an element as it is.
 #[derive(Drop)]
 pub struct Elem {
-    pub facts: Seq<Fact>,
+    pub facts: Shared<Fact>,
+}
+
+impl Elem {
+    /// The element of these facts.
+    pub fn new(alloc: Global, facts: Seq<Fact>) -> Result<Elem, AllocError>
+        ensures { IfOk result (λ e. e.facts ≡ facts) }
+    {
+        Ok(Elem {
+            facts: Shared::from_seq(alloc, facts)?,
+        })
+    }
+
+    /// The element without facts, which holds of every state. It takes no memory.
+    pub fn any() -> Elem
+        ensures { result.facts ≡ [] }
+    {
+        Elem {
+            facts: Shared::new(),
+        }
+    }
 }
 
 /// Whether the element holds of the state. A fact on a cell that the state lacks does not.

@@ -10,6 +10,7 @@ mod graph;
 mod laws;
 mod next;
 mod program;
+mod shared;
 mod spelling;
 mod stacks;
 mod standing;
@@ -28,6 +29,7 @@ pub use laws::{
 };
 pub use next::next_point;
 pub use program::{Cell, MAX_CELLS, MAX_POINTS, Program, Stmt, Successor};
+pub use shared::Shared;
 pub use spelling::{Spell, push_list};
 pub use stacks::step_stack;
 pub use standing::{facts_that_stand, has_facts, same_fact};

@@ -12,8 +12,8 @@ ghost use Rattle.cpa_path_folds.specs.Tracking.{is_tracked, first_tracking, with
 
 use crate::marks::is_marked;
 use crate::needed_cells::needed;
-use cpa_iface::{Precision, Settings, Shared, copy_cells};
-use cpa_model::{Cfa, Path, Seq};
+use cpa_iface::{Precision, Settings, copy_cells};
+use cpa_model::{Cfa, Path, Seq, Shared};
 use std::alloc::{AllocError, Global};
 
 /// The precision that tracks all cells, or none, by the settings, and has this limit.

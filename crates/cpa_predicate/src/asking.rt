@@ -302,7 +302,7 @@ fn truth_alone(alloc: Global, p: &Expr, holds: bool) -> Result<Vec<Elem>, AllocE
         holds,
     })?;
     let mut elems = Vec::new(alloc);
-    elems.push(Elem { facts })?;
+    elems.push(Elem::new(alloc, facts)?)?;
     Ok(elems)
 }
 

@@ -92,7 +92,7 @@ fn marked_truths(alloc: Global, elem: &Elem, marks: &[bool]) -> Result<Elem, All
             facts.push(copy_fact(alloc, fact)?)?;
         }
     }
-    Ok(Elem { facts })
+    Elem::new(alloc, facts)
 }
 
 /// Marks for so many cells, set where the predicate reads them, or an act that may change it.

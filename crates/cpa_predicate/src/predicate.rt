@@ -78,13 +78,13 @@ impl Analysis for Predicate {
         Part::Nothing
     }
 
-    fn initial(&mut self, alloc: Global, _cfa: &Cfa) -> Result<Elem, AllocError>
+    fn initial(&mut self, _alloc: Global, _cfa: &Cfa) -> Result<Elem, AllocError>
         requires { IsAutomaton _cfa.now }
         ensures laws { IfOk result (λ e. InitialLaws predicates _cfa.now e) }
         ensures given { IfOk result (λ e. e ≡ no_facts) }
         ensures budgets { self.new ≡ self.old }
     {
-        Ok(no_facts(alloc))
+        Ok(no_facts())
     }
 
     fn first_precision(
@@ -141,7 +141,7 @@ impl Analysis for Predicate {
 
     fn strengthen(
         &mut self,
-        alloc: Global,
+        _alloc: Global,
         _cfa: &Cfa,
         own: &Elem,
         _others: &[Elem],
@@ -153,7 +153,7 @@ impl Analysis for Predicate {
         ensures given { IfOk result (λ e. e ≡ Some own.now) }
         ensures budgets { self.new ≡ self.old }
     {
-        unstrengthened(alloc, own)
+        unstrengthened(own)
     }
 
     fn merge(

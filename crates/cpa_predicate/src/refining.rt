@@ -7,8 +7,8 @@ ghost use Rattle.cpa_path_folds.specs.Carried.{with_new};
 ghost use Rattle.cpa_predicate.specs.Refining.{with_missing, with_preds, with_carried};
 
 use cpa_expr::{copy, same_expr};
-use cpa_iface::{Precision, Shared, copy_preds};
-use cpa_model::{Cfa, Expr, Path, Seq};
+use cpa_iface::{Precision, copy_preds};
+use cpa_model::{Cfa, Expr, Path, Seq, Shared};
 use cpa_path_folds::carried;
 use std::alloc::{AllocError, Global};
 

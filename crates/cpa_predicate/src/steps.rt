@@ -29,7 +29,7 @@ fn truths(alloc: Global, elem: &Elem) -> Result<Elem, AllocError>
             facts.push(copy_fact(alloc, fact)?)?;
         }
     }
-    Ok(Elem { facts })
+    Elem::new(alloc, facts)
 }
 
 /// The predicates of the element have their truths, and the edge is taken.

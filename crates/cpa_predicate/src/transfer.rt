@@ -378,13 +378,11 @@ fn keep_decided(
     Ok(())
 }
 
-/// The element without facts. Takes no memory.
-pub(crate) fn no_facts(alloc: Global) -> Elem
+/// The element without facts.
+pub(crate) fn no_facts() -> Elem
     ensures { result ≡ no_facts }
 {
-    Elem {
-        facts: Seq::new(alloc),
-    }
+    Elem::any()
 }
 
 /// Adds the fact on the predicate, where its truth is known.
@@ -417,10 +415,10 @@ fn elem_of(alloc: Global, preds: &[Expr], truths: &[Option<bool>]) -> Result<Ele
                 push_truth(alloc, &mut facts, p, *truth)?;
                 rest = behind;
             }
-            [] => return Ok(Elem { facts }),
+            [] => return Elem::new(alloc, facts),
         }
     }
-    Ok(Elem { facts })
+    Elem::new(alloc, facts)
 }
 
 /// The elements behind a step with this outcome.

@@ -14,7 +14,7 @@ fn push_at(alloc: Global, elems: &mut Seq<Elem>, row: &[Elem], place: u32) -> Re
     ensures { OnOk result (elems.new ≡ elems.old ++ listed (slice_get row.now place)) }
 {
     match row.get(place as usize) {
-        Some(elem) => elems.push(copy_elem(alloc, elem)?),
+        Some(elem) => elems.push(copy_elem(elem)?),
         None => Ok(()),
     }
 }

@@ -90,7 +90,7 @@ fn chosen(alloc: Global, entries: &[Elem], numbers: &[u32]) -> Result<Vec<Elem>,
 {
     let mut found = Vec::new(alloc);
     for number in numbers {
-        found.push(copy_elem(alloc, &entries[*number as usize])?)?;
+        found.push(copy_elem(&entries[*number as usize])?)?;
     }
     Ok(found)
 }

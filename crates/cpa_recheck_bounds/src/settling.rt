@@ -11,7 +11,7 @@ use crate::behind::{are_found_behind, bounds_at_start};
 use crate::exact::lows_of;
 use crate::saying::are_said;
 use cpa_interval_bounds::KnownBounds;
-use cpa_model::{Cfa, Elem, Seq, edges_are_sound};
+use cpa_model::{Cfa, Elem, edges_are_sound};
 use cpa_recheck_obligations::Obligation;
 use std::alloc::{AllocError, Global};
 
@@ -23,9 +23,7 @@ fn begins(alloc: Global, cfa: &Cfa, entries: &[Elem], numbers: &[u32]) -> Result
         IsTrue is → IsRunless cfa.now entries.now Obligation.Begins) }
 {
     let all = bounds_at_start(alloc, cfa.cells.as_slice())?;
-    let nothing = Elem {
-        facts: Seq::new(alloc),
-    };
+    let nothing = Elem::any();
     let lows = lows_of(alloc, &all)?;
     Ok(are_said(&all, &lows, &nothing, entries, numbers))
 }

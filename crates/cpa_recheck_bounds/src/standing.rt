@@ -92,7 +92,7 @@ pub(crate) fn standing(alloc: Global, elem: &Elem, act: &Act) -> Result<Elem, Al
             facts.push(copy_fact(alloc, fact)?)?;
         }
     }
-    Ok(Elem { facts })
+    Elem::new(alloc, facts)
 }
 
 /// Whether the element says that the test of the act does not come out so: then it leads nowhere.

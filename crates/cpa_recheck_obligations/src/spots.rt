@@ -98,7 +98,7 @@ pub fn joined(alloc: Global, elems: &[Elem]) -> Result<Elem, AllocError>
     for elem in elems {
         push_facts(alloc, &mut facts, elem)?;
     }
-    Ok(Elem { facts })
+    Elem::new(alloc, facts)
 }
 
 /// Adds the facts of an element.

@@ -7,8 +7,8 @@ ghost use Rattle.cpa_report_json.specs.Fits.{RefinedFits};
 use crate::fault::ReadFault;
 use crate::lists::{FromJson, take_member};
 use crate::steps::{close_list, close_object, open_list, open_object};
-use cpa_iface::{Precision, Refined, Shared, Turn};
-use cpa_model::Path;
+use cpa_iface::{Precision, Refined, Turn};
+use cpa_model::{Path, Shared};
 use json::Reader;
 use std::alloc::Global;
 

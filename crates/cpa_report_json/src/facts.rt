@@ -16,7 +16,7 @@ use crate::fault::ReadFault;
 use crate::lists::{FromJson, take_member};
 use crate::steps::{close_list, close_object, open_list, open_object, take_text};
 use crate::values::take_boxed;
-use cpa_model::{Elem, Fact};
+use cpa_model::{Elem, Fact, Seq};
 use cpa_report_print::Listed;
 use json::Reader;
 use std::alloc::Global;
@@ -139,8 +139,8 @@ impl FromJson for Elem {
 
     /// Takes an element.
     fn take(alloc: Global, reader: &mut Reader<'_>) -> Result<Elem, ReadFault> {
-        let facts = FromJson::take(alloc, reader)?;
-        Ok(Elem { facts })
+        let facts: Seq<Fact> = FromJson::take(alloc, reader)?;
+        Ok(Elem::new(alloc, facts)?)
     }
 }
 

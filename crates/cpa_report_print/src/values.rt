@@ -7,8 +7,7 @@ ghost use Rattle.cpa_report_print.specs.Reports.{integer_data, list_data};
 ghost use Rattle.cpa_report_print.specs.Tokens.{onto, Wrote};
 
 use cpa_expr::Expr;
-use cpa_iface::Shared;
-use cpa_model::Seq;
+use cpa_model::{Seq, Shared};
 use itoa::Buffer;
 use json::Writer;
 use std::alloc::{AllocError, Global};

@@ -5,9 +5,10 @@ use Rattle.std.proofs.Common.{refl, sym, ap, ◌∙◌, subst, arith, cond, leng
 use Rattle.std.proofs.Common.{append_assoc, append-nil, length-set, inl, inr, ◌⊎◌}
 use Rattle.std.specs.Prelude.{min, zero, suc, ◌^◌, Option, None, Some, option_map, slice_set}
 use Rattle.std.specs.Prelude.{◌==◌, ◌&&◌, nat_le, nat_lt}
-use Rattle.std.specs.List.{filter, list_any, range_with_len, slice_index_or}
+use Rattle.std.specs.List.{filter, list_all, list_any, range_with_len, slice_index_or}
 use Rattle.std.proofs.lemmas.Bool.{and_left, and_right, and_from, le-leb, lt-leb, lt-ltb, le-ltb}
 use Rattle.std.proofs.lemmas.Bool.{eq-eqb, ne_eqb, cases_lt, cases_eq, cases_order, false≢true}
+use Rattle.std.proofs.lemmas.Bool.{and_parts}
 use Rattle.std.proofs.lemmas.List.{same_lists, get_or-set_same, get_or-set_other}
 use Rattle.std.proofs.lemmas.List.FromFn.{length-map-range_with_len, get_or-map-range_with_len}
 use Rattle.cpa_model.specs.declared.facts.Fact.{Fact}
@@ -439,6 +440,23 @@ pub facts_again : (n : ℕ) (fs : List Fact) → are_ordered n 0 fs ≡ true
 facts_again n fs is =
     along_is (λ _. true) (first_value fs) 0 n
     ∙ (said (λ _. true) n 0 0 n n fs is (omega arith) ∙ all_within n 0 fs is)
+
+-- facts that all pass are kept
+pass_all : (p : Fact → Bool) (fs : List Fact) → list_all p fs ≡ true → filter p fs ≡ fs
+pass_all p [] all = refl
+pass_all p (f ∷ fs) all =
+    let both = and_parts (p f) (list_all p fs) all in
+    ap (λ b. cond b (f ∷ filter p fs) (filter p fs)) both.0
+    ∙ ap (λ l. f ∷ l) (pass_all p fs both.1)
+
+-- where no cell changes and all facts are of tracked cells, they are as they were
+pub unchanged_is : (tracked : ℕ → Bool) (n first k : ℕ) (value : Option ℤ) (fs : List Fact)
+    → are_ordered n 0 fs ≡ true → k ≡ 0 → list_all (is_within tracked 0 n) fs ≡ true
+    → fs ≡ facts_from tracked 0 (filled first k value (known_cells n fs))
+unchanged_is tracked n first k value fs is none all =
+    sym (ap (λ j. facts_from tracked 0 (filled first j value (known_cells n fs))) none
+    ∙ (along_is tracked (first_value fs) 0 n
+    ∙ (said tracked n 0 0 n n fs is (omega arith) ∙ pass_all (is_within tracked 0 n) fs all)))
 
 -- ---- loops and calls
 

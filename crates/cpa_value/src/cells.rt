@@ -83,7 +83,7 @@ pub(crate) fn elem_of_known(alloc: Global, cells: &[Option<i128>]) -> Result<Ele
     for cell in 0..cells.len() {
         push_fact(&mut facts, cell as u32, cells[cell], true)?;
     }
-    Ok(Elem { facts })
+    Elem::new(alloc, facts)
 }
 
 /// Adds the fact of a cell, where it is tracked and its value is known.

@@ -26,7 +26,7 @@ pub(crate) fn limited(
     ensures { IfOk result (λ e. e ≡ limited limit elem.now reached.now place) }
 {
     if limit == 0 {
-        return copy_elem(alloc, elem);
+        return copy_elem(elem);
     }
     let mut values = no_values(alloc, cfa.cells.len())?;
     kept_of(alloc, limit, elem, reached, place, &mut values)
@@ -132,7 +132,7 @@ fn kept(alloc: Global, limit: u32, elem: &Elem, values: &[Seq<i128>]) -> Result<
             facts.push(copy_fact(alloc, fact)?)?;
         }
     }
-    Ok(Elem { facts })
+    Elem::new(alloc, facts)
 }
 
 /// Whether the fact's cell has no more different values than the limit.

@@ -41,7 +41,7 @@ pub(crate) fn strengthened(
     if some_point(others, &tracked) {
         met(alloc, own, count, others, &tracked)
     } else {
-        Ok(Some(copy_elem(alloc, own)?))
+        Ok(Some(copy_elem(own)?))
     }
 }
 
@@ -70,7 +70,7 @@ fn met(
 {
     let facts = own.facts.as_slice();
     match said_beside(facts, count, others, tracked) {
-        Agreement::Same => Ok(Some(copy_elem(alloc, own)?)),
+        Agreement::Same => Ok(Some(copy_elem(own)?)),
         Agreement::Other => Ok(None),
         Agreement::More => {
             let mut cells = known_cells(alloc, facts, count)?;

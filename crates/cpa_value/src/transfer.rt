@@ -3,6 +3,7 @@
 
 ghost use Rattle.std.specs.Prelude.{◌≡◌, ◌<◌, ◌≤◌, ◌^◌, ◌+◌, ◌-◌, [], ◌∷◌, ◌++◌, true, length, min};
 ghost use Rattle.std.specs.Prelude.{IfOk, OnOk};
+ghost use Rattle.std.specs.List.{list_all};
 ghost use Rattle.cpa_model.specs.Automata.{IsAutomaton};
 ghost use Rattle.cpa_iface.specs.Meanings.{IsPrecision};
 ghost use Rattle.cpa_path_folds.specs.Tracking.{is_tracked};
@@ -16,7 +17,7 @@ ghost use Rattle.cpa_value.specs.Transfer.{elems_of, next_values};
 
 use crate::cells::{elem_of_known, known_cells, push_fact};
 use cpa_iface::Precision;
-use cpa_model::{Act, Cfa, Edge, Elem, Fact, Seq, copy_fact};
+use cpa_model::{Act, Cfa, Edge, Elem, Fact, Seq, copy_elem, copy_fact};
 use cpa_value_changes::{Change, KnownCells, are_ordered, change_by};
 use cpa_value_tracked::Tracked;
 use std::alloc::{AllocError, Global};
@@ -35,26 +36,27 @@ pub(crate) fn next_values(
 {
     let count = cfa.cells.len();
     let tracked = Tracked::of(alloc, precision, count)?;
-    after_facts(alloc, &edge.act, elem.facts.as_slice(), count, &tracked)
+    after_elem(alloc, &edge.act, elem, count, &tracked)
 }
 
-/// The elements of what the act makes of the known values that the facts say.
-fn after_facts(
+/// The elements of what the act makes of the known values that the element says.
+fn after_elem(
     alloc: Global,
     act: &Act,
-    facts: &[Fact],
+    elem: &Elem,
     count: usize,
     tracked: &Tracked,
 ) -> Result<Vec<Elem>, AllocError>
     requires { count < 2 ^ 32 }
     ensures { IfOk result (λ es. es.items ≡ elems_of (is_tracked tracked.now)
-        (after_act (is_tracked tracked.now) act.now (known_cells count facts.now))) }
+        (after_act (is_tracked tracked.now) act.now (known_cells count elem.now.facts))) }
 {
+    let facts = elem.facts.as_slice();
     if are_ordered(facts, count) {
-        return after(alloc, act, facts, count, tracked);
+        return after(alloc, act, elem, count, tracked);
     }
     let ordered = in_order(alloc, facts, count)?;
-    let elems = after(alloc, act, ordered.facts.as_slice(), count, tracked)?;
+    let elems = after(alloc, act, &ordered, count, tracked)?;
     Ok(elems)
 }
 
@@ -68,31 +70,59 @@ fn in_order(alloc: Global, facts: &[Fact], count: usize) -> Result<Elem, AllocEr
     elem_of_known(alloc, &cells)
 }
 
-/// The same of facts in the order of the cells.
+/// The same of an element with facts in the order of the cells.
 fn after(
     alloc: Global,
     act: &Act,
-    facts: &[Fact],
+    elem: &Elem,
     count: usize,
     tracked: &Tracked,
 ) -> Result<Vec<Elem>, AllocError>
     requires few { count < 2 ^ 32 }
-    requires ordered { are_ordered count 0 facts.now ≡ true }
+    requires ordered { are_ordered count 0 elem.now.facts ≡ true }
     ensures { IfOk result (λ es. es.items ≡ elems_of (is_tracked tracked.now)
-        (after_act (is_tracked tracked.now) act.now (known_cells count facts.now))) }
+        (after_act (is_tracked tracked.now) act.now (known_cells count elem.now.facts))) }
 {
     let mut elems = Vec::new(alloc);
-    match change_by(act, &KnownCells::new(facts, count), tracked) {
+    match change_by(act, &KnownCells::new(elem.facts.as_slice(), count), tracked) {
         Some(change) => {
-            elems.push(elem_behind(alloc, facts, count, change, tracked)?)?;
+            elems.push(elem_behind(alloc, elem, count, change, tracked)?)?;
             Ok(elems)
         }
         None => Ok(elems),
     }
 }
 
-/// The element of the tracked cells behind a change.
+/// The element of the tracked cells behind a change, which is the same one where no cell changes
+/// and all are tracked.
 fn elem_behind(
+    alloc: Global,
+    elem: &Elem,
+    count: usize,
+    change: Change,
+    tracked: &Tracked,
+) -> Result<Elem, AllocError>
+    requires few { count < 2 ^ 32 }
+    requires ordered { are_ordered count 0 elem.now.facts ≡ true }
+    ensures { IfOk result (λ e. e
+        ≡ elem_of (is_tracked tracked.now) (changed change (known_cells count elem.now.facts))) }
+{
+    let facts = elem.facts.as_slice();
+    if change.count == 0 && are_within(facts, count, tracked) {
+        return copy_elem(elem);
+    }
+    facts_behind(alloc, facts, count, change, tracked)
+}
+
+/// Whether each fact says a value of a tracked cell.
+fn are_within(facts: &[Fact], count: usize, tracked: &Tracked) -> bool
+    ensures { result ≡ list_all (is_within (is_tracked tracked.now) 0 count) facts.now }
+{
+    facts.iter().all(|fact| is_within(fact, 0, count, tracked))
+}
+
+/// The element of the tracked cells behind a change, made anew.
+fn facts_behind(
     alloc: Global,
     facts: &[Fact],
     count: usize,
@@ -107,11 +137,12 @@ fn elem_behind(
     let first = lesser(change.first, count);
     let taken = lesser(change.count, count - first);
     let end = first + taken;
-    let mut left = Seq::new(alloc);
+    let most = facts.len().saturating_add(taken);
+    let mut left = Seq::from_vec(Vec::with_capacity(alloc, most)?);
     push_within(alloc, &mut left, facts, 0, first, tracked)?;
     push_along(&mut left, change.value, first, end, tracked)?;
     push_within(alloc, &mut left, facts, end, count, tracked)?;
-    Ok(Elem { facts: left })
+    Elem::new(alloc, left)
 }
 
 /// The lesser of two numbers.

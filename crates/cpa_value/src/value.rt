@@ -124,7 +124,7 @@ fn starts(alloc: Global, cells: &[Cell]) -> Result<Elem, AllocError>
     for place in 0..cells.len() {
         facts.push(start_of(place as u32, cell_at(cells, place)))?;
     }
-    Ok(Elem { facts })
+    Elem::new(alloc, facts)
 }
 
 /// The cell at a place that is there.

@@ -305,7 +305,7 @@ fn entries(alloc: Global, precision: &Precision, elems: &[Elem]) -> Result<Vec<E
 /// An entry without a parent, which waits for nothing. Its number is 0, whichever it is.
 fn entry(alloc: Global, precision: &Precision, elem: &Elem) -> Result<Entry, RowFault> {
     let mut elems = Seq::new(alloc);
-    elems.push(copy_elem(alloc, elem)?)?;
+    elems.push(copy_elem(elem)?)?;
     let mut precisions = Seq::new(alloc);
     precisions.push(copy_precision(alloc, precision)?)?;
     Ok(Entry {

@@ -5,7 +5,7 @@ ghost use Rattle.std.specs.Prelude.{◌≡◌};
 ghost use Rattle.cases_turns.specs.Samples.{no_facts};
 
 use cpa_iface::{Part, Steps};
-use cpa_model::{Cfa, Elem, Seq};
+use cpa_model::{Cfa, Elem};
 use std::alloc::{AllocError, Global};
 
 /// It knows nothing, and is exact on nothing.
@@ -35,8 +35,8 @@ impl Steps for Blind {
         Part::Nothing
     }
 
-    fn initial(&mut self, alloc: Global, _cfa: &Cfa) -> Result<Elem, AllocError> {
-        Ok(no_facts(alloc))
+    fn initial(&mut self, _alloc: Global, _cfa: &Cfa) -> Result<Elem, AllocError> {
+        Ok(no_facts())
     }
 
     fn transfer(
@@ -52,16 +52,14 @@ impl Steps for Blind {
             return Err(AllocError);
         }
         let mut successors = Vec::new(alloc);
-        successors.push(no_facts(alloc))?;
+        successors.push(no_facts())?;
         Ok(successors)
     }
 }
 
 /// The element without facts.
-pub(crate) fn no_facts(alloc: Global) -> Elem
+pub(crate) fn no_facts() -> Elem
     ensures { result ≡ no_facts }
 {
-    Elem {
-        facts: Seq::new(alloc),
-    }
+    Elem::any()
 }

@@ -71,13 +71,13 @@ impl Analysis for Counter {
 
     fn strengthen(
         &mut self,
-        alloc: Global,
+        _alloc: Global,
         _cfa: &Cfa,
         own: &Elem,
         _others: &[Elem],
         _precision: &Precision,
     ) -> Result<Option<Elem>, AllocError> {
-        unstrengthened(alloc, own)
+        unstrengthened(own)
     }
 
     fn merge(
@@ -90,7 +90,7 @@ impl Analysis for Counter {
         _precision: &Precision,
     ) -> Result<Elem, AllocError> {
         match rule {
-            MergeRule::Join => joined(alloc, self.made, old),
+            MergeRule::Join => joined(self.made, old),
             _ => merge_facts(alloc, rule, new, old),
         }
     }
@@ -123,13 +123,13 @@ impl Analysis for Counter {
 }
 
 /// What is there where so many elements are made: all states, each third time.
-fn joined(alloc: Global, made: u32, old: &Elem) -> Result<Elem, AllocError>
+fn joined(made: u32, old: &Elem) -> Result<Elem, AllocError>
     ensures { IfOk result (λ e. (e ≡ no_facts) ⊎ (e ≡ old.now)) }
 {
     if made % 3 == 0 {
-        Ok(no_facts(alloc))
+        Ok(no_facts())
     } else {
-        copy_elem(alloc, old)
+        copy_elem(old)
     }
 }
 
@@ -146,5 +146,5 @@ fn count(alloc: Global, number: u32) -> Result<Elem, AllocError>
         },
         holds: value != 0,
     })?;
-    Ok(Elem { facts })
+    Elem::new(alloc, facts)
 }

@@ -31,8 +31,8 @@ impl Analysis for Eager {
         Part::Nothing
     }
 
-    fn initial(&mut self, alloc: Global, _cfa: &Cfa) -> Result<Elem, AllocError> {
-        Ok(no_facts(alloc))
+    fn initial(&mut self, _alloc: Global, _cfa: &Cfa) -> Result<Elem, AllocError> {
+        Ok(no_facts())
     }
 
     fn first_precision(
@@ -53,19 +53,19 @@ impl Analysis for Eager {
         _precision: &Precision,
     ) -> Result<Vec<Elem>, AllocError> {
         let mut successors = Vec::new(alloc);
-        successors.push(no_facts(alloc))?;
+        successors.push(no_facts())?;
         Ok(successors)
     }
 
     fn strengthen(
         &mut self,
-        alloc: Global,
+        _alloc: Global,
         _cfa: &Cfa,
         own: &Elem,
         _others: &[Elem],
         _precision: &Precision,
     ) -> Result<Option<Elem>, AllocError> {
-        unstrengthened(alloc, own)
+        unstrengthened(own)
     }
 
     fn merge(

@@ -32,8 +32,8 @@ impl Analysis for Guess {
         Part::Nothing
     }
 
-    fn initial(&mut self, alloc: Global, _cfa: &Cfa) -> Result<Elem, AllocError> {
-        Ok(no_facts(alloc))
+    fn initial(&mut self, _alloc: Global, _cfa: &Cfa) -> Result<Elem, AllocError> {
+        Ok(no_facts())
     }
 
     fn first_precision(
@@ -60,7 +60,7 @@ impl Analysis for Guess {
 
     fn strengthen(
         &mut self,
-        alloc: Global,
+        _alloc: Global,
         _cfa: &Cfa,
         own: &Elem,
         others: &[Elem],
@@ -69,7 +69,7 @@ impl Analysis for Guess {
         if contradict(own, others) {
             return Ok(None);
         }
-        unstrengthened(alloc, own)
+        unstrengthened(own)
     }
 
     fn merge(
@@ -137,7 +137,7 @@ fn at(alloc: Global, point: u32) -> Result<Elem, AllocError>
 {
     let mut facts = Seq::new(alloc);
     facts.push(Fact::At { point })?;
-    Ok(Elem { facts })
+    Elem::new(alloc, facts)
 }
 
 /// The point of the first fact on one.

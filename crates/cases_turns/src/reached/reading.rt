@@ -2,8 +2,8 @@
 //! Nothing is proved of what is read but that reading is safe and ends.
 
 use cases_reader::{RowFault, index_of_word, indices_of};
-use cpa_iface::{Precision, Shared};
-use cpa_model::{Elem, Fact, Seq};
+use cpa_iface::Precision;
+use cpa_model::{Elem, Fact, Seq, Shared};
 use std::alloc::Global;
 
 /// The pairs of the indices that a text spells.
@@ -34,7 +34,7 @@ pub fn elems_at(alloc: Global, text: &str) -> Result<Vec<Elem>, RowFault> {
 fn elem_at(alloc: Global, point: u32) -> Result<Elem, RowFault> {
     let mut facts = Seq::new(alloc);
     facts.push(Fact::At { point })?;
-    Ok(Elem { facts })
+    Ok(Elem::new(alloc, facts)?)
 }
 
 /// A precision for each limit that a text names.

@@ -70,5 +70,4 @@ returns-clause-laws g c =
     let long = at.invariant.long in
     let end = c.loop-place-test.false in
     let up = at.auto.place-end in
-    rw c.trimmed.ensures
     (omega (arith, size, end, up), omega (arith, long, end, up), at.invariant.each)

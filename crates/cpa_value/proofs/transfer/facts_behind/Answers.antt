@@ -4,7 +4,7 @@ use Rattle.cpa_model.specs.declared.facts.Fact.{Fact}
 use Rattle.cpa_model.specs.declared.facts.Elem.{Elem}
 use Rattle.cpa_path_folds.specs.Tracking.{is_tracked}
 use Rattle.cpa_value.proofs.ChangeLemmas.{behind_is}
-use Rattle.cpa_value.proofs.transfer.elem_behind.Goals as goal
+use Rattle.cpa_value.proofs.transfer.facts_behind.Goals as goal
 
 pub returns : goal.returns
 returns c =

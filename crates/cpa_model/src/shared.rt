@@ -1,12 +1,16 @@
 //! A list that copies share, which contracts see as what it holds.
 //! `shared_items` stands in `specs/Sharing.antt`.
 
-ghost use Rattle.std.specs.Prelude.{◌≡◌, ◌↔◌, [], length, IfOk, IsTrue};
+ghost use Rattle.std.specs.Prelude.{◌≡◌, ◌<◌, ◌↔◌, ◌^◌, [], length, IfOk, IsTrue};
 ghost use Rattle.std.specs.Cmp.Lexicographic.{pointwise, lists_per};
+ghost use Rattle.std.specs.Iterator.Adapters.{IterYieldsInOrder, IterYieldsInReverse};
+ghost use Rattle.std.specs.Iterator.Runs.{EveryRun, ItemsMapTo};
+ghost use Rattle.std.specs.Slice.Iter.{iter_rest, iter_steps};
 
-use cpa_model::Seq;
+use cpa_ints::Seq;
 use std::alloc::{AllocError, Global};
 use std::marker::Model;
+use std::slice;
 use std::sync::Arc;
 
 /// A list that its copies share, so that a copy takes no memory, in any thread. Contracts see it
@@ -20,7 +24,7 @@ pub struct Shared<T> {
 impl<T> Model for Shared<T> {
     ghost use Rattle.std.specs.Prelude.{List};
     ghost use Rattle.std.specs.Coded.{coded_list};
-    ghost use Rattle.cpa_iface.specs.Sharing.{shared_items};
+    ghost use Rattle.cpa_model.specs.Sharing.{shared_items};
 
     ghost Value = { List T };
 
@@ -61,6 +65,17 @@ impl<T> Shared<T> {
         self.as_slice().is_empty()
     }
 
+    /// The items, one after the other.
+    pub fn iter(&self) -> slice::Iter<'_, T>
+        ensures rest { iter_rest result ≡ self.now }
+        ensures len { length (iter_rest result) ≡ length self.now }
+        ensures bound { length (iter_rest result) < 2 ^ 64 }
+        ensures runs { IterYieldsInOrder T }
+        ensures runs_back { IterYieldsInReverse T }
+    {
+        self.as_slice().iter()
+    }
+
     /// The same list once more. It takes no memory, and fails only where so many share the list
     /// that they can't be counted.
     pub fn share(&self) -> Result<Shared<T>, AllocError>
@@ -76,13 +91,31 @@ impl<T> Shared<T> {
 }
 
 impl<T: Drop> Shared<T> {
-    /// A list of these items.
+    /// A list of these items, which has no more room than they need. No item takes no memory.
     pub fn from_seq(alloc: Global, items: Seq<T>) -> Result<Shared<T>, AllocError>
         ensures { IfOk result (λ s. s ≡ items) }
     {
+        if items.is_empty() {
+            return Ok(Shared { items: None });
+        }
+        let mut items = items.into_vec();
+        items.shrink_to_fit();
         Ok(Shared {
-            items: Some(Arc::new(alloc, items)?),
+            items: Some(Arc::new(alloc, Seq::from_vec(items))?),
         })
+    }
+}
+
+impl<'a, T> IntoIterator for &'a Shared<T> {
+    type Item = &'a T;
+
+    type IntoIter = slice::Iter<'a, T>;
+
+    ghost into_iter_gives = { λ s it. (iter_rest it ≡ s.now) × (length (iter_rest it) < 2 ^ 64)
+        × EveryRun (iter_steps {A = T}) (λ p. ItemsMapTo p (λ x. x.now) (iter_rest p.from)) };
+
+    fn into_iter(self) -> slice::Iter<'a, T> {
+        self.as_slice().iter()
     }
 }
 
