@@ -19,12 +19,15 @@ use Rattle.c_grammar_tree.specs.declared.declaration.Declarator.{Declarator}
 use Rattle.c_grammar_tree.specs.declared.item.Parameter.{Parameter}
 use Rattle.c_grammar_tree.specs.Parts.{type_words, named_among, have_const}
 use Rattle.c_types_rules.specs.declared.TheConstants.{MAX_ELEMENTS}
+use Rattle.c_types_rules.specs.declared.meaning.Constant.{Constant}
 use Rattle.c_types_rules.specs.declared.meaning.Kind.{Kind}
 use Rattle.c_types_rules.specs.declared.meaning.Kind.TheVariants.{Void, Value}
 use Rattle.c_types_rules.specs.declared.meaning.Object.{Object}
+use Rattle.c_types_rules.specs.declared.meaning.Part.{Part}
 use Rattle.c_types_rules.specs.declared.meaning.ParameterType.{ParameterType}
 use Rattle.c_types_rules.specs.declared.meaning.Declared.TheVariants as declared
 use Rattle.c_types_rules.specs.declared.meaning.Entry.{Entry}
+use Rattle.c_types_rules.specs.declared.typed.TypedDeclarator.{TypedDeclarator}
 use Rattle.c_types_rules.specs.declared.typed.TypedInitializer.{TypedInitializer}
 use Rattle.c_types_rules.specs.declared.typed.TypedInitializer.TheVariants as typed_initializer
 use Rattle.c_types_rules.specs.Types.{kind_of_words, type_of_named, object_type, value_kind}
@@ -66,21 +69,25 @@ items_of None = []
 items_of (Some (initializer.Scalar value)) = value ∷ []
 items_of (Some (initializer.List items place)) = items
 
+-- the value of what is to be constant, of which the constant and the type are known
+abbrev pub number_by : Constant → Option Kind → Option ℤ
+number_by found kind =
+    if found.is_impure then None else option_and_then (λ t. found.value) (value_kind kind)
+
 -- the value of an expression that is to be constant, if no rule is broken in it
 abbrev pub constant_number : Text → List Entry → Expression → Option ℤ
 constant_number text names expression =
-    let read = reading text names expression in
-    let found = constant read.typed in
-    if found.is_impure then None else option_and_then (λ t. found.value) (value_kind read.part.kind)
+    let read = reading text names expression in number_by (constant read.typed) read.part.kind
 
--- an expression that is to be constant (C11 6.6p3 and 6.6p4) reads an object, calls or assigns, or
--- its value traps: its first token
+-- a part that is to be constant (C11 6.6p3 and 6.6p4) and of which the constant is known reads an
+-- object, calls or assigns, or its value traps: its first token
+abbrev pub inconstant_by : Constant → Part → List ℕ
+inconstant_by found part = at_if (found.is_impure || (is_some (value_kind part.kind)
+    && not (is_some found.value))) part.place
+
 abbrev pub inconstant : Text → List Entry → Expression → List ℕ
 inconstant text names expression =
-    let read = reading text names expression in
-    let found = constant read.typed in
-    at_if (found.is_impure || (is_some (value_kind read.part.kind)
-    && not (is_some found.value))) read.part.place
+    let read = reading text names expression in inconstant_by (constant read.typed) read.part
 
 -- how many elements an object has by its declarator: as many as its length says, or as its list
 -- has; 0 where its length has no value; of a scalar nothing is said (C11 6.7.6.2 and 6.7.9p22)
@@ -103,15 +110,19 @@ abbrev pub is_longer : ℤ → Declarator → Bool
 is_longer n declarator =
     is_some declarator.initializer && int_lt n (pos (length (items_of declarator.initializer)))
 
--- a length that is there: no constant, or no number of elements: its first token. More items than
--- elements (C11 6.7.9p2): the name
+-- a length that has this value, if it has one, is no number of elements: this place. More items
+-- than elements (C11 6.7.9p2): the name
+abbrev pub misfit : Option ℤ → ℕ → Declarator → List ℕ
+misfit number place declarator = elim number [
+  | None ↦ []
+  | Some n ↦ at_if (not (is_length n)) place ++ at_if (is_longer n declarator) declarator.name.place
+]
+
+-- a length that is there: no constant, or no number of elements: its first token
 abbrev pub given_length_faults : Text → List Entry → Declarator → Expression → List ℕ
 given_length_faults text names declarator expression =
-    inconstant text names expression ++ elim (constant_number text names expression) [
-      | None ↦ []
-      | Some n ↦ at_if (not (is_length n)) (reading text names expression).part.place
-          ++ at_if (is_longer n declarator) declarator.name.place
-    ]
+    inconstant text names expression ++ misfit (constant_number text names expression)
+    (reading text names expression).part.place declarator
 
 -- N12: of an array's length (6.6, 6.7.6.2p1 and p5; without a length as many elements as its list
 -- has); more items than the object has elements
@@ -140,20 +151,25 @@ length_uses text names declarator = elim declarator.array [
 abbrev pub void_object : Kind → Declarator → List ℕ
 void_object kind declarator = at_if (is_void_kind kind) declarator.name.place
 
--- the object of this number that a declarator declares; its length sees the names declared before
--- it (C11 6.2.1p7)
-abbrev pub object_of : Text → List Entry → ℕ → Specifiers → Declarator → Object
-object_of text names number specifiers declarator = record {
+-- the object of this number that a declarator declares, of this type and const or not; its length
+-- sees the names declared before it (C11 6.2.1p7)
+abbrev pub object_of : Text → List Entry → ℕ → Kind → Bool → Declarator → Object
+object_of text names number kind is_const declarator = record {
   number = number;
-  ty = object_type (kind_of specifiers);
+  ty = object_type kind;
   length = length_of text names declarator;
-  is_const = has_const specifiers;
+  is_const = is_const;
   place = Some declarator.name.place;
 }
 
 -- the declared name of an object in a function
 abbrev pub local_entry : List ℕ → Object → Entry
 local_entry name object = record { name = name; declared = declared.Object object false }
+
+-- the names behind a declarator in a function
+abbrev pub names_behind : Text → List Entry → ℕ → Kind → Bool → Declarator → List Entry
+names_behind text names number kind is_const declarator = names
+    ++ local_entry declarator.name.bytes (object_of text names number kind is_const declarator) ∷ []
 
 -- a value of type int
 abbrev pub is_int : ℤ → Bool
@@ -207,6 +223,15 @@ typed_items text names (initializer.Scalar value) =
     typed_initializer.Scalar (reading text names value).typed
 typed_items text names (initializer.List items place) =
     typed_initializer.List (map (λ item. (reading text names item).typed) items)
+
+-- the typed declarator in a function; its initializer sees its own name (C11 6.2.1p7)
+abbrev pub typed_local : Text → List Entry → ℕ → Kind → Bool → Declarator → TypedDeclarator
+typed_local text names number kind is_const declarator = record {
+  object = object_of text names number kind is_const declarator;
+  initializer = option_map (typed_items text
+      (names_behind text names number kind is_const declarator)) declarator.initializer;
+  place = declarator.name.place;
+}
 
 -- the type of a parameter, one of type void counts as an int
 abbrev pub parameter_type : Parameter → ParameterType

@@ -37,8 +37,8 @@ use Rattle.c_types_rules.specs.Types.{object_type}
 use Rattle.c_types_rules.specs.Names.{Text, declared_as, or_else}
 use Rattle.c_types_rules.specs.Expressions.{reading, Use, given, used}
 use Rattle.c_types_rules.specs.ExpressionRules.{broken, at_if, uses_faults}
-use Rattle.c_types_rules.specs.Declarations.{kind_of, items_of, inconstant, length_faults}
-use Rattle.c_types_rules.specs.Declarations.{length_uses}
+use Rattle.c_types_rules.specs.Declarations.{kind_of, has_const, items_of, inconstant}
+use Rattle.c_types_rules.specs.Declarations.{length_faults, length_uses}
 use Rattle.c_types_rules.specs.Declarations.{void_object, object_of, parameter_type, void_parameter}
 use Rattle.c_types_rules.specs.Statements.{Around, Site, Walk, followed, in_order, receiving}
 use Rattle.c_types_rules.specs.Statements.{enumeration_walk, walk_of, labels_of}
@@ -147,26 +147,38 @@ redeclares_object (Some (declared.Function result parameters defined)) fresh ini
 redeclares_object (Some (declared.Enumerator value)) fresh initializes = true
 redeclares_object (Some declared.Tag) fresh initializes = true
 
-abbrev pub global_of : Text → Before → Specifiers → Declarator → Object
-global_of text before specifiers declarator =
-    object_of text before.names before.objects specifiers declarator
-
-abbrev pub global_behind : Text → Specifiers → Declarator → Before → Before
-global_behind text specifiers declarator before = record before {
+-- what is known behind a declarator of file scope that declares this object
+abbrev pub with_global : Object → Declarator → Before → Before
+with_global global declarator before = record before {
   names = before.names ++ record {
     name = declarator.name.bytes;
-    declared = merged_object (declared_as before.names declarator.name.bytes)
-        (global_of text before specifiers declarator) (is_some declarator.initializer);
+    declared = merged_object (declared_as before.names declarator.name.bytes) global
+        (is_some declarator.initializer);
   } ∷ [];
   objects = before.objects + 1;
 }
 
 -- N2 in file scope: the later name
-abbrev pub redeclared_object : Text → Before → Specifiers → Declarator → List ℕ
-redeclared_object text before specifiers declarator =
-    at_if (redeclares_object (declared_as before.names declarator.name.bytes)
-    (global_of text before specifiers declarator) (is_some declarator.initializer))
-    declarator.name.place
+abbrev pub redeclared_object : Object → Declarator → Before → List ℕ
+redeclared_object global declarator before =
+    at_if (redeclares_object (declared_as before.names declarator.name.bytes) global (is_some
+    declarator.initializer)) declarator.name.place
+
+-- the object that a declarator declares in file scope, of this type and const or not
+abbrev pub global_of : Text → Before → Kind → Bool → Declarator → Object
+global_of text before kind is_const declarator =
+    object_of text before.names before.objects kind is_const declarator
+
+abbrev pub global_behind : Text → Kind → Bool → Declarator → Before → Before
+global_behind text kind is_const declarator before =
+    with_global (global_of text before kind is_const declarator) declarator before
+
+-- the faults of the type and the length of an object
+abbrev pub object_faults : Text → List Entry → Kind → Declarator → List TextFault
+object_faults text names kind declarator =
+    broken rule.N5 (void_object kind declarator)
+    ++ broken rule.N12 (length_faults text names declarator)
+    ++ uses_faults (length_uses text names declarator)
 
 -- the faults of an item of a file-scope initializer, which is to be constant (N12, C11 6.7.9p4)
 abbrev pub start_faults : Text → List Entry → Expression → List TextFault
@@ -174,26 +186,25 @@ start_faults text names expression =
     uses_faults (used Valued (reading text names expression))
     ++ broken rule.N12 (inconstant text names expression)
 
-abbrev pub global_faults : Text → Before → Specifiers → Declarator → List TextFault
-global_faults text before specifiers declarator =
-    broken rule.N2 (redeclared_object text before specifiers declarator)
-    ++ broken rule.N5 (void_object (kind_of specifiers) declarator)
-    ++ broken rule.N12 (length_faults text before.names declarator)
-    ++ uses_faults (length_uses text before.names declarator)
-    ++ flat_map (start_faults text (global_behind text specifiers declarator before).names)
+abbrev pub global_faults : Text → Before → Kind → Bool → Declarator → List TextFault
+global_faults text before kind is_const declarator =
+    broken rule.N2 (redeclared_object (global_of text before kind is_const declarator) declarator
+    before)
+    ++ object_faults text before.names kind declarator
+    ++ flat_map (start_faults text (global_behind text kind is_const declarator before).names)
     (items_of declarator.initializer)
 
 -- declarators of file scope in order
-abbrev pub globals_behind : Text → Specifiers → List Declarator → Before → Before
-globals_behind text specifiers [] before = before
-globals_behind text specifiers (declarator ∷ more) before =
-    globals_behind text specifiers more (global_behind text specifiers declarator before)
+abbrev pub globals_behind : Text → Kind → Bool → List Declarator → Before → Before
+globals_behind text kind is_const [] before = before
+globals_behind text kind is_const (declarator ∷ more) before =
+    globals_behind text kind is_const more (global_behind text kind is_const declarator before)
 
-abbrev pub globals_faults : Text → Specifiers → List Declarator → Before → List TextFault
-globals_faults text specifiers [] before = []
-globals_faults text specifiers (declarator ∷ more) before =
-    global_faults text before specifiers declarator
-    ++ globals_faults text specifiers more (global_behind text specifiers declarator before)
+abbrev pub globals_faults : Text → Kind → Bool → List Declarator → Before → List TextFault
+globals_faults text kind is_const [] before = []
+globals_faults text kind is_const (declarator ∷ more) before =
+    global_faults text before kind is_const declarator
+    ++ globals_faults text kind is_const more (global_behind text kind is_const declarator before)
 
 abbrev pub same_kind : Kind → Kind → Bool
 same_kind Void Void = true
@@ -353,8 +364,8 @@ item_behind text (item.Typedef specifiers names place) before =
     typedefs_behind (object_type (kind_of specifiers)) names
     (enumeration_behind text specifiers before)
 item_behind text (item.Objects declaration) before =
-    globals_behind text declaration.specifiers declaration.declarators
-    (enumeration_behind text declaration.specifiers before)
+    globals_behind text (kind_of declaration.specifiers) (has_const declaration.specifiers)
+    declaration.declarators (enumeration_behind text declaration.specifiers before)
 item_behind text (item.Prototype specifiers declarator) before =
     function_behind false specifiers declarator before
 item_behind text (item.Function specifiers declarator made) before =
@@ -368,8 +379,8 @@ item_faults text (item.Typedef specifiers names place) before =
     (enumeration_behind text specifiers before)
 item_faults text (item.Objects declaration) before =
     enumeration_faults text declaration.specifiers before
-    ++ globals_faults text declaration.specifiers declaration.declarators
-    (enumeration_behind text declaration.specifiers before)
+    ++ globals_faults text (kind_of declaration.specifiers) (has_const declaration.specifiers)
+    declaration.declarators (enumeration_behind text declaration.specifiers before)
 item_faults text (item.Prototype specifiers declarator) before =
     head_faults text before false specifiers declarator
 item_faults text (item.Function specifiers declarator made) before =

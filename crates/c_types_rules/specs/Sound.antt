@@ -5,19 +5,21 @@ use Rattle.std.specs.Prelude.{if◌then◌else◌, List, [], ◌∷◌, ◌++◌
 use Rattle.std.specs.Prelude.{find, codes, Option, None, Some, unwrap_or, option_map}
 use Rattle.std.specs.List.{flat_map, list_any}
 use Rattle.std.specs.Str.{bytes_eq}
+use Rattle.cpa_ints.specs.declared.integers.IntType.{IntType}
 use Rattle.cpa_ints.specs.declared.integers.IntType.TheVariants as ty
 use Rattle.cpa_ints.specs.Wrapping.{wrapped}
 use Rattle.c_lexer.specs.Rules.{rule_number}
 use Rattle.c_lexer.specs.declared.fault.Rule.TheVariants as rule
 use Rattle.c_lexer.specs.declared.fault.TextFault.{TextFault}
+use Rattle.c_grammar_tree.specs.declared.expression.Expression.{Expression}
 use Rattle.c_grammar_tree.specs.declared.declaration.Declarator.{Declarator}
-use Rattle.c_grammar_tree.specs.declared.declaration.Specifiers.{Specifiers}
 use Rattle.c_grammar_tree.specs.declared.item.Parameters.{Parameters}
 use Rattle.c_grammar_tree.specs.declared.item.Parameters.TheVariants as parameters
 use Rattle.c_grammar_tree.specs.declared.item.Body.TheVariants as body
 use Rattle.c_grammar_tree.specs.declared.item.Item.{Item}
 use Rattle.c_grammar_tree.specs.declared.item.Item.TheVariants as item
 use Rattle.c_grammar_tree.specs.declared.item.Unit.{Unit as UnitTree}
+use Rattle.c_types_rules.specs.declared.meaning.Kind.{Kind}
 use Rattle.c_types_rules.specs.declared.meaning.Kind.TheVariants.{Value}
 use Rattle.c_types_rules.specs.declared.meaning.Object.{Object}
 use Rattle.c_types_rules.specs.declared.meaning.Declared.{Declared}
@@ -26,8 +28,9 @@ use Rattle.c_types_rules.specs.declared.meaning.Entry.{Entry}
 use Rattle.c_types_rules.specs.declared.typed.TypedFunction.{TypedFunction}
 use Rattle.c_types_rules.specs.declared.typed.Global.{Global}
 use Rattle.c_types_rules.specs.Names.{Text, declared_as}
-use Rattle.c_types_rules.specs.Declarations.{kind_of, items_of, constant_number}
-use Rattle.c_types_rules.specs.Items.{Call, Before, text_of, same_kind, global_of, global_behind}
+use Rattle.c_types_rules.specs.Types.{object_type}
+use Rattle.c_types_rules.specs.Declarations.{kind_of, has_const, items_of, constant_number}
+use Rattle.c_types_rules.specs.Items.{Call, Before, text_of, same_kind, global_behind}
 use Rattle.c_types_rules.specs.Items.{enumeration_behind, item_behind, items_faults, items_calls}
 use Rattle.c_types_rules.specs.Items.{nothing_before}
 use Rattle.c_types_rules.specs.Recursion.{Among, LeadsBack}
@@ -55,28 +58,33 @@ pub record Start : Type 0 where
   pub name : List ℕ
   pub values : List ℤ
 
-abbrev pub start_of : Text → Before → Specifiers → Declarator → List Start
-start_of text before specifiers declarator = elim declarator.initializer [
+-- these values, of the declared object if it is initialized
+abbrev pub start_with : Declarator → List ℤ → List Start
+start_with declarator values = elim declarator.initializer [
   | None ↦ []
-  | Some given ↦ record {
-    name = declarator.name.bytes;
-    values = map (λ item. wrapped (global_of text before specifiers declarator).ty
-        (unwrap_or (constant_number text (global_behind text specifiers declarator before).names
-        item) (pos 0)))
-        (items_of declarator.initializer);
-  } ∷ []
+  | Some given ↦ record { name = declarator.name.bytes; values = values } ∷ []
 ]
 
-abbrev pub starts_in : Text → Specifiers → List Declarator → Before → List Start
-starts_in text specifiers [] before = []
-starts_in text specifiers (declarator ∷ more) before =
-    start_of text before specifiers declarator
-    ++ starts_in text specifiers more (global_behind text specifiers declarator before)
+-- the value that a cell of this type starts at
+abbrev pub start_value : Text → List Entry → IntType → Expression → ℤ
+start_value text names t item = wrapped t (unwrap_or (constant_number text names item) (pos 0))
+
+abbrev pub start_of : Text → Before → Kind → Bool → Declarator → List Start
+start_of text before kind is_const declarator =
+    start_with declarator (map (start_value text
+    (global_behind text kind is_const declarator before).names (object_type kind))
+    (items_of declarator.initializer))
+
+abbrev pub starts_in : Text → Kind → Bool → List Declarator → Before → List Start
+starts_in text kind is_const [] before = []
+starts_in text kind is_const (declarator ∷ more) before =
+    start_of text before kind is_const declarator
+    ++ starts_in text kind is_const more (global_behind text kind is_const declarator before)
 
 abbrev pub item_starts : Text → Item → Before → List Start
 item_starts text (item.Objects declaration) before =
-    starts_in text declaration.specifiers declaration.declarators
-    (enumeration_behind text declaration.specifiers before)
+    starts_in text (kind_of declaration.specifiers) (has_const declaration.specifiers)
+    declaration.declarators (enumeration_behind text declaration.specifiers before)
 item_starts text _ before = []
 
 abbrev pub starts_of : Text → List Item → Before → List Start

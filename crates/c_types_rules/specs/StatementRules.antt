@@ -15,7 +15,7 @@ use Rattle.c_types_rules.specs.declared.meaning.Role.TheVariants.{Valued}
 use Rattle.c_types_rules.specs.Names.{Text, tag_key, is_tag}
 use Rattle.c_types_rules.specs.Expressions.{reading, Use, used}
 use Rattle.c_types_rules.specs.ExpressionRules.{broken, at_if, uses_faults}
-use Rattle.c_types_rules.specs.Declarations.{kind_of, is_void_kind, length_faults, length_uses}
+use Rattle.c_types_rules.specs.Declarations.{is_void_kind, length_faults, length_uses}
 use Rattle.c_types_rules.specs.Declarations.{void_object, is_declared_among, inconstant}
 use Rattle.c_types_rules.specs.Declarations.{enumerator_faults, enumerator_uses}
 use Rattle.c_types_rules.specs.Statements.{Around, Act, evaluates, declares, receives, jumps, marks}
@@ -29,7 +29,7 @@ is_declared_here around name = is_declared_among (drop around.outer around.names
 -- N2: a name, or a tag with a list, is declared twice in one scope, of a function's parameters and
 -- body or of a block (6.7p3 and 6.7.2.3p1): the later name
 abbrev pub declared_twice : Around → Act → List ℕ
-declared_twice around (declares specifiers declarator) =
+declared_twice around (declares kind declarator) =
     at_if (is_declared_here around declarator.name.bytes) declarator.name.place
 declared_twice around (receives parameter) = elim parameter.name [
   | None ↦ []
@@ -47,7 +47,7 @@ undeclared_tag around _ = []
 
 -- N5: an object is declared with the type void: its name
 abbrev pub declared_void : Act → List ℕ
-declared_void (declares specifiers declarator) = void_object (kind_of specifiers) declarator
+declared_void (declares kind declarator) = void_object kind declarator
 declared_void _ = []
 
 -- N6: a goto names no label of its function (6.8.6.1p1): the label's name
@@ -107,7 +107,7 @@ entering_case around _ = []
 -- N12: of an array's length and the items of its list; of an enumerator; of the value of a case,
 -- which is to be constant (6.8.4.2p3)
 abbrev pub misdeclared_length : Text → Around → Act → List ℕ
-misdeclared_length text around (declares specifiers declarator) =
+misdeclared_length text around (declares kind declarator) =
     length_faults text around.names declarator
 misdeclared_length text around (enumerates next one) =
     enumerator_faults text around.names next one
@@ -128,7 +128,7 @@ misreturned around _ = []
 -- how an act uses names and parts of expressions
 abbrev pub act_uses : Text → Around → Act → List Use
 act_uses text around (evaluates role expression) = used role (reading text around.names expression)
-act_uses text around (declares specifiers declarator) = length_uses text around.names declarator
+act_uses text around (declares kind declarator) = length_uses text around.names declarator
 act_uses text around (enumerates next one) = enumerator_uses text around.names one
 act_uses text around (selects (Some value) place) = used Valued (reading text around.names value)
 act_uses text around _ = []
@@ -158,7 +158,7 @@ jump_at name around =
 abbrev pub label_at : Site → List Jump
 label_at site = elim site.act [
   | evaluates role expression ↦ []
-  | declares specifiers declarator ↦ []
+  | declares kind declarator ↦ []
   | receives parameter ↦ []
   | jumps name ↦ []
   | marks name ↦ jump_at name site.around ∷ []
@@ -174,7 +174,7 @@ label_at site = elim site.act [
 abbrev pub goto_at : Site → List Jump
 goto_at site = elim site.act [
   | evaluates role expression ↦ []
-  | declares specifiers declarator ↦ []
+  | declares kind declarator ↦ []
   | receives parameter ↦ []
   | jumps name ↦ jump_at name site.around ∷ []
   | marks name ↦ []

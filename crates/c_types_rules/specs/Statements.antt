@@ -12,7 +12,6 @@ use Rattle.c_grammar_tree.specs.declared.expression.Expression.{Expression}
 use Rattle.c_grammar_tree.specs.declared.declaration.Enumerator.{Enumerator}
 use Rattle.c_grammar_tree.specs.declared.declaration.Enumeration.{Enumeration}
 use Rattle.c_grammar_tree.specs.declared.declaration.Enumeration.TheVariants as enumeration
-use Rattle.c_grammar_tree.specs.declared.declaration.Specifiers.{Specifiers}
 use Rattle.c_grammar_tree.specs.declared.declaration.Declarator.{Declarator}
 use Rattle.c_grammar_tree.specs.declared.declaration.Declaration.{Declaration}
 use Rattle.c_grammar_tree.specs.declared.item.Parameter.{Parameter}
@@ -29,7 +28,8 @@ use Rattle.c_types_rules.specs.declared.meaning.Role.TheVariants.{Valued, Evalua
 use Rattle.c_types_rules.specs.Names.{Text}
 use Rattle.c_types_rules.specs.Types.{value_kind}
 use Rattle.c_types_rules.specs.Expressions.{reading}
-use Rattle.c_types_rules.specs.Declarations.{items_of, object_of, local_entry, parameter_object}
+use Rattle.c_types_rules.specs.Declarations.{kind_of, has_const, items_of, names_behind}
+use Rattle.c_types_rules.specs.Declarations.{local_entry, parameter_object}
 use Rattle.c_types_rules.specs.Declarations.{constant_number, enumerator_number}
 use Rattle.c_types_rules.specs.Declarations.{enumerator_entry, tag_entry}
 
@@ -65,8 +65,8 @@ pub record Around : Type 0 where
 pub data Act : Type 0 where
   -- an expression is evaluated
   evaluates : Role → Expression → Act
-  -- an object is declared
-  declares : Specifiers → Declarator → Act
+  -- an object of this type is declared
+  declares : Kind → Declarator → Act
   -- a parameter is declared
   receives : Parameter → Act
   -- a goto to the label of this name
@@ -255,31 +255,30 @@ evaluating role None = still
 evaluating role (Some expression) = doing (evaluates role expression)
 
 -- behind its declarator an object's name is declared, for its initializer too (C11 6.2.1p7)
-abbrev pub declaring_behind : Text → Specifiers → Declarator → Around → Around
-declaring_behind text specifiers declarator around = record around {
-  names = around.names
-      ++ local_entry declarator.name.bytes (object_of text around.names around.objects specifiers
-      declarator) ∷ [];
+abbrev pub declaring_behind : Text → Kind → Bool → Declarator → Around → Around
+declaring_behind text kind is_const declarator around = record around {
+  names = names_behind text around.names around.objects kind is_const declarator;
   objects = around.objects + 1;
 }
 
 -- a declared object and its initializer
-abbrev pub declarator_walk : Text → Specifiers → Declarator → Walk
-declarator_walk text specifiers declarator = record {
-  sites = λ around. record { around = around; act = declares specifiers declarator }
+abbrev pub declarator_walk : Text → Kind → Bool → Declarator → Walk
+declarator_walk text kind is_const declarator = record {
+  sites = λ around. record { around = around; act = declares kind declarator }
       ∷ map (λ item. record {
-        around = declaring_behind text specifiers declarator around;
+        around = declaring_behind text kind is_const declarator around;
         act =
             evaluates Valued item;
       })
       (items_of declarator.initializer);
-  behind = declaring_behind text specifiers declarator;
+  behind = declaring_behind text kind is_const declarator;
 }
 
 abbrev pub declaration_walk : Text → Declaration → Walk
 declaration_walk text declaration =
     followed (enumeration_walk text declaration.specifiers.enumeration)
-    (in_order (map (declarator_walk text declaration.specifiers) declaration.declarators))
+    (in_order (map (declarator_walk text (kind_of declaration.specifiers)
+    (has_const declaration.specifiers)) declaration.declarators))
 
 -- behind a parameter its name is declared, if it has one
 abbrev pub receiving_behind : Parameter → Around → Around

@@ -1,12 +1,13 @@
 -- The typed tree of statements, of functions and of a text (this project's own, over C11 6.8 and
 -- 6.9).
-use Rattle.std.specs.Prelude.{ℕ, ◌+◌, true, List, [], ◌∷◌, map}
+use Rattle.std.specs.Prelude.{ℕ, ◌+◌, Bool, true, List, [], ◌∷◌, map}
 use Rattle.std.specs.Prelude.{Option, None, Some, unwrap_or, option_map}
 use Rattle.std.specs.Str.{bytes_eq}
 use Rattle.c_grammar_tree.specs.declared.name.Name.{Name}
 use Rattle.c_grammar_tree.specs.declared.expression.Expression.{Expression}
 use Rattle.c_grammar_tree.specs.declared.declaration.Specifiers.{Specifiers}
 use Rattle.c_grammar_tree.specs.declared.declaration.Declarator.{Declarator}
+use Rattle.c_grammar_tree.specs.declared.declaration.Declaration.{Declaration}
 use Rattle.c_grammar_tree.specs.declared.item.Parameter.{Parameter}
 use Rattle.c_grammar_tree.specs.declared.statement.ForStart.{ForStart}
 use Rattle.c_grammar_tree.specs.declared.statement.ForStart.TheVariants as start
@@ -16,6 +17,7 @@ use Rattle.c_grammar_tree.specs.declared.statement.BlockItem.TheFolds.{fold-Bloc
 use Rattle.c_grammar_tree.specs.declared.statement.BlockItem.TheFolds.{map-BlockItem}
 use Rattle.c_grammar_tree.specs.declared.statement.BlockItem.TheFolds.{map-Statement}
 use Rattle.c_grammar_tree.specs.declared.item.FunctionDeclarator.{FunctionDeclarator}
+use Rattle.c_types_rules.specs.declared.meaning.Kind.{Kind}
 use Rattle.c_types_rules.specs.declared.meaning.Object.{Object}
 use Rattle.c_types_rules.specs.declared.typed.TypedExpression.{TypedExpression}
 use Rattle.c_types_rules.specs.declared.typed.TypedDeclarator.{TypedDeclarator}
@@ -29,7 +31,7 @@ use Rattle.c_types_rules.specs.declared.typed.TypedItem.TheVariants as typed_ite
 use Rattle.c_types_rules.specs.declared.typed.TypedFunction.{TypedFunction}
 use Rattle.c_types_rules.specs.Names.{Text, place_of}
 use Rattle.c_types_rules.specs.Expressions.{reading}
-use Rattle.c_types_rules.specs.Declarations.{kind_of, object_of, parameter_object, typed_items}
+use Rattle.c_types_rules.specs.Declarations.{kind_of, has_const, parameter_object, typed_local}
 use Rattle.c_types_rules.specs.Statements.{Around, Walk, inner, loop, in_order, declaring_behind}
 use Rattle.c_types_rules.specs.Statements.{receiving, start_walk, statement_walk}
 use Rattle.c_types_rules.specs.Statements.{item_walk, labeled, selected, switched, end_behind}
@@ -53,24 +55,26 @@ typed_in_order [] around = []
 typed_in_order (part ∷ parts) around =
     part.typed around ∷ typed_in_order parts (part.walk.behind around)
 
-abbrev pub typed_declarator : Text → Specifiers → Declarator → Around → TypedDeclarator
-typed_declarator text specifiers declarator around = record {
-  object = object_of text around.names around.objects specifiers declarator;
-  initializer = option_map (typed_items text (declaring_behind text specifiers declarator
-      around).names) declarator.initializer;
-  place = declarator.name.place;
-}
+abbrev pub typed_declarator : Text → Kind → Bool → Declarator → Around → TypedDeclarator
+typed_declarator text kind is_const declarator around =
+    typed_local text around.names around.objects kind is_const declarator
 
-abbrev pub typed_declarators : Text → Specifiers → List Declarator → Around → List TypedDeclarator
-typed_declarators text specifiers [] around = []
-typed_declarators text specifiers (declarator ∷ more) around =
-    typed_declarator text specifiers declarator around
-    ∷ typed_declarators text specifiers more (declaring_behind text specifiers declarator around)
+abbrev pub typed_declarators : Text → Kind → Bool → List Declarator → Around → List TypedDeclarator
+typed_declarators text kind is_const [] around = []
+typed_declarators text kind is_const (declarator ∷ more) around =
+    typed_declarator text kind is_const declarator around
+    ∷ typed_declarators text kind is_const more
+    (declaring_behind text kind is_const declarator around)
+
+abbrev pub typed_declaration : Text → Declaration → Around → List TypedDeclarator
+typed_declaration text declaration around =
+    typed_declarators text (kind_of declaration.specifiers) (has_const declaration.specifiers)
+    declaration.declarators
+    ((enumeration_walk text declaration.specifiers.enumeration).behind around)
 
 abbrev pub typed_for_start : Text → ForStart → Around → TypedForStart
 typed_for_start text (start.Declaration declaration) around =
-    typed_start.Declaration (typed_declarators text declaration.specifiers declaration.declarators
-    ((enumeration_walk text declaration.specifiers.enumeration).behind around))
+    typed_start.Declaration (typed_declaration text declaration around)
 typed_for_start text (start.Expression expression) around =
     typed_start.Expression (typed_optional text around expression)
 
@@ -124,8 +128,7 @@ typed_statement text (Statement-F.Labeled label body) around =
 abbrev pub typed_block_item : Text → BlockItem-F (Grown TypedItem) (Grown TypedStatement) → Around
     → TypedItem
 typed_block_item text (BlockItem-F.Declaration declaration) around =
-    typed_item.Declaration (typed_declarators text declaration.specifiers declaration.declarators
-    ((enumeration_walk text declaration.specifiers.enumeration).behind around))
+    typed_item.Declaration (typed_declaration text declaration around)
 typed_block_item text (BlockItem-F.Statement statement) around =
     typed_item.Statement (statement.typed around)
 
