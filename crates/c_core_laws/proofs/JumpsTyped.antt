@@ -16,7 +16,6 @@ use Rattle.c_grammar_tree.specs.declared.declaration.Enumerator.{Enumerator}
 use Rattle.c_grammar_tree.specs.declared.declaration.Enumeration.{Enumeration}
 use Rattle.c_grammar_tree.specs.declared.declaration.Enumeration.TheVariants as enumeration
 use Rattle.c_grammar_tree.specs.declared.declaration.Declaration.{Declaration}
-use Rattle.c_grammar_tree.specs.declared.declaration.Specifiers.{Specifiers}
 use Rattle.c_grammar_tree.specs.declared.declaration.Declarator.{Declarator}
 use Rattle.c_grammar_tree.specs.declared.statement.ForStart.{ForStart}
 use Rattle.c_grammar_tree.specs.declared.statement.ForStart.TheVariants as start
@@ -29,6 +28,7 @@ use Rattle.c_grammar_tree.specs.declared.statement.BlockItem.TheFolds.{ind-State
 use Rattle.c_grammar_tree.specs.declared.statement.BlockItem.TheFolds.{fold-roll-BlockItem}
 use Rattle.c_grammar_tree.specs.declared.statement.BlockItem.TheFolds.{fold-roll-Statement}
 use Rattle.c_grammar_tree.specs.declared.statement.BlockItem.TheFolds.{map-BlockItem, map-Statement}
+use Rattle.c_types_rules.specs.declared.meaning.Kind.{Kind}
 use Rattle.c_types_rules.specs.declared.meaning.Role.{Role}
 use Rattle.c_types_rules.specs.declared.meaning.Role.TheVariants.{Valued, Evaluated}
 use Rattle.c_types_rules.specs.declared.typed.Choice.{Choice}
@@ -49,13 +49,14 @@ use Rattle.c_types_rules.specs.Statements.{labels_item, switched, switching, end
 use Rattle.c_types_rules.specs.Statements.{enumerating, enumeration_walk, tagging}
 use Rattle.c_types_rules.specs.Statements.{labels_step, evaluates, jumps, breaks, continues, marks}
 use Rattle.c_types_rules.specs.Statements.{returns, refers, selects, scoped, selected_value}
+use Rattle.c_types_rules.specs.Declarations.{kind_of, has_const}
 use Rattle.c_types_rules.specs.Declarations.{enumerator_entry, enumerator_number}
 use Rattle.c_types_rules.specs.StatementRules.{site_faults}
 use Rattle.c_types_rules.specs.ExpressionRules.{broken, at_if}
 use Rattle.c_types_rules.specs.TypedStatements.{Grown, grown, grown_item, grown_statement}
 use Rattle.c_types_rules.specs.TypedStatements.{typed_in_order, label_number, walk_in}
 use Rattle.c_types_rules.specs.TypedStatements.{typed_expression, typed_optional, typed_for_start}
-use Rattle.c_types_rules.specs.TypedStatements.{typed_declarators, typed_break}
+use Rattle.c_types_rules.specs.TypedStatements.{typed_declaration, typed_break}
 use Rattle.c_core_laws.specs.Jumps.{Jumps, no_jumps, then_jumps, all_jumps, labelled, in_loop, goto}
 use Rattle.c_core_laws.specs.Jumps.{item_jumps}
 use Rattle.c_core_laws.specs.Jumps as jumping
@@ -558,23 +559,23 @@ module _ (text : Text) where
   keeps_evaluating role (Some e) =
       record { looping = λ around. refl; names = λ around. refl; breaks = λ around. refl }
 
-  keeps_declarators : (specifiers : Specifiers) (declarators : List Declarator) →
-      Keeps (in_order (map (declarator_walk text specifiers) declarators))
-  keeps_declarators specifiers [] = keeps_still
-  keeps_declarators specifiers (declarator ∷ more) =
-      keeps_then (declarator_walk text specifiers declarator)
-      (in_order (map (declarator_walk text specifiers) more))
+  keeps_declarators : (kind : Kind) (is_const : Bool) (declarators : List Declarator) →
+      Keeps (in_order (map (declarator_walk text kind is_const) declarators))
+  keeps_declarators kind is_const [] = keeps_still
+  keeps_declarators kind is_const (declarator ∷ more) =
+      keeps_then (declarator_walk text kind is_const declarator)
+      (in_order (map (declarator_walk text kind is_const) more))
       (record { looping = λ around. refl; names = λ around. refl; breaks = λ around. refl })
-      (keeps_declarators specifiers more)
+      (keeps_declarators kind is_const more)
 
-  quiet_declarators : (specifiers : Specifiers) (declarators : List Declarator) →
-      Quiet (in_order (map (declarator_walk text specifiers) declarators))
-  quiet_declarators specifiers [] = quiet_still
-  quiet_declarators specifiers (declarator ∷ more) =
-      quiet_then (declarator_walk text specifiers declarator)
-      (in_order (map (declarator_walk text specifiers) more))
+  quiet_declarators : (kind : Kind) (is_const : Bool) (declarators : List Declarator) →
+      Quiet (in_order (map (declarator_walk text kind is_const) declarators))
+  quiet_declarators kind is_const [] = quiet_still
+  quiet_declarators kind is_const (declarator ∷ more) =
+      quiet_then (declarator_walk text kind is_const declarator)
+      (in_order (map (declarator_walk text kind is_const) more))
       (record { passed = λ around. refl; choices = λ around. refl; otherwise = λ around. refl })
-      (quiet_declarators specifiers more)
+      (quiet_declarators kind is_const more)
 
   -- behind an enumerator
   abbrev counted : ℤ → Enumerator → Around → Around
@@ -631,16 +632,20 @@ module _ (text : Text) where
   keeps_declaration : (declaration : Declaration) → Keeps (declaration_walk text declaration)
   keeps_declaration declaration =
       keeps_then (enumeration_walk text declaration.specifiers.enumeration)
-      (in_order (map (declarator_walk text declaration.specifiers) declaration.declarators))
+      (in_order (map (declarator_walk text (kind_of declaration.specifiers)
+      (has_const declaration.specifiers)) declaration.declarators))
       (keeps_enumeration declaration.specifiers.enumeration)
-      (keeps_declarators declaration.specifiers declaration.declarators)
+      (keeps_declarators (kind_of declaration.specifiers) (has_const declaration.specifiers)
+      declaration.declarators)
 
   quiet_declaration : (declaration : Declaration) → Quiet (declaration_walk text declaration)
   quiet_declaration declaration =
       quiet_then (enumeration_walk text declaration.specifiers.enumeration)
-      (in_order (map (declarator_walk text declaration.specifiers) declaration.declarators))
+      (in_order (map (declarator_walk text (kind_of declaration.specifiers)
+      (has_const declaration.specifiers)) declaration.declarators))
       (quiet_enumeration declaration.specifiers.enumeration)
-      (quiet_declarators declaration.specifiers declaration.declarators)
+      (quiet_declarators (kind_of declaration.specifiers) (has_const declaration.specifiers)
+      declaration.declarators)
 
   pub keeps_start : (first : ForStart) → Keeps (start_walk text first)
   keeps_start (start.Declaration declaration) = keeps_declaration declaration
@@ -1232,8 +1237,7 @@ module _ (text : Text) where
     counts = counts_quiet (declaration_walk text declaration) (quiet_declaration declaration);
     at = λ around stands.
         let sites = (declaration_walk text declaration).sites around in
-        let typed = typed_declarators text declaration.specifiers declaration.declarators
-        ((enumeration_walk text declaration.specifiers.enumeration).behind around) in
+        let typed = typed_declaration text declaration around in
         fits_is sites around.in_loop (length around.labels) 0
         (item_jumps (typed_item.Declaration typed)) no_jumps (of_declaration typed)
         (fits_none sites around.in_loop (length around.labels));

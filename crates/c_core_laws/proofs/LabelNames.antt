@@ -34,11 +34,13 @@ use Rattle.c_grammar_tree.specs.declared.item.Body.TheVariants as made
 use Rattle.c_grammar_tree.specs.declared.item.Item.{Item}
 use Rattle.c_grammar_tree.specs.declared.item.Item.TheVariants as item
 use Rattle.c_grammar_tree.specs.declared.item.Unit.{Unit as UnitTree}
+use Rattle.c_types_rules.specs.declared.meaning.Kind.{Kind}
 use Rattle.c_types_rules.specs.declared.meaning.Role.{Role}
 use Rattle.c_types_rules.specs.declared.meaning.Role.TheVariants.{Valued, Evaluated}
 use Rattle.c_types_rules.specs.declared.typed.TypedItem.{TypedItem}
 use Rattle.c_types_rules.specs.declared.typed.TypedStatement.{TypedStatement}
 use Rattle.c_types_rules.specs.Names.{Text, place_of}
+use Rattle.c_types_rules.specs.Declarations.{kind_of, has_const}
 use Rattle.c_types_rules.specs.Declarations.{items_of, enumerator_number, enumerator_entry, tag_entry}
 use Rattle.c_types_rules.specs.Statements.{Around, Act, Site, Walk, walk_of, in_order, receiving}
 use Rattle.c_types_rules.specs.Statements.{evaluates, declares, receives, jumps, marks, breaks}
@@ -126,7 +128,7 @@ Moves first names other more =
 at_moved : (first other : Around) (names more : List Name) → Moves first names other more →
     (around : Around) (act : Act) → AtPlace first names around act → AtPlace other more around act
 at_moved first other names more f around (evaluates role e) h = tt
-at_moved first other names more f around (declares specifiers declarator) h = tt
+at_moved first other names more f around (declares kind declarator) h = tt
 at_moved first other names more f around (receives parameter) h = tt
 at_moved first other names more f around (jumps name) h = tt
 at_moved first other names more f around (marks name) h = f around name h
@@ -172,7 +174,7 @@ nothing_at : (first : Around) (around : Around) (act : Act) (rest : List Name) �
     names_at (record { around = around; act = act }) ++ rest ≡ [] →
     AtPlace first [] around act × (rest ≡ [])
 nothing_at first around (evaluates role e) rest h = (tt, h)
-nothing_at first around (declares specifiers declarator) rest h = (tt, h)
+nothing_at first around (declares kind declarator) rest h = (tt, h)
 nothing_at first around (receives parameter) rest h = (tt, h)
 nothing_at first around (jumps name) rest h = (tt, h)
 nothing_at first around (marks name) rest h = absurd (cc)
@@ -214,16 +216,16 @@ items_none : (around : Around) (items : List Expression) →
 items_none around [] = refl
 items_none around (one ∷ items) = items_none around items
 
-declarators_none : (text : Text) (specifiers : Specifiers) (declarators : List Declarator)
+declarators_none : (text : Text) (kind : Kind) (is_const : Bool) (declarators : List Declarator)
     (around : Around) →
-    names_in ((in_order (map (declarator_walk text specifiers) declarators)).sites around) ≡ []
-declarators_none text specifiers [] around = refl
-declarators_none text specifiers (declarator ∷ more) around =
-    let first = declarator_walk text specifiers declarator in
-    let rest = in_order (map (declarator_walk text specifiers) more) in
+    names_in ((in_order (map (declarator_walk text kind is_const) declarators)).sites around) ≡ []
+declarators_none text kind is_const [] around = refl
+declarators_none text kind is_const (declarator ∷ more) around =
+    let first = declarator_walk text kind is_const declarator in
+    let rest = in_order (map (declarator_walk text kind is_const) more) in
     both_none (first.sites around) (rest.sites (first.behind around))
     (items_none (first.behind around) (items_of declarator.initializer))
-    (declarators_none text specifiers more (first.behind around))
+    (declarators_none text kind is_const more (first.behind around))
 
 enumerators_none : (text : Text) (next : ℤ) (found : List Enumerator) (around : Around) →
     names_in ((enumerating text next found).sites around) ≡ []
@@ -245,11 +247,12 @@ declaration_none : (text : Text) (declaration : Declaration) (around : Around) �
     names_in ((declaration_walk text declaration).sites around) ≡ []
 declaration_none text declaration around =
     let first = enumeration_walk text declaration.specifiers.enumeration in
-    let rest = in_order (map (declarator_walk text declaration.specifiers)
-    declaration.declarators) in
+    let kind = kind_of declaration.specifiers in
+    let is_const = has_const declaration.specifiers in
+    let rest = in_order (map (declarator_walk text kind is_const) declaration.declarators) in
     both_none (first.sites around) (rest.sites (first.behind around))
     (enumeration_none text declaration.specifiers.enumeration around)
-    (declarators_none text declaration.specifiers declaration.declarators (first.behind around))
+    (declarators_none text kind is_const declaration.declarators (first.behind around))
 
 start_none : (text : Text) (first : ForStart) (around : Around) →
     names_in ((start_walk text first).sites around) ≡ []
@@ -750,7 +753,7 @@ named_by : (first : Around) (names : List Name) (xs : List Name) →
     first.labels ≡ bytes_of names → first.passed ≡ 0 → Woven xs names → Distinct xs →
     (around : Around) (act : Act) → AtPlace first names around act → IsNamed around act
 named_by first names xs labels passed w d around (evaluates role e) h = tt
-named_by first names xs labels passed w d around (declares specifiers declarator) h = tt
+named_by first names xs labels passed w d around (declares kind declarator) h = tt
 named_by first names xs labels passed w d around (receives parameter) h = tt
 named_by first names xs labels passed w d around (jumps name) h = tt
 named_by first names xs labels passed w d around (marks name) h =

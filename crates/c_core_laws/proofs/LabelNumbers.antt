@@ -28,10 +28,10 @@ use Rattle.c_types_rules.specs.declared.typed.TypedStatement.TheVariants as type
 use Rattle.c_types_rules.specs.Names.{Text}
 use Rattle.c_types_rules.specs.Statements.{Around, in_order, receiving, labels_of, unnamed}
 use Rattle.c_types_rules.specs.Statements.{inner, loop, start_walk, labeled, selected, switched}
-use Rattle.c_types_rules.specs.Statements.{end_behind, enumeration_walk, labels_item, labels_step}
+use Rattle.c_types_rules.specs.Statements.{end_behind, labels_item, labels_step}
 use Rattle.c_types_rules.specs.TypedStatements.{Grown, grown, grown_item, grown_statement}
 use Rattle.c_types_rules.specs.TypedStatements.{label_number, typed_expression, typed_optional}
-use Rattle.c_types_rules.specs.TypedStatements.{typed_for_start, typed_declarators, typed_function}
+use Rattle.c_types_rules.specs.TypedStatements.{typed_for_start, typed_declaration, typed_function}
 use Rattle.c_types_rules.specs.TypedStatements.{typed_break}
 use Rattle.c_types_rules.specs.Items.{Before, text_of, listed, around_body, function_behind}
 use Rattle.c_types_rules.specs.Items.{item_behind, nothing_before}
@@ -345,8 +345,7 @@ module _ (text : Text) where
       (labels_in text) (bare_item y)))
   item_layer (BlockItem-F.Declaration declaration) = record {
     numbered = λ around.
-        of_declaration (typed_declarators text declaration.specifiers declaration.declarators
-        ((enumeration_walk text declaration.specifiers.enumeration).behind around));
+        of_declaration (typed_declaration text declaration around);
   }
   item_layer (BlockItem-F.Statement s) = record {
     numbered = λ around. of_statement ((grown_of text s.0).typed around) ∙ s.1.numbered around;

@@ -26,6 +26,7 @@ use Rattle.c_grammar_tree.specs.declared.item.Body.TheVariants as body
 use Rattle.c_grammar_tree.specs.declared.item.Item.{Item}
 use Rattle.c_grammar_tree.specs.declared.item.Item.TheVariants as item
 use Rattle.c_grammar_tree.specs.declared.item.Unit.{Unit as UnitTree}
+use Rattle.c_types_rules.specs.declared.meaning.Kind.{Kind}
 use Rattle.c_types_rules.specs.declared.meaning.Object.{Object}
 use Rattle.c_types_rules.specs.declared.meaning.Declared.{Declared}
 use Rattle.c_types_rules.specs.declared.meaning.Declared.TheVariants as declared
@@ -33,16 +34,16 @@ use Rattle.c_types_rules.specs.declared.meaning.Entry.{Entry}
 use Rattle.c_types_rules.specs.declared.typed.Global.{Global}
 use Rattle.c_types_rules.specs.Names.{Text, declared_as}
 use Rattle.c_types_rules.specs.Types.{object_type}
-use Rattle.c_types_rules.specs.ExpressionRules.{broken, uses_faults}
-use Rattle.c_types_rules.specs.Declarations.{kind_of, items_of, constant_number, length_faults}
-use Rattle.c_types_rules.specs.Declarations.{length_uses, void_object, void_parameter}
+use Rattle.c_types_rules.specs.ExpressionRules.{broken}
+use Rattle.c_types_rules.specs.Declarations.{kind_of, has_const, items_of, constant_number}
+use Rattle.c_types_rules.specs.Declarations.{void_parameter}
 use Rattle.c_types_rules.specs.Declarations.{tag_entry, enumerator_entry, enumerator_number}
 use Rattle.c_types_rules.specs.Statements.{Around, enumerates, tags, enumerating, naming}
 use Rattle.c_types_rules.specs.Statements.{enumeration_walk}
 use Rattle.c_types_rules.specs.StatementRules.{site_faults}
 use Rattle.c_types_rules.specs.Items.{Before, text_of, one_type, merged_object, redeclares_object}
 use Rattle.c_types_rules.specs.Items.{global_of, global_behind, redeclared_object, start_faults}
-use Rattle.c_types_rules.specs.Items.{global_faults, globals_behind, globals_faults}
+use Rattle.c_types_rules.specs.Items.{object_faults, global_faults, globals_behind, globals_faults}
 use Rattle.c_types_rules.specs.Items.{merged_function}
 use Rattle.c_types_rules.specs.Items.{redeclares_function, redeclared_function, function_behind}
 use Rattle.c_types_rules.specs.Items.{head_faults, parameter_types, body_sites, body_faults}
@@ -61,10 +62,8 @@ use Rattle.c_core_laws.specs.lemmas.Entries.{push_named, push_other, same_object
 use Rattle.c_core_laws.specs.lemmas.Enumerations.{fresh_enumerator, fresh_tag}
 use Rattle.c_core_laws.specs.lemmas.MadeValues.{type_same}
 
-first_of_five : (a b c d e : List TextFault) → NoFaults (a ++ b ++ c ++ d ++ e) → NoFaults a
-first_of_five a b c d e none =
-    none_left a b (none_left (a ++ b) c (none_left (a ++ b ++ c) d
-    (none_left (a ++ b ++ c ++ d) e none)))
+first_of_three : (a b c : List TextFault) → NoFaults (a ++ b ++ c) → NoFaults a
+first_of_three a b c none = none_left a b (none_left (a ++ b) c none)
 
 -- the name is declared as an object of this type
 record IsObject (t : IntType) (name : List ℕ) (names : List Entry) : Type 0 where
@@ -136,12 +135,12 @@ again_type old fresh initialized initializes h =
     }
 
 -- a declarator of file scope declares an object of its type
-declares : (text : Text) (before : Before) (specifiers : Specifiers) (declarator : Declarator) →
-    IsObject (global_of text before specifiers declarator).ty declarator.name.bytes
-    (global_behind text specifiers declarator before).names
-declares text before specifiers declarator =
+declares : (text : Text) (before : Before) (kind : Kind) (is_const : Bool) (declarator : Declarator) →
+    IsObject (global_of text before kind is_const declarator).ty declarator.name.bytes
+    (global_behind text kind is_const declarator before).names
+declares text before kind is_const declarator =
     let name = declarator.name.bytes in
-    let fresh = global_of text before specifiers declarator in
+    let fresh = global_of text before kind is_const declarator in
     let made = merged_object (declared_as before.names name) fresh
     (is_some declarator.initializer) in
     let m : MergedType fresh.ty made =
@@ -156,14 +155,14 @@ declares text before specifiers declarator =
 
 -- and leaves an object that is declared already of its type
 
-kept_by : (b : Bool) (text : Text) (before : Before) (specifiers : Specifiers)
+kept_by : (b : Bool) (text : Text) (before : Before) (kind : Kind) (is_const : Bool)
     (declarator : Declarator) (t : IntType) (name : List ℕ) →
     bytes_eq declarator.name.bytes name ≡ b →
-    NoFaults (global_faults text before specifiers declarator) → IsObject t name before.names →
-    IsObject t name (global_behind text specifiers declarator before).names
-kept_by false text before specifiers declarator t name other none h =
+    NoFaults (global_faults text before kind is_const declarator) → IsObject t name before.names →
+    IsObject t name (global_behind text kind is_const declarator before).names
+kept_by false text before kind is_const declarator t name other none h =
     let made = merged_object (declared_as before.names declarator.name.bytes)
-    (global_of text before specifiers declarator) (is_some declarator.initializer) in
+    (global_of text before kind is_const declarator) (is_some declarator.initializer) in
     record {
       object = h.object;
       initialized = h.initialized;
@@ -171,21 +170,19 @@ kept_by false text before specifiers declarator t name other none h =
           other ∙ h.is;
       type = h.type;
     }
-kept_by true text before specifiers declarator t name same none h =
-    let fresh = global_of text before specifiers declarator in
+kept_by true text before kind is_const declarator t name same none h =
+    let fresh = global_of text before kind is_const declarator in
     let own = declarator.name.bytes in
     let starts = is_some declarator.initializer in
     let one : own ≡ name = (bytes_decides own name).0 same in
     let now : declared_as before.names own ≡ Some (declared.Object h.object h.initialized) =
     ap (declared_as before.names) one ∙ h.is in
-    let n2 = broken rule.N2 (redeclared_object text before specifiers declarator) in
+    let n2 = broken rule.N2 (redeclared_object
+    (global_of text before kind is_const declarator) declarator before) in
     let free : redeclares_object (declared_as before.names own) fresh starts ≡ false =
     not_broken rule.N2 (redeclares_object (declared_as before.names own) fresh starts)
-    declarator.name.place (first_of_five n2
-    (broken rule.N5 (void_object (kind_of specifiers) declarator))
-    (broken rule.N12 (length_faults text before.names declarator))
-    (uses_faults (length_uses text before.names declarator))
-    (flat_map (start_faults text (global_behind text specifiers declarator before).names)
+    declarator.name.place (first_of_three n2 (object_faults text before.names kind declarator)
+    (flat_map (start_faults text (global_behind text kind is_const declarator before).names)
     (items_of declarator.initializer)) none) in
     let m : MergedType h.object.ty (merged_object
     (Some (declared.Object h.object h.initialized)) fresh starts) =
@@ -201,26 +198,26 @@ kept_by true text before specifiers declarator t name same none h =
       type = m.type ∙ h.type;
     }
 
-kept : (text : Text) (before : Before) (specifiers : Specifiers) (declarator : Declarator)
-    (t : IntType) (name : List ℕ) → NoFaults (global_faults text before specifiers declarator) →
+kept : (text : Text) (before : Before) (kind : Kind) (is_const : Bool) (declarator : Declarator)
+    (t : IntType) (name : List ℕ) → NoFaults (global_faults text before kind is_const declarator) →
     IsObject t name before.names →
-    IsObject t name (global_behind text specifiers declarator before).names
-kept text before specifiers declarator t name none h =
-    kept_by (bytes_eq declarator.name.bytes name) text before specifiers declarator t name refl
+    IsObject t name (global_behind text kind is_const declarator before).names
+kept text before kind is_const declarator t name none h =
+    kept_by (bytes_eq declarator.name.bytes name) text before kind is_const declarator t name refl
     none h
 
-all_kept : (text : Text) (specifiers : Specifiers) (declarators : List Declarator)
+all_kept : (text : Text) (kind : Kind) (is_const : Bool) (declarators : List Declarator)
     (before : Before) (t : IntType) (name : List ℕ) →
-    NoFaults (globals_faults text specifiers declarators before) →
+    NoFaults (globals_faults text kind is_const declarators before) →
     IsObject t name before.names →
-    IsObject t name (globals_behind text specifiers declarators before).names
-all_kept text specifiers [] before t name none h = h
-all_kept text specifiers (declarator ∷ more) before t name none h =
-    let behind = global_behind text specifiers declarator before in
-    let first = global_faults text before specifiers declarator in
-    let rest = globals_faults text specifiers more behind in
-    all_kept text specifiers more behind t name (none_right first rest none)
-    (kept text before specifiers declarator t name (none_left first rest none) h)
+    IsObject t name (globals_behind text kind is_const declarators before).names
+all_kept text kind is_const [] before t name none h = h
+all_kept text kind is_const (declarator ∷ more) before t name none h =
+    let behind = global_behind text kind is_const declarator before in
+    let first = global_faults text before kind is_const declarator in
+    let rest = globals_faults text kind is_const more behind in
+    all_kept text kind is_const more behind t name (none_right first rest none)
+    (kept text before kind is_const declarator t name (none_left first rest none) h)
 
 -- so does an enumerated type, whose names are not declared before
 
@@ -361,8 +358,10 @@ item_kept text (item.Objects declaration) before t name none h =
     let specifiers = declaration.specifiers in
     let front = enumeration_faults text specifiers before in
     let behind = enumeration_behind text specifiers before in
-    let rest = globals_faults text specifiers declaration.declarators behind in
-    all_kept text specifiers declaration.declarators behind t name (none_right front rest none)
+    let kind = kind_of specifiers in
+    let is_const = has_const specifiers in
+    let rest = globals_faults text kind is_const declaration.declarators behind in
+    all_kept text kind is_const declaration.declarators behind t name (none_right front rest none)
     (specifiers_kept text specifiers before t name (none_left front rest none) h)
 item_kept text (item.Prototype specifiers declarator) before t name none h =
     function_kept text before false specifiers declarator t name none h
@@ -406,13 +405,13 @@ append_fits : (names : List Entry) (a b : List Start) → AllByRecursion (Fits n
 append_fits names [] b h k = k
 append_fits names (s ∷ a) b h k = (h.0, append_fits names a b h.1 k)
 
-declarator_fits : (text : Text) (before : Before) (specifiers : Specifiers)
+declarator_fits : (text : Text) (before : Before) (kind : Kind) (is_const : Bool)
     (declarator : Declarator) →
-    AllByRecursion (Fits (global_behind text specifiers declarator before).names)
-    (start_of text before specifiers declarator)
-declarator_fits text before specifiers declarator =
-    let names = (global_behind text specifiers declarator before).names in
-    let t = (global_of text before specifiers declarator).ty in
+    AllByRecursion (Fits (global_behind text kind is_const declarator before).names)
+    (start_of text before kind is_const declarator)
+declarator_fits text before kind is_const declarator =
+    let names = (global_behind text kind is_const declarator before).names in
+    let t = (global_of text before kind is_const declarator).ty in
     let value = λ (one : Expression).
     unwrap_or (constant_number text names one) (pos 0) in
     one_start declarator.initializer names (record {
@@ -420,38 +419,38 @@ declarator_fits text before specifiers declarator =
       values = map (λ one. wrapped t (value one)) (items_of declarator.initializer);
     }) (record {
       type = t;
-      object = declares text before specifiers declarator;
+      object = declares text before kind is_const declarator;
       values = all_wrapped t value (items_of declarator.initializer);
     })
 
-more_names : (text : Text) (specifiers : Specifiers) (declarators : List Declarator)
-    (before : Before) → NoFaults (globals_faults text specifiers declarators before) →
+more_names : (text : Text) (kind : Kind) (is_const : Bool) (declarators : List Declarator)
+    (before : Before) → NoFaults (globals_faults text kind is_const declarators before) →
     (starts : List Start) → AllByRecursion (Fits before.names) starts →
-    AllByRecursion (Fits (globals_behind text specifiers declarators before).names) starts
-more_names text specifiers declarators before none [] h = tt
-more_names text specifiers declarators before none (s ∷ starts) h = (
+    AllByRecursion (Fits (globals_behind text kind is_const declarators before).names) starts
+more_names text kind is_const declarators before none [] h = tt
+more_names text kind is_const declarators before none (s ∷ starts) h = (
   record {
     type = h.0.type;
-    object = all_kept text specifiers declarators before h.0.type s.name none h.0.object;
+    object = all_kept text kind is_const declarators before h.0.type s.name none h.0.object;
     values = h.0.values;
   },
-  more_names text specifiers declarators before none starts h.1,
+  more_names text kind is_const declarators before none starts h.1,
 )
 
-declarators_fit : (text : Text) (specifiers : Specifiers) (declarators : List Declarator)
-    (before : Before) → NoFaults (globals_faults text specifiers declarators before) →
-    AllByRecursion (Fits (globals_behind text specifiers declarators before).names)
-    (starts_in text specifiers declarators before)
-declarators_fit text specifiers [] before none = tt
-declarators_fit text specifiers (declarator ∷ more) before none =
-    let behind = global_behind text specifiers declarator before in
-    let rest = globals_faults text specifiers more behind in
-    let others = none_right (global_faults text before specifiers declarator) rest none in
-    append_fits (globals_behind text specifiers more behind).names
-    (start_of text before specifiers declarator) (starts_in text specifiers more behind)
-    (more_names text specifiers more behind others (start_of text before specifiers declarator)
-    (declarator_fits text before specifiers declarator))
-    (declarators_fit text specifiers more behind others)
+declarators_fit : (text : Text) (kind : Kind) (is_const : Bool) (declarators : List Declarator)
+    (before : Before) → NoFaults (globals_faults text kind is_const declarators before) →
+    AllByRecursion (Fits (globals_behind text kind is_const declarators before).names)
+    (starts_in text kind is_const declarators before)
+declarators_fit text kind is_const [] before none = tt
+declarators_fit text kind is_const (declarator ∷ more) before none =
+    let behind = global_behind text kind is_const declarator before in
+    let rest = globals_faults text kind is_const more behind in
+    let others = none_right (global_faults text before kind is_const declarator) rest none in
+    append_fits (globals_behind text kind is_const more behind).names
+    (start_of text before kind is_const declarator) (starts_in text kind is_const more behind)
+    (more_names text kind is_const more behind others (start_of text before kind is_const declarator)
+    (declarator_fits text before kind is_const declarator))
+    (declarators_fit text kind is_const more behind others)
 
 item_fits : (text : Text) (one : Item) (before : Before) →
     NoFaults (item_faults text one before) →
@@ -460,9 +459,11 @@ item_fits text (item.Empty place) before none = tt
 item_fits text (item.Typedef specifiers names place) before none = tt
 item_fits text (item.Objects declaration) before none =
     let behind = enumeration_behind text declaration.specifiers before in
-    declarators_fit text declaration.specifiers declaration.declarators behind
+    let kind = kind_of declaration.specifiers in
+    let is_const = has_const declaration.specifiers in
+    declarators_fit text kind is_const declaration.declarators behind
     (none_right (enumeration_faults text declaration.specifiers before)
-    (globals_faults text declaration.specifiers declaration.declarators behind) none)
+    (globals_faults text kind is_const declaration.declarators behind) none)
 item_fits text (item.Prototype specifiers declarator) before none = tt
 item_fits text (item.Function specifiers declarator made) before none = tt
 

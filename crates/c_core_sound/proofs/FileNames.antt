@@ -43,7 +43,7 @@ use Rattle.c_types_rules.specs.Items.{same_kind, merged_function, redeclares_fun
 use Rattle.c_types_rules.specs.Items.{parameter_types}
 use Rattle.c_types_rules.specs.Items.{redeclared_function, function_behind, head_faults, listed}
 use Rattle.c_types_rules.specs.Items.{agreeing_parameters, around_item, enumeration_behind}
-use Rattle.c_types_rules.specs.Items.{enumeration_faults}
+use Rattle.c_types_rules.specs.Items.{enumeration_faults, object_faults}
 use Rattle.c_core_laws.specs.lemmas.Faults.{NoFaults, none_left, none_right, not_broken}
 use Rattle.c_core_laws.specs.lemmas.Entries.{push_named, push_other}
 use Rattle.c_core_laws.specs.lemmas.Enumerations.{fresh_enumerator, fresh_tag}
@@ -192,32 +192,30 @@ merged_alike (declared.Function r ps d) fresh j h = absurd (cc)
 merged_alike (declared.Enumerator n) fresh j h = absurd (cc)
 merged_alike declared.Tag fresh j h = absurd (cc)
 
-abbrev global_entry : Text → Before → Specifiers → Declarator → Entry
-global_entry text before specifiers declarator = record {
+abbrev global_entry : Text → Before → Kind → Bool → Declarator → Entry
+global_entry text before kind is_const declarator = record {
   name = declarator.name.bytes;
   declared = merged_object (declared_as before.names declarator.name.bytes)
-      (global_of text before specifiers declarator) (is_some declarator.initializer);
+      (global_of text before kind is_const declarator) (is_some declarator.initializer);
 }
 
-pub global_lasts : (text : Text) (before : Before) (specifiers : Specifiers)
-    (declarator : Declarator) → NoFaults (global_faults text before specifiers declarator) →
-    Lasts before.names (global_behind text specifiers declarator before).names
-global_lasts text before specifiers declarator none =
+pub global_lasts : (text : Text) (before : Before) (kind : Kind) (is_const : Bool)
+    (declarator : Declarator) → NoFaults (global_faults text before kind is_const declarator) →
+    Lasts before.names (global_behind text kind is_const declarator before).names
+global_lasts text before kind is_const declarator none =
     let own = declarator.name.bytes in
-    let fresh = global_of text before specifiers declarator in
+    let fresh = global_of text before kind is_const declarator in
     let starts = is_some declarator.initializer in
     let o = declared_as before.names own in
-    let a = broken rule.N2 (redeclared_object text before specifiers declarator) in
-    let b = broken rule.N5 (void_object (kind_of specifiers) declarator) in
-    let c = broken rule.N12 (length_faults text before.names declarator) in
-    let u = uses_faults (length_uses text before.names declarator) in
-    let v = flat_map (start_faults text (global_behind text specifiers declarator before).names)
+    let a = broken rule.N2 (redeclared_object
+    (global_of text before kind is_const declarator) declarator before) in
+    let b = object_faults text before.names kind declarator in
+    let v = flat_map (start_faults text (global_behind text kind is_const declarator before).names)
     (items_of declarator.initializer) in
     let free : redeclares_object o fresh starts ≡ false =
     not_broken rule.N2 (redeclares_object o fresh starts) declarator.name.place
-    (none_left a b (none_left (a ++ b) c (none_left (a ++ b ++ c) u
-    (none_left (a ++ b ++ c ++ u) v none)))) in
-    lasts_push before.names (global_entry text before specifiers declarator)
+    (none_left a b (none_left (a ++ b) v none)) in
+    lasts_push before.names (global_entry text before kind is_const declarator)
     (λ e is. subst (λ (d : Option Declared). Alike e (merged_object d fresh starts)) (sym is)
     (merged_alike e fresh starts
     (ap (λ (d : Option Declared). redeclares_object d fresh starts) (sym is) ∙ free)))
@@ -460,25 +458,27 @@ object_scope names objects entry fresh f m own some = record {
       other d e f m own refl refl x y n u w;
 }
 
-pub global_scope : (text : Text) (before : Before) (specifiers : Specifiers)
+pub global_scope : (text : Text) (before : Before) (kind : Kind) (is_const : Bool)
     (declarator : Declarator) → whole_length declarator.array ≡ true →
-    NoFaults (global_faults text before specifiers declarator) →
+    NoFaults (global_faults text before kind is_const declarator) →
     FileScope before.names before.objects →
-    FileScope (global_behind text specifiers declarator before).names (before.objects + 1)
-global_scope text before specifiers declarator whole none f =
-    let a = broken rule.N2 (redeclared_object text before specifiers declarator) in
-    let b = broken rule.N5 (void_object (kind_of specifiers) declarator) in
+    FileScope (global_behind text kind is_const declarator before).names (before.objects + 1)
+global_scope text before kind is_const declarator whole none f =
+    let a = broken rule.N2 (redeclared_object
+    (global_of text before kind is_const declarator) declarator before) in
+    let object = object_faults text before.names kind declarator in
+    let b = broken rule.N5 (void_object kind declarator) in
     let c = broken rule.N12 (length_faults text before.names declarator) in
     let u = uses_faults (length_uses text before.names declarator) in
-    let v = flat_map (start_faults text (global_behind text specifiers declarator before).names)
+    let v = flat_map (start_faults text (global_behind text kind is_const declarator before).names)
     (items_of declarator.initializer) in
-    let front = none_left (a ++ b ++ c ++ u) v none in
-    let e = enough text before.names declarator whole (none_right (a ++ b ++ c) u front)
-    (none_right (a ++ b) c (none_left (a ++ b ++ c) u front)) in
-    object_scope before.names before.objects (global_entry text before specifiers declarator)
-    (global_of text before specifiers declarator) f
+    let own = none_right a object (none_left (a ++ object) v none) in
+    let e = enough text before.names declarator whole (none_right (b ++ c) u own)
+    (none_right b c (none_left (b ++ c) u own)) in
+    object_scope before.names before.objects (global_entry text before kind is_const declarator)
+    (global_of text before kind is_const declarator) f
     (makes (declared_as before.names declarator.name.bytes)
-    (global_of text before specifiers declarator) (is_some declarator.initializer)) refl e.0
+    (global_of text before kind is_const declarator) (is_some declarator.initializer)) refl e.0
 
 -- a function has no number
 function_number : (d : Declared) (r : Kind) (ps : Option (List ParameterType)) (b : Bool) →
@@ -567,14 +567,14 @@ made_same before fresh d objects first starts (makes_old old now i j is number t
 made_same before fresh d objects first starts (makes_fresh j) own old_is above n h =
     above n (omega (arith, own, h))
 
-pub global_stays : (text : Text) (before : Before) (specifiers : Specifiers)
+pub global_stays : (text : Text) (before : Before) (kind : Kind) (is_const : Bool)
     (declarator : Declarator) (first starts : ℕ → Option ℕ) →
     Stay first before.names before.objects starts →
-    Stay first (global_behind text specifiers declarator before).names (before.objects + 1) starts
-global_stays text before specifiers declarator first starts h =
+    Stay first (global_behind text kind is_const declarator before).names (before.objects + 1) starts
+global_stays text before kind is_const declarator first starts h =
     let own = declarator.name.bytes in
-    let fresh = global_of text before specifiers declarator in
-    let entry = global_entry text before specifiers declarator in
+    let fresh = global_of text before kind is_const declarator in
+    let entry = global_entry text before kind is_const declarator in
     record {
       same = pushed_by (λ name d. (n : ℕ) → HasNumber d n → starts n ≡ first n) before.names entry
           h.same

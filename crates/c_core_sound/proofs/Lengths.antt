@@ -25,7 +25,7 @@ use Rattle.c_types_rules.specs.Expressions.{Use, used, reading}
 use Rattle.c_types_rules.specs.ExpressionRules.{broken, at_if, use_faults, uses_faults}
 use Rattle.c_types_rules.specs.Declarations.{items_of, constant_number, inconstant, length_of}
 use Rattle.c_types_rules.specs.Declarations.{is_length}
-use Rattle.c_types_rules.specs.Declarations.{is_longer, given_length_faults, length_faults}
+use Rattle.c_types_rules.specs.Declarations.{is_longer, misfit, given_length_faults, length_faults}
 use Rattle.c_types_rules.specs.Declarations.{length_uses}
 use Rattle.c_types_rules.specs.Items.{Call, use_calls}
 use Rattle.c_types_rules.specs.declared.TheConstants.{MAX_ELEMENTS}
@@ -140,22 +140,15 @@ given_enough text names declarator e whole uses none =
     let t = has_type text names e whole uses in
     let typed : kind ≡ Some t.0 = ap value_kind t.1 in
     let bad = found.is_impure || (is_some kind && not (is_some found.value)) in
-    let rest = elim (constant_number text names e) as (λ o. List ℕ) [
-      | None ↦ []
-      | Some n ↦ at_if (not (is_length n)) r.part.place
-          ++ at_if (is_longer n declarator) declarator.name.place
-    ] in
+    let rest = misfit (constant_number text names e) r.part.place declarator in
     let n = number_is found.is_impure found.value kind t.0 typed
     (not_broken rule.N12 bad r.part.place
     (broken_left rule.N12 (inconstant text names e) rest none)) in
     let own = at_if (not (is_length n.0)) r.part.place in
     let long = at_if (is_longer n.0 declarator) declarator.name.place in
     let here : NoFaults (broken rule.N12 (own ++ long)) =
-    subst (λ (o : Option ℤ). NoFaults (broken rule.N12 (elim o as (λ p. List ℕ) [
-      | None ↦ []
-      | Some m ↦ at_if (not (is_length m)) r.part.place
-          ++ at_if (is_longer m declarator) declarator.name.place
-    ]))) n.1 (broken_right rule.N12 (inconstant text names e) rest none) in
+    subst (λ (o : Option ℤ). NoFaults (broken rule.N12 (misfit o r.part.place declarator))) n.1
+    (broken_right rule.N12 (inconstant text names e) rest none) in
     let fits = first_of_two (int_le (pos 1) n.0) (int_le n.0 (pos MAX_ELEMENTS))
     (not_not (is_length n.0)
     (not_broken rule.N12 (not (is_length n.0)) r.part.place (broken_left rule.N12 own long here)))

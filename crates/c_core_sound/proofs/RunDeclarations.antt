@@ -1,7 +1,7 @@
 -- The rules of declarations and of expressions in statements make well typed trees.
 use Rattle.std.proofs.Common.{◌≡◌, ℕ, zero, suc, ◌+◌, ◌-◌, ◌<◌, ◌≤◌, true, List, [], ◌∷◌, ◌++◌, map}
 use Rattle.std.proofs.Common.{length, replicate, Option, None, Some, refl, ap, sym, ◌∙◌, arith, inl}
-use Rattle.std.proofs.Common.{inr, subst, ℤ, pos, slice_get, append_assoc, add_assoc}
+use Rattle.std.proofs.Common.{inr, subst, Bool, ℤ, pos, slice_get, append_assoc, add_assoc}
 use Rattle.std.specs.Prelude.{◌⊎◌, option_map, if◌then◌else◌}
 use Rattle.std.specs.List.{AllByRecursion}
 use Rattle.std.proofs.lemmas.List.{map-append, length-map}
@@ -14,7 +14,6 @@ use Rattle.cpa_model.specs.Expressions.{types_of}
 use Rattle.c_lexer.specs.declared.fault.Rule.TheVariants as rule
 use Rattle.c_grammar_tree.specs.declared.expression.Expression.{Expression}
 use Rattle.c_grammar_tree.specs.declared.declaration.Enumeration.{Enumeration}
-use Rattle.c_grammar_tree.specs.declared.declaration.Specifiers.{Specifiers}
 use Rattle.c_grammar_tree.specs.declared.declaration.Declaration.{Declaration}
 use Rattle.c_grammar_tree.specs.declared.declaration.Declarator.{Declarator}
 use Rattle.c_grammar_tree.specs.declared.declaration.Initializer.{Initializer}
@@ -29,13 +28,15 @@ use Rattle.c_types_rules.specs.Tables.{cells_of}
 use Rattle.c_types_rules.specs.Expressions.{reading}
 use Rattle.c_types_rules.specs.ExpressionRules.{broken, uses_faults}
 use Rattle.c_types_rules.specs.Declarations.{items_of, object_of, local_entry, length_faults}
-use Rattle.c_types_rules.specs.Declarations.{length_uses, void_object, kind_of, typed_items}
+use Rattle.c_types_rules.specs.Declarations.{length_uses, void_object, kind_of, has_const}
+use Rattle.c_types_rules.specs.Declarations.{typed_items}
 use Rattle.c_types_rules.specs.Declarations.{enumerator_entry, tag_entry}
 use Rattle.c_types_rules.specs.Statements.{Around, Site, Walk, declares, evaluates}
 use Rattle.c_types_rules.specs.Statements.{declaring_behind, declarator_walk, in_order}
 use Rattle.c_types_rules.specs.Statements.{enumeration_walk, declaration_walk}
 use Rattle.c_types_rules.specs.StatementRules.{site_faults, declared_twice}
 use Rattle.c_types_rules.specs.TypedStatements.{typed_declarator, typed_declarators}
+use Rattle.c_types_rules.specs.TypedStatements.{typed_declaration}
 use Rattle.c_core_rules.specs.declared.tree.Location.{Location}
 use Rattle.cpa_model_trees.specs.declared.tree.Head.TheVariants as head
 use Rattle.c_core_rules.specs.Values.{cell_at}
@@ -254,23 +255,23 @@ module _ (G : Ground) (frames : rows.Frames) (text : Text) (caller : ℕ) where
     abbrev ReadyAt : Around → Type 0
     ReadyAt around = Ready G frames text K around
 
-    abbrev object_at : Around → Specifiers → Declarator → Object
-    object_at around specifiers declarator =
-        object_of text around.names around.objects specifiers declarator
+    abbrev object_at : Around → Kind → Bool → Declarator → Object
+    object_at around kind is_const declarator =
+        object_of text around.names around.objects kind is_const declarator
 
-    abbrev declares_site : Around → Specifiers → Declarator → Site
-    declares_site around specifiers declarator =
-        record { around = around; act = declares specifiers declarator }
+    abbrev declares_site : Around → Kind → Declarator → Site
+    declares_site around kind declarator =
+        record { around = around; act = declares kind declarator }
 
     -- a declarator breaks no rule of its length
-    declared_enough : (around : Around) (specifiers : Specifiers) (declarator : Declarator) →
+    declared_enough : (around : Around) (kind : Kind) (is_const : Bool) (declarator : Declarator) →
         whole_length declarator.array ≡ true →
-        NoFaults (site_faults text (declares_site around specifiers declarator)) →
-        Enough (object_at around specifiers declarator).length
+        NoFaults (site_faults text (declares_site around kind declarator)) →
+        Enough (object_at around kind is_const declarator).length
         (items_count declarator.initializer)
-    declared_enough around specifiers declarator whole none =
-        let a = broken rule.N2 (declared_twice around (declares specifiers declarator)) in
-        let b = broken rule.N5 (void_object (kind_of specifiers) declarator) in
+    declared_enough around kind is_const declarator whole none =
+        let a = broken rule.N2 (declared_twice around (declares kind declarator)) in
+        let b = broken rule.N5 (void_object kind declarator) in
         let c = broken rule.N12 (length_faults text around.names declarator) in
         let u = uses_faults (length_uses text around.names declarator) in
         let d = a ++ b ++ [] ++ [] ++ [] ++ c in
@@ -283,15 +284,15 @@ module _ (G : Ground) (frames : rows.Frames) (text : Text) (caller : ℕ) where
     apart_of n m (inl less) is = omega (arith, less, is)
     apart_of n m (inr more) is = omega (arith, more, is)
 
-    taking_runs : (around : Around) (specifiers : Specifiers) (declarator : Declarator) →
+    taking_runs : (around : Around) (kind : Kind) (is_const : Bool) (declarator : Declarator) →
         Below around.objects around.names →
-        1 ≤ cells_of (object_at around specifiers declarator) →
-        Runs G (Unit {0}) around (declaring_behind text specifiers declarator around)
-        (λ (first : ℕ). AreCells G.cells first (cells_of (object_at around specifiers declarator))
-        (object_at around specifiers declarator).ty)
-        (core.taking (object_at around specifiers declarator) [])
-    taking_runs around specifiers declarator below some =
-        let object = object_at around specifiers declarator in record {
+        1 ≤ cells_of (object_at around kind is_const declarator) →
+        Runs G (Unit {0}) around (declaring_behind text kind is_const declarator around)
+        (λ (first : ℕ). AreCells G.cells first (cells_of (object_at around kind is_const declarator))
+        (object_at around kind is_const declarator).ty)
+        (core.taking (object_at around kind is_const declarator) [])
+    taking_runs around kind is_const declarator below some =
+        let object = object_at around kind is_const declarator in record {
           extends = λ taken. taken_extends object [] taken;
           keeps = λ taken n side.
               begun_other around.objects n (length taken.cells) taken.starts
@@ -330,10 +331,10 @@ module _ (G : Ground) (frames : rows.Frames) (text : Text) (caller : ℕ) where
     not_less : (n : ℕ) → n ≤ n
     not_less n = omega arith
 
-    pub ready_behind : (around : Around) (specifiers : Specifiers) (declarator : Declarator) →
-        ReadyAt around → ReadyAt (declaring_behind text specifiers declarator around)
-    ready_behind around specifiers declarator h =
-        let entry = local_entry declarator.name.bytes (object_at around specifiers declarator) in
+    pub ready_behind : (around : Around) (kind : Kind) (is_const : Bool) (declarator : Declarator) →
+        ReadyAt around → ReadyAt (declaring_behind text kind is_const declarator around)
+    ready_behind around kind is_const declarator h =
+        let entry = local_entry declarator.name.bytes (object_at around kind is_const declarator) in
         record {
           functions = functions_push G frames text around.names entry h.functions (λ name is. tt);
           below = below_push (around.objects + 1) around.names entry
@@ -342,79 +343,79 @@ module _ (G : Ground) (frames : rows.Frames) (text : Text) (caller : ℕ) where
           result = h.result;
         }
 
-    declared_runs : (around : Around) (specifiers : Specifiers) (declarator : Declarator) →
+    declared_runs : (around : Around) (kind : Kind) (is_const : Bool) (declarator : Declarator) →
         ReadyAt around →
-        SitesFit G text caller ((declarator_walk text specifiers declarator).sites around) →
+        SitesFit G text caller ((declarator_walk text kind is_const declarator).sites around) →
         whole_declarator declarator ≡ true →
-        Runs G (Unit {0}) around (declaring_behind text specifiers declarator around) (TreesFit G)
-        (statement.declared frames (typed_declarator text specifiers declarator around))
-    declared_runs around specifiers declarator h sites whole =
-        let object = object_at around specifiers declarator in
-        let behind = declaring_behind text specifiers declarator around in
+        Runs G (Unit {0}) around (declaring_behind text kind is_const declarator around) (TreesFit G)
+        (statement.declared frames (typed_declarator text kind is_const declarator around))
+    declared_runs around kind is_const declarator h sites whole =
+        let object = object_at around kind is_const declarator in
+        let behind = declaring_behind text kind is_const declarator around in
         let own = whole_length declarator.array in
         let others = all_whole (map is_whole (items_of declarator.initializer)) in
-        let e = declared_enough around specifiers declarator (and_left own others whole)
+        let e = declared_enough around kind is_const declarator (and_left own others whole)
         sites.0.none in
-        let ready = ready_behind around specifiers declarator h in
+        let ready = ready_behind around kind is_const declarator h in
         runs_then G around behind behind
         (statement.initializing declarator.name.place frames object
         (option_map (typed_items text behind.names) declarator.initializer))
         (one_more around.objects) (not_less behind.objects)
-        (taking_runs around specifiers declarator h.below e.0)
+        (taking_runs around kind is_const declarator h.below e.0)
         (λ first. runs_weaker G (λ g. g.1) (runs_fits G behind
         (initializing_fits declarator.name.place behind.names object declarator.initializer first
         e.0 e.1
         (items_good behind (items_of declarator.initializer) ready.functions sites.1
         (and_right own others whole)))))
 
-    abbrev walk_of_all : Specifiers → List Declarator → Walk
-    walk_of_all specifiers declarators =
-        in_order (map (declarator_walk text specifiers) declarators)
+    abbrev walk_of_all : Kind → Bool → List Declarator → Walk
+    walk_of_all kind is_const declarators =
+        in_order (map (declarator_walk text kind is_const) declarators)
 
-    declarators_ready : (around : Around) (specifiers : Specifiers)
+    declarators_ready : (around : Around) (kind : Kind) (is_const : Bool)
         (declarators : List Declarator) → ReadyAt around →
-        ReadyAt ((walk_of_all specifiers declarators).behind around)
-    declarators_ready around specifiers [] h = h
-    declarators_ready around specifiers (declarator ∷ more) h =
-        declarators_ready (declaring_behind text specifiers declarator around) specifiers more
-        (ready_behind around specifiers declarator h)
+        ReadyAt ((walk_of_all kind is_const declarators).behind around)
+    declarators_ready around kind is_const [] h = h
+    declarators_ready around kind is_const (declarator ∷ more) h =
+        declarators_ready (declaring_behind text kind is_const declarator around) kind is_const more
+        (ready_behind around kind is_const declarator h)
 
-    declarators_rise : (around : Around) (specifiers : Specifiers)
+    declarators_rise : (around : Around) (kind : Kind) (is_const : Bool)
         (declarators : List Declarator) →
-        around.objects ≤ ((walk_of_all specifiers declarators).behind around).objects
-    declarators_rise around specifiers [] = omega arith
-    declarators_rise around specifiers (declarator ∷ more) =
+        around.objects ≤ ((walk_of_all kind is_const declarators).behind around).objects
+    declarators_rise around kind is_const [] = omega arith
+    declarators_rise around kind is_const (declarator ∷ more) =
         omega (
           arith,
-          declarators_rise (declaring_behind text specifiers declarator around)
-              specifiers more,
+          declarators_rise (declaring_behind text kind is_const declarator around)
+              kind is_const more,
         )
 
-    declarators_run : (around : Around) (specifiers : Specifiers)
+    declarators_run : (around : Around) (kind : Kind) (is_const : Bool)
         (declarators : List Declarator) → ReadyAt around →
-        SitesFit G text caller ((walk_of_all specifiers declarators).sites around) →
+        SitesFit G text caller ((walk_of_all kind is_const declarators).sites around) →
         all_whole (map whole_declarator declarators) ≡ true →
-        Runs G (Unit {0}) around ((walk_of_all specifiers declarators).behind around) (TreesFit G)
-        (statement.declaration frames (typed_declarators text specifiers declarators around))
-    declarators_run around specifiers [] h sites whole =
+        Runs G (Unit {0}) around ((walk_of_all kind is_const declarators).behind around) (TreesFit G)
+        (statement.declaration frames (typed_declarators text kind is_const declarators around))
+    declarators_run around kind is_const [] h sites whole =
         runs_gives G around (TreesFit G) [] (λ g. tt)
-    declarators_run around specifiers (declarator ∷ more) h sites whole =
-        let behind = declaring_behind text specifiers declarator around in
-        let last = (walk_of_all specifiers more).behind behind in
-        let first_sites = (declarator_walk text specifiers declarator).sites around in
-        let rest_sites = (walk_of_all specifiers more).sites behind in
+    declarators_run around kind is_const (declarator ∷ more) h sites whole =
+        let behind = declaring_behind text kind is_const declarator around in
+        let last = (walk_of_all kind is_const more).behind behind in
+        let first_sites = (declarator_walk text kind is_const declarator).sites around in
+        let rest_sites = (walk_of_all kind is_const more).sites behind in
         let own = whole_declarator declarator in
         let others = all_whole (map whole_declarator more) in
-        let rest = statement.declaration frames (typed_declarators text specifiers more behind) in
+        let rest = statement.declaration frames (typed_declarators text kind is_const more behind) in
         runs_then G around behind last
         (λ before. core.then_by rest (λ after. core.gives (before ++ after)))
-        (one_more around.objects) (declarators_rise behind specifiers more)
-        (declared_runs around specifiers declarator h
+        (one_more around.objects) (declarators_rise behind kind is_const more)
+        (declared_runs around kind is_const declarator h
         (sites_left G text caller first_sites rest_sites sites) (and_left own others whole))
         (λ before. runs_then G behind last last (λ after. core.gives (before ++ after))
-        (declarators_rise behind specifiers more) (not_less last.objects)
-        (runs_weaker G (λ g. tt) (declarators_run behind specifiers more
-        (ready_behind around specifiers declarator h)
+        (declarators_rise behind kind is_const more) (not_less last.objects)
+        (runs_weaker G (λ g. tt) (declarators_run behind kind is_const more
+        (ready_behind around kind is_const declarator h)
         (sites_right G text caller first_sites rest_sites sites) (and_right own others whole)))
         (λ after. runs_gives G last (TreesFit G) (before ++ after)
         (λ g. append_fits G before after g.0.1 g.1)))
@@ -455,29 +456,30 @@ module _ (G : Ground) (frames : rows.Frames) (text : Text) (caller : ℕ) where
     pub declaration_ready : (around : Around) (declaration : Declaration) → ReadyAt around →
         ReadyAt ((declaration_walk text declaration).behind around)
     declaration_ready around declaration h =
-        declarators_ready (named_by around declaration) declaration.specifiers
-        declaration.declarators (enumeration_ready declaration.specifiers.enumeration around h)
+        declarators_ready (named_by around declaration) (kind_of declaration.specifiers)
+        (has_const declaration.specifiers) declaration.declarators
+        (enumeration_ready declaration.specifiers.enumeration around h)
 
     pub declaration_rises : (around : Around) (declaration : Declaration) →
         around.objects ≤ ((declaration_walk text declaration).behind around).objects
     declaration_rises around declaration =
         subst (λ n. n ≤ ((declaration_walk text declaration).behind around).objects)
         (enumeration_keeps text declaration.specifiers.enumeration around).objects
-        (declarators_rise (named_by around declaration) declaration.specifiers
-        declaration.declarators)
+        (declarators_rise (named_by around declaration) (kind_of declaration.specifiers)
+        (has_const declaration.specifiers) declaration.declarators)
 
     pub declaration_runs : (around : Around) (declaration : Declaration) → ReadyAt around →
         SitesFit G text caller ((declaration_walk text declaration).sites around) →
         whole_declaration declaration ≡ true →
         Runs G (Unit {0}) around ((declaration_walk text declaration).behind around) (TreesFit G)
-        (statement.declaration frames (typed_declarators text declaration.specifiers
-        declaration.declarators (named_by around declaration)))
+        (statement.declaration frames (typed_declaration text declaration around))
     declaration_runs around declaration h sites whole =
         let found = declaration.specifiers.enumeration in
         let named = named_by around declaration in
         let last = (declaration_walk text declaration).behind around in
         let kept = enumeration_keeps text found around in
-        let r = declarators_run named declaration.specifiers declaration.declarators
+        let r = declarators_run named (kind_of declaration.specifiers)
+        (has_const declaration.specifiers) declaration.declarators
         (enumeration_ready found around h)
         (sites_right G text caller ((enumeration_walk text found).sites around)
         ((walk_of_all declaration.specifiers declaration.declarators).sites named) sites) whole in

@@ -39,11 +39,11 @@ use Rattle.c_types_rules.specs.Statements.{Around, Site, Act, Walk, doing, follo
 use Rattle.c_types_rules.specs.Statements.{scoped, looped, inner, loop, left_by, evaluating}
 use Rattle.c_types_rules.specs.Statements.{start_walk, declaration_walk, evaluates, continues}
 use Rattle.c_types_rules.specs.Statements.{returns, labeled, selected, switched, end_behind}
-use Rattle.c_types_rules.specs.Statements.{left_switch, enumeration_walk}
+use Rattle.c_types_rules.specs.Statements.{left_switch}
 use Rattle.c_types_rules.specs.StatementRules.{agree}
 use Rattle.c_types_rules.specs.TypedStatements.{Grown, grown, grown_item, grown_statement}
 use Rattle.c_types_rules.specs.TypedStatements.{typed_in_order, typed_expression, typed_optional}
-use Rattle.c_types_rules.specs.TypedStatements.{typed_for_start, typed_declarators, label_number}
+use Rattle.c_types_rules.specs.TypedStatements.{typed_for_start, typed_declaration, label_number}
 use Rattle.c_types_rules.specs.TypedStatements.{walk_in, typed_break}
 use Rattle.cpa_model_trees.specs.declared.tree.Head.{Head}
 use Rattle.cpa_model_trees.specs.declared.tree.Head.TheVariants as head
@@ -886,12 +886,11 @@ module _ (G : Ground) (frames : rows.Frames) (text : Text) (caller : ℕ) (K : K
       (whole_item_layer (map-BlockItem BlockItem Statement Bool Bool whole_block_item whole_in
       (bare_item y)))
   item_layer (BlockItem-F.Declaration declaration) =
-      let front = declaration.specifiers in record {
+      record {
         rises = λ around. declaration_rises G frames text caller K around declaration;
         ready = λ around h. declaration_ready G frames text caller K around declaration h;
         runs = λ around h sites whole.
-            let typed = typed_declarators text front declaration.declarators
-            ((enumeration_walk text front.enumeration).behind around) in
+            let typed = typed_declaration text declaration around in
             let last = (declaration_walk text declaration).behind around in
             at_rule around last (opened_item frames place (typed_item.Declaration typed)
             (TypedItem-F.Declaration typed) (typed_item.rolls-Declaration typed))

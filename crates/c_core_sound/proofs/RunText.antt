@@ -27,7 +27,7 @@ use Rattle.c_types_rules.specs.Names.{Text, body_of, declared_as, function_of}
 use Rattle.c_types_rules.specs.Tables.{cells_of}
 use Rattle.c_types_rules.specs.Expressions.{Use, named, taken, given, paired, tagged}
 use Rattle.c_types_rules.specs.Types.{object_type}
-use Rattle.c_types_rules.specs.Declarations.{kind_of, items_of}
+use Rattle.c_types_rules.specs.Declarations.{kind_of, has_const, items_of}
 use Rattle.c_types_rules.specs.Statements.{Around, Site, Walk, in_order, receiving, walk_of}
 use Rattle.c_types_rules.specs.StatementRules.{site_faults, act_uses, jump_faults}
 use Rattle.c_types_rules.specs.TypedStatements.{grown, walk_in, typed_function}
@@ -66,17 +66,17 @@ use Rattle.c_core_sound.proofs.FileNames.{enumeration_scope, enumeration_stays}
 
 -- the names of file scope, from item to item
 
-globals_last : (text : Text) (specifiers : Specifiers) (declarators : List Declarator)
-    (before : Before) → NoFaults (globals_faults text specifiers declarators before) →
-    Lasts before.names (globals_behind text specifiers declarators before).names
-globals_last text specifiers [] before none = lasts_self before.names
-globals_last text specifiers (declarator ∷ more) before none =
-    let next = global_behind text specifiers declarator before in
-    let a = global_faults text before specifiers declarator in
-    let b = globals_faults text specifiers more next in
-    lasts_both before.names next.names (globals_behind text specifiers more next).names
-    (global_lasts text before specifiers declarator (none_left a b none))
-    (globals_last text specifiers more next (none_right a b none))
+globals_last : (text : Text) (kind : Kind) (is_const : Bool) (declarators : List Declarator)
+    (before : Before) → NoFaults (globals_faults text kind is_const declarators before) →
+    Lasts before.names (globals_behind text kind is_const declarators before).names
+globals_last text kind is_const [] before none = lasts_self before.names
+globals_last text kind is_const (declarator ∷ more) before none =
+    let next = global_behind text kind is_const declarator before in
+    let a = global_faults text before kind is_const declarator in
+    let b = globals_faults text kind is_const more next in
+    lasts_both before.names next.names (globals_behind text kind is_const more next).names
+    (global_lasts text before kind is_const declarator (none_left a b none))
+    (globals_last text kind is_const more next (none_right a b none))
 
 pub item_lasts : (text : Text) (one : Item) (before : Before) →
     NoFaults (item_faults text one before) →
@@ -90,10 +90,13 @@ item_lasts text (item.Objects declaration) before none =
     let front = declaration.specifiers in
     let mid = enumeration_behind text front before in
     let a = enumeration_faults text front before in
-    let b = globals_faults text front declaration.declarators mid in
-    lasts_both before.names mid.names (globals_behind text front declaration.declarators mid).names
+    let kind = kind_of front in
+    let is_const = has_const front in
+    let b = globals_faults text kind is_const declaration.declarators mid in
+    lasts_both before.names mid.names
+    (globals_behind text kind is_const declaration.declarators mid).names
     (enumeration_lasts text front before (none_left a b none))
-    (globals_last text front declaration.declarators mid (none_right a b none))
+    (globals_last text kind is_const declaration.declarators mid (none_right a b none))
 item_lasts text (item.Prototype specifiers declarator) before none =
     function_lasts text before false specifiers declarator none
 item_lasts text (item.Function specifiers declarator body.Skipped) before none =
@@ -118,34 +121,34 @@ items_last text (one ∷ more) before none =
     (item_lasts text one before (none_left a b none))
     (items_last text more next (none_right a b none))
 
-pub globals_scope : (text : Text) (specifiers : Specifiers) (declarators : List Declarator)
+pub globals_scope : (text : Text) (kind : Kind) (is_const : Bool) (declarators : List Declarator)
     (before : Before) → all_whole (map whole_declarator declarators) ≡ true →
-    NoFaults (globals_faults text specifiers declarators before) →
+    NoFaults (globals_faults text kind is_const declarators before) →
     FileScope before.names before.objects →
-    FileScope (globals_behind text specifiers declarators before).names
-    (globals_behind text specifiers declarators before).objects
-globals_scope text specifiers [] before whole none f = f
-globals_scope text specifiers (declarator ∷ more) before whole none f =
-    let next = global_behind text specifiers declarator before in
-    let a = global_faults text before specifiers declarator in
-    let b = globals_faults text specifiers more next in
+    FileScope (globals_behind text kind is_const declarators before).names
+    (globals_behind text kind is_const declarators before).objects
+globals_scope text kind is_const [] before whole none f = f
+globals_scope text kind is_const (declarator ∷ more) before whole none f =
+    let next = global_behind text kind is_const declarator before in
+    let a = global_faults text before kind is_const declarator in
+    let b = globals_faults text kind is_const more next in
     let own = whole_declarator declarator in
     let rest = all_whole (map whole_declarator more) in
-    globals_scope text specifiers more next (and_right own rest whole) (none_right a b none)
-    (global_scope text before specifiers declarator
+    globals_scope text kind is_const more next (and_right own rest whole) (none_right a b none)
+    (global_scope text before kind is_const declarator
     (and_left (whole_length declarator.array)
     (all_whole (map is_whole (items_of declarator.initializer))) (and_left own rest whole))
     (none_left a b none) f)
 
-globals_stay : (text : Text) (specifiers : Specifiers) (declarators : List Declarator)
+globals_stay : (text : Text) (kind : Kind) (is_const : Bool) (declarators : List Declarator)
     (before : Before) (first starts : ℕ → Option ℕ) →
     Stay first before.names before.objects starts →
-    Stay first (globals_behind text specifiers declarators before).names
-    (globals_behind text specifiers declarators before).objects starts
-globals_stay text specifiers [] before first starts h = h
-globals_stay text specifiers (declarator ∷ more) before first starts h =
-    globals_stay text specifiers more (global_behind text specifiers declarator before) first starts
-    (global_stays text before specifiers declarator first starts h)
+    Stay first (globals_behind text kind is_const declarators before).names
+    (globals_behind text kind is_const declarators before).objects starts
+globals_stay text kind is_const [] before first starts h = h
+globals_stay text kind is_const (declarator ∷ more) before first starts h =
+    globals_stay text kind is_const more (global_behind text kind is_const declarator before) first starts
+    (global_stays text before kind is_const declarator first starts h)
 
 -- calls of a site come from the body in which it stands
 
@@ -206,12 +209,12 @@ all_among : {T : Type 0} (P : T → Type 0) (xs : List T) → ((x : T) → Among
 all_among P [] h = tt
 all_among P (x ∷ xs) h = (h x (inl refl), all_among P xs (λ y among. h y (inr among)))
 
-globals_bodies : (text : Text) (specifiers : Specifiers) (declarators : List Declarator)
+globals_bodies : (text : Text) (kind : Kind) (is_const : Bool) (declarators : List Declarator)
     (before : Before) →
-    (globals_behind text specifiers declarators before).bodies ≡ before.bodies
-globals_bodies text specifiers [] before = refl
-globals_bodies text specifiers (declarator ∷ more) before =
-    globals_bodies text specifiers more (global_behind text specifiers declarator before)
+    (globals_behind text kind is_const declarators before).bodies ≡ before.bodies
+globals_bodies text kind is_const [] before = refl
+globals_bodies text kind is_const (declarator ∷ more) before =
+    globals_bodies text kind is_const more (global_behind text kind is_const declarator before)
 
 number_below : (d : Declared) (n objects : ℕ) → DeclaredBelow objects d → HasNumber d n →
     n < objects
@@ -512,13 +515,15 @@ module _ (all : List IntType) (calls : List Call) (bodies : ℕ) (frames : rows.
       let mid = enumeration_behind text front before in
       let next = item_behind text one before in
       let names = enumeration_faults text front before in
-      let own = globals_faults text front declaration.declarators mid in
+      let kind = kind_of front in
+      let is_const = has_const front in
+      let own = globals_faults text kind is_const declaration.declarators mid in
       let rest = items_faults text more next in
       let whole_one = all_whole (map whole_declarator declaration.declarators) in
       let others = all_whole (map whole_item more) in
       let r = text_runs same stand more next (none_right (names ++ own) rest none)
       (and_right whole_one others whole) among
-      (globals_scope text front declaration.declarators mid
+      (globals_scope text kind is_const declaration.declarators mid
       (and_left whole_one others whole)
       (none_right names own (none_left (names ++ own) rest none))
       (enumeration_scope text front before f)) end in
@@ -526,8 +531,8 @@ module _ (all : List IntType) (calls : List Call) (bodies : ℕ) (frames : rows.
         extends = r.extends;
         at = λ taken begin stay w.
             subst (λ k. Fit k (core.each (rules_of (functions_of text more next)) taken).made)
-            (globals_bodies text front declaration.declarators mid)
-            (r.at taken begin (globals_stay text front declaration.declarators mid first
+            (globals_bodies text kind is_const declaration.declarators mid)
+            (r.at taken begin (globals_stay text kind is_const declaration.declarators mid first
             taken.starts (enumeration_stays text front before first taken.starts stay)) w);
       }
   text_runs same stand (item.Prototype specifiers declarator ∷ more) before none whole among f

@@ -31,7 +31,7 @@ use Rattle.c_types_rules.specs.declared.meaning.Declared.TheVariants as declared
 use Rattle.c_types_rules.specs.declared.meaning.Entry.{Entry}
 use Rattle.c_types_rules.specs.declared.typed.TypedFunction.{TypedFunction}
 use Rattle.c_types_rules.specs.Names.{Text, body_of, declared_as}
-use Rattle.c_types_rules.specs.Declarations.{kind_of}
+use Rattle.c_types_rules.specs.Declarations.{kind_of, has_const}
 use Rattle.c_types_rules.specs.StatementRules.{jump_faults, site_faults}
 use Rattle.c_types_rules.specs.Statements.{walk_of}
 use Rattle.c_types_rules.specs.TypedStatements.{grown}
@@ -219,13 +219,15 @@ module _ (walks : (text : Text) (one : BlockItem) → (grown text one).walk ≡ 
       let mid = enumeration_behind text front before in
       let next = item_behind text (item.Objects declaration) before in
       let names = enumeration_faults text front before in
-      let own = globals_faults text front declaration.declarators mid in
+      let kind = kind_of front in
+      let is_const = has_const front in
+      let own = globals_faults text kind is_const declaration.declarators mid in
       let rest = items_faults text more next in
       let whole_one = all_whole (map whole_declarator declaration.declarators) in
       let others = all_whole (map whole_item more) in
       items_scope text more next (none_right (names ++ own) rest none)
       (and_right whole_one others whole)
-      (globals_scope text front declaration.declarators mid (and_left whole_one others whole)
+      (globals_scope text kind is_const declaration.declarators mid (and_left whole_one others whole)
       (none_right names own (none_left (names ++ own) rest none))
       (enumeration_scope text front before f))
   items_scope text (item.Prototype specifiers declarator ∷ more) before none whole f =

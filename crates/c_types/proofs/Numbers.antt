@@ -50,7 +50,8 @@ use Rattle.c_types_rules.specs.Statements.{declaration_walk, receiving, start_wa
 use Rattle.c_types_rules.specs.Statements.{statement_walk, item_walk, walk_of, marking}
 use Rattle.c_types_rules.specs.Statements.{switching, switched, end_behind, selecting, naming}
 use Rattle.c_types_rules.specs.Statements.{tagging, enumerating, enumeration_walk}
-use Rattle.c_types_rules.specs.Declarations.{enumerator_number, enumerator_entry}
+use Rattle.c_types_rules.specs.Declarations.{kind_of, has_const, enumerator_number}
+use Rattle.c_types_rules.specs.Declarations.{enumerator_entry}
 use Rattle.c_types_objects.specs.Named.{names_of}
 use Rattle.c_types_bodies.specs.Bodies.{AreNumbered, begins}
 
@@ -93,11 +94,11 @@ rises_evaluating : (role : Role) (value : Option Expression) → Rises (evaluati
 rises_evaluating role None = rises_still
 rises_evaluating role (Some value) = rises_doing (evaluates role value)
 
-rises_declarators : (text : Text) (specifiers : Specifiers) (all : List Declarator)
-    → AllByRecursion Rises (map (declarator_walk text specifiers) all)
-rises_declarators text specifiers [] = tt
-rises_declarators text specifiers (one ∷ all) =
-    (λ around. omega arith, rises_declarators text specifiers all)
+rises_declarators : (text : Text) (kind : Kind) (is_const : Bool) (all : List Declarator)
+    → AllByRecursion Rises (map (declarator_walk text kind is_const) all)
+rises_declarators text kind is_const [] = tt
+rises_declarators text kind is_const (one ∷ all) =
+    (λ around. omega arith, rises_declarators text kind is_const all)
 
 rises_enumerating : (text : Text) (next : ℤ) (list : List Enumerator)
     → Rises (enumerating text next list)
@@ -118,11 +119,13 @@ rises_enumeration text (Some (enumeration.Listed (Some tag) list)) =
 rises_declaration : (text : Text) (declaration : Declaration)
     → Rises (declaration_walk text declaration)
 rises_declaration text declaration =
+    let kind = kind_of declaration.specifiers in
+    let is_const = has_const declaration.specifiers in
     rises_followed (enumeration_walk text declaration.specifiers.enumeration)
-    (in_order (map (declarator_walk text declaration.specifiers) declaration.declarators))
+    (in_order (map (declarator_walk text kind is_const) declaration.declarators))
     (rises_enumeration text declaration.specifiers.enumeration)
-    (rises_in_order (map (declarator_walk text declaration.specifiers) declaration.declarators)
-    (rises_declarators text declaration.specifiers declaration.declarators))
+    (rises_in_order (map (declarator_walk text kind is_const) declaration.declarators)
+    (rises_declarators text kind is_const declaration.declarators))
 
 rises_receiving : (all : List Parameter) → AllByRecursion Rises (map receiving all)
 rises_receiving [] = tt
@@ -354,9 +357,9 @@ merged_below n (Some (declared.Function result parameters defined)) fresh initia
 merged_below n (Some (declared.Enumerator value)) fresh initializes h new = new
 merged_below n (Some declared.Tag) fresh initializes h new = new
 
-numbered_global : (text : Text) (specifiers : Specifiers) (declarator : Declarator)
-    (before : Before) → Numbered before → Numbered (global_behind text specifiers declarator before)
-numbered_global text specifiers declarator before h =
+numbered_global : (text : Text) (kind : Kind) (is_const : Bool) (declarator : Declarator)
+    (before : Before) → Numbered before → Numbered (global_behind text kind is_const declarator before)
+numbered_global text kind is_const declarator before h =
     let n = before.objects in
     let found = declared_as before.names declarator.name.bytes in
     let more : AreNumbered (n + 1) before.names =
@@ -365,12 +368,12 @@ numbered_global text specifiers declarator before h =
     (merged_below (n + 1) found _ _
     (declared_below (n + 1) before.names declarator.name.bytes more) (omega arith))
 
-numbered_globals : (text : Text) (specifiers : Specifiers) (all : List Declarator)
-    (before : Before) → Numbered before → Numbered (globals_behind text specifiers all before)
-numbered_globals text specifiers [] before h = h
-numbered_globals text specifiers (one ∷ all) before h =
-    numbered_globals text specifiers all (global_behind text specifiers one before)
-    (numbered_global text specifiers one before h)
+numbered_globals : (text : Text) (kind : Kind) (is_const : Bool) (all : List Declarator)
+    (before : Before) → Numbered before → Numbered (globals_behind text kind is_const all before)
+numbered_globals text kind is_const [] before h = h
+numbered_globals text kind is_const (one ∷ all) before h =
+    numbered_globals text kind is_const all (global_behind text kind is_const one before)
+    (numbered_global text kind is_const one before h)
 
 function_below : (n : ℕ) (found : Option Declared) (kind : Kind)
     (parameters : Option (List ParameterType)) (defines : Bool)
@@ -413,7 +416,8 @@ numbered_item text (item.Empty place) before h = h
 numbered_item text (item.Typedef specifiers names place) before h =
     numbered_enumeration text specifiers before h
 numbered_item text (item.Objects declaration) before h =
-    numbered_globals text declaration.specifiers declaration.declarators
+    numbered_globals text (kind_of declaration.specifiers) (has_const declaration.specifiers)
+    declaration.declarators
     (enumeration_behind text declaration.specifiers before)
     (numbered_enumeration text declaration.specifiers before h)
 numbered_item text (item.Prototype specifiers declarator) before h =

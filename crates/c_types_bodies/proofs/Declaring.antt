@@ -7,7 +7,6 @@ use Rattle.std.specs.List.{flat_map, filter_map, cons_option, AllByRecursion}
 use Rattle.std.proofs.lemmas.List.Elements.{filter_map-append}
 use Rattle.c_lexer.specs.declared.fault.Rule.TheVariants as rule
 use Rattle.c_lexer.specs.declared.fault.TextFault.{TextFault}
-use Rattle.c_grammar_tree.specs.declared.declaration.Specifiers.{Specifiers}
 use Rattle.c_grammar_tree.specs.declared.declaration.Declarator.{Declarator}
 use Rattle.c_grammar_tree.specs.declared.expression.Expression.{Expression}
 use Rattle.c_types_rules.specs.declared.meaning.Entry.{Entry}
@@ -18,18 +17,17 @@ use Rattle.c_types_rules.specs.Names.{Text}
 use Rattle.c_types_rules.specs.First.{first_with, first_append}
 use Rattle.c_types_rules.specs.ExpressionRules.{broken, at_if, uses_faults}
 use Rattle.c_types_rules.specs.Expressions.{reading, used}
-use Rattle.c_types_rules.specs.Declarations.{kind_of, items_of, length_uses, length_faults}
-use Rattle.c_types_rules.specs.Declarations.{void_object}
-use Rattle.c_types_rules.specs.Declarations.{is_declared_among, local_entry, object_of, has_const}
+use Rattle.c_types_rules.specs.Declarations.{items_of, length_uses, length_faults, void_object}
+use Rattle.c_types_rules.specs.Declarations.{is_declared_among, local_entry, object_of}
+use Rattle.c_types_rules.specs.Declarations.{names_behind, typed_local}
 use Rattle.c_types_rules.specs.Statements.{Around, Site, evaluates, declares, declarator_walk}
 use Rattle.c_types_rules.specs.Statements.{declaring_behind}
 use Rattle.c_types_rules.specs.StatementRules.{Jump, act_faults, site_faults, label_at, goto_at}
 use Rattle.c_types_rules.specs.StatementRules.{object_number}
 use Rattle.c_types_rules.specs.TypedStatements.{typed_declarator}
-use Rattle.c_types_rules.specs.Items.{Call, site_calls}
+use Rattle.c_types_rules.specs.Items.{Call, object_faults, site_calls}
 use Rattle.c_types_expressions.specs.Read.{role_faults, role_calls, uses_calls, calls_are}
-use Rattle.c_types_objects.specs.Objects.{object_faults, items_faults, items_calls}
-use Rattle.c_types_objects.specs.Objects.{names_behind, local_by}
+use Rattle.c_types_objects.specs.Initializers.{items_faults, items_calls}
 use Rattle.c_types_jumps.specs.Found.{Found, entered, with_base}
 use Rattle.c_types_bodies.specs.declared.walker.Cases.{Cases}
 use Rattle.c_types_bodies.specs.declared.walker.Frame.{Frame}
@@ -66,16 +64,15 @@ listed_none {Y} f around (item ∷ items) same =
     ∙ listed_none f around items same
 
 -- the faults of a declarator, that of its name apart
-declares_faults : (text : Text) (around : Around) (specifiers : Specifiers)
-    (declarator : Declarator)
-    → act_faults text around (declares specifiers declarator)
+declares_faults : (text : Text) (around : Around) (kind : Kind) (declarator : Declarator)
+    → act_faults text around (declares kind declarator)
     ≡ broken rule.N2 (at_if (is_declared_among (drop around.outer around.names)
     declarator.name.bytes) declarator.name.place)
-    ++ object_faults text around.names (kind_of specifiers) declarator
-declares_faults text around specifiers declarator =
+    ++ object_faults text around.names kind declarator
+declares_faults text around kind declarator =
     let twice = broken rule.N2 (at_if (is_declared_among (drop around.outer around.names)
     declarator.name.bytes) declarator.name.place) in
-    let empty = broken rule.N5 (void_object (kind_of specifiers) declarator) in
+    let empty = broken rule.N5 (void_object kind declarator) in
     let long = broken rule.N12 (length_faults text around.names declarator) in
     let uses = uses_faults (length_uses text around.names declarator) in
     regroup twice empty long uses
@@ -85,27 +82,27 @@ declares_faults text around specifiers declarator =
         ≡ a ++ ((b ++ c) ++ d)
     regroup a b c d = simp (append-nil, append_assoc)
 
-pub declarator_state : (text : Text) (caller : ℕ) (specifiers : Specifiers)
+pub declarator_state : (text : Text) (caller : ℕ) (kind : Kind) (flag : Bool)
     (declarator : Declarator) (old new : State) (names : List Entry)
-    → names ≡ (declaring_behind text specifiers declarator old.around).names
-    → new.around ≡ declaring_behind text specifiers declarator old.around
+    → names ≡ (declaring_behind text kind flag declarator old.around).names
+    → new.around ≡ declaring_behind text kind flag declarator old.around
     → new.first ≡ first_with (first_with old.first (broken rule.N2 (at_if (is_declared_among
     (drop old.around.outer old.around.names) declarator.name.bytes) declarator.name.place)))
-    (object_faults text old.around.names (kind_of specifiers) declarator
+    (object_faults text old.around.names kind declarator
     ++ items_faults text names declarator)
     → new.calls ≡ (old.calls ++ uses_calls caller (length_uses text old.around.names declarator))
     ++ items_calls text names caller declarator
     → new.labels ≡ old.labels → new.gotos ≡ old.gotos
-    → new ≡ walked text caller (declarator_walk text specifiers declarator) old
+    → new ≡ walked text caller (declarator_walk text kind flag declarator) old
 unfolding noted
-declarator_state text caller specifiers declarator old new names names_are around first calls labels
+declarator_state text caller kind flag declarator old new names names_are around first calls labels
     gotos =
-    let behind = declaring_behind text specifiers declarator old.around in
+    let behind = declaring_behind text kind flag declarator old.around in
     let items = items_of declarator.initializer in
     let twice = broken rule.N2 (at_if (is_declared_among
     (drop old.around.outer old.around.names) declarator.name.bytes) declarator.name.place) in
-    let object = object_faults text old.around.names (kind_of specifiers) declarator in
-    let own = act_faults text old.around (declares specifiers declarator) in
+    let object = object_faults text old.around.names kind declarator in
+    let own = act_faults text old.around (declares kind declarator) in
     let sites = map (λ item. record { around = behind; act = evaluates Valued item }) items in
     let faults : items_faults text names declarator ≡ flat_map (site_faults text) sites =
     ap (λ (all : List Entry). items_faults text all declarator) names_are
@@ -117,14 +114,14 @@ declarator_state text caller specifiers declarator old new names names_are aroun
     behind items
     (λ item. sym (calls_are caller (used Valued (reading text behind.names item))))) in
     let uses = length_uses text old.around.names declarator in
-    same_state new (walked text caller (declarator_walk text specifiers declarator) old) around
+    same_state new (walked text caller (declarator_walk text kind flag declarator) old) around
     (first
     ∙ ap (λ (all : List TextFault). first_with (first_with old.first twice) (object ++ all)) faults
     ∙ sym (first_append old.first twice (object ++ flat_map (site_faults text) sites))
     ∙ ap (λ (all : List TextFault). first_with old.first all)
     (sym (append_assoc twice object (flat_map (site_faults text) sites)))
     ∙ ap (λ (all : List TextFault). first_with old.first (all ++ flat_map (site_faults text) sites))
-    (sym (declares_faults text old.around specifiers declarator)))
+    (sym (declares_faults text old.around kind declarator)))
     (calls
     ∙ ap (λ (all : List Call). (old.calls ++ uses_calls caller uses) ++ all) found
     ∙ append_assoc old.calls (uses_calls caller uses) (flat_map (site_calls text caller) sites)
@@ -172,18 +169,18 @@ tied_declared frame old new jumps after entry number tied names is objects cases
 
 -- What a declarator leaves behind it in a function.
 pub record IsDeclared (frame : Frame) (nest : Nest) (old new : Walker) (jumps after : Found)
-    (specifiers : Specifiers) (declarator : Declarator) (typed : TypedDeclarator) : Type 0 where
+    (kind : Kind) (flag : Bool) (declarator : Declarator) (typed : TypedDeclarator) : Type 0 where
   pub tied_new : IsTied frame new after
   pub extends : Extends old.names new.names
-  pub typed_is : typed ≡ typed_declarator frame.survey.now specifiers declarator
+  pub typed_is : typed ≡ typed_declarator frame.survey.now kind flag declarator
       (around_of frame nest old)
   pub state : state_of frame nest new after
       ≡ walked frame.survey.now frame.caller
-      (declarator_walk frame.survey.now specifiers declarator) (state_of frame nest old jumps)
+      (declarator_walk frame.survey.now kind flag declarator) (state_of frame nest old jumps)
 
 -- of what depends on the type and const of specifiers
-by_specifiers : {Y : Type 0} (f : Kind → Bool → Y) (kind new_kind : Kind) (flag new_flag : Bool)
-    → kind ≡ new_kind → flag ≡ new_flag → f kind flag ≡ f new_kind new_flag
+pub by_specifiers : {Y : Type 0} (f : Kind → Bool → Y) (kind new_kind : Kind)
+    (flag new_flag : Bool) → kind ≡ new_kind → flag ≡ new_flag → f kind flag ≡ f new_kind new_flag
 by_specifiers f kind new_kind flag new_flag first second =
     ap (λ (k : Kind). f k flag) first ∙ ap (λ (b : Bool). f new_kind b) second
 
@@ -201,10 +198,9 @@ declared_calls text caller held names number declarator kind flag =
     ++ items_calls text (names_behind text names number kind flag declarator) caller declarator
 
 pub is_declared : (frame : Frame) (nest : Nest) (old new : Walker) (jumps after : Found)
-    (specifiers : Specifiers) (declarator : Declarator) (typed : TypedDeclarator) (kind : Kind)
-    (flag : Bool) → IsTied frame old jumps → kind ≡ kind_of specifiers
-    → flag ≡ has_const specifiers
-    → typed ≡ local_by frame.survey.now old.names old.objects kind flag declarator
+    (kind : Kind) (flag : Bool) (declarator : Declarator) (typed : TypedDeclarator)
+    → IsTied frame old jumps
+    → typed ≡ typed_local frame.survey.now old.names old.objects kind flag declarator
     → new.names ≡ names_behind frame.survey.now old.names old.objects kind flag declarator
     → new.objects ≡ old.objects + 1 → new.cases ≡ old.cases → new.passed ≡ old.passed
     → new.first ≡ declared_first frame.survey.now (first_with old.first (broken rule.N2 (at_if
@@ -213,60 +209,40 @@ pub is_declared : (frame : Frame) (nest : Nest) (old new : Walker) (jumps after 
     → new.calls.items ≡ declared_calls frame.survey.now frame.caller old.calls.items old.names
     old.objects declarator kind flag
     → after ≡ entered old.objects jumps
-    → IsDeclared frame nest old new jumps after specifiers declarator typed
-is_declared frame nest old new jumps after specifiers declarator typed kind flag tied kind_is
-    flag_is
-    typed_is names_is objects_is cases_is passed_is first_is calls_is after_is =
+    → IsDeclared frame nest old new jumps after kind flag declarator typed
+is_declared frame nest old new jumps after kind flag declarator typed tied typed_is names_is
+    objects_is cases_is passed_is first_is calls_is after_is =
     let text = frame.survey.now in
-    let to_kind = kind_of specifiers in
-    let to_flag = has_const specifiers in
-    let held = first_with old.first (broken rule.N2 (at_if (is_declared_among
-    (drop nest.outer old.names) declarator.name.bytes) declarator.name.place)) in
-    let names : new.names ≡ names_behind text old.names old.objects to_kind to_flag declarator =
-    names_is ∙ by_specifiers (λ k b. names_behind text old.names old.objects k b declarator)
-    kind to_kind flag to_flag kind_is flag_is in
-    let more : Extends old.names new.names = record {
-      rest = local_entry declarator.name.bytes
-          (object_of text old.names old.objects specifiers declarator) ∷ [];
-      is = names;
-    } in
+    let behind = names_behind text old.names old.objects kind flag declarator in
+    let entry = local_entry declarator.name.bytes
+    (object_of text old.names old.objects kind flag declarator) in
+    let more : Extends old.names new.names = record { rest = entry ∷ []; is = names_is } in
     let same_base = base_extends frame.file old.names new.names tied.within more in
     record {
-      tied_new = tied_declared frame old new jumps after (local_entry declarator.name.bytes
-          (object_of text old.names old.objects specifiers declarator)) old.objects tied names refl
+      tied_new = tied_declared frame old new jumps after entry old.objects tied names_is refl
           objects_is cases_is (ap (λ (f : Found). f.current) after_is)
           (ap (λ (f : Found). f.next) after_is)
           (ap (λ (f : Found). f.first) after_is);
       extends = more;
-      typed_is = typed_is ∙ by_specifiers
-          (λ k b. local_by text old.names old.objects k b declarator) kind to_kind flag to_flag
-          kind_is flag_is;
-      state = declarator_state text frame.caller specifiers declarator (state_of frame nest old
+      typed_is = typed_is;
+      state = declarator_state text frame.caller kind flag declarator (state_of frame nest old
           jumps)
-          (state_of frame nest new after)
-          (names_behind text old.names old.objects to_kind to_flag declarator) refl
-          (ap (λ (all : List Entry). record (around_of frame nest new) { names = all }) names
-          ∙ ap (λ (n : ℕ). record (around_of frame nest new) {
-            names = names_behind text old.names old.objects to_kind to_flag declarator;
-            objects = n;
-          }) objects_is
+          (state_of frame nest new after) behind refl
+          (ap (λ (all : List Entry). record (around_of frame nest new) { names = all }) names_is
+          ∙ ap (λ (n : ℕ). record (around_of frame nest new) { names = behind; objects = n })
+          objects_is
           ∙ ap (λ (c : Cases). record (around_of frame nest new) {
-            names = names_behind text old.names old.objects to_kind to_flag declarator;
+            names = behind;
             objects = old.objects + 1;
             choices = c.choices.items;
             otherwise = c.otherwise;
           }) cases_is
           ∙ ap (λ (n : ℕ). record (around_of frame nest old) {
-            names = names_behind text old.names old.objects to_kind to_flag declarator;
+            names = behind;
             objects = old.objects + 1;
             passed = n;
           }) passed_is)
-          (first_is ∙ by_specifiers
-          (declared_first text held old.names old.objects declarator) kind to_kind flag to_flag
-          kind_is flag_is)
-          (calls_is ∙ by_specifiers
-          (declared_calls text frame.caller old.calls.items old.names old.objects declarator) kind
-          to_kind flag to_flag kind_is flag_is)
+          first_is calls_is
           (ap (λ (base : List ℕ). map (with_base base) after.labels) same_base
           ∙ ap (λ (f : Found). map (with_base (base_of frame.file old.names)) f.labels) after_is)
           (ap (λ (base : List ℕ). map (with_base base) after.gotos) same_base

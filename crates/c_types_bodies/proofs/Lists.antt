@@ -2,14 +2,15 @@
 -- (`declarators_step`) and of items (`items_step`).
 use Rattle.std.proofs.Common.{◌≡◌, ℕ, suc, ◌+◌, ◌<◌, ◌≤◌, List, [], ◌∷◌, ◌++◌, length, get_or, drop}
 use Rattle.std.proofs.Common.{map, Option, None, Some, refl, sym, ap, ◌∙◌, append_assoc, add-one}
+use Rattle.std.proofs.Common.{Bool}
 use Rattle.std.proofs.Math.Seq.{drop-cons}
 use Rattle.std.proofs.lemmas.List.{drop_all}
 use Rattle.c_grammar_tree.specs.declared.expression.Expression.{Expression}
-use Rattle.c_grammar_tree.specs.declared.declaration.Specifiers.{Specifiers}
 use Rattle.c_grammar_tree.specs.declared.declaration.Declarator.{Declarator}
 use Rattle.c_grammar_tree.specs.declared.statement.BlockItem.{BlockItem}
 use Rattle.c_types_rules.specs.declared.typed.TypedDeclarator.{TypedDeclarator}
 use Rattle.c_types_rules.specs.declared.typed.TypedItem.{TypedItem}
+use Rattle.c_types_rules.specs.declared.meaning.Kind.{Kind}
 use Rattle.c_types_rules.specs.declared.meaning.Role.{Role}
 use Rattle.c_types_rules.specs.Names.{Text}
 use Rattle.c_types_rules.specs.Statements.{Around, Walk, in_order, declarator_walk, evaluating}
@@ -61,24 +62,24 @@ unfolding noted
 around_evaluated text caller role None state next is = ap (λ (s : State). s.around) is
 around_evaluated text caller role (Some value) state next is = ap (λ (s : State). s.around) is
 
-pub declarators_step : (text : Text) (specifiers : Specifiers) (items : List Declarator) (i : ℕ)
-    (item : Declarator) (typed new : List TypedDeclarator) (one : TypedDeclarator)
+pub declarators_step : (text : Text) (kind : Kind) (is_const : Bool) (items : List Declarator)
+    (i : ℕ) (item : Declarator) (typed new : List TypedDeclarator) (one : TypedDeclarator)
     (around next : Around) (whole : List TypedDeclarator) → i < length items
     → item ≡ get_or items i item → new ≡ typed ++ one ∷ []
-    → one ≡ typed_declarator text specifiers item around
-    → next ≡ (declarator_walk text specifiers item).behind around
-    → typed ++ typed_declarators text specifiers (drop i items) around ≡ whole
-    → new ++ typed_declarators text specifiers (drop (i + 1) items) next ≡ whole
-declarators_step text specifiers items i item typed new one around next whole less is new_is one_is
-    next_is so_far =
+    → one ≡ typed_declarator text kind is_const item around
+    → next ≡ (declarator_walk text kind is_const item).behind around
+    → typed ++ typed_declarators text kind is_const (drop i items) around ≡ whole
+    → new ++ typed_declarators text kind is_const (drop (i + 1) items) next ≡ whole
+declarators_step text kind is_const items i item typed new one around next whole less is new_is
+    one_is next_is so_far =
     let more = drop (i + 1) items in
-    ap (λ (all : List TypedDeclarator). all ++ typed_declarators text specifiers more next) new_is
-    ∙ append_assoc typed (one ∷ []) (typed_declarators text specifiers more next)
-    ∙ ap (λ (d : TypedDeclarator). typed ++ (d ∷ typed_declarators text specifiers more next))
+    ap (λ (all : List TypedDeclarator). all ++ typed_declarators text kind is_const more next) new_is
+    ∙ append_assoc typed (one ∷ []) (typed_declarators text kind is_const more next)
+    ∙ ap (λ (d : TypedDeclarator). typed ++ (d ∷ typed_declarators text kind is_const more next))
     one_is
-    ∙ ap (λ (a : Around). typed ++ (typed_declarator text specifiers item around
-    ∷ typed_declarators text specifiers more a)) next_is
-    ∙ sym (ap (λ (rest : List Declarator). typed ++ typed_declarators text specifiers rest around)
+    ∙ ap (λ (a : Around). typed ++ (typed_declarator text kind is_const item around
+    ∷ typed_declarators text kind is_const more a)) next_is
+    ∙ sym (ap (λ (rest : List Declarator). typed ++ typed_declarators text kind is_const rest around)
     (drop_at items i item less is))
     ∙ so_far
 

@@ -1,6 +1,6 @@
 -- So many labels stand in a part of a function as are counted in it (`statement_passes`).
 use Rattle.std.proofs.Common.{◌≡◌, ℕ, ◌+◌, ℤ, pos, ◌+ℤ◌, List, [], ◌∷◌, ◌++◌, length, map, Option}
-use Rattle.std.proofs.Common.{None, Some, true, false, length-append, refl, sym, subst, arith}
+use Rattle.std.proofs.Common.{None, Some, Bool, true, false, length-append, refl, sym, subst, arith}
 use Rattle.std.specs.List.{flat_map}
 use Rattle.c_grammar_tree.specs.declared.name.Name.{Name}
 use Rattle.c_grammar_tree.specs.declared.expression.Expression.{Expression}
@@ -9,7 +9,6 @@ use Rattle.c_grammar_tree.specs.declared.declaration.Declarator.{Declarator}
 use Rattle.c_grammar_tree.specs.declared.declaration.Enumerator.{Enumerator}
 use Rattle.c_grammar_tree.specs.declared.declaration.Enumeration.{Enumeration}
 use Rattle.c_grammar_tree.specs.declared.declaration.Enumeration.TheVariants as enumeration
-use Rattle.c_grammar_tree.specs.declared.declaration.Specifiers.{Specifiers}
 use Rattle.c_grammar_tree.specs.declared.statement.ForStart.{ForStart}
 use Rattle.c_grammar_tree.specs.declared.statement.ForStart.TheVariants as start
 use Rattle.c_grammar_tree.specs.declared.statement.Statement.{Statement, roll-Statement}
@@ -19,12 +18,14 @@ use Rattle.c_grammar_tree.specs.declared.statement.BlockItem.TheFolds.{fold-roll
 use Rattle.c_grammar_tree.specs.declared.statement.BlockItem.TheFolds.{fold-roll-Statement}
 use Rattle.c_grammar_tree.specs.declared.statement.BlockItem.TheFolds.{map-BlockItem, map-Statement}
 use Rattle.c_grammar_tree.specs.declared.statement.BlockItem.TheFolds.{ind-Statement}
+use Rattle.c_types_rules.specs.declared.meaning.Kind.{Kind}
 use Rattle.c_types_rules.specs.declared.meaning.Role.{Role}
 use Rattle.c_types_rules.specs.declared.meaning.Role.TheVariants.{Valued, Evaluated}
 use Rattle.c_types_rules.specs.declared.typed.TypedStatement.{TypedStatement}
 use Rattle.c_types_rules.specs.declared.typed.TypedItem.{TypedItem}
 use Rattle.c_types_rules.specs.Names.{Text}
-use Rattle.c_types_rules.specs.Declarations.{enumerator_number, enumerator_entry}
+use Rattle.c_types_rules.specs.Declarations.{kind_of, has_const, enumerator_number}
+use Rattle.c_types_rules.specs.Declarations.{enumerator_entry}
 use Rattle.c_types_rules.specs.Statements.{Around, Act, Walk, still, doing, followed, in_order}
 use Rattle.c_types_rules.specs.Statements.{inner, scoped, loop, looped, labeled, marking, jumps}
 use Rattle.c_types_rules.specs.Statements.{switched, switching, selected, selecting, end_behind}
@@ -108,21 +109,23 @@ passes_enumeration text (Some (enumeration.Listed (Some tag) list)) =
     passes_then (tagging tag) (enumerating text (pos 0) list) 0 0 (passes_tagging tag)
     (passes_enumerating text (pos 0) list)
 
-passes_declarators : (text : Text) (specifiers : Specifiers) (list : List Declarator)
-    → Passes (in_order (map (declarator_walk text specifiers) list)) 0
-passes_declarators text specifiers [] = passes_still
-passes_declarators text specifiers (one ∷ more) =
-    passes_then (declarator_walk text specifiers one)
-    (in_order (map (declarator_walk text specifiers) more)) 0 0
-    (record { behind_is = λ around. omega arith }) (passes_declarators text specifiers more)
+passes_declarators : (text : Text) (kind : Kind) (is_const : Bool) (list : List Declarator)
+    → Passes (in_order (map (declarator_walk text kind is_const) list)) 0
+passes_declarators text kind is_const [] = passes_still
+passes_declarators text kind is_const (one ∷ more) =
+    passes_then (declarator_walk text kind is_const one)
+    (in_order (map (declarator_walk text kind is_const) more)) 0 0
+    (record { behind_is = λ around. omega arith }) (passes_declarators text kind is_const more)
 
 passes_declaration : (text : Text) (declaration : Declaration)
     → Passes (declaration_walk text declaration) 0
 passes_declaration text declaration =
     passes_then (enumeration_walk text declaration.specifiers.enumeration)
-    (in_order (map (declarator_walk text declaration.specifiers) declaration.declarators)) 0 0
+    (in_order (map (declarator_walk text (kind_of declaration.specifiers)
+    (has_const declaration.specifiers)) declaration.declarators)) 0 0
     (passes_enumeration text declaration.specifiers.enumeration)
-    (passes_declarators text declaration.specifiers declaration.declarators)
+    (passes_declarators text (kind_of declaration.specifiers) (has_const declaration.specifiers)
+    declaration.declarators)
 
 passes_start : (text : Text) (first : ForStart) → Passes (start_walk text first) 0
 passes_start text (start.Declaration declaration) = passes_declaration text declaration

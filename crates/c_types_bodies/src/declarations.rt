@@ -4,12 +4,12 @@ ghost use Rattle.std.specs.Prelude.{◌≡◌, ◌+◌, map, IfOk, OnOk};
 ghost use Rattle.c_types_rules.specs.Statements.{declarator_walk, declaration_walk};
 ghost use Rattle.c_types_rules.specs.Statements.{enumeration_walk, in_order};
 ghost use Rattle.c_types_rules.specs.TypedStatements.{typed_declarator, typed_declarators};
-ghost use Rattle.c_types_rules.specs.Declarations.{kind_of, has_const};
+ghost use Rattle.c_types_rules.specs.TypedStatements.{typed_declaration};
 ghost use Rattle.c_types_bodies.specs.States.{walked};
 ghost use Rattle.c_types_bodies.specs.Views.{state_of, around_of, IsTied, Extends};
 
 use crate::walker::{Frame, Nest, Walker};
-use c_grammar_tree::{Declaration, Declarator, Enumeration, Specifiers};
+use c_grammar_tree::{Declaration, Declarator, Enumeration};
 use c_lexer::Rule;
 use c_types_jumps::Jumps;
 use c_types_objects::{Qualified, note_if, read_enumeration, read_local, read_specifiers};
@@ -31,20 +31,17 @@ pub(crate) fn walk_declarator(
     walker: &mut Walker,
     jumps: &mut Jumps,
     nest: Nest,
-    specifiers: &Specifiers,
     qualified: Qualified,
     declarator: &Declarator,
 ) -> Result<TypedDeclarator, AllocError>
-    requires tied { IsTied frame.now walker.old jumps.old }
-    requires kind { qualified.kind ≡ kind_of specifiers.now }
-    requires is_const { qualified.is_const ≡ has_const specifiers.now }
+    requires { IsTied frame.now walker.old jumps.old }
     ensures tied { OnOk result (IsTied frame.now walker.new jumps.new) }
     ensures extends { OnOk result (Extends walker.old.names walker.new.names) }
-    ensures typed { IfOk result (λ t. t ≡ typed_declarator frame.now.survey.now specifiers.now
-        declarator.now (around_of frame.now nest walker.old)) }
+    ensures typed { IfOk result (λ t. t ≡ typed_declarator frame.now.survey.now qualified.kind
+        qualified.is_const declarator.now (around_of frame.now nest walker.old)) }
     ensures state { OnOk result (state_of frame.now nest walker.new jumps.new
         ≡ walked frame.now.survey.now frame.now.caller
-        (declarator_walk frame.now.survey.now specifiers.now declarator.now)
+        (declarator_walk frame.now.survey.now qualified.kind qualified.is_const declarator.now)
         (state_of frame.now nest walker.old jumps.old)) }
 {
     let name = declarator.name.bytes.as_slice();
@@ -108,25 +105,22 @@ fn walk_declarators(
     walker: &mut Walker,
     jumps: &mut Jumps,
     nest: Nest,
-    specifiers: &Specifiers,
+    qualified: Qualified,
     declarators: &[Declarator],
 ) -> Result<Seq<TypedDeclarator>, AllocError>
     requires { IsTied frame.now walker.old jumps.old }
     ensures tied { OnOk result (IsTied frame.now walker.new jumps.new) }
     ensures extends { OnOk result (Extends walker.old.names walker.new.names) }
-    ensures typed { IfOk result (λ t. t ≡ typed_declarators frame.now.survey.now specifiers.now
-        declarators.now (around_of frame.now nest walker.old)) }
+    ensures typed { IfOk result (λ t. t ≡ typed_declarators frame.now.survey.now qualified.kind
+        qualified.is_const declarators.now (around_of frame.now nest walker.old)) }
     ensures state { OnOk result (state_of frame.now nest walker.new jumps.new
         ≡ walked frame.now.survey.now frame.now.caller
-        (in_order (map (declarator_walk frame.now.survey.now specifiers.now) declarators.now))
-        (state_of frame.now nest walker.old jumps.old)) }
+        (in_order (map (declarator_walk frame.now.survey.now qualified.kind qualified.is_const)
+        declarators.now)) (state_of frame.now nest walker.old jumps.old)) }
 {
-    let qualified = read_specifiers(alloc, specifiers)?;
     let mut typed = Vec::with_capacity(alloc, declarators.len())?;
     for declarator in declarators {
-        let one = walk_declarator(
-            alloc, frame, walker, jumps, nest, specifiers, qualified, declarator,
-        )?;
+        let one = walk_declarator(alloc, frame, walker, jumps, nest, qualified, declarator)?;
         typed.push(one)?;
     }
     Ok(Seq::from_vec(typed))
@@ -144,10 +138,8 @@ pub(crate) fn walk_declaration(
     requires { IsTied frame.now walker.old jumps.old }
     ensures tied { OnOk result (IsTied frame.now walker.new jumps.new) }
     ensures extends { OnOk result (Extends walker.old.names walker.new.names) }
-    ensures typed { IfOk result (λ t. t ≡ typed_declarators frame.now.survey.now
-        declaration.now.specifiers declaration.now.declarators
-        ((enumeration_walk frame.now.survey.now declaration.now.specifiers.enumeration).behind
-        (around_of frame.now nest walker.old))) }
+    ensures typed { IfOk result (λ t. t ≡ typed_declaration frame.now.survey.now declaration.now
+        (around_of frame.now nest walker.old)) }
     ensures state { OnOk result (state_of frame.now nest walker.new jumps.new
         ≡ walked frame.now.survey.now frame.now.caller
         (declaration_walk frame.now.survey.now declaration.now)
@@ -155,7 +147,8 @@ pub(crate) fn walk_declaration(
 {
     let specifiers = &declaration.specifiers;
     walk_enumeration(alloc, frame, walker, jumps, nest, &specifiers.enumeration)?;
+    let qualified = read_specifiers(alloc, specifiers)?;
     let list = declaration.declarators.as_slice();
-    let typed = walk_declarators(alloc, frame, walker, jumps, nest, specifiers, list)?;
+    let typed = walk_declarators(alloc, frame, walker, jumps, nest, qualified, list)?;
     Ok(typed)
 }

@@ -2,15 +2,13 @@
 //! `specs/Items.antt` and `specs/Sound.antt` of `c_types_rules`). Proved with `proofs/Globals`.
 ghost use Rattle.std.specs.Prelude.{◌≡◌, ◌++◌, OnOk};
 ghost use Rattle.c_types_rules.specs.First.{first_with};
-ghost use Rattle.c_types_rules.specs.Items.{globals_behind, globals_faults};
-ghost use Rattle.c_types_rules.specs.Sound.{starts_in};
+ghost use Rattle.c_types_rules.specs.Declarations.{kind_of, has_const};
+ghost use Rattle.c_types_rules.specs.Items.{with_global, redeclared_object, global_behind};
+ghost use Rattle.c_types_rules.specs.Items.{global_faults, globals_behind, globals_faults};
+ghost use Rattle.c_types_rules.specs.Sound.{start_with, start_of, starts_in};
 ghost use Rattle.c_types_rules.specs.ExpressionRules.{broken};
 ghost use Rattle.c_lexer.specs.declared.fault.Rule.TheVariants as rule;
 ghost use Rattle.c_types_globals.specs.Scopes.{before_of};
-ghost use Rattle.c_types_globals.specs.Globals.{declared_by, taken_by, start_with, behind_by};
-ghost use Rattle.c_types_globals.specs.Globals.{faults_by};
-ghost use Rattle.c_types_globals.specs.Globals.{start_by, all_behind_by, all_faults_by};
-ghost use Rattle.c_types_globals.specs.Globals.{all_starts_by};
 
 use crate::merging::{merged_object, redeclares_object};
 use crate::{Scope, Start};
@@ -31,9 +29,9 @@ fn declare_global(
     first: &mut Option<TextFault>,
 ) -> Result<(), AllocError>
     ensures scope { OnOk result (before_of scope.new
-        ≡ declared_by global declarator.now (before_of scope.old)) }
+        ≡ with_global global declarator.now (before_of scope.old)) }
     ensures first { OnOk result (first.new ≡ first_with first.old
-        (broken rule.N2 (taken_by global declarator.now (before_of scope.old)))) }
+        (broken rule.N2 (redeclared_object global declarator.now (before_of scope.old)))) }
 {
     let name = declarator.name.bytes.as_slice();
     let initializes = declarator.initializer.is_some();
@@ -79,12 +77,12 @@ fn declare_object(
     first: &mut Option<TextFault>,
     starts: &mut Vec<Start>,
 ) -> Result<(), AllocError>
-    ensures scope { OnOk result (before_of scope.new ≡ behind_by survey.now qualified.kind
+    ensures scope { OnOk result (before_of scope.new ≡ global_behind survey.now qualified.kind
         qualified.is_const declarator.now (before_of scope.old)) }
-    ensures first { OnOk result (first.new ≡ first_with first.old (faults_by survey.now
-        qualified.kind qualified.is_const declarator.now (before_of scope.old))) }
-    ensures starts { OnOk result (starts.new.items ≡ starts.old.items ++ start_by survey.now
-        qualified.kind qualified.is_const declarator.now (before_of scope.old)) }
+    ensures first { OnOk result (first.new ≡ first_with first.old (global_faults survey.now
+        (before_of scope.old) qualified.kind qualified.is_const declarator.now)) }
+    ensures starts { OnOk result (starts.new.items ≡ starts.old.items ++ start_of survey.now
+        (before_of scope.old) qualified.kind qualified.is_const declarator.now) }
 {
     // N2 is named before the faults of the length, which tells whether it is broken
     let mut found = None;
@@ -117,11 +115,11 @@ fn declare_all(
     first: &mut Option<TextFault>,
     starts: &mut Vec<Start>,
 ) -> Result<(), AllocError>
-    ensures scope { OnOk result (before_of scope.new ≡ all_behind_by survey.now qualified.kind
+    ensures scope { OnOk result (before_of scope.new ≡ globals_behind survey.now qualified.kind
         qualified.is_const declarators.now (before_of scope.old)) }
-    ensures first { OnOk result (first.new ≡ first_with first.old (all_faults_by survey.now
+    ensures first { OnOk result (first.new ≡ first_with first.old (globals_faults survey.now
         qualified.kind qualified.is_const declarators.now (before_of scope.old))) }
-    ensures starts { OnOk result (starts.new.items ≡ starts.old.items ++ all_starts_by survey.now
+    ensures starts { OnOk result (starts.new.items ≡ starts.old.items ++ starts_in survey.now
         qualified.kind qualified.is_const declarators.now (before_of scope.old)) }
 {
     for declarator in declarators {
@@ -140,11 +138,14 @@ pub fn declare_objects(
     starts: &mut Vec<Start>,
 ) -> Result<(), AllocError>
     ensures scope { OnOk result (before_of scope.new ≡ globals_behind survey.now
-        declaration.now.specifiers declaration.now.declarators (before_of scope.old)) }
+        (kind_of declaration.now.specifiers) (has_const declaration.now.specifiers)
+        declaration.now.declarators (before_of scope.old)) }
     ensures first { OnOk result (first.new ≡ first_with first.old (globals_faults survey.now
-        declaration.now.specifiers declaration.now.declarators (before_of scope.old))) }
+        (kind_of declaration.now.specifiers) (has_const declaration.now.specifiers)
+        declaration.now.declarators (before_of scope.old))) }
     ensures starts { OnOk result (starts.new.items ≡ starts.old.items ++ starts_in survey.now
-        declaration.now.specifiers declaration.now.declarators (before_of scope.old)) }
+        (kind_of declaration.now.specifiers) (has_const declaration.now.specifiers)
+        declaration.now.declarators (before_of scope.old)) }
 {
     let qualified = read_specifiers(alloc, &declaration.specifiers)?;
     let declarators = declaration.declarators.as_slice();

@@ -11,10 +11,10 @@ use Rattle.c_grammar_tree.specs.declared.declaration.Declarator.{Declarator}
 use Rattle.c_types_rules.specs.declared.meaning.Entry.{Entry}
 use Rattle.c_types_rules.specs.Names.{Text}
 use Rattle.c_types_rules.specs.ExpressionRules.{broken, option_places}
-use Rattle.c_types_rules.specs.Declarations.{constant_number, inconstant, given_length_faults}
+use Rattle.c_types_rules.specs.Declarations.{constant_number, inconstant, misfit}
+use Rattle.c_types_rules.specs.Declarations.{given_length_faults}
 use Rattle.c_types_rules.specs.Items.{Call}
 use Rattle.c_types_expressions.specs.Read.{part_of, uses_calls, calls_are}
-use Rattle.c_types_objects.specs.Objects.{misfit}
 
 pub broken_append : (held : Option TextFault) (one : Rule) (xs ys : List ℕ) →
     first_with held (broken one (xs ++ ys))

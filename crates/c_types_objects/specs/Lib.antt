@@ -1,4 +1,4 @@
-pub mod Objects
+pub mod Initializers
 pub mod Enumerations
 pub mod Named
 pub mod OneWord

@@ -4,9 +4,9 @@ ghost use Rattle.std.specs.Prelude.{◌≡◌, ◌++◌, IfOk, OnOk};
 ghost use Rattle.c_types_rules.specs.declared.meaning.Role.TheVariants.{Valued};
 ghost use Rattle.c_types_rules.specs.First.{first_with};
 ghost use Rattle.c_types_rules.specs.ExpressionRules.{option_places};
-ghost use Rattle.c_types_rules.specs.Declarations.{constant_number, inconstant};
+ghost use Rattle.c_types_rules.specs.Declarations.{number_by, constant_number};
+ghost use Rattle.c_types_rules.specs.Declarations.{inconstant_by, inconstant};
 ghost use Rattle.c_types_expressions.specs.Read.{part_of, role_faults, role_calls};
-ghost use Rattle.c_types_objects.specs.Objects.{number_by, inconstant_by};
 
 use c_grammar_tree::Expression;
 use c_lexer::TextFault;

@@ -6,8 +6,8 @@ ghost use Rattle.c_types_rules.specs.declared.meaning.Role.TheVariants.{Valued};
 ghost use Rattle.c_types_rules.specs.First.{first_with};
 ghost use Rattle.c_types_rules.specs.Declarations.{items_of, typed_items};
 ghost use Rattle.c_types_rules.specs.Items.{start_faults};
+ghost use Rattle.c_types_rules.specs.Sound.{start_value};
 ghost use Rattle.c_types_expressions.specs.Read.{typed_of, role_faults, role_calls};
-ghost use Rattle.c_types_objects.specs.Objects.{start_value};
 
 use crate::constants::read_fixed;
 use c_grammar_tree::{Expression, Initializer};

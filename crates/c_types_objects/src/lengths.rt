@@ -6,10 +6,9 @@ ghost use Rattle.c_types_rules.specs.declared.meaning.Role.TheVariants.{Valued};
 ghost use Rattle.c_types_rules.specs.First.{first_with};
 ghost use Rattle.c_types_rules.specs.ExpressionRules.{broken, uses_faults};
 ghost use Rattle.c_types_rules.specs.Declarations.{items_of, is_length, is_longer, constant_number};
-ghost use Rattle.c_types_rules.specs.Declarations.{given_length_faults, length_of, length_faults};
-ghost use Rattle.c_types_rules.specs.Declarations.{length_uses};
+ghost use Rattle.c_types_rules.specs.Declarations.{misfit, given_length_faults, length_of};
+ghost use Rattle.c_types_rules.specs.Declarations.{length_faults, length_uses};
 ghost use Rattle.c_types_expressions.specs.Read.{role_faults, role_calls, uses_calls};
-ghost use Rattle.c_types_objects.specs.Objects.{misfit};
 
 use crate::constants::read_fixed;
 use crate::noting::{note_found, note_if};

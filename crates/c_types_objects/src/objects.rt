@@ -3,10 +3,10 @@
 ghost use Rattle.std.specs.Prelude.{◌≡◌, ◌++◌, ◌∷◌, [], IfOk, OnOk};
 ghost use Rattle.c_types_rules.specs.First.{first_with};
 ghost use Rattle.c_types_rules.specs.Declarations.{is_void_kind, length_uses, local_entry};
+ghost use Rattle.c_types_rules.specs.Declarations.{object_of, names_behind, typed_local};
+ghost use Rattle.c_types_rules.specs.Items.{object_faults};
 ghost use Rattle.c_types_expressions.specs.Read.{uses_calls};
-ghost use Rattle.c_types_objects.specs.Objects.{object_by, object_faults, items_faults};
-ghost use Rattle.c_types_objects.specs.Objects.{items_calls};
-ghost use Rattle.c_types_objects.specs.Objects.{names_behind, local_by};
+ghost use Rattle.c_types_objects.specs.Initializers.{items_faults, items_calls};
 
 use crate::Qualified;
 use crate::initializers::read_initializer;
@@ -42,7 +42,7 @@ pub fn read_object(
     first: &mut Option<TextFault>,
     calls: &mut Vec<Call>,
 ) -> Result<Object, AllocError>
-    ensures object { IfOk result (λ r. r ≡ object_by survey.now names.now number qualified.kind
+    ensures object { IfOk result (λ r. r ≡ object_of survey.now names.now number qualified.kind
         qualified.is_const declarator.now) }
     ensures first { OnOk result (first.new ≡ first_with first.old
         (object_faults survey.now names.now qualified.kind declarator.now)) }
@@ -93,7 +93,7 @@ pub fn read_local(
     first: &mut Option<TextFault>,
     calls: &mut Vec<Call>,
 ) -> Result<TypedDeclarator, AllocError>
-    ensures typed { IfOk result (λ r. r ≡ local_by survey.now names.old number qualified.kind
+    ensures typed { IfOk result (λ r. r ≡ typed_local survey.now names.old number qualified.kind
         qualified.is_const declarator.now) }
     ensures names { OnOk result (names.new ≡ names_behind survey.now names.old number
         qualified.kind qualified.is_const declarator.now) }

@@ -29,9 +29,9 @@ returns-clause-tied c =
       cases = old.cases;
       first = c.read_local.new.first;
       calls = c.read_local.new.calls;
-    }) c.args.jumps.now c.enter.new.self c.args.specifiers.now declarator c.in_ok-typed.typed
-    c.args.qualified.kind c.args.qualified.is_const c.requires.tied c.requires.kind
-    c.requires.is_const c.in_ok-typed.ensures.typed c.in_ok-typed.ensures.names
+    }) c.args.jumps.now c.enter.new.self c.args.qualified.kind c.args.qualified.is_const
+    declarator c.in_ok-typed.typed c.requires c.in_ok-typed.ensures.typed
+    c.in_ok-typed.ensures.names
     c.in_ok-walker.ensures refl refl first_is c.in_ok-typed.ensures.calls
     c.in_ok-enter.ensures.entered).tied_new
 
@@ -56,9 +56,9 @@ returns-clause-extends c =
       cases = old.cases;
       first = c.read_local.new.first;
       calls = c.read_local.new.calls;
-    }) c.args.jumps.now c.enter.new.self c.args.specifiers.now declarator c.in_ok-typed.typed
-    c.args.qualified.kind c.args.qualified.is_const c.requires.tied c.requires.kind
-    c.requires.is_const c.in_ok-typed.ensures.typed c.in_ok-typed.ensures.names
+    }) c.args.jumps.now c.enter.new.self c.args.qualified.kind c.args.qualified.is_const
+    declarator c.in_ok-typed.typed c.requires c.in_ok-typed.ensures.typed
+    c.in_ok-typed.ensures.names
     c.in_ok-walker.ensures refl refl first_is c.in_ok-typed.ensures.calls
     c.in_ok-enter.ensures.entered).extends
 
@@ -83,9 +83,9 @@ returns-clause-typed c =
       cases = old.cases;
       first = c.read_local.new.first;
       calls = c.read_local.new.calls;
-    }) c.args.jumps.now c.enter.new.self c.args.specifiers.now declarator c.in_ok-typed.typed
-    c.args.qualified.kind c.args.qualified.is_const c.requires.tied c.requires.kind
-    c.requires.is_const c.in_ok-typed.ensures.typed c.in_ok-typed.ensures.names
+    }) c.args.jumps.now c.enter.new.self c.args.qualified.kind c.args.qualified.is_const
+    declarator c.in_ok-typed.typed c.requires c.in_ok-typed.ensures.typed
+    c.in_ok-typed.ensures.names
     c.in_ok-walker.ensures refl refl first_is c.in_ok-typed.ensures.calls
     c.in_ok-enter.ensures.entered).typed_is
 
@@ -110,8 +110,8 @@ returns-clause-state c =
       cases = old.cases;
       first = c.read_local.new.first;
       calls = c.read_local.new.calls;
-    }) c.args.jumps.now c.enter.new.self c.args.specifiers.now declarator c.in_ok-typed.typed
-    c.args.qualified.kind c.args.qualified.is_const c.requires.tied c.requires.kind
-    c.requires.is_const c.in_ok-typed.ensures.typed c.in_ok-typed.ensures.names
+    }) c.args.jumps.now c.enter.new.self c.args.qualified.kind c.args.qualified.is_const
+    declarator c.in_ok-typed.typed c.requires c.in_ok-typed.ensures.typed
+    c.in_ok-typed.ensures.names
     c.in_ok-walker.ensures refl refl first_is c.in_ok-typed.ensures.calls
     c.in_ok-enter.ensures.entered).state

@@ -9,7 +9,8 @@ pub loop-declarator-preserved : goal.loop-declarator-preserved
 loop-declarator-preserved c =
     let frame = c.args.frame.now in
     let text = frame.survey.now in
-    let specifiers = c.args.specifiers.now in
+    let kind = c.args.qualified.kind in
+    let is_const = c.args.qualified.is_const in
     let items = c.args.declarators.now in
     let held = c.loop-declarator.walker in
     let walker = c.walk_declarator.new.walker in
@@ -19,15 +20,15 @@ loop-declarator-preserved c =
       tied = c.in_ok-one.ensures.tied;
       extends = extends_then c.args.walker.now.names held.names walker.names
           c.loop-declarator.invariant.extends c.in_ok-one.ensures.extends;
-      typed = declarators_step text specifiers items c.loop-declarator.declarator-index
+      typed = declarators_step text kind is_const items c.loop-declarator.declarator-index
           c.declarator-item.result c.loop-declarator.typed.items c.push.new.self.items
           c.in_ok-one.one (around_of frame c.args.nest held) (around_of frame c.args.nest walker) _
           (omega arith) c.declarator-item.is c.in_ok-push.ensures.items c.in_ok-one.ensures.typed
-          (around_walked text frame.caller (declarator_walk text specifiers
+          (around_walked text frame.caller (declarator_walk text kind is_const
           c.declarator-item.result)
           state next c.in_ok-one.ensures.state)
           c.loop-declarator.invariant.typed;
-      state = item_state text frame.caller (declarator_walk text specifiers) items
+      state = item_state text frame.caller (declarator_walk text kind is_const) items
           c.loop-declarator.declarator-index c.declarator-item.result state next _ (omega arith)
           c.declarator-item.is c.in_ok-one.ensures.state c.loop-declarator.invariant.state;
     }
@@ -36,7 +37,7 @@ pub returns-clause-state : goal.returns-clause-state
 returns-clause-state c =
     let frame = c.args.frame.now in
     let text = frame.survey.now in
-    let walk = declarator_walk text c.args.specifiers.now in
+    let walk = declarator_walk text c.args.qualified.kind c.args.qualified.is_const in
     items_end text frame.caller walk c.args.declarators.now
     c.loop-declarator.declarator-index
     (state_of frame c.args.nest c.loop-declarator.walker c.loop-declarator.jumps) _ (omega arith)

@@ -2,11 +2,9 @@ use Rattle.std.proofs.Common.{◌≡◌, ◌+◌, ◌++◌, List, ◌∷◌, dro
 use Rattle.c_lexer.specs.declared.fault.TextFault.{TextFault}
 use Rattle.c_grammar_tree.specs.declared.declaration.Declarator.{Declarator}
 use Rattle.c_types_rules.specs.First.{first_with}
-use Rattle.c_types_rules.specs.Items.{Before}
-use Rattle.c_types_rules.specs.Sound.{Start}
+use Rattle.c_types_rules.specs.Items.{Before, globals_behind, global_faults, globals_faults}
+use Rattle.c_types_rules.specs.Sound.{Start, start_of, starts_in}
 use Rattle.c_types_globals.specs.Scopes.{before_of}
-use Rattle.c_types_globals.specs.Globals.{faults_by, start_by, all_behind_by, all_faults_by}
-use Rattle.c_types_globals.specs.Globals.{all_starts_by}
 use Rattle.c_types_globals.proofs.Globals.{faults_next, starts_next}
 use Rattle.c_types_globals.proofs.Next.{next_item}
 use Rattle.c_types_globals.proofs.objects.declare_all.Goals as goal
@@ -27,20 +25,20 @@ loop-declarator-preserved c =
     let e = c.in_ok-declare_object.ensures in
     let next : d ∷ rest ≡ drop i all = sym (next_item all i d (omega arith) c.declarator-item.is) in
     record {
-      scope = ap (all_behind_by text k q rest) e.scope
-          ∙ ap (λ (ds : List Declarator). all_behind_by text k q ds before) next
+      scope = ap (globals_behind text k q rest) e.scope
+          ∙ ap (λ (ds : List Declarator). globals_behind text k q ds before) next
           ∙ c.loop-declarator.invariant.scope;
-      first = ap (λ (f : Option TextFault). first_with f (all_faults_by text k q rest behind))
+      first = ap (λ (f : Option TextFault). first_with f (globals_faults text k q rest behind))
           e.first
-          ∙ ap (λ (b : Before). first_with (first_with held (faults_by text k q d before))
-          (all_faults_by text k q rest b)) e.scope
+          ∙ ap (λ (b : Before). first_with (first_with held (global_faults text before k q d))
+          (globals_faults text k q rest b)) e.scope
           ∙ sym (faults_next held text k q d rest before)
-          ∙ ap (λ (ds : List Declarator). first_with held (all_faults_by text k q ds before)) next
+          ∙ ap (λ (ds : List Declarator). first_with held (globals_faults text k q ds before)) next
           ∙ c.loop-declarator.invariant.first;
-      starts = ap (λ (ss : List Start). ss ++ all_starts_by text k q rest behind) e.starts
-          ∙ ap (λ (b : Before). (starts ++ start_by text k q d before)
-          ++ all_starts_by text k q rest b) e.scope
+      starts = ap (λ (ss : List Start). ss ++ starts_in text k q rest behind) e.starts
+          ∙ ap (λ (b : Before). (starts ++ start_of text before k q d)
+          ++ starts_in text k q rest b) e.scope
           ∙ sym (starts_next starts text k q d rest before)
-          ∙ ap (λ (ds : List Declarator). starts ++ all_starts_by text k q ds before) next
+          ∙ ap (λ (ds : List Declarator). starts ++ starts_in text k q ds before) next
           ∙ c.loop-declarator.invariant.starts;
     }

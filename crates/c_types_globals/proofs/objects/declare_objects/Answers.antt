@@ -1,6 +1,10 @@
-use Rattle.std.proofs.Common.{◌∙◌}
+use Rattle.std.proofs.Common.{◌++◌, ◌∙◌}
+use Rattle.c_types_rules.specs.First.{first_with}
+use Rattle.c_types_rules.specs.Declarations.{kind_of, has_const}
+use Rattle.c_types_rules.specs.Items.{globals_behind, globals_faults}
+use Rattle.c_types_rules.specs.Sound.{starts_in}
 use Rattle.c_types_globals.specs.Scopes.{before_of}
-use Rattle.c_types_globals.proofs.Globals.{scope_from, faults_from, starts_from}
+use Rattle.c_types_globals.proofs.Globals.{by_specifiers}
 use Rattle.c_types_globals.proofs.objects.declare_objects.Goals as goal
 
 pub returns-clause-scope : goal.returns-clause-scope
@@ -9,7 +13,9 @@ returns-clause-scope c =
     let s = c.args.declaration.now.specifiers in
     let before = before_of c.args.scope.now in
     rw c.as_slice-declarators.ensures at (c.in_ok-declare_all.ensures.scope)
-    ∙ scope_from c.args.survey.now s q.kind q.is_const c.args.declaration.now.declarators before
+    ∙ by_specifiers (λ k b.
+    globals_behind c.args.survey.now k b c.args.declaration.now.declarators before)
+    q.kind (kind_of s) q.is_const (has_const s)
     c.in_ok-qualified.ensures.kind c.in_ok-qualified.ensures.is_const
 
 pub returns-clause-first : goal.returns-clause-first
@@ -18,8 +24,9 @@ returns-clause-first c =
     let s = c.args.declaration.now.specifiers in
     let before = before_of c.args.scope.now in
     rw c.as_slice-declarators.ensures at (c.in_ok-declare_all.ensures.first)
-    ∙ faults_from c.args.first.now c.args.survey.now s q.kind q.is_const
-    c.args.declaration.now.declarators before
+    ∙ by_specifiers (λ k b. first_with c.args.first.now
+    (globals_faults c.args.survey.now k b c.args.declaration.now.declarators before))
+    q.kind (kind_of s) q.is_const (has_const s)
     c.in_ok-qualified.ensures.kind c.in_ok-qualified.ensures.is_const
 
 pub returns-clause-starts : goal.returns-clause-starts
@@ -28,6 +35,7 @@ returns-clause-starts c =
     let s = c.args.declaration.now.specifiers in
     let before = before_of c.args.scope.now in
     rw c.as_slice-declarators.ensures at (c.in_ok-declare_all.ensures.starts)
-    ∙ starts_from c.args.starts.now.items c.args.survey.now s q.kind q.is_const
-    c.args.declaration.now.declarators before
+    ∙ by_specifiers (λ k b. c.args.starts.now.items
+    ++ starts_in c.args.survey.now k b c.args.declaration.now.declarators before)
+    q.kind (kind_of s) q.is_const (has_const s)
     c.in_ok-qualified.ensures.kind c.in_ok-qualified.ensures.is_const

@@ -2,8 +2,8 @@
 use Rattle.std.proofs.Common.{◌≡◌, ◌+◌, ◌∷◌, drop, sym, ap, ◌∙◌, arith, rules}
 use Rattle.std.proofs.lemmas.List.{drop_more}
 use Rattle.c_types_rules.specs.Items.{start_faults}
+use Rattle.c_types_rules.specs.Sound.{start_value}
 use Rattle.c_types_expressions.specs.Turns.{mapped, noted}
-use Rattle.c_types_objects.specs.Objects.{start_value}
 use Rattle.c_types_objects.proofs.initializers.read_start_items.Goals as goal
 
 pub loop-item-preserved : goal.loop-item-preserved

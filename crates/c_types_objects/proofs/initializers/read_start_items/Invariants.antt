@@ -3,7 +3,7 @@ use Rattle.std.proofs.Common.{◌≡◌, ◌++◌, drop, map}
 use Rattle.std.specs.List.{flat_map}
 use Rattle.c_types_rules.specs.First.{first_with}
 use Rattle.c_types_rules.specs.Items.{start_faults}
-use Rattle.c_types_objects.specs.Objects.{start_value}
+use Rattle.c_types_rules.specs.Sound.{start_value}
 use Rattle.c_types_objects.proofs.initializers.read_start_items.Given as goal
 
 abbrev pub invariant-loop-item : goal.invariant-loop-item

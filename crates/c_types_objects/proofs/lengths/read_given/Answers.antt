@@ -4,9 +4,8 @@ use Rattle.c_lexer.specs.declared.fault.Rule.TheVariants as rule
 use Rattle.c_types_rules.specs.declared.meaning.Role.TheVariants.{Valued}
 use Rattle.c_types_rules.specs.First.{first_with, first_append}
 use Rattle.c_types_rules.specs.ExpressionRules.{broken}
-use Rattle.c_types_rules.specs.Declarations.{given_length_faults}
+use Rattle.c_types_rules.specs.Declarations.{misfit, given_length_faults}
 use Rattle.c_types_expressions.specs.Read.{role_faults}
-use Rattle.c_types_objects.specs.Objects.{misfit}
 use Rattle.c_types_objects.proofs.Fitting.{given_noted}
 use Rattle.c_types_objects.proofs.lengths.read_given.Goals as goal
 
