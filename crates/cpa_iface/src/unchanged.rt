@@ -16,7 +16,7 @@ use cpa_model::{Elem, copy_elem};
 use std::alloc::{AllocError, Global};
 
 /// The own element as it is: what `strengthen` gives where the elements of the others say nothing.
-pub fn unstrengthened(alloc: Global, own: &Elem) -> Result<Option<Elem>, AllocError>
+pub fn unstrengthened(own: &Elem) -> Result<Option<Elem>, AllocError>
     ensures laws { IfOk result (λ e.
         (m : Meaning) (cfa : Cfa) (others : List AnElem) (p : APrecision)
         → IfSome m.replies (λ r. Some own.now ≡ r.strengthen cfa own.now others p)
