@@ -4,13 +4,13 @@ use Rattle.std.proofs.Common.{refl, ap, ◌∙◌, sym}
 use Rattle.std.proofs.lemmas.List.{at_drop_more, at_drop_all}
 use Rattle.c_grammar_symbols.specs.declared.operators.BinaryOperator.{BinaryOperator}
 use Rattle.c_types_rules.specs.declared.typed.TypedExpression.{TypedExpression}
+use Rattle.c_core_rules.specs.declared.tree.Usage.{Usage}
+use Rattle.c_core_rules.specs.declared.tree.Usage.TheVariants.{Used}
 use Rattle.c_core_rules.specs.declared.tree.Valued.{Valued}
 use Rattle.c_core_rules.specs.Cells.{Taken, Rule, Made, gives, then_by}
-use Rattle.c_core_rules.specs.Acts.{linked}
-use Rattle.c_core_rules.specs.Expressions.{Frames, Rows, chained, rows}
-use Rattle.c_core_expressions.specs.declared.usage.Usage.{Usage}
-use Rattle.c_core_expressions.specs.declared.usage.Usage.TheVariants.{Used}
-use Rattle.c_core_expressions.specs.Rows.{by_usage, lowered, finished, link_rows, linked_to}
+use Rattle.c_core_rules.specs.Acts.{linked, finished}
+use Rattle.c_core_rules.specs.Expressions.{Frames, Rows, used, chained, rows}
+use Rattle.c_core_expressions.specs.Rows.{lowered, link_rows, linked_to}
 
 -- it begins with the value of the first
 pub chained_from : (origin : ℕ) (left : Rule Valued) (rest : List (BinaryOperator × Rows))
@@ -19,11 +19,11 @@ pub chained_from : (origin : ℕ) (left : Rule Valued) (rest : List (BinaryOpera
     (left taken).taken
 chained_from origin left [] taken = refl
 chained_from origin left (link ∷ rest) taken =
-    let more : Rule Valued = then_by left (λ v. then_by link.1.used (λ w. linked origin link.0 v w))
+    let more : Rule Valued = then_by left (λ v. then_by (used link.1) (λ w. linked origin link.0 v w))
     in
     let first : Rule Valued = gives (left taken).made in
     let behind : Rule Valued =
-    then_by first (λ v. then_by link.1.used (λ w. linked origin link.0 v w)) in
+    then_by first (λ v. then_by (used link.1) (λ w. linked origin link.0 v w)) in
     chained_from origin more rest taken ∙ sym (chained_from origin behind rest (left taken).taken)
 
 -- no link is left
@@ -39,10 +39,10 @@ linked_more : (origin : ℕ) (frames : Frames) (usage : Usage) (left : Valued)
     ≡ (let right = lowered frames Used link.1 taken in
     let made = linked origin link.0 left right.made right.taken in
     linked_to origin frames usage made.made rest made.taken)
-unfolding linked_to lowered by_usage
+unfolding linked_to lowered
 linked_more origin frames usage left link rest taken =
     let more : Rule Valued =
-    then_by (gives left) (λ v. then_by (rows frames link.1).used (λ w. linked origin link.0 v w)) in
+    then_by (gives left) (λ v. then_by (used (rows frames link.1)) (λ w. linked origin link.0 v w)) in
     ap (λ (m : Made Valued). finished origin usage m.made m.taken)
     (chained_from origin more (map (link_rows frames) rest) taken)
 

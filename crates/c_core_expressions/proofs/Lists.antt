@@ -4,15 +4,15 @@ use Rattle.std.proofs.Common.{drop, length-drop, refl, ap, sym, ◌∙◌, arith
 use Rattle.std.proofs.Common.{append-nil}
 use Rattle.std.proofs.lemmas.List.{at_drop_more, at_drop_all}
 use Rattle.c_types_rules.specs.declared.typed.TypedExpression.{TypedExpression}
+use Rattle.c_core_rules.specs.declared.tree.Usage.{Usage}
+use Rattle.c_core_rules.specs.declared.tree.Usage.TheVariants.{Used, Unused}
 use Rattle.c_core_rules.specs.declared.tree.Valued.{Valued}
 use Rattle.c_core_rules.specs.Values.{int}
 use Rattle.cpa_model_trees.specs.Numbering.{Trees}
 use Rattle.c_core_rules.specs.Trees.{valued}
 use Rattle.c_core_rules.specs.Cells.{Taken, Made, each}
-use Rattle.c_core_rules.specs.Expressions.{Frames, rows, comma_used, comma_unused}
-use Rattle.c_core_expressions.specs.declared.usage.Usage.{Usage}
-use Rattle.c_core_expressions.specs.declared.usage.Usage.TheVariants.{Used, Unused}
-use Rattle.c_core_expressions.specs.Rows.{by_usage, lowered, used_by, comma_of, comma_behind}
+use Rattle.c_core_rules.specs.Expressions.{Frames, rows, unused, comma}
+use Rattle.c_core_expressions.specs.Rows.{lowered, used_by, comma_of, comma_behind}
 
 -- items of which the last is used, or none
 pub comma_first : (frames : Frames) (usage : Usage) (items : List TypedExpression)
@@ -23,10 +23,8 @@ comma_first frames usage items taken = refl
 comma_none : (frames : Frames) (usage : Usage) (before : Trees) (taken : Taken) →
     comma_behind frames usage before [] taken
     ≡ record { taken = taken; made = valued before (int 0) }
-unfolding comma_behind comma_of by_usage
-comma_none frames Used before taken =
-    ap (λ (s : Trees). record { taken = taken; made = valued s (int 0) }) (append-nil before)
-comma_none frames Unused before taken =
+unfolding comma_behind comma_of
+comma_none frames usage before taken =
     ap (λ (s : Trees). record { taken = taken; made = valued s (int 0) }) (append-nil before)
 
 comma_last : (frames : Frames) (usage : Usage) (before : Trees) (item : TypedExpression)
@@ -34,12 +32,8 @@ comma_last : (frames : Frames) (usage : Usage) (before : Trees) (item : TypedExp
     comma_behind frames usage before (item ∷ items) taken
     ≡ (let m = lowered frames usage item taken in
     record { taken = m.taken; made = valued (before ++ m.made.statements) m.made.value })
-unfolding comma_behind comma_of by_usage lowered
-comma_last frames Used before item [] taken h = refl
-comma_last frames Unused before item [] taken h =
-    let m = (rows frames item).unused taken in
-    ap (λ (s : Trees). record { taken = m.taken; made = valued (before ++ s) (int 0) })
-    (append-nil m.made)
+unfolding comma_behind comma_of lowered
+comma_last frames usage before item [] taken h = refl
 comma_last frames usage before item (next ∷ items) taken h = absurd (omega arith)
 
 comma_more : (frames : Frames) (usage : Usage) (before : Trees) (item : TypedExpression)
@@ -47,18 +41,13 @@ comma_more : (frames : Frames) (usage : Usage) (before : Trees) (item : TypedExp
     comma_behind frames usage before (item ∷ items) taken
     ≡ (let m = lowered frames Unused item taken in
     comma_behind frames usage (before ++ m.made.statements) items m.taken)
-unfolding comma_behind comma_of by_usage lowered
+unfolding comma_behind comma_of lowered
 comma_more frames usage before item [] taken h = absurd (omega arith)
-comma_more frames Used before item (next ∷ items) taken h =
-    let m = (rows frames item).unused taken in
-    let n = comma_used (map (rows frames) (next ∷ items)) m.taken in
+comma_more frames usage before item (next ∷ items) taken h =
+    let m = unused (rows frames item) taken in
+    let n = comma usage (map (rows frames) (next ∷ items)) m.taken in
     ap (λ (s : Trees). record { taken = n.taken; made = valued s n.made.value })
     (sym (append_assoc before m.made n.made.statements))
-comma_more frames Unused before item (next ∷ items) taken h =
-    let m = (rows frames item).unused taken in
-    let n = comma_unused (map (rows frames) (next ∷ items)) m.taken in
-    ap (λ (s : Trees). record { taken = n.taken; made = valued s (int 0) })
-    (sym (append_assoc before m.made n.made))
 
 comma_step : (frames : Frames) (usage : Usage) (before : Trees) (xs : List TypedExpression)
     (i : ℕ) (item : TypedExpression) (taken : Taken) → i + 1 < length xs →

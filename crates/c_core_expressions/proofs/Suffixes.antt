@@ -11,16 +11,17 @@ use Rattle.c_types_rules.specs.declared.typed.TypedExpression.TheViews.{out-roll
 use Rattle.c_types_rules.specs.declared.typed.TypedExpression.TheVariants as tree
 use Rattle.c_types_rules.specs.declared.typed.TypedSuffix.{TypedSuffix}
 use Rattle.c_types_rules.specs.declared.typed.TypedSuffix.TheVariants as behind
+use Rattle.c_core_rules.specs.declared.tree.Usage.{Usage}
+use Rattle.c_core_rules.specs.declared.tree.Usage.TheVariants.{Used}
 use Rattle.c_core_rules.specs.declared.tree.Valued.{Valued}
 use Rattle.c_core_rules.specs.declared.tree.Place.{Place}
 use Rattle.c_core_rules.specs.Cells.{Taken, then_by}
-use Rattle.c_core_rules.specs.Expressions.{Frames, Rows, ReadSuffix, suffix_rows, suffixed, rows}
+use Rattle.c_core_rules.specs.Places.{stepped_for}
+use Rattle.c_core_rules.specs.Expressions.{Frames, Rows, ReadSuffix, suffix_rows, suffixed, rows, used}
 use Rattle.c_core_rules.specs.Expressions.{call_rows, element_rows, element_target, placed}
-use Rattle.c_core_expressions.specs.declared.usage.Usage.{Usage}
-use Rattle.c_core_expressions.specs.declared.usage.Usage.TheVariants.{Used, Unused}
-use Rattle.c_core_expressions.specs.Rows.{by_usage, row_by, lowered, finished, element_behind}
+use Rattle.c_core_expressions.specs.Rows.{lowered, element_behind}
 use Rattle.c_core_expressions.specs.Postfix.{postfix_of}
-use Rattle.c_core_expressions.specs.Rows.{stepped_for, call_of}
+use Rattle.c_core_expressions.specs.Rows.{call_of}
 use Rattle.c_core_expressions.specs.Rows.{suffix_of, suffixed_by, front_target, suffix_target}
 use Rattle.c_types_rules.specs.Tables.{suffix_count}
 use Rattle.c_core_expressions.proofs.Variants.{rows_Postfix, suffix_Index, suffix_Call, suffix_Step}
@@ -82,7 +83,7 @@ postfix_is frames usage e base suffixes place taken is =
     ∙ ap (λ x. postfix_of frames usage x taken)
     (ap out-TypedExpression (sym (tree.rolls-Postfix base suffixes place))
     ∙ out-roll-TypedExpression (TypedExpression-F.Postfix base suffixes place))
-    ∙ ap (λ r. row_by usage r taken) (sym (rows_Postfix frames base suffixes place))
+    ∙ ap (λ (r : Rows). r.rule usage taken) (sym (rows_Postfix frames base suffixes place))
     ∙ ap (λ x. lowered frames usage x taken) (sym is)
 
 -- without a suffix it is its base
@@ -92,7 +93,7 @@ pub postfix_none : (frames : Frames) (usage : Usage) (e base : TypedExpression)
     lowered frames usage base taken ≡ postfix_of frames usage (out-TypedExpression e) taken
 unfolding lowered
 postfix_none frames usage e base suffixes place taken is h =
-    ap (λ r. row_by usage r taken) (sym (rows_base frames base suffixes place h))
+    ap (λ (r : Rows). r.rule usage taken) (sym (rows_base frames base suffixes place h))
     ∙ ap (λ x. lowered frames usage x taken) (sym is)
     ∙ sym (postfix_is frames usage e base suffixes place taken is)
 
@@ -160,59 +161,53 @@ rows_of_last frames e base first suffixes all place n s is f a h spot =
 
 -- the same by usage
 last_by : (frames : Frames) (usage : Usage) (e : TypedExpression) (r : Rows) (taken : Taken) →
-    rows frames e ≡ r → lowered frames usage e taken ≡ row_by usage r taken
+    rows frames e ≡ r → lowered frames usage e taken ≡ r.rule usage taken
 unfolding lowered
-last_by frames usage e r taken is = ap (λ x. row_by usage x taken) is
+last_by frames usage e r taken is = ap (λ (x : Rows). x.rule usage taken) is
 
 -- a suffix behind what has this name
 index_by : (origin : ℕ) (frames : Frames) (usage : Usage) (front : Rows) (index : TypedExpression)
     (kind : Option Kind) (p : ℕ) (found : Option Meaning) (taken : Taken) →
     front.names ≡ found →
-    row_by usage (suffix_rows origin frames front (suffix_of frames (behind.Index index kind p)))
+    (suffix_rows origin frames front (suffix_of frames (behind.Index index kind p))).rule usage
     taken
     ≡ then_by (lowered frames Used index) (element_behind origin usage found) taken
-unfolding by_usage lowered element_behind finished
-index_by origin frames Used front index kind p found taken named =
-    ap (λ s. (suffix_rows origin frames front s).used taken) (suffix_Index frames index kind p)
-    ∙ ap (λ f. (element_rows origin f (rows frames index).used).used taken) named
-index_by origin frames Unused front index kind p found taken named =
-    ap (λ s. row_by Unused (suffix_rows origin frames front s) taken)
+unfolding lowered element_behind
+index_by origin frames usage front index kind p found taken named =
+    ap (λ s. (suffix_rows origin frames front s).rule usage taken)
     (suffix_Index frames index kind p)
-    ∙ ap (λ f. row_by Unused (element_rows origin f (rows frames index).used) taken) named
+    ∙ ap (λ f. (element_rows origin f (used (rows frames index))).rule usage taken) named
 
 call_by : (origin : ℕ) (frames : Frames) (usage : Usage) (front : Rows)
     (arguments : List TypedExpression)
     (kind : Option Kind) (p : ℕ) (found : Option Meaning) (taken : Taken) →
     front.names ≡ found →
-    row_by usage (suffix_rows origin frames front (suffix_of frames (behind.Call arguments kind p)))
+    (suffix_rows origin frames front (suffix_of frames (behind.Call arguments kind p))).rule usage
     taken
     ≡ call_of origin frames usage found arguments taken
 unfolding call_of
 call_by origin frames usage front arguments kind p found taken named =
-    ap (λ s. row_by usage (suffix_rows origin frames front s) taken)
+    ap (λ s. (suffix_rows origin frames front s).rule usage taken)
     (suffix_Call frames arguments kind p)
-    ∙ ap (λ f. row_by usage (call_rows origin frames f (map (rows frames) arguments)) taken) named
+    ∙ ap (λ f. (call_rows origin frames f (map (rows frames) arguments)).rule usage taken) named
 
 skipped_by : (origin : ℕ) (frames : Frames) (usage : Usage) (front : Rows) (kind : Option Kind)
     (p : ℕ)
     (found : Option Meaning) (taken : Taken) → front.names ≡ found →
-    row_by usage (suffix_rows origin frames front (suffix_of frames (behind.Skipped kind p))) taken
+    (suffix_rows origin frames front (suffix_of frames (behind.Skipped kind p))).rule usage taken
     ≡ call_of origin frames usage found [] taken
 unfolding call_of
 skipped_by origin frames usage front kind p found taken named =
-    ap (λ s. row_by usage (suffix_rows origin frames front s) taken) (suffix_Skipped frames kind p)
-    ∙ ap (λ f. row_by usage (call_rows origin frames f []) taken) named
+    ap (λ s. (suffix_rows origin frames front s).rule usage taken) (suffix_Skipped frames kind p)
+    ∙ ap (λ f. (call_rows origin frames f []).rule usage taken) named
 
 step_by : (origin : ℕ) (frames : Frames) (usage : Usage) (front : Rows) (operator : StepOperator)
     (kind : Option Kind) (p : ℕ) (taken : Taken) →
-    row_by usage (suffix_rows origin frames front (suffix_of frames (behind.Step operator kind p)))
+    (suffix_rows origin frames front (suffix_of frames (behind.Step operator kind p))).rule usage
     taken
     ≡ then_by (placed origin true front.target) (stepped_for origin usage operator) taken
-unfolding by_usage stepped_for
-step_by origin frames Used front operator kind p taken =
-    ap (λ s. (suffix_rows origin frames front s).used taken) (suffix_Step frames operator kind p)
-step_by origin frames Unused front operator kind p taken =
-    ap (λ s. row_by Unused (suffix_rows origin frames front s) taken)
+step_by origin frames usage front operator kind p taken =
+    ap (λ s. (suffix_rows origin frames front s).rule usage taken)
     (suffix_Step frames operator kind p)
 
 -- what an expression makes that is this suffix behind what has this name
@@ -228,7 +223,7 @@ of_Index origin frames usage e front s index kind p found taken between i r is n
     ap (λ v. element_behind origin usage found v between) m
     ∙ ap (element_behind origin usage found (lowered frames Used index taken).made) c
     ∙ sym (last_by frames usage e (suffix_rows origin frames front (suffix_of frames s)) taken r
-    ∙ ap (λ x. row_by usage (suffix_rows origin frames front (suffix_of frames x)) taken) is
+    ∙ ap (λ x. (suffix_rows origin frames front (suffix_of frames x)).rule usage taken) is
     ∙ index_by origin frames usage front index kind p found taken named)
 
 pub of_Call : (origin : ℕ) (frames : Frames) (usage : Usage) (e : TypedExpression) (front : Rows)
@@ -240,7 +235,7 @@ pub of_Call : (origin : ℕ) (frames : Frames) (usage : Usage) (e : TypedExpress
 of_Call origin frames usage e front s arguments handed kind p found taken r is named a =
     ap (λ xs. call_of origin frames usage found xs taken) a
     ∙ sym (last_by frames usage e (suffix_rows origin frames front (suffix_of frames s)) taken r
-    ∙ ap (λ x. row_by usage (suffix_rows origin frames front (suffix_of frames x)) taken) is
+    ∙ ap (λ x. (suffix_rows origin frames front (suffix_of frames x)).rule usage taken) is
     ∙ call_by origin frames usage front arguments kind p found taken named)
 
 pub of_Skipped : (origin : ℕ) (frames : Frames) (usage : Usage) (e : TypedExpression) (front : Rows)
@@ -250,7 +245,7 @@ pub of_Skipped : (origin : ℕ) (frames : Frames) (usage : Usage) (e : TypedExpr
     front.names ≡ found → call_of origin frames usage found [] taken ≡ lowered frames usage e taken
 of_Skipped origin frames usage e front s kind p found taken r is named =
     sym (last_by frames usage e (suffix_rows origin frames front (suffix_of frames s)) taken r
-    ∙ ap (λ x. row_by usage (suffix_rows origin frames front (suffix_of frames x)) taken) is
+    ∙ ap (λ x. (suffix_rows origin frames front (suffix_of frames x)).rule usage taken) is
     ∙ skipped_by origin frames usage front kind p found taken named)
 
 -- the target of the suffixes before the last, as `front_target` says it
@@ -281,7 +276,7 @@ of_Step frames usage e base first suffixes all place n s operator kind p taken b
     ≡ then_by (placed place true front.target) (stepped_for place usage operator) taken =
     last_by frames usage e (suffix_rows place frames front (suffix_of frames s)) taken
     (rows_of_last frames e base first suffixes all place n s is f a h g)
-    ∙ ap (λ x. row_by usage (suffix_rows place frames front (suffix_of frames x)) taken) q
+    ∙ ap (λ x. (suffix_rows place frames front (suffix_of frames x)).rule usage taken) q
     ∙ step_by place frames usage front operator kind p taken in
     ap (λ x. stepped_for place usage operator x between) m
     ∙ ap (stepped_for place usage operator (placed place true
@@ -315,7 +310,7 @@ by_suffix : (origin : ℕ) (frames : Frames) (front : Rows) (s : ReadSuffix)
     (found : Option Meaning) →
     front.names ≡ found → (suffix_rows origin frames front s).target ≡ suffix_target found s
 by_suffix origin frames front (TypedSuffix-F.Index index kind place) found e =
-    ap (λ f. element_target f index.used) e
+    ap (λ f. element_target f (used index)) e
 by_suffix origin frames front (TypedSuffix-F.Call arguments kind place) found e = refl
 by_suffix origin frames front (TypedSuffix-F.Step operator kind place) found e = refl
 by_suffix origin frames front (TypedSuffix-F.Skipped kind place) found e = refl

@@ -25,18 +25,18 @@ use Rattle.c_types_rules.specs.declared.typed.TypedExpression.TheFolds.{fold-rol
 use Rattle.c_types_rules.specs.declared.typed.TypedSuffix.{TypedSuffix, roll-TypedSuffix}
 use Rattle.c_types_rules.specs.declared.typed.TypedSuffix.TheVariants as behind
 use Rattle.c_types_rules.specs.Tables.{operator_of}
+use Rattle.c_core_rules.specs.declared.tree.Usage.{Usage}
+use Rattle.c_core_rules.specs.declared.tree.Usage.TheVariants.{Used, Unused}
 use Rattle.c_core_rules.specs.declared.tree.Valued.{Valued}
 use Rattle.c_core_rules.specs.Trees.{pure}
+use Rattle.c_core_rules.specs.Acts.{finished, voided, chosen_for}
 use Rattle.c_core_rules.specs.Cells.{Taken, Made, gives, then_by, located}
 use Rattle.c_core_rules.specs.Places.{fixed_if}
 use Rattle.c_core_rules.specs.Expressions.{Frames, Rows, ReadSuffix, rows_step, read_suffix, rows}
-use Rattle.c_core_rules.specs.Expressions.{placed, scalar_target, no_target}
+use Rattle.c_core_rules.specs.Expressions.{used, usage_of_ends, placed, scalar_target, no_target}
 use Rattle.c_core_rules.specs.declared.tree.Place.TheVariants as spot
-use Rattle.c_core_expressions.specs.declared.usage.Usage.{Usage}
-use Rattle.c_core_expressions.specs.declared.usage.Usage.TheVariants.{Used, Unused}
-use Rattle.c_core_expressions.specs.Rows.{by_usage, row_by, unvalued, lowered, kept_for, finished}
-use Rattle.c_core_expressions.specs.Rows.{voided, name_for, signed_for, cast_for, changed_for}
-use Rattle.c_core_expressions.specs.Rows.{incremented_for, usage_of_ends, chosen_for, comma_of}
+use Rattle.c_core_expressions.specs.Rows.{lowered, name_for, signed_for, cast_for, changed_for}
+use Rattle.c_core_expressions.specs.Rows.{incremented_for, comma_of}
 use Rattle.c_core_expressions.specs.Rows.{link_rows, linked_to, suffix_of, suffix_target}
 use Rattle.c_core_expressions.specs.Rows.{suffixed_by}
 use Rattle.c_core_expressions.proofs.Chains.{chained_from}
@@ -64,69 +64,50 @@ opened_suffix frames s x is =
 opened_by : (frames : Frames) (usage : Usage) (e : TypedExpression)
     (x : TypedExpression-F TypedExpression TypedSuffix) (taken : Taken) →
     roll-TypedExpression x ≡ e → lowered frames usage e taken
-    ≡ row_by usage (rows_step frames (map-TypedExpression TypedExpression TypedSuffix Rows
-    ReadSuffix (rows frames) (suffix_of frames) x)) taken
+    ≡ (rows_step frames (map-TypedExpression TypedExpression TypedSuffix Rows ReadSuffix
+    (rows frames) (suffix_of frames) x)).rule usage taken
 unfolding lowered
 opened_by frames usage e x taken is =
-    ap (λ r. row_by usage r taken) (opened frames e x is)
+    ap (λ (r : Rows). r.rule usage taken) (opened frames e x is)
 
-pub lowered_used : (frames : Frames) (e : TypedExpression) (taken : Taken) →
-    lowered frames Used e taken ≡ (rows frames e).used taken
-unfolding lowered by_usage
-lowered_used frames e taken = refl
-
-pub lowered_unused : (frames : Frames) (e : TypedExpression) (taken : Taken) →
-    lowered frames Unused e taken
-    ≡ then_by (rows frames e).unused (λ statements. gives (unvalued statements)) taken
-unfolding lowered by_usage
-lowered_unused frames e taken = refl
+pub lowered_by : (frames : Frames) (usage : Usage) (e : TypedExpression) (taken : Taken) →
+    lowered frames usage e taken ≡ (rows frames e).rule usage taken
+unfolding lowered
+lowered_by frames usage e taken = refl
 
 pub of_Name : (frames : Frames) (usage : Usage)
     (found : Option Meaning) (place : ℕ) (taken : Taken) →
     lowered frames usage (tree.Name found place) taken
     ≡ name_for place usage found taken
-unfolding lowered by_usage name_for finished
-of_Name frames Used found place taken =
-    opened_by frames Used (tree.Name found place) (TypedExpression-F.Name found place) taken
-    (tree.rolls-Name found place)
-of_Name frames Unused found place taken =
-    opened_by frames Unused (tree.Name found place) (TypedExpression-F.Name found place) taken
+unfolding lowered name_for
+of_Name frames usage found place taken =
+    opened_by frames usage (tree.Name found place) (TypedExpression-F.Name found place) taken
     (tree.rolls-Name found place)
 
 pub of_Number : (frames : Frames) (usage : Usage)
     (t : IntType) (n : ℤ) (place : ℕ) (taken : Taken) →
     lowered frames usage (tree.Number t n place) taken
     ≡ finished place usage (pure (Const t n)) taken
-unfolding lowered by_usage finished
-of_Number frames Used t n place taken =
-    opened_by frames Used (tree.Number t n place) (TypedExpression-F.Number t n place) taken
-    (tree.rolls-Number t n place)
-of_Number frames Unused t n place taken =
-    opened_by frames Unused (tree.Number t n place) (TypedExpression-F.Number t n place) taken
+unfolding lowered
+of_Number frames usage t n place taken =
+    opened_by frames usage (tree.Number t n place) (TypedExpression-F.Number t n place) taken
     (tree.rolls-Number t n place)
 
 pub of_Character : (frames : Frames) (usage : Usage) (n : ℤ) (place : ℕ) (taken : Taken) →
     lowered frames usage (tree.Character n place) taken
     ≡ finished place usage (pure (Const ty.I32 n)) taken
-unfolding lowered by_usage finished
-of_Character frames Used n place taken =
-    opened_by frames Used (tree.Character n place) (TypedExpression-F.Character n place) taken
-    (tree.rolls-Character n place)
-of_Character frames Unused n place taken =
-    opened_by frames Unused (tree.Character n place) (TypedExpression-F.Character n place) taken
+unfolding lowered
+of_Character frames usage n place taken =
+    opened_by frames usage (tree.Character n place) (TypedExpression-F.Character n place) taken
     (tree.rolls-Character n place)
 
 pub of_Bracketed : (frames : Frames) (usage : Usage)
     (inside : TypedExpression) (place : ℕ) (taken : Taken) →
     lowered frames usage (tree.Bracketed inside place) taken
     ≡ lowered frames usage inside taken
-unfolding lowered by_usage
-of_Bracketed frames Used inside place taken =
-    opened_by frames Used (tree.Bracketed inside place)
-    (TypedExpression-F.Bracketed inside place) taken
-    (tree.rolls-Bracketed inside place)
-of_Bracketed frames Unused inside place taken =
-    opened_by frames Unused (tree.Bracketed inside place)
+unfolding lowered
+of_Bracketed frames usage inside place taken =
+    opened_by frames usage (tree.Bracketed inside place)
     (TypedExpression-F.Bracketed inside place) taken
     (tree.rolls-Bracketed inside place)
 
@@ -136,13 +117,9 @@ pub of_PrefixStep : (frames : Frames) (usage : Usage)
     lowered frames usage (tree.PrefixStep operator operand kind place) taken
     ≡ then_by (placed place true (rows frames operand).target)
     (incremented_for place usage operator) taken
-unfolding lowered by_usage incremented_for kept_for
-of_PrefixStep frames Used operator operand kind place taken =
-    opened_by frames Used (tree.PrefixStep operator operand kind place)
-    (TypedExpression-F.PrefixStep operator operand kind place) taken
-    (tree.rolls-PrefixStep operator operand kind place)
-of_PrefixStep frames Unused operator operand kind place taken =
-    opened_by frames Unused (tree.PrefixStep operator operand kind place)
+unfolding lowered incremented_for
+of_PrefixStep frames usage operator operand kind place taken =
+    opened_by frames usage (tree.PrefixStep operator operand kind place)
     (TypedExpression-F.PrefixStep operator operand kind place) taken
     (tree.rolls-PrefixStep operator operand kind place)
 
@@ -151,13 +128,9 @@ pub of_Unary : (frames : Frames) (usage : Usage)
     (kind : Option Kind) (place : ℕ) (taken : Taken) →
     lowered frames usage (tree.Unary operator operand kind place) taken
     ≡ then_by (lowered frames Used operand) (signed_for place usage operator) taken
-unfolding lowered by_usage signed_for finished
-of_Unary frames Used operator operand kind place taken =
-    opened_by frames Used (tree.Unary operator operand kind place)
-    (TypedExpression-F.Unary operator operand kind place) taken
-    (tree.rolls-Unary operator operand kind place)
-of_Unary frames Unused operator operand kind place taken =
-    opened_by frames Unused (tree.Unary operator operand kind place)
+unfolding lowered signed_for
+of_Unary frames usage operator operand kind place taken =
+    opened_by frames usage (tree.Unary operator operand kind place)
     (TypedExpression-F.Unary operator operand kind place) taken
     (tree.rolls-Unary operator operand kind place)
 
@@ -165,13 +138,9 @@ pub of_Cast : (frames : Frames) (usage : Usage)
     (operand : TypedExpression) (t : IntType) (place : ℕ) (taken : Taken) →
     lowered frames usage (tree.Cast operand (Some (Value t)) place) taken
     ≡ then_by (lowered frames Used operand) (cast_for place usage t) taken
-unfolding lowered by_usage cast_for finished
-of_Cast frames Used operand t place taken =
-    opened_by frames Used (tree.Cast operand (Some (Value t)) place)
-    (TypedExpression-F.Cast operand (Some (Value t)) place) taken
-    (tree.rolls-Cast operand (Some (Value t)) place)
-of_Cast frames Unused operand t place taken =
-    opened_by frames Unused (tree.Cast operand (Some (Value t)) place)
+unfolding lowered cast_for
+of_Cast frames usage operand t place taken =
+    opened_by frames usage (tree.Cast operand (Some (Value t)) place)
     (TypedExpression-F.Cast operand (Some (Value t)) place) taken
     (tree.rolls-Cast operand (Some (Value t)) place)
 
@@ -179,13 +148,9 @@ pub of_Voided : (frames : Frames) (usage : Usage)
     (operand : TypedExpression) (place : ℕ) (taken : Taken) →
     lowered frames usage (tree.Cast operand (Some Void) place) taken
     ≡ then_by (lowered frames Unused operand) (λ v. gives (voided usage v.statements)) taken
-unfolding lowered by_usage voided
-of_Voided frames Used operand place taken =
-    opened_by frames Used (tree.Cast operand (Some Void) place)
-    (TypedExpression-F.Cast operand (Some Void) place) taken
-    (tree.rolls-Cast operand (Some Void) place)
-of_Voided frames Unused operand place taken =
-    opened_by frames Unused (tree.Cast operand (Some Void) place)
+unfolding lowered
+of_Voided frames usage operand place taken =
+    opened_by frames usage (tree.Cast operand (Some Void) place)
     (TypedExpression-F.Cast operand (Some Void) place) taken
     (tree.rolls-Cast operand (Some Void) place)
 
@@ -193,13 +158,9 @@ pub of_Untyped : (frames : Frames) (usage : Usage)
     (operand : TypedExpression) (place : ℕ) (taken : Taken) →
     lowered frames usage (tree.Cast operand None place) taken
     ≡ then_by (lowered frames Unused operand) (λ v. gives (voided usage v.statements)) taken
-unfolding lowered by_usage voided
-of_Untyped frames Used operand place taken =
-    opened_by frames Used (tree.Cast operand None place)
-    (TypedExpression-F.Cast operand None place) taken
-    (tree.rolls-Cast operand None place)
-of_Untyped frames Unused operand place taken =
-    opened_by frames Unused (tree.Cast operand None place)
+unfolding lowered
+of_Untyped frames usage operand place taken =
+    opened_by frames usage (tree.Cast operand None place)
     (TypedExpression-F.Cast operand None place) taken
     (tree.rolls-Cast operand None place)
 
@@ -207,17 +168,12 @@ pub of_Chain : (frames : Frames) (usage : Usage) (first : TypedExpression)
     (rest : List (BinaryOperator × TypedExpression)) (kind : Option Kind) (place : ℕ)
     (taken : Taken) → lowered frames usage (tree.Chain first rest kind place) taken
     ≡ then_by (lowered frames Used first) (λ left. linked_to place frames usage left rest) taken
-unfolding lowered by_usage finished linked_to
-of_Chain frames Used first rest kind place taken =
-    opened_by frames Used (tree.Chain first rest kind place)
+unfolding lowered linked_to
+of_Chain frames usage first rest kind place taken =
+    opened_by frames usage (tree.Chain first rest kind place)
     (TypedExpression-F.Chain first rest kind place) taken (tree.rolls-Chain first rest kind place)
-    ∙ ap (λ (m : Made Valued). finished place Used m.made m.taken)
-    (chained_from place (rows frames first).used (map (link_rows frames) rest) taken)
-of_Chain frames Unused first rest kind place taken =
-    opened_by frames Unused (tree.Chain first rest kind place)
-    (TypedExpression-F.Chain first rest kind place) taken (tree.rolls-Chain first rest kind place)
-    ∙ ap (λ (m : Made Valued). finished place Unused m.made m.taken)
-    (chained_from place (rows frames first).used (map (link_rows frames) rest) taken)
+    ∙ ap (λ (m : Made Valued). finished place usage m.made m.taken)
+    (chained_from place (used (rows frames first)) (map (link_rows frames) rest) taken)
 
 pub of_Conditional : (frames : Frames) (usage : Usage) (test first second : TypedExpression)
     (kind : Option Kind) (place : ℕ) (taken : Taken) →
@@ -226,31 +182,11 @@ pub of_Conditional : (frames : Frames) (usage : Usage) (test first second : Type
     then_by (lowered frames (usage_of_ends usage kind) first) (λ a.
     then_by (lowered frames (usage_of_ends usage kind) second) (λ b.
     chosen_for place usage (usage_of_ends usage kind) v a b))) taken
-unfolding lowered by_usage finished usage_of_ends chosen_for
-of_Conditional frames Used test first second None place taken =
-    opened_by frames Used (tree.Conditional test first second None place)
-    (TypedExpression-F.Conditional test first second None place) taken
-    (tree.rolls-Conditional test first second None place)
-of_Conditional frames Used test first second (Some Void) place taken =
-    opened_by frames Used (tree.Conditional test first second (Some Void) place)
-    (TypedExpression-F.Conditional test first second (Some Void) place) taken
-    (tree.rolls-Conditional test first second (Some Void) place)
-of_Conditional frames Used test first second (Some (Value t)) place taken =
-    opened_by frames Used (tree.Conditional test first second (Some (Value t)) place)
-    (TypedExpression-F.Conditional test first second (Some (Value t)) place) taken
-    (tree.rolls-Conditional test first second (Some (Value t)) place)
-of_Conditional frames Unused test first second None place taken =
-    opened_by frames Unused (tree.Conditional test first second None place)
-    (TypedExpression-F.Conditional test first second None place) taken
-    (tree.rolls-Conditional test first second None place)
-of_Conditional frames Unused test first second (Some Void) place taken =
-    opened_by frames Unused (tree.Conditional test first second (Some Void) place)
-    (TypedExpression-F.Conditional test first second (Some Void) place) taken
-    (tree.rolls-Conditional test first second (Some Void) place)
-of_Conditional frames Unused test first second (Some (Value t)) place taken =
-    opened_by frames Unused (tree.Conditional test first second (Some (Value t)) place)
-    (TypedExpression-F.Conditional test first second (Some (Value t)) place) taken
-    (tree.rolls-Conditional test first second (Some (Value t)) place)
+unfolding lowered
+of_Conditional frames usage test first second kind place taken =
+    opened_by frames usage (tree.Conditional test first second kind place)
+    (TypedExpression-F.Conditional test first second kind place) taken
+    (tree.rolls-Conditional test first second kind place)
 
 pub of_Assignment : (frames : Frames) (usage : Usage)
     (left : TypedExpression) (operator : AssignmentOperator)
@@ -258,13 +194,9 @@ pub of_Assignment : (frames : Frames) (usage : Usage)
     lowered frames usage (tree.Assignment left operator right kind place) taken
     ≡ then_by (placed place (is_some (operator_of operator)) (rows frames left).target) (λ p.
     then_by (lowered frames Used right) (changed_for place usage (operator_of operator) p)) taken
-unfolding lowered by_usage changed_for kept_for
-of_Assignment frames Used left operator right kind place taken =
-    opened_by frames Used (tree.Assignment left operator right kind place)
-    (TypedExpression-F.Assignment left operator right kind place) taken
-    (tree.rolls-Assignment left operator right kind place)
-of_Assignment frames Unused left operator right kind place taken =
-    opened_by frames Unused (tree.Assignment left operator right kind place)
+unfolding lowered changed_for
+of_Assignment frames usage left operator right kind place taken =
+    opened_by frames usage (tree.Assignment left operator right kind place)
     (TypedExpression-F.Assignment left operator right kind place) taken
     (tree.rolls-Assignment left operator right kind place)
 
@@ -272,13 +204,9 @@ pub of_Comma : (frames : Frames) (usage : Usage)
     (items : List TypedExpression) (kind : Option Kind) (place : ℕ) (taken : Taken) →
     lowered frames usage (tree.Comma items kind place) taken
     ≡ comma_of frames usage items taken
-unfolding lowered by_usage comma_of
-of_Comma frames Used items kind place taken =
-    opened_by frames Used (tree.Comma items kind place)
-    (TypedExpression-F.Comma items kind place) taken
-    (tree.rolls-Comma items kind place)
-of_Comma frames Unused items kind place taken =
-    opened_by frames Unused (tree.Comma items kind place)
+unfolding lowered comma_of
+of_Comma frames usage items kind place taken =
+    opened_by frames usage (tree.Comma items kind place)
     (TypedExpression-F.Comma items kind place) taken
     (tree.rolls-Comma items kind place)
 
@@ -557,7 +485,7 @@ pub placed_Index : (origin : ℕ) (frames : Frames) (fixes : Bool) (found : Opti
     taken
     ≡ then_by (lowered frames Used index) (λ i. then_by (fixed_if origin fixes i) (λ kept.
     then_by (located found) (λ location. gives (spot.Element location kept)))) taken
-unfolding lowered by_usage
+unfolding lowered
 placed_Index origin frames fixes found index kind place taken =
     ap (λ s. placed origin fixes (suffix_target found s) taken)
     (suffix_Index frames index kind place)

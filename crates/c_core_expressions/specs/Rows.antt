@@ -1,7 +1,7 @@
--- E and D of a typed expression as one rule, by whether the value is used, and the rules of its
--- parts (`c_core_rules`, `specs/Expressions.antt`).
-use Rattle.std.specs.Prelude.{ℕ, [], ◌∷◌, ◌++◌, List, map, take, length, Bool, true, false, Option}
-use Rattle.std.specs.Prelude.{None, Some, unwrap_or, slice_get}
+-- The rules of the parts of a typed expression, each behind what the walk has made before it
+-- (`c_core_rules`, `specs/Expressions.antt`).
+use Rattle.std.specs.Prelude.{ℕ, [], ◌∷◌, ◌++◌, List, map, take, Bool, true, false, Option}
+use Rattle.std.specs.Prelude.{unwrap_or, slice_get}
 use Rattle.cpa_ints.specs.declared.integers.IntType.{IntType}
 use Rattle.c_grammar_symbols.specs.declared.operators.BinaryOperator.{BinaryOperator}
 use Rattle.c_grammar_symbols.specs.declared.operators.StepOperator.{StepOperator}
@@ -9,7 +9,6 @@ use Rattle.c_grammar_tree.specs.declared.expression.UnaryOperator.{UnaryOperator
 use Rattle.c_types_rules.specs.declared.known.KnownFunction.{KnownFunction}
 use Rattle.c_types_rules.specs.declared.known.KnownFunction.TheVariants as known
 use Rattle.c_types_rules.specs.declared.meaning.Function.{Function}
-use Rattle.c_types_rules.specs.declared.meaning.Kind.{Kind}
 use Rattle.c_types_rules.specs.declared.meaning.Kind.TheVariants.{Void, Value}
 use Rattle.c_types_rules.specs.declared.meaning.Meaning.{Meaning}
 use Rattle.c_types_rules.specs.declared.typed.TypedExpression.{TypedExpression}
@@ -20,51 +19,24 @@ use Rattle.c_types_rules.specs.declared.typed.TypedSuffix.{TypedSuffix}
 use Rattle.c_types_rules.specs.Known.{known_result}
 use Rattle.cpa_model_trees.specs.declared.tree.Head.TheVariants as head
 use Rattle.c_core_rules.specs.declared.tree.Place.{Place}
+use Rattle.c_core_rules.specs.declared.tree.Usage.{Usage}
+use Rattle.c_core_rules.specs.declared.tree.Usage.TheVariants.{Used}
 use Rattle.c_core_rules.specs.declared.tree.Valued.{Valued}
-use Rattle.c_core_rules.specs.Values.{int, element}
+use Rattle.c_core_rules.specs.Values.{element}
 use Rattle.cpa_model_trees.specs.Numbering.{Trees}
-use Rattle.c_core_rules.specs.Trees.{choice, leaf, valued}
+use Rattle.c_core_rules.specs.Trees.{leaf, valued}
 use Rattle.c_core_rules.specs.Cells.{Rule, gives, then_by, located}
-use Rattle.c_core_rules.specs.Acts.{hold_all, signed, cast_to, chosen, dropped_value}
-use Rattle.c_core_rules.specs.Places.{changed, incremented, stepped}
+use Rattle.c_core_rules.specs.Acts.{hold_all, signed, cast_to, finished, kept_for, kept, voided}
+use Rattle.c_core_rules.specs.Acts.{is_used}
+use Rattle.c_core_rules.specs.Places.{changed, incremented}
 use Rattle.c_core_rules.specs.Expressions.{Frames, Rows, ReadSuffix, rows_step, read_suffix, rows}
-use Rattle.c_core_rules.specs.Expressions.{suffixed, chained, Target, no_target, element_target}
-use Rattle.c_core_rules.specs.Expressions.{comma_used, comma_unused, call_used, call_unused}
-use Rattle.c_core_rules.specs.Expressions.{called_with, first_unused, taken_in, no_value, name_used}
-use Rattle.c_core_expressions.specs.declared.usage.Usage.{Usage}
-use Rattle.c_core_expressions.specs.declared.usage.Usage.TheVariants.{Used, Unused}
-
--- statements whose value nobody uses: 0 stands for it
-abbrev pub unvalued : Trees → Valued
-unvalued statements = valued statements (int 0)
-
--- what two rules make, the one where the value is used, the other where it is not
-unfoldable pub by_usage : Usage → Rule Valued → Rule Trees → Rule Valued
-by_usage Used used unused = used
-by_usage Unused used unused = then_by unused (λ statements. gives (unvalued statements))
-
-abbrev pub row_by : Usage → Rows → Rule Valued
-row_by usage row = by_usage usage row.used row.unused
+use Rattle.c_core_rules.specs.Expressions.{used, suffixed, chained, comma, call_rule, called_with}
+use Rattle.c_core_rules.specs.Expressions.{Target, no_target, element_target, first_unused}
+use Rattle.c_core_rules.specs.Expressions.{taken_in, name_used}
 
 -- an expression: E, or D
 unfoldable pub lowered : Frames → Usage → TypedExpression → Rule Valued
-lowered frames usage e = row_by usage (rows frames e)
-
--- of what acts: all where the value is used, else the statements
-unfoldable pub kept_for : Usage → Valued → Valued
-kept_for Used v = v
-kept_for Unused v = unvalued v.statements
-
--- of what is evaluated: the value is dropped where it is not used
-unfoldable pub finished : ℕ → Usage → Valued → Rule Valued
-finished origin Used v = gives v
-finished origin Unused v = then_by (dropped_value origin v)
-    (λ statements. gives (unvalued statements))
-
--- of what has no value
-unfoldable pub voided : Usage → Trees → Valued
-voided Used statements = valued statements no_value
-voided Unused statements = unvalued statements
+lowered frames usage e = (rows frames e).rule usage
 
 -- a scalar that is read
 unfoldable pub name_for : ℕ → Usage → Option Meaning → Rule Valued
@@ -83,40 +55,15 @@ signed_for origin usage operator v = finished origin usage (signed operator v)
 unfoldable pub cast_for : ℕ → Usage → IntType → Valued → Rule Valued
 cast_for origin usage t v = finished origin usage (cast_to t v)
 
-abbrev pub is_used : Usage → Bool
-is_used Used = true
-is_used Unused = false
-
 -- an assignment behind its operands
 unfoldable pub changed_for : ℕ → Usage → Option BinaryOperator → Place → Valued → Rule Valued
 changed_for origin usage operator place v =
-    then_by (changed origin (is_used usage) operator place v) (λ w. gives (kept_for usage w))
+    kept usage (changed origin (is_used usage) operator place v)
 
 -- ++l and --l behind the place
 unfoldable pub incremented_for : ℕ → Usage → StepOperator → Place → Rule Valued
 incremented_for origin usage operator place =
-    then_by (incremented origin operator place) (λ v. gives (kept_for usage v))
-
--- l++ and l-- behind the place
-unfoldable pub stepped_for : ℕ → Usage → StepOperator → Place → Rule Valued
-stepped_for origin Used operator place = stepped origin operator place
-stepped_for origin Unused operator place =
-    then_by (incremented origin operator place) (λ v. gives (unvalued v.statements))
-
--- how the ends of a conditional are used
-unfoldable pub usage_of_ends : Usage → Option Kind → Usage
-usage_of_ends Used kind = Used
-usage_of_ends Unused None = Used
-usage_of_ends Unused (Some Void) = Unused
-usage_of_ends Unused (Some (Value t)) = Used
-
--- a conditional behind its operands, of which the ends are used so
-unfoldable pub chosen_for : ℕ → Usage → Usage → Valued → Valued → Valued → Rule Valued
-chosen_for origin usage Used test first second =
-    then_by (chosen origin test first second) (finished origin usage)
-chosen_for origin usage Unused test first second =
-    gives (unvalued (test.statements
-    ++ choice origin test.value first.statements second.statements ∷ []))
+    kept usage (incremented origin operator place)
 
 -- a call of a function with a body behind its arguments
 unfoldable pub called_behind : ℕ → Frames → Usage → Function → List Valued → Rule Valued
@@ -133,7 +80,7 @@ ended origin _ = leaf origin head.Stop ∷ []
 abbrev pub known_alone : ℕ → Usage → KnownFunction → Rule Valued
 known_alone origin usage function = elim (known_result function) [
   | Void ↦ gives (voided usage (ended origin function))
-  | Value t ↦ then_by (taken_in origin function) (λ v. gives (kept_for usage v))
+  | Value t ↦ kept usage (taken_in origin function)
 ]
 
 -- a call of exit, whose status is evaluated
@@ -149,8 +96,7 @@ is_exit _ = false
 -- a call of what a name stands for
 unfoldable pub call_of : ℕ → Frames → Usage → Option Meaning → List TypedExpression → Rule Valued
 call_of origin frames usage found arguments =
-    by_usage usage (call_used origin frames found (map (rows frames) arguments))
-    (call_unused origin frames found (map (rows frames) arguments))
+    call_rule origin frames usage found (map (rows frames) arguments)
 
 -- a suffix with rows for each expression in it
 unfoldable pub suffix_of : Frames → TypedSuffix → ReadSuffix
@@ -179,7 +125,7 @@ front_target frames _ count = no_target
 
 -- what a suffix makes as a left side, behind what has this name
 abbrev pub suffix_target : Option Meaning → ReadSuffix → Target
-suffix_target found (TypedSuffix-F.Index index kind place) = element_target found index.used
+suffix_target found (TypedSuffix-F.Index index kind place) = element_target found (used index)
 suffix_target found _ = no_target
 
 -- E of an expression
@@ -189,7 +135,7 @@ used_by frames e = lowered frames Used e
 -- items of a comma expression
 unfoldable pub comma_of : Frames → Usage → List TypedExpression → Rule Valued
 comma_of frames usage items =
-    by_usage usage (comma_used (map (rows frames) items)) (comma_unused (map (rows frames) items))
+    comma usage (map (rows frames) items)
 
 -- the same behind statements
 unfoldable pub comma_behind : Frames → Usage → Trees → List TypedExpression → Rule Valued

@@ -1,19 +1,20 @@
-//! The core of calls (`call_used` and `call_unused` of `c_core_rules`, `specs/Expressions.antt`).
+//! The core of calls (`call_rule` of `c_core_rules`, `specs/Expressions.antt`).
 //! Proved with the lemmas of `proofs/CallForms.antt` and `Lists.antt`.
 ghost use Rattle.std.specs.Prelude.{◌≡◌, ◌++◌, ◌∷◌, [], map, OnOk, IfOk};
 ghost use Rattle.cpa_model_trees.specs.declared.tree.Head.TheVariants as head;
 ghost use Rattle.c_core_rules.specs.Trees.{leaf};
 ghost use Rattle.c_core_rules.specs.Cells.{each};
+ghost use Rattle.c_core_rules.specs.Acts.{voided};
 ghost use Rattle.c_core_rules.specs.Expressions.{taken_in, called_with};
 ghost use Rattle.c_core_values.specs.Found.{so_far};
-ghost use Rattle.c_core_expressions.specs.Rows.{used_by, called_behind, ended, known_alone, voided};
+ghost use Rattle.c_core_expressions.specs.Rows.{used_by, called_behind, ended, known_alone};
 ghost use Rattle.c_core_expressions.specs.Rows.{is_exit, exit_of, call_of};
 
 use crate::expressions::lowered;
 use crate::frames::Frames;
 use crate::passing::passed;
-use crate::usage::{Usage, kept_for, statements_of, voided};
-use c_core_rules::Valued;
+use crate::usage::{kept_for, statements_of, voided};
+use c_core_rules::{Usage, Valued};
 use c_core_values::{
     Cells, cell_at, divided, hold_all, input, joined, leaf, list_of, number, scalar, with,
 };

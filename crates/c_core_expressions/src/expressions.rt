@@ -3,7 +3,7 @@
 ghost use Rattle.std.specs.Prelude.{◌≡◌, ◌≤◌, OnOk, IfOk};
 ghost use Rattle.c_types_rules.specs.declared.typed.TypedExpression.{out-TypedExpression};
 ghost use Rattle.c_types_rules.specs.Tables.{suffix_count};
-ghost use Rattle.c_core_rules.specs.Expressions.{rows, placed};
+ghost use Rattle.c_core_rules.specs.Expressions.{rows, used, unused, placed};
 ghost use Rattle.c_core_values.specs.Found.{so_far};
 ghost use Rattle.c_core_expressions.specs.Postfix.{postfix_of};
 ghost use Rattle.c_core_expressions.specs.Rows.{lowered, linked_to, comma_of, front_target};
@@ -13,10 +13,10 @@ use crate::calls::call_of;
 use crate::frames::Frames;
 use crate::names::front_names;
 use crate::usage::{
-    Usage, cast_for, changed_for, chosen_for, element_behind, finished, incremented_for, literal,
+    cast_for, changed_for, chosen_for, element_behind, finished, incremented_for, literal,
     name_for, signed_for, statements_of, stepped_for, usage_of_ends, voided,
 };
-use c_core_rules::{Place, Valued};
+use c_core_rules::{Place, Usage, Valued};
 use c_core_values::{Cells, fixed_if, int, joined, linked, number};
 use c_grammar_symbols::BinaryOperator;
 use c_types_rules::{Kind, Meaning, TypedExpression, TypedSuffix, operator_of};
@@ -28,8 +28,8 @@ use std::alloc::AllocError;
 #[tactic(auto, using(crate::proofs::Variants::lowered_used))]
 pub fn used(cells: &mut Cells, frames: &Frames, e: &TypedExpression) -> Result<Valued, AllocError>
     ensures taken { OnOk result (so_far cells.new
-        ≡ ((rows frames.now e.now).used (so_far cells.old)).taken) }
-    ensures made { IfOk result (λ v. v ≡ ((rows frames.now e.now).used (so_far cells.old)).made) }
+        ≡ (used (rows frames.now e.now) (so_far cells.old)).taken) }
+    ensures made { IfOk result (λ v. v ≡ (used (rows frames.now e.now) (so_far cells.old)).made) }
 {
     lowered(cells, frames, Usage::Used, e)
 }
@@ -42,9 +42,9 @@ pub fn unused(
     e: &TypedExpression,
 ) -> Result<Seq<CoreTree>, AllocError>
     ensures taken { OnOk result (so_far cells.new
-        ≡ ((rows frames.now e.now).unused (so_far cells.old)).taken) }
+        ≡ (unused (rows frames.now e.now) (so_far cells.old)).taken) }
     ensures made { IfOk result (λ trees. trees
-        ≡ ((rows frames.now e.now).unused (so_far cells.old)).made) }
+        ≡ (unused (rows frames.now e.now) (so_far cells.old)).made) }
 {
     let v = lowered(cells, frames, Usage::Unused, e)?;
     Ok(v.statements)

@@ -1,16 +1,17 @@
-//! Whether the value of an expression is used, and what is made of it then (`specs/Rows.antt`).
-//! Proved by the checker alone.
+//! What is made of a value, by whether it is used (`c_core_rules`, `specs/Acts.antt`; here
+//! `specs/Rows.antt`). Proved by the checker alone.
 ghost use Rattle.std.specs.Prelude.{◌≡◌, ◌++◌, ◌∷◌, [], OnOk, IfOk};
 ghost use Rattle.cpa_expr.specs.declared.tree.Expr.TheVariants.{Const};
 ghost use Rattle.c_core_rules.specs.Trees.{choice, pure};
-ghost use Rattle.c_core_rules.specs.Expressions.{no_value};
+ghost use Rattle.c_core_rules.specs.Acts.{unvalued, finished, kept_for, no_value, voided, is_used};
+ghost use Rattle.c_core_rules.specs.Acts.{chosen_for};
+ghost use Rattle.c_core_rules.specs.Places.{stepped_for};
+ghost use Rattle.c_core_rules.specs.Expressions.{usage_of_ends};
 ghost use Rattle.c_core_values.specs.Found.{so_far};
-ghost use Rattle.c_core_expressions.specs.Rows.{is_used, unvalued, kept_for, finished, voided};
 ghost use Rattle.c_core_expressions.specs.Rows.{name_for, element_behind, signed_for, cast_for};
-ghost use Rattle.c_core_expressions.specs.Rows.{changed_for, incremented_for, stepped_for};
-ghost use Rattle.c_core_expressions.specs.Rows.{usage_of_ends, chosen_for};
+ghost use Rattle.c_core_expressions.specs.Rows.{changed_for, incremented_for};
 
-use c_core_rules::{Place, Valued};
+use c_core_rules::{Place, Usage, Valued};
 use c_core_values::{
     Cells, cast_to, cell_at, changed, choice, chosen, dropped_value, element, incremented, int,
     pure, scalar, signed, stepped, with,
@@ -22,14 +23,6 @@ use cpa_expr::{Expr, constant};
 use cpa_ints::{Boxed, IntType, Seq};
 use cpa_model_trees::CoreTree;
 use std::alloc::{AllocError, Global};
-
-/// Whether the value of an expression is used: E of the rules where it is, D where it is not.
-#[derive(Clone, Copy)]
-pub(crate) enum Usage {
-    Used,
-    /// The value is 0 then, and stands for none.
-    Unused,
-}
 
 /// Whether it is used.
 fn is_used(usage: Usage) -> bool
@@ -57,7 +50,7 @@ pub(crate) fn statements_of(v: Valued) -> Seq<CoreTree>
 }
 
 /// What acts.
-#[tactic(auto, unfolding(crate::specs::Rows::kept_for))]
+#[tactic(auto, unfolding(c_core_rules::specs::Acts::kept_for))]
 pub(crate) fn kept_for(alloc: Global, usage: Usage, v: Valued) -> Result<Valued, AllocError>
     ensures { IfOk result (λ w. w ≡ kept_for usage v) }
 {
@@ -68,7 +61,7 @@ pub(crate) fn kept_for(alloc: Global, usage: Usage, v: Valued) -> Result<Valued,
 }
 
 /// What is evaluated.
-#[tactic(auto, unfolding(crate::specs::Rows::finished))]
+#[tactic(auto, unfolding(c_core_rules::specs::Acts::finished))]
 pub(crate) fn finished(
     cells: &mut Cells,
     origin: u32,
@@ -96,7 +89,7 @@ fn no_value(alloc: Global) -> Result<Boxed<Expr>, AllocError>
 }
 
 /// What has no value.
-#[tactic(auto, unfolding(crate::specs::Rows::voided))]
+#[tactic(auto, unfolding(c_core_rules::specs::Acts::kept_for))]
 pub(crate) fn voided(
     alloc: Global,
     usage: Usage,
@@ -245,7 +238,7 @@ pub(crate) fn incremented_for(
 }
 
 /// `l++` and `l--`, behind the place.
-#[tactic(auto, unfolding(crate::specs::Rows::stepped_for))]
+#[tactic(auto, unfolding(c_core_rules::specs::Places::stepped_for, c_core_rules::specs::Acts::kept_for))]
 pub(crate) fn stepped_for(
     cells: &mut Cells,
     origin: u32,
@@ -268,7 +261,7 @@ pub(crate) fn stepped_for(
 }
 
 /// How the ends of a conditional of this kind are used.
-#[tactic(auto, unfolding(crate::specs::Rows::usage_of_ends))]
+#[tactic(auto, unfolding(c_core_rules::specs::Expressions::usage_of_ends))]
 pub(crate) fn usage_of_ends(usage: Usage, kind: Option<Kind>) -> Usage
     ensures { result ≡ usage_of_ends usage kind }
 {
@@ -282,7 +275,7 @@ pub(crate) fn usage_of_ends(usage: Usage, kind: Option<Kind>) -> Usage
 }
 
 /// A conditional, behind its test and its ends, which are used so.
-#[tactic(auto, unfolding(crate::specs::Rows::chosen_for))]
+#[tactic(auto, unfolding(c_core_rules::specs::Acts::chosen_for))]
 pub(crate) fn chosen_for(
     cells: &mut Cells,
     origin: u32,

@@ -35,6 +35,7 @@ use Rattle.cpa_model_trees.specs.declared.tree.CoreTree.{CoreTree}
 use Rattle.cpa_model_trees.specs.declared.tree.Head.{Head}
 use Rattle.cpa_model_trees.specs.declared.tree.Head.TheVariants as head
 use Rattle.c_core_rules.specs.declared.tree.Location.{Location}
+use Rattle.c_core_rules.specs.declared.tree.Usage.TheVariants.{Used, Unused}
 use Rattle.c_core_rules.specs.Values.{cell_at, promote}
 use Rattle.cpa_model_trees.specs.Numbering.{Trees}
 use Rattle.c_core_rules.specs.Trees.{leaf, block, labeled, choice, repeated, set, valued}
@@ -54,7 +55,7 @@ use Rattle.c_core_laws.specs.lemmas.CoreItems.{core_statement, open_core_item, o
 use Rattle.c_core_laws.proofs.Shapes.{Makes, makes, makes_then, makes_freshly, makes_at, EachMakes}
 use Rattle.c_core_laws.proofs.Shapes.{none_makes, more_make}
 use Rattle.c_core_laws.proofs.ShapedRows.{AllShaped, set_shaped, leaf_shaped, append_shaped}
-use Rattle.c_core_laws.proofs.ShapedRows.{push_shaped, makes_ordered, held_makes}
+use Rattle.c_core_laws.proofs.ShapedRows.{push_shaped, makes_ordered, held_makes, only_makes}
 use Rattle.c_core_laws.proofs.ShapedExpressions.{expression_makes}
 use Rattle.c_core_laws.proofs.Extending.{object_extends}
 use Rattle.c_core_laws.proofs.Jumping.{Has, TreeHas, has_none, has_plain, has_append, has_one}
@@ -234,7 +235,7 @@ module _ (frames : rows.Frames) where
   -- a switch, by the rule of its body
   abbrev pub switch_rule : ℕ → TypedExpression → List Choice → ℕ → core.Rule Trees → core.Rule Trees
   switch_rule origin value choices otherwise body =
-      core.then_by (rows.rows frames value).used (λ v.
+      core.then_by (rows.used (rows.rows frames value)) (λ v.
       core.then_by (held origin (valued v.statements (promote v.value))) (λ kept. core.then_by body
       (λ inside. core.gives (kept.statements
       ++ statement.selected_by origin kept.value choices otherwise inside))))
@@ -250,7 +251,7 @@ module _ (frames : rows.Frames) where
       makes_then (λ v. core.then_by (held origin (valued v.statements (promote v.value)))
       (λ kept. core.then_by body (λ inside. core.gives (kept.statements
       ++ statement.selected_by origin kept.value choices otherwise inside))))
-      (expression_makes frames value).used
+      ((expression_makes frames value).rule Used)
       (λ v is. makes_then (λ kept. core.then_by body (λ inside. core.gives (kept.statements
       ++ statement.selected_by origin kept.value choices otherwise inside)))
       (held_makes origin (valued v.statements (promote v.value)) is)
@@ -262,13 +263,13 @@ module _ (frames : rows.Frames) where
 
   pub unused_makes : (e : Option TypedExpression) → Makes AllShaped (statement.some_unused frames e)
   unused_makes None = makes AllShaped [] tt
-  unused_makes (Some e) = (expression_makes frames e).unused
+  unused_makes (Some e) = only_makes ((expression_makes frames e).rule Unused)
 
   initialized_makes : (origin : ℕ) (place : Location) (e : TypedExpression) →
       Makes AllShaped (statement.initialized origin frames place e)
   initialized_makes origin place e =
       makes_then (λ v. core.gives (v.statements ++ set origin place v.value ∷ []))
-      (expression_makes frames e).used
+      ((expression_makes frames e).rule Used)
       (λ v is. makes AllShaped (v.statements ++ set origin place v.value ∷ [])
       (push_shaped v.statements (set origin place v.value) is (set_shaped origin place v.value)))
 
@@ -318,7 +319,8 @@ module _ (frames : rows.Frames) where
       Makes Loose (statement.left_unless origin frames test)
   left_makes origin None = makes Loose [] (record { loose = false; has = has_none })
   left_makes origin (Some test) =
-      makes_then (λ v. core.gives (statement.leaving origin v)) (expression_makes frames test).used
+      makes_then (λ v. core.gives (statement.leaving origin v))
+      ((expression_makes frames test).rule Used)
       (λ v is. makes Loose (statement.leaving origin v) (record {
         loose = true;
         has = plain_then leaving v.statements
@@ -342,13 +344,13 @@ module _ (frames : rows.Frames) where
   if_makes : (origin : ℕ) (test : TypedExpression) (p q : Jumps) {a b : core.Rule Trees} →
       Makes (Has p) a →
       Makes (Has q) b →
-      Makes (Has (then_jumps p q)) (core.then_by (rows.rows frames test).used
+      Makes (Has (then_jumps p q)) (core.then_by (rows.used (rows.rows frames test))
       (λ v. core.then_by a (λ x. core.then_by b (λ y.
       core.gives (v.statements ++ choice origin v.value x y ∷ [])))))
   if_makes origin test p q {a = a} {b = b} first second =
       makes_then (λ v. core.then_by a (λ x. core.then_by b (λ y.
       core.gives (v.statements ++ choice origin v.value x y ∷ []))))
-      (expression_makes frames test).used
+      ((expression_makes frames test).rule Used)
       (λ v is. makes_then (λ x. core.then_by b (λ y.
       core.gives (v.statements ++ choice origin v.value x y ∷ []))) first
       (λ x so. makes_then (λ y. core.gives (v.statements ++ choice origin v.value x y ∷ [])) second

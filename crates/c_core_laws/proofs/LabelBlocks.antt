@@ -24,6 +24,7 @@ use Rattle.cpa_model_trees.specs.declared.tree.CoreTree.TheVariants.{Node}
 use Rattle.cpa_model_trees.specs.declared.tree.Head.{Head}
 use Rattle.cpa_model_trees.specs.declared.tree.Head.TheVariants as head
 use Rattle.c_core_rules.specs.declared.tree.Location.{Location}
+use Rattle.c_core_rules.specs.declared.tree.Usage.TheVariants.{Used}
 use Rattle.c_core_rules.specs.Values.{cell_at}
 use Rattle.cpa_model_trees.specs.Numbering.{Trees, Placed, joined, statements, label_here}
 use Rattle.cpa_model_trees.specs.Numbering.{labels_from, part}
@@ -481,13 +482,13 @@ module _ (frames : rows.Frames) (place : Location) where
 
   if_marks : (origin : ℕ) (test : TypedExpression) (xs ys : List Label) {a b : core.Rule Trees} →
       Makes (Mark xs) a → Makes (Mark ys) b →
-      Makes (Mark (xs ++ ys)) (core.then_by (rows.rows frames test).used
+      Makes (Mark (xs ++ ys)) (core.then_by (rows.used (rows.rows frames test))
       (λ v. core.then_by a (λ x. core.then_by b (λ y.
       core.gives (v.statements ++ choice origin v.value x y ∷ [])))))
   if_marks origin test xs ys {a = a} {b = b} first second =
       makes_then (λ v. core.then_by a (λ x. core.then_by b (λ y.
       core.gives (v.statements ++ choice origin v.value x y ∷ []))))
-      (expression_makes frames test).used
+      ((expression_makes frames test).rule Used)
       (λ v is. makes_then (λ x. core.then_by b (λ y.
       core.gives (v.statements ++ choice origin v.value x y ∷ []))) first
       (λ x so. makes_then (λ y. core.gives (v.statements ++ choice origin v.value x y ∷ [])) second

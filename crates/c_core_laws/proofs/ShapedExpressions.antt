@@ -1,11 +1,9 @@
 -- Every expression makes trees whose nodes have the parts of their heads.
 use Rattle.std.proofs.Common.{◌≡◌, List, [], ◌∷◌, map, sym, subst}
-use Rattle.std.proofs.Common.{true, false}
 use Rattle.std.specs.List.{AllByRecursion}
 use Rattle.c_grammar_symbols.specs.declared.operators.BinaryOperator.{BinaryOperator}
 use Rattle.cpa_expr.specs.declared.tree.Expr.TheVariants.{Const}
 use Rattle.cpa_ints.specs.declared.integers.IntType.TheVariants as ty
-use Rattle.c_types_rules.specs.ExpressionRules.{is_void}
 use Rattle.c_types_rules.specs.declared.typed.TypedExpression.{TypedExpression}
 use Rattle.c_types_rules.specs.declared.typed.TypedExpression.{roll-TypedExpression}
 use Rattle.c_types_rules.specs.declared.typed.TypedExpression.TheOpen.{TypedExpression-F}
@@ -14,6 +12,7 @@ use Rattle.c_types_rules.specs.declared.typed.TypedExpression.TheFolds.{ind-Type
 use Rattle.c_types_rules.specs.declared.typed.TypedExpression.TheFolds.{map-TypedExpression}
 use Rattle.c_types_rules.specs.declared.typed.TypedExpression.TheFolds.{map-TypedSuffix}
 use Rattle.c_types_rules.specs.declared.typed.TypedSuffix.{TypedSuffix, roll-TypedSuffix}
+use Rattle.c_core_rules.specs.declared.tree.Usage.TheVariants.{Used}
 use Rattle.c_core_rules.specs.Trees.{pure}
 use Rattle.c_core_rules.specs.Cells as core
 use Rattle.c_core_rules.specs.Acts as acts
@@ -22,11 +21,9 @@ use Rattle.c_core_laws.specs.lemmas.CoreLayers.{core_suffix, open_core, open_cor
 use Rattle.c_core_laws.proofs.Shapes.{makes, makes_then}
 use Rattle.c_core_laws.proofs.ShapedRows.{Good}
 use Rattle.c_core_laws.proofs.ShapedRows.{MakesRows, SuffixMakes, name_makes, plain_makes}
-use Rattle.c_core_laws.proofs.ShapedRows.{act_makes}
-use Rattle.c_core_laws.proofs.ShapedRows.{suffixed_makes, incrementing_makes, only_makes}
-use Rattle.c_core_laws.proofs.ShapedRows.{cast_makes}
-use Rattle.c_core_laws.proofs.ShapedRows.{chained_makes, either_makes, assigning_makes}
-use Rattle.c_core_laws.proofs.ShapedRows.{comma_used_makes, comma_unused_makes}
+use Rattle.c_core_laws.proofs.ShapedRows.{act_makes, kept_makes, suffixed_makes}
+use Rattle.c_core_laws.proofs.ShapedRows.{incrementing_makes, cast_makes, chained_makes}
+use Rattle.c_core_laws.proofs.ShapedRows.{conditional_makes, assigning_makes, comma_makes}
 
 module _ (frames : rows.Frames) where
   abbrev pub IsShaped : TypedExpression → Type 0
@@ -87,27 +84,27 @@ module _ (frames : rows.Frames) where
       (map (λ (s : HeldSuffix). s.0) suffixes))
       (rows.rows frames base.0) base.1 (each_suffix suffixes)
   layer (TypedExpression-F.PrefixStep operator operand kind place) =
-      act_makes (incrementing_makes place operator operand.1.target)
-      (only_makes (incrementing_makes place operator operand.1.target))
+      act_makes (λ usage. kept_makes usage (incrementing_makes place operator operand.1.target))
   layer (TypedExpression-F.Unary operator operand kind place) =
-      plain_makes place (makes_then (λ v. core.gives (acts.signed operator v)) operand.1.used
+      plain_makes place (makes_then (λ v. core.gives (acts.signed operator v))
+      (operand.1.rule Used)
       (λ v is. makes Good (acts.signed operator v) is))
   layer (TypedExpression-F.Cast operand kind place) =
       cast_makes place kind (rows.rows frames operand.0) operand.1
   layer (TypedExpression-F.Chain first rest kind place) =
       plain_makes place (chained_makes place
       (map (λ (link : BinaryOperator × TypedExpression). (link.0, rows.rows frames link.1))
-      (map (λ (link : Link). (link.0, link.1.0)) rest)) (rows.rows frames first.0).used
-      first.1.used (each_link rest))
+      (map (λ (link : Link). (link.0, link.1.0)) rest)) (rows.used (rows.rows frames first.0))
+      (first.1.rule Used) (each_link rest))
   layer (TypedExpression-F.Conditional test first second kind place) =
-      either_makes place (is_void kind) test.1 first.1 second.1
+      act_makes (λ usage. conditional_makes place usage (rows.usage_of_ends usage kind) test.1
+      first.1 second.1)
   layer (TypedExpression-F.Assignment left operator right kind place) =
-      act_makes (assigning_makes place true operator left.1.target right.1.used)
-      (only_makes (assigning_makes place false operator left.1.target right.1.used))
+      act_makes (λ usage. kept_makes usage
+      (assigning_makes place (acts.is_used usage) operator left.1.target (right.1.rule Used)))
   layer (TypedExpression-F.Comma items kind place) =
-      act_makes
-      (comma_used_makes (map (rows.rows frames) (map (λ (e : Held). e.0) items)) (each_row items))
-      (comma_unused_makes (map (rows.rows frames) (map (λ (e : Held). e.0) items)) (each_row items))
+      act_makes (λ usage. comma_makes usage
+      (map (rows.rows frames) (map (λ (e : Held). e.0) items)) (each_row items))
 
   layer_behind : (y : TypedSuffix-F Held HeldSuffix) → SuffixMakes (suffix_layer y)
   layer_behind (TypedSuffix-F.Index index kind place) = index.1

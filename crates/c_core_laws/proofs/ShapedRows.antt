@@ -27,6 +27,8 @@ use Rattle.cpa_model_trees.specs.declared.tree.Head.TheVariants as head
 use Rattle.c_core_rules.specs.declared.tree.Location.{Location}
 use Rattle.c_core_rules.specs.declared.tree.Place.{Place}
 use Rattle.c_core_rules.specs.declared.tree.Place.TheVariants as place
+use Rattle.c_core_rules.specs.declared.tree.Usage.{Usage}
+use Rattle.c_core_rules.specs.declared.tree.Usage.TheVariants.{Used, Unused}
 use Rattle.c_core_rules.specs.declared.tree.Valued.{Valued}
 use Rattle.c_core_rules.specs.Values.{is_constant, scalar, element, first_index, truth_of, int}
 use Rattle.c_core_rules.specs.Values.{cell_at, chosen_value}
@@ -35,7 +37,9 @@ use Rattle.c_core_rules.specs.Trees.{leaf, choice, valued, pure, set, write, inp
 use Rattle.c_core_rules.specs.Cells.{location_in}
 use Rattle.c_core_rules.specs.Cells as core
 use Rattle.c_core_rules.specs.Acts as acts
+use Rattle.c_core_rules.specs.Acts.{finished, kept_for, chosen_for}
 use Rattle.c_core_rules.specs.Places as places
+use Rattle.c_core_rules.specs.Places.{stepped_for}
 use Rattle.c_core_rules.specs.Expressions as rows
 use Rattle.c_core_rules.specs.Expressions.{scalar_target, element_target, no_target}
 use Rattle.cpa_model_trees.specs.declared.tree.CoreTree.{CoreTree}
@@ -318,8 +322,7 @@ pub data GoodTarget : rows.Target → Type 0 where
   good_none : GoodTarget no_target
 
 pub record MakesRows (r : rows.Rows) : Type 0 where
-  pub used : Makes Good r.used
-  pub unused : Makes AllShaped r.unused
+  pub rule : (usage : Usage) → Makes Good (r.rule usage)
   pub target : GoodTarget r.target
 
 placed_makes : (origin : ℕ) (fixes : Bool) {target : rows.Target} → GoodTarget target →
@@ -364,27 +367,61 @@ incrementing_makes origin operator target =
     (λ where_to is. updated_makes origin (places.step_operator operator) where_to (pure (int 1)) is
     tt)
 
-stepping_makes : (origin : ℕ) (operator : StepOperator) {target : rows.Target} → GoodTarget target →
-    Makes Good (rows.stepping origin operator target)
-stepping_makes origin operator target =
-    makes_then (places.stepped origin operator) (placed_makes origin true target)
-    (λ where_to is. stepped_makes origin operator where_to is)
+-- what becomes of a value, by whether it is used
 
-pub dropped_rule_makes : (origin : ℕ) {r : core.Rule Valued} → Makes Good r →
-    Makes AllShaped (rows.dropped origin r)
-dropped_rule_makes origin h = makes_then (acts.dropped_value origin) h
-    (λ v is. dropped_makes origin v is)
+finished_makes : (origin : ℕ) (usage : Usage) (v : Valued) → Good v →
+    Makes Good (finished origin usage v)
+unfolding finished
+finished_makes origin Used v h = makes Good v h
+finished_makes origin Unused v h =
+    makes_then (λ statements. core.gives (acts.unvalued statements)) (dropped_makes origin v h)
+    (λ statements is. makes Good (acts.unvalued statements) is)
+
+finish_makes : (origin : ℕ) (usage : Usage) {r : core.Rule Valued} → Makes Good r →
+    Makes Good (core.then_by r (finished origin usage))
+finish_makes origin usage h =
+    makes_then (finished origin usage) h (λ v is. finished_makes origin usage v is)
+
+kept_good : (usage : Usage) (v : Valued) → Good v → Good (kept_for usage v)
+unfolding kept_for
+kept_good Used v h = h
+kept_good Unused v h = h
+
+pub kept_makes : (usage : Usage) {r : core.Rule Valued} → Makes Good r →
+    Makes Good (acts.kept usage r)
+kept_makes usage h =
+    makes_then (λ v. core.gives (kept_for usage v)) h
+    (λ v is. makes Good (kept_for usage v) (kept_good usage v is))
 
 pub only_makes : {r : core.Rule Valued} → Makes Good r → Makes AllShaped (rows.only_statements r)
 only_makes h = makes_then (λ v. core.gives v.statements) h (λ v is. makes AllShaped v.statements is)
 
+voided_makes : (usage : Usage) (before : Trees) → AllShaped before →
+    Makes Good (core.gives (acts.voided usage before))
+voided_makes usage before h =
+    makes Good (acts.voided usage before) (kept_good usage (valued before acts.no_value) h)
+
+pub act_makes : {r : Usage → core.Rule Valued} → ((usage : Usage) → Makes Good (r usage)) →
+    MakesRows (rows.act r)
+act_makes h = record { rule = h; target = good_none }
+
 pub plain_makes : (origin : ℕ) {r : core.Rule Valued} → Makes Good r →
     MakesRows (rows.plain origin r)
-plain_makes origin h = record { used = h; unused = dropped_rule_makes origin h; target = good_none }
+plain_makes origin h = act_makes (λ usage. finish_makes origin usage h)
 
-pub act_makes : {r : core.Rule Valued} {s : core.Rule Trees} → Makes Good r → Makes AllShaped s →
-    MakesRows (rows.act r s)
-act_makes h k = record { used = h; unused = k; target = good_none }
+stepped_for_makes : (origin : ℕ) (usage : Usage) (operator : StepOperator) (where_to : Place) →
+    GoodPlace where_to → Makes Good (stepped_for origin usage operator where_to)
+unfolding stepped_for
+stepped_for_makes origin Used operator where_to h = stepped_makes origin operator where_to h
+stepped_for_makes origin Unused operator where_to h =
+    kept_makes Unused
+    (updated_makes origin (places.step_operator operator) where_to (pure (int 1)) h tt)
+
+stepping_makes : (origin : ℕ) (usage : Usage) (operator : StepOperator) {target : rows.Target} →
+    GoodTarget target → Makes Good (rows.stepping origin usage operator target)
+stepping_makes origin usage operator target =
+    makes_then (stepped_for origin usage operator) (placed_makes origin true target)
+    (λ where_to is. stepped_for_makes origin usage operator where_to is)
 
 read_makes : (found : Option Meaning) →
     Makes Good (core.then_by (core.scalar_place found) (λ place. core.gives (pure (scalar place))))
@@ -403,8 +440,10 @@ used_makes (Some (meaning.Enumerator value)) = makes Good (pure (expr.Const ty.I
 
 pub name_makes : (origin : ℕ) (found : Option Meaning) → MakesRows (rows.name_rows origin found)
 name_makes origin found =
-    let used = used_makes found in
-    record { used = used; unused = dropped_rule_makes origin used; target = good_scalar found }
+    record {
+      rule = λ usage. finish_makes origin usage (used_makes found);
+      target = good_scalar found;
+    }
 
 element_makes : (origin : ℕ) (found : Option Meaning) {index : core.Rule Valued} →
     Makes Good index →
@@ -416,7 +455,10 @@ element_makes origin found {index = index} h =
     (λ i is. makes_at (λ taken. core.gives
     (valued i.statements (element (location_in taken found) i.value)))
     (λ taken. makes Good (valued i.statements (element (location_in taken found) i.value)) is)) in
-    record { used = used; unused = dropped_rule_makes origin used; target = good_element found h }
+    record {
+      rule = λ usage. finish_makes origin usage used;
+      target = good_element found h;
+    }
 
 -- calls
 
@@ -448,14 +490,9 @@ called_makes origin frames function h =
     (leaf_shaped origin (head.Call body) refl tt)))))
 
 each_used_makes : (rs : List rows.Rows) → AllByRecursion MakesRows rs →
-    EachMakes Good (map (λ row. row.used) rs)
+    EachMakes Good (map rows.used rs)
 each_used_makes [] h = none_makes
-each_used_makes (r ∷ rs) h = more_make h.0.used (each_used_makes rs h.1)
-
-valueless_makes : {r : core.Rule Trees} → Makes AllShaped r → Makes Good (rows.valueless r)
-valueless_makes h =
-    makes_then (λ before. core.gives (valued before rows.no_value)) h
-    (λ before is. makes Good (valued before rows.no_value) is)
+each_used_makes (r ∷ rs) h = more_make (h.0.rule Used) (each_used_makes rs h.1)
 
 taken_in_makes : (origin : ℕ) (function : KnownFunction) →
     Makes Good (rows.taken_in origin function)
@@ -464,50 +501,47 @@ taken_in_makes origin function =
     (λ t. valued (input origin t.base ∷ []) (scalar t))
     (λ t. (leaf_shaped origin (head.Input t.base) refl tt, tt))
 
-stop_makes : (origin : ℕ) → Makes AllShaped (core.gives (leaf origin head.Stop ∷ []))
-stop_makes origin = makes AllShaped (leaf origin head.Stop ∷ [])
-    (leaf_shaped origin head.Stop refl tt, tt)
+stop_makes : (origin : ℕ) (usage : Usage) →
+    Makes Good (core.gives (acts.voided usage (leaf origin head.Stop ∷ [])))
+stop_makes origin usage =
+    voided_makes usage (leaf origin head.Stop ∷ []) (leaf_shaped origin head.Stop refl tt, tt)
 
 first_makes : (rs : List rows.Rows) → AllByRecursion MakesRows rs →
     Makes AllShaped (rows.first_unused rs)
 first_makes [] h = makes AllShaped [] tt
-first_makes (r ∷ rs) h = h.0.unused
+first_makes (r ∷ rs) h = only_makes (h.0.rule Unused)
 
-known_unused_makes : (origin : ℕ) (function : KnownFunction) (rs : List rows.Rows) →
-    AllByRecursion MakesRows rs → Makes AllShaped (rows.known_unused origin function rs)
-known_unused_makes origin known.ReachError rs h =
-    makes AllShaped (leaf origin head.Error ∷ []) (leaf_shaped origin head.Error refl tt, tt)
-known_unused_makes origin known.Abort rs h = stop_makes origin
-known_unused_makes origin known.AssertFail rs h = stop_makes origin
-known_unused_makes origin known.Exit rs h =
-    makes_then (λ before. core.gives (before ++ leaf origin head.Stop ∷ [])) (first_makes rs h)
-    (λ before is. makes AllShaped (before ++ leaf origin head.Stop ∷ [])
+known_makes : (origin : ℕ) (usage : Usage) (function : KnownFunction) (rs : List rows.Rows) →
+    AllByRecursion MakesRows rs → Makes Good (rows.known_called origin usage function rs)
+known_makes origin usage known.ReachError rs h =
+    voided_makes usage (leaf origin head.Error ∷ []) (leaf_shaped origin head.Error refl tt, tt)
+known_makes origin usage known.Abort rs h = stop_makes origin usage
+known_makes origin usage known.AssertFail rs h = stop_makes origin usage
+known_makes origin usage known.Exit rs h =
+    makes_then (λ before. core.gives (acts.voided usage (before ++ leaf origin head.Stop ∷ [])))
+    (first_makes rs h)
+    (λ before is. voided_makes usage (before ++ leaf origin head.Stop ∷ [])
     (push_shaped before (leaf origin head.Stop) is (leaf_shaped origin head.Stop refl tt)))
-known_unused_makes origin (known.Input t) rs h = only_makes (taken_in_makes origin (known.Input t))
+known_makes origin usage (known.Input t) rs h =
+    kept_makes usage (taken_in_makes origin (known.Input t))
 
-known_used_by : (origin : ℕ) (kind : Kind) (function : KnownFunction) (rs : List rows.Rows) →
-    AllByRecursion MakesRows rs →
-    Makes Good (elim kind [
-      | Void ↦ rows.valueless (rows.known_unused origin function rs)
-      | Value t ↦ rows.taken_in origin function
-    ])
-known_used_by origin Void function rs h = valueless_makes (known_unused_makes origin function rs h)
-known_used_by origin (Value t) function rs h = taken_in_makes origin function
+call_rule_makes : (origin : ℕ) (frames : rows.Frames) (usage : Usage) (found : Option Meaning)
+    (rs : List rows.Rows) → AllByRecursion MakesRows rs →
+    Makes Good (rows.call_rule origin frames usage found rs)
+call_rule_makes origin frames usage None rs h = makes Good (pure (int 0)) tt
+call_rule_makes origin frames usage (Some (meaning.Object object)) rs h =
+    makes Good (pure (int 0)) tt
+call_rule_makes origin frames usage (Some (meaning.Enumerator value)) rs h =
+    makes Good (pure (int 0)) tt
+call_rule_makes origin frames usage (Some (meaning.Function function)) rs h =
+    kept_makes usage (called_makes origin frames function (each_used_makes rs h))
+call_rule_makes origin frames usage (Some (meaning.Known function)) rs h =
+    known_makes origin usage function rs h
 
 call_makes : (origin : ℕ) (frames : rows.Frames) (found : Option Meaning) (rs : List rows.Rows) →
     AllByRecursion MakesRows rs → MakesRows (rows.call_rows origin frames found rs)
-call_makes origin frames None rs h =
-    act_makes (makes Good (pure (int 0)) tt) (only_makes (makes Good (pure (int 0)) tt))
-call_makes origin frames (Some (meaning.Object object)) rs h =
-    act_makes (makes Good (pure (int 0)) tt) (only_makes (makes Good (pure (int 0)) tt))
-call_makes origin frames (Some (meaning.Enumerator value)) rs h =
-    act_makes (makes Good (pure (int 0)) tt) (only_makes (makes Good (pure (int 0)) tt))
-call_makes origin frames (Some (meaning.Function function)) rs h =
-    act_makes (called_makes origin frames function (each_used_makes rs h))
-    (only_makes (called_makes origin frames function (each_used_makes rs h)))
-call_makes origin frames (Some (meaning.Known function)) rs h =
-    act_makes (known_used_by origin (known_result function) function rs h)
-    (known_unused_makes origin function rs h)
+call_makes origin frames found rs h =
+    act_makes (λ usage. call_rule_makes origin frames usage found rs h)
 
 -- suffixes
 abbrev pub SuffixMakes : rows.ReadSuffix → Type 0
@@ -519,12 +553,11 @@ SuffixMakes (TypedSuffix-F.Skipped kind place) = Unit {0}
 suffix_makes : (origin : ℕ) (frames : rows.Frames) (base : rows.Rows) (suffix : rows.ReadSuffix) →
     MakesRows base → SuffixMakes suffix → MakesRows (rows.suffix_rows origin frames base suffix)
 suffix_makes origin frames base (TypedSuffix-F.Index index kind place) h k =
-    element_makes origin base.names k.used
+    element_makes origin base.names (k.rule Used)
 suffix_makes origin frames base (TypedSuffix-F.Call arguments kind place) h k =
     call_makes origin frames base.names arguments k
 suffix_makes origin frames base (TypedSuffix-F.Step operator kind place) h k =
-    act_makes (stepping_makes origin operator h.target)
-    (only_makes (incrementing_makes origin operator h.target))
+    act_makes (λ usage. stepping_makes origin usage operator h.target)
 suffix_makes origin frames base (TypedSuffix-F.Skipped kind place) h k =
     call_makes origin frames base.names [] tt
 
@@ -543,69 +576,55 @@ pub chained_makes : (origin : ℕ) (rest : List (BinaryOperator × rows.Rows))
 chained_makes origin [] left h all = h
 chained_makes origin (link ∷ rest) left h all =
     chained_makes origin rest
-    (core.then_by left (λ v. core.then_by link.1.used (λ w. acts.linked origin link.0 v w)))
-    (makes_then (λ v. core.then_by link.1.used (λ w. acts.linked origin link.0 v w)) h
-    (λ v is. makes_then (λ w. acts.linked origin link.0 v w) all.0.used
+    (core.then_by left (λ v. core.then_by (rows.used link.1)
+    (λ w. acts.linked origin link.0 v w)))
+    (makes_then (λ v. core.then_by (rows.used link.1) (λ w. acts.linked origin link.0 v w)) h
+    (λ v is. makes_then (λ w. acts.linked origin link.0 v w) (all.0.rule Used)
     (λ w so. linked_makes origin link.0 v w is so))) all.1
 
-pub comma_used_makes : (items : List rows.Rows) → AllByRecursion MakesRows items →
-    Makes Good (rows.comma_used items)
-comma_used_makes [] h = makes Good (pure (int 0)) tt
-comma_used_makes (last ∷ []) h = h.0.used
-comma_used_makes (item ∷ next ∷ items) h =
-    makes_then (λ before. core.then_by (rows.comma_used (next ∷ items))
-    (λ v. core.gives (valued (before ++ v.statements) v.value))) h.0.unused
+pub comma_makes : (usage : Usage) (items : List rows.Rows) → AllByRecursion MakesRows items →
+    Makes Good (rows.comma usage items)
+comma_makes usage [] h = makes Good (pure (int 0)) tt
+comma_makes usage (last ∷ []) h = h.0.rule usage
+comma_makes usage (item ∷ next ∷ items) h =
+    makes_then (λ before. core.then_by (rows.comma usage (next ∷ items))
+    (λ v. core.gives (valued (before ++ v.statements) v.value))) (only_makes (h.0.rule Unused))
     (λ before is. makes_then (λ v. core.gives (valued (before ++ v.statements) v.value))
-    (comma_used_makes (next ∷ items) h.1)
+    (comma_makes usage (next ∷ items) h.1)
     (λ v so. makes Good (valued (before ++ v.statements) v.value)
     (append_shaped before v.statements is so)))
 
-each_unused_makes : (rs : List rows.Rows) → AllByRecursion MakesRows rs →
-    EachMakes AllShaped (map (λ item. item.unused) rs)
-each_unused_makes [] h = none_makes
-each_unused_makes (r ∷ rs) h = more_make h.0.unused (each_unused_makes rs h.1)
+chosen_for_makes : (origin : ℕ) (usage ends : Usage) (test first second : Valued) → Good test →
+    Good first → Good second → Makes Good (chosen_for origin usage ends test first second)
+unfolding chosen_for
+chosen_for_makes origin usage Used test first second h k l =
+    finish_makes origin usage (chosen_makes origin test first second h k l)
+chosen_for_makes origin usage Unused test first second h k l =
+    let chosen = test.statements
+    ++ choice origin test.value first.statements second.statements ∷ [] in
+    makes Good (acts.unvalued chosen)
+    (chosen_shaped origin test.statements test.value first.statements second.statements h k l)
 
-pub comma_unused_makes : (items : List rows.Rows) → AllByRecursion MakesRows items →
-    Makes AllShaped (rows.comma_unused items)
-comma_unused_makes items h = makes_ordered (each_unused_makes items h)
+pub conditional_makes : (origin : ℕ) (usage ends : Usage) {r s t : rows.Rows} → MakesRows r →
+    MakesRows s → MakesRows t → Makes Good (rows.conditional origin usage ends r s t)
+conditional_makes origin usage ends {s = s} {t = t} test first second =
+    makes_then (λ v. core.then_by (s.rule ends) (λ a. core.then_by (t.rule ends)
+    (λ b. chosen_for origin usage ends v a b))) (test.rule Used)
+    (λ v is. makes_then (λ a. core.then_by (t.rule ends)
+    (λ b. chosen_for origin usage ends v a b)) (first.rule ends)
+    (λ a so. makes_then (λ b. chosen_for origin usage ends v a b) (second.rule ends)
+    (λ b also. chosen_for_makes origin usage ends v a b is so also)))
 
-void_makes : (origin : ℕ) {r s t : rows.Rows} → MakesRows r → MakesRows s → MakesRows t →
-    Makes AllShaped (rows.void_choice origin r s t)
-void_makes origin {s = s} {t = t} test first second =
-    makes_then (λ v. core.then_by s.unused (λ a. core.then_by t.unused (λ b.
-    core.gives (v.statements ++ choice origin v.value a b ∷ [])))) test.used
-    (λ v is. makes_then (λ a. core.then_by t.unused (λ b.
-    core.gives (v.statements ++ choice origin v.value a b ∷ []))) first.unused
-    (λ a so. makes_then (λ b. core.gives (v.statements ++ choice origin v.value a b ∷ []))
-    second.unused
-    (λ b also. makes AllShaped (v.statements ++ choice origin v.value a b ∷ [])
-    (chosen_shaped origin v.statements v.value a b is so also))))
-
-conditional_makes : (origin : ℕ) {r s t : rows.Rows} → MakesRows r → MakesRows s → MakesRows t →
-    Makes Good (rows.conditional origin r s t)
-conditional_makes origin {s = s} {t = t} test first second =
-    makes_then (λ v. core.then_by s.used (λ a. core.then_by t.used (λ b. acts.chosen origin v a b)))
-    test.used
-    (λ v is. makes_then (λ a. core.then_by t.used (λ b. acts.chosen origin v a b)) first.used
-    (λ a so. makes_then (λ b. acts.chosen origin v a b) second.used
-    (λ b also. chosen_makes origin v a b is so also)))
-
-pub either_makes : (origin : ℕ) (void : Bool) {r s t : rows.Rows} → MakesRows r → MakesRows s →
-    MakesRows t →
-    MakesRows (rows.act (rows.conditional origin r s t)
-    (if void then rows.void_choice origin r s t else rows.dropped origin
-    (rows.conditional origin r s t)))
-either_makes origin void {r = r} {s = s} {t = t} test first second =
-    act_makes (conditional_makes origin test first second)
-    (makes_either void (rows.void_choice origin r s t)
-    (rows.dropped origin (rows.conditional origin r s t))
-    (void_makes origin test first second)
-    (dropped_rule_makes origin (conditional_makes origin test first second)))
+void_makes : {r : rows.Rows} → MakesRows r → (usage : Usage) →
+    Makes Good (core.then_by (rows.unused r) (λ before. core.gives (acts.voided usage before)))
+void_makes h usage =
+    makes_then (λ before. core.gives (acts.voided usage before)) (only_makes (h.rule Unused))
+    (λ before is. voided_makes usage before is)
 
 pub cast_makes : (origin : ℕ) (kind : Option Kind) (r : rows.Rows) → MakesRows r →
     MakesRows (rows.cast_rows origin kind r)
-cast_makes origin None r h = act_makes (valueless_makes h.unused) h.unused
-cast_makes origin (Some Void) r h = act_makes (valueless_makes h.unused) h.unused
+cast_makes origin None r h = act_makes (λ usage. void_makes h usage)
+cast_makes origin (Some Void) r h = act_makes (λ usage. void_makes h usage)
 cast_makes origin (Some (Value t)) r h =
-    plain_makes origin (makes_then (λ v. core.gives (acts.cast_to t v)) h.used
+    plain_makes origin (makes_then (λ v. core.gives (acts.cast_to t v)) (h.rule Used)
     (λ v is. makes Good (acts.cast_to t v) is))

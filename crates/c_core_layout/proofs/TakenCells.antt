@@ -24,13 +24,14 @@ use Rattle.cpa_model_trees.specs.declared.tree.CoreTree.{CoreTree}
 use Rattle.cpa_model_trees.specs.declared.tree.Head.TheVariants as head
 use Rattle.cpa_model_trees.specs.Numbering.{Trees}
 use Rattle.c_core_rules.specs.declared.tree.Location.{Location}
+use Rattle.c_core_rules.specs.declared.tree.Usage.TheVariants.{Used}
 use Rattle.c_core_rules.specs.Values.{cell_at, promote}
 use Rattle.c_core_rules.specs.Trees.{leaf, block, labeled, choice, repeated, valued}
 use Rattle.c_core_rules.specs.Acts.{held}
 use Rattle.c_core_rules.specs.Cells.{Taken, Rule, gives, then_by, each, in_order, taking}
 use Rattle.c_core_rules.specs.Cells.{cells_with}
 use Rattle.c_core_rules.specs.Cells.{cell}
-use Rattle.c_core_rules.specs.Expressions.{Frames, rows}
+use Rattle.c_core_rules.specs.Expressions.{Frames, rows, used}
 use Rattle.c_core_rules.specs.Statements as statement
 use Rattle.c_core_rules.specs.Statements.{item_rule, function_rule}
 use Rattle.c_core_rules_laws.specs.Alike.{Alike, SameFrames}
@@ -173,14 +174,14 @@ module _ (F : Frames) (same : SameFrames F F) where
   least_if : (origin : ℕ) (test : TypedExpression) (m n : ℕ) {a b : Rule Trees} → TakesAtLeast m a →
       TakesAtLeast n b →
       TakesAtLeast (m + n)
-      (then_by (rows F test).used (λ v. then_by a (λ x. then_by b (λ y.
+      (then_by (used (rows F test)) (λ v. then_by a (λ x. then_by b (λ y.
       gives (v.statements ++ choice origin v.value x y ∷ [])))))
   least_if origin test m n {a = a} {b = b} first second =
       let zero : 0 + (m + (n + 0)) ≡ m + n = omega arith in
       least_is zero
       (least_then 0 (m + (n + 0)) (λ v. then_by a (λ x. then_by b (λ y.
       gives (v.statements ++ choice origin v.value x y ∷ []))))
-      (least_none (alike_expression F F same test).used)
+      (least_none ((alike_expression F F same test).rule Used))
       (λ v. least_then m (n + 0) (λ x. then_by b (λ y.
       gives (v.statements ++ choice origin v.value x y ∷ []))) first
       (λ x. least_then n 0 (λ y. gives (v.statements ++ choice origin v.value x y ∷ [])) second
@@ -216,7 +217,7 @@ module _ (F : Frames) (same : SameFrames F F) where
   least_switch : (origin : ℕ) (value : TypedExpression) (choices : List Choice) (otherwise n : ℕ)
       {body : Rule Trees} → TakesAtLeast n body →
       TakesAtLeast n
-      (then_by (rows F value).used (λ v. then_by
+      (then_by (used (rows F value)) (λ v. then_by
       (held origin (valued v.statements (promote v.value)))
       (λ kept. then_by body (λ inside. gives (kept.statements
       ++ statement.selected_by origin kept.value choices otherwise inside)))))
@@ -227,7 +228,7 @@ module _ (F : Frames) (same : SameFrames F F) where
       (λ v. then_by (held origin (valued v.statements (promote v.value))) (λ kept. then_by body
       (λ inside. gives (kept.statements
       ++ statement.selected_by origin kept.value choices otherwise inside))))
-      (least_none (alike_expression F F same value).used)
+      (least_none ((alike_expression F F same value).rule Used))
       (λ v. least_then 0 (n + 0) (λ kept. then_by body (λ inside. gives (kept.statements
       ++ statement.selected_by origin kept.value choices otherwise inside)))
       (least_none (alike_held origin (valued_self (valued v.statements (promote v.value)))))

@@ -11,9 +11,11 @@ use Rattle.cpa_expr.specs.Shape.{type_of}
 use Rattle.c_grammar_symbols.specs.declared.operators.BinaryOperator.{BinaryOperator}
 use Rattle.c_grammar_symbols.specs.declared.operators.BinaryOperator.TheVariants as binary
 use Rattle.c_grammar_tree.specs.declared.expression.UnaryOperator.{UnaryOperator}
+use Rattle.c_core_rules.specs.declared.tree.Usage.{Usage}
+use Rattle.c_core_rules.specs.declared.tree.Usage.TheVariants.{Used, Unused}
 use Rattle.c_core_rules.specs.declared.tree.Valued.{Valued}
 use Rattle.c_core_rules.specs.Values.{conv, operator_value, signed_value, chosen_value, truth_of}
-use Rattle.c_core_rules.specs.Values.{int, scalar, is_constant}
+use Rattle.c_core_rules.specs.Values.{int, scalar, cell_at, is_constant}
 use Rattle.cpa_model_trees.specs.Numbering.{Trees}
 use Rattle.c_core_rules.specs.Trees.{choice, set, valued}
 use Rattle.c_core_rules.specs.Cells.{Rule, gives, then_by, fresh}
@@ -117,6 +119,45 @@ abbrev pub dropped_value : ℕ → Valued → Rule Trees
 dropped_value origin v =
     if is_constant v.value then gives v.statements
     else then_by (held origin v) (λ kept. gives kept.statements)
+
+-- statements whose value nobody uses: 0 stands for it
+abbrev pub unvalued : Trees → Valued
+unvalued statements = valued statements (int 0)
+
+-- of what is evaluated: the value is dropped where it is not used
+unfoldable pub finished : ℕ → Usage → Valued → Rule Valued
+finished origin Used v = gives v
+finished origin Unused v =
+    then_by (dropped_value origin v) (λ statements. gives (unvalued statements))
+
+-- of what acts: all where the value is used, else the statements
+unfoldable pub kept_for : Usage → Valued → Valued
+kept_for Used v = v
+kept_for Unused v = unvalued v.statements
+
+abbrev pub kept : Usage → Rule Valued → Rule Valued
+kept usage rule = then_by rule (λ v. gives (kept_for usage v))
+
+abbrev pub is_used : Usage → Bool
+is_used Used = true
+is_used Unused = false
+
+-- the value of what has none, which is used only beside a fault
+abbrev pub no_value : Expr
+no_value = scalar (cell_at ty.I32 0)
+
+-- of what has no value
+abbrev pub voided : Usage → Trees → Valued
+voided usage statements = kept_for usage (valued statements no_value)
+
+-- a conditional behind its operands, of which the ends are used so (6.5.15p3 and p4): where they
+-- have no value S1, if (v1) { S2 } else { S3 }
+unfoldable pub chosen_for : ℕ → Usage → Usage → Valued → Valued → Valued → Rule Valued
+chosen_for origin usage Used test first second =
+    then_by (chosen origin test first second) (finished origin usage)
+chosen_for origin usage Unused test first second =
+    gives (unvalued (test.statements
+    ++ choice origin test.value first.statements second.statements ∷ []))
 
 -- an index that is no constant is held, so that it is evaluated once
 abbrev pub fixed : ℕ → Valued → Rule Valued

@@ -1,6 +1,7 @@
--- The core of an expression (C11 6.5, from left to right), a rule for each form: E, its statements
--- and the pure value behind them, where the value is used; D, its statements, where it is not.
-use Rattle.std.specs.Prelude.{ℕ, ◌+◌, slice_get, Bool, true, false, if◌then◌else◌, List, [], ◌∷◌}
+-- The core of an expression (C11 6.5, from left to right), a rule for each form, by whether the
+-- value is used: E, its statements and the pure value behind them, where it is; D, its statements
+-- with 0 for the value, where it is not.
+use Rattle.std.specs.Prelude.{ℕ, ◌+◌, slice_get, Bool, true, false, List, [], ◌∷◌}
 use Rattle.std.specs.Prelude.{◌++◌, map, Option, None, Some, unwrap_or, is_some}
 use Rattle.cpa_ints.specs.declared.integers.IntType.TheVariants as ty
 use Rattle.cpa_expr.specs.declared.tree.Expr.{Expr}
@@ -24,20 +25,20 @@ use Rattle.c_types_rules.specs.declared.typed.TypedFunction.{TypedFunction}
 use Rattle.c_types_rules.specs.Types.{object_type}
 use Rattle.c_types_rules.specs.Known.{known_result}
 use Rattle.c_types_rules.specs.Tables.{cells_of, operator_of}
-use Rattle.c_types_rules.specs.ExpressionRules.{is_void}
 use Rattle.cpa_model_trees.specs.declared.tree.Head.TheVariants as head
 use Rattle.c_core_rules.specs.declared.tree.Location.{Location}
 use Rattle.c_core_rules.specs.declared.tree.Place.{Place}
 use Rattle.c_core_rules.specs.declared.tree.Place.TheVariants as place
+use Rattle.c_core_rules.specs.declared.tree.Usage.{Usage}
+use Rattle.c_core_rules.specs.declared.tree.Usage.TheVariants.{Used, Unused}
 use Rattle.c_core_rules.specs.declared.tree.Valued.{Valued}
 use Rattle.c_core_rules.specs.Values.{int, element, scalar, cell_at}
 use Rattle.cpa_model_trees.specs.Numbering.{Trees}
-use Rattle.c_core_rules.specs.Trees.{leaf, choice, set, input, valued, pure}
-use Rattle.c_core_rules.specs.Cells.{Rule, gives, then_by, each, in_order, fresh, located}
-use Rattle.c_core_rules.specs.Cells.{scalar_place}
+use Rattle.c_core_rules.specs.Trees.{leaf, set, input, valued, pure}
+use Rattle.c_core_rules.specs.Cells.{Rule, gives, then_by, each, fresh, located, scalar_place}
 use Rattle.c_core_rules.specs.Acts.{hold_all, statements_of, values_of, linked, signed, cast_to}
-use Rattle.c_core_rules.specs.Acts.{chosen, dropped_value}
-use Rattle.c_core_rules.specs.Places.{fixed_if, changed, incremented, stepped}
+use Rattle.c_core_rules.specs.Acts.{finished, kept, voided, is_used, chosen_for}
+use Rattle.c_core_rules.specs.Places.{fixed_if, changed, incremented, stepped_for}
 
 -- the cells of a function with a body: of its result, and of each parameter
 pub record Frame : Type 0 where
@@ -78,19 +79,29 @@ pub data Target : Type 0 where
   element_target : Option Meaning → Rule Valued → Target
   no_target : Target
 
--- an expression: E and D, what it is as a left side, what it names
+-- an expression: its rule, what it is as a left side, what it names
 pub record Rows : Type 0 where
-  pub used : Rule Valued
-  pub unused : Rule Trees
+  pub rule : Usage → Rule Valued
   pub target : Target
   pub names : Option Meaning
 
--- x (6.5.1p2), or the constant that an enumerator is (6.4.4.3p2)
+-- E
+abbrev pub used : Rows → Rule Valued
+used row = row.rule Used
+
+abbrev pub only_statements : Rule Valued → Rule Trees
+only_statements rule = then_by rule (λ v. gives v.statements)
+
+-- D
+abbrev pub unused : Rows → Rule Trees
+unused row = only_statements (row.rule Unused)
+
+-- the value of x (6.5.1p2), or the constant that an enumerator is (6.4.4.3p2)
 abbrev pub name_used : Option Meaning → Rule Valued
 name_used (Some (meaning.Enumerator n)) = gives (pure (Const ty.I32 n))
 name_used found = then_by (scalar_place found) (λ place. gives (pure (scalar place)))
 
--- an element a[i] (6.5.2.1p2)
+-- the value of an element a[i] (6.5.2.1p2)
 abbrev pub element_used : Option Meaning → Rule Valued → Rule Valued
 element_used found index =
     then_by index (λ i. then_by (located found) (λ place.
@@ -106,25 +117,13 @@ placed origin fixes (element_target found index) =
     then_by (located found) (λ location. gives (place.Element location kept))))
 placed origin fixes no_target = gives place.Neither
 
--- D of any other expression: its statements, and then its value is dropped
-abbrev pub dropped : ℕ → Rule Valued → Rule Trees
-dropped origin used = then_by used (dropped_value origin)
-
-abbrev pub only_statements : Rule Valued → Rule Trees
-only_statements rule = then_by rule (λ v. gives v.statements)
-
 -- an expression that is no left side and no name
-abbrev pub plain : ℕ → Rule Valued → Rows
-plain origin used = record {
-  used = used;
-  unused = dropped origin used;
-  target = no_target;
-  names = None;
-}
+abbrev pub act : (Usage → Rule Valued) → Rows
+act rule = record { rule = rule; target = no_target; names = None }
 
--- an expression of which D has statements of its own
-abbrev pub act : Rule Valued → Rule Trees → Rows
-act used unused = record { used = used; unused = unused; target = no_target; names = None }
+-- one that is evaluated and does nothing else
+abbrev pub plain : ℕ → Rule Valued → Rows
+plain origin rule = act (λ usage. then_by rule (finished origin usage))
 
 -- an assignment (6.5.16): the place, the right side, the write; the index of l operator= v is fixed
 -- first
@@ -156,7 +155,7 @@ called origin frames function arguments =
 -- D of the first of the arguments
 abbrev pub first_unused : List Rows → Rule Trees
 first_unused [] = gives []
-first_unused (argument ∷ more) = argument.unused
+first_unused (argument ∷ more) = unused argument
 
 -- an input of a fresh t of the function's type (this project's own)
 abbrev pub taken_in : ℕ → KnownFunction → Rule Valued
@@ -165,68 +164,52 @@ taken_in origin function =
     gives (valued (input origin t.base ∷ []) (scalar t)))
 
 -- a call of a known function: an error, a stop, or an input (this project's own)
-abbrev pub known_unused : ℕ → KnownFunction → List Rows → Rule Trees
-known_unused origin known.ReachError arguments = gives (leaf origin head.Error ∷ [])
-known_unused origin known.Abort arguments = gives (leaf origin head.Stop ∷ [])
-known_unused origin known.AssertFail arguments = gives (leaf origin head.Stop ∷ [])
-known_unused origin known.Exit arguments =
-    then_by (first_unused arguments) (λ before. gives (before ++ leaf origin head.Stop ∷ []))
-known_unused origin function arguments = only_statements (taken_in origin function)
+abbrev pub known_called : ℕ → Usage → KnownFunction → List Rows → Rule Valued
+known_called origin usage known.ReachError arguments =
+    gives (voided usage (leaf origin head.Error ∷ []))
+known_called origin usage known.Abort arguments =
+    gives (voided usage (leaf origin head.Stop ∷ []))
+known_called origin usage known.AssertFail arguments =
+    gives (voided usage (leaf origin head.Stop ∷ []))
+known_called origin usage known.Exit arguments =
+    then_by (first_unused arguments) (λ before.
+    gives (voided usage (before ++ leaf origin head.Stop ∷ [])))
+known_called origin usage function arguments = kept usage (taken_in origin function)
 
--- the value of what has none, which stands only beside a fault
-abbrev pub no_value : Expr
-no_value = scalar (cell_at ty.I32 0)
-
-abbrev pub valueless : Rule Trees → Rule Valued
-valueless unused = then_by unused (λ before. gives (valued before no_value))
-
-abbrev pub known_used : ℕ → KnownFunction → List Rows → Rule Valued
-known_used origin function arguments = elim (known_result function) [
-  | Void ↦ valueless (known_unused origin function arguments)
-  | Value t ↦ taken_in origin function
-]
-
-abbrev pub call_used : ℕ → Frames → Option Meaning → List Rows → Rule Valued
-call_used origin frames (Some (meaning.Function function)) arguments =
-    called origin frames function (map (λ row. row.used) arguments)
-call_used origin frames (Some (meaning.Known function)) arguments =
-    known_used origin function arguments
-call_used origin frames _ arguments = gives (pure (int 0))
-
-abbrev pub call_unused : ℕ → Frames → Option Meaning → List Rows → Rule Trees
-call_unused origin frames (Some (meaning.Known function)) arguments =
-    known_unused origin function arguments
-call_unused origin frames found arguments =
-    only_statements (call_used origin frames found arguments)
+abbrev pub call_rule : ℕ → Frames → Usage → Option Meaning → List Rows → Rule Valued
+call_rule origin frames usage (Some (meaning.Function function)) arguments =
+    kept usage (called origin frames function (map used arguments))
+call_rule origin frames usage (Some (meaning.Known function)) arguments =
+    known_called origin usage function arguments
+call_rule origin frames usage _ arguments = gives (pure (int 0))
 
 abbrev pub call_rows : ℕ → Frames → Option Meaning → List Rows → Rows
 call_rows origin frames found arguments =
-    act (call_used origin frames found arguments) (call_unused origin frames found arguments)
+    act (λ usage. call_rule origin frames usage found arguments)
 
 abbrev pub name_rows : ℕ → Option Meaning → Rows
 name_rows origin found = record {
-  used = name_used found;
-  unused = dropped origin (name_used found);
+  rule = λ usage. then_by (name_used found) (finished origin usage);
   target = scalar_target found;
   names = found;
 }
 
 abbrev pub element_rows : ℕ → Option Meaning → Rule Valued → Rows
 element_rows origin found index = record {
-  used = element_used found index;
-  unused = dropped origin (element_used found index);
+  rule = λ usage. then_by (element_used found index) (finished origin usage);
   target = element_target found index;
   names = None;
 }
 
--- ++l and --l (6.5.3.1p2), and what l++ and l-- do where their value is not used (6.5.2.4p2)
+-- ++l and --l (6.5.3.1p2)
 abbrev pub incrementing : ℕ → StepOperator → Target → Rule Valued
 incrementing origin operator target =
     then_by (placed origin true target) (incremented origin operator)
 
--- l++ and l--, where it is
-abbrev pub stepping : ℕ → StepOperator → Target → Rule Valued
-stepping origin operator target = then_by (placed origin true target) (stepped origin operator)
+-- l++ and l-- (6.5.2.4p2)
+abbrev pub stepping : ℕ → Usage → StepOperator → Target → Rule Valued
+stepping origin usage operator target =
+    then_by (placed origin true target) (stepped_for origin usage operator)
 
 -- a suffix with rows for each expression in it, behind what stands before it; what it makes has the
 -- place of the whole postfix expression, which is that of its first token
@@ -241,12 +224,11 @@ read_suffix (TypedSuffix-F.Skipped kind place) = TypedSuffix-F.Skipped kind plac
 
 abbrev pub suffix_rows : ℕ → Frames → Rows → ReadSuffix → Rows
 suffix_rows origin frames base (TypedSuffix-F.Index index kind place) =
-    element_rows origin base.names index.used
+    element_rows origin base.names (used index)
 suffix_rows origin frames base (TypedSuffix-F.Call arguments kind place) =
     call_rows origin frames base.names arguments
 suffix_rows origin frames base (TypedSuffix-F.Step operator kind place) =
-    act (stepping origin operator base.target)
-    (only_statements (incrementing origin operator base.target))
+    act (λ usage. stepping origin usage operator base.target)
 suffix_rows origin frames base (TypedSuffix-F.Skipped kind place) =
     call_rows origin frames base.names []
 
@@ -259,35 +241,36 @@ suffixed origin frames base (suffix ∷ suffixes) =
 abbrev pub chained : ℕ → Rule Valued → List (BinaryOperator × Rows) → Rule Valued
 chained origin left [] = left
 chained origin left ((operator, right) ∷ rest) =
-    chained origin (then_by left (λ v. then_by right.used (λ w. linked origin operator v w))) rest
+    chained origin (then_by left (λ v. then_by (used right) (λ w. linked origin operator v w))) rest
 
 -- e1, e2 (6.5.17p2): D of each but the last, which has the value
-abbrev pub comma_used : List Rows → Rule Valued
-comma_used [] = gives (pure (int 0))
-comma_used (last ∷ []) = last.used
-comma_used (item ∷ next ∷ items) =
-    then_by item.unused (λ before. then_by (comma_used (next ∷ items)) (λ v.
+abbrev pub comma : Usage → List Rows → Rule Valued
+comma usage [] = gives (pure (int 0))
+comma usage (last ∷ []) = last.rule usage
+comma usage (item ∷ next ∷ items) =
+    then_by (unused item) (λ before. then_by (comma usage (next ∷ items)) (λ v.
     gives (valued (before ++ v.statements) v.value)))
 
-abbrev pub comma_unused : List Rows → Rule Trees
-comma_unused items = in_order (map (λ item. item.unused) items)
+-- the ends of a conditional that is void are used as it is; those of another have values that it
+-- chooses from (6.5.15p3)
+unfoldable pub usage_of_ends : Usage → Option Kind → Usage
+usage_of_ends Used kind = Used
+usage_of_ends Unused None = Used
+usage_of_ends Unused (Some Void) = Unused
+usage_of_ends Unused (Some (Value t)) = Used
 
--- a conditional with void ends (6.5.15p3 and p4): S1, if (v1) { D(e2) } else { D(e3) }
-abbrev pub void_choice : ℕ → Rows → Rows → Rows → Rule Trees
-void_choice origin test first second =
-    then_by test.used (λ v. then_by first.unused (λ a. then_by second.unused (λ b.
-    gives (v.statements ++ choice origin v.value a b ∷ []))))
-
-abbrev pub conditional : ℕ → Rows → Rows → Rows → Rule Valued
-conditional origin test first second =
-    then_by test.used (λ v. then_by first.used (λ a. then_by second.used (λ b.
-    chosen origin v a b)))
+-- test ? first : second (6.5.15p4)
+abbrev pub conditional : ℕ → Usage → Usage → Rows → Rows → Rows → Rule Valued
+conditional origin usage ends test first second =
+    then_by (used test) (λ v. then_by (first.rule ends) (λ a. then_by (second.rule ends) (λ b.
+    chosen_for origin usage ends v a b)))
 
 -- (type) e (6.5.4p5), and (void) e, which is D of e (6.3.2.2p1)
 abbrev pub cast_rows : ℕ → Option Kind → Rows → Rows
 cast_rows origin (Some (Value t)) operand =
-    plain origin (then_by operand.used (λ v. gives (cast_to t v)))
-cast_rows origin _ operand = act (valueless operand.unused) operand.unused
+    plain origin (then_by (used operand) (λ v. gives (cast_to t v)))
+cast_rows origin _ operand =
+    act (λ usage. then_by (unused operand) (λ before. gives (voided usage before)))
 
 -- an expression with rows for each part of it
 abbrev pub rows_step : Frames → TypedExpression-F Rows ReadSuffix → Rows
@@ -300,22 +283,17 @@ rows_step frames (TypedExpression-F.Bracketed inside place) = inside
 rows_step frames (TypedExpression-F.Postfix base suffixes place) =
     suffixed place frames base suffixes
 rows_step frames (TypedExpression-F.PrefixStep operator operand kind place) =
-    act (incrementing place operator operand.target)
-    (only_statements (incrementing place operator operand.target))
+    act (λ usage. kept usage (incrementing place operator operand.target))
 rows_step frames (TypedExpression-F.Unary operator operand kind place) =
-    plain place (then_by operand.used (λ v. gives (signed operator v)))
+    plain place (then_by (used operand) (λ v. gives (signed operator v)))
 rows_step frames (TypedExpression-F.Cast operand kind place) = cast_rows place kind operand
 rows_step frames (TypedExpression-F.Chain first rest kind place) =
-    plain place (chained place first.used rest)
+    plain place (chained place (used first) rest)
 rows_step frames (TypedExpression-F.Conditional test first second kind place) =
-    act (conditional place test first second)
-    (if is_void kind then void_choice place test first second
-    else dropped place (conditional place test first second))
+    act (λ usage. conditional place usage (usage_of_ends usage kind) test first second)
 rows_step frames (TypedExpression-F.Assignment left operator right kind place) =
-    act (assigning place true operator left.target right.used)
-    (only_statements (assigning place false operator left.target right.used))
-rows_step frames (TypedExpression-F.Comma items kind place) =
-    act (comma_used items) (comma_unused items)
+    act (λ usage. kept usage (assigning place (is_used usage) operator left.target (used right)))
+rows_step frames (TypedExpression-F.Comma items kind place) = act (λ usage. comma usage items)
 
 unfoldable pub rows : Frames → TypedExpression → Rows
 rows frames = fold-TypedExpression Rows ReadSuffix (rows_step frames) read_suffix

@@ -9,11 +9,13 @@ use Rattle.c_grammar_symbols.specs.declared.operators.StepOperator.TheVariants a
 use Rattle.c_core_rules.specs.declared.tree.Location.{Location}
 use Rattle.c_core_rules.specs.declared.tree.Place.{Place}
 use Rattle.c_core_rules.specs.declared.tree.Place.TheVariants.{Scalar, Element, Neither}
+use Rattle.c_core_rules.specs.declared.tree.Usage.{Usage}
+use Rattle.c_core_rules.specs.declared.tree.Usage.TheVariants.{Used, Unused}
 use Rattle.c_core_rules.specs.declared.tree.Valued.{Valued}
 use Rattle.c_core_rules.specs.Values.{int, element, first_index}
 use Rattle.c_core_rules.specs.Trees.{write, valued, pure}
 use Rattle.c_core_rules.specs.Cells.{Rule, gives, then_by}
-use Rattle.c_core_rules.specs.Acts.{held, held_before, fixed, operated}
+use Rattle.c_core_rules.specs.Acts.{held, held_before, fixed, operated, kept}
 
 -- the place := v behind the statements of both, and then the place
 abbrev pub written : ℕ → Location → Valued → Valued → Valued
@@ -79,3 +81,8 @@ abbrev pub stepped : ℕ → StepOperator → Place → Rule Valued
 stepped origin operator (Scalar place) = stepped_at origin operator place (pure first_index)
 stepped origin operator (Element place index) = stepped_at origin operator place index
 stepped origin operator Neither = gives (pure (int 0))
+
+-- l++ where its value is not used is ++l (6.5.2.4p2)
+unfoldable pub stepped_for : ℕ → Usage → StepOperator → Place → Rule Valued
+stepped_for origin Used operator place = stepped origin operator place
+stepped_for origin Unused operator place = kept Unused (incremented origin operator place)

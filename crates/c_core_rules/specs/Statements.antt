@@ -36,17 +36,17 @@ use Rattle.cpa_model_trees.specs.Numbering.{Trees}
 use Rattle.c_core_rules.specs.Trees.{leaf, block, labeled, choice, repeated, set, input, valued}
 use Rattle.c_core_rules.specs.Cells.{Rule, gives, then_by, each, in_order, next_cell, fresh, taking}
 use Rattle.c_core_rules.specs.Acts.{held}
-use Rattle.c_core_rules.specs.Expressions.{Frames, rows}
+use Rattle.c_core_rules.specs.Expressions.{Frames, rows, used, unused}
 
 -- e; (6.8.3p2)
 abbrev pub some_unused : Frames → Option TypedExpression → Rule Trees
 some_unused frames None = gives []
-some_unused frames (Some expression) = (rows frames expression).unused
+some_unused frames (Some expression) = unused (rows frames expression)
 
 -- S, place := v
 abbrev pub initialized : ℕ → Frames → Location → TypedExpression → Rule Trees
 initialized origin frames place value =
-    then_by (rows frames value).used (λ v. gives (v.statements ++ set origin place v.value ∷ []))
+    then_by (used (rows frames value)) (λ v. gives (v.statements ++ set origin place v.value ∷ []))
 
 -- an input of each of so many cells from one on
 abbrev pub inputs : ℕ → ℕ → ℕ → Trees
@@ -100,7 +100,7 @@ leaving origin v = v.statements ++ choice origin v.value [] (leaf origin head.Br
 abbrev pub left_unless : ℕ → Frames → Option TypedExpression → Rule Trees
 left_unless origin frames None = gives []
 left_unless origin frames (Some test) =
-    then_by (rows frames test).used (λ v. gives (leaving origin v))
+    then_by (used (rows frames test)) (λ v. gives (leaving origin v))
 
 abbrev pub perhaps : Option (Rule Trees) → Rule Trees
 perhaps None = gives []
@@ -139,7 +139,7 @@ statement_step frames place (TypedStatement-F.Expression expression origin) =
     some_unused frames expression
 -- 6.8.4.1p2
 statement_step frames place (TypedStatement-F.If test first second origin) =
-    then_by (rows frames test).used (λ v. then_by first (λ a. then_by (perhaps second) (λ b.
+    then_by (used (rows frames test)) (λ v. then_by first (λ a. then_by (perhaps second) (λ b.
     gives (v.statements ++ choice origin v.value a b ∷ []))))
 -- 6.8.5.1: the test stands before the body, and before each further turn
 statement_step frames place (TypedStatement-F.While test body origin) =
@@ -165,7 +165,7 @@ statement_step frames place (TypedStatement-F.Return value origin) =
 -- 6.8.4.2p5: S, t := v promoted; a goto to the first case with this value, else to the default,
 -- else behind the body
 statement_step frames place (TypedStatement-F.Switch value choices otherwise body end origin) =
-    then_by (rows frames value).used (λ v.
+    then_by (used (rows frames value)) (λ v.
     then_by (held origin (valued v.statements (promote v.value))) (λ kept. then_by body (λ inside.
     gives (kept.statements ++ selected_by origin kept.value choices otherwise inside))))
 -- 6.8.1

@@ -4,4 +4,4 @@
 
 mod tree;
 
-pub use tree::{Location, Place, Valued};
+pub use tree::{Location, Place, Usage, Valued};

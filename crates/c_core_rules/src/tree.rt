@@ -27,3 +27,10 @@ pub enum Place {
     Element(Location, Valued),
     Neither,
 }
+
+/// Whether the value of an expression is used: E of the rules where it is, D where it is not.
+#[derive(Clone, Copy)]
+pub enum Usage {
+    Used,
+    Unused,
+}

@@ -9,6 +9,7 @@ use Rattle.cpa_model_trees.specs.declared.tree.CoreTree.{CoreTree}
 use Rattle.cpa_model_trees.specs.Numbering.{Trees}
 use Rattle.c_types_rules.specs.declared.meaning.Meaning.{Meaning}
 use Rattle.c_core_rules.specs.declared.tree.Location.{Location}
+use Rattle.c_core_rules.specs.declared.tree.Usage.{Usage}
 use Rattle.c_core_rules.specs.declared.tree.Valued.{Valued}
 use Rattle.c_core_rules.specs.Values.{is_constant}
 use Rattle.c_core_rules.specs.Cells.{Taken, Made, Rule}
@@ -59,10 +60,9 @@ pub data AlikeTarget : Target → Target → Type 0 where
       → AlikeTarget (rows.element_target found i) (rows.element_target found j)
   neither : AlikeTarget rows.no_target rows.no_target
 
--- the rules of an expression
+-- an expression, its value used or not
 pub record AlikeRows (r s : Rows) : Type 0 where
-  pub used : Alike SameValued r.used s.used
-  pub unused : Alike SameTrees r.unused s.unused
+  pub rule : (usage : Usage) → Alike SameValued (r.rule usage) (s.rule usage)
   pub target : AlikeTarget r.target s.target
   pub names : r.names ≡ s.names
 

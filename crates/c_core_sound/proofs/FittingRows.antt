@@ -26,7 +26,10 @@ use Rattle.c_types_rules.specs.Known.{known_result}
 use Rattle.c_types_rules.specs.Tables.{cells_of, operator_of}
 use Rattle.cpa_model_trees.specs.declared.tree.Head.TheVariants as head
 use Rattle.c_core_rules.specs.declared.tree.Location.{Location}
+use Rattle.c_core_rules.specs.declared.tree.Place.{Place}
 use Rattle.c_core_rules.specs.declared.tree.Place.TheVariants as place
+use Rattle.c_core_rules.specs.declared.tree.Usage.{Usage}
+use Rattle.c_core_rules.specs.declared.tree.Usage.TheVariants.{Used, Unused}
 use Rattle.c_core_rules.specs.declared.tree.Valued.{Valued}
 use Rattle.c_core_rules.specs.Values.{scalar, element, int, cell_at}
 use Rattle.cpa_model_trees.specs.Numbering.{Trees}
@@ -34,12 +37,14 @@ use Rattle.c_core_rules.specs.Trees.{leaf, choice, valued, pure, input}
 use Rattle.c_core_rules.specs.Cells.{Taken, location_in}
 use Rattle.c_core_rules.specs.Cells as core
 use Rattle.c_core_rules.specs.Acts as acts
+use Rattle.c_core_rules.specs.Acts.{finished, kept_for, chosen_for}
 use Rattle.c_core_rules.specs.Places as places
+use Rattle.c_core_rules.specs.Places.{stepped_for}
 use Rattle.c_core_rules.specs.Expressions as rows
 use Rattle.c_core_rules.specs.Expressions.{scalar_target, element_target}
 use Rattle.c_core_sound.proofs.TypedValues.{PlaceFits, first_fits, scalar_typed, element_typed}
 use Rattle.c_core_sound.proofs.TypedValues.{conv_typed, one_typed, signed_typed, cell_below}
-use Rattle.c_core_sound.proofs.TypedValues.{const_typed}
+use Rattle.c_core_sound.proofs.TypedValues.{const_typed, zero_typed}
 use Rattle.c_core_sound.proofs.Fitting.{Ground, World, TreesFit, append_fits, push_fits, leaf_fits}
 use Rattle.c_core_sound.proofs.Fitting.{choice_fits, set_fits, Fits, fits_gives, fits_then}
 use Rattle.c_core_sound.proofs.Fitting.{fits_weaker, fits_freshly, fits_at, EachFits, fits_each}
@@ -104,11 +109,40 @@ module _ (W : World) where
       first_fits W.ground.cells (location_in taken (Some (meaning.Object object)))
       (located_fits object h taken k)
 
-  pub dropped_rule : (origin : ℕ) {r : core.Rule Valued} → GoodRule r →
-      TreesRule (rows.dropped origin r)
-  dropped_rule origin h =
-      fits_then W (acts.dropped_value origin) h
-      (λ v. fits_weaker W (λ g. g.1) (dropped_fits W origin v))
+  -- what becomes of a value, by whether it is used
+
+  unvalued_good : (statements : Trees) → TreesFit W.ground statements →
+      Good W (acts.unvalued statements)
+  unvalued_good statements h = good W statements (int 0) h (zero_typed W.ground.cells ty.I32)
+
+  finished_fits : (origin : ℕ) (usage : Usage) (v : Valued) →
+      Fits W (Good W v) (Good W) (finished origin usage v)
+  unfolding finished
+  finished_fits origin Used v = fits_gives W (Good W) v (λ g. g)
+  finished_fits origin Unused v =
+      fits_then W (λ statements. core.gives (acts.unvalued statements)) (dropped_fits W origin v)
+      (λ statements. fits_gives W (Good W) (acts.unvalued statements)
+      (λ g. unvalued_good statements g.1))
+
+  pub finish_fits : (origin : ℕ) (usage : Usage) {r : core.Rule Valued} → GoodRule r →
+      GoodRule (core.then_by r (finished origin usage))
+  finish_fits origin usage h =
+      fits_then W (finished origin usage) h
+      (λ v. fits_weaker W (λ g. g.1) (finished_fits origin usage v))
+
+  kept_good : (usage : Usage) (v : Valued) → Good W v → Good W (kept_for usage v)
+  unfolding kept_for
+  kept_good Used v h = h
+  kept_good Unused v h = unvalued_good v.statements h.statements
+
+  pub kept_rule : (usage : Usage) {r : core.Rule Valued} → GoodRule r → GoodRule (acts.kept usage r)
+  kept_rule usage h =
+      fits_then W (λ v. core.gives (kept_for usage v)) h
+      (λ v. fits_gives W (Good W) (kept_for usage v) (λ g. kept_good usage v g.1))
+
+  voided_good : (before : Trees) → TreesFit W.ground before → Good W (acts.voided Unused before)
+  unfolding kept_for
+  voided_good before h = unvalued_good before h
 
   pub only_fits : {r : core.Rule Valued} → GoodRule r → TreesRule (rows.only_statements r)
   only_fits h =
@@ -194,12 +228,22 @@ module _ (W : World) where
       (λ where_to. fits_weaker W (λ g. (g.1, good W [] (int 1) tt (one_typed W.ground.cells)))
       (changed_fits W origin true (Some (places.step_operator operator)) where_to (pure (int 1))))
 
-  pub stepping_fits : (origin : ℕ) (operator : StepOperator) {target : rows.Target} →
-      TargetFits W target →
-      GoodRule (rows.stepping origin operator target)
-  stepping_fits origin operator target =
-      fits_then W (places.stepped origin operator) (placed_fits origin true target)
-      (λ where_to. fits_weaker W (λ g. g.1) (stepped_fits W origin operator where_to))
+  stepped_for_fits : (origin : ℕ) (usage : Usage) (operator : StepOperator) (where_to : Place) →
+      Fits W (FitPlace W where_to) (Good W) (stepped_for origin usage operator where_to)
+  unfolding stepped_for
+  stepped_for_fits origin Used operator where_to = stepped_fits W origin operator where_to
+  stepped_for_fits origin Unused operator where_to =
+      fits_then W (λ v. core.gives (kept_for Unused v))
+      (fits_weaker W (λ g. (g, good W [] (int 1) tt (one_typed W.ground.cells)))
+      (changed_fits W origin true (Some (places.step_operator operator)) where_to (pure (int 1))))
+      (λ v. fits_gives W (Good W) (kept_for Unused v) (λ g. kept_good Unused v g.1))
+
+  pub stepping_fits : (origin : ℕ) (usage : Usage) (operator : StepOperator)
+      {target : rows.Target} → TargetFits W target →
+      GoodRule (rows.stepping origin usage operator target)
+  stepping_fits origin usage operator target =
+      fits_then W (stepped_for origin usage operator) (placed_fits origin true target)
+      (λ where_to. fits_weaker W (λ g. g.1) (stepped_for_fits origin usage operator where_to))
 
   -- calls
   passed_fit : (origin : ℕ) (where_to : List Location) (values : List Expr) →
@@ -262,10 +306,11 @@ module _ (W : World) where
   pub called_unused_fits : (origin : ℕ) (frames : rows.Frames) (function : Function) →
       MayCall W frames function → {rules : List (core.Rule Valued)} →
       EachFits W (Unit {0}) (Good W) rules →
-      TreesRule (rows.only_statements (rows.called origin frames function rules))
+      GoodRule (acts.kept Unused (rows.called origin frames function rules))
+  unfolding kept_for
   called_unused_fits origin frames function f all =
       let made = λ (v : Valued). TreesFit W.ground v.statements in
-      fits_then W (λ v. core.gives v.statements)
+      fits_then W (λ v. core.gives (kept_for Unused v))
       (fits_then W (λ vs. core.then_by (acts.hold_all origin vs)
       (λ operands. core.gives (rows.called_with origin frames function operands)))
       (fits_each W (Unit {0}) (Good W) all)
@@ -275,7 +320,7 @@ module _ (W : World) where
       (rows.called_with origin frames function operands))
       (λ taken. fits_gives W made (rows.called_with origin frames function operands)
       (λ g. call_trees origin frames function (f.fits taken.starts g.1) operands g.0.1)))))
-      (λ v. fits_gives W (TreesFit W.ground) v.statements (λ g. g.1))
+      (λ v. fits_gives W (Good W) (kept_for Unused v) (λ g. unvalued_good v.statements g.1))
 
   taken_in_fits : (origin : ℕ) (function : KnownFunction) → GoodRule (rows.taken_in origin function)
   taken_in_fits origin function =
@@ -285,50 +330,49 @@ module _ (W : World) where
       (leaf_fits W.ground origin (head.Input t.base) (cell_below W.ground.cells t p), tt)
       (scalar_typed W.ground.cells t p))
 
-  stop_fits : (origin : ℕ) → TreesRule (core.gives (leaf origin head.Stop ∷ []))
-  stop_fits origin = fits_gives W (TreesFit W.ground) (leaf origin head.Stop ∷ [])
-      (λ g. (leaf_fits W.ground origin head.Stop tt, tt))
+  stop_fits : (origin : ℕ) →
+      GoodRule (core.gives (acts.voided Unused (leaf origin head.Stop ∷ [])))
+  stop_fits origin = fits_gives W (Good W) (acts.voided Unused (leaf origin head.Stop ∷ []))
+      (λ g. voided_good (leaf origin head.Stop ∷ []) (leaf_fits W.ground origin head.Stop tt, tt))
 
   exit_fits : (origin : ℕ) {before : core.Rule Trees} → TreesRule before →
-      TreesRule (core.then_by before (λ trees. core.gives (trees ++ leaf origin head.Stop ∷ [])))
+      GoodRule (core.then_by before (λ trees. core.gives (acts.voided Unused
+      (trees ++ leaf origin head.Stop ∷ []))))
   exit_fits origin h =
-      fits_then W (λ trees. core.gives (trees ++ leaf origin head.Stop ∷ [])) h
-      (λ trees. fits_gives W (TreesFit W.ground) (trees ++ leaf origin head.Stop ∷ [])
-      (λ g. push_fits W.ground trees (leaf origin head.Stop) g.1
-      (leaf_fits W.ground origin head.Stop tt)))
+      fits_then W (λ trees. core.gives (acts.voided Unused (trees ++ leaf origin head.Stop ∷ []))) h
+      (λ trees. fits_gives W (Good W) (acts.voided Unused (trees ++ leaf origin head.Stop ∷ []))
+      (λ g. voided_good (trees ++ leaf origin head.Stop ∷ [])
+      (push_fits W.ground trees (leaf origin head.Stop) g.1
+      (leaf_fits W.ground origin head.Stop tt))))
 
-  first_fits_of : (rs : List rows.Rows) → AllByRecursion (λ (r : rows.Rows). TreesRule r.unused) rs
-      →
+  first_fits_of : (rs : List rows.Rows) →
+      AllByRecursion (λ (r : rows.Rows). GoodRule (r.rule Unused)) rs →
       TreesRule (rows.first_unused rs)
   first_fits_of [] h = fits_gives W (TreesFit W.ground) [] (λ g. tt)
-  first_fits_of (r ∷ rs) h = h.0
+  first_fits_of (r ∷ rs) h = only_fits h.0
 
   pub known_unused_fits : (origin : ℕ) (function : KnownFunction) (rs : List rows.Rows) →
-      AllByRecursion (λ (r : rows.Rows). TreesRule r.unused) rs →
-      TreesRule (rows.known_unused origin function rs)
+      AllByRecursion (λ (r : rows.Rows). GoodRule (r.rule Unused)) rs →
+      GoodRule (rows.known_called origin Unused function rs)
   known_unused_fits origin known.ReachError rs h =
-      fits_gives W (TreesFit W.ground) (leaf origin head.Error ∷ [])
-      (λ g. (leaf_fits W.ground origin head.Error tt, tt))
+      fits_gives W (Good W) (acts.voided Unused (leaf origin head.Error ∷ []))
+      (λ g. voided_good (leaf origin head.Error ∷ []) (leaf_fits W.ground origin head.Error tt, tt))
   known_unused_fits origin known.Abort rs h = stop_fits origin
   known_unused_fits origin known.AssertFail rs h = stop_fits origin
   known_unused_fits origin known.Exit rs h = exit_fits origin (first_fits_of rs h)
-  known_unused_fits origin (known.Input t) rs h = only_fits (taken_in_fits origin (known.Input t))
+  known_unused_fits origin (known.Input t) rs h =
+      kept_rule Unused (taken_in_fits origin (known.Input t))
 
   -- of a known function that has a value
-  known_by : (origin : ℕ) (kind : Kind) (function : KnownFunction) (rs : List rows.Rows)
-      (t : IntType) →
-      kind ≡ Value t →
-      GoodRule (elim kind [
-        | Void ↦ rows.valueless (rows.known_unused origin function rs)
-        | Value u ↦ rows.taken_in origin function
-      ])
-  known_by origin Void function rs t is = absurd (cc)
-  known_by origin (Value u) function rs t is = taken_in_fits origin function
-
   pub known_used_fits : (origin : ℕ) (function : KnownFunction) (rs : List rows.Rows)
       (t : IntType) →
-      known_result function ≡ Value t → GoodRule (rows.known_used origin function rs)
-  known_used_fits origin function rs t is = known_by origin (known_result function) function rs t is
+      known_result function ≡ Value t → GoodRule (rows.known_called origin Used function rs)
+  known_used_fits origin known.ReachError rs t is = absurd (cc)
+  known_used_fits origin known.Abort rs t is = absurd (cc)
+  known_used_fits origin known.AssertFail rs t is = absurd (cc)
+  known_used_fits origin known.Exit rs t is = absurd (cc)
+  known_used_fits origin (known.Input u) rs t is =
+      kept_rule Used (taken_in_fits origin (known.Input u))
 
   -- chains, commas, conditionals
   pub linking_fits : (origin : ℕ) (operator : BinaryOperator) {left right : core.Rule Valued} →
@@ -353,33 +397,41 @@ module _ (W : World) where
       (λ g. good W (trees ++ v.statements) v.value
       (append_fits W.ground trees v.statements g.0.1 g.1.statements) g.1.value)))
 
-  pub void_choice_fits : (origin : ℕ) {test : core.Rule Valued} {first second : core.Rule Trees} →
-      GoodRule test → TreesRule first → TreesRule second →
-      TreesRule (core.then_by test (λ v. core.then_by first (λ a. core.then_by second (λ b.
-      core.gives (v.statements ++ choice origin v.value a b ∷ [])))))
-  void_choice_fits origin {first = first} {second = second} h k l =
-      fits_then W (λ v. core.then_by first (λ a. core.then_by second (λ b.
-      core.gives (v.statements ++ choice origin v.value a b ∷ [])))) h
-      (λ v. fits_then W (λ a. core.then_by second (λ b.
-      core.gives (v.statements ++ choice origin v.value a b ∷ []))) (fits_weaker W (λ g. tt) k)
-      (λ a. fits_then W (λ b. core.gives (v.statements ++ choice origin v.value a b ∷ []))
-      (fits_weaker W (λ g. tt) l)
-      (λ b. fits_gives W (TreesFit W.ground) (v.statements ++ choice origin v.value a b ∷ [])
-      (λ g. push_fits W.ground v.statements (choice origin v.value a b) g.0.0.1.statements
-      (choice_fits W.ground origin v.value a b g.0.0.1.value g.0.1 g.1)))))
+  chosen_for_fits : (origin : ℕ) (usage ends : Usage) (test first second : Valued) →
+      Fits W (Good W test × Good W first × Good W second) (Good W)
+      (chosen_for origin usage ends test first second)
+  unfolding chosen_for
+  chosen_for_fits origin usage Used test first second =
+      fits_then W (finished origin usage) (chosen_fits W origin test first second)
+      (λ v. fits_weaker W (λ g. g.1) (finished_fits origin usage v))
+  chosen_for_fits origin usage Unused test first second =
+      let tree = choice origin test.value first.statements second.statements in
+      fits_gives W (Good W) (acts.unvalued (test.statements ++ tree ∷ []))
+      (λ g. unvalued_good (test.statements ++ tree ∷ [])
+      (push_fits W.ground test.statements tree g.0.statements
+      (choice_fits W.ground origin test.value first.statements second.statements g.0.value
+      g.1.statements g.2.statements)))
 
-  pub conditional_fits : (origin : ℕ) {test first second : core.Rule Valued} → GoodRule test →
-      GoodRule first →
-      GoodRule second →
+  pub conditional_fits : (origin : ℕ) (usage ends : Usage)
+      {test first second : core.Rule Valued} → GoodRule test → GoodRule first → GoodRule second →
       GoodRule (core.then_by test (λ v. core.then_by first (λ a. core.then_by second (λ b.
-      acts.chosen origin v a b))))
-  conditional_fits origin {first = first} {second = second} h k l =
+      chosen_for origin usage ends v a b))))
+  conditional_fits origin usage ends {first = first} {second = second} h k l =
       fits_then W (λ v. core.then_by first
-      (λ a. core.then_by second (λ b. acts.chosen origin v a b))) h
-      (λ v. fits_then W (λ a. core.then_by second (λ b. acts.chosen origin v a b))
+      (λ a. core.then_by second (λ b. chosen_for origin usage ends v a b))) h
+      (λ v. fits_then W (λ a. core.then_by second (λ b. chosen_for origin usage ends v a b))
       (fits_weaker W (λ g. tt) k)
-      (λ a. fits_then W (λ b. acts.chosen origin v a b) (fits_weaker W (λ g. tt) l)
-      (λ b. fits_weaker W (λ g. (g.0.0.1, g.0.1, g.1)) (chosen_fits W origin v a b))))
+      (λ a. fits_then W (λ b. chosen_for origin usage ends v a b) (fits_weaker W (λ g. tt) l)
+      (λ b. fits_weaker W (λ g. (g.0.0.1, g.0.1, g.1))
+      (chosen_for_fits origin usage ends v a b))))
+
+  -- an expression that is made void, where its value is not used
+  pub void_fits : {r : core.Rule Valued} → GoodRule r →
+      GoodRule (core.then_by (rows.only_statements r)
+      (λ before. core.gives (acts.voided Unused before)))
+  void_fits h =
+      fits_then W (λ before. core.gives (acts.voided Unused before)) (only_fits h)
+      (λ before. fits_gives W (Good W) (acts.voided Unused before) (λ g. voided_good before g.1))
 
   pub cast_fits : (t : IntType) {r : core.Rule Valued} → GoodRule r →
       GoodRule (core.then_by r (λ v. core.gives (acts.cast_to t v)))

@@ -1,5 +1,5 @@
 -- Every expression in which no rule is broken has a well typed core (`expression_reads`).
-use Rattle.std.proofs.Common.{◌≡◌, ℕ, ℤ, Bool, true, false, ◌&&◌, if◌then◌else◌, List, [], ◌∷◌}
+use Rattle.std.proofs.Common.{◌≡◌, ℕ, ℤ, Bool, true, false, ◌&&◌, List, [], ◌∷◌}
 use Rattle.std.proofs.Common.{◌++◌, map, Option, None, Some, refl, ap, sym, ◌∙◌, subst, inl}
 use Rattle.std.specs.Prelude.{option_map, option_and_then, int_le, ◌≤ℤ◌}
 use lib.Signed.{le_z_yes}
@@ -31,7 +31,6 @@ use Rattle.c_types_rules.specs.declared.typed.TypedExpression.TheVariants as tre
 use Rattle.c_types_rules.specs.declared.typed.TypedExpression.TheOpen.{TypedExpression-F}
 use Rattle.c_types_rules.specs.Types.{kind_of_type_name, value_kind, binary_type}
 use Rattle.c_types_rules.specs.Names.{Text, meaning_of}
-use Rattle.c_types_rules.specs.ExpressionRules.{is_void}
 use Rattle.c_types_rules.specs.Parts.{named_kind, value, with_value, changed_kind, unary_type}
 use Rattle.c_types_rules.specs.Parts.{cast_kind}
 use Rattle.c_types_rules.specs.Parts.{chain_type}
@@ -40,21 +39,22 @@ use Rattle.c_types_rules.specs.Expressions.{taken, paired, Reading, used, parts_
 use Rattle.c_types_rules.specs.Expressions.{ReadSuffix, read_suffix, suffixed, cast_role, links_of}
 use Rattle.c_types_rules.specs.Expressions.{reading_step, reading, tag_uses}
 use Rattle.c_types_rules.specs.ExpressionRules.{broken, void_end, void_end_of}
+use Rattle.c_core_rules.specs.declared.tree.Usage.TheVariants.{Used, Unused}
 use Rattle.c_core_rules.specs.declared.tree.Valued.{Valued as CoreValued}
 use Rattle.c_core_rules.specs.Trees.{pure}
 use Rattle.c_core_rules.specs.Cells as core
 use Rattle.c_core_rules.specs.Acts as acts
 use Rattle.c_core_rules.specs.Expressions as rows
+use Rattle.c_core_rules.specs.Expressions.{usage_of_ends}
 use Rattle.c_core_laws.specs.lemmas.Faults.{NoFaults}
 use Rattle.c_core_sound.specs.Whole.{some_item, has_value, all_whole, whole_expression}
 use Rattle.c_core_sound.specs.Whole.{whole_suffix, is_whole}
 use Rattle.c_core_sound.proofs.TypedValues.{const_typed}
-use Rattle.c_core_sound.proofs.Fitting.{World, TreesFit, fits_gives, EachFits, none_fits}
-use Rattle.c_core_sound.proofs.Fitting.{more_fit, fits_ordered}
+use Rattle.c_core_sound.proofs.Fitting.{World, fits_gives}
 use Rattle.c_core_sound.proofs.FittingActs.{Good, good}
 use Rattle.c_core_sound.proofs.FittingRows.{GoodRule, only_fits, linking_fits}
-use Rattle.c_core_sound.proofs.FittingRows.{behind_fits, void_choice_fits, conditional_fits}
-use Rattle.c_core_sound.proofs.FittingRows.{cast_fits, signed_fits, assigning_fits, dropped_rule}
+use Rattle.c_core_sound.proofs.FittingRows.{behind_fits, conditional_fits, void_fits, kept_rule}
+use Rattle.c_core_sound.proofs.FittingRows.{cast_fits, signed_fits, assigning_fits}
 use Rattle.c_core_sound.proofs.FittingRows.{incrementing_fits}
 use Rattle.c_core_sound.proofs.Opened.{opened}
 use Rattle.c_core_sound.proofs.ReadParts.{UsesFit, uses_left, uses_right, MeaningFits, HasKind}
@@ -166,7 +166,7 @@ module _ (W : World) (frames : rows.Frames) (caller : ℕ) (text : Text) (names 
       let own = used Valued link.1 in
       let others = flat_map (λ (one : Link). used Valued one.1) rest in
       let a = used_reads W frames caller link.1 all.0 (uses_left W caller own others uses) in
-      let right = (rows.rows frames link.1.typed).used in
+      let right = rows.used (rows.rows frames link.1.typed) in
       let next = core.then_by left (λ v. core.then_by right
       (λ w. acts.linked origin link.0 v w)) in
       let u = binary_type link.0 t a.type in
@@ -213,31 +213,31 @@ module _ (W : World) (frames : rows.Frames) (caller : ℕ) (text : Text) (names 
       ap (λ (o : Option Kind). last_kind (option_and_then (λ (kind : Kind). next.part.kind) o)
       (parts_of items)) h.is
 
-  comma_good : (r : Reading) (items : List Reading) → AllByRecursion ItemReads (r ∷ items) →
+  comma_used : (r : Reading) (items : List Reading) → AllByRecursion ItemReads (r ∷ items) →
       (t : IntType) → comma_kind (parts_of (r ∷ items)) ≡ Some (Value t) →
-      GoodRule W (rows.comma_used (item_rows (r ∷ items)))
-  comma_good r [] all t is = all.0.reads.used t is
-  comma_good r (next ∷ items) all t is =
-      behind_fits W (all.0.reads.unused all.0.kind all.0.is)
-      (comma_good next items all.1 t (sym (later_kind r next items all.0) ∙ is))
+      GoodRule W (rows.comma Used (item_rows (r ∷ items)))
+  comma_used r [] all t is = all.0.reads.used t is
+  comma_used r (next ∷ items) all t is =
+      behind_fits W (only_fits W (all.0.reads.unused all.0.kind all.0.is))
+      (comma_used next items all.1 t (sym (later_kind r next items all.0) ∙ is))
 
-  each_unused : (items : List Reading) → AllByRecursion ItemReads items →
-      EachFits W (Unit {0}) (TreesFit W.ground)
-      (map (λ (item : rows.Rows). item.unused) (item_rows items))
-  each_unused [] all = none_fits
-  each_unused (r ∷ items) all =
-      more_fit (all.0.reads.unused all.0.kind all.0.is) (each_unused items all.1)
+  comma_unused : (r : Reading) (items : List Reading) → AllByRecursion ItemReads (r ∷ items) →
+      GoodRule W (rows.comma Unused (item_rows (r ∷ items)))
+  comma_unused r [] all = all.0.reads.unused all.0.kind all.0.is
+  comma_unused r (next ∷ items) all =
+      behind_fits W (only_fits W (all.0.reads.unused all.0.kind all.0.is))
+      (comma_unused next items all.1)
 
   comma_reads : (items : List Reading) (place : ℕ) → some_item items ≡ true →
       AllByRecursion ItemReads items →
       ReadsAs W frames caller (comma_kind (parts_of items)) Plain
-      (rows.act (rows.comma_used (item_rows items)) (rows.comma_unused (item_rows items)))
+      (rows.act (λ usage. rows.comma usage (item_rows items)))
   comma_reads [] place some all = absurd (cc)
   comma_reads (r ∷ items) place some all =
       act_reads W frames caller (comma_kind (parts_of (r ∷ items)))
       (last_is r.part.kind all.0.kind all.0.is items all.1)
-      (λ t is. comma_good r items all t is)
-      (λ k is. fits_ordered W (Unit {0}) (each_unused (r ∷ items) all))
+      (λ t is. comma_used r items all t is)
+      (λ k is. comma_unused r items all)
 
   -- conditionals
   abbrev row_of : Reading → rows.Rows
@@ -245,10 +245,8 @@ module _ (W : World) (frames : rows.Frames) (caller : ℕ) (text : Text) (names 
 
   abbrev choice_rows : ℕ → Option Kind → Reading → Reading → Reading → rows.Rows
   choice_rows origin kind test first second =
-      rows.act (rows.conditional origin (row_of test) (row_of first) (row_of second))
-      (if is_void kind then rows.void_choice origin (row_of test) (row_of first) (row_of second)
-      else rows.dropped origin (rows.conditional origin (row_of test) (row_of first)
-      (row_of second)))
+      rows.act (λ usage. rows.conditional origin usage (usage_of_ends usage kind) (row_of test)
+      (row_of first) (row_of second))
 
   mixed_first : (first second : Part) (v : IntType) → first.kind ≡ Some Void →
       second.kind ≡ Some (Value v) → void_end first second ≡ first.place ∷ []
@@ -275,17 +273,19 @@ module _ (W : World) (frames : rows.Frames) (caller : ℕ) (text : Text) (names 
       NoFaults (broken rule.N5 (void_end first.part second.part)) →
       (kind : Option Kind) → kind ≡ ends_kind (Some k) (Some l) →
       ReadsAs W frames caller kind Plain (choice_rows origin kind test first second)
+  unfolding usage_of_ends
   ends_read origin test first second t a b Void Void e f none kind is =
       subst (λ (o : Option Kind). ReadsAs W frames caller o Plain
       (choice_rows origin o test first second))
       (sym is) (act_reads W frames caller (Some Void) (Void, refl) (λ u so. absurd (cc))
-      (λ k so. void_choice_fits W origin t.used (a.unused Void e) (b.unused Void f)))
+      (λ k so. conditional_fits W origin Unused Unused t.used (a.unused Void e) (b.unused Void f)))
   ends_read origin test first second t a b (Value u) (Value v) e f none kind is =
-      let c = conditional_fits W origin t.used (a.used u e) (b.used v f) in
       subst (λ (o : Option Kind). ReadsAs W frames caller o Plain
       (choice_rows origin o test first second))
       (sym is) (act_reads W frames caller (Some (Value (common_type u v)))
-      (Value (common_type u v), refl) (λ w so. c) (λ k so. dropped_rule W origin c))
+      (Value (common_type u v), refl)
+      (λ w so. conditional_fits W origin Used Used t.used (a.used u e) (b.used v f))
+      (λ k so. conditional_fits W origin Unused Used t.used (a.used u e) (b.used v f)))
   ends_read origin test first second t a b Void (Value v) e f none kind is =
       absurd (no_end (void_end first.part second.part) first.part.place
       (mixed_first first.part second.part v e f) none)
@@ -303,7 +303,7 @@ module _ (W : World) (frames : rows.Frames) (caller : ℕ) (text : Text) (names 
       subst (λ (o : Option Kind). ReadsAs W frames caller (cast_kind Void o) Plain
       (rows.cast_rows origin (cast_kind Void o) (row_of operand))) (sym e.0.1)
       (act_reads W frames caller (Some Void) (Void, refl) (λ t so. absurd (cc))
-      (λ k so. e.1.unused e.0.0 e.0.1))
+      (λ k so. void_fits W (e.1.unused e.0.0 e.0.1)))
   cast_reads origin (Value t) operand reads uses =
       let a = used_reads W frames caller operand reads uses in
       subst (λ (o : Option Kind). ReadsAs W frames caller (cast_kind (Value t) o) Plain
@@ -492,13 +492,13 @@ module _ (W : World) (frames : rows.Frames) (caller : ℕ) (text : Text) (names 
       let c = changed_reads W frames caller r.part (row_of r) h
       (uses_right W caller r.uses (taken Changed r.part ∷ []) uses).0.none in
       at_row kind (tree.PrefixStep operator r.typed kind place)
-      (rows.act (rows.incrementing place operator (row_of r).target)
-      (rows.only_statements (rows.incrementing place operator (row_of r).target)))
+      (rows.act (λ usage. acts.kept usage (rows.incrementing place operator (row_of r).target)))
       (opened frames (tree.PrefixStep operator r.typed kind place)
       (TypedExpression-F.PrefixStep operator r.typed kind place)
       (tree.rolls-PrefixStep operator r.typed kind place))
-      (act_reads W frames caller kind (c.0, c.1) (λ t so. incrementing_fits W place operator c.2)
-      (λ k so. only_fits W (incrementing_fits W place operator c.2)))
+      (act_reads W frames caller kind (c.0, c.1)
+      (λ t so. kept_rule W Used (incrementing_fits W place operator c.2))
+      (λ k so. kept_rule W Unused (incrementing_fits W place operator c.2)))
   layer (Expression-F.Unary operator operand place) whole uses =
       let r = read_of operand in
       let a = used_reads W frames caller r (operand.1 whole) uses in
@@ -507,7 +507,8 @@ module _ (W : World) (frames : rows.Frames) (caller : ℕ) (text : Text) (names 
         | Some t ↦ Some (unary_type operator t)
       ]) in
       at_row kind (tree.Unary operator r.typed kind place)
-      (rows.plain place (core.then_by (row_of r).used (λ v. core.gives (acts.signed operator v))))
+      (rows.plain place (core.then_by (rows.used (row_of r))
+      (λ v. core.gives (acts.signed operator v))))
       (opened frames (tree.Unary operator r.typed kind place)
       (TypedExpression-F.Unary operator r.typed kind place)
       (tree.rolls-Unary operator r.typed kind place))
@@ -533,11 +534,11 @@ module _ (W : World) (frames : rows.Frames) (caller : ℕ) (text : Text) (names 
       let a = used_reads W frames caller r (first.1 (and_left own others whole))
       (uses_left W caller front behind_uses uses) in
       let c = chain_reads place rest (each_link held (and_right own others whole))
-      (uses_right W caller front behind_uses uses) (row_of r).used a.type a.used in
+      (uses_right W caller front behind_uses uses) (rows.used (row_of r)) a.type a.used in
       let typed = map (λ (link : Link). (link.0, link.1.typed)) rest in
       let kind = value (chain_type (value_kind r.part.kind) (links_of rest)) in
       at_row kind (tree.Chain r.typed typed kind place)
-      (rows.plain place (rows.chained place (row_of r).used (link_rows rest)))
+      (rows.plain place (rows.chained place (rows.used (row_of r)) (link_rows rest)))
       (opened frames (tree.Chain r.typed typed kind place)
       (TypedExpression-F.Chain r.typed typed kind place)
       (tree.rolls-Chain r.typed typed kind place))
@@ -567,22 +568,21 @@ module _ (W : World) (frames : rows.Frames) (caller : ℕ) (text : Text) (names 
       (uses_right W caller front back uses) in
       let kind = with_value (changed_kind l.part) r.part.kind in
       at_row kind (tree.Assignment l.typed operator r.typed kind place)
-      (rows.act (rows.assigning place true operator (row_of l).target (row_of r).used)
-      (rows.only_statements (rows.assigning place false operator (row_of l).target
-      (row_of r).used)))
+      (rows.act (λ usage. acts.kept usage (rows.assigning place (acts.is_used usage) operator
+      (row_of l).target (rows.used (row_of r)))))
       (opened frames (tree.Assignment l.typed operator r.typed kind place)
       (TypedExpression-F.Assignment l.typed operator r.typed kind place)
       (tree.rolls-Assignment l.typed operator r.typed kind place))
       (act_reads W frames caller kind
       (c.0, with_value_is W frames caller (changed_kind l.part) r.part.kind a.type a.is ∙ c.1)
-      (λ t so. assigning_fits W place true operator c.2 a.used)
-      (λ k so. only_fits W (assigning_fits W place false operator c.2 a.used)))
+      (λ t so. kept_rule W Used (assigning_fits W place true operator c.2 a.used))
+      (λ k so. kept_rule W Unused (assigning_fits W place false operator c.2 a.used)))
   layer (Expression-F.Comma held place) whole uses =
       let items = map (reading text names) (map (λ (e : Held). e.0) held) in
       let bools = map is_whole (map (λ (e : Held). e.0) held) in
       let kind = comma_kind (parts_of items) in
       at_row kind (tree.Comma (trees_of items) kind place)
-      (rows.act (rows.comma_used (item_rows items)) (rows.comma_unused (item_rows items)))
+      (rows.act (λ usage. rows.comma usage (item_rows items)))
       (opened frames (tree.Comma (trees_of items) kind place)
       (TypedExpression-F.Comma (trees_of items) kind place)
       (tree.rolls-Comma (trees_of items) kind place))

@@ -28,7 +28,8 @@ use Rattle.c_types_rules.specs.Expressions.{suffixed}
 use Rattle.c_types_rules.specs.ExpressionRules.{use_faults, names_function, names_array}
 use Rattle.c_types_rules.specs.ExpressionRules.{misused_array, void_value}
 use Rattle.c_types_rules.specs.Items.{Call}
-use Rattle.cpa_model_trees.specs.declared.tree.CoreTree.{CoreTree}
+use Rattle.c_core_rules.specs.declared.tree.Usage.{Usage}
+use Rattle.c_core_rules.specs.declared.tree.Usage.TheVariants.{Used, Unused}
 use Rattle.c_core_rules.specs.declared.tree.Valued.{Valued as CoreValued}
 use Rattle.c_core_rules.specs.Cells as core
 use Rattle.c_core_rules.specs.Expressions as rows
@@ -36,11 +37,11 @@ use Rattle.c_core_laws.specs.lemmas.Faults.{NoFaults, not_broken}
 use Rattle.c_core_sound.proofs.Fitting.{World, EachFits, none_fits, more_fit}
 use Rattle.c_core_sound.proofs.FittingActs.{Good}
 use Rattle.c_core_sound.proofs.FittingRows.{ObjectFits, MayCall, TargetFits, fit_scalar}
-use Rattle.c_core_sound.proofs.FittingRows.{fit_element, GoodRule, TreesRule, dropped_rule}
-use Rattle.c_core_sound.proofs.FittingRows.{only_fits, name_fits, element_fits, called_fits}
+use Rattle.c_core_sound.proofs.FittingRows.{fit_element, GoodRule, finish_fits, kept_rule}
+use Rattle.c_core_sound.proofs.FittingRows.{name_fits, element_fits, called_fits}
 use Rattle.c_core_sound.proofs.FittingRows.{enumerator_fits}
 use Rattle.c_core_sound.proofs.FittingRows.{called_unused_fits, known_unused_fits, known_used_fits}
-use Rattle.c_core_sound.proofs.FittingRows.{stepping_fits, incrementing_fits}
+use Rattle.c_core_sound.proofs.FittingRows.{stepping_fits}
 use Rattle.c_core_laws.specs.lemmas.CoreLayers.{core_suffix}
 use Rattle.c_core_sound.proofs.Opened.{open_index, open_call, open_step, open_skipped}
 use Rattle.c_core_sound.proofs.ReadParts.{unbroken, UseFits, UsesFit, uses_left, uses_right}
@@ -63,17 +64,16 @@ module _ (W : World) (frames : rows.Frames) (caller : ℕ) where
       GoodRule W rule → ReadsAs kind Plain (rows.plain origin rule)
   plain_reads origin kind has h = record {
     stands = inl has;
-    used = λ t is. h;
-    unused = λ k is. dropped_rule W origin h;
+    used = λ t is. finish_fits W origin Used h;
+    unused = λ k is. finish_fits W origin Unused h;
     target = λ k is so. absurd (cc);
     form = tt;
   }
 
-  pub act_reads : (kind : Option Kind) {used_rule : core.Rule CoreValued}
-      {unused_rule : core.Rule (List CoreTree)} → HasKind kind →
-      ((t : IntType) → kind ≡ Some (Value t) → GoodRule W used_rule) →
-      ((k : Kind) → kind ≡ Some k → TreesRule W unused_rule) →
-      ReadsAs kind Plain (rows.act used_rule unused_rule)
+  pub act_reads : (kind : Option Kind) {by : Usage → core.Rule CoreValued} → HasKind kind →
+      ((t : IntType) → kind ≡ Some (Value t) → GoodRule W (by Used)) →
+      ((k : Kind) → kind ≡ Some k → GoodRule W (by Unused)) →
+      ReadsAs kind Plain (rows.act by)
   act_reads kind has h k = record {
     stands = inl has;
     used = h;
@@ -93,8 +93,8 @@ module _ (W : World) (frames : rows.Frames) (caller : ℕ) where
       (rows.name_rows place (Some (meaning.Object object)))
   object_reads place object None is h = record {
     stands = inl (Value object.ty, refl);
-    used = λ t so. name_fits W object h;
-    unused = λ k so. dropped_rule W place (name_fits W object h);
+    used = λ t so. finish_fits W place Used (name_fits W object h);
+    unused = λ k so. finish_fits W place Unused (name_fits W object h);
     target = λ k so also. fit_scalar object h;
     form = (refl, h);
   }
@@ -131,8 +131,8 @@ module _ (W : World) (frames : rows.Frames) (caller : ℕ) where
   }
   name_reads place (Some (meaning.Enumerator value)) h none = record {
     stands = inl (Value ty.I32, refl);
-    used = λ t so. enumerator_fits W value h;
-    unused = λ k so. dropped_rule W place (enumerator_fits W value h);
+    used = λ t so. finish_fits W place Used (enumerator_fits W value h);
+    unused = λ k so. finish_fits W place Unused (enumerator_fits W value h);
     target = λ k so also. absurd (cc);
     form = (refl, h);
   }
@@ -168,8 +168,8 @@ module _ (W : World) (frames : rows.Frames) (caller : ℕ) where
       subst (λ (names : Option Meaning). ReadsAs (with_value (element_kind found) kind)
       (Element found) (rows.element_rows origin names index)) (sym fits.0) (record {
         stands = inl (Value object.ty, has);
-        used = λ u is. good;
-        unused = λ k is. dropped_rule W origin good;
+        used = λ u is. finish_fits W origin Used good;
+        unused = λ k is. finish_fits W origin Unused good;
         target = λ k is also. fit_element object fits.1 h;
         form = tt;
       })
@@ -227,17 +227,17 @@ module _ (W : World) (frames : rows.Frames) (caller : ℕ) where
   pub record ArgumentReads (r : Reading) : Type 0 where
     pub type : IntType
     pub is : r.part.kind ≡ Some (Value type)
-    pub used : GoodRule W (rows.rows frames r.typed).used
-    pub unused : TreesRule W (rows.rows frames r.typed).unused
+    pub used : GoodRule W (rows.used (rows.rows frames r.typed))
+    pub unused : GoodRule W ((rows.rows frames r.typed).rule Unused)
 
   arguments_used : (arguments : List Reading) → AllByRecursion ArgumentReads arguments →
       EachFits W (Unit {0}) (Good W)
-      (map (λ (row : rows.Rows). row.used) (map (rows.rows frames) (trees_of arguments)))
+      (map rows.used (map (rows.rows frames) (trees_of arguments)))
   arguments_used [] all = none_fits
   arguments_used (r ∷ arguments) all = more_fit all.0.used (arguments_used arguments all.1)
 
   arguments_unused : (arguments : List Reading) → AllByRecursion ArgumentReads arguments →
-      AllByRecursion (λ (row : rows.Rows). TreesRule W row.unused)
+      AllByRecursion (λ (row : rows.Rows). GoodRule W (row.rule Unused))
       (map (rows.rows frames) (trees_of arguments))
   arguments_unused [] all = tt
   arguments_unused (r ∷ arguments) all = (all.0.unused, arguments_unused arguments all.1)
@@ -298,8 +298,8 @@ module _ (W : World) (frames : rows.Frames) (caller : ℕ) where
       arguments_typed (Some function.result) arguments all in
       let may = callable at count function fits one in
       act_reads kind (function.result, same)
-      (λ t so. called_fits W origin frames function may t
-      (same_kind function.result (Value t) (sym same ∙ so)) (arguments_used arguments all))
+      (λ t so. kept_rule W Used (called_fits W origin frames function may t
+      (same_kind function.result (Value t) (sym same ∙ so)) (arguments_used arguments all)))
       (λ k so. called_unused_fits W origin frames function may (arguments_used arguments all))
   call_reads_by origin (Some (meaning.Known function)) at count is fits one arguments all =
       let kind = with_values (Some (known_result function)) (parts_of arguments) in
@@ -401,8 +401,9 @@ module _ (W : World) (frames : rows.Frames) (caller : ℕ) where
       subst (λ (s : rows.ReadSuffix). ReadsAs (changed_kind base) Plain
       (rows.suffix_rows origin frames row s))
       (sym (open_step frames operator (changed_kind base) place))
-      (act_reads (changed_kind base) (c.0, c.1) (λ t so. stepping_fits W origin operator c.2)
-      (λ k so. only_fits W (incrementing_fits W origin operator c.2)))
+      (act_reads (changed_kind base) (c.0, c.1)
+      (λ t so. stepping_fits W origin Used operator c.2)
+      (λ k so. stepping_fits W origin Unused operator c.2))
   suffix_reads origin base row (Suffix-F.Skipped place) reads inside uses =
       let kind = result_of base.form in
       subst (λ (s : rows.ReadSuffix). ReadsAs kind Plain (rows.suffix_rows origin frames row s))

@@ -28,10 +28,11 @@ use Rattle.c_types_rules.specs.ExpressionRules.{misused_type}
 use Rattle.c_types_rules.specs.ExpressionRules.{called_without_body, not_changeable, misused_array}
 use Rattle.c_types_rules.specs.ExpressionRules.{void_value, has_own_fault, is_void}
 use Rattle.c_types_rules.specs.Items.{Call, use_calls}
+use Rattle.c_core_rules.specs.declared.tree.Usage.TheVariants.{Unused}
 use Rattle.c_core_rules.specs.Expressions as rows
 use Rattle.c_core_laws.specs.lemmas.Faults.{NoFaults, none_left, none_right, not_broken}
 use Rattle.c_core_sound.proofs.Fitting.{World}
-use Rattle.c_core_sound.proofs.FittingRows.{ObjectFits, MayCall, TargetFits, GoodRule, TreesRule}
+use Rattle.c_core_sound.proofs.FittingRows.{ObjectFits, MayCall, TargetFits, GoodRule}
 
 -- what a use breaks, rule by rule
 pub record Unbroken (one : Use) : Type 0 where
@@ -111,8 +112,8 @@ HasKind kind = (k : Kind) × (kind ≡ Some k)
 pub record Reads (W : World) (frames : rows.Frames) (kind : Option Kind) (shape : Form)
     (row : rows.Rows) : Type 0 where
   pub stands : HasKind kind ⊎ IsName shape
-  pub used : (t : IntType) → kind ≡ Some (Value t) → GoodRule W row.used
-  pub unused : (k : Kind) → kind ≡ Some k → TreesRule W row.unused
+  pub used : (t : IntType) → kind ≡ Some (Value t) → GoodRule W (rows.used row)
+  pub unused : (k : Kind) → kind ≡ Some k → GoodRule W (row.rule Unused)
   pub target : (k : Kind) → kind ≡ Some k → is_changeable shape ≡ true → TargetFits W row.target
   pub form : FormFits W frames row shape
 

@@ -174,7 +174,7 @@ module _ (G : Ground) (frames : rows.Frames) (text : Text) (caller : ℕ) where
   -- S, place := v
   pub initialized_fits : (origin : ℕ) (names : List Entry) (place : Location)
       (e : TypedExpression) →
-      GoodRule (world G names) (rows.rows frames e).used →
+      GoodRule (world G names) (rows.used (rows.rows frames e)) →
       Fits (world G names) (PlaceFits G.cells place) (TreesFit G)
       (statement.initialized origin frames place e)
   initialized_fits origin names place e h =
@@ -189,7 +189,7 @@ module _ (G : Ground) (frames : rows.Frames) (text : Text) (caller : ℕ) where
 
   abbrev ItemGood : List Entry → Expression → Type 0
   ItemGood names item =
-      GoodRule (world G names) (rows.rows frames (reading text names item).typed).used
+      GoodRule (world G names) (rows.used (rows.rows frames (reading text names item).typed))
 
   each_weaker : (names : List Entry) {Given More : Type 0} {rules : List (core.Rule Trees)} →
       (More → Given) → EachFits (world G names) Given (TreesFit G) rules →

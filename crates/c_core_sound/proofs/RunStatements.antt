@@ -136,7 +136,7 @@ module _ (G : Ground) (frames : rows.Frames) (text : Text) (caller : ℕ) (K : K
       ((v : CoreValued) →
       Runs G (Returns × Good (world G around.names) v) around behind Q (second v)) →
       Runs G Returns around behind Q
-      (core.then_by (rows.rows frames (typed_expression text around test)).used second)
+      (core.then_by (rows.used (rows.rows frames (typed_expression text around test))) second)
   tested_runs around behind test second h site whole le then_runs =
       runs_then G around around behind second (no_more around.objects) le
       (runs_weaker G (λ g. tt) (runs_fits G around
@@ -162,7 +162,7 @@ module _ (G : Ground) (frames : rows.Frames) (text : Text) (caller : ℕ) (K : K
 
   -- S, if (v) {} else { break }
   leaving_fits : (origin : ℕ) (names : List Entry) (test : TypedExpression) →
-      GoodRule (world G names) (rows.rows frames test).used →
+      GoodRule (world G names) (rows.used (rows.rows frames test)) →
       TreesRule (world G names) (statement.left_unless origin frames (Some test))
   leaving_fits origin names test h =
       fits_then (world G names) (λ v. core.gives (statement.leaving origin v)) h
@@ -350,7 +350,7 @@ module _ (G : Ground) (frames : rows.Frames) (text : Text) (caller : ℕ) (K : K
       ReadyAt around → SiteFits G text caller (test_site around test) → is_whole test ≡ true →
       around.objects ≤ mid.objects → mid.objects ≤ last.objects → RunsAt around mid a →
       RunsAt mid last b →
-      RunsAt around last (core.then_by (rows.rows frames (typed_expression text around test)).used
+      RunsAt around last (core.then_by (rows.used (rows.rows frames (typed_expression text around test)))
       (λ v. core.then_by a (λ x. core.then_by b (λ y. core.gives (if_tree origin v x y)))))
   if_runs origin around mid last test {a = a} {b = b} h site whole le more first second =
       tested_runs around last test

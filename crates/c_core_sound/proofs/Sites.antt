@@ -25,7 +25,7 @@ use Rattle.c_core_rules.specs.Expressions as rows
 use Rattle.c_core_laws.specs.lemmas.Faults.{NoFaults, none_left, none_right}
 use Rattle.c_core_sound.specs.Whole.{is_whole}
 use Rattle.c_core_sound.proofs.Fitting.{Ground}
-use Rattle.c_core_sound.proofs.FittingRows.{FunctionFits, GoodRule, TreesRule}
+use Rattle.c_core_sound.proofs.FittingRows.{FunctionFits, GoodRule, TreesRule, only_fits}
 use Rattle.c_core_sound.proofs.ReadParts.{UsesFit, MeaningFits}
 use Rattle.c_core_sound.proofs.ReadForms.{used_reads}
 use Rattle.c_core_sound.proofs.ReadExpressions.{expression_reads, evaluated_reads}
@@ -129,7 +129,7 @@ module _ (G : Ground) (frames : rows.Frames) (text : Text) where
     pub value_rule : (around : Around) (e : Expression) → FunctionsFit around.names →
         SiteFits G text caller (record { around = around; act = evaluates Valued e }) →
         is_whole e ≡ true →
-        GoodRule (world G around.names) (rows.rows frames (typed_expression text around e)).used
+        GoodRule (world G around.names) (rows.used (rows.rows frames (typed_expression text around e)))
     value_rule around e fits site whole =
         let W = world G around.names in
         let r = reading text around.names e in
@@ -140,7 +140,8 @@ module _ (G : Ground) (frames : rows.Frames) (text : Text) where
     pub trees_rule : (around : Around) (e : Expression) → FunctionsFit around.names →
         SiteFits G text caller (record { around = around; act = evaluates Evaluated e }) →
         is_whole e ≡ true →
-        TreesRule (world G around.names) (rows.rows frames (typed_expression text around e)).unused
+        TreesRule (world G around.names) (rows.unused (rows.rows frames
+        (typed_expression text around e)))
     trees_rule around e fits site whole =
         let W = world G around.names in
         let r = reading text around.names e in
@@ -148,4 +149,4 @@ module _ (G : Ground) (frames : rows.Frames) (text : Text) where
         (meaning_fits around.names fits) r (expression_reads W frames caller text around.names
         (meaning_fits around.names fits) e whole)
         (uses_of around.names (used Evaluated r) site.none site.calls) in
-        h.1.unused h.0.0 h.0.1
+        only_fits W (h.1.unused h.0.0 h.0.1)

@@ -20,7 +20,7 @@ use Rattle.c_core_rules.specs.declared.tree.Valued.{Valued}
 use Rattle.cpa_model_trees.specs.Numbering.{Trees}
 use Rattle.c_core_rules.specs.Trees.{leaf, block, labeled, choice, repeated}
 use Rattle.c_core_rules.specs.Cells.{Taken, Made, Rule, gives, then_by, in_order}
-use Rattle.c_core_rules.specs.Expressions.{Frames, rows}
+use Rattle.c_core_rules.specs.Expressions.{Frames, rows, used}
 use Rattle.c_core_rules.specs.Statements.{some_unused, started, left_unless, returned, declaration}
 use Rattle.c_core_rules.specs.Statements.{as_one, item_rule, item_step, statement_step}
 use Rattle.c_core_rules.specs.Statements.{selected_by}
@@ -89,7 +89,7 @@ statement_Expression frames result expression origin taken =
 pub statement_If : (frames : Frames) (result : Location) (test : TypedExpression)
     (first : TypedStatement) (second : Option TypedStatement) (origin : ℕ) (taken : Taken) →
     statement_rule frames result (tree.If test first second origin) taken
-    ≡ then_by (rows frames test).used (λ v. then_by (statement_rule frames result first) (λ a.
+    ≡ then_by (used (rows frames test)) (λ v. then_by (statement_rule frames result first) (λ a.
     then_by (otherwise frames result second) (λ b.
     gives (v.statements ++ choice origin v.value a b ∷ [])))) taken
 statement_If frames result test first None origin taken =
@@ -109,8 +109,8 @@ pub if_else : (frames : Frames) (result : Location) (s : TypedStatement) (test :
     (first second : TypedStatement) (start a b c : Taken) (v : Valued) (x y : Trees) →
     s ≡ tree.If test this else_part origin →
     else_part ≡ Some other →
-    first ≡ this → second ≡ other → a ≡ ((rows frames test).used start).taken →
-    v ≡ ((rows frames test).used start).made → b ≡ (statement_rule frames result first a).taken →
+    first ≡ this → second ≡ other → a ≡ (used (rows frames test) start).taken →
+    v ≡ (used (rows frames test) start).made → b ≡ (statement_rule frames result first a).taken →
     x ≡ (statement_rule frames result first a).made →
     c ≡ (statement_rule frames result second b).taken →
     y ≡ (statement_rule frames result second b).made →
@@ -119,7 +119,7 @@ pub if_else : (frames : Frames) (result : Location) (s : TypedStatement) (test :
 if_else frames result s test this other else_part origin first second start a b c v x y is some one
     two ta
     tv tb tx tc ty =
-    let m = (rows frames test).used start in
+    let m = used (rows frames test) start in
     let at_first = λ (t : Taken). statement_rule frames result this t in
     let at_second = λ (t : Taken). statement_rule frames result other t in
     let whole = ap (λ z. statement_rule frames result z start)

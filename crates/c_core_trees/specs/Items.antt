@@ -12,7 +12,7 @@ use Rattle.c_core_rules.specs.Values.{promote}
 use Rattle.c_core_rules.specs.Acts.{held}
 use Rattle.c_core_rules.specs.Trees.{block, repeated, valued}
 use Rattle.c_core_rules.specs.Cells.{Rule, gives, then_by, in_order}
-use Rattle.c_core_rules.specs.Expressions.{Frames, rows}
+use Rattle.c_core_rules.specs.Expressions.{Frames, rows, used}
 use Rattle.c_core_rules.specs.Statements.{some_unused, started, leaving, left_unless, item_step}
 use Rattle.c_core_rules.specs.Statements.{statement_step}
 
@@ -28,7 +28,7 @@ otherwise frames place (Some other) = statement_rule frames place other
 
 -- the way out of a loop with this test
 abbrev pub left : ℕ → Frames → TypedExpression → Rule Trees
-left origin frames test = then_by (rows frames test).used (λ v. gives (leaving origin v))
+left origin frames test = then_by (used (rows frames test)) (λ v. gives (leaving origin v))
 
 -- rules in order, behind what is made already
 unfoldable pub in_behind : Trees → List (Rule Trees) → Rule Trees
@@ -41,7 +41,7 @@ do_behind origin frames inside test =
 
 -- the value of a switch, promoted and held
 abbrev pub switch_front : ℕ → Frames → TypedExpression → Rule Valued
-switch_front origin frames value = then_by (rows frames value).used (λ v.
+switch_front origin frames value = then_by (used (rows frames value)) (λ v.
     held origin (valued v.statements (promote v.value)))
 
 -- what stands before the body of a for, and the for behind its body

@@ -15,6 +15,7 @@ use Rattle.c_types_rules.specs.declared.typed.TypedForStart.TheVariants as start
 use Rattle.c_types_rules.specs.Tables.{cells_of}
 use Rattle.cpa_model_trees.specs.declared.tree.Head.TheVariants as head
 use Rattle.c_core_rules.specs.declared.tree.Location.{Location}
+use Rattle.c_core_rules.specs.declared.tree.Usage.TheVariants.{Used, Unused}
 use Rattle.c_core_rules.specs.Values.{cell_at}
 use Rattle.c_core_rules.specs.Trees.{leaf, set}
 use Rattle.c_core_rules.specs.Cells.{gives, taking, cells_with}
@@ -27,6 +28,7 @@ use Rattle.c_core_rules_laws.specs.lemmas.Statements.{trees_self, same_append, s
 use Rattle.c_core_rules_laws.specs.lemmas.Statements.{same_input}
 use Rattle.c_core_rules_laws.specs.lemmas.Runs.{alike_gives, alike_then, alike_order, alike_fresh}
 use Rattle.c_core_rules_laws.specs.lemmas.Acts.{same_stored, same_split}
+use Rattle.c_core_rules_laws.specs.lemmas.Rows.{only}
 use Rattle.c_core_rules_laws.specs.lemmas.Expressions.{alike_expression}
 
 -- anything and anything
@@ -82,13 +84,13 @@ module _ (F G : Frames) (same : SameFrames F G) where
   pub alike_unused : (e : Option TypedExpression) →
       Alike SameTrees (statement.some_unused F e) (statement.some_unused G e)
   alike_unused None = alike_gives (trees_self [])
-  alike_unused (Some e) = (alike_expression F G same e).unused
+  alike_unused (Some e) = only ((alike_expression F G same e).rule Unused)
 
   pub alike_initialized : (origin : ℕ) (a b : Location) (e : TypedExpression) → SameLocation a b →
       Alike SameTrees (statement.initialized origin F a e) (statement.initialized origin G b e)
   alike_initialized origin a b e at =
       alike_then (λ v. gives (v.statements ++ set origin a v.value ∷ []))
-      (λ v. gives (v.statements ++ set origin b v.value ∷ [])) (alike_expression F G same e).used
+      (λ v. gives (v.statements ++ set origin b v.value ∷ [])) ((alike_expression F G same e).rule Used)
       (λ x y is. alike_gives (same_stored origin a b is at))
 
   each_initialized : (origin : ℕ) (t : IntType) (m n : ℕ) (items : List TypedExpression) →
@@ -146,7 +148,7 @@ module _ (F G : Frames) (same : SameFrames F G) where
   alike_left origin None = alike_gives (trees_self [])
   alike_left origin (Some test) =
       alike_then (λ v. gives (statement.leaving origin v)) (λ v. gives (statement.leaving origin v))
-      (alike_expression F G same test).used
+      ((alike_expression F G same test).rule Used)
       (λ x y is. alike_gives (same_split origin is (trees_self [])
       (trees_self (leaf origin head.Break ∷ []))))
 

@@ -1,5 +1,5 @@
 -- Every expression is alike under frames of the same types.
-use Rattle.std.proofs.Common.{◌≡◌, List, [], ◌∷◌, map, refl, sym, subst, true, false}
+use Rattle.std.proofs.Common.{◌≡◌, List, [], ◌∷◌, map, sym, subst}
 use Rattle.cpa_ints.specs.declared.integers.IntType.TheVariants as ty
 use Rattle.c_grammar_symbols.specs.declared.operators.BinaryOperator.{BinaryOperator}
 use Rattle.c_types_rules.specs.declared.typed.TypedExpression.{TypedExpression}
@@ -10,21 +10,22 @@ use Rattle.c_types_rules.specs.declared.typed.TypedExpression.TheFolds.{ind-Type
 use Rattle.c_types_rules.specs.declared.typed.TypedExpression.TheFolds.{map-TypedExpression}
 use Rattle.c_types_rules.specs.declared.typed.TypedExpression.TheFolds.{map-TypedSuffix}
 use Rattle.c_types_rules.specs.declared.typed.TypedSuffix.{TypedSuffix, roll-TypedSuffix}
-use Rattle.c_types_rules.specs.ExpressionRules.{is_void}
 use Rattle.c_core_rules.specs.Cells.{gives}
-use Rattle.c_core_rules.specs.Acts.{signed}
+use Rattle.c_core_rules.specs.declared.tree.Usage.TheVariants.{Used}
+use Rattle.c_core_rules.specs.Acts.{signed, is_used}
 use Rattle.c_core_rules.specs.Expressions.{Frames, Rows, ReadSuffix, rows, rows_step, read_suffix}
+use Rattle.c_core_rules.specs.Expressions.{usage_of_ends}
 use Rattle.c_core_rules_laws.specs.Alike.{AlikeRows, SameFrames, Pairwise}
 use Rattle.c_core_rules_laws.specs.Alike.{none, more}
 use Rattle.c_core_rules_laws.specs.lemmas.Layers.{suffix_rule, open_rows, open_suffix}
-use Rattle.c_core_rules_laws.specs.lemmas.Runs.{alike_gives, alike_then, alike_if}
+use Rattle.c_core_rules_laws.specs.lemmas.Runs.{alike_gives, alike_then}
 use Rattle.c_core_rules_laws.specs.lemmas.Acts.{same_sign}
 use Rattle.c_core_rules_laws.specs.lemmas.Rows.{SameSuffix, same_index, same_call, same_step}
-use Rattle.c_core_rules_laws.specs.lemmas.Rows.{same_skipped, SameLink, link, drops, only}
+use Rattle.c_core_rules_laws.specs.lemmas.Rows.{same_skipped, SameLink, link, alike_kept}
 use Rattle.c_core_rules_laws.specs.lemmas.Rows.{alike_plain, alike_act, alike_name, alike_number}
 use Rattle.c_core_rules_laws.specs.lemmas.Rows.{alike_suffixed, alike_incrementing, alike_cast}
-use Rattle.c_core_rules_laws.specs.lemmas.Rows.{alike_chained, alike_conditional, alike_void}
-use Rattle.c_core_rules_laws.specs.lemmas.Rows.{alike_assigning, alike_comma, alike_commas}
+use Rattle.c_core_rules_laws.specs.lemmas.Rows.{alike_chained, alike_conditional}
+use Rattle.c_core_rules_laws.specs.lemmas.Rows.{alike_assigning, alike_comma}
 
 module _ (F G : Frames) (same : SameFrames F G) where
   abbrev pub IsAlike : TypedExpression → Type 0
@@ -89,29 +90,26 @@ module _ (F G : Frames) (same : SameFrames F G) where
       alike_suffixed place same (each_suffix suffixes) base.1
   layer (TypedExpression-F.PrefixStep operator operand kind place) =
       let inside = operand.1 in
-      alike_act (alike_incrementing place operator inside.target)
-      (only (alike_incrementing place operator inside.target))
+      alike_act (λ usage. alike_kept usage (alike_incrementing place operator inside.target))
   layer (TypedExpression-F.Unary operator operand kind place) =
       alike_plain place (alike_then (λ v. gives (signed operator v))
       (λ v. gives (signed operator v))
-      operand.1.used (λ x y is. alike_gives (same_sign operator is)))
+      (operand.1.rule Used) (λ x y is. alike_gives (same_sign operator is)))
   layer (TypedExpression-F.Cast operand kind place) = alike_cast place kind operand.1
   layer (TypedExpression-F.Chain first rest kind place) =
-      alike_plain place (alike_chained place (each_link rest) first.1.used)
+      alike_plain place (alike_chained place (each_link rest) (first.1.rule Used))
   layer (TypedExpression-F.Conditional test first second kind place) =
       let r = test.1 in
       let s = first.1 in
       let t = second.1 in
-      alike_act (alike_conditional place r s t)
-      (alike_if (is_void kind) (is_void kind) refl (alike_void place r s t)
-      (drops place (alike_conditional place r s t)))
+      alike_act (λ usage. alike_conditional place usage (usage_of_ends usage kind) r s t)
   layer (TypedExpression-F.Assignment left operator right kind place) =
       let l = left.1 in
       let r = right.1 in
-      alike_act (alike_assigning place true operator l.target r.used)
-      (only (alike_assigning place false operator l.target r.used))
+      alike_act (λ usage. alike_kept usage
+      (alike_assigning place (is_used usage) operator l.target (r.rule Used)))
   layer (TypedExpression-F.Comma items kind place) =
-      alike_act (alike_comma (each_row items)) (alike_commas (each_row items))
+      alike_act (λ usage. alike_comma usage (each_row items))
 
   suffix_layer : (y : TypedSuffix-F Held HeldSuffix) → SameSuffix (suffix_of F y) (suffix_of G y)
   suffix_layer (TypedSuffix-F.Index index kind place) = same_index kind place index.1

@@ -12,6 +12,7 @@ use Rattle.cpa_model_trees.specs.declared.tree.Head.{Head}
 use Rattle.cpa_model_trees.specs.declared.tree.Head.TheVariants as head
 use Rattle.cpa_model_trees.specs.Numbering.{Trees}
 use Rattle.c_core_rules.specs.declared.tree.Location.{Location}
+use Rattle.c_core_rules.specs.declared.tree.Usage.TheVariants.{Used}
 use Rattle.c_core_rules.specs.declared.tree.Valued.{Valued}
 use Rattle.c_core_rules.specs.Values.{promote}
 use Rattle.c_core_rules.specs.Trees.{leaf, block, labeled, choice, repeated, valued}
@@ -211,10 +212,10 @@ module _ (F G : Frames) (same : SameFrames F G) (place other : Location)
       alike_one (block origin) (λ xs ys is. same_block origin is) (alike_order (each_held items))
   layer (TypedStatement-F.Expression expression origin) = alike_unused F G same expression
   layer (TypedStatement-F.If test first None origin) =
-      alike_if_form origin (alike_expression F G same test).used first.1
+      alike_if_form origin ((alike_expression F G same test).rule Used) first.1
       (alike_gives (trees_self []))
   layer (TypedStatement-F.If test first (Some second) origin) =
-      alike_if_form origin (alike_expression F G same test).used first.1 second.1
+      alike_if_form origin ((alike_expression F G same test).rule Used) first.1 second.1
   layer (TypedStatement-F.While test body origin) =
       alike_while origin (alike_left F G same origin (Some test)) body.1
   layer (TypedStatement-F.Do body test origin) =
@@ -231,7 +232,7 @@ module _ (F G : Frames) (same : SameFrames F G) (place other : Location)
       alike_one (labeled origin)
       (λ xs ys is. same_node origin head.Labeled head.Labeled refl is) body.1
   layer (TypedStatement-F.Switch value choices otherwise body end origin) =
-      alike_switch origin choices otherwise (alike_expression F G same value).used body.1
+      alike_switch origin choices otherwise ((alike_expression F G same value).rule Used) body.1
 
   item_layer : (y : TypedItem-F HeldItem HeldStatement) →
       Alike SameTrees (item_of F place y) (item_of G other y)

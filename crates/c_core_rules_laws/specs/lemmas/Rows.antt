@@ -23,14 +23,17 @@ use Rattle.c_types_rules.specs.declared.typed.TypedExpression.TheOpen.{TypedSuff
 use Rattle.cpa_model_trees.specs.declared.tree.Head.TheVariants as head
 use Rattle.cpa_model_trees.specs.Numbering.{Trees}
 use Rattle.c_core_rules.specs.declared.tree.Location.{Location}
+use Rattle.c_core_rules.specs.declared.tree.Place.{Place}
 use Rattle.c_core_rules.specs.declared.tree.Place.TheVariants.{Scalar, Element}
+use Rattle.c_core_rules.specs.declared.tree.Usage.{Usage}
+use Rattle.c_core_rules.specs.declared.tree.Usage.TheVariants.{Used, Unused}
 use Rattle.c_core_rules.specs.declared.tree.Valued.{Valued}
 use Rattle.c_core_rules.specs.Values.{scalar, element, cell_at, int}
-use Rattle.c_core_rules.specs.Trees.{leaf, choice, input, valued, pure}
+use Rattle.c_core_rules.specs.Trees.{leaf, input, valued, pure}
 use Rattle.c_core_rules.specs.Cells.{Rule, gives, then_by, located, scalar_place}
-use Rattle.c_core_rules.specs.Acts.{hold_all, linked, cast_to}
-use Rattle.c_core_rules.specs.Acts.{chosen, dropped_value}
-use Rattle.c_core_rules.specs.Places.{fixed_if, changed, incremented, stepped}
+use Rattle.c_core_rules.specs.Acts.{hold_all, linked, cast_to, chosen, unvalued, finished, kept_for}
+use Rattle.c_core_rules.specs.Acts.{kept, no_value, voided, is_used, chosen_for}
+use Rattle.c_core_rules.specs.Places.{fixed_if, changed, incremented, stepped_for}
 use Rattle.c_core_rules.specs.Expressions.{Frame, Frames, Rows, ReadSuffix, Target, frame_at}
 use Rattle.c_core_rules.specs.Expressions.{no_frame}
 use Rattle.c_core_rules.specs.Expressions as rows
@@ -40,7 +43,7 @@ use Rattle.c_core_rules_laws.specs.Alike.{none, more, scalars, elements, neither
 use Rattle.c_core_rules_laws.specs.lemmas.Values.{value_self, same_scalar, same_read}
 use Rattle.c_core_rules_laws.specs.lemmas.Statements.{trees_self, same_append, same_more, same_set}
 use Rattle.c_core_rules_laws.specs.lemmas.Statements.{same_input, same_valued, valued_self}
-use Rattle.c_core_rules_laws.specs.lemmas.Runs.{alike_gives, alike_then, alike_each, alike_order}
+use Rattle.c_core_rules_laws.specs.lemmas.Runs.{alike_gives, alike_then, alike_each}
 use Rattle.c_core_rules_laws.specs.lemmas.Runs.{alike_fresh, alike_located, alike_scalar_place}
 use Rattle.c_core_rules_laws.specs.lemmas.Acts.{alike_hold_all, same_statements, same_values}
 use Rattle.c_core_rules_laws.specs.lemmas.Acts.{alike_linked, alike_chosen, alike_dropped}
@@ -50,32 +53,57 @@ use Rattle.c_core_rules_laws.specs.lemmas.Places.{no_places}
 use Rattle.c_core_rules_laws.specs.lemmas.Places.{same_as_pure, alike_fixed_if, alike_changed}
 use Rattle.c_core_rules_laws.specs.lemmas.Places.{alike_incremented, alike_stepped}
 
-pub drops : (origin : ℕ) {r s : Rule Valued} → Alike SameValued r s →
-    Alike SameTrees (rows.dropped origin r) (rows.dropped origin s)
-drops origin h = alike_then (dropped_value origin) (dropped_value origin) h
-    (λ x y is. alike_dropped origin is)
-
 pub only : {r s : Rule Valued} → Alike SameValued r s →
     Alike SameTrees (rows.only_statements r) (rows.only_statements s)
 only h =
     alike_then (λ v. gives v.statements) (λ v. gives v.statements) h
     (λ x y is. alike_gives is.statements)
 
-valueless : {r s : Rule Trees} → Alike SameTrees r s →
-    Alike SameValued (rows.valueless r) (rows.valueless s)
-valueless h =
-    alike_then (λ before. gives (valued before rows.no_value))
-    (λ before. gives (valued before rows.no_value)) h
-    (λ x y is. alike_gives (same_valued is (value_self rows.no_value)))
+-- what becomes of a value, by whether it is used
+
+same_unvalued : {xs ys : Trees} → SameTrees xs ys → SameValued (unvalued xs) (unvalued ys)
+same_unvalued is = same_valued is (value_self (int 0))
+
+alike_finished : (origin : ℕ) (usage : Usage) {v w : Valued} → SameValued v w →
+    Alike SameValued (finished origin usage v) (finished origin usage w)
+unfolding finished
+alike_finished origin Used is = alike_gives is
+alike_finished origin Unused is =
+    alike_then (λ statements. gives (unvalued statements))
+    (λ statements. gives (unvalued statements)) (alike_dropped origin is)
+    (λ x y are. alike_gives (same_unvalued are))
+
+same_kept : (usage : Usage) {v w : Valued} → SameValued v w →
+    SameValued (kept_for usage v) (kept_for usage w)
+unfolding kept_for
+same_kept Used is = is
+same_kept Unused is = same_unvalued is.statements
+
+same_voided : (usage : Usage) {xs ys : Trees} → SameTrees xs ys →
+    SameValued (voided usage xs) (voided usage ys)
+same_voided usage is = same_kept usage (same_valued is (value_self no_value))
+
+alike_finish : (origin : ℕ) (usage : Usage) {r s : Rule Valued} → Alike SameValued r s →
+    Alike SameValued (then_by r (finished origin usage)) (then_by s (finished origin usage))
+alike_finish origin usage h =
+    alike_then (finished origin usage) (finished origin usage) h
+    (λ x y is. alike_finished origin usage is)
+
+pub alike_kept : (usage : Usage) {r s : Rule Valued} → Alike SameValued r s →
+    Alike SameValued (kept usage r) (kept usage s)
+alike_kept usage h =
+    alike_then (λ v. gives (kept_for usage v)) (λ v. gives (kept_for usage v)) h
+    (λ x y is. alike_gives (same_kept usage is))
 
 -- an expression that is no left side and no name
+pub alike_act : {r s : Usage → Rule Valued} →
+    ((usage : Usage) → Alike SameValued (r usage) (s usage)) →
+    AlikeRows (rows.act r) (rows.act s)
+alike_act h = record { rule = h; target = neither; names = refl }
+
 pub alike_plain : (origin : ℕ) {r s : Rule Valued} → Alike SameValued r s →
     AlikeRows (rows.plain origin r) (rows.plain origin s)
-alike_plain origin h = record { used = h; unused = drops origin h; target = neither; names = refl }
-
-pub alike_act : {r s : Rule Valued} {p q : Rule Trees} → Alike SameValued r s →
-    Alike SameTrees p q → AlikeRows (rows.act r p) (rows.act s q)
-alike_act h k = record { used = h; unused = k; target = neither; names = refl }
+alike_plain origin h = alike_act (λ usage. alike_finish origin usage h)
 
 -- names and elements
 
@@ -98,8 +126,7 @@ name_used (Some (meaning.Enumerator value)) = alike_gives (valued_self (pure (Co
 pub alike_name : (origin : ℕ) (found : Option Meaning) →
     AlikeRows (rows.name_rows origin found) (rows.name_rows origin found)
 alike_name origin found = record {
-  used = name_used found;
-  unused = drops origin (name_used found);
+  rule = λ usage. alike_finish origin usage (name_used found);
   target = scalars found;
   names = refl;
 }
@@ -117,8 +144,7 @@ element_used found h =
 alike_element : (origin : ℕ) (found : Option Meaning) {i j : Rule Valued} → Alike SameValued i j →
     AlikeRows (rows.element_rows origin found i) (rows.element_rows origin found j)
 alike_element origin found h = record {
-  used = element_used found h;
-  unused = drops origin (element_used found h);
+  rule = λ usage. alike_finish origin usage (element_used found h);
   target = elements found h;
   names = refl;
 }
@@ -164,11 +190,20 @@ alike_incrementing origin operator h =
     (alike_placed origin true h)
     (λ p q at. alike_incremented origin operator at)
 
-alike_stepping : (origin : ℕ) (operator : StepOperator) {t u : Target} → AlikeTarget t u →
-    Alike SameValued (rows.stepping origin operator t) (rows.stepping origin operator u)
-alike_stepping origin operator h =
-    alike_then (stepped origin operator) (stepped origin operator) (alike_placed origin true h)
-    (λ p q at. alike_stepped origin operator at)
+alike_stepped_for : (origin : ℕ) (usage : Usage) (operator : StepOperator) {p q : Place} →
+    SamePlace p q →
+    Alike SameValued (stepped_for origin usage operator p) (stepped_for origin usage operator q)
+unfolding stepped_for
+alike_stepped_for origin Used operator at = alike_stepped origin operator at
+alike_stepped_for origin Unused operator at = alike_kept Unused (alike_incremented origin operator at)
+
+alike_stepping : (origin : ℕ) (usage : Usage) (operator : StepOperator) {t u : Target} →
+    AlikeTarget t u →
+    Alike SameValued (rows.stepping origin usage operator t)
+    (rows.stepping origin usage operator u)
+alike_stepping origin usage operator h =
+    alike_then (stepped_for origin usage operator) (stepped_for origin usage operator)
+    (alike_placed origin true h) (λ p q at. alike_stepped_for origin usage operator at)
 
 -- calls
 
@@ -226,14 +261,14 @@ alike_called origin function {F = F} {G = G} same all =
     (λ xs ys held. alike_gives (same_called origin function same held)))
 
 each_used : {rs ss : List Rows} → Pairwise AlikeRows rs ss →
-    Pairwise (Alike SameValued) (map (λ row. row.used) rs) (map (λ row. row.used) ss)
+    Pairwise (Alike SameValued) (map rows.used rs) (map rows.used ss)
 each_used none = none
-each_used (more h all) = more h.used (each_used all)
+each_used (more h all) = more (h.rule Used) (each_used all)
 
 first_unused : {rs ss : List Rows} → Pairwise AlikeRows rs ss →
     Alike SameTrees (rows.first_unused rs) (rows.first_unused ss)
 first_unused none = alike_gives (trees_self [])
-first_unused (more h all) = h.unused
+first_unused (more h all) = only (h.rule Unused)
 
 taken_in : (origin : ℕ) (function : KnownFunction) →
     Alike SameValued (rows.taken_in origin function) (rows.taken_in origin function)
@@ -243,47 +278,47 @@ taken_in origin function =
     (λ place. gives (valued (input origin place.base ∷ []) (scalar place))) (alike_fresh t t refl)
     (λ a b at. alike_gives (same_valued (same_input origin a.base b.base) (same_scalar a b at)))
 
-known_unused : (origin : ℕ) (function : KnownFunction) {rs ss : List Rows} →
-    Pairwise AlikeRows rs ss →
-    Alike SameTrees (rows.known_unused origin function rs) (rows.known_unused origin function ss)
-known_unused origin known.ReachError all = alike_gives (trees_self (leaf origin head.Error ∷ []))
-known_unused origin known.Abort all = alike_gives (trees_self (leaf origin head.Stop ∷ []))
-known_unused origin known.AssertFail all = alike_gives (trees_self (leaf origin head.Stop ∷ []))
-known_unused origin known.Exit all =
-    alike_then (λ before. gives (before ++ leaf origin head.Stop ∷ []))
-    (λ before. gives (before ++ leaf origin head.Stop ∷ [])) (first_unused all)
-    (λ x y is. alike_gives (same_append is (trees_self (leaf origin head.Stop ∷ []))))
-known_unused origin (known.Input t) all = only (taken_in origin (known.Input t))
+stops : (origin : ℕ) (usage : Usage) →
+    Alike SameValued (gives (voided usage (leaf origin head.Stop ∷ [])))
+    (gives (voided usage (leaf origin head.Stop ∷ [])))
+stops origin usage = alike_gives (valued_self (voided usage (leaf origin head.Stop ∷ [])))
 
--- by what it gives
-abbrev used_by : ℕ → Kind → KnownFunction → List Rows → Rule Valued
-used_by origin kind function arguments = elim kind [
-  | Void ↦ rows.valueless (rows.known_unused origin function arguments)
-  | Value t ↦ rows.taken_in origin function
-]
-
-known_used_by : (origin : ℕ) (kind : Kind) (function : KnownFunction) {rs ss : List Rows} →
+known_called : (origin : ℕ) (usage : Usage) (function : KnownFunction) {rs ss : List Rows} →
     Pairwise AlikeRows rs ss →
-    Alike SameValued (used_by origin kind function rs) (used_by origin kind function ss)
-known_used_by origin Void function all = valueless (known_unused origin function all)
-known_used_by origin (Value t) function all = taken_in origin function
+    Alike SameValued (rows.known_called origin usage function rs)
+    (rows.known_called origin usage function ss)
+known_called origin usage known.ReachError all =
+    alike_gives (valued_self (voided usage (leaf origin head.Error ∷ [])))
+known_called origin usage known.Abort all = stops origin usage
+known_called origin usage known.AssertFail all = stops origin usage
+known_called origin usage known.Exit all =
+    alike_then (λ before. gives (voided usage (before ++ leaf origin head.Stop ∷ [])))
+    (λ before. gives (voided usage (before ++ leaf origin head.Stop ∷ []))) (first_unused all)
+    (λ x y is. alike_gives
+    (same_voided usage (same_append is (trees_self (leaf origin head.Stop ∷ [])))))
+known_called origin usage (known.Input t) all =
+    alike_kept usage (taken_in origin (known.Input t))
 
 no_call : Alike SameValued (gives (pure (int 0))) (gives (pure (int 0)))
 no_call = alike_gives (valued_self (pure (int 0)))
+
+call_rule : (origin : ℕ) {F G : Frames} (usage : Usage) (found : Option Meaning)
+    {rs ss : List Rows} → SameFrames F G → Pairwise AlikeRows rs ss →
+    Alike SameValued (rows.call_rule origin F usage found rs)
+    (rows.call_rule origin G usage found ss)
+call_rule origin usage None same all = no_call
+call_rule origin usage (Some (meaning.Object object)) same all = no_call
+call_rule origin usage (Some (meaning.Enumerator value)) same all = no_call
+call_rule origin usage (Some (meaning.Function function)) same all =
+    alike_kept usage (alike_called origin function same (each_used all))
+call_rule origin usage (Some (meaning.Known function)) same all =
+    known_called origin usage function all
 
 alike_call : (origin : ℕ) {F G : Frames} (found : Option Meaning) {rs ss : List Rows} →
     SameFrames F G →
     Pairwise AlikeRows rs ss →
     AlikeRows (rows.call_rows origin F found rs) (rows.call_rows origin G found ss)
-alike_call origin None same all = alike_act no_call (only no_call)
-alike_call origin (Some (meaning.Object object)) same all = alike_act no_call (only no_call)
-alike_call origin (Some (meaning.Enumerator value)) same all = alike_act no_call (only no_call)
-alike_call origin (Some (meaning.Function function)) same all =
-    alike_act (alike_called origin function same (each_used all))
-    (only (alike_called origin function same (each_used all)))
-alike_call origin (Some (meaning.Known function)) same all =
-    alike_act (known_used_by origin (known_result function) function all)
-    (known_unused origin function all)
+alike_call origin found same all = alike_act (λ usage. call_rule origin usage found same all)
 
 -- suffixes
 pub data SameSuffix : ReadSuffix → ReadSuffix → Type 0 where
@@ -300,16 +335,15 @@ alike_suffix : (origin : ℕ) {F G : Frames} {r s : Rows} {a b : ReadSuffix} →
     AlikeRows r s →
     SameSuffix a b → AlikeRows (rows.suffix_rows origin F r a) (rows.suffix_rows origin G s b)
 alike_suffix origin {r = r} same h (same_index {r = i} {s = j} kind place index) =
-    subst (λ found. AlikeRows (rows.element_rows origin r.names i.used)
-    (rows.element_rows origin found j.used))
-    h.names (alike_element origin r.names index.used)
+    subst (λ found. AlikeRows (rows.element_rows origin r.names (rows.used i))
+    (rows.element_rows origin found (rows.used j)))
+    h.names (alike_element origin r.names (index.rule Used))
 alike_suffix origin {F = F} {G = G} {r = r} same h (same_call {rs = rs} {ss = ss} kind place all) =
     subst (λ found. AlikeRows (rows.call_rows origin F r.names rs)
     (rows.call_rows origin G found ss)) h.names
     (alike_call origin r.names same all)
 alike_suffix origin same h (same_step operator kind place) =
-    alike_act (alike_stepping origin operator h.target)
-    (only (alike_incrementing origin operator h.target))
+    alike_act (λ usage. alike_stepping origin usage operator h.target)
 alike_suffix origin {F = F} {G = G} {r = r} same h (same_skipped kind place) =
     subst (λ found. AlikeRows (rows.call_rows origin F r.names [])
     (rows.call_rows origin G found [])) h.names
@@ -332,71 +366,70 @@ pub alike_chained : (origin : ℕ) {ks bs : List (BinaryOperator × Rows)} → P
     Alike SameValued (rows.chained origin r ks) (rows.chained origin s bs)
 alike_chained origin none h = h
 alike_chained origin (more (link operator {r = p} {s = q} right) all) h =
-    alike_chained origin all (alike_then (λ v. then_by p.used (λ w. linked origin operator v w))
-    (λ v. then_by q.used (λ w. linked origin operator v w)) h
+    alike_chained origin all
+    (alike_then (λ v. then_by (rows.used p) (λ w. linked origin operator v w))
+    (λ v. then_by (rows.used q) (λ w. linked origin operator v w)) h
     (λ v w is. alike_then (λ x. linked origin operator v x) (λ x. linked origin operator w x)
-    right.used
+    (right.rule Used)
     (λ x y are. alike_linked origin operator is are)))
 
 -- commas
-pub alike_comma : {rs ss : List Rows} → Pairwise AlikeRows rs ss →
-    Alike SameValued (rows.comma_used rs) (rows.comma_used ss)
-alike_comma none = no_call
-alike_comma (more h none) = h.used
-alike_comma (more h (more {x = r} {y = s} {xs = rs} {ys = ss} k all)) =
+pub alike_comma : (usage : Usage) {rs ss : List Rows} → Pairwise AlikeRows rs ss →
+    Alike SameValued (rows.comma usage rs) (rows.comma usage ss)
+alike_comma usage none = no_call
+alike_comma usage (more h none) = h.rule usage
+alike_comma usage (more h (more {x = r} {y = s} {xs = rs} {ys = ss} k all)) =
     alike_then
-    (λ before. then_by (rows.comma_used (r ∷ rs))
+    (λ before. then_by (rows.comma usage (r ∷ rs))
     (λ v. gives (valued (before ++ v.statements) v.value)))
-    (λ before. then_by (rows.comma_used (s ∷ ss))
-    (λ v. gives (valued (before ++ v.statements) v.value))) h.unused
+    (λ before. then_by (rows.comma usage (s ∷ ss))
+    (λ v. gives (valued (before ++ v.statements) v.value))) (only (h.rule Unused))
     (λ x y is. alike_then (λ v. gives (valued (x ++ v.statements) v.value))
-    (λ v. gives (valued (y ++ v.statements) v.value)) (alike_comma (more k all))
+    (λ v. gives (valued (y ++ v.statements) v.value)) (alike_comma usage (more k all))
     (λ v w are. alike_gives (same_valued (same_append is are.statements) are.value)))
 
-each_unused : {rs ss : List Rows} → Pairwise AlikeRows rs ss →
-    Pairwise (Alike SameTrees) (map (λ row. row.unused) rs) (map (λ row. row.unused) ss)
-each_unused none = none
-each_unused (more h all) = more h.unused (each_unused all)
-
-pub alike_commas : {rs ss : List Rows} → Pairwise AlikeRows rs ss →
-    Alike SameTrees (rows.comma_unused rs) (rows.comma_unused ss)
-alike_commas all = alike_order (each_unused all)
-
 -- conditionals
-pub alike_void : (origin : ℕ) {p q v w x y : Rows} → AlikeRows p q → AlikeRows v w → AlikeRows x y →
-    Alike SameTrees (rows.void_choice origin p v x) (rows.void_choice origin q w y)
-alike_void origin {v = v} {w = w} {x = x} {y = y} test first second =
-    alike_then
-    (λ t. then_by v.unused (λ a. then_by x.unused (λ b.
-    gives (t.statements ++ choice origin t.value a b ∷ []))))
-    (λ t. then_by w.unused (λ a. then_by y.unused (λ b.
-    gives (t.statements ++ choice origin t.value a b ∷ [])))) test.used
-    (λ s t is. alike_then
-    (λ a. then_by x.unused (λ b. gives (s.statements ++ choice origin s.value a b ∷ [])))
-    (λ a. then_by y.unused (λ b. gives (t.statements ++ choice origin t.value a b ∷ [])))
-    first.unused
-    (λ a b one. alike_then (λ c. gives (s.statements ++ choice origin s.value a c ∷ []))
-    (λ c. gives (t.statements ++ choice origin t.value b c ∷ [])) second.unused
-    (λ c d two. alike_gives (same_split origin is one two))))
+alike_chosen_for : (origin : ℕ) (usage ends : Usage) {p q v w x y : Valued} → SameValued p q →
+    SameValued v w → SameValued x y →
+    Alike SameValued (chosen_for origin usage ends p v x) (chosen_for origin usage ends q w y)
+unfolding chosen_for
+alike_chosen_for origin usage Used test first second =
+    alike_finish origin usage (alike_chosen origin test first second)
+alike_chosen_for origin usage Unused test first second =
+    alike_gives (same_unvalued (same_split origin test first.statements second.statements))
 
-pub alike_conditional : (origin : ℕ) {p q v w x y : Rows} → AlikeRows p q → AlikeRows v w →
-    AlikeRows x y →
-    Alike SameValued (rows.conditional origin p v x) (rows.conditional origin q w y)
-alike_conditional origin {v = v} {w = w} {x = x} {y = y} test first second =
-    alike_then (λ t. then_by v.used (λ a. then_by x.used (λ b. chosen origin t a b)))
-    (λ t. then_by w.used (λ a. then_by y.used (λ b. chosen origin t a b))) test.used
-    (λ s t is. alike_then (λ a. then_by x.used (λ b. chosen origin s a b))
-    (λ a. then_by y.used (λ b. chosen origin t a b)) first.used
-    (λ a b one. alike_then (λ c. chosen origin s a c) (λ c. chosen origin t b c) second.used
-    (λ c d two. alike_chosen origin is one two)))
+pub alike_conditional : (origin : ℕ) (usage ends : Usage) {p q v w x y : Rows} → AlikeRows p q →
+    AlikeRows v w → AlikeRows x y →
+    Alike SameValued (rows.conditional origin usage ends p v x)
+    (rows.conditional origin usage ends q w y)
+alike_conditional origin usage ends {v = v} {w = w} {x = x} {y = y} test first second =
+    alike_then
+    (λ t. then_by (v.rule ends)
+    (λ a. then_by (x.rule ends) (λ b. chosen_for origin usage ends t a b)))
+    (λ t. then_by (w.rule ends)
+    (λ a. then_by (y.rule ends) (λ b. chosen_for origin usage ends t a b))) (test.rule Used)
+    (λ s t is. alike_then
+    (λ a. then_by (x.rule ends) (λ b. chosen_for origin usage ends s a b))
+    (λ a. then_by (y.rule ends) (λ b. chosen_for origin usage ends t a b)) (first.rule ends)
+    (λ a b one. alike_then (λ c. chosen_for origin usage ends s a c)
+    (λ c. chosen_for origin usage ends t b c) (second.rule ends)
+    (λ c d two. alike_chosen_for origin usage ends is one two)))
 
 -- casts
+alike_void : {r s : Rows} → AlikeRows r s → (usage : Usage) →
+    Alike SameValued (then_by (rows.unused r) (λ before. gives (voided usage before)))
+    (then_by (rows.unused s) (λ before. gives (voided usage before)))
+alike_void h usage =
+    alike_then (λ before. gives (voided usage before)) (λ before. gives (voided usage before))
+    (only (h.rule Unused)) (λ x y is. alike_gives (same_voided usage is))
+
 pub alike_cast : (origin : ℕ) (kind : Option Kind) {r s : Rows} → AlikeRows r s →
     AlikeRows (rows.cast_rows origin kind r) (rows.cast_rows origin kind s)
-alike_cast origin None h = alike_act (valueless h.unused) h.unused
-alike_cast origin (Some Void) h = alike_act (valueless h.unused) h.unused
+alike_cast origin None h = alike_act (λ usage. alike_void h usage)
+alike_cast origin (Some Void) h = alike_act (λ usage. alike_void h usage)
 alike_cast origin (Some (Value t)) h =
-    alike_plain origin (alike_then (λ v. gives (cast_to t v)) (λ v. gives (cast_to t v)) h.used
+    alike_plain origin (alike_then (λ v. gives (cast_to t v)) (λ v. gives (cast_to t v))
+    (h.rule Used)
     (λ x y is. alike_gives (same_cast_to t is)))
 
 pub alike_number : (origin : ℕ) (t : IntType) (n : ℤ) →
