@@ -31,8 +31,8 @@ use Rattle.c_core_rules.specs.declared.tree.Valued.{Valued}
 use Rattle.c_core_rules.specs.Values.{scalar, element, cell_at, int}
 use Rattle.c_core_rules.specs.Trees.{leaf, input, valued, pure}
 use Rattle.c_core_rules.specs.Cells.{Rule, gives, then_by, located, scalar_place}
-use Rattle.c_core_rules.specs.Acts.{hold_all, linked, cast_to, chosen, unvalued, finished, kept_for}
-use Rattle.c_core_rules.specs.Acts.{kept, no_value, voided, is_used, chosen_for}
+use Rattle.c_core_rules.specs.Acts.{hold_all, linked, cast_to, unvalued, finished, kept_for}
+use Rattle.c_core_rules.specs.Acts.{kept, no_value, voided, chosen_for}
 use Rattle.c_core_rules.specs.Places.{fixed_if, changed, incremented, stepped_for}
 use Rattle.c_core_rules.specs.Expressions.{Frame, Frames, Rows, ReadSuffix, Target, frame_at}
 use Rattle.c_core_rules.specs.Expressions.{no_frame}
