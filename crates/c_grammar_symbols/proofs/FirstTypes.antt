@@ -1,5 +1,5 @@
 -- What a change of one name's type leaves at each name: `given`.
-use Rattle.std.specs.Prelude.{◌≡◌, ℕ, Bool, true, false, cond, List, Option, None, Some, nat_eq}
+use Rattle.std.specs.Prelude.{◌≡◌, ℕ, Bool, true, false, List, Option, None, Some, nat_eq}
 use Rattle.std.specs.Prelude.{is_some}
 use Rattle.std.proofs.Common.{refl, sym, subst, ◌∙◌}
 use Rattle.std.specs.declared.vec.Vec.{Vec}

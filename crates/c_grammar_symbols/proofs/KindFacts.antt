@@ -1,9 +1,9 @@
--- A kind tells its symbol, unless it is that of a constant.
+-- A kind tells whether its symbol is a terminal, and stands where the token does: `kept_there`.
 use Rattle.std.specs.Prelude.{◌≡◌, ◌≢◌, ℕ, ◌<◌, ◌^◌, List, length}
-use Rattle.std.specs.Prelude.{Some, IfSome, refl}
+use Rattle.std.specs.Prelude.{Some, refl}
 use Rattle.std.specs.List.{slice_get}
 use Rattle.std.specs.Option.{option_map}
-use Rattle.std.proofs.Common.{sym, ◌∙◌, ap, subst, arith, get_or}
+use Rattle.std.proofs.Common.{sym, ◌∙◌, ap, arith, get_or}
 use Rattle.std.proofs.lemmas.Option.{slice_get-map, slice_get-get_or, get_or_from_slice_get}
 use Rattle.c_lexer.specs.declared.token.Token.{Token}
 use Rattle.c_lexer.specs.declared.token.TokenKind.TheVariants as token_kind
@@ -13,28 +13,11 @@ use Rattle.c_grammar_symbols.specs.declared.words.Terminal.{Terminal}
 use Rattle.c_grammar_symbols.specs.declared.symbol.Symbol.{Symbol}
 use Rattle.c_grammar_symbols.specs.declared.symbol.Symbol.TheVariants as symbol
 use Rattle.c_grammar_symbols.specs.declared.kind.SymbolKind.{SymbolKind}
-use Rattle.c_grammar_symbols.specs.Kinds.{kind_of, symbol_of_kind, kind_is_terminal}
+use Rattle.c_grammar_symbols.specs.Kinds.{kind_of, kind_is_terminal}
 use Rattle.c_grammar_symbols.specs.Kinds.{kind_of_token}
 use Rattle.c_grammar_symbols.specs.Symbols.{symbol_of, symbol_spelled, leaf_of, leaves}
 use Rattle.c_grammar_symbols.specs.Sources.{is_terminal, leaf_at, GoesOn, IsSource, IsKept}
 use Rattle.c_grammar_symbols.proofs.SourceFacts.{length-leaves, leaf_at-leaves, more_behind}
-
-pub kind_tells : (s : Symbol) → IfSome (symbol_of_kind (kind_of s)) (λ found. found ≡ s)
-kind_tells symbol.End = refl
-kind_tells symbol.Name = refl
-kind_tells (symbol.Number ty value) = tt
-kind_tells (symbol.Character value) = tt
-kind_tells symbol.Text = refl
-kind_tells (symbol.Terminal t) = refl
-kind_tells (symbol.Binary operator) = refl
-kind_tells (symbol.Assign operator) = refl
-kind_tells (symbol.Step operator) = refl
-kind_tells (symbol.Storage word) = refl
-kind_tells (symbol.Specifier word) = refl
-kind_tells (symbol.TypeWord word) = refl
-kind_tells (symbol.TypedefName named) = tt
-kind_tells (symbol.Outside word) = refl
-kind_tells (symbol.Stray mark) = refl
 
 pub terminal_told : (t : Terminal) (s : Symbol) → kind_is_terminal t (kind_of s) ≡ is_terminal t s
 terminal_told t symbol.End = refl
@@ -52,12 +35,6 @@ terminal_told t (symbol.TypeWord word) = refl
 terminal_told t (symbol.TypedefName named) = refl
 terminal_told t (symbol.Outside word) = refl
 terminal_told t (symbol.Stray mark) = refl
-
--- what a kind tells is the symbol that it was made of
-pub told : (s : Symbol) (k : SymbolKind) (found : Symbol) → k ≡ kind_of s →
-    Some found ≡ symbol_of_kind k → found ≡ s
-told s k found kept e =
-    subst (λ o. IfSome o (λ x. x ≡ s)) (sym (e ∙ ap symbol_of_kind kept)) (kind_tells s)
 
 pub is_told : (t : Terminal) (s : Symbol) (k : SymbolKind) → k ≡ kind_of s →
     kind_is_terminal t k ≡ is_terminal t s

@@ -1,15 +1,14 @@
 -- Tokens that are seen where names are declared: one by one, and behind one name more.
-use Rattle.std.specs.Prelude.{◌≡◌, ℕ, zero, suc, List, [], ◌∷◌, map, length, cond, Option, None}
+use Rattle.std.specs.Prelude.{◌≡◌, ℕ, zero, suc, List, [], ◌∷◌, map, cond, Option, None}
 use Rattle.std.specs.Prelude.{Some, refl, Result, Ok, Err, OnOk, OnErr}
 use Rattle.std.specs.Str.{bytes_eq}
-use Rattle.std.proofs.Common.{sym, ◌∙◌, ap}
-use Rattle.std.proofs.lemmas.List.{length-map}
+use Rattle.std.proofs.Common.{◌∙◌, ap}
 use Rattle.c_grammar_symbols.specs.declared.named.NamedType.{NamedType}
 use Rattle.c_grammar_symbols.specs.declared.symbol.Symbol.{Symbol}
 use Rattle.c_grammar_symbols.specs.declared.symbol.Symbol.TheVariants as symbol
 use Rattle.c_grammar_symbols.specs.declared.words.Terminal.{Terminal}
-use Rattle.c_grammar_symbols.specs.Symbols.{Leaf, symbol_of}
-use Rattle.c_grammar_symbols.specs.Sources.{leaf_at, is, is_terminal, named_symbol, seen_by}
+use Rattle.c_grammar_symbols.specs.Symbols.{Leaf}
+use Rattle.c_grammar_symbols.specs.Sources.{leaf_at, is_terminal, named_symbol, seen_by}
 use Rattle.c_grammar_symbols.specs.Sources.{or_only, renamed}
 
 -- the token at a place of tokens that are seen so

@@ -1,6 +1,6 @@
 //! Symbols without the values of constants, which a source keeps in two bytes for each token.
 //! `kind_of` and `symbol_of_kind` are those of `specs/Kinds.antt`. Proved by the checker alone.
-ghost use Rattle.std.specs.Prelude.{◌≡◌};
+ghost use Rattle.std.specs.Prelude.{◌≡◌, IfSome};
 ghost use Rattle.c_grammar_symbols.specs.Kinds.{kind_of, symbol_of_kind, kind_is_terminal};
 
 use crate::operators::{AssignmentOperator, BinaryOperator, StepOperator};
@@ -50,24 +50,23 @@ impl SymbolKind {
         }
     }
 
-    /// The symbol, unless it is a constant or a typedef name.
-    pub(crate) fn symbol(self) -> Option<Symbol>
-        ensures { result ≡ symbol_of_kind self }
+    /// The symbol. Where it is a constant or a typedef name, the kind does not tell which.
+    pub(crate) fn symbol(self) -> Symbol
+        ensures { IfSome (symbol_of_kind self) (λ symbol. result ≡ symbol) }
     {
         match self {
-            SymbolKind::Constant => None,
-            SymbolKind::End => Some(Symbol::End),
-            SymbolKind::Name => Some(Symbol::Name),
-            SymbolKind::Text => Some(Symbol::Text),
-            SymbolKind::Terminal(terminal) => Some(Symbol::Terminal(terminal)),
-            SymbolKind::Binary(operator) => Some(Symbol::Binary(operator)),
-            SymbolKind::Assign(operator) => Some(Symbol::Assign(operator)),
-            SymbolKind::Step(operator) => Some(Symbol::Step(operator)),
-            SymbolKind::Storage(word) => Some(Symbol::Storage(word)),
-            SymbolKind::Specifier(word) => Some(Symbol::Specifier(word)),
-            SymbolKind::TypeWord(word) => Some(Symbol::TypeWord(word)),
-            SymbolKind::Outside(word) => Some(Symbol::Outside(word)),
-            SymbolKind::Stray(mark) => Some(Symbol::Stray(mark)),
+            SymbolKind::End | SymbolKind::Constant => Symbol::End,
+            SymbolKind::Name => Symbol::Name,
+            SymbolKind::Text => Symbol::Text,
+            SymbolKind::Terminal(terminal) => Symbol::Terminal(terminal),
+            SymbolKind::Binary(operator) => Symbol::Binary(operator),
+            SymbolKind::Assign(operator) => Symbol::Assign(operator),
+            SymbolKind::Step(operator) => Symbol::Step(operator),
+            SymbolKind::Storage(word) => Symbol::Storage(word),
+            SymbolKind::Specifier(word) => Symbol::Specifier(word),
+            SymbolKind::TypeWord(word) => Symbol::TypeWord(word),
+            SymbolKind::Outside(word) => Symbol::Outside(word),
+            SymbolKind::Stray(mark) => Symbol::Stray(mark),
         }
     }
 

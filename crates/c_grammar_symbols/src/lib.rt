@@ -8,6 +8,7 @@ mod lookup;
 mod named;
 mod operators;
 mod source;
+mod spelled;
 mod symbol;
 mod tokens;
 mod typedefs;

@@ -6,6 +6,9 @@ ghost use Rattle.c_grammar_symbols.specs.Symbols.{word_spelled, mark_spelled};
 
 use crate::symbol::{MARKS, Symbol, WORDS, spelling};
 
+/// What stands at a hash that no word has, or no mark.
+const NO_PLACE: u8 = 255;
+
 /// Where in `WORDS` the word with each hash stands; 255 where there is none.
 const WORD_PLACES: [u8; 256] = [
     4, 255, 255, 255, 255, 16, 255, 255, 43, 25, 44, 32, 255, 255, 255, 2, 255, 255, 255, 255, 255,
@@ -64,14 +67,19 @@ fn spelled_at(table: &[Symbol], place: u8, bytes: &[u8]) -> Option<Symbol>
     }
 }
 
-/// The word of the table that is spelled so.
+/// The word of the table that is spelled so. At most hashes stands none, which is all that most
+/// names take.
 pub(crate) fn word_spelled(bytes: &[u8]) -> Option<Symbol>
     ensures { result ≡ word_spelled bytes.now }
 {
     if bytes.is_empty() {
         return None;
     }
-    spelled_at(&WORDS, WORD_PLACES[hash(bytes)], bytes)
+    let place = WORD_PLACES[hash(bytes)];
+    if place == NO_PLACE {
+        return None;
+    }
+    spelled_at(&WORDS, place, bytes)
 }
 
 /// The mark of the table that is spelled so.

@@ -8,6 +8,7 @@ ghost use Rattle.c_grammar_symbols.specs.Sources.{leaf_at, is, IsSource, GoesOn,
 ghost use Rattle.c_grammar_symbols.specs.Sources.{Takes, Lacks};
 ghost use Rattle.c_grammar_symbols.specs.declared.symbol.Symbol.TheVariants.{End};
 
+use crate::kind::SymbolKind;
 use crate::named::NamedType;
 use crate::symbol::Symbol;
 use crate::tokens::TokenList;
@@ -64,10 +65,10 @@ impl<'a> Source<'a> {
         ensures value { result ≡ symbol_of (leaf_at self.now at) }
         ensures more { result ≢ End → GoesOn self.now at }
     {
-        let symbol = self.tokens.symbol(at);
-        match symbol {
-            Symbol::Name => symbol_named(&self.typedefs, self.tokens.bytes(at)),
-            _ => symbol,
+        match self.tokens.kind_at(at) {
+            SymbolKind::Name => symbol_named(&self.typedefs, self.tokens.bytes(at)),
+            SymbolKind::Constant => self.tokens.classified_at(at),
+            kind => kind.symbol(),
         }
     }
 

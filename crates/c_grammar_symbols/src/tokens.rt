@@ -10,6 +10,7 @@ ghost use Rattle.c_grammar_symbols.specs.Sources.{leaf_at, is, IsSource, GoesOn}
 ghost use Rattle.c_grammar_symbols.specs.declared.symbol.Symbol.TheVariants.{End};
 
 use crate::kind::SymbolKind;
+use crate::spelled::kind_spelled;
 use crate::symbol::{Symbol, classify};
 use crate::words::Terminal;
 use c_lexer::Token;
@@ -54,20 +55,8 @@ impl<'a> TokenList<'a> {
         })
     }
 
-    /// What the token at this place stands for.
-    pub(crate) fn symbol(&self, at: usize) -> Symbol
-        requires { at < length self.now }
-        ensures value { result ≡ symbol_of (leaf_at self.now at) }
-        ensures more { result ≢ End → GoesOn self.now at }
-    {
-        match self.kind_at(at).symbol() {
-            Some(symbol) => symbol,
-            None => self.classified_at(at),
-        }
-    }
-
     /// The kind of the symbol of the token at this place.
-    fn kind_at(&self, at: usize) -> SymbolKind
+    pub(crate) fn kind_at(&self, at: usize) -> SymbolKind
         requires { at < length self.now }
         ensures value { result ≡ kind_of (symbol_of (leaf_at self.now at)) }
         ensures more { symbol_of (leaf_at self.now at) ≢ End → GoesOn self.now at }
@@ -77,7 +66,7 @@ impl<'a> TokenList<'a> {
     }
 
     /// What the token at this place stands for, found from its bytes.
-    fn classified_at(&self, at: usize) -> Symbol
+    pub(crate) fn classified_at(&self, at: usize) -> Symbol
         requires { at < length self.now }
         ensures { result ≡ symbol_of (leaf_at self.now at) }
     {
@@ -118,8 +107,7 @@ fn kinds_of(alloc: Global, text: &[u8], tokens: &[Token]) -> Result<Vec<SymbolKi
 {
     let mut kinds = Vec::with_capacity(alloc, tokens.len())?;
     for token in tokens {
-        let symbol = classify(token.kind, bytes_of(text, *token));
-        kinds.push(SymbolKind::of(symbol))?;
+        kinds.push(kind_spelled(token.kind, bytes_of(text, *token)))?;
     }
     Ok(kinds)
 }
