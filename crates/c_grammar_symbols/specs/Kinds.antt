@@ -15,8 +15,8 @@ use Rattle.c_grammar_symbols.specs.Symbols.{symbol_of, leaf_of}
 abbrev pub kind_of : Symbol → SymbolKind
 kind_of symbol.End = kind.End
 kind_of symbol.Name = kind.Name
-kind_of (symbol.Number ty value) = kind.Constant
-kind_of (symbol.Character value) = kind.Constant
+kind_of (symbol.Number ty value) = kind.Number
+kind_of (symbol.Character value) = kind.Character
 kind_of symbol.Text = kind.Text
 kind_of (symbol.Terminal t) = kind.Terminal t
 kind_of (symbol.Binary operator) = kind.Binary operator
@@ -25,7 +25,7 @@ kind_of (symbol.Step operator) = kind.Step operator
 kind_of (symbol.Storage word) = kind.Storage word
 kind_of (symbol.Specifier word) = kind.Specifier word
 kind_of (symbol.TypeWord word) = kind.TypeWord word
-kind_of (symbol.TypedefName named) = kind.Constant
+kind_of (symbol.TypedefName named) = kind.TypedefName
 kind_of (symbol.Outside word) = kind.Outside word
 kind_of (symbol.Stray mark) = kind.Stray mark
 
@@ -33,7 +33,8 @@ kind_of (symbol.Stray mark) = kind.Stray mark
 abbrev pub symbol_of_kind : SymbolKind → Option Symbol
 symbol_of_kind kind.End = Some symbol.End
 symbol_of_kind kind.Name = Some symbol.Name
-symbol_of_kind kind.Constant = None
+symbol_of_kind kind.Number = None
+symbol_of_kind kind.Character = None
 symbol_of_kind kind.Text = Some symbol.Text
 symbol_of_kind (kind.Terminal t) = Some (symbol.Terminal t)
 symbol_of_kind (kind.Binary operator) = Some (symbol.Binary operator)
@@ -42,6 +43,7 @@ symbol_of_kind (kind.Step operator) = Some (symbol.Step operator)
 symbol_of_kind (kind.Storage word) = Some (symbol.Storage word)
 symbol_of_kind (kind.Specifier word) = Some (symbol.Specifier word)
 symbol_of_kind (kind.TypeWord word) = Some (symbol.TypeWord word)
+symbol_of_kind kind.TypedefName = None
 symbol_of_kind (kind.Outside word) = Some (symbol.Outside word)
 symbol_of_kind (kind.Stray mark) = Some (symbol.Stray mark)
 

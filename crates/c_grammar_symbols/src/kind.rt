@@ -7,13 +7,16 @@ use crate::operators::{AssignmentOperator, BinaryOperator, StepOperator};
 use crate::symbol::Symbol;
 use crate::words::{OutsideWord, SpecifierWord, StorageWord, StrayMark, Terminal, TypeWord};
 
-/// What a token stands for in the grammar, but for the type and the value of a constant.
+/// What a token stands for in the grammar, but for the type and the value of a constant: the variants
+/// of `Symbol`, in the same order, so that a symbol is made of its kind with no table between them.
 #[derive(Clone, Copy, PartialEq, Eq)]
 pub(crate) enum SymbolKind {
     End,
     Name,
-    /// A constant, or a typedef name: what it is besides is not kept.
-    Constant,
+    /// An integer constant, whose type and value are not kept.
+    Number,
+    /// A character constant, whose value is not kept.
+    Character,
     Text,
     Terminal(Terminal),
     Binary(BinaryOperator),
@@ -22,6 +25,8 @@ pub(crate) enum SymbolKind {
     Storage(StorageWord),
     Specifier(SpecifierWord),
     TypeWord(TypeWord),
+    /// A typedef name, whose type is not kept.
+    TypedefName,
     Outside(OutsideWord),
     Stray(StrayMark),
 }
@@ -34,9 +39,8 @@ impl SymbolKind {
         match symbol {
             Symbol::End => SymbolKind::End,
             Symbol::Name => SymbolKind::Name,
-            Symbol::Number { .. } | Symbol::Character { .. } | Symbol::TypedefName(_) => {
-                SymbolKind::Constant
-            }
+            Symbol::Number { .. } => SymbolKind::Number,
+            Symbol::Character { .. } => SymbolKind::Character,
             Symbol::Text => SymbolKind::Text,
             Symbol::Terminal(terminal) => SymbolKind::Terminal(terminal),
             Symbol::Binary(operator) => SymbolKind::Binary(operator),
@@ -45,6 +49,7 @@ impl SymbolKind {
             Symbol::Storage(word) => SymbolKind::Storage(word),
             Symbol::Specifier(word) => SymbolKind::Specifier(word),
             Symbol::TypeWord(word) => SymbolKind::TypeWord(word),
+            Symbol::TypedefName(_) => SymbolKind::TypedefName,
             Symbol::Outside(word) => SymbolKind::Outside(word),
             Symbol::Stray(mark) => SymbolKind::Stray(mark),
         }
@@ -55,7 +60,10 @@ impl SymbolKind {
         ensures { IfSome (symbol_of_kind self) (λ symbol. result ≡ symbol) }
     {
         match self {
-            SymbolKind::End | SymbolKind::Constant => Symbol::End,
+            SymbolKind::End
+            | SymbolKind::Number
+            | SymbolKind::Character
+            | SymbolKind::TypedefName => Symbol::End,
             SymbolKind::Name => Symbol::Name,
             SymbolKind::Text => Symbol::Text,
             SymbolKind::Terminal(terminal) => Symbol::Terminal(terminal),

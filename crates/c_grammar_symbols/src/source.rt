@@ -60,6 +60,7 @@ impl<'a> Source<'a> {
     }
 
     /// What the token at this place stands for.
+    #[inline(always)]
     pub fn symbol(&self, at: usize) -> Symbol
         requires { at < length self.now }
         ensures value { result ≡ symbol_of (leaf_at self.now at) }
@@ -67,7 +68,9 @@ impl<'a> Source<'a> {
     {
         match self.tokens.kind_at(at) {
             SymbolKind::Name => symbol_named(&self.typedefs, self.tokens.bytes(at)),
-            SymbolKind::Constant => self.tokens.classified_at(at),
+            SymbolKind::Number | SymbolKind::Character | SymbolKind::TypedefName => {
+                self.tokens.classified_at(at)
+            }
             kind => kind.symbol(),
         }
     }

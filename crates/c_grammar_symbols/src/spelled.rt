@@ -63,7 +63,8 @@ pub(crate) fn kind_spelled(kind: TokenKind, bytes: &[u8]) -> SymbolKind
 {
     match kind {
         TokenKind::Word => SymbolKind::of(word_spelled(bytes).unwrap_or(Symbol::Name)),
-        TokenKind::Number { .. } | TokenKind::Character { .. } => SymbolKind::Constant,
+        TokenKind::Number { .. } => SymbolKind::Number,
+        TokenKind::Character { .. } => SymbolKind::Character,
         TokenKind::Text => SymbolKind::Text,
         TokenKind::Mark => kind_of_mark(bytes),
         TokenKind::End => SymbolKind::End,

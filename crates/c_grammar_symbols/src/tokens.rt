@@ -65,7 +65,9 @@ impl<'a> TokenList<'a> {
         self.kinds[at]
     }
 
-    /// What the token at this place stands for, found from its bytes.
+    /// What the token at this place stands for, found from its bytes. It stands out of line, so that
+    /// the reading of other symbols is short.
+    #[inline(never)]
     pub(crate) fn classified_at(&self, at: usize) -> Symbol
         requires { at < length self.now }
         ensures { result ≡ symbol_of (leaf_at self.now at) }

@@ -12,6 +12,18 @@ use std::collections::HashMap;
 /// Types by name.
 pub(crate) type Typedefs = HashMap<Vec<u8>, NamedType>;
 
+/// What a name of this spelling stands for, looked up. It stands out of line, since most texts
+/// declare no typedef name.
+#[inline(never)]
+fn found_symbol(typedefs: &Typedefs, name: &[u8]) -> Symbol
+    ensures { result ≡ named_symbol Name (type_named typedefs.now name.now) }
+{
+    match typedefs.get(name) {
+        Some(ty) => Symbol::TypedefName(*ty),
+        None => Symbol::Name,
+    }
+}
+
 /// What a name of this spelling stands for.
 pub(crate) fn symbol_named(typedefs: &Typedefs, name: &[u8]) -> Symbol
     ensures { result ≡ named_symbol Name (type_named typedefs.now name.now) }
@@ -19,10 +31,7 @@ pub(crate) fn symbol_named(typedefs: &Typedefs, name: &[u8]) -> Symbol
     if typedefs.is_empty() {
         return Symbol::Name;
     }
-    match typedefs.get(name) {
-        Some(ty) => Symbol::TypedefName(*ty),
-        None => Symbol::Name,
-    }
+    found_symbol(typedefs, name)
 }
 
 /// Gives a name a type, unless it has one.
