@@ -1,7 +1,7 @@
 -- The rules on values and their statements (C11 6.5, operands from left to right, this project's
 -- profile). S is the list of statements before a value v; t is a fresh cell. What a rule makes, it
 -- makes at the origin that it is given, the place of the expression that asks for it.
-use Rattle.std.specs.Prelude.{ℕ, ◌+◌, Bool, true, false, ◌&&◌, if◌then◌else◌, List, [], ◌∷◌, ◌++◌, map}
+use Rattle.std.specs.Prelude.{ℕ, Bool, true, false, ◌&&◌, if◌then◌else◌, List, [], ◌∷◌, ◌++◌, map}
 use Rattle.cpa_ints.specs.declared.integers.IntType.{IntType}
 use Rattle.cpa_ints.specs.declared.integers.IntType.TheVariants as ty
 use Rattle.cpa_ints.specs.Conversions.{common_type}

@@ -1,7 +1,7 @@
 -- The core of an expression (C11 6.5, from left to right), a rule for each form, by whether the
 -- value is used: E, its statements and the pure value behind them, where it is; D, its statements
 -- with 0 for the value, where it is not.
-use Rattle.std.specs.Prelude.{ℕ, ◌+◌, slice_get, Bool, true, false, List, [], ◌∷◌}
+use Rattle.std.specs.Prelude.{ℕ, ◌+◌, slice_get, Bool, true, List, [], ◌∷◌}
 use Rattle.std.specs.Prelude.{◌++◌, map, Option, None, Some, unwrap_or, is_some}
 use Rattle.cpa_ints.specs.declared.integers.IntType.TheVariants as ty
 use Rattle.cpa_expr.specs.declared.tree.Expr.{Expr}
