@@ -25,7 +25,7 @@ use cpa_model_trees::CoreTree;
 use std::alloc::AllocError;
 
 /// An expression whose value is used.
-#[tactic(auto, using(crate::proofs::Variants::lowered_used))]
+#[tactic(auto, using(crate::proofs::Variants::lowered_by))]
 pub fn used(cells: &mut Cells, frames: &Frames, e: &TypedExpression) -> Result<Valued, AllocError>
     ensures taken { OnOk result (so_far cells.new
         ≡ (used (rows frames.now e.now) (so_far cells.old)).taken) }
@@ -35,7 +35,7 @@ pub fn used(cells: &mut Cells, frames: &Frames, e: &TypedExpression) -> Result<V
 }
 
 /// An expression whose value is not used.
-#[tactic(auto, using(crate::proofs::Variants::lowered_unused))]
+#[tactic(auto, using(crate::proofs::Variants::lowered_by))]
 pub fn unused(
     cells: &mut Cells,
     frames: &Frames,
