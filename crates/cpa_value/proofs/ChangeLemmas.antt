@@ -27,7 +27,8 @@ use Rattle.cpa_value.specs.declared.strengthening.Agreement.{Agreement}
 use Rattle.cpa_value.specs.declared.strengthening.Agreement.TheVariants as agreement
 use Rattle.cpa_value.specs.Strengthening.{is_point, has_point, agreed, met, met_elems, strengthened}
 use Rattle.cpa_value.specs.Strengthening.{Agrees}
-use Rattle.cpa_value_changes.specs.Tables.{are_ordered, filled}
+use Rattle.cpa_value_changes.specs.declared.changes.Change.{Change}
+use Rattle.cpa_value_changes.specs.Tables.{are_ordered, changed, filled}
 use Rattle.cpa_value.specs.Tables.{is_within, facts_within, facts_along}
 use Rattle.cpa_value.specs.Transfer.{elems_of, next_values}
 
@@ -450,7 +451,7 @@ pass_all p (f ∷ fs) all =
     ∙ ap (λ l. f ∷ l) (pass_all p fs both.1)
 
 -- where no cell changes and all facts are of tracked cells, they are as they were
-pub unchanged_is : (tracked : ℕ → Bool) (n first k : ℕ) (value : Option ℤ) (fs : List Fact)
+unchanged_is : (tracked : ℕ → Bool) (n first k : ℕ) (value : Option ℤ) (fs : List Fact)
     → are_ordered n 0 fs ≡ true → k ≡ 0 → list_all (is_within tracked 0 n) fs ≡ true
     → fs ≡ facts_from tracked 0 (filled first k value (known_cells n fs))
 unchanged_is tracked n first k value fs is none all =
@@ -499,6 +500,22 @@ behind_is tracked n first k value from to fs none one two three ordered start en
     (first_is ∙ ap (λ l. l ++ facts_within tracked 0 from fs) empty))
     ∙ sym (behind_change tracked n first k value from to fs ordered
     (lies n first k from to start end)))
+
+-- the element that is made of them, and the one that stays
+pub made_elem : (tracked : ℕ → Bool) (n : ℕ) (change : Change) (fs left : List Fact) (e : Elem)
+    → left ≡ facts_from tracked 0 (changed change (known_cells n fs)) → e.facts ≡ left
+    → e ≡ elem_of tracked (changed change (known_cells n fs))
+made_elem tracked n change fs left e is made =
+    ap (λ (l : List Fact). let made : Elem = record { facts = l } in made) (made ∙ is)
+
+pub same_elem : (tracked : ℕ → Bool) (n : ℕ) (change : Change) (own e : Elem)
+    → are_ordered n 0 own.facts ≡ true → change.count ≡ 0
+    → list_all (is_within tracked 0 n) own.facts ≡ true → e ≡ own
+    → e ≡ elem_of tracked (changed change (known_cells n own.facts))
+same_elem tracked n change own e ordered none all same =
+    made_elem tracked n change own.facts own.facts e
+    (unchanged_is tracked n change.first change.count change.value own.facts ordered none all)
+    (ap (λ (x : Elem). x.facts) same)
 
 -- the cells of an automaton are few
 pub few_cells : (cfa : Cfa) (count : ℕ) → IsAutomaton cfa → count ≡ length cfa.cells
