@@ -16,6 +16,6 @@ returns c = λ is.
     let all = c.in_ok-all.ensures
     ∙ ap (map (λ (cell : Cell). only cell.start)) c.as_slice.ensures in
     begins_runless cfa xs (map (entry_at xs) c.args.numbers.now) c.in_ok-all.all.each _
-    c.new.ensures
+    c.any-nothing.ensures
     (subst (λ (l : List Bounds). LieWithin l starts) (sym all) (starts_lie cfa.cells))
     (c.are_said.ensures is c.in_ok-lows.ensures) c.requires
