@@ -17,7 +17,7 @@ use Rattle.c_grammar_tree.specs.declared.expression.UnaryOperator.{UnaryOperator
 use Rattle.c_types_rules.specs.declared.known.KnownFunction.{KnownFunction}
 use Rattle.c_types_rules.specs.declared.known.KnownFunction.TheVariants as known
 use Rattle.c_types_rules.specs.declared.meaning.Kind.{Kind}
-use Rattle.c_types_rules.specs.declared.meaning.Kind.TheVariants.{Void, Value}
+use Rattle.c_types_rules.specs.declared.meaning.Kind.TheVariants.{Value}
 use Rattle.c_types_rules.specs.declared.meaning.Object.{Object}
 use Rattle.c_types_rules.specs.declared.meaning.Function.{Function}
 use Rattle.c_types_rules.specs.declared.meaning.Meaning.TheVariants as meaning

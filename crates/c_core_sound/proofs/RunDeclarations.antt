@@ -482,7 +482,8 @@ module _ (G : Ground) (frames : rows.Frames) (text : Text) (caller : ℕ) where
         (has_const declaration.specifiers) declaration.declarators
         (enumeration_ready found around h)
         (sites_right G text caller ((enumeration_walk text found).sites around)
-        ((walk_of_all declaration.specifiers declaration.declarators).sites named) sites) whole in
+        ((walk_of_all (kind_of declaration.specifiers) (has_const declaration.specifiers)
+        declaration.declarators).sites named) sites) whole in
         record {
           extends = r.extends;
           keeps = λ taken n side. r.keeps taken n
