@@ -1,5 +1,5 @@
 -- A truth that a predicate has from some truths of an element it has from all of them.
-use Rattle.std.proofs.Common.{◌≡◌, ℤ, Bool, List, [], ◌∷◌, ◌++◌, refl, sym, subst}
+use Rattle.std.proofs.Common.{◌≡◌, ℕ, ℤ, Bool, List, [], ◌∷◌, ◌++◌, refl, sym, subst}
 use Rattle.std.specs.Prelude.{Option, None, Some, IfSome, IsTrue}
 use Rattle.std.specs.List.{AllByRecursion, filter}
 use Rattle.cpa_expr.specs.declared.tree.Expr.{Expr}
@@ -11,7 +11,8 @@ use Rattle.cpa_model.specs.declared.automaton.Cfa.{Cfa}
 use Rattle.cpa_model.specs.Acts.{IsActOf}
 use Rattle.cpa_model.specs.Automata.{IsAutomaton}
 use Rattle.cpa_model.specs.Expressions.{IsExpr}
-use Rattle.cpa_model.specs.Facts.{IsElem}
+use Rattle.cpa_model.specs.declared.program.Cell.{Cell}
+use Rattle.cpa_model.specs.Facts.{IsElem, IsFact}
 use Rattle.cpa_iface.specs.CommonLaws.{kept_all}
 use Rattle.cpa_edgeform_rules.specs.Forms.{Form}
 use Rattle.cpa_edgeform_rules.specs.Laws.{FormsAreRuns}
@@ -62,6 +63,23 @@ truths_left P (Stack sites) rest all = all
 truths_left P (Equals cell value) rest all = all
 truths_left P (Within cell lo hi) rest all = all
 truths_left P (Truth expr holds) rest all = all.1
+
+-- so does what holds of the element that is made of them
+pub made_shaped : (e : Elem) (facts : List Fact)
+    → ((cells : List Cell) (points : ℕ) → IsElem cells points e
+    → AllByRecursion (IsFact cells points) facts)
+    → (near : Elem) → near.facts ≡ facts
+    → (cells : List Cell) (points : ℕ) → IsElem cells points e → IsElem cells points near
+made_shaped e facts keeps near is cells points whole =
+    subst (AllByRecursion (IsFact cells points)) (sym is) (keeps cells points whole)
+
+pub made_weaker : (e : Elem) (facts : List Fact)
+    → ((values : List ℤ) → StoreHolds values (truths e)
+    → AllByRecursion (StoreFactHolds values) facts)
+    → (near : Elem) → near.facts ≡ facts
+    → (values : List ℤ) → StoreHolds values (truths e) → StoreHolds values near
+made_weaker e facts keeps near is values whole =
+    subst (AllByRecursion (StoreFactHolds values)) (sym is) (keeps values whole)
 
 -- what the fewer truths give behind the edge, more give
 pub has_more : (cfa : Cfa) (near e : Elem) (g : Edge) (p : Expr) (holds : Bool)

@@ -2,11 +2,13 @@
 use Rattle.std.proofs.Common.{List, ap, ◌∙◌, subst}
 use Rattle.std.specs.List.{AllByRecursion, filter}
 use Rattle.std.specs.Slice.Iter.{iter_rest}
+use Rattle.std.proofs.lemmas.Result.{IfOk-weaker}
 use Rattle.cpa_model.specs.declared.facts.Fact.{Fact}
 use Rattle.cpa_model.specs.Facts.{IsFact}
 use Rattle.cpa_edgeform_rules.specs.Runs.{StoreFactHolds}
 use Rattle.cpa_predicate.specs.Steps.{is_truth}
 use Rattle.cpa_predicate.proofs.NearLemmas.{one_kept, one_left, truth_first, truths_left}
+use Rattle.cpa_predicate.proofs.NearLemmas.{made_shaped, made_weaker}
 use Rattle.cpa_predicate.proofs.nearness.marked_truths.Goals as goal
 
 pub loop-fact-preserved-in_ok-push : goal.loop-fact-preserved-in_ok-push
@@ -40,7 +42,13 @@ loop-fact-preserved c =
     )
 
 pub returns-clause-shaped : goal.returns-clause-shaped
-returns-clause-shaped c = λ cells points all. (c.loop-fact.invariant.0 cells points all).0
+returns-clause-shaped c = IfOk-weaker _ _ _ (λ near is.
+    made_shaped c.args.elem.now c.loop-fact.facts
+    (λ cells points all. (c.loop-fact.invariant.0 cells points all).0) near is)
+    c.new.ensures
 
 pub returns-clause-weaker : goal.returns-clause-weaker
-returns-clause-weaker c = λ values all. (c.loop-fact.invariant.1 values all).0
+returns-clause-weaker c = IfOk-weaker _ _ _ (λ near is.
+    made_weaker c.args.elem.now c.loop-fact.facts
+    (λ values all. (c.loop-fact.invariant.1 values all).0) near is)
+    c.new.ensures
