@@ -7,12 +7,14 @@ use Rattle.cpa_ints.specs.declared.integers.IntType.{IntType}
 use Rattle.cpa_model.specs.declared.program.Cell.{Cell}
 use Rattle.cpa_model.specs.declared.facts.Fact.{Fact}
 use Rattle.cpa_model.specs.declared.facts.Fact.TheVariants.{Within}
+use Rattle.cpa_model.specs.declared.facts.Elem.{Elem}
 use Rattle.cpa_interval_bounds.specs.declared.bounds.Bounds.{Bounds}
 use Rattle.cpa_interval_bounds.specs.declared.table.CellBounds.{CellBounds}
 use Rattle.cpa_interval_bounds.specs.Bounds.{range_of, only}
 use Rattle.cpa_interval_bounds.specs.Tables.{ranges_of, known_bounds, are_descending}
 use Rattle.cpa_interval_bounds.specs.lemmas.TableLemmas.{heads, known_length}
 use Rattle.cpa_interval.specs.Cells.{fact_of, facts_from}
+use Rattle.cpa_interval.specs.Intervals.{starts_of}
 use Rattle.cpa_interval.proofs.ElemLemmas.{whole_range}
 use Rattle.cpa_interval.proofs.LoopLemmas.{drop_at, drop_end}
 
@@ -181,3 +183,10 @@ starts_end cs i facts whole past was =
     ∙ (ap (λ (l : List Cell). facts
     ++ facts_from (λ _. true) i l (map (λ (x : Cell). only x.start) l)) (sym (drop_end cs i past))
     ∙ was)
+
+-- the element that is made of them
+pub starts_made : (cs : List Cell) (facts : List Fact) (e : Elem)
+    → facts ≡ facts_from (λ _. true) 0 cs (map (λ (x : Cell). only x.start) cs) → e.facts ≡ facts
+    → e ≡ starts_of cs
+starts_made cs facts e is made =
+    ap (λ (fs : List Fact). let e : Elem = record { facts = fs } in e) (made ∙ is)

@@ -1,9 +1,9 @@
 -- One cell more, and all cells.
-use Rattle.std.proofs.Common.{List, ◌++◌, true, ap, ◌∙◌, arith}
-use Rattle.cpa_model.specs.declared.facts.Fact.{Fact}
+use Rattle.std.proofs.Common.{◌++◌, true, ap, ◌∙◌, arith}
+use Rattle.std.proofs.lemmas.Result.{IfOk-weaker}
 use Rattle.cpa_model.specs.declared.facts.Elem.{Elem}
 use Rattle.cpa_interval.specs.Cells.{fact_of}
-use Rattle.cpa_interval.proofs.KnownLemmas.{starts_more, starts_end}
+use Rattle.cpa_interval.proofs.KnownLemmas.{starts_more, starts_end, starts_made}
 use Rattle.cpa_interval.proofs.interval.starts.Goals as goal
 
 pub loop-place-preserved : goal.loop-place-preserved
@@ -18,5 +18,7 @@ loop-place-preserved c =
 pub returns : goal.returns
 returns c =
     let l = c.loop-place in
-    ap (λ (fs : List Fact). let e : Elem = record { facts = fs } in e)
-    (starts_end c.args.cells.now l.place l.facts _ (omega arith) l.invariant)
+    IfOk-weaker _ _ _ (λ (e : Elem) made.
+    starts_made c.args.cells.now l.facts e
+    (starts_end c.args.cells.now l.place l.facts _ (omega arith) l.invariant) made)
+    c.new.ensures
