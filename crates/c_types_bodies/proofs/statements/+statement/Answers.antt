@@ -2,6 +2,7 @@ use Rattle.std.proofs.Common.{◌≡◌, ℕ, List, map, take, Option, Some, Non
 use Rattle.std.proofs.Common.{sym, ap, ◌∙◌, ◌+◌, subst, arith, rules, IfOk, OnOk}
 use Rattle.std.proofs.lemmas.Grind.{common_steps}
 use Rattle.c_grammar_tree.specs.declared.expression.Expression.{Expression}
+use Rattle.c_grammar_tree.specs.declared.declaration.Declaration.{Declaration}
 use Rattle.c_grammar_tree.specs.declared.statement.BlockItem.{BlockItem}
 use Rattle.c_grammar_tree.specs.declared.statement.BlockItem.TheOpen.{Statement-F}
 use Rattle.c_grammar_tree.specs.declared.statement.Statement.{Statement}
@@ -14,10 +15,10 @@ use Rattle.c_types_rules.specs.declared.typed.TypedItem.TheVariants as typed_ite
 use Rattle.c_types_rules.specs.declared.typed.TypedDeclarator.{TypedDeclarator}
 use Rattle.c_types_rules.specs.declared.typed.TypedStatement.{TypedStatement}
 use Rattle.c_types_rules.specs.Statements.{Around, Walk, followed, doing, evaluating, evaluates}
-use Rattle.c_types_rules.specs.Statements.{marking, selecting, switching}
+use Rattle.c_types_rules.specs.Statements.{declaration_walk, marking, selecting, switching}
 use Rattle.c_types_rules.specs.Statements.{looped, scoped, in_order, start_walk, loop, perhaps}
 use Rattle.c_types_rules.specs.TypedStatements.{Grown, grown_statement, typed_for_start}
-use Rattle.c_types_rules.specs.TypedStatements.{typed_optional}
+use Rattle.c_types_rules.specs.TypedStatements.{typed_declaration, typed_optional}
 use Rattle.c_types_expressions.specs.Read.{typed_of}
 use Rattle.c_types_jumps.specs.Found.{Found}
 use Rattle.c_types_bodies.specs.Grown.{grown_of, grown_walk, grown_typed, walk_of_statement}
@@ -373,13 +374,16 @@ walk_statement-returns-in-Switch-clause-state t c =
 pub walk_item-returns-in_ok-typed-in-Declaration-clause-typed :
     goal.walk_item-returns-in_ok-typed-in-Declaration-clause-typed
 walk_item-returns-in_ok-typed-in-Declaration-clause-typed t c =
+    let frame = c.args.frame.now in
+    let around = around_of frame c.args.nest c.args.walker.now in
     rw (
       c.in-Declaration.is,
       of_Declaration c.args.frame.now.survey.now
           c.in-Declaration.declaration,
     )
     (ap (λ (all : List TypedDeclarator). typed_item.Declaration all)
-    (rw c.get-declared.ensures at c.in_ok-typed-in-Declaration.ensures.typed))
+    (c.in_ok-typed-in-Declaration.ensures.typed
+    ∙ ap (λ (d : Declaration). typed_declaration frame.survey.now d around) c.get-declared.ensures))
 
 pub walk_item-returns-in_ok-typed-in-Statement-clause-typed :
     goal.walk_item-returns-in_ok-typed-in-Statement-clause-typed
@@ -539,7 +543,9 @@ pub walk_item-returns-in_ok-typed-in-Declaration-clause-state :
 walk_item-returns-in_ok-typed-in-Declaration-clause-state t c =
     let frame = c.args.frame.now in
     let text = frame.survey.now in
-    (rw c.get-declared.ensures at c.in_ok-typed-in-Declaration.ensures.state)
+    c.in_ok-typed-in-Declaration.ensures.state
+    ∙ ap (λ (d : Declaration). walked text frame.caller (declaration_walk text d)
+    (state_of frame c.args.nest c.args.walker.now c.args.jumps.now)) c.get-declared.ensures
     ∙ ap (λ (w : Walk). walked text frame.caller w
     (state_of frame c.args.nest c.args.walker.now c.args.jumps.now))
     (sym (ap (λ (i : BlockItem). grown_walk text i) c.in-Declaration.is
