@@ -7,7 +7,7 @@ pub loop-value-preserved : goal.loop-value-preserved
 loop-value-preserved c =
     set_kept c.args.origin _ _ _ _ _ _ c.args.values.now c.loop-value.value-index _ _ _ _
     (omega arith) c.value-item.is c.in_ok-cell.ensures
-    (rw c.cell_at.ensures at c.in_ok-before.ensures.taken)
+    c.in_ok-before.ensures.taken
     (rw c.cell_at.ensures at c.in_ok-before.ensures.made)
     c.loop-value.invariant
 
