@@ -63,10 +63,7 @@ fn only(alloc: Global, elem: Elem) -> Result<Vec<Elem>, AllocError>
 fn any_stack(alloc: Global) -> Result<Vec<Elem>, AllocError>
     ensures { IfOk result (λ es. es.items ≡ any_stack ∷ []) }
 {
-    only(
-        alloc,
-        Elem::any(),
-    )
+    only(alloc, Elem::any())
 }
 
 /// The element of one fact, that this is the stack.
