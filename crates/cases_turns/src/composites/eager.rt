@@ -7,11 +7,11 @@ ghost use Rattle.cases_turns.specs.Samples.{longer_by_one};
 use crate::composites::blind::no_facts;
 use cpa_expr::Expr;
 use cpa_iface::{
-    Analysis, Entry, MergeRule, Part, Precision, Settings, Shared, copy_preds, empty_precision,
+    Analysis, Entry, MergeRule, Part, Precision, Settings, copy_preds, empty_precision,
     merge_facts, unadjusted, unstrengthened,
 };
 use cpa_ints::IntType;
-use cpa_model::{Cfa, Elem, Path, has_facts};
+use cpa_model::{Cfa, Elem, Path, Shared, has_facts};
 use std::alloc::{AllocError, Global};
 
 /// It knows nothing, is exact on nothing, and each path makes its precision longer.
