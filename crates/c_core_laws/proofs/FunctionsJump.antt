@@ -51,19 +51,20 @@ walks_same text (item ∷ items) =
     ∙ ap (λ (ws : List Walk). walk_of text item ∷ ws) (walks_same text items)
 
 pub keeps_receiving : (text : Text) (parameters : List Parameter) →
-    Keeps text (in_order (map receiving parameters))
+    Keeps text (in_order (map (receiving text) parameters))
 keeps_receiving text [] = keeps_still text
 keeps_receiving text (parameter ∷ parameters) =
-    keeps_then text (receiving parameter) (in_order (map receiving parameters))
+    keeps_then text (receiving text parameter) (in_order (map (receiving text) parameters))
     (record { looping = λ around. refl; names = λ around. refl; breaks = λ around. refl })
     (keeps_receiving text parameters)
 
-pub quiet_receiving : (parameters : List Parameter) → Quiet (in_order (map receiving parameters))
-quiet_receiving [] = quiet_still
-quiet_receiving (parameter ∷ parameters) =
-    quiet_then (receiving parameter) (in_order (map receiving parameters))
+pub quiet_receiving : (text : Text) (parameters : List Parameter) → Quiet
+    (in_order (map (receiving text) parameters))
+quiet_receiving text [] = quiet_still
+quiet_receiving text (parameter ∷ parameters) =
+    quiet_then (receiving text parameter) (in_order (map (receiving text) parameters))
     (record { passed = λ around. refl; choices = λ around. refl; otherwise = λ around. refl })
-    (quiet_receiving parameters)
+    (quiet_receiving text parameters)
 
 -- at the beginning of a body all its labels are left
 room_for : (p n limit : ℕ) → p ≡ 0 → limit ≡ n → p + n ≤ limit
@@ -79,8 +80,9 @@ function_fits : (text : Text) (before : Before) (specifiers : Specifiers)
     (body_sites text before specifiers declarator (body.Block items place end))) →
     JumpsFit (function_jumps (typed_function text before specifiers declarator items place end))
 function_fits text before specifiers declarator items place end none =
-    let front = in_order (map receiving (listed declarator.parameters)) in
-    let first = around_body (function_behind true specifiers declarator before) specifiers items in
+    let front = in_order (map (receiving text) (listed declarator.parameters)) in
+    let first = around_body text (function_behind text true specifiers declarator before) specifiers
+    items in
     let around = front.behind first in
     let keeps = keeps_receiving text (listed declarator.parameters) in
     let sites = (in_order (map (walk_of text) items)).sites around in
@@ -95,7 +97,7 @@ function_fits text before specifiers declarator items place end none =
     ∙ length-map names (λ (name : Name). name.bytes) in
     let stands : Stands around (length names) = record {
       room = room_for around.passed (length names) (length around.labels)
-          ((quiet_receiving (listed declarator.parameters)).passed first) long;
+          ((quiet_receiving text (listed declarator.parameters)).passed first) long;
       breaks = no_break (length around.labels) around.break_to (keeps.breaks first);
     } in
     let h = items_fit text items (all_jumped text items) around stands in

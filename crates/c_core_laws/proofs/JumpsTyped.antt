@@ -632,19 +632,19 @@ module _ (text : Text) where
   keeps_declaration : (declaration : Declaration) → Keeps (declaration_walk text declaration)
   keeps_declaration declaration =
       keeps_then (enumeration_walk text declaration.specifiers.enumeration)
-      (in_order (map (declarator_walk text (kind_of declaration.specifiers)
+      (in_order (map (declarator_walk text (kind_of text declaration.specifiers)
       (has_const declaration.specifiers)) declaration.declarators))
       (keeps_enumeration declaration.specifiers.enumeration)
-      (keeps_declarators (kind_of declaration.specifiers) (has_const declaration.specifiers)
+      (keeps_declarators (kind_of text declaration.specifiers) (has_const declaration.specifiers)
       declaration.declarators)
 
   quiet_declaration : (declaration : Declaration) → Quiet (declaration_walk text declaration)
   quiet_declaration declaration =
       quiet_then (enumeration_walk text declaration.specifiers.enumeration)
-      (in_order (map (declarator_walk text (kind_of declaration.specifiers)
+      (in_order (map (declarator_walk text (kind_of text declaration.specifiers)
       (has_const declaration.specifiers)) declaration.declarators))
       (quiet_enumeration declaration.specifiers.enumeration)
-      (quiet_declarators (kind_of declaration.specifiers) (has_const declaration.specifiers)
+      (quiet_declarators (kind_of text declaration.specifiers) (has_const declaration.specifiers)
       declaration.declarators)
 
   pub keeps_start : (first : ForStart) → Keeps (start_walk text first)

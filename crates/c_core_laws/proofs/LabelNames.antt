@@ -247,7 +247,7 @@ declaration_none : (text : Text) (declaration : Declaration) (around : Around) �
     names_in ((declaration_walk text declaration).sites around) ≡ []
 declaration_none text declaration around =
     let first = enumeration_walk text declaration.specifiers.enumeration in
-    let kind = kind_of declaration.specifiers in
+    let kind = kind_of text declaration.specifiers in
     let is_const = has_const declaration.specifiers in
     let rest = in_order (map (declarator_walk text kind is_const) declaration.declarators) in
     both_none (first.sites around) (rest.sites (first.behind around))
@@ -259,11 +259,11 @@ start_none : (text : Text) (first : ForStart) (around : Around) →
 start_none text (start.Declaration declaration) around = declaration_none text declaration around
 start_none text (start.Expression expression) around = evaluating_none Evaluated expression around
 
-receiving_none : (parameters : List Parameter) (around : Around) →
-    names_in ((in_order (map receiving parameters)).sites around) ≡ []
-receiving_none [] around = refl
-receiving_none (parameter ∷ parameters) around =
-    receiving_none parameters ((receiving parameter).behind around)
+receiving_none : (text : Text) (parameters : List Parameter) (around : Around) →
+    names_in ((in_order (map (receiving text) parameters)).sites around) ≡ []
+receiving_none text [] around = refl
+receiving_none text (parameter ∷ parameters) around =
+    receiving_none text parameters ((receiving text parameter).behind around)
 
 module _ (text : Text) where
   -- walks that are put together
@@ -788,8 +788,9 @@ body_named : (text : Text) (before : Before) (specifiers : Specifiers)
     (body_sites text before specifiers declarator (made.Block items place end))) →
     AllNamed (body_sites text before specifiers declarator (made.Block items place end))
 body_named text before specifiers declarator items place end none =
-    let front = in_order (map receiving (listed declarator.parameters)) in
-    let first = around_body (function_behind true specifiers declarator before) specifiers items in
+    let front = in_order (map (receiving text) (listed declarator.parameters)) in
+    let first = around_body text (function_behind text true specifiers declarator before) specifiers
+    items in
     let around = front.behind first in
     let inside = (in_order (map (walk_of text) items)).sites around in
     let sites = front.sites first ++ inside in
@@ -801,7 +802,7 @@ body_named text before specifiers declarator items place end none =
     let own : map name_of xs ≡ names_in ((items_walk text items).sites around) =
     jump_names sites ∙ names_append (front.sites first) inside
     ∙ ap (λ (ns : List Name). ns ++ names_in inside)
-    (receiving_none (listed declarator.parameters) first)
+    (receiving_none text (listed declarator.parameters) first)
     ∙ ap (λ (ss : List Site). names_in ss) (sym same) in
     let woven : Woven (map name_of xs) names =
     subst (λ (ns : List Name). Woven ns names) (sym own) (h.woven around) in
@@ -813,10 +814,10 @@ body_named text before specifiers declarator items place end none =
     (moved first first [] names (λ there name m. absurd (none-some name m.at))
     (front.sites first)
     (nothing_placed first (front.sites first)
-    (receiving_none (listed declarator.parameters) first))))
+    (receiving_none text (listed declarator.parameters) first))))
     (all_named around names (map name_of xs)
     ((keeps_receiving text (listed declarator.parameters)).names first)
-    ((quiet_receiving (listed declarator.parameters)).passed first) woven distinct inside
+    ((quiet_receiving text (listed declarator.parameters)).passed first) woven distinct inside
     (subst (λ (ss : List Site). Placed around names ss) same (h.placed around)))
 
 -- a body that is skipped
@@ -824,12 +825,13 @@ skipped_named : (text : Text) (before : Before) (specifiers : Specifiers)
     (declarator : FunctionDeclarator) →
     AllNamed (body_sites text before specifiers declarator made.Skipped)
 skipped_named text before specifiers declarator =
-    let front = in_order (map receiving (listed declarator.parameters)) in
-    let first = around_body (function_behind true specifiers declarator before) specifiers [] in
+    let front = in_order (map (receiving text) (listed declarator.parameters)) in
+    let first = around_body text (function_behind text true specifiers declarator before) specifiers
+    [] in
     named_append (front.sites first) []
     (all_named first [] [] refl refl refl tt (front.sites first)
     (nothing_placed first (front.sites first)
-    (receiving_none (listed declarator.parameters) first))) tt
+    (receiving_none text (listed declarator.parameters) first))) tt
 
 items_named : (text : Text) (items : List Item) (before : Before) →
     NoFaults (items_faults text items before) → AllNamed (sites_in text items before)

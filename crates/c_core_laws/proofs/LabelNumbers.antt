@@ -392,15 +392,16 @@ function_in_order : (text : Text) (before : Before) (specifiers : Specifiers)
     AreInOrder (typed_function text before specifiers declarator items place end)
 function_in_order text before specifiers declarator items place end =
     let function = typed_function text before specifiers declarator items place end in
-    let front = in_order (map receiving (listed declarator.parameters)) in
-    let first = around_body (function_behind true specifiers declarator before) specifiers items in
+    let front = in_order (map (receiving text) (listed declarator.parameters)) in
+    let first = around_body text (function_behind text true specifiers declarator before) specifiers
+    items in
     let around = front.behind first in
     let n = length (flat_map labels_of items) in
     let labels = function_labels function in
     let numbers : numbers_of labels ≡ range_with_len 0 n =
     numbers_flat function.items ∙ items_numbered text items (all_named text items) around
     ∙ ap (λ k. range_with_len k n)
-    ((quiet_receiving (listed declarator.parameters)).passed first) in
+    ((quiet_receiving text (listed declarator.parameters)).passed first) in
     let many : n ≡ length labels =
     sym (range_long 0 n) ∙ ap (λ (ns : List ℕ). length ns) (sym numbers)
     ∙ length-map labels (λ (label : Label). label.number) in

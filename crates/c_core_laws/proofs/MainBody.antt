@@ -93,22 +93,22 @@ other_way a b h = (bytes_decides b a).1 (sym ((bytes_decides a b).0 h))
 none_here : (r : Bool) → (false || r) ≡ true → r ≡ true
 none_here r h = h
 
-main_named : (items : List Item) → list_any is_main items ≡ true →
+main_named : (text : Text) (items : List Item) → list_any (is_main text) items ≡ true →
     list_any (bytes_eq main_name) (filter_map body_name items) ≡ true
-main_named [] h = absurd (cc)
-main_named (item.Empty place ∷ more) h = main_named more h
-main_named (item.Typedef specifiers names place ∷ more) h = main_named more h
-main_named (item.Objects declaration ∷ more) h = main_named more h
-main_named (item.Prototype specifiers declarator ∷ more) h = main_named more h
-main_named (item.Function specifiers declarator body.Skipped ∷ more) h = main_named more h
-main_named (item.Function specifiers declarator (body.Block items place end) ∷ more) h =
+main_named text [] h = absurd (cc)
+main_named text (item.Empty place ∷ more) h = main_named text more h
+main_named text (item.Typedef specifiers names place ∷ more) h = main_named text more h
+main_named text (item.Objects declaration ∷ more) h = main_named text more h
+main_named text (item.Prototype specifiers declarator ∷ more) h = main_named text more h
+main_named text (item.Function specifiers declarator body.Skipped ∷ more) h = main_named text more h
+main_named text (item.Function specifiers declarator (body.Block items place end) ∷ more) h =
     let name = declarator.name.bytes in
     let a = bytes_eq name main_name in
-    let b = same_kind (kind_of specifiers) (Value ty.I32) in
+    let b = same_kind (kind_of text specifiers) (Value ty.I32) in
     let c = has_no_parameters declarator.parameters in
-    either_way (a && b && c) (list_any is_main more) (bytes_eq main_name name)
+    either_way (a && b && c) (list_any (is_main text) more) (bytes_eq main_name name)
     (list_any (bytes_eq main_name) (filter_map body_name more))
-    (λ is. other_way name main_name (first_of_three a b c is)) (λ rest. main_named more rest) h
+    (λ is. other_way name main_name (first_of_three a b c is)) (λ rest. main_named text more rest) h
 
 -- N11
 
@@ -121,10 +121,12 @@ no_fault : (b : Bool) (fault : TextFault) (faults : List TextFault) →
 no_fault true fault faults none = refl
 no_fault false fault faults none = absurd (none fault (among_last fault faults))
 
-has_main : (tree : UnitTree) → Sound tree → list_any is_main tree.items ≡ true
+has_main : (tree : UnitTree) → Sound tree → list_any (is_main (text_of tree.items)) tree.items ≡
+    true
 unfolding unit_faults
 has_main tree sound =
-    no_fault (list_any is_main tree.items) (record { rule = rule.N11; place = tree.length })
+    no_fault (list_any (is_main (text_of tree.items)) tree.items)
+    (record { rule = rule.N11; place = tree.length })
     (items_faults (text_of tree.items) tree.items nothing_before)
     (λ other among. sound other (inl (inl among)))
 
@@ -133,7 +135,8 @@ pub main_body : (tree : UnitTree) (typed : TypedText) (P : Program) → Sound tr
 main_body tree typed P sound of is =
     let names = filter_map body_name tree.items in
     let f : Found names (place_of (bytes_eq main_name) names) =
-    found (bytes_eq main_name) names (main_named tree.items (has_main tree sound)) in
+    found (bytes_eq main_name) names (main_named (text_of tree.items) tree.items
+    (has_main tree sound)) in
     let here : P.main ≡ f.0 = is.main ∙ of.main ∙ ap (λ o. unwrap_or o 0) f.1 in
     let many : length P.bodies ≡ length names =
     bodies_are tree typed P of is

@@ -290,11 +290,11 @@ specifiers_kept text specifiers before t name none h =
 head_free : (text : Text) (before : Before) (defines : Bool) (specifiers : Specifiers)
     (declarator : FunctionDeclarator) →
     NoFaults (head_faults text before defines specifiers declarator) →
-    NoFaults (broken rule.N2 (redeclared_function before defines specifiers declarator))
+    NoFaults (broken rule.N2 (redeclared_function text before defines specifiers declarator))
 head_free text before defines specifiers declarator none =
     let front = enumeration_faults text specifiers before in
-    let n2 = broken rule.N2 (redeclared_function before defines specifiers declarator) in
-    let more = broken rule.N5 (flat_map void_parameter (listed declarator.parameters)) in
+    let n2 = broken rule.N2 (redeclared_function text before defines specifiers declarator) in
+    let more = broken rule.N5 (flat_map (void_parameter text) (listed declarator.parameters)) in
     let others = flat_map (λ (parameter : Parameter).
     enumeration_faults text parameter.specifiers before) (listed declarator.parameters) in
     none_right front n2 (none_left (front ++ n2) more (none_left (front ++ n2 ++ more) others none))
@@ -304,10 +304,10 @@ function_by : (b : Bool) (text : Text) (before : Before) (defines : Bool)
     bytes_eq declarator.name.bytes name ≡ b →
     NoFaults (head_faults text before defines specifiers declarator) →
     IsObject t name before.names →
-    IsObject t name (function_behind defines specifiers declarator before).names
+    IsObject t name (function_behind text defines specifiers declarator before).names
 function_by false text before defines specifiers declarator t name other none h =
     let made = merged_function (declared_as before.names declarator.name.bytes)
-    (kind_of specifiers) (parameter_types defines declarator.parameters) defines in
+    (kind_of text specifiers) (parameter_types text defines declarator.parameters) defines in
     record {
       object = h.object;
       initialized = h.initialized;
@@ -317,8 +317,8 @@ function_by false text before defines specifiers declarator t name other none h 
     }
 function_by true text before defines specifiers declarator t name same none h =
     let own = declarator.name.bytes in
-    let kind = kind_of specifiers in
-    let types = parameter_types defines declarator.parameters in
+    let kind = kind_of text specifiers in
+    let types = parameter_types text defines declarator.parameters in
     let one : own ≡ name = (bytes_decides own name).0 same in
     let now : declared_as before.names own ≡ Some (declared.Object h.object h.initialized) =
     ap (declared_as before.names) one ∙ h.is in
@@ -333,7 +333,7 @@ function_kept : (text : Text) (before : Before) (defines : Bool) (specifiers : S
     (declarator : FunctionDeclarator) (t : IntType) (name : List ℕ) →
     NoFaults (head_faults text before defines specifiers declarator) →
     IsObject t name before.names →
-    IsObject t name (function_behind defines specifiers declarator before).names
+    IsObject t name (function_behind text defines specifiers declarator before).names
 function_kept text before defines specifiers declarator t name none h =
     function_by (bytes_eq declarator.name.bytes name) text before defines specifiers declarator t
     name refl none h
@@ -352,13 +352,13 @@ item_kept text (item.Empty place) before t name none h = h
 item_kept text (item.Typedef specifiers names place) before t name none h =
     specifiers_kept text specifiers before t name
     (none_left (enumeration_faults text specifiers before)
-    (typedefs_faults (object_type (kind_of specifiers)) names
+    (typedefs_faults (object_type (kind_of text specifiers)) names
     (enumeration_behind text specifiers before)) none) h
 item_kept text (item.Objects declaration) before t name none h =
     let specifiers = declaration.specifiers in
     let front = enumeration_faults text specifiers before in
     let behind = enumeration_behind text specifiers before in
-    let kind = kind_of specifiers in
+    let kind = kind_of text specifiers in
     let is_const = has_const specifiers in
     let rest = globals_faults text kind is_const declaration.declarators behind in
     all_kept text kind is_const declaration.declarators behind t name (none_right front rest none)
@@ -366,7 +366,8 @@ item_kept text (item.Objects declaration) before t name none h =
 item_kept text (item.Prototype specifiers declarator) before t name none h =
     function_kept text before false specifiers declarator t name none h
 item_kept text (item.Function specifiers declarator made) before t name none h =
-    body_kept text specifiers declarator made (function_behind true specifiers declarator before) t
+    body_kept text specifiers declarator made (function_behind text true specifiers declarator
+    before) t
     name
     (function_kept text before true specifiers declarator t name
     (none_left (head_faults text before true specifiers declarator)
@@ -459,7 +460,7 @@ item_fits text (item.Empty place) before none = tt
 item_fits text (item.Typedef specifiers names place) before none = tt
 item_fits text (item.Objects declaration) before none =
     let behind = enumeration_behind text declaration.specifiers before in
-    let kind = kind_of declaration.specifiers in
+    let kind = kind_of text declaration.specifiers in
     let is_const = has_const declaration.specifiers in
     declarators_fit text kind is_const declaration.declarators behind
     (none_right (enumeration_faults text declaration.specifiers before)

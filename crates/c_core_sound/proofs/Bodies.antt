@@ -59,11 +59,11 @@ later_function result name names later f l =
 
 -- the parameters of a function are scalars
 
-parameters_scalar : (number : ℕ) (parameters : List Parameter) →
-    AreScalars (parameter_objects number parameters)
-parameters_scalar number [] = tt
-parameters_scalar number (parameter ∷ parameters) =
-    (refl, parameters_scalar (number + 1) parameters)
+parameters_scalar : (text : Text) (number : ℕ) (parameters : List Parameter) →
+    AreScalars (parameter_objects text number parameters)
+parameters_scalar text number [] = tt
+parameters_scalar text number (parameter ∷ parameters) =
+    (refl, parameters_scalar text (number + 1) parameters)
 
 -- the function with the body of this number, as its name is declared
 pub record FoundBody (functions : List TypedFunction) (names : List Entry) (name : List ℕ) (k : ℕ)
@@ -151,11 +151,11 @@ found_body text (item.Function specifiers declarator (body.Block items place end
     found_by (bytes_eq name declarator.name.bytes) declarator.name.bytes name function
     (functions_of text more next) (items_behind text more next).names k
     (place_of (bytes_eq name) (filter_map body_name more)) refl
-    (later_function (kind_of specifiers) declarator.name.bytes next.names
+    (later_function (kind_of text specifiers) declarator.name.bytes next.names
     (items_behind text more next).names
     (declares_function text before true specifiers declarator none_head)
     (items_last text more next (none_right own rest none)))
-    (parameters_scalar before.objects (listed declarator.parameters)) is
+    (parameters_scalar text before.objects (listed declarator.parameters)) is
     (λ m at. found_body text more next (none_right own rest none) name m at)
 
 -- the places of parameters are single cells

@@ -283,11 +283,12 @@ function_alike (declared.Enumerator n) kind types defines h = absurd (cc)
 function_alike declared.Tag kind types defines h = absurd (cc)
 function_alike (declared.Function r ps d) kind types defines h = refl
 
-abbrev function_entry : Bool → Specifiers → FunctionDeclarator → Before → Entry
-function_entry defines specifiers declarator before = record {
+abbrev function_entry : Text → Bool → Specifiers → FunctionDeclarator → Before → Entry
+function_entry text defines specifiers declarator before = record {
   name = declarator.name.bytes;
-  declared = merged_function (declared_as before.names declarator.name.bytes) (kind_of specifiers)
-      (parameter_types defines declarator.parameters) defines;
+  declared = merged_function (declared_as before.names declarator.name.bytes)
+      (kind_of text specifiers)
+      (parameter_types text defines declarator.parameters) defines;
 }
 
 head_free : (e a b c : List TextFault) → NoFaults (e ++ a ++ b ++ c) → NoFaults a
@@ -296,27 +297,27 @@ head_free e a b c none = none_right e a (none_left (e ++ a) b (none_left (e ++ a
 redeclared_free : (text : Text) (before : Before) (defines : Bool)
     (specifiers : Specifiers) (declarator : FunctionDeclarator) →
     NoFaults (head_faults text before defines specifiers declarator) →
-    redeclares_function (declared_as before.names declarator.name.bytes) (kind_of specifiers)
-    (parameter_types defines declarator.parameters) defines ≡ false
+    redeclares_function (declared_as before.names declarator.name.bytes) (kind_of text specifiers)
+    (parameter_types text defines declarator.parameters) defines ≡ false
 redeclared_free text before defines specifiers declarator none =
     not_broken rule.N2 (redeclares_function (declared_as before.names declarator.name.bytes)
-    (kind_of specifiers) (parameter_types defines declarator.parameters) defines)
+    (kind_of text specifiers) (parameter_types text defines declarator.parameters) defines)
     declarator.name.place
     (head_free (enumeration_faults text specifiers before)
-    (broken rule.N2 (redeclared_function before defines specifiers declarator))
-    (broken rule.N5 (flat_map void_parameter (listed declarator.parameters)))
+    (broken rule.N2 (redeclared_function text before defines specifiers declarator))
+    (broken rule.N5 (flat_map (void_parameter text) (listed declarator.parameters)))
     (flat_map (λ (parameter : Parameter). enumeration_faults text parameter.specifiers before)
     (listed declarator.parameters)) none)
 
 pub function_lasts : (text : Text) (before : Before) (defines : Bool)
     (specifiers : Specifiers) (declarator : FunctionDeclarator) →
     NoFaults (head_faults text before defines specifiers declarator) →
-    Lasts before.names (function_behind defines specifiers declarator before).names
+    Lasts before.names (function_behind text defines specifiers declarator before).names
 function_lasts text before defines specifiers declarator none =
-    let kind = kind_of specifiers in
-    let types = parameter_types defines declarator.parameters in
+    let kind = kind_of text specifiers in
+    let types = parameter_types text defines declarator.parameters in
     let free = redeclared_free text before defines specifiers declarator none in
-    lasts_push before.names (function_entry defines specifiers declarator before)
+    lasts_push before.names (function_entry text defines specifiers declarator before)
     (λ e is. subst (λ (d : Option Declared). Alike e (merged_function d kind types defines))
     (sym is) (function_alike e kind types defines
     (ap (λ (d : Option Declared). redeclares_function d kind types defines) (sym is) ∙ free)))
@@ -348,17 +349,17 @@ merged_result (Some (declared.Function r ps d)) kind types defines h = (
 pub declares_function : (text : Text) (before : Before) (defines : Bool)
     (specifiers : Specifiers) (declarator : FunctionDeclarator) →
     NoFaults (head_faults text before defines specifiers declarator) →
-    IsFunction (kind_of specifiers) declarator.name.bytes
-    (function_behind defines specifiers declarator before).names
+    IsFunction (kind_of text specifiers) declarator.name.bytes
+    (function_behind text defines specifiers declarator before).names
 declares_function text before defines specifiers declarator none =
     let own = declarator.name.bytes in
-    let r = merged_result (declared_as before.names own) (kind_of specifiers)
-    (parameter_types defines declarator.parameters) defines
+    let r = merged_result (declared_as before.names own) (kind_of text specifiers)
+    (parameter_types text defines declarator.parameters) defines
     (redeclared_free text before defines specifiers declarator none) in
     record {
       parameters = r.0;
       defined = r.1;
-      is = push_named before.names (function_entry defines specifiers declarator before) own
+      is = push_named before.names (function_entry text defines specifiers declarator before) own
           ((bytes_decides own own).1 refl) ∙ ap (λ d. Some d) r.2;
     }
 
@@ -489,12 +490,13 @@ function_declared : (text : Text) (before : Before) (defines : Bool)
     (specifiers : Specifiers) (declarator : FunctionDeclarator) →
     NoFaults (head_faults text before defines specifiers declarator) →
     (r : Kind) × (ps : Option (List ParameterType)) × (d : Bool)
-    × ((function_entry defines specifiers declarator before).declared ≡ declared.Function r ps d)
+    × ((function_entry text defines specifiers declarator before).declared ≡ declared.Function r ps
+    d)
 function_declared text before defines specifiers declarator none =
-    let r = merged_result (declared_as before.names declarator.name.bytes) (kind_of specifiers)
-    (parameter_types defines declarator.parameters) defines
+    let r = merged_result (declared_as before.names declarator.name.bytes) (kind_of text specifiers)
+    (parameter_types text defines declarator.parameters) defines
     (redeclared_free text before defines specifiers declarator none) in
-    (kind_of specifiers, r.0, r.1, r.2)
+    (kind_of text specifiers, r.0, r.1, r.2)
 
 -- what holds of no function, enumerator and tag holds behind the name of one more
 plain_one : (names : List Entry) (entry : Entry) (objects : ℕ) →
@@ -542,9 +544,9 @@ pub function_scope : (text : Text) (before : Before) (defines : Bool)
     (specifiers : Specifiers) (declarator : FunctionDeclarator) →
     NoFaults (head_faults text before defines specifiers declarator) →
     FileScope before.names before.objects →
-    FileScope (function_behind defines specifiers declarator before).names before.objects
+    FileScope (function_behind text defines specifiers declarator before).names before.objects
 function_scope text before defines specifiers declarator none f =
-    let entry = function_entry defines specifiers declarator before in
+    let entry = function_entry text defines specifiers declarator before in
     let r = function_declared text before defines specifiers declarator none in
     plain_scope before.names entry before.objects
     (λ n h. function_number entry.declared r.0 r.1 r.2 r.3 n h) (subst DeclaredSome (sym r.3) tt)
@@ -608,9 +610,10 @@ pub function_stays : (text : Text) (before : Before) (defines : Bool)
     (specifiers : Specifiers) (declarator : FunctionDeclarator) (first starts : ℕ → Option ℕ) →
     NoFaults (head_faults text before defines specifiers declarator) →
     Stay first before.names before.objects starts →
-    Stay first (function_behind defines specifiers declarator before).names before.objects starts
+    Stay first (function_behind text defines specifiers declarator before).names before.objects
+    starts
 function_stays text before defines specifiers declarator first starts none h =
-    let entry = function_entry defines specifiers declarator before in
+    let entry = function_entry text defines specifiers declarator before in
     let r = function_declared text before defines specifiers declarator none in
     plain_stays first before.names entry before.objects starts
     (λ n u. function_number entry.declared r.0 r.1 r.2 r.3 n u) h

@@ -517,7 +517,7 @@ module _ (W : World) (frames : rows.Frames) (caller : ℕ) (text : Text) (names 
       (signed_fits W operator a.used))
   layer (Expression-F.Cast to operand place) whole uses =
       let r = read_of operand in
-      let wanted = kind_of_type_name to in
+      let wanted = kind_of_type_name text.model to in
       let kind = cast_kind wanted r.part.kind in
       at_row kind (tree.Cast r.typed kind place) (rows.cast_rows place kind (row_of r))
       (opened frames (tree.Cast r.typed kind place) (TypedExpression-F.Cast r.typed kind place)

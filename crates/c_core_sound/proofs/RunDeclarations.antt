@@ -456,7 +456,7 @@ module _ (G : Ground) (frames : rows.Frames) (text : Text) (caller : ℕ) where
     pub declaration_ready : (around : Around) (declaration : Declaration) → ReadyAt around →
         ReadyAt ((declaration_walk text declaration).behind around)
     declaration_ready around declaration h =
-        declarators_ready (named_by around declaration) (kind_of declaration.specifiers)
+        declarators_ready (named_by around declaration) (kind_of text declaration.specifiers)
         (has_const declaration.specifiers) declaration.declarators
         (enumeration_ready declaration.specifiers.enumeration around h)
 
@@ -465,7 +465,7 @@ module _ (G : Ground) (frames : rows.Frames) (text : Text) (caller : ℕ) where
     declaration_rises around declaration =
         subst (λ n. n ≤ ((declaration_walk text declaration).behind around).objects)
         (enumeration_keeps text declaration.specifiers.enumeration around).objects
-        (declarators_rise (named_by around declaration) (kind_of declaration.specifiers)
+        (declarators_rise (named_by around declaration) (kind_of text declaration.specifiers)
         (has_const declaration.specifiers) declaration.declarators)
 
     pub declaration_runs : (around : Around) (declaration : Declaration) → ReadyAt around →
@@ -478,11 +478,11 @@ module _ (G : Ground) (frames : rows.Frames) (text : Text) (caller : ℕ) where
         let named = named_by around declaration in
         let last = (declaration_walk text declaration).behind around in
         let kept = enumeration_keeps text found around in
-        let r = declarators_run named (kind_of declaration.specifiers)
+        let r = declarators_run named (kind_of text declaration.specifiers)
         (has_const declaration.specifiers) declaration.declarators
         (enumeration_ready found around h)
         (sites_right G text caller ((enumeration_walk text found).sites around)
-        ((walk_of_all (kind_of declaration.specifiers) (has_const declaration.specifiers)
+        ((walk_of_all (kind_of text declaration.specifiers) (has_const declaration.specifiers)
         declaration.declarators).sites named) sites) whole in
         record {
           extends = r.extends;

@@ -114,10 +114,10 @@ module _ (G : Ground) (frames : rows.Frames) (text : Text) (caller : ℕ) (K : K
 
   parameter_runs : (around : Around) (parameter : Parameter) →
       Below around.objects around.names →
-      Runs G (Unit {0}) around (receiving_behind parameter around) (λ (first : ℕ). Unit {0})
-      (core.taking (parameter_object around.objects parameter) [])
+      Runs G (Unit {0}) around (receiving_behind text parameter around) (λ (first : ℕ). Unit {0})
+      (core.taking (parameter_object text around.objects parameter) [])
   parameter_runs around parameter below =
-      let object = parameter_object around.objects parameter in record {
+      let object = parameter_object text around.objects parameter in record {
         extends = λ taken. taken_extends object [] taken;
         keeps = λ taken n side.
             begun_other around.objects n (length taken.cells) taken.starts
@@ -134,21 +134,21 @@ module _ (G : Ground) (frames : rows.Frames) (text : Text) (caller : ℕ) (K : K
       }
 
   abbrev receiving_walk : List Parameter → Walk
-  receiving_walk parameters = in_order (map receiving parameters)
+  receiving_walk parameters = in_order (map (receiving text) parameters)
 
   parameters_rise : (around : Around) (parameters : List Parameter) →
       around.objects ≤ ((receiving_walk parameters).behind around).objects
   parameters_rise around [] = no_more around.objects
   parameters_rise around (parameter ∷ parameters) =
       two_steps around.objects (around.objects + 1)
-      ((receiving_walk parameters).behind (receiving_behind parameter around)).objects
+      ((receiving_walk parameters).behind (receiving_behind text parameter around)).objects
       (one_higher around.objects)
-      (parameters_rise (receiving_behind parameter around) parameters)
+      (parameters_rise (receiving_behind text parameter around) parameters)
 
   parameter_ready : (around : Around) (parameter : Parameter) → ReadyAt around →
-      ReadyAt (receiving_behind parameter around)
+      ReadyAt (receiving_behind text parameter around)
   parameter_ready around parameter h =
-      let object = parameter_object around.objects parameter in record {
+      let object = parameter_object text around.objects parameter in record {
         functions = names_fit around.names object parameter.name h.functions;
         below = names_below (around.objects + 1) around.names object parameter.name
             (below_higher around.objects (around.objects + 1) around.names
@@ -160,18 +160,18 @@ module _ (G : Ground) (frames : rows.Frames) (text : Text) (caller : ℕ) (K : K
       ReadyAt ((receiving_walk parameters).behind around)
   parameters_ready around [] h = h
   parameters_ready around (parameter ∷ parameters) h =
-      parameters_ready (receiving_behind parameter around) parameters
+      parameters_ready (receiving_behind text parameter around) parameters
       (parameter_ready around parameter h)
 
   parameters_run : (around : Around) (parameters : List Parameter) → ReadyAt around →
       Runs G (Unit {0}) around ((receiving_walk parameters).behind around)
       (λ (u : Unit {0}). Unit {0})
-      (statement.receiving (parameter_objects around.objects parameters))
+      (statement.receiving (parameter_objects text around.objects parameters))
   parameters_run around [] h = runs_gives G around (λ (u : Unit {0}). Unit {0}) tt (λ g. tt)
   parameters_run around (parameter ∷ parameters) h =
-      let behind = receiving_behind parameter around in
+      let behind = receiving_behind text parameter around in
       runs_then G around behind ((receiving_walk parameters).behind behind)
-      (λ first. statement.receiving (parameter_objects behind.objects parameters))
+      (λ first. statement.receiving (parameter_objects text behind.objects parameters))
       (one_higher around.objects) (parameters_rise behind parameters)
       (parameter_runs around parameter h.below)
       (λ first. runs_weaker G (λ g. tt)
@@ -208,7 +208,7 @@ module _ (G : Ground) (frames : rows.Frames) (text : Text) (caller : ℕ) (K : K
       all_whole (map whole_block_item items) ≡ true →
       Runs G (TreesFit G before × Returns G frames text caller K (place_of first)) around
       (last_of around parameters items) (TreeFits G)
-      (rest_rule origin first before (parameter_objects around.objects parameters)
+      (rest_rule origin first before (parameter_objects text around.objects parameters)
       (items_typed G frames text caller K (place_of 0) items
       ((receiving_walk parameters).behind around)))
   rest_runs origin around parameters items first before h sites whole =
@@ -237,7 +237,7 @@ module _ (G : Ground) (frames : rows.Frames) (text : Text) (caller : ℕ) (K : K
       Runs G (Unit {0}) around (last_of around parameters items) (TreeFits G)
       (statement.function_rule frames (record {
         result = K;
-        parameters = parameter_objects around.objects parameters;
+        parameters = parameter_objects text around.objects parameters;
         items = items_typed G frames text caller K (place_of 0) items
             ((receiving_walk parameters).behind around);
         place = origin;

@@ -84,13 +84,13 @@ pub item_lasts : (text : Text) (one : Item) (before : Before) →
 item_lasts text (item.Empty place) before none = lasts_self before.names
 item_lasts text (item.Typedef specifiers names place) before none =
     enumeration_lasts text specifiers before (none_left (enumeration_faults text specifiers before)
-    (typedefs_faults (object_type (kind_of specifiers)) names
+    (typedefs_faults (object_type (kind_of text specifiers)) names
     (enumeration_behind text specifiers before)) none)
 item_lasts text (item.Objects declaration) before none =
     let front = declaration.specifiers in
     let mid = enumeration_behind text front before in
     let a = enumeration_faults text front before in
-    let kind = kind_of front in
+    let kind = kind_of text front in
     let is_const = has_const front in
     let b = globals_faults text kind is_const declaration.declarators mid in
     lasts_both before.names mid.names
@@ -367,10 +367,10 @@ module _ (all : List IntType) (calls : List Call) (bodies : ℕ) (frames : rows.
 
   abbrev pub body_around : Before → Specifiers → FunctionDeclarator → List BlockItem → Around
   body_around before specifiers declarator items =
-      around_body (function_behind true specifiers declarator before) specifiers items
+      around_body text (function_behind text true specifiers declarator before) specifiers items
 
   abbrev pub params_walk : FunctionDeclarator → Walk
-  params_walk declarator = in_order (map receiving (listed declarator.parameters))
+  params_walk declarator = in_order (map (receiving text) (listed declarator.parameters))
 
   -- a body, where its function stands
   body_runs : (same : (one : BlockItem) → (grown text one).walk ≡ walk_of text one)
@@ -382,9 +382,9 @@ module _ (all : List IntType) (calls : List Call) (bodies : ℕ) (frames : rows.
       ((c : Call) → Among c (item_calls text (item.Function specifiers declarator
       (body.Block items place close)) before) → Among c calls) →
       FileScope before.names before.objects →
-      Lasts (function_behind true specifiers declarator before).names last →
+      Lasts (function_behind text true specifiers declarator before).names last →
       Runs (ground before.bodies) (Unit {0}) (body_around before specifiers declarator items)
-      (last_of (ground before.bodies) frames text before.bodies (kind_of specifiers)
+      (last_of (ground before.bodies) frames text before.bodies (kind_of text specifiers)
       (body_around before specifiers declarator items) (listed declarator.parameters) items)
       (TreeFits (ground before.bodies))
       (statement.function_rule frames (typed_function text before specifiers declarator items
@@ -392,7 +392,7 @@ module _ (all : List IntType) (calls : List Call) (bodies : ℕ) (frames : rows.
   body_runs same before specifiers declarator items place close stand none whole among f l =
       let k = before.bodies in
       let G = ground k in
-      let b = function_behind true specifiers declarator before in
+      let b = function_behind text true specifiers declarator before in
       let around = body_around before specifiers declarator items in
       let front = params_walk declarator in
       let head = head_faults text before true specifiers declarator in
@@ -411,7 +411,8 @@ module _ (all : List IntType) (calls : List Call) (bodies : ℕ) (frames : rows.
       (sym (walks_same same items)) mine in
       let scope = function_scope text before true specifiers declarator
       (none_left head (flat_map (site_faults text) sites ++ jump_faults sites) none) f in
-      function_runs G frames text k (kind_of specifiers) around (listed declarator.parameters) items
+      function_runs G frames text k (kind_of text specifiers) around (listed declarator.parameters)
+      items
       place close (record {
         functions = functions_fit k stand b.names before.objects l scope;
         below = scope.below;
@@ -423,13 +424,14 @@ module _ (all : List IntType) (calls : List Call) (bodies : ℕ) (frames : rows.
       (before : Before) (specifiers : Specifiers) (declarator : FunctionDeclarator)
       (items : List BlockItem) (place close : ℕ) (starts later : ℕ → Option ℕ) →
       ((n : ℕ) → (n < before.objects) ⊎ ((last_of (ground before.bodies) frames text before.bodies
-      (kind_of specifiers) (body_around before specifiers declarator items)
+      (kind_of text specifiers) (body_around before specifiers declarator items)
       (listed declarator.parameters) items).objects ≤ n) → later n ≡ starts n) →
       before.objects ≤ (last_of (ground before.bodies) frames text before.bodies
-      (kind_of specifiers) (body_around before specifiers declarator items)
+      (kind_of text specifiers) (body_around before specifiers declarator items)
       (listed declarator.parameters) items).objects →
-      FileScope (function_behind true specifiers declarator before).names before.objects →
-      Stay first (function_behind true specifiers declarator before).names before.objects starts →
+      FileScope (function_behind text true specifiers declarator before).names before.objects →
+      Stay first (function_behind text true specifiers declarator before).names before.objects
+      starts →
       Stay first (item_behind text (item.Function specifiers declarator
       (body.Block items place close))
       before).names
@@ -459,9 +461,9 @@ module _ (all : List IntType) (calls : List Call) (bodies : ℕ) (frames : rows.
       (before : Before) (specifiers : Specifiers) (declarator : FunctionDeclarator)
       (items : List BlockItem) (place close : ℕ) →
       before.objects ≤ (last_of (ground before.bodies) frames text before.bodies
-      (kind_of specifiers) (body_around before specifiers declarator items)
+      (kind_of text specifiers) (body_around before specifiers declarator items)
       (listed declarator.parameters) items).objects →
-      FileScope (function_behind true specifiers declarator before).names before.objects →
+      FileScope (function_behind text true specifiers declarator before).names before.objects →
       FileScope (item_behind text (item.Function specifiers declarator
       (body.Block items place close))
       before).names
@@ -470,7 +472,7 @@ module _ (all : List IntType) (calls : List Call) (bodies : ℕ) (frames : rows.
   later_scope same before specifiers declarator items place close le f =
       let around = body_around before specifiers declarator items in
       let front = params_walk declarator in
-      let names = (function_behind true specifiers declarator before).names in
+      let names = (function_behind text true specifiers declarator before).names in
       let objects : (in_order (map walk_in (map (grown text) items))).behind (front.behind around)
       ≡ (in_order (map (walk_of text) items)).behind (front.behind around) =
       ap (λ (ws : List Walk). (in_order ws).behind (front.behind around)) (walks_same same items) in
@@ -515,7 +517,7 @@ module _ (all : List IntType) (calls : List Call) (bodies : ℕ) (frames : rows.
       let mid = enumeration_behind text front before in
       let next = item_behind text one before in
       let names = enumeration_faults text front before in
-      let kind = kind_of front in
+      let kind = kind_of text front in
       let is_const = has_const front in
       let own = globals_faults text kind is_const declaration.declarators mid in
       let rest = items_faults text more next in
@@ -589,14 +591,14 @@ module _ (all : List IntType) (calls : List Call) (bodies : ℕ) (frames : rows.
       let rule = statement.function_rule frames function in
       let rules = rules_of (functions_of text more next) in
       let around = body_around before specifiers declarator items in
-      let l = subst (Lasts (function_behind true specifiers declarator before).names) end
+      let l = subst (Lasts (function_behind text true specifiers declarator before).names) end
       (items_last text more next (none_right own rest none)) in
       let scope = function_scope text before true specifiers declarator none_head f in
       let R = body_runs same before specifiers declarator items place close stand none_own
       (and_left whole_one others whole)
       (λ c here. among c (among_left c (item_calls text one before) (items_calls text more next)
       here)) f l in
-      let rises = function_rises G frames text k (kind_of specifiers) around
+      let rises = function_rises G frames text k (kind_of text specifiers) around
       (listed declarator.parameters) items in
       let r = text_runs same stand more next (none_right own rest none)
       (and_right whole_one others whole)
@@ -613,7 +615,8 @@ module _ (all : List IntType) (calls : List Call) (bodies : ℕ) (frames : rows.
             (r.extends m.taken) w in
             let here = function_stays text before true specifiers declarator first taken.starts
             none_head stay in
-            let known = known_here k begin (function_behind true specifiers declarator before).names
+            let known = known_here k begin (function_behind text true specifiers declarator
+            before).names
             before.objects taken.starts l here in (
               (R.at taken tt known inside).0,
               r.at m.taken begin (body_stays same before specifiers declarator items place close

@@ -219,7 +219,7 @@ module _ (walks : (text : Text) (one : BlockItem) → (grown text one).walk ≡ 
       let mid = enumeration_behind text front before in
       let next = item_behind text (item.Objects declaration) before in
       let names = enumeration_faults text front before in
-      let kind = kind_of front in
+      let kind = kind_of text front in
       let is_const = has_const front in
       let own = globals_faults text kind is_const declaration.declarators mid in
       let rest = items_faults text more next in
@@ -263,7 +263,7 @@ module _ (walks : (text : Text) (one : BlockItem) → (grown text one).walk ≡ 
       items_scope text more next (none_right own rest none)
       (and_right (all_whole (map whole_block_item items)) (all_whole (map whole_item more)) whole)
       (later_scope [] [] 0 [] text (λ n. None) [] (walks text) before specifiers declarator items
-      place end (function_rises G [] text before.bodies (kind_of specifiers) around
+      place end (function_rises G [] text before.bodies (kind_of text specifiers) around
       (listed declarator.parameters) items)
       (function_scope text before true specifiers declarator none_head f))
 

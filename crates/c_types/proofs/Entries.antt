@@ -1,9 +1,11 @@
 -- The fault of a text without main, as a place where a test holds.
-use Rattle.std.proofs.Common.{◌≡◌, ℕ, Bool, true, false, not, [], ◌∷◌, refl}
+use Rattle.std.proofs.Common.{◌≡◌, ℕ, Bool, true, false, not, [], ◌∷◌, refl, ap, ◌∙◌}
 use Rattle.std.specs.Prelude.{if◌then◌else◌}
 use Rattle.std.specs.List.{list_any}
 use Rattle.c_lexer.specs.declared.fault.Rule.TheVariants as rule
 use Rattle.c_grammar_tree.specs.declared.item.Unit.{Unit as UnitTree}
+use Rattle.c_types_rules.specs.Names.{Text}
+use Rattle.c_types_rules.specs.Items.{text_of}
 use Rattle.c_types_rules.specs.ExpressionRules.{broken, at_if}
 use Rattle.c_types_rules.specs.Sound.{is_main, without_main}
 
@@ -12,6 +14,10 @@ without_by : (b : Bool) (place : ℕ) → broken rule.N11 (at_if (not b) place)
 without_by true place = refl
 without_by false place = refl
 
-pub without_is : (unit : UnitTree) →
-    broken rule.N11 (at_if (not (list_any is_main unit.items)) unit.length) ≡ without_main unit
-without_is unit = without_by (list_any is_main unit.items) unit.length
+pub without_is : (text : Text) (unit : UnitTree) → text ≡ text_of unit.items →
+    broken rule.N11 (at_if (not (list_any (is_main text) unit.items)) unit.length)
+    ≡ without_main unit
+without_is text unit is =
+    without_by (list_any (is_main text) unit.items) unit.length
+    ∙ ap (λ (t : Text). if list_any (is_main t) unit.items then []
+    else (record { rule = rule.N11; place = unit.length } ∷ [])) is

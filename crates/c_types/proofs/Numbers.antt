@@ -119,7 +119,7 @@ rises_enumeration text (Some (enumeration.Listed (Some tag) list)) =
 rises_declaration : (text : Text) (declaration : Declaration)
     → Rises (declaration_walk text declaration)
 rises_declaration text declaration =
-    let kind = kind_of declaration.specifiers in
+    let kind = kind_of text declaration.specifiers in
     let is_const = has_const declaration.specifiers in
     rises_followed (enumeration_walk text declaration.specifiers.enumeration)
     (in_order (map (declarator_walk text kind is_const) declaration.declarators))
@@ -127,9 +127,10 @@ rises_declaration text declaration =
     (rises_in_order (map (declarator_walk text kind is_const) declaration.declarators)
     (rises_declarators text kind is_const declaration.declarators))
 
-rises_receiving : (all : List Parameter) → AllByRecursion Rises (map receiving all)
-rises_receiving [] = tt
-rises_receiving (one ∷ all) = (λ around. omega arith, rises_receiving all)
+rises_receiving : (text : Text) (all : List Parameter)
+    → AllByRecursion Rises (map (receiving text) all)
+rises_receiving text [] = tt
+rises_receiving text (one ∷ all) = (λ around. omega arith, rises_receiving text all)
 
 rises_start : (text : Text) (first : ForStart) → Rises (start_walk text first)
 rises_start text (start.Declaration declaration) = rises_declaration text declaration
@@ -251,9 +252,10 @@ module _ (text : Text) where
   pub rises_body : (parameters : Parameters) (all : List BlockItem)
       → Rises (body_walk text parameters all)
   rises_body parameters all =
-      rises_followed (in_order (map receiving (listed parameters)))
+      rises_followed (in_order (map (receiving text) (listed parameters)))
       (in_order (map (walk_of text) all))
-      (rises_in_order (map receiving (listed parameters)) (rises_receiving (listed parameters)))
+      (rises_in_order (map (receiving text) (listed parameters))
+      (rises_receiving text (listed parameters)))
       (rises_in_order (map (walk_of text) all) (rises_all all))
 
 -- the numbers of the objects are below the count of objects
@@ -384,10 +386,10 @@ function_below n (Some (declared.Function old given defined)) kind parameters de
 function_below n (Some (declared.Enumerator value)) kind parameters defines = tt
 function_below n (Some declared.Tag) kind parameters defines = tt
 
-pub numbered_function : (defines : Bool) (specifiers : Specifiers)
+pub numbered_function : (text : Text) (defines : Bool) (specifiers : Specifiers)
     (declarator : FunctionDeclarator) (before : Before) → Numbered before
-    → Numbered (function_behind defines specifiers declarator before)
-numbered_function defines specifiers declarator before h =
+    → Numbered (function_behind text defines specifiers declarator before)
+numbered_function text defines specifiers declarator before h =
     added_numbered before.objects before.names declarator.name.bytes _ h
     (function_below before.objects (declared_as before.names declarator.name.bytes) _ _ defines)
 
@@ -395,12 +397,13 @@ numbered_body : (text : Text) (specifiers : Specifiers) (declarator : FunctionDe
     (made : Body) (before : Before) → Numbered before
     → Numbered (item_behind text (item.Function specifiers declarator made) before)
 numbered_body text specifiers declarator body.Skipped before h =
-    numbered_function true specifiers declarator before h
+    numbered_function text true specifiers declarator before h
 numbered_body text specifiers declarator (body.Block items place end) before h =
-    let now = function_behind true specifiers declarator before in
+    let now = function_behind text true specifiers declarator before in
     more_numbers now.objects _ (filter_map object_number now.names)
-    (rises_body text declarator.parameters items (begins now.names now.objects specifiers items))
-    (numbered_function true specifiers declarator before h)
+    (rises_body text declarator.parameters items (begins text now.names now.objects specifiers
+    items))
+    (numbered_function text true specifiers declarator before h)
 
 -- an enumerated type declares no object
 pub numbered_enumeration : (text : Text) (specifiers : Specifiers) (before : Before)
@@ -416,11 +419,11 @@ numbered_item text (item.Empty place) before h = h
 numbered_item text (item.Typedef specifiers names place) before h =
     numbered_enumeration text specifiers before h
 numbered_item text (item.Objects declaration) before h =
-    numbered_globals text (kind_of declaration.specifiers) (has_const declaration.specifiers)
+    numbered_globals text (kind_of text declaration.specifiers) (has_const declaration.specifiers)
     declaration.declarators
     (enumeration_behind text declaration.specifiers before)
     (numbered_enumeration text declaration.specifiers before h)
 numbered_item text (item.Prototype specifiers declarator) before h =
-    numbered_function false specifiers declarator before h
+    numbered_function text false specifiers declarator before h
 numbered_item text (item.Function specifiers declarator made) before h =
     numbered_body text specifiers declarator made before h

@@ -3,11 +3,13 @@
 ghost use Rattle.std.specs.Prelude.{◌≡◌, IfOk, OnOk};
 ghost use Rattle.std.specs.List.{list_any};
 ghost use Rattle.c_types_rules.specs.First.{first_with};
+ghost use Rattle.c_types_rules.specs.Items.{text_of};
 ghost use Rattle.c_types_rules.specs.Sound.{has_no_parameters, is_main, without_main};
 
 use c_grammar_tree::{Body, Item, Parameters, Unit};
 use c_lexer::{Rule, TextFault};
 use c_types_globals::same_kind;
+use c_types_names::Survey;
 use c_types_objects::{note_if, read_specifiers};
 use c_types_rules::Kind;
 use cpa_ints::IntType;
@@ -27,8 +29,8 @@ fn has_no_parameters(parameters: &Parameters) -> bool
 }
 
 /// Whether a text starts at this item.
-fn is_main(alloc: Global, item: &Item) -> Result<bool, AllocError>
-    ensures { IfOk result (λ found. found ≡ is_main item.now) }
+fn is_main(alloc: Global, survey: &Survey, item: &Item) -> Result<bool, AllocError>
+    ensures { IfOk result (λ found. found ≡ is_main survey.now item.now) }
 {
     match item {
         Item::Function {
@@ -36,7 +38,7 @@ fn is_main(alloc: Global, item: &Item) -> Result<bool, AllocError>
             declarator,
             body: Body::Block { .. },
         } => {
-            let kind = read_specifiers(alloc, specifiers)?.kind;
+            let kind = read_specifiers(alloc, survey, specifiers)?.kind;
             Ok(
                 declarator.name.bytes.as_slice() == MAIN
                     && same_kind(kind, Kind::Value(IntType::I32))
@@ -48,11 +50,11 @@ fn is_main(alloc: Global, item: &Item) -> Result<bool, AllocError>
 }
 
 /// Whether a text starts at one of these items.
-fn has_main(alloc: Global, items: &[Item]) -> Result<bool, AllocError>
-    ensures { IfOk result (λ found. found ≡ list_any is_main items.now) }
+fn has_main(alloc: Global, survey: &Survey, items: &[Item]) -> Result<bool, AllocError>
+    ensures { IfOk result (λ found. found ≡ list_any (is_main survey.now) items.now) }
 {
     for item in items {
-        if is_main(alloc, item)? {
+        if is_main(alloc, survey, item)? {
             return Ok(true);
         }
     }
@@ -63,12 +65,14 @@ fn has_main(alloc: Global, items: &[Item]) -> Result<bool, AllocError>
 #[tactic(auto, using(crate::proofs::Entries::without_is))]
 pub(crate) fn note_missing_main(
     alloc: Global,
+    survey: &Survey,
     unit: &Unit,
     first: &mut Option<TextFault>,
 ) -> Result<(), AllocError>
+    requires { survey.now ≡ text_of unit.now.items }
     ensures { OnOk result (first.new ≡ first_with first.old (without_main unit.now)) }
 {
-    let has_main = has_main(alloc, unit.items.as_slice())?;
+    let has_main = has_main(alloc, survey, unit.items.as_slice())?;
     note_if(first, Rule::N11, !has_main, unit.length);
     Ok(())
 }

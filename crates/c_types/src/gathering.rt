@@ -27,7 +27,7 @@ pub(crate) fn gather(alloc: Global, survey: &Survey, unit: &Unit) -> Result<Gath
 {
     let mut gathered = Gathered::new(alloc);
     gather_items(alloc, survey, &mut gathered, unit.items.as_slice())?;
-    note_missing_main(alloc, unit, &mut gathered.first)?;
+    note_missing_main(alloc, survey, unit, &mut gathered.first)?;
     let least = least_leading_back(alloc, &gathered.calls)?;
     note_place(&mut gathered.first, Rule::N10, least);
     Ok(gathered)

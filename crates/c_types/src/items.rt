@@ -163,7 +163,7 @@ fn gather_item(
             ..
         } => {
             declare_enumeration(alloc, survey, scope, specifiers, first)?;
-            declare_typedefs(alloc, scope, specifiers, names.as_slice(), first)
+            declare_typedefs(alloc, survey, scope, specifiers, names.as_slice(), first)
         }
         Item::Objects(declaration) => {
             declare_enumeration(alloc, survey, scope, &declaration.specifiers, first)?;

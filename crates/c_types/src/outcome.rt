@@ -18,7 +18,7 @@ use c_grammar_tree::Unit;
 use c_lexer::{Rule, TextFault};
 use c_types_names::Survey;
 use c_types_rules::{Global, TypedFunction};
-use cpa_ints::Seq;
+use cpa_ints::{DataModel, Seq};
 use std::alloc::{AllocError, Global as Memory};
 
 /// A typed text, or the first broken rule.
@@ -116,7 +116,7 @@ fn finish(
 pub(crate) fn find_outcome(alloc: Memory, unit: &Unit) -> Result<Outcome, AllocError>
     ensures { IfOk result (IsOutcome unit.now) }
 {
-    let survey = Survey::of(alloc, unit.items.as_slice())?;
+    let survey = Survey::of(alloc, DataModel::Lp64, unit.items.as_slice())?;
     let gathered = gather(alloc, &survey, unit)?;
     match gathered.first {
         Some(fault) => Ok(Outcome::Broken(fault)),

@@ -8,7 +8,6 @@ use Rattle.c_grammar_tree.specs.declared.declaration.Specifiers.{Specifiers}
 use Rattle.c_grammar_tree.specs.declared.item.Parameter.{Parameter}
 use Rattle.c_grammar_tree.specs.declared.item.Parameters.{Parameters}
 use Rattle.c_grammar_tree.specs.declared.statement.BlockItem.{BlockItem}
-use Rattle.c_types_rules.specs.declared.meaning.Entry.{Entry}
 use Rattle.c_types_rules.specs.declared.meaning.Kind.{Kind}
 use Rattle.c_types_rules.specs.declared.meaning.Object.{Object}
 use Rattle.c_types_rules.specs.declared.typed.Choice.{Choice}
@@ -42,11 +41,12 @@ pub begins_is : {between : Found} (frame : Frame) (nest : Nest) {mid : Walker} (
     (specifiers : Specifiers) (items : List BlockItem) → IsTied frame mid between
     → nest.outer ≡ length walker.names
     → nest ≡ outermost nest.outer
-    → IsFresh walker → frame.result ≡ kind_of specifiers
+    → IsFresh walker → frame.result ≡ kind_of frame.survey.now specifiers
     → frame.labels.now ≡ map name_bytes (flat_map labels_of items)
-    → around_of frame nest walker ≡ begins walker.names walker.objects specifiers items
+    → around_of frame nest walker ≡ begins frame.survey.now walker.names walker.objects specifiers
+    items
 begins_is frame nest walker specifiers items tied outer nest_is fresh result labels =
-    let last = begins walker.names walker.objects specifiers items in
+    let last = begins frame.survey.now walker.names walker.objects specifiers items in
     ap (λ (n : Nest). around_of frame n walker) nest_is
     ∙ ap (λ (n : ℕ). record (around_of frame nest walker) {
       outer = n;
@@ -87,9 +87,9 @@ pub is_read : (frame : Frame) (nest : Nest) (old mid last : Walker) (start betwe
     (specifiers : Specifiers) (all : Parameters) (items : List BlockItem) (ps : List Parameter)
     (noted : Option TextFault) → IsTied frame mid between → ps ≡ listed all
     → start ≡ nothing_found old.objects
-    → around_of frame nest old ≡ begins old.names old.objects specifiers items
+    → around_of frame nest old ≡ begins frame.survey.now old.names old.objects specifiers items
     → state_of frame nest mid between ≡ walked frame.survey.now frame.caller
-    (in_order (map receiving ps)) (state_of frame nest old start)
+    (in_order (map (receiving frame.survey.now) ps)) (state_of frame nest old start)
     → state_of frame nest last found ≡ walked frame.survey.now frame.caller
     (in_order (map (grown_walk frame.survey.now) items)) (state_of frame nest mid between)
     → noted ≡ first_with last.first (broken rule.N7
@@ -105,7 +105,7 @@ is_read frame nest old mid last start between found specifiers all items ps note
     let whole = whole_walk text frame.caller all items before (state_of frame nest mid between)
     (state_of frame nest last found)
     (subst (λ (qs : List Parameter). state_of frame nest mid between
-    ≡ walked text frame.caller (in_order (map receiving qs)) before) ps_are first) second in
+    ≡ walked text frame.caller (in_order (map (receiving text) qs)) before) ps_are first) second in
     let behind = is_behind text frame.caller (body_walk text all items) before
     (state_of frame nest last found) whole in
     let labels : before.labels ≡ [] =
@@ -137,10 +137,11 @@ pub typed_is : (frame : Frame) (nest : Nest) (old mid : Walker) (start between :
     (specifiers : Specifiers) (all : Parameters) (items : List BlockItem) (ps : List Parameter)
     (os : List Object) (ts : List TypedItem) (place end : ℕ) → IsTied frame mid between
     → ps ≡ listed all
-    → around_of frame nest old ≡ begins old.names old.objects specifiers items
+    → around_of frame nest old ≡ begins frame.survey.now old.names old.objects specifiers items
     → state_of frame nest mid between ≡ walked frame.survey.now frame.caller
-    (in_order (map receiving ps)) (state_of frame nest old start)
-    → frame.result ≡ kind_of specifiers → os ≡ parameter_objects old.objects ps
+    (in_order (map (receiving frame.survey.now) ps)) (state_of frame nest old start)
+    → frame.result ≡ kind_of frame.survey.now specifiers → os ≡ parameter_objects frame.survey.now
+    old.objects ps
     → ts ≡ typed_in_order (map (grown frame.survey.now) items) (around_of frame nest mid)
     → function_of frame.result os ts place end
     ≡ typed_body frame.survey.now old.names old.objects specifiers all items place end
@@ -148,21 +149,21 @@ typed_is frame nest old mid start between specifiers all items ps os ts place en
     around_is first
     result os_are ts_are =
     let text = frame.survey.now in
-    let behind = is_behind text frame.caller (in_order (map receiving ps))
+    let behind = is_behind text frame.caller (in_order (map (receiving text) ps))
     (state_of frame nest old start) (state_of frame nest mid between) first in
-    let objects : os ≡ parameter_objects old.objects (listed all) =
-    os_are ∙ ap (λ (qs : List Parameter). parameter_objects old.objects qs) ps_are in
+    let objects : os ≡ parameter_objects text old.objects (listed all) =
+    os_are ∙ ap (λ (qs : List Parameter). parameter_objects text old.objects qs) ps_are in
     let items_are : ts ≡ typed_in_order (map (grown text) items)
-    ((in_order (map receiving (listed all))).behind
-    (begins old.names old.objects specifiers items)) =
+    ((in_order (map (receiving text) (listed all))).behind
+    (begins text old.names old.objects specifiers items)) =
     ts_are ∙ ap (λ (a : Around). typed_in_order (map (grown text) items) a)
-    (behind.around ∙ ap (λ (a : Around). (in_order (map receiving ps)).behind a) around_is
-    ∙ ap (λ (qs : List Parameter). (in_order (map receiving qs)).behind
-    (begins old.names old.objects specifiers items)) ps_are) in
+    (behind.around ∙ ap (λ (a : Around). (in_order (map (receiving text) ps)).behind a) around_is
+    ∙ ap (λ (qs : List Parameter). (in_order (map (receiving text) qs)).behind
+    (begins text old.names old.objects specifiers items)) ps_are) in
     ap (λ (k : Kind). function_of k os ts place end) result
-    ∙ ap (λ (xs : List Object). function_of (kind_of specifiers) xs ts place end) objects
-    ∙ ap (λ (ys : List TypedItem). function_of (kind_of specifiers)
-    (parameter_objects old.objects (listed all)) ys place end) items_are
+    ∙ ap (λ (xs : List Object). function_of (kind_of text specifiers) xs ts place end) objects
+    ∙ ap (λ (ys : List TypedItem). function_of (kind_of text specifiers)
+    (parameter_objects text old.objects (listed all)) ys place end) items_are
 
 pub tied_from : (frame : Frame) (walker : Walker) (start : Found)
     → start ≡ nothing_found walker.objects → frame.file ≡ length walker.names

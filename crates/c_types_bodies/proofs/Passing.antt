@@ -27,12 +27,12 @@ use Rattle.c_types_rules.specs.Names.{Text}
 use Rattle.c_types_rules.specs.Declarations.{kind_of, has_const, enumerator_number}
 use Rattle.c_types_rules.specs.Declarations.{enumerator_entry}
 use Rattle.c_types_rules.specs.Statements.{Around, Act, Walk, still, doing, followed, in_order}
-use Rattle.c_types_rules.specs.Statements.{inner, scoped, loop, looped, labeled, marking, jumps}
-use Rattle.c_types_rules.specs.Statements.{switched, switching, selected, selecting, end_behind}
+use Rattle.c_types_rules.specs.Statements.{inner, scoped, loop, looped, marking, jumps}
+use Rattle.c_types_rules.specs.Statements.{switched, switching, selecting, end_behind}
 use Rattle.c_types_rules.specs.Statements.{naming, tagging, enumerating, enumeration_walk}
 use Rattle.c_types_rules.specs.Statements.{evaluating, declarator_walk, declaration_walk}
 use Rattle.c_types_rules.specs.Statements.{start_walk}
-use Rattle.c_types_rules.specs.Statements.{evaluates, returns, breaks, continues, perhaps}
+use Rattle.c_types_rules.specs.Statements.{evaluates, returns, breaks, continues}
 use Rattle.c_types_rules.specs.Statements.{labels_of, labels_item, labels_step, unnamed}
 use Rattle.c_types_rules.specs.TypedStatements.{Grown, grown, grown_item, grown_statement}
 use Rattle.c_types_bodies.specs.Grown.{grown_of, labels_in}
@@ -121,10 +121,11 @@ passes_declaration : (text : Text) (declaration : Declaration)
     → Passes (declaration_walk text declaration) 0
 passes_declaration text declaration =
     passes_then (enumeration_walk text declaration.specifiers.enumeration)
-    (in_order (map (declarator_walk text (kind_of declaration.specifiers)
+    (in_order (map (declarator_walk text (kind_of text declaration.specifiers)
     (has_const declaration.specifiers)) declaration.declarators)) 0 0
     (passes_enumeration text declaration.specifiers.enumeration)
-    (passes_declarators text (kind_of declaration.specifiers) (has_const declaration.specifiers)
+    (passes_declarators text (kind_of text declaration.specifiers)
+    (has_const declaration.specifiers)
     declaration.declarators)
 
 passes_start : (text : Text) (first : ForStart) → Passes (start_walk text first) 0

@@ -37,15 +37,15 @@ ten_nils faults = simp append-nil
 receiving_state : (text : Text) (caller : ℕ) (parameter : Parameter) (old new : State)
     (places : List ℕ) (names : List Entry)
     → declared_twice old.around (receives parameter) ≡ places
-    → (receiving_behind parameter old.around).names ≡ names
+    → (receiving_behind text parameter old.around).names ≡ names
     → new.around ≡ record old.around { names = names; objects = old.around.objects + 1 }
     → new.first ≡ first_with old.first (broken rule.N2 places) → new.calls ≡ old.calls
     → new.labels ≡ old.labels → new.gotos ≡ old.gotos
-    → new ≡ walked text caller (receiving parameter) old
+    → new ≡ walked text caller (receiving text parameter) old
 unfolding noted
 receiving_state text caller parameter old new places names places_are names_are around first calls
     labels gotos =
-    same_state new (walked text caller (receiving parameter) old)
+    same_state new (walked text caller (receiving text parameter) old)
     (around ∙ ap (λ (all : List Entry). record old.around {
       names = all;
       objects = old.around.objects + 1;
@@ -62,7 +62,8 @@ pub record IsReceived (frame : Frame) (nest : Nest) (old new : Walker) (jumps af
   pub tied_new : IsTied frame (with_objects (old.objects + 1) new) after
   pub extends : Extends old.names new.names
   pub state : state_of frame nest (with_objects (old.objects + 1) new) after
-      ≡ walked frame.survey.now frame.caller (receiving parameter) (state_of frame nest old jumps)
+      ≡ walked frame.survey.now frame.caller (receiving frame.survey.now parameter)
+      (state_of frame nest old jumps)
 
 pub is_unnamed : (frame : Frame) (nest : Nest) (old : Walker) (jumps : Found)
     (parameter : Parameter) → IsTied frame old jumps → parameter.name ≡ None
@@ -86,14 +87,15 @@ is_unnamed frame nest old jumps parameter tied none = record {
       (ap (λ (name : Option Name). elim name as (λ _. List Entry) [
         | None ↦ old.names
         | Some one
-            ↦ old.names ++ local_entry one.bytes (parameter_object old.objects parameter) ∷ []
+            ↦ old.names ++ local_entry one.bytes (parameter_object frame.survey.now old.objects
+            parameter) ∷ []
       ]) none)
       refl refl refl refl refl;
 }
 
 pub is_named : (frame : Frame) (nest : Nest) (old new : Walker) (jumps after : Found)
     (parameter : Parameter) (name : Name) (object : Object) → IsTied frame old jumps
-    → object ≡ parameter_object old.objects parameter → parameter.name ≡ Some name
+    → object ≡ parameter_object frame.survey.now old.objects parameter → parameter.name ≡ Some name
     → new.names ≡ old.names ++ local_entry name.bytes object ∷ []
     → new.first ≡ first_with old.first (broken rule.N2
     (at_if (is_declared_among (drop nest.outer old.names) name.bytes) name.place))
@@ -102,7 +104,7 @@ pub is_named : (frame : Frame) (nest : Nest) (old new : Walker) (jumps after : F
 is_named frame nest old new jumps after parameter name object tied object_is some names first calls
     cases passed after_is =
     let next = with_objects (old.objects + 1) new in
-    let entry = local_entry name.bytes (parameter_object old.objects parameter) in
+    let entry = local_entry name.bytes (parameter_object frame.survey.now old.objects parameter) in
     let names_are : new.names ≡ old.names ++ entry ∷ [] =
     names ∙ ap (λ (o : Object). old.names ++ local_entry name.bytes o ∷ []) object_is in
     let after_object : after ≡ entered old.objects jumps =
@@ -128,7 +130,8 @@ is_named frame nest old new jumps after parameter name object tied object_is som
           (ap (λ (found : Option Name). elim found as (λ _. List Entry) [
             | None ↦ old.names
             | Some one
-                ↦ old.names ++ local_entry one.bytes (parameter_object old.objects parameter) ∷ []
+                ↦ old.names ++ local_entry one.bytes (parameter_object frame.survey.now old.objects
+                parameter) ∷ []
           ]) some)
           (ap (λ (all : List Entry). record (around_of frame nest next) { names = all }) names_are
           ∙ ap (λ (c : Cases). record (around_of frame nest next) {
@@ -150,20 +153,22 @@ is_named frame nest old new jumps after parameter name object tied object_is som
           after_object);
     }
 
-pub objects_step : (parameters : List Parameter) (i : ℕ) (parameter : Parameter)
+pub objects_step : (text : Text) (parameters : List Parameter) (i : ℕ) (parameter : Parameter)
     (objects new : List Object) (object : Object) (number next : ℕ) (whole : List Object)
     → i < length parameters → parameter ≡ get_or parameters i parameter
-    → new ≡ objects ++ object ∷ [] → object ≡ parameter_object number parameter
-    → next ≡ number + 1 → objects ++ parameter_objects number (drop i parameters) ≡ whole
-    → new ++ parameter_objects next (drop (i + 1) parameters) ≡ whole
-objects_step parameters i parameter objects new object number next whole less is new_is object_is
+    → new ≡ objects ++ object ∷ [] → object ≡ parameter_object text number parameter
+    → next ≡ number + 1 → objects ++ parameter_objects text number (drop i parameters) ≡ whole
+    → new ++ parameter_objects text next (drop (i + 1) parameters) ≡ whole
+objects_step text parameters i parameter objects new object number next whole less is new_is
+    object_is
     next_is so_far =
     let more = drop (i + 1) parameters in
-    ap (λ (all : List Object). all ++ parameter_objects next more) new_is
-    ∙ append_assoc objects (object ∷ []) (parameter_objects next more)
-    ∙ ap (λ (o : Object). objects ++ (o ∷ parameter_objects next more)) object_is
-    ∙ ap (λ (n : ℕ). objects ++ (parameter_object number parameter ∷ parameter_objects n more))
+    ap (λ (all : List Object). all ++ parameter_objects text next more) new_is
+    ∙ append_assoc objects (object ∷ []) (parameter_objects text next more)
+    ∙ ap (λ (o : Object). objects ++ (o ∷ parameter_objects text next more)) object_is
+    ∙ ap (λ (n : ℕ). objects ++ (parameter_object text number parameter ∷ parameter_objects text n
+    more))
     next_is
-    ∙ sym (ap (λ (rest : List Parameter). objects ++ parameter_objects number rest)
+    ∙ sym (ap (λ (rest : List Parameter). objects ++ parameter_objects text number rest)
     (drop_at parameters i parameter less is))
     ∙ so_far

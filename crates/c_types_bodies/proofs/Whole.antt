@@ -29,11 +29,11 @@ walks_same text (item ∷ items) =
 
 pub whole_walk : (text : Text) (caller : ℕ) (all : Parameters) (items : List BlockItem)
     (before mid last : State)
-    → mid ≡ walked text caller (in_order (map receiving (listed all))) before
+    → mid ≡ walked text caller (in_order (map (receiving text) (listed all))) before
     → last ≡ walked text caller (in_order (map (grown_walk text) items)) mid
     → last ≡ walked text caller (body_walk text all items) before
 whole_walk text caller all items before mid last first second =
-    two_walks text caller (in_order (map receiving (listed all)))
+    two_walks text caller (in_order (map (receiving text) (listed all)))
     (in_order (map (walk_of text) items)) before mid last first
     (second ∙ ap (λ (ws : List Walk). walked text caller (in_order ws) mid) (walks_same text items))
 

@@ -15,28 +15,30 @@ use Rattle.c_types_rules.specs.Items.{around_body, body_walk, listed}
 use Rattle.c_types_rules.specs.TypedStatements.{grown, typed_in_order, parameter_objects}
 
 -- what is known where the body begins
-abbrev pub begins : List Entry → ℕ → Specifiers → List BlockItem → Around
-begins names objects specifiers items =
-    around_body (record { names = names; types = []; objects = objects; bodies = 0 }) specifiers items
+abbrev pub begins : Text → List Entry → ℕ → Specifiers → List BlockItem → Around
+begins text names objects specifiers items =
+    around_body text (record { names = names; types = []; objects = objects; bodies = 0 })
+    specifiers items
 
 -- its acts
 abbrev pub acts_of : Text → List Entry → ℕ → Specifiers → Parameters → List BlockItem → List Site
 acts_of text names objects specifiers all items =
-    (body_walk text all items).sites (begins names objects specifiers items)
+    (body_walk text all items).sites (begins text names objects specifiers items)
 
 -- how many objects stand before what comes behind it
 abbrev pub objects_behind : Text → List Entry → ℕ → Specifiers → Parameters → List BlockItem → ℕ
 objects_behind text names objects specifiers all items =
-    ((body_walk text all items).behind (begins names objects specifiers items)).objects
+    ((body_walk text all items).behind (begins text names objects specifiers items)).objects
 
 -- the typed function, whose braces stand at these places
 abbrev pub typed_body : Text → List Entry → ℕ → Specifiers → Parameters → List BlockItem
     → ℕ → ℕ → TypedFunction
 typed_body text names objects specifiers all items place end = record {
-  result = kind_of specifiers;
-  parameters = parameter_objects objects (listed all);
+  result = kind_of text specifiers;
+  parameters = parameter_objects text objects (listed all);
   items = typed_in_order (map (grown text) items)
-      ((in_order (map receiving (listed all))).behind (begins names objects specifiers items));
+      ((in_order (map (receiving text) (listed all))).behind
+      (begins text names objects specifiers items));
   place = place;
   end = end;
 }

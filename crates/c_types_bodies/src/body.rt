@@ -67,7 +67,7 @@ fn walk_function(
 {
     let file = walker.names.len();
     let labels = labels_in_items(alloc, items)?;
-    let result = read_specifiers(alloc, specifiers)?.kind;
+    let result = read_specifiers(alloc, survey, specifiers)?.kind;
     let frame = Frame {
         survey,
         labels: &labels,

@@ -147,7 +147,7 @@ pub(crate) fn walk_declaration(
 {
     let specifiers = &declaration.specifiers;
     walk_enumeration(alloc, frame, walker, jumps, nest, &specifiers.enumeration)?;
-    let qualified = read_specifiers(alloc, specifiers)?;
+    let qualified = read_specifiers(alloc, frame.survey, specifiers)?;
     let list = declaration.declarators.as_slice();
     let typed = walk_declarators(alloc, frame, walker, jumps, nest, qualified, list)?;
     Ok(typed)

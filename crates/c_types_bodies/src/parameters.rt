@@ -76,14 +76,16 @@ fn name_parameter(
     object: Object,
 ) -> Result<(), AllocError>
     requires tied { IsTied frame.now walker.old jumps.old }
-    requires object { object ≡ parameter_object walker.old.objects parameter.now }
+    requires object { object ≡ parameter_object frame.now.survey.now walker.old.objects
+        parameter.now }
     ensures tied { OnOk result (IsTied frame.now
         (with_objects (walker.old.objects + 1) walker.new) jumps.new) }
     ensures extends { OnOk result (Extends walker.old.names walker.new.names) }
     ensures objects { OnOk result (walker.new.objects ≡ walker.old.objects) }
     ensures state { OnOk result (state_of frame.now nest
         (with_objects (walker.old.objects + 1) walker.new) jumps.new
-        ≡ walked frame.now.survey.now frame.now.caller (receiving parameter.now)
+        ≡ walked frame.now.survey.now frame.now.caller (receiving frame.now.survey.now
+        parameter.now)
         (state_of frame.now nest walker.old jumps.old)) }
 {
     match &parameter.name {
@@ -107,14 +109,16 @@ fn walk_parameter(
     requires { IsTied frame.now walker.old jumps.old }
     ensures tied { OnOk result (IsTied frame.now walker.new jumps.new) }
     ensures extends { OnOk result (Extends walker.old.names walker.new.names) }
-    ensures object { IfOk result (λ o. o ≡ parameter_object walker.old.objects parameter.now) }
+    ensures object { IfOk result (λ o. o ≡ parameter_object frame.now.survey.now walker.old.objects
+        parameter.now) }
     ensures objects { OnOk result (walker.new.objects ≡ walker.old.objects + 1) }
     ensures state { OnOk result (state_of frame.now nest walker.new jumps.new
-        ≡ walked frame.now.survey.now frame.now.caller (receiving parameter.now)
+        ≡ walked frame.now.survey.now frame.now.caller (receiving frame.now.survey.now
+        parameter.now)
         (state_of frame.now nest walker.old jumps.old)) }
 {
     let objects = with_object(walker.objects)?;
-    let object = parameter_object(alloc, walker.objects, parameter)?;
+    let object = parameter_object(alloc, frame.survey, walker.objects, parameter)?;
     name_parameter(alloc, frame, walker, jumps, nest, parameter, object)?;
     walker.objects = objects;
     Ok(object)
@@ -133,9 +137,10 @@ pub(crate) fn walk_parameters(
     ensures tied { OnOk result (IsTied frame.now walker.new jumps.new) }
     ensures extends { OnOk result (Extends walker.old.names walker.new.names) }
     ensures objects { IfOk result (λ o. o
-        ≡ parameter_objects walker.old.objects parameters.now) }
+        ≡ parameter_objects frame.now.survey.now walker.old.objects parameters.now) }
     ensures state { OnOk result (state_of frame.now nest walker.new jumps.new
-        ≡ walked frame.now.survey.now frame.now.caller (in_order (map receiving parameters.now))
+        ≡ walked frame.now.survey.now frame.now.caller (in_order
+        (map (receiving frame.now.survey.now) parameters.now))
         (state_of frame.now nest walker.old jumps.old)) }
 {
     let mut objects = Vec::with_capacity(alloc, parameters.len())?;

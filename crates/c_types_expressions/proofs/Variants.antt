@@ -335,14 +335,15 @@ module _ (text : Text) (names : List Entry) where
 
   pub part_Cast : (to_type : TypeName) (operand : Expression) (place : ℕ) →
       part_of text names (tree.Cast to_type operand place)
-      ≡ plain place (cast_kind (kind_of_type_name to_type) (part_of text names operand).kind)
+      ≡ plain place (cast_kind (kind_of_type_name text.model to_type)
+      (part_of text names operand).kind)
   part_Cast to_type operand place =
       ap (λ (r : Reading). r.part) (open_Cast to_type operand place)
 
   pub typed_Cast : (to_type : TypeName) (operand : Expression) (place : ℕ) →
       typed_of text names (tree.Cast to_type operand place)
       ≡ typed.Cast (typed_of text names operand)
-      (cast_kind (kind_of_type_name to_type) (part_of text names operand).kind) place
+      (cast_kind (kind_of_type_name text.model to_type) (part_of text names operand).kind) place
   typed_Cast to_type operand place =
       ap (λ (r : Reading). r.typed) (open_Cast to_type operand place)
 
@@ -350,23 +351,23 @@ module _ (text : Text) (names : List Entry) where
       (place : ℕ) →
       first_with held (faults_of text names (tree.Cast to_type operand place))
       ≡ first_with (first_with held (uses_faults (tag_uses names to_type)))
-      (role_faults text names (cast_role (kind_of_type_name to_type)) operand)
+      (role_faults text names (cast_role (kind_of_type_name text.model to_type)) operand)
   first_Cast held to_type operand place =
       ap (λ (r : Reading). first_with held (uses_faults r.uses)) (open_Cast to_type operand place)
       ∙ uses_append held (tag_uses names to_type)
-      (used (cast_role (kind_of_type_name to_type)) (reading text names operand))
+      (used (cast_role (kind_of_type_name text.model to_type)) (reading text names operand))
 
   pub calls_Cast : (held : List Call) (caller : ℕ) (to_type : TypeName) (operand : Expression)
       (place : ℕ) →
       held ++ calls_of text names caller (tree.Cast to_type operand place)
       ≡ held
-      ++ role_calls text names caller (cast_role (kind_of_type_name to_type)) operand
+      ++ role_calls text names caller (cast_role (kind_of_type_name text.model to_type)) operand
   calls_Cast held caller to_type operand place =
       ap (λ (r : Reading). held ++ uses_calls caller r.uses) (open_Cast to_type operand place)
       ∙ (calls_append held caller (tag_uses names to_type)
-      (used (cast_role (kind_of_type_name to_type)) (reading text names operand))
+      (used (cast_role (kind_of_type_name text.model to_type)) (reading text names operand))
       ∙ ap (λ (cs : List Call). cs ++ role_calls text names caller
-      (cast_role (kind_of_type_name to_type)) operand)
+      (cast_role (kind_of_type_name text.model to_type)) operand)
       (ap (λ (cs : List Call). held ++ cs) (tag_calls caller names to_type) ∙ append-nil held))
 
   open_Chain : (head : Expression) (rest : List (BinaryOperator × Expression)) (place : ℕ) →

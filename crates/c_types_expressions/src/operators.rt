@@ -168,7 +168,7 @@ impl Reader<'_> {
             self.now.caller (Expression.Cast to.now operand.now place)) }
     {
         self.note_type_name(to, &mut notes.first)?;
-        let wanted = kind_of_type_name(to);
+        let wanted = kind_of_type_name(self.survey.model(), to);
         let role = cast_role(wanted);
         let read = self.read_used(role, operand, notes)?;
         let kind = cast_kind(wanted, read.part.kind);

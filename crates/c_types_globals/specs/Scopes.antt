@@ -29,9 +29,9 @@ parameters_faults text all before =
 
 -- the faults of a function's name, where these names are declared, and of the types of its
 -- parameters
-abbrev pub taken_faults : List Entry → Kind → Option (List ParameterType) → Bool
+abbrev pub taken_faults : Text → List Entry → Kind → Option (List ParameterType) → Bool
     → FunctionDeclarator → List TextFault
-taken_faults names kind types defines declarator =
+taken_faults text names kind types defines declarator =
     broken rule.N2 (at_if (redeclares_function (declared_as names declarator.name.bytes) kind types
     defines) declarator.name.place)
-    ++ broken rule.N5 (flat_map void_parameter (listed declarator.parameters))
+    ++ broken rule.N5 (flat_map (void_parameter text) (listed declarator.parameters))

@@ -44,6 +44,7 @@ fn declare_name(
 #[tactic(auto, using(c_types_rules::specs::First::first_append))]
 fn note_head(
     alloc: Global,
+    survey: &Survey,
     names: &Names,
     kind: Kind,
     types: &Option<Seq<ParameterType>>,
@@ -52,12 +53,12 @@ fn note_head(
     first: &mut Option<TextFault>,
 ) -> Result<(), AllocError>
     ensures { OnOk result (first.new ≡ first_with first.old
-        (taken_faults names.now kind types.now defines declarator.now)) }
+        (taken_faults survey.now names.now kind types.now defines declarator.now)) }
 {
     let name = declarator.name.bytes.as_slice();
     let is_taken = redeclares_function(names.declared(name), kind, types, defines);
     note_if(first, Rule::N2, is_taken, declarator.name.place);
-    note_void_parameters(alloc, listed(&declarator.parameters), first)?;
+    note_void_parameters(alloc, survey, listed(&declarator.parameters), first)?;
     Ok(())
 }
 
@@ -72,15 +73,16 @@ pub fn declare_function(
     first: &mut Option<TextFault>,
 ) -> Result<(), AllocError>
     ensures scope { OnOk result (before_of scope.new
-        ≡ function_behind defines specifiers.now declarator.now (before_of scope.old)) }
+        ≡ function_behind survey.now defines specifiers.now declarator.now (before_of scope.old)) }
     ensures first { OnOk result (first.new ≡ first_with first.old
         (head_faults survey.now (before_of scope.old) defines specifiers.now declarator.now)) }
 {
     note_enumeration(alloc, survey, scope, specifiers, first)?;
-    let kind = read_specifiers(alloc, specifiers)?.kind;
-    let types = parameter_types(alloc, defines, &declarator.parameters)?;
+    let kind = read_specifiers(alloc, survey, specifiers)?.kind;
+    let types = parameter_types(alloc, survey, defines, &declarator.parameters)?;
     note_head(
         alloc,
+        survey,
         &scope.names,
         kind,
         &types,

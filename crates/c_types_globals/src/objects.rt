@@ -138,16 +138,16 @@ pub fn declare_objects(
     starts: &mut Vec<Start>,
 ) -> Result<(), AllocError>
     ensures scope { OnOk result (before_of scope.new ≡ globals_behind survey.now
-        (kind_of declaration.now.specifiers) (has_const declaration.now.specifiers)
+        (kind_of survey.now declaration.now.specifiers) (has_const declaration.now.specifiers)
         declaration.now.declarators (before_of scope.old)) }
     ensures first { OnOk result (first.new ≡ first_with first.old (globals_faults survey.now
-        (kind_of declaration.now.specifiers) (has_const declaration.now.specifiers)
+        (kind_of survey.now declaration.now.specifiers) (has_const declaration.now.specifiers)
         declaration.now.declarators (before_of scope.old))) }
     ensures starts { OnOk result (starts.new.items ≡ starts.old.items ++ starts_in survey.now
-        (kind_of declaration.now.specifiers) (has_const declaration.now.specifiers)
+        (kind_of survey.now declaration.now.specifiers) (has_const declaration.now.specifiers)
         declaration.now.declarators (before_of scope.old)) }
 {
-    let qualified = read_specifiers(alloc, &declaration.specifiers)?;
+    let qualified = read_specifiers(alloc, survey, &declaration.specifiers)?;
     let declarators = declaration.declarators.as_slice();
     declare_all(alloc, survey, scope, qualified, declarators, first, starts)?;
     Ok(())

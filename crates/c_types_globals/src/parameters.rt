@@ -10,18 +10,23 @@ ghost use Rattle.c_types_rules.specs.Items.{listed, parameter_types};
 
 use c_grammar_tree::{Parameter, Parameters};
 use c_lexer::TextFault;
+use c_types_names::Survey;
 use c_types_objects::{note_void_parameter, parameter_type};
 use c_types_rules::ParameterType;
 use cpa_ints::Seq;
 use std::alloc::{AllocError, Global};
 
 /// The types of listed parameters.
-fn listed_types(alloc: Global, all: &[Parameter]) -> Result<Seq<ParameterType>, AllocError>
-    ensures { IfOk result (λ types. types ≡ map parameter_type all.now) }
+fn listed_types(
+    alloc: Global,
+    survey: &Survey,
+    all: &[Parameter],
+) -> Result<Seq<ParameterType>, AllocError>
+    ensures { IfOk result (λ types. types ≡ map (parameter_type survey.now) all.now) }
 {
     let mut types = Vec::new(alloc);
     for parameter in all {
-        types.push(parameter_type(alloc, parameter)?)?;
+        types.push(parameter_type(alloc, survey, parameter)?)?;
     }
     Ok(Seq::from_vec(types))
 }
@@ -29,15 +34,16 @@ fn listed_types(alloc: Global, all: &[Parameter]) -> Result<Seq<ParameterType>, 
 /// The types of the parameters that a declaration gives its function, if it says which there are.
 pub(crate) fn parameter_types(
     alloc: Global,
+    survey: &Survey,
     defines: bool,
     parameters: &Parameters,
 ) -> Result<Option<Seq<ParameterType>>, AllocError>
-    ensures { IfOk result (λ types. types ≡ parameter_types defines parameters.now) }
+    ensures { IfOk result (λ types. types ≡ parameter_types survey.now defines parameters.now) }
 {
     match parameters {
         Parameters::Unspecified if !defines => Ok(None),
         Parameters::Unspecified | Parameters::Void => Ok(Some(Seq::new(alloc))),
-        Parameters::Listed(all) => Ok(Some(listed_types(alloc, all.as_slice())?)),
+        Parameters::Listed(all) => Ok(Some(listed_types(alloc, survey, all.as_slice())?)),
     }
 }
 
@@ -54,14 +60,15 @@ pub(crate) fn listed(parameters: &Parameters) -> &[Parameter]
 /// Notes the faults of parameters that are declared void.
 pub(crate) fn note_void_parameters(
     alloc: Global,
+    survey: &Survey,
     all: &[Parameter],
     first: &mut Option<TextFault>,
 ) -> Result<(), AllocError>
     ensures { OnOk result (first.new
-        ≡ first_with first.old (broken rule.N5 (flat_map void_parameter all.now))) }
+        ≡ first_with first.old (broken rule.N5 (flat_map (void_parameter survey.now) all.now))) }
 {
     for parameter in all {
-        note_void_parameter(alloc, parameter, first)?;
+        note_void_parameter(alloc, survey, parameter, first)?;
     }
     Ok(())
 }

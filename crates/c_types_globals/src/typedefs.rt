@@ -73,16 +73,19 @@ fn declare_all(
 /// Declares the names of a typedef: holds their first fault.
 pub fn declare_typedefs(
     alloc: Global,
+    survey: &Survey,
     scope: &mut Scope,
     specifiers: &Specifiers,
     names: &[Name],
     first: &mut Option<TextFault>,
 ) -> Result<(), AllocError>
     ensures scope { OnOk result (before_of scope.new ≡ typedefs_behind
-        (object_type (kind_of specifiers.now)) names.now (before_of scope.old)) }
+        (object_type (kind_of survey.now specifiers.now)) names.now (before_of scope.old)) }
     ensures first { OnOk result (first.new ≡ first_with first.old (typedefs_faults
-        (object_type (kind_of specifiers.now)) names.now (before_of scope.old))) }
+        (object_type (kind_of survey.now specifiers.now)) names.now (before_of scope.old))) }
 {
-    let ty = read_specifiers(alloc, specifiers)?.kind.object_type();
+    let ty = read_specifiers(alloc, survey, specifiers)?
+        .kind
+        .object_type();
     declare_all(alloc, scope, ty, names, first)
 }

@@ -1,5 +1,6 @@
-//! What a whole text says of its functions: `Text` of `specs/Names.antt` of `c_types_rules`, which
-//! `text_of` takes from the items. What the parts keep is `IsSurveyed`, proved in `proofs/Places`.
+//! What a whole text is read by: `Text` of `specs/Names.antt` of `c_types_rules`, which `text_in`
+//! makes of a data model and the items. What the parts keep is `IsSurveyed`, proved in
+//! `proofs/Places`.
 
 ghost use Rattle.std.specs.Prelude.{◌≡◌, ◌<◌, [], ◌++◌, ◌∷◌, true, false};
 ghost use Rattle.std.specs.Prelude.{length, IfOk, OnOk, option_map};
@@ -7,13 +8,13 @@ ghost use Rattle.std.specs.List.{filter_map};
 ghost use Rattle.std.specs.Option.{option_to_list};
 ghost use Rattle.c_types_rules.specs.Names.{body_of, arity_of};
 ghost use Rattle.c_types_rules.specs.Items.{given_parameters, body_name, named_arity, item_arity};
-ghost use Rattle.c_types_rules.specs.Items.{text_of};
+ghost use Rattle.c_types_rules.specs.Items.{text_in};
 ghost use Rattle.c_types_names.specs.Tables.{IsSurveyed};
 
 use crate::Firsts;
 use crate::numbers::{Numbers, number_of, set_first};
 use c_grammar_tree::{Body, FunctionDeclarator, Item, Parameters};
-use cpa_ints::Seq;
+use cpa_ints::{DataModel, Seq};
 use std::alloc::{AllocError, Global};
 use std::collections::HashMap;
 use std::marker::Model;
@@ -29,9 +30,11 @@ pub(crate) struct Parts {
     pub(crate) first_arities: Numbers,
 }
 
-/// What the declarations of a text say of its functions, the first of each name found by hash.
+/// The data model of a text, and what its declarations say of its functions, the first of each name
+/// found by hash.
 #[derive(Drop)]
 pub struct Survey {
+    model: DataModel,
     parts: Parts,
 }
 
@@ -41,20 +44,32 @@ impl Model for Survey {
 
     ghost Value = { Text };
 
-    ghost view = { λ s. record { bodies = s.parts.bodies; arities = s.parts.arities.items } };
+    ghost view = { λ s. record {
+      model = s.model;
+      bodies = s.parts.bodies;
+      arities = s.parts.arities.items;
+    } };
 
     ghost invariant = { λ s. IsSurveyed s.parts };
 }
 
 impl Survey {
-    /// What these items say. A text with more than 2^32 bodies, or a function with 2^32 parameters
-    /// or more, is want of memory.
-    pub fn of(alloc: Global, items: &[Item]) -> Result<Survey, AllocError>
-        ensures { IfOk result (λ survey. survey ≡ text_of items.now) }
+    /// What these items say in a data model. A text with more than 2^32 bodies, or a function with
+    /// 2^32 parameters or more, is want of memory.
+    pub fn of(alloc: Global, model: DataModel, items: &[Item]) -> Result<Survey, AllocError>
+        ensures { IfOk result (λ survey. survey ≡ text_in model items.now) }
     {
         Ok(Survey {
+            model,
             parts: survey_items(alloc, items)?,
         })
+    }
+
+    /// The data model, by which words of types and known functions are read.
+    pub fn model(&self) -> DataModel
+        ensures { result ≡ self.now.model }
+    {
+        self.model
     }
 
     /// The number of the function's body, if it has one.

@@ -231,7 +231,9 @@ pub(crate) fn meaning(table: &Table, survey: &Survey, name: &[u8]) -> Option<Mea
 {
     match declared(table, name) {
         Some(Declared::Object { object, .. }) => Some(Meaning::Object(*object)),
-        Some(declared) => meaning_by(survey, name, known_function(name), declared),
-        None => known_function(name).map(Meaning::Known),
+        Some(declared) => {
+            meaning_by(survey, name, known_function(survey.model(), name), declared)
+        }
+        None => known_function(survey.model(), name).map(Meaning::Known),
     }
 }

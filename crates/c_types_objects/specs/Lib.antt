@@ -1,4 +1,3 @@
 pub mod Initializers
 pub mod Enumerations
 pub mod Named
-pub mod OneWord

@@ -6,19 +6,24 @@ ghost use Rattle.c_lexer.specs.declared.fault.Rule.TheVariants as rule;
 ghost use Rattle.c_types_rules.specs.First.{first_with};
 ghost use Rattle.c_types_rules.specs.ExpressionRules.{broken, option_places};
 ghost use Rattle.c_types_rules.specs.Declarations.{parameter_type, parameter_object, void_places};
-ghost use Rattle.c_types_rules.specs.Declarations.{kind_of, void_parameter};
+ghost use Rattle.c_types_rules.specs.Declarations.{void_by, void_parameter};
 
 use crate::specifiers::{is_void_word, kind_of, read_specifiers};
 use c_grammar_tree::{Name, Parameter, Specifier};
 use c_lexer::{Rule, TextFault};
+use c_types_names::Survey;
 use c_types_rules::{Kind, Object, ParameterType, note_place};
 use std::alloc::{AllocError, Global};
 
 /// The type of a parameter.
-pub fn parameter_type(alloc: Global, parameter: &Parameter) -> Result<ParameterType, AllocError>
-    ensures { IfOk result (λ r. r ≡ parameter_type parameter.now) }
+pub fn parameter_type(
+    alloc: Global,
+    survey: &Survey,
+    parameter: &Parameter,
+) -> Result<ParameterType, AllocError>
+    ensures { IfOk result (λ r. r ≡ parameter_type survey.now parameter.now) }
 {
-    let kind = kind_of(alloc, &parameter.specifiers)?;
+    let kind = kind_of(alloc, survey, &parameter.specifiers)?;
     Ok(ParameterType {
         ty: kind.object_type(),
         is_pointer: parameter.is_pointer,
@@ -38,12 +43,13 @@ fn name_place(name: &Option<Name>) -> Option<u32>
 /// The object of this number that a parameter is.
 pub fn parameter_object(
     alloc: Global,
+    survey: &Survey,
     number: u32,
     parameter: &Parameter,
 ) -> Result<Object, AllocError>
-    ensures { IfOk result (λ r. r ≡ parameter_object number parameter.now) }
+    ensures { IfOk result (λ r. r ≡ parameter_object survey.now number parameter.now) }
 {
-    let qualified = read_specifiers(alloc, &parameter.specifiers)?;
+    let qualified = read_specifiers(alloc, survey, &parameter.specifiers)?;
     Ok(Object {
         number,
         ty: qualified.kind.object_type(),
@@ -66,9 +72,8 @@ fn void_place(words: &[Specifier]) -> Option<u32>
 }
 
 /// Where a parameter of this type is declared void.
-fn void_parameter(kind: Kind, parameter: &Parameter) -> Option<u32>
-    requires { kind ≡ kind_of parameter.now.specifiers }
-    ensures { option_places result ≡ void_parameter parameter.now }
+fn void_by(kind: Kind, parameter: &Parameter) -> Option<u32>
+    ensures { option_places result ≡ void_by kind parameter.now }
 {
     match kind {
         Kind::Value(_) => None,
@@ -82,13 +87,14 @@ fn void_parameter(kind: Kind, parameter: &Parameter) -> Option<u32>
 /// Notes the fault of a parameter that is declared void.
 pub fn note_void_parameter(
     alloc: Global,
+    survey: &Survey,
     parameter: &Parameter,
     first: &mut Option<TextFault>,
 ) -> Result<(), AllocError>
     ensures { OnOk result (first.new
-        ≡ first_with first.old (broken rule.N5 (void_parameter parameter.now))) }
+        ≡ first_with first.old (broken rule.N5 (void_parameter survey.now parameter.now))) }
 {
-    let kind = kind_of(alloc, &parameter.specifiers)?;
-    note_place(first, Rule::N5, void_parameter(kind, parameter));
+    let kind = kind_of(alloc, survey, &parameter.specifiers)?;
+    note_place(first, Rule::N5, void_by(kind, parameter));
     Ok(())
 }

@@ -2,14 +2,14 @@
 //! `specs/Declarations.antt`). Proved with `proofs/Words.antt`.
 ghost use Rattle.std.specs.Prelude.{◌≡◌, ◌++◌, ◌∷◌, [], IfOk, OnOk};
 ghost use Rattle.c_grammar_tree.specs.Parts.{type_words, named_by, named_among, is_const_word};
-ghost use Rattle.c_types_rules.specs.Declarations.{is_void_word, kind_of, has_const};
+ghost use Rattle.c_types_rules.specs.Declarations.{is_void_word, kind_by, kind_of, has_const};
 ghost use Rattle.c_types_rules.specs.Types.{kind_of_words};
-ghost use Rattle.c_types_objects.specs.OneWord.{kind_by};
 
 use c_grammar_symbols::{NamedType, SpecifierWord, TypeWord};
 use c_grammar_tree::{Specifier, SpecifierKind, Specifiers};
+use c_types_names::Survey;
 use c_types_rules::{Kind, kind_of_words, type_of_named};
-use cpa_ints::IntType;
+use cpa_ints::{DataModel, IntType};
 use std::alloc::{AllocError, Global};
 
 /// What specifiers say of an object: its type, and whether it is const.
@@ -19,38 +19,47 @@ pub struct Qualified {
     pub is_const: bool,
 }
 
-/// What these specifiers say.
-pub fn read_specifiers(alloc: Global, specifiers: &Specifiers) -> Result<Qualified, AllocError>
-    ensures kind { IfOk result (λ q. q.kind ≡ kind_of specifiers.now) }
+/// What these specifiers of a text say.
+pub fn read_specifiers(
+    alloc: Global,
+    survey: &Survey,
+    specifiers: &Specifiers,
+) -> Result<Qualified, AllocError>
+    ensures kind { IfOk result (λ q. q.kind ≡ kind_of survey.now specifiers.now) }
     ensures is_const { IfOk result (λ q. q.is_const ≡ has_const specifiers.now) }
 {
-    let kind = kind_of(alloc, specifiers)?;
+    let kind = kind_of(alloc, survey, specifiers)?;
     Ok(Qualified {
         kind,
         is_const: has_const(specifiers),
     })
 }
 
-/// The type that specifiers name.
-pub(crate) fn kind_of(alloc: Global, specifiers: &Specifiers) -> Result<Kind, AllocError>
-    ensures { IfOk result (λ kind. kind ≡ kind_of specifiers.now) }
+/// The type that specifiers of a text name.
+pub(crate) fn kind_of(
+    alloc: Global,
+    survey: &Survey,
+    specifiers: &Specifiers,
+) -> Result<Kind, AllocError>
+    ensures { IfOk result (λ kind. kind ≡ kind_of survey.now specifiers.now) }
 {
+    let model = survey.model();
     let words = specifiers.words.as_slice();
     if let [word] = words {
-        return Ok(kind_of_one(*word));
+        return Ok(kind_of_one(model, *word));
     }
     match named_among(words) {
-        Some(named) => Ok(Kind::Value(type_of_named(named))),
+        Some(named) => Ok(Kind::Value(type_of_named(model, named))),
         None => {
             let words = type_words(alloc, words)?;
-            Ok(kind_of_words(words.as_slice()))
+            Ok(kind_of_words(model, words.as_slice()))
         }
     }
 }
 
 /// The type that a word of a type names where it stands alone.
-fn kind_of_word(word: TypeWord) -> Kind
-    ensures { result ≡ kind_of_words (word ∷ []) }
+fn kind_of_word(model: DataModel, word: TypeWord) -> Kind
+    ensures { result ≡ kind_of_words model (word ∷ []) }
 {
     match word {
         TypeWord::Void => Kind::Void,
@@ -58,20 +67,20 @@ fn kind_of_word(word: TypeWord) -> Kind
         TypeWord::Char => Kind::Value(IntType::I8),
         TypeWord::Short => Kind::Value(IntType::I16),
         TypeWord::Int | TypeWord::Signed => Kind::Value(IntType::I32),
-        TypeWord::Long => Kind::Value(IntType::I64),
+        TypeWord::Long => Kind::Value(model.long()),
         TypeWord::Unsigned => Kind::Value(IntType::U32),
     }
 }
 
 /// The type that a single word names, without a list of it.
-fn kind_of_one(word: Specifier) -> Kind
-    ensures { result ≡ kind_by (word ∷ []) }
+fn kind_of_one(model: DataModel, word: Specifier) -> Kind
+    ensures { result ≡ kind_by model (word ∷ []) }
 {
     match word.kind {
-        SpecifierKind::TypedefName(named) => Kind::Value(type_of_named(named)),
-        SpecifierKind::TypeWord(type_word) => kind_of_word(type_word),
+        SpecifierKind::TypedefName(named) => Kind::Value(type_of_named(model, named)),
+        SpecifierKind::TypeWord(type_word) => kind_of_word(model, type_word),
         SpecifierKind::Storage(_) | SpecifierKind::Other(_) | SpecifierKind::Enum => {
-            kind_of_words(&[])
+            kind_of_words(model, &[])
         }
     }
 }

@@ -6,6 +6,7 @@ use Rattle.std.specs.List.{list_any}
 use Rattle.std.specs.Ordering.{int_eq}
 use Rattle.std.specs.Str.{bytes_eq}
 use Rattle.cpa_ints.specs.declared.integers.IntType.TheVariants as ty
+use Rattle.cpa_ints.specs.declared.data_model.DataModel.{DataModel}
 use Rattle.cpa_ints.specs.Wrapping.{wrapped}
 use Rattle.c_grammar_symbols.specs.declared.words.TypeWord.TheVariants as word
 use Rattle.c_grammar_tree.specs.declared.expression.Expression.{Expression}
@@ -47,13 +48,18 @@ is_void_word found = elim found.kind [
   | word_kind.Enum ↦ false
 ]
 
--- the type that specifiers name: that of the typedef name among them, or of their words; with enum,
--- which stands beside no word of a type, int (C11 6.7.2, 6.7.2.2 and 6.7.8)
-abbrev pub kind_of : Specifiers → Kind
-kind_of specifiers = elim (named_among specifiers.words) [
-  | None ↦ kind_of_words (type_words specifiers.words)
-  | Some named ↦ Value (type_of_named named)
+-- the type that these words name in a data model: that of the typedef name among them, or of the
+-- words of a type; with enum, which stands beside no word of a type, int (C11 6.7.2, 6.7.2.2 and
+-- 6.7.8)
+abbrev pub kind_by : DataModel → List Specifier → Kind
+kind_by model words = elim (named_among words) [
+  | None ↦ kind_of_words model (type_words words)
+  | Some named ↦ Value (type_of_named model named)
 ]
+
+-- the type that specifiers of a text name
+abbrev pub kind_of : Text → Specifiers → Kind
+kind_of text specifiers = kind_by text.model specifiers.words
 
 -- they make const what is declared with them (C11 6.7.3)
 abbrev pub has_const : Specifiers → Bool
@@ -234,15 +240,17 @@ typed_local text names number kind is_const declarator = record {
 }
 
 -- the type of a parameter, one of type void counts as an int
-abbrev pub parameter_type : Parameter → ParameterType
-parameter_type parameter =
-    record { ty = object_type (kind_of parameter.specifiers); is_pointer = parameter.is_pointer }
+abbrev pub parameter_type : Text → Parameter → ParameterType
+parameter_type text parameter = record {
+  ty = object_type (kind_of text parameter.specifiers);
+  is_pointer = parameter.is_pointer;
+}
 
 -- the object of this number that a parameter is
-abbrev pub parameter_object : ℕ → Parameter → Object
-parameter_object number parameter = record {
+abbrev pub parameter_object : Text → ℕ → Parameter → Object
+parameter_object text number parameter = record {
   number = number;
-  ty = object_type (kind_of parameter.specifiers);
+  ty = object_type (kind_of text parameter.specifiers);
   length = None;
   is_const = has_const parameter.specifiers;
   place = option_map (λ name. name.place) parameter.name;
@@ -254,10 +262,10 @@ void_places [] = []
 void_places (found ∷ more) =
     elim (is_void_word found) [ true ↦ found.place ∷ [] | false ↦ void_places more ]
 
--- N5: a parameter is declared with the type void (6.7.6.3p4 and p10): its name, or else the word
+-- N5: a parameter is declared with this type, void (6.7.6.3p4 and p10): its name, or else the word
 -- void
-abbrev pub void_parameter : Parameter → List ℕ
-void_parameter parameter = elim (is_void_kind (kind_of parameter.specifiers)) [
+abbrev pub void_by : Kind → Parameter → List ℕ
+void_by kind parameter = elim (is_void_kind kind) [
   | true ↦ elim parameter.name [
     | Some name ↦ name.place ∷ []
     | None
@@ -265,3 +273,6 @@ void_parameter parameter = elim (is_void_kind (kind_of parameter.specifiers)) [
   ]
   | false ↦ []
 ]
+
+abbrev pub void_parameter : Text → Parameter → List ℕ
+void_parameter text parameter = void_by (kind_of text parameter.specifiers) parameter

@@ -185,7 +185,7 @@ reading_step text names (Expression-F.Unary operator operand place) =
       typed = tree.Unary operator operand.typed kind place;
     }
 reading_step text names (Expression-F.Cast to operand place) =
-    let wanted = kind_of_type_name to in
+    let wanted = kind_of_type_name text.model to in
     let kind = cast_kind wanted operand.part.kind in
     record {
       part = plain place kind;

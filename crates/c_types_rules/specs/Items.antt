@@ -9,6 +9,8 @@ use Rattle.cpa_expr.specs.Equality.{same_type}
 use Rattle.c_lexer.specs.declared.fault.Rule.TheVariants as rule
 use Rattle.c_lexer.specs.declared.fault.TextFault.{TextFault}
 use Rattle.cpa_ints.specs.declared.integers.IntType.{IntType}
+use Rattle.cpa_ints.specs.declared.data_model.DataModel.{DataModel}
+use Rattle.cpa_ints.specs.declared.data_model.DataModel.TheVariants.{Lp64}
 use Rattle.c_grammar_tree.specs.declared.name.Name.{Name}
 use Rattle.c_grammar_tree.specs.declared.expression.Expression.{Expression}
 use Rattle.c_grammar_tree.specs.declared.declaration.Specifiers.{Specifiers}
@@ -57,9 +59,9 @@ given_parameters false parameters.Unspecified = None
 given_parameters defines all = Some (listed all)
 
 -- the types of the parameters that a declaration gives its function
-abbrev pub parameter_types : Bool → Parameters → Option (List ParameterType)
-parameter_types defines all =
-    option_map (λ found. map parameter_type found) (given_parameters defines all)
+abbrev pub parameter_types : Text → Bool → Parameters → Option (List ParameterType)
+parameter_types text defines all =
+    option_map (λ found. map (parameter_type text) found) (given_parameters defines all)
 
 -- what the whole text says of its functions
 abbrev pub body_name : Item → Option (List ℕ)
@@ -77,9 +79,16 @@ item_arity (item.Function specifiers declarator body) =
     named_arity declarator.name.bytes (given_parameters true declarator.parameters)
 item_arity _ = None
 
+abbrev pub text_in : DataModel → List Item → Text
+text_in model items = record {
+  model = model;
+  bodies = filter_map body_name items;
+  arities = filter_map item_arity items;
+}
+
+-- in this project's data model
 abbrev pub text_of : List Item → Text
-text_of items =
-    record { bodies = filter_map body_name items; arities = filter_map item_arity items }
+text_of items = text_in Lp64 items
 
 -- what is known where an item stands: the names of objects and functions that are declared so far,
 -- the typedef names and their types, how many objects, and how many bodies stand before it
@@ -243,18 +252,19 @@ redeclares_function (Some (declared.Function kind old defined)) result fresh def
     not (same_kind kind result) || not (agreeing_parameters old fresh) || (defined && defines)
 
 -- N2 of a function: the later name
-abbrev pub redeclared_function : Before → Bool → Specifiers → FunctionDeclarator → List ℕ
-redeclared_function before defines specifiers declarator =
-    at_if (redeclares_function (declared_as before.names declarator.name.bytes) (kind_of specifiers)
-    (parameter_types defines declarator.parameters) defines) declarator.name.place
+abbrev pub redeclared_function : Text → Before → Bool → Specifiers → FunctionDeclarator → List ℕ
+redeclared_function text before defines specifiers declarator =
+    at_if (redeclares_function (declared_as before.names declarator.name.bytes)
+    (kind_of text specifiers) (parameter_types text defines declarator.parameters) defines)
+    declarator.name.place
 
 -- a function's name stands from its declarator on (C11 6.2.1p7)
-abbrev pub function_behind : Bool → Specifiers → FunctionDeclarator → Before → Before
-function_behind defines specifiers declarator before = record before {
+abbrev pub function_behind : Text → Bool → Specifiers → FunctionDeclarator → Before → Before
+function_behind text defines specifiers declarator before = record before {
   names = before.names ++ record {
     name = declarator.name.bytes;
-    declared = merged_function (declared_as before.names declarator.name.bytes) (kind_of specifiers)
-        (parameter_types defines declarator.parameters) defines;
+    declared = merged_function (declared_as before.names declarator.name.bytes)
+        (kind_of text specifiers) (parameter_types text defines declarator.parameters) defines;
   } ∷ [];
 }
 
@@ -262,15 +272,15 @@ function_behind defines specifiers declarator before = record before {
 abbrev pub head_faults : Text → Before → Bool → Specifiers → FunctionDeclarator → List TextFault
 head_faults text before defines specifiers declarator =
     enumeration_faults text specifiers before
-    ++ broken rule.N2 (redeclared_function before defines specifiers declarator)
-    ++ broken rule.N5 (flat_map void_parameter (listed declarator.parameters))
+    ++ broken rule.N2 (redeclared_function text before defines specifiers declarator)
+    ++ broken rule.N5 (flat_map (void_parameter text) (listed declarator.parameters))
     ++ flat_map (λ parameter. enumeration_faults text parameter.specifiers before)
     (listed declarator.parameters)
 
 -- what is known at the beginning of a body; the parameters and the names declared directly in the
 -- body stand in one scope (C11 6.2.1p4)
-abbrev pub around_body : Before → Specifiers → List BlockItem → Around
-around_body before specifiers items = record {
+abbrev pub around_body : Text → Before → Specifiers → List BlockItem → Around
+around_body text before specifiers items = record {
   names = before.names;
   outer = length before.names;
   objects = before.objects;
@@ -279,14 +289,14 @@ around_body before specifiers items = record {
   switch = None;
   choices = [];
   otherwise = None;
-  result = kind_of specifiers;
+  result = kind_of text specifiers;
   labels = map (λ name. name.bytes) (flat_map labels_of items);
   passed = 0;
 }
 
 abbrev pub body_walk : Text → Parameters → List BlockItem → Walk
 body_walk text all items =
-    followed (in_order (map receiving (listed all))) (in_order (map (walk_of text) items))
+    followed (in_order (map (receiving text) (listed all))) (in_order (map (walk_of text) items))
 
 -- the items of a body; a body that is skipped has none
 abbrev pub items_in : Body → List BlockItem
@@ -297,7 +307,8 @@ items_in (body.Block items place end) = items
 abbrev pub body_sites : Text → Before → Specifiers → FunctionDeclarator → Body → List Site
 body_sites text before specifiers declarator made =
     (body_walk text declarator.parameters (items_in made)).sites
-    (around_body (function_behind true specifiers declarator before) specifiers (items_in made))
+    (around_body text (function_behind text true specifiers declarator before) specifiers
+    (items_in made))
 
 abbrev pub body_faults : Text → List Site → List TextFault
 body_faults text sites = flat_map (site_faults text) sites ++ jump_faults sites
@@ -306,7 +317,7 @@ abbrev pub body_behind : Text → Specifiers → FunctionDeclarator → Body →
 body_behind text specifiers declarator body.Skipped before = before
 body_behind text specifiers declarator (body.Block items place end) before = record before {
   objects = ((body_walk text declarator.parameters items).behind
-      (around_body before specifiers items)).objects;
+      (around_body text before specifiers items)).objects;
   bodies = before.bodies + 1;
 }
 
@@ -361,25 +372,26 @@ site_calls text caller site = flat_map (use_calls caller) (act_uses text site.ar
 abbrev pub item_behind : Text → Item → Before → Before
 item_behind text (item.Empty place) before = before
 item_behind text (item.Typedef specifiers names place) before =
-    typedefs_behind (object_type (kind_of specifiers)) names
+    typedefs_behind (object_type (kind_of text specifiers)) names
     (enumeration_behind text specifiers before)
 item_behind text (item.Objects declaration) before =
-    globals_behind text (kind_of declaration.specifiers) (has_const declaration.specifiers)
+    globals_behind text (kind_of text declaration.specifiers) (has_const declaration.specifiers)
     declaration.declarators (enumeration_behind text declaration.specifiers before)
 item_behind text (item.Prototype specifiers declarator) before =
-    function_behind false specifiers declarator before
+    function_behind text false specifiers declarator before
 item_behind text (item.Function specifiers declarator made) before =
-    body_behind text specifiers declarator made (function_behind true specifiers declarator before)
+    body_behind text specifiers declarator made
+    (function_behind text true specifiers declarator before)
 
 abbrev pub item_faults : Text → Item → Before → List TextFault
 item_faults text (item.Empty place) before = []
 item_faults text (item.Typedef specifiers names place) before =
     enumeration_faults text specifiers before
-    ++ typedefs_faults (object_type (kind_of specifiers)) names
+    ++ typedefs_faults (object_type (kind_of text specifiers)) names
     (enumeration_behind text specifiers before)
 item_faults text (item.Objects declaration) before =
     enumeration_faults text declaration.specifiers before
-    ++ globals_faults text (kind_of declaration.specifiers) (has_const declaration.specifiers)
+    ++ globals_faults text (kind_of text declaration.specifiers) (has_const declaration.specifiers)
     declaration.declarators (enumeration_behind text declaration.specifiers before)
 item_faults text (item.Prototype specifiers declarator) before =
     head_faults text before false specifiers declarator

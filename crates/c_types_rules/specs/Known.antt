@@ -3,6 +3,8 @@
 use Rattle.std.specs.Prelude.{ℕ, List, find, codes, Option, None, Some, option_map}
 use Rattle.std.specs.Str.{bytes_eq}
 use Rattle.cpa_ints.specs.declared.integers.IntType.TheVariants as ty
+use Rattle.cpa_ints.specs.declared.data_model.DataModel.{DataModel}
+use Rattle.cpa_ints.specs.DataModels.{long, unsigned_long}
 use Rattle.c_types_rules.specs.declared.meaning.Kind.{Kind}
 use Rattle.c_types_rules.specs.declared.meaning.Kind.TheVariants.{Void, Value}
 use Rattle.c_types_rules.specs.declared.known.KnownFunction.{KnownFunction}
@@ -28,30 +30,30 @@ spelling_of_known name.InputUnsignedLong = codes "__VERIFIER_nondet_ulong"
 spelling_of_known name.InputLongLong = codes "__VERIFIER_nondet_longlong"
 spelling_of_known name.InputUnsignedLongLong = codes "__VERIFIER_nondet_ulonglong"
 
--- the function that it names
-abbrev pub function_named : KnownName → KnownFunction
-function_named name.ReachError = function.ReachError
-function_named name.Abort = function.Abort
-function_named name.Exit = function.Exit
-function_named name.AssertFail = function.AssertFail
-function_named name.InputBool = function.Input ty.Bool
-function_named name.InputChar = function.Input ty.I8
-function_named name.InputUnsignedChar = function.Input ty.U8
-function_named name.InputShort = function.Input ty.I16
-function_named name.InputUnsignedShort = function.Input ty.U16
-function_named name.InputInt = function.Input ty.I32
-function_named name.InputUnsigned = function.Input ty.U32
-function_named name.InputLong = function.Input ty.I64
-function_named name.InputUnsignedLong = function.Input ty.U64
-function_named name.InputLongLong = function.Input ty.I64
-function_named name.InputUnsignedLongLong = function.Input ty.U64
+-- the function that it names in a data model
+abbrev pub function_named : DataModel → KnownName → KnownFunction
+function_named model name.ReachError = function.ReachError
+function_named model name.Abort = function.Abort
+function_named model name.Exit = function.Exit
+function_named model name.AssertFail = function.AssertFail
+function_named model name.InputBool = function.Input ty.Bool
+function_named model name.InputChar = function.Input ty.I8
+function_named model name.InputUnsignedChar = function.Input ty.U8
+function_named model name.InputShort = function.Input ty.I16
+function_named model name.InputUnsignedShort = function.Input ty.U16
+function_named model name.InputInt = function.Input ty.I32
+function_named model name.InputUnsigned = function.Input ty.U32
+function_named model name.InputLong = function.Input (long model)
+function_named model name.InputUnsignedLong = function.Input (unsigned_long model)
+function_named model name.InputLongLong = function.Input ty.I64
+function_named model name.InputUnsignedLongLong = function.Input ty.U64
 
 -- the known name that is spelled so, and its function
 unfoldable pub known_name : List ℕ → Option KnownName
 known_name name = find (λ one. bytes_eq (spelling_of_known one) name) KNOWN
 
-abbrev pub known : List ℕ → Option KnownFunction
-known name = option_map function_named (known_name name)
+abbrev pub known : DataModel → List ℕ → Option KnownFunction
+known model name = option_map (function_named model) (known_name name)
 
 -- the type of its result
 abbrev pub known_result : KnownFunction → Kind

@@ -2,6 +2,7 @@
 use Rattle.std.specs.Prelude.{ℕ, ◌+◌, Bool, true, false, List, [], ◌∷◌, ◌++◌, codes}
 use Rattle.std.specs.Prelude.{length, find, Option, None, Some, is_some, option_map}
 use Rattle.std.specs.Str.{bytes_eq}
+use Rattle.cpa_ints.specs.declared.data_model.DataModel.{DataModel}
 use Rattle.c_types_rules.specs.declared.known.KnownFunction.{KnownFunction}
 use Rattle.c_types_rules.specs.declared.meaning.Kind.{Kind}
 use Rattle.c_types_rules.specs.declared.meaning.ParameterType.{ParameterType}
@@ -13,9 +14,11 @@ use Rattle.c_types_rules.specs.declared.meaning.Meaning.{Meaning}
 use Rattle.c_types_rules.specs.declared.meaning.Meaning.TheVariants as meaning
 use Rattle.c_types_rules.specs.Known.{known}
 
--- what the whole text says of its functions: the names of those that have a body, body by body, and
--- how many parameters a name has by each declaration that says so
+-- what a whole text is read by: the data model, and what it says of its functions: the names of
+-- those that have a body, body by body, and how many parameters a name has by each declaration that
+-- says so
 pub record Text : Type 0 where
+  pub model : DataModel
   pub bodies : List (List ℕ)
   pub arities : List (List ℕ × ℕ)
 
@@ -76,4 +79,4 @@ meaning_by text name None _ = None
 
 -- what a name stands for where these names are declared
 abbrev pub meaning_of : Text → List Entry → List ℕ → Option Meaning
-meaning_of text names name = meaning_by text name (known name) (declared_as names name)
+meaning_of text names name = meaning_by text name (known text.model name) (declared_as names name)

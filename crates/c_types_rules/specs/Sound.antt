@@ -83,7 +83,7 @@ starts_in text kind is_const (declarator ∷ more) before =
 
 abbrev pub item_starts : Text → Item → Before → List Start
 item_starts text (item.Objects declaration) before =
-    starts_in text (kind_of declaration.specifiers) (has_const declaration.specifiers)
+    starts_in text (kind_of text declaration.specifiers) (has_const declaration.specifiers)
     declaration.declarators (enumeration_behind text declaration.specifiers before)
 item_starts text _ before = []
 
@@ -146,17 +146,17 @@ has_no_parameters parameters.Void = true
 has_no_parameters (parameters.Listed all) = false
 
 -- a main without parameters that returns int and has a body
-abbrev pub is_main : Item → Bool
-is_main (item.Function specifiers declarator (body.Block items place end)) =
-    bytes_eq declarator.name.bytes main_name && same_kind (kind_of specifiers) (Value ty.I32)
+abbrev pub is_main : Text → Item → Bool
+is_main text (item.Function specifiers declarator (body.Block items place end)) =
+    bytes_eq declarator.name.bytes main_name && same_kind (kind_of text specifiers) (Value ty.I32)
     && has_no_parameters declarator.parameters
-is_main _ = false
+is_main text _ = false
 
 -- N11: there is no such main (5.1.2.2.1p1, without parameters of main): the text's end
 abbrev pub without_main : UnitTree → List TextFault
 without_main unit =
-    if list_any is_main unit.items then [] else (record { rule = rule.N11; place = unit.length }
-    ∷ [])
+    if list_any (is_main (text_of unit.items)) unit.items then []
+    else (record { rule = rule.N11; place = unit.length } ∷ [])
 
 -- the faults that are found item by item, and that of a text without main
 unfoldable pub unit_faults : UnitTree → List TextFault

@@ -277,24 +277,24 @@ declarator_walk text kind is_const declarator = record {
 abbrev pub declaration_walk : Text → Declaration → Walk
 declaration_walk text declaration =
     followed (enumeration_walk text declaration.specifiers.enumeration)
-    (in_order (map (declarator_walk text (kind_of declaration.specifiers)
+    (in_order (map (declarator_walk text (kind_of text declaration.specifiers)
     (has_const declaration.specifiers)) declaration.declarators))
 
 -- behind a parameter its name is declared, if it has one
-abbrev pub receiving_behind : Parameter → Around → Around
-receiving_behind parameter around = record around {
+abbrev pub receiving_behind : Text → Parameter → Around → Around
+receiving_behind text parameter around = record around {
   names = elim parameter.name [
     | None ↦ around.names
     | Some name ↦ around.names ++ local_entry name.bytes
-        (parameter_object around.objects parameter) ∷ []
+        (parameter_object text around.objects parameter) ∷ []
   ];
   objects = around.objects + 1;
 }
 
-abbrev pub receiving : Parameter → Walk
-receiving parameter = record {
+abbrev pub receiving : Text → Parameter → Walk
+receiving text parameter = record {
   sites = λ around. record { around = around; act = receives parameter } ∷ [];
-  behind = receiving_behind parameter;
+  behind = receiving_behind text parameter;
 }
 
 abbrev pub perhaps : Option Walk → Walk

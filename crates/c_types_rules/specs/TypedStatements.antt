@@ -68,7 +68,7 @@ typed_declarators text kind is_const (declarator ∷ more) around =
 
 abbrev pub typed_declaration : Text → Declaration → Around → List TypedDeclarator
 typed_declaration text declaration around =
-    typed_declarators text (kind_of declaration.specifiers) (has_const declaration.specifiers)
+    typed_declarators text (kind_of text declaration.specifiers) (has_const declaration.specifiers)
     declaration.declarators
     ((enumeration_walk text declaration.specifiers.enumeration).behind around)
 
@@ -173,21 +173,22 @@ typed_parts items part both (TypedStatement-F.Switch value choices otherwise bod
 typed_parts items part both _ = items []
 
 -- the objects of parameters, from a number on
-abbrev pub parameter_objects : ℕ → List Parameter → List Object
-parameter_objects number [] = []
-parameter_objects number (parameter ∷ parameters) =
-    parameter_object number parameter ∷ parameter_objects (number + 1) parameters
+abbrev pub parameter_objects : Text → ℕ → List Parameter → List Object
+parameter_objects text number [] = []
+parameter_objects text number (parameter ∷ parameters) =
+    parameter_object text number parameter ∷ parameter_objects text (number + 1) parameters
 
 -- a function with these items in its body, between braces at these places
 abbrev pub typed_function : Text → Before → Specifiers → FunctionDeclarator → List BlockItem
     → ℕ → ℕ → TypedFunction
 typed_function text before specifiers declarator items place end =
-    let around = around_body (function_behind true specifiers declarator before) specifiers items in
+    let around = around_body text (function_behind text true specifiers declarator before)
+    specifiers items in
     record {
-      result = kind_of specifiers;
-      parameters = parameter_objects before.objects (listed declarator.parameters);
+      result = kind_of text specifiers;
+      parameters = parameter_objects text before.objects (listed declarator.parameters);
       items = typed_in_order (map (grown text) items)
-          ((in_order (map receiving (listed declarator.parameters))).behind around);
+          ((in_order (map (receiving text) (listed declarator.parameters))).behind around);
       place = place;
       end = end;
     }

@@ -1,7 +1,7 @@
 //! Types of words and operators: the tables of `specs/Types.antt` and `specs/Parts.antt`,
 //! line for line. Proved by the checker alone.
 ghost use Rattle.std.specs.Prelude.{◌≡◌};
-ghost use Rattle.c_types_rules.specs.Types.{has, signed_or, type_of_words, kind_of_words};
+ghost use Rattle.c_types_rules.specs.Types.{has, repeats, signed_or, type_of_words, kind_of_words};
 ghost use Rattle.c_types_rules.specs.Types.{type_of_named, kind_of_type_name, object_type};
 ghost use Rattle.c_types_rules.specs.Types.{value_type, value_kind, binary_type};
 ghost use Rattle.c_types_rules.specs.Parts.{unary_type, cast_kind, ends_kind, value};
@@ -9,13 +9,20 @@ ghost use Rattle.c_types_rules.specs.Parts.{unary_type, cast_kind, ends_kind, va
 use crate::Kind;
 use c_grammar_symbols::{BinaryOperator, NamedType, Size, TypeWord};
 use c_grammar_tree::{TypeName, UnaryOperator};
-use cpa_ints::{IntType, common, promote};
+use cpa_ints::{DataModel, IntType, common, promote};
 
 /// Whether a word stands among these.
 fn has(wanted: TypeWord, words: &[TypeWord]) -> bool
     ensures { result ≡ has wanted words.now }
 {
     words.contains(&wanted)
+}
+
+/// Whether it stands more than once among these.
+fn repeats(wanted: TypeWord, words: &[TypeWord]) -> bool
+    ensures { result ≡ repeats wanted words.now }
+{
+    words.iter().filter(|found| **found == wanted).count() > 1
 }
 
 /// The signed or the unsigned type.
@@ -30,8 +37,8 @@ fn signed_or(words: &[TypeWord], signed: IntType, unsigned: IntType) -> IntType
 }
 
 /// The integer type that words name.
-fn type_of_words(words: &[TypeWord]) -> IntType
-    ensures { result ≡ type_of_words words.now }
+fn type_of_words(model: DataModel, words: &[TypeWord]) -> IntType
+    ensures { result ≡ type_of_words model words.now }
 {
     if has(TypeWord::Bool, words) {
         IntType::Bool
@@ -39,27 +46,29 @@ fn type_of_words(words: &[TypeWord]) -> IntType
         signed_or(words, IntType::I8, IntType::U8)
     } else if has(TypeWord::Short, words) {
         signed_or(words, IntType::I16, IntType::U16)
-    } else if has(TypeWord::Long, words) {
+    } else if repeats(TypeWord::Long, words) {
         signed_or(words, IntType::I64, IntType::U64)
+    } else if has(TypeWord::Long, words) {
+        signed_or(words, model.long(), model.ulong())
     } else {
         signed_or(words, IntType::I32, IntType::U32)
     }
 }
 
-/// The type that words name.
-pub fn kind_of_words(words: &[TypeWord]) -> Kind
-    ensures { result ≡ kind_of_words words.now }
+/// The type that words name in a data model.
+pub fn kind_of_words(model: DataModel, words: &[TypeWord]) -> Kind
+    ensures { result ≡ kind_of_words model words.now }
 {
     if has(TypeWord::Void, words) {
         Kind::Void
     } else {
-        Kind::Value(type_of_words(words))
+        Kind::Value(type_of_words(model, words))
     }
 }
 
-/// The integer type that a typedef name stands for.
-pub fn type_of_named(named: NamedType) -> IntType
-    ensures { result ≡ type_of_named named }
+/// The integer type that a typedef name stands for in a data model.
+pub fn type_of_named(model: DataModel, named: NamedType) -> IntType
+    ensures { result ≡ type_of_named model named }
 {
     match (named.size, named.is_unsigned) {
         (Size::Bool, _) => IntType::Bool,
@@ -69,18 +78,20 @@ pub fn type_of_named(named: NamedType) -> IntType
         (Size::Short, true) => IntType::U16,
         (Size::Int, false) => IntType::I32,
         (Size::Int, true) => IntType::U32,
-        (Size::Long | Size::LongLong, false) => IntType::I64,
-        (Size::Long | Size::LongLong, true) => IntType::U64,
+        (Size::Long, false) => model.long(),
+        (Size::Long, true) => model.ulong(),
+        (Size::LongLong, false) => IntType::I64,
+        (Size::LongLong, true) => IntType::U64,
     }
 }
 
-/// The type that a cast names.
-pub fn kind_of_type_name(name: &TypeName) -> Kind
-    ensures { result ≡ kind_of_type_name name.now }
+/// The type that a cast names in a data model.
+pub fn kind_of_type_name(model: DataModel, name: &TypeName) -> Kind
+    ensures { result ≡ kind_of_type_name model name.now }
 {
     match name {
-        TypeName::Words { words, .. } => kind_of_words(words.as_slice()),
-        TypeName::Typedef { named, .. } => Kind::Value(type_of_named(*named)),
+        TypeName::Words { words, .. } => kind_of_words(model, words.as_slice()),
+        TypeName::Typedef { named, .. } => Kind::Value(type_of_named(model, *named)),
         TypeName::Enum { .. } => Kind::Value(IntType::I32),
     }
 }

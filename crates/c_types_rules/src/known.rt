@@ -5,7 +5,7 @@ ghost use Rattle.c_types_rules.specs.Known.{known, known_name, spelling_of_known
 ghost use Rattle.c_types_rules.specs.Known.{known_result, known_arity};
 
 use crate::Kind;
-use cpa_ints::IntType;
+use cpa_ints::{DataModel, IntType};
 
 /// A known function.
 #[derive(Clone, Copy, PartialEq, Eq)]
@@ -22,7 +22,8 @@ pub enum KnownFunction {
     Input(IntType),
 }
 
-/// A name of a known function. Two may name the same: `long long` is `long` here.
+/// A name of a known function. Two may name the same: in a data model where `long` has 64 bits,
+/// those of `long` and `long long` do.
 #[derive(Clone, Copy, PartialEq, Eq)]
 pub enum KnownName {
     ReachError,
@@ -85,9 +86,9 @@ impl KnownName {
         }
     }
 
-    /// The function that it names.
-    pub fn function(self) -> KnownFunction
-        ensures { result ≡ function_named self }
+    /// The function that it names in a data model.
+    pub fn function(self, model: DataModel) -> KnownFunction
+        ensures { result ≡ function_named model self }
     {
         match self {
             KnownName::ReachError => KnownFunction::ReachError,
@@ -101,10 +102,10 @@ impl KnownName {
             KnownName::InputUnsignedShort => KnownFunction::Input(IntType::U16),
             KnownName::InputInt => KnownFunction::Input(IntType::I32),
             KnownName::InputUnsigned => KnownFunction::Input(IntType::U32),
-            KnownName::InputLong | KnownName::InputLongLong => KnownFunction::Input(IntType::I64),
-            KnownName::InputUnsignedLong | KnownName::InputUnsignedLongLong => {
-                KnownFunction::Input(IntType::U64)
-            }
+            KnownName::InputLong => KnownFunction::Input(model.long()),
+            KnownName::InputUnsignedLong => KnownFunction::Input(model.ulong()),
+            KnownName::InputLongLong => KnownFunction::Input(IntType::I64),
+            KnownName::InputUnsignedLongLong => KnownFunction::Input(IntType::U64),
         }
     }
 }
@@ -143,12 +144,12 @@ fn known_name(name: &[u8]) -> Option<KnownName>
     KNOWN.iter().copied().find(|known| known.spelling() == name)
 }
 
-/// The known function that a name spells.
-pub fn known_function(name: &[u8]) -> Option<KnownFunction>
-    ensures { result ≡ known name.now }
+/// The known function that a name spells in a data model.
+pub fn known_function(model: DataModel, name: &[u8]) -> Option<KnownFunction>
+    ensures { result ≡ known model name.now }
 {
     match known_name(name) {
-        Some(known) => Some(known.function()),
+        Some(known) => Some(known.function(model)),
         None => None,
     }
 }

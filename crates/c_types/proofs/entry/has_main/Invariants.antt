@@ -4,4 +4,5 @@ use Rattle.c_types_rules.specs.Sound.{is_main}
 use Rattle.c_types.proofs.entry.has_main.Given as goal
 
 abbrev pub invariant-loop-item : goal.invariant-loop-item
-invariant-loop-item l = list_any is_main (drop l.item-index l.items) ≡ list_any is_main l.items
+invariant-loop-item l =
+    list_any (is_main l.survey) (drop l.item-index l.items) ≡ list_any (is_main l.survey) l.items

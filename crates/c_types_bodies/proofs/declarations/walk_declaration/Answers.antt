@@ -30,9 +30,9 @@ returns-clause-typed c =
     typed_declarators text q.kind q.is_const items (around_of frame c.args.nest mid))
     c.as_slice-list.ensures
     ∙ by_specifiers (λ k b. typed_declarators text k b all (around_of frame c.args.nest mid)) q.kind
-    (kind_of specifiers) q.is_const (has_const specifiers) read.kind read.is_const
+    (kind_of text specifiers) q.is_const (has_const specifiers) read.kind read.is_const
     ∙ ap (λ (around : Around).
-    typed_declarators text (kind_of specifiers) (has_const specifiers) all around)
+    typed_declarators text (kind_of text specifiers) (has_const specifiers) all around)
     (around_walked text frame.caller (enumeration_walk text specifiers.enumeration)
     (state_of frame c.args.nest c.args.walker.now c.args.jumps.now)
     (state_of frame c.args.nest mid c.args.jumps.now) c.in_ok-walk_enumeration.ensures.state)
@@ -47,7 +47,7 @@ returns-clause-state c =
     let q = c.in_ok-qualified.qualified in
     let read = c.in_ok-qualified.ensures in
     two_walks text frame.caller (enumeration_walk text specifiers.enumeration)
-    (in_order (map (declarator_walk text (kind_of specifiers) (has_const specifiers)) all))
+    (in_order (map (declarator_walk text (kind_of text specifiers) (has_const specifiers)) all))
     (state_of frame c.args.nest c.args.walker.now c.args.jumps.now) before _
     c.in_ok-walk_enumeration.ensures.state
     (c.in_ok-typed.ensures.state
@@ -55,4 +55,5 @@ returns-clause-state c =
     (in_order (map (declarator_walk text q.kind q.is_const) items)) before)
     c.as_slice-list.ensures
     ∙ by_specifiers (λ k b. walked text frame.caller (in_order (map (declarator_walk text k b) all))
-    before) q.kind (kind_of specifiers) q.is_const (has_const specifiers) read.kind read.is_const)
+    before) q.kind (kind_of text specifiers) q.is_const (has_const specifiers) read.kind
+    read.is_const)

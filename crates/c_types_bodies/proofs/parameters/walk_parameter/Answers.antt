@@ -14,6 +14,6 @@ returns-clause-state c =
     let frame = c.args.frame.now in
     subst (λ (n : ℕ). state_of frame c.args.nest (with_objects n c.name_parameter.new.walker)
     c.name_parameter.new.jumps
-    ≡ walked frame.survey.now frame.caller (receiving c.args.parameter.now)
+    ≡ walked frame.survey.now frame.caller (receiving frame.survey.now c.args.parameter.now)
     (state_of frame c.args.nest c.args.walker.now c.args.jumps.now))
     (sym c.in_ok-objects.ensures) c.in_ok-name_parameter.ensures.state

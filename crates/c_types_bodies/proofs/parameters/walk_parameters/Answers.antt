@@ -18,12 +18,13 @@ loop-parameter-preserved c =
       tied = c.in_ok-object.ensures.tied;
       extends = extends_then c.args.walker.now.names held.names walker.names
           c.loop-parameter.invariant.extends c.in_ok-object.ensures.extends;
-      objects = objects_step parameters c.loop-parameter.parameter-index c.parameter-item.result
+      objects = objects_step frame.survey.now parameters c.loop-parameter.parameter-index
+          c.parameter-item.result
           c.loop-parameter.objects.items c.push.new.self.items c.in_ok-object.object held.objects
           walker.objects _ (omega arith) c.parameter-item.is c.in_ok-push.ensures.items
           c.in_ok-object.ensures.object c.in_ok-object.ensures.objects
           c.loop-parameter.invariant.objects;
-      state = item_state frame.survey.now frame.caller receiving parameters
+      state = item_state frame.survey.now frame.caller (receiving frame.survey.now) parameters
           c.loop-parameter.parameter-index c.parameter-item.result state next _ (omega arith)
           c.parameter-item.is c.in_ok-object.ensures.state c.loop-parameter.invariant.state;
     }
@@ -31,7 +32,7 @@ loop-parameter-preserved c =
 pub returns-clause-state : goal.returns-clause-state
 returns-clause-state c =
     let frame = c.args.frame.now in
-    items_end frame.survey.now frame.caller receiving c.args.parameters.now
+    items_end frame.survey.now frame.caller (receiving frame.survey.now) c.args.parameters.now
     c.loop-parameter.parameter-index
     (state_of frame c.args.nest c.loop-parameter.walker c.loop-parameter.jumps) _ (omega arith)
     c.loop-parameter.invariant.state

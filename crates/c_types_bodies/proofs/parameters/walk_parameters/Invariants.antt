@@ -11,10 +11,12 @@ invariant-loop-parameter l =
     record {
       tied : IsTied l.frame l.walker l.jumps;
       extends : Extends l.fn.walker.names l.walker.names;
-      objects : l.objects.items ++ parameter_objects l.walker.objects rest
-          ≡ parameter_objects l.fn.walker.objects l.parameters;
-      state : walked l.frame.survey.now l.frame.caller (in_order (map receiving rest))
+      objects : l.objects.items ++ parameter_objects l.frame.survey.now l.walker.objects rest
+          ≡ parameter_objects l.frame.survey.now l.fn.walker.objects l.parameters;
+      state : walked l.frame.survey.now l.frame.caller (in_order
+          (map (receiving l.frame.survey.now) rest))
           (state_of l.frame l.nest l.walker l.jumps)
-          ≡ walked l.frame.survey.now l.frame.caller (in_order (map receiving l.parameters))
+          ≡ walked l.frame.survey.now l.frame.caller (in_order
+          (map (receiving l.frame.survey.now) l.parameters))
           (state_of l.frame l.nest l.fn.walker l.fn.jumps);
     }

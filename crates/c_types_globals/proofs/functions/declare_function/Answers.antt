@@ -1,4 +1,4 @@
-use Rattle.std.proofs.Common.{refl, ◌∙◌}
+use Rattle.std.proofs.Common.{◌∙◌}
 use Rattle.c_types_globals.specs.Scopes.{before_of}
 use Rattle.c_types_globals.proofs.Heads.{head_first, head_scope}
 use Rattle.c_types_globals.proofs.functions.declare_function.Goals as goal
@@ -6,7 +6,8 @@ use Rattle.c_types_globals.proofs.functions.declare_function.Goals as goal
 pub returns-clause-scope : goal.returns-clause-scope
 returns-clause-scope c =
     let old = c.args.scope.now in
-    head_scope (before_of old) (before_of c.note_enumerations.new.scope) c.args.defines
+    head_scope c.args.survey.now (before_of old) (before_of c.note_enumerations.new.scope)
+    c.args.defines
     c.args.specifiers.now c.args.declarator.now c.as_slice-name.result.now _ _
     c.declare_name.new.names
     (c.in_ok-note_enumerations.ensures.scope ∙ c.in_ok-note_enumeration.ensures.scope)

@@ -15,7 +15,7 @@ returns-clause-scope c =
     rw c.as_slice-declarators.ensures at (c.in_ok-declare_all.ensures.scope)
     ∙ by_specifiers (λ k b.
     globals_behind c.args.survey.now k b c.args.declaration.now.declarators before)
-    q.kind (kind_of s) q.is_const (has_const s)
+    q.kind (kind_of c.args.survey.now s) q.is_const (has_const s)
     c.in_ok-qualified.ensures.kind c.in_ok-qualified.ensures.is_const
 
 pub returns-clause-first : goal.returns-clause-first
@@ -26,7 +26,7 @@ returns-clause-first c =
     rw c.as_slice-declarators.ensures at (c.in_ok-declare_all.ensures.first)
     ∙ by_specifiers (λ k b. first_with c.args.first.now
     (globals_faults c.args.survey.now k b c.args.declaration.now.declarators before))
-    q.kind (kind_of s) q.is_const (has_const s)
+    q.kind (kind_of c.args.survey.now s) q.is_const (has_const s)
     c.in_ok-qualified.ensures.kind c.in_ok-qualified.ensures.is_const
 
 pub returns-clause-starts : goal.returns-clause-starts
@@ -37,5 +37,5 @@ returns-clause-starts c =
     rw c.as_slice-declarators.ensures at (c.in_ok-declare_all.ensures.starts)
     ∙ by_specifiers (λ k b. c.args.starts.now.items
     ++ starts_in c.args.survey.now k b c.args.declaration.now.declarators before)
-    q.kind (kind_of s) q.is_const (has_const s)
+    q.kind (kind_of c.args.survey.now s) q.is_const (has_const s)
     c.in_ok-qualified.ensures.kind c.in_ok-qualified.ensures.is_const

@@ -4,4 +4,5 @@ use Rattle.c_types_globals.proofs.parameters.listed_types.Given as goal
 
 abbrev pub invariant-loop-parameter : goal.invariant-loop-parameter
 invariant-loop-parameter l =
-    l.types.items ++ map parameter_type (drop l.parameter-index l.all) ≡ map parameter_type l.all
+    l.types.items ++ map (parameter_type l.survey) (drop l.parameter-index l.all)
+    ≡ map (parameter_type l.survey) l.all

@@ -8,5 +8,6 @@ use Rattle.c_types_globals.proofs.parameters.note_void_parameters.Given as goal
 
 abbrev pub invariant-loop-parameter : goal.invariant-loop-parameter
 invariant-loop-parameter l =
-    first_with l.first (broken rule.N5 (flat_map void_parameter (drop l.parameter-index l.all)))
-    ≡ first_with l.fn.first (broken rule.N5 (flat_map void_parameter l.all))
+    first_with l.first (broken rule.N5 (flat_map (void_parameter l.survey)
+    (drop l.parameter-index l.all)))
+    ≡ first_with l.fn.first (broken rule.N5 (flat_map (void_parameter l.survey) l.all))

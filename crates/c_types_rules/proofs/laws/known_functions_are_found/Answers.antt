@@ -6,6 +6,7 @@ use Rattle.std.specs.Option.{is_some}
 use Rattle.std.specs.Str.{bytes_eq}
 use Rattle.std.proofs.Common.{sym}
 use Rattle.std.proofs.lemmas.Slice.Eq.{bytes_eq-Decides}
+use Rattle.cpa_ints.specs.declared.data_model.DataModel.{DataModel}
 use Rattle.c_grammar_tree.specs.declared.name.Name.{Name}
 use Rattle.c_grammar_tree.specs.Items.{is_known}
 use Rattle.c_types_rules.specs.declared.known.KnownName.{KnownName}
@@ -14,23 +15,24 @@ use Rattle.c_types_rules.specs.declared.known.TheConstants.{KNOWN}
 use Rattle.c_types_rules.specs.Known.{known, known_name, spelling_of_known, function_named}
 use Rattle.c_types_rules.proofs.laws.known_functions_are_found.Goals as goal
 
-found : (n : KnownName) → known (spelling_of_known n) ≡ Some (function_named n)
+found : (m : DataModel) (n : KnownName) →
+    known m (spelling_of_known n) ≡ Some (function_named m n)
 unfolding known_name
-found name.ReachError = refl
-found name.Abort = refl
-found name.Exit = refl
-found name.AssertFail = refl
-found name.InputBool = refl
-found name.InputChar = refl
-found name.InputUnsignedChar = refl
-found name.InputShort = refl
-found name.InputUnsignedShort = refl
-found name.InputInt = refl
-found name.InputUnsigned = refl
-found name.InputLong = refl
-found name.InputUnsignedLong = refl
-found name.InputLongLong = refl
-found name.InputUnsignedLongLong = refl
+found m name.ReachError = refl
+found m name.Abort = refl
+found m name.Exit = refl
+found m name.AssertFail = refl
+found m name.InputBool = refl
+found m name.InputChar = refl
+found m name.InputUnsignedChar = refl
+found m name.InputShort = refl
+found m name.InputUnsignedShort = refl
+found m name.InputInt = refl
+found m name.InputUnsigned = refl
+found m name.InputLong = refl
+found m name.InputUnsignedLong = refl
+found m name.InputLongLong = refl
+found m name.InputUnsignedLongLong = refl
 
 -- a comparison of texts either way round
 both_ways : (a b : Bool) → (a ≡ true → b ≡ true) → (b ≡ true → a ≡ true) → a ≡ b
@@ -43,27 +45,28 @@ turned xs ys = both_ways (bytes_eq xs ys) (bytes_eq ys xs)
     (λ e. (bytes_eq-Decides ys xs).1 (sym ((bytes_eq-Decides xs ys).0 e)))
     (λ e. (bytes_eq-Decides xs ys).1 (sym ((bytes_eq-Decides ys xs).0 e)))
 
-step : (a b : Bool) (x : KnownName) (rest : Bool) (more : Option KnownName) → a ≡ b →
-    rest ≡ is_some (option_map function_named more) →
-    (a || rest) ≡ is_some (option_map function_named (cond b (Some x) more))
-step true true x rest more same e = refl
-step true false x rest more same e = absurd (let clash : true ≡ false = same in cc)
-step false true x rest more same e = absurd (let clash : false ≡ true = same in cc)
-step false false x rest more same e = e
+step : (m : DataModel) (a b : Bool) (x : KnownName) (rest : Bool) (more : Option KnownName) →
+    a ≡ b → rest ≡ is_some (option_map (function_named m) more) →
+    (a || rest) ≡ is_some (option_map (function_named m) (cond b (Some x) more))
+step m true true x rest more same e = refl
+step m true false x rest more same e = absurd (let clash : true ≡ false = same in cc)
+step m false true x rest more same e = absurd (let clash : false ≡ true = same in cc)
+step m false false x rest more same e = e
 
 -- a name is among the names of a table exactly where a function is found by it
-listed : (name : List ℕ) (xs : List KnownName) →
+listed : (m : DataModel) (name : List ℕ) (xs : List KnownName) →
     list_any (bytes_eq name) (map spelling_of_known xs)
-    ≡ is_some (option_map function_named (find (λ n. bytes_eq (spelling_of_known n) name) xs))
-listed name [] = refl
-listed name (x ∷ xs) = step (bytes_eq name (spelling_of_known x))
+    ≡ is_some (option_map (function_named m)
+    (find (λ n. bytes_eq (spelling_of_known n) name) xs))
+listed m name [] = refl
+listed m name (x ∷ xs) = step m (bytes_eq name (spelling_of_known x))
     (bytes_eq (spelling_of_known x) name) x (list_any (bytes_eq name) (map spelling_of_known xs))
     (find (λ n. bytes_eq (spelling_of_known n) name) xs)
-    (turned name (spelling_of_known x)) (listed name xs)
+    (turned name (spelling_of_known x)) (listed m name xs)
 
-skipped : (name : Name) → is_known name ≡ is_some (known name.bytes)
+skipped : (m : DataModel) (name : Name) → is_known name ≡ is_some (known m name.bytes)
 unfolding is_known known_name
-skipped name = listed name.bytes KNOWN
+skipped m name = listed m name.bytes KNOWN
 
 pub returns-clause-each : goal.returns-clause-each
 returns-clause-each c = found
