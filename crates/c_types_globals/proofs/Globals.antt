@@ -8,7 +8,7 @@ use Rattle.c_grammar_tree.specs.declared.declaration.Declarator.{Declarator}
 use Rattle.c_types_rules.specs.declared.meaning.Kind.{Kind}
 use Rattle.c_types_rules.specs.Names.{Text}
 use Rattle.c_types_rules.specs.First.{first_with, first_append}
-use Rattle.c_types_rules.specs.Items.{Before, global_behind, globals_behind, global_faults}
+use Rattle.c_types_rules.specs.Items.{Before, global_behind, global_faults}
 use Rattle.c_types_rules.specs.Items.{globals_faults}
 use Rattle.c_types_rules.specs.Sound.{Start, start_of, starts_in}
 

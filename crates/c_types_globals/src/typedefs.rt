@@ -11,6 +11,7 @@ ghost use Rattle.c_types_globals.specs.Scopes.{before_of};
 use crate::Scope;
 use c_grammar_tree::{Name, Specifiers};
 use c_lexer::{Rule, TextFault};
+use c_types_names::Survey;
 use c_types_objects::{note_if, read_specifiers};
 use cpa_ints::IntType;
 use std::alloc::{AllocError, Global};
