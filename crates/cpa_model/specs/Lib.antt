@@ -5,7 +5,6 @@ pub mod TreeLaws
 pub mod Stacks
 pub mod States
 pub mod Steps
-pub mod Sharing
 pub mod Facts
 pub mod Ascending
 pub mod Automata

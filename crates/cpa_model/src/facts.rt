@@ -1,4 +1,4 @@
-//! Facts on states, and elements made of them: whether one holds of a state, and whether it is
+//! Elements, which are made of facts on states: whether one holds of a state, and whether it is
 //! shaped for an automaton, by `specs/Facts.antt`.
 ghost use Rattle.std.specs.Prelude.{◌≡◌, ◌<◌, ◌↔◌, [], IfOk, IsTrue};
 ghost use Rattle.std.specs.List.{AllByRecursion};
@@ -7,30 +7,16 @@ ghost use Rattle.cpa_model.specs.Facts.{FactHolds, Holds, IsElem, IsFact, IsValu
 use crate::automaton::Cfa;
 use crate::expressions::{has_truth, is_expr};
 use crate::program::Cell;
-use crate::shared::Shared;
 use crate::states::State;
-use cpa_expr::Expr;
 use cpa_ints::Seq;
+use cpa_model_facts::{Fact, Facts};
 use std::alloc::{AllocError, Global};
-
-/// A fact on the point, the stack or the store of a state.
-#[derive(Drop)]
-pub enum Fact {
-    At { point: u32 },
-    /// The call sites from the bottom to the top.
-    Stack { sites: Seq<u32> },
-    Equals { cell: u32, value: i128 },
-    /// The value of the cell is from `lo` to `hi`.
-    Within { cell: u32, lo: i128, hi: i128 },
-    /// The expression does not trap, and is nonzero exactly where `holds`.
-    Truth { expr: Expr, holds: bool },
-}
 
 /// An element of an analysis: it holds of a state of which all its facts hold. Copies share the
 /// facts, since most of what a turn does leaves an element as it is.
 #[derive(Drop)]
 pub struct Elem {
-    pub facts: Shared<Fact>,
+    pub facts: Facts,
 }
 
 impl Elem {
@@ -39,7 +25,7 @@ impl Elem {
         ensures { IfOk result (λ e. e.facts ≡ facts) }
     {
         Ok(Elem {
-            facts: Shared::from_seq(alloc, facts)?,
+            facts: Facts::from_seq(alloc, facts)?,
         })
     }
 
@@ -48,7 +34,7 @@ impl Elem {
         ensures { result.facts ≡ [] }
     {
         Elem {
-            facts: Shared::new(),
+            facts: Facts::new(),
         }
     }
 }

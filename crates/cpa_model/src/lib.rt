@@ -10,18 +10,18 @@ mod graph;
 mod laws;
 mod next;
 mod program;
-mod shared;
 mod spelling;
 mod stacks;
 mod standing;
 mod states;
 
 pub use automaton::{Act, Cfa, Edge, Path};
-pub use copying::{copy_elem, copy_fact};
+pub use copying::copy_elem;
 pub use cpa_expr::{BinOp, CmpOp, Expr, Store, UnOp, value};
 pub use cpa_ints::{IntType, Seq};
+pub use cpa_model_facts::{Block, Fact, Facts, Iter, Run, Shared, copy_fact, mixed};
 pub use expressions::{has_truth, is_expr};
-pub use facts::{Elem, Fact, holds, is_elem};
+pub use facts::{Elem, holds, is_elem};
 pub use graph::{is_error, leaving};
 pub use laws::{
     automata_are_small, covers_are_safe, edges_are_sound, edges_are_steps, initial_is_state,
@@ -29,7 +29,6 @@ pub use laws::{
 };
 pub use next::next_point;
 pub use program::{Cell, MAX_CELLS, MAX_POINTS, Program, Stmt, Successor};
-pub use shared::Shared;
 pub use spelling::{Spell, push_list};
 pub use stacks::step_stack;
 pub use standing::{facts_that_stand, has_facts, same_fact};

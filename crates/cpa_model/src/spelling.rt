@@ -8,9 +8,10 @@ ghost use Rattle.cpa_model.specs.Spelling.{list_text, fact_text, elem_text, assi
 ghost use Rattle.cpa_model.specs.Spelling.{act_text, edge_text};
 
 use crate::automaton::{Act, Edge};
-use crate::facts::{Elem, Fact};
+use crate::facts::Elem;
 use crate::program::Stmt;
 use cpa_expr::{Expr, push_expr};
+use cpa_model_facts::{Fact, Facts, Iter};
 use std::alloc::AllocError;
 
 /// What has one spelling.
@@ -72,7 +73,7 @@ impl Spell for Elem {
     ghost spelled = { elem_text };
 
     fn spell(&self, out: &mut String) -> Result<(), AllocError> {
-        push_list(out, self.facts.as_slice())
+        push_facts(out, &self.facts)
     }
 }
 
@@ -160,6 +161,32 @@ fn push_assignment(
     push_expr(out, index)?;
     out.push_str(" := ")?;
     push_expr(out, value)
+}
+
+/// Adds the facts between square brackets, with commas between them.
+fn push_facts(out: &mut String, facts: &Facts) -> Result<(), AllocError>
+    ensures { OnOk result
+        (string_bytes out.new ≡ string_bytes out.old ++ list_text fact_text facts.now) }
+{
+    out.push_str("[")?;
+    let mut left = facts.iter();
+    if let Some(first) = left.next() {
+        first.spell(out)?;
+        push_left(out, left)?;
+    }
+    out.push_str("]")
+}
+
+/// Adds each fact that is left with a comma before it.
+fn push_left(out: &mut String, left: Iter<'_>) -> Result<(), AllocError>
+    ensures { OnOk result (string_bytes out.new
+        ≡ string_bytes out.old ++ flat_map (λ fact. 44 ∷ fact_text fact) left.entry) }
+{
+    for fact in left {
+        out.push_str(",")?;
+        fact.spell(out)?;
+    }
+    Ok(())
 }
 
 /// Adds the items between square brackets, with commas between them. Nothing is said of the text

@@ -24,7 +24,7 @@ pub struct Shared<T> {
 impl<T> Model for Shared<T> {
     ghost use Rattle.std.specs.Prelude.{List};
     ghost use Rattle.std.specs.Coded.{coded_list};
-    ghost use Rattle.cpa_model.specs.Sharing.{shared_items};
+    ghost use Rattle.cpa_model_facts.specs.Sharing.{shared_items};
 
     ghost Value = { List T };
 

@@ -1,0 +1,5 @@
+pub mod Blocks
+pub mod Prints
+pub mod Runs
+pub mod Sharing
+pub mod lemmas

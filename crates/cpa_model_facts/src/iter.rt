@@ -1,0 +1,60 @@
+//! The facts of blocks, one after the other. What is left to come is `joined` of
+//! `specs/Blocks.antt`.
+ghost use Rattle.std.specs.Prelude.{◌≡◌, ◌++◌, ◌∷◌, [], List};
+ghost use Rattle.std.specs.Iterator.{YieldsFirstRef, item_count};
+ghost use Rattle.cpa_model_facts.specs.declared.fact.Fact.{Fact as AFact};
+ghost use Rattle.cpa_model_facts.specs.Blocks.{joined};
+
+use crate::block::Block;
+use crate::fact::Fact;
+use std::marker::Model;
+
+/// Facts, one after the other. Contracts see those that are left.
+#[derive(Drop)]
+pub struct Iter<'a> {
+    /// What is left of the block in hand.
+    facts: &'a [Fact],
+    blocks: &'a [Block],
+}
+
+impl<'a> Model for Iter<'a> {
+    ghost use Rattle.std.specs.Prelude.{◌++◌, List};
+    ghost use Rattle.cpa_model_facts.specs.declared.fact.Fact.{Fact};
+    ghost use Rattle.cpa_model_facts.specs.Blocks.{joined};
+    ghost use Rattle.std.specs.Coded.{coded_list};
+    ghost use Rattle.cpa_model_facts.specs.contracts.fact.Fact as e;
+
+    ghost Value = { List Fact };
+
+    ghost coded = { coded_list e.the_row.coded };
+
+    ghost view = { λ i. i.facts.now ++ joined i.blocks.now };
+}
+
+impl<'a> Iter<'a> {
+    /// The facts of these blocks.
+    pub(crate) fn new(blocks: &'a [Block]) -> Iter<'a>
+        ensures { result ≡ joined blocks.now }
+    {
+        Iter { facts: &[], blocks }
+    }
+}
+
+impl<'a> Iterator for Iter<'a> {
+    type Item = &'a Fact;
+
+    ghost next_gives = { YieldsFirstRef (λ (left : List AFact). left) };
+
+    ghost remaining = { item_count (λ (left : List AFact). left) };
+
+    fn next(&mut self) -> Option<&'a Fact> {
+        while self.facts.is_empty() {
+            let (block, blocks) = self.blocks.split_first()?;
+            self.facts = block.facts();
+            self.blocks = blocks;
+        }
+        let (fact, facts) = self.facts.split_first()?;
+        self.facts = facts;
+        Some(fact)
+    }
+}
