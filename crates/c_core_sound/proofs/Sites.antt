@@ -106,7 +106,7 @@ module _ (G : Ground) (frames : rows.Frames) (text : Text) where
 
     pub meaning_fits : (name : List ℕ) →
         MeaningFits (world G names) frames (meaning_of text names name)
-    meaning_fits name = meaning_fits_by name (known name) (declared_as names name) refl
+    meaning_fits name = meaning_fits_by name (known text.model name) (declared_as names name) refl
 
   module _ (caller : ℕ) where
     uses_of : (names : List Entry) (uses : List Use) → NoFaults (uses_faults uses) →
