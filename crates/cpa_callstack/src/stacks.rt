@@ -7,14 +7,14 @@ ghost use Rattle.cpa_model.specs.Standing.{same_sites};
 ghost use Rattle.cpa_callstack.specs.Stacks.{with_stack, any_stack, first_stack, names_stack};
 ghost use Rattle.cpa_callstack.specs.Stacks.{elem_of, stacks_after, next_stacks};
 
-use cpa_model::{Act, Edge, Elem, Fact, Seq, step_stack};
+use cpa_model::{Act, Edge, Elem, Fact, Facts, Seq, step_stack};
 use std::alloc::{AllocError, Global};
 
 /// What the edge makes of the element.
 pub(crate) fn next_stacks(alloc: Global, elem: &Elem, edge: &Edge) -> Result<Vec<Elem>, AllocError>
     ensures { IfOk result (λ es. es.items ≡ next_stacks elem.now edge.now) }
 {
-    let facts = elem.facts.as_slice();
+    let facts = &elem.facts;
     match first_stack(facts) {
         None => any_stack(alloc),
         Some(sites) => agreed(alloc, &edge.act, facts, sites),
@@ -22,7 +22,7 @@ pub(crate) fn next_stacks(alloc: Global, elem: &Elem, edge: &Edge) -> Result<Vec
 }
 
 /// The element of the stack after the act, where no fact names another stack than this one.
-fn agreed(alloc: Global, act: &Act, facts: &[Fact], sites: &[u32]) -> Result<Vec<Elem>, AllocError>
+fn agreed(alloc: Global, act: &Act, facts: &Facts, sites: &[u32]) -> Result<Vec<Elem>, AllocError>
     ensures { IfOk result (λ es. es.items ≡ stacks_after act.now facts.now (Some sites.now)) }
 {
     if all_name(facts, sites) {
@@ -33,7 +33,7 @@ fn agreed(alloc: Global, act: &Act, facts: &[Fact], sites: &[u32]) -> Result<Vec
 }
 
 /// Whether no fact names another stack.
-fn all_name(facts: &[Fact], sites: &[u32]) -> bool
+fn all_name(facts: &Facts, sites: &[u32]) -> bool
     ensures { result ≡ list_all (names_stack sites.now) facts.now }
 {
     facts.iter().all(|fact| names_stack(fact, sites))
@@ -83,7 +83,7 @@ fn elem_of_sites(alloc: Global, sites: Seq<u32>) -> Result<Elem, AllocError>
 }
 
 /// The stack that the first fact on it names.
-fn first_stack(facts: &[Fact]) -> Option<&[u32]>
+fn first_stack(facts: &Facts) -> Option<&[u32]>
     ensures { option_map (λ sites. sites.now) result ≡ first_stack facts.now }
 {
     for fact in facts {

@@ -1,9 +1,9 @@
 -- Sums that stop at the greatest number of 64 bits.
-use Rattle.std.proofs.Common.{◌≡◌, ℕ, ◌+◌, ◌-◌, ◌^◌, ◌<◌, ◌≤◌, min, List, map, length, take, get_or}
-use Rattle.std.proofs.Common.{sym, ap, ◌∙◌, arith}
+use Rattle.std.proofs.Common.{◌≡◌, ℕ, ◌+◌, ◌-◌, ◌^◌, ◌<◌, ◌≤◌, min, List, ◌∷◌, map, length, take}
+use Rattle.std.proofs.Common.{get_or, sym, ap, ◌∙◌, arith}
 use Rattle.std.specs.List.{sum, sum_by}
 use Rattle.std.proofs.lemmas.List.{take_all}
-use Rattle.std.proofs.lemmas.List.Sums.{sum-map, sum_by_more}
+use Rattle.std.proofs.lemmas.List.Sums.{sum-map, sum_by_more, sum_by-cons}
 use Rattle.cpa_edgeform_rules.specs.Forms.{Form, weighed}
 
 stops : (s w m : ℕ) → min (min s m + min w m) m ≡ min (s + w) m
@@ -26,6 +26,17 @@ all_weights f xs i old m past kept =
     kept
     ∙ ap (λ ys. min (sum_by f ys) m) (take_all i xs past)
     ∙ sym (ap (λ n. min n m) (sum-map f xs))
+
+-- one item less of what is left
+pub one_less : {A : Type 0} (f : A → ℕ) (last rest : List A) (x : A) (old new m all : ℕ)
+    → last ≡ x ∷ rest → new ≡ min (old + min (f x) m) m → min (old + sum (map f last)) m ≡ all
+    → min (new + sum (map f rest)) m ≡ all
+one_less f last rest x old new m all steps step kept =
+    let one : sum (map f last) ≡ f x + sum (map f rest) =
+    ap (λ xs. sum (map f xs)) steps
+    ∙ (sum-map f (x ∷ rest)
+    ∙ (sum_by-cons f x rest ∙ sym (ap (λ n. f x + n) (sum-map f rest)))) in
+    omega (arith, one, step, kept)
 
 -- a weight that has stopped already
 pub weighed_once : (more : ℕ) (form : Form)

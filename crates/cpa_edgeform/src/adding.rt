@@ -144,7 +144,7 @@ pub(crate) fn hold(parts: &mut Parts, elem: &Elem) -> Result<(), AllocError>
 {
     let standing = parts.places.as_slice();
     let weight = elem_weight(standing, elem);
-    let asked = tests_of(parts.alloc, standing, elem.facts.as_slice())?;
+    let asked = tests_of(parts.alloc, standing, &elem.facts)?;
     add_tests(parts, asked.as_slice())?;
     weigh(parts, weight);
     Ok(())

@@ -14,7 +14,7 @@ use crate::settling::push_copies;
 use cpa_edgeform_renaming::{Place, trap_test};
 use cpa_expr::{CmpOp, Expr, both, comparison, constant, copied, copy, either, negation};
 use cpa_ints::{Boxed, IntType, Seq};
-use cpa_model::{Elem, Fact};
+use cpa_model::{Elem, Fact, Facts};
 use std::alloc::{AllocError, Global};
 
 /// The type of a cell.
@@ -91,7 +91,7 @@ fn push_tests(
 pub(crate) fn tests_of(
     alloc: Global,
     places: &[Place],
-    facts: &[Fact],
+    facts: &Facts,
 ) -> Result<Seq<(Expr, bool)>, AllocError>
     ensures { IfOk result (λ tests. tests ≡ tests_of places.now facts.now) }
 {
@@ -135,7 +135,7 @@ fn denials(alloc: Global, tests: &[(Expr, bool)]) -> Result<Seq<(Expr, bool)>, A
 fn denials_of(alloc: Global, places: &[Place], elem: &Elem) -> Result<Seq<(Expr, bool)>, AllocError>
     ensures { IfOk result (λ all. all ≡ denials_of places.now elem.now.facts) }
 {
-    let tests = tests_of(alloc, places, elem.facts.as_slice())?;
+    let tests = tests_of(alloc, places, &elem.facts)?;
     denials(alloc, tests.as_slice())
 }
 

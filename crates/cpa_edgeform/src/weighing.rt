@@ -47,7 +47,7 @@ pub(crate) fn elem_weight(places: &[Place], elem: &Elem) -> u64
     ensures { result ≡ min (elem_weight places.now elem.now) u64.MAX }
 {
     let mut total = 0u64;
-    for fact in elem.facts.as_slice() {
+    for fact in &elem.facts {
         total = total.saturating_add(fact_weight(places, fact));
     }
     total

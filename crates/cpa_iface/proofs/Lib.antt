@@ -1,2 +1,1 @@
 pub mod LocationLaws
-pub mod StandingLemmas

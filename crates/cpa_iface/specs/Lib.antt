@@ -2,6 +2,7 @@ pub mod Rows
 pub mod Meanings
 pub mod Pins
 pub mod Laws
+pub mod PlaceLaws
 pub mod Common
 pub mod CommonLaws
 pub mod PlainMeanings

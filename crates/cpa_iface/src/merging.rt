@@ -4,7 +4,7 @@
 ghost use Rattle.std.specs.Prelude.{◌≡◌, IfOk};
 ghost use Rattle.cpa_iface.specs.Common.{common_facts, merged_facts};
 
-use crate::standing::place_from;
+use crate::standing::behind_fact;
 use cpa_model::{Elem, Seq, copy_elem, copy_fact};
 use std::alloc::{AllocError, Global};
 
@@ -59,8 +59,8 @@ fn common_facts(alloc: Global, new: &Elem, old: &Elem) -> Result<Elem, AllocErro
     let mut facts = Seq::new(alloc);
     let mut next = 0;
     for fact in &old.facts {
-        if let Some(place) = place_from(new.facts.as_slice(), next, fact) {
-            next = place + 1;
+        if let Some(place) = behind_fact(&new.facts, next, fact) {
+            next = place;
             facts.push(copy_fact(alloc, fact)?)?;
         }
     }

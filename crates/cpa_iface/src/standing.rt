@@ -1,11 +1,13 @@
 //! Whether facts stand in an element, looked for in the order in which they stand there: where two
-//! elements have one order, it takes one walk. Proved with `proofs/StandingLemmas.antt`.
+//! elements have one order, it takes one walk. Proved with
+//! `specs/PlaceLaws.antt`.
 
-ghost use Rattle.std.specs.Prelude.{◌≡◌, ◌<◌, ◌≤◌, length, is_some, IfSome};
-ghost use Rattle.cpa_model.specs.Standing.{has_facts};
+ghost use Rattle.std.specs.Prelude.{◌≡◌, ◌≤◌, Some, drop, length, slice_get, is_some, IfSome};
+ghost use Rattle.cpa_model_facts.specs.declared.fact.Fact.{Fact as AFact};
+ghost use Rattle.cpa_model.specs.Standing.{has_facts, same_fact};
 ghost use Rattle.cpa_iface.specs.Common.{stands_in};
 
-use cpa_model::{Elem, Fact, same_fact};
+use cpa_model::{Elem, Fact, Facts, same_fact};
 
 /// Whether each fact of `other` stands in `elem`: then each state of `elem` is one of `other`. It
 /// is linear where the facts stand in one order.
@@ -14,31 +16,48 @@ pub fn covers(elem: &Elem, other: &Elem) -> bool
 {
     let mut next = 0;
     for fact in &other.facts {
-        match place_from(elem.facts.as_slice(), next, fact) {
-            Some(place) => next = place + 1,
+        match behind_fact(&elem.facts, next, fact) {
+            Some(place) => next = place,
             None => return false,
         }
     }
     true
 }
 
-/// A place at which the fact stands, looked for from the place `from` on, and then before it.
-pub(crate) fn place_from(facts: &[Fact], from: usize, fact: &Fact) -> Option<usize>
+/// The place behind one at which the fact stands, looked for from the place `from` on, and then
+/// before it.
+pub(crate) fn behind_fact(facts: &Facts, from: usize, fact: &Fact) -> Option<usize>
     requires { from ≤ length facts.now }
-    ensures within { IfSome result (λ place. place < length facts.now) }
+    ensures within { IfSome result (λ place. place ≤ length facts.now) }
     ensures stands { is_some result ≡ stands_in facts.now fact.now }
 {
-    let (before, behind) = facts.split_at(from);
-    match first_place(behind, fact) {
-        Some(place) => Some(from + place),
-        None => first_place(before, fact),
+    match behind_first(facts, from, fact) {
+        Some(place) => Some(place),
+        None => behind_first(facts, 0, fact),
     }
 }
 
-/// The first place at which the fact stands.
-fn first_place(facts: &[Fact], fact: &Fact) -> Option<usize>
-    ensures within { IfSome result (λ place. place < length facts.now) }
-    ensures stands { is_some result ≡ stands_in facts.now fact.now }
+/// The place behind the first one from `from` on at which the fact stands.
+fn behind_first(facts: &Facts, from: usize, fact: &Fact) -> Option<usize>
+    requires { from ≤ length facts.now }
+    ensures within { IfSome result (λ place. place ≤ length facts.now) }
+    ensures stands { is_some result ≡ stands_in (drop from facts.now) fact.now }
 {
-    facts.iter().position(|own| same_fact(own, fact))
+    for place in from..facts.len() {
+        if stands_at(facts, place, fact) {
+            return Some(place + 1);
+        }
+    }
+    None
+}
+
+/// Whether the fact stands at the place.
+fn stands_at(facts: &Facts, place: usize, fact: &Fact) -> bool
+    ensures { (own : AFact) → slice_get facts.now place ≡ Some own
+        → result ≡ same_fact own fact.now }
+{
+    match facts.get(place) {
+        Some(own) => same_fact(own, fact),
+        None => false,
+    }
 }

@@ -4,26 +4,27 @@
 ghost use Rattle.std.specs.Prelude.{◌≡◌};
 ghost use Rattle.cpa_reached_key.specs.Rows.{same_facts, same_elem, same_row};
 
-use cpa_model::{Elem, Fact, same_fact};
+use cpa_model::{Elem, Facts, same_fact};
 
 /// Whether two lists have the same facts in the same order. Takes no memory.
-pub fn same_facts(facts: &[Fact], others: &[Fact]) -> bool
+pub fn same_facts(facts: &Facts, others: &Facts) -> bool
     ensures { result ≡ same_facts facts.now others.now }
 {
-    match facts {
-        [] => others.is_empty(),
-        [fact, facts @ ..] => match others {
-            [] => false,
-            [other, others @ ..] => same_fact(fact, other) && same_facts(facts, others),
-        },
+    let mut left = others.iter();
+    for fact in facts {
+        match left.next() {
+            Some(other) if same_fact(fact, other) => {}
+            _ => return false,
+        }
     }
+    left.next().is_none()
 }
 
 /// Whether two elements are the same. Takes no memory.
 pub fn same_elem(elem: &Elem, other: &Elem) -> bool
     ensures { result ≡ same_elem elem.now other.now }
 {
-    same_facts(elem.facts.as_slice(), other.facts.as_slice())
+    same_facts(&elem.facts, &other.facts)
 }
 
 /// Whether two rows are the same. Takes no memory.

@@ -15,8 +15,8 @@ use Rattle.cpa_expr.specs.Values.{HasTruth}
 use Rattle.cpa_expr.specs.Values.{logical_not, value_of}
 use Rattle.cpa_expr.specs.Cells.{AreValues, scalar_read}
 use Rattle.cpa_expr.specs.Laws.{value_at_variants, a_scalar_is_its_cell}
-use Rattle.cpa_model.specs.declared.facts.Fact.{Fact}
-use Rattle.cpa_model.specs.declared.facts.Fact.TheVariants.{At, Stack, Equals, Within, Truth}
+use Rattle.cpa_model_facts.specs.declared.fact.Fact.{Fact}
+use Rattle.cpa_model_facts.specs.declared.fact.Fact.TheVariants.{At, Stack, Equals, Within, Truth}
 use Rattle.cpa_edgeform_renaming.specs.declared.places.Place.{Place}
 use Rattle.cpa_edgeform_renaming.specs.TrapTests.{is_trap, trap_test}
 use Rattle.cpa_edgeform_renaming.specs.Laws.{trap_tests_tell}

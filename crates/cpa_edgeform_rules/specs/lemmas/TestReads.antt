@@ -10,8 +10,8 @@ use Rattle.cpa_expr.specs.declared.tree.Expr.TheVariants.{Const, Cmp, And}
 use Rattle.cpa_expr.specs.Cells.{may_read, scalar_read}
 use Rattle.cpa_expr.specs.Laws.{reads_at_variants}
 use Rattle.cpa_expr.specs.lemmas.CellsRead.{or_left, or_right}
-use Rattle.cpa_model.specs.declared.facts.Fact.{Fact}
-use Rattle.cpa_model.specs.declared.facts.Fact.TheVariants.{At, Stack, Equals, Within, Truth}
+use Rattle.cpa_model_facts.specs.declared.fact.Fact.{Fact}
+use Rattle.cpa_model_facts.specs.declared.fact.Fact.TheVariants.{At, Stack, Equals, Within, Truth}
 use Rattle.cpa_model.specs.declared.facts.Elem.{Elem}
 use Rattle.cpa_query.specs.Queries.{wanted_reads}
 use Rattle.cpa_edgeform_renaming.specs.declared.places.Place.{Place}

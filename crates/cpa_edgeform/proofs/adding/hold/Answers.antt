@@ -14,6 +14,6 @@ returns-clause-ok c =
     (elem_weight form.places c.args.elem.now)
     (c.in_ok-add_tests.ensures.ok
     ∙ ap (λ (asked : List (Expr × Bool)). with_tests asked form)
-    (c.as_slice-2.ensures ∙ (rw (c.as_slice.ensures, same) at c.in_ok-asked.ensures)))
+    (c.as_slice.ensures ∙ (rw same at c.in_ok-asked.ensures)))
     (rw same at c.elem_weight-weight.ensures)
     c.weigh.ensures
