@@ -82,24 +82,42 @@ impl<'a> KnownBounds<'a> {
     pub fn at(&self, cell: usize) -> Option<Bounds>
         ensures { result ≡ slice_get self.now.each cell }
     {
-        bounds_among(self.cells, self.known.as_slice(), cell)
+        self.at_near(cell, 0)
     }
 
-    /// Gives the cell these bounds, if it is there.
+    /// The same, looked for first at a place among the listed cells: who goes along a list of the
+    /// same cells asks for each by its place there.
+    pub fn at_near(&self, cell: usize, near: usize) -> Option<Bounds>
+        ensures { result ≡ slice_get self.now.each cell }
+    {
+        bounds_among(self.cells, self.known.as_slice(), cell, near)
+    }
+
+    /// Gives the cell these bounds, if it is there. Its place is looked for first behind the listed
+    /// cells.
     pub fn put(&mut self, cell: usize, own: Bounds) -> Result<(), AllocError>
         ensures cells { self.new.cells ≡ self.old.cells }
         ensures each { OnOk result (self.new.each ≡ slice_set self.old.each cell own) }
     {
-        put_among(self.cells, &mut self.known, cell, own)
+        let near = self.known.len();
+        self.put_near(cell, near, own)
+    }
+
+    /// The same, looked for first at a place among the listed cells.
+    pub fn put_near(&mut self, cell: usize, near: usize, own: Bounds) -> Result<(), AllocError>
+        ensures cells { self.new.cells ≡ self.old.cells }
+        ensures each { OnOk result (self.new.each ≡ slice_set self.old.each cell own) }
+    {
+        put_among(self.cells, &mut self.known, cell, near, own)
     }
 }
 
 /// The bounds of the cell, if it is there.
-fn bounds_among(cells: &[Cell], known: &[CellBounds], cell: usize) -> Option<Bounds>
+fn bounds_among(cells: &[Cell], known: &[CellBounds], cell: usize, near: usize) -> Option<Bounds>
     requires { are_descending (length cells.now) known.now ≡ true }
     ensures { result ≡ slice_get (known_bounds cells.now known.now) cell }
 {
-    or_range(own_among(known, cells.len(), cell), cells, cell)
+    or_range(own_among(known, cells.len(), cell, near), cells, cell)
 }
 
 /// The bounds, or else all numbers of the type of the cell, if it is there.
@@ -116,17 +134,40 @@ fn or_range(own: Option<Bounds>, cells: &[Cell], cell: usize) -> Option<Bounds>
 }
 
 /// The bounds of the cell, if they are listed.
-fn own_among(known: &[CellBounds], count: usize, cell: usize) -> Option<Bounds>
+fn own_among(known: &[CellBounds], count: usize, cell: usize, near: usize) -> Option<Bounds>
     requires { are_descending count known.now ≡ true }
     ensures { result ≡ own_in cell known.now }
 {
-    match known.get(place_of(known, count, cell)) {
+    match known.get(place_near(known, count, cell, near)) {
         Some(it) => { if it.cell == cell { Some(it.own) } else { None } }
         None => None,
     }
 }
 
-/// How many of the cells, which are below `count`, come behind this one.
+/// How many of the cells, which are below `count`, come behind this one: it is found in one step
+/// where `near` is the place.
+fn place_near(known: &[CellBounds], count: usize, cell: usize, near: usize) -> usize
+    requires { are_descending count known.now ≡ true }
+    ensures { result ≡ place_in cell known.now }
+{
+    if is_place(known, count, cell, near) {
+        near
+    } else {
+        place_of(known, count, cell)
+    }
+}
+
+/// Whether it is seen that so many of the cells come behind this one: the last of them does, and
+/// the next one does not.
+fn is_place(known: &[CellBounds], count: usize, cell: usize, place: usize) -> bool
+    requires { are_descending count known.now ≡ true }
+    ensures { IsTrue result → place ≡ place_in cell known.now }
+{
+    let is_from = place == 0 || is_above(known, place - 1, cell);
+    is_from && !is_above(known, place, cell)
+}
+
+/// The same by halving.
 fn place_of(known: &[CellBounds], count: usize, cell: usize) -> usize
     requires { are_descending count known.now ≡ true }
     ensures { result ≡ place_in cell known.now }
@@ -169,6 +210,7 @@ fn put_among(
     cells: &[Cell],
     known: &mut Vec<CellBounds>,
     cell: usize,
+    near: usize,
     own: Bounds,
 ) -> Result<(), AllocError>
     requires { are_descending (length cells.now) known.old.items ≡ true }
@@ -177,10 +219,10 @@ fn put_among(
         ≡ slice_set (known_bounds cells.now known.old.items) cell own) }
 {
     if cell < cells.len() {
-        if is_same(bounds_among(cells, known.as_slice(), cell), own) {
+        if is_same(bounds_among(cells, known.as_slice(), cell, near), own) {
             return Ok(());
         }
-        list(known, cells.len(), cell, own)?;
+        list(known, cells.len(), cell, near, own)?;
     }
     Ok(())
 }
@@ -200,6 +242,7 @@ fn list(
     known: &mut Vec<CellBounds>,
     count: usize,
     cell: usize,
+    near: usize,
     own: Bounds,
 ) -> Result<(), AllocError>
     requires order { are_descending count known.old.items ≡ true }
@@ -208,7 +251,7 @@ fn list(
     ensures each { (cells : List ACell) → OnOk result (known_bounds cells known.new.items
         ≡ slice_set (known_bounds cells known.old.items) cell own) }
 {
-    let place = place_of(known.as_slice(), count, cell);
+    let place = place_near(known.as_slice(), count, cell, near);
     if is_of(known.as_slice(), place, cell) {
         known[place] = CellBounds { cell, own };
     } else {
