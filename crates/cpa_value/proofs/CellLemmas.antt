@@ -6,63 +6,79 @@ use Rattle.std.specs.List.{slice_index_or}
 use Rattle.std.proofs.lemmas.List.{same_lists, take_more, length-take-le}
 use Rattle.std.proofs.lemmas.Option.{get_or_from_slice_get}
 use Rattle.std.proofs.lemmas.List.FromFn.{length-map-range_with_len, get_or-map-range_with_len}
-use Rattle.cpa_model.specs.declared.facts.Fact.{Fact}
-use Rattle.cpa_model.specs.declared.facts.Fact.TheVariants.{At, Stack, Equals, Within, Truth}
+use Rattle.cpa_model_facts.specs.declared.fact.Fact.{Fact}
+use Rattle.cpa_model_facts.specs.declared.fact.Fact.TheVariants.{At, Stack, Equals, Within, Truth}
 use Rattle.cpa_model.specs.declared.program.Cell.{Cell}
 use Rattle.cpa_iface.specs.Pins.{equals_from}
 use Rattle.cpa_value_changes.specs.Cells.{first_value, known_cells}
 use Rattle.cpa_value.specs.Cells.{first_known, facts_from}
 
--- the first value of facts with one behind them
-first_value-push : (fs : List Fact) (f : Fact) (cell : ℕ)
-    → first_value (fs ++ f ∷ []) cell
-    ≡ first_known (first_value fs cell) (first_value (f ∷ []) cell)
-first_value-push [] f cell = refl
-first_value-push (At p ∷ fs) f cell = first_value-push fs f cell
-first_value-push (Stack s ∷ fs) f cell = first_value-push fs f cell
-first_value-push (Equals own v ∷ fs) f cell = by (own == cell) (first_value-push fs f cell) where
-  by : (b : Bool) → first_value (fs ++ f ∷ []) cell
-      ≡ first_known (first_value fs cell) (first_value (f ∷ []) cell)
-      → cond b (Some v) (first_value (fs ++ f ∷ []) cell)
-      ≡ first_known (cond b (Some v) (first_value fs cell)) (first_value (f ∷ []) cell)
-  by true later = refl
-  by false later = later
-first_value-push (Within c lo hi ∷ fs) f cell = first_value-push fs f cell
-first_value-push (Truth e h ∷ fs) f cell = first_value-push fs f cell
+-- the first value of facts with one before them
+first_value-cons : (f : Fact) (fs : List Fact) (cell : ℕ)
+    → first_known (first_value (f ∷ []) cell) (first_value fs cell) ≡ first_value (f ∷ fs) cell
+first_value-cons (At p) fs cell = refl
+first_value-cons (Stack s) fs cell = refl
+first_value-cons (Equals own v) fs cell = by (own == cell) where
+  by : (b : Bool) → first_known (cond b (Some v) None) (first_value fs cell)
+      ≡ cond b (Some v) (first_value fs cell)
+  by true = refl
+  by false = refl
+first_value-cons (Within c lo hi) fs cell = refl
+first_value-cons (Truth e h) fs cell = refl
 
--- the list has the first value of each of its cells
-pub record Knows (n : ℕ) (facts : List Fact) (cells : List (Option ℤ)) : Type 0 where
+first_known-assoc : (a b c : Option ℤ)
+    → first_known (first_known a b) c ≡ first_known a (first_known b c)
+first_known-assoc (Some v) b c = refl
+first_known-assoc None b c = refl
+
+first_known-none : (a : Option ℤ) → first_known a None ≡ a
+first_known-none (Some v) = refl
+first_known-none None = refl
+
+-- for each cell, the list and the facts that are left give what all facts give
+pub record Knows (n : ℕ) (facts left : List Fact) (cells : List (Option ℤ)) : Type 0 where
   pub long : length cells ≡ n
-  pub first : (cell : ℕ) → cell < n → slice_index_or cells cell None ≡ first_value facts cell
+  pub first : (cell : ℕ) → cell < n
+      → first_known (slice_index_or cells cell None) (first_value left cell)
+      ≡ first_value facts cell
 
--- so it is after one fact more
-pub knows_more : (n : ℕ) (facts : List Fact) (i : ℕ) (f : Fact) (cells new : List (Option ℤ))
-    → i < length facts → f ≡ get_or facts i f
-    → Knows n (take i facts) cells → length new ≡ length cells
+-- so it is where nothing is known
+pub knows_none : (facts : List Fact) (cells : List (Option ℤ))
+    → ((cell : ℕ) → slice_index_or cells cell None ≡ None)
+    → Knows (length cells) facts facts cells
+knows_none facts cells none = record {
+  long = refl;
+  first = λ cell less. ap (λ o. first_known o (first_value facts cell)) (none cell);
+}
+
+-- and after one fact more
+pub knows_more : (n : ℕ) (facts last left : List Fact) (f : Fact) (cells new : List (Option ℤ))
+    → last ≡ f ∷ left → Knows n facts last cells → length new ≡ length cells
     → ((cell : ℕ) → cell < length cells
     → slice_index_or new cell None ≡ first_known (slice_index_or cells cell None)
     (first_value (f ∷ []) cell))
-    → Knows n (take (i + 1) facts) new
-knows_more n facts i f cells new inside at knows same values = record {
+    → Knows n facts left new
+knows_more n facts last left f cells new is knows same values = record {
   long = same ∙ knows.long;
   first = λ cell less.
       let inner : cell < length cells = let long = knows.long in omega arith in
-      values cell inner
-      ∙ (ap (λ o. first_known o (first_value (f ∷ []) cell)) (knows.first cell less)
-      ∙ (sym (first_value-push (take i facts) f cell)
-      ∙ ap (λ l. first_value l cell) (ap (λ x. take i facts ++ x ∷ []) at
-      ∙ sym (take_more facts i f inside))));
+      let own = slice_index_or cells cell None in
+      ap (λ o. first_known o (first_value left cell)) (values cell inner)
+      ∙ (first_known-assoc own (first_value (f ∷ []) cell) (first_value left cell)
+      ∙ (ap (first_known own) (first_value-cons f left cell)
+      ∙ (ap (λ l. first_known own (first_value l cell)) (sym is) ∙ knows.first cell less)));
 }
 
 -- such a list is that of the known cells
-pub knows_all : (n : ℕ) (facts : List Fact) (cells : List (Option ℤ)) → Knows n facts cells
+pub knows_all : (n : ℕ) (facts : List Fact) (cells : List (Option ℤ)) → Knows n facts [] cells
     → cells ≡ known_cells n facts
 knows_all n facts cells knows =
     let long = length-map-range_with_len (first_value facts) 0 n in
     same_lists cells (known_cells n facts) (knows.long ∙ sym long) (λ k d inside.
     let less : k < n = let same = knows.long in omega arith in
-    any_default cells k d inside ∙ (knows.first k less
-    ∙ sym (get_or-map-range_with_len (first_value facts) 0 n k k d less (omega arith))))
+    any_default cells k d inside
+    ∙ (sym (first_known-none (get_or cells k None)) ∙ (knows.first k less
+    ∙ sym (get_or-map-range_with_len (first_value facts) 0 n k k d less (omega arith)))))
   where
     any_default : (xs : List (Option ℤ)) (k : ℕ) (d : Option ℤ) → k < length xs
         → get_or xs k d ≡ get_or xs k None

@@ -1,5 +1,6 @@
 pub mod CellLemmas
 pub mod ChangeLemmas
+pub mod PlaceLemmas
 pub mod KnownLemmas
 pub mod RangeLemmas
 pub mod StoreLemmas

@@ -7,8 +7,8 @@ use Rattle.std.specs.List.{AllByRecursion, range_with_len}
 use Rattle.std.proofs.lemmas.Bool.Decides.{Decides-eqb}
 use Rattle.cpa_ints.specs.Integers.{IsInRange}
 use Rattle.cpa_expr.specs.Cells.{AreValues}
-use Rattle.cpa_model.specs.declared.facts.Fact.{Fact}
-use Rattle.cpa_model.specs.declared.facts.Fact.TheVariants.{At, Stack, Equals, Within, Truth}
+use Rattle.cpa_model_facts.specs.declared.fact.Fact.{Fact}
+use Rattle.cpa_model_facts.specs.declared.fact.Fact.TheVariants.{At, Stack, Equals, Within, Truth}
 use Rattle.cpa_model.specs.declared.facts.Elem.{Elem}
 use Rattle.cpa_model.specs.declared.states.State.{State}
 use Rattle.cpa_model.specs.declared.program.Cell.{Cell}

@@ -8,13 +8,13 @@ ghost use Rattle.cpa_value_changes.specs.Cells.{first_value, known_cells};
 ghost use Rattle.cpa_value.specs.Cells.{first_known};
 ghost use Rattle.cpa_value.specs.Cells.{facts_from, elem_of};
 
-use cpa_model::{Elem, Fact, Seq};
+use cpa_model::{Elem, Fact, Facts, Seq};
 use std::alloc::{AllocError, Global};
 
 /// The known values of the first `count` cells. Of several facts on a cell the first one counts.
 pub(crate) fn known_cells(
     alloc: Global,
-    facts: &[Fact],
+    facts: &Facts,
     count: usize,
 ) -> Result<Vec<Option<i128>>, AllocError>
     ensures { IfOk result (λ cells. cells.items ≡ known_cells count facts.now) }
@@ -25,7 +25,7 @@ pub(crate) fn known_cells(
 }
 
 /// What the facts give the cells of which nothing is known.
-fn know_all(cells: &mut [Option<i128>], facts: &[Fact])
+fn know_all(cells: &mut [Option<i128>], facts: &Facts)
     requires { (cell : ℕ) → slice_index_or cells.old cell None ≡ None }
     ensures { cells.new ≡ known_cells (length cells.old) facts.now }
 {

@@ -9,7 +9,7 @@ ghost use Rattle.cpa_value.specs.Limits.{noted, seen_in, seen_along, seen, is_ke
 ghost use Rattle.cpa_value.specs.Limits.{IsOfCell};
 
 use cpa_iface::Entry;
-use cpa_model::{Cfa, Elem, Fact, Seq, copy_elem, copy_fact};
+use cpa_model::{Cfa, Elem, Fact, Facts, Seq, copy_elem, copy_fact};
 use std::alloc::{AllocError, Global};
 
 /// The element without the facts of cells that have more different values than the limit, over it
@@ -47,7 +47,7 @@ fn kept_of(
       facts = filter (is_kept limit (seen elem.now reached.now place)) elem.now.facts;
     }) }
 {
-    note_facts(values, elem.facts.as_slice())?;
+    note_facts(values, &elem.facts)?;
     note_entries(values, reached, place)?;
     kept(alloc, limit, elem, values)
 }
@@ -70,14 +70,14 @@ fn note_entries(values: &mut [Seq<i128>], reached: &[Entry], place: u32) -> Resu
 {
     for entry in reached {
         if let Some(elem) = entry.elems.get(place as usize) {
-            note_facts(values, elem.facts.as_slice())?;
+            note_facts(values, &elem.facts)?;
         }
     }
     Ok(())
 }
 
 /// Notes the values that the facts give the cells.
-fn note_facts(values: &mut [Seq<i128>], facts: &[Fact]) -> Result<(), AllocError>
+fn note_facts(values: &mut [Seq<i128>], facts: &Facts) -> Result<(), AllocError>
     ensures { OnOk result ((cell : ℕ) → cell < length values.old → slice_index_or values.new cell []
         ≡ seen_in cell facts.now (slice_index_or values.old cell [])) }
 {

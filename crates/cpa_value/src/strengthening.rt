@@ -17,7 +17,7 @@ ghost use Rattle.cpa_value.specs.declared.strengthening.Agreement.TheVariants.{S
 
 use crate::cells::{elem_of_known, known_cells, put, value_at};
 use cpa_iface::Precision;
-use cpa_model::{Cfa, Elem, Fact, copy_elem};
+use cpa_model::{Cfa, Elem, Fact, Facts, copy_elem};
 use cpa_value_changes::{KnownCells, are_ordered};
 use cpa_value_tracked::Tracked;
 use std::alloc::{AllocError, Global};
@@ -68,7 +68,7 @@ fn met(
     ensures { IfOk result (λ e. e ≡ option_map (elem_of (λ _. true))
         (met_elems (is_tracked tracked.now) others.now (known_cells count own.now.facts))) }
 {
-    let facts = own.facts.as_slice();
+    let facts = &own.facts;
     match said_beside(facts, count, others, tracked) {
         Agreement::Same => Ok(Some(copy_elem(own)?)),
         Agreement::Other => Ok(None),
@@ -80,7 +80,7 @@ fn met(
 }
 
 /// What the elements say, where the own facts are in the order of the cells.
-fn said_beside(facts: &[Fact], count: usize, others: &[Elem], tracked: &Tracked) -> Agreement
+fn said_beside(facts: &Facts, count: usize, others: &[Elem], tracked: &Tracked) -> Agreement
     ensures agrees { Agrees result (met_elems (is_tracked tracked.now) others.now)
         (known_cells count facts.now) }
     ensures ordered { result ≡ Same → are_ordered count 0 facts.now ≡ true }
@@ -97,7 +97,7 @@ fn said_along(cells: &KnownCells, others: &[Elem], tracked: &Tracked) -> Agreeme
     ensures { Agrees result (met_elems (is_tracked tracked.now) others.now) cells.now }
 {
     for other in others {
-        match said_by_facts(cells, other.facts.as_slice(), tracked) {
+        match said_by_facts(cells, &other.facts, tracked) {
             Agreement::Same => {}
             Agreement::Other => return Agreement::Other,
             Agreement::More => return Agreement::More,
@@ -107,7 +107,7 @@ fn said_along(cells: &KnownCells, others: &[Elem], tracked: &Tracked) -> Agreeme
 }
 
 /// What the facts say, one after another.
-fn said_by_facts(cells: &KnownCells, facts: &[Fact], tracked: &Tracked) -> Agreement
+fn said_by_facts(cells: &KnownCells, facts: &Facts, tracked: &Tracked) -> Agreement
     ensures { Agrees result (met_facts (is_tracked tracked.now) facts.now) cells.now }
 {
     for fact in facts {
@@ -182,10 +182,7 @@ fn some_point(others: &[Elem], tracked: &Tracked) -> bool
 fn has_point(elem: &Elem, tracked: &Tracked) -> bool
     ensures { result ≡ has_point (is_tracked tracked.now) elem.now }
 {
-    elem.facts
-        .as_slice()
-        .iter()
-        .any(|fact| is_point(fact, tracked))
+    elem.facts.iter().any(|fact| is_point(fact, tracked))
 }
 
 /// Whether the fact leaves a tracked cell one value: its bounds are equal.
@@ -204,7 +201,7 @@ fn meet_elems(cells: &mut [Option<i128>], others: &[Elem], tracked: &Tracked) ->
         ≡ met_elems (is_tracked tracked.now) others.now cells.old }
 {
     for other in others {
-        if !meet_facts(cells, other.facts.as_slice(), tracked) {
+        if !meet_facts(cells, &other.facts, tracked) {
             return false;
         }
     }
@@ -212,7 +209,7 @@ fn meet_elems(cells: &mut [Option<i128>], others: &[Elem], tracked: &Tracked) ->
 }
 
 /// Adds what the facts say, and says whether no cell would have two values.
-fn meet_facts(cells: &mut [Option<i128>], facts: &[Fact], tracked: &Tracked) -> bool
+fn meet_facts(cells: &mut [Option<i128>], facts: &Facts, tracked: &Tracked) -> bool
     ensures { (if result then Some cells.new else None)
         ≡ met_facts (is_tracked tracked.now) facts.now cells.old }
 {

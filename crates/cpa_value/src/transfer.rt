@@ -1,10 +1,13 @@
-//! What an edge makes of an element, by `specs/Transfer.antt`. It takes time in the facts of the
-//! element and in the expressions. Proved with `proofs/ChangeLemmas.antt`.
+//! What an edge makes of an element, by `specs/Transfer.antt`. Where the facts are in the order of
+//! the cells, and all tracked, it takes time in their blocks and in the expressions.
+//! Proved with `proofs/ChangeLemmas.antt` and `proofs/PlaceLemmas.antt`.
 
 ghost use Rattle.std.specs.Prelude.{◌≡◌, ◌<◌, ◌≤◌, ◌^◌, ◌+◌, ◌-◌, [], ◌∷◌, ◌++◌, true, length, min};
-ghost use Rattle.std.specs.Prelude.{IfOk, OnOk};
+ghost use Rattle.std.specs.Prelude.{IfOk, OnOk, List};
 ghost use Rattle.std.specs.List.{list_all};
 ghost use Rattle.cpa_model.specs.Automata.{IsAutomaton};
+ghost use Rattle.cpa_model_facts.specs.declared.fact.Fact.{Fact as AFact};
+ghost use Rattle.cpa_model_facts.specs.Runs.{run_of};
 ghost use Rattle.cpa_iface.specs.Meanings.{IsPrecision};
 ghost use Rattle.cpa_path_folds.specs.Tracking.{is_tracked};
 ghost use Rattle.cpa_value_changes.specs.Acts.{after_act};
@@ -17,8 +20,8 @@ ghost use Rattle.cpa_value.specs.Transfer.{elems_of, next_values};
 
 use crate::cells::{elem_of_known, known_cells, push_fact};
 use cpa_iface::Precision;
-use cpa_model::{Act, Cfa, Edge, Elem, Fact, Seq, copy_elem, copy_fact};
-use cpa_value_changes::{Change, KnownCells, are_ordered, change_by};
+use cpa_model::{Act, Block, Cfa, Edge, Elem, Fact, Facts, Run, Seq, copy_elem, copy_fact};
+use cpa_value_changes::{Change, KnownCells, are_ordered, change_by, place_of};
 use cpa_value_tracked::Tracked;
 use std::alloc::{AllocError, Global};
 
@@ -51,17 +54,16 @@ fn after_elem(
     ensures { IfOk result (λ es. es.items ≡ elems_of (is_tracked tracked.now)
         (after_act (is_tracked tracked.now) act.now (known_cells count elem.now.facts))) }
 {
-    let facts = elem.facts.as_slice();
-    if are_ordered(facts, count) {
+    if are_ordered(&elem.facts, count) {
         return after(alloc, act, elem, count, tracked);
     }
-    let ordered = in_order(alloc, facts, count)?;
+    let ordered = in_order(alloc, &elem.facts, count)?;
     let elems = after(alloc, act, &ordered, count, tracked)?;
     Ok(elems)
 }
 
 /// The same known values, in the order of the cells.
-fn in_order(alloc: Global, facts: &[Fact], count: usize) -> Result<Elem, AllocError>
+fn in_order(alloc: Global, facts: &Facts, count: usize) -> Result<Elem, AllocError>
     requires { count < 2 ^ 32 }
     ensures ordered { IfOk result (λ e. are_ordered count 0 e.facts ≡ true) }
     ensures same { IfOk result (λ e. known_cells count e.facts ≡ known_cells count facts.now) }
@@ -84,7 +86,7 @@ fn after(
         (after_act (is_tracked tracked.now) act.now (known_cells count elem.now.facts))) }
 {
     let mut elems = Vec::new(alloc);
-    match change_by(act, &KnownCells::new(elem.facts.as_slice(), count), tracked) {
+    match change_by(act, &KnownCells::new(&elem.facts, count), tracked) {
         Some(change) => {
             elems.push(elem_behind(alloc, elem, count, change, tracked)?)?;
             Ok(elems)
@@ -93,8 +95,8 @@ fn after(
     }
 }
 
-/// The element of the tracked cells behind a change, which is the same one where no cell changes
-/// and all are tracked.
+/// The element of the tracked cells behind a change. Where all facts are of tracked cells, it
+/// shares those of other cells, and is the same one where no cell changes.
 fn elem_behind(
     alloc: Global,
     elem: &Elem,
@@ -107,24 +109,92 @@ fn elem_behind(
     ensures { IfOk result (λ e. e
         ≡ elem_of (is_tracked tracked.now) (changed change (known_cells count elem.now.facts))) }
 {
-    let facts = elem.facts.as_slice();
-    if change.count == 0 && are_within(facts, count, tracked) {
+    if !are_within(&elem.facts, count, tracked) {
+        return facts_behind(alloc, &elem.facts, count, change, tracked);
+    }
+    if change.count == 0 {
         return copy_elem(elem);
     }
-    facts_behind(alloc, facts, count, change, tracked)
+    facts_replaced(alloc, &elem.facts, count, change, tracked)
 }
 
-/// Whether each fact says a value of a tracked cell.
-fn are_within(facts: &[Fact], count: usize, tracked: &Tracked) -> bool
+/// Whether each fact says a value of a tracked cell. It takes time in the blocks of the facts and
+/// in the numbers of the cells, where the blocks are runs.
+fn are_within(facts: &Facts, count: usize, tracked: &Tracked) -> bool
     ensures { result ≡ list_all (is_within (is_tracked tracked.now) 0 count) facts.now }
 {
-    facts.iter().all(|fact| is_within(fact, 0, count, tracked))
+    are_all_within(facts.blocks(), count, tracked)
+}
+
+/// The same of the facts of blocks.
+fn are_all_within(blocks: &[Block], count: usize, tracked: &Tracked) -> bool
+    ensures { result
+        ≡ list_all (list_all (is_within (is_tracked tracked.now) 0 count)) blocks.now }
+{
+    blocks
+        .iter()
+        .all(|block| is_block_within(block, count, tracked))
+}
+
+/// The same of the facts of a block.
+fn is_block_within(block: &Block, count: usize, tracked: &Tracked) -> bool
+    ensures { result ≡ list_all (is_within (is_tracked tracked.now) 0 count) block.now }
+{
+    if is_run_within(block.run(), count, tracked) {
+        return true;
+    }
+    block
+        .facts()
+        .iter()
+        .all(|fact| is_within(fact, 0, count, tracked))
+}
+
+/// Whether there is a run of cells that are seen to be tracked.
+fn is_run_within(run: Option<Run>, count: usize, tracked: &Tracked) -> bool
+    ensures { (facts : List AFact) → run_of facts ≡ run → result ≡ true →
+        list_all (is_within (is_tracked tracked.now) 0 count) facts ≡ true }
+{
+    match run {
+        Some(run) => {
+            let first = run.first as usize;
+            let cells = run.count as usize;
+            first + cells <= count && tracked.has_run(first, cells)
+        }
+        None => false,
+    }
+}
+
+/// The element of the cells behind a change, where all facts are of tracked cells: those of cells
+/// that stay are shared.
+fn facts_replaced(
+    alloc: Global,
+    facts: &Facts,
+    count: usize,
+    change: Change,
+    tracked: &Tracked,
+) -> Result<Elem, AllocError>
+    requires few { count < 2 ^ 32 }
+    requires ordered { are_ordered count 0 facts.now ≡ true }
+    requires within { list_all (is_within (is_tracked tracked.now) 0 count) facts.now ≡ true }
+    ensures { IfOk result (λ e.
+        e ≡ elem_of (is_tracked tracked.now) (changed change (known_cells count facts.now))) }
+{
+    let first = lesser(change.first, count);
+    let taken = lesser(change.count, count - first);
+    let end = first + taken;
+    let mut own = Seq::new(alloc);
+    push_along(&mut own, change.value, first, end, tracked)?;
+    let from = place_of(facts, first);
+    let to = place_of(facts, end);
+    Ok(Elem {
+        facts: facts.replaced(alloc, from, to, own)?,
+    })
 }
 
 /// The element of the tracked cells behind a change, made anew.
 fn facts_behind(
     alloc: Global,
-    facts: &[Fact],
+    facts: &Facts,
     count: usize,
     change: Change,
     tracked: &Tracked,
@@ -156,7 +226,7 @@ fn lesser(a: usize, b: usize) -> usize
 fn push_within(
     alloc: Global,
     left: &mut Seq<Fact>,
-    facts: &[Fact],
+    facts: &Facts,
     from: usize,
     to: usize,
     tracked: &Tracked,

@@ -1,2 +1,3 @@
+mod OrderLemmas
 pub mod TableLemmas
 pub mod ChangeLemmas

@@ -9,4 +9,4 @@ mod table;
 pub use acts::{ScalarValue, change_by};
 pub use changes::Change;
 pub use known::{Gap, known_value};
-pub use table::{KnownCells, are_ordered};
+pub use table::{KnownCells, are_ordered, place_of};

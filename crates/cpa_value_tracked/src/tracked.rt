@@ -1,7 +1,7 @@
 //! The cells that a precision tracks, found without a mark for each cell of the program where that
 //! is no dearer. `is_tracked` stands in `cpa_path_folds`. Proved with `proofs/TrackedLemmas.antt`.
 
-ghost use Rattle.std.specs.Prelude.{◌≡◌, ◌==◌, ◌<◌, true, Some, IfOk, slice_get};
+ghost use Rattle.std.specs.Prelude.{◌≡◌, ◌==◌, ℕ, ◌+◌, ◌<◌, ◌≤◌, true, Some, IfOk, slice_get};
 ghost use Rattle.std.specs.List.{AllByRecursion, list_any};
 ghost use Rattle.cpa_path_folds.specs.Tracking.{is_tracked};
 
@@ -71,6 +71,18 @@ impl<'a> Tracked<'a> {
             None => is_listed(self.precision.tracked.as_slice(), cell),
         }
     }
+
+    /// Whether so many cells from one on are tracked, as is seen where each stands at its own place
+    /// in the list. That they do not tells nothing.
+    pub fn has_run(&self, first: usize, count: usize) -> bool
+        ensures { result ≡ true → (cell : ℕ) → first ≤ cell → cell < first + count →
+            is_tracked self.now cell ≡ true }
+    {
+        match &self.marks {
+            Some(_) => false,
+            None => are_listed(self.precision.tracked.as_slice(), first, count),
+        }
+    }
 }
 
 /// Whether it costs little to look for a cell in the list: it is short, or its last cell stands at
@@ -90,6 +102,22 @@ fn is_listed(cells: &[u32], cell: u32) -> bool
         return true;
     }
     cells.contains(&cell)
+}
+
+/// Whether each of so many cells from one on is listed at its own place.
+fn are_listed(cells: &[u32], first: usize, count: usize) -> bool
+    ensures { result ≡ true → (cell : ℕ) → first ≤ cell → cell < first + count →
+        list_any (λ own. own == cell) cells.now ≡ true }
+{
+    if cells.len() < first || cells.len() - first < count {
+        return false;
+    }
+    for place in first..first + count {
+        if cells[place] as usize != place {
+            return false;
+        }
+    }
+    true
 }
 
 /// Whether the cell stands at this place.

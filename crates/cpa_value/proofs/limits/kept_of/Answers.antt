@@ -3,9 +3,9 @@ use Rattle.std.proofs.Common.{◌≡◌, ◌∙◌, ap, List}
 use Rattle.std.specs.List.{filter, slice_index_or}
 use Rattle.std.specs.Prelude.{[]}
 use Rattle.std.proofs.lemmas.Result.{IfOk-weaker}
-use Rattle.cpa_model.specs.declared.facts.Fact.{Fact}
+use Rattle.cpa_model_facts.specs.declared.fact.Fact.{Fact}
 use Rattle.cpa_model.specs.declared.facts.Elem.{Elem}
-use Rattle.cpa_value.specs.Limits.{is_kept, seen, seen_in}
+use Rattle.cpa_value.specs.Limits.{is_kept, seen}
 use Rattle.cpa_value.proofs.LimitLemmas.{kept_by_noted}
 use Rattle.cpa_value.proofs.limits.kept_of.Goals as goal
 
@@ -15,8 +15,7 @@ returns c =
     let same = kept_by_noted c.args.limit c.args.elem.now c.args.reached.now c.args.place none
     c.note_facts.new.values c.note_entries.new.values
     c.requires.none c.requires.inside c.note_facts.auto.values
-    (λ cell less. c.in_ok-note_facts.ensures cell less
-    ∙ ap (λ fs. seen_in cell fs (slice_index_or none cell [])) c.as_slice.ensures)
+    c.in_ok-note_facts.ensures
     c.in_ok-note_entries.ensures in
     let with_facts = λ (fs : List Fact). let r : Elem = record { facts = fs } in r in
     let noted = filter (is_kept c.args.limit

@@ -1,9 +1,9 @@
 -- What is left gives what the whole gives.
-use Rattle.std.proofs.Common.{◌≡◌, drop}
+use Rattle.std.proofs.Common.{◌≡◌}
 use Rattle.cpa_path_folds.specs.Tracking.{is_tracked}
 use Rattle.cpa_value.specs.Strengthening.{met_facts}
 use Rattle.cpa_value.proofs.strengthening.meet_facts.Given as goal
 
 abbrev pub invariant-loop-fact : goal.invariant-loop-fact
 invariant-loop-fact l = met_facts (is_tracked l.tracked) l.facts l.fn.cells
-    ≡ met_facts (is_tracked l.tracked) (drop l.fact-index l.facts) l.cells
+    ≡ met_facts (is_tracked l.tracked) l.fact-iterator l.cells
