@@ -15,3 +15,4 @@ pub mod Lowering
 pub mod Reopened
 pub mod Leaving
 pub mod Marking
+pub mod Runs

@@ -4,14 +4,15 @@
 use Rattle.std.proofs.Common.{◌≡◌, ℕ, zero, suc, ◌+◌, ◌<◌, ◌≤◌, Bool, true, false, List, [], ◌∷◌}
 use Rattle.std.proofs.Common.{◌++◌, map, length, get_or, Option, Some, None, Result, Ok, Err}
 use Rattle.std.proofs.Common.{refl, sym, ap, ◌∙◌, subst, inl, inr, ⊎_elim, arith}
-use Rattle.std.specs.Prelude.{IfSome, IfNone, nat_lt, not, ◌==◌, ℤ, pos, if◌then◌else◌}
+use Rattle.std.specs.Prelude.{IfSome, IfNone, is_some, nat_lt, not, ◌==◌, ℤ, pos, if◌then◌else◌}
 use Rattle.std.specs.Result.{OnOk, OnErr}
 use Rattle.std.specs.List.{AllByRecursion, slice_get, filter}
-use Rattle.std.proofs.lemmas.Bool.{cases_Bool, and_parts, both_ways, cond_both, ltb-false}
+use Rattle.std.proofs.lemmas.Bool.{cases_Bool, both_ways, cond_both, ltb-false}
 use Rattle.std.proofs.lemmas.Option.{same_Some}
 use Rattle.cpa_model.specs.declared.states.State.{State}
-use Rattle.cpa_model.specs.declared.facts.Fact.{Fact}
-use Rattle.cpa_model.specs.declared.facts.Fact.TheVariants.{At, Stack, Equals, Within, Truth}
+use Rattle.cpa_model_facts.specs.declared.fact.Fact.{Fact}
+use Rattle.cpa_model_facts.specs.declared.fact.Fact.TheVariants.{At, Stack, Equals, Within, Truth}
+use Rattle.cpa_model_facts.specs.Prints.{mixed}
 use Rattle.cpa_model.specs.declared.facts.Elem.{Elem}
 use Rattle.cpa_model.specs.Facts.{FactHolds, Holds}
 use Rattle.cpa_iface.specs.declared.entries.Entry.{Entry}
@@ -19,9 +20,9 @@ use Rattle.cpa_iface.specs.declared.precisions.Precision.{Precision}
 use Rattle.cpa_reached.specs.declared.marks.Mark.{Mark}
 use Rattle.cpa_reached.specs.Calls.{at_number, gains, rests, fresh, added_entries, replaced_entries}
 use Rattle.cpa_reached.specs.Calls.{others, those, renamed, replacing}
-use Rattle.cpa_reached.specs.Marks.{mixed, value_or, print_of, Tells, IsMarkOf}
+use Rattle.cpa_reached.specs.Marks.{value_or, print_of, Tells, IsMarkOf}
 use Rattle.cpa_reached.specs.Marks.{Differ, IsParted, HasMark, AreMarked}
-use Rattle.cpa_reached.specs.Marks.{ascend_from}
+use Rattle.cpa_reached.specs.Marks.{past_all}
 use Rattle.cpa_reached.specs.Members.{IsIn}
 use Rattle.cpa_reached.specs.Removal.{RemovesBelow, left, without, is_opened, opened}
 
@@ -90,39 +91,52 @@ not_less a b h =
     (λ (none : nat_lt a b ≡ false). ltb-false a b none)
     (cases_Bool (nat_lt a b))
 
+-- a test that comes first
+pub then_some : {X : Type 0} (b : Bool) (o : Option X) (x : X) → (if b then o else None) ≡ Some x
+    → (b ≡ true) × (o ≡ Some x)
+then_some true o x is = (refl, is)
+then_some false o x is = absurd (cc)
+
 -- a value in front of all facts leaves them
-still_hold : (fs : List Fact) (least c : ℕ) (v : ℤ) (values : List ℤ) → c < least
-    → ascend_from least fs ≡ true → AllByRecursion (FactHolds (state_of values)) fs
+still_hold : (fs : List Fact) (least end c : ℕ) (v : ℤ) (values : List ℤ) → c < least
+    → past_all least fs ≡ Some end → AllByRecursion (FactHolds (state_of values)) fs
     → AllByRecursion (FactHolds (state_of (put c v values))) fs
-still_hold [] least c v values less up all = tt
-still_hold (At p ∷ fs) least c v values less up all = absurd (cc)
-still_hold (Stack p ∷ fs) least c v values less up all = absurd (cc)
-still_hold (Equals d w ∷ fs) least c v values less up all =
-    let both = and_parts (not (nat_lt d least)) (ascend_from (d + 1) fs) up in
+still_hold [] least end c v values less up all = tt
+still_hold (At p ∷ fs) least end c v values less up all = absurd (cc)
+still_hold (Stack p ∷ fs) least end c v values less up all = absurd (cc)
+still_hold (Equals d w ∷ fs) least end c v values less up all =
+    let both = then_some (not (nat_lt d least)) (past_all (d + 1) fs) end up in
     let low = not_less d least both.0 in (
       put_other c v values d w (omega (arith, less, low)) all.0,
-      still_hold fs (d + 1) c v values (omega (arith, less, low)) both.1 all.1,
+      still_hold fs (d + 1) end c v values (omega (arith, less, low)) both.1 all.1,
     )
-still_hold (Within d lo hi ∷ fs) least c v values less up all = absurd (cc)
-still_hold (Truth e h ∷ fs) least c v values less up all = absurd (cc)
+still_hold (Within d lo hi ∷ fs) least end c v values less up all = absurd (cc)
+still_hold (Truth e h ∷ fs) least end c v values less up all = absurd (cc)
 
-all_hold : (fs : List Fact) (least : ℕ) → ascend_from least fs ≡ true
+all_hold : (fs : List Fact) (least end : ℕ) → past_all least fs ≡ Some end
     → AllByRecursion (FactHolds (state_of (values_of fs))) fs
-all_hold [] least up = tt
-all_hold (At p ∷ fs) least up = absurd (cc)
-all_hold (Stack p ∷ fs) least up = absurd (cc)
-all_hold (Equals d w ∷ fs) least up =
-    let both = and_parts (not (nat_lt d least)) (ascend_from (d + 1) fs) up in (
+all_hold [] least end up = tt
+all_hold (At p ∷ fs) least end up = absurd (cc)
+all_hold (Stack p ∷ fs) least end up = absurd (cc)
+all_hold (Equals d w ∷ fs) least end up =
+    let both = then_some (not (nat_lt d least)) (past_all (d + 1) fs) end up in (
       put_there d w (values_of fs),
-      still_hold fs (d + 1) d w (values_of fs) (omega arith) both.1 (all_hold fs (d + 1) both.1),
+      still_hold fs (d + 1) end d w (values_of fs) (omega arith) both.1
+          (all_hold fs (d + 1) end both.1),
     )
-all_hold (Within d lo hi ∷ fs) least up = absurd (cc)
-all_hold (Truth e h ∷ fs) least up = absurd (cc)
+all_hold (Within d lo hi ∷ fs) least end up = absurd (cc)
+all_hold (Truth e h ∷ fs) least end up = absurd (cc)
+
+-- there is one that may follow
+some_end : (o : Option ℕ) → is_some o ≡ true → (end : ℕ) × (o ≡ Some end)
+some_end (Some end) some = (end, refl)
+some_end None some = absurd (cc)
 
 -- ascending values have a state
 pub marks_row : (m : Mark) (es : List Elem) (e : Elem) → 1 ≤ m.count → Tells m es
-    → slice_get es m.place ≡ Some e → ascend_from 0 e.facts ≡ true → IsMarkOf m es
+    → slice_get es m.place ≡ Some e → is_some (past_all 0 e.facts) ≡ true → IsMarkOf m es
 marks_row m es e some tells at up =
+    let end = some_end (past_all 0 e.facts) up in
     let is = tells some in
     let same : e ≡ is.elem = same_Some e is.elem (sym at ∙ is.at) in
     record {
@@ -130,7 +144,7 @@ marks_row m es e some tells at up =
       marked = is;
       state = state_of (values_of e.facts);
       holds = subst (λ (f : Elem). Holds f (state_of (values_of e.facts))) same
-          (all_hold e.facts 0 up);
+          (all_hold e.facts 0 end.0 end.1);
     }
 
 -- ---- rows apart

@@ -1,21 +1,17 @@
 -- Marks of rows (this project's own). A mark tells which values an element of the row gives to the
 -- cells of a run, as one number. Where two marks of one place and run differ, no state lies in both
 -- elements.
-use Rattle.std.specs.Prelude.{◌≡◌, ◌≢◌, ℕ, zero, suc, ◌+◌, ◌*◌, ◌%◌, ◌≤◌, nat_lt, ℤ, pos}
-use Rattle.std.specs.Prelude.{unsigned_abs, Bool, true, false, not, ◌&&◌, List, [], ◌∷◌}
-use Rattle.std.specs.Prelude.{Option, Some, None, slice_get}
+use Rattle.std.specs.Prelude.{◌≡◌, ◌≢◌, ℕ, zero, suc, ◌+◌, ◌≤◌, nat_lt, ℤ, pos, Bool, false, not}
+use Rattle.std.specs.Prelude.{if◌then◌else◌, List, [], ◌∷◌, Option, Some, None, slice_get}
 use Rattle.std.specs.List.{AllByRecursion}
 use Rattle.cpa_model.specs.declared.states.State.{State}
-use Rattle.cpa_model.specs.declared.facts.Fact.{Fact}
-use Rattle.cpa_model.specs.declared.facts.Fact.TheVariants.{At, Stack, Equals, Within, Truth}
+use Rattle.cpa_model_facts.specs.declared.fact.Fact.{Fact}
+use Rattle.cpa_model_facts.specs.declared.fact.Fact.TheVariants.{At, Stack, Equals, Within, Truth}
+use Rattle.cpa_model_facts.specs.Prints.{mixed}
 use Rattle.cpa_model.specs.declared.facts.Elem.{Elem}
 use Rattle.cpa_model.specs.Facts.{Holds}
 use Rattle.cpa_iface.specs.declared.entries.Entry.{Entry}
 use Rattle.cpa_reached.specs.declared.marks.Mark.{Mark}
-
--- the print of one value more
-abbrev pub mixed : ℕ → ℤ → ℕ
-mixed print value = (print * 31 + unsigned_abs value % 4294967296) % 4294967296
 
 -- the value of a cell, 0 where it is not there
 abbrev pub value_or : Option ℤ → ℤ
@@ -97,7 +93,8 @@ past (Equals cell value) = cell + 1
 past (Within cell lo hi) = 0
 past (Truth expr holds) = 0
 
--- the facts are values of ascending cells
-abbrev pub ascend_from : ℕ → List Fact → Bool
-ascend_from least [] = true
-ascend_from least (f ∷ fs) = is_above least f && ascend_from (past f) fs
+-- the least cell that may follow the facts, where they are values of ascending cells from this one
+-- on
+abbrev pub past_all : ℕ → List Fact → Option ℕ
+past_all least [] = Some least
+past_all least (f ∷ fs) = if is_above least f then past_all (past f) fs else None

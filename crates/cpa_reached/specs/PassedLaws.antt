@@ -2,7 +2,6 @@
 -- one more is passed over or left, and other reasons. Lemmas for the crates above.
 use Rattle.std.specs.Prelude.{◌≡◌, ℕ, List, [], ◌∷◌, ◌++◌, refl}
 use Rattle.std.proofs.Common.{ap, ◌∙◌}
-use Rattle.std.specs.List.{AllByRecursion}
 use Rattle.cpa_reached.specs.MemberLaws.{all_push, all_weaker}
 use Rattle.cpa_reached.specs.Passed.{StandsBehind, LeavesOut}
 

@@ -1,15 +1,18 @@
 //! Marks of rows, by which entries are passed over without a look at their elements. What a mark
-//! tells stands in `specs/Marks.antt`; proved with `proofs/Marking.antt`.
+//! tells stands in `specs/Marks.antt`; proved with `proofs/Marking.antt` and `proofs/Runs.antt`.
 
-ghost use Rattle.std.specs.Prelude.{◌≡◌, ◌+◌, ◌<◌, ◌^◌, length, IfSome, IfOk, IsTrue};
+ghost use Rattle.std.specs.Prelude.{◌≡◌, ◌+◌, ◌<◌, ◌^◌, List, Some, length, is_some, IfSome, IfOk};
+ghost use Rattle.std.specs.Prelude.{IsTrue};
 ghost use Rattle.std.specs.List.{AllByRecursion};
 ghost use Rattle.cpa_model.specs.declared.states.State.{State};
 ghost use Rattle.cpa_model.specs.Facts.{FactHolds};
-ghost use Rattle.cpa_reached.specs.Marks.{mixed, ascend_from, is_above, past, Counts, Tells, IsMarkOf};
+ghost use Rattle.cpa_model_facts.specs.declared.fact.Fact.{Fact as AFact};
+ghost use Rattle.cpa_model_facts.specs.Runs.{run_of};
+ghost use Rattle.cpa_reached.specs.Marks.{is_above, past, past_all, Counts, Tells, IsMarkOf};
 ghost use Rattle.cpa_reached.specs.Marks.{Differ, DiffersAt};
 ghost use Rattle.cpa_reached.specs.Passed.{LeavesOut};
 
-use cpa_model::{Elem, Fact};
+use cpa_model::{Block, Elem, Fact, Facts, Run, mixed};
 use std::alloc::{AllocError, Global};
 
 /// How many prints there are.
@@ -29,14 +32,6 @@ pub struct Mark {
     pub count: u32,
     /// What is made of their values.
     pub print: u32,
-}
-
-/// The print of one value more.
-fn mixed(print: u32, value: i128) -> u32
-    ensures { result ≡ mixed print value }
-{
-    let low = (value.unsigned_abs() % PRINTS as u128) as u64;
-    ((print as u64 * 31 + low) % PRINTS) as u32
 }
 
 /// A mark that tells nothing.
@@ -87,14 +82,57 @@ fn followed(mark: Mark, fact: &Fact) -> Mark
     }
 }
 
-/// The mark of the facts of the element at a place.
-fn marked(place: u32, facts: &[Fact]) -> Mark
+/// What the facts tell with one after the other of these.
+fn followed_by_each(mark: Mark, facts: &[Fact]) -> Mark
+    ensures place { result.place ≡ mark.place }
+    ensures counts { (s : State) → AllByRecursion (FactHolds s) facts.now → Counts s mark
+        → Counts s result }
+{
+    let mut told = mark;
+    for fact in facts {
+        told = followed(told, fact);
+    }
+    told
+}
+
+/// What the facts tell with a run of them more, of which no fact is looked at.
+fn followed_by_run(mark: Mark, run: Run) -> Mark
+    ensures place { result.place ≡ mark.place }
+    ensures counts { (s : State) (facts : List AFact) → run_of facts ≡ Some run
+        → AllByRecursion (FactHolds s) facts → Counts s mark → Counts s result }
+{
+    let own = run_at(mark, run.first);
+    match own.count.checked_add(run.count) {
+        Some(count) => Mark {
+            place: own.place,
+            first: own.first,
+            count,
+            print: ((own.print as u64 * run.factor as u64 + run.print as u64) % PRINTS) as u32,
+        },
+        None => blank(mark.place, 0),
+    }
+}
+
+/// What the facts tell with those of a block.
+fn followed_by_block(mark: Mark, block: &Block) -> Mark
+    ensures place { result.place ≡ mark.place }
+    ensures counts { (s : State) → AllByRecursion (FactHolds s) block.now → Counts s mark
+        → Counts s result }
+{
+    match block.run() {
+        Some(run) => followed_by_run(mark, run),
+        None => followed_by_each(mark, block.facts()),
+    }
+}
+
+/// The mark of the facts of the element at a place. A block that is a run takes one step.
+fn marked(place: u32, facts: &Facts) -> Mark
     ensures place { result.place ≡ place }
     ensures counts { (s : State) → AllByRecursion (FactHolds s) facts.now → Counts s result }
 {
     let mut mark = blank(place, 0);
-    for fact in facts {
-        mark = followed(mark, fact);
+    for block in facts.blocks() {
+        mark = followed_by_block(mark, block);
     }
     mark
 }
@@ -107,7 +145,7 @@ fn later(mark: Mark, elems: &[Elem], place: usize) -> Mark
     if place > u32::MAX as usize {
         return mark;
     }
-    let other = marked(place as u32, elems[place].facts.as_slice());
+    let other = marked(place as u32, &elems[place].facts);
     if other.count > 0 { other } else { mark }
 }
 
@@ -142,14 +180,55 @@ fn past(fact: &Fact) -> u64
     }
 }
 
-/// Whether the facts are values of ascending cells, so that there is a state of which they hold.
-fn ascend_from(least: u64, facts: &[Fact]) -> bool
-    ensures { result ≡ ascend_from least facts.now }
+/// The least cell that may follow these facts, where they are values of ascending cells from the
+/// least one on.
+fn past_each(least: u64, facts: &[Fact]) -> Option<u64>
+    ensures { result ≡ past_all least facts.now }
 {
-    match facts {
-        [] => true,
-        [fact, facts @ ..] => is_above(least, fact) && ascend_from(past(fact), facts),
+    let mut next = least;
+    for fact in facts {
+        if !is_above(next, fact) {
+            return None;
+        }
+        next = past(fact);
     }
+    Some(next)
+}
+
+/// The same of a run of facts.
+fn past_run(least: u64, run: Run) -> Option<u64>
+    ensures { (facts : List AFact) → run_of facts ≡ Some run → result ≡ past_all least facts }
+{
+    if (run.first as u64) < least {
+        None
+    } else {
+        Some(run.first as u64 + run.count as u64)
+    }
+}
+
+/// The same of the facts of a block.
+fn past_block(least: u64, block: &Block) -> Option<u64>
+    ensures { result ≡ past_all least block.now }
+{
+    match block.run() {
+        Some(run) => past_run(least, run),
+        None => past_each(least, block.facts()),
+    }
+}
+
+/// Whether the facts are values of ascending cells, so that there is a state of which they hold. A
+/// block that is a run takes one step.
+fn ascend(facts: &Facts) -> bool
+    ensures { result ≡ is_some (past_all 0 facts.now) }
+{
+    let mut least = 0;
+    for block in facts.blocks() {
+        match past_block(least, block) {
+            Some(behind) => least = behind,
+            None => return false,
+        }
+    }
+    true
 }
 
 /// The mark of a row, where the element that it is of holds of some state. Takes no memory.
@@ -162,7 +241,7 @@ pub fn watch(elems: &[Elem]) -> Option<Mark>
     }
     match elems.get(mark.place as usize) {
         Some(elem) => {
-            if ascend_from(0, elem.facts.as_slice()) {
+            if ascend(&elem.facts) {
                 Some(mark)
             } else {
                 None

@@ -49,7 +49,11 @@ impl Json for Elem {
     ghost json = { elem_data };
 
     fn write(&self, alloc: Global, writer: &mut Writer) -> Result<(), AllocError> {
-        self.facts.write(alloc, writer)
+        writer.begin_array()?;
+        for fact in &self.facts {
+            fact.write(alloc, writer)?;
+        }
+        writer.end_array()
     }
 }
 

@@ -1,5 +1,4 @@
-use Rattle.std.proofs.Common.{◌≡◌, List, length, Some, ltb-true, refl, sym}
-use Rattle.std.specs.List.{slice_get}
+use Rattle.std.proofs.Common.{length, ltb-true, refl, sym}
 use Rattle.std.proofs.lemmas.Option.{slice_get_read}
 use Rattle.cpa_reached.proofs.marks.differs_at.Goals as goal
 

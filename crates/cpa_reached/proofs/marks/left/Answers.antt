@@ -1,4 +1,4 @@
-use Rattle.std.proofs.Common.{◌≡◌, ◌+◌, ℕ, List, get_or, take, sym, subst}
+use Rattle.std.proofs.Common.{ℕ, List, get_or, take, sym, subst}
 use Rattle.std.proofs.lemmas.List.{take_more}
 use Rattle.cpa_reached.specs.Marks.{DiffersAt}
 use Rattle.cpa_reached.specs.Passed.{LeavesOut}

@@ -1,16 +1,20 @@
-use Rattle.std.proofs.Common.{sym, ◌∙◌, subst}
+use Rattle.std.proofs.Common.{List, sym, ◌∙◌, subst}
+use Rattle.std.specs.List.{AllByRecursion}
 use Rattle.cpa_model.specs.Facts.{FactHolds}
-use Rattle.cpa_reached.proofs.Marking.{fact_at}
+use Rattle.cpa_model_facts.specs.declared.fact.Fact.{Fact}
+use Rattle.cpa_reached.proofs.Runs.{block_holds}
 use Rattle.cpa_reached.proofs.marks.marked.Goals as goal
 
-pub loop-fact-preserved : goal.loop-fact-preserved
-loop-fact-preserved c =
-    let fs = c.args.facts.now in
-    let i = c.loop-fact.fact-index in
+pub loop-block-preserved : goal.loop-block-preserved
+loop-block-preserved c =
+    let blocks = c.blocks-block-items.result.now in
+    let i = c.loop-block.block-index in
     record {
-      place = c.followed-mark.ensures.place ∙ c.loop-fact.invariant.place;
-      counts = λ s all. c.followed-mark.ensures.counts s
-          (subst (FactHolds s) (sym c.fact-item.is)
-          (fact_at (FactHolds s) fs i c.fact-item.result c.loop-fact-test.true all))
-          (c.loop-fact.invariant.counts s all);
+      place = c.followed_by_block-mark.ensures.place ∙ c.loop-block.invariant.place;
+      counts = λ s all. c.followed_by_block-mark.ensures.counts s
+          (subst (λ (fs : List Fact). AllByRecursion (FactHolds s) fs) (sym c.block-item.is)
+          (block_holds (FactHolds s) blocks i c.block-item.result c.loop-block-test.true
+          (subst (λ (fs : List Fact). AllByRecursion (FactHolds s) fs)
+          (sym c.blocks-block-items.ensures.whole) all)))
+          (c.loop-block.invariant.counts s all);
     }

@@ -6,8 +6,8 @@ use Rattle.cpa_model.specs.Facts.{FactHolds}
 use Rattle.cpa_reached.specs.Marks.{Counts}
 use Rattle.cpa_reached.proofs.marks.marked.Given as goal
 
-abbrev pub invariant-loop-fact : goal.invariant-loop-fact
-invariant-loop-fact l = record {
+abbrev pub invariant-loop-block : goal.invariant-loop-block
+invariant-loop-block l = record {
   place : l.mark.place ≡ l.place;
   counts : (s : State) → AllByRecursion (FactHolds s) l.facts → Counts s l.mark;
 }

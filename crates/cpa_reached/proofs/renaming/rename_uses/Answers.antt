@@ -1,4 +1,4 @@
-use Rattle.std.proofs.Common.{◌<◌, ◌≤◌, ◌++◌, ℕ, List, length, get_or, map, take, drop, ap, arith}
+use Rattle.std.proofs.Common.{◌<◌, ◌≤◌, ℕ, List, length, get_or, map, take, drop, ap, arith}
 use Rattle.std.proofs.lemmas.List.{get_or_default, length-append, length-drop, length-map}
 use Rattle.std.proofs.lemmas.List.{length-take-le}
 use Rattle.std.proofs.lemmas.List.Edits.{map_over_more}

@@ -1,5 +1,0 @@
-use Rattle.std.proofs.Common.{length}
-use Rattle.cpa_reached.proofs.marks.+ascend_from.Given as goal
-
-abbrev pub decreases-ascend_from : goal.decreases-ascend_from
-decreases-ascend_from l = length l.facts.now
