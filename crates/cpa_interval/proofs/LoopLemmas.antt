@@ -1,12 +1,12 @@
 -- One turn of the loops over cells and over facts.
-use Rattle.std.proofs.Common.{◌≡◌, ℕ, ◌+◌, ◌^◌, ◌<◌, ◌≤◌, ℤ, true, false, List, [], ◌∷◌}
+use Rattle.std.proofs.Common.{◌≡◌, ℕ, ◌+◌, ◌^◌, ◌<◌, ◌≤◌, ℤ, true, List, [], ◌∷◌}
 use Rattle.std.proofs.Common.{refl, sym, ap, ◌∙◌, arith, cond, length, drop}
 use Rattle.std.specs.Prelude.{zero, suc, Option, Some, slice_get, option_map}
 use Rattle.std.specs.List.{list_any}
 use Rattle.std.proofs.lemmas.List.{drop_more}
 use Rattle.std.proofs.lemmas.Option.{slice_get_within, get_or_from_slice_get}
 use Rattle.cpa_model.specs.declared.program.Cell.{Cell}
-use Rattle.cpa_model.specs.declared.facts.Fact.{Fact}
+use Rattle.cpa_model_facts.specs.declared.fact.Fact.{Fact}
 use Rattle.cpa_model.specs.declared.facts.Elem.{Elem}
 use Rattle.cpa_model.specs.declared.automaton.Edge.{Edge}
 use Rattle.cpa_model.specs.declared.automaton.Cfa.{Cfa}
@@ -18,8 +18,7 @@ use Rattle.cpa_interval_bounds.specs.declared.bounds.Bounds.{Bounds}
 use Rattle.cpa_interval_acts.specs.Acts.{after_act}
 use Rattle.cpa_interval.specs.Cells.{with_fact, with_facts, cell_bounds}
 use Rattle.cpa_interval.specs.Cells.{elem_of_all}
-use Rattle.cpa_interval.specs.Merging.{merged_along, merged_all, is_kept}
-use Rattle.cpa_interval.specs.Merging.{numbers_for, merged}
+use Rattle.cpa_interval.specs.Merging.{merged_along}
 use Rattle.cpa_interval.specs.Strengthening.{has_bound, met_elems, strengthened}
 use Rattle.cpa_interval.specs.Transfer.{elems_of, next_intervals}
 
@@ -34,6 +33,11 @@ drop_end [] zero h = refl
 drop_end [] (suc i) h = refl
 drop_end (x ∷ xs) zero h = absurd (omega (arith, h))
 drop_end (x ∷ xs) (suc i) h = drop_end xs i (omega (arith, h))
+
+pub item_at : {X : Type 0} (xs : List X) (i : ℕ) → i < length xs → (x : X) × (slice_get xs i ≡ Some x)
+item_at [] i inside = absurd (omega (arith, inside))
+item_at (x ∷ xs) zero inside = (x, refl)
+item_at (x ∷ xs) (suc i) inside = item_at xs i (omega (arith, inside))
 
 -- the fact before those that are put
 pub put_more : (facts : List Fact) (first now new : List Bounds) (place before : ℕ) (f : Fact)
@@ -58,26 +62,24 @@ few_cells cfa cells a are =
 
 -- the table has the cells of the automaton, and the tracked cells are those of the precision
 pub same_transfer : (cfa : Cfa) (p q : Precision) (e : Elem) (g : Edge) (cells own : List Cell)
-    (facts : List Fact) (bs : List Bounds) (es : List Elem) → cells ≡ cfa.cells
-    → facts ≡ e.facts → own ≡ cells → bs ≡ cell_bounds cells facts → q ≡ p
+    (bs : List Bounds) (es : List Elem) → cells ≡ cfa.cells → own ≡ cells
+    → bs ≡ cell_bounds cells e.facts → q ≡ p
     → es ≡ elems_of (is_tracked q) own (after_act own g.act bs)
     → es ≡ next_intervals cfa p e g
-same_transfer cfa p q e g cells own facts bs es same given whole are tracks is =
+same_transfer cfa p q e g cells own bs es same whole are tracks is =
     is
     ∙ (ap (λ (r : Precision). elems_of (is_tracked r) own (after_act own g.act bs)) tracks
     ∙ (ap (λ l. elems_of (is_tracked p) own (after_act own g.act l)) are
-    ∙ (ap (λ l. elems_of (is_tracked p) l (after_act l g.act (cell_bounds cells facts))) whole
-    ∙ (ap (λ l. elems_of (is_tracked p) cells (after_act cells g.act (cell_bounds cells l))) given
-    ∙ ap (λ l. elems_of (is_tracked p) l (after_act l g.act (cell_bounds l e.facts))) same))))
+    ∙ (ap (λ l. elems_of (is_tracked p) l (after_act l g.act (cell_bounds cells e.facts))) whole
+    ∙ ap (λ l. elems_of (is_tracked p) l (after_act l g.act (cell_bounds l e.facts))) same)))
 
 pub same_strengthening : (whole cells own_cells : List Cell) (p q : Precision) (own : Elem)
-    (others : List Elem) (facts : List Fact) (bs : List Bounds) (e : Option Elem) → cells ≡ whole
-    → facts ≡ own.facts → own_cells ≡ cells → bs ≡ cell_bounds cells facts → q ≡ p
+    (others : List Elem) (bs : List Bounds) (e : Option Elem) → cells ≡ whole → own_cells ≡ cells
+    → bs ≡ cell_bounds cells own.facts → q ≡ p
     → list_any has_bound others ≡ true
     → e ≡ option_map (elem_of_all own_cells) (met_elems (is_tracked q) others bs)
     → e ≡ strengthened whole p own others
-same_strengthening whole cells own_cells p q own others facts bs e same given owns are tracks some
-    is =
+same_strengthening whole cells own_cells p q own others bs e same owns are tracks some is =
     let left = option_map (elem_of_all whole)
     (met_elems (is_tracked p) others (cell_bounds whole own.facts)) in
     is
@@ -85,39 +87,10 @@ same_strengthening whole cells own_cells p q own others facts bs e same given ow
     (met_elems (is_tracked r) others bs)) tracks
     ∙ (ap (λ l. option_map (elem_of_all own_cells) (met_elems (is_tracked p) others l)) are
     ∙ (ap (λ l. option_map (elem_of_all l)
-    (met_elems (is_tracked p) others (cell_bounds cells facts))) owns
-    ∙ (ap (λ l. option_map (elem_of_all cells)
-    (met_elems (is_tracked p) others (cell_bounds cells l))) given
+    (met_elems (is_tracked p) others (cell_bounds cells own.facts))) owns
     ∙ (ap (λ l. option_map (elem_of_all l)
     (met_elems (is_tracked p) others (cell_bounds l own.facts))) same
-    ∙ ap (λ b. cond b left (Some own)) (sym some))))))
-
-pub same_merging : (rule : MergeRule) (ns : List ℤ) (cells own_cells : List Cell) (new old : Elem)
-    (fresh before : List Fact) (olds news both : List Bounds) (e : Elem) → fresh ≡ new.facts
-    → before ≡ old.facts → own_cells ≡ cells → olds ≡ cell_bounds cells before
-    → news ≡ cell_bounds cells fresh → both ≡ merged_along rule ns own_cells olds news
-    → e ≡ elem_of_all own_cells both
-    → e ≡ merged_all rule ns cells new old
-same_merging rule ns cells own_cells new old fresh before olds news both e one two owns first second
-    third is =
-    is
-    ∙ (ap (elem_of_all own_cells) third
-    ∙ (ap (λ l. elem_of_all l (merged_along rule ns l olds news)) owns
-    ∙ (ap (λ l. elem_of_all cells (merged_along rule ns cells l news)) first
-    ∙ (ap (λ l. elem_of_all cells (merged_along rule ns cells (cell_bounds cells before) l)) second
-    ∙ (ap (λ l. elem_of_all cells (merged_along rule ns cells (cell_bounds cells l)
-    (cell_bounds cells fresh))) two
-    ∙ ap (λ l. elem_of_all cells (merged_along rule ns cells (cell_bounds cells old.facts)
-    (cell_bounds cells l))) one)))))
-
-pub same_merged : (cfa : Cfa) (rule : MergeRule) (new old : Elem) (ns : List ℤ) (cells : List Cell)
-    (e : Elem) → ns ≡ numbers_for rule cfa → cells ≡ cfa.cells → is_kept rule new old ≡ false
-    → e ≡ merged_all rule ns cells new old → e ≡ merged cfa rule new old
-same_merged cfa rule new old ns cells e numbers same grows is =
-    is
-    ∙ (ap (λ l. merged_all rule l cells new old) numbers
-    ∙ (ap (λ l. merged_all rule (numbers_for rule cfa) l new old) same
-    ∙ ap (λ b. cond b old (merged_all rule (numbers_for rule cfa) cfa.cells new old)) (sym grows)))
+    ∙ ap (λ b. cond b left (Some own)) (sym some)))))
 
 pub merged_length : (rule : MergeRule) (ns : List ℤ) (cs : List Cell) (olds news : List Bounds)
     → length olds ≡ length cs → length news ≡ length cs

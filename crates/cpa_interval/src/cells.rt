@@ -3,6 +3,7 @@
 
 ghost use Rattle.std.specs.Prelude.{◌≡◌, ◌<◌, ◌^◌, ◌++◌, true, length, slice_get, Some};
 ghost use Rattle.std.specs.Prelude.{IfOk, OnOk};
+ghost use Rattle.cpa_model_facts.specs.declared.fact.Fact.{Fact as AFact};
 ghost use Rattle.cpa_path_folds.specs.Tracking.{is_tracked};
 ghost use Rattle.cpa_interval_bounds.specs.Tables.{are_descending, known_bounds};
 ghost use Rattle.cpa_interval.specs.Cells.{with_fact, with_facts, cell_bounds, is_whole};
@@ -10,7 +11,7 @@ ghost use Rattle.cpa_interval.specs.Cells.{fact_of, facts_from, elem_of, elem_of
 
 use cpa_interval_bounds::{Bounds, CellBounds, KnownBounds};
 use cpa_ints::IntType;
-use cpa_model::{Cell, Elem, Fact, Seq};
+use cpa_model::{Cell, Elem, Fact, Facts, Seq};
 use cpa_value_tracked::Tracked;
 use std::alloc::{AllocError, Global};
 
@@ -19,7 +20,7 @@ use std::alloc::{AllocError, Global};
 pub(crate) fn cell_bounds<'a>(
     alloc: Global,
     cells: &'a [Cell],
-    facts: &[Fact],
+    facts: &Facts,
 ) -> Result<KnownBounds<'a>, AllocError>
     ensures cells { IfOk result (λ all. all.cells ≡ cells.now) }
     ensures each { IfOk result (λ all. all.each ≡ cell_bounds cells.now facts.now) }
@@ -30,24 +31,28 @@ pub(crate) fn cell_bounds<'a>(
 }
 
 /// Puts what the facts give in place, from the last fact to the first.
-fn put_facts(all: &mut KnownBounds, facts: &[Fact]) -> Result<(), AllocError>
+fn put_facts(all: &mut KnownBounds, facts: &Facts) -> Result<(), AllocError>
     ensures cells { all.new.cells ≡ all.old.cells }
     ensures each { OnOk result (all.new.each ≡ with_facts facts.now all.old.each) }
 {
     let mut place = facts.len();
     while 0 < place {
         place -= 1;
-        put_fact(all, fact_at(facts, place))?;
+        put_at(all, facts, place)?;
     }
     Ok(())
 }
 
-/// The fact at a place that is there.
-fn fact_at(facts: &[Fact], place: usize) -> &Fact
-    requires { place < length facts.now }
-    ensures { slice_get facts.now place ≡ Some result.now }
+/// Puts what the fact at a place gives in place.
+fn put_at(all: &mut KnownBounds, facts: &Facts, place: usize) -> Result<(), AllocError>
+    ensures cells { all.new.cells ≡ all.old.cells }
+    ensures each { (fact : AFact) → slice_get facts.now place ≡ Some fact
+        → OnOk result (all.new.each ≡ with_fact fact all.old.each) }
 {
-    &facts[place]
+    match facts.get(place) {
+        Some(fact) => put_fact(all, fact),
+        None => Ok(()),
+    }
 }
 
 /// Puts what the fact gives in place.

@@ -1,10 +1,12 @@
 //! When one element covers another, by `specs/Covers.antt`. Facts are looked for in the order in
-//! which they stand: where two elements have one order, it takes one walk.
+//! which they stand: where two elements have one order, it takes one walk. Proved with `PlaceLaws`
+//! of `cpa_iface`.
 
-ghost use Rattle.std.specs.Prelude.{◌≡◌, ◌<◌, ◌≤◌, length, is_some, IfSome};
+ghost use Rattle.std.specs.Prelude.{◌≡◌, ◌≤◌, Some, drop, length, slice_get, is_some, IfSome};
+ghost use Rattle.cpa_model_facts.specs.declared.fact.Fact.{Fact as AFact};
 ghost use Rattle.cpa_interval.specs.Covers.{keeps_within, says, has_covered, covers};
 
-use cpa_model::{Elem, Fact, same_fact};
+use cpa_model::{Elem, Fact, Facts, same_fact};
 
 /// Whether each fact of the other element is said by one of the element. It is linear where the
 /// facts that say them stand in one order with them.
@@ -13,38 +15,50 @@ pub(crate) fn covers(elem: &Elem, other: &Elem) -> bool
 {
     let mut next = 0;
     for fact in &other.facts {
-        match place_from(elem.facts.as_slice(), next, fact) {
-            Some(place) => next = place + 1,
+        match behind_saying(&elem.facts, next, fact) {
+            Some(place) => next = place,
             None => return false,
         }
     }
     true
 }
 
-/// A place at which a fact says it, looked for from the place `from` on, and then before it.
-fn place_from(facts: &[Fact], from: usize, fact: &Fact) -> Option<usize>
+/// The place behind one at which a fact says it, looked for from the place `from` on, and then
+/// before it.
+fn behind_saying(facts: &Facts, from: usize, fact: &Fact) -> Option<usize>
     requires { from ≤ length facts.now }
-    ensures within { IfSome result (λ place. place < length facts.now) }
+    ensures within { IfSome result (λ place. place ≤ length facts.now) }
     ensures said { is_some result ≡ has_covered facts.now fact.now }
 {
-    let (before, behind) = facts.split_at(from);
-    match first_place(behind, fact) {
-        Some(place) => Some(from + place),
-        None => first_place(before, fact),
+    match behind_first(facts, from, fact) {
+        Some(place) => Some(place),
+        None => behind_first(facts, 0, fact),
     }
 }
 
-/// The first place at which a fact says it.
-fn first_place(facts: &[Fact], fact: &Fact) -> Option<usize>
-    ensures within { IfSome result (λ place. place < length facts.now) }
-    ensures said { is_some result ≡ has_covered facts.now fact.now }
+/// The place behind the first one from `from` on at which a fact says it.
+fn behind_first(facts: &Facts, from: usize, fact: &Fact) -> Option<usize>
+    requires { from ≤ length facts.now }
+    ensures within { IfSome result (λ place. place ≤ length facts.now) }
+    ensures said { is_some result ≡ has_covered (drop from facts.now) fact.now }
 {
-    for (place, own) in facts.iter().enumerate() {
-        if says(fact, own) {
-            return Some(place);
+    for place in from..facts.len() {
+        if is_said_at(facts, place, fact) {
+            return Some(place + 1);
         }
     }
     None
+}
+
+/// Whether the fact at the place says it.
+fn is_said_at(facts: &Facts, place: usize, fact: &Fact) -> bool
+    ensures { (own : AFact) → slice_get facts.now place ≡ Some own
+        → result ≡ says fact.now own }
+{
+    match facts.get(place) {
+        Some(own) => says(fact, own),
+        None => false,
+    }
 }
 
 /// Whether the second fact says what the first does.

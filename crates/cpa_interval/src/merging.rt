@@ -68,8 +68,8 @@ fn merged_all(
     requires { length cells.now < 2 ^ 32 }
     ensures { IfOk result (λ e. e ≡ merged_all rule numbers.now cells.now new.now old.now) }
 {
-    let olds = cell_bounds(alloc, cells, old.facts.as_slice())?;
-    let news = cell_bounds(alloc, cells, new.facts.as_slice())?;
+    let olds = cell_bounds(alloc, cells, &old.facts)?;
+    let news = cell_bounds(alloc, cells, &new.facts)?;
     let both = merged_along(alloc, rule, numbers, &olds, &news)?;
     let elem = elem_of_all(alloc, &both)?;
     Ok(elem)
@@ -110,13 +110,13 @@ fn merge_each(
         → OnOk result (IsRightBut left
         (merged_along rule numbers.now all.old.cells olds.now.each news.now.each) all.new.each) }
 {
-    for it in known {
-        merge_at(all, rule, numbers, olds, news, it)?;
+    for (near, it) in known.iter().enumerate() {
+        merge_at(all, rule, numbers, olds, news, it, near)?;
     }
     Ok(())
 }
 
-/// Merges the bounds of a cell, where it is there.
+/// Merges the bounds of a cell, where it is there. Lists in one order have it near one place.
 fn merge_at(
     all: &mut KnownBounds,
     rule: MergeRule,
@@ -124,6 +124,7 @@ fn merge_at(
     olds: &KnownBounds,
     news: &KnownBounds,
     it: &CellBounds,
+    near: usize,
 ) -> Result<(), AllocError>
     ensures cells { all.new.cells ≡ all.old.cells }
     ensures each { OnOk result (all.new.each ≡ put_where it.now.cell (merged_at rule numbers.now
@@ -136,10 +137,10 @@ fn merge_at(
         numbers,
         all.cells(),
         cell,
-        olds.at(cell),
-        news.at(cell),
+        olds.at_near(cell, near),
+        news.at_near(cell, near),
     ) {
-        Some(own) => all.put(cell, own),
+        Some(own) => all.put_near(cell, near, own),
         None => Ok(()),
     }
 }

@@ -15,7 +15,7 @@ use cpa_expr::CmpOp;
 use cpa_iface::Precision;
 use cpa_interval_acts::cut_cell;
 use cpa_interval_bounds::{Bounds, KnownBounds};
-use cpa_model::{Cfa, Elem, Fact, copy_elem};
+use cpa_model::{Cfa, Elem, Fact, Facts, copy_elem};
 use cpa_value_tracked::Tracked;
 use std::alloc::{AllocError, Global};
 
@@ -38,7 +38,7 @@ pub(crate) fn strengthened(
     }
     let cells = cfa.cells.as_slice();
     let tracked = Tracked::of(alloc, precision, cells.len())?;
-    let mut all = cell_bounds(alloc, cells, own.facts.as_slice())?;
+    let mut all = cell_bounds(alloc, cells, &own.facts)?;
     let elem = met(alloc, &mut all, others, &tracked)?;
     Ok(elem)
 }
@@ -72,7 +72,7 @@ fn some_bound(others: &[Elem]) -> bool
 fn has_bound(elem: &Elem) -> bool
     ensures { result ≡ has_bound elem.now }
 {
-    elem.facts.as_slice().iter().any(|fact| is_bound(fact))
+    elem.facts.iter().any(|fact| is_bound(fact))
 }
 
 /// Whether the fact gives a cell bounds.
@@ -92,7 +92,7 @@ fn meet_elems(all: &mut KnownBounds, others: &[Elem], tracked: &Tracked) -> Resu
         ≡ met_elems (is_tracked tracked.now) others.now all.old.each) }
 {
     for other in others {
-        if !meet_facts(all, other.facts.as_slice(), tracked)? {
+        if !meet_facts(all, &other.facts, tracked)? {
             return Ok(false);
         }
     }
@@ -100,7 +100,7 @@ fn meet_elems(all: &mut KnownBounds, others: &[Elem], tracked: &Tracked) -> Resu
 }
 
 /// Cuts by what the facts say, and says whether some number of each cell is left.
-fn meet_facts(all: &mut KnownBounds, facts: &[Fact], tracked: &Tracked) -> Result<bool, AllocError>
+fn meet_facts(all: &mut KnownBounds, facts: &Facts, tracked: &Tracked) -> Result<bool, AllocError>
     ensures cells { all.new.cells ≡ all.old.cells }
     ensures each { IfOk result (λ is. (if is then Some all.new.each else None)
         ≡ met_facts (is_tracked tracked.now) facts.now all.old.each) }

@@ -31,7 +31,7 @@ pub(crate) fn next_intervals(
 {
     let cells = cfa.cells.as_slice();
     let tracked = Tracked::of(alloc, precision, cells.len())?;
-    let mut all = cell_bounds(alloc, cells, elem.facts.as_slice())?;
+    let mut all = cell_bounds(alloc, cells, &elem.facts)?;
     let elems = after(alloc, &edge.act, &mut all, &tracked)?;
     Ok(elems)
 }

@@ -12,6 +12,6 @@ pub returns : goal.returns
 returns c =
     same_strengthening c.args.cfa.now.cells c.as_slice-cells.result.now c.in_ok-all.all.cells
     c.args.precision.now c.in_ok-tracked.tracked c.args.own.now c.args.others.now
-    c.as_slice.result.now c.in_ok-all.all.each c.in_ok-elem.elem c.as_slice-cells.ensures
-    c.as_slice.ensures c.in_ok-all.ensures.cells c.in_ok-all.ensures.each c.in_ok-tracked.ensures
+    c.in_ok-all.all.each c.in_ok-elem.elem c.as_slice-cells.ensures c.in_ok-all.ensures.cells
+    c.in_ok-all.ensures.each c.in_ok-tracked.ensures
     (sym c.some_bound.ensures ∙ c.if-not-some_bound.false) c.in_ok-elem.ensures

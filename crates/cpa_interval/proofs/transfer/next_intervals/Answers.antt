@@ -11,7 +11,6 @@ after-requires c =
 pub returns : goal.returns
 returns c =
     same_transfer c.args.cfa.now c.args.precision.now c.in_ok-tracked.tracked c.args.elem.now
-    c.args.edge.now c.as_slice-cells.result.now c.in_ok-all.all.cells c.as_slice.result.now
-    c.in_ok-all.all.each c.in_ok-elems.elems.items c.as_slice-cells.ensures c.as_slice.ensures
-    c.in_ok-all.ensures.cells c.in_ok-all.ensures.each c.in_ok-tracked.ensures
-    c.in_ok-elems.ensures
+    c.args.edge.now c.as_slice-cells.result.now c.in_ok-all.all.cells c.in_ok-all.all.each
+    c.in_ok-elems.elems.items c.as_slice-cells.ensures c.in_ok-all.ensures.cells
+    c.in_ok-all.ensures.each c.in_ok-tracked.ensures c.in_ok-elems.ensures
