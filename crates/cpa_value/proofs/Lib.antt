@@ -10,3 +10,4 @@ pub mod ExactLemmas
 pub mod TransferLemmas
 pub mod LimitLemmas
 pub mod ValueLaws
+pub mod MergingLemmas

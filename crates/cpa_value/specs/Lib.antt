@@ -4,3 +4,4 @@ pub mod Transfer
 pub mod Values
 pub mod Strengthening
 pub mod Limits
+pub mod Merging

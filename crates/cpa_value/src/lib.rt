@@ -4,6 +4,7 @@
 
 mod cells;
 mod limits;
+mod merging;
 mod strengthening;
 mod transfer;
 mod value;

@@ -5,11 +5,10 @@ ghost use Rattle.std.specs.Prelude.{◌≡◌, ◌<◌, ◌^◌, Some, length, s
 ghost use Rattle.cpa_value.specs.Values.{values, starts_of};
 
 use crate::limits::limited;
+use crate::merging::merged;
 use crate::strengthening::strengthened;
 use crate::transfer::next_values;
-use cpa_iface::{
-    Analysis, Entry, MergeRule, Part, Precision, Settings, copy_precision, covers, merge_facts,
-};
+use cpa_iface::{Analysis, Entry, MergeRule, Part, Precision, Settings, copy_precision, covers};
 use cpa_ints::wrap_keeps_the_range;
 use cpa_model::{Cell, Cfa, Elem, Fact, Path, Seq, edges_are_sound};
 use cpa_path_folds::{first_tracking, refined};
@@ -78,13 +77,13 @@ impl Analysis for Value {
     fn merge(
         &mut self,
         alloc: Global,
-        _cfa: &Cfa,
+        cfa: &Cfa,
         rule: MergeRule,
         new: &Elem,
         old: &Elem,
         _precision: &Precision,
     ) -> Result<Elem, AllocError> {
-        merge_facts(alloc, rule, new, old)
+        merged(alloc, cfa, rule, new, old)
     }
 
     fn covered_by(&self, elem: &Elem, other: &Elem) -> bool {

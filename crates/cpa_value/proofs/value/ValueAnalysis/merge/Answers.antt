@@ -16,4 +16,4 @@ returns-clause-laws c =
     subst (MergeLaws values cfa c.args.rule new old p) (sym is)
     (merged_facts-laws values cfa c.args.rule new old p
     (record { cover = refl; rank = refl; merges = λ _ _ _ _ _. refl }) c.requires.old))
-    c.merge_facts.ensures
+    c.merged.ensures
