@@ -19,7 +19,7 @@ use cpa_expr::CmpOp;
 use cpa_interval_acts::{bounds_follow_acts, cut_cell, do_act};
 use cpa_interval_bounds::{Bounds, KnownBounds};
 use cpa_ints::wrap_keeps_the_range;
-use cpa_model::{Act, Cell, Cfa, Elem, Fact};
+use cpa_model::{Act, Cell, Cfa, Elem, Fact, Facts};
 use cpa_path_folds::{Scalar, read_of};
 use std::alloc::{AllocError, Global};
 
@@ -39,7 +39,7 @@ fn cut_by(all: &mut KnownBounds, fact: &Fact) -> Result<bool, AllocError>
 }
 
 /// The same of all facts.
-fn cut_by_all(all: &mut KnownBounds, facts: &[Fact]) -> Result<bool, AllocError>
+fn cut_by_all(all: &mut KnownBounds, facts: &Facts) -> Result<bool, AllocError>
     ensures cells { all.new.cells ≡ all.old.cells }
     ensures each { IfOk result (λ is. (if is then Some all.new.each else None)
         ≡ cut_by_all facts.now all.old.each) }
@@ -83,7 +83,7 @@ fn cut_by_test(all: &mut KnownBounds, act: &Act) -> Result<bool, AllocError>
 }
 
 /// Leaves of the bounds what the facts say, and then what a test says; says whether some are left.
-fn know(all: &mut KnownBounds, facts: &[Fact], act: &Act) -> Result<bool, AllocError>
+fn know(all: &mut KnownBounds, facts: &Facts, act: &Act) -> Result<bool, AllocError>
     ensures cells { all.new.cells ≡ all.old.cells }
     ensures each { IfOk result (λ is. (if is then Some all.new.each else None)
         ≡ tested facts.now act.now all.old.each) }
@@ -128,11 +128,10 @@ pub(crate) fn are_found_behind(
 {
     bounds_follow_acts();
     wrap_keeps_the_range();
-    let facts = elem.facts.as_slice();
     if is_barred(elem, act) {
         return Ok(true);
     }
-    let is_known = know(all, facts, act)?;
+    let is_known = know(all, &elem.facts, act)?;
     if !is_known {
         return Ok(true);
     }

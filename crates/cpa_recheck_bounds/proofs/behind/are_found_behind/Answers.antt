@@ -1,8 +1,7 @@
 use Rattle.std.proofs.Common.{rules, ◌∙◌, List, ap, map}
-use Rattle.cpa_model.specs.declared.facts.Fact.{Fact}
 use Rattle.cpa_model.specs.declared.program.Cell.{Cell}
 use Rattle.cpa_recheck_obligations.specs.Forms.{entry_at}
-use Rattle.cpa_recheck_bounds.specs.Cutting.{stepped, tested}
+use Rattle.cpa_recheck_bounds.specs.Cutting.{stepped}
 use Rattle.cpa_recheck_bounds.proofs.Followed.{found, none_known, refuted}
 use Rattle.cpa_recheck_bounds.proofs.behind.are_found_behind.Goals as goal
 
@@ -19,8 +18,7 @@ returns-then-not-is_known c = λ is.
     let others = map (entry_at c.args.entries.now) c.args.numbers.now in
     none_known c.wrap_keeps_the_range.ensures.stays cfa elem act all c.know.new.all.each others
     c.in_ok-is_known.is_known c.requires.act c.requires.shaped c.requires.ranges
-    (c.in_ok-is_known.ensures.each
-    ∙ ap (λ (facts : List Fact). tested facts act all) c.as_slice-facts.ensures)
+    c.in_ok-is_known.ensures.each
     (search rules)
 
 pub returns-then-is_refuted : goal.returns-then-is_refuted
@@ -33,8 +31,7 @@ returns-then-is_refuted c = λ is.
     refuted c.wrap_keeps_the_range.ensures.stays cfa elem act all c.know.new.all.each others
     c.in_ok-lows.lows.values c.in_ok-is_known.is_known c.is_refuted.result c.requires.act c.requires.shaped
     c.requires.ranges
-    (c.in_ok-is_known.ensures.each
-    ∙ ap (λ (facts : List Fact). tested facts act all) c.as_slice-facts.ensures)
+    c.in_ok-is_known.ensures.each
     c.is_refuted.ensures c.in_ok-lows.ensures c.if-is_refuted.true
 
 pub returns-then-is_done : goal.returns-then-is_done
@@ -47,8 +44,7 @@ returns-then-is_done c = λ is.
     found c.bounds_follow_acts.ensures c.wrap_keeps_the_range.ensures.stays cfa elem act all
     c.know.new.all.each c.step.new.all.each c.in_ok-left.left others c.written_by-written.result c.in_ok-lows.lows.values
     c.in_ok-is_known.is_known c.in_ok-is_done.is_done c.requires.act c.requires.shaped c.requires.ranges
-    (c.in_ok-is_known.ensures.each
-    ∙ ap (λ (facts : List Fact). tested facts act all) c.as_slice-facts.ensures)
+    c.in_ok-is_known.ensures.each
     c.written_by-written.ensures c.in_ok-lows.ensures
     (c.in_ok-is_done.ensures.each
     ∙ ap (λ (cells : List Cell). stepped cells act c.written_by-written.result
@@ -65,8 +61,7 @@ returns c = λ is.
     found c.bounds_follow_acts.ensures c.wrap_keeps_the_range.ensures.stays cfa elem act all
     c.know.new.all.each c.step.new.all.each elem others c.written_by-written.result c.in_ok-lows.lows.values
     c.in_ok-is_known.is_known c.in_ok-is_done.is_done c.requires.act c.requires.shaped c.requires.ranges
-    (c.in_ok-is_known.ensures.each
-    ∙ ap (λ (facts : List Fact). tested facts act all) c.as_slice-facts.ensures)
+    c.in_ok-is_known.ensures.each
     c.written_by-written.ensures c.in_ok-lows.ensures
     (c.in_ok-is_done.ensures.each
     ∙ ap (λ (cells : List Cell). stepped cells act c.written_by-written.result
