@@ -10,7 +10,7 @@ use Rattle.cpa_ints.specs.declared.integers.IntType.TheVariants as ty
 use Rattle.cpa_expr.specs.declared.tree.Expr.{Expr}
 use Rattle.cpa_expr.specs.Laws.{value_at_variants, value_depends_on_what_is_read}
 use Rattle.cpa_expr.specs.Values.{value_of, is_nonzero, HasTruth}
-use Rattle.cpa_model.specs.declared.facts.Fact.{Fact}
+use Rattle.cpa_model_facts.specs.declared.fact.Fact.{Fact}
 use Rattle.cpa_model.specs.declared.facts.Elem.{Elem}
 use Rattle.cpa_model.specs.declared.automaton.Act.{Act}
 use Rattle.cpa_model.specs.declared.automaton.Edge.{Edge}

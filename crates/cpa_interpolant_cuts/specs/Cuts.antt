@@ -8,7 +8,7 @@ use Rattle.cpa_cnf.specs.declared.formula.Line.{Line}
 use Rattle.cpa_expr.specs.declared.tree.Expr.{Expr}
 use Rattle.cpa_model.specs.declared.program.Cell.{Cell}
 use Rattle.cpa_model.specs.declared.automaton.Act.{Act}
-use Rattle.cpa_model.specs.declared.facts.Fact.TheVariants.{Truth}
+use Rattle.cpa_model_facts.specs.declared.fact.Fact.TheVariants.{Truth}
 use Rattle.cpa_model.specs.declared.facts.Elem.{Elem}
 use Rattle.cpa_query.specs.declared.query.Query.{Query}
 use Rattle.cpa_query.specs.Queries.{reads}

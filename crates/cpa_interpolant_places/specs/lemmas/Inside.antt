@@ -12,8 +12,8 @@ use Rattle.cpa_expr.specs.Cells.{is_within, may_read}
 use Rattle.cpa_model.specs.declared.program.Cell.{Cell}
 use Rattle.cpa_model.specs.declared.automaton.Act.{Act}
 use Rattle.cpa_model.specs.declared.automaton.Act.TheVariants as act
-use Rattle.cpa_model.specs.declared.facts.Fact.{Fact}
-use Rattle.cpa_model.specs.declared.facts.Fact.TheVariants.{At, Stack, Equals, Within, Truth}
+use Rattle.cpa_model_facts.specs.declared.fact.Fact.{Fact}
+use Rattle.cpa_model_facts.specs.declared.fact.Fact.TheVariants.{At, Stack, Equals, Within, Truth}
 use Rattle.cpa_model.specs.Expressions.{types_of}
 use Rattle.cpa_model.specs.Facts.{IsFact}
 use Rattle.cpa_edgeform_renaming.specs.Laws.{cells_behind_change_nothing}
