@@ -5,10 +5,10 @@ ghost use Rattle.std.specs.Prelude.{◌≡◌, ◌+◌, ◌≤◌, length};
 ghost use Rattle.cpa_model.specs.Automata.{IsAutomaton};
 ghost use Rattle.cpa_engine_turn.specs.Points.{point_in, first_point, AreEdgesFrom};
 
-use cpa_model::{Cfa, Elem, Fact, automata_are_small, leaving};
+use cpa_model::{Cfa, Elem, Fact, Facts, automata_are_small, leaving};
 
 /// The point of the first fact on one.
-fn point_in(facts: &[Fact]) -> Option<u32>
+fn point_in(facts: &Facts) -> Option<u32>
     ensures { result ≡ point_in facts.now }
 {
     for fact in facts {
@@ -25,7 +25,7 @@ fn first_point(elems: &[Elem]) -> Option<u32>
     ensures { result ≡ first_point elems.now }
 {
     for elem in elems {
-        let point = point_in(elem.facts.as_slice());
+        let point = point_in(&elem.facts);
         if point.is_some() {
             return point;
         }

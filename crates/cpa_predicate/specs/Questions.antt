@@ -5,7 +5,7 @@ use Rattle.std.specs.Prelude.{Option, None, Some}
 use Rattle.std.specs.Coded.{Π_prop, →_prop}
 use Rattle.std.specs.List.{Contains}
 use Rattle.cpa_expr.specs.declared.tree.Expr.{Expr}
-use Rattle.cpa_model.specs.declared.facts.Fact.TheVariants.{Truth}
+use Rattle.cpa_model_facts.specs.declared.fact.Fact.TheVariants.{Truth}
 use Rattle.cpa_model.specs.declared.facts.Elem.{Elem}
 use Rattle.cpa_model.specs.declared.automaton.Edge.{Edge}
 use Rattle.cpa_model.specs.declared.automaton.Cfa.{Cfa}

@@ -3,13 +3,13 @@
 
 ghost use Rattle.std.specs.Prelude.{◌≡◌, ◌∷◌, List, IsTrue, IfOk, IfSome};
 ghost use Rattle.cpa_model.specs.Expressions.{types_of};
-ghost use Rattle.cpa_model.specs.declared.facts.Fact.{Fact as AFact};
+ghost use Rattle.cpa_model_facts.specs.declared.fact.Fact.{Fact as AFact};
 ghost use Rattle.cpa_predicate.specs.Known.{told, IsKnown, IsKnown-prop};
 ghost use Rattle.cpa_predicate.specs.Transfer.{IsOutcome, NoneOpen};
 
 use cpa_expr::{copy, same_expr};
 use cpa_ints::IntType;
-use cpa_model::{Act, Cell, Cfa, Edge, Elem, Expr, Fact, Seq};
+use cpa_model::{Act, Cell, Cfa, Edge, Elem, Expr, Fact, Facts, Seq};
 use std::alloc::{AllocError, Global};
 
 /// What is found of a step: the truths of the predicates behind it, or that it leads nowhere.
@@ -104,7 +104,7 @@ fn behind_said<'a>(fact: &Fact, truths: &'a [(Expr, bool)]) -> Option<&'a [(Expr
 }
 
 /// Whether these are the truths that the facts say, in their order.
-fn say(facts: &[Fact], truths: &[(Expr, bool)]) -> bool
+fn say(facts: &Facts, truths: &[(Expr, bool)]) -> bool
     ensures { IsTrue result → told facts.now ≡ truths.now }
 {
     let mut rest = truths;
@@ -163,7 +163,7 @@ fn types_of(alloc: Global, cells: &[Cell]) -> Result<Seq<IntType>, AllocError>
 }
 
 /// The truths that the facts say of predicates.
-fn told(alloc: Global, facts: &[Fact]) -> Result<Seq<(Expr, bool)>, AllocError>
+fn told(alloc: Global, facts: &Facts) -> Result<Seq<(Expr, bool)>, AllocError>
     ensures { IfOk result (λ truths. truths ≡ told facts.now) }
 {
     let mut truths = Seq::new(alloc);
@@ -210,7 +210,7 @@ pub(crate) fn known_step(
     let types = types_of(alloc, cfa.cells.as_slice())?;
     let preds = copy_preds(alloc, preds)?;
     let outcome = copy_outcome(alloc, outcome)?;
-    let truths = told(alloc, elem.facts.as_slice())?;
+    let truths = told(alloc, &elem.facts)?;
     let act = copy_act(alloc, &edge.act)?;
     Ok(Known {
         types,
@@ -228,7 +228,7 @@ fn is_of(known: &Known, cfa: &Cfa, edge: &Edge, elem: &Elem, preds: &[Expr]) -> 
         × (preds.now ≡ known.now.preds) }
 {
     same_act(&edge.act, &known.act)
-        && say(elem.facts.as_slice(), known.truths.as_slice())
+        && say(&elem.facts, known.truths.as_slice())
         && same_preds(preds, known.preds.as_slice())
         && have_types(cfa.cells.as_slice(), known.types.as_slice())
 }

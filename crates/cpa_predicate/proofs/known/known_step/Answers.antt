@@ -2,8 +2,6 @@
 use Rattle.std.proofs.Common.{List, ap, ◌∙◌}
 use Rattle.cpa_model.specs.declared.program.Cell.{Cell}
 use Rattle.cpa_model.specs.Expressions.{types_of}
-use Rattle.cpa_model.specs.declared.facts.Fact.{Fact}
-use Rattle.cpa_predicate.specs.Known.{told}
 use Rattle.cpa_predicate.proofs.KnownLemmas.{known_of}
 use Rattle.cpa_predicate.proofs.known.known_step.Goals as goal
 
@@ -15,6 +13,5 @@ invariant_of-result c = record {
       c.in_ok-preds.preds c.in_ok-outcome.outcome
       (c.in_ok-types.ensures ∙ ap (λ (cells : List Cell). types_of cells) c.as_slice.ensures)
       c.in_ok-act.ensures
-      (c.in_ok-truths.ensures ∙ ap (λ (facts : List Fact). told facts) c.as_slice-2.ensures)
-      c.in_ok-preds.ensures c.in_ok-outcome.ensures;
+      c.in_ok-truths.ensures c.in_ok-preds.ensures c.in_ok-outcome.ensures;
 }

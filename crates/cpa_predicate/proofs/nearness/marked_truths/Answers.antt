@@ -1,9 +1,8 @@
 -- One fact more, or one that is left out.
 use Rattle.std.proofs.Common.{List, ap, ◌∙◌, subst}
 use Rattle.std.specs.List.{AllByRecursion, filter}
-use Rattle.std.specs.Slice.Iter.{iter_rest}
 use Rattle.std.proofs.lemmas.Result.{IfOk-weaker}
-use Rattle.cpa_model.specs.declared.facts.Fact.{Fact}
+use Rattle.cpa_model_facts.specs.declared.fact.Fact.{Fact}
 use Rattle.cpa_model.specs.Facts.{IsFact}
 use Rattle.cpa_edgeform_rules.specs.Runs.{StoreFactHolds}
 use Rattle.cpa_predicate.specs.Steps.{is_truth}
@@ -20,9 +19,9 @@ loop-fact-preserved-in_ok-push c =
           (l.invariant.0 cells points) _ _ c.in_ok-copy_fact.ensures c.in_ok-push.ensures.ok all,
       λ values all.
           one_kept (StoreFactHolds values) l.facts _
-          (filter is_truth (iter_rest c.next.new.self)) x
+          (filter is_truth c.next.new.self) x
           (ap (λ (fs : List Fact). filter is_truth fs) c.in-Some.ensures.steps
-          ∙ truth_first x (iter_rest c.next.new.self) (c.is_near_truth.ensures c.if-is_near_truth.true))
+          ∙ truth_first x c.next.new.self (c.is_near_truth.ensures c.if-is_near_truth.true))
           (l.invariant.1 values) _ _ c.in_ok-copy_fact.ensures c.in_ok-push.ensures.ok all,
     )
 
@@ -35,7 +34,7 @@ loop-fact-preserved c =
           (l.invariant.0 cells points) all,
       λ values all. (
         (l.invariant.1 values all).0,
-        truths_left (StoreFactHolds values) x (iter_rest c.next.new.self)
+        truths_left (StoreFactHolds values) x c.next.new.self
             (subst (λ (fs : List Fact). AllByRecursion (StoreFactHolds values) (filter is_truth fs))
             c.in-Some.ensures.steps (l.invariant.1 values all).1),
       ),

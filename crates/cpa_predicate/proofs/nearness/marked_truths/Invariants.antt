@@ -1,7 +1,6 @@
 -- What holds of the facts of the element holds of those so far, and of those that are left.
 use Rattle.std.proofs.Common.{ℕ, ℤ, List}
 use Rattle.std.specs.List.{AllByRecursion, filter}
-use Rattle.std.specs.Slice.Iter.{iter_rest}
 use Rattle.cpa_model.specs.declared.program.Cell.{Cell}
 use Rattle.cpa_model.specs.Facts.{IsFact, IsElem}
 use Rattle.cpa_edgeform_rules.specs.Runs.{StoreHolds, StoreFactHolds}
@@ -12,7 +11,7 @@ abbrev pub invariant-loop-fact : goal.invariant-loop-fact
 invariant-loop-fact l =
     ((cells : List Cell) (points : ℕ) → IsElem cells points l.elem
     → AllByRecursion (IsFact cells points) l.facts
-    × AllByRecursion (IsFact cells points) (iter_rest l.fact-iterator))
+    × AllByRecursion (IsFact cells points) l.fact-iterator)
     × ((values : List ℤ) → StoreHolds values (truths l.elem)
     → AllByRecursion (StoreFactHolds values) l.facts
-    × AllByRecursion (StoreFactHolds values) (filter is_truth (iter_rest l.fact-iterator)))
+    × AllByRecursion (StoreFactHolds values) (filter is_truth l.fact-iterator))

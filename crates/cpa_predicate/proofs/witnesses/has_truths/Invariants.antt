@@ -1,11 +1,10 @@
 -- All truths hold where those of the facts that are left do.
 use Rattle.std.specs.List.{AllByRecursion, filter}
-use Rattle.std.specs.Slice.Iter.{iter_rest}
 use Rattle.cpa_edgeform_rules.specs.Runs.{StoreHolds, StoreFactHolds}
 use Rattle.cpa_predicate.specs.Steps.{is_truth, truths}
 use Rattle.cpa_predicate.proofs.witnesses.has_truths.Given as goal
 
 abbrev pub invariant-loop-fact : goal.invariant-loop-fact
 invariant-loop-fact l =
-    AllByRecursion (StoreFactHolds l.store.values) (filter is_truth (iter_rest l.fact-iterator))
+    AllByRecursion (StoreFactHolds l.store.values) (filter is_truth l.fact-iterator)
     → StoreHolds l.store.values (truths l.elem)
