@@ -33,9 +33,6 @@ type_there n (c ∷ cells) (suc cell) = type_there (suc n) cells cell
 
 -- ---- sums
 
-stops : (s w m : ℕ) → min (min s m + min w m) m ≡ min (s + w) m
-stops s w m = omega arith
-
 adds : (s w m : ℕ) → min (min s m + w) m ≡ min (s + w) m
 adds s w m = omega arith
 
@@ -50,15 +47,6 @@ one_sum f xs i x old new m inside at step kept =
     ∙ sym (ap (λ n. min n m) (sum_by_more f xs i x inside
     ∙ ap (λ y. sum_by f (take i xs) + f y) (sym at)))
 
--- one item more, whose own number has stopped
-pub one_weight : {A : Type 0} (f : A → ℕ) (xs : List A) (i : ℕ) (x : A) (old new m : ℕ)
-    → i < length xs → x ≡ get_or xs i x → new ≡ min (old + min (f x) m) m
-    → old ≡ min (sum_by f (take i xs)) m → new ≡ min (sum_by f (take (i + 1) xs)) m
-one_weight f xs i x old new m inside at step kept =
-    one_sum f xs i x old new m inside at
-    (step ∙ ap (λ n. min (n + min (f x) m) m) kept ∙ stops (sum_by f (take i xs)) (f x) m
-    ∙ sym (adds (sum_by f (take i xs)) (f x) m) ∙ sym (ap (λ n. min (n + f x) m) kept)) kept
-
 pub all_summed : {A : Type 0} (f : A → ℕ) (xs : List A) (i old m : ℕ) → length xs ≤ i
     → old ≡ min (sum_by f (take i xs)) m → old ≡ min (sum (map f xs)) m
 all_summed f xs i old m past kept =
@@ -70,6 +58,15 @@ sum_cons : {A : Type 0} (f : A → ℕ) (x : A) (xs : List A)
     → sum (map f (x ∷ xs)) ≡ f x + sum (map f xs)
 sum_cons f x xs =
     sum-map f (x ∷ xs) ∙ sum_by-cons f x xs ∙ sym (ap (λ n. f x + n) (sum-map f xs))
+
+-- one item less of what is left, whose own number has stopped
+pub one_less : {A : Type 0} (f : A → ℕ) (last rest : List A) (x : A) (old new m all : ℕ)
+    → last ≡ x ∷ rest → new ≡ min (old + min (f x) m) m → min (old + sum (map f last)) m ≡ all
+    → min (new + sum (map f rest)) m ≡ all
+one_less f last rest x old new m all steps step kept =
+    let one : sum (map f last) ≡ f x + sum (map f rest) =
+    ap (λ xs. sum (map f xs)) steps ∙ sum_cons f x rest in
+    omega (arith, one, step, kept)
 
 -- ---- obligations
 

@@ -53,7 +53,7 @@ fn elem_weight(cells: &[Cell], elem: &Elem) -> u64
     ensures { result ≡ min (elem_weight (places_from 0 cells.now) elem.now) u64.MAX }
 {
     let mut total = 0u64;
-    for fact in elem.facts.as_slice() {
+    for fact in &elem.facts {
         total = total.saturating_add(fact_weight(cells, fact));
     }
     total

@@ -1,24 +1,19 @@
-use Rattle.std.proofs.Common.{◌+◌, ◌-◌, ◌^◌, ◌∙◌, ℕ, List, map, min, ap, arith}
-use Rattle.std.specs.Prelude.{sum}
-use Rattle.cpa_model.specs.declared.facts.Fact.{Fact}
+-- One weight more.
+use Rattle.std.proofs.Common.{◌≡◌, ◌+◌, ◌-◌, ◌^◌, ◌∙◌, ℕ, min, ap, arith}
 use Rattle.cpa_edgeform_rules.specs.Forms.{fact_weight, places_from}
-use Rattle.cpa_recheck_weights.proofs.Weighed.{one_weight, all_summed}
+use Rattle.cpa_recheck_weights.proofs.Weighed.{one_less}
 use Rattle.cpa_recheck_weights.proofs.weighing.elem_weight.Goals as goal
 
 pub loop-fact-preserved : goal.loop-fact-preserved
 loop-fact-preserved c =
     let l = c.loop-fact in
-    one_weight (fact_weight (places_from 0 c.args.cells.now)) c.as_slice-fact-items.result.now
-    l.fact-index c.fact-item.result l.total _ (2 ^ 64 - 1) (omega arith) c.fact-item.is
-    (c.saturating_add-total.ensures
-    ∙ ap (λ (n : ℕ). min (l.total + n) (2 ^ 64 - 1)) c.fact_weight.ensures)
-    l.invariant
-
-pub returns : goal.returns
-returns c =
-    let l = c.loop-fact in
     let weight = fact_weight (places_from 0 c.args.cells.now) in
-    all_summed weight c.as_slice-fact-items.result.now l.fact-index l.total (2 ^ 64 - 1)
-    (omega arith) l.invariant
-    ∙ ap (λ (facts : List Fact). min (sum (map weight facts)) (2 ^ 64 - 1))
-    c.as_slice-fact-items.ensures
+    let x = c.in-Some.fact.now in
+    let most = 2 ^ 64 - 1 in
+    let more : c.saturating_add-total.result ≡ min (l.total + min (weight x) most) most =
+    c.saturating_add-total.ensures
+    ∙ ap (λ (n : ℕ). min (l.total + n) most) c.fact_weight.ensures in (
+      omega (arith, more),
+      one_less weight l.fact-iterator c.next.new.self x l.total c.saturating_add-total.result most
+          _ c.in-Some.ensures.steps more l.invariant.1,
+    )
