@@ -8,7 +8,7 @@ use Rattle.cpa_value.proofs.value.ValueAnalysis.merge.Goals as goal
 
 pub returns-clause-laws : goal.returns-clause-laws
 returns-clause-laws c =
-    let cfa = c.args._cfa.now in
+    let cfa = c.args.cfa.now in
     let new = c.args.new.now in
     let old = c.args.old.now in
     let p = c.args._precision.now in
