@@ -133,7 +133,7 @@ fn may_begin(cell: &Cell, value: i128, from_initial: bool) -> bool {
 
 /// Whether the facts on the store all hold.
 fn holds(elem: &Elem, store: &Store) -> bool {
-    for fact in elem.facts.as_slice() {
+    for fact in &elem.facts {
         if !fact_holds(fact, store) {
             return false;
         }
