@@ -4,3 +4,4 @@ pub mod Newly
 pub mod SetFirst
 pub mod Finding
 pub mod Reopening
+pub mod Blocks
