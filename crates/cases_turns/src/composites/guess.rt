@@ -144,7 +144,7 @@ fn at(alloc: Global, point: u32) -> Result<Elem, AllocError>
 fn point_of(elem: &Elem) -> Option<u32>
     ensures { IfSome result (StandsAt elem.now) }
 {
-    for fact in elem.facts.as_slice() {
+    for fact in &elem.facts {
         match fact {
             Fact::At { point } => return Some(*point),
             _ => {}
