@@ -4,4 +4,3 @@ pub mod Newly
 pub mod SetFirst
 pub mod Finding
 pub mod Reopening
-pub mod Blocks

@@ -1,4 +1,4 @@
--- Which cells are newly kept, place by place (`newly_more`).
+-- Which cells are newly kept, place by place (`new_more`).
 use Rattle.std.proofs.Common.{◌≡◌, ℕ, zero, suc, ◌+◌, ◌<◌, ◌≤◌, Bool, true, false, not, get_or, min}
 use Rattle.std.proofs.Common.{List, [], ◌∷◌, take, length, refl, sym, ap, ◌∙◌, arith}
 use Rattle.std.specs.Prelude.{◌||◌, ◌&&◌}

@@ -1,5 +1,5 @@
 //! The least entry that may be an error, by `specs/Errors.antt`. Entries that were looked at are
-//! not looked at again.
+//! not looked at again. Proved with `proofs/Finding.antt`.
 
 ghost use Rattle.std.specs.Prelude.{◌≡◌, ℕ, ◌<◌, ◌≤◌, drop, length, List};
 ghost use Rattle.std.specs.List.{list_any};
@@ -13,7 +13,7 @@ ghost use Rattle.cpa_reached.specs.Members.{IsIn};
 ghost use Rattle.cpa_engine_rounds.specs.Errors.{stands_off, may_err, first_error, NoneErrBelow};
 
 use cpa_iface::Entry;
-use cpa_model::{Block, Cfa, Elem, Fact, is_error};
+use cpa_model::{Cfa, Elem, Fact, is_error};
 
 /// Whether the fact is on a point that is no error.
 fn stands_off(cfa: &Cfa, fact: &Fact) -> bool
@@ -26,31 +26,12 @@ fn stands_off(cfa: &Cfa, fact: &Fact) -> bool
     }
 }
 
-/// Whether one of the block's facts is. Those of a run give values to cells.
-fn block_off(cfa: &Cfa, block: &Block) -> bool
-    requires { IsAutomaton cfa.now }
-    ensures { result ≡ list_any (stands_off cfa.now) block.now }
-{
-    match block.run() {
-        Some(_) => false,
-        None => block.facts().iter().any(|fact| stands_off(cfa, fact)),
-    }
-}
-
-/// Whether one of the facts of these blocks is.
-fn any_off(cfa: &Cfa, blocks: &[Block]) -> bool
-    requires { IsAutomaton cfa.now }
-    ensures { result ≡ list_any (list_any (stands_off cfa.now)) blocks.now }
-{
-    blocks.iter().any(|block| block_off(cfa, block))
-}
-
 /// Whether one of the element's facts is.
 fn some_off(cfa: &Cfa, elem: &Elem) -> bool
     requires { IsAutomaton cfa.now }
     ensures { result ≡ list_any (stands_off cfa.now) elem.now.facts }
 {
-    any_off(cfa, elem.facts.blocks())
+    elem.facts.iter().any(|fact| stands_off(cfa, fact))
 }
 
 /// Whether one of the elements has one.
