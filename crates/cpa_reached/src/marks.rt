@@ -18,7 +18,7 @@ use std::alloc::{AllocError, Global};
 /// How many prints there are.
 const PRINTS: u64 = 0x1_0000_0000;
 
-/// At most so many cells are counted.
+/// Behind so many cells a mark begins anew.
 const LONGEST: u32 = 0x1_0000;
 
 /// The values that an element gives to the cells of a run, told by a number.

@@ -21,7 +21,7 @@ use crate::index::{enter, index_of, leave};
 use crate::links::{Link, depth_at, name_at};
 use crate::lists::{reserve_one, trimmed};
 use crate::renaming::{rename_among, renumber, succeed};
-use crate::sharing::row_below;
+use crate::sharing::{row_below, with_shared};
 use cpa_iface::{Entry, FewNumbers, Order, Precision, Row};
 use cpa_ints::Seq;
 use cpa_model::Elem;
@@ -262,6 +262,7 @@ pub(crate) fn add(
 {
     let number = next_number(table.next)?;
     let key = key_of(table.alloc, table.places.as_slice(), &elems)?;
+    let elems = with_shared(&table.index, &key, table.places.as_slice(), elems)?;
     let above = entry(&table.entries, parent.0);
     let row = row_below(table.alloc, &above.precisions, &elems, precisions)?;
     let mut namers = FewNumbers::new(table.alloc);
@@ -290,16 +291,22 @@ pub(crate) fn add(
 }
 
 /// In the table of keys a new number comes, under the key of its elements, and that of the old
-/// entry goes. Where memory runs out it shows the same.
-fn replace_key(table: &mut Table, old: u32, elems: &[Elem], number: u32) -> Result<(), AllocError>
+/// entry goes. The elements come back, as they are shared. Where memory runs out it shows the same.
+fn replace_key(
+    table: &mut Table,
+    old: u32,
+    elems: Vec<Elem>,
+    number: u32,
+) -> Result<Vec<Elem>, AllocError>
     requires kept { IsKeptTable table.old }
     requires indexed { IsIndexedTable table.old }
     requires live { IsLive table.old.entries.items old }
     requires apart { old < number }
     ensures kept { IsKeptTable table.new }
     ensures ok { OnOk result (IsIndex table.old.places
-        (replaced_entries number table.old.entries.items old elems.now)
+        (replaced_entries number table.old.entries.items old elems.items)
         table.new.index.entries) }
+    ensures elems { IfOk result (λ row. row.items ≡ elems.items) }
     ensures err { OnErr result (IsIndexedTable table.new) }
     ensures entries { table.new.entries ≡ table.old.entries }
     ensures links { table.new.links ≡ table.old.links }
@@ -310,10 +317,11 @@ fn replace_key(table: &mut Table, old: u32, elems: &[Elem], number: u32) -> Resu
     let places = table.places.as_slice();
     let row = entry(&table.entries, old).elems.as_slice();
     let old_key = key_of(table.alloc, places, row)?;
-    let key = key_of(table.alloc, places, elems)?;
+    let key = key_of(table.alloc, places, &elems)?;
+    let elems = with_shared(&table.index, &key, places, elems)?;
     enter(&mut table.index, table.alloc, key, number)?;
     leave(&mut table.index, &old_key, old);
-    Ok(())
+    Ok(elems)
 }
 
 /// Puts an entry that waits, with the next number, in the place of an old one.
@@ -334,7 +342,7 @@ pub(crate) fn replace(table: &mut Table, old: u32, elems: Vec<Elem>) -> Result<u
     let number = next_number(table.next)?;
     reserve(table)?;
     name_parent(table, old, number)?;
-    replace_key(table, old, &elems, number)?;
+    let elems = replace_key(table, old, elems, number)?;
     let at = place(&table.entries, old);
     succeed(&mut table.entries, table.alloc, at, number, elems);
     rename_among(

@@ -71,6 +71,7 @@ returns-clause-kept c =
       c.push_reserved.ensures.items,
       c.in_ok-adopt.ensures.ok,
       c.trimmed.ensures,
+      c.in_ok-elems.ensures,
       c.in_ok-row.ensures,
       c.new.ensures,
       c.push_reserved-2.ensures.items,
@@ -93,4 +94,4 @@ returns-clause-indexed c =
     let room = c.in_ok-reserve.ensures in
     let key : picked t.places c.args.elems.items ≡ c.in_ok-key.key.elems = search rules in
     rw (c.push_reserved.ensures.items, c.in_ok-adopt.ensures.places)
-    (c.in_ok-adopt.ensures.indexed _ refl (rw c.trimmed.ensures key))
+    (c.in_ok-adopt.ensures.indexed _ refl (rw (c.trimmed.ensures, c.in_ok-elems.ensures) key))

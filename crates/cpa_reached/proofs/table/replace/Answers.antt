@@ -37,37 +37,37 @@ replace_key-requires-clause-apart c =
 pub drop_number-requires : goal.drop_number-requires
 drop_number-requires c =
     let t = c.replace_key.new.table in
-    let kept = c.in_ok-replace_key.ensures.kept in
+    let kept = c.in_ok-elems.ensures.kept in
     rw kept.waits (ascend_kept (λ (e : Entry). e.waiting) t.entries.items kept.tree.ascend)
 
 pub rename_among-requires-clause-ascend : goal.rename_among-requires-clause-ascend
 rename_among-requires-clause-ascend c =
     let t = c.replace_key.new.table in
-    let kept = c.in_ok-replace_key.ensures.kept in
-    let at = rw c.deref-2.ensures.value at c.place-at.ensures.at in
+    let kept = c.in_ok-elems.ensures.kept in
+    let at = rw c.deref.ensures.value at c.place-at.ensures.at in
     let number : c.in_ok-number.number ≡ t.next =
     c.in_ok-number.ensures.same ∙ sym c.in_ok-reserve.ensures.next
-    ∙ sym c.in_ok-name_parent.ensures.next ∙ sym c.in_ok-replace_key.ensures.next in
+    ∙ sym c.in_ok-name_parent.ensures.next ∙ sym c.in_ok-elems.ensures.next in
     let live : IsLive t.entries.items c.args.old =
     rw (
-      c.in_ok-replace_key.ensures.entries,
+      c.in_ok-elems.ensures.entries,
       c.in_ok-name_parent.ensures.entries,
       c.in_ok-reserve.ensures.entries,
     ) c.requires.live in
-    rw (c.succeed.ensures c.args.old at, number)
+    rw (c.succeed.ensures c.args.old at, c.in_ok-elems.ensures.elems, number)
     (ascend_succeeded t.next c.args.old t.entries.items c.args.elems.items kept.tree.ascend
     (live_in t.entries.items c.args.old live) kept.below)
 
 pub rename_among-requires-clause-apart : goal.rename_among-requires-clause-apart
 rename_among-requires-clause-apart c =
     let t = c.replace_key.new.table in
-    let kept = c.in_ok-replace_key.ensures.kept in
+    let kept = c.in_ok-elems.ensures.kept in
     let number : c.in_ok-number.number ≡ t.next =
     c.in_ok-number.ensures.same ∙ sym c.in_ok-reserve.ensures.next
-    ∙ sym c.in_ok-name_parent.ensures.next ∙ sym c.in_ok-replace_key.ensures.next in
+    ∙ sym c.in_ok-name_parent.ensures.next ∙ sym c.in_ok-elems.ensures.next in
     let live : IsLive t.entries.items c.args.old =
     rw (
-      c.in_ok-replace_key.ensures.entries,
+      c.in_ok-elems.ensures.entries,
       c.in_ok-name_parent.ensures.entries,
       c.in_ok-reserve.ensures.entries,
     ) c.requires.live in
@@ -81,23 +81,29 @@ returns-clause-kept c =
     let t = c.replace_key.new.table in
     let old = c.args.old in
     let es = c.args.elems.items in
-    let kept = c.in_ok-replace_key.ensures.kept in
-    let at = rw c.deref-2.ensures.value at c.place-at.ensures.at in
+    let kept = c.in_ok-elems.ensures.kept in
+    let at = rw c.deref.ensures.value at c.place-at.ensures.at in
     let at_link = subst (λ (ns : List ℕ). slice_get ns c.place-at.result ≡ Some old)
     (sym kept.tree.same) at in
     let number : c.in_ok-number.number ≡ t.next =
     c.in_ok-number.ensures.same ∙ sym c.in_ok-reserve.ensures.next
-    ∙ sym c.in_ok-name_parent.ensures.next ∙ sym c.in_ok-replace_key.ensures.next in
+    ∙ sym c.in_ok-name_parent.ensures.next ∙ sym c.in_ok-elems.ensures.next in
     let fits : t.next < 2 ^ 32 =
     omega (arith, c.in_ok-number.ensures.fits, c.in_ok-number.ensures.same, number) in
     let live : IsLive t.entries.items old =
     rw (
-      c.in_ok-replace_key.ensures.entries,
+      c.in_ok-elems.ensures.entries,
       c.in_ok-name_parent.ensures.entries,
       c.in_ok-reserve.ensures.entries,
     ) c.requires.live in
     let made : c.rename_among.new.entries.items ≡ replaced_entries t.next t.entries.items old es =
-    rw (c.rename_among.ensures, c.as_slice.ensures, c.succeed.ensures old at, number)
+    rw (
+      c.rename_among.ensures,
+      c.as_slice.ensures,
+      c.succeed.ensures old at,
+      c.in_ok-elems.ensures.elems,
+      number,
+    )
     (renamed_by t.entries.items t.links.items c.place-at.result t.next old es c.index.result.now
     kept.tree at_link c.index.ensures) in
     rw (
@@ -109,10 +115,10 @@ returns-clause-kept c =
     )
     (kept_replaced t.entries.items t.links.items t.waiting.items t.next old es fits live
     (λ e p edge there is has.
-    let before = rw (c.in_ok-replace_key.ensures.entries, c.in_ok-name_parent.ensures.entries)
+    let before = rw (c.in_ok-elems.ensures.entries, c.in_ok-name_parent.ensures.entries)
     at there in
     let named = c.in_ok-name_parent.ensures.named e p edge before is has in
-    rw c.in_ok-replace_key.ensures.links
+    rw c.in_ok-elems.ensures.links
     (subst (λ (n : ℕ). is_named_by c.name_parent.new.table.links.items p n ≡ true) number named))
     kept)
 
@@ -122,19 +128,25 @@ returns-clause-ok c =
     let first = c.args.table.now in
     let old = c.args.old in
     let es = c.args.elems.items in
-    let kept = c.in_ok-replace_key.ensures.kept in
-    let at = rw c.deref-2.ensures.value at c.place-at.ensures.at in
+    let kept = c.in_ok-elems.ensures.kept in
+    let at = rw c.deref.ensures.value at c.place-at.ensures.at in
     let at_link = subst (λ (ns : List ℕ). slice_get ns c.place-at.result ≡ Some old)
     (sym kept.tree.same) at in
     let next : t.next ≡ first.next =
-    c.in_ok-replace_key.ensures.next ∙ c.in_ok-name_parent.ensures.next
+    c.in_ok-elems.ensures.next ∙ c.in_ok-name_parent.ensures.next
     ∙ c.in_ok-reserve.ensures.next in
     let number : c.in_ok-number.number ≡ t.next = c.in_ok-number.ensures.same ∙ sym next in
     let same : t.entries.items ≡ first.entries.items =
-    rw (c.in_ok-replace_key.ensures.entries, c.in_ok-name_parent.ensures.entries)
+    rw (c.in_ok-elems.ensures.entries, c.in_ok-name_parent.ensures.entries)
     c.in_ok-reserve.ensures.entries in
     let made : c.rename_among.new.entries.items ≡ replaced_entries t.next t.entries.items old es =
-    rw (c.rename_among.ensures, c.as_slice.ensures, c.succeed.ensures old at, number)
+    rw (
+      c.rename_among.ensures,
+      c.as_slice.ensures,
+      c.succeed.ensures old at,
+      c.in_ok-elems.ensures.elems,
+      number,
+    )
     (renamed_by t.entries.items t.links.items c.place-at.result t.next old es c.index.result.now
     kept.tree at_link c.index.ensures) in
     made ∙ ap (λ (n : ℕ). replaced_entries n t.entries.items old es) next
@@ -145,16 +157,22 @@ returns-clause-indexed c =
     let t = c.replace_key.new.table in
     let old = c.args.old in
     let es = c.args.elems.items in
-    let kept = c.in_ok-replace_key.ensures.kept in
-    let at = rw c.deref-2.ensures.value at c.place-at.ensures.at in
+    let kept = c.in_ok-elems.ensures.kept in
+    let at = rw c.deref.ensures.value at c.place-at.ensures.at in
     let at_link = subst (λ (ns : List ℕ). slice_get ns c.place-at.result ≡ Some old)
     (sym kept.tree.same) at in
     let number : c.in_ok-number.number ≡ t.next =
     c.in_ok-number.ensures.same ∙ sym c.in_ok-reserve.ensures.next
-    ∙ sym c.in_ok-name_parent.ensures.next ∙ sym c.in_ok-replace_key.ensures.next in
+    ∙ sym c.in_ok-name_parent.ensures.next ∙ sym c.in_ok-elems.ensures.next in
     let made : c.rename_among.new.entries.items ≡ replaced_entries t.next t.entries.items old es =
-    rw (c.rename_among.ensures, c.as_slice.ensures, c.succeed.ensures old at, number)
+    rw (
+      c.rename_among.ensures,
+      c.as_slice.ensures,
+      c.succeed.ensures old at,
+      c.in_ok-elems.ensures.elems,
+      number,
+    )
     (renamed_by t.entries.items t.links.items c.place-at.result t.next old es c.index.result.now
     kept.tree at_link c.index.ensures) in
-    rw (made, c.in_ok-replace_key.ensures.entries, c.in_ok-replace_key.ensures.places)
-    (rw (number, c.deref.ensures.value) at c.in_ok-replace_key.ensures.ok)
+    rw (made, c.in_ok-elems.ensures.entries, c.in_ok-elems.ensures.places)
+    (rw number at c.in_ok-elems.ensures.ok)

@@ -16,8 +16,8 @@ returns-clause-ok c =
     let t = c.args.table.now in
     let entry = c.entry.result.now in
     let old_row : c.in_ok-old_key.old_key.elems ≡ picked t.places entry.elems = search rules in
-    let new_row : c.in_ok-key.key.elems ≡ picked t.places c.args.elems.now = search rules in
-    indexed_replaced t.places t.entries.items c.args.old c.args.number c.args.elems.now
+    let new_row : c.in_ok-key.key.elems ≡ picked t.places c.args.elems.items = search rules in
+    indexed_replaced t.places t.entries.items c.args.old c.args.number c.args.elems.items
     c.in_ok-old_key.old_key.elems c.in_ok-key.key.elems entry t.index.entries
     c.enter.new.index.entries c.leave.new.index.entries c.requires.kept.tree.ascend
     c.requires.apart (rw c.deref.ensures.value at c.entry.ensures.is_in) c.entry.ensures.number
