@@ -1,4 +1,4 @@
--- The core of a sound text is well formed (`core_sound`).
+-- The core of a sound text is well formed (`well_formed`).
 use Rattle.std.proofs.Common.{◌≡◌, ℕ, zero, suc, ◌+◌, ◌<◌, ◌≤◌, max, Bool, true, false, List, []}
 use Rattle.std.proofs.Common.{◌∷◌, ◌++◌, map, length, Option, None, Some, refl, ap, sym, ◌∙◌, subst}
 use Rattle.std.proofs.Common.{arith, slice_get, inl, inr}

@@ -1,5 +1,5 @@
--- What a parameter makes of a state, with a name (`named_state`) or without one (`unnamed_state`),
--- and a walk through parameters, one further (`objects_step`).
+-- What a parameter makes of a state, with a name (`is_named`) or without one (`is_unnamed`), and a
+-- walk through parameters, one further (`objects_step`).
 use Rattle.std.proofs.Common.{◌≡◌, ℕ, ◌+◌, ◌<◌, List, [], ◌∷◌, ◌++◌, length, get_or, map, drop}
 use Rattle.std.proofs.Common.{Option, Some, None, refl, sym, ap, ◌∙◌, arith, append_assoc}
 use Rattle.std.proofs.Common.{append-nil}

@@ -1,5 +1,5 @@
 -- A body as one walk (`whole_walk`): its faults with those of its labels and gotos (`whole_first`),
--- its calls (`whole_calls`) and what is known behind it (`whole_around`).
+-- and what stands behind it, part by part (`is_behind`).
 use Rattle.std.proofs.Common.{◌≡◌, ℕ, List, [], ◌∷◌, ◌++◌, map, Option, refl, sym, ap}
 use Rattle.std.proofs.Common.{◌∙◌}
 use Rattle.std.specs.List.{flat_map}

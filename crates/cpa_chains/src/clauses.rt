@@ -1,5 +1,5 @@
 //! The partials of the formula's clauses, `leaves_of` of `specs/Partials.antt`.
-//! Proved with `proofs/Leaves.antt`.
+//! Proved with `proofs/Filling.antt`.
 
 ghost use Rattle.std.specs.Prelude.{◌≡◌, length, filter, IfOk};
 ghost use Rattle.std.specs.List.{AllByRecursion};

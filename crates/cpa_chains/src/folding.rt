@@ -1,5 +1,5 @@
 //! The partials of all lines, one after the other, as `partials_of` of `specs/Partials.antt` says.
-//! That the last one is an interpolant is proved with `proofs/Folding.antt`.
+//! That the last one is an interpolant is proved with `proofs/Interpolation.antt`.
 
 ghost use Rattle.std.specs.Prelude.{◌≡◌, ◌+◌, ◌≤◌, ◌++◌, length, map, vec_len, vec_capacity, IfOk};
 ghost use Rattle.std.specs.Prelude.{◌<◌};

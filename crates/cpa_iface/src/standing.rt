@@ -1,6 +1,5 @@
 //! Whether facts stand in an element, looked for in the order in which they stand there: where two
-//! elements have one order, it takes one walk. Proved with
-//! `specs/PlaceLaws.antt`.
+//! elements have one order, it takes one walk. Proved with `specs/PlaceLaws.antt`.
 
 ghost use Rattle.std.specs.Prelude.{◌≡◌, ◌≤◌, Some, drop, length, slice_get, is_some, IfSome};
 ghost use Rattle.cpa_model_facts.specs.declared.fact.Fact.{Fact as AFact};
@@ -25,7 +24,7 @@ pub fn covers(elem: &Elem, other: &Elem) -> bool
 }
 
 /// The place behind one at which the fact stands, looked for from the place `from` on, and then
-/// before it.
+/// among all.
 pub(crate) fn behind_fact(facts: &Facts, from: usize, fact: &Fact) -> Option<usize>
     requires { from ≤ length facts.now }
     ensures within { IfSome result (λ place. place ≤ length facts.now) }

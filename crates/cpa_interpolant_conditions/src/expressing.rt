@@ -1,5 +1,5 @@
 //! The expression of the last partial interpolant of a refutation: `interpolant_expr` of
-//! specs/Interpolants. Proved with `proofs/expressing/`.
+//! specs/Interpolants. By the checker alone.
 
 ghost use Rattle.std.specs.Prelude.{◌≡◌, length, IfOk};
 ghost use Rattle.std.specs.List.{AllByRecursion};

@@ -1,5 +1,5 @@
 //! The variables on which two formulas meet, and the bits that these are: `names_of` and `bits_of`
-//! of specs/Meetings. Proved with `proofs/Writing.antt`.
+//! of specs/Meetings. Proved with `proofs/naming/`.
 
 ghost use Rattle.std.specs.Prelude.{◌≡◌, ◌<◌, ◌≤◌, ◌+◌, ◌^◌, length, IfOk};
 ghost use Rattle.std.specs.List.{AllByRecursion};

@@ -24,7 +24,7 @@ pub(crate) fn covers(elem: &Elem, other: &Elem) -> bool
 }
 
 /// The place behind one at which a fact says it, looked for from the place `from` on, and then
-/// before it.
+/// among all.
 fn behind_saying(facts: &Facts, from: usize, fact: &Fact) -> Option<usize>
     requires { from ≤ length facts.now }
     ensures within { IfSome result (λ place. place ≤ length facts.now) }

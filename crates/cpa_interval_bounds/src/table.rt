@@ -1,5 +1,5 @@
-//! The bounds of each cell as those of some, by `specs/Tables.antt`: a cell is found by halving.
-//! Proved with `specs/lemmas/TableLemmas.antt`.
+//! The bounds of each cell as those of some, by `specs/Tables.antt`: a cell is looked for at a
+//! likely place first, and then by halving. Proved with `specs/lemmas/TableLemmas.antt`.
 
 ghost use Rattle.std.specs.Prelude.{◌≡◌, ◌<◌, ◌≤◌, List, Some, true, length, slice_get, slice_set};
 ghost use Rattle.std.specs.Prelude.{IsTrue, OnOk};

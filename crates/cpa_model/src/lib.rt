@@ -19,7 +19,7 @@ pub use automaton::{Act, Cfa, Edge, Path};
 pub use copying::copy_elem;
 pub use cpa_expr::{BinOp, CmpOp, Expr, Store, UnOp, value};
 pub use cpa_ints::{IntType, Seq};
-pub use cpa_model_facts::{Block, Fact, Facts, Iter, Run, Shared, copy_fact, mixed};
+pub use cpa_model_facts::{Block, Fact, Facts, Iter, Pieces, Run, Shared, copy_fact, mixed};
 pub use expressions::{has_truth, is_expr};
 pub use facts::{Elem, holds, is_elem};
 pub use graph::{is_error, leaving};

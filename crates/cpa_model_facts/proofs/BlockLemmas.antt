@@ -1,17 +1,11 @@
--- That a fact is found by the number of its block and its place there, and that each block has
--- facts.
+-- That a fact is found by the number of its block and its place there, and how many facts blocks
+-- have.
 use Rattle.std.proofs.Common.{◌≡◌, ℕ, zero, suc, ◌+◌, ◌*◌, ◌/◌, ◌%◌, ◌<◌, ◌≤◌, List, [], ◌∷◌, ◌++◌}
-use Rattle.std.proofs.Common.{refl, sym, ap, ◌∙◌, arith, length, slice_get}
-use Rattle.std.specs.List.{AllByRecursion}
-use Rattle.std.proofs.lemmas.List.{append-nil}
+use Rattle.std.proofs.Common.{refl, sym, ap, subst, ◌∙◌, arith, length, slice_get}
+use Rattle.std.proofs.lemmas.List.{append-nil, length-append}
 use Rattle.std.proofs.lemmas.Option.{slice_get_past}
 use Rattle.cpa_model_facts.specs.declared.fact.Fact.{Fact}
 use Rattle.cpa_model_facts.specs.Blocks.{joined, AreFilled, fact_in}
-
-pub some_facts : (blocks : List (List Fact)) → AreFilled blocks
-    → AllByRecursion (λ facts. 0 < length facts) blocks
-some_facts [] filled = tt
-some_facts (block ∷ blocks) filled = (filled.0, some_facts blocks filled.3)
 
 -- ---- what stands at a place
 
@@ -56,3 +50,21 @@ below at = omega arith
 pub found : (blocks : List (List Fact)) (at : ℕ) → AreFilled blocks
     → fact_in (slice_get blocks (at / 16)) (at % 16) ≡ slice_get (joined blocks) at
 found blocks at filled = sym (placed blocks (at / 16) (at % 16) at filled (below at) (split at))
+
+-- ---- how many facts there are
+
+-- all blocks but the last are full
+filled_length : (front : List (List Fact)) (last : List Fact) → AreFilled (front ++ last ∷ [])
+    → length (joined (front ++ last ∷ [])) ≡ 16 * length front + length last
+filled_length [] last filled = let e = ap length (append-nil last) in omega (arith, e)
+filled_length (block ∷ front) last filled =
+    let sum = length-append block (joined (front ++ last ∷ [])) in
+    let rest = filled_length front last filled.3 in
+    let more = length-append front (last ∷ []) in
+    let long : length block ≡ 16 = filled.2 (omega (arith, more)) in
+    omega (arith, sum, rest, long)
+
+pub length_filled : (blocks front : List (List Fact)) (last : List Fact) → AreFilled blocks
+    → blocks ≡ front ++ last ∷ [] → length (joined blocks) ≡ 16 * length front + length last
+length_filled blocks front last filled is =
+    ap (λ bs. length (joined bs)) is ∙ filled_length front last (subst AreFilled is filled)

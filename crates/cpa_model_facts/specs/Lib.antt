@@ -1,4 +1,5 @@
 pub mod Blocks
+pub mod Places
 pub mod Prints
 pub mod Runs
 pub mod Sharing

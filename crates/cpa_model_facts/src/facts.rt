@@ -1,45 +1,48 @@
-//! Facts in blocks that copies share, which contracts see as the list that they are. What is a
-//! list in blocks is defined in `specs/Blocks.antt`; proved with `proofs/BlockLemmas.antt`.
+//! Facts that copies share, which contracts see as the list that they are. Where they stand is
+//! defined in `specs/Places.antt`, what is a list in blocks in `specs/Blocks.antt`; proved with
+//! `proofs/BlockLemmas.antt`.
 ghost use Rattle.std.specs.Prelude.{◌≡◌, ◌<◌, ◌≤◌, ◌+◌, ◌↔◌, ◌^◌, [], List, length, IfOk, IsTrue, slice_get, ◌++◌, take, drop};
 ghost use Rattle.std.specs.List.{AllByRecursion};
 ghost use Rattle.std.specs.Option.{option_copied};
 ghost use Rattle.std.specs.Iterator.{YieldsFirstRef};
 ghost use Rattle.std.specs.Iterator.Runs.{EveryRun, ItemsMapTo};
 ghost use Rattle.cpa_model_facts.specs.declared.fact.Fact.{Fact as AFact};
-ghost use Rattle.cpa_model_facts.specs.Blocks.{joined, fact_in};
+ghost use Rattle.cpa_model_facts.specs.Blocks.{joined, fact_in, AreFilled};
+ghost use Rattle.cpa_model_facts.specs.Places.{facts_in};
 
 use crate::block::{BLOCK, Block};
 use crate::fact::Fact;
 use crate::filling::Filling;
 use crate::iter::Iter;
+use crate::pieces::Pieces;
+use crate::place::Place;
 use crate::shared::Shared;
 use cpa_ints::Seq;
 use std::alloc::{AllocError, Global};
 use std::marker::Model;
+use std::slice;
 
-/// Facts in blocks that copies share, so that a copy takes no memory, in any thread, and a list
-/// that differs in a few facts shares the blocks of the others. Contracts see the list.
+/// Facts that copies share, so that a copy takes no memory, in any thread, and a list of many that
+/// differs in a few shares the blocks of the others. Contracts see the list.
 #[derive(Drop)]
 pub struct Facts {
-    blocks: Shared<Block>,
-    /// How many facts there are.
-    count: usize,
+    place: Place,
 }
 
 impl Model for Facts {
-    ghost use Rattle.std.specs.Prelude.{◌≡◌, List, length};
+    ghost use Rattle.std.specs.Prelude.{List};
     ghost use Rattle.std.specs.Coded.{coded_list};
     ghost use Rattle.cpa_model_facts.specs.declared.fact.Fact.{Fact};
     ghost use Rattle.cpa_model_facts.specs.contracts.fact.Fact as e;
-    ghost use Rattle.cpa_model_facts.specs.Blocks.{joined, AreFilled};
+    ghost use Rattle.cpa_model_facts.specs.Places.{facts_at, AreCounted};
 
     ghost Value = { List Fact };
 
     ghost coded = { coded_list e.the_row.coded };
 
-    ghost view = { λ f. joined f.blocks };
+    ghost view = { λ f. facts_at f.place };
 
-    ghost invariant = { λ f. (f.count ≡ length (joined f.blocks)) × AreFilled f.blocks };
+    ghost invariant = { λ f. AreCounted f.place };
 }
 
 impl Facts {
@@ -48,8 +51,7 @@ impl Facts {
         ensures { result ≡ [] }
     {
         Facts {
-            blocks: Shared::new(),
-            count: 0,
+            place: Place::Few(Shared::new()),
         }
     }
 
@@ -58,15 +60,17 @@ impl Facts {
         ensures { IfOk result (λ f. f ≡ items) }
     {
         if items.len() <= BLOCK {
-            return of_few(alloc, items);
+            return Ok(Facts {
+                place: Place::of_few(alloc, items)?,
+            });
         }
-        let mut filling = Filling::new(alloc, items.len().div_ceil(BLOCK))?;
+        let mut filling = Filling::new(alloc, items.len().div_ceil(BLOCK), BLOCK)?;
         filling.push_all(alloc, items)?;
         filled(alloc, filling)
     }
 
-    /// The facts with others in place of those from one place on and before another. The blocks
-    /// before these are shared; so are those behind, where as many facts come as go.
+    /// The facts with others in place of those from one place on and before another. Of many facts
+    /// the blocks before these are shared; so are those behind, where as many facts come as go.
     pub fn replaced(
         &self,
         alloc: Global,
@@ -76,43 +80,46 @@ impl Facts {
     ) -> Result<Facts, AllocError>
         ensures { IfOk result (λ f. f ≡ take from self.now ++ items ++ drop to self.now) }
     {
-        let blocks = self.blocks.as_slice();
-        let mut filling = Filling::new(alloc, blocks.len())?;
-        filling.push_front(alloc, blocks, from)?;
-        filling.push_all(alloc, items)?;
-        with_behind(alloc, filling, blocks, to)
+        match self.pieces() {
+            Pieces::Slice(facts) => replaced_in_slice(alloc, facts, from, to, items),
+            Pieces::Blocks(blocks) => replaced_in_blocks(alloc, blocks, from, to, items),
+        }
     }
 
     /// How many facts there are.
     pub fn len(&self) -> usize
         ensures { result ≡ length self.now }
     {
-        self.count
+        match &self.place {
+            Place::One(_) => 1,
+            Place::Few(facts) => facts.len(),
+            Place::Many(blocks) => count_of(blocks.as_slice()),
+        }
     }
 
     /// Whether there is no fact.
     pub fn is_empty(&self) -> bool
         ensures { IsTrue result ↔ (self.now ≡ []) }
     {
-        self.count == 0
+        self.len() == 0
     }
 
     /// The fact at a place, counted from 0.
     pub fn get(&self, place: usize) -> Option<&Fact>
         ensures { option_copied result ≡ slice_get self.now place }
     {
-        fact_in(
-            block_at(self.blocks.as_slice(), place / BLOCK),
-            place % BLOCK,
-        )
+        match &self.place {
+            Place::One(fact) => slice::from_ref(&**fact).get(place),
+            Place::Few(facts) => facts.as_slice().get(place),
+            Place::Many(blocks) => fact_among(blocks.as_slice(), place),
+        }
     }
 
-    /// The blocks, in order. Each has facts.
-    pub fn blocks(&self) -> &[Block]
-        ensures whole { joined result.now ≡ self.now }
-        ensures some { AllByRecursion (λ facts. 0 < length facts) result.now }
+    /// The pieces in which the facts stand, in order.
+    pub fn pieces(&self) -> Pieces<'_>
+        ensures { facts_in result ≡ self.now }
     {
-        self.blocks.as_slice()
+        self.place.pieces()
     }
 
     /// The facts, one after the other.
@@ -122,8 +129,9 @@ impl Facts {
         ensures runs { EveryRun (YieldsFirstRef (λ (left : List AFact). left))
             (λ p. ItemsMapTo p (λ x. x.now) p.from) }
     {
-        let _count = self.count;
-        Iter::new(self.blocks.as_slice())
+        // Each caller's loop needs that the facts can be counted.
+        let _count = self.len();
+        Iter::new(self.pieces())
     }
 
     /// The same facts once more. It takes no memory, and fails only where so many share them that
@@ -132,8 +140,7 @@ impl Facts {
         ensures { IfOk result (λ f. f ≡ self.now) }
     {
         Ok(Facts {
-            blocks: self.blocks.share()?,
-            count: self.count,
+            place: self.place.share()?,
         })
     }
 }
@@ -150,6 +157,26 @@ impl<'a> IntoIterator for &'a Facts {
     fn into_iter(self) -> Iter<'a> {
         self.iter()
     }
+}
+
+/// How many facts the blocks have.
+fn count_of(blocks: &[Block]) -> usize
+    requires filled { AreFilled blocks.now }
+    requires bound { length (joined blocks.now) < 2 ^ 64 }
+    ensures { result ≡ length (joined blocks.now) }
+{
+    match blocks.split_last() {
+        Some((last, front)) => front.len() * BLOCK + last.facts().len(),
+        None => 0,
+    }
+}
+
+/// The fact at a place, found in its block.
+fn fact_among(blocks: &[Block], place: usize) -> Option<&Fact>
+    requires { AreFilled blocks.now }
+    ensures { option_copied result ≡ slice_get (joined blocks.now) place }
+{
+    fact_in(block_at(blocks, place / BLOCK), place % BLOCK)
 }
 
 /// The block of this number.
@@ -169,32 +196,68 @@ fn fact_in(block: Option<&Block>, place: usize) -> Option<&Fact>
     }
 }
 
-/// These facts, which fit in a block.
-fn of_few(alloc: Global, items: Seq<Fact>) -> Result<Facts, AllocError>
-    requires { length items ≤ 16 }
-    ensures { IfOk result (λ f. f ≡ items) }
+/// The first facts, so many.
+fn first_of(facts: &[Fact], count: usize) -> &[Fact]
+    ensures { result.now ≡ take count facts.now }
 {
-    if items.is_empty() {
-        return Ok(Facts::new());
+    if facts.len() <= count {
+        facts
+    } else {
+        &facts[..count]
     }
-    let count = items.len();
-    let mut blocks = Seq::from_vec(Vec::with_capacity(alloc, 1)?);
-    blocks.push(Block::new(alloc, items)?)?;
-    Ok(Facts {
-        blocks: Shared::from_seq(alloc, blocks)?,
-        count,
-    })
+}
+
+/// The facts behind the first ones, so many.
+fn rest_of(facts: &[Fact], count: usize) -> &[Fact]
+    ensures { result.now ≡ drop count facts.now }
+{
+    if facts.len() <= count {
+        &[]
+    } else {
+        &facts[count..]
+    }
+}
+
+/// The facts of a slice with others in place of those from one place on and before another.
+fn replaced_in_slice(
+    alloc: Global,
+    facts: &[Fact],
+    from: usize,
+    to: usize,
+    items: Seq<Fact>,
+) -> Result<Facts, AllocError>
+    ensures { IfOk result (λ f. f ≡ take from facts.now ++ items ++ drop to facts.now) }
+{
+    let mut filling = Filling::new(alloc, 0, facts.len().saturating_add(items.len()))?;
+    filling.push_copies(alloc, first_of(facts, from))?;
+    filling.push_all(alloc, items)?;
+    filling.push_copies(alloc, rest_of(facts, to))?;
+    filled(alloc, filling)
+}
+
+/// The same of the facts of blocks.
+fn replaced_in_blocks(
+    alloc: Global,
+    blocks: &[Block],
+    from: usize,
+    to: usize,
+    items: Seq<Fact>,
+) -> Result<Facts, AllocError>
+    ensures { IfOk result (λ f. f ≡ take from (joined blocks.now) ++ items
+        ++ drop to (joined blocks.now)) }
+{
+    let mut filling = Filling::new(alloc, blocks.len(), BLOCK)?;
+    filling.push_front(alloc, blocks, from)?;
+    filling.push_all(alloc, items)?;
+    with_behind(alloc, filling, blocks, to)
 }
 
 /// The facts that were put into blocks.
 fn filled(alloc: Global, filling: Filling) -> Result<Facts, AllocError>
     ensures { IfOk result (λ f. f ≡ filling) }
 {
-    let count = filling.len()?;
-    let blocks = filling.into_blocks(alloc)?;
     Ok(Facts {
-        blocks: Shared::from_seq(alloc, blocks)?,
-        count,
+        place: filling.into_place(alloc)?,
     })
 }
 
@@ -227,28 +290,11 @@ fn with_last(
     ensures { IfOk result (λ f. f ≡ filling ++ drop count last.now) }
 {
     if count == 0 {
-        return filled_before(alloc, filling, last);
+        return Ok(Facts {
+            place: filling.into_place_before(alloc, last)?,
+        });
     }
     let mut filling = filling;
     filling.push_end(alloc, last, count)?;
     filled(alloc, filling)
-}
-
-/// The facts that were put into blocks and those of a last block.
-fn filled_before(alloc: Global, filling: Filling, last: &Block) -> Result<Facts, AllocError>
-    ensures { IfOk result (λ f. f ≡ filling ++ last.now) }
-{
-    let count = sum_of(filling.len()?, last.facts().len())?;
-    let blocks = filling.into_blocks_before(alloc, last)?;
-    Ok(Facts {
-        blocks: Shared::from_seq(alloc, blocks)?,
-        count,
-    })
-}
-
-/// The sum, where it can be said.
-fn sum_of(a: usize, b: usize) -> Result<usize, AllocError>
-    ensures { IfOk result (λ n. n ≡ a + b) }
-{
-    a.checked_add(b).ok_or(AllocError)
 }

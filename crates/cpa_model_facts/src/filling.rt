@@ -4,9 +4,12 @@ ghost use Rattle.std.specs.Prelude.{◌≡◌, ◌<◌, ◌≤◌, ◌+◌, ◌-
 ghost use Rattle.std.specs.Prelude.{◌↔◌, IsTrue};
 ghost use Rattle.std.specs.Prelude.{take, drop};
 ghost use Rattle.cpa_model_facts.specs.Blocks.{joined, AreFilled, AreFull};
+ghost use Rattle.cpa_model_facts.specs.Places.{facts_at, AreCounted};
 
 use crate::block::{BLOCK, Block};
 use crate::fact::{Fact, copy_fact};
+use crate::place::Place;
+use crate::shared::Shared;
 use cpa_ints::Seq;
 use std::alloc::{AllocError, Global};
 use std::marker::Model;
@@ -38,13 +41,13 @@ impl Model for Filling {
 }
 
 impl Filling {
-    /// No facts, with room for so many blocks.
-    pub(crate) fn new(alloc: Global, blocks: usize) -> Result<Filling, AllocError>
+    /// No facts, with room for so many blocks, and behind them for so many facts of one.
+    pub(crate) fn new(alloc: Global, blocks: usize, facts: usize) -> Result<Filling, AllocError>
         ensures { IfOk result (λ f. f ≡ []) }
     {
         Ok(Filling {
             blocks: Seq::from_vec(Vec::with_capacity(alloc, blocks)?),
-            rest: Seq::new(alloc),
+            rest: Seq::from_vec(Vec::with_capacity(alloc, facts.min(BLOCK))?),
         })
     }
 
@@ -67,7 +70,7 @@ impl Filling {
     }
 
     /// Puts copies of the facts behind the others.
-    fn push_copies(&mut self, alloc: Global, facts: &[Fact]) -> Result<(), AllocError>
+    pub(crate) fn push_copies(&mut self, alloc: Global, facts: &[Fact]) -> Result<(), AllocError>
         ensures { OnOk result (self.new ≡ self.old ++ facts.now) }
     {
         for fact in facts {
@@ -168,31 +171,33 @@ impl Filling {
     }
 
     /// How many facts there are.
-    pub(crate) fn len(&self) -> Result<usize, AllocError>
+    fn len(&self) -> Result<usize, AllocError>
         ensures { IfOk result (λ n. n ≡ length self.now) }
     {
-        sum_of(self.blocks.len(), self.rest.len()).ok_or(AllocError)
+        facts_of(self.blocks.len(), self.rest.len()).ok_or(AllocError)
     }
 
-    /// The blocks of all facts.
-    pub(crate) fn into_blocks(self, alloc: Global) -> Result<Seq<Block>, AllocError>
-        ensures whole { IfOk result (λ blocks. joined blocks ≡ self) }
-        ensures filled { IfOk result (λ blocks. AreFilled blocks) }
+    /// Where all facts stand.
+    pub(crate) fn into_place(self, alloc: Global) -> Result<Place, AllocError>
+        ensures facts { IfOk result (λ place. facts_at place ≡ self) }
+        ensures counted { IfOk result AreCounted }
     {
+        let _count = self.len()?;
         let Filling { blocks, rest } = self;
-        with_last(alloc, blocks, rest)
+        if blocks.is_empty() {
+            return Place::of_few(alloc, rest);
+        }
+        let blocks = with_last(alloc, blocks, rest)?;
+        Ok(Place::Many(Shared::from_seq(alloc, blocks)?))
     }
 
-    /// The blocks of all facts and of those of a last block, which is shared where it then stands
-    /// as a whole.
-    pub(crate) fn into_blocks_before(
-        self,
-        alloc: Global,
-        last: &Block,
-    ) -> Result<Seq<Block>, AllocError>
-        ensures whole { IfOk result (λ blocks. joined blocks ≡ self ++ last.now) }
-        ensures filled { IfOk result (λ blocks. AreFilled blocks) }
+    /// Where all facts stand with those of a last block, which is shared where it then stands as a
+    /// whole.
+    pub(crate) fn into_place_before(self, alloc: Global, last: &Block) -> Result<Place, AllocError>
+        ensures facts { IfOk result (λ place. facts_at place ≡ self ++ last.now) }
+        ensures counted { IfOk result AreCounted }
     {
+        let _count = sum_of(self.len()?, last.facts().len())?;
         let Filling {
             mut blocks,
             mut rest,
@@ -200,11 +205,11 @@ impl Filling {
         make_room(alloc, &mut blocks, &mut rest)?;
         if rest.is_empty() && fits(last.facts()) {
             blocks.push(last.share()?)?;
-            return Ok(blocks);
+            return Ok(Place::Many(Shared::from_seq(alloc, blocks)?));
         }
         let mut all = Filling { blocks, rest };
         all.push_copies(alloc, last.facts())?;
-        all.into_blocks(alloc)
+        all.into_place(alloc)
     }
 }
 
@@ -231,10 +236,17 @@ fn make_room(alloc: Global, blocks: &mut Seq<Block>, rest: &mut Seq<Fact>) -> Re
 }
 
 /// The facts of so many full blocks, and so many more.
-fn sum_of(blocks: usize, rest: usize) -> Option<usize>
+fn facts_of(blocks: usize, rest: usize) -> Option<usize>
     ensures { IfSome result (λ n. n ≡ 16 * blocks + rest) }
 {
     blocks.checked_mul(BLOCK)?.checked_add(rest)
+}
+
+/// The sum, where it can be said.
+fn sum_of(a: usize, b: usize) -> Result<usize, AllocError>
+    ensures { IfOk result (λ n. n ≡ a + b) }
+{
+    a.checked_add(b).ok_or(AllocError)
 }
 
 /// The blocks with a last one of these facts, where there are any.

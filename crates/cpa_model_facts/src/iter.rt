@@ -1,18 +1,20 @@
-//! The facts of blocks, one after the other. What is left to come is `joined` of
+//! Facts, one after the other. What is left to come is `joined` of
 //! `specs/Blocks.antt`.
 ghost use Rattle.std.specs.Prelude.{◌≡◌, ◌++◌, ◌∷◌, [], List};
 ghost use Rattle.std.specs.Iterator.{YieldsFirstRef, item_count};
 ghost use Rattle.cpa_model_facts.specs.declared.fact.Fact.{Fact as AFact};
 ghost use Rattle.cpa_model_facts.specs.Blocks.{joined};
+ghost use Rattle.cpa_model_facts.specs.Places.{facts_in};
 
 use crate::block::Block;
 use crate::fact::Fact;
+use crate::pieces::Pieces;
 use std::marker::Model;
 
 /// Facts, one after the other. Contracts see those that are left.
 #[derive(Drop)]
 pub struct Iter<'a> {
-    /// What is left of the block in hand.
+    /// What is left of the facts in hand.
     facts: &'a [Fact],
     blocks: &'a [Block],
 }
@@ -32,11 +34,14 @@ impl<'a> Model for Iter<'a> {
 }
 
 impl<'a> Iter<'a> {
-    /// The facts of these blocks.
-    pub(crate) fn new(blocks: &'a [Block]) -> Iter<'a>
-        ensures { result ≡ joined blocks.now }
+    /// The facts of the pieces.
+    pub(crate) fn new(pieces: Pieces<'a>) -> Iter<'a>
+        ensures { result ≡ facts_in pieces.entry }
     {
-        Iter { facts: &[], blocks }
+        match pieces {
+            Pieces::Slice(facts) => Iter { facts, blocks: &[] },
+            Pieces::Blocks(blocks) => Iter { facts: &[], blocks },
+        }
     }
 }
 

@@ -7,6 +7,8 @@ mod fact;
 mod facts;
 mod filling;
 mod iter;
+mod pieces;
+mod place;
 mod run;
 mod shared;
 
@@ -14,5 +16,6 @@ pub use block::Block;
 pub use fact::{Fact, copy_fact};
 pub use facts::Facts;
 pub use iter::Iter;
+pub use pieces::Pieces;
 pub use run::{Run, mixed};
 pub use shared::Shared;

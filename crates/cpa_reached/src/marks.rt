@@ -7,12 +7,13 @@ ghost use Rattle.std.specs.List.{AllByRecursion};
 ghost use Rattle.cpa_model.specs.declared.states.State.{State};
 ghost use Rattle.cpa_model.specs.Facts.{FactHolds};
 ghost use Rattle.cpa_model_facts.specs.declared.fact.Fact.{Fact as AFact};
+ghost use Rattle.cpa_model_facts.specs.Blocks.{joined};
 ghost use Rattle.cpa_model_facts.specs.Runs.{run_of};
 ghost use Rattle.cpa_reached.specs.Marks.{is_above, past, past_all, Counts, Tells, IsMarkOf};
 ghost use Rattle.cpa_reached.specs.Marks.{Differ, DiffersAt};
 ghost use Rattle.cpa_reached.specs.Passed.{LeavesOut};
 
-use cpa_model::{Block, Elem, Fact, Facts, Run, mixed};
+use cpa_model::{Block, Elem, Fact, Facts, Pieces, Run, mixed};
 use std::alloc::{AllocError, Global};
 
 /// How many prints there are.
@@ -125,16 +126,29 @@ fn followed_by_block(mark: Mark, block: &Block) -> Mark
     }
 }
 
-/// The mark of the facts of the element at a place. A block that is a run takes one step.
+/// What the facts tell with those of these blocks. A block that is a run takes one step.
+fn followed_by_blocks(mark: Mark, blocks: &[Block]) -> Mark
+    ensures place { result.place ≡ mark.place }
+    ensures counts { (s : State) → AllByRecursion (FactHolds s) (joined blocks.now)
+        → Counts s mark → Counts s result }
+{
+    let mut told = mark;
+    for block in blocks {
+        told = followed_by_block(told, block);
+    }
+    told
+}
+
+/// The mark of the facts of the element at a place.
 fn marked(place: u32, facts: &Facts) -> Mark
     ensures place { result.place ≡ place }
     ensures counts { (s : State) → AllByRecursion (FactHolds s) facts.now → Counts s result }
 {
-    let mut mark = blank(place, 0);
-    for block in facts.blocks() {
-        mark = followed_by_block(mark, block);
+    let mark = blank(place, 0);
+    match facts.pieces() {
+        Pieces::Slice(facts) => followed_by_each(mark, facts),
+        Pieces::Blocks(blocks) => followed_by_blocks(mark, blocks),
     }
-    mark
 }
 
 /// The mark of the element at this place where it tells anything, else the one before.
@@ -216,19 +230,26 @@ fn past_block(least: u64, block: &Block) -> Option<u64>
     }
 }
 
-/// Whether the facts are values of ascending cells, so that there is a state of which they hold. A
-/// block that is a run takes one step.
+/// The same of the facts of these blocks. A block that is a run takes one step.
+fn past_blocks(least: u64, blocks: &[Block]) -> Option<u64>
+    ensures { result ≡ past_all least (joined blocks.now) }
+{
+    let mut next = least;
+    for block in blocks {
+        next = past_block(next, block)?;
+    }
+    Some(next)
+}
+
+/// Whether the facts are values of ascending cells, so that there is a state of which they hold.
 fn ascend(facts: &Facts) -> bool
     ensures { result ≡ is_some (past_all 0 facts.now) }
 {
-    let mut least = 0;
-    for block in facts.blocks() {
-        match past_block(least, block) {
-            Some(behind) => least = behind,
-            None => return false,
-        }
-    }
-    true
+    let behind = match facts.pieces() {
+        Pieces::Slice(facts) => past_each(0, facts),
+        Pieces::Blocks(blocks) => past_blocks(0, blocks),
+    };
+    behind.is_some()
 }
 
 /// The mark of a row, where the element that it is of holds of some state. Takes no memory.

@@ -34,7 +34,7 @@ pub(crate) fn merged(
 }
 
 /// The facts of the old element that stand among these, which are in the order of the cells. It is
-/// linear where those of the old one are, too.
+/// linear where those of the old one are of the same cells, in that order.
 fn common_in_order(
     alloc: Global,
     new: &Facts,

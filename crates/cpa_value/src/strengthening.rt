@@ -1,5 +1,5 @@
 //! What the elements of other analyses say of cells, by `specs/Strengthening.antt`.
-//! Proved with `proofs/StrengthenLemmas.antt`.
+//! Proved with `proofs/ChangeLemmas.antt`.
 
 ghost use Rattle.std.specs.Prelude.{◌≡◌, ◌<◌, ◌^◌, ℕ, ℤ, List, Option, true, None, Some};
 ghost use Rattle.std.specs.Prelude.{option_map, if◌then◌else◌};

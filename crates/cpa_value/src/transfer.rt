@@ -20,7 +20,8 @@ ghost use Rattle.cpa_value.specs.Transfer.{elems_of, next_values};
 
 use crate::cells::{elem_of_known, known_cells, push_fact};
 use cpa_iface::Precision;
-use cpa_model::{Act, Block, Cfa, Edge, Elem, Fact, Facts, Run, Seq, copy_elem, copy_fact};
+use cpa_model::{Act, Block, Cfa, Edge, Elem, Fact, Facts, Pieces, Run, Seq};
+use cpa_model::{copy_elem, copy_fact};
 use cpa_value_changes::{Change, KnownCells, are_ordered, change_by, place_of};
 use cpa_value_tracked::Tracked;
 use std::alloc::{AllocError, Global};
@@ -123,7 +124,10 @@ fn elem_behind(
 fn are_within(facts: &Facts, count: usize, tracked: &Tracked) -> bool
     ensures { result ≡ list_all (is_within (is_tracked tracked.now) 0 count) facts.now }
 {
-    are_all_within(facts.blocks(), count, tracked)
+    match facts.pieces() {
+        Pieces::Slice(facts) => are_facts_within(facts, count, tracked),
+        Pieces::Blocks(blocks) => are_all_within(blocks, count, tracked),
+    }
 }
 
 /// The same of the facts of blocks.
@@ -143,10 +147,14 @@ fn is_block_within(block: &Block, count: usize, tracked: &Tracked) -> bool
     if is_run_within(block.run(), count, tracked) {
         return true;
     }
-    block
-        .facts()
-        .iter()
-        .all(|fact| is_within(fact, 0, count, tracked))
+    are_facts_within(block.facts(), count, tracked)
+}
+
+/// The same of facts one after the other.
+fn are_facts_within(facts: &[Fact], count: usize, tracked: &Tracked) -> bool
+    ensures { result ≡ list_all (is_within (is_tracked tracked.now) 0 count) facts.now }
+{
+    facts.iter().all(|fact| is_within(fact, 0, count, tracked))
 }
 
 /// Whether there is a run of cells that are seen to be tracked.

@@ -1,15 +1,16 @@
 //! The known values of cells as the facts that say them, by `specs/Tables.antt`: a value is found
-//! by halving. Proved with `proofs/TableLemmas.antt`.
+//! by halving. Proved with `proofs/TableLemmas.antt` and `proofs/OrderLemmas.antt`.
 
 ghost use Rattle.std.specs.Prelude.{◌≡◌, ℕ, true, List, Some, None};
 ghost use Rattle.std.specs.List.{slice_index_or};
 ghost use Rattle.std.specs.Option.{option_copied};
 ghost use Rattle.cpa_model_facts.specs.declared.fact.Fact.{Fact as AFact};
+ghost use Rattle.cpa_model_facts.specs.Blocks.{joined};
 ghost use Rattle.cpa_model_facts.specs.Runs.{run_of};
 ghost use Rattle.cpa_value_changes.specs.Cells.{known_cells};
 ghost use Rattle.cpa_value_changes.specs.Tables.{are_ordered, end_in, is_before, place_in, own_value};
 
-use cpa_model::{Block, Fact, Facts, Run};
+use cpa_model::{Block, Fact, Facts, Pieces, Run};
 use std::marker::Model;
 
 /// Facts that say values of some of the first cells, in the order of the cells. Contracts see a
@@ -54,8 +55,17 @@ impl<'a> KnownCells<'a> {
 pub fn are_ordered(facts: &Facts, count: usize) -> bool
     ensures { result ≡ are_ordered count 0 facts.now }
 {
+    match facts.pieces() {
+        Pieces::Slice(facts) => end_of_facts(facts, 0, count).is_some(),
+        Pieces::Blocks(blocks) => are_blocks_ordered(blocks, count),
+    }
+}
+
+/// The same of the facts of these blocks.
+fn are_blocks_ordered(blocks: &[Block], count: usize) -> bool
+    ensures { result ≡ are_ordered count 0 (joined blocks.now) }
+{
     let mut low = 0;
-    let blocks = facts.blocks();
     for block in blocks {
         match end_of(block, low, count) {
             Some(end) => low = end,

@@ -2,9 +2,9 @@
 use Rattle.std.proofs.Common.{◌≡◌, drop}
 use Rattle.cpa_model_facts.specs.Blocks.{joined}
 use Rattle.cpa_value_changes.specs.Tables.{are_ordered}
-use Rattle.cpa_value_changes.proofs.table.are_ordered.Given as goal
+use Rattle.cpa_value_changes.proofs.table.are_blocks_ordered.Given as goal
 
 abbrev pub invariant-loop-block : goal.invariant-loop-block
 invariant-loop-block l =
     are_ordered l.count l.low (joined (drop l.block-index l.blocks))
-    ≡ are_ordered l.count 0 l.facts
+    ≡ are_ordered l.count 0 (joined l.blocks)
