@@ -20,8 +20,7 @@ ghost use Rattle.cpa_value.specs.Transfer.{elems_of, next_values};
 
 use crate::cells::{elem_of_known, known_cells, push_fact};
 use cpa_iface::Precision;
-use cpa_model::{Act, Block, Cfa, Edge, Elem, Fact, Facts, Pieces, Run, Seq};
-use cpa_model::{copy_elem, copy_fact};
+use cpa_model::{Act, Block, Cfa, Edge, Elem, Fact, Facts, Pieces, Run, Seq, copy_elem, copy_fact};
 use cpa_value_changes::{Change, KnownCells, are_ordered, change_by, place_of};
 use cpa_value_tracked::Tracked;
 use std::alloc::{AllocError, Global};

@@ -1,9 +1,9 @@
 -- That facts are in the order of the cells where each block is in order behind the one before.
 use Rattle.std.proofs.Common.{◌≡◌, ℕ, suc, ◌+◌, ◌<◌, ◌≤◌, ℤ, Bool, true, false, List, [], ◌∷◌, ◌++◌}
 use Rattle.std.proofs.Common.{inl, inr, ◌⊎◌, refl, sym, ap, ◌∙◌, arith, cond, drop, length, get_or}
-use Rattle.std.specs.Prelude.{Option, None, Some, ◌&&◌, nat_le, nat_lt}
+use Rattle.std.specs.Prelude.{Option, None, Some, is_some, ◌&&◌, nat_le, nat_lt}
 use Rattle.std.proofs.lemmas.Bool.{and_from, and_left, and_right, le-leb, lt-leb, lt-ltb, le-ltb}
-use Rattle.std.proofs.lemmas.List.{drop_more}
+use Rattle.std.proofs.lemmas.List.{append-nil, drop_more}
 use Rattle.cpa_model_facts.specs.declared.fact.Fact.{Fact}
 use Rattle.cpa_model_facts.specs.declared.fact.Fact.TheVariants.{At, Stack, Equals, Within, Truth}
 use Rattle.cpa_model_facts.specs.declared.run.Run.{Run}
@@ -35,6 +35,17 @@ parted n low (At p ∷ xs) ys = refl
 parted n low (Stack s ∷ xs) ys = refl
 parted n low (Within c lo hi ∷ xs) ys = refl
 parted n low (Truth e h ∷ xs) ys = refl
+
+-- facts are in order where they end
+pub some_end : (n low : ℕ) (facts : List Fact)
+    → is_some (end_in n low facts) ≡ are_ordered n low facts
+some_end n low facts =
+    ends (end_in n low facts)
+    ∙ (sym (parted n low facts []) ∙ ap (are_ordered n low) (append-nil facts))
+  where
+    ends : (o : Option ℕ) → is_some o ≡ ordered_after n o []
+    ends (Some k) = refl
+    ends None = refl
 
 -- what is left is in order where it is behind the next block
 pub next_block : (n low : ℕ) (blocks : List (List Fact)) (i : ℕ) (block : List Fact)
