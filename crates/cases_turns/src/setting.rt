@@ -3,7 +3,7 @@
 use crate::composites::picks_of;
 use cases_programs::Table;
 use cases_reader::{RowFault, index_of_word, indices_of, whole_expr};
-use cpa_iface::{Pick, Precision, Settings, empty_precision};
+use cpa_iface::{Cells, Pick, Precision, Settings, empty_precision};
 use cpa_model::{Expr, Seq, Shared};
 use std::alloc::Global;
 
@@ -63,7 +63,7 @@ fn precision_of(
     let tracked = indices_of(alloc, cells)?;
     let preds = exprs_of(alloc, preds)?;
     Ok(Precision {
-        tracked: Shared::from_seq(alloc, tracked)?,
+        tracked: Cells::from_seq(alloc, tracked)?,
         limit,
         preds: Shared::from_seq(alloc, preds)?,
     })

@@ -3,6 +3,8 @@ pub mod Meanings
 pub mod Pins
 pub mod Laws
 pub mod PlaceLaws
+pub mod Cells
+pub mod CellLaws
 pub mod Common
 pub mod CommonLaws
 pub mod PlainMeanings

@@ -4,6 +4,7 @@
 #![tactic(auto)]
 
 mod analysis;
+mod cells;
 mod entries;
 mod location;
 mod merging;
@@ -15,6 +16,7 @@ mod standing;
 mod unchanged;
 
 pub use analysis::{Analysis, DEFAULT_GATES, DEFAULT_LEARNT, Part, Settings};
+pub use cells::Cells;
 pub use entries::{Entry, Refined, Turn};
 pub use location::Location;
 pub use merging::{MergeRule, Order, Pick, merge_facts};

@@ -4,6 +4,7 @@
 ghost use Rattle.std.specs.Prelude.{◌≡◌, ◌↔◌, IfOk, IsTrue};
 ghost use Rattle.cpa_iface.specs.Common.{no_precision};
 
+use crate::cells::Cells;
 use cpa_expr::copy;
 use cpa_model::{Expr, Seq, Shared};
 use std::alloc::{AllocError, Global};
@@ -12,7 +13,7 @@ use std::alloc::{AllocError, Global};
 #[derive(Drop)]
 pub struct Precision {
     /// The cells whose values are kept.
-    pub tracked: Shared<u32>,
+    pub tracked: Cells,
     /// The most distinct values that are kept of a cell, 0 for no limit.
     pub limit: u32,
     /// The predicates whose truth is kept.
@@ -24,7 +25,7 @@ pub fn empty_precision(_alloc: Global) -> Precision
     ensures { result ≡ no_precision }
 {
     Precision {
-        tracked: Shared::new(),
+        tracked: Cells::new(),
         limit: 0,
         preds: Shared::new(),
     }
@@ -61,13 +62,6 @@ pub fn copy_preds(alloc: Global, preds: &[Expr]) -> Result<Seq<Expr>, AllocError
     Ok(copies)
 }
 
-/// Whether two lists have the same cells in the same order.
-fn same_cells(cells: &Shared<u32>, others: &Shared<u32>) -> bool
-    ensures { IsTrue result ↔ (cells.now ≡ others.now) }
-{
-    cells == others
-}
-
 /// Whether two lists have the same predicates in the same order.
 fn same_preds(preds: &Shared<Expr>, others: &Shared<Expr>) -> bool
     ensures { IsTrue result ↔ (preds.now ≡ others.now) }
@@ -80,7 +74,7 @@ fn same_precision(precision: &Precision, other: &Precision) -> bool
     ensures { IsTrue result ↔ (precision.now ≡ other.now) }
 {
     precision.limit == other.limit
-        && same_cells(&precision.tracked, &other.tracked)
+        && precision.tracked.is_same(&other.tracked)
         && same_preds(&precision.preds, &other.preds)
 }
 

@@ -12,7 +12,7 @@ ghost use Rattle.cpa_path_folds.specs.Tracking.{is_tracked, first_tracking, with
 
 use crate::marks::is_marked;
 use crate::needed_cells::needed;
-use cpa_iface::{Precision, Settings, copy_cells};
+use cpa_iface::{Cells, Precision, Settings, copy_cells};
 use cpa_model::{Cfa, Path, Seq, Shared};
 use std::alloc::{AllocError, Global};
 
@@ -28,7 +28,7 @@ pub fn first_tracking(
 {
     let tracked = tracked_at_first(alloc, cfa.cells.len(), settings.tracked_all)?;
     Ok(Precision {
-        tracked: Shared::from_seq(alloc, tracked)?,
+        tracked: Cells::from_seq(alloc, tracked)?,
         limit,
         preds: Shared::new(),
     })
@@ -100,7 +100,7 @@ pub fn with_cells(
     append_unmarked(&mut tracked, cells, &marks)?;
     let preds = precision.preds.share()?;
     Ok(Precision {
-        tracked: Shared::from_seq(alloc, tracked)?,
+        tracked: Cells::from_seq(alloc, tracked)?,
         limit: precision.limit,
         preds,
     })

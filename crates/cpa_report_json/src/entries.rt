@@ -7,7 +7,7 @@ ghost use Rattle.cpa_report_json.specs.Fits.{RefinedFits};
 use crate::fault::ReadFault;
 use crate::lists::{FromJson, take_member};
 use crate::steps::{close_list, close_object, open_list, open_object};
-use cpa_iface::{Precision, Refined, Turn};
+use cpa_iface::{Cells, Precision, Refined, Turn};
 use cpa_model::{Path, Shared};
 use json::Reader;
 use std::alloc::Global;
@@ -72,7 +72,7 @@ impl FromJson for Precision {
         let tracked = take_member(alloc, reader, "tracked")?;
         close_object(reader)?;
         Ok(Precision {
-            tracked: Shared::from_seq(alloc, tracked)?,
+            tracked: Cells::from_seq(alloc, tracked)?,
             limit,
             preds: Shared::from_seq(alloc, preds)?,
         })

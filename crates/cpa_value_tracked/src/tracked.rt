@@ -1,23 +1,24 @@
 //! The cells that a precision tracks, found without a mark for each cell of the program where that
 //! is no dearer. `is_tracked` stands in `cpa_path_folds`. Proved with `proofs/TrackedLemmas.antt`.
 
-ghost use Rattle.std.specs.Prelude.{◌≡◌, ◌==◌, ℕ, ◌+◌, ◌<◌, ◌≤◌, true, Some, IfOk, slice_get};
+ghost use Rattle.std.specs.Prelude.{◌≡◌, ◌==◌, ◌↔◌, ℕ, ◌+◌, ◌<◌, ◌≤◌, true, drop, length, IfOk, IsTrue};
 ghost use Rattle.std.specs.List.{AllByRecursion, list_any};
+ghost use Rattle.cpa_iface.specs.Cells.{own_places};
 ghost use Rattle.cpa_path_folds.specs.Tracking.{is_tracked};
 
-use cpa_iface::Precision;
+use cpa_iface::{Cells, Precision};
 use cpa_path_folds::{is_marked, tracked_marks};
 use std::alloc::{AllocError, Global};
 use std::marker::Model;
 
-/// A list of so many cells at most is looked through.
+/// So many cells at most, which do not stand at their own places, are looked through.
 const FEW_CELLS: usize = 32;
 
 /// The cells that a precision tracks; contracts see the precision.
 #[derive(Drop)]
 pub struct Tracked<'a> {
     precision: &'a Precision,
-    /// The marks of the cells, where the list is long and each cell has no place of its own in it.
+    /// The marks of the cells, where many do not stand at their own places in the list.
     marks: Option<Vec<bool>>,
 }
 
@@ -49,7 +50,7 @@ impl<'a> Tracked<'a> {
         requires { AllByRecursion (λ cell. cell < count) precision.now.tracked }
         ensures { IfOk result (λ t. t ≡ precision.now) }
     {
-        if is_short(precision.tracked.as_slice()) {
+        if is_short(&precision.tracked) {
             return Ok(Tracked {
                 precision,
                 marks: None,
@@ -68,64 +69,42 @@ impl<'a> Tracked<'a> {
     {
         match &self.marks {
             Some(marks) => is_marked(marks.as_slice(), cell),
-            None => is_listed(self.precision.tracked.as_slice(), cell),
+            None => is_listed(&self.precision.tracked, cell),
         }
     }
 
-    /// Whether so many cells from one on are tracked, as is seen where each stands at its own place
-    /// in the list. That they do not tells nothing.
+    /// Whether so many cells from one on stand at their own places in the precision. Then they are
+    /// tracked; no cell is looked at.
     pub fn has_run(&self, first: usize, count: usize) -> bool
-        ensures { result ≡ true → (cell : ℕ) → first ≤ cell → cell < first + count →
+        ensures own { IsTrue result ↔ (first + count ≤ own_places self.now.tracked) }
+        ensures tracked { result ≡ true → (cell : ℕ) → first ≤ cell → cell < first + count →
             is_tracked self.now cell ≡ true }
     {
-        match &self.marks {
-            Some(_) => false,
-            None => are_listed(self.precision.tracked.as_slice(), first, count),
-        }
+        let own = self.precision.tracked.own_places();
+        first <= own && count <= own - first
     }
 }
 
-/// Whether it costs little to look for a cell in the list: it is short, or its last cell stands at
-/// its own place, as all do where all cells are tracked.
-fn is_short(cells: &[u32]) -> bool {
-    match cells.last() {
-        Some(last) => cells.len() <= FEW_CELLS || *last as usize == cells.len() - 1,
-        None => true,
-    }
+/// Whether it costs little to look for a cell in the list: few do not stand at their own places.
+fn is_short(cells: &Cells) -> bool {
+    cells.len().saturating_sub(cells.own_places()) <= FEW_CELLS
 }
 
-/// Whether the cell is listed. Its own place is looked at first.
-fn is_listed(cells: &[u32], cell: u32) -> bool
+/// Whether the cell is listed: at its own place, or behind those that stand at theirs.
+fn is_listed(cells: &Cells, cell: u32) -> bool
     ensures { result ≡ list_any (λ own. own == cell) cells.now }
 {
-    if is_at(cells, cell as usize, cell) {
+    let own = cells.own_places();
+    if (cell as usize) < own {
         return true;
     }
-    cells.contains(&cell)
+    rest_of(cells.as_slice(), own).contains(&cell)
 }
 
-/// Whether each of so many cells from one on is listed at its own place.
-fn are_listed(cells: &[u32], first: usize, count: usize) -> bool
-    ensures { result ≡ true → (cell : ℕ) → first ≤ cell → cell < first + count →
-        list_any (λ own. own == cell) cells.now ≡ true }
+/// The cells behind the first ones, so many.
+fn rest_of(cells: &[u32], count: usize) -> &[u32]
+    requires { count ≤ length cells.now }
+    ensures { result.now ≡ drop count cells.now }
 {
-    if cells.len() < first || cells.len() - first < count {
-        return false;
-    }
-    for place in first..first + count {
-        if cells[place] as usize != place {
-            return false;
-        }
-    }
-    true
-}
-
-/// Whether the cell stands at this place.
-fn is_at(cells: &[u32], place: usize, cell: u32) -> bool
-    ensures { result ≡ true → slice_get cells.now place ≡ Some cell }
-{
-    match cells.get(place) {
-        Some(found) => *found == cell,
-        None => false,
-    }
+    &cells[count..]
 }
