@@ -2,7 +2,7 @@
 //! clause is a record of `specs/Laws.antt`, and holds since it does of the same call of `calls`.
 
 ghost use Rattle.std.specs.Prelude.{◌≡◌, ◌<◌, length, map, Some, slice_get, IsTrue, IfOk, IfSome};
-ghost use Rattle.std.specs.Prelude.{IfNone};
+ghost use Rattle.std.specs.Prelude.{◌↔◌, IfNone};
 ghost use Rattle.std.specs.List.{AllByRecursion};
 ghost use Rattle.cpa_model.specs.Automata.{IsAutomaton};
 ghost use Rattle.cpa_iface.specs.Meanings.{IsPathOf};
@@ -53,7 +53,7 @@ impl<A: Analysis> Composite<A> {
     /// Whether the pick of this number, counted from 0, keeps its elements apart.
     pub fn is_apart(&self, place: u32) -> bool
         ensures { (c : Component) → slice_get (components self.now) place ≡ Some c
-            → IsTrue result → c.rule ≡ Sep }
+            → IsTrue result ↔ (c.rule ≡ Sep) }
     {
         keys::is_apart(&self.handed, &self.picks, place)
     }

@@ -2,7 +2,7 @@
 //! `proofs/Numbered.antt`.
 
 ghost use Rattle.std.specs.Prelude.{◌≡◌, ◌<◌, [], ◌∷◌, ◌++◌, if◌then◌else◌, length, map};
-ghost use Rattle.std.specs.Prelude.{Some, slice_get, IsTrue, IfOk, OnOk};
+ghost use Rattle.std.specs.Prelude.{Some, slice_get, ◌↔◌, IsTrue, IfOk, OnOk};
 ghost use Rattle.cpa_iface.specs.declared.merging.MergeRule.TheVariants.{Sep};
 ghost use Rattle.cpa_composite.specs.Components.{Component, IsPicked, picked, ArePlaces};
 ghost use Rattle.cpa_composite.specs.Keys.{is_control, is_key, key_places};
@@ -71,7 +71,7 @@ pub(crate) fn is_apart<A: Analysis>(handed: &Vec<A>, picks: &[Pick], place: u32)
     requires { ArePlaces (length handed.now.items) picks.now }
     ensures { (c : Component)
         → slice_get (picked (map A.meaning handed.now.items) picks.now) place ≡ Some c
-        → IsTrue result → c.rule ≡ Sep }
+        → IsTrue result ↔ (c.rule ≡ Sep) }
 {
     match picks.get(place as usize) {
         Some(pick) => keeps_apart(pick.rule),

@@ -4,7 +4,7 @@
 ghost use Rattle.std.specs.Prelude.{◌≡◌, IfOk, IsTrue};
 
 use crate::lists::trimmed;
-use cpa_iface::{Precision, Row, same_precisions};
+use cpa_iface::{Cells, Precision, Row, same_precisions};
 use cpa_model::{Elem, copy_elem};
 use cpa_reached_key::{Key, same_elem};
 use indexmap::IndexMap;
@@ -13,10 +13,19 @@ use std::alloc::{AllocError, Global};
 /// Rows that name at most so many cells and predicates are compared, however few facts there are.
 const COMPARED: usize = 64;
 
-/// How many cells and predicates the row names.
+/// How many cells a comparison with another list of so few may look at.
+fn compared(cells: &Cells) -> usize {
+    if cells.own_places() == cells.len() {
+        0
+    } else {
+        cells.len()
+    }
+}
+
+/// How many cells and predicates of the row a comparison may look at.
 fn named(precisions: &[Precision]) -> usize {
     precisions.iter().fold(0usize, |sum, precision| {
-        sum.saturating_add(precision.tracked.len())
+        sum.saturating_add(compared(&precision.tracked))
             .saturating_add(precision.preds.len())
     })
 }
@@ -39,7 +48,7 @@ fn is_short(precisions: &[Precision], elems: &[Elem]) -> bool {
 fn is_same(row: &[Precision], precisions: &[Precision], elems: &[Elem]) -> bool
     ensures { IsTrue result → row.now ≡ precisions.now }
 {
-    is_short(precisions, elems) && same_precisions(row, precisions)
+    is_short(row, elems) && is_short(precisions, elems) && same_precisions(row, precisions)
 }
 
 /// The row of an entry with these elements below one of the row `above`: that one once more, where
