@@ -1,6 +1,6 @@
 -- A component keeps its elements apart exactly where the pick that makes it does (`apart_rule`,
 -- `rule_apart`).
-use Rattle.std.proofs.Common.{◌≡◌, ℕ, ◌≤◌, ⊥, true, List, length, Some, refl, sym, ap, ◌∙◌, arith}
+use Rattle.std.proofs.Common.{◌≡◌, ℕ, ◌≤◌, true, List, length, Some, refl, sym, ap, ◌∙◌, arith}
 use Rattle.std.proofs.lemmas.Option.{none-some, slice_get_past}
 use Rattle.std.specs.List.{slice_get}
 use Rattle.cpa_iface.specs.declared.merging.MergeRule.{MergeRule}
@@ -33,4 +33,4 @@ pub no_component : (ms : List Meaning) (picks : List Pick) (i : ℕ) (c : Compon
     → ArePlaces (length ms) picks → length picks ≤ i → slice_get (picked ms picks) i ≡ Some c → ⊥
 no_component ms picks i c within past is =
     let many = picked_length ms picks within in
-    none-some (sym (slice_get_past (picked ms picks) i (omega (arith, many, past))) ∙ is)
+    none-some c (sym (slice_get_past (picked ms picks) i (omega (arith, many, past))) ∙ is)

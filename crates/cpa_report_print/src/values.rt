@@ -7,6 +7,7 @@ ghost use Rattle.cpa_report_print.specs.Reports.{integer_data, list_data};
 ghost use Rattle.cpa_report_print.specs.Tokens.{onto, Wrote};
 
 use cpa_expr::Expr;
+use cpa_iface::Cells;
 use cpa_model::{Seq, Shared};
 use itoa::Buffer;
 use json::Writer;
@@ -83,6 +84,16 @@ impl<T: Json> Json for Shared<T> {
     ghost use Rattle.cpa_report_print.specs.Reports.{list_data};
 
     ghost json = { list_data T.json };
+
+    fn write(&self, alloc: Global, writer: &mut Writer) -> Result<(), AllocError> {
+        write_items(alloc, writer, self.as_slice())
+    }
+}
+
+impl Json for Cells {
+    ghost use Rattle.cpa_report_print.specs.Reports.{numbers_data};
+
+    ghost json = { numbers_data };
 
     fn write(&self, alloc: Global, writer: &mut Writer) -> Result<(), AllocError> {
         write_items(alloc, writer, self.as_slice())
