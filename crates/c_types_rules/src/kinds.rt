@@ -49,7 +49,7 @@ fn type_of_words(model: DataModel, words: &[TypeWord]) -> IntType
     } else if repeats(TypeWord::Long, words) {
         signed_or(words, IntType::I64, IntType::U64)
     } else if has(TypeWord::Long, words) {
-        signed_or(words, model.long(), model.ulong())
+        signed_or(words, model.long(), model.unsigned_long())
     } else {
         signed_or(words, IntType::I32, IntType::U32)
     }
@@ -79,7 +79,7 @@ pub fn type_of_named(model: DataModel, named: NamedType) -> IntType
         (Size::Int, false) => IntType::I32,
         (Size::Int, true) => IntType::U32,
         (Size::Long, false) => model.long(),
-        (Size::Long, true) => model.ulong(),
+        (Size::Long, true) => model.unsigned_long(),
         (Size::LongLong, false) => IntType::I64,
         (Size::LongLong, true) => IntType::U64,
     }

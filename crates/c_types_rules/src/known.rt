@@ -103,7 +103,7 @@ impl KnownName {
             KnownName::InputInt => KnownFunction::Input(IntType::I32),
             KnownName::InputUnsigned => KnownFunction::Input(IntType::U32),
             KnownName::InputLong => KnownFunction::Input(model.long()),
-            KnownName::InputUnsignedLong => KnownFunction::Input(model.ulong()),
+            KnownName::InputUnsignedLong => KnownFunction::Input(model.unsigned_long()),
             KnownName::InputLongLong => KnownFunction::Input(IntType::I64),
             KnownName::InputUnsignedLongLong => KnownFunction::Input(IntType::U64),
         }

@@ -26,7 +26,7 @@ impl DataModel {
     }
 
     /// The type `unsigned long`.
-    pub fn ulong(self) -> IntType
+    pub fn unsigned_long(self) -> IntType
         ensures { result ≡ unsigned_long self }
     {
         match self {

@@ -73,7 +73,7 @@ fn longs(out: &mut String, model: &str) -> Result<(), RowFault> {
         _ => return Err(RowFault::Unreadable),
     };
     let long = type_word(model.long());
-    let ulong = type_word(model.ulong());
-    write!(out, " {long} {ulong}")?;
+    let unsigned = type_word(model.unsigned_long());
+    write!(out, " {long} {unsigned}")?;
     Ok(())
 }
