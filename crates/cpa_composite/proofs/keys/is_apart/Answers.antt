@@ -12,10 +12,11 @@ returns-in-Some g c = λ d at.
     let within = within_meanings g.A.Analysis.meaning c.args.handed.now.items picks c.requires in
     let found = c.in-Some.ensures.lookup in
     let there = slice_get_read picks (length picks) c.args.place pick refl
-        (ltb-true _ _ (sym found.0)) found.1 in
-    ((λ apart. apart_rule ms picks c.args.place pick d within there at
-    (sym c.keeps_apart.ensures ∙ apart)),
-    (λ sep. c.keeps_apart.ensures ∙ rule_apart ms picks c.args.place pick d within there at sep))
+    (ltb-true _ _ (sym found.0)) found.1 in (
+      (λ apart. apart_rule ms picks c.args.place pick d within there at
+          (sym c.keeps_apart.ensures ∙ apart)),
+      (λ sep. c.keeps_apart.ensures ∙ rule_apart ms picks c.args.place pick d within there at sep),
+    )
 
 pub returns-in-None : goal.returns-in-None
 returns-in-None g c = λ d at.
