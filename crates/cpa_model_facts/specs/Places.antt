@@ -1,5 +1,5 @@
 -- Where the facts of a list stand (this project's own).
-use Rattle.std.specs.Prelude.{◌<◌, ◌≤◌, ⊤, List, [], ◌∷◌, length}
+use Rattle.std.specs.Prelude.{◌<◌, ◌≤◌, ◌^◌, ⊤, List, [], ◌∷◌, length}
 use Rattle.std.specs.Arc.{arc_value}
 use Rattle.cpa_model_facts.specs.declared.fact.Fact.{Fact}
 use Rattle.cpa_model_facts.specs.declared.place.Place.{Place}
@@ -23,4 +23,9 @@ facts_in (Blocks blocks) = joined blocks.now
 abbrev pub AreCounted : Place → Type 0
 AreCounted (One it) = ⊤
 AreCounted (Few facts) = length facts ≤ 16
-AreCounted (Many blocks) = AreFilled blocks × (length (joined blocks) < 18446744073709551616)
+AreCounted (Many blocks) = AreFilled blocks × (length (joined blocks) < 2 ^ 64)
+
+-- so are those of pieces
+abbrev pub AreKept : Pieces → Type 0
+AreKept (Slice facts) = length facts.now ≤ 16
+AreKept (Blocks blocks) = AreFilled blocks.now × (length (joined blocks.now) < 2 ^ 64)

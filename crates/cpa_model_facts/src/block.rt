@@ -4,23 +4,23 @@ ghost use Rattle.cpa_model_facts.specs.Runs.{run_of};
 
 use crate::fact::Fact;
 use crate::run::{Run, run_of};
-use crate::shared::Shared;
+use crate::shared::trimmed;
 use cpa_ints::Seq;
 use std::alloc::{AllocError, Global};
 use std::marker::Model;
+use std::sync::Arc;
 
 /// At most so many facts stand in a block.
 pub(crate) const BLOCK: usize = 16;
 
-/// A few facts of an element, which its copies share. What run they are is known without a look
-/// at them.
+/// Facts and the run that they are, found once. Contracts see the facts.
 #[derive(Drop)]
-pub struct Block {
-    facts: Shared<Fact>,
+struct Held {
+    facts: Seq<Fact>,
     run: Option<Run>,
 }
 
-impl Model for Block {
+impl Model for Held {
     ghost use Rattle.std.specs.Prelude.{◌≡◌, List};
     ghost use Rattle.std.specs.Coded.{coded_list};
     ghost use Rattle.cpa_model_facts.specs.declared.fact.Fact.{Fact};
@@ -31,9 +31,58 @@ impl Model for Block {
 
     ghost coded = { coded_list e.the_row.coded };
 
-    ghost view = { λ b. b.facts };
+    ghost view = { λ h. h.facts };
 
-    ghost invariant = { λ b. b.run ≡ run_of b.facts };
+    ghost invariant = { λ h. h.run ≡ run_of h.facts };
+}
+
+impl Held {
+    /// These facts, in a place of their size.
+    fn new(facts: Seq<Fact>) -> Held
+        requires { length facts ≤ 16 }
+        ensures { result ≡ facts }
+    {
+        let run = run_of(facts.as_slice());
+        Held {
+            facts: trimmed(facts),
+            run,
+        }
+    }
+
+    /// The facts, in order.
+    fn facts(&self) -> &[Fact]
+        ensures { result.now ≡ self.now }
+    {
+        self.facts.as_slice()
+    }
+
+    /// The run that they are.
+    fn run(&self) -> Option<Run>
+        ensures { result ≡ run_of self.now }
+    {
+        self.run
+    }
+}
+
+/// A few facts of an element, which its copies share. What run they are is known without a look
+/// at them. It is one pointer, so that a list of many facts is short.
+#[derive(Drop)]
+pub struct Block {
+    held: Arc<Held>,
+}
+
+impl Model for Block {
+    ghost use Rattle.std.specs.Prelude.{List};
+    ghost use Rattle.std.specs.Arc.{arc_value};
+    ghost use Rattle.std.specs.Coded.{coded_list};
+    ghost use Rattle.cpa_model_facts.specs.declared.fact.Fact.{Fact};
+    ghost use Rattle.cpa_model_facts.specs.contracts.fact.Fact as e;
+
+    ghost Value = { List Fact };
+
+    ghost coded = { coded_list e.the_row.coded };
+
+    ghost view = { λ b. arc_value b.held };
 }
 
 impl Block {
@@ -42,23 +91,23 @@ impl Block {
         requires { length facts ≤ 16 }
         ensures { IfOk result (λ b. b ≡ facts) }
     {
-        let run = run_of(facts.as_slice());
-        let facts = Shared::from_seq(alloc, facts)?;
-        Ok(Block { facts, run })
+        Ok(Block {
+            held: Arc::new(alloc, Held::new(facts))?,
+        })
     }
 
     /// The facts, in order.
     pub fn facts(&self) -> &[Fact]
         ensures { result.now ≡ self.now }
     {
-        self.facts.as_slice()
+        self.held.facts()
     }
 
     /// The run of the facts, where each gives a value to the cell behind that of the one before.
     pub fn run(&self) -> Option<Run>
         ensures { result ≡ run_of self.now }
     {
-        self.run
+        self.held.run()
     }
 
     /// The same block once more. It takes no memory.
@@ -66,8 +115,7 @@ impl Block {
         ensures { IfOk result (λ b. b ≡ self.now) }
     {
         Ok(Block {
-            facts: self.facts.share()?,
-            run: self.run,
+            held: Arc::try_clone(&self.held)?,
         })
     }
 }

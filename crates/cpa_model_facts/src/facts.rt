@@ -1,14 +1,13 @@
-//! Facts that copies share, which contracts see as the list that they are. Where they stand is
-//! defined in `specs/Places.antt`, what is a list in blocks in `specs/Blocks.antt`; proved with
-//! `proofs/BlockLemmas.antt`.
-ghost use Rattle.std.specs.Prelude.{◌≡◌, ◌<◌, ◌≤◌, ◌+◌, ◌↔◌, ◌^◌, [], List, length, IfOk, IsTrue, slice_get, ◌++◌, take, drop};
-ghost use Rattle.std.specs.List.{AllByRecursion};
+//! Facts that copies share, which contracts see as a list: `facts_at` of `specs/Places.antt`.
+//! Proved with `proofs/BlockLemmas.antt`, `proofs/FillingLemmas.antt` and `proofs/Steps.antt`.
+ghost use Rattle.std.specs.Prelude.{◌≡◌, ◌<◌, ◌+◌, ◌↔◌, ◌^◌, [], List, length, IfOk, IsTrue};
+ghost use Rattle.std.specs.Prelude.{slice_get, ◌++◌, take, drop};
 ghost use Rattle.std.specs.Option.{option_copied};
 ghost use Rattle.std.specs.Iterator.{YieldsFirstRef};
 ghost use Rattle.std.specs.Iterator.Runs.{EveryRun, ItemsMapTo};
 ghost use Rattle.cpa_model_facts.specs.declared.fact.Fact.{Fact as AFact};
 ghost use Rattle.cpa_model_facts.specs.Blocks.{joined, fact_in, AreFilled};
-ghost use Rattle.cpa_model_facts.specs.Places.{facts_in};
+ghost use Rattle.cpa_model_facts.specs.Places.{facts_in, AreKept};
 
 use crate::block::{BLOCK, Block};
 use crate::fact::Fact;
@@ -20,7 +19,6 @@ use crate::shared::Shared;
 use cpa_ints::Seq;
 use std::alloc::{AllocError, Global};
 use std::marker::Model;
-use std::slice;
 
 /// Facts that copies share, so that a copy takes no memory, in any thread, and a list of many that
 /// differs in a few shares the blocks of the others. Contracts see the list.
@@ -90,10 +88,9 @@ impl Facts {
     pub fn len(&self) -> usize
         ensures { result ≡ length self.now }
     {
-        match &self.place {
-            Place::One(_) => 1,
-            Place::Few(facts) => facts.len(),
-            Place::Many(blocks) => count_of(blocks.as_slice()),
+        match self.pieces() {
+            Pieces::Slice(facts) => facts.len(),
+            Pieces::Blocks(blocks) => count_of(blocks),
         }
     }
 
@@ -108,16 +105,16 @@ impl Facts {
     pub fn get(&self, place: usize) -> Option<&Fact>
         ensures { option_copied result ≡ slice_get self.now place }
     {
-        match &self.place {
-            Place::One(fact) => slice::from_ref(&**fact).get(place),
-            Place::Few(facts) => facts.as_slice().get(place),
-            Place::Many(blocks) => fact_among(blocks.as_slice(), place),
+        match self.pieces() {
+            Pieces::Slice(facts) => facts.get(place),
+            Pieces::Blocks(blocks) => fact_among(blocks, place),
         }
     }
 
     /// The pieces in which the facts stand, in order.
     pub fn pieces(&self) -> Pieces<'_>
-        ensures { facts_in result ≡ self.now }
+        ensures facts { facts_in result ≡ self.now }
+        ensures kept { AreKept result }
     {
         self.place.pieces()
     }

@@ -182,6 +182,7 @@ impl Filling {
         ensures facts { IfOk result (λ place. facts_at place ≡ self) }
         ensures counted { IfOk result AreCounted }
     {
+        // A place has no more facts than can be counted.
         let _count = self.len()?;
         let Filling { blocks, rest } = self;
         if blocks.is_empty() {
@@ -197,6 +198,7 @@ impl Filling {
         ensures facts { IfOk result (λ place. facts_at place ≡ self ++ last.now) }
         ensures counted { IfOk result AreCounted }
     {
+        // A place has no more facts than can be counted.
         let _count = sum_of(self.len()?, last.facts().len())?;
         let Filling {
             mut blocks,

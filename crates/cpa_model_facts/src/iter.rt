@@ -1,5 +1,4 @@
-//! Facts, one after the other. What is left to come is `joined` of
-//! `specs/Blocks.antt`.
+//! Facts, one after the other: those of a slice, or of blocks (`joined` of `specs/Blocks.antt`).
 ghost use Rattle.std.specs.Prelude.{◌≡◌, ◌++◌, ◌∷◌, [], List};
 ghost use Rattle.std.specs.Iterator.{YieldsFirstRef, item_count};
 ghost use Rattle.cpa_model_facts.specs.declared.fact.Fact.{Fact as AFact};

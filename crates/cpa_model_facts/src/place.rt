@@ -1,7 +1,7 @@
 //! Where the facts of a list stand. What facts they are is `facts_at` of `specs/Places.antt`.
 
 ghost use Rattle.std.specs.Prelude.{◌≡◌, ◌≤◌, length, IfOk};
-ghost use Rattle.cpa_model_facts.specs.Places.{facts_at, facts_in, AreCounted};
+ghost use Rattle.cpa_model_facts.specs.Places.{facts_at, facts_in, AreCounted, AreKept};
 
 use crate::block::Block;
 use crate::fact::Fact;
@@ -37,7 +37,9 @@ impl Place {
 
     /// The pieces in which the facts stand.
     pub(crate) fn pieces(&self) -> Pieces<'_>
-        ensures { facts_in result ≡ facts_at self.now }
+        requires { AreCounted self.now }
+        ensures facts { facts_in result ≡ facts_at self.now }
+        ensures kept { AreKept result }
     {
         match self {
             Place::One(fact) => Pieces::Slice(slice::from_ref(&**fact)),

@@ -98,12 +98,19 @@ impl<T: Drop> Shared<T> {
         if items.is_empty() {
             return Ok(Shared { items: None });
         }
-        let mut items = items.into_vec();
-        items.shrink_to_fit();
         Ok(Shared {
-            items: Some(Arc::new(alloc, Seq::from_vec(items))?),
+            items: Some(Arc::new(alloc, trimmed(items))?),
         })
     }
+}
+
+/// The list of these items, in a place of their size.
+pub(crate) fn trimmed<T: Drop>(items: Seq<T>) -> Seq<T>
+    ensures { result ≡ items }
+{
+    let mut items = items.into_vec();
+    items.shrink_to_fit();
+    Seq::from_vec(items)
 }
 
 impl<'a, T> IntoIterator for &'a Shared<T> {

@@ -13,7 +13,7 @@ use std::alloc::{AllocError, Global};
 /// Rows that name at most so many cells and predicates are compared, however few facts there are.
 const COMPARED: usize = 64;
 
-/// How many cells a comparison with another list of so few may look at.
+/// How many cells of the list count for a comparison: none where all stand at their own places.
 fn compared(cells: &Cells) -> usize {
     if cells.own_places() == cells.len() {
         0

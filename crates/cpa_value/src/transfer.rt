@@ -118,8 +118,8 @@ fn elem_behind(
     facts_replaced(alloc, &elem.facts, count, change, tracked)
 }
 
-/// Whether each fact says a value of a tracked cell. It takes time in the blocks of the facts and
-/// in the numbers of the cells, where the blocks are runs.
+/// Whether each fact says a value of a tracked cell. It takes time in the blocks of the facts,
+/// where these are runs of cells that stand at their own places in the precision.
 fn are_within(facts: &Facts, count: usize, tracked: &Tracked) -> bool
     ensures { result ≡ list_all (is_within (is_tracked tracked.now) 0 count) facts.now }
 {

@@ -7,7 +7,7 @@ use Rattle.std.proofs.lemmas.Bool.{eq-eqb}
 use Rattle.cpa_iface.specs.Cells.{own_places}
 use Rattle.cpa_iface.specs.CellLaws.{stands_own, behind_own}
 
-pub stands_at : (cells : List ℕ) (place cell : ℕ) → slice_get cells place ≡ Some cell
+stands_at : (cells : List ℕ) (place cell : ℕ) → slice_get cells place ≡ Some cell
     → list_any (λ own. own == cell) cells ≡ true
 stands_at [] place cell is = absurd (cc)
 stands_at (own ∷ cells) zero cell is =

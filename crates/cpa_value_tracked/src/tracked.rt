@@ -1,7 +1,8 @@
 //! The cells that a precision tracks, found without a mark for each cell of the program where that
 //! is no dearer. `is_tracked` stands in `cpa_path_folds`. Proved with `proofs/TrackedLemmas.antt`.
 
-ghost use Rattle.std.specs.Prelude.{◌≡◌, ◌==◌, ◌↔◌, ℕ, ◌+◌, ◌<◌, ◌≤◌, true, drop, length, IfOk, IsTrue};
+ghost use Rattle.std.specs.Prelude.{◌≡◌, ◌==◌, ◌↔◌, ℕ, ◌+◌, ◌<◌, ◌≤◌, true};
+ghost use Rattle.std.specs.Prelude.{drop, length, IfOk, IsTrue};
 ghost use Rattle.std.specs.List.{AllByRecursion, list_any};
 ghost use Rattle.cpa_iface.specs.Cells.{own_places};
 ghost use Rattle.cpa_path_folds.specs.Tracking.{is_tracked};
@@ -87,7 +88,7 @@ impl<'a> Tracked<'a> {
 
 /// Whether it costs little to look for a cell in the list: few do not stand at their own places.
 fn is_short(cells: &Cells) -> bool {
-    cells.len().saturating_sub(cells.own_places()) <= FEW_CELLS
+    cells.len() - cells.own_places() <= FEW_CELLS
 }
 
 /// Whether the cell is listed: at its own place, or behind those that stand at theirs.

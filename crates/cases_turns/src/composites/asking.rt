@@ -1,5 +1,5 @@
 //! Calls of a composite, and their answers as text. What a call asks of its arguments is tested
-//! before it, which is shown with `proofs/asking/`.
+//! before it, which is shown with `proofs/composites/asking/`.
 
 ghost use Rattle.std.specs.Prelude.{◌≡◌, ◌<◌, IsTrue, length};
 ghost use Rattle.cpa_model.specs.Automata.{IsAutomaton};

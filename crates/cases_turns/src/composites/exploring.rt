@@ -1,5 +1,5 @@
 //! Turns from the initial state on, and what they come to as text. That each turn gets what it
-//! asks for is shown with `proofs/exploring/`.
+//! asks for is shown with `proofs/composites/exploring/`.
 
 ghost use Rattle.std.specs.Prelude.{length, IfOk};
 ghost use Rattle.cpa_model.specs.Automata.{IsAutomaton};

@@ -1,5 +1,5 @@
 //! Reads picks: names of analyses, each with the rule by which its elements merge. That each has
-//! its place is shown with `proofs/picking/`.
+//! its place is shown with `proofs/composites/picking/`.
 
 ghost use Rattle.std.specs.Prelude.{◌<◌, IfOk};
 ghost use Rattle.cpa_composite.specs.Components.{ArePlaces};

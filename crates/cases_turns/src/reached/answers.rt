@@ -1,5 +1,5 @@
 //! What a reached set answers to the call that a row names. That each entry which the row names is
-//! there is tested before the call, which is shown with `proofs/answers/`.
+//! there is tested before the call, which is shown with `proofs/reached/answers/`.
 
 ghost use Rattle.std.specs.Prelude.{◌≡◌, ◌==◌, IsTrue, IfOk};
 ghost use Rattle.std.specs.List.{list_any};

@@ -6,7 +6,8 @@ pub returns-in_err-next : goal.returns-in_err-next
 returns-in_err-next c =
     (search rules)
     ∙ (sym (past_none c.args.blocks.now c.loop-block.block-index c.block-item.result
-    c.loop-block.next c.loop-block-test.true c.block-item.is (search rules)) ∙ c.loop-block.invariant)
+    c.loop-block.next c.loop-block-test.true c.block-item.is (search rules))
+    ∙ c.loop-block.invariant)
 
 pub loop-block-preserved : goal.loop-block-preserved
 loop-block-preserved c =

@@ -7,8 +7,8 @@ use Rattle.cpa_value_tracked.proofs.tracked.is_listed.Goals as goal
 
 pub returns-then-cell-own : goal.returns-then-cell-own
 returns-then-cell-own c =
-    sym (listed_own c.args.cells.now c.own_places-own.result c.args.cell c.own_places-own.ensures.own
-    (search rules))
+    sym (listed_own c.args.cells.now c.own_places-own.result c.args.cell
+    c.own_places-own.ensures.own (search rules))
 
 pub returns : goal.returns
 returns c =
