@@ -1,8 +1,10 @@
 -- What blocks hold with one more of them, and which facts the first and the others of them are.
 use Rattle.std.proofs.Common.{◌≡◌, ℕ, zero, suc, ◌+◌, ◌-◌, ◌*◌, ◌<◌, ◌≤◌, List, [], ◌∷◌, ◌++◌}
+use Rattle.std.proofs.Common.{Bool, true, false}
 use Rattle.std.proofs.Common.{refl, sym, ap, subst, ◌∙◌, arith, take, drop, length, get_or}
 use Rattle.std.proofs.lemmas.List.{append-nil, append_assoc, length-append}
 use Rattle.std.proofs.lemmas.List.{drop_more}
+use Rattle.std.specs.Prelude.{IsTrue, ◌↔◌}
 use Rattle.cpa_model_facts.specs.declared.fact.Fact.{Fact}
 use Rattle.cpa_model_facts.specs.Blocks.{joined, AreFilled, AreFull}
 
@@ -64,6 +66,16 @@ full_filled [] full = tt
 full_filled (block ∷ blocks) full =
     let here = full.0 in
     (omega (arith, here), omega (arith, here), (λ _. here), full_filled blocks full.1)
+
+-- what is not empty has a fact
+pub some_rest : (rest last : List Fact) (is_empty : Bool) → (IsTrue is_empty ↔ (rest ≡ []))
+    → is_empty ≡ false → last ≡ rest → 0 < length last
+some_rest [] last is_empty none some same =
+    let yes : is_empty ≡ true = none.1 refl in
+    absurd (cc)
+some_rest (fact ∷ rest) last is_empty none some same =
+    let long = ap length same in
+    omega (arith, long)
 
 pub filled_last : (blocks new : List (List Fact)) (last : List Fact) → AreFull blocks
     → 0 < length last → length last ≤ 16 → new ≡ blocks ++ last ∷ [] → AreFilled new

@@ -1,7 +1,7 @@
 -- Full blocks are filled, with a last one too.
 use Rattle.std.proofs.Common.{rules, ap, ◌∙◌, ◌++◌}
 use Rattle.cpa_model_facts.specs.Blocks.{joined}
-use Rattle.cpa_model_facts.proofs.FillingLemmas.{full_filled, filled_last, joined_push}
+use Rattle.cpa_model_facts.proofs.FillingLemmas.{full_filled, filled_last, joined_push, some_rest}
 use Rattle.cpa_model_facts.proofs.filling.with_last.Goals as goal
 
 pub returns-then-is_empty-clause-filled : goal.returns-then-is_empty-clause-filled
@@ -14,5 +14,7 @@ returns-clause-whole c =
 
 pub returns-clause-filled : goal.returns-clause-filled
 returns-clause-filled c =
-    filled_last c.args.blocks c.push.new.self c.in_ok-new.field-0 c.requires.full
-    (search rules) (search rules) c.in_ok-push.ensures.ok
+    let some = some_rest c.args.rest c.in_ok-new.field-0 c.is_empty.result c.is_empty.ensures
+    c.if-is_empty.false c.in_ok-new.ensures in
+    filled_last c.args.blocks c.push.new.self c.in_ok-new.field-0 c.requires.full some
+    (search rules) c.in_ok-push.ensures.ok
