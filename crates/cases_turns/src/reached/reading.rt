@@ -2,7 +2,7 @@
 //! Nothing is proved of what is read but that reading is safe and ends.
 
 use cases_reader::{RowFault, index_of_word, indices_of};
-use cpa_iface::Precision;
+use cpa_iface::{Cells, Precision};
 use cpa_model::{Elem, Fact, Seq, Shared};
 use std::alloc::Global;
 
@@ -43,7 +43,7 @@ pub fn precisions_of(alloc: Global, text: &str) -> Result<Vec<Precision>, RowFau
     for word in text.split_whitespace() {
         let limit = index_of_word(word)?;
         precisions.push(Precision {
-            tracked: Shared::new(),
+            tracked: Cells::new(),
             limit,
             preds: Shared::new(),
         })?;
