@@ -5,8 +5,8 @@ use Rattle.c_types_rules.specs.declared.typed.Global.{Global}
 use Rattle.c_types_rules.specs.declared.typed.TypedFunction.{TypedFunction}
 use Rattle.c_types_rules.specs.Sound.{unit_globals, unit_functions}
 use Rattle.c_core_rules_laws.specs.Layouts.{AreFirst, IsTooLarge, text_from}
-use Rattle.c_core_layout.specs.declared.placing.TextLayout.{TextLayout}
-use Rattle.c_core_layout.specs.Layouts.{IsLaidOut}
+use Rattle.c_lower_layout.specs.declared.placing.TextLayout.{TextLayout}
+use Rattle.c_lower_layout.specs.Layouts.{IsLaidOut}
 use Rattle.c_core_checked.specs.declared.text.TypedText.{TypedText}
 use Rattle.c_core_checked.specs.Texts.{IsTypedText, unit_main, ends_of}
 

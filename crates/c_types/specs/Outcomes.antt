@@ -3,9 +3,9 @@ use Rattle.std.specs.Prelude.{List, Option, None, Some}
 use Rattle.c_grammar_tree.specs.declared.item.Unit.{Unit as UnitTree}
 use Rattle.c_types_rules.specs.declared.typed.TypedFunction.{TypedFunction}
 use Rattle.c_types_rules.specs.declared.typed.Global.{Global}
-use Rattle.c_core_layout.specs.declared.placing.TextLayout.{TextLayout}
+use Rattle.c_lower_layout.specs.declared.placing.TextLayout.{TextLayout}
 use Rattle.c_core_rules_laws.specs.Layouts.{IsTooLarge}
-use Rattle.c_core_layout.specs.Layouts.{IsLaidOut}
+use Rattle.c_lower_layout.specs.Layouts.{IsLaidOut}
 use Rattle.c_core_checked.specs.Texts.{IsTypedText}
 use Rattle.c_core_checked.specs.Sound.{Sound, IsFirstBroken}
 use Rattle.c_types.specs.declared.outcome.Outcome.{Outcome}

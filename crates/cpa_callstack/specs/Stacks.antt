@@ -2,8 +2,8 @@
 use Rattle.std.specs.Prelude.{ℕ, Bool, true, List, [], ◌∷◌, Option, None, Some, codes}
 use Rattle.std.specs.Prelude.{if◌then◌else◌}
 use Rattle.std.specs.List.{list_all}
-use Rattle.cpa_model_facts.specs.declared.fact.Fact.{Fact}
-use Rattle.cpa_model_facts.specs.declared.fact.Fact.TheVariants.{Stack}
+use Rattle.cpa_facts.specs.declared.fact.Fact.{Fact}
+use Rattle.cpa_facts.specs.declared.fact.Fact.TheVariants.{Stack}
 use Rattle.cpa_model.specs.declared.facts.Elem.{Elem}
 use Rattle.cpa_model.specs.declared.automaton.Act.{Act}
 use Rattle.cpa_model.specs.declared.automaton.Edge.{Edge}

@@ -4,13 +4,13 @@ use Rattle.std.specs.List.{flat_map}
 use Rattle.cpa_ints.specs.declared.integers.IntType.{IntType}
 use Rattle.cpa_expr.specs.declared.tree.Expr.{Expr}
 use Rattle.cpa_model.specs.declared.facts.Elem.{Elem}
-use Rattle.cpa_edgeform_renaming.specs.declared.places.Place.{Place}
-use Rattle.cpa_edgeform_rules.specs.declared.drafts.Draft.{Draft}
-use Rattle.cpa_edgeform_rules.specs.Drafts.{Placed, placed, next, fresh, settled, want_all}
-use Rattle.cpa_edgeform_rules.specs.Drafts.{moved, assigned}
-use Rattle.cpa_edgeform_rules.specs.Tests.{type_at, denials_of, want_each}
-use Rattle.cpa_edgeform_rules.specs.Forms.{Form, draft_of, joined, with_tests, with_failing}
-use Rattle.cpa_edgeform_rules.specs.Forms.{with_write, with_input}
+use Rattle.cpa_form_renaming.specs.declared.places.Place.{Place}
+use Rattle.cpa_form_rules.specs.declared.drafts.Draft.{Draft}
+use Rattle.cpa_form_rules.specs.Drafts.{Placed, placed, next, fresh, settled, want_all}
+use Rattle.cpa_form_rules.specs.Drafts.{moved, assigned}
+use Rattle.cpa_form_rules.specs.Tests.{type_at, denials_of, want_each}
+use Rattle.cpa_form_rules.specs.Forms.{Form, draft_of, joined, with_tests, with_failing}
+use Rattle.cpa_form_rules.specs.Forms.{with_write, with_input}
 use Rattle.cpa_edgeform.specs.Parts.{with_places, with_one_input}
 
 pub tests_added : (form new : Form) (asked : List (Expr × Bool)) (d0 d1 d2 : Draft)

@@ -4,7 +4,7 @@ use Rattle.std.proofs.Common.{get_or, sym, ap, ◌∙◌, arith}
 use Rattle.std.specs.List.{sum, sum_by}
 use Rattle.std.proofs.lemmas.List.{take_all}
 use Rattle.std.proofs.lemmas.List.Sums.{sum-map, sum_by_more, sum_by-cons}
-use Rattle.cpa_edgeform_rules.specs.Forms.{Form, weighed}
+use Rattle.cpa_form_rules.specs.Forms.{Form, weighed}
 
 stops : (s w m : ℕ) → min (min s m + min w m) m ≡ min (s + w) m
 stops s w m = omega arith

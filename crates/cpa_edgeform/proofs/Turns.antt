@@ -11,13 +11,13 @@ use Rattle.cpa_expr.specs.declared.tree.Expr.TheVariants.{Const, Cmp, Or, Not}
 use Rattle.cpa_expr.specs.Cells.{scalar_read}
 use Rattle.cpa_model.specs.declared.program.Cell.{Cell}
 use Rattle.cpa_query.specs.Queries.{reads}
-use Rattle.cpa_edgeform_renaming.specs.declared.places.Place.{Place}
-use Rattle.cpa_edgeform_renaming.specs.Renaming.{is_whole, renamed}
-use Rattle.cpa_edgeform_rules.specs.declared.drafts.Draft.{Draft}
-use Rattle.cpa_edgeform_rules.specs.Drafts.{Placed, placed, with_place, place_at, copied, asked_of}
-use Rattle.cpa_edgeform_rules.specs.Drafts.{settled, next, fresh, want}
-use Rattle.cpa_edgeform_rules.specs.Tests.{some_from}
-use Rattle.cpa_edgeform_rules.specs.Forms.{starts, places_from}
+use Rattle.cpa_form_renaming.specs.declared.places.Place.{Place}
+use Rattle.cpa_form_renaming.specs.Renaming.{is_whole, renamed}
+use Rattle.cpa_form_rules.specs.declared.drafts.Draft.{Draft}
+use Rattle.cpa_form_rules.specs.Drafts.{Placed, placed, with_place, place_at, copied, asked_of}
+use Rattle.cpa_form_rules.specs.Drafts.{settled, next, fresh, want}
+use Rattle.cpa_form_rules.specs.Tests.{some_from}
+use Rattle.cpa_form_rules.specs.Forms.{starts, places_from}
 use Rattle.cpa_edgeform.specs.Parts.{Stood, stood, own_place}
 
 -- what is left from a place on

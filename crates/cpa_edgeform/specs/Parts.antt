@@ -3,10 +3,10 @@ use Rattle.std.specs.Prelude.{ℕ, Bool, true, false, List, [], ◌∷◌, ◌++
 use Rattle.std.specs.Prelude.{slice_set}
 use Rattle.cpa_ints.specs.declared.integers.IntType.{IntType}
 use Rattle.cpa_expr.specs.Cells.{scalar_read}
-use Rattle.cpa_edgeform_renaming.specs.declared.places.Place.{Place}
-use Rattle.cpa_edgeform_rules.specs.declared.drafts.Draft.{Draft}
-use Rattle.cpa_edgeform_rules.specs.Drafts.{next, named, place_at}
-use Rattle.cpa_edgeform_rules.specs.Forms.{Form}
+use Rattle.cpa_form_renaming.specs.declared.places.Place.{Place}
+use Rattle.cpa_form_rules.specs.declared.drafts.Draft.{Draft}
+use Rattle.cpa_form_rules.specs.Drafts.{next, named, place_at}
+use Rattle.cpa_form_rules.specs.Forms.{Form}
 use Rattle.cpa_edgeform.specs.declared.parts.Parts.{Parts}
 
 -- the form that the parts make

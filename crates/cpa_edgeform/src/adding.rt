@@ -1,10 +1,10 @@
-//! What is added to a form, by specs/Forms of `cpa_edgeform_rules`. Where memory ends, each
+//! What is added to a form, by specs/Forms of `cpa_form_rules`. Where memory ends, each
 //! function leaves the form as it was.
 
 ghost use Rattle.std.specs.Prelude.{◌≡◌, ◌∷◌, [], true, IfOk, OnOk, OnErr};
-ghost use Rattle.cpa_edgeform_rules.specs.Runs.{taken, holding, failing};
-ghost use Rattle.cpa_edgeform_rules.specs.Forms.{with_tests, with_failing, with_write, with_input};
-ghost use Rattle.cpa_edgeform_rules.specs.Forms.{with_act, with_added};
+ghost use Rattle.cpa_form_rules.specs.Runs.{taken, holding, failing};
+ghost use Rattle.cpa_form_rules.specs.Forms.{with_tests, with_failing, with_write, with_input};
+ghost use Rattle.cpa_form_rules.specs.Forms.{with_act, with_added};
 ghost use Rattle.cpa_edgeform.specs.Parts.{form_in};
 
 use crate::drafting::fresh;
@@ -14,8 +14,8 @@ use crate::testing::{all_denials, joined_lists, tests_of, type_at};
 use crate::wanting::{want_all, want_each};
 use crate::weighing::{act_weight, elem_weight, elems_weight};
 use crate::writing::assigned;
-use cpa_edgeform_renaming::Place;
 use cpa_expr::{Expr, copy};
+use cpa_form_renaming::Place;
 use cpa_ints::Seq;
 use cpa_model::{Act, Elem};
 use std::alloc::{AllocError, Global};

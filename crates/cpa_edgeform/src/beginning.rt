@@ -1,4 +1,4 @@
-//! The beginning of a form, by specs/Forms of `cpa_edgeform_rules`.
+//! The beginning of a form, by specs/Forms of `cpa_form_rules`.
 //! Proved with `proofs/beginning/`.
 
 ghost use Rattle.std.specs.Prelude.{◌≡◌, ◌≤◌, ◌^◌, ◌-◌, [], length, if◌then◌else◌, IfOk};
@@ -6,13 +6,13 @@ ghost use Rattle.cpa_expr.specs.Cells.{scalar_read};
 ghost use Rattle.cpa_expr.specs.declared.tree.CmpOp.TheVariants as cmp;
 ghost use Rattle.cpa_expr.specs.declared.tree.Expr.TheVariants.{Const, Cmp};
 ghost use Rattle.cpa_model.specs.Expressions.{types_of};
-ghost use Rattle.cpa_edgeform_rules.specs.Forms.{starts, places_from, begun};
+ghost use Rattle.cpa_form_rules.specs.Forms.{starts, places_from, begun};
 ghost use Rattle.cpa_edgeform.specs.Parts.{form_in};
 
 use crate::nodes::has_value;
 use crate::parts::Parts;
-use cpa_edgeform_renaming::Place;
 use cpa_expr::{Expr, constant};
+use cpa_form_renaming::Place;
 use cpa_ints::IntType;
 use cpa_model::Cell;
 use std::alloc::{AllocError, Global};

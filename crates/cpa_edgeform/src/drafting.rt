@@ -1,12 +1,12 @@
-//! The words of specs/Drafts of `cpa_edgeform_rules` that add one cell or one wanted expression.
+//! The words of specs/Drafts of `cpa_form_rules` that add one cell or one wanted expression.
 //! Proved by the checker alone.
 
 ghost use Rattle.std.specs.Prelude.{◌≡◌, IfOk, OnOk};
-ghost use Rattle.cpa_edgeform_rules.specs.Drafts.{next, fresh, want, named};
+ghost use Rattle.cpa_form_rules.specs.Drafts.{next, fresh, want, named};
 
 use crate::nodes::has_value;
-use cpa_edgeform_rules::Draft;
 use cpa_expr::{Expr, type_of};
+use cpa_form_rules::Draft;
 use cpa_ints::{Boxed, IntType};
 use std::alloc::{AllocError, Global};
 

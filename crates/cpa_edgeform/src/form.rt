@@ -1,17 +1,17 @@
-//! Forms: queries on runs of stores along edges. Contracts see the `Form` of `cpa_edgeform_rules`,
+//! Forms: queries on runs of stores along edges. Contracts see the `Form` of `cpa_form_rules`,
 //! whose laws say what the models of its query are.
 
 ghost use Rattle.std.specs.Prelude.{◌≡◌, ◌<◌, length, slice_get, Some, IfOk, OnOk, OnErr};
 ghost use Rattle.cpa_model.specs.declared.automaton.Edge.{Edge as AnEdge};
-ghost use Rattle.cpa_edgeform_rules.specs.Runs.{taken, holding, failing};
-ghost use Rattle.cpa_edgeform_rules.specs.Forms.{begun, with_added, first_store, last_store};
-ghost use Rattle.cpa_edgeform_rules.specs.Forms.{inputs_at, place_now};
+ghost use Rattle.cpa_form_rules.specs.Runs.{taken, holding, failing};
+ghost use Rattle.cpa_form_rules.specs.Forms.{begun, with_added, first_store, last_store};
+ghost use Rattle.cpa_form_rules.specs.Forms.{inputs_at, place_now};
 
 use crate::parts::{Parts, copy};
 use crate::settling::push_copies;
 use crate::{adding, beginning, reading};
-use cpa_edgeform_renaming::number_at;
 use cpa_expr::Store;
+use cpa_form_renaming::number_at;
 use cpa_ints::Seq;
 use cpa_model::{Cfa, Elem};
 use cpa_query::Query;
@@ -33,7 +33,7 @@ pub struct EdgeForm {
 impl Model for EdgeForm {
     ghost use Rattle.std.specs.Coded.{codes};
     ghost use Rattle.cpa_expr.specs.contracts.tree.Expr as e;
-    ghost use Rattle.cpa_edgeform_rules.specs.Forms.{Form};
+    ghost use Rattle.cpa_form_rules.specs.Forms.{Form};
     ghost use Rattle.cpa_edgeform.specs.Parts.{form_in};
 
     ghost Value = { Form };

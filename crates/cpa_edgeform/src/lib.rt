@@ -1,5 +1,5 @@
 //! Edges and elements as queries: a form, to which edges and elements are added, and what is read
-//! off a model of its query. The definitions are those of `cpa_edgeform_rules`.
+//! off a model of its query. The definitions are those of `cpa_form_rules`.
 #![tactic(auto)]
 
 mod adding;

@@ -1,14 +1,14 @@
-//! Expressions at places and values of cells, in boxes, by the nodes of `cpa_edgeform_renaming`.
+//! Expressions at places and values of cells, in boxes, by the nodes of `cpa_form_renaming`.
 //! Proved by the checker alone.
 
 ghost use Rattle.std.specs.Prelude.{◌≡◌, IfOk};
 ghost use Rattle.cpa_expr.specs.Cells.{scalar_read};
 ghost use Rattle.cpa_expr.specs.declared.tree.CmpOp.TheVariants as cmp;
 ghost use Rattle.cpa_expr.specs.declared.tree.Expr.TheVariants.{Cmp};
-ghost use Rattle.cpa_edgeform_renaming.specs.Renaming.{renamed};
+ghost use Rattle.cpa_form_renaming.specs.Renaming.{renamed};
 
-use cpa_edgeform_renaming::{Place, rename};
 use cpa_expr::{CmpOp, Expr, comparison, read_scalar};
+use cpa_form_renaming::{Place, rename};
 use cpa_ints::{Boxed, IntType};
 use std::alloc::{AllocError, Global};
 

@@ -1,17 +1,17 @@
-//! The parts of a form, and what each word of specs/Forms of `cpa_edgeform_rules` does to them.
+//! The parts of a form, and what each word of specs/Forms of `cpa_form_rules` does to them.
 //! Proved with `proofs/parts/`.
 
 ghost use Rattle.std.specs.Prelude.{◌≡◌, ◌+◌, ◌-◌, ◌^◌, ◌<◌, ◌≤◌, vec_len, vec_capacity};
 ghost use Rattle.std.specs.Prelude.{OnOk, OnErr, IfOk};
-ghost use Rattle.cpa_edgeform_rules.specs.Drafts.{placed, moved};
-ghost use Rattle.cpa_edgeform_rules.specs.Forms.{draft_of, joined, weighed};
+ghost use Rattle.cpa_form_rules.specs.Drafts.{placed, moved};
+ghost use Rattle.cpa_form_rules.specs.Forms.{draft_of, joined, weighed};
 ghost use Rattle.cpa_edgeform.specs.Parts.{form_in, places_or, with_places, with_one_input};
 
 use crate::settling::push_copies;
 use crate::writing::{move_cells, put};
-use cpa_edgeform_renaming::Place;
-use cpa_edgeform_rules::Draft;
 use cpa_expr::Expr;
+use cpa_form_renaming::Place;
+use cpa_form_rules::Draft;
 use cpa_ints::{IntType, Seq};
 use std::alloc::{AllocError, Global};
 

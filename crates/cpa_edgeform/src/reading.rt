@@ -1,10 +1,10 @@
-//! What is read off a model of a form's query, by specs/Forms of `cpa_edgeform_rules`.
+//! What is read off a model of a form's query, by specs/Forms of `cpa_form_rules`.
 //! Proved by the checker alone.
 
 ghost use Rattle.std.specs.Prelude.{◌≡◌, map, take, IfOk};
-ghost use Rattle.cpa_edgeform_rules.specs.Forms.{value_in};
+ghost use Rattle.cpa_form_rules.specs.Forms.{value_in};
 
-use cpa_edgeform_renaming::Place;
+use cpa_form_renaming::Place;
 use std::alloc::{AllocError, Global};
 
 /// The value of a cell of the query.

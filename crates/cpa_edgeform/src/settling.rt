@@ -1,18 +1,18 @@
-//! Places at which expressions can be read, `settled` of specs/Drafts of `cpa_edgeform_rules`.
+//! Places at which expressions can be read, `settled` of specs/Drafts of `cpa_form_rules`.
 //! Proved with `proofs/settling/`.
 
 ghost use Rattle.std.specs.Prelude.{◌≡◌, ◌++◌, map, length, IfOk, OnOk};
 ghost use Rattle.std.specs.List.{list_all};
-ghost use Rattle.cpa_edgeform_renaming.specs.Renaming.{is_whole};
+ghost use Rattle.cpa_form_renaming.specs.Renaming.{is_whole};
 ghost use Rattle.cpa_query.specs.Queries.{reads};
-ghost use Rattle.cpa_edgeform_rules.specs.Drafts.{placed, copied, asked_of, settled};
+ghost use Rattle.cpa_form_rules.specs.Drafts.{placed, copied, asked_of, settled};
 ghost use Rattle.cpa_edgeform.specs.Parts.{places_or, stood, own_place};
 
 use crate::drafting::named;
 use crate::nodes::scalar;
-use cpa_edgeform_renaming::{Place, is_whole};
-use cpa_edgeform_rules::Draft;
 use cpa_expr::{Expr, copy};
+use cpa_form_renaming::{Place, is_whole};
+use cpa_form_rules::Draft;
 use cpa_ints::{IntType, Seq};
 use cpa_query::{Query, read_cells};
 use std::alloc::{AllocError, Global};

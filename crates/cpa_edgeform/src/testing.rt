@@ -1,4 +1,4 @@
-//! Facts on a store as tests, and the denials of these, by specs/Tests of `cpa_edgeform_rules`.
+//! Facts on a store as tests, and the denials of these, by specs/Tests of `cpa_form_rules`.
 //! Proved with `proofs/testing/`.
 
 ghost use Rattle.std.specs.Prelude.{◌≡◌, ◌++◌, true, map, IfOk, OnOk};
@@ -6,13 +6,13 @@ ghost use Rattle.std.specs.List.{flat_map};
 ghost use Rattle.cpa_expr.specs.Cells.{scalar_read};
 ghost use Rattle.cpa_expr.specs.declared.tree.CmpOp.TheVariants as cmp;
 ghost use Rattle.cpa_expr.specs.declared.tree.Expr.TheVariants.{Const, Cmp, And};
-ghost use Rattle.cpa_edgeform_rules.specs.Tests.{type_at, fact_tests, tests_of, other_than, denied};
-ghost use Rattle.cpa_edgeform_rules.specs.Tests.{denials_of};
+ghost use Rattle.cpa_form_rules.specs.Tests.{type_at, fact_tests, tests_of, other_than, denied};
+ghost use Rattle.cpa_form_rules.specs.Tests.{denials_of};
 
 use crate::nodes::{has_value, scalar};
 use crate::settling::push_copies;
-use cpa_edgeform_renaming::{Place, trap_test};
 use cpa_expr::{CmpOp, Expr, both, comparison, constant, copied, copy, either, negation};
+use cpa_form_renaming::{Place, trap_test};
 use cpa_ints::{Boxed, IntType, Seq};
 use cpa_model::{Elem, Fact, Facts};
 use std::alloc::{AllocError, Global};

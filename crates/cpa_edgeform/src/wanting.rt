@@ -1,19 +1,19 @@
 //! Expressions over the program's cells that are wanted at places, by specs/Drafts and specs/Tests
-//! of `cpa_edgeform_rules`.
+//! of `cpa_form_rules`.
 
 ghost use Rattle.std.specs.Prelude.{◌≡◌, true, IfOk, OnOk};
 ghost use Rattle.cpa_ints.specs.declared.integers.IntType.TheVariants as ty;
 ghost use Rattle.cpa_expr.specs.Cells.{scalar_read};
 ghost use Rattle.cpa_expr.specs.declared.tree.Expr.TheVariants.{Or, Not};
-ghost use Rattle.cpa_edgeform_renaming.specs.Renaming.{renamed};
-ghost use Rattle.cpa_edgeform_rules.specs.Drafts.{next, fresh, want, want_all};
-ghost use Rattle.cpa_edgeform_rules.specs.Tests.{want_some, want_each};
+ghost use Rattle.cpa_form_renaming.specs.Renaming.{renamed};
+ghost use Rattle.cpa_form_rules.specs.Drafts.{next, fresh, want, want_all};
+ghost use Rattle.cpa_form_rules.specs.Tests.{want_some, want_each};
 
 use crate::drafting::{fresh, want};
 use crate::nodes::{renamed, scalar};
-use cpa_edgeform_renaming::Place;
-use cpa_edgeform_rules::Draft;
 use cpa_expr::{Expr, either, negation};
+use cpa_form_renaming::Place;
+use cpa_form_rules::Draft;
 use cpa_ints::{Boxed, IntType, Seq};
 use std::alloc::{AllocError, Global};
 

@@ -1,13 +1,13 @@
-//! Weights of what is added, by specs/Forms of `cpa_edgeform_rules`. A sum stops at the greatest
+//! Weights of what is added, by specs/Forms of `cpa_form_rules`. A sum stops at the greatest
 //! `u64`. Proved with `proofs/weighing/`.
 
 ghost use Rattle.std.specs.Prelude.{◌≡◌, min, map, sum};
-ghost use Rattle.cpa_edgeform_rules.specs.Forms.{act_weight, fact_weight, elem_weight};
+ghost use Rattle.cpa_form_rules.specs.Forms.{act_weight, fact_weight, elem_weight};
 
 use crate::testing::type_at;
 use cpa_blast::weight;
-use cpa_edgeform_renaming::Place;
 use cpa_expr::type_of;
+use cpa_form_renaming::Place;
 use cpa_model::{Act, Elem, Fact};
 
 /// The weight of an edge, by its act. Takes no memory.

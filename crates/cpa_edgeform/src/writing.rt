@@ -1,4 +1,4 @@
-//! Writes of cells and of arrays, by specs/Drafts of `cpa_edgeform_rules`.
+//! Writes of cells and of arrays, by specs/Drafts of `cpa_form_rules`.
 //! Proved with `proofs/writing/`.
 
 ghost use Rattle.std.specs.Prelude.{◌≡◌, ◌+◌, ◌≤◌, ◌^◌, ◌-◌, ◌==◌, true, pos, slice_set};
@@ -8,15 +8,15 @@ ghost use Rattle.cpa_expr.specs.Shape.{type_of};
 ghost use Rattle.cpa_expr.specs.Cells.{scalar_read};
 ghost use Rattle.cpa_expr.specs.declared.tree.Expr.TheVariants.{Const, Read, Cast, Cmp};
 ghost use Rattle.cpa_expr.specs.declared.tree.CmpOp.TheVariants as cmp;
-ghost use Rattle.cpa_edgeform_rules.specs.Drafts.{next, fresh, want, named, written, kept_unless};
-ghost use Rattle.cpa_edgeform_rules.specs.Drafts.{placed, place_at, block, moved, cell_written};
-ghost use Rattle.cpa_edgeform_rules.specs.Drafts.{array_written, assigned};
+ghost use Rattle.cpa_form_rules.specs.Drafts.{next, fresh, want, named, written, kept_unless};
+ghost use Rattle.cpa_form_rules.specs.Drafts.{placed, place_at, block, moved, cell_written};
+ghost use Rattle.cpa_form_rules.specs.Drafts.{array_written, assigned};
 
 use crate::drafting::{fresh, named, next, want};
 use crate::nodes::{has_value, renamed, scalar};
-use cpa_edgeform_renaming::{Place, number_at};
-use cpa_edgeform_rules::Draft;
 use cpa_expr::{CmpOp, Expr, cast, comparison, constant, copied, either, type_of};
+use cpa_form_renaming::{Place, number_at};
+use cpa_form_rules::Draft;
 use cpa_ints::{Boxed, IntType};
 use std::alloc::{AllocError, Global};
 

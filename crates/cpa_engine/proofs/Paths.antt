@@ -16,7 +16,7 @@ use Rattle.cpa_iface.specs.declared.analysis.Part.TheVariants.{Store}
 use Rattle.cpa_iface.specs.Pins.{IsSettledBy}
 use Rattle.cpa_path.specs.Judgements.{WantsSolver}
 use Rattle.cpa_path.specs.Paths.{TakesEdges, HasNoRun, is_input, has_input}
-use Rattle.cpa_path_folds.specs.Along.{act_of, acts_along}
+use Rattle.cpa_folds.specs.Along.{act_of, acts_along}
 use Rattle.cpa_engine_laws.specs.Chains.{WalksTo, StepsBy, AreSettled}
 
 -- a walk takes its edges

@@ -14,7 +14,7 @@ use Rattle.cpa_composite.specs.Components.{Component}
 use Rattle.cpa_composite.specs.Keys.{key_places}
 use Rattle.cpa_composite.specs.Laws.{InitialRow, RefinedRow, SuggestionsStand}
 use Rattle.cpa_config.specs.declared.config.Config.{Config}
-use Rattle.cpa_path_folds.specs.Along.{acts_along}
+use Rattle.cpa_folds.specs.Along.{acts_along}
 use Rattle.cpa_reached.specs.Calls.{begun, indexed}
 use Rattle.cpa_reached.specs.Entries.{ReachedSet}
 use Rattle.cpa_reached.specs.Members.{IsIn}

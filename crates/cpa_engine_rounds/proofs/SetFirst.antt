@@ -11,7 +11,7 @@ use Rattle.cpa_model.specs.declared.automaton.Act.TheVariants as act
 use Rattle.cpa_model.specs.declared.automaton.Cfa.{Cfa}
 use Rattle.cpa_model.specs.declared.automaton.Edge.{Edge}
 use Rattle.cpa_query.specs.Queries.{is_marked}
-use Rattle.cpa_path_folds.specs.Along.{act_of, acts_along}
+use Rattle.cpa_folds.specs.Along.{act_of, acts_along}
 use Rattle.cpa_engine_rounds.specs.Pivots.{reads, sets, is_set_first, writes_some, before_write}
 use Rattle.cpa_engine_rounds.specs.Pivots.{all_set_first, acts_before}
 

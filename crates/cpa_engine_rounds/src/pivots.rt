@@ -9,7 +9,7 @@ ghost use Rattle.cpa_expr.specs.Cells.{is_within, is_zero, may_read};
 ghost use Rattle.cpa_iface.specs.Meanings.{IsPathOf};
 ghost use Rattle.cpa_query.specs.Queries.{is_marked};
 ghost use Rattle.cpa_reached.specs.Members.{is_in};
-ghost use Rattle.cpa_path_folds.specs.Along.{acts_along};
+ghost use Rattle.cpa_folds.specs.Along.{acts_along};
 ghost use Rattle.cpa_engine_rounds.specs.Pivots.{keeps_newly, new_of, reads, sets};
 ghost use Rattle.cpa_engine_rounds.specs.Pivots.{is_set_first, writes_some, before_write};
 ghost use Rattle.cpa_engine_rounds.specs.Pivots.{acts_before};

@@ -4,8 +4,8 @@
 
 use cpa_callstack::Callstack;
 use cpa_composite::Handed;
+use cpa_craig::Craig;
 use cpa_iface::{Location, Plain};
-use cpa_interpolant_craig::Craig;
 use cpa_interval::Interval;
 use cpa_outside::{FileInputs, Sink, StdoutSink, write_whole};
 use cpa_predicate::Predicate;

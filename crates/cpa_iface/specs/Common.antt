@@ -2,7 +2,7 @@
 -- letter (this project's own).
 use Rattle.std.specs.Prelude.{ℕ, Bool, List, [], length}
 use Rattle.std.specs.List.{filter, list_any}
-use Rattle.cpa_model_facts.specs.declared.fact.Fact.{Fact}
+use Rattle.cpa_facts.specs.declared.fact.Fact.{Fact}
 use Rattle.cpa_model.specs.declared.facts.Elem.{Elem}
 use Rattle.cpa_model.specs.declared.automaton.Cfa.{Cfa}
 use Rattle.cpa_iface.specs.declared.merging.MergeRule.{MergeRule}

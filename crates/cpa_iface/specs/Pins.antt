@@ -2,8 +2,8 @@
 -- project's own).
 use Rattle.std.specs.Prelude.{◌≡◌, ℕ, ◌+◌, ◌<◌, ℤ, List, [], ◌∷◌, length, ⊤, ◌⊎◌}
 use Rattle.std.specs.List.{Contains}
-use Rattle.cpa_model_facts.specs.declared.fact.Fact.{Fact}
-use Rattle.cpa_model_facts.specs.declared.fact.Fact.TheVariants.{At, Stack, Equals}
+use Rattle.cpa_facts.specs.declared.fact.Fact.{Fact}
+use Rattle.cpa_facts.specs.declared.fact.Fact.TheVariants.{At, Stack, Equals}
 use Rattle.cpa_model.specs.declared.facts.Elem.{Elem}
 use Rattle.cpa_model.specs.declared.states.State.{State}
 use Rattle.cpa_model.specs.declared.automaton.Act.{Act}

@@ -2,7 +2,7 @@
 //! elements have one order, it takes one walk. Proved with `specs/PlaceLaws.antt`.
 
 ghost use Rattle.std.specs.Prelude.{◌≡◌, ◌≤◌, Some, drop, length, slice_get, is_some, IfSome};
-ghost use Rattle.cpa_model_facts.specs.declared.fact.Fact.{Fact as AFact};
+ghost use Rattle.cpa_facts.specs.declared.fact.Fact.{Fact as AFact};
 ghost use Rattle.cpa_model.specs.Standing.{has_facts, same_fact};
 ghost use Rattle.cpa_iface.specs.Common.{stands_in};
 

@@ -19,8 +19,8 @@ use Rattle.cpa_model.specs.declared.automaton.Edge.{Edge}
 use Rattle.cpa_model.specs.declared.automaton.Cfa.{Cfa}
 use Rattle.cpa_model.specs.Automata.{IsAutomaton}
 use Rattle.cpa_model.specs.Expressions.{types_of, IsExpr}
-use Rattle.cpa_edgeform_rules.specs.Laws.{starts_fit}
-use Rattle.cpa_path_folds.specs.Along.{act_of, acts_along}
+use Rattle.cpa_form_rules.specs.Laws.{starts_fit}
+use Rattle.cpa_folds.specs.Along.{act_of, acts_along}
 use Rattle.cpa_interpolant_rules.specs.Stores.{IsStore, RunsFrom}
 use Rattle.cpa_interpolant_rules.specs.Interpolants.{AreNext, HasNoRun, LeadOn}
 use Rattle.cpa_interpolant_rules.specs.Interpolants.{last_of, one}

@@ -4,7 +4,7 @@
 ghost use Rattle.std.specs.Prelude.{◌≡◌, ◌+◌, ◌<◌, ◌≤◌, ℕ, ◌∷◌, [], length, IfOk};
 ghost use Rattle.std.specs.List.{AllByRecursion};
 ghost use Rattle.cpa_model.specs.Automata.{IsAutomaton};
-ghost use Rattle.cpa_path_folds.specs.Along.{acts_along};
+ghost use Rattle.cpa_folds.specs.Along.{acts_along};
 ghost use Rattle.cpa_interpolant_rules.specs.Interpolants.{one};
 ghost use Rattle.cpa_interpolant.specs.Along.{IsAlong};
 ghost use Rattle.cpa_interpolant.specs.Walked.{IsNextAnswer, IsStep, IsWalked, RunsIfRun};

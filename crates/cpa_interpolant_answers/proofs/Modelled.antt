@@ -6,7 +6,7 @@ use Rattle.cpa_model.specs.declared.automaton.Cfa.{Cfa}
 use Rattle.cpa_model.specs.Acts.{IsActOf}
 use Rattle.cpa_model.specs.Automata.{IsAutomaton}
 use Rattle.cpa_query.specs.Queries.{IsQuery, IsModel}
-use Rattle.cpa_edgeform_rules.specs.Laws.{FormsAreRuns, IsFormOf}
+use Rattle.cpa_form_rules.specs.Laws.{FormsAreRuns, IsFormOf}
 use Rattle.cpa_interpolant_rules.specs.Stores.{RunsFrom}
 use Rattle.cpa_interpolant_cuts.specs.Cuts.{added_behind, behind_cut}
 use Rattle.cpa_interpolant_cuts.specs.Laws.{all_taken}

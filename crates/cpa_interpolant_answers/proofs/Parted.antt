@@ -17,8 +17,8 @@ use Rattle.cpa_model.specs.Automata.{IsAutomaton}
 use Rattle.cpa_model.specs.Programs.{IsWellFormed}
 use Rattle.cpa_model.specs.Steps.{StepsKeepStates}
 use Rattle.cpa_model.specs.Expressions.{IsExpr}
-use Rattle.cpa_edgeform_rules.specs.Forms.{Form}
-use Rattle.cpa_path_folds.specs.Along.{act_of, acts_along}
+use Rattle.cpa_form_rules.specs.Forms.{Form}
+use Rattle.cpa_folds.specs.Along.{act_of, acts_along}
 use Rattle.cpa_interpolant_bits.specs.declared.bits.Bit.{Bit}
 use Rattle.cpa_interpolant_cuts.specs.Cuts.{before_cut, behind_cut, formula_of, sides_at}
 use Rattle.cpa_interpolant_cuts.specs.Cuts.{shared_bits_of, weight_of}

@@ -18,9 +18,9 @@ use Rattle.cpa_model.specs.declared.program.Cell.{Cell}
 use Rattle.cpa_model.specs.declared.automaton.Act.{Act}
 use Rattle.cpa_model.specs.declared.automaton.Cfa.{Cfa}
 use Rattle.cpa_model.specs.Expressions.{types_of, IsExpr}
-use Rattle.cpa_edgeform_rules.specs.Runs.{Runs}
-use Rattle.cpa_edgeform_rules.specs.Stores.{steps_take_inputs}
-use Rattle.cpa_path_folds.specs.Along.{acts_along}
+use Rattle.cpa_form_rules.specs.Runs.{Runs}
+use Rattle.cpa_form_rules.specs.Stores.{steps_take_inputs}
+use Rattle.cpa_folds.specs.Along.{acts_along}
 use Rattle.cpa_interpolant_rules.specs.Stores.{IsStore, RunsFrom}
 use Rattle.cpa_interpolant_rules.specs.Interpolants.{IsNext, zero}
 use Rattle.cpa_interpolant_rules.specs.Laws.{interpolants_leave_no_run}

@@ -5,7 +5,7 @@ ghost use Rattle.std.specs.List.{AllByRecursion};
 ghost use Rattle.cpa_model.specs.declared.automaton.Edge.{Edge as AnEdge};
 ghost use Rattle.cpa_model.specs.Automata.{IsAutomaton};
 ghost use Rattle.cpa_model.specs.Expressions.{IsExpr};
-ghost use Rattle.cpa_path_folds.specs.Along.{acts_along};
+ghost use Rattle.cpa_folds.specs.Along.{acts_along};
 ghost use Rattle.cpa_interpolant_answers.specs.Answers.{IsAnswer};
 
 use crate::answer::Answer;

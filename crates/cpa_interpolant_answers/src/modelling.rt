@@ -5,12 +5,12 @@ ghost use Rattle.std.specs.Prelude.{◌<◌, ℤ, List, length, IfOk};
 ghost use Rattle.std.specs.List.{AllByRecursion};
 ghost use Rattle.cpa_model.specs.Automata.{IsAutomaton};
 ghost use Rattle.cpa_query.specs.Queries.{IsModel};
-ghost use Rattle.cpa_path_folds.specs.Along.{acts_along};
+ghost use Rattle.cpa_folds.specs.Along.{acts_along};
 ghost use Rattle.cpa_interpolant_rules.specs.Stores.{RunsFrom};
 ghost use Rattle.cpa_interpolant_cuts.specs.Cuts.{behind_cut};
 
-use cpa_edgeform_rules::forms_are_runs;
 use cpa_expr::Store;
+use cpa_form_rules::forms_are_runs;
 use cpa_interpolant_parts::part_behind;
 use cpa_model::{Cfa, edges_are_sound, steps_keep_states};
 use cpa_solver::{Decided, decide};

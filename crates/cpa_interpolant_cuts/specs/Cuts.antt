@@ -8,13 +8,13 @@ use Rattle.cpa_cnf.specs.declared.formula.Line.{Line}
 use Rattle.cpa_expr.specs.declared.tree.Expr.{Expr}
 use Rattle.cpa_model.specs.declared.program.Cell.{Cell}
 use Rattle.cpa_model.specs.declared.automaton.Act.{Act}
-use Rattle.cpa_model_facts.specs.declared.fact.Fact.TheVariants.{Truth}
+use Rattle.cpa_facts.specs.declared.fact.Fact.TheVariants.{Truth}
 use Rattle.cpa_model.specs.declared.facts.Elem.{Elem}
 use Rattle.cpa_query.specs.declared.query.Query.{Query}
 use Rattle.cpa_query.specs.Queries.{reads}
 use Rattle.cpa_blast.specs.Formulas.{formula, first_bits}
-use Rattle.cpa_edgeform_rules.specs.Runs.{Added, taken, holding}
-use Rattle.cpa_edgeform_rules.specs.Forms.{Form, form_of}
+use Rattle.cpa_form_rules.specs.Runs.{Added, taken, holding}
+use Rattle.cpa_form_rules.specs.Forms.{Form, form_of}
 use Rattle.cpa_interpolant_bits.specs.declared.bits.Bit.{Bit}
 use Rattle.cpa_interpolant_joining.specs.Joining.{joined, sides_of}
 use Rattle.cpa_interpolant_conditions.specs.Interpolants.{interpolant_expr}

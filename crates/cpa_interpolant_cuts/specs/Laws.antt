@@ -21,13 +21,13 @@ use Rattle.cpa_model.specs.declared.automaton.Cfa.{Cfa}
 use Rattle.cpa_model.specs.Acts.{IsActOf}
 use Rattle.cpa_model.specs.Automata.{IsAutomaton}
 use Rattle.cpa_model.specs.Expressions.{types_of, IsExpr}
-use Rattle.cpa_edgeform_rules.specs.Runs.{Added, Runs}
-use Rattle.cpa_edgeform_rules.specs.Forms.{Form, begun, form_of}
-use Rattle.cpa_edgeform_rules.specs.Laws.{IsAddedOf, IsFormOf, forms_are_runs, starts_fit, added_fits}
-use Rattle.cpa_edgeform_rules.specs.lemmas.Calls.{places_long}
-use Rattle.cpa_edgeform_rules.specs.lemmas.Formed.{formed}
-use Rattle.cpa_edgeform_rules.specs.Additions.{further_calls_add_behind}
-use Rattle.cpa_edgeform_renaming.specs.lemmas.Longer.{get_front}
+use Rattle.cpa_form_rules.specs.Runs.{Added, Runs}
+use Rattle.cpa_form_rules.specs.Forms.{Form, begun, form_of}
+use Rattle.cpa_form_rules.specs.Laws.{IsAddedOf, IsFormOf, forms_are_runs, starts_fit, added_fits}
+use Rattle.cpa_form_rules.specs.lemmas.Calls.{places_long}
+use Rattle.cpa_form_rules.specs.lemmas.Formed.{formed}
+use Rattle.cpa_form_rules.specs.Additions.{further_calls_add_behind}
+use Rattle.cpa_form_renaming.specs.lemmas.Longer.{get_front}
 use Rattle.cpa_chains.specs.Sides.{clauses_on}
 use Rattle.cpa_chains.specs.Interpolants.{IsInterpolant}
 use Rattle.cpa_chains.specs.Partials.{partials_of}

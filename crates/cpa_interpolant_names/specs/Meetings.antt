@@ -6,7 +6,7 @@ use Rattle.cpa_ints.specs.declared.integers.IntType.{IntType}
 use Rattle.cpa_ints.specs.Integers.{width}
 use Rattle.cpa_model.specs.declared.program.Cell.{Cell}
 use Rattle.cpa_query.specs.Queries.{is_marked}
-use Rattle.cpa_edgeform_rules.specs.Forms.{Form, place_now}
+use Rattle.cpa_form_rules.specs.Forms.{Form, place_now}
 use Rattle.cpa_interpolant_bits.specs.declared.bits.Bit.{Bit}
 use Rattle.cpa_interpolant_names.specs.declared.gathering.Meeting.{Meeting}
 use Rattle.cpa_interpolant_names.specs.declared.gathering.Seen.{Seen}

@@ -4,9 +4,9 @@ use Rattle.std.proofs.Common.{slice_get, get_or, refl, sym, ap, arith}
 use Rattle.std.specs.List.{AllByRecursion}
 use Rattle.cpa_model.specs.declared.automaton.Edge.{Edge}
 use Rattle.cpa_model.specs.declared.automaton.Cfa.{Cfa}
-use Rattle.cpa_edgeform_rules.specs.Runs.{taken}
-use Rattle.cpa_edgeform_rules.specs.Forms.{Form, form_from, with_added}
-use Rattle.cpa_path_folds.specs.Along.{act_of, acts_along}
+use Rattle.cpa_form_rules.specs.Runs.{taken}
+use Rattle.cpa_form_rules.specs.Forms.{Form, form_from, with_added}
+use Rattle.cpa_folds.specs.Along.{act_of, acts_along}
 use Rattle.cpa_interpolant_cuts.specs.Cuts.{added_behind}
 
 there_is : {X : Type 0} (xs : List X) (i : ℕ) → i < length xs → (x : X) × (slice_get xs i ≡ Some x)

@@ -9,7 +9,7 @@ use Rattle.cpa_cnf.specs.declared.formula.Cnf.{Cnf}
 use Rattle.cpa_blast.specs.Formulas.{formula}
 use Rattle.cpa_blast_circuits.specs.Laws.{CircuitsHaveValues}
 use Rattle.cpa_model.specs.declared.program.Cell.{Cell}
-use Rattle.cpa_edgeform_rules.specs.Forms.{Form}
+use Rattle.cpa_form_rules.specs.Forms.{Form}
 use Rattle.cpa_interpolant_names.specs.declared.gathering.Meeting.{Meeting}
 use Rattle.cpa_interpolant_names.specs.declared.gathering.Seen.{Seen}
 use Rattle.cpa_interpolant_names.specs.Meetings.{meetings_from, names_of, Fits, StandsBelow}

@@ -7,9 +7,9 @@ use Rattle.cpa_model.specs.declared.automaton.Cfa.{Cfa}
 use Rattle.cpa_model.specs.Automata.{IsAutomaton}
 use Rattle.cpa_model.specs.Expressions.{types_of}
 use Rattle.cpa_query.specs.Queries.{wanted_reads}
-use Rattle.cpa_edgeform_rules.specs.Runs.{Added}
-use Rattle.cpa_edgeform_rules.specs.Forms.{Form, form_of, place_now}
-use Rattle.cpa_edgeform_rules.specs.Laws.{IsAddedOf}
+use Rattle.cpa_form_rules.specs.Runs.{Added}
+use Rattle.cpa_form_rules.specs.Forms.{Form, form_of, place_now}
+use Rattle.cpa_form_rules.specs.Laws.{IsAddedOf}
 use Rattle.cpa_interpolant_places.specs.Touching.{IsGone, SomeAddedReads, SomeAddedTouches}
 use Rattle.cpa_interpolant_places.specs.lemmas.Wholes.{placed}
 

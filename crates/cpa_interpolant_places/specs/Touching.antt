@@ -1,7 +1,7 @@
 -- Which cells the edges and elements of a part of a path read and write (this project's own).
 use Rattle.std.specs.Prelude.{ℕ, ◌⊎◌, ⊤, List, [], ◌∷◌}
-use Rattle.cpa_edgeform_rules.specs.Runs.{Added, taken, holding, failing}
-use Rattle.cpa_edgeform_rules.specs.Reading.{AddedReads}
+use Rattle.cpa_form_rules.specs.Runs.{Added, taken, holding, failing}
+use Rattle.cpa_form_rules.specs.Reading.{AddedReads}
 use Rattle.cpa_interpolant_rules.specs.Stores.{ActWrites}
 
 -- an edge is taken, or an element holds

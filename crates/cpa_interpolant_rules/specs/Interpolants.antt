@@ -8,7 +8,7 @@ use Rattle.cpa_expr.specs.Cells.{may_read}
 use Rattle.cpa_expr.specs.Values.{HasTruth, value_of}
 use Rattle.cpa_model.specs.declared.program.Cell.{Cell}
 use Rattle.cpa_model.specs.declared.automaton.Act.{Act}
-use Rattle.cpa_edgeform_rules.specs.Reading.{ActReads}
+use Rattle.cpa_form_rules.specs.Reading.{ActReads}
 use Rattle.cpa_interpolant_rules.specs.Stores.{IsStore, StepsBy, RunsFrom, ActWrites, SomeActReads}
 
 -- Every step of the store by the edge, from a store where the first is nonzero, leads to one where

@@ -7,7 +7,7 @@ use Rattle.cpa_model.specs.declared.automaton.Act.{Act}
 use Rattle.cpa_model.specs.declared.automaton.Act.TheVariants as act
 use Rattle.cpa_model.specs.Expressions.{types_of}
 use Rattle.cpa_model.specs.Steps.{StepsStore}
-use Rattle.cpa_edgeform_rules.specs.Reading.{ActReads}
+use Rattle.cpa_form_rules.specs.Reading.{ActReads}
 
 -- a store of these cells: a value in range for each
 abbrev pub IsStore : List Cell → List ℤ → Type 0

@@ -9,8 +9,8 @@ use Rattle.cpa_ints.specs.declared.integers.IntType.{IntType}
 use Rattle.cpa_ints.specs.Integers.{IsInRange}
 use Rattle.cpa_expr.specs.declared.tree.CmpOp.TheVariants as cmp
 use Rattle.cpa_model.specs.declared.program.Cell.{Cell}
-use Rattle.cpa_model_facts.specs.declared.fact.Fact.{Fact}
-use Rattle.cpa_model_facts.specs.declared.fact.Fact.TheVariants.{At, Stack, Equals, Within, Truth}
+use Rattle.cpa_facts.specs.declared.fact.Fact.{Fact}
+use Rattle.cpa_facts.specs.declared.fact.Fact.TheVariants.{At, Stack, Equals, Within, Truth}
 use Rattle.cpa_model.specs.declared.facts.Elem.{Elem}
 use Rattle.cpa_model.specs.declared.states.State.{State}
 use Rattle.cpa_model.specs.declared.automaton.Edge.{Edge}
@@ -26,8 +26,8 @@ use Rattle.cpa_iface.specs.CommonLaws.{own-laws}
 use Rattle.cpa_iface.specs.Laws.{InitialLaws, TransferLaws, StrengthenLaws, MergeLaws, SomeHolds}
 use Rattle.cpa_iface.specs.Laws.{CoversEdge, IsBounded}
 use Rattle.cpa_iface.specs.Meanings.{IsShaped, AreShaped}
-use Rattle.cpa_path_folds.specs.Tracking.{is_tracked}
-use Rattle.cpa_path_folds.specs.lemmas.ScalarReads.{StaysInRange}
+use Rattle.cpa_folds.specs.Tracking.{is_tracked}
+use Rattle.cpa_folds.specs.lemmas.ScalarReads.{StaysInRange}
 use Rattle.cpa_interval_bounds.specs.declared.bounds.Bounds.{Bounds}
 use Rattle.cpa_interval_bounds.specs.Bounds.{Has, bounds, only}
 use Rattle.cpa_interval_bounds.specs.ExpressionBounds.{AreOf, LieWithin}

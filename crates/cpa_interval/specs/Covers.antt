@@ -1,8 +1,8 @@
 -- When one element covers another (this project's own).
 use Rattle.std.specs.Prelude.{ℕ, ◌==◌, ℤ, int_le, Bool, false, ◌&&◌, List}
 use Rattle.std.specs.List.{list_all, list_any}
-use Rattle.cpa_model_facts.specs.declared.fact.Fact.{Fact}
-use Rattle.cpa_model_facts.specs.declared.fact.Fact.TheVariants.{Within}
+use Rattle.cpa_facts.specs.declared.fact.Fact.{Fact}
+use Rattle.cpa_facts.specs.declared.fact.Fact.TheVariants.{Within}
 use Rattle.cpa_model.specs.declared.facts.Elem.{Elem}
 use Rattle.cpa_model.specs.Standing.{same_fact}
 

@@ -4,8 +4,8 @@ use Rattle.cpa_model.specs.declared.program.Cell.{Cell}
 use Rattle.cpa_model.specs.declared.facts.Elem.{Elem}
 use Rattle.cpa_iface.specs.declared.analysis.Part.TheVariants as part
 use Rattle.cpa_iface.specs.Meanings.{Meaning, Replies}
-use Rattle.cpa_path_folds.specs.Needed.{needed}
-use Rattle.cpa_path_folds.specs.Tracking.{first_tracking, refined}
+use Rattle.cpa_folds.specs.Needed.{needed}
+use Rattle.cpa_folds.specs.Tracking.{first_tracking, refined}
 use Rattle.cpa_interval_bounds.specs.Bounds.{only}
 use Rattle.cpa_interval.specs.Cells.{elem_of_all}
 use Rattle.cpa_interval.specs.Transfer.{next_intervals}

@@ -3,8 +3,8 @@
 
 ghost use Rattle.std.specs.Prelude.{◌≡◌, ◌<◌, ◌^◌, ◌++◌, true, length, slice_get, Some};
 ghost use Rattle.std.specs.Prelude.{IfOk, OnOk};
-ghost use Rattle.cpa_model_facts.specs.declared.fact.Fact.{Fact as AFact};
-ghost use Rattle.cpa_path_folds.specs.Tracking.{is_tracked};
+ghost use Rattle.cpa_facts.specs.declared.fact.Fact.{Fact as AFact};
+ghost use Rattle.cpa_folds.specs.Tracking.{is_tracked};
 ghost use Rattle.cpa_interval_bounds.specs.Tables.{are_descending, known_bounds};
 ghost use Rattle.cpa_interval.specs.Cells.{with_fact, with_facts, cell_bounds, is_whole};
 ghost use Rattle.cpa_interval.specs.Cells.{fact_of, facts_from, elem_of, elem_of_all};

@@ -3,7 +3,7 @@
 //! of `cpa_iface`.
 
 ghost use Rattle.std.specs.Prelude.{◌≡◌, ◌≤◌, Some, drop, length, slice_get, is_some, IfSome};
-ghost use Rattle.cpa_model_facts.specs.declared.fact.Fact.{Fact as AFact};
+ghost use Rattle.cpa_facts.specs.declared.fact.Fact.{Fact as AFact};
 ghost use Rattle.cpa_interval.specs.Covers.{keeps_within, says, has_covered, covers};
 
 use cpa_model::{Elem, Fact, Facts, same_fact};

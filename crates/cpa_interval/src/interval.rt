@@ -10,11 +10,11 @@ use crate::covers::covers;
 use crate::merging::merged;
 use crate::strengthening::strengthened;
 use crate::transfer::next_intervals;
+use cpa_folds::{first_tracking, refined};
 use cpa_iface::{Analysis, Entry, MergeRule, Part, Precision, Settings, unadjusted};
 use cpa_interval_bounds::Bounds;
 use cpa_ints::wrap_keeps_the_range;
 use cpa_model::{Cell, Cfa, Elem, Path, Seq, edges_are_sound};
-use cpa_path_folds::{first_tracking, refined};
 use std::alloc::{AllocError, Global};
 
 /// The analysis of intervals: an element says within which bounds the values of some cells lie. It

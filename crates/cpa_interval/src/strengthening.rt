@@ -5,7 +5,7 @@ ghost use Rattle.std.specs.Prelude.{length, IfOk};
 ghost use Rattle.std.specs.List.{list_any};
 ghost use Rattle.cpa_model.specs.Automata.{IsAutomaton};
 ghost use Rattle.cpa_iface.specs.Meanings.{IsPrecision};
-ghost use Rattle.cpa_path_folds.specs.Tracking.{is_tracked};
+ghost use Rattle.cpa_folds.specs.Tracking.{is_tracked};
 ghost use Rattle.cpa_interval.specs.Cells.{elem_of_all};
 ghost use Rattle.cpa_interval.specs.Strengthening.{is_bound, has_bound, met_cell, met, met_facts};
 ghost use Rattle.cpa_interval.specs.Strengthening.{met_elems, strengthened};

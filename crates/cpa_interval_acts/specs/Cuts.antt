@@ -6,8 +6,8 @@ use Rattle.cpa_expr.specs.declared.tree.CmpOp.{CmpOp}
 use Rattle.cpa_expr.specs.declared.tree.Expr.{Expr, out-Expr, roll-Expr}
 use Rattle.cpa_expr.specs.declared.tree.Expr.TheOpen.{Expr-F}
 use Rattle.cpa_expr.specs.declared.tree.Expr.TheFolds.{fold-Expr, map-Expr}
-use Rattle.cpa_path_folds.specs.declared.scalars.Scalar.{Scalar}
-use Rattle.cpa_path_folds.specs.Scalars.{scalar_of}
+use Rattle.cpa_folds.specs.declared.scalars.Scalar.{Scalar}
+use Rattle.cpa_folds.specs.Scalars.{scalar_of}
 use Rattle.cpa_interval_bounds.specs.declared.bounds.Bounds.{Bounds}
 use Rattle.cpa_interval_bounds.specs.Bounds.{range_of, is_inside}
 use Rattle.cpa_interval_bounds.specs.Truths.{truths_of, may_be, opposite, exchanged}

@@ -8,9 +8,9 @@ ghost use Rattle.cpa_interval_acts.specs.Cuts.{cut_at, cut_cell, fits, fitting, 
 ghost use Rattle.cpa_interval_acts.specs.Cuts.{cut_both, where_holds, compared_node, decided, assumed};
 
 use cpa_expr::{CmpOp, Expr};
+use cpa_folds::{Scalar, scalar_of};
 use cpa_interval_bounds::{Bounds, KnownBounds, bounds_of, cut, exchanged, opposite, truths_of};
 use cpa_ints::IntType;
-use cpa_path_folds::{Scalar, scalar_of};
 use std::alloc::AllocError;
 
 /// The bounds where the test has this truth, and whether it can.

@@ -4,8 +4,8 @@ use Rattle.std.specs.Prelude.{◌≡◌, ℕ, ◌<◌, ℤ, ◌≤ℤ◌, List, 
 use Rattle.std.specs.List.{AllByRecursion, Contains}
 use Rattle.cpa_model.specs.declared.program.Cell.{Cell}
 use Rattle.cpa_model.specs.declared.states.State.{State}
-use Rattle.cpa_model_facts.specs.declared.fact.Fact.{Fact}
-use Rattle.cpa_model_facts.specs.declared.fact.Fact.TheVariants.{At, Stack, Equals, Within, Truth}
+use Rattle.cpa_facts.specs.declared.fact.Fact.{Fact}
+use Rattle.cpa_facts.specs.declared.fact.Fact.TheVariants.{At, Stack, Equals, Within, Truth}
 use Rattle.cpa_model.specs.declared.facts.Elem.{Elem}
 use Rattle.cpa_ints.specs.Integers.{IsInRange}
 use Rattle.cpa_expr.specs.Values.{HasTruth}

@@ -8,8 +8,8 @@ use crate::automaton::Cfa;
 use crate::expressions::{has_truth, is_expr};
 use crate::program::Cell;
 use crate::states::State;
+use cpa_facts::{Fact, Facts};
 use cpa_ints::Seq;
-use cpa_model_facts::{Fact, Facts};
 use std::alloc::{AllocError, Global};
 
 /// An element of an analysis: it holds of a state of which all its facts hold. Copies share the

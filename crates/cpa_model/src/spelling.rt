@@ -11,7 +11,7 @@ use crate::automaton::{Act, Edge};
 use crate::facts::Elem;
 use crate::program::Stmt;
 use cpa_expr::{Expr, push_expr};
-use cpa_model_facts::{Fact, Facts, Iter};
+use cpa_facts::{Fact, Facts, Iter};
 use std::alloc::AllocError;
 
 /// What has one spelling.

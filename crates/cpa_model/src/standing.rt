@@ -2,15 +2,15 @@
 //! each state of the element is one of the other, is shown in `specs/StandingLaws.antt`.
 ghost use Rattle.std.specs.Prelude.{◌≡◌, ◌↔◌, IsTrue};
 ghost use Rattle.std.specs.List.{list_any};
-ghost use Rattle.cpa_model_facts.specs.declared.fact.Fact.{Fact};
+ghost use Rattle.cpa_facts.specs.declared.fact.Fact.{Fact};
 ghost use Rattle.cpa_model.specs.declared.facts.Elem.{Elem};
 ghost use Rattle.cpa_model.specs.Facts.{HasFacts, IsWithin};
 ghost use Rattle.cpa_model.specs.Standing.{same_sites, same_fact, has_facts};
 
 use crate::facts::Elem;
 use cpa_expr::same_expr;
+use cpa_facts::Fact;
 use cpa_ints::Seq;
-use cpa_model_facts::Fact;
 
 /// Whether each fact of `other` stands in `elem`: then each state of `elem` is one of `other`.
 pub fn has_facts(elem: &Elem, other: &Elem) -> bool

@@ -21,11 +21,11 @@ use Rattle.cpa_model.specs.lemmas.Lists.{in_list}
 use Rattle.cpa_interp.specs.Replays.{Stage, inputs_of, last_of}
 use Rattle.cpa_interp.specs.lemmas.Opening.{input_by, taken_by}
 use Rattle.cpa_interp.specs.lemmas.Choosing.{input_is}
-use Rattle.cpa_edgeform_rules.specs.Runs.{taken, Runs, StepsWith}
-use Rattle.cpa_edgeform_rules.specs.Stores.{steps_take_inputs}
+use Rattle.cpa_form_rules.specs.Runs.{taken, Runs, StepsWith}
+use Rattle.cpa_form_rules.specs.Stores.{steps_take_inputs}
 use Rattle.cpa_path.specs.Paths.{TakesEdges, IsRunAlong, HasNoRun, ReplaysAlong, ChainsFrom, Chains}
 use Rattle.cpa_path.specs.Paths.{added_along, HasStores}
-use Rattle.cpa_path_folds.specs.Along.{act_of, acts_along}
+use Rattle.cpa_folds.specs.Along.{act_of, acts_along}
 
 -- ---- a run is an execution
 

@@ -7,11 +7,11 @@ use Rattle.cpa_model.specs.declared.automaton.Edge.{Edge}
 use Rattle.cpa_model.specs.declared.automaton.Cfa.{Cfa}
 use Rattle.cpa_model.specs.Acts.{IsEdgeOf}
 use Rattle.cpa_query.specs.Queries.{IsModel}
-use Rattle.cpa_edgeform_rules.specs.Runs.{taken, Runs}
-use Rattle.cpa_edgeform_rules.specs.Forms.{Form, form_from, with_added, inputs_at, last_store}
-use Rattle.cpa_edgeform_rules.specs.Laws.{IsAddedOf, IsFormOf}
+use Rattle.cpa_form_rules.specs.Runs.{taken, Runs}
+use Rattle.cpa_form_rules.specs.Forms.{Form, form_from, with_added, inputs_at, last_store}
+use Rattle.cpa_form_rules.specs.Laws.{IsAddedOf, IsFormOf}
 use Rattle.cpa_path.specs.Paths.{added_along, path_form, HasStores}
-use Rattle.cpa_path_folds.specs.Along.{act_of, acts_along}
+use Rattle.cpa_folds.specs.Along.{act_of, acts_along}
 
 there_is : {X : Type 0} (xs : List X) (i : ℕ) → i < length xs → (x : X) × (slice_get xs i ≡ Some x)
 there_is [] i less = absurd (omega (arith, less))

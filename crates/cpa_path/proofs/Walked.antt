@@ -11,9 +11,9 @@ use Rattle.cpa_model.specs.declared.automaton.Edge.{Edge}
 use Rattle.cpa_model.specs.declared.automaton.Cfa.{Cfa}
 use Rattle.cpa_model.specs.declared.program.Cell.{Cell}
 use Rattle.cpa_model.specs.Steps.{StepsStore}
-use Rattle.cpa_edgeform_rules.specs.Runs.{taken, Runs, StepsWith}
+use Rattle.cpa_form_rules.specs.Runs.{taken, Runs, StepsWith}
 use Rattle.cpa_path.specs.Paths.{added_along, is_input, has_input}
-use Rattle.cpa_path_folds.specs.Along.{act_of, acts_along}
+use Rattle.cpa_folds.specs.Along.{act_of, acts_along}
 
 -- without inputs a step is one of the store, and leads to one store
 settled_step : (cells : List Cell) (a : Act) (old own new : List ℤ) → is_input a ≡ false

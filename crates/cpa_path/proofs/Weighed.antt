@@ -5,8 +5,8 @@ use Rattle.std.specs.List.{sum_by}
 use Rattle.std.proofs.lemmas.List.Sums.{sum_by-cons}
 use Rattle.cpa_model.specs.declared.automaton.Edge.{Edge}
 use Rattle.cpa_model.specs.declared.automaton.Cfa.{Cfa}
-use Rattle.cpa_edgeform_rules.specs.Forms.{act_weight}
-use Rattle.cpa_path_folds.specs.Along.{act_of, acts_along}
+use Rattle.cpa_form_rules.specs.Forms.{act_weight}
+use Rattle.cpa_folds.specs.Along.{act_of, acts_along}
 
 stops : (total w rest m : ℕ) → min (min (total + min w m) m + rest) m ≡ min (total + (w + rest)) m
 stops total w rest m = omega arith

@@ -13,9 +13,9 @@ use Rattle.cpa_model.specs.Automata.{StepsAlong, initial_state}
 use Rattle.cpa_model.specs.Steps.{StepsStack}
 use Rattle.cpa_interp.specs.declared.outcome.Outcome.TheVariants as outcome
 use Rattle.cpa_interp.specs.Replays.{Replay, last_of}
-use Rattle.cpa_edgeform_rules.specs.Runs.{Added, taken, Runs}
-use Rattle.cpa_edgeform_rules.specs.Forms.{Form, form_of, act_weight}
-use Rattle.cpa_path_folds.specs.Along.{acts_along}
+use Rattle.cpa_form_rules.specs.Runs.{Added, taken, Runs}
+use Rattle.cpa_form_rules.specs.Forms.{Form, form_of, act_weight}
+use Rattle.cpa_folds.specs.Along.{acts_along}
 
 -- ---- runs
 

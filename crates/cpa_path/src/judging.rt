@@ -12,7 +12,7 @@ use crate::chaining::{chains, has_input};
 use crate::walking::walk;
 use crate::weighing::path_weight;
 use cpa_cnf::Line;
-use cpa_edgeform_rules::forms_are_runs;
+use cpa_form_rules::forms_are_runs;
 use cpa_model::{Cfa, Path, edges_are_sound, edges_are_steps, steps_keep_states};
 use cpa_solver::{Decided, decide};
 use std::alloc::{AllocError, Global};

@@ -8,6 +8,6 @@ mod judging;
 mod walking;
 mod weighing;
 
-pub use cpa_path_folds::{carried, needed};
+pub use cpa_folds::{carried, needed};
 pub use judging::{Judged, judge};
 pub use weighing::path_weight;

@@ -1,7 +1,7 @@
 -- Two questions on the truths of one predicate, asked one after the other.
 use Rattle.std.specs.Prelude.{Bool, true, false, None}
 use Rattle.cpa_expr.specs.declared.tree.Expr.{Expr}
-use Rattle.cpa_edgeform_rules.specs.Forms.{Form}
+use Rattle.cpa_form_rules.specs.Forms.{Form}
 use Rattle.cpa_predicate.specs.declared.asking.Budgets.{Budgets}
 use Rattle.cpa_predicate.specs.Questions.{IsBeyond, IsUndecided, Spends, IsFound}
 use Rattle.cpa_predicate.specs.Questions.{lacking}

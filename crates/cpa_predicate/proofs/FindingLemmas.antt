@@ -8,7 +8,7 @@ use Rattle.cpa_expr.specs.declared.tree.Expr.{Expr}
 use Rattle.cpa_expr.specs.Equality.{same_expr}
 use Rattle.cpa_expr.specs.Laws.{same_where_equal}
 use Rattle.cpa_query.specs.declared.query.Query.{Query}
-use Rattle.cpa_edgeform_rules.specs.Forms.{Form}
+use Rattle.cpa_form_rules.specs.Forms.{Form}
 use Rattle.cpa_predicate.specs.declared.asking.Budgets.{Budgets}
 use Rattle.cpa_predicate.specs.declared.asking.Answer.{Answer}
 use Rattle.cpa_predicate.specs.declared.asking.Answer.TheVariants.{Never, Sometimes, Undecided}

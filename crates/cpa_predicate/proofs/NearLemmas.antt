@@ -3,8 +3,8 @@ use Rattle.std.proofs.Common.{◌≡◌, ℕ, ℤ, Bool, List, [], ◌∷◌, �
 use Rattle.std.specs.Prelude.{Option, None, Some, IfSome, IsTrue}
 use Rattle.std.specs.List.{AllByRecursion, filter}
 use Rattle.cpa_expr.specs.declared.tree.Expr.{Expr}
-use Rattle.cpa_model_facts.specs.declared.fact.Fact.{Fact}
-use Rattle.cpa_model_facts.specs.declared.fact.Fact.TheVariants.{At, Stack, Equals, Within, Truth}
+use Rattle.cpa_facts.specs.declared.fact.Fact.{Fact}
+use Rattle.cpa_facts.specs.declared.fact.Fact.TheVariants.{At, Stack, Equals, Within, Truth}
 use Rattle.cpa_model.specs.declared.facts.Elem.{Elem}
 use Rattle.cpa_model.specs.declared.automaton.Edge.{Edge}
 use Rattle.cpa_model.specs.declared.automaton.Cfa.{Cfa}
@@ -14,10 +14,10 @@ use Rattle.cpa_model.specs.Expressions.{IsExpr}
 use Rattle.cpa_model.specs.declared.program.Cell.{Cell}
 use Rattle.cpa_model.specs.Facts.{IsElem, IsFact}
 use Rattle.cpa_iface.specs.CommonLaws.{kept_all}
-use Rattle.cpa_edgeform_rules.specs.Forms.{Form}
-use Rattle.cpa_edgeform_rules.specs.Laws.{FormsAreRuns}
-use Rattle.cpa_edgeform_rules.specs.Runs.{StoreHolds, StoreFactHolds}
-use Rattle.cpa_edgeform_rules.specs.Stores.{FailingIsNotHolding, StepsTakeInputs}
+use Rattle.cpa_form_rules.specs.Forms.{Form}
+use Rattle.cpa_form_rules.specs.Laws.{FormsAreRuns}
+use Rattle.cpa_form_rules.specs.Runs.{StoreHolds, StoreFactHolds}
+use Rattle.cpa_form_rules.specs.Stores.{FailingIsNotHolding, StepsTakeInputs}
 use Rattle.cpa_query.specs.Queries.{IsQuery}
 use Rattle.cpa_solver.specs.Decisions.{HasNoModel}
 use Rattle.cpa_predicate.specs.Steps.{is_truth, truths, HasAfter}

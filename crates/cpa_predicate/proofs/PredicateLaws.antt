@@ -9,8 +9,8 @@ use Rattle.std.specs.declared.alloc.Global.{Global}
 use Rattle.std.specs.declared.vec.Vec.{Vec}
 use Rattle.std.proofs.lemmas.Result.{IfOk-weaker}
 use Rattle.cpa_expr.specs.declared.tree.Expr.{Expr}
-use Rattle.cpa_model_facts.specs.declared.fact.Fact.{Fact}
-use Rattle.cpa_model_facts.specs.declared.fact.Fact.TheVariants.{At, Stack, Equals, Within, Truth}
+use Rattle.cpa_facts.specs.declared.fact.Fact.{Fact}
+use Rattle.cpa_facts.specs.declared.fact.Fact.TheVariants.{At, Stack, Equals, Within, Truth}
 use Rattle.cpa_model.specs.declared.facts.Elem.{Elem}
 use Rattle.cpa_model.specs.declared.states.State.{State}
 use Rattle.cpa_model.specs.declared.automaton.Edge.{Edge}
@@ -21,7 +21,7 @@ use Rattle.cpa_model.specs.Facts.{FactHolds, Holds, IsFact}
 use Rattle.cpa_iface.specs.declared.precisions.Precision.{Precision}
 use Rattle.cpa_iface.specs.Laws.{InitialLaws, TransferLaws, SomeHolds}
 use Rattle.cpa_iface.specs.Meanings.{AreShaped, IsPrecision}
-use Rattle.cpa_edgeform_rules.specs.Runs.{StoreFactHolds}
+use Rattle.cpa_form_rules.specs.Runs.{StoreFactHolds}
 use Rattle.cpa_predicate.specs.Predicates.{predicates, no_facts}
 use Rattle.cpa_predicate.specs.declared.asking.Budgets.{Budgets}
 use Rattle.cpa_predicate.specs.Questions.{Question, form_asked, IsOpen}

@@ -7,8 +7,8 @@ use Rattle.cpa_model.specs.Expressions.{IsExpr}
 use Rattle.cpa_iface.specs.declared.precisions.Precision.{Precision}
 use Rattle.cpa_iface.specs.Laws.{RefineLaws}
 use Rattle.cpa_iface.specs.Meanings.{IsPrecision}
-use Rattle.cpa_path_folds.specs.Carried.{carried}
-use Rattle.cpa_path_folds.specs.CarriedLaws.{CarriedAreExpressions}
+use Rattle.cpa_folds.specs.Carried.{carried}
+use Rattle.cpa_folds.specs.CarriedLaws.{CarriedAreExpressions}
 use Rattle.cpa_predicate.specs.Predicates.{predicates}
 use Rattle.cpa_predicate.specs.Refining.{with_carried}
 use Rattle.cpa_predicate.specs.lemmas.Missing.{missing, all_missing}

@@ -6,7 +6,7 @@ use Rattle.std.proofs.Common.{inl, inr}
 use Rattle.cpa_expr.specs.declared.tree.Expr.{Expr}
 use Rattle.cpa_expr.specs.Cells.{AreValues}
 use Rattle.cpa_expr.specs.Values.{HasTruth}
-use Rattle.cpa_model_facts.specs.declared.fact.Fact.TheVariants.{Truth}
+use Rattle.cpa_facts.specs.declared.fact.Fact.TheVariants.{Truth}
 use Rattle.cpa_model.specs.declared.facts.Elem.{Elem}
 use Rattle.cpa_model.specs.declared.automaton.Edge.{Edge}
 use Rattle.cpa_model.specs.declared.automaton.Cfa.{Cfa}
@@ -17,11 +17,11 @@ use Rattle.cpa_model.specs.Facts.{IsFact, IsElem}
 use Rattle.cpa_model.specs.Steps.{StepsStore}
 use Rattle.cpa_iface.specs.CommonLaws.{kept_all}
 use Rattle.cpa_query.specs.Queries.{IsQuery}
-use Rattle.cpa_edgeform_rules.specs.Forms.{first_store, last_store, inputs_at}
-use Rattle.cpa_edgeform_rules.specs.Laws.{FormsAreRuns, IsFormOf}
-use Rattle.cpa_edgeform_rules.specs.Runs.{Added, taken, holding, failing, StoreHolds, StoreFails}
-use Rattle.cpa_edgeform_rules.specs.Runs.{Runs}
-use Rattle.cpa_edgeform_rules.specs.Stores.{FailingIsNotHolding, StepsTakeInputs}
+use Rattle.cpa_form_rules.specs.Forms.{first_store, last_store, inputs_at}
+use Rattle.cpa_form_rules.specs.Laws.{FormsAreRuns, IsFormOf}
+use Rattle.cpa_form_rules.specs.Runs.{Added, taken, holding, failing, StoreHolds, StoreFails}
+use Rattle.cpa_form_rules.specs.Runs.{Runs}
+use Rattle.cpa_form_rules.specs.Stores.{FailingIsNotHolding, StepsTakeInputs}
 use Rattle.cpa_solver.specs.Decisions.{HasNoModel}
 use Rattle.cpa_predicate.specs.Steps.{is_truth, truths, StepsFrom, NeverSteps, HasAfter}
 use Rattle.cpa_predicate.specs.Questions.{step_form, lacking}

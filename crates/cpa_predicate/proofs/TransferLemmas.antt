@@ -11,9 +11,9 @@ use Rattle.cpa_model.specs.declared.facts.Elem.{Elem}
 use Rattle.cpa_model.specs.declared.automaton.Edge.{Edge}
 use Rattle.cpa_model.specs.declared.automaton.Cfa.{Cfa}
 use Rattle.cpa_model.specs.Expressions.{IsExpr}
-use Rattle.cpa_edgeform_rules.specs.Forms.{Form}
-use Rattle.cpa_edgeform_rules.specs.Laws.{FormsAreRuns}
-use Rattle.cpa_edgeform_rules.specs.Stores.{FailingIsNotHolding, StepsTakeInputs}
+use Rattle.cpa_form_rules.specs.Forms.{Form}
+use Rattle.cpa_form_rules.specs.Laws.{FormsAreRuns}
+use Rattle.cpa_form_rules.specs.Stores.{FailingIsNotHolding, StepsTakeInputs}
 use Rattle.cpa_query.specs.Queries.{IsQuery}
 use Rattle.cpa_solver.specs.Decisions.{HasNoModel}
 use Rattle.cpa_predicate.specs.declared.asking.Budgets.{Budgets}

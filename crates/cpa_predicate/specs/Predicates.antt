@@ -7,7 +7,7 @@ use Rattle.cpa_iface.specs.declared.analysis.Part.TheVariants as part
 use Rattle.cpa_iface.specs.declared.analysis.Settings.{Settings}
 use Rattle.cpa_iface.specs.Common.{fact_count}
 use Rattle.cpa_iface.specs.Meanings.{Meaning}
-use Rattle.cpa_path_folds.specs.Carried.{carried}
+use Rattle.cpa_folds.specs.Carried.{carried}
 use Rattle.cpa_predicate.specs.declared.asking.Budgets.{Budgets}
 
 -- no fact

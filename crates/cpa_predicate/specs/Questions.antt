@@ -5,7 +5,7 @@ use Rattle.std.specs.Prelude.{Option, None, Some}
 use Rattle.std.specs.Coded.{Π_prop, →_prop}
 use Rattle.std.specs.List.{Contains}
 use Rattle.cpa_expr.specs.declared.tree.Expr.{Expr}
-use Rattle.cpa_model_facts.specs.declared.fact.Fact.TheVariants.{Truth}
+use Rattle.cpa_facts.specs.declared.fact.Fact.TheVariants.{Truth}
 use Rattle.cpa_model.specs.declared.facts.Elem.{Elem}
 use Rattle.cpa_model.specs.declared.automaton.Edge.{Edge}
 use Rattle.cpa_model.specs.declared.automaton.Cfa.{Cfa}
@@ -16,8 +16,8 @@ use Rattle.cpa_cnf.specs.declared.formula.Line.{Line}
 use Rattle.cpa_query.specs.declared.query.Query.{Query}
 use Rattle.cpa_sat.specs.Outcomes.{IsSpent}
 use Rattle.cpa_blast.specs.Formulas.{formula}
-use Rattle.cpa_edgeform_rules.specs.Runs.{taken, holding, failing}
-use Rattle.cpa_edgeform_rules.specs.Forms.{Form, form_of, with_added}
+use Rattle.cpa_form_rules.specs.Runs.{taken, holding, failing}
+use Rattle.cpa_form_rules.specs.Forms.{Form, form_of, with_added}
 use Rattle.cpa_solver.specs.Decisions.{HasNoModel}
 use Rattle.cpa_predicate.specs.declared.asking.Budgets.{Budgets}
 use Rattle.cpa_predicate.specs.declared.asking.Answer.{Answer}

@@ -4,7 +4,7 @@ use Rattle.cpa_expr.specs.declared.tree.Expr.{Expr}
 use Rattle.cpa_model.specs.declared.automaton.Cfa.{Cfa}
 use Rattle.cpa_model.specs.declared.automaton.Path.{Path}
 use Rattle.cpa_iface.specs.declared.precisions.Precision.{Precision}
-use Rattle.cpa_path_folds.specs.Carried.{carried, with_new}
+use Rattle.cpa_folds.specs.Carried.{carried, with_new}
 
 -- each of the first list that the other one lacks stands behind it, once
 abbrev pub with_missing : List Expr → List Expr → List Expr

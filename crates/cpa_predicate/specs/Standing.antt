@@ -5,8 +5,8 @@ use Rattle.cpa_expr.specs.declared.tree.Expr.{Expr}
 use Rattle.cpa_expr.specs.Equality.{same_expr}
 use Rattle.cpa_model.specs.declared.automaton.Act.{Act}
 use Rattle.cpa_model.specs.declared.automaton.Act.TheVariants.{Assign, Input}
-use Rattle.cpa_model_facts.specs.declared.fact.Fact.{Fact}
-use Rattle.cpa_model_facts.specs.declared.fact.Fact.TheVariants.{Truth}
+use Rattle.cpa_facts.specs.declared.fact.Fact.{Fact}
+use Rattle.cpa_facts.specs.declared.fact.Fact.TheVariants.{Truth}
 
 -- the truth that a fact says of the predicate
 abbrev pub said : Expr → Fact → Option Bool

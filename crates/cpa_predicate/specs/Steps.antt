@@ -6,14 +6,14 @@ use Rattle.cpa_expr.specs.declared.tree.Expr.{Expr}
 use Rattle.cpa_expr.specs.declared.tree.Store.{Store}
 use Rattle.cpa_expr.specs.Cells.{AreValues}
 use Rattle.cpa_expr.specs.Values.{HasTruth}
-use Rattle.cpa_model_facts.specs.declared.fact.Fact.{Fact}
-use Rattle.cpa_model_facts.specs.declared.fact.Fact.TheVariants.{Truth}
+use Rattle.cpa_facts.specs.declared.fact.Fact.{Fact}
+use Rattle.cpa_facts.specs.declared.fact.Fact.TheVariants.{Truth}
 use Rattle.cpa_model.specs.declared.facts.Elem.{Elem}
 use Rattle.cpa_model.specs.declared.automaton.Edge.{Edge}
 use Rattle.cpa_model.specs.declared.automaton.Cfa.{Cfa}
 use Rattle.cpa_model.specs.Expressions.{types_of}
 use Rattle.cpa_model.specs.Steps.{StepsStore}
-use Rattle.cpa_edgeform_rules.specs.Runs.{StoreHolds}
+use Rattle.cpa_form_rules.specs.Runs.{StoreHolds}
 
 -- the fact is on the truth of a predicate
 abbrev pub is_truth : Fact → Bool

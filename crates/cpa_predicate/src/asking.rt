@@ -1,7 +1,7 @@
 //! Questions to the solver within budgets, by `specs/Questions.antt`.
 
 ghost use Rattle.std.specs.Prelude.{◌≡◌, ℕ, ◌∷◌, [], IsTrue, true, false, Bool, IfOk, IfSome};
-ghost use Rattle.cpa_model_facts.specs.declared.fact.Fact.TheVariants.{Truth};
+ghost use Rattle.cpa_facts.specs.declared.fact.Fact.TheVariants.{Truth};
 ghost use Rattle.cpa_query.specs.declared.query.Query.{Query as AQuery};
 ghost use Rattle.cpa_query.specs.Queries.{IsQuery};
 ghost use Rattle.cpa_solver.specs.Decisions.{HasNoModel, IsDecided};

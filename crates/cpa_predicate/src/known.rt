@@ -3,7 +3,7 @@
 
 ghost use Rattle.std.specs.Prelude.{◌≡◌, ◌∷◌, List, IsTrue, IfOk, IfSome};
 ghost use Rattle.cpa_model.specs.Expressions.{types_of};
-ghost use Rattle.cpa_model_facts.specs.declared.fact.Fact.{Fact as AFact};
+ghost use Rattle.cpa_facts.specs.declared.fact.Fact.{Fact as AFact};
 ghost use Rattle.cpa_predicate.specs.Known.{told, IsKnown, IsKnown-prop};
 ghost use Rattle.cpa_predicate.specs.Transfer.{IsOutcome, NoneOpen};
 

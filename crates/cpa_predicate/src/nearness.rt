@@ -5,7 +5,7 @@
 ghost use Rattle.std.specs.Prelude.{ℕ, ℤ, List, IsTrue, IfOk};
 ghost use Rattle.cpa_model.specs.declared.program.Cell.{Cell as ACell};
 ghost use Rattle.cpa_model.specs.Facts.{IsElem};
-ghost use Rattle.cpa_edgeform_rules.specs.Runs.{StoreHolds};
+ghost use Rattle.cpa_form_rules.specs.Runs.{StoreHolds};
 ghost use Rattle.cpa_predicate.specs.Steps.{is_truth, truths};
 
 use cpa_expr::{Parts, parts_of};

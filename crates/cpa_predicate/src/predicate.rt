@@ -16,12 +16,12 @@ ghost use Rattle.cpa_predicate.specs.Transfer.{IsCartesian, NoneOpen};
 use crate::asking::{Asker, Budgets};
 use crate::refining::with_carried;
 use crate::transfer::{no_facts, successors};
+use cpa_folds::carried_are_expressions;
 use cpa_iface::{
     Analysis, Entry, MergeRule, Part, Precision, Settings, covers, empty_precision, merge_facts,
     unadjusted, unstrengthened,
 };
 use cpa_model::{Cfa, Elem, Path, edges_are_sound};
-use cpa_path_folds::carried_are_expressions;
 use std::alloc::{AllocError, Global};
 use std::marker::Model;
 

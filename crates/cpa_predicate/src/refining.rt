@@ -3,13 +3,13 @@
 ghost use Rattle.std.specs.Prelude.{◌≡◌, ◌<◌, length, IfOk, OnOk};
 ghost use Rattle.std.specs.List.{AllByRecursion, list_any};
 ghost use Rattle.cpa_expr.specs.Equality.{same_expr};
-ghost use Rattle.cpa_path_folds.specs.Carried.{with_new};
+ghost use Rattle.cpa_folds.specs.Carried.{with_new};
 ghost use Rattle.cpa_predicate.specs.Refining.{with_missing, with_preds, with_carried};
 
 use cpa_expr::{copy, same_expr};
+use cpa_folds::carried;
 use cpa_iface::{Precision, copy_preds};
 use cpa_model::{Cfa, Expr, Path, Seq, Shared};
-use cpa_path_folds::carried;
 use std::alloc::{AllocError, Global};
 
 /// Whether the list holds the expression.

@@ -20,8 +20,8 @@ use crate::standing::standing_truth;
 use crate::steps::step_form;
 use crate::witnesses::{leads_nowhere, mixed_lacking, some_lacks, stores_behind};
 use cpa_edgeform::EdgeForm;
-use cpa_edgeform_rules::{failing_is_not_holding, forms_are_runs, steps_take_inputs};
 use cpa_expr::{copy, value_depends_on_what_is_read};
+use cpa_form_rules::{failing_is_not_holding, forms_are_runs, steps_take_inputs};
 use cpa_model::{Cfa, Edge, Elem, Expr, Fact, Seq, Store, edges_are_sound};
 use std::alloc::{AllocError, Global};
 

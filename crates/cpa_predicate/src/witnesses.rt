@@ -8,14 +8,14 @@ ghost use Rattle.cpa_ints.specs.Integers.{IsInRange};
 ghost use Rattle.cpa_expr.specs.Cells.{AreValues};
 ghost use Rattle.cpa_model.specs.Expressions.{types_of};
 ghost use Rattle.cpa_model.specs.Steps.{StepsStore};
-ghost use Rattle.cpa_edgeform_rules.specs.Runs.{StoreHolds, StoreFactHolds};
+ghost use Rattle.cpa_form_rules.specs.Runs.{StoreHolds, StoreFactHolds};
 ghost use Rattle.cpa_solver.specs.Decisions.{HasNoModel};
 ghost use Rattle.cpa_predicate.specs.Questions.{IsStep, IsUndecided, IsBeyond, Spends};
 ghost use Rattle.cpa_predicate.specs.Steps.{is_truth, truths, IsAfter, SomeLacks};
 
 use crate::asking::{Asker, is_never};
 use cpa_edgeform::EdgeForm;
-use cpa_edgeform_rules::{forms_are_runs, steps_take_inputs};
+use cpa_form_rules::{forms_are_runs, steps_take_inputs};
 use cpa_interp::{assign, put};
 use cpa_model::{Act, Cell, Cfa, Edge, Elem, Expr, Fact, Seq, Store, has_truth};
 use std::alloc::{AllocError, Global};

@@ -10,9 +10,9 @@ use Rattle.std.specs.List.{AllByRecursion, slice_get, filter}
 use Rattle.std.proofs.lemmas.Bool.{cases_Bool, both_ways, cond_both, ltb-false}
 use Rattle.std.proofs.lemmas.Option.{same_Some}
 use Rattle.cpa_model.specs.declared.states.State.{State}
-use Rattle.cpa_model_facts.specs.declared.fact.Fact.{Fact}
-use Rattle.cpa_model_facts.specs.declared.fact.Fact.TheVariants.{At, Stack, Equals, Within, Truth}
-use Rattle.cpa_model_facts.specs.Prints.{mixed}
+use Rattle.cpa_facts.specs.declared.fact.Fact.{Fact}
+use Rattle.cpa_facts.specs.declared.fact.Fact.TheVariants.{At, Stack, Equals, Within, Truth}
+use Rattle.cpa_facts.specs.Prints.{mixed}
 use Rattle.cpa_model.specs.declared.facts.Elem.{Elem}
 use Rattle.cpa_model.specs.Facts.{FactHolds, Holds}
 use Rattle.cpa_iface.specs.declared.entries.Entry.{Entry}

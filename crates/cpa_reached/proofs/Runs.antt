@@ -11,12 +11,12 @@ use Rattle.std.proofs.lemmas.List.{drop_more}
 use Rattle.std.proofs.lemmas.Option.{same_Some}
 use Rattle.cpa_model.specs.declared.states.State.{State}
 use Rattle.cpa_model.specs.Facts.{FactHolds}
-use Rattle.cpa_model_facts.specs.declared.fact.Fact.{Fact}
-use Rattle.cpa_model_facts.specs.declared.run.Run.{Run}
-use Rattle.cpa_model_facts.specs.Blocks.{joined}
-use Rattle.cpa_model_facts.specs.Prints.{mixed}
-use Rattle.cpa_model_facts.specs.Runs.{run_of}
-use Rattle.cpa_model_facts.specs.lemmas.Runs.{consecutive, print_on, run_is}
+use Rattle.cpa_facts.specs.declared.fact.Fact.{Fact}
+use Rattle.cpa_facts.specs.declared.run.Run.{Run}
+use Rattle.cpa_facts.specs.Blocks.{joined}
+use Rattle.cpa_facts.specs.Prints.{mixed}
+use Rattle.cpa_facts.specs.Runs.{run_of}
+use Rattle.cpa_facts.specs.lemmas.Runs.{consecutive, print_on, run_is}
 use Rattle.cpa_reached.specs.Marks.{print_of, is_above, past, past_all}
 use Rattle.cpa_reached.proofs.Marking.{print_more, then_some}
 

@@ -6,7 +6,7 @@ use Rattle.std.specs.Bool.{Decides}
 use Rattle.std.specs.Cmp.{IsPartialEquivalence, IsEquivalence, decided, partial_equiv_from_equiv}
 use Rattle.std.specs.Hash.{Alike, same_Alike}
 use Rattle.std.proofs.lemmas.Bool.{and_parts}
-use Rattle.cpa_model_facts.specs.declared.fact.Fact.{Fact}
+use Rattle.cpa_facts.specs.declared.fact.Fact.{Fact}
 use Rattle.cpa_model.specs.declared.facts.Elem.{Elem}
 use Rattle.cpa_model.specs.Standing.{same_fact}
 use Rattle.cpa_model.specs.StandingLaws.{same_fact-means, same_fact-self}

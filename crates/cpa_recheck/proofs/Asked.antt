@@ -12,8 +12,8 @@ use Rattle.cpa_model.specs.declared.facts.Elem.{Elem}
 use Rattle.cpa_model.specs.declared.automaton.Act.{Act}
 use Rattle.cpa_model.specs.declared.automaton.Edge.{Edge}
 use Rattle.cpa_model.specs.declared.automaton.Cfa.{Cfa}
-use Rattle.cpa_edgeform_rules.specs.Runs.{taken, holding, failing}
-use Rattle.cpa_edgeform_rules.specs.Forms.{Form, begun, form_of, with_added}
+use Rattle.cpa_form_rules.specs.Runs.{taken, holding, failing}
+use Rattle.cpa_form_rules.specs.Forms.{Form, begun, form_of, with_added}
 use Rattle.cpa_recheck_obligations.specs.declared.spots.Spot.{Spot}
 use Rattle.cpa_recheck_obligations.specs.declared.listing.Obligation.TheVariants.{Begins, Leads}
 use Rattle.cpa_recheck_obligations.specs.Spots.{spot_of, spot_of_parts, spots_of}

@@ -11,7 +11,7 @@ use Rattle.cpa_model.specs.Facts.{IsElem}
 use Rattle.cpa_model.specs.States.{state_at}
 use Rattle.cpa_model.specs.lemmas.EdgesSound.{all_at}
 use Rattle.cpa_query.specs.Queries.{IsModel}
-use Rattle.cpa_edgeform_rules.specs.Forms.{Form, first_store, last_store}
+use Rattle.cpa_form_rules.specs.Forms.{Form, first_store, last_store}
 use Rattle.cpa_recheck_obligations.specs.declared.listing.Obligation.{Obligation}
 use Rattle.cpa_recheck_obligations.specs.declared.listing.Obligation.TheVariants.{Begins, Leads}
 use Rattle.cpa_recheck_obligations.specs.declared.listing.Obligation.TheVariants.{Avoids}

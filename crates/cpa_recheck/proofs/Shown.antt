@@ -16,8 +16,8 @@ use Rattle.cpa_query.specs.declared.query.Query.{Query}
 use Rattle.cpa_query.specs.Queries.{IsModel, IsQuery}
 use Rattle.cpa_sat.specs.Outcomes.{IsRefutedWithin, IsSpent}
 use Rattle.cpa_blast.specs.Formulas.{formula}
-use Rattle.cpa_edgeform_rules.specs.Forms.{Form}
-use Rattle.cpa_edgeform_rules.specs.lemmas.Lists.{all_both, zip_more}
+use Rattle.cpa_form_rules.specs.Forms.{Form}
+use Rattle.cpa_form_rules.specs.lemmas.Lists.{all_both, zip_more}
 use Rattle.cpa_solver.specs.Decisions.{HasNoModel}
 use Rattle.cpa_recheck_obligations.specs.declared.listing.Obligation.{Obligation}
 use Rattle.cpa_recheck_obligations.specs.Spots.{as_one, joined}

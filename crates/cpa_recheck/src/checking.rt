@@ -20,7 +20,7 @@ use crate::breaking::broken;
 use crate::surveying::{Survey, survey_of};
 use cpa_cnf::Line;
 use cpa_edgeform::EdgeForm;
-use cpa_edgeform_rules::forms_are_runs;
+use cpa_form_rules::forms_are_runs;
 use cpa_model::{Cfa, Elem, State};
 use cpa_recheck_bounds::is_settled;
 use cpa_recheck_obligations::{Obligation, Spot, added_fit, runless_is_met, unmodelled_is_met};

@@ -10,8 +10,8 @@ use Rattle.cpa_expr.specs.declared.tree.CmpOp.TheVariants as cmp
 use Rattle.cpa_ints.specs.declared.integers.IntType.{IntType}
 use Rattle.cpa_expr.specs.Cells.{AreValues}
 use Rattle.cpa_model.specs.declared.program.Cell.{Cell}
-use Rattle.cpa_model_facts.specs.declared.fact.Fact.{Fact}
-use Rattle.cpa_model_facts.specs.declared.fact.Fact.TheVariants.{At, Stack, Equals, Within, Truth}
+use Rattle.cpa_facts.specs.declared.fact.Fact.{Fact}
+use Rattle.cpa_facts.specs.declared.fact.Fact.TheVariants.{At, Stack, Equals, Within, Truth}
 use Rattle.cpa_model.specs.declared.facts.Elem.{Elem}
 use Rattle.cpa_model.specs.declared.automaton.Act.{Act}
 use Rattle.cpa_model.specs.declared.automaton.Act.TheVariants.{Skip, Assign, Assume, Input, Call}
@@ -21,7 +21,7 @@ use Rattle.cpa_model.specs.Acts.{IsActOf}
 use Rattle.cpa_model.specs.Expressions.{types_of}
 use Rattle.cpa_model.specs.Facts.{IsFact, IsElem}
 use Rattle.cpa_model.specs.Steps.{StepsStore}
-use Rattle.cpa_edgeform_rules.specs.Runs.{StoreFactHolds, StoreHolds}
+use Rattle.cpa_form_rules.specs.Runs.{StoreFactHolds, StoreHolds}
 use Rattle.cpa_interval_bounds.specs.declared.bounds.Bounds.{Bounds}
 use Rattle.cpa_interval_bounds.specs.Bounds.{Has, bounds, only}
 use Rattle.cpa_interval_bounds.specs.ExpressionBounds.{AreOf, LieWithin}
@@ -31,9 +31,9 @@ use Rattle.cpa_interval_acts.specs.Laws.{BoundsFollowActs}
 use Rattle.cpa_interval_acts.specs.lemmas.CutLemmas.{Lies, Are, lies_then, are_then, cut_lies}
 use Rattle.cpa_interval_acts.specs.lemmas.CutLemmas.{cut_are}
 use Rattle.cpa_interval_acts.specs.lemmas.ZipLemmas.{ranges_are, ranges_lie}
-use Rattle.cpa_path_folds.specs.declared.scalars.Scalar.{Scalar}
-use Rattle.cpa_path_folds.specs.Scalars.{read_of}
-use Rattle.cpa_path_folds.specs.lemmas.ScalarReads.{StaysInRange, read_value}
+use Rattle.cpa_folds.specs.declared.scalars.Scalar.{Scalar}
+use Rattle.cpa_folds.specs.Scalars.{read_of}
+use Rattle.cpa_folds.specs.lemmas.ScalarReads.{StaysInRange, read_value}
 use Rattle.cpa_expr.specs.declared.tree.Expr.{out-Expr}
 use Rattle.cpa_expr.specs.Values.{compares, is_nonzero, value_of}
 use Rattle.std.specs.Ordering.{int_eq}

@@ -8,13 +8,13 @@ use Rattle.std.proofs.lemmas.Bool.{and_parts}
 use Rattle.cpa_expr.specs.declared.tree.Expr.{Expr}
 use Rattle.cpa_expr.specs.Laws.{DependsOnWhatIsRead}
 use Rattle.cpa_expr.specs.Values.{HasTruth, is_nonzero}
-use Rattle.cpa_model_facts.specs.declared.fact.Fact.{Fact}
-use Rattle.cpa_model_facts.specs.declared.fact.Fact.TheVariants.{At, Stack, Equals, Within, Truth}
+use Rattle.cpa_facts.specs.declared.fact.Fact.{Fact}
+use Rattle.cpa_facts.specs.declared.fact.Fact.TheVariants.{At, Stack, Equals, Within, Truth}
 use Rattle.cpa_model.specs.declared.facts.Elem.{Elem}
 use Rattle.cpa_model.specs.Standing.{same_fact}
 use Rattle.cpa_model.specs.StandingLaws.{same_fact-means}
-use Rattle.cpa_edgeform_rules.specs.Runs.{StoreFactHolds, StoreHolds}
-use Rattle.cpa_edgeform_rules.specs.Stores.{failing_is_not_holding}
+use Rattle.cpa_form_rules.specs.Runs.{StoreFactHolds, StoreHolds}
+use Rattle.cpa_form_rules.specs.Stores.{failing_is_not_holding}
 use Rattle.cpa_interval_bounds.specs.declared.bounds.Bounds.{Bounds}
 use Rattle.cpa_interval_bounds.specs.Bounds.{Has, bounds, only, is_inside, has}
 use Rattle.cpa_interval_bounds.specs.ExpressionBounds.{LieWithin}

@@ -7,8 +7,8 @@ use Rattle.cpa_model.specs.declared.automaton.Act.{Act}
 use Rattle.cpa_model.specs.declared.automaton.Edge.{Edge}
 use Rattle.cpa_model.specs.declared.automaton.Cfa.{Cfa}
 use Rattle.cpa_model.specs.Steps.{StepsStore}
-use Rattle.cpa_edgeform_rules.specs.Runs.{StoreFactHolds, StoreHolds, StoreFails}
-use Rattle.cpa_edgeform_rules.specs.Stores.{steps_take_inputs}
+use Rattle.cpa_form_rules.specs.Runs.{StoreFactHolds, StoreHolds, StoreFails}
+use Rattle.cpa_form_rules.specs.Stores.{steps_take_inputs}
 use Rattle.cpa_interval_bounds.specs.declared.bounds.Bounds.{Bounds}
 use Rattle.cpa_interval_bounds.specs.ExpressionBounds.{LieWithin}
 use Rattle.cpa_recheck_obligations.specs.declared.listing.Obligation.TheVariants.{Begins, Leads}

@@ -11,13 +11,13 @@ use Rattle.cpa_expr.specs.Laws.{DependsOnWhatIsRead}
 use Rattle.cpa_expr.specs.Values.{HasTruth, is_nonzero, value_of}
 use Rattle.cpa_model.specs.declared.automaton.Act.{Act}
 use Rattle.cpa_model.specs.declared.automaton.Act.TheVariants as act
-use Rattle.cpa_model_facts.specs.declared.fact.Fact.{Fact}
-use Rattle.cpa_model_facts.specs.declared.fact.Fact.TheVariants.{Truth}
+use Rattle.cpa_facts.specs.declared.fact.Fact.{Fact}
+use Rattle.cpa_facts.specs.declared.fact.Fact.TheVariants.{Truth}
 use Rattle.cpa_model.specs.declared.facts.Elem.{Elem}
 use Rattle.cpa_model.specs.declared.program.Cell.{Cell}
 use Rattle.cpa_model.specs.Standing.{same_fact}
 use Rattle.cpa_model.specs.Steps.{StepsStore}
-use Rattle.cpa_edgeform_rules.specs.Runs.{StoreFactHolds, StoreHolds}
+use Rattle.cpa_form_rules.specs.Runs.{StoreFactHolds, StoreHolds}
 use Rattle.cpa_recheck_bounds.specs.Standing.{AreTested, IsBarred, Spares, Stands}
 use Rattle.cpa_recheck_bounds.proofs.Said.{same_holds}
 

@@ -3,13 +3,13 @@ use Rattle.std.specs.Prelude.{pos, Bool, true, false, List, [], ◌∷◌, Optio
 use Rattle.std.specs.Prelude.{option_and_then}
 use Rattle.cpa_expr.specs.declared.tree.CmpOp.TheVariants as cmp
 use Rattle.cpa_expr.specs.declared.tree.Expr.{out-Expr}
-use Rattle.cpa_model_facts.specs.declared.fact.Fact.{Fact}
-use Rattle.cpa_model_facts.specs.declared.fact.Fact.TheVariants.{Equals, Within}
+use Rattle.cpa_facts.specs.declared.fact.Fact.{Fact}
+use Rattle.cpa_facts.specs.declared.fact.Fact.TheVariants.{Equals, Within}
 use Rattle.cpa_model.specs.declared.program.Cell.{Cell}
 use Rattle.cpa_model.specs.declared.automaton.Act.{Act}
 use Rattle.cpa_model.specs.declared.automaton.Act.TheVariants as act
-use Rattle.cpa_path_folds.specs.declared.scalars.Scalar.{Scalar}
-use Rattle.cpa_path_folds.specs.Scalars.{read_of}
+use Rattle.cpa_folds.specs.declared.scalars.Scalar.{Scalar}
+use Rattle.cpa_folds.specs.Scalars.{read_of}
 use Rattle.cpa_interval_bounds.specs.declared.bounds.Bounds.{Bounds}
 use Rattle.cpa_interval_bounds.specs.Bounds.{bounds, only}
 use Rattle.cpa_interval_acts.specs.Acts.{after_act}

@@ -16,11 +16,11 @@ use crate::exact::{Written, cut_written, is_refuted, lows_of, written_by};
 use crate::saying::are_said;
 use crate::standing::{is_barred, standing};
 use cpa_expr::CmpOp;
+use cpa_folds::{Scalar, read_of};
 use cpa_interval_acts::{bounds_follow_acts, cut_cell, do_act};
 use cpa_interval_bounds::{Bounds, KnownBounds};
 use cpa_ints::wrap_keeps_the_range;
 use cpa_model::{Act, Cell, Cfa, Elem, Fact, Facts};
-use cpa_path_folds::{Scalar, read_of};
 use std::alloc::{AllocError, Global};
 
 /// Leaves of the bounds of a cell what the fact says of it, and says whether some number is left.

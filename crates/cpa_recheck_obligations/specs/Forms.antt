@@ -10,9 +10,9 @@ use Rattle.cpa_model.specs.declared.automaton.Edge.{Edge}
 use Rattle.cpa_model.specs.declared.automaton.Cfa.{Cfa}
 use Rattle.cpa_model.specs.Automata.{edge_of}
 use Rattle.cpa_model.specs.Steps.{StepsStack}
-use Rattle.cpa_edgeform_rules.specs.Runs.{Added, taken, holding, failing, Runs}
-use Rattle.cpa_edgeform_rules.specs.Runs.{Begins as BeginsAt}
-use Rattle.cpa_edgeform_rules.specs.Forms.{Form, form_of}
+use Rattle.cpa_form_rules.specs.Runs.{Added, taken, holding, failing, Runs}
+use Rattle.cpa_form_rules.specs.Runs.{Begins as BeginsAt}
+use Rattle.cpa_form_rules.specs.Forms.{Form, form_of}
 use Rattle.cpa_recheck_obligations.specs.declared.listing.Obligation.{Obligation}
 use Rattle.cpa_recheck_obligations.specs.declared.listing.Obligation.TheVariants.{Begins, Leads}
 use Rattle.cpa_recheck_obligations.specs.declared.listing.Obligation.TheVariants.{Avoids}

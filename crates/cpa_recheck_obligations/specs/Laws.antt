@@ -11,8 +11,8 @@ use Rattle.cpa_model.specs.Covers.{LiesInSome, CoversAutomaton}
 use Rattle.cpa_model.specs.Facts.{Holds, IsElem, LiesIn}
 use Rattle.cpa_model.specs.States.{state_at}
 use Rattle.cpa_query.specs.Queries.{IsModel}
-use Rattle.cpa_edgeform_rules.specs.Forms.{first_store, last_store}
-use Rattle.cpa_edgeform_rules.specs.Laws.{IsAddedOf, IsFormOf, forms_are_runs}
+use Rattle.cpa_form_rules.specs.Forms.{first_store, last_store}
+use Rattle.cpa_form_rules.specs.Laws.{IsAddedOf, IsFormOf, forms_are_runs}
 use Rattle.cpa_model.specs.lemmas.EdgesSound.{edge_sound}
 use Rattle.cpa_recheck_obligations.specs.declared.listing.Obligation.{Obligation}
 use Rattle.cpa_recheck_obligations.specs.declared.listing.Obligation.TheVariants.{Begins, Leads}

@@ -6,7 +6,7 @@ use Rattle.std.specs.Cmp.{IsPartialEquivalence, IsEquivalence, decided, partial_
 use Rattle.std.specs.Hash.{Alike, same_Alike}
 use Rattle.std.proofs.lemmas.Bool.{and_parts}
 use Rattle.std.proofs.lemmas.Bool.Decides.{Decides-eqb}
-use Rattle.cpa_model_facts.specs.declared.fact.Fact.TheVariants.{Stack}
+use Rattle.cpa_facts.specs.declared.fact.Fact.TheVariants.{Stack}
 use Rattle.cpa_model.specs.Standing.{same_sites}
 use Rattle.cpa_model.specs.StandingLaws.{same_fact-means, same_fact-self}
 use Rattle.cpa_recheck_obligations.specs.declared.spots.Spot.{Spot}

@@ -3,8 +3,8 @@
 use Rattle.std.specs.Prelude.{◌≡◌, ◌==◌, ◌&&◌, ℕ, Bool, true, false, List, [], ◌∷◌, map}
 use Rattle.std.specs.Prelude.{Option, None, Some, IfSome, option_and_then, if◌then◌else◌}
 use Rattle.std.specs.List.{flat_map}
-use Rattle.cpa_model_facts.specs.declared.fact.Fact.{Fact}
-use Rattle.cpa_model_facts.specs.declared.fact.Fact.TheVariants.{At, Stack}
+use Rattle.cpa_facts.specs.declared.fact.Fact.{Fact}
+use Rattle.cpa_facts.specs.declared.fact.Fact.TheVariants.{At, Stack}
 use Rattle.cpa_model.specs.declared.facts.Elem.{Elem}
 use Rattle.cpa_model.specs.declared.states.State.{State}
 use Rattle.cpa_model.specs.Standing.{same_sites}

@@ -11,9 +11,9 @@ use Rattle.cpa_model.specs.declared.facts.Elem.{Elem}
 use Rattle.cpa_model.specs.declared.automaton.Cfa.{Cfa}
 use Rattle.cpa_model.specs.declared.automaton.Edge.{Edge}
 use Rattle.cpa_model.specs.Automata.{IsAutomaton}
-use Rattle.cpa_edgeform_rules.specs.Additions.{WeightsAreSums}
-use Rattle.cpa_edgeform_rules.specs.Forms.{act_weight, added_weight, elem_weight, places_from}
-use Rattle.cpa_edgeform_rules.specs.Tests.{type_at}
+use Rattle.cpa_form_rules.specs.Additions.{WeightsAreSums}
+use Rattle.cpa_form_rules.specs.Forms.{act_weight, added_weight, elem_weight, places_from}
+use Rattle.cpa_form_rules.specs.Tests.{type_at}
 use Rattle.cpa_recheck_obligations.specs.declared.listing.Obligation.{Obligation}
 use Rattle.cpa_recheck_obligations.specs.declared.listing.Obligation.TheVariants.{Begins, Leads}
 use Rattle.cpa_recheck_obligations.specs.declared.listing.Obligation.TheVariants.{Avoids}

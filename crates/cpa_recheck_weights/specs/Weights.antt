@@ -4,7 +4,7 @@ use Rattle.cpa_ints.specs.declared.integers.IntType.{IntType}
 use Rattle.cpa_ints.specs.declared.integers.IntType.TheVariants as ty
 use Rattle.cpa_model.specs.declared.program.Cell.{Cell}
 use Rattle.cpa_model.specs.declared.facts.Elem.{Elem}
-use Rattle.cpa_edgeform_rules.specs.Forms.{elem_weight, places_from}
+use Rattle.cpa_form_rules.specs.Forms.{elem_weight, places_from}
 
 -- the weight of each element, or the greatest number of 64 bits where it is more
 abbrev pub weights_of : List Cell → List Elem → List ℕ

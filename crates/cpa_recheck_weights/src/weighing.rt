@@ -2,8 +2,8 @@
 //! `weights_are_sums`. A sum stops at the greatest `u64`. Proved with `proofs/Weighed.antt`.
 
 ghost use Rattle.std.specs.Prelude.{◌≡◌, ◌-◌, ◌^◌, min, map, sum, slice_get, List, IfOk};
-ghost use Rattle.cpa_edgeform_rules.specs.Forms.{elem_weight, fact_weight, places_from};
-ghost use Rattle.cpa_edgeform_rules.specs.Tests.{type_at};
+ghost use Rattle.cpa_form_rules.specs.Forms.{elem_weight, fact_weight, places_from};
+ghost use Rattle.cpa_form_rules.specs.Tests.{type_at};
 ghost use Rattle.cpa_model.specs.declared.facts.Elem.{Elem as AnElem};
 ghost use Rattle.cpa_model.specs.Automata.{IsAutomaton};
 ghost use Rattle.cpa_recheck_obligations.specs.Forms.{entry_at, form_at, rivals_of};
@@ -13,7 +13,7 @@ ghost use Rattle.cpa_recheck_weights.specs.Weights.{cell_type, weight_in, weight
 
 use cpa_blast::weight;
 use cpa_edgeform::act_weight;
-use cpa_edgeform_rules::weights_are_sums;
+use cpa_form_rules::weights_are_sums;
 use cpa_ints::IntType;
 use cpa_model::{Cell, Cfa, Elem, Fact};
 use cpa_recheck_obligations::{Obligation, added_fit};

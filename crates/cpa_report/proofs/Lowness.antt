@@ -24,8 +24,8 @@ use Rattle.cpa_model.specs.Expressions.{IsExpr}
 use Rattle.cpa_model.specs.Facts.{IsFact, IsElem}
 use Rattle.cpa_model.specs.declared.automaton.Cfa.{Cfa}
 use Rattle.cpa_model.specs.declared.facts.Elem.{Elem}
-use Rattle.cpa_model_facts.specs.declared.fact.Fact.{Fact}
-use Rattle.cpa_model_facts.specs.declared.fact.Fact.TheVariants.{At, Stack, Equals, Within, Truth}
+use Rattle.cpa_facts.specs.declared.fact.Fact.{Fact}
+use Rattle.cpa_facts.specs.declared.fact.Fact.TheVariants.{At, Stack, Equals, Within, Truth}
 use Rattle.cpa_report.proofs.Plainness.{line_tokens, same_line}
 use Rattle.cpa_report.specs.Faults.{IsTold}
 use Rattle.cpa_report.specs.Ranges.{IsBodyIn, IsListedIn, IsRefinedIn}

@@ -37,8 +37,8 @@ use Rattle.cpa_iface.specs.declared.entries.Refined.{Refined}
 use Rattle.cpa_iface.specs.declared.entries.Turn.{Turn}
 use Rattle.cpa_iface.specs.declared.precisions.Precision.{Precision}
 use Rattle.cpa_model.specs.declared.facts.Elem.{Elem}
-use Rattle.cpa_model_facts.specs.declared.fact.Fact.{Fact}
-use Rattle.cpa_model_facts.specs.declared.fact.Fact.TheVariants.{At, Stack, Equals, Within, Truth}
+use Rattle.cpa_facts.specs.declared.fact.Fact.{Fact}
+use Rattle.cpa_facts.specs.declared.fact.Fact.TheVariants.{At, Stack, Equals, Within, Truth}
 use Rattle.cpa_report_json.specs.Fits.{FactFits, ElemFits, ListedFits, PrecisionFits, RefinedFits}
 use Rattle.cpa_report_json.specs.Fits.{BodyFits, ReportFits}
 use Rattle.cpa_report_json.specs.Plain.{IsPlainNum, IsPlain, ItemsArePlain, MembersArePlain}

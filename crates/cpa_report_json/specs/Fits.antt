@@ -16,8 +16,8 @@ use Rattle.cpa_iface.specs.declared.precisions.Precision.{Precision}
 use Rattle.cpa_model.specs.Ascending.{AreAscending}
 use Rattle.cpa_model.specs.declared.automaton.Path.{Path}
 use Rattle.cpa_model.specs.declared.facts.Elem.{Elem}
-use Rattle.cpa_model_facts.specs.declared.fact.Fact.{Fact}
-use Rattle.cpa_model_facts.specs.declared.fact.Fact.TheVariants.{At, Stack, Equals, Within, Truth}
+use Rattle.cpa_facts.specs.declared.fact.Fact.{Fact}
+use Rattle.cpa_facts.specs.declared.fact.Fact.TheVariants.{At, Stack, Equals, Within, Truth}
 use Rattle.cpa_report_print.specs.declared.report.Body.{Body}
 use Rattle.cpa_report_print.specs.declared.report.Body.TheVariants as body
 use Rattle.cpa_report_print.specs.declared.report.Listed.{Listed}

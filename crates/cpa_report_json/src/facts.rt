@@ -3,7 +3,7 @@ ghost use Rattle.std.specs.Prelude.{◌≡◌, ◌∷◌, ◌<◌, ◌^◌, ℕ,
 ghost use Rattle.json.specs.Token as piece;
 ghost use Rattle.json.specs.Token.{Token as Piece};
 ghost use Rattle.cpa_expr.specs.declared.tree.Expr.{Expr as Tree};
-ghost use Rattle.cpa_model_facts.specs.declared.fact.Fact.TheVariants as fact;
+ghost use Rattle.cpa_facts.specs.declared.fact.Fact.TheVariants as fact;
 ghost use Rattle.cpa_report_json.specs.Fits.{AreSmall, IsWhole, IsLow};
 ghost use Rattle.cpa_report_json.specs.Fits.{FactFits, ElemFits, ListedFits};
 ghost use Rattle.cpa_report_json.specs.Taking.{Took};

@@ -31,7 +31,7 @@ use Rattle.cpa_value_changes.specs.Acts.{after_act}
 use Rattle.cpa_value.proofs.KnownLemmas.{AgreeCells, known_agrees}
 use Rattle.cpa_value.proofs.RangeLemmas.{AreKnown, AreKnown-set, AreKnown-forgotten, typed_cell}
 use Rattle.cpa_value.proofs.RangeLemmas.{known_in_range}
-use Rattle.cpa_path_folds.specs.lemmas.ScalarReads.{StaysInRange, value_out}
+use Rattle.cpa_folds.specs.lemmas.ScalarReads.{StaysInRange, value_out}
 use Rattle.cpa_value.proofs.StoreLemmas.{agree_put, agree_forgotten, agrees_some, some_and}
 use Rattle.cpa_value.proofs.StoreLemmas.{same_bool-from, zip_length}
 use Rattle.cpa_value.proofs.LearnLemmas.{Gives, learned_gives, learned_known}

@@ -10,7 +10,7 @@ use Rattle.std.proofs.lemmas.List.FromFn.{length-map-range_with_len, get_or-map-
 use Rattle.cpa_expr.specs.declared.tree.Expr.{Expr}
 use Rattle.cpa_expr.specs.Cells.{AreValues}
 use Rattle.cpa_expr.specs.Values.{value_of, is_nonzero}
-use Rattle.cpa_model_facts.specs.declared.fact.Fact.TheVariants.{Equals}
+use Rattle.cpa_facts.specs.declared.fact.Fact.TheVariants.{Equals}
 use Rattle.cpa_model.specs.declared.program.Cell.{Cell}
 use Rattle.cpa_model.specs.declared.automaton.Act.{Act}
 use Rattle.cpa_model.specs.declared.automaton.Act.TheVariants.{Skip, Assign, Assume, Input, Call}

@@ -19,16 +19,16 @@ use Rattle.cpa_expr.specs.Values.{value_of, value_step, comparison, compares, tr
 use Rattle.cpa_expr.specs.lemmas.Layers.{values_in}
 use Rattle.cpa_model.specs.declared.program.Cell.{Cell}
 use Rattle.cpa_model.specs.Expressions.{types_of}
-use Rattle.cpa_path_folds.specs.declared.scalars.Scalar.{Scalar}
+use Rattle.cpa_folds.specs.declared.scalars.Scalar.{Scalar}
 use Rattle.cpa_value_changes.specs.declared.acts.ScalarValue.{ScalarValue}
 use Rattle.cpa_value_changes.specs.KnownValues.{Known, known_value}
-use Rattle.cpa_path_folds.specs.Scalars.{scalar_of, read_of}
+use Rattle.cpa_folds.specs.Scalars.{scalar_of, read_of}
 use Rattle.cpa_value_changes.specs.Acts.{told, first_told, set_told, equated, zeroed}
 use Rattle.cpa_value_changes.specs.Acts.{says_equal, learned}
 use Rattle.cpa_value.proofs.KnownLemmas.{Agrees, AgreeCells, known_agrees}
 use Rattle.cpa_value.proofs.RangeLemmas.{AreKnown, AreKnown-set, typed_cell, zero_in_range}
-use Rattle.cpa_path_folds.specs.lemmas.ScalarReads.{IsScalar, StaysInRange, scalar_node, read_value, value_at}
-use Rattle.cpa_path_folds.specs.lemmas.ScalarReads.{int_le-means}
+use Rattle.cpa_folds.specs.lemmas.ScalarReads.{IsScalar, StaysInRange, scalar_node, read_value, value_at}
+use Rattle.cpa_folds.specs.lemmas.ScalarReads.{int_le-means}
 use Rattle.cpa_value.proofs.StoreLemmas.{agree_set}
 
 -- the known values after it are there, and the store has them

@@ -4,8 +4,8 @@ use Rattle.std.proofs.Common.{inl, inr, refl, sym, ap, ◌∙◌, arith, cond, l
 use Rattle.std.specs.Prelude.{None, ◌&&◌, ◌||◌, slice_get}
 use Rattle.std.specs.Ordering.{int_eq}
 use Rattle.std.proofs.lemmas.Bool.{lt-ltb, le-ltb, ne_eqb, eqb-true, cases_lt, false≢true}
-use Rattle.cpa_model_facts.specs.declared.fact.Fact.{Fact}
-use Rattle.cpa_model_facts.specs.declared.fact.Fact.TheVariants.{At, Stack, Equals, Within, Truth}
+use Rattle.cpa_facts.specs.declared.fact.Fact.{Fact}
+use Rattle.cpa_facts.specs.declared.fact.Fact.TheVariants.{At, Stack, Equals, Within, Truth}
 use Rattle.cpa_model.specs.Standing.{same_fact}
 use Rattle.cpa_iface.specs.Common.{stands_in}
 use Rattle.cpa_value_changes.specs.Tables.{are_ordered, place_in}

@@ -7,12 +7,12 @@ use Rattle.std.specs.Prelude.{Some, ◌&&◌, nat_le, nat_lt, min}
 use Rattle.std.specs.List.{list_all}
 use Rattle.std.proofs.lemmas.Bool.{and_parts, and_from, and_left, and_right, le-leb, lt-leb, lt-ltb}
 use Rattle.std.proofs.lemmas.Bool.{le-ltb, cases_lt, false≢true}
-use Rattle.cpa_model_facts.specs.declared.fact.Fact.{Fact}
-use Rattle.cpa_model_facts.specs.declared.fact.Fact.TheVariants.{At, Stack, Equals, Within, Truth}
-use Rattle.cpa_model_facts.specs.declared.run.Run.{Run}
-use Rattle.cpa_model_facts.specs.Blocks.{joined}
-use Rattle.cpa_model_facts.specs.Runs.{run_of}
-use Rattle.cpa_model_facts.specs.lemmas.Runs.{consecutive, run_is}
+use Rattle.cpa_facts.specs.declared.fact.Fact.{Fact}
+use Rattle.cpa_facts.specs.declared.fact.Fact.TheVariants.{At, Stack, Equals, Within, Truth}
+use Rattle.cpa_facts.specs.declared.run.Run.{Run}
+use Rattle.cpa_facts.specs.Blocks.{joined}
+use Rattle.cpa_facts.specs.Runs.{run_of}
+use Rattle.cpa_facts.specs.lemmas.Runs.{consecutive, run_is}
 use Rattle.cpa_value_changes.specs.declared.changes.Change.{Change}
 use Rattle.cpa_value_changes.specs.Cells.{known_cells}
 use Rattle.cpa_value_changes.specs.Tables.{are_ordered, place_in, changed}

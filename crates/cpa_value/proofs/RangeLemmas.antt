@@ -15,8 +15,8 @@ use Rattle.cpa_expr.specs.Shape.{type_of, IsTyped}
 use Rattle.cpa_expr.specs.Values.{value_of}
 use Rattle.cpa_expr.specs.Laws.{values_lie_in_range}
 use Rattle.cpa_model.specs.declared.program.Cell.{Cell}
-use Rattle.cpa_model_facts.specs.declared.fact.Fact.{Fact}
-use Rattle.cpa_model_facts.specs.declared.fact.Fact.TheVariants.{At, Stack, Equals, Within, Truth}
+use Rattle.cpa_facts.specs.declared.fact.Fact.{Fact}
+use Rattle.cpa_facts.specs.declared.fact.Fact.TheVariants.{At, Stack, Equals, Within, Truth}
 use Rattle.cpa_model.specs.Expressions.{types_of}
 use Rattle.cpa_model.specs.Facts.{IsFact, IsValueOf}
 use Rattle.cpa_value_changes.specs.KnownValues.{known_value}

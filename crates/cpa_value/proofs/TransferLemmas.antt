@@ -7,8 +7,8 @@ use Rattle.std.specs.List.{AllByRecursion, range_with_len}
 use Rattle.std.proofs.lemmas.Bool.Decides.{Decides-eqb}
 use Rattle.cpa_ints.specs.Integers.{IsInRange}
 use Rattle.cpa_expr.specs.Cells.{AreValues}
-use Rattle.cpa_model_facts.specs.declared.fact.Fact.{Fact}
-use Rattle.cpa_model_facts.specs.declared.fact.Fact.TheVariants.{At, Stack, Equals, Within, Truth}
+use Rattle.cpa_facts.specs.declared.fact.Fact.{Fact}
+use Rattle.cpa_facts.specs.declared.fact.Fact.TheVariants.{At, Stack, Equals, Within, Truth}
 use Rattle.cpa_model.specs.declared.facts.Elem.{Elem}
 use Rattle.cpa_model.specs.declared.states.State.{State}
 use Rattle.cpa_model.specs.declared.program.Cell.{Cell}
@@ -25,8 +25,8 @@ use Rattle.cpa_iface.specs.Meanings.{IsShaped}
 use Rattle.cpa_iface.specs.Pins.{pin_of, equals_from, PinsStep, IsSettledBy, TracksAll}
 use Rattle.cpa_iface.specs.Laws.{TransferLaws, SomeHolds, CoversEdge, PinsEdge, IsBounded}
 use Rattle.cpa_value_changes.specs.Acts.{after_act}
-use Rattle.cpa_path_folds.specs.Tracking.{is_tracked}
-use Rattle.cpa_path_folds.specs.lemmas.Appending.{tracks}
+use Rattle.cpa_folds.specs.Tracking.{is_tracked}
+use Rattle.cpa_folds.specs.lemmas.Appending.{tracks}
 use Rattle.cpa_value_changes.specs.Cells.{first_value, known_cells}
 use Rattle.cpa_value.specs.Cells.{facts_from, elem_of}
 use Rattle.cpa_value.specs.Transfer.{elems_of, next_values}
@@ -34,7 +34,7 @@ use Rattle.cpa_value.specs.Values.{values}
 use Rattle.cpa_value.proofs.KnownLemmas.{AgreeCells}
 use Rattle.cpa_value.proofs.RangeLemmas.{AreKnown, known_in_cell, shaped_known, facts_all}
 use Rattle.cpa_value.proofs.RangeLemmas.{facts_few}
-use Rattle.cpa_path_folds.specs.lemmas.ScalarReads.{StaysInRange}
+use Rattle.cpa_folds.specs.lemmas.ScalarReads.{StaysInRange}
 use Rattle.cpa_value.proofs.StoreLemmas.{zip_length}
 use Rattle.cpa_value.proofs.ActLemmas.{act_gives, act_known}
 use Rattle.cpa_value.proofs.ExactLemmas.{IsExactStep, exact_act, one_step, steps_length}

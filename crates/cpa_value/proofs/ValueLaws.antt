@@ -10,8 +10,8 @@ use Rattle.std.proofs.lemmas.Int.{ints}
 use Rattle.std.proofs.lemmas.Bool.{cond_both, and_parts}
 use Rattle.std.proofs.lemmas.Bool.Decides.{Decides-eqb, Decides-int_eq}
 use Rattle.cpa_ints.specs.Integers.{IsInRange}
-use Rattle.cpa_model_facts.specs.declared.fact.Fact.{Fact}
-use Rattle.cpa_model_facts.specs.declared.fact.Fact.TheVariants.{At, Stack, Equals, Within, Truth}
+use Rattle.cpa_facts.specs.declared.fact.Fact.{Fact}
+use Rattle.cpa_facts.specs.declared.fact.Fact.TheVariants.{At, Stack, Equals, Within, Truth}
 use Rattle.cpa_model.specs.declared.facts.Elem.{Elem}
 use Rattle.cpa_model.specs.declared.states.State.{State}
 use Rattle.cpa_model.specs.declared.program.Cell.{Cell}
@@ -25,7 +25,7 @@ use Rattle.cpa_iface.specs.Meanings.{IsShaped, AreShaped, IsPrecision}
 use Rattle.cpa_iface.specs.Pins.{equals_from, IsControlPin}
 use Rattle.cpa_iface.specs.Laws.{InitialLaws, StrengthenLaws, AdjustLaws}
 use Rattle.cpa_iface.specs.Laws.{IsOwnOrNone, IsBounded}
-use Rattle.cpa_path_folds.specs.Tracking.{is_tracked}
+use Rattle.cpa_folds.specs.Tracking.{is_tracked}
 use Rattle.cpa_value_changes.specs.Cells.{known_cells}
 use Rattle.cpa_value.specs.Cells.{facts_from, elem_of}
 use Rattle.cpa_value.specs.Limits.{is_kept, seen, limited}

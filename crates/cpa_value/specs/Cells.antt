@@ -1,8 +1,8 @@
 -- The element that says the known values of cells (this project's own). A list of known values has
 -- the value of each cell where it is known.
 use Rattle.std.specs.Prelude.{ℕ, ◌+◌, ℤ, Bool, if◌then◌else◌, List, [], ◌∷◌, Option, None, Some}
-use Rattle.cpa_model_facts.specs.declared.fact.Fact.{Fact}
-use Rattle.cpa_model_facts.specs.declared.fact.Fact.TheVariants.{Equals}
+use Rattle.cpa_facts.specs.declared.fact.Fact.{Fact}
+use Rattle.cpa_facts.specs.declared.fact.Fact.TheVariants.{Equals}
 use Rattle.cpa_model.specs.declared.facts.Elem.{Elem}
 
 -- a value, or else this one

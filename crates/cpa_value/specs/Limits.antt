@@ -4,8 +4,8 @@ use Rattle.std.specs.Prelude.{ℕ, ◌==◌, nat_le, ℤ, Bool, true, if◌then�
 use Rattle.std.specs.Prelude.{Option, None, Some, length, slice_get, ◌<◌, ⊤}
 use Rattle.std.specs.List.{filter, list_any}
 use Rattle.std.specs.Ordering.{int_eq}
-use Rattle.cpa_model_facts.specs.declared.fact.Fact.{Fact}
-use Rattle.cpa_model_facts.specs.declared.fact.Fact.TheVariants.{Equals}
+use Rattle.cpa_facts.specs.declared.fact.Fact.{Fact}
+use Rattle.cpa_facts.specs.declared.fact.Fact.TheVariants.{Equals}
 use Rattle.cpa_model.specs.declared.facts.Elem.{Elem}
 use Rattle.cpa_iface.specs.declared.entries.Entry.{Entry}
 

@@ -1,7 +1,7 @@
 -- Where a fact stands among facts in the order of the cells (this project's own).
 use Rattle.std.specs.Prelude.{ℕ, ◌==◌, Bool, false, Option, None, Some}
-use Rattle.cpa_model_facts.specs.declared.fact.Fact.{Fact}
-use Rattle.cpa_model_facts.specs.declared.fact.Fact.TheVariants.{Equals}
+use Rattle.cpa_facts.specs.declared.fact.Fact.{Fact}
+use Rattle.cpa_facts.specs.declared.fact.Fact.TheVariants.{Equals}
 use Rattle.cpa_model.specs.Standing.{same_fact}
 
 -- the fact says a value of the cell

@@ -5,11 +5,11 @@ use Rattle.std.specs.Prelude.{Option}
 use Rattle.std.specs.Prelude.{None, Some, slice_set, option_map, option_and_then}
 use Rattle.std.specs.List.{list_any, slice_index_or}
 use Rattle.std.specs.Ordering.{int_eq}
-use Rattle.cpa_model_facts.specs.declared.fact.Fact.{Fact}
-use Rattle.cpa_model_facts.specs.declared.fact.Fact.TheVariants.{Within}
+use Rattle.cpa_facts.specs.declared.fact.Fact.{Fact}
+use Rattle.cpa_facts.specs.declared.fact.Fact.TheVariants.{Within}
 use Rattle.cpa_model.specs.declared.facts.Elem.{Elem}
 use Rattle.cpa_iface.specs.declared.precisions.Precision.{Precision}
-use Rattle.cpa_path_folds.specs.Tracking.{is_tracked}
+use Rattle.cpa_folds.specs.Tracking.{is_tracked}
 use Rattle.cpa_value.specs.declared.strengthening.Agreement.{Agreement}
 use Rattle.cpa_value.specs.declared.strengthening.Agreement.TheVariants as agreement
 use Rattle.cpa_value_changes.specs.Cells.{known_cells}

@@ -4,7 +4,7 @@ use Rattle.cpa_model.specs.declared.facts.Elem.{Elem}
 use Rattle.cpa_model.specs.declared.automaton.Edge.{Edge}
 use Rattle.cpa_model.specs.declared.automaton.Cfa.{Cfa}
 use Rattle.cpa_iface.specs.declared.precisions.Precision.{Precision}
-use Rattle.cpa_path_folds.specs.Tracking.{is_tracked}
+use Rattle.cpa_folds.specs.Tracking.{is_tracked}
 use Rattle.cpa_value_changes.specs.Cells.{known_cells}
 use Rattle.cpa_value.specs.Cells.{elem_of}
 use Rattle.cpa_value_changes.specs.Acts.{after_act}

@@ -9,8 +9,8 @@ use Rattle.cpa_iface.specs.declared.analysis.Part.TheVariants as part
 use Rattle.cpa_iface.specs.Meanings.{Meaning, Replies}
 use Rattle.cpa_iface.specs.Common.{merged_facts, fact_count}
 use Rattle.cpa_iface.specs.Pins.{equals_from}
-use Rattle.cpa_path_folds.specs.Needed.{needed}
-use Rattle.cpa_path_folds.specs.Tracking.{first_tracking, refined}
+use Rattle.cpa_folds.specs.Needed.{needed}
+use Rattle.cpa_folds.specs.Tracking.{first_tracking, refined}
 use Rattle.cpa_value.specs.Limits.{limited}
 use Rattle.cpa_value.specs.Strengthening.{strengthened}
 use Rattle.cpa_value.specs.Transfer.{next_values}

@@ -7,7 +7,7 @@ ghost use Rattle.std.specs.Prelude.{length, IfOk};
 ghost use Rattle.std.specs.List.{list_any, slice_index_or};
 ghost use Rattle.cpa_model.specs.Automata.{IsAutomaton};
 ghost use Rattle.cpa_iface.specs.Meanings.{IsPrecision};
-ghost use Rattle.cpa_path_folds.specs.Tracking.{is_tracked};
+ghost use Rattle.cpa_folds.specs.Tracking.{is_tracked};
 ghost use Rattle.cpa_value_changes.specs.Cells.{known_cells};
 ghost use Rattle.cpa_value.specs.Cells.{elem_of};
 ghost use Rattle.cpa_value.specs.Strengthening.{is_point, has_point, agreed, met, met_facts};

@@ -6,10 +6,10 @@ ghost use Rattle.std.specs.Prelude.{◌≡◌, ◌<◌, ◌≤◌, ◌^◌, ◌+
 ghost use Rattle.std.specs.Prelude.{IfOk, OnOk, List};
 ghost use Rattle.std.specs.List.{list_all};
 ghost use Rattle.cpa_model.specs.Automata.{IsAutomaton};
-ghost use Rattle.cpa_model_facts.specs.declared.fact.Fact.{Fact as AFact};
-ghost use Rattle.cpa_model_facts.specs.Runs.{run_of};
+ghost use Rattle.cpa_facts.specs.declared.fact.Fact.{Fact as AFact};
+ghost use Rattle.cpa_facts.specs.Runs.{run_of};
 ghost use Rattle.cpa_iface.specs.Meanings.{IsPrecision};
-ghost use Rattle.cpa_path_folds.specs.Tracking.{is_tracked};
+ghost use Rattle.cpa_folds.specs.Tracking.{is_tracked};
 ghost use Rattle.cpa_value_changes.specs.Acts.{after_act};
 ghost use Rattle.cpa_value_changes.specs.Cells.{known_cells};
 ghost use Rattle.cpa_value.specs.Cells.{elem_of};

@@ -8,10 +8,10 @@ use crate::limits::limited;
 use crate::merging::merged;
 use crate::strengthening::strengthened;
 use crate::transfer::next_values;
+use cpa_folds::{first_tracking, refined};
 use cpa_iface::{Analysis, Entry, MergeRule, Part, Precision, Settings, copy_precision, covers};
 use cpa_ints::wrap_keeps_the_range;
 use cpa_model::{Cell, Cfa, Elem, Fact, Path, Seq, edges_are_sound};
-use cpa_path_folds::{first_tracking, refined};
 use std::alloc::{AllocError, Global};
 
 /// The analysis of explicit values: an element says which values some cells have. It keeps those of

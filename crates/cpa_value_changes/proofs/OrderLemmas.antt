@@ -4,12 +4,12 @@ use Rattle.std.proofs.Common.{inl, inr, ◌⊎◌, refl, sym, ap, ◌∙◌, ari
 use Rattle.std.specs.Prelude.{Option, None, Some, is_some, ◌&&◌, nat_le, nat_lt}
 use Rattle.std.proofs.lemmas.Bool.{and_from, and_left, and_right, le-leb, lt-leb, lt-ltb, le-ltb}
 use Rattle.std.proofs.lemmas.List.{append-nil, drop_more}
-use Rattle.cpa_model_facts.specs.declared.fact.Fact.{Fact}
-use Rattle.cpa_model_facts.specs.declared.fact.Fact.TheVariants.{At, Stack, Equals, Within, Truth}
-use Rattle.cpa_model_facts.specs.declared.run.Run.{Run}
-use Rattle.cpa_model_facts.specs.Blocks.{joined}
-use Rattle.cpa_model_facts.specs.Runs.{run_of}
-use Rattle.cpa_model_facts.specs.lemmas.Runs.{consecutive, run_is}
+use Rattle.cpa_facts.specs.declared.fact.Fact.{Fact}
+use Rattle.cpa_facts.specs.declared.fact.Fact.TheVariants.{At, Stack, Equals, Within, Truth}
+use Rattle.cpa_facts.specs.declared.run.Run.{Run}
+use Rattle.cpa_facts.specs.Blocks.{joined}
+use Rattle.cpa_facts.specs.Runs.{run_of}
+use Rattle.cpa_facts.specs.lemmas.Runs.{consecutive, run_is}
 use Rattle.cpa_value_changes.specs.Tables.{are_ordered, end_in}
 
 -- ---- two parts

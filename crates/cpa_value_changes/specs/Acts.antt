@@ -11,8 +11,8 @@ use Rattle.cpa_expr.specs.Values.{is_nonzero}
 use Rattle.cpa_model.specs.declared.automaton.Act.{Act}
 use Rattle.cpa_model.specs.declared.automaton.Act.TheVariants as act
 use Rattle.cpa_model.specs.Standing.{same_bool}
-use Rattle.cpa_path_folds.specs.declared.scalars.Scalar.{Scalar}
-use Rattle.cpa_path_folds.specs.Scalars.{scalar_of, read_of}
+use Rattle.cpa_folds.specs.declared.scalars.Scalar.{Scalar}
+use Rattle.cpa_folds.specs.Scalars.{scalar_of, read_of}
 use Rattle.cpa_value_changes.specs.declared.acts.ScalarValue.{ScalarValue}
 use Rattle.cpa_value_changes.specs.declared.known.Gap.TheVariants.{Unknown, Trap}
 use Rattle.cpa_value_changes.specs.KnownValues.{Known, known_value}

@@ -6,7 +6,7 @@ ghost use Rattle.std.specs.Prelude.{option_map, if◌then◌else◌};
 ghost use Rattle.cpa_expr.specs.declared.tree.Expr.{out-Expr};
 ghost use Rattle.cpa_expr.specs.Values.{is_nonzero};
 ghost use Rattle.cpa_model.specs.Standing.{same_bool};
-ghost use Rattle.cpa_path_folds.specs.Tracking.{is_tracked};
+ghost use Rattle.cpa_folds.specs.Tracking.{is_tracked};
 ghost use Rattle.cpa_value_changes.specs.KnownValues.{known_value};
 ghost use Rattle.cpa_value_changes.specs.Acts.{is_trap, written, assigned};
 ghost use Rattle.cpa_value_changes.specs.Acts.{told, first_told, set_told};
@@ -18,8 +18,8 @@ use crate::changes::Change;
 use crate::known::{Gap, known_value};
 use crate::table::KnownCells;
 use cpa_expr::{CmpOp, Expr, is_nonzero};
+use cpa_folds::{Scalar, read_of, scalar_of};
 use cpa_model::Act;
-use cpa_path_folds::{Scalar, read_of, scalar_of};
 use cpa_value_tracked::Tracked;
 
 /// What a test says of a scalar.

@@ -4,9 +4,9 @@
 ghost use Rattle.std.specs.Prelude.{◌≡◌, ℕ, true, List, Some, None};
 ghost use Rattle.std.specs.List.{slice_index_or};
 ghost use Rattle.std.specs.Option.{option_copied};
-ghost use Rattle.cpa_model_facts.specs.declared.fact.Fact.{Fact as AFact};
-ghost use Rattle.cpa_model_facts.specs.Blocks.{joined};
-ghost use Rattle.cpa_model_facts.specs.Runs.{run_of};
+ghost use Rattle.cpa_facts.specs.declared.fact.Fact.{Fact as AFact};
+ghost use Rattle.cpa_facts.specs.Blocks.{joined};
+ghost use Rattle.cpa_facts.specs.Runs.{run_of};
 ghost use Rattle.cpa_value_changes.specs.Cells.{known_cells};
 ghost use Rattle.cpa_value_changes.specs.Tables.{are_ordered, end_in, is_before, place_in, own_value};
 

@@ -1,14 +1,14 @@
 //! The cells that a precision tracks, found without a mark for each cell of the program where that
-//! is no dearer. `is_tracked` stands in `cpa_path_folds`. Proved with `proofs/TrackedLemmas.antt`.
+//! is no dearer. `is_tracked` stands in `cpa_folds`. Proved with `proofs/TrackedLemmas.antt`.
 
 ghost use Rattle.std.specs.Prelude.{◌≡◌, ◌==◌, ◌↔◌, ℕ, ◌+◌, ◌<◌, ◌≤◌, true};
 ghost use Rattle.std.specs.Prelude.{drop, length, IfOk, IsTrue};
 ghost use Rattle.std.specs.List.{AllByRecursion, list_any};
 ghost use Rattle.cpa_iface.specs.Cells.{own_places};
-ghost use Rattle.cpa_path_folds.specs.Tracking.{is_tracked};
+ghost use Rattle.cpa_folds.specs.Tracking.{is_tracked};
 
+use cpa_folds::{is_marked, tracked_marks};
 use cpa_iface::{Cells, Precision};
-use cpa_path_folds::{is_marked, tracked_marks};
 use std::alloc::{AllocError, Global};
 use std::marker::Model;
 
@@ -28,7 +28,7 @@ impl<'a> Model for Tracked<'a> {
     ghost use Rattle.cpa_expr.specs.contracts.tree.Expr as e;
     ghost use Rattle.std.specs.Coded.{codes};
     ghost use Rattle.cpa_iface.specs.declared.precisions.Precision.{Precision};
-    ghost use Rattle.cpa_path_folds.specs.Tracking.{is_tracked};
+    ghost use Rattle.cpa_folds.specs.Tracking.{is_tracked};
     ghost use Rattle.cpa_query.specs.Queries.{is_marked};
 
     ghost Value = { Precision };

@@ -16,7 +16,7 @@ use Rattle.cpa_model.specs.Programs.{IsWellFormed, point_count}
 use Rattle.cpa_model.specs.States.{IsState, state_at}
 use Rattle.cpa_model.specs.Steps.{StepsKeepStates, StepsStack, StepsStore}
 use Rattle.cpa_model.specs.lemmas.Lists.{in_list}
-use Rattle.cpa_path_folds.specs.Along.{act_of, acts_along}
+use Rattle.cpa_folds.specs.Along.{act_of, acts_along}
 use Rattle.cpa_interpolant_rules.specs.Stores.{IsStore}
 
 -- the act leads from a store of the cells to a store of the cells

@@ -12,7 +12,7 @@ use Rattle.cpa_blast_circuits.specs.Laws.{CircuitsHaveValues}
 use Rattle.cpa_blast.specs.Formulas.{formula}
 use Rattle.cpa_blast.specs.Laws.{formulas_below}
 use Rattle.cpa_model.specs.declared.program.Cell.{Cell}
-use Rattle.cpa_edgeform_rules.specs.Forms.{Form}
+use Rattle.cpa_form_rules.specs.Forms.{Form}
 use Rattle.cpa_interpolant_joining.specs.Joining.{AreNames, name_of, named_or, renamed}
 use Rattle.cpa_interpolant_joining.specs.Joining.{renamed_literal, renamed_clause}
 use Rattle.cpa_interpolant_joining.specs.lemmas.Literals.{half_below}

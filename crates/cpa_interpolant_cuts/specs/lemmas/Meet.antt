@@ -15,7 +15,7 @@ use Rattle.cpa_model.specs.Expressions.{types_of}
 use Rattle.cpa_query.specs.declared.query.Query.{Query}
 use Rattle.cpa_blast.specs.Formulas.{formula, first_bits, store_at}
 use Rattle.cpa_blast.specs.Laws.{IsBlastable, formulas_below}
-use Rattle.cpa_edgeform_rules.specs.Forms.{Form, place_now}
+use Rattle.cpa_form_rules.specs.Forms.{Form, place_now}
 use Rattle.cpa_interpolant_bits.specs.Bits.{bit_of}
 use Rattle.cpa_interpolant_variables.specs.Laws.{IsBitAt, bits_stand_apart, bits_are_variables}
 use Rattle.cpa_interpolant_names.specs.declared.gathering.Meeting.{Meeting}

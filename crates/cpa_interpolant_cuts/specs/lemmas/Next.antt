@@ -26,11 +26,11 @@ use Rattle.cpa_model.specs.Expressions.{types_of}
 use Rattle.cpa_query.specs.Queries.{reads, is_marked, wanted_reads}
 use Rattle.cpa_blast.specs.Formulas.{formula}
 use Rattle.cpa_blast.specs.Laws.{formulas_are, formulas_below}
-use Rattle.cpa_edgeform_rules.specs.Runs.{Runs}
-use Rattle.cpa_edgeform_rules.specs.Reading.{ActReads}
-use Rattle.cpa_edgeform_rules.specs.Forms.{Form, place_now}
-use Rattle.cpa_edgeform_rules.specs.Laws.{IsFormOf}
-use Rattle.cpa_edgeform_rules.specs.Stores.{steps_take_inputs}
+use Rattle.cpa_form_rules.specs.Runs.{Runs}
+use Rattle.cpa_form_rules.specs.Reading.{ActReads}
+use Rattle.cpa_form_rules.specs.Forms.{Form, place_now}
+use Rattle.cpa_form_rules.specs.Laws.{IsFormOf}
+use Rattle.cpa_form_rules.specs.Stores.{steps_take_inputs}
 use Rattle.cpa_chains.specs.Interpolants.{IsInterpolant}
 use Rattle.cpa_chains.specs.Partials.{last_value, leaves_of, partials_of}
 use Rattle.cpa_interpolant_bits.specs.declared.bits.Bit.{Bit}

@@ -20,8 +20,8 @@ use Rattle.cpa_blast.specs.Formulas.{formula}
 use Rattle.cpa_blast.specs.Laws.{formulas_are, formulas_below}
 use Rattle.cpa_blast.specs.lemmas.Models.{names}
 use Rattle.cpa_blast.specs.lemmas.Stores.{mark_at}
-use Rattle.cpa_edgeform_renaming.specs.lemmas.Nodes.{or_cases}
-use Rattle.cpa_edgeform_rules.specs.Forms.{Form, place_now}
+use Rattle.cpa_form_renaming.specs.lemmas.Nodes.{or_cases}
+use Rattle.cpa_form_rules.specs.Forms.{Form, place_now}
 use Rattle.cpa_chains.specs.Sides.{has_variable, clauses_on, stands_on}
 use Rattle.cpa_interpolant_bits.specs.Nodes.{bit_named}
 use Rattle.cpa_interpolant_joining.specs.Joining.{name_of, named_or, renamed, renamed_literal}

@@ -26,10 +26,10 @@ use Rattle.cpa_model.specs.Expressions.{types_of}
 use Rattle.cpa_query.specs.Queries.{IsModel}
 use Rattle.cpa_blast.specs.Formulas.{formula, first_bits, variables_from, value_at, store_at}
 use Rattle.cpa_blast.specs.Laws.{formulas_are, formulas_below}
-use Rattle.cpa_edgeform_rules.specs.Runs.{Runs}
-use Rattle.cpa_edgeform_rules.specs.Forms.{Form, place_now, first_store, last_store, inputs_at}
-use Rattle.cpa_edgeform_rules.specs.Laws.{IsFormOf}
-use Rattle.cpa_edgeform_rules.specs.Additions.{adding_goes_on}
+use Rattle.cpa_form_rules.specs.Runs.{Runs}
+use Rattle.cpa_form_rules.specs.Forms.{Form, place_now, first_store, last_store, inputs_at}
+use Rattle.cpa_form_rules.specs.Laws.{IsFormOf}
+use Rattle.cpa_form_rules.specs.Additions.{adding_goes_on}
 use Rattle.cpa_interpolant_joining.specs.Joining.{Agree, named_or, seen}
 use Rattle.cpa_interpolant_bits.specs.Bits.{bit_of}
 use Rattle.cpa_interpolant_joining.specs.Laws.{AreParts as AreFormulas, parts_have_models}

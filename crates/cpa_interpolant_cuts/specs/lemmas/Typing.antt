@@ -6,7 +6,7 @@ use Rattle.cpa_blast_circuits.specs.Laws.{CircuitsHaveValues}
 use Rattle.cpa_blast.specs.Formulas.{formula}
 use Rattle.cpa_model.specs.declared.program.Cell.{Cell}
 use Rattle.cpa_model.specs.Expressions.{types_of}
-use Rattle.cpa_edgeform_rules.specs.Forms.{Form}
+use Rattle.cpa_form_rules.specs.Forms.{Form}
 use Rattle.cpa_interpolant_bits.specs.Bits.{IsBitOf}
 use Rattle.cpa_interpolant_bits.specs.Laws.{expressions_ask}
 use Rattle.cpa_interpolant_conditions.specs.Interpolants.{interpolant_made}

@@ -4,7 +4,7 @@ use Rattle.std.proofs.Common.{Option, None, Some, slice_get, refl, sym, ap, â—Œâ
 use Rattle.std.proofs.Common.{inl, inr}
 use Rattle.std.specs.Prelude.{slice_set}
 use Rattle.std.proofs.lemmas.Option.{slice_get_within}
-use Rattle.cpa_edgeform_rules.specs.lemmas.Places.{set_long, set_here, set_apart, same_or}
+use Rattle.cpa_form_rules.specs.lemmas.Places.{set_long, set_here, set_apart, same_or}
 use Rattle.cpa_interpolant_names.specs.declared.gathering.Meeting.{Meeting}
 use Rattle.cpa_interpolant_names.specs.Meetings.{written, all_written}
 

@@ -12,14 +12,14 @@ use Rattle.cpa_expr.specs.Cells.{is_within, may_read}
 use Rattle.cpa_model.specs.declared.program.Cell.{Cell}
 use Rattle.cpa_model.specs.declared.automaton.Act.{Act}
 use Rattle.cpa_model.specs.declared.automaton.Act.TheVariants as act
-use Rattle.cpa_model_facts.specs.declared.fact.Fact.{Fact}
-use Rattle.cpa_model_facts.specs.declared.fact.Fact.TheVariants.{At, Stack, Equals, Within, Truth}
+use Rattle.cpa_facts.specs.declared.fact.Fact.{Fact}
+use Rattle.cpa_facts.specs.declared.fact.Fact.TheVariants.{At, Stack, Equals, Within, Truth}
 use Rattle.cpa_model.specs.Expressions.{types_of}
 use Rattle.cpa_model.specs.Facts.{IsFact}
-use Rattle.cpa_edgeform_renaming.specs.Laws.{cells_behind_change_nothing}
-use Rattle.cpa_edgeform_rules.specs.Runs.{Added, taken, holding, failing}
-use Rattle.cpa_edgeform_rules.specs.Reading.{ActReads, SomeReads, AddedReads}
-use Rattle.cpa_edgeform_rules.specs.lemmas.Formed.{ActFits, AddedFits}
+use Rattle.cpa_form_renaming.specs.Laws.{cells_behind_change_nothing}
+use Rattle.cpa_form_rules.specs.Runs.{Added, taken, holding, failing}
+use Rattle.cpa_form_rules.specs.Reading.{ActReads, SomeReads, AddedReads}
+use Rattle.cpa_form_rules.specs.lemmas.Formed.{ActFits, AddedFits}
 use Rattle.cpa_interpolant_places.specs.Touching.{IsGone}
 
 some_within : {A : Type 0} (P : A → Type 0) (xs : List A) (i : ℕ)

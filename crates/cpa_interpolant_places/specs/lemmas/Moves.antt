@@ -8,11 +8,11 @@ use Rattle.cpa_ints.specs.declared.integers.IntType.{IntType}
 use Rattle.cpa_expr.specs.declared.tree.Expr.{Expr}
 use Rattle.cpa_expr.specs.Shape.{type_of}
 use Rattle.cpa_expr.specs.Cells.{scalar_read}
-use Rattle.cpa_edgeform_renaming.specs.declared.places.Place.{Place}
-use Rattle.cpa_edgeform_renaming.specs.Places.{number_of, number_at}
-use Rattle.cpa_edgeform_rules.specs.declared.drafts.Draft.{Draft}
-use Rattle.cpa_edgeform_rules.specs.Drafts.{next, named, place_at, copied, moved}
-use Rattle.cpa_edgeform_rules.specs.lemmas.Places.{set_long, set_here, set_apart, same_or}
+use Rattle.cpa_form_renaming.specs.declared.places.Place.{Place}
+use Rattle.cpa_form_renaming.specs.Places.{number_of, number_at}
+use Rattle.cpa_form_rules.specs.declared.drafts.Draft.{Draft}
+use Rattle.cpa_form_rules.specs.Drafts.{next, named, place_at, copied, moved}
+use Rattle.cpa_form_rules.specs.lemmas.Places.{set_long, set_here, set_apart, same_or}
 
 -- each place stands before this number
 abbrev pub StandBelow : ℕ → List Place → Type 0

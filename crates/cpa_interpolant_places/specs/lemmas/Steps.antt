@@ -17,16 +17,16 @@ use Rattle.cpa_model.specs.declared.automaton.Act.TheVariants as act
 use Rattle.cpa_query.specs.Queries.{wanted_reads, reads}
 use Rattle.cpa_blast.specs.lemmas.Stores.{mark_at}
 use Rattle.cpa_blast_circuits.specs.lemmas.Facts.{same_some}
-use Rattle.cpa_edgeform_renaming.specs.declared.places.Place.{Place}
-use Rattle.cpa_edgeform_renaming.specs.Renaming.{renamed, is_whole}
-use Rattle.cpa_edgeform_renaming.specs.lemmas.Nodes.{or_cases}
-use Rattle.cpa_edgeform_rules.specs.declared.drafts.Draft.{Draft}
-use Rattle.cpa_edgeform_rules.specs.Runs.{Added, taken, holding, failing}
-use Rattle.cpa_edgeform_rules.specs.Drafts.{next, named, Placed, placed, copied, asked_of, settled}
-use Rattle.cpa_edgeform_rules.specs.Drafts.{assigned, cell_written, array_written}
-use Rattle.cpa_edgeform_rules.specs.Tests.{type_at, tests_of}
-use Rattle.cpa_edgeform_rules.specs.Forms.{Form, draft_of, with_added}
-use Rattle.cpa_edgeform_rules.specs.lemmas.TestReads.{tests_read, reads_one}
+use Rattle.cpa_form_renaming.specs.declared.places.Place.{Place}
+use Rattle.cpa_form_renaming.specs.Renaming.{renamed, is_whole}
+use Rattle.cpa_form_renaming.specs.lemmas.Nodes.{or_cases}
+use Rattle.cpa_form_rules.specs.declared.drafts.Draft.{Draft}
+use Rattle.cpa_form_rules.specs.Runs.{Added, taken, holding, failing}
+use Rattle.cpa_form_rules.specs.Drafts.{next, named, Placed, placed, copied, asked_of, settled}
+use Rattle.cpa_form_rules.specs.Drafts.{assigned, cell_written, array_written}
+use Rattle.cpa_form_rules.specs.Tests.{type_at, tests_of}
+use Rattle.cpa_form_rules.specs.Forms.{Form, draft_of, with_added}
+use Rattle.cpa_form_rules.specs.lemmas.TestReads.{tests_read, reads_one}
 use Rattle.cpa_interpolant_places.specs.Touching.{IsGone, AddedTouches}
 use Rattle.cpa_interpolant_places.specs.lemmas.Moves.{StandBelow, Moves, Marked, none_move}
 use Rattle.cpa_interpolant_places.specs.lemmas.Moves.{moves_wider, one_set, all_set, next_named}

@@ -14,20 +14,20 @@ use Rattle.cpa_model.specs.declared.automaton.Cfa.{Cfa}
 use Rattle.cpa_model.specs.Automata.{IsAutomaton}
 use Rattle.cpa_model.specs.Expressions.{types_of}
 use Rattle.cpa_query.specs.Queries.{wanted_reads}
-use Rattle.cpa_edgeform_renaming.specs.declared.places.Place.{Place}
-use Rattle.cpa_edgeform_renaming.specs.Places.{number_at}
-use Rattle.cpa_edgeform_renaming.specs.lemmas.Nodes.{or_cases}
-use Rattle.cpa_edgeform_rules.specs.Runs.{Added}
-use Rattle.cpa_edgeform_rules.specs.Drafts.{next}
-use Rattle.cpa_edgeform_rules.specs.Forms.{Form, begun, draft_of, with_added, form_from, form_of}
-use Rattle.cpa_edgeform_rules.specs.Forms.{place_now, places_from}
-use Rattle.cpa_edgeform_rules.specs.Laws.{IsAddedOf, starts_fit, added_fits}
-use Rattle.cpa_edgeform_rules.specs.lemmas.Beginnings.{begun_fitted, places_from_long}
-use Rattle.cpa_edgeform_rules.specs.lemmas.Calls.{Fitted, front_long, places_long}
-use Rattle.cpa_edgeform_rules.specs.lemmas.CallReads.{call_reads}
-use Rattle.cpa_edgeform_rules.specs.lemmas.Copies.{Stand, types_at}
-use Rattle.cpa_edgeform_rules.specs.lemmas.Formed.{AddedFits, call_is}
-use Rattle.cpa_edgeform_rules.specs.lemmas.Lists.{all_both}
+use Rattle.cpa_form_renaming.specs.declared.places.Place.{Place}
+use Rattle.cpa_form_renaming.specs.Places.{number_at}
+use Rattle.cpa_form_renaming.specs.lemmas.Nodes.{or_cases}
+use Rattle.cpa_form_rules.specs.Runs.{Added}
+use Rattle.cpa_form_rules.specs.Drafts.{next}
+use Rattle.cpa_form_rules.specs.Forms.{Form, begun, draft_of, with_added, form_from, form_of}
+use Rattle.cpa_form_rules.specs.Forms.{place_now, places_from}
+use Rattle.cpa_form_rules.specs.Laws.{IsAddedOf, starts_fit, added_fits}
+use Rattle.cpa_form_rules.specs.lemmas.Beginnings.{begun_fitted, places_from_long}
+use Rattle.cpa_form_rules.specs.lemmas.Calls.{Fitted, front_long, places_long}
+use Rattle.cpa_form_rules.specs.lemmas.CallReads.{call_reads}
+use Rattle.cpa_form_rules.specs.lemmas.Copies.{Stand, types_at}
+use Rattle.cpa_form_rules.specs.lemmas.Formed.{AddedFits, call_is}
+use Rattle.cpa_form_rules.specs.lemmas.Lists.{all_both}
 use Rattle.cpa_interpolant_places.specs.Touching.{IsGone, SomeAddedReads, SomeAddedTouches}
 use Rattle.cpa_interpolant_places.specs.lemmas.Moves.{StandBelow, AreOwn, still_own}
 use Rattle.cpa_interpolant_places.specs.lemmas.Steps.{call_moves}

@@ -21,7 +21,7 @@ use Rattle.cpa_model.specs.declared.automaton.Cfa.{Cfa}
 use Rattle.cpa_model.specs.Expressions.{types_of}
 use Rattle.cpa_model.specs.Steps.{StepsStore}
 use Rattle.cpa_model.specs.Acts.{IsActOf}
-use Rattle.cpa_path_folds.specs.lemmas.ScalarReads.{StaysInRange}
+use Rattle.cpa_folds.specs.lemmas.ScalarReads.{StaysInRange}
 use Rattle.cpa_interval_bounds.specs.declared.bounds.Bounds.{Bounds}
 use Rattle.cpa_interval_bounds.specs.declared.elements.Places.{Places}
 use Rattle.cpa_interval_bounds.specs.Bounds.{IsOf, Has, range_of, hull}

@@ -15,7 +15,7 @@ use Rattle.cpa_expr.specs.Values.{value_of, value_step, logical_and, logical_or,
 use Rattle.cpa_expr.specs.Values.{truth_of, is_nonzero}
 use Rattle.cpa_expr.specs.lemmas.Layers.{value_rolled, values_in}
 use Rattle.cpa_expr.specs.lemmas.Parts.{by_parts, every_rolled}
-use Rattle.cpa_path_folds.specs.lemmas.ScalarReads.{StaysInRange}
+use Rattle.cpa_folds.specs.lemmas.ScalarReads.{StaysInRange}
 use Rattle.cpa_interval_bounds.specs.declared.bounds.Bounds.{Bounds}
 use Rattle.cpa_interval_bounds.specs.ExpressionBounds.{AreOf, LieWithin}
 use Rattle.cpa_interval_acts.specs.Cuts.{Assumed, decided, assume_step, assumed, after_node}

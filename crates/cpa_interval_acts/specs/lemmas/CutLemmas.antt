@@ -17,10 +17,10 @@ use Rattle.cpa_expr.specs.Values.{value_of, value_step, comparison, compares, tr
 use Rattle.cpa_expr.specs.Values.{HasTruth}
 use Rattle.cpa_expr.specs.lemmas.Layers.{values_in}
 use Rattle.cpa_expr.specs.lemmas.Parts.{every_iff}
-use Rattle.cpa_path_folds.specs.declared.scalars.Scalar.{Scalar}
-use Rattle.cpa_path_folds.specs.Scalars.{scalar_of}
-use Rattle.cpa_path_folds.specs.lemmas.ScalarReads.{IsScalar, StaysInRange, value_out, scalar_node}
-use Rattle.cpa_path_folds.specs.lemmas.ScalarReads.{scalar_value}
+use Rattle.cpa_folds.specs.declared.scalars.Scalar.{Scalar}
+use Rattle.cpa_folds.specs.Scalars.{scalar_of}
+use Rattle.cpa_folds.specs.lemmas.ScalarReads.{IsScalar, StaysInRange, value_out, scalar_node}
+use Rattle.cpa_folds.specs.lemmas.ScalarReads.{scalar_value}
 use Rattle.cpa_interval_bounds.specs.declared.bounds.Bounds.{Bounds}
 use Rattle.cpa_interval_bounds.specs.Bounds.{IsOf, Has, is_inside, range_of, has}
 use Rattle.cpa_interval_bounds.specs.Truths.{truths_of, may_be, exchanged}

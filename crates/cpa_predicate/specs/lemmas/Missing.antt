@@ -12,7 +12,7 @@ use Rattle.cpa_expr.specs.Equality.{same_expr}
 use Rattle.cpa_expr.specs.lemmas.SameTrees.{same_expr_is, same_expr_self}
 use Rattle.cpa_model.specs.lemmas.Lists.{AllByRecursion-push}
 use Rattle.cpa_iface.specs.Laws.{AppendsMissing}
-use Rattle.cpa_path_folds.specs.Carried.{with_new}
+use Rattle.cpa_folds.specs.Carried.{with_new}
 use Rattle.cpa_predicate.specs.Refining.{with_missing}
 
 weaker : (P Q : Expr → Type 0) (es : List Expr) → ((e : Expr) → P e → Q e) → AllByRecursion P es

@@ -3,7 +3,7 @@
 use Rattle.std.proofs.Common.{◌≡◌, ◌<◌, ◌≤◌, ◌-◌, ◌^◌, refl, ◌∙◌, subst, arith, inl, inr}
 use Rattle.std.specs.Prelude.{◌⊎◌}
 use Rattle.std.proofs.lemmas.Bool.{cases_lt}
-use Rattle.cpa_edgeform_rules.specs.Forms.{Form}
+use Rattle.cpa_form_rules.specs.Forms.{Form}
 use Rattle.cpa_predicate.specs.declared.asking.Budgets.{Budgets}
 use Rattle.cpa_predicate.specs.Questions.{OutlastsSearch, IsBeyond, IsUndecided, Spends}
 

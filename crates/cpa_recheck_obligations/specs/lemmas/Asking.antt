@@ -19,11 +19,11 @@ use Rattle.cpa_model.specs.Facts.{Holds, IsElem}
 use Rattle.cpa_model.specs.Steps.{StepsStack}
 use Rattle.cpa_model.specs.lemmas.Stacks.{stack_after-whole}
 use Rattle.cpa_query.specs.Queries.{IsModel}
-use Rattle.cpa_edgeform_rules.specs.Runs.{taken, holding, failing, StoreHolds, StoreFails}
-use Rattle.cpa_edgeform_rules.specs.Runs.{Runs}
-use Rattle.cpa_edgeform_rules.specs.Laws.{IsAddedOf, IsFormOf}
-use Rattle.cpa_edgeform_rules.specs.Stores.{failing_is_not_holding, holding_has_two_parts}
-use Rattle.cpa_edgeform_rules.specs.Stores.{steps_take_inputs}
+use Rattle.cpa_form_rules.specs.Runs.{taken, holding, failing, StoreHolds, StoreFails}
+use Rattle.cpa_form_rules.specs.Runs.{Runs}
+use Rattle.cpa_form_rules.specs.Laws.{IsAddedOf, IsFormOf}
+use Rattle.cpa_form_rules.specs.Stores.{failing_is_not_holding, holding_has_two_parts}
+use Rattle.cpa_form_rules.specs.Stores.{steps_take_inputs}
 use Rattle.cpa_recheck_obligations.specs.declared.listing.Obligation.{Obligation}
 use Rattle.cpa_recheck_obligations.specs.declared.listing.Obligation.TheVariants.{Begins, Leads}
 use Rattle.cpa_recheck_obligations.specs.declared.listing.Obligation.TheVariants.{Avoids}

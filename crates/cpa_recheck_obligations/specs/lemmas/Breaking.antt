@@ -21,10 +21,10 @@ use Rattle.cpa_model.specs.lemmas.EdgesSound.{all_at}
 use Rattle.cpa_model.specs.lemmas.Lists.{in_list, place_of}
 use Rattle.cpa_model.specs.lemmas.Stacks.{stack_after-whole}
 use Rattle.cpa_query.specs.Queries.{IsModel}
-use Rattle.cpa_edgeform_rules.specs.Runs.{StoreHolds, StoreFails}
-use Rattle.cpa_edgeform_rules.specs.Forms.{first_store, last_store}
-use Rattle.cpa_edgeform_rules.specs.Stores.{failing_is_not_holding, holding_has_two_parts}
-use Rattle.cpa_edgeform_rules.specs.Stores.{steps_take_inputs}
+use Rattle.cpa_form_rules.specs.Runs.{StoreHolds, StoreFails}
+use Rattle.cpa_form_rules.specs.Forms.{first_store, last_store}
+use Rattle.cpa_form_rules.specs.Stores.{failing_is_not_holding, holding_has_two_parts}
+use Rattle.cpa_form_rules.specs.Stores.{steps_take_inputs}
 use Rattle.cpa_recheck_obligations.specs.declared.listing.Obligation.TheVariants.{Begins, Leads}
 use Rattle.cpa_recheck_obligations.specs.declared.listing.Obligation.TheVariants.{Avoids}
 use Rattle.cpa_recheck_obligations.specs.declared.spots.Spot.{Spot}

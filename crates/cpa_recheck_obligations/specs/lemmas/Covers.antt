@@ -16,8 +16,8 @@ use Rattle.cpa_model.specs.Facts.{LiesIn}
 use Rattle.cpa_model.specs.Steps.{StepsStack}
 use Rattle.cpa_model.specs.lemmas.Lists.{place_of, in_list}
 use Rattle.cpa_model.specs.lemmas.Stacks.{stack_after-whole}
-use Rattle.cpa_edgeform_rules.specs.Stores.{holding_has_two_parts}
-use Rattle.cpa_edgeform_rules.specs.lemmas.Lists.{all_both, all_parts}
+use Rattle.cpa_form_rules.specs.Stores.{holding_has_two_parts}
+use Rattle.cpa_form_rules.specs.lemmas.Lists.{all_both, all_parts}
 use Rattle.cpa_recheck_obligations.specs.declared.listing.Obligation.{Obligation}
 use Rattle.cpa_recheck_obligations.specs.declared.listing.Obligation.TheVariants.{Leads}
 use Rattle.cpa_recheck_obligations.specs.declared.listing.Obligation.TheVariants.{Avoids}

@@ -3,7 +3,7 @@ use Rattle.std.proofs.Common.{◌≡◌, ℕ, zero, suc, ◌+◌, Bool, true, fa
 use Rattle.std.proofs.Common.{map, Some, slice_get, refl, ap, ◌∙◌, subst, arith}
 use Rattle.std.specs.Prelude.{if◌then◌else◌}
 use Rattle.std.specs.List.{AllByRecursion, flat_map}
-use Rattle.cpa_edgeform_rules.specs.lemmas.Lists.{all_both, all_parts}
+use Rattle.cpa_form_rules.specs.lemmas.Lists.{all_both, all_parts}
 use Rattle.cpa_recheck_obligations.specs.Obligations.{places_from}
 
 module _ {A : Type 0} (Q : ℕ → Type 0) (test : A → Bool) where

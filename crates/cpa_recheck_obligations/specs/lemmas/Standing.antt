@@ -6,14 +6,14 @@ use Rattle.std.proofs.Common.{zero-add}
 use Rattle.std.specs.Prelude.{IfSome, option_and_then, if◌then◌else◌}
 use Rattle.std.specs.List.{AllByRecursion}
 use Rattle.std.proofs.lemmas.Bool.Decides.{Decides-eqb}
-use Rattle.cpa_model_facts.specs.declared.fact.Fact.{Fact}
-use Rattle.cpa_model_facts.specs.declared.fact.Fact.TheVariants.{At, Stack, Equals, Within, Truth}
+use Rattle.cpa_facts.specs.declared.fact.Fact.{Fact}
+use Rattle.cpa_facts.specs.declared.fact.Fact.TheVariants.{At, Stack, Equals, Within, Truth}
 use Rattle.cpa_model.specs.declared.facts.Elem.{Elem}
 use Rattle.cpa_model.specs.declared.states.State.{State}
 use Rattle.cpa_model.specs.Facts.{FactHolds, Holds, LiesIn}
 use Rattle.cpa_model.specs.Standing.{same_sites}
 use Rattle.cpa_model.specs.StandingLaws.{same_fact-self}
-use Rattle.cpa_edgeform_rules.specs.Stores.{ControlFactHolds, ControlHolds}
+use Rattle.cpa_form_rules.specs.Stores.{ControlFactHolds, ControlHolds}
 use Rattle.cpa_recheck_obligations.specs.declared.spots.Spot.{Spot}
 use Rattle.cpa_recheck_obligations.specs.Spots.{joined, StandsAt, spot_of_parts, permits}
 use Rattle.cpa_recheck_obligations.specs.Spots.{permits_stack, spot_from, anywhere, spot_of}

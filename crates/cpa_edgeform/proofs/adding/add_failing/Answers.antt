@@ -3,8 +3,8 @@ use Rattle.std.proofs.Common.{◌≡◌, ◌∙◌, Bool, List, ap}
 use Rattle.std.specs.List.{flat_map}
 use Rattle.std.proofs.lemmas.Result.{on_ok_weaker}
 use Rattle.cpa_expr.specs.declared.tree.Expr.{Expr}
-use Rattle.cpa_edgeform_rules.specs.Drafts.{placed}
-use Rattle.cpa_edgeform_rules.specs.Forms.{joined}
+use Rattle.cpa_form_rules.specs.Drafts.{placed}
+use Rattle.cpa_form_rules.specs.Forms.{joined}
 use Rattle.cpa_edgeform.specs.Parts.{form_in, places_or}
 use Rattle.cpa_edgeform.proofs.Additions.{failing_added}
 use Rattle.cpa_edgeform.proofs.adding.add_failing.Goals as goal

@@ -3,10 +3,10 @@ use Rattle.std.proofs.Common.{◌∙◌, ◌<◌, ℕ, List, ap, sym, subst}
 use Rattle.std.specs.Prelude.{vec_len, vec_capacity}
 use Rattle.std.specs.declared.vec.Vec.{Vec}
 use Rattle.std.specs.declared.alloc.Global.{Global}
-use Rattle.cpa_edgeform_renaming.specs.declared.places.Place.{Place}
-use Rattle.cpa_edgeform_rules.specs.Drafts.{placed}
-use Rattle.cpa_edgeform_rules.specs.Tests.{type_at}
-use Rattle.cpa_edgeform_rules.specs.Forms.{Form, joined}
+use Rattle.cpa_form_renaming.specs.declared.places.Place.{Place}
+use Rattle.cpa_form_rules.specs.Drafts.{placed}
+use Rattle.cpa_form_rules.specs.Tests.{type_at}
+use Rattle.cpa_form_rules.specs.Forms.{Form, joined}
 use Rattle.cpa_edgeform.specs.Parts.{form_in}
 use Rattle.cpa_edgeform.proofs.Additions.{input_added}
 use Rattle.cpa_edgeform.proofs.adding.add_input.Goals as goal

@@ -1,9 +1,9 @@
 -- The tests are wanted at the places where they can be read.
 use Rattle.std.proofs.Common.{◌≡◌, ◌∙◌, List, ap}
 use Rattle.std.proofs.lemmas.Result.{on_ok_weaker}
-use Rattle.cpa_edgeform_renaming.specs.declared.places.Place.{Place}
-use Rattle.cpa_edgeform_rules.specs.Drafts.{placed, want_all}
-use Rattle.cpa_edgeform_rules.specs.Forms.{joined}
+use Rattle.cpa_form_renaming.specs.declared.places.Place.{Place}
+use Rattle.cpa_form_rules.specs.Drafts.{placed, want_all}
+use Rattle.cpa_form_rules.specs.Forms.{joined}
 use Rattle.cpa_edgeform.specs.Parts.{form_in, places_or}
 use Rattle.cpa_edgeform.proofs.Additions.{tests_added}
 use Rattle.cpa_edgeform.proofs.adding.add_tests.Goals as goal

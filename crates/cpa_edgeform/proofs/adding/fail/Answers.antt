@@ -1,7 +1,7 @@
 -- The denials, and then their weight.
 use Rattle.std.proofs.Common.{map}
 use Rattle.std.specs.Prelude.{sum}
-use Rattle.cpa_edgeform_rules.specs.Forms.{elem_weight}
+use Rattle.cpa_form_rules.specs.Forms.{elem_weight}
 use Rattle.cpa_edgeform.specs.Parts.{form_in}
 use Rattle.cpa_edgeform.proofs.Sums.{weighed_behind}
 use Rattle.cpa_edgeform.proofs.adding.fail.Goals as goal

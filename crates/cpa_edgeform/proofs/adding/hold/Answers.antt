@@ -1,7 +1,7 @@
 -- The tests, and then their weight.
 use Rattle.std.proofs.Common.{◌∙◌, Bool, List, ap}
 use Rattle.cpa_expr.specs.declared.tree.Expr.{Expr}
-use Rattle.cpa_edgeform_rules.specs.Forms.{elem_weight, with_tests}
+use Rattle.cpa_form_rules.specs.Forms.{elem_weight, with_tests}
 use Rattle.cpa_edgeform.specs.Parts.{form_in}
 use Rattle.cpa_edgeform.proofs.Sums.{weighed_behind}
 use Rattle.cpa_edgeform.proofs.adding.hold.Goals as goal

@@ -1,5 +1,5 @@
 -- The act, and then its weight.
-use Rattle.cpa_edgeform_rules.specs.Forms.{act_weight}
+use Rattle.cpa_form_rules.specs.Forms.{act_weight}
 use Rattle.cpa_edgeform.specs.Parts.{form_in}
 use Rattle.cpa_edgeform.proofs.Sums.{weighed_behind}
 use Rattle.cpa_edgeform.proofs.adding.take.Goals as goal

@@ -1,6 +1,6 @@
 -- The places so far, with those that are left, are those of all cells.
 use Rattle.std.proofs.Common.{◌≡◌, ◌++◌, drop}
-use Rattle.cpa_edgeform_rules.specs.Forms.{places_from}
+use Rattle.cpa_form_rules.specs.Forms.{places_from}
 use Rattle.cpa_edgeform.proofs.beginning.places.Given as goal
 
 abbrev pub invariant-loop-i : goal.invariant-loop-i

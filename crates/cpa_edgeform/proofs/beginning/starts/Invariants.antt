@@ -1,6 +1,6 @@
 -- What is wanted so far, with what is left, is what all cells give.
 use Rattle.std.proofs.Common.{◌≡◌, ◌++◌, drop}
-use Rattle.cpa_edgeform_rules.specs.Forms.{starts}
+use Rattle.cpa_form_rules.specs.Forms.{starts}
 use Rattle.cpa_edgeform.proofs.beginning.starts.Given as goal
 
 abbrev pub invariant-loop-i : goal.invariant-loop-i

@@ -1,6 +1,6 @@
 -- What is left gives, behind the places so far, what all cells give.
 use Rattle.std.proofs.Common.{◌≡◌, drop}
-use Rattle.cpa_edgeform_rules.specs.Drafts.{copied}
+use Rattle.cpa_form_rules.specs.Drafts.{copied}
 use Rattle.cpa_edgeform.proofs.Turns.{after}
 use Rattle.cpa_edgeform.proofs.settling.copied.Given as goal
 

@@ -4,7 +4,7 @@ use Rattle.std.proofs.lemmas.List.{length-map}
 use Rattle.std.proofs.lemmas.List.FromFn.{length-map-range_with_len}
 use Rattle.cpa_query.specs.declared.query.Query.{Query}
 use Rattle.cpa_query.specs.Queries.{wanted_reads}
-use Rattle.cpa_edgeform_renaming.specs.declared.places.Place.{Place}
+use Rattle.cpa_form_renaming.specs.declared.places.Place.{Place}
 use Rattle.cpa_edgeform.proofs.settling.marks_of.Goals as goal
 
 pub returns-clause-long : goal.returns-clause-long

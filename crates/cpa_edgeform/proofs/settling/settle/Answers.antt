@@ -1,6 +1,6 @@
 -- The places as they stand, or new ones.
 use Rattle.std.proofs.Common.{◌∙◌, Bool, List, length, ap}
-use Rattle.cpa_edgeform_rules.specs.Drafts.{copied}
+use Rattle.cpa_form_rules.specs.Drafts.{copied}
 use Rattle.cpa_edgeform.proofs.Turns.{settled_as_is, settled_by_copies}
 use Rattle.cpa_edgeform.proofs.settling.settle.Goals as goal
 

@@ -1,7 +1,7 @@
 -- The denials of the elements so far.
 use Rattle.std.proofs.Common.{◌≡◌, map, take}
 use Rattle.cpa_model.specs.declared.facts.Elem.{Elem}
-use Rattle.cpa_edgeform_rules.specs.Tests.{denials_of}
+use Rattle.cpa_form_rules.specs.Tests.{denials_of}
 use Rattle.cpa_edgeform.proofs.testing.all_denials.Given as goal
 
 abbrev pub invariant-loop-elem : goal.invariant-loop-elem

@@ -1,6 +1,6 @@
 -- The denials of the tests so far.
 use Rattle.std.proofs.Common.{◌≡◌, map, take}
-use Rattle.cpa_edgeform_rules.specs.Tests.{denied}
+use Rattle.cpa_form_rules.specs.Tests.{denied}
 use Rattle.cpa_edgeform.proofs.testing.denials.Given as goal
 
 abbrev pub invariant-loop-one : goal.invariant-loop-one

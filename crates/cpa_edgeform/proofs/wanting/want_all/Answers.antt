@@ -1,6 +1,6 @@
 -- One expression more.
 use Rattle.std.proofs.Common.{◌+◌, ◌∙◌, drop, sym, ap, arith}
-use Rattle.cpa_edgeform_rules.specs.Drafts.{want_all}
+use Rattle.cpa_form_rules.specs.Drafts.{want_all}
 use Rattle.cpa_edgeform.proofs.Turns.{next_item}
 use Rattle.cpa_edgeform.proofs.wanting.want_all.Goals as goal
 

@@ -1,6 +1,6 @@
 -- What is left gives what all expressions give.
 use Rattle.std.proofs.Common.{◌≡◌, drop}
-use Rattle.cpa_edgeform_rules.specs.Drafts.{want_all}
+use Rattle.cpa_form_rules.specs.Drafts.{want_all}
 use Rattle.cpa_edgeform.proofs.wanting.want_all.Given as goal
 
 abbrev pub invariant-loop-one : goal.invariant-loop-one

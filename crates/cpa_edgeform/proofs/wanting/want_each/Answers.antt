@@ -1,6 +1,6 @@
 -- One list more.
 use Rattle.std.proofs.Common.{◌+◌, ◌∙◌, drop, sym, ap, arith}
-use Rattle.cpa_edgeform_rules.specs.Tests.{want_some, want_each}
+use Rattle.cpa_form_rules.specs.Tests.{want_some, want_each}
 use Rattle.cpa_edgeform.proofs.Turns.{next_item}
 use Rattle.cpa_edgeform.proofs.wanting.want_each.Goals as goal
 

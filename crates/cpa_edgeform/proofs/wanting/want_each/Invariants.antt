@@ -1,6 +1,6 @@
 -- What is left gives what all lists give.
 use Rattle.std.proofs.Common.{◌≡◌, drop}
-use Rattle.cpa_edgeform_rules.specs.Tests.{want_each}
+use Rattle.cpa_form_rules.specs.Tests.{want_each}
 use Rattle.cpa_edgeform.proofs.wanting.want_each.Given as goal
 
 abbrev pub invariant-loop-tests : goal.invariant-loop-tests

@@ -1,6 +1,6 @@
 -- What is left gives, from the present truth on, what all tests give.
 use Rattle.std.proofs.Common.{◌≡◌, drop}
-use Rattle.cpa_edgeform_rules.specs.Tests.{some_from, want_some}
+use Rattle.cpa_form_rules.specs.Tests.{some_from, want_some}
 use Rattle.cpa_edgeform.proofs.wanting.want_some.Given as goal
 
 abbrev pub invariant-loop-one : goal.invariant-loop-one

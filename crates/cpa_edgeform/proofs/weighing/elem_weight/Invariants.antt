@@ -1,7 +1,7 @@
 -- The sum so far, with what is left, is the sum, or the greatest number.
 use Rattle.std.proofs.Common.{◌≡◌, ◌+◌, ◌-◌, ◌^◌, ◌≤◌, min, map}
 use Rattle.std.specs.Prelude.{sum}
-use Rattle.cpa_edgeform_rules.specs.Forms.{fact_weight, elem_weight}
+use Rattle.cpa_form_rules.specs.Forms.{fact_weight, elem_weight}
 use Rattle.cpa_edgeform.proofs.weighing.elem_weight.Given as goal
 
 abbrev pub invariant-loop-fact : goal.invariant-loop-fact

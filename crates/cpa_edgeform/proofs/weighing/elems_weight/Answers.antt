@@ -1,6 +1,6 @@
 -- One weight more.
 use Rattle.std.proofs.Common.{◌+◌, ◌-◌, ◌^◌, ◌∙◌, ℕ, min, ap, arith}
-use Rattle.cpa_edgeform_rules.specs.Forms.{elem_weight}
+use Rattle.cpa_form_rules.specs.Forms.{elem_weight}
 use Rattle.cpa_edgeform.proofs.Sums.{one_weight, all_weights}
 use Rattle.cpa_edgeform.proofs.weighing.elems_weight.Goals as goal
 

@@ -1,6 +1,6 @@
 -- The cells so far stand at their new places.
 use Rattle.std.proofs.Common.{◌≡◌}
-use Rattle.cpa_edgeform_rules.specs.Drafts.{moved}
+use Rattle.cpa_form_rules.specs.Drafts.{moved}
 use Rattle.cpa_edgeform.proofs.writing.move_cells.Given as goal
 
 abbrev pub invariant-loop-i : goal.invariant-loop-i

@@ -1,5 +1,5 @@
 use Rattle.std.proofs.Common.{not, ap, ◌∙◌, sym}
-use Rattle.cpa_model_facts.specs.declared.fact.Fact.{Fact}
+use Rattle.cpa_facts.specs.declared.fact.Fact.{Fact}
 use Rattle.cpa_engine_rounds.specs.Errors.{stands_off}
 use Rattle.cpa_engine_rounds.specs.lemmas.Safe.{same_test}
 use Rattle.cpa_engine_rounds.proofs.errors.stands_off.Goals as goal

@@ -1,6 +1,6 @@
 use Rattle.std.proofs.Common.{◌≡◌, ◌+◌, drop}
 use Rattle.cpa_query.specs.Queries.{is_marked}
-use Rattle.cpa_path_folds.specs.Along.{acts_along}
+use Rattle.cpa_folds.specs.Along.{acts_along}
 use Rattle.cpa_engine_rounds.specs.Pivots.{before_write}
 use Rattle.cpa_engine_rounds.proofs.pivots.before_write.Given as goal
 

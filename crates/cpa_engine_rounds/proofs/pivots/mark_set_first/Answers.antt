@@ -3,7 +3,7 @@ use Rattle.std.specs.Prelude.{nat_lt, ◌++◌, ◌∷◌, [], List}
 use Rattle.std.specs.List.{list_any}
 use Rattle.cpa_model.specs.declared.automaton.Act.{Act}
 use Rattle.cpa_query.specs.Queries.{is_marked}
-use Rattle.cpa_path_folds.specs.Along.{acts_along}
+use Rattle.cpa_folds.specs.Along.{acts_along}
 use Rattle.cpa_engine_rounds.specs.Pivots.{reads, sets, is_set_first}
 use Rattle.cpa_engine_rounds.proofs.SetFirst.{acts_more, read_more, set_more}
 use Rattle.cpa_engine_rounds.proofs.pivots.mark_set_first.Goals as goal

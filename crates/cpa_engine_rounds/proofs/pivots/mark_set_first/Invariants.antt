@@ -2,7 +2,7 @@ use Rattle.std.proofs.Common.{◌≡◌, ℕ, ◌&&◌, length, take}
 use Rattle.std.specs.Prelude.{nat_lt}
 use Rattle.std.specs.List.{list_any}
 use Rattle.cpa_query.specs.Queries.{is_marked}
-use Rattle.cpa_path_folds.specs.Along.{acts_along}
+use Rattle.cpa_folds.specs.Along.{acts_along}
 use Rattle.cpa_engine_rounds.specs.Pivots.{reads, is_set_first}
 use Rattle.cpa_engine_rounds.proofs.pivots.mark_set_first.Given as goal
 

@@ -2,7 +2,7 @@ use Rattle.std.proofs.Common.{◌∙◌, ◌&&◌, ◌||◌, not, ℕ, Bool, Lis
 use Rattle.std.specs.Prelude.{nat_lt}
 use Rattle.std.specs.List.{list_all, range_with_len}
 use Rattle.cpa_query.specs.Queries.{is_marked}
-use Rattle.cpa_path_folds.specs.Along.{acts_along}
+use Rattle.cpa_folds.specs.Along.{acts_along}
 use Rattle.cpa_engine_rounds.specs.Pivots.{new_of, is_new, before_write, is_set_first}
 use Rattle.cpa_engine_rounds.proofs.SetFirst.{is_pivot, acts_count, below_cells}
 use Rattle.cpa_engine_rounds.proofs.pivots.pivot_place.Goals as goal

@@ -6,8 +6,8 @@ use denote.Param.Send.{arg_send}
 use denote.Param.Sent.{Sends}
 use mir.Raw.{raw}
 use Rattle.cpa_host_start.proofs.answer.OwnLists.{part-1-6}
-use Rattle.cpa_interpolant_craig.specs.Sending.{craig_sent}
-use Rattle.cpa_interpolant_craig.specs.contracts.craig.Craig
+use Rattle.cpa_craig.specs.Sending.{craig_sent}
+use Rattle.cpa_craig.specs.contracts.craig.Craig
 
 pub sends-part-1-6 : Sends part-1-6
 sends-part-1-6 i = arg_send (raw (layout Craig.the_row)) no Craig.the_row craig_sent

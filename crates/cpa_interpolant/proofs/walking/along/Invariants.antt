@@ -1,6 +1,6 @@
 -- So many cuts are done: one expression more than these.
 use Rattle.std.proofs.Common.{◌≡◌, suc, length}
-use Rattle.cpa_path_folds.specs.Along.{acts_along}
+use Rattle.cpa_folds.specs.Along.{acts_along}
 use Rattle.cpa_interpolant.specs.Walked.{IsWalked}
 use Rattle.cpa_interpolant.proofs.walking.along.Given as goal
 

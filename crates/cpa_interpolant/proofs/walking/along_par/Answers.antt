@@ -1,7 +1,7 @@
 -- The answer at each cut, with the expression before it.
 use Rattle.std.proofs.Common.{ℕ, ◌+◌, ◌-◌, ◌<◌, List, length, take, drop, sym, subst, arith}
 use Rattle.std.specs.List.{AllByRecursion}
-use Rattle.cpa_path_folds.specs.Along.{acts_along}
+use Rattle.cpa_folds.specs.Along.{acts_along}
 use Rattle.cpa_interpolant.specs.Along.{IsAlong}
 use Rattle.cpa_interpolant.specs.Walked.{IsWalked, IsStep}
 use Rattle.cpa_interpolant.proofs.Walked.{at_next, expr_there, runs_if_run, later}

@@ -1,6 +1,6 @@
 -- All cuts are done, or there is none.
 use Rattle.std.proofs.Common.{◌+◌, ◌∙◌, ap, sym}
-use Rattle.cpa_path_folds.specs.Along.{acts_along}
+use Rattle.cpa_folds.specs.Along.{acts_along}
 use Rattle.cpa_interpolant.proofs.Walked.{all_found, acts_long, starts_there, none_of, some_long}
 use Rattle.cpa_interpolant.proofs.Walked.{one_is_expr}
 use Rattle.cpa_interpolant.proofs.walking.ended.Goals as goal

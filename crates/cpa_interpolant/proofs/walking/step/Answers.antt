@@ -3,7 +3,7 @@ use Rattle.std.proofs.Common.{◌∙◌, ◌++◌, ◌∷◌, [], ap, subst}
 use Rattle.cpa_expr.specs.declared.tree.Expr.{Expr}
 use Rattle.cpa_interpolant_answers.specs.declared.answer.Answer.TheVariants as answer
 use Rattle.cpa_interpolant_answers.specs.Answers.{IsLearnt, IsHeavy, IsLarge}
-use Rattle.cpa_path_folds.specs.Along.{acts_along}
+use Rattle.cpa_folds.specs.Along.{acts_along}
 use Rattle.cpa_interpolant.specs.Walked.{IsNextAnswer}
 use Rattle.cpa_interpolant.proofs.Walked.{step_on, one_more, stops, light_if_run}
 use Rattle.cpa_interpolant.proofs.walking.step.Goals as goal

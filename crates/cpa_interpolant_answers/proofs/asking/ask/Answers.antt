@@ -6,7 +6,7 @@ use Rattle.cpa_cnf.specs.Lines.{AreBelow}
 use Rattle.cpa_cnf.specs.Models.{IsModel}
 use Rattle.cpa_sat.specs.Outcomes.{IsFound, IsRefutedWithin}
 use Rattle.cpa_model.specs.declared.program.Cell.{Cell}
-use Rattle.cpa_path_folds.specs.Along.{acts_along}
+use Rattle.cpa_folds.specs.Along.{acts_along}
 use Rattle.cpa_interpolant_cuts.specs.Cuts.{formula_of, shared_bits_of}
 use Rattle.cpa_interpolant_cuts.specs.lemmas.Meet.{AreParts}
 use Rattle.cpa_interpolant_answers.proofs.Parted.{at_cut, good, cut_of, parts_there, below_there}

@@ -2,9 +2,9 @@
 use Rattle.std.proofs.Common.{sym, ap, ◌∙◌, subst}
 use Rattle.cpa_query.specs.declared.query.Query.{Query}
 use Rattle.cpa_query.specs.Queries.{IsQuery, IsModel}
-use Rattle.cpa_edgeform_rules.specs.Forms.{Form}
+use Rattle.cpa_form_rules.specs.Forms.{Form}
 use Rattle.cpa_solver.specs.Decisions.{IsDecided}
-use Rattle.cpa_path_folds.specs.Along.{acts_along}
+use Rattle.cpa_folds.specs.Along.{acts_along}
 use Rattle.cpa_interpolant_answers.specs.lemmas.Keeping.{good_path}
 use Rattle.cpa_interpolant_answers.proofs.Modelled.{asked, model_there}
 use Rattle.cpa_interpolant_answers.proofs.modelling.model_of.Goals as goal

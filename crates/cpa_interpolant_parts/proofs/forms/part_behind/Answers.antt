@@ -1,7 +1,7 @@
 use Rattle.std.proofs.Common.{◌≡◌, ◌+◌, ℕ, List, drop, get_or, ap, ◌∙◌, subst}
 use Rattle.std.proofs.lemmas.List.{drop_more}
-use Rattle.cpa_edgeform_rules.specs.Forms.{Form, form_from}
-use Rattle.cpa_path_folds.specs.Along.{acts_along}
+use Rattle.cpa_form_rules.specs.Forms.{Form, form_from}
+use Rattle.cpa_folds.specs.Along.{acts_along}
 use Rattle.cpa_interpolant_cuts.specs.Cuts.{added_behind, behind_cut}
 use Rattle.cpa_interpolant_parts.proofs.Edges.{edge_at, form_on}
 use Rattle.cpa_interpolant_parts.proofs.forms.part_behind.Goals as goal

@@ -1,7 +1,7 @@
 -- What is left makes of the form what all edges make of the first one.
 use Rattle.std.proofs.Common.{◌≡◌, drop}
-use Rattle.cpa_edgeform_rules.specs.Forms.{form_from}
-use Rattle.cpa_path_folds.specs.Along.{acts_along}
+use Rattle.cpa_form_rules.specs.Forms.{form_from}
+use Rattle.cpa_folds.specs.Along.{acts_along}
 use Rattle.cpa_interpolant_cuts.specs.Cuts.{added_behind, behind_cut}
 use Rattle.cpa_interpolant_parts.proofs.forms.part_behind.Given as goal
 

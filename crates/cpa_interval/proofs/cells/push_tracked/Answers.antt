@@ -1,6 +1,6 @@
 -- One cell more, and all cells.
 use Rattle.std.proofs.Common.{◌≡◌, ◌+◌, ◌-◌, arith, length}
-use Rattle.cpa_path_folds.specs.Tracking.{is_tracked}
+use Rattle.cpa_folds.specs.Tracking.{is_tracked}
 use Rattle.cpa_interval.proofs.KnownLemmas.{known_inside, says_more, says_all}
 use Rattle.cpa_interval.proofs.cells.push_tracked.Goals as goal
 

@@ -1,5 +1,5 @@
 -- The facts of the cells from this place on are there.
-use Rattle.cpa_path_folds.specs.Tracking.{is_tracked}
+use Rattle.cpa_folds.specs.Tracking.{is_tracked}
 use Rattle.cpa_interval.proofs.KnownLemmas.{Says}
 use Rattle.cpa_interval.proofs.cells.push_tracked.Given as goal
 

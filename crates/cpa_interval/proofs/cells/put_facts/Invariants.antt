@@ -1,7 +1,7 @@
 -- The facts from this place on are put in place.
 use Rattle.std.proofs.Common.{◌≡◌, ℕ, ◌≤◌, List, drop}
 use Rattle.std.specs.Prelude.{length}
-use Rattle.cpa_model_facts.specs.declared.fact.Fact.{Fact}
+use Rattle.cpa_facts.specs.declared.fact.Fact.{Fact}
 use Rattle.cpa_interval_bounds.specs.Tables.{Bounded}
 use Rattle.cpa_interval.specs.Cells.{with_facts}
 use Rattle.cpa_interval.proofs.cells.put_facts.Given as goal

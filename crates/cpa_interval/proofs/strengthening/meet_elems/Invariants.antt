@@ -1,6 +1,6 @@
 -- What is left gives what the whole gives.
 use Rattle.std.proofs.Common.{◌≡◌, drop}
-use Rattle.cpa_path_folds.specs.Tracking.{is_tracked}
+use Rattle.cpa_folds.specs.Tracking.{is_tracked}
 use Rattle.cpa_interval.specs.Strengthening.{met_elems}
 use Rattle.cpa_interval.proofs.strengthening.meet_elems.Given as goal
 

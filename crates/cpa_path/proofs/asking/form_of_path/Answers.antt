@@ -1,6 +1,6 @@
 use Rattle.std.proofs.Common.{◌≡◌, ◌+◌, ℕ, List, drop, get_or, ap, ◌∙◌, subst}
 use Rattle.std.proofs.lemmas.List.{drop_more}
-use Rattle.cpa_edgeform_rules.specs.Forms.{Form, form_from}
+use Rattle.cpa_form_rules.specs.Forms.{Form, form_from}
 use Rattle.cpa_path.specs.Paths.{added_along, path_form}
 use Rattle.cpa_path.proofs.Formed.{edge_at, form_on}
 use Rattle.cpa_path.proofs.asking.form_of_path.Goals as goal

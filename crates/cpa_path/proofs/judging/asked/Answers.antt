@@ -1,8 +1,8 @@
 use Rattle.std.proofs.Common.{◌≡◌, ℕ, ℤ, true, List, refl, sym, ap, ◌∙◌, subst}
 use Rattle.cpa_query.specs.declared.query.Query.{Query}
 use Rattle.cpa_query.specs.Queries.{IsQuery, IsModel}
-use Rattle.cpa_edgeform_rules.specs.Forms.{Form, inputs_at, last_store}
-use Rattle.cpa_edgeform_rules.specs.Laws.{IsFormOf}
+use Rattle.cpa_form_rules.specs.Forms.{Form, inputs_at, last_store}
+use Rattle.cpa_form_rules.specs.Laws.{IsFormOf}
 use Rattle.cpa_solver.specs.Decisions.{IsDecided}
 use Rattle.cpa_path.specs.Paths.{added_along, path_form, HasStores}
 use Rattle.cpa_path.proofs.Along.{stores_replay, no_stores}

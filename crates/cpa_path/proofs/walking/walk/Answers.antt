@@ -1,7 +1,7 @@
 use Rattle.std.proofs.Common.{◌≡◌, ◌+◌, ℕ, List, false, drop, get_or, subst}
 use Rattle.std.specs.Prelude.{◌↔◌}
 use Rattle.std.proofs.lemmas.List.{drop_more}
-use Rattle.cpa_edgeform_rules.specs.Runs.{Runs}
+use Rattle.cpa_form_rules.specs.Runs.{Runs}
 use Rattle.cpa_path.specs.Paths.{added_along, has_input, HasStores}
 use Rattle.cpa_path.proofs.Walked.{stores_on, stores_stop, no_input}
 use Rattle.cpa_path.proofs.walking.walk.Goals as goal

@@ -1,7 +1,7 @@
 -- What is left runs from here as the path does from the start, and has no input.
 use Rattle.std.proofs.Common.{◌≡◌, ℤ, List, false, drop}
 use Rattle.std.specs.Prelude.{◌↔◌}
-use Rattle.cpa_edgeform_rules.specs.Runs.{Runs}
+use Rattle.cpa_form_rules.specs.Runs.{Runs}
 use Rattle.cpa_path.specs.Paths.{added_along, has_input, HasStores}
 use Rattle.cpa_path.proofs.walking.walk.Given as goal
 

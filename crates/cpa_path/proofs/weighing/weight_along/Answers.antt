@@ -2,8 +2,8 @@ use Rattle.std.proofs.Common.{◌≡◌, ℕ, ◌+◌, ◌-◌, ◌^◌, min, Li
 use Rattle.std.proofs.Common.{arith}
 use Rattle.std.proofs.Math.ListN.{drop_of_length-le}
 use Rattle.std.specs.List.{sum_by}
-use Rattle.cpa_edgeform_rules.specs.Forms.{act_weight}
-use Rattle.cpa_path_folds.specs.Along.{acts_along}
+use Rattle.cpa_form_rules.specs.Forms.{act_weight}
+use Rattle.cpa_folds.specs.Along.{acts_along}
 use Rattle.std.proofs.lemmas.List.{drop_more}
 use Rattle.cpa_path.proofs.Weighed.{weight_on, weight_all}
 use Rattle.cpa_path.proofs.weighing.weight_along.Goals as goal

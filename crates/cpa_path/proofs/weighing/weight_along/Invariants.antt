@@ -1,9 +1,9 @@
 -- With what is left the sum so far makes the path's weight.
 use Rattle.std.proofs.Common.{◌≡◌, ℕ, ◌+◌, ◌-◌, ◌^◌, ◌≤◌, min, List, drop}
 use Rattle.std.specs.List.{sum_by}
-use Rattle.cpa_edgeform_rules.specs.Forms.{act_weight}
+use Rattle.cpa_form_rules.specs.Forms.{act_weight}
 use Rattle.cpa_model.specs.declared.automaton.Cfa.{Cfa}
-use Rattle.cpa_path_folds.specs.Along.{acts_along}
+use Rattle.cpa_folds.specs.Along.{acts_along}
 use Rattle.cpa_path.specs.Paths.{path_weight}
 use Rattle.cpa_path.proofs.weighing.weight_along.Given as goal
 

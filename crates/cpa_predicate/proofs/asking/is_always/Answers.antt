@@ -1,7 +1,7 @@
 -- The form that is asked is the step with the predicate's truth failing behind it.
 use Rattle.std.proofs.Common.{◌≡◌, subst, Bool, false}
 use Rattle.std.specs.Prelude.{IsTrue, IfOk}
-use Rattle.cpa_edgeform_rules.specs.Forms.{Form}
+use Rattle.cpa_form_rules.specs.Forms.{Form}
 use Rattle.cpa_solver.specs.Decisions.{HasNoModel}
 use Rattle.cpa_predicate.specs.Questions.{IsUndecided}
 use Rattle.cpa_predicate.proofs.asking.is_always.Goals as goal

@@ -1,8 +1,8 @@
 -- The step with the predicate's truth failing behind it.
 use Rattle.std.proofs.Common.{ap, ◌∙◌, List}
 use Rattle.cpa_model.specs.declared.facts.Elem.{Elem}
-use Rattle.cpa_edgeform_rules.specs.Forms.{Form, with_added}
-use Rattle.cpa_edgeform_rules.specs.Runs.{failing}
+use Rattle.cpa_form_rules.specs.Forms.{Form, with_added}
+use Rattle.cpa_form_rules.specs.Runs.{failing}
 use Rattle.cpa_predicate.specs.Questions.{lacking}
 use Rattle.cpa_predicate.proofs.asking.lacking_form.Goals as goal
 

@@ -2,9 +2,9 @@
 use Rattle.std.proofs.Common.{List, ap, ◌∙◌, subst}
 use Rattle.std.specs.List.{AllByRecursion, filter}
 use Rattle.std.proofs.lemmas.Result.{IfOk-weaker}
-use Rattle.cpa_model_facts.specs.declared.fact.Fact.{Fact}
+use Rattle.cpa_facts.specs.declared.fact.Fact.{Fact}
 use Rattle.cpa_model.specs.Facts.{IsFact}
-use Rattle.cpa_edgeform_rules.specs.Runs.{StoreFactHolds}
+use Rattle.cpa_form_rules.specs.Runs.{StoreFactHolds}
 use Rattle.cpa_predicate.specs.Steps.{is_truth}
 use Rattle.cpa_predicate.proofs.NearLemmas.{one_kept, one_left, truth_first, truths_left}
 use Rattle.cpa_predicate.proofs.NearLemmas.{made_shaped, made_weaker}

@@ -3,7 +3,7 @@ use Rattle.std.proofs.Common.{ℕ, ℤ, List}
 use Rattle.std.specs.List.{AllByRecursion, filter}
 use Rattle.cpa_model.specs.declared.program.Cell.{Cell}
 use Rattle.cpa_model.specs.Facts.{IsFact, IsElem}
-use Rattle.cpa_edgeform_rules.specs.Runs.{StoreHolds, StoreFactHolds}
+use Rattle.cpa_form_rules.specs.Runs.{StoreHolds, StoreFactHolds}
 use Rattle.cpa_predicate.specs.Steps.{is_truth, truths}
 use Rattle.cpa_predicate.proofs.nearness.marked_truths.Given as goal
 

@@ -1,6 +1,6 @@
 -- All truths hold where those of the facts that are left do.
 use Rattle.std.specs.List.{AllByRecursion, filter}
-use Rattle.cpa_edgeform_rules.specs.Runs.{StoreHolds, StoreFactHolds}
+use Rattle.cpa_form_rules.specs.Runs.{StoreHolds, StoreFactHolds}
 use Rattle.cpa_predicate.specs.Steps.{is_truth, truths}
 use Rattle.cpa_predicate.proofs.witnesses.has_truths.Given as goal
 

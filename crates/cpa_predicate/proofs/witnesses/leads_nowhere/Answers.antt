@@ -1,7 +1,7 @@
 -- A step to a store that is known is a model of the question, and so there is one.
 use Rattle.std.proofs.Common.{sym, subst}
 use Rattle.cpa_query.specs.Queries.{IsQuery}
-use Rattle.cpa_edgeform_rules.specs.Forms.{Form}
+use Rattle.cpa_form_rules.specs.Forms.{Form}
 use Rattle.cpa_solver.specs.Decisions.{HasNoModel}
 use Rattle.cpa_predicate.proofs.StepLemmas.{step_asked, never_steps}
 use Rattle.cpa_predicate.proofs.WitnessLemmas.{first_step}

@@ -1,7 +1,7 @@
 use Rattle.std.proofs.Common.{List, sym, ◌∙◌, subst}
 use Rattle.std.specs.List.{AllByRecursion}
 use Rattle.cpa_model.specs.Facts.{FactHolds}
-use Rattle.cpa_model_facts.specs.declared.fact.Fact.{Fact}
+use Rattle.cpa_facts.specs.declared.fact.Fact.{Fact}
 use Rattle.cpa_reached.proofs.Runs.{block_holds}
 use Rattle.cpa_reached.proofs.marks.followed_by_blocks.Goals as goal
 

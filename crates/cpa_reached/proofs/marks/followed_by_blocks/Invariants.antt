@@ -3,7 +3,7 @@ use Rattle.std.proofs.Common.{◌≡◌}
 use Rattle.std.specs.List.{AllByRecursion}
 use Rattle.cpa_model.specs.declared.states.State.{State}
 use Rattle.cpa_model.specs.Facts.{FactHolds}
-use Rattle.cpa_model_facts.specs.Blocks.{joined}
+use Rattle.cpa_facts.specs.Blocks.{joined}
 use Rattle.cpa_reached.specs.Marks.{Counts}
 use Rattle.cpa_reached.proofs.marks.followed_by_blocks.Given as goal
 

@@ -1,6 +1,6 @@
 -- What may follow all is what may follow what is left.
 use Rattle.std.proofs.Common.{◌≡◌, drop}
-use Rattle.cpa_model_facts.specs.Blocks.{joined}
+use Rattle.cpa_facts.specs.Blocks.{joined}
 use Rattle.cpa_reached.specs.Marks.{past_all}
 use Rattle.cpa_reached.proofs.marks.past_blocks.Given as goal
 

@@ -1,7 +1,7 @@
 use Rattle.std.proofs.Common.{sym, subst, ◌∙◌}
-use Rattle.cpa_model_facts.specs.declared.fact.Fact.{Fact}
-use Rattle.cpa_model_facts.specs.declared.fact.Fact.TheVariants.{Truth}
-use Rattle.cpa_edgeform_rules.specs.Runs.{StoreFactHolds}
+use Rattle.cpa_facts.specs.declared.fact.Fact.{Fact}
+use Rattle.cpa_facts.specs.declared.fact.Fact.TheVariants.{Truth}
+use Rattle.cpa_form_rules.specs.Runs.{StoreFactHolds}
 use Rattle.cpa_recheck_bounds.proofs.Said.{same_holds}
 use Rattle.cpa_recheck_bounds.proofs.saying.is_truth_said.Goals as goal
 

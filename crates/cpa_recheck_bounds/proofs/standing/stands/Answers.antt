@@ -1,5 +1,5 @@
 use Rattle.std.proofs.Common.{sym, subst}
-use Rattle.cpa_model_facts.specs.declared.fact.Fact.{Fact}
+use Rattle.cpa_facts.specs.declared.fact.Fact.{Fact}
 use Rattle.cpa_recheck_bounds.specs.Standing.{Stands}
 use Rattle.cpa_recheck_bounds.proofs.Stood.{is_false, truth_stands}
 use Rattle.cpa_recheck_bounds.proofs.standing.stands.Goals as goal

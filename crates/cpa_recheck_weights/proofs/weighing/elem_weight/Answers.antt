@@ -1,6 +1,6 @@
 -- One weight more.
 use Rattle.std.proofs.Common.{◌≡◌, ◌+◌, ◌-◌, ◌^◌, ◌∙◌, ℕ, min, ap, arith}
-use Rattle.cpa_edgeform_rules.specs.Forms.{fact_weight, places_from}
+use Rattle.cpa_form_rules.specs.Forms.{fact_weight, places_from}
 use Rattle.cpa_recheck_weights.proofs.Weighed.{one_less}
 use Rattle.cpa_recheck_weights.proofs.weighing.elem_weight.Goals as goal
 

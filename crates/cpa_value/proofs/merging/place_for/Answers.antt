@@ -1,6 +1,6 @@
 use Rattle.std.proofs.Common.{◌≡◌, sym, ap, ◌∙◌}
 use Rattle.std.specs.Prelude.{slice_get}
-use Rattle.cpa_model_facts.specs.declared.fact.Fact.TheVariants.{Equals}
+use Rattle.cpa_facts.specs.declared.fact.Fact.TheVariants.{Equals}
 use Rattle.cpa_iface.specs.Common.{stands_in}
 use Rattle.cpa_value_changes.specs.Tables.{place_in}
 use Rattle.cpa_value.specs.Merging.{stands_at}

@@ -1,6 +1,6 @@
 -- What is left gives what the whole gives.
 use Rattle.std.proofs.Common.{◌≡◌}
-use Rattle.cpa_path_folds.specs.Tracking.{is_tracked}
+use Rattle.cpa_folds.specs.Tracking.{is_tracked}
 use Rattle.cpa_value.specs.Strengthening.{met_facts}
 use Rattle.cpa_value.proofs.strengthening.meet_facts.Given as goal
 

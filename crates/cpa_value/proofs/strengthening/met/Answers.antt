@@ -1,6 +1,6 @@
 -- Where nothing more is said the own facts are those of all that is known.
 use Rattle.std.proofs.Common.{refl, ◌∙◌}
-use Rattle.cpa_path_folds.specs.Tracking.{is_tracked}
+use Rattle.cpa_folds.specs.Tracking.{is_tracked}
 use Rattle.cpa_value.specs.Strengthening.{met_elems}
 use Rattle.cpa_value.proofs.ChangeLemmas.{few_known, met_is}
 use Rattle.cpa_value.proofs.strengthening.met.Goals as goal

@@ -1,6 +1,6 @@
 -- What is left says what all say.
 use Rattle.std.proofs.Common.{◌≡◌, drop}
-use Rattle.cpa_path_folds.specs.Tracking.{is_tracked}
+use Rattle.cpa_folds.specs.Tracking.{is_tracked}
 use Rattle.cpa_value.specs.Strengthening.{met_elems}
 use Rattle.cpa_value.proofs.strengthening.said_along.Given as goal
 

@@ -1,6 +1,6 @@
 -- A fact of one value says of its cell what that value says.
 use Rattle.std.proofs.Common.{sym, ◌∙◌}
-use Rattle.cpa_path_folds.specs.Tracking.{is_tracked}
+use Rattle.cpa_folds.specs.Tracking.{is_tracked}
 use Rattle.cpa_value.proofs.ChangeLemmas.{said_is}
 use Rattle.cpa_value.proofs.strengthening.said_by_fact.Goals as goal
 

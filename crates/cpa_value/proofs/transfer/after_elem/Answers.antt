@@ -1,6 +1,6 @@
 -- Facts in order say what the others do.
 use Rattle.std.proofs.Common.{◌∙◌, ap}
-use Rattle.cpa_path_folds.specs.Tracking.{is_tracked}
+use Rattle.cpa_folds.specs.Tracking.{is_tracked}
 use Rattle.cpa_value_changes.specs.Acts.{after_act}
 use Rattle.cpa_value.specs.Transfer.{elems_of}
 use Rattle.cpa_value.proofs.transfer.after_elem.Goals as goal

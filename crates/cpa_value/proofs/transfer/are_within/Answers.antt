@@ -1,6 +1,6 @@
 -- What holds of all facts holds of those of each block.
 use Rattle.std.proofs.Common.{rules, ◌∙◌}
-use Rattle.cpa_path_folds.specs.Tracking.{is_tracked}
+use Rattle.cpa_folds.specs.Tracking.{is_tracked}
 use Rattle.cpa_value.specs.Tables.{is_within}
 use Rattle.cpa_value.proofs.PlaceLemmas.{all_blocks}
 use Rattle.cpa_value.proofs.transfer.are_within.Goals as goal

@@ -2,7 +2,7 @@
 use Rattle.std.proofs.Common.{ap, ◌+◌, ◌∙◌}
 use Rattle.std.proofs.lemmas.Result.{IfOk-weaker}
 use Rattle.cpa_model.specs.declared.facts.Elem.{Elem}
-use Rattle.cpa_path_folds.specs.Tracking.{is_tracked}
+use Rattle.cpa_folds.specs.Tracking.{is_tracked}
 use Rattle.cpa_value.proofs.ChangeLemmas.{behind_is, made_elem}
 use Rattle.cpa_value.proofs.transfer.facts_behind.Goals as goal
 

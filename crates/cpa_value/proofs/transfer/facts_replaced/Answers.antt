@@ -1,7 +1,7 @@
 -- The facts before the change, its own and those behind it.
 use Rattle.std.proofs.Common.{refl, ap, ◌+◌}
 use Rattle.cpa_model.specs.declared.facts.Elem.{Elem}
-use Rattle.cpa_path_folds.specs.Tracking.{is_tracked}
+use Rattle.cpa_folds.specs.Tracking.{is_tracked}
 use Rattle.cpa_value.proofs.ChangeLemmas.{made_elem}
 use Rattle.cpa_value.proofs.PlaceLemmas.{replaced_is}
 use Rattle.cpa_value.proofs.transfer.facts_replaced.Goals as goal

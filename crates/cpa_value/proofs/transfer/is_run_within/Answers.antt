@@ -1,6 +1,6 @@
 -- The cells of the run are tracked, so its facts say values of tracked cells.
 use Rattle.std.proofs.Common.{◌∙◌}
-use Rattle.cpa_path_folds.specs.Tracking.{is_tracked}
+use Rattle.cpa_folds.specs.Tracking.{is_tracked}
 use Rattle.cpa_value.proofs.PlaceLemmas.{run_within}
 use Rattle.cpa_value.proofs.transfer.is_run_within.Goals as goal
 

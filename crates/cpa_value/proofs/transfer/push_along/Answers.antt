@@ -1,5 +1,5 @@
 -- One cell more, and no more.
-use Rattle.cpa_path_folds.specs.Tracking.{is_tracked}
+use Rattle.cpa_folds.specs.Tracking.{is_tracked}
 use Rattle.cpa_value.proofs.ChangeLemmas.{along_more, along_all}
 use Rattle.cpa_value.proofs.transfer.push_along.Goals as goal
 

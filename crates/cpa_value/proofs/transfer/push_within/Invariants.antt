@@ -1,6 +1,6 @@
 -- What is added and what is left is the whole.
 use Rattle.std.proofs.Common.{◌≡◌, ◌++◌}
-use Rattle.cpa_path_folds.specs.Tracking.{is_tracked}
+use Rattle.cpa_folds.specs.Tracking.{is_tracked}
 use Rattle.cpa_value.specs.Tables.{facts_within}
 use Rattle.cpa_value.proofs.transfer.push_within.Given as goal
 

@@ -1,7 +1,7 @@
 -- An input leaves its cell without a value.
 use Rattle.std.proofs.Common.{Some, ap, sym, ◌∙◌}
 use Rattle.cpa_model.specs.declared.automaton.Act.{Act}
-use Rattle.cpa_path_folds.specs.Tracking.{is_tracked}
+use Rattle.cpa_folds.specs.Tracking.{is_tracked}
 use Rattle.cpa_value_changes.specs.Acts.{after_act}
 use Rattle.cpa_value_changes.proofs.acts.change_by.Goals as goal
 

@@ -1,6 +1,6 @@
 -- What is left is in order exactly where all is.
 use Rattle.std.proofs.Common.{◌≡◌, drop}
-use Rattle.cpa_model_facts.specs.Blocks.{joined}
+use Rattle.cpa_facts.specs.Blocks.{joined}
 use Rattle.cpa_value_changes.specs.Tables.{are_ordered}
 use Rattle.cpa_value_changes.proofs.table.are_blocks_ordered.Given as goal
 

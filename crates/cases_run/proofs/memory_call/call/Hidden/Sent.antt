@@ -6,8 +6,8 @@ use denote.Param.Send.{arg_send}
 use denote.Param.Sent.{Sends}
 use mir.Raw.{raw}
 use Rattle.cases_run.proofs.memory_call.call.OwnLists.{part-1-4}
-use Rattle.cpa_interpolant_craig.specs.Sending.{craig_sent}
-use Rattle.cpa_interpolant_craig.specs.contracts.craig.Craig
+use Rattle.cpa_craig.specs.Sending.{craig_sent}
+use Rattle.cpa_craig.specs.contracts.craig.Craig
 
 pub sends-part-1-4 : Sends part-1-4
 sends-part-1-4 i = arg_send (raw (layout Craig.the_row)) no Craig.the_row craig_sent

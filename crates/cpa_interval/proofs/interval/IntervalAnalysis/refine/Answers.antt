@@ -2,7 +2,7 @@ use Rattle.std.proofs.Common.{refl, sym, subst}
 use Rattle.std.proofs.lemmas.Result.{IfOk-weaker}
 use Rattle.cpa_iface.specs.declared.precisions.Precision.{Precision}
 use Rattle.cpa_iface.specs.Laws.{RefineLaws}
-use Rattle.cpa_path_folds.specs.lemmas.Appending.{refined-laws}
+use Rattle.cpa_folds.specs.lemmas.Appending.{refined-laws}
 use Rattle.cpa_interval.specs.Intervals.{intervals}
 use Rattle.cpa_interval.proofs.interval.IntervalAnalysis.refine.Goals as goal
 

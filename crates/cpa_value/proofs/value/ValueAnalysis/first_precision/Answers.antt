@@ -2,7 +2,7 @@ use Rattle.std.proofs.Common.{refl, sym, subst}
 use Rattle.std.proofs.lemmas.Result.{IfOk-weaker}
 use Rattle.cpa_iface.specs.declared.precisions.Precision.{Precision}
 use Rattle.cpa_iface.specs.Laws.{FirstPrecisionLaws}
-use Rattle.cpa_path_folds.specs.lemmas.Appending.{first_tracking-laws}
+use Rattle.cpa_folds.specs.lemmas.Appending.{first_tracking-laws}
 use Rattle.cpa_value.specs.Values.{values}
 use Rattle.cpa_value.proofs.value.ValueAnalysis.first_precision.Goals as goal
 

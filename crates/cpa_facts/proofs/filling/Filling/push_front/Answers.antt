@@ -1,0 +1,10 @@
+-- One block more is gone through.
+use Rattle.cpa_facts.proofs.FillingLemmas.{front_more}
+use Rattle.cpa_facts.proofs.filling.Filling.push_front.Goals as goal
+
+pub loop-block-preserved : goal.loop-block-preserved
+loop-block-preserved c =
+    let l = c.loop-block in
+    front_more c.args.blocks.now l.block-index c.block-item.result l.self c.push_start.new.self _
+    l.left c.in_ok-left.left c.loop-block-test.true c.block-item.is c.in_ok-left.ensures.facts
+    c.in_ok-left.ensures.left l.invariant
