@@ -1,6 +1,7 @@
--- A goto to a name has the number of the label of this name (`labels_named`): no label stands twice,
--- and those of cases, of defaults and behind switches have no name.
-use Rattle.std.proofs.Common.{◌≡◌, ℕ, ℤ, ◌+ℤ◌, pos, zero, suc, ◌+◌, Bool, true, false, ◌||◌, List, []}
+-- A goto to a name has the number of the label of this name (`labels_named`): no label stands
+-- twice, and those of cases, of defaults and behind switches have no name.
+use Rattle.std.proofs.Common.{◌≡◌, ℕ, ℤ, ◌+ℤ◌, pos, zero, suc, ◌+◌, Bool, true, false, ◌||◌, List}
+use Rattle.std.proofs.Common.{[]}
 use Rattle.std.proofs.Common.{◌∷◌, ◌++◌, map, length, Option, None, Some, refl, ap, sym, ◌∙◌, subst}
 use Rattle.std.proofs.Common.{arith, append_assoc, slice_get, inl, inr}
 use Rattle.std.specs.Prelude.{unwrap_or, option_map, is_some, ◌⊎◌}
@@ -41,11 +42,13 @@ use Rattle.c_types_rules.specs.declared.typed.TypedItem.{TypedItem}
 use Rattle.c_types_rules.specs.declared.typed.TypedStatement.{TypedStatement}
 use Rattle.c_types_rules.specs.Names.{Text, place_of}
 use Rattle.c_types_rules.specs.Declarations.{kind_of, has_const}
-use Rattle.c_types_rules.specs.Declarations.{items_of, enumerator_number, enumerator_entry, tag_entry}
+use Rattle.c_types_rules.specs.Declarations.{items_of, enumerator_number, enumerator_entry}
+use Rattle.c_types_rules.specs.Declarations.{tag_entry}
 use Rattle.c_types_rules.specs.Statements.{Around, Act, Site, Walk, walk_of, in_order, receiving}
 use Rattle.c_types_rules.specs.Statements.{evaluates, declares, receives, jumps, marks, breaks}
 use Rattle.c_types_rules.specs.Statements.{continues, selects, refers, tags, enumerates, returns}
-use Rattle.c_types_rules.specs.Statements.{labels_of, unnamed, still, doing, followed, scoped, looped}
+use Rattle.c_types_rules.specs.Statements.{labels_of, unnamed, still, doing, followed, scoped}
+use Rattle.c_types_rules.specs.Statements.{looped}
 use Rattle.c_types_rules.specs.Statements.{inner, loop, evaluating, start_walk, labeled, selected}
 use Rattle.c_types_rules.specs.Statements.{switched, switching, end_behind, marking, selecting}
 use Rattle.c_types_rules.specs.Statements.{naming, enumerating, enumeration_walk, declaration_walk}

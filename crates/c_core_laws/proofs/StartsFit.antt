@@ -135,8 +135,8 @@ again_type old fresh initialized initializes h =
     }
 
 -- a declarator of file scope declares an object of its type
-declares : (text : Text) (before : Before) (kind : Kind) (is_const : Bool) (declarator : Declarator) →
-    IsObject (global_of text before kind is_const declarator).ty declarator.name.bytes
+declares : (text : Text) (before : Before) (kind : Kind) (is_const : Bool) (declarator : Declarator)
+    → IsObject (global_of text before kind is_const declarator).ty declarator.name.bytes
     (global_behind text kind is_const declarator before).names
 declares text before kind is_const declarator =
     let name = declarator.name.bytes in
@@ -449,7 +449,8 @@ declarators_fit text kind is_const (declarator ∷ more) before none =
     let others = none_right (global_faults text before kind is_const declarator) rest none in
     append_fits (globals_behind text kind is_const more behind).names
     (start_of text before kind is_const declarator) (starts_in text kind is_const more behind)
-    (more_names text kind is_const more behind others (start_of text before kind is_const declarator)
+    (more_names text kind is_const more behind others
+    (start_of text before kind is_const declarator)
     (declarator_fits text before kind is_const declarator))
     (declarators_fit text kind is_const more behind others)
 

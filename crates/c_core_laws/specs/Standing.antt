@@ -6,8 +6,8 @@ use Rattle.cpa_model.specs.Programs.{InFunction}
 use Rattle.cpa_model_trees.specs.declared.tree.CoreTree.{CoreTree}
 use Rattle.cpa_model_trees.specs.Numbering.{Trees, Placed, statements, stmt_of}
 
--- the statement s of number n stands in a function, and is one of those of its tree, where these are
--- the trees of the functions
+-- the statement s of number n stands in a function, and is one of those of its tree, where these
+-- are the trees of the functions
 pub record IsOfTree (trees : Trees) (P : Program) (n : ℕ) (s : Stmt) : Type 0 where
   pub function : ℕ
   pub tree : CoreTree

@@ -11,8 +11,8 @@ use Rattle.cpa_model.specs.declared.program.Cell.{Cell}
 use Rattle.c_core_rules.specs.declared.tree.Location.{Location}
 use Rattle.c_core_rules.specs.Values.{cell_at}
 
--- the cells taken so far, in order; the place of the name of each, if it is one of an object or of a
--- parameter; and where those of each object begin, by its number, if it is declared so far
+-- the cells taken so far, in order; the place of the name of each, if it is one of an object or of
+-- a parameter; and where those of each object begin, by its number, if it is declared so far
 pub record Taken : Type 0 where
   pub cells : List Cell
   pub names : List (Option ℕ)

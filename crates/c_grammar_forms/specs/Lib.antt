@@ -1,10 +1,3 @@
 pub mod Forms
-pub mod Steady
 pub mod Reading
-pub mod Found
-pub mod NotFound
-pub mod Loops
-pub mod Brackets
-pub mod Exits
-pub mod Choices
-pub mod Seen
+pub mod lemmas

@@ -186,8 +186,8 @@ module _ {Token : Type 0} {more : Token → Bool} where
   starts_such test ends = record { first = λ {at} {edge} {left} {p} r. ends (at p) r.passes }
 
   -- the token that closes a part is none of these, and the part begins with none where it is none
-  pub starts_closed : {T : Type 0} {A : Form Token T} {behind : Token → Bool} (test : Token → Bool) →
-      Starts A more behind → ((t : Token) → test t ≡ true → behind t ≡ false) →
+  pub starts_closed : {T : Type 0} {A : Form Token T} {behind : Token → Bool} (test : Token → Bool)
+      → Starts A more behind → ((t : Token) → test t ≡ true → behind t ≡ false) →
       Begins (Before A test) more
   starts_closed test s ends = record {
     first = λ {at} {edge} {left} {p} {u} {q} r. s.first r.first (ends (at r.middle) r.passes);

@@ -4,7 +4,7 @@ use Rattle.std.specs.Prelude.{◌≡◌, ℕ, suc, ◌≤◌, Bool, true, false,
 use Rattle.std.specs.Prelude.{refl}
 use Rattle.std.proofs.Common.{sym, ◌∙◌, ap, arith}
 use Rattle.std.proofs.lemmas.Bool.Decides.{nat_tests}
-use Rattle.c_grammar_forms.specs.Choices.{impossible}
+use Rattle.c_grammar_forms.specs.lemmas.Choices.{impossible}
 use denote.Enum.Bare.{same_true}
 use Rattle.c_grammar_symbols.specs.declared.words.Terminal.{Terminal}
 use Rattle.c_grammar_symbols.specs.declared.words.Terminal.TheVariants as terminal

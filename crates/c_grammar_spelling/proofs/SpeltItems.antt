@@ -44,7 +44,7 @@ use Rattle.c_grammar_tree.specs.Items.{objects}
 use Rattle.c_grammar_tree.specs.Items.{named_at, declared_of, declared_at, unit_item_at, unit_item}
 use Rattle.c_grammar_tree.specs.Items.{typedef_name, typedef_names, seen_behind, unit_items_behind}
 use Rattle.c_grammar_tree.specs.Items.{unit_items}
-use Rattle.c_grammar_tree.specs.Seen.{end_seen}
+use Rattle.c_grammar_tree.specs.lemmas.Seen.{end_seen}
 use Rattle.c_grammar_tree.specs.declared.item.Item.{Item}
 use Rattle.c_grammar_plain.specs.Plain.{plain_text}
 use Rattle.c_grammar_spelling.specs.Spelling.{Piece, placed, token, named, any_named, any_body}
@@ -634,7 +634,8 @@ module _ (G : Grammar) (left : ℕ) (g : SpeltGrammar G left) (some : 0 < left) 
       (spelt_closed (is_mark terminal.Semicolon) spelt_typedef_names)))
       (λ parts. at_place (λ x. refl) (λ x y e. ap (node.Typedef parts.0 parts.1) e))
   spelt_unit_item_at _ = spelt_any _ (spelt_node _
-      (spelt_then (spelt_specifiers (enumeration G true) specifies (spelt_enumeration G left g true))
+      (spelt_then (spelt_specifiers (enumeration G true) specifies
+        (spelt_enumeration G left g true))
       (λ front. spelt_choice (λ s. s) (spelt_declared_at (is_listed front.enumeration))))
       declared_made)
 

@@ -44,7 +44,8 @@ module _ (text : List ℕ) (tokens : List Token) (at : ℕ)
     (within : at < length (leaves text tokens)) where
   -- the token of a place
   token_there : slice_get tokens at ≡ Some (get_or tokens at (end_token 0))
-  token_there = slice_get-get_or tokens at (end_token 0) (omega (arith, within, length-leaves text tokens))
+  token_there = slice_get-get_or tokens at (end_token 0)
+      (omega (arith, within, length-leaves text tokens))
 
   leaf_there : leaf_at (leaves text tokens) at ≡ leaf_of text (get_or tokens at (end_token 0))
   leaf_there = leaf_at-leaves text tokens at (get_or tokens at (end_token 0)) token_there

@@ -83,7 +83,8 @@ symbol_spelled kind.End bytes = End
 abbrev pub symbol_of : Leaf → Symbol
 symbol_of leaf = leaf.symbol
 
--- a token of the text with its bytes and its place, and what it stands for where no name is declared
+-- a token of the text with its bytes and its place, and what it stands for where no name is
+-- declared
 abbrev pub leaf_of : List ℕ → Token → Leaf
 leaf_of text token = record {
   symbol = symbol_spelled token.kind (bytes_at text token);

@@ -7,8 +7,9 @@ use crate::operators::{AssignmentOperator, BinaryOperator, StepOperator};
 use crate::symbol::Symbol;
 use crate::words::{OutsideWord, SpecifierWord, StorageWord, StrayMark, Terminal, TypeWord};
 
-/// What a token stands for in the grammar, but for the type and the value of a constant: the variants
-/// of `Symbol`, in the same order, so that a symbol is made of its kind with no table between them.
+/// What a token stands for in the grammar, but for the type and the value of a constant: the
+/// variants of `Symbol`, in the same order, so that a symbol is made of its kind with no table
+/// between them.
 #[derive(Clone, Copy, PartialEq, Eq)]
 pub(crate) enum SymbolKind {
     End,

@@ -1,6 +1,6 @@
 //! The tokens of a text by number: symbols, bytes and places, where no name is declared. Contracts
-//! see them as the list of `Leaf`s. The symbol of each token is found once and kept beside it, since
-//! a reader asks for it at each level of the grammar.
+//! see them as the list of `Leaf`s. The symbol of each token is found once and kept beside it,
+//! since a reader asks for it at each level of the grammar.
 ghost use Rattle.std.specs.Prelude.{◌≡◌, ◌≢◌, ◌+◌, ◌<◌, ◌≤◌, length, Some, IsTrue, IfOk};
 ghost use Rattle.std.specs.List.{slice_get};
 ghost use Rattle.c_lexer.specs.Lexemes.{bytes_at};
@@ -65,8 +65,8 @@ impl<'a> TokenList<'a> {
         self.kinds[at]
     }
 
-    /// What the token at this place stands for, found from its bytes. It stands out of line, so that
-    /// the reading of other symbols is short.
+    /// What the token at this place stands for, found from its bytes. It stands out of line, so
+    /// that the reading of other symbols is short.
     #[inline(never)]
     pub(crate) fn classified_at(&self, at: usize) -> Symbol
         requires { at < length self.now }

@@ -42,8 +42,8 @@ pub enum Enumeration {
     },
 }
 
-/// The words before a declarator, in the order in which they stand: those of one type among them, or
-/// a typedef name, or `enum`. The enumerated type is kept beside them, and in a box, since most
+/// The words before a declarator, in the order in which they stand: those of one type among them,
+/// or a typedef name, or `enum`. The enumerated type is kept beside them, and in a box, since most
 /// specifiers have none.
 #[derive(Drop)]
 pub struct Specifiers {

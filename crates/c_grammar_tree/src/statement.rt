@@ -3,8 +3,8 @@
 use crate::{Declaration, Expression, Name};
 use cpa_ints::{Boxed, Seq};
 
-/// A statement. Its place is that of its first token; a labeled one has that of its label. Its parts
-/// are in boxes, since a list of statements has for each the room of the largest form.
+/// A statement. Its place is that of its first token; a labeled one has that of its label. Its
+/// parts are in boxes, since a list of statements has for each the room of the largest form.
 #[cycle(statement)]
 #[derive(Drop)]
 pub enum Statement {

@@ -17,14 +17,16 @@ use Rattle.c_core_rules.specs.declared.tree.Valued.{Valued}
 use Rattle.c_core_rules.specs.declared.tree.Place.{Place}
 use Rattle.c_core_rules.specs.Cells.{Taken, then_by}
 use Rattle.c_core_rules.specs.Places.{stepped_for}
-use Rattle.c_core_rules.specs.Expressions.{Frames, Rows, ReadSuffix, suffix_rows, suffixed, rows, used}
+use Rattle.c_core_rules.specs.Expressions.{Frames, Rows, ReadSuffix, suffix_rows, suffixed, rows}
+use Rattle.c_core_rules.specs.Expressions.{used}
 use Rattle.c_core_rules.specs.Expressions.{call_rows, element_rows, element_target, placed}
 use Rattle.c_lower_expressions.specs.Rows.{lowered, element_behind}
 use Rattle.c_lower_expressions.specs.Postfix.{postfix_of}
 use Rattle.c_lower_expressions.specs.Rows.{call_of}
 use Rattle.c_lower_expressions.specs.Rows.{suffix_of, suffixed_by, front_target, suffix_target}
 use Rattle.c_types_rules.specs.Tables.{suffix_count}
-use Rattle.c_lower_expressions.proofs.Variants.{rows_Postfix, suffix_Index, suffix_Call, suffix_Step}
+use Rattle.c_lower_expressions.proofs.Variants.{rows_Postfix, suffix_Index, suffix_Call}
+use Rattle.c_lower_expressions.proofs.Variants.{suffix_Step}
 use Rattle.c_lower_expressions.proofs.Variants.{suffix_Skipped}
 
 -- suffixes up to the one of a number are those before it, and that one behind them

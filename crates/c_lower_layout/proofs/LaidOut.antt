@@ -20,7 +20,8 @@ use Rattle.c_lower_layout.specs.ObjectCells.{declared_cells}
 use Rattle.c_lower_layout.specs.Measures.{nothing, grown, marks_of, IsWithin}
 use Rattle.c_lower_layout.specs.Rests.{rest_of, AreWithin, AreFound}
 use Rattle.c_lower_layout.specs.Layouts.{IsLaidOut}
-use Rattle.c_lower_layout.proofs.Measured.{grown_points, grown_tallest, marks_length, marks_greatest}
+use Rattle.c_lower_layout.proofs.Measured.{grown_points, grown_tallest, marks_length}
+use Rattle.c_lower_layout.proofs.Measured.{marks_greatest}
 use Rattle.c_lower_layout.proofs.TakenCells.{least_text}
 
 -- the limits, by the size that is gathered

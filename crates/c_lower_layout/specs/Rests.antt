@@ -35,7 +35,8 @@ IsFinding frames functions before after (Some firsts) =
     AreFound frames functions before after firsts
 IsFinding frames functions before after None = AreWithin frames functions before → ⊥
 
--- the trees of functions behind these cells, which are added to others, where they are not too large
+-- the trees of functions behind these cells, which are added to others, where they are not too
+-- large
 abbrev pub AreMade : Frames → List TypedFunction → Taken → Trees → Trees → Option (List ℕ) → Type 0
 AreMade frames functions before trees all (Some firsts) =
     all ≡ trees ++ (rest_of frames functions before).made

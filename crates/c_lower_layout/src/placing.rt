@@ -144,8 +144,8 @@ fn core_of(cells: Cells, trees: Vec<CoreTree>, first_cells: Seq<u32>) -> TextLay
     }
 }
 
-/// The core of a text of which these cells and trees were made with calls that take its functions to
-/// begin where it was likely, and which begin here: these, or made again.
+/// The core of a text of which these cells and trees were made with calls that take its functions
+/// to begin where it was likely, and which begin here: these, or made again.
 fn settled(
     alloc: Memory,
     globals: &[Global],

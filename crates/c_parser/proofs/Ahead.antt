@@ -1,9 +1,9 @@
 -- An item has a token at least.
 use Rattle.std.specs.Prelude.{ℕ, ◌<◌, Bool, true}
 use Rattle.c_grammar_forms.specs.Reading.{Reads}
-use Rattle.c_grammar_forms.specs.Steady.{good_choice, good_pair, good_before}
-use Rattle.c_grammar_forms.specs.Loops.{Strict, strict_one, strict_such, strict_node}
-use Rattle.c_grammar_forms.specs.Loops.{strict_choice, strict_skip}
+use Rattle.c_grammar_forms.specs.lemmas.Steady.{good_choice, good_pair, good_before}
+use Rattle.c_grammar_forms.specs.lemmas.Loops.{Strict, strict_one, strict_such, strict_node}
+use Rattle.c_grammar_forms.specs.lemmas.Loops.{strict_choice, strict_skip}
 use Rattle.c_grammar_symbols.specs.declared.words.Terminal.TheVariants as terminal
 use Rattle.c_grammar_symbols.specs.declared.symbol.Symbol.{Symbol}
 use Rattle.c_grammar_symbols.specs.declared.symbol.Symbol.TheVariants as symbol
@@ -14,10 +14,11 @@ use Rattle.c_grammar_tree.specs.Nested.{Grammar}
 use Rattle.c_grammar_tree.specs.Grammar.{grammar}
 use Rattle.c_grammar_tree.specs.Declarations.{identifier}
 use Rattle.c_grammar_tree.specs.Items.{declared_at, unit_item_at, unit_item}
-use Rattle.c_grammar_tree.specs.OneReading.{GoodGrammar}
-use Rattle.c_grammar_tree.specs.OneReadingOfText.{good_grammar, good_specifiers, good_named_at}
-use Rattle.c_grammar_tree.specs.OneReadingOfText.{good_typedef_names, good_enumeration}
-use Rattle.c_parser_declarations.specs.Readers.{strict_then_first, strict_then_second}
+use Rattle.c_grammar_tree.specs.lemmas.OneReading.{GoodGrammar}
+use Rattle.c_grammar_tree.specs.lemmas.OneReadingOfText.{good_grammar, good_specifiers}
+use Rattle.c_grammar_tree.specs.lemmas.OneReadingOfText.{good_named_at}
+use Rattle.c_grammar_tree.specs.lemmas.OneReadingOfText.{good_typedef_names, good_enumeration}
+use Rattle.c_parser_declarations.specs.lemmas.Readers.{strict_then_first, strict_then_second}
 
 module _ (G : Grammar) (g : GoodGrammar G G) where
   strict_declared_at : (braces : Bool) (s : Symbol) → Strict (declared_at G braces s)

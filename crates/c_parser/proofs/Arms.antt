@@ -2,7 +2,7 @@
 use Rattle.std.specs.Prelude.{◌≡◌, ℕ, Bool, true, false, not, ◌&&◌, Option, None, Some}
 use Rattle.std.proofs.Common.{sym}
 use Rattle.c_grammar_forms.specs.Forms.{World, Form, Nothing, One, Node, Pair, Then, Before, Choice}
-use Rattle.c_grammar_forms.specs.Choices.{Same, same_form, impossible}
+use Rattle.c_grammar_forms.specs.lemmas.Choices.{Same, same_form, impossible}
 use Rattle.c_grammar_symbols.specs.declared.words.Terminal.TheVariants as terminal
 use Rattle.c_grammar_symbols.specs.declared.symbol.Symbol.{Symbol}
 use Rattle.c_grammar_symbols.specs.declared.symbol.Symbol.TheVariants as symbol

@@ -4,12 +4,13 @@ use Rattle.std.specs.Prelude.{length, None}
 use Rattle.std.specs.Prelude.{Some, refl}
 use Rattle.std.proofs.Common.{sym, ◌∙◌, ap, subst, arith}
 use Rattle.c_grammar_forms.specs.Forms.{World, Form, Node, Pair, Then, Before, Choice}
-use Rattle.c_grammar_forms.specs.Steady.{Steady, good_node, from_place, ends_or_goes, test_path}
+use Rattle.c_grammar_forms.specs.lemmas.Steady.{Steady, good_node, from_place, ends_or_goes}
+use Rattle.c_grammar_forms.specs.lemmas.Steady.{test_path}
 use Rattle.c_grammar_forms.specs.Reading.{Reads, Begins, NoneThrough}
-use Rattle.c_grammar_forms.specs.Found.{reads_node, reads_one}
-use Rattle.c_grammar_forms.specs.NotFound.{only, none_node, none_before, none_first}
-use Rattle.c_grammar_forms.specs.NotFound.{none_then_first}
-use Rattle.c_grammar_forms.specs.Choices.{Same, none_arm}
+use Rattle.c_grammar_forms.specs.lemmas.Found.{reads_node, reads_one}
+use Rattle.c_grammar_forms.specs.lemmas.NotFound.{only, none_node, none_before, none_first}
+use Rattle.c_grammar_forms.specs.lemmas.NotFound.{none_then_first}
+use Rattle.c_grammar_forms.specs.lemmas.Choices.{Same, none_arm}
 use Rattle.c_grammar_symbols.specs.declared.words.Terminal.TheVariants as terminal
 use Rattle.c_grammar_symbols.specs.Symbols.{Leaf, symbol_of}
 use Rattle.c_grammar_symbols.specs.Sources.{leaf_at, is, Takes}
@@ -24,8 +25,8 @@ use Rattle.c_grammar_tree.specs.Declarations.{identifier, declarator_of, declara
 use Rattle.c_grammar_tree.specs.Declarations.{more_declarators}
 use Rattle.c_grammar_tree.specs.Items.{objects, declared_of, named_at, declared_at}
 use Rattle.c_parser_declarations.specs.Forms.{declarator_behind, declarators_behind}
-use Rattle.c_parser_declarations.specs.Readers.{reads_made, none_made, reads_then_onto}
-use Rattle.c_parser_declarations.specs.Readers.{none_then_onto}
+use Rattle.c_parser_declarations.specs.lemmas.Readers.{reads_made, none_made, reads_then_onto}
+use Rattle.c_parser_declarations.specs.lemmas.Readers.{none_then_onto}
 use Rattle.c_parser.specs.Forms.{item_named, item_behind}
 use Rattle.c_parser.proofs.Arms.{Leads, arm_objects, arm_alone, arm_named, only_named}
 use Rattle.c_parser.proofs.Steadies.{steady_identifier, steady_rest, steady_both}

@@ -11,7 +11,7 @@ use Rattle.c_lexer.specs.declared.fault.Rule.TheVariants.{S1, S2, S3}
 use Rattle.c_lexer.specs.declared.fault.TextError.TheVariants as error
 use Rattle.c_grammar_forms.specs.Forms.{Form}
 use Rattle.c_grammar_forms.specs.Reading.{Reads, NoneThrough, Faults, Answers}
-use Rattle.c_grammar_forms.specs.Seen.{SeenSoFar}
+use Rattle.c_grammar_forms.specs.lemmas.Seen.{SeenSoFar}
 use Rattle.c_grammar_symbols.specs.declared.named.NamedType.{NamedType}
 use Rattle.c_grammar_symbols.specs.Symbols.{Leaf}
 use Rattle.c_grammar_symbols.specs.Sources.{leaf_at, renamed}
@@ -24,8 +24,8 @@ use Rattle.c_grammar_tree.specs.Faults.{rule_of}
 use Rattle.c_grammar_tree.specs.Parts.{is_end}
 use Rattle.c_grammar_tree.specs.Grammar.{grammar}
 use Rattle.c_grammar_tree.specs.Items.{typedefs_in, behind_typedefs, seen_behind, unit_item}
-use Rattle.c_grammar_tree.specs.Seen.{behind_both, end_seen, seen_more, leaf_at_behind}
-use Rattle.c_grammar_tree.specs.Seen.{place_behind, outside_behind}
+use Rattle.c_grammar_tree.specs.lemmas.Seen.{behind_both, end_seen, seen_more, leaf_at_behind}
+use Rattle.c_grammar_tree.specs.lemmas.Seen.{place_behind, outside_behind}
 use Rattle.c_parser.specs.Forms.{AreSeen}
 use Rattle.c_parser.specs.Faults.{fault_of}
 

@@ -1,16 +1,17 @@
 -- Each form of items has one reading, at each two depths.
 use Rattle.std.specs.Prelude.{Bool, true}
 use Rattle.c_grammar_forms.specs.Forms.{Pair}
-use Rattle.c_grammar_forms.specs.Steady.{Steady, good_pair}
+use Rattle.c_grammar_forms.specs.lemmas.Steady.{Steady, good_pair}
 use Rattle.c_grammar_symbols.specs.Symbols.{Leaf}
 use Rattle.c_grammar_tree.specs.Declarations.{identifier, enumeration, specifiers, declarator_rest}
 use Rattle.c_grammar_tree.specs.Declarations.{more_declarators}
 use Rattle.c_grammar_tree.specs.Items.{function_rest, typedef_names, unit_item}
 use Rattle.c_grammar_tree.specs.Grammar.{grammar}
-use Rattle.c_grammar_tree.specs.OneReadingOfText.{good_grammar, good_identifier, good_specifiers}
-use Rattle.c_grammar_tree.specs.OneReadingOfText.{good_function_rest, good_declarator_rest}
-use Rattle.c_grammar_tree.specs.OneReadingOfText.{good_more_declarators, good_unit_item}
-use Rattle.c_grammar_tree.specs.OneReadingOfText.{good_typedef_names, good_enumeration}
+use Rattle.c_grammar_tree.specs.lemmas.OneReadingOfText.{good_grammar, good_identifier}
+use Rattle.c_grammar_tree.specs.lemmas.OneReadingOfText.{good_specifiers}
+use Rattle.c_grammar_tree.specs.lemmas.OneReadingOfText.{good_function_rest, good_declarator_rest}
+use Rattle.c_grammar_tree.specs.lemmas.OneReadingOfText.{good_more_declarators, good_unit_item}
+use Rattle.c_grammar_tree.specs.lemmas.OneReadingOfText.{good_typedef_names, good_enumeration}
 
 pub steady_identifier : Steady (λ n. identifier)
 steady_identifier = record { good = λ n m. good_identifier }

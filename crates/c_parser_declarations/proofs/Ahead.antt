@@ -2,12 +2,13 @@
 use Rattle.std.specs.Prelude.{ℕ, zero, suc, ◌<◌}
 use Rattle.c_grammar_forms.specs.Forms.{Deeper}
 use Rattle.c_grammar_forms.specs.Reading.{Reads}
-use Rattle.c_grammar_forms.specs.Steady.{good_skip, good_pair, good_before, good_deeper}
-use Rattle.c_grammar_forms.specs.Steady.{good_choice}
-use Rattle.c_grammar_forms.specs.Steady.{good_perhaps, good_many}
-use Rattle.c_grammar_forms.specs.Loops.{Strict, strict_one, strict_such, strict_skip, strict_first}
-use Rattle.c_grammar_forms.specs.Loops.{strict_node}
-use Rattle.c_grammar_forms.specs.Loops.{strict_choice}
+use Rattle.c_grammar_forms.specs.lemmas.Steady.{good_skip, good_pair, good_before, good_deeper}
+use Rattle.c_grammar_forms.specs.lemmas.Steady.{good_choice}
+use Rattle.c_grammar_forms.specs.lemmas.Steady.{good_perhaps, good_many}
+use Rattle.c_grammar_forms.specs.lemmas.Loops.{Strict, strict_one, strict_such, strict_skip}
+use Rattle.c_grammar_forms.specs.lemmas.Loops.{strict_first}
+use Rattle.c_grammar_forms.specs.lemmas.Loops.{strict_node}
+use Rattle.c_grammar_forms.specs.lemmas.Loops.{strict_choice}
 use Rattle.c_grammar_symbols.specs.declared.words.Terminal.TheVariants as terminal
 use Rattle.c_grammar_symbols.specs.declared.operators.BinaryOperator.TheVariants as binary
 use Rattle.c_grammar_symbols.specs.declared.symbol.Symbol.{Symbol}
@@ -23,11 +24,12 @@ use Rattle.c_grammar_tree.specs.Expressions.{cast_at}
 use Rattle.c_grammar_tree.specs.Expressions.{chain, conditional, assignment}
 use Rattle.c_grammar_tree.specs.declared.declaration.Enumerator.{Enumerator}
 use Rattle.c_grammar_tree.specs.Declarations.{identifier, element, enumerator}
-use Rattle.c_grammar_tree.specs.OneReading.{GoodGrammar, good_suffixes, good_group_at, good_operand}
-use Rattle.c_grammar_tree.specs.OneReading.{good_chain, good_right_side_at}
-use Rattle.c_grammar_tree.specs.OneReadingOfText.{good_grammar, good_comma_or_end_at}
+use Rattle.c_grammar_tree.specs.lemmas.OneReading.{GoodGrammar, good_suffixes, good_group_at}
+use Rattle.c_grammar_tree.specs.lemmas.OneReading.{good_operand}
+use Rattle.c_grammar_tree.specs.lemmas.OneReading.{good_chain, good_right_side_at}
+use Rattle.c_grammar_tree.specs.lemmas.OneReadingOfText.{good_grammar, good_comma_or_end_at}
 use Rattle.c_parser_declarations.specs.Forms.{listed_value, listed_enumerator}
-use Rattle.c_parser_declarations.specs.Readers.{strict_then_first}
+use Rattle.c_parser_declarations.specs.lemmas.Readers.{strict_then_first}
 
 module _ (G : Grammar) (g : GoodGrammar G G) where
   strict_primary_at : (s : Symbol) → Strict (primary_at G s)

@@ -3,10 +3,10 @@ use Rattle.std.specs.Prelude.{◌≡◌, ℕ, ◌<◌, Bool, true, false, not, �
 use Rattle.std.proofs.Common.{ap, refl}
 use Rattle.c_grammar_forms.specs.declared.fault.ReadError.{ReadError}
 use Rattle.c_grammar_forms.specs.Reading.{Reads}
-use Rattle.c_grammar_forms.specs.Found.{reads_node, reads_no, reads_one_more}
-use Rattle.c_grammar_forms.specs.NotFound.{none_node, none_perhaps}
-use Rattle.c_grammar_forms.specs.Exits.{answers_with}
-use Rattle.c_grammar_forms.specs.Choices.{impossible}
+use Rattle.c_grammar_forms.specs.lemmas.Found.{reads_node, reads_no, reads_one_more}
+use Rattle.c_grammar_forms.specs.lemmas.NotFound.{none_node, none_perhaps}
+use Rattle.c_grammar_forms.specs.lemmas.Exits.{answers_with}
+use Rattle.c_grammar_forms.specs.lemmas.Choices.{impossible}
 use Rattle.c_grammar_symbols.specs.declared.words.Terminal.TheVariants as terminal
 use Rattle.c_grammar_symbols.specs.Symbols.{Leaf}
 use Rattle.c_grammar_symbols.specs.Sources.{leaf_at, is}

@@ -5,8 +5,8 @@ use Rattle.std.proofs.Common.{sym, ap, subst}
 use Rattle.c_grammar_forms.specs.declared.fault.ReadError.{ReadError}
 use Rattle.c_grammar_forms.specs.Forms.{Form, Choice}
 use Rattle.c_grammar_forms.specs.Reading.{Reads, NoneThrough}
-use Rattle.c_grammar_forms.specs.Exits.{answers_with}
-use Rattle.c_grammar_forms.specs.Choices.{Same, same_form, impossible, reads_arm, none_arm}
+use Rattle.c_grammar_forms.specs.lemmas.Exits.{answers_with}
+use Rattle.c_grammar_forms.specs.lemmas.Choices.{Same, same_form, impossible, reads_arm, none_arm}
 use Rattle.c_grammar_symbols.specs.declared.words.Terminal.TheVariants as terminal
 use Rattle.c_grammar_symbols.specs.declared.symbol.Symbol.{Symbol}
 use Rattle.c_grammar_symbols.specs.declared.symbol.Symbol.TheVariants as symbol

@@ -1,7 +1,8 @@
 -- Each form of declarations has one reading, at each two depths.
 use Rattle.std.specs.Prelude.{Bool, true}
 use Rattle.c_grammar_forms.specs.Forms.{Skip, Deeper, Perhaps}
-use Rattle.c_grammar_forms.specs.Steady.{Steady, good_deeper, good_skip, good_many, good_perhaps}
+use Rattle.c_grammar_forms.specs.lemmas.Steady.{Steady, good_deeper, good_skip, good_many}
+use Rattle.c_grammar_forms.specs.lemmas.Steady.{good_perhaps}
 use Rattle.c_grammar_symbols.specs.declared.words.Terminal.TheVariants as terminal
 use Rattle.c_grammar_symbols.specs.Symbols.{Leaf}
 use Rattle.c_grammar_symbols.specs.Sources.{is}
@@ -9,11 +10,12 @@ use Rattle.c_grammar_tree.specs.Grammar.{grammar}
 use Rattle.c_grammar_tree.specs.Declarations.{identifier, keywords, specifiers, array, array_part}
 use Rattle.c_grammar_tree.specs.Declarations.{enumerators, enumeration, declarator}
 use Rattle.c_grammar_tree.specs.Declarations.{declarators_by}
-use Rattle.c_grammar_tree.specs.OneReadingOfText.{good_grammar, good_identifier, good_keywords}
-use Rattle.c_grammar_tree.specs.OneReadingOfText.{good_specifiers, good_enumerators}
-use Rattle.c_grammar_tree.specs.OneReadingOfText.{good_enumeration, good_declarators_by}
-use Rattle.c_grammar_tree.specs.OneReadingOfText.{good_element, good_array, good_array_part}
-use Rattle.c_grammar_tree.specs.OneReadingOfText.{good_declarator}
+use Rattle.c_grammar_tree.specs.lemmas.OneReadingOfText.{good_grammar, good_identifier}
+use Rattle.c_grammar_tree.specs.lemmas.OneReadingOfText.{good_keywords}
+use Rattle.c_grammar_tree.specs.lemmas.OneReadingOfText.{good_specifiers, good_enumerators}
+use Rattle.c_grammar_tree.specs.lemmas.OneReadingOfText.{good_enumeration, good_declarators_by}
+use Rattle.c_grammar_tree.specs.lemmas.OneReadingOfText.{good_element, good_array, good_array_part}
+use Rattle.c_grammar_tree.specs.lemmas.OneReadingOfText.{good_declarator}
 use Rattle.c_parser_declarations.specs.Forms.{listed_value, elements, listed_enumerator}
 use Rattle.c_parser_declarations.specs.Forms.{optional_length}
 

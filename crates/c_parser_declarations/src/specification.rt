@@ -79,8 +79,8 @@ fn any_type(
     }
 }
 
-/// The specifiers that stand here, with the words of one type among them, in any order, or a typedef
-/// name, or `enum` with a tag or enumerators.
+/// The specifiers that stand here, with the words of one type among them, in any order, or a
+/// typedef name, or `enum` with a tag or enumerators.
 pub fn specifiers(
     alloc: Global,
     source: &Source,

@@ -5,7 +5,7 @@ use Rattle.std.proofs.Common.{sym, ◌∙◌, ap, subst, arith}
 use Rattle.std.proofs.lemmas.Bool.Decides.{nat_tests}
 use Rattle.c_grammar_forms.specs.Forms.{Form, Nothing, Skip, Node, Pair, Then, Before, Deeper}
 use Rattle.c_grammar_forms.specs.Forms.{Choice}
-use Rattle.c_grammar_forms.specs.Choices.{Same, same_form, impossible}
+use Rattle.c_grammar_forms.specs.lemmas.Choices.{Same, same_form, impossible}
 use Rattle.cpa_ints.specs.declared.integers.IntType.{IntType}
 use Rattle.c_grammar_symbols.specs.declared.words.Terminal.TheVariants as terminal
 use Rattle.c_grammar_symbols.specs.declared.operators.AssignmentOperator.{AssignmentOperator}

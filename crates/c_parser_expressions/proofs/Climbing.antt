@@ -3,7 +3,7 @@
 use Rattle.std.specs.Prelude.{◌≡◌, ℕ, zero, suc, ◌+◌, ◌-◌, ◌<◌, ◌≤◌, true, false, List, refl}
 use Rattle.std.proofs.Common.{subst, arith}
 use Rattle.c_grammar_forms.specs.Reading.{Reads, NoneThrough}
-use Rattle.c_grammar_forms.specs.Found.{reads_end}
+use Rattle.c_grammar_forms.specs.lemmas.Found.{reads_end}
 use Rattle.c_grammar_symbols.specs.declared.operators.BinaryOperator.{BinaryOperator}
 use Rattle.c_grammar_symbols.specs.Symbols.{Leaf, symbol_of}
 use Rattle.c_grammar_tree.specs.declared.expression.Expression.{Expression}

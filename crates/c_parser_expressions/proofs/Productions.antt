@@ -4,12 +4,13 @@ use Rattle.std.specs.Prelude.{◌≡◌, ◌≢◌, ℕ, suc, ◌+◌, true, fal
 use Rattle.std.proofs.Common.{sym, ap, subst}
 use Rattle.c_grammar_forms.specs.Forms.{Skip, Before, Pair, Deeper, Choice, Many, Perhaps}
 use Rattle.c_grammar_forms.specs.Reading.{Reads, NoneThrough}
-use Rattle.c_grammar_forms.specs.Found.{reads_node, reads_pair, reads_then, reads_skip}
-use Rattle.c_grammar_forms.specs.Found.{reads_choice}
-use Rattle.c_grammar_forms.specs.Found.{reads_no, reads_one_more, reads_end}
-use Rattle.c_grammar_forms.specs.NotFound.{none_node, none_first, none_second, none_then}
-use Rattle.c_grammar_forms.specs.NotFound.{none_then_first, none_skip, none_choice, none_perhaps}
-use Rattle.c_grammar_forms.specs.NotFound.{none_before, none_before_here}
+use Rattle.c_grammar_forms.specs.lemmas.Found.{reads_node, reads_pair, reads_then, reads_skip}
+use Rattle.c_grammar_forms.specs.lemmas.Found.{reads_choice}
+use Rattle.c_grammar_forms.specs.lemmas.Found.{reads_no, reads_one_more, reads_end}
+use Rattle.c_grammar_forms.specs.lemmas.NotFound.{none_node, none_first, none_second, none_then}
+use Rattle.c_grammar_forms.specs.lemmas.NotFound.{none_then_first, none_skip, none_choice}
+use Rattle.c_grammar_forms.specs.lemmas.NotFound.{none_perhaps}
+use Rattle.c_grammar_forms.specs.lemmas.NotFound.{none_before, none_before_here}
 use Rattle.c_grammar_symbols.specs.declared.words.Terminal.TheVariants as terminal
 use Rattle.c_grammar_symbols.specs.declared.operators.AssignmentOperator.{AssignmentOperator}
 use Rattle.c_grammar_symbols.specs.declared.operators.BinaryOperator.{BinaryOperator}
@@ -25,7 +26,7 @@ use Rattle.c_grammar_tree.specs.Expressions.{right_side_at, conditional, conditi
 use Rattle.c_grammar_tree.specs.Expressions.{chain_of}
 use Rattle.c_grammar_tree.specs.Expressions.{operand_at, operand}
 use Rattle.c_parser_expressions.specs.Steps.{more_items, operands}
-use Rattle.c_grammar_tree.specs.Levels.{steady_deeper_comma}
+use Rattle.c_grammar_tree.specs.lemmas.Levels.{steady_deeper_comma}
 use Rattle.c_parser_expressions.proofs.Readers.{none_made, tail, reads_tail, goes_not_empty}
 use Rattle.c_parser_expressions.proofs.Steadies.{steady_assignment, steady_conditional}
 use Rattle.c_parser_expressions.proofs.Steadies.{steady_chain}

@@ -3,11 +3,11 @@ use Rattle.std.specs.Prelude.{◌≡◌, ℕ, Bool, true, List, [], ◌∷◌, �
 use Rattle.std.specs.Prelude.{refl}
 use Rattle.std.proofs.Common.{sym, ◌∙◌, ap, subst}
 use Rattle.c_grammar_forms.specs.Forms.{Form, Node, Pair, Many, greedy_text}
-use Rattle.c_grammar_forms.specs.Steady.{Steady, cons_path, from_place, ends_or_goes}
+use Rattle.c_grammar_forms.specs.lemmas.Steady.{Steady, cons_path, from_place, ends_or_goes}
 use Rattle.c_grammar_forms.specs.Reading.{Reads, NoneThrough}
-use Rattle.c_grammar_forms.specs.Found.{reads_node, reads_pair}
-use Rattle.c_grammar_forms.specs.NotFound.{only}
-use Rattle.c_grammar_forms.specs.Loops.{SoFar}
+use Rattle.c_grammar_forms.specs.lemmas.Found.{reads_node, reads_pair}
+use Rattle.c_grammar_forms.specs.lemmas.NotFound.{only}
+use Rattle.c_grammar_forms.specs.lemmas.Loops.{SoFar}
 
 -- what is made of the one reading of a part has no reading where the part has none, and the other
 -- way round

@@ -2,8 +2,9 @@
 -- part rest on.
 use Rattle.std.specs.Prelude.{ℕ, Bool}
 use Rattle.c_grammar_forms.specs.Forms.{Skip, Before, Node, Deeper, Perhaps, Nearest}
-use Rattle.c_grammar_forms.specs.Steady.{Steady, good_node, good_deeper, good_skip, good_choice}
-use Rattle.c_grammar_forms.specs.Steady.{good_before, good_perhaps, good_nearest}
+use Rattle.c_grammar_forms.specs.lemmas.Steady.{Steady, good_node, good_deeper, good_skip}
+use Rattle.c_grammar_forms.specs.lemmas.Steady.{good_choice}
+use Rattle.c_grammar_forms.specs.lemmas.Steady.{good_before, good_perhaps, good_nearest}
 use Rattle.c_grammar_symbols.specs.declared.words.Terminal.{Terminal}
 use Rattle.c_grammar_symbols.specs.declared.words.Terminal.TheVariants as terminal
 use Rattle.c_grammar_symbols.specs.Symbols.{symbol_of}
@@ -13,11 +14,13 @@ use Rattle.c_grammar_tree.specs.Expressions.{assignments, list_of, primary, any_
 use Rattle.c_grammar_tree.specs.Expressions.{assignment, conditional, chain, operand, skipped_call}
 use Rattle.c_grammar_tree.specs.Expressions.{opens_skipped}
 use Rattle.c_grammar_tree.specs.Grammar.{grammar}
-use Rattle.c_grammar_tree.specs.OneReading.{good_assignments, good_primary_at, good_suffix_at}
-use Rattle.c_grammar_tree.specs.OneReading.{good_type_name, good_assignment, good_conditional}
-use Rattle.c_grammar_tree.specs.OneReading.{good_chain}
-use Rattle.c_grammar_tree.specs.OneReading.{good_operand, good_skipped_call}
-use Rattle.c_grammar_tree.specs.OneReadingOfText.{good_grammar}
+use Rattle.c_grammar_tree.specs.lemmas.OneReading.{good_assignments, good_primary_at}
+use Rattle.c_grammar_tree.specs.lemmas.OneReading.{good_suffix_at}
+use Rattle.c_grammar_tree.specs.lemmas.OneReading.{good_type_name, good_assignment}
+use Rattle.c_grammar_tree.specs.lemmas.OneReading.{good_conditional}
+use Rattle.c_grammar_tree.specs.lemmas.OneReading.{good_chain}
+use Rattle.c_grammar_tree.specs.lemmas.OneReading.{good_operand, good_skipped_call}
+use Rattle.c_grammar_tree.specs.lemmas.OneReadingOfText.{good_grammar}
 
 pub steady_skip_assignment : Steady (λ n. Skip (Deeper ((grammar n).assignment)))
 steady_skip_assignment =

@@ -4,17 +4,21 @@ use Rattle.std.specs.Prelude.{◌≡◌, ℕ, ◌+◌, ◌<◌, Bool, true, fals
 use Rattle.std.specs.Prelude.{None, Some, refl, ◌||◌, ◌&&◌}
 use Rattle.std.proofs.Common.{ap, sym}
 use Rattle.c_grammar_forms.specs.Forms.{Before, Pair, Node, Deeper, Many, Nearest, listed}
-use Rattle.c_grammar_forms.specs.Steady.{Good, good_deeper, good_before}
+use Rattle.c_grammar_forms.specs.lemmas.Steady.{Good, good_deeper, good_before}
 use Rattle.c_grammar_forms.specs.Reading.{Reads, NoneThrough}
-use Rattle.c_grammar_forms.specs.Found.{reads_one, reads_node, reads_pair, reads_then, reads_skip}
-use Rattle.c_grammar_forms.specs.Found.{reads_choice, reads_no, reads_one_more, reads_nearest}
-use Rattle.c_grammar_forms.specs.Found.{reads_nearest_no, reads_before, reads_before_by}
-use Rattle.c_grammar_forms.specs.NotFound.{none_node, none_first, none_second, none_then}
-use Rattle.c_grammar_forms.specs.NotFound.{none_then_first, none_skip, none_choice, none_perhaps}
-use Rattle.c_grammar_forms.specs.NotFound.{none_nearest, none_before, none_before_here}
-use Rattle.c_grammar_forms.specs.Loops.{SoFar, Strict, strict_choice, strict_node, strict_skip}
-use Rattle.c_grammar_forms.specs.Loops.{strict_one, at_items, no_more}
-use Rattle.c_grammar_forms.specs.Choices.{reads_arm, none_arm, impossible}
+use Rattle.c_grammar_forms.specs.lemmas.Found.{reads_one, reads_node, reads_pair, reads_then}
+use Rattle.c_grammar_forms.specs.lemmas.Found.{reads_skip}
+use Rattle.c_grammar_forms.specs.lemmas.Found.{reads_choice, reads_no, reads_one_more}
+use Rattle.c_grammar_forms.specs.lemmas.Found.{reads_nearest}
+use Rattle.c_grammar_forms.specs.lemmas.Found.{reads_nearest_no, reads_before, reads_before_by}
+use Rattle.c_grammar_forms.specs.lemmas.NotFound.{none_node, none_first, none_second, none_then}
+use Rattle.c_grammar_forms.specs.lemmas.NotFound.{none_then_first, none_skip, none_choice}
+use Rattle.c_grammar_forms.specs.lemmas.NotFound.{none_perhaps}
+use Rattle.c_grammar_forms.specs.lemmas.NotFound.{none_nearest, none_before, none_before_here}
+use Rattle.c_grammar_forms.specs.lemmas.Loops.{SoFar, Strict, strict_choice, strict_node}
+use Rattle.c_grammar_forms.specs.lemmas.Loops.{strict_skip}
+use Rattle.c_grammar_forms.specs.lemmas.Loops.{strict_one, at_items, no_more}
+use Rattle.c_grammar_forms.specs.lemmas.Choices.{reads_arm, none_arm, impossible}
 use Rattle.c_grammar_symbols.specs.declared.words.Terminal.TheVariants as terminal
 use Rattle.c_grammar_symbols.specs.declared.operators.StepOperator.{StepOperator}
 use Rattle.c_grammar_symbols.specs.declared.symbol.Symbol.{Symbol}
@@ -38,10 +42,11 @@ use Rattle.c_grammar_tree.specs.Expressions.{primary, primary_at, arguments, ass
 use Rattle.c_grammar_tree.specs.Expressions.{suffix_at, any_suffix, type_name, in_front}
 use Rattle.c_grammar_tree.specs.Expressions.{skipped_call}
 use Rattle.c_grammar_tree.specs.Expressions.{opens_skipped, round_brackets}
-use Rattle.c_grammar_tree.specs.OneReading.{good_arguments}
-use Rattle.c_grammar_tree.specs.OneReadingOfText.{good_grammar}
-use Rattle.c_parser_expressions.specs.Steps.{more_arguments, group, begins_type, sign_of, option_list}
-use Rattle.c_grammar_tree.specs.Levels.{steady_deeper_comma, steady_deeper_assignment}
+use Rattle.c_grammar_tree.specs.lemmas.OneReading.{good_arguments}
+use Rattle.c_grammar_tree.specs.lemmas.OneReadingOfText.{good_grammar}
+use Rattle.c_parser_expressions.specs.Steps.{more_arguments, group, begins_type, sign_of}
+use Rattle.c_parser_expressions.specs.Steps.{option_list}
+use Rattle.c_grammar_tree.specs.lemmas.Levels.{steady_deeper_comma, steady_deeper_assignment}
 use Rattle.c_parser_expressions.proofs.Readers.{none_made, reads_tail, behind_part}
 use Rattle.c_parser_expressions.proofs.Steadies.{steady_assignments, steady_primary}
 use Rattle.c_parser_expressions.proofs.Steadies.{steady_deeper_type_name, steady_closed_comma}

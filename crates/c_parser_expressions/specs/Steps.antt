@@ -1,5 +1,6 @@
 -- What single private functions read or compute. No public clause speaks of it.
-use Rattle.std.specs.Prelude.{◌≡◌, ℕ, suc, ◌==◌, cond, Bool, true, false, MatchOption, List, [], ◌∷◌}
+use Rattle.std.specs.Prelude.{◌≡◌, ℕ, suc, ◌==◌, cond, Bool, true, false, MatchOption, List, []}
+use Rattle.std.specs.Prelude.{◌∷◌}
 use Rattle.std.specs.Prelude.{Option, None, Some, ◌&&◌, nat_lt, nat_le}
 use Rattle.c_grammar_forms.specs.Forms.{Form, Skip, Node, Deeper, Choice, Many}
 use Rattle.c_grammar_symbols.specs.declared.words.Terminal.TheVariants as terminal

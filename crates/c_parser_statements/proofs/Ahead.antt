@@ -2,11 +2,12 @@
 use Rattle.std.specs.Prelude.{ℕ, zero, suc, ◌<◌, Bool, true, false, Option, Some}
 use Rattle.c_grammar_forms.specs.Forms.{Deeper}
 use Rattle.c_grammar_forms.specs.Reading.{Reads}
-use Rattle.c_grammar_forms.specs.Steady.{good_such, good_behind, good_before, good_pair}
-use Rattle.c_grammar_forms.specs.Steady.{good_deeper, good_choice, good_perhaps, good_nearest}
-use Rattle.c_grammar_forms.specs.Steady.{good_skip}
-use Rattle.c_grammar_forms.specs.Loops.{Strict, strict_one, strict_skip, strict_before}
-use Rattle.c_grammar_forms.specs.Loops.{strict_node, strict_choice}
+use Rattle.c_grammar_forms.specs.lemmas.Steady.{good_such, good_behind, good_before, good_pair}
+use Rattle.c_grammar_forms.specs.lemmas.Steady.{good_deeper, good_choice, good_perhaps}
+use Rattle.c_grammar_forms.specs.lemmas.Steady.{good_nearest}
+use Rattle.c_grammar_forms.specs.lemmas.Steady.{good_skip}
+use Rattle.c_grammar_forms.specs.lemmas.Loops.{Strict, strict_one, strict_skip, strict_before}
+use Rattle.c_grammar_forms.specs.lemmas.Loops.{strict_node, strict_choice}
 use Rattle.c_grammar_symbols.specs.declared.words.Terminal.TheVariants as terminal
 use Rattle.c_grammar_symbols.specs.declared.symbol.Symbol.{Symbol}
 use Rattle.c_grammar_symbols.specs.declared.symbol.Symbol.TheVariants as symbol
@@ -18,12 +19,14 @@ use Rattle.c_grammar_tree.specs.Nested.{Grammar}
 use Rattle.c_grammar_tree.specs.Grammar.{grammar}
 use Rattle.c_grammar_tree.specs.Declarations.{declaration_by}
 use Rattle.c_grammar_tree.specs.Statements.{behind_comma_at, statement_at, statement, item_by, item}
-use Rattle.c_grammar_tree.specs.OneReading.{GoodGrammar, good_comma}
-use Rattle.c_grammar_tree.specs.OneReadingOfText.{good_grammar, good_identifier, good_specifiers}
-use Rattle.c_grammar_tree.specs.OneReadingOfText.{good_enumeration, good_declarators_by}
-use Rattle.c_grammar_tree.specs.OneReadingOfText.{good_items}
-use Rattle.c_grammar_tree.specs.OneReadingOfText.{good_condition, good_optional, good_for_start}
-use Rattle.c_parser_declarations.specs.Readers.{strict_then_second}
+use Rattle.c_grammar_tree.specs.lemmas.OneReading.{GoodGrammar, good_comma}
+use Rattle.c_grammar_tree.specs.lemmas.OneReadingOfText.{good_grammar, good_identifier}
+use Rattle.c_grammar_tree.specs.lemmas.OneReadingOfText.{good_specifiers}
+use Rattle.c_grammar_tree.specs.lemmas.OneReadingOfText.{good_enumeration, good_declarators_by}
+use Rattle.c_grammar_tree.specs.lemmas.OneReadingOfText.{good_items}
+use Rattle.c_grammar_tree.specs.lemmas.OneReadingOfText.{good_condition, good_optional}
+use Rattle.c_grammar_tree.specs.lemmas.OneReadingOfText.{good_for_start}
+use Rattle.c_parser_declarations.specs.lemmas.Readers.{strict_then_second}
 
 module _ (G : Grammar) (g : GoodGrammar G G) where
   strict_behind_comma_at : (name : Option Name) (s : Symbol) → Strict (behind_comma_at G name s)

@@ -4,8 +4,8 @@ use Rattle.std.proofs.Common.{sym, subst, arith, refl}
 use Rattle.c_grammar_forms.specs.declared.fault.ReadError.{ReadError}
 use Rattle.c_grammar_forms.specs.Forms.{Nothing, Such, Deeper}
 use Rattle.c_grammar_forms.specs.Reading.{Reads, NoneThrough, Answers}
-use Rattle.c_grammar_forms.specs.Found.{reads_one, reads_such, reads_node, reads_skip}
-use Rattle.c_grammar_forms.specs.NotFound.{none_node, none_skip, none_nothing}
+use Rattle.c_grammar_forms.specs.lemmas.Found.{reads_one, reads_such, reads_node, reads_skip}
+use Rattle.c_grammar_forms.specs.lemmas.NotFound.{none_node, none_skip, none_nothing}
 use Rattle.c_grammar_symbols.specs.declared.words.Terminal.{Terminal}
 use Rattle.c_grammar_symbols.specs.declared.words.Terminal.TheVariants as terminal
 use Rattle.c_grammar_symbols.specs.Symbols.{Leaf, symbol_of}
@@ -18,8 +18,8 @@ use Rattle.c_grammar_tree.specs.declared.TheConstants.{MAX_LEVEL}
 use Rattle.c_grammar_tree.specs.Parts.{bare_name}
 use Rattle.c_grammar_tree.specs.Grammar.{grammar}
 use Rattle.c_grammar_tree.specs.Statements.{behind_comma_at, statement_at, statement}
-use Rattle.c_grammar_forms.specs.Exits.{answers_with}
-use Rattle.c_grammar_forms.specs.Choices.{Same, reads_arm, none_arm}
+use Rattle.c_grammar_forms.specs.lemmas.Exits.{answers_with}
+use Rattle.c_grammar_forms.specs.lemmas.Choices.{Same, reads_arm, none_arm}
 use Rattle.c_parser_statements.specs.declared.kinds.StatementKind.{StatementKind}
 use Rattle.c_parser_statements.specs.Kinds.{kind_of, opener}
 use Rattle.c_parser_statements.specs.Forms.{begun, behind_comma}

@@ -2,9 +2,9 @@
 use Rattle.std.specs.Prelude.{ℕ, Bool}
 use Rattle.std.proofs.Common.{arith}
 use Rattle.c_grammar_forms.specs.Forms.{Form, Behind, Pair}
-use Rattle.c_grammar_forms.specs.Steady.{Steady, from_place}
+use Rattle.c_grammar_forms.specs.lemmas.Steady.{Steady, from_place}
 use Rattle.c_grammar_forms.specs.Reading.{Reads, NoneThrough}
-use Rattle.c_grammar_forms.specs.NotFound.{only}
+use Rattle.c_grammar_forms.specs.lemmas.NotFound.{only}
 
 module _ {Token P Q R S : Type 0} {test : Token → Bool} {A : ℕ → Form Token P}
     {B : ℕ → Form Token Q} {C : ℕ → Form Token R}

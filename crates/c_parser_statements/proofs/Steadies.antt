@@ -1,7 +1,8 @@
 -- Each form of statements has one reading, at each two depths.
 use Rattle.c_grammar_forms.specs.Forms.{Before, Deeper, Choice}
-use Rattle.c_grammar_forms.specs.Steady.{Steady, good_deeper, good_behind, good_before, good_pair}
-use Rattle.c_grammar_forms.specs.Steady.{good_choice, good_perhaps, good_many}
+use Rattle.c_grammar_forms.specs.lemmas.Steady.{Steady, good_deeper, good_behind, good_before}
+use Rattle.c_grammar_forms.specs.lemmas.Steady.{good_pair}
+use Rattle.c_grammar_forms.specs.lemmas.Steady.{good_choice, good_perhaps, good_many}
 use Rattle.c_grammar_symbols.specs.declared.words.Terminal.{Terminal}
 use Rattle.c_grammar_symbols.specs.declared.words.Terminal.TheVariants as terminal
 use Rattle.c_grammar_symbols.specs.Sources.{is}
@@ -10,9 +11,10 @@ use Rattle.c_grammar_tree.specs.Parts.{is_local_specifier}
 use Rattle.c_grammar_tree.specs.Expressions.{comma}
 use Rattle.c_grammar_tree.specs.Declarations.{identifier}
 use Rattle.c_grammar_tree.specs.Statements.{block_items, condition, optional, for_start}
-use Rattle.c_grammar_tree.specs.OneReading.{good_comma}
-use Rattle.c_grammar_tree.specs.OneReadingOfText.{good_grammar, good_identifier, good_condition}
-use Rattle.c_grammar_tree.specs.OneReadingOfText.{good_optional, good_for_start}
+use Rattle.c_grammar_tree.specs.lemmas.OneReading.{good_comma}
+use Rattle.c_grammar_tree.specs.lemmas.OneReadingOfText.{good_grammar, good_identifier}
+use Rattle.c_grammar_tree.specs.lemmas.OneReadingOfText.{good_condition}
+use Rattle.c_grammar_tree.specs.lemmas.OneReadingOfText.{good_optional, good_for_start}
 use Rattle.c_parser_statements.specs.Forms.{optional_comma, optional_value, case_value}
 use Rattle.c_parser_statements.specs.Forms.{for_head}
 

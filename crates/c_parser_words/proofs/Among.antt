@@ -5,8 +5,9 @@ use denote.Enum.Bare.{same_true}
 use Rattle.c_parser_words.proofs.TypeParts.{false_from}
 use Rattle.c_grammar_forms.specs.Forms.{Balanced}
 use Rattle.c_grammar_forms.specs.Reading.{Reads, NoneThrough}
-use Rattle.c_grammar_forms.specs.Brackets.{IsInside, inside_at_first, inside_more, reads_balanced}
-use Rattle.c_grammar_forms.specs.Brackets.{none_balanced}
+use Rattle.c_grammar_forms.specs.lemmas.Brackets.{IsInside, inside_at_first, inside_more}
+use Rattle.c_grammar_forms.specs.lemmas.Brackets.{reads_balanced}
+use Rattle.c_grammar_forms.specs.lemmas.Brackets.{none_balanced}
 use Rattle.c_grammar_symbols.specs.declared.words.Terminal.{Terminal}
 use Rattle.c_grammar_symbols.specs.contracts.words.Terminal as terminal
 use Rattle.c_grammar_symbols.specs.declared.symbol.Symbol.{Symbol}

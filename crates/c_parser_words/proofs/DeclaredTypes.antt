@@ -4,11 +4,11 @@ use Rattle.std.specs.Prelude.{Result}
 use Rattle.std.proofs.Common.{sym, ◌∙◌, ap, subst, refl}
 use Rattle.c_grammar_forms.specs.declared.fault.ReadError.{ReadError}
 use Rattle.c_grammar_forms.specs.Forms.{Form, Nothing, Node, Skip, Pair}
-use Rattle.c_grammar_forms.specs.Steady.{Steady}
+use Rattle.c_grammar_forms.specs.lemmas.Steady.{Steady}
 use Rattle.c_grammar_forms.specs.Reading.{NoneThrough}
-use Rattle.c_grammar_forms.specs.NotFound.{none_nothing}
-use Rattle.c_grammar_forms.specs.Exits.{answers_with}
-use Rattle.c_grammar_forms.specs.Choices.{Same, same_form, impossible, reads_arm, none_arm}
+use Rattle.c_grammar_forms.specs.lemmas.NotFound.{none_nothing}
+use Rattle.c_grammar_forms.specs.lemmas.Exits.{answers_with}
+use Rattle.c_grammar_forms.specs.lemmas.Choices.{Same, same_form, impossible, reads_arm, none_arm}
 use Rattle.c_grammar_symbols.specs.declared.named.NamedType.{NamedType}
 use Rattle.c_grammar_symbols.specs.declared.words.Terminal.TheVariants as terminal
 use Rattle.c_grammar_symbols.specs.declared.symbol.Symbol.{Symbol}
@@ -21,7 +21,7 @@ use Rattle.c_grammar_tree.specs.declared.declaration.Specifier.{Specifier}
 use Rattle.c_grammar_tree.specs.declared.declaration.SpecifierKind.TheVariants as kind
 use Rattle.c_grammar_tree.specs.Declarations.{Words, qualifiers, tag, typedef_words, enum_words}
 use Rattle.c_grammar_tree.specs.Declarations.{declared_type_at, declared_type}
-use Rattle.c_grammar_tree.specs.OneReadingOfText.{good_tag}
+use Rattle.c_grammar_tree.specs.lemmas.OneReadingOfText.{good_tag}
 use Rattle.c_parser_words.specs.Answers.{Finds}
 
 pub steady_tag : Steady (λ n. tag)

@@ -3,12 +3,13 @@ use Rattle.std.specs.Prelude.{◌≡◌, ℕ, ◌+◌, Bool, true, false, cond, 
 use Rattle.std.specs.Prelude.{length, Option, None, Some}
 use Rattle.std.proofs.Common.{sym, subst, refl}
 use Rattle.c_grammar_forms.specs.Forms.{Form, One, Skip, Before, Pair, Deeper, Perhaps}
-use Rattle.c_grammar_forms.specs.Steady.{Steady, good_one, good_skip, good_before, good_deeper}
-use Rattle.c_grammar_forms.specs.Steady.{good_perhaps}
+use Rattle.c_grammar_forms.specs.lemmas.Steady.{Steady, good_one, good_skip, good_before}
+use Rattle.c_grammar_forms.specs.lemmas.Steady.{good_deeper}
+use Rattle.c_grammar_forms.specs.lemmas.Steady.{good_perhaps}
 use Rattle.c_grammar_forms.specs.Reading.{Reads, NoneThrough}
-use Rattle.c_grammar_forms.specs.Found.{reads_skip}
-use Rattle.c_grammar_forms.specs.NotFound.{none_node, none_first}
-use Rattle.c_grammar_forms.specs.Loops.{SoFar, first_part, one_more}
+use Rattle.c_grammar_forms.specs.lemmas.Found.{reads_skip}
+use Rattle.c_grammar_forms.specs.lemmas.NotFound.{none_node, none_first}
+use Rattle.c_grammar_forms.specs.lemmas.Loops.{SoFar, first_part, one_more}
 use Rattle.c_grammar_symbols.specs.declared.words.Terminal.TheVariants as terminal
 use Rattle.c_grammar_symbols.specs.Symbols.{Leaf, symbol_of}
 use Rattle.c_grammar_symbols.specs.Sources.{leaf_at, is}
@@ -18,8 +19,8 @@ use Rattle.c_grammar_tree.specs.declared.item.Parameter.{Parameter}
 use Rattle.c_grammar_tree.specs.Parts.{is_not, is_name, is_specifier, points, have_char}
 use Rattle.c_grammar_tree.specs.Declarations.{identifier, specifiers, tag}
 use Rattle.c_grammar_tree.specs.Items.{points_or_not, parameter, parameter_list}
-use Rattle.c_grammar_tree.specs.OneReadingOfText.{good_specifiers, good_tag, good_parameter}
-use Rattle.c_grammar_tree.specs.OneReadingOfText.{good_parameter_list}
+use Rattle.c_grammar_tree.specs.lemmas.OneReadingOfText.{good_specifiers, good_tag, good_parameter}
+use Rattle.c_grammar_tree.specs.lemmas.OneReadingOfText.{good_parameter_list}
 
 abbrev pub any_pointer : Bool → Form Leaf (Option (Unit {0}))
 any_pointer allowed = Perhaps (λ leaf. allowed && points (symbol_of leaf)) One

@@ -1,16 +1,16 @@
 -- Attributes that are read one by one.
 use Rattle.std.specs.Prelude.{◌≡◌, ℕ, ◌<◌, true, List, [], ◌∷◌, ◌++◌, length}
 use Rattle.c_grammar_forms.specs.Forms.{Many}
-use Rattle.c_grammar_forms.specs.Steady.{Steady, good_behind, good_before}
+use Rattle.c_grammar_forms.specs.lemmas.Steady.{Steady, good_behind, good_before}
 use Rattle.c_grammar_forms.specs.Reading.{Reads}
-use Rattle.c_grammar_forms.specs.Loops.{SoFar, Strict, no_parts, one_more, strict_skip}
+use Rattle.c_grammar_forms.specs.lemmas.Loops.{SoFar, Strict, no_parts, one_more, strict_skip}
 use Rattle.c_grammar_symbols.specs.declared.words.Terminal.TheVariants as terminal
 use Rattle.c_grammar_symbols.specs.Symbols.{Leaf}
 use Rattle.c_grammar_symbols.specs.Sources.{leaf_at, is}
 use Rattle.c_grammar_tree.specs.Expressions.{round_brackets}
 use Rattle.c_grammar_tree.specs.Declarations.{attribute}
-use Rattle.c_grammar_tree.specs.OneReading.{good_round_brackets}
-use Rattle.c_grammar_tree.specs.OneReadingOfText.{good_attribute}
+use Rattle.c_grammar_tree.specs.lemmas.OneReading.{good_round_brackets}
+use Rattle.c_grammar_tree.specs.lemmas.OneReadingOfText.{good_attribute}
 
 pub steady_round_brackets : Steady (λ n. round_brackets)
 steady_round_brackets = record { good = λ n m. good_round_brackets }

@@ -8,11 +8,11 @@ use Rattle.c_grammar_forms.specs.declared.fault.ReadError.{ReadError}
 use Rattle.c_grammar_forms.specs.declared.fault.ReadError.TheVariants.{Unexpected, TooDeep}
 use Rattle.c_grammar_forms.specs.declared.fault.ReadError.TheVariants.{OutOfMemory}
 use Rattle.c_grammar_forms.specs.Forms.{World, Form, Choice, Many}
-use Rattle.c_grammar_forms.specs.Steady.{Steady, good_choice}
+use Rattle.c_grammar_forms.specs.lemmas.Steady.{Steady, good_choice}
 use Rattle.c_grammar_forms.specs.Reading.{Reads, NoneThrough, Faults}
-use Rattle.c_grammar_forms.specs.Found.{reads_node, reads_one, reads_choice, reads_shaped}
-use Rattle.c_grammar_forms.specs.Loops.{SoFar, no_parts, one_more, no_more}
-use Rattle.c_grammar_forms.specs.Loops.{no_such_part}
+use Rattle.c_grammar_forms.specs.lemmas.Found.{reads_node, reads_one, reads_choice, reads_shaped}
+use Rattle.c_grammar_forms.specs.lemmas.Loops.{SoFar, no_parts, one_more, no_more}
+use Rattle.c_grammar_forms.specs.lemmas.Loops.{no_such_part}
 use Rattle.c_grammar_symbols.specs.declared.words.Terminal.TheVariants as terminal
 use Rattle.c_grammar_symbols.specs.declared.words.TypeWord.{TypeWord}
 use Rattle.c_grammar_symbols.specs.declared.words.TypeWord.TheVariants as word
@@ -29,8 +29,8 @@ use Rattle.c_grammar_tree.specs.declared.declaration.SpecifierKind.TheVariants a
 use Rattle.c_grammar_tree.specs.Parts.{is_part_of_type, type_word_of, type_words}
 use Rattle.c_grammar_tree.specs.Parts.{types, have_part, is_keyword, is_no_type}
 use Rattle.c_grammar_tree.specs.Declarations.{specifier_at, keywords, qualifiers}
-use Rattle.c_grammar_tree.specs.OneReadingOfText.{good_specifier_at}
-use Rattle.c_grammar_tree.specs.OneReadingOfText.{good_keywords}
+use Rattle.c_grammar_tree.specs.lemmas.OneReadingOfText.{good_specifier_at}
+use Rattle.c_grammar_tree.specs.lemmas.OneReadingOfText.{good_keywords}
 use Rattle.c_parser_words.specs.declared.words.AllowedStorage.{AllowedStorage}
 use Rattle.c_parser_words.specs.declared.words.AllowedStorage.TheVariants.{Any, Register}
 use Rattle.c_parser_words.specs.declared.words.AllowedStorage.TheVariants.{InTypedef}
@@ -194,7 +194,8 @@ pub only_found : (allowed : AllowedStorage) (leaves : List Leaf) (p : ℕ) (k : 
 only_found allowed leaves p k words fits only made left =
     keywords_found allowed leaves p words (words_in k) (p + 1)
     (specifiers_more allowed leaves p [] [] p (specifiers_first allowed leaves p fits) k words
-    (words_in k) only.goes_on only.kind only.more.within made (record { all = refl; part = alone k }))
+    (words_in k) only.goes_on only.kind only.more.within made
+    (record { all = refl; part = alone k }))
     left only.ends
 
 -- keywords that are no words of types are read from p up to here
@@ -209,7 +210,8 @@ module _ (allowed : AllowedStorage) (leaves : List Leaf) (p : ℕ) where
   pub qualifiers_first : (words : List Specifier) → words ≡ [] → p < length leaves →
       AreQualifiers allowed leaves p words p
   unfolding qualifiers
-  qualifiers_first words none fits = subst (λ list. AreQualifiers allowed leaves p list p) (sym none)
+  qualifiers_first words none fits = subst (λ list. AreQualifiers allowed leaves p list p)
+      (sym none)
       (record {
         so_far = λ left. no_parts (is_no_type (goes_in allowed)) (λ n. any_specifier) fits;
         within = fits;

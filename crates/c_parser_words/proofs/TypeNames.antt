@@ -5,12 +5,12 @@ use Rattle.c_grammar_forms.specs.declared.fault.ReadError.{ReadError}
 use Rattle.c_grammar_forms.specs.declared.fault.ReadError.TheVariants.{Unexpected, TooDeep}
 use Rattle.c_grammar_forms.specs.declared.fault.ReadError.TheVariants.{OutOfMemory}
 use Rattle.c_grammar_forms.specs.Forms.{World, Form, Choice, Many}
-use Rattle.c_grammar_forms.specs.Steady.{Steady, good_many, good_choice}
+use Rattle.c_grammar_forms.specs.lemmas.Steady.{Steady, good_many, good_choice}
 use Rattle.c_grammar_forms.specs.Reading.{Reads, NoneThrough, Faults}
-use Rattle.c_grammar_forms.specs.Found.{reads_node, reads_one, reads_choice, reads_shaped}
-use Rattle.c_grammar_forms.specs.NotFound.{none_node, none_shaped_here}
-use Rattle.c_grammar_forms.specs.Choices.{Same, same_form, impossible}
-use Rattle.c_grammar_forms.specs.Loops.{SoFar, no_parts, one_more, no_more, no_such_part}
+use Rattle.c_grammar_forms.specs.lemmas.Found.{reads_node, reads_one, reads_choice, reads_shaped}
+use Rattle.c_grammar_forms.specs.lemmas.NotFound.{none_node, none_shaped_here}
+use Rattle.c_grammar_forms.specs.lemmas.Choices.{Same, same_form, impossible}
+use Rattle.c_grammar_forms.specs.lemmas.Loops.{SoFar, no_parts, one_more, no_more, no_such_part}
 use Rattle.c_grammar_symbols.specs.declared.named.NamedType.{NamedType}
 use Rattle.c_grammar_symbols.specs.declared.words.Terminal.TheVariants as terminal
 use Rattle.c_grammar_symbols.specs.declared.words.TypeWord.{TypeWord}
@@ -24,7 +24,7 @@ use Rattle.c_grammar_tree.specs.declared.expression.TypeName.TheVariants as type
 use Rattle.c_grammar_tree.specs.declared.declaration.SpecifierKind.TheVariants as kind
 use Rattle.c_grammar_tree.specs.Parts.{types, is_type_word, is_part_of_type, is_type}
 use Rattle.c_grammar_tree.specs.Expressions.{type_word_at, words_of_type, type_name_at}
-use Rattle.c_grammar_tree.specs.OneReading.{good_type_word_at}
+use Rattle.c_grammar_tree.specs.lemmas.OneReading.{good_type_word_at}
 use Rattle.c_parser_words.specs.Steps.{AreGrown, IsRefused}
 use Rattle.c_parser_words.proofs.TypeParts.{no_type_longer, is_type_of, no_words}
 

@@ -2,17 +2,17 @@
 use Rattle.std.specs.Prelude.{◌≡◌, ℕ, ◌+◌, true, List, [], ◌∷◌, ◌++◌, length}
 use Rattle.std.proofs.Common.{sym, subst}
 use Rattle.c_grammar_forms.specs.Forms.{Skip}
-use Rattle.c_grammar_forms.specs.Steady.{Steady, good_skip}
+use Rattle.c_grammar_forms.specs.lemmas.Steady.{Steady, good_skip}
 use Rattle.c_grammar_forms.specs.Reading.{Reads, NoneThrough}
-use Rattle.c_grammar_forms.specs.Found.{reads_skip}
-use Rattle.c_grammar_forms.specs.NotFound.{none_node, none_first}
-use Rattle.c_grammar_forms.specs.Loops.{SoFar, first_part, one_more}
+use Rattle.c_grammar_forms.specs.lemmas.Found.{reads_skip}
+use Rattle.c_grammar_forms.specs.lemmas.NotFound.{none_node, none_first}
+use Rattle.c_grammar_forms.specs.lemmas.Loops.{SoFar, first_part, one_more}
 use Rattle.c_grammar_symbols.specs.declared.words.Terminal.TheVariants as terminal
 use Rattle.c_grammar_symbols.specs.Symbols.{Leaf}
 use Rattle.c_grammar_symbols.specs.Sources.{leaf_at, is}
 use Rattle.c_grammar_tree.specs.declared.name.Name.{Name}
 use Rattle.c_grammar_tree.specs.Items.{typedef_name, typedef_names}
-use Rattle.c_grammar_tree.specs.OneReadingOfText.{good_typedef_name}
+use Rattle.c_grammar_tree.specs.lemmas.OneReadingOfText.{good_typedef_name}
 
 steady_name : Steady (λ n. typedef_name)
 steady_name = record { good = λ n m. good_typedef_name }

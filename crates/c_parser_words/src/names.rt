@@ -1,5 +1,6 @@
-//! Readers of identifiers, which are `identifier` of `Declarations.antt` of `c_grammar_tree`, and of
-//! the names of a typedef, `typedef_names` of its `Items.antt`. Proved with `proofs/TypedefForms`.
+//! Readers of identifiers, which are `identifier` of `Declarations.antt` of `c_grammar_tree`, and
+//! of the names of a typedef, `typedef_names` of its `Items.antt`. Proved with
+//! `proofs/TypedefForms`.
 ghost use Rattle.std.specs.Prelude.{◌≡◌, ◌<◌, length, IfOk, IfErr};
 ghost use Rattle.c_grammar_forms.specs.Forms.{Perhaps};
 ghost use Rattle.c_grammar_forms.specs.declared.fault.ReadError.TheVariants.{OutOfMemory};

@@ -319,9 +319,9 @@ pub fn specifiers_of(
     })
 }
 
-/// The specifiers that stand here, with the words of one type among them, in any order, or a typedef
-/// name, or `enum` and a tag. A word that no type has with those before it is the fault; without a
-/// type it is what stands behind them.
+/// The specifiers that stand here, with the words of one type among them, in any order, or a
+/// typedef name, or `enum` and a tag. A word that no type has with those before it is the fault;
+/// without a type it is what stands behind them.
 pub fn specifiers(
     alloc: Global,
     source: &Source,

@@ -52,7 +52,7 @@ use Rattle.c_types_rules.specs.Statements.{switching, switched, end_behind, sele
 use Rattle.c_types_rules.specs.Statements.{tagging, enumerating, enumeration_walk}
 use Rattle.c_types_rules.specs.Declarations.{kind_of, has_const, enumerator_number}
 use Rattle.c_types_rules.specs.Declarations.{enumerator_entry}
-use Rattle.c_types_objects.specs.Named.{names_of}
+use Rattle.c_types_objects.specs.lemmas.Named.{names_of}
 use Rattle.c_types_bodies.specs.Bodies.{AreNumbered, begins}
 
 -- a walk that counts objects up alone
@@ -360,7 +360,8 @@ merged_below n (Some (declared.Enumerator value)) fresh initializes h new = new
 merged_below n (Some declared.Tag) fresh initializes h new = new
 
 numbered_global : (text : Text) (kind : Kind) (is_const : Bool) (declarator : Declarator)
-    (before : Before) → Numbered before → Numbered (global_behind text kind is_const declarator before)
+    (before : Before) → Numbered before → Numbered
+        (global_behind text kind is_const declarator before)
 numbered_global text kind is_const declarator before h =
     let n = before.objects in
     let found = declared_as before.names declarator.name.bytes in

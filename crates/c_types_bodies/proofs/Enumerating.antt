@@ -12,7 +12,7 @@ use Rattle.c_types_rules.specs.Statements.{enumeration_walk}
 use Rattle.c_types_rules.specs.StatementRules.{site_faults, label_at, goto_at, object_number}
 use Rattle.c_types_rules.specs.Items.{Call, site_calls}
 use Rattle.c_types_objects.specs.Enumerations.{AddsNames}
-use Rattle.c_types_objects.specs.Named.{names_of}
+use Rattle.c_types_objects.specs.lemmas.Named.{names_of}
 use Rattle.c_types_jumps.specs.Found.{Found, with_base}
 use Rattle.c_types_bodies.specs.declared.walker.Cases.{Cases}
 use Rattle.c_types_bodies.specs.declared.walker.Frame.{Frame}

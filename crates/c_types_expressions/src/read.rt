@@ -90,8 +90,9 @@ impl Reader<'_> {
         Ok(ReadPart { part, typed })
     }
 
-    /// Reads an expression: holds its first fault, and notes its calls. A name and a number are read
-    /// here, since a function takes the time at its start that the room for its other forms asks for.
+    /// Reads an expression: holds its first fault, and notes its calls. A name and a number are
+    /// read here, since a function takes the time at its start that the room for its other forms
+    /// asks for.
     #[cycle(read)]
     #[tactic(auto, using(crate::proofs::Variants::first_Number, crate::proofs::Variants::calls_Name, crate::proofs::Variants::calls_Number))]
     pub fn read_expression(&self, e: &Expression, notes: &mut Notes) -> Result<Read, AllocError>

@@ -1,6 +1,7 @@
 -- Typedef names in order: the type of one, and one more of them.
 use Rattle.std.specs.Prelude.{◌≡◌, ℕ, ◌+◌, suc, Bool, true, false, List, [], ◌∷◌, ◌++◌, length}
-use Rattle.std.specs.Prelude.{map, find, Option, None, Some, option_map, option_and_then, cond, refl}
+use Rattle.std.specs.Prelude.{map, find, Option, None, Some, option_map, option_and_then, cond}
+use Rattle.std.specs.Prelude.{refl}
 use Rattle.std.specs.List.{zip, slice_get}
 use Rattle.std.proofs.Common.{◌∙◌, ap, arith, append_assoc}
 use Rattle.cpa_ints.specs.declared.integers.IntType.{IntType}

@@ -19,7 +19,8 @@ pub(crate) fn number_of(numbers: &Numbers, name: &[u8]) -> Option<u32>
     numbers.get(name).copied()
 }
 
-/// Gives a name a number, in the place of the one that it has, which is told: one search serves both.
+/// Gives a name a number, in the place of the one that it has, which is told: one search serves
+/// both.
 pub(crate) fn set(
     alloc: Global,
     numbers: &mut Numbers,

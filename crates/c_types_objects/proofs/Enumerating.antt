@@ -97,7 +97,8 @@ pub enumerated_start : (text : Text) (caller : ℕ) (list : List Enumerator) (na
     → AreNamed names outer around
     → GivesAll text caller (pos 0) list list around names held calls held calls
 enumerated_start text caller list names outer around held calls named =
-    subst (λ (ns : List Entry). GivesAll text caller (pos 0) list list around ns held calls held calls)
+    subst (λ (ns : List Entry). GivesAll text caller (pos 0) list list around ns held calls held
+    calls)
     named.names_are (record { names_at = refl; first_at = refl; calls_at = refl })
 
 drop_at : {X : Type 0} (xs : List X) (i : ℕ) (x : X) → i < length xs → x ≡ get_or xs i x
@@ -203,7 +204,8 @@ tag_first text around tag outer names held named =
     ap (λ (k : ℕ). first_with held (broken rule.N2 (at_if
     (is_declared_among (drop k names) (tag_key tag.bytes)) tag.place))) (sym named.outer_is)
     ∙ ap (λ (ns : List Entry). first_with held (broken rule.N2 (at_if
-    (is_declared_among (drop around.outer ns) (tag_key tag.bytes)) tag.place))) (sym named.names_are)
+    (is_declared_among (drop around.outer ns) (tag_key tag.bytes)) tag.place)))
+    (sym named.names_are)
     ∙ ap (λ (all : List TextFault). first_with held all) (sym (nils (broken rule.N2 (at_if
     (is_declared_among (drop around.outer around.names) (tag_key tag.bytes)) tag.place))))
   where

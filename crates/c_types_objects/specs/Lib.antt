@@ -1,3 +1,3 @@
 pub mod Initializers
 pub mod Enumerations
-pub mod Named
+pub mod lemmas

@@ -1,5 +1,6 @@
 //! What a declarator declares, in a function and in file scope: its object, its length, its typed
-//! initializer and the rules that they break (definitions of `c_types_rules`). Proved with `proofs/`.
+//! initializer and the rules that they break (definitions of `c_types_rules`). Proved with
+//! `proofs/`.
 #![tactic(auto)]
 
 mod constants;

@@ -119,8 +119,8 @@ abbrev pub in_order : List Walk → Walk
 in_order [] = still
 in_order (first ∷ rest) = followed first (in_order rest)
 
--- behind a part nothing is left of it but the counts of objects and of labels, and what it is to the
--- switch around it
+-- behind a part nothing is left of it but the counts of objects and of labels, and what it is to
+-- the switch around it
 abbrev pub left_by : Around → Around → Around
 left_by around inner = record around {
   objects = inner.objects;

@@ -1,5 +1,6 @@
 //! The typed tree: the tree of a text with a type on each expression, and each name bound to what
-//! it stands for. `unit_globals` and `unit_functions` of `specs/Sound.antt` say which one is a text's.
+//! it stands for. `unit_globals` and `unit_functions` of `specs/Sound.antt` say which one is a
+//! text's.
 use crate::{Kind, Named, Object};
 use c_grammar_symbols::{AssignmentOperator, BinaryOperator, StepOperator};
 use c_grammar_tree::{Integer, UnaryOperator};

@@ -17,8 +17,8 @@ pub enum Addition {
     Failing(Vec<Elem>),
 }
 
-/// `take EDGE ..`, `holds FACT, ..` or `fails FACT, .. ; FACT, .. ; ..`. Whether edges are there and
-/// facts fit is tested when they are added.
+/// `take EDGE ..`, `holds FACT, ..` or `fails FACT, .. ; FACT, .. ; ..`. Whether edges are there
+/// and facts fit is tested when they are added.
 pub fn addition_of(alloc: Global, text: &str) -> Result<Addition, RowFault> {
     let text = text.trim();
     let (word, rest) = text.split_once(' ').unwrap_or((text, ""));

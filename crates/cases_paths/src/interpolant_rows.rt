@@ -15,8 +15,8 @@ use std::alloc::{AllocError, Global};
 use std::thread::Threads;
 
 /// `along LEARNT GATES WORKERS : EDGE ..`: `cuts EXPRESSIONS`, `model`, `learnt CUT LINES`,
-/// `gates CUT WEIGHT` or `large CUT`. With `exprs` in the place of `along` the expressions are told,
-/// for checkers outside. One worker is `along`, 2 to 64 are `along_par`.
+/// `gates CUT WEIGHT` or `large CUT`. With `exprs` in the place of `along` the expressions are
+/// told, for checkers outside. One worker is `along`, 2 to 64 are `along_par`.
 pub fn push_along<R: Threads + Sync>(
     rt: &R,
     alloc: Global,

@@ -1,5 +1,5 @@
-//! Reads what calls take beside elements: a rule of merging, an order, and settings. Nothing is proved
-//! of what is read but that reading is safe and ends.
+//! Reads what calls take beside elements: a rule of merging, an order, and settings. Nothing is
+//! proved of what is read but that reading is safe and ends.
 
 use cases_reader::{RowFault, index_of_word};
 use cpa_iface::{DEFAULT_GATES, DEFAULT_LEARNT, MergeRule, Order, Settings};

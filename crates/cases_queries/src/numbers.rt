@@ -1,6 +1,6 @@
-//! Rows that call `cpa_ints`, `cpa_expr` and `cpa_expr_text`: the word of a call, what the call takes,
-//! and behind colons the expressions that it is asked of, or behind a bar a text. README.md says how
-//! the wanted answers were made.
+//! Rows that call `cpa_ints`, `cpa_expr` and `cpa_expr_text`: the word of a call, what the call
+//! takes, and behind colons the expressions that it is asked of, or behind a bar a text. README.md
+//! says how the wanted answers were made.
 
 mod expression_rows;
 mod number_rows;

@@ -14,7 +14,8 @@ use std::alloc::{AllocError, Global};
 enum Told {
     /// `search VARS LEARNT : FORMULA`: the outcome, looked at again.
     Outcome,
-    /// `budgets VARS LAST : FORMULA`: the outcomes of the budgets from 0 to the last, a letter each.
+    /// `budgets VARS LAST : FORMULA`: the outcomes of the budgets from 0 to the last, a letter
+    /// each.
     Budgets,
     /// `effort VARS LEARNT : FORMULA`: the outcome, with the numbers of lines, steps and literals.
     Effort,

@@ -1,5 +1,5 @@
-//! The indices of a row, as a text or as words. Nothing is proved of what is read but that reading is
-//! safe and ends.
+//! The indices of a row, as a text or as words. Nothing is proved of what is read but that reading
+//! is safe and ends.
 
 use crate::fault::RowFault;
 use crate::row::words_of;

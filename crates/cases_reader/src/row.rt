@@ -3,8 +3,8 @@
 
 use std::alloc::{AllocError, Global};
 
-/// A row, by which a program goes with one `match`: its words and parts own nothing, so that what is
-/// read of them is all that waits where a later step fails.
+/// A row, by which a program goes with one `match`: its words and parts own nothing, so that what
+/// is read of them is all that waits where a later step fails.
 #[derive(Drop)]
 pub struct Row<'a> {
     /// The words in front of the first colon.

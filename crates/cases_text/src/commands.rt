@@ -53,8 +53,8 @@ fn asked(alloc: Global, words: &[String]) -> Result<String, AllocError> {
     }
 }
 
-/// The answer to the words of a row, one blank between two of them. A row without words asks it of no
-/// words.
+/// The answer to the words of a row, one blank between two of them. A row without words asks it of
+/// no words.
 pub(crate) fn answer(alloc: Global, row: &str) -> Result<String, AllocError> {
     if row.is_empty() {
         return asked(alloc, &[]);

@@ -1,5 +1,5 @@
-//! Where the points and the cells of a text's program come from. It owes safety alone, proved by the
-//! checker alone.
+//! Where the points and the cells of a text's program come from. It owes safety alone, proved by
+//! the checker alone.
 ghost use Rattle.std.specs.Prelude.{◌≤◌, length};
 ghost use Rattle.c_lexer.specs.declared.lexer.TheConstants.{MAX_TEXT};
 

@@ -105,7 +105,8 @@ fn answered(alloc: Global, front: &str, row: &str) -> Result<&'static str, RowFa
     found_in(alloc, row, &cfa, take)
 }
 
-/// The answer to a row: the verdict that is wanted and what the program has, and behind ` |` the text.
+/// The answer to a row: the verdict that is wanted and what the program has, and behind ` |` the
+/// text.
 pub(crate) fn answer(alloc: Global, row: &str) -> Result<String, AllocError> {
     let Some((front, text)) = row.split_once(" |") else {
         return String::from_str(alloc, "no row");

@@ -10,7 +10,7 @@ use Rattle.cpa_model.specs.declared.facts.Elem.{Elem}
 use Rattle.cpa_model.specs.declared.states.State.{State}
 use Rattle.cpa_model.specs.Facts.{Holds}
 use Rattle.cpa_model.specs.Standing.{has_facts}
-use Rattle.cpa_model.specs.StandingLaws.{has_facts-within, has_facts-same}
+use Rattle.cpa_model.specs.lemmas.StandingLaws.{has_facts-within, has_facts-same}
 use Rattle.cpa_iface.specs.declared.analysis.Part.TheVariants as part
 use Rattle.cpa_iface.specs.declared.precisions.Precision.{Precision}
 use Rattle.cpa_iface.specs.Common.{fact_count}

@@ -1,5 +1,6 @@
 //! Prints each row of the standard input with what an analysis, a reached set, a composite or a
-//! whole analysis answers to the call that it names. README.md says how the wanted answers were made.
+//! whole analysis answers to the call that it names. README.md says how the wanted answers were
+//! made.
 #![tactic(auto)]
 
 mod analyses;

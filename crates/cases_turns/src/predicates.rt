@@ -1,5 +1,5 @@
-//! Rows that call one `Predicate`, which lives from row to row. README.md says how the wanted answers
-//! were made. What all calls ask of their arguments is tested before them.
+//! Rows that call one `Predicate`, which lives from row to row. README.md says how the wanted
+//! answers were made. What all calls ask of their arguments is tested before them.
 
 use crate::analyses::{Call, Question, call_of, push_called, question_of};
 use crate::setting::Setting;
@@ -31,8 +31,8 @@ pub fn push_answer(
     push_asked(alloc, out, predicate, setting, &question)
 }
 
-/// Adds the answer behind ` = `, where the precision and all elements fit the automaton. The automaton
-/// is made again for each call, as rows may change the program.
+/// Adds the answer behind ` = `, where the precision and all elements fit the automaton. The
+/// automaton is made again for each call, as rows may change the program.
 fn push_asked(
     alloc: Global,
     out: &mut String,

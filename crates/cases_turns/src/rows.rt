@@ -47,7 +47,8 @@ impl Rows {
         })
     }
 
-    /// A row with its answer. An empty line, a remark and a row that sets something stay as they are.
+    /// A row with its answer. An empty line, a remark and a row that sets something stay as they
+    /// are.
     pub fn answered(
         &mut self,
         alloc: Global,
@@ -134,8 +135,8 @@ fn push_composites(
     push_asked(alloc, out, setting, &question_of(alloc, words, parts)?)
 }
 
-/// Adds the answer of a composite. Its analyses are new for each row, so that no row depends on what
-/// another one asked.
+/// Adds the answer of a composite. Its analyses are new for each row, so that no row depends on
+/// what another one asked.
 fn push_asked(
     alloc: Global,
     out: &mut String,

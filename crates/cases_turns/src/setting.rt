@@ -35,8 +35,8 @@ impl Setting {
 
     /// Sets what a row names, and says whether it names something:
     /// `precision LIMIT : CELL .. : PREDICATE : ..`, `predicates : PREDICATE : ..`,
-    /// `settings LEARNT GATES`, `picks NAME RULE ..`, `precisions : LIMIT, CELL .. : ..`, a part for
-    /// each pick, or a row of `Table::set`.
+    /// `settings LEARNT GATES`, `picks NAME RULE ..`, `precisions : LIMIT, CELL .. : ..`, a part
+    /// for each pick, or a row of `Table::set`.
     pub fn set(&mut self, alloc: Global, words: &[&str], parts: &[&str]) -> Result<bool, RowFault> {
         match (words, parts) {
             (["precision", limit], [cells, preds @ ..]) => {

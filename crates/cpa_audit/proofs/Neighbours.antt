@@ -1,5 +1,6 @@
 -- A log has one least bad line; and what neighbouring runs and rows of parts give together.
-use Rattle.std.proofs.Common.{◌≡◌, ℕ, ◌+◌, ◌<◌, ◌≤◌, List, Option, None, Some, [], ◌∷◌, ◌++◌, length}
+use Rattle.std.proofs.Common.{◌≡◌, ℕ, ◌+◌, ◌<◌, ◌≤◌, List, Option, None, Some, [], ◌∷◌, ◌++◌}
+use Rattle.std.proofs.Common.{length}
 use Rattle.std.proofs.Common.{refl, sym, ap, arith, subst, ◌⊎◌, inl, inr}
 use Rattle.std.specs.List.{AllByRecursion}
 use Rattle.std.proofs.lemmas.Bool.{cases_lt}
@@ -67,7 +68,8 @@ parts_joined cnf log w first m n p q some front back =
     let lines = length log in
     let same : (first + m) + n ≡ first + (m + n) = omega arith in
     subst (λ k. IsLeastBadBetween cnf log (cut lines w first) (cut lines w k) (joined p q)) same
-    (neighbours cnf log (cut lines w first) (cut lines w (first + m)) (cut lines w ((first + m) + n))
+    (neighbours cnf log (cut lines w first) (cut lines w (first + m))
+        (cut lines w ((first + m) + n))
     p q (cuts_rise lines w first (first + m) some (omega arith))
     (cuts_rise lines w (first + m) ((first + m) + n) some (omega arith)) front back)
 

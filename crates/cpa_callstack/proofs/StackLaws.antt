@@ -18,7 +18,7 @@ use Rattle.cpa_model.specs.Facts.{FactHolds, Holds, IsFact}
 use Rattle.cpa_model.specs.Stacks.{stack_after}
 use Rattle.cpa_model.specs.Standing.{same_sites}
 use Rattle.cpa_model.specs.lemmas.Stacks.{stack_after-whole, stack_after-means}
-use Rattle.cpa_model.specs.StandingLaws.{same_fact-self}
+use Rattle.cpa_model.specs.lemmas.StandingLaws.{same_fact-self}
 use Rattle.cpa_model.specs.Automata.{StepsAlong}
 use Rattle.cpa_model.specs.Steps.{StepsStack}
 use Rattle.cpa_iface.specs.declared.analysis.Part.TheVariants as part

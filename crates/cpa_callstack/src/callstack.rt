@@ -1,5 +1,5 @@
-//! The analysis: what it gives stands in `specs/Stacks.antt`, and that it keeps the laws is shown in
-//! `proofs/StackLaws.antt`.
+//! The analysis: what it gives stands in `specs/Stacks.antt`, and that it keeps the laws is shown
+//! in `proofs/StackLaws.antt`.
 
 ghost use Rattle.cpa_callstack.specs.Stacks.{stacks};
 

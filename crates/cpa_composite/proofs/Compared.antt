@@ -13,8 +13,8 @@ use Rattle.cpa_iface.specs.Meanings.{Meaning}
 use Rattle.cpa_composite.specs.Components.{Component, picked, picked_before, ArePlaces}
 use Rattle.cpa_composite.specs.Comparisons.{keeps_apart, same_elem, same_row, agree}
 use Rattle.cpa_composite.specs.Laws.{AgreeOnSep, is_longer, some_longer}
-use Rattle.cpa_reached_key.specs.RowLaws.{same_elem-means, same_elem-self, same_row-decides}
-use Rattle.cpa_composite_covers.specs.PickLaws.{there_is}
+use Rattle.cpa_reached_key.specs.lemmas.RowLaws.{same_elem-means, same_elem-self, same_row-decides}
+use Rattle.cpa_composite_covers.specs.lemmas.PickLaws.{there_is}
 use Rattle.cpa_composite.proofs.Picking.{picked_at, picked_later}
 
 -- rows that are not the same to the letter are not equal

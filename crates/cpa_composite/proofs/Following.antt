@@ -20,7 +20,7 @@ use Rattle.cpa_composite.specs.Components.{Component, StandsAt}
 use Rattle.cpa_composite.specs.Exact.{IsControl, HaveAt, FollowPart}
 use Rattle.cpa_composite.specs.Laws.{choices, Strengthens, EachStrengthened, SuccessorRows}
 use Rattle.cpa_composite.proofs.Placed.{last_at, all_both}
-use Rattle.cpa_composite_covers.specs.PickLaws.{there_is}
+use Rattle.cpa_composite_covers.specs.lemmas.PickLaws.{there_is}
 
 -- a part that is the point or the stack binds at each precision, and has no input
 binds : (which : Part) (cfa : Cfa) (p : Precision) → IsControl which → MustBeExact which cfa p

@@ -22,7 +22,7 @@ use Rattle.cpa_composite.specs.Laws.{EachInitial, EachMerged, EachAdjusted, Each
 use Rattle.cpa_composite.specs.Laws.{InitialRow, MergedRow, AdjustedRow, RefinedRow, AgreeOnSep}
 use Rattle.cpa_composite.specs.Laws.{WidenCovers, SuggestionsStand, some_longer, is_longer}
 use Rattle.cpa_composite.proofs.Placed.{at_each, each_at, no_more}
-use Rattle.cpa_composite_covers.specs.PickLaws.{there_is}
+use Rattle.cpa_composite_covers.specs.lemmas.PickLaws.{there_is}
 use Rattle.cpa_composite.proofs.Picking.{stands_there, stands_for}
 use Rattle.cpa_composite.proofs.Compared.{none_longer}
 

@@ -30,7 +30,7 @@ use Rattle.cpa_composite.proofs.Deciding.{stack_steps, store_steps, all_step}
 use Rattle.cpa_composite.proofs.Following.{follows, not_store}
 use Rattle.cpa_composite.proofs.Pinned.{pins_step, pins_stuck}
 use Rattle.cpa_composite.proofs.Placed.{each_at, all_both, all_front}
-use Rattle.cpa_composite_covers.specs.PickLaws.{there_is}
+use Rattle.cpa_composite_covers.specs.lemmas.PickLaws.{there_is}
 
 -- the stack after an act, where it has a step
 sites_stay : (points : ℕ) (cfa : Cfa) (a : Act) (old new : List ℕ) → points ≡ cfa.points

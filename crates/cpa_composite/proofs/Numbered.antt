@@ -12,7 +12,7 @@ use Rattle.cpa_composite.specs.Components.{Component, IsPicked, picked, ArePlace
 use Rattle.cpa_composite.specs.Keys.{is_key, key_places_from}
 use Rattle.cpa_composite.proofs.Picking.{picked_at, picked_length}
 use Rattle.cpa_composite.proofs.Placed.{left_at}
-use Rattle.cpa_composite_covers.specs.PickLaws.{there_is}
+use Rattle.cpa_composite_covers.specs.lemmas.PickLaws.{there_is}
 
 pushed : (b : Bool) (i : ℕ) (done rest : List ℕ)
     → (done ++ (if b then i ∷ [] else [])) ++ rest ≡ done ++ (if b then i ∷ rest else rest)

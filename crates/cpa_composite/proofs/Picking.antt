@@ -11,7 +11,7 @@ use Rattle.cpa_iface.specs.declared.precisions.Precision.{Precision}
 use Rattle.cpa_iface.specs.Meanings.{Meaning}
 use Rattle.cpa_composite.specs.Components.{Component, picked, picked_before, IsPicked, ArePlaces}
 use Rattle.cpa_composite.specs.Components.{StandsAt}
-use Rattle.cpa_composite_covers.specs.PickLaws.{there_is}
+use Rattle.cpa_composite_covers.specs.lemmas.PickLaws.{there_is}
 
 -- there is a component for each pick
 pub picked_length : (ms : List Meaning) (picks : List Pick) → ArePlaces (length ms) picks

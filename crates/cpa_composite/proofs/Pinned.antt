@@ -26,7 +26,7 @@ use Rattle.cpa_composite.specs.Exact.{IsControl, AreControl, AreExact, BindAll, 
 use Rattle.cpa_composite.specs.Laws.{choices, Strengthens, EachStrengthened, SuccessorRows}
 use Rattle.cpa_composite.specs.Laws.{EachInitial, InitialRow, AdjustedRow}
 use Rattle.cpa_composite.proofs.Placed.{all_both, joined, no_more}
-use Rattle.cpa_composite_covers.specs.PickLaws.{there_is}
+use Rattle.cpa_composite_covers.specs.lemmas.PickLaws.{there_is}
 use Rattle.cpa_composite.proofs.Following.{not_store, none_of, choices_none}
 
 -- a pin of a state holds of it

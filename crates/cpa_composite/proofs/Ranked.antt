@@ -20,7 +20,7 @@ use Rattle.cpa_composite.specs.Laws.{SuccessorRows, MergedRow, AdjustedRow}
 use Rattle.cpa_composite.specs.Ranks.{coarsest, rank_by, row_rank, row_height, HasFixedHeight}
 use Rattle.cpa_composite.specs.Ranks.{HaveFixedHeights, IsLow, IsRanked}
 use Rattle.cpa_composite.proofs.Placed.{all_both, each_at, joined, no_more}
-use Rattle.cpa_composite_covers.specs.PickLaws.{there_is}
+use Rattle.cpa_composite_covers.specs.lemmas.PickLaws.{there_is}
 
 -- a row is ranked where each item is low at its place
 ranked_at : (cfa : Cfa) (cs : List Component) (es : List Elem) → IsRanked cfa cs es → (i : ℕ)

@@ -13,7 +13,7 @@ use Rattle.cpa_composite.specs.Components.{Component, picked, IsPicked}
 use Rattle.cpa_composite.specs.Laws.{Strengthens, EachStrengthened}
 use Rattle.cpa_composite.specs.Steps.{Strengthened, StrengthensAt}
 use Rattle.cpa_composite.proofs.Placed.{left_at, all_both, all_front, all_behind}
-use Rattle.cpa_composite_covers.specs.PickLaws.{there_is}
+use Rattle.cpa_composite_covers.specs.lemmas.PickLaws.{there_is}
 use Rattle.cpa_composite.proofs.Placed.{joined, same_length, no_more}
 use Rattle.cpa_composite.proofs.Growing.{IsAt, picks_it}
 

@@ -1,12 +1,10 @@
 pub mod Components
-pub mod Picks
 pub mod Composites
 pub mod Covers
-pub mod CoverLaws
 pub mod Comparisons
 pub mod Keys
 pub mod Laws
 pub mod Steps
 pub mod Exact
 pub mod Ranks
-pub mod RankLaws
+pub mod lemmas

@@ -9,7 +9,7 @@ ghost use Rattle.cpa_iface.specs.Meanings.{IsPathOf};
 ghost use Rattle.cpa_iface.specs.declared.merging.MergeRule.TheVariants.{Sep};
 ghost use Rattle.cpa_composite.specs.Components.{Component, picked, ArePlaces, AreElems};
 ghost use Rattle.cpa_composite.specs.Components.{ArePrecisions, IsEntryOf};
-ghost use Rattle.cpa_composite.specs.Picks.{places-prop};
+ghost use Rattle.cpa_composite.specs.lemmas.Picks.{places-prop};
 
 use crate::{calls, keys};
 use cpa_composite_covers::covered_by;

@@ -1,5 +1,5 @@
 //! Laws on the rows of successors and of merges: exact pins are followed exactly, and merging ends.
-//! Shown in `proofs/` (`Following`, `Pinned`, `Moving`, `Ranked`) and `specs/RankLaws.antt`.
+//! Shown in `proofs/` (`Following`, `Pinned`, `Moving`, `Ranked`) and `specs/lemmas/RankLaws.antt`.
 
 ghost use Rattle.std.specs.Prelude.{◌≡◌, ℕ, ◌<◌, ◌≤◌, List, [], ◌∷◌, length, Some, slice_get};
 ghost use Rattle.std.specs.Prelude.{IsTrue, ◌⊎◌};

@@ -9,7 +9,7 @@ use Rattle.cpa_iface.specs.Meanings.{Meaning}
 use Rattle.cpa_composite_covers.specs.Components.{Component, picked, picked_before, ArePlaces}
 use Rattle.cpa_composite_covers.specs.Components.{IsPicked}
 use Rattle.cpa_composite_covers.specs.Covers.{all_cover}
-use Rattle.cpa_composite_covers.specs.PickLaws.{there_is}
+use Rattle.cpa_composite_covers.specs.lemmas.PickLaws.{there_is}
 
 -- two tests, in either order
 pub both_false : (b : Bool) → (b && false) ≡ false

@@ -1,4 +1,3 @@
 pub mod Components
-pub mod PickLaws
 pub mod Covers
-pub mod CoverLaws
+pub mod lemmas

@@ -1,7 +1,7 @@
 -- Where the predicates have each interpolant of a path that reads a cell, a walk along the path on
 -- which no question stays open gives no element: on the stores of each element on the way the
--- interpolant there is nonzero, since it stands in the element or is the same on every store, and the
--- last one is 0.
+-- interpolant there is nonzero, since it stands in the element or is the same on every store, and
+-- the last one is 0.
 use Rattle.std.proofs.Common.{◌≡◌, ℕ, zero, suc, ◌+◌, ◌<◌, ℤ, pos, Bool, true, false, ◌⊎◌, inl, inr}
 use Rattle.std.proofs.Common.{List, [], ◌∷◌, ◌++◌, length, get_or, refl, sym, ap, ◌∙◌, subst, arith}
 use Rattle.std.specs.Prelude.{Option, None, Some, IsSomeAnd}
@@ -20,7 +20,8 @@ use Rattle.cpa_folds.specs.Along.{act_of, acts_along}
 use Rattle.cpa_folds.specs.Carried.{reads_some}
 use Rattle.cpa_predicate.specs.Predicates.{no_facts}
 use Rattle.cpa_predicate.specs.Steps.{is_truth, truths, NeverSteps, HasAfter}
-use Rattle.cpa_predicate.specs.Transfer.{fact_of, IsTruthAfter, AreTruthsAfter, IsCartesian, NoneOpen}
+use Rattle.cpa_predicate.specs.Transfer.{fact_of, IsTruthAfter, AreTruthsAfter, IsCartesian}
+use Rattle.cpa_predicate.specs.Transfer.{NoneOpen}
 use Rattle.cpa_interpolant_rules.specs.Stores.{IsStore}
 use Rattle.cpa_interpolant_rules.specs.Interpolants.{LeadsTo, AreNext, ArePathInterpolants, last_of}
 use Rattle.cpa_interpolant_rules.specs.Interpolants.{one}
@@ -71,7 +72,8 @@ same_value f none store other =
 -- ---- one edge
 
 module _ (cfa : Cfa) where
-  -- the expression is nonzero on each store on which the predicates of the element have their truths
+  -- the expression is nonzero on each store on which the predicates of the element have their
+  -- truths
   abbrev pub Implies : Expr → Elem → Type 0
   Implies i e =
       (store : List ℤ) → IsStore cfa.cells store → StoreHolds store (truths e)

@@ -1,6 +1,7 @@
--- That the precision after a path keeps the laws of refinement, and that a stop more is one more that
--- was not decided.
-use Rattle.std.proofs.Common.{◌≡◌, ℕ, ◌-◌, ◌^◌, Bool, true, false, List, [], ◌∷◌, refl, sym, ap, arith}
+-- That the precision after a path keeps the laws of refinement, and that a stop more is one more
+-- that was not decided.
+use Rattle.std.proofs.Common.{◌≡◌, ℕ, ◌-◌, ◌^◌, Bool, true, false, List, [], ◌∷◌, refl, sym, ap}
+use Rattle.std.proofs.Common.{arith}
 use Rattle.std.proofs.Common.{append-nil, ◌∙◌, subst}
 use Rattle.std.specs.Prelude.{◌+◌, min, if◌then◌else◌}
 use Rattle.std.specs.List.{AllByRecursion, filter}

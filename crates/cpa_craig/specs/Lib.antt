@@ -1,4 +1,4 @@
 pub mod Craigs
 pub mod Refining
 pub mod Walks
-pub mod Sending
+pub mod lemmas

@@ -1,6 +1,6 @@
 //! The analysis: at an edge it does what the one of predicates does, after a path it keeps what
-//! specs/Refining says, and it walks by specs/Walks. That it keeps the laws, and that a walk ends where
-//! interpolants are predicates, is shown in `proofs/`.
+//! specs/Refining says, and it walks by specs/Walks. That it keeps the laws, and that a walk ends
+//! where interpolants are predicates, is shown in `proofs/`.
 
 ghost use Rattle.std.specs.Prelude.{◌≡◌, ◌<◌, ◌-◌, ◌^◌, List, [], ◌∷◌, Some, length, slice_get};
 ghost use Rattle.std.specs.Prelude.{IfOk, OnErr};
@@ -62,17 +62,17 @@ impl Craig {
         }
     }
 
-    /// How many questions were not decided within the budgets, and how many refinements stopped at a
-    /// cut, together at most the greatest `u64`. Takes no memory.
+    /// How many questions were not decided within the budgets, and how many refinements stopped at
+    /// a cut, together at most the greatest `u64`. Takes no memory.
     pub fn spent(&self) -> u64
         ensures { result ≡ self.now.spent }
     {
         self.predicate.spent().saturating_add(self.stops)
     }
 
-    /// The elements behind the last edge of the path, by transfers from the initial element on, edge
-    /// after edge, with this precision. Where the predicates have each interpolant of the path that
-    /// reads a cell, there is none, unless some question was not decided.
+    /// The elements behind the last edge of the path, by transfers from the initial element on,
+    /// edge after edge, with this precision. Where the predicates have each interpolant of the path
+    /// that reads a cell, there is none, unless some question was not decided.
     pub fn walk(
         &mut self,
         alloc: Global,

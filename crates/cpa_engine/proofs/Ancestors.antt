@@ -5,7 +5,7 @@ use Rattle.std.proofs.Common.{◌≤◌, Some, None, refl, sym, ap, ◌∙◌, s
 use Rattle.std.proofs.lemmas.List.{drop_more, length-reverse}
 use Rattle.cpa_iface.specs.declared.entries.Entry.{Entry}
 use Rattle.cpa_reached.specs.Entries.{numbers}
-use Rattle.cpa_reached.specs.MemberLaws.{one_entry}
+use Rattle.cpa_reached.specs.lemmas.MemberLaws.{one_entry}
 use Rattle.cpa_reached.specs.Members.{IsIn}
 use Rattle.cpa_reached.specs.Paths.{LeadsBack, IsPathTo}
 use Rattle.cpa_model.specs.Ascending.{AreAscending}

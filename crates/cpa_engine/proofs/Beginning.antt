@@ -19,8 +19,9 @@ use Rattle.cpa_composite.specs.Exact.{BindAll}
 use Rattle.cpa_composite.specs.Ranks.{row_height, IsRanked}
 use Rattle.cpa_reached.specs.Calls.{with_precisions}
 use Rattle.cpa_reached.specs.Entries.{ReachedSet, IsNumbered, numbers}
-use Rattle.cpa_reached.specs.MemberLaws.{in_map, map_in, in_filter, in_all, entry_in, numbers_map}
-use Rattle.cpa_reached.specs.MemberLaws.{ascend_kept}
+use Rattle.cpa_reached.specs.lemmas.MemberLaws.{in_map, map_in, in_filter, in_all, entry_in}
+use Rattle.cpa_reached.specs.lemmas.MemberLaws.{numbers_map}
+use Rattle.cpa_reached.specs.lemmas.MemberLaws.{ascend_kept}
 use Rattle.cpa_model.specs.Ascending.{AreAscending}
 use Rattle.cpa_reached.specs.Members.{IsIn, is_in}
 use Rattle.cpa_reached.specs.Removal.{RemovesBelow, is_opened, opened, left, without}

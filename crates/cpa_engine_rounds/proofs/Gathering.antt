@@ -11,7 +11,7 @@ use Rattle.cpa_iface.specs.declared.entries.Entry.{Entry}
 use Rattle.cpa_iface.specs.declared.precisions.Precision.{Precision}
 use Rattle.cpa_reached.specs.Calls.{at_number, with_precisions}
 use Rattle.cpa_reached.specs.Entries.{IsLive}
-use Rattle.cpa_reached.specs.MemberLaws.{map_in}
+use Rattle.cpa_reached.specs.lemmas.MemberLaws.{map_in}
 use Rattle.cpa_reached.specs.Members.{is_in}
 use Rattle.cpa_engine_rounds.specs.Opening.{with_newest}
 

@@ -6,11 +6,12 @@ use Rattle.cpa_iface.specs.declared.entries.Entry.{Entry}
 use Rattle.cpa_iface.specs.declared.precisions.Precision.{Precision}
 use Rattle.cpa_reached.specs.Calls.{with_precisions}
 use Rattle.cpa_reached.specs.Entries.{IsLive, numbers}
-use Rattle.cpa_reached.specs.MemberLaws.{all_weaker, ascend_kept, by_number, live_filtered, map_in}
+use Rattle.cpa_reached.specs.lemmas.MemberLaws.{all_weaker, ascend_kept, by_number, live_filtered}
+use Rattle.cpa_reached.specs.lemmas.MemberLaws.{map_in}
 use Rattle.cpa_model.specs.Ascending.{AreAscending}
 use Rattle.cpa_reached.specs.Members.{IsIn, is_in}
 use Rattle.cpa_reached.specs.Removal.{is_opened, opened, left, without}
-use Rattle.cpa_reached.specs.SuccessorLaws.{left_number}
+use Rattle.cpa_reached.specs.lemmas.SuccessorLaws.{left_number}
 use Rattle.cpa_engine_rounds.specs.Clearing.{renewed}
 use Rattle.cpa_engine_rounds.specs.Opening.{with_newest}
 

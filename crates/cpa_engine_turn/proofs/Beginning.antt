@@ -1,7 +1,7 @@
 -- An entry that was taken is there.
 use Rattle.std.proofs.Common.{ℕ, ◌∙◌}
 use Rattle.cpa_iface.specs.declared.merging.Order.{Order}
-use Rattle.cpa_reached.specs.MemberLaws.{map_in}
+use Rattle.cpa_reached.specs.lemmas.MemberLaws.{map_in}
 use Rattle.cpa_reached.specs.Entries.{ReachedSet, IsLive, IsNext}
 use Rattle.cpa_reached.specs.Calls.{taken}
 use Rattle.cpa_engine_turn.proofs.Turning.{at_rest, rest_number, waits_there}

@@ -18,7 +18,7 @@ use Rattle.cpa_composite.specs.Components.{Component}
 use Rattle.cpa_composite.specs.Keys.{is_key}
 use Rattle.cpa_composite.specs.Laws.{AgreeOnSep, WidenCovers, MergedRow}
 use Rattle.cpa_composite.specs.Ranks.{JoinNone}
-use Rattle.cpa_composite.specs.RankLaws.{stays_covers, merged_covers}
+use Rattle.cpa_composite.specs.lemmas.RankLaws.{stays_covers, merged_covers}
 use Rattle.cpa_engine_turn.specs.Keys.{key_of, WidenBesideKeys, CoversKey}
 use Rattle.cpa_engine_turn.specs.lemmas.Keyed.{apart, heads}
 

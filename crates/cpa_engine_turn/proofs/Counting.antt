@@ -15,7 +15,7 @@ use Rattle.cpa_composite.specs.Components.{Component}
 use Rattle.cpa_composite.specs.Ranks.{row_rank, row_height}
 use Rattle.cpa_model.specs.Ascending.{AreAscending}
 use Rattle.cpa_reached.specs.Members.{IsIn}
-use Rattle.cpa_reached.specs.MemberLaws.{in_all, entry_in}
+use Rattle.cpa_reached.specs.lemmas.MemberLaws.{in_all, entry_in}
 use Rattle.cpa_reached.specs.Entries.{numbers}
 use Rattle.cpa_reached.specs.Calls.{gains, fresh, renamed, replacing, others, those, rests}
 use Rattle.cpa_reached.specs.Calls.{at_number}

@@ -18,11 +18,13 @@ use Rattle.cpa_composite.specs.Components.{Component}
 use Rattle.cpa_composite.specs.Covers.{all_cover}
 use Rattle.cpa_model.specs.Ascending.{AreAscending}
 use Rattle.cpa_reached.specs.Members.{IsIn}
-use Rattle.cpa_reached.specs.MemberLaws.{in_map, map_in, in_append, append_front, append_back}
-use Rattle.cpa_reached.specs.MemberLaws.{in_filter, filter_in, one_entry, numbers_append, all_push}
+use Rattle.cpa_reached.specs.lemmas.MemberLaws.{in_map, map_in, in_append, append_front}
+use Rattle.cpa_reached.specs.lemmas.MemberLaws.{append_back}
+use Rattle.cpa_reached.specs.lemmas.MemberLaws.{in_filter, filter_in, one_entry, numbers_append}
+use Rattle.cpa_reached.specs.lemmas.MemberLaws.{all_push}
 use Rattle.cpa_model.specs.lemmas.Ascending.{ascending_push}
-use Rattle.cpa_reached.specs.MemberLaws.{ascend_kept, all_kept, entry_in, in_all}
-use Rattle.cpa_reached.specs.MemberLaws.{numbers_map, all_weaker}
+use Rattle.cpa_reached.specs.lemmas.MemberLaws.{ascend_kept, all_kept, entry_in, in_all}
+use Rattle.cpa_reached.specs.lemmas.MemberLaws.{numbers_map, all_weaker}
 use Rattle.cpa_reached.specs.Entries.{ReachedSet, IsLive, numbers}
 use Rattle.cpa_reached.specs.Calls.{gains, fresh, rename, renamed}
 use Rattle.cpa_reached.specs.Calls.{replacing, others, those, replaced_entries}

@@ -19,10 +19,10 @@ use Rattle.cpa_composite.specs.Components.{Component, IsEntryOf}
 use Rattle.cpa_composite.specs.Covers.{all_cover}
 use Rattle.cpa_composite.specs.Laws.{MergedRow}
 use Rattle.cpa_reached_key.specs.Rows.{picked}
-use Rattle.cpa_reached_key.specs.RowLaws.{same_row-decides}
+use Rattle.cpa_reached_key.specs.lemmas.RowLaws.{same_row-decides}
 use Rattle.cpa_reached.specs.Members.{IsIn}
-use Rattle.cpa_reached.specs.MemberLaws.{filter_in, one_entry, ascend_kept}
-use Rattle.cpa_reached.specs.MemberLaws.{numbers_append}
+use Rattle.cpa_reached.specs.lemmas.MemberLaws.{filter_in, one_entry, ascend_kept}
+use Rattle.cpa_reached.specs.lemmas.MemberLaws.{numbers_append}
 use Rattle.cpa_reached.specs.Entries.{ReachedSet, IsLive, numbers}
 use Rattle.cpa_reached.specs.Calls.{replaced, renamed, replacing, others, those}
 use Rattle.cpa_engine_turn.specs.Keys.{key_of, CoversKey, HasPlaces}

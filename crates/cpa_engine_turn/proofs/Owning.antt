@@ -11,7 +11,7 @@ use Rattle.cpa_iface.specs.declared.entries.Entry.{Entry}
 use Rattle.cpa_composite.specs.Components.{Component}
 use Rattle.cpa_composite.specs.Covers.{all_cover}
 use Rattle.cpa_reached.specs.Members.{IsIn}
-use Rattle.cpa_reached.specs.MemberLaws.{in_map, in_append, in_filter, one_entry}
+use Rattle.cpa_reached.specs.lemmas.MemberLaws.{in_map, in_append, in_filter, one_entry}
 use Rattle.cpa_reached.specs.Entries.{ReachedSet}
 use Rattle.cpa_reached.specs.Calls.{gains, fresh, renamed, replacing, others, those, taken, rests}
 use Rattle.cpa_engine_turn.specs.Keys.{key_of, WidenBesideKeys, HaveOwnKeys, CoversKey, rows_of}

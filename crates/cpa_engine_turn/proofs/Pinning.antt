@@ -27,7 +27,7 @@ use Rattle.cpa_composite.specs.Laws.{SuccessorRows, AdjustedRow}
 use Rattle.cpa_reached.specs.Members.{IsIn}
 use Rattle.cpa_reached.specs.Entries.{ReachedSet, IsNext, numbers}
 use Rattle.cpa_reached.specs.Calls.{taken, gains, fresh, rests}
-use Rattle.cpa_reached.specs.MemberLaws.{in_map}
+use Rattle.cpa_reached.specs.lemmas.MemberLaws.{in_map}
 use Rattle.cpa_engine_turn.specs.Bounds.{turns_left, StatesBound, IsPinned, ArePinned}
 use Rattle.cpa_reached_key.specs.Rows.{picked}
 use Rattle.cpa_engine_turn.specs.Keys.{HasPlaces}

@@ -13,7 +13,8 @@ use Rattle.cpa_iface.specs.declared.entries.Entry.{Entry}
 use Rattle.cpa_iface.specs.declared.precisions.Precision.{Precision}
 use Rattle.cpa_composite.specs.Components.{Component}
 use Rattle.cpa_reached.specs.Members.{IsIn}
-use Rattle.cpa_reached.specs.MemberLaws.{map_in, append_front, append_back, filter_in, one_entry}
+use Rattle.cpa_reached.specs.lemmas.MemberLaws.{map_in, append_front, append_back, filter_in}
+use Rattle.cpa_reached.specs.lemmas.MemberLaws.{one_entry}
 use Rattle.cpa_reached.specs.Entries.{IsLive}
 use Rattle.cpa_reached.specs.Calls.{gains, fresh, rename, renamed, replacing, others, those}
 use Rattle.cpa_reached.specs.Calls.{replaced}

@@ -17,7 +17,7 @@ use Rattle.cpa_iface.specs.declared.merging.Order.{Order}
 use Rattle.cpa_composite.specs.Components.{Component}
 use Rattle.cpa_model.specs.Ascending.{AreAscending}
 use Rattle.cpa_reached.specs.Members.{IsIn}
-use Rattle.cpa_reached.specs.MemberLaws.{in_map, map_in, in_filter, one_entry, numbers_map}
+use Rattle.cpa_reached.specs.lemmas.MemberLaws.{in_map, map_in, in_filter, one_entry, numbers_map}
 use Rattle.cpa_reached.specs.Entries.{ReachedSet, IsLive, IsNext, numbers, waiting_numbers}
 use Rattle.cpa_reached.specs.Calls.{at_number, rests, taken}
 use Rattle.cpa_reached.specs.Successors.{LiesInNamed, CoversSuccessors}

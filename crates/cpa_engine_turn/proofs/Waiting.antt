@@ -17,13 +17,13 @@ use Rattle.cpa_iface.specs.declared.entries.Entry.{Entry}
 use Rattle.cpa_iface.specs.declared.precisions.Precision.{Precision}
 use Rattle.cpa_composite.specs.Components.{Component}
 use Rattle.cpa_reached.specs.Members.{IsIn}
-use Rattle.cpa_reached.specs.MemberLaws.{in_map, map_in, in_filter, one_entry}
+use Rattle.cpa_reached.specs.lemmas.MemberLaws.{in_map, map_in, in_filter, one_entry}
 use Rattle.cpa_reached.specs.Entries.{ReachedSet}
 use Rattle.cpa_reached.specs.Calls.{at_number, gains, fresh, rename, renamed, replacing, others}
 use Rattle.cpa_reached.specs.Calls.{those}
 use Rattle.cpa_reached.specs.Calls.{added_entries, replaced_entries, rests}
 use Rattle.cpa_reached.specs.Successors.{LiesInNamed, CoversSuccessors, HoldOfAll}
-use Rattle.cpa_reached.specs.SuccessorLaws.{used-covers, added-covers, replaced-covers}
+use Rattle.cpa_reached.specs.lemmas.SuccessorLaws.{used-covers, added-covers, replaced-covers}
 use Rattle.cpa_engine_turn.proofs.Effects.{effect, below_next, rename_cases}
 use Rattle.cpa_engine_turn.proofs.Chains.{kept_along}
 use Rattle.cpa_engine_turn.specs.Stages.{Stage}

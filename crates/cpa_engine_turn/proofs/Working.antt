@@ -17,9 +17,9 @@ use Rattle.cpa_model.specs.lemmas.Lists.{place_of}
 use Rattle.cpa_iface.specs.declared.entries.Entry.{Entry}
 use Rattle.cpa_iface.specs.declared.precisions.Precision.{Precision}
 use Rattle.cpa_composite.specs.Components.{Component, AreElems, ArePrecisions, IsEntryOf}
-use Rattle.cpa_composite.specs.CoverLaws.{cover_within}
+use Rattle.cpa_composite.specs.lemmas.CoverLaws.{cover_within}
 use Rattle.cpa_reached.specs.Members.{IsIn}
-use Rattle.cpa_reached.specs.MemberLaws.{one_entry}
+use Rattle.cpa_reached.specs.lemmas.MemberLaws.{one_entry}
 use Rattle.cpa_reached.specs.Entries.{ReachedSet, numbers}
 use Rattle.cpa_reached.specs.Calls.{taken}
 use Rattle.cpa_reached_key.specs.Rows.{picked}

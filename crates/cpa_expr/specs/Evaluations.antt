@@ -1,6 +1,6 @@
 -- Which nodes the evaluation of an expression meets, up to where it traps. The right side of && and
--- ||, and an end of a conditional, are evaluated by the value of the first part alone (C11 6.5.13 to
--- 6.5.15). Of two operands the left one is evaluated first (this project's own).
+-- ||, and an end of a conditional, are evaluated by the value of the first part alone (C11 6.5.13
+-- to 6.5.15). Of two operands the left one is evaluated first (this project's own).
 use Rattle.std.specs.Prelude.{◌≡◌, ◌≢◌, ◌⊎◌, ℤ, pos, List, Some, IsSome, IsSomeAnd}
 use Rattle.cpa_expr.specs.declared.tree.Expr.{Expr, out-Expr}
 use Rattle.cpa_expr.specs.declared.tree.Expr.TheOpen.{Expr-F}

@@ -1,6 +1,7 @@
 -- What is due of expressions, node by node: words are those of so many exactly where those behind
 -- the first node are of as many as then are due.
-use Rattle.std.proofs.Common.{◌≡◌, ◌↔◌, ℕ, suc, ◌+◌, ◌-◌, ◌*◌, List, [], ◌∷◌, ◌++◌, length, take, drop, refl, sym, ap, ◌∙◌, subst}
+use Rattle.std.proofs.Common.{◌≡◌, ◌↔◌, ℕ, suc, ◌+◌, ◌-◌, ◌*◌, List, [], ◌∷◌, ◌++◌, length, take}
+use Rattle.std.proofs.Common.{drop, refl, sym, ap, ◌∙◌, subst}
 use Rattle.std.proofs.Common.{arith, ◌<◌, ◌≤◌}
 use Rattle.std.proofs.lemmas.List.{drop-drop, drop-map, length-append, length-drop, length-map}
 use Rattle.std.proofs.lemmas.Bool.{eqb-true, eq-eqb}
@@ -315,7 +316,8 @@ end_turn Z due place words none in_words has =
     let within = in_words.within in (
       λ yes.
           let all = eqb-true place (length words) yes in
-          has.0 (subst (λ k. AreDue k here) (sym none) (end.1 (nil_from_length here (omega arith)))),
+          has.0 (subst (λ k. AreDue k here) (sym none)
+            (end.1 (nil_from_length here (omega arith)))),
       λ z.
           let empty = ap length (end.0 (subst (λ k. AreDue k here) none (has.1 z))) in
           let all : place ≡ length words = omega arith in

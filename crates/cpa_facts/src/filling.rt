@@ -1,6 +1,7 @@
 //! Facts that are put one behind the other into blocks, and whole blocks that are shared where they
 //! fit, by `specs/Blocks.antt`. Proved with `proofs/FillingLemmas.antt`.
-ghost use Rattle.std.specs.Prelude.{◌≡◌, ◌<◌, ◌≤◌, ◌+◌, ◌-◌, ◌*◌, ◌∷◌, ◌++◌, [], IfOk, IfSome, OnOk, length};
+ghost use Rattle.std.specs.Prelude.{◌≡◌, ◌<◌, ◌≤◌, ◌+◌, ◌-◌, ◌*◌, ◌∷◌, ◌++◌, [], IfOk, IfSome};
+ghost use Rattle.std.specs.Prelude.{OnOk, length};
 ghost use Rattle.std.specs.Prelude.{◌↔◌, IsTrue};
 ghost use Rattle.std.specs.Prelude.{take, drop};
 ghost use Rattle.cpa_facts.specs.Blocks.{joined, AreFilled, AreFull};

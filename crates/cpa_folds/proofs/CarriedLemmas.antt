@@ -17,7 +17,8 @@ edge_more cfa g edge edges now at is =
     ∙ ap (λ (o : Option Edge). carried_along (act_of o ++ acts_along cfa edges)) (sym at)
 
 -- the same at the place before
-pub place_more : (cfa : Cfa) (g : Edge) (edges : List ℕ) (place before edge : ℕ) (now : CarriedLists)
+pub place_more : (cfa : Cfa) (g : Edge) (edges : List ℕ) (place before edge : ℕ)
+    (now : CarriedLists)
     → place ≡ suc before → before < length edges → edge ≡ get_or edges before 0
     → slice_get cfa.edges edge ≡ Some g
     → now ≡ carried_along (acts_along cfa (drop place edges))

@@ -29,7 +29,8 @@ reads_among_here base len _ = false
 -- some node of the expression reads one of len cells from base on
 abbrev pub reads_among : ℕ → ℕ → Expr → Bool
 reads_among base len =
-    fold-Expr Bool (λ node. reads_among_here base len node || list_any (λ reads. reads) (parts node))
+    fold-Expr Bool (λ node. reads_among_here base len node || list_any (λ reads. reads)
+    (parts node))
 
 -- the node itself reads a cell
 abbrev pub is_read : {A : Type 0} → Expr-F A → Bool

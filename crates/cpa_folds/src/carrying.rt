@@ -32,8 +32,8 @@ pub(crate) struct CarriedLists {
 }
 
 /// The expressions that the path carries, in the order in which they come: from the last edge to
-/// the first, each test, and what becomes of it where a cell that it reads has just been written. An
-/// analysis that tracks their truth sees how the tests along the path hang together.
+/// the first, each test, and what becomes of it where a cell that it reads has just been written.
+/// An analysis that tracks their truth sees how the tests along the path hang together.
 ///
 /// Each edge looks at the expressions that are present, and each that comes is compared with those
 /// that are there: it takes time in the edges, times the expressions, times their sizes, and for

@@ -2,10 +2,8 @@ pub mod Rows
 pub mod Meanings
 pub mod Pins
 pub mod Laws
-pub mod PlaceLaws
 pub mod Cells
-pub mod CellLaws
 pub mod Common
-pub mod CommonLaws
 pub mod PlainMeanings
 pub mod Locations
+pub mod lemmas

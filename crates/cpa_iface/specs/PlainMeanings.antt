@@ -5,7 +5,7 @@ use Rattle.cpa_model.specs.declared.facts.Elem.{Elem}
 use Rattle.cpa_model.specs.declared.automaton.Edge.{Edge}
 use Rattle.cpa_model.specs.declared.automaton.Cfa.{Cfa}
 use Rattle.cpa_model.specs.Standing.{has_facts}
-use Rattle.cpa_model.specs.StandingLaws.{has_facts-within, has_facts-same}
+use Rattle.cpa_model.specs.lemmas.StandingLaws.{has_facts-within, has_facts-same}
 use Rattle.cpa_iface.specs.declared.analysis.Part.{Part}
 use Rattle.cpa_iface.specs.declared.analysis.Part.TheVariants.{Store}
 use Rattle.cpa_iface.specs.Meanings.{Meaning, Replies}

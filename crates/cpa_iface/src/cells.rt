@@ -1,6 +1,6 @@
 //! The cells of a precision, of which it is known how many of the first stand at their own places,
 //! as all do where all cells are tracked. What these are stands in `specs/Cells.antt`; proved with
-//! `specs/CellLaws.antt`.
+//! `specs/lemmas/CellLaws.antt`.
 
 ghost use Rattle.std.specs.Prelude.{◌≡◌, ◌≤◌, ◌↔◌, [], length, IfOk, IsTrue};
 ghost use Rattle.cpa_iface.specs.Cells.{own_places};

@@ -1,6 +1,7 @@
 //! Analyses that change nothing but in their steps: they keep the facts which two elements have in
 //! common, and leave elements and precisions as they are. What such an analysis means stands in
-//! `specs/PlainMeanings.antt`; that it keeps the laws is shown once, with `specs/CommonLaws.antt`.
+//! `specs/PlainMeanings.antt`; that it keeps the laws is shown once, with
+//! `specs/lemmas/CommonLaws.antt`.
 
 ghost use Rattle.std.specs.Prelude.{◌≡◌, ◌<◌, length, IfOk};
 ghost use Rattle.cpa_model.specs.Automata.{IsAutomaton};

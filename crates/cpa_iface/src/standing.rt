@@ -1,5 +1,5 @@
 //! Whether facts stand in an element, looked for in the order in which they stand there: where two
-//! elements have one order, it takes one walk. Proved with `specs/PlaceLaws.antt`.
+//! elements have one order, it takes one walk. Proved with `specs/lemmas/PlaceLaws.antt`.
 
 ghost use Rattle.std.specs.Prelude.{◌≡◌, ◌≤◌, Some, drop, length, slice_get, is_some, IfSome};
 ghost use Rattle.cpa_facts.specs.declared.fact.Fact.{Fact as AFact};

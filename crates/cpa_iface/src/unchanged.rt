@@ -1,5 +1,5 @@
 //! What a call gives that changes nothing. Each keeps the laws of its call, whatever the analysis
-//! means that tells nothing else, which is shown in `specs/CommonLaws.antt`.
+//! means that tells nothing else, which is shown in `specs/lemmas/CommonLaws.antt`.
 
 ghost use Rattle.std.specs.Prelude.{◌≡◌, ℕ, List, Some, IfOk, IfSome};
 ghost use Rattle.cpa_model.specs.declared.automaton.Cfa.{Cfa};

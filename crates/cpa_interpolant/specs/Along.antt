@@ -1,5 +1,5 @@
--- Interpolants along a path, cut after cut (McMillan, Lazy Abstraction with Interpolants, CAV 2006),
--- or why there are none (the bounds are this project's own).
+-- Interpolants along a path, cut after cut (McMillan, Lazy Abstraction with Interpolants, CAV
+-- 2006), or why there are none (the bounds are this project's own).
 use Rattle.std.specs.Prelude.{◌≡◌, ℕ, ◌≤◌, ⊤, List, [], ◌∷◌, drop, length}
 use Rattle.std.specs.List.{AllByRecursion}
 use Rattle.cpa_expr.specs.declared.tree.Expr.{Expr}
@@ -7,7 +7,8 @@ use Rattle.cpa_model.specs.declared.automaton.Act.{Act}
 use Rattle.cpa_model.specs.declared.automaton.Cfa.{Cfa}
 use Rattle.cpa_model.specs.Expressions.{IsExpr}
 use Rattle.cpa_query.specs.Queries.{IsModel}
-use Rattle.cpa_interpolant_rules.specs.Interpolants.{AreInterpolants, ArePathInterpolants, last_of, one}
+use Rattle.cpa_interpolant_rules.specs.Interpolants.{AreInterpolants, ArePathInterpolants, last_of}
+use Rattle.cpa_interpolant_rules.specs.Interpolants.{one}
 use Rattle.cpa_interpolant_cuts.specs.Cuts.{behind_cut}
 use Rattle.cpa_interpolant_answers.specs.Answers.{weight_at, IsDone, IsLearnt, IsHeavy}
 use Rattle.cpa_interpolant_answers.specs.Answers.{IsLarge}
@@ -22,8 +23,8 @@ AreDone cfa learnt gates [] e (f ∷ fs) = ⊥
 AreDone cfa learnt gates (a ∷ acts) e (f ∷ fs) =
     IsDone cfa learnt gates e a acts f × AreDone cfa learnt gates acts f fs
 
--- interpolants of the whole path, well typed over the cells of the program, each cut done within the
--- budgets
+-- interpolants of the whole path, well typed over the cells of the program, each cut done within
+-- the budgets
 pub record AreFound (cfa : Cfa) (learnt gates : ℕ) (acts : List Act) (exprs : List Expr) : Type 0
   where
     pub are : ArePathInterpolants cfa.cells acts exprs
@@ -48,8 +49,8 @@ IsLight cfa gates [] = ⊤
 IsLight cfa gates (a ∷ acts) = weight_at cfa one a acts ≤ gates
 
 -- Interpolants of the path; a store that is a model of the path's query from any store; or
--- interpolants up to a cut, where all lines are written that are allowed, whose two parts weigh more
--- than is allowed, or whose expression is too large.
+-- interpolants up to a cut, where all lines are written that are allowed, whose two parts weigh
+-- more than is allowed, or whose expression is too large.
 abbrev pub IsAlong : Cfa → List Act → ℕ → ℕ → Along → Type 0
 IsAlong cfa acts learnt gates (Cuts exprs) = AreFound cfa learnt gates acts exprs.items
 IsAlong cfa acts learnt gates (Model store) =

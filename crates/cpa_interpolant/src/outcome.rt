@@ -1,4 +1,5 @@
-//! What comes of a walk over the cuts of a path. What each outcome holds is `IsAlong` of specs/Along.
+//! What comes of a walk over the cuts of a path. What each outcome holds is `IsAlong` of
+//! specs/Along.
 
 use cpa_cnf::Line;
 use cpa_expr::{Expr, Store};

@@ -64,7 +64,8 @@ NeverRefuted = (cnf : Cnf) (log : List Line) (values : List Bool) → IsRefutati
     → IsModel cnf values → ⊥
 
 zero_is_expr : (cells : List Cell) → IsExpr cells zero
-zero_is_expr cells = (a_constant_is_its_number (types_of cells) ty.I32 (pos 0)).1 (omega (arith, ints), omega (arith, ints))
+zero_is_expr cells = (a_constant_is_its_number (types_of cells) ty.I32 (pos 0)).1
+    (omega (arith, ints), omega (arith, ints))
 
 -- 0 is the next interpolant behind the last edge, where the formula of the cut there is refuted
 pub last_next : CutsAreRuns → NeverRefuted → (cfa : Cfa) (learnt gates : ℕ) (e : Expr) (a : Act)

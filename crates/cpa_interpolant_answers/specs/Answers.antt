@@ -1,5 +1,5 @@
--- What comes of one cut of a path: the expression behind it (interpolants along a path: McMillan, CAV
--- 2006), or why there is none (the bounds are this project's own).
+-- What comes of one cut of a path: the expression behind it (interpolants along a path: McMillan,
+-- CAV 2006), or why there is none (the bounds are this project's own).
 use Rattle.std.specs.Prelude.{◌≡◌, ℕ, ◌<◌, ◌≤◌, ℤ, true, false, List, [], ◌∷◌}
 use Rattle.cpa_cnf.specs.declared.formula.Cnf.{Cnf}
 use Rattle.cpa_cnf.specs.declared.formula.Line.{Line}

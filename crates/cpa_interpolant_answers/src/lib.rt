@@ -1,5 +1,5 @@
-//! One cut of a path, answered: the expression behind it, or why there is none. The definition stands
-//! in specs/Answers.
+//! One cut of a path, answered: the expression behind it, or why there is none. The definition
+//! stands in specs/Answers.
 #![tactic(auto)]
 
 mod answer;

@@ -1,7 +1,8 @@
 -- The extents of expressions, node by node; and that the expression at a number is that of its
 -- node.
 use Rattle.std.proofs.Common.{◌≡◌, ℕ, ◌+◌, ◌<◌, ◌≤◌, max, Bool, true, false, List}
-use Rattle.std.proofs.Common.{length, map, reverse, get_or, Option, None, not, ◌/◌, ◌%◌, sym, ap, subst, ◌∙◌, arith}
+use Rattle.std.proofs.Common.{length, map, reverse, get_or, Option, None, not, ◌/◌, ◌%◌, sym, ap}
+use Rattle.std.proofs.Common.{subst, ◌∙◌, arith}
 use Rattle.std.specs.Prelude.{slice_index_or, ◌==◌}
 use Rattle.std.proofs.lemmas.List.{get_or-map, get_or_past, length-map}
 use Rattle.cpa_ints.specs.declared.integers.IntType.TheVariants as ty

@@ -52,8 +52,8 @@ bits_are_read = record {
 
 -- ---- conditions
 
--- A literal has its own truth, two conditions together have theirs; what was made before stays as it
--- is; and no variable is named but those of the literals that were asked for.
+-- A literal has its own truth, two conditions together have theirs; what was made before stays as
+-- it is; and no variable is named but those of the literals that were asked for.
 pub record ConditionsMean : Type 0 where
   pub literal : (nodes : List Node) (l : ℕ) → IsScoped nodes
       → IsMade nodes (literal_made nodes l) (λ values. value_of_literal values l)

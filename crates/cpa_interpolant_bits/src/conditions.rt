@@ -139,9 +139,9 @@ impl Conditions {
         either(&mut self.table, left, right)
     }
 
-    /// The expression of a condition over the bits that the variables are, or None where it has more
-    /// than `MAX_SIZE` nodes or is higher than `MAX_HEIGHT`. Its size is found first, in one pass
-    /// over the nodes, so that no large expression is made.
+    /// The expression of a condition over the bits that the variables are, or None where it has
+    /// more than `MAX_SIZE` nodes or is higher than `MAX_HEIGHT`. Its size is found first, in one
+    /// pass over the nodes, so that no large expression is made.
     pub fn expression(
         &self,
         alloc: Global,

@@ -1,5 +1,5 @@
-//! Laws of bits and conditions, stated in specs/Laws. Each function does nothing: its contract is the law.
-//! Proved in specs/lemmas.
+//! Laws of bits and conditions, stated in specs/Laws. Each function does nothing: its contract is
+//! the law. Proved in specs/lemmas.
 
 ghost use Rattle.cpa_interpolant_bits.specs.Laws.{BitsAreRead, ConditionsMean, ExpressionsAsk};
 

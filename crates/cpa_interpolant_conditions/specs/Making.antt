@@ -1,6 +1,6 @@
--- The conditions of partial interpolants, one after the other (McMillan, CAV 2003): of a clause of A
--- that one of its literals on shared variables is true, of a clause of B that it is true, of a line
--- what the joints of its chain make of those before. Chains nest to the left.
+-- The conditions of partial interpolants, one after the other (McMillan, CAV 2003): of a clause of
+-- A that one of its literals on shared variables is true, of a clause of B that it is true, of a
+-- line what the joints of its chain make of those before. Chains nest to the left.
 use Rattle.std.specs.Prelude.{ℕ, ◌-◌, true, false, List, [], ◌∷◌, ◌++◌, length, slice_index_or}
 use Rattle.std.specs.Prelude.{if◌then◌else◌}
 use Rattle.cpa_chains.specs.declared.partial.Joint.{Joint}

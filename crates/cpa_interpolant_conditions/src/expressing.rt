@@ -17,9 +17,9 @@ use cpa_ints::Boxed;
 use std::alloc::{AllocError, Global};
 
 /// The expression of the last partial interpolant of the lines of a refutation, over the bits that
-/// the variables are; None where it has more than 2,000 nodes or is higher than 300. `sides` says of
-/// each clause of the formula whether it is one of A. It takes time linear in the formula and the
-/// lines, and memory besides for the nodes that they share.
+/// the variables are; None where it has more than 2,000 nodes or is higher than 300. `sides` says
+/// of each clause of the formula whether it is one of A. It takes time linear in the formula and
+/// the lines, and memory besides for the nodes that they share.
 pub fn interpolant(
     alloc: Global,
     cnf: &Cnf,

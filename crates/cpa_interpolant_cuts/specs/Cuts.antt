@@ -1,6 +1,6 @@
 -- A cut of a path (interpolants along a path: McMillan, CAV 2006): the part before it says that an
--- expression is nonzero and that one edge is taken then, the part behind it that the other edges are
--- taken; their formulas are joined on the bits of the cells.
+-- expression is nonzero and that one edge is taken then, the part behind it that the other edges
+-- are taken; their formulas are joined on the bits of the cells.
 use Rattle.std.specs.Prelude.{ℕ, ◌+◌, ◌^◌, ◌-◌, min, Bool, true, false, List, [], ◌∷◌, map}
 use Rattle.std.specs.Prelude.{Option}
 use Rattle.cpa_cnf.specs.declared.formula.Cnf.{Cnf}

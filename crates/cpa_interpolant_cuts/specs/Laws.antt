@@ -91,8 +91,8 @@ pub record CutsAreRuns : Type 0 where
       → (truths : List Bool) × IsTruth
       (formula_of cfa.cells (before_cut cfa.cells e a) (behind_cut cfa.cells acts)) truths
 
--- The two parts of a cut may be joined. Each clause of their formula has a side, and each literal is
--- one of its variables, so that the formula may be searched.
+-- The two parts of a cut may be joined. Each clause of their formula has a side, and each literal
+-- is one of its variables, so that the formula may be searched.
 pub record CutsAreAsked : Type 0 where
   pub parts : (cfa : Cfa) (e : Expr) (a : Act) (acts : List Act) → IsCut cfa e a acts
       → AreParts cfa.cells (before_cut cfa.cells e a) (behind_cut cfa.cells acts)

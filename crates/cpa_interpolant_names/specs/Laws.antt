@@ -1,5 +1,6 @@
 -- The law of names and bits. Below the statement, its lemma.
-use Rattle.std.specs.Prelude.{◌≡◌, ℕ, ◌+◌, ◌<◌, true, List, Option, Some, None, slice_get, replicate}
+use Rattle.std.specs.Prelude.{◌≡◌, ℕ, ◌+◌, ◌<◌, true, List, Option, Some, None, slice_get}
+use Rattle.std.specs.Prelude.{replicate}
 use Rattle.std.specs.Prelude.{if◌then◌else◌}
 use Rattle.std.proofs.Common.{refl, sym, ap, ◌∙◌, subst, arith, Bool, false, inl, inr}
 use Rattle.std.proofs.lemmas.List.{length-replicate}
@@ -74,7 +75,8 @@ names_are_bits = record {
       (λ k n i at h e.
       let same = apart n m i j (k, at) one h below (sym e) in
       ap (λ u. u.before + i) same.0 ∙ ap (λ u. m.before + u) same.1)
-      (let long = length-replicate {A = Option ℕ} vars None in omega (arith, inside, long)) one.0 m j one.1
+      (let long = length-replicate {A = Option ℕ} vars None in omega (arith, inside, long)) one.0 m
+      j one.1
       below refl);
   bit = λ vars ms v bit is.
       elim (from_all Bit starts_before bit_at shared_bits ms (replicate vars None) v bit
@@ -90,6 +92,7 @@ names_are_bits = record {
       (λ k n i at h e.
       let same = apart n m i j (k, at) one (shared_count n i h).1 below (sym e) in
       ap (λ u. bit_at u i) same.0 ∙ ap (λ u. bit_at m u) same.1)
-      (let long = length-replicate {A = Option Bit} vars None in omega (arith, inside, long)) one.0 m j one.1
+      (let long = length-replicate {A = Option Bit} vars None in omega (arith, inside, long)) one.0
+      m j one.1
       (counted_shared m j shared below) refl);
 }

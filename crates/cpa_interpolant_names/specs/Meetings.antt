@@ -1,5 +1,6 @@
 -- Where the cells of a program stand in the formulas of the two parts of a path at a cut, and the
--- variables on which these meet (this project's own; interpolants along a path: McMillan, CAV 2006).
+-- variables on which these meet (this project's own; interpolants along a path: McMillan, CAV
+-- 2006).
 use Rattle.std.specs.Prelude.{ℕ, zero, suc, ◌+◌, ◌<◌, ◌≤◌, ◌^◌, ◌&&◌, if◌then◌else◌, List, []}
 use Rattle.std.specs.Prelude.{◌∷◌, Option, None, Some, replicate, slice_set, slice_index_or}
 use Rattle.cpa_ints.specs.declared.integers.IntType.{IntType}

@@ -4,7 +4,8 @@
 ghost use Rattle.std.specs.Prelude.{◌≡◌, ◌<◌, ◌≤◌, ◌+◌, ◌^◌, length, IfOk};
 ghost use Rattle.std.specs.List.{AllByRecursion};
 ghost use Rattle.cpa_ints.specs.Integers.{width};
-ghost use Rattle.cpa_interpolant_names.specs.Meetings.{named, noted, shared_bits, names_of, bits_of};
+ghost use Rattle.cpa_interpolant_names.specs.Meetings.{named, noted, shared_bits, names_of};
+ghost use Rattle.cpa_interpolant_names.specs.Meetings.{bits_of};
 ghost use Rattle.cpa_interpolant_names.specs.Meetings.{Fits, StandsBelow};
 
 use crate::gathering::Meeting;

@@ -13,9 +13,9 @@ use Rattle.cpa_form_rules.specs.Laws.{IsAddedOf}
 use Rattle.cpa_interpolant_places.specs.Touching.{IsGone, SomeAddedReads, SomeAddedTouches}
 use Rattle.cpa_interpolant_places.specs.lemmas.Wholes.{placed}
 
--- The places of the program's cells in a form from any store on: each has the type of its cell and is
--- the place of no other one; it is the first one, or the cell was read or written. What is wanted
--- reads, of the cells at the beginning, only such as were read.
+-- The places of the program's cells in a form from any store on: each has the type of its cell and
+-- is the place of no other one; it is the first one, or the cell was read or written. What is
+-- wanted reads, of the cells at the beginning, only such as were read.
 pub record ArePlaces (cells : List Cell) (added : List Added) (form : Form) : Type 0 where
   pub ty : (cell : ℕ) (t : IntType) → slice_get (types_of cells) cell ≡ Some t
       → slice_get form.query.cells (place_now form cell) ≡ Some t

@@ -1,6 +1,7 @@
 -- Interpolants along a path (McMillan, Lazy Abstraction with Interpolants, CAV 2006): an expression
 -- before each edge and one behind the last.
-use Rattle.std.specs.Prelude.{◌≡◌, ℕ, ℤ, pos, ⊤, ◌⊎◌, true, IsTrue, IsSome, List, [], ◌∷◌, ◌+◌, length}
+use Rattle.std.specs.Prelude.{◌≡◌, ℕ, ℤ, pos, ⊤, ◌⊎◌, true, IsTrue, IsSome, List, [], ◌∷◌, ◌+◌}
+use Rattle.std.specs.Prelude.{length}
 use Rattle.cpa_ints.specs.declared.integers.IntType.TheVariants as ty
 use Rattle.cpa_expr.specs.declared.tree.Expr.{Expr}
 use Rattle.cpa_expr.specs.declared.tree.Expr.TheVariants.{Const}
@@ -70,8 +71,8 @@ pub record AreInterpolants (cells : List Cell) (acts : List Act) (exprs : List E
   pub are : exprs ≡ one ∷ behind
   pub next : AreNext cells acts one behind
 
--- Interpolants of the whole path: one more than it has edges, the last of them 0. There is no run of
--- stores along it.
+-- Interpolants of the whole path: one more than it has edges, the last of them 0. There is no run
+-- of stores along it.
 pub record ArePathInterpolants (cells : List Cell) (acts : List Act) (exprs : List Expr) : Type 0
   where
     pub interpolants : AreInterpolants cells acts exprs

@@ -22,7 +22,7 @@ use Rattle.cpa_model.specs.Facts.{FactHolds, Holds, LiesIn, IsFact}
 use Rattle.cpa_iface.specs.declared.merging.MergeRule.{MergeRule}
 use Rattle.cpa_iface.specs.declared.merging.MergeRule.TheVariants.{Sep, Join, Widen}
 use Rattle.cpa_iface.specs.declared.precisions.Precision.{Precision}
-use Rattle.cpa_iface.specs.CommonLaws.{own-laws}
+use Rattle.cpa_iface.specs.lemmas.CommonLaws.{own-laws}
 use Rattle.cpa_iface.specs.Laws.{InitialLaws, TransferLaws, StrengthenLaws, MergeLaws, SomeHolds}
 use Rattle.cpa_iface.specs.Laws.{CoversEdge, IsBounded}
 use Rattle.cpa_iface.specs.Meanings.{IsShaped, AreShaped}

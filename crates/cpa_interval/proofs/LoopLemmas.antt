@@ -34,7 +34,8 @@ drop_end [] (suc i) h = refl
 drop_end (x ∷ xs) zero h = absurd (omega (arith, h))
 drop_end (x ∷ xs) (suc i) h = drop_end xs i (omega (arith, h))
 
-pub item_at : {X : Type 0} (xs : List X) (i : ℕ) → i < length xs → (x : X) × (slice_get xs i ≡ Some x)
+pub item_at : {X : Type 0} (xs : List X) (i : ℕ) → i < length xs → (x : X) ×
+    (slice_get xs i ≡ Some x)
 item_at [] i inside = absurd (omega (arith, inside))
 item_at (x ∷ xs) zero inside = (x, refl)
 item_at (x ∷ xs) (suc i) inside = item_at xs i (omega (arith, inside))

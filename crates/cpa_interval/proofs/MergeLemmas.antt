@@ -25,7 +25,7 @@ use Rattle.cpa_interval_bounds.specs.lemmas.Ranges.{hull-is}
 use Rattle.cpa_interval_bounds.specs.lemmas.Reads.{cell_is}
 use Rattle.cpa_interval.specs.Widening.{widened}
 use Rattle.cpa_interval.specs.Steps.{distinct, one_where}
-use Rattle.cpa_interval.specs.WideningLaws.{widening_ends}
+use Rattle.cpa_interval.specs.lemmas.WideningLaws.{widening_ends}
 use Rattle.cpa_interval.specs.Cells.{with_facts, cell_bounds, is_whole, facts_from}
 use Rattle.cpa_interval_acts.specs.Cells.{ranges_of}
 use Rattle.cpa_interval.specs.Covers.{says, has_covered}

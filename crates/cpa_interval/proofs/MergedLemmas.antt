@@ -1,6 +1,7 @@
 -- That the merged bounds of all cells are those of the cells of which bounds are known: each of the
 -- others keeps all numbers of its type.
-use Rattle.std.proofs.Common.{◌≡◌, ◌≢◌, ℕ, ◌<◌, ◌≤◌, ◌==◌, ℤ, ◌||◌, Bool, true, false, List, [], ◌∷◌}
+use Rattle.std.proofs.Common.{◌≡◌, ◌≢◌, ℕ, ◌<◌, ◌≤◌, ◌==◌, ℤ, ◌||◌, Bool, true, false, List, []}
+use Rattle.std.proofs.Common.{◌∷◌}
 use Rattle.std.proofs.Common.{◌+◌, refl, sym, ap, ◌∙◌, subst, arith, cond, length, drop, get_or}
 use Rattle.std.specs.Prelude.{zero, suc, int_lt, Option, None, Some, slice_get, slice_set}
 use Rattle.std.specs.Int.{int_max}
@@ -33,7 +34,8 @@ either : (b : Bool) (x : ℤ) → cond b x x ≡ x
 either true x = refl
 either false x = refl
 
-stays : (rule : MergeRule) (ns : List ℤ) (t : IntType) (b : Bounds) → merged_bounds rule ns t b b ≡ b
+stays : (rule : MergeRule) (ns : List ℤ) (t : IntType) (b : Bounds) → merged_bounds rule ns
+    t b b ≡ b
 stays Sep ns t b = refl
 stays Join ns t b =
     ap (λ x. bounds x (int_max b.hi b.hi)) (either (int_lt b.lo b.lo) b.lo)
@@ -222,7 +224,8 @@ pub merged_both : (rule : MergeRule) (ns : List ℤ) (cells first_cells own : Li
     → last ≡ merged_along rule ns cells olds news
 merged_both rule ns cells first_cells own os ks olds news first middle last of_olds of_news same
     owns is one two =
-    let to_cells : merged_along rule ns first_cells olds news ≡ merged_along rule ns cells olds news =
+    let to_cells : merged_along rule ns first_cells olds news ≡ merged_along rule ns cells
+    olds news =
     ap (λ l. merged_along rule ns l olds news) same in
     let to_first : merged_along rule ns own olds news ≡ merged_along rule ns first_cells olds news =
     ap (λ l. merged_along rule ns l olds news) owns in

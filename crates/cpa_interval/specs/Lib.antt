@@ -10,4 +10,3 @@ pub mod lemmas
 pub mod Numbers
 pub mod Widening
 pub mod Steps
-pub mod WideningLaws

@@ -2,3 +2,4 @@
 -- cites stands here.
 pub mod CoverLaws
 pub mod Falls
+pub mod WideningLaws

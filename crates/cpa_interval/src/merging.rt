@@ -1,5 +1,5 @@
-//! What two elements are merged to, by `specs/Merging.antt`: it looks at the cells alone of which one
-//! of them says something. Proved with `proofs/MergedLemmas.antt`.
+//! What two elements are merged to, by `specs/Merging.antt`: it looks at the cells alone of which
+//! one of them says something. Proved with `proofs/MergedLemmas.antt`.
 
 ghost use Rattle.std.specs.Prelude.{◌≡◌, ◌<◌, ◌^◌, ◌||◌, ℕ, Bool, length, slice_get, IfOk, OnOk};
 ghost use Rattle.cpa_model.specs.Automata.{IsAutomaton};
@@ -75,8 +75,8 @@ fn merged_all(
     Ok(elem)
 }
 
-/// The merged bounds of each cell. Those of which the elements say nothing keep all numbers of their
-/// types.
+/// The merged bounds of each cell. Those of which the elements say nothing keep all numbers of
+/// their types.
 fn merged_along<'a>(
     alloc: Global,
     rule: MergeRule,

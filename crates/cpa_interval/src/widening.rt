@@ -9,8 +9,8 @@ use cpa_interval_bounds::Bounds;
 use cpa_ints::IntType;
 
 /// The bounds that take the place of old ones where new ones have come: an end that has to move
-/// goes on to the next of these numbers, or to the end of the type where there is none. No number is
-/// looked at where both ends stand.
+/// goes on to the next of these numbers, or to the end of the type where there is none. No number
+/// is looked at where both ends stand.
 pub fn widened(numbers: &[i128], ty: IntType, old: Bounds, new: Bounds) -> Bounds
     ensures { result ≡ widened numbers.now ty old new }
 {

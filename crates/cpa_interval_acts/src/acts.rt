@@ -5,7 +5,8 @@ ghost use Rattle.std.specs.Prelude.{◌≡◌, ◌+◌, ◌<◌, ◌^◌, None, 
 ghost use Rattle.std.specs.Prelude.{IfOk, OnOk, option_map};
 ghost use Rattle.cpa_interval_bounds.specs.Bounds.{range_of};
 ghost use Rattle.cpa_interval_bounds.specs.ExpressionBounds.{bounds_of};
-ghost use Rattle.cpa_interval_acts.specs.Acts.{joined_at, joined_from, stored, placed, written, indexed};
+ghost use Rattle.cpa_interval_acts.specs.Acts.{joined_at, joined_from, stored, placed, written};
+ghost use Rattle.cpa_interval_acts.specs.Acts.{indexed};
 ghost use Rattle.cpa_interval_acts.specs.Acts.{assigned, freed, after_act};
 
 use crate::cuts::{assume, cut_side};

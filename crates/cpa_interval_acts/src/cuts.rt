@@ -5,7 +5,8 @@ ghost use Rattle.std.specs.Prelude.{◌≡◌, None, Some, if◌then◌else◌, 
 ghost use Rattle.cpa_expr.specs.declared.tree.Expr.{out-Expr};
 ghost use Rattle.cpa_interval_bounds.specs.ExpressionBounds.{bounds_of};
 ghost use Rattle.cpa_interval_acts.specs.Cuts.{cut_at, cut_cell, fits, fitting, side_of, cut_side};
-ghost use Rattle.cpa_interval_acts.specs.Cuts.{cut_both, where_holds, compared_node, decided, assumed};
+ghost use Rattle.cpa_interval_acts.specs.Cuts.{cut_both, where_holds, compared_node, decided};
+ghost use Rattle.cpa_interval_acts.specs.Cuts.{assumed};
 
 use cpa_expr::{CmpOp, Expr};
 use cpa_folds::{Scalar, scalar_of};

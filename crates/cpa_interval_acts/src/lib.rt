@@ -1,5 +1,5 @@
-//! What tests and acts make of the bounds of cells. The definitions stand in `specs/`, what they mean
-//! in `laws`.
+//! What tests and acts make of the bounds of cells. The definitions stand in `specs/`, what they
+//! mean in `laws`.
 #![tactic(auto)]
 
 mod acts;

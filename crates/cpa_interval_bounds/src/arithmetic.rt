@@ -1,6 +1,6 @@
 //! The bounds of what operators give for numbers of two bounds, by `specs/Arithmetic.antt`. Ends
-//! stop where 128 bits end (`saturated`), so that each function takes any bounds; no type sees it, by
-//! `specs/lemmas/Saturated.antt`.
+//! stop where 128 bits end (`saturated`), so that each function takes any bounds; no type sees it,
+//! by `specs/lemmas/Saturated.antt`.
 
 ghost use Rattle.std.specs.Prelude.{◌≡◌, ◌-◌, ◌^◌, ◌<◌, pos, ◌*ℤ◌, int_div};
 ghost use Rattle.std.specs.Int.{w128, saturate_signed};

@@ -3,8 +3,8 @@
 ghost use Rattle.std.specs.Prelude.{◌≡◌, ◌↔◌, IsTrue};
 ghost use Rattle.cpa_ints.specs.Integers.{width, is_signed, least, greatest, IsInRange};
 
-/// The integer types of C: `char` is `I8`, `short` `I16`, `int` `I32`, `long long` `I64`, and `long`
-/// is what the data model says.
+/// The integer types of C: `char` is `I8`, `short` `I16`, `int` `I32`, `long long` `I64`, and
+/// `long` is what the data model says.
 #[derive(Clone, Copy, Debug, PartialEq, Eq)]
 pub enum IntType {
     Bool,

@@ -11,6 +11,5 @@ pub mod Automata
 pub mod Acts
 pub mod Covers
 pub mod Standing
-pub mod StandingLaws
 pub mod Spelling
 pub mod lemmas

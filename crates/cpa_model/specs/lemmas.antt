@@ -8,3 +8,4 @@ pub mod Stacks
 pub mod Tiling
 pub mod Trees
 pub mod EdgesSound
+pub mod StandingLaws

@@ -1,5 +1,5 @@
 //! Whether a fact stands in an element, to the letter, by `Standing`. That it then does, and that
-//! each state of the element is one of the other, is shown in `specs/StandingLaws.antt`.
+//! each state of the element is one of the other, is shown in `specs/lemmas/StandingLaws.antt`.
 ghost use Rattle.std.specs.Prelude.{◌≡◌, ◌↔◌, IsTrue};
 ghost use Rattle.std.specs.List.{list_any};
 ghost use Rattle.cpa_facts.specs.declared.fact.Fact.{Fact};

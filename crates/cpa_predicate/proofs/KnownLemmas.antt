@@ -61,7 +61,8 @@ told_truths (At point ∷ facts) = told_truths facts
 told_truths (Stack sites ∷ facts) = told_truths facts
 told_truths (Equals cell value ∷ facts) = told_truths facts
 told_truths (Within cell lo hi ∷ facts) = told_truths facts
-told_truths (Truth expr holds ∷ facts) = ap (λ (fs : List Fact). Truth expr holds ∷ fs) (told_truths facts)
+told_truths (Truth expr holds ∷ facts) = ap (λ (fs : List Fact). Truth expr holds ∷ fs)
+    (told_truths facts)
 
 -- elements that say the same have the same facts on truths
 same_truths : (e f : Elem) → told e.facts ≡ told f.facts → truths e ≡ truths f
@@ -81,7 +82,8 @@ step_like cfa other e f g h types says same old new s = record {
       (subst (λ (one : Act). StepsStore other.cells one old new) same s.step);
 }
 
-module _ (cfa other : Cfa) (e f : Elem) (g h : Edge) (types : types_of other.cells ≡ types_of cfa.cells)
+module _ (cfa other : Cfa) (e f : Elem) (g h : Edge)
+    (types : types_of other.cells ≡ types_of cfa.cells)
     (says : told f.facts ≡ told e.facts) (same : h.act ≡ g.act) where
   truth_like : (p : Expr) (truth : Option Bool) → IsTruthAfter NoneOpen cfa e g p truth
       → IsTruthAfter NoneOpen other f h p truth

@@ -13,7 +13,7 @@ use Rattle.cpa_model.specs.Automata.{IsAutomaton}
 use Rattle.cpa_model.specs.Expressions.{IsExpr}
 use Rattle.cpa_model.specs.declared.program.Cell.{Cell}
 use Rattle.cpa_model.specs.Facts.{IsElem, IsFact}
-use Rattle.cpa_iface.specs.CommonLaws.{kept_all}
+use Rattle.cpa_iface.specs.lemmas.CommonLaws.{kept_all}
 use Rattle.cpa_form_rules.specs.Forms.{Form}
 use Rattle.cpa_form_rules.specs.Laws.{FormsAreRuns}
 use Rattle.cpa_form_rules.specs.Runs.{StoreHolds, StoreFactHolds}

@@ -15,7 +15,7 @@ use Rattle.cpa_model.specs.Automata.{IsAutomaton}
 use Rattle.cpa_model.specs.Expressions.{IsExpr, types_of}
 use Rattle.cpa_model.specs.Facts.{IsFact, IsElem}
 use Rattle.cpa_model.specs.Steps.{StepsStore}
-use Rattle.cpa_iface.specs.CommonLaws.{kept_all}
+use Rattle.cpa_iface.specs.lemmas.CommonLaws.{kept_all}
 use Rattle.cpa_query.specs.Queries.{IsQuery}
 use Rattle.cpa_form_rules.specs.Forms.{first_store, last_store, inputs_at}
 use Rattle.cpa_form_rules.specs.Laws.{FormsAreRuns, IsFormOf}

@@ -1,5 +1,6 @@
 -- Stores to which an edge leads answer questions about it.
-use Rattle.std.proofs.Common.{◌≡◌, ℕ, ℤ, Bool, List, [], ◌∷◌, subst, inl, inr, arith, length, get_or}
+use Rattle.std.proofs.Common.{◌≡◌, ℕ, ℤ, Bool, List, [], ◌∷◌, subst, inl, inr, arith, length}
+use Rattle.std.proofs.Common.{get_or}
 use Rattle.std.specs.Prelude.{◌<◌, ◌≤◌, zero, suc, IsTrue, true, false}
 use Rattle.std.specs.List.{AllByRecursion}
 use Rattle.cpa_expr.specs.declared.tree.Expr.{Expr}

@@ -2,7 +2,7 @@
 use Rattle.std.specs.Prelude.{[], length, None, Some, codes}
 use Rattle.cpa_model.specs.declared.facts.Elem.{Elem}
 use Rattle.cpa_model.specs.Standing.{has_facts}
-use Rattle.cpa_model.specs.StandingLaws.{has_facts-within, has_facts-same}
+use Rattle.cpa_model.specs.lemmas.StandingLaws.{has_facts-within, has_facts-same}
 use Rattle.cpa_iface.specs.declared.analysis.Part.TheVariants as part
 use Rattle.cpa_iface.specs.declared.analysis.Settings.{Settings}
 use Rattle.cpa_iface.specs.Common.{fact_count}

@@ -54,7 +54,8 @@ IsOn preds (lacks p holds) = Contains preds p
 abbrev pub OutlastsSearch : ℕ → Query → Type 0
 OutlastsSearch learnt q = (lines : List Line) × IsSpent (formula q) learnt lines
 
--- the budgets do not do for the form's query: it weighs more than they allow, or outlasts the search
+-- the budgets do not do for the form's query: it weighs more than they allow, or outlasts the
+-- search
 abbrev pub IsBeyond : Budgets → Form → Type 0
 IsBeyond b form = (b.gates < form.weight) ⊎ OutlastsSearch b.learnt form.query
 

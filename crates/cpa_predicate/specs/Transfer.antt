@@ -26,7 +26,8 @@ elems_of preds None = []
 elems_of preds (Some truths) = (record { facts = facts_of preds truths }) ∷ []
 
 module _ (Open : Question → Type 0) (cfa : Cfa) (e : Elem) (g : Edge) where
-  -- A truth that the predicate has wherever the edge leads is known, unless the question stays open.
+  -- A truth that the predicate has wherever the edge leads is known, unless the question stays
+  -- open.
   abbrev pub IsTruthAfter : Expr → Option Bool → Type 0
   IsTruthAfter p (Some holds) = HasAfter cfa e g p holds
   IsTruthAfter p None = (holds : Bool) → HasAfter cfa e g p holds → Open (lacks p holds)

@@ -1,5 +1,5 @@
--- Lemmas on the definitions, which proofs of this crate and of crates above cite. No definition that
--- a contract cites stands here.
+-- Lemmas on the definitions, which proofs of this crate and of crates above cite. No definition
+-- that a contract cites stands here.
 pub mod Missing
 pub mod Spending
 pub mod Wider

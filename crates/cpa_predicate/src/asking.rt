@@ -39,10 +39,10 @@ pub struct Budgets {
     pub spent: u64,
 }
 
-/// What asks: the budgets, stores from which edges led on, the first of models that were found, what
-/// was found out of queries, and the steps whose outcome is known. Contracts see the budgets alone,
-/// since nothing is promised of the stores: whoever uses one looks at it anew. A finding, and an
-/// outcome, is right by itself.
+/// What asks: the budgets, stores from which edges led on, the first of models that were found,
+/// what was found out of queries, and the steps whose outcome is known. Contracts see the budgets
+/// alone, since nothing is promised of the stores: whoever uses one looks at it anew. A finding,
+/// and an outcome, is right by itself.
 #[derive(Drop)]
 pub(crate) struct Asker {
     pub(crate) budgets: Budgets,

@@ -1,5 +1,5 @@
-//! Numbers by which expressions, and what is made of them, are found again. Others may have the same
-//! ones, so whatever is found is compared.
+//! Numbers by which expressions, and what is made of them, are found again. Others may have the
+//! same ones, so whatever is found is compared.
 
 use cpa_expr::{Expr, Parts, bin_word, cmp_word, parts_of, un_word};
 use cpa_model::{Act, Elem, Fact};

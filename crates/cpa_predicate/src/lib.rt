@@ -1,5 +1,5 @@
-//! The analysis of Cartesian predicates: an element gives the truths of some expressions, each found
-//! by itself by questions to the solver (`specs/Transfer.antt`). That it keeps the laws of an
+//! The analysis of Cartesian predicates: an element gives the truths of some expressions, each
+//! found by itself by questions to the solver (`specs/Transfer.antt`). That it keeps the laws of an
 //! analysis is shown in `proofs/`.
 #![tactic(auto)]
 

@@ -39,8 +39,8 @@ fn push_missing(alloc: Global, es: &mut Seq<Expr>, more: &[Expr]) -> Result<(), 
     Ok(())
 }
 
-/// The precision with these expressions as predicates, too: each that it lacks comes behind those that
-/// are there, once.
+/// The precision with these expressions as predicates, too: each that it lacks comes behind those
+/// that are there, once.
 pub fn with_preds(
     alloc: Global,
     precision: &Precision,

@@ -25,8 +25,8 @@ use cpa_form_rules::{failing_is_not_holding, forms_are_runs, steps_take_inputs};
 use cpa_model::{Cfa, Edge, Elem, Expr, Fact, Seq, Store, edges_are_sound};
 use std::alloc::{AllocError, Global};
 
-/// The truth that the predicate has wherever the edge leads, where it follows from the truths of the
-/// element that have to do with it.
+/// The truth that the predicate has wherever the edge leads, where it follows from the truths of
+/// the element that have to do with it.
 fn near_truth(
     alloc: Global,
     asker: &mut Asker,
@@ -66,8 +66,8 @@ struct Refuted {
     is_false: bool,
 }
 
-/// Whether this truth of the predicate is refuted, if need be by a store that comes of those that are
-/// kept. It is kept, too.
+/// Whether this truth of the predicate is refuted, if need be by a store that comes of those that
+/// are kept. It is kept, too.
 fn keep_refuting(
     alloc: Global,
     asker: &mut Asker,
@@ -94,7 +94,8 @@ fn keep_refuting(
     }
 }
 
-/// Which truths of the predicate are refuted, if need be by stores that come of those that are kept.
+/// Which truths of the predicate are refuted, if need be by stores that come of those that are
+/// kept.
 fn look_further(
     alloc: Global,
     asker: &mut Asker,
@@ -432,7 +433,8 @@ fn elems_of(alloc: Global, preds: &[Expr], outcome: &Outcome) -> Result<Vec<Elem
     Ok(elems)
 }
 
-/// The element of the truths that the predicates have wherever the edge leads, if it leads anywhere.
+/// The element of the truths that the predicates have wherever the edge leads, if it leads
+/// anywhere.
 pub(crate) fn successors(
     alloc: Global,
     asker: &mut Asker,

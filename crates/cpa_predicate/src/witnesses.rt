@@ -1,7 +1,8 @@
 //! Stores from which an edge leads on. Where one of those that are kept is one, no question is
 //! needed for it (`specs/Steps.antt`).
 
-ghost use Rattle.std.specs.Prelude.{◌≡◌, ◌↔◌, ℤ, IsTrue, false, List, Some, IfOk, IfSome, IsSomeAnd};
+ghost use Rattle.std.specs.Prelude.{◌≡◌, ◌↔◌, ℤ, IsTrue, false, List, Some, IfOk, IfSome};
+ghost use Rattle.std.specs.Prelude.{IsSomeAnd};
 ghost use Rattle.std.specs.Prelude.{slice_get, pos};
 ghost use Rattle.std.specs.List.{AllByRecursion};
 ghost use Rattle.cpa_ints.specs.Integers.{IsInRange};
@@ -181,9 +182,9 @@ fn mixed(alloc: Global, store: &Store, other: &Store, marks: &[bool]) -> Result<
     })
 }
 
-/// A store on which the predicates of the element have their truths, and from which the edge leads to
-/// one on which the expression has not this truth, if one comes of the stores: it has the values of
-/// the newest one that serves in the marked cells, and else those of one on which the predicates
+/// A store on which the predicates of the element have their truths, and from which the edge leads
+/// to one on which the expression has not this truth, if one comes of the stores: it has the values
+/// of the newest one that serves in the marked cells, and else those of one on which the predicates
 /// have their truths.
 pub(crate) fn mixed_lacking(
     alloc: Global,

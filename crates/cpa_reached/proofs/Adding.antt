@@ -12,7 +12,7 @@ use Rattle.cpa_reached.specs.declared.links.Link.{Link}
 use Rattle.cpa_reached.specs.Members.{IsIn}
 use Rattle.cpa_reached.specs.Entries.{numbers, IsLive}
 use Rattle.cpa_reached.specs.Calls.{at_number, gains, fresh, added_entries}
-use Rattle.cpa_reached.specs.MemberLaws.{or_left, in_all, live_in}
+use Rattle.cpa_reached.specs.lemmas.MemberLaws.{or_left, in_all, live_in}
 use Rattle.cpa_reached.specs.Kept.{IsTied, IsKept, link}
 use Rattle.cpa_reached.specs.Kept.{depth_of, is_named_by}
 use Rattle.cpa_reached.proofs.Tying.{named_back}

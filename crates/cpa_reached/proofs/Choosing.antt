@@ -18,8 +18,9 @@ use Rattle.cpa_iface.specs.declared.entries.Entry.{Entry}
 use Rattle.cpa_model.specs.Ascending.{AreAscending}
 use Rattle.cpa_reached.specs.Members.{IsIn, is_in}
 use Rattle.cpa_reached.specs.Entries.{numbers}
-use Rattle.cpa_reached.specs.MemberLaws.{or_left, or_right, in_all, entry_in, in_live, in_filter}
-use Rattle.cpa_reached.specs.MemberLaws.{ascend_kept, by_number}
+use Rattle.cpa_reached.specs.lemmas.MemberLaws.{or_left, or_right, in_all, entry_in, in_live}
+use Rattle.cpa_reached.specs.lemmas.MemberLaws.{in_filter}
+use Rattle.cpa_reached.specs.lemmas.MemberLaws.{ascend_kept, by_number}
 
 -- ---- members of lists that are put together
 
@@ -140,7 +141,8 @@ pairs_ascend [] pairs = tt
 pairs_ascend (n ∷ ns) pairs = (
   all_above n ns (λ k less. pairs zero (suc k) 0 (omega arith) (omega (arith, less))),
   pairs_ascend ns
-      (λ i j d below inside. pairs (suc i) (suc j) d (omega (arith, below)) (omega (arith, inside))),
+      (λ i j d below inside. pairs (suc i) (suc j) d (omega (arith, below))
+      (omega (arith, inside))),
 )
 
 pub ascending_dedup : (ns : List ℕ) → IsSorted nat_cmp ns → AreAscending (dedup eqb ns)
@@ -185,7 +187,8 @@ chosen_at t xs p n e up at is =
     let r = at_place xs p n e at in
     let there : IsIn e xs = subst (λ (y : Entry). IsIn y xs) (sym is) r.0 in
     let number : e.number ≡ n = ap (λ (y : Entry). y.number) is ∙ r.1 in
-    sym (subst (λ (k : ℕ). is_in k (numbers (filter t xs)) ≡ t e) number (by_number t xs up e there))
+    sym (subst (λ (k : ℕ). is_in k (numbers (filter t xs)) ≡ t e) number
+    (by_number t xs up e there))
 
 pub chosen_none : (t : Entry → Bool) (xs : List Entry) (n : ℕ) → is_in n (numbers xs) ≡ false
     → is_in n (numbers (filter t xs)) ≡ false

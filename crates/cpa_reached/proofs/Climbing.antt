@@ -8,7 +8,7 @@ use Rattle.cpa_reached.specs.Members.{IsIn, is_in}
 use Rattle.cpa_reached.specs.Entries.{numbers, IsLive}
 use Rattle.cpa_reached.specs.Paths.{LeadsBack}
 use Rattle.cpa_reached.specs.Removal.{IsBelow}
-use Rattle.cpa_reached.specs.MemberLaws.{in_live}
+use Rattle.cpa_reached.specs.lemmas.MemberLaws.{in_live}
 use Rattle.cpa_reached.specs.Kept.{IsTied, IsTree, HasParent, link_numbers, depth_of}
 use Rattle.cpa_reached.proofs.Tying.{named_there}
 

@@ -9,7 +9,7 @@ use Rattle.std.proofs.lemmas.Bool.{cases_Bool}
 use Rattle.cpa_model.specs.declared.facts.Elem.{Elem}
 use Rattle.cpa_reached_key.specs.declared.keys.Key.{Key}
 use Rattle.cpa_reached_key.specs.Rows.{same_row}
-use Rattle.cpa_reached_key.specs.RowLaws.{same_row-means}
+use Rattle.cpa_reached_key.specs.lemmas.RowLaws.{same_row-means}
 use Rattle.cpa_reached.specs.Indexes.{KeyRows, items_of, numbers_at}
 use Rattle.cpa_reached.specs.Tables.{but}
 

@@ -17,10 +17,11 @@ use Rattle.cpa_reached.specs.Calls.{at_number, rests, gains, with_precisions, fr
 use Rattle.cpa_reached.specs.Kept.{IsTied, IsKept, link_numbers, at_link, lists, link}
 use Rattle.cpa_reached.specs.Kept.{depth_of, is_named_by}
 use Rattle.cpa_reached.specs.Tables.{but}
-use Rattle.cpa_reached.specs.MemberLaws.{in_all, entry_in, live_in, in_live, above_absent}
-use Rattle.cpa_reached.specs.MemberLaws.{numbers_map, in_map, in_append, numbers_append, all_push}
+use Rattle.cpa_reached.specs.lemmas.MemberLaws.{in_all, entry_in, live_in, in_live, above_absent}
+use Rattle.cpa_reached.specs.lemmas.MemberLaws.{numbers_map, in_map, in_append, numbers_append}
+use Rattle.cpa_reached.specs.lemmas.MemberLaws.{all_push}
 use Rattle.cpa_model.specs.lemmas.Ascending.{ascending_push}
-use Rattle.cpa_reached.specs.MemberLaws.{all_weaker}
+use Rattle.cpa_reached.specs.lemmas.MemberLaws.{all_weaker}
 use Rattle.cpa_reached.proofs.Tying.{tied_along, tied_more, named_there, depth_lists, numbers_lists}
 use Rattle.cpa_reached.proofs.Tying.{named_lists, depth_front, depth_back, named_front}
 

@@ -17,7 +17,7 @@ use Rattle.cpa_reached.specs.Indexes.{KeyRows, numbers_at, IsIndex}
 use Rattle.cpa_reached.specs.Keyed.{keyed}
 use Rattle.cpa_reached.specs.Removal.{without}
 use Rattle.cpa_reached.specs.Tables.{but}
-use Rattle.cpa_reached.specs.MemberLaws.{numbers_map, one_entry, live_in}
+use Rattle.cpa_reached.specs.lemmas.MemberLaws.{numbers_map, one_entry, live_in}
 use Rattle.cpa_reached.proofs.Replacing.{only_one}
 
 -- the numbers under a key, one entry more in front

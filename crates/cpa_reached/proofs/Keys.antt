@@ -13,7 +13,7 @@ use Rattle.cpa_model.specs.Ascending.{AreAscending}
 use Rattle.cpa_reached.specs.Members.{IsIn, is_in}
 use Rattle.cpa_reached.specs.Calls.{at_number, gains}
 use Rattle.cpa_reached.specs.Entries.{numbers}
-use Rattle.cpa_reached.specs.MemberLaws.{in_all, entry_in}
+use Rattle.cpa_reached.specs.lemmas.MemberLaws.{in_all, entry_in}
 use Rattle.cpa_reached.specs.Kept.{at_key, link_numbers, depth_of}
 
 pub at_all : (P : ℕ → Type 0) (ns : List ℕ) (i n : ℕ) → AllByRecursion P ns

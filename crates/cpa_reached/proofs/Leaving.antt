@@ -13,7 +13,7 @@ use Rattle.cpa_reached.specs.Calls.{others}
 use Rattle.cpa_reached.specs.Indexes.{AreKeysOf, IsIndex, KeyRows, numbers_at}
 use Rattle.cpa_reached.specs.Keyed.{keyed}
 use Rattle.cpa_reached.specs.Members.{IsIn, is_in}
-use Rattle.cpa_reached.specs.MemberLaws.{in_filter}
+use Rattle.cpa_reached.specs.lemmas.MemberLaws.{in_filter}
 use Rattle.cpa_reached.specs.Removal.{without}
 use Rattle.cpa_reached.specs.Tables.{but}
 use Rattle.cpa_reached.proofs.Keying.{keyed_but, none_left_out}

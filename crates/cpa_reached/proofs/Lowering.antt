@@ -1,6 +1,7 @@
 -- What lies below an entry, level by level (`descends_more`): at the end all of it is gathered.
 use Rattle.std.proofs.Common.{◌≡◌, ℕ, zero, suc, ◌+◌, ◌<◌, ◌≤◌, true, false, eqb, ◌&&◌}
-use Rattle.std.proofs.Common.{List, [], ◌∷◌, ◌++◌, get_or, length, slice_get, Option, Some, None, refl, sym, ap}
+use Rattle.std.proofs.Common.{List, [], ◌∷◌, ◌++◌, get_or, length, slice_get, Option, Some, None}
+use Rattle.std.proofs.Common.{refl, sym, ap}
 use Rattle.std.proofs.Common.{◌∙◌, subst, inl, inr, ◌⊎◌, ⊎_elim, arith}
 use Rattle.std.specs.List.{AllByRecursion, filter}
 use Rattle.std.proofs.lemmas.Bool.{and_parts, eq-eqb, eqb-true, or_cases}
@@ -12,8 +13,9 @@ use Rattle.cpa_reached.specs.Members.{IsIn, is_in}
 use Rattle.cpa_reached.specs.Entries.{numbers, IsLive}
 use Rattle.cpa_reached.specs.Kept.{IsTree, depth_of, has_parent_in, is_named_by, link_numbers}
 use Rattle.cpa_reached.specs.Kept.{parent_in}
-use Rattle.cpa_reached.specs.MemberLaws.{or_left, in_all, entry_in, in_live, live_in, in_filter}
-use Rattle.cpa_reached.specs.MemberLaws.{filter_in, ascend_kept, live_filtered}
+use Rattle.cpa_reached.specs.lemmas.MemberLaws.{or_left, in_all, entry_in, in_live, live_in}
+use Rattle.cpa_reached.specs.lemmas.MemberLaws.{in_filter}
+use Rattle.cpa_reached.specs.lemmas.MemberLaws.{filter_in, ascend_kept, live_filtered}
 use Rattle.cpa_reached.specs.Removal.{IsBelow, child, further}
 use Rattle.cpa_reached.proofs.Choosing.{in_front, in_back, in_either}
 use Rattle.cpa_reached.proofs.Climbing.{IsUnder, tied_live}

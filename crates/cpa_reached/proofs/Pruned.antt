@@ -11,10 +11,10 @@ use Rattle.cpa_model.specs.Ascending.{AreAscending}
 use Rattle.cpa_reached.specs.Members.{is_in}
 use Rattle.cpa_reached.specs.Entries.{numbers, waiting_numbers}
 use Rattle.cpa_reached.specs.Removal.{IsBelow, further, is_opened, opened, left, without}
-use Rattle.cpa_reached.specs.MemberLaws.{numbers_map}
-use Rattle.cpa_reached.specs.MemberLaws.{in_map, in_filter}
-use Rattle.cpa_reached.specs.MemberLaws.{all_kept, ascend_kept}
-use Rattle.cpa_reached.specs.SuccessorLaws.{left_number, none_gone, or_false}
+use Rattle.cpa_reached.specs.lemmas.MemberLaws.{numbers_map}
+use Rattle.cpa_reached.specs.lemmas.MemberLaws.{in_map, in_filter}
+use Rattle.cpa_reached.specs.lemmas.MemberLaws.{all_kept, ascend_kept}
+use Rattle.cpa_reached.specs.lemmas.SuccessorLaws.{left_number, none_gone, or_false}
 use Rattle.cpa_reached.specs.Kept.{IsTied, IsKept, depth_of}
 use Rattle.cpa_reached.specs.Kept.{without_links, waits_after}
 use Rattle.cpa_reached.proofs.Tying.{depth_kept, named_kept}

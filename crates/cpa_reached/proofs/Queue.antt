@@ -12,11 +12,11 @@ use Rattle.std.proofs.lemmas.Bool.{eq-eqb, ne_eqb}
 use Rattle.std.proofs.lemmas.List.Sorted.{searched}
 use Rattle.cpa_model.specs.Ascending.{AreAscending}
 use Rattle.cpa_model.specs.lemmas.Ascending.{ascending_by_place}
-use Rattle.cpa_reached_opening.specs.MemberLaws.{found_exactly}
+use Rattle.cpa_reached_opening.specs.lemmas.MemberLaws.{found_exactly}
 use Rattle.cpa_reached.specs.Members.{IsIn, is_in}
 use Rattle.cpa_reached.specs.Tables.{but}
-use Rattle.cpa_reached.specs.MemberLaws.{all_weaker}
-use Rattle.cpa_reached.specs.SuccessorLaws.{or_false}
+use Rattle.cpa_reached.specs.lemmas.MemberLaws.{all_weaker}
+use Rattle.cpa_reached.specs.lemmas.SuccessorLaws.{or_false}
 
 but_above : (n : ℕ) (ns : List ℕ) → AllByRecursion (λ m. n < m) ns → but n ns ≡ ns
 but_above n [] above = refl

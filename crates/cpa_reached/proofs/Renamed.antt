@@ -17,8 +17,8 @@ use Rattle.cpa_reached.specs.Members.{IsIn, is_in}
 use Rattle.cpa_reached.specs.Entries.{numbers}
 use Rattle.cpa_reached.specs.Calls.{at_number, rename, rename_parent, renamed, replacing, others}
 use Rattle.cpa_reached.specs.Calls.{those, replaced_entries}
-use Rattle.cpa_reached.specs.MemberLaws.{or_left, in_push}
-use Rattle.cpa_reached.specs.MemberLaws.{in_map, in_filter}
+use Rattle.cpa_reached.specs.lemmas.MemberLaws.{or_left, in_push}
+use Rattle.cpa_reached.specs.lemmas.MemberLaws.{in_map, in_filter}
 use Rattle.cpa_reached.specs.Kept.{IsTied, IsTree, link_numbers, is_named_by, renamed_among}
 use Rattle.cpa_reached.proofs.Keys.{at_all}
 use Rattle.cpa_reached.proofs.Replacing.{other_parent}

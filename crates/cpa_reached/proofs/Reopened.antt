@@ -15,8 +15,9 @@ use Rattle.cpa_reached.specs.Members.{IsIn, is_in}
 use Rattle.cpa_reached.specs.Calls.{at_number}
 use Rattle.cpa_reached.specs.Entries.{IsLive, numbers, waiting_numbers}
 use Rattle.cpa_reached.specs.Kept.{IsTree, is_named_by, opened_among, waits_after, waits_again}
-use Rattle.cpa_reached.specs.MemberLaws.{or_left, or_right, entry_in, in_live, in_filter, filter_in}
-use Rattle.cpa_reached.specs.MemberLaws.{ascend_kept, by_number, live_filtered, map_in}
+use Rattle.cpa_reached.specs.lemmas.MemberLaws.{or_left, or_right, entry_in, in_live, in_filter}
+use Rattle.cpa_reached.specs.lemmas.MemberLaws.{filter_in}
+use Rattle.cpa_reached.specs.lemmas.MemberLaws.{ascend_kept, by_number, live_filtered, map_in}
 use Rattle.cpa_reached.specs.Removal.{is_opened, left, opened, without}
 use Rattle.cpa_reached.proofs.Choosing.{ascending_same, filter_member, member_filter, in_front}
 use Rattle.cpa_reached.proofs.Choosing.{in_back, in_either}

@@ -18,10 +18,12 @@ use Rattle.cpa_reached.specs.Calls.{replaced_entries}
 use Rattle.cpa_reached.specs.Kept.{IsTied, IsKept, link_numbers, depth_of, is_named_by}
 use Rattle.cpa_reached.specs.Kept.{other_links, those_links, renumbered}
 use Rattle.cpa_reached.specs.Tables.{but}
-use Rattle.cpa_reached.specs.MemberLaws.{or_left, or_right, in_all, entry_in, live_in, above_absent}
-use Rattle.cpa_reached.specs.MemberLaws.{numbers_map, in_map, in_append, in_filter, numbers_append}
+use Rattle.cpa_reached.specs.lemmas.MemberLaws.{or_left, or_right, in_all, entry_in, live_in}
+use Rattle.cpa_reached.specs.lemmas.MemberLaws.{above_absent}
+use Rattle.cpa_reached.specs.lemmas.MemberLaws.{numbers_map, in_map, in_append, in_filter}
+use Rattle.cpa_reached.specs.lemmas.MemberLaws.{numbers_append}
 use Rattle.cpa_model.specs.lemmas.Ascending.{ascending_push}
-use Rattle.cpa_reached.specs.MemberLaws.{all_push, all_weaker, all_kept, ascend_kept}
+use Rattle.cpa_reached.specs.lemmas.MemberLaws.{all_push, all_weaker, all_kept, ascend_kept}
 use Rattle.cpa_reached.proofs.Tying.{named_there, depth_front, depth_back, named_front, named_back}
 use Rattle.cpa_reached.proofs.Tying.{depth_kept, named_kept, depth_renumbered, named_renumbered}
 use Rattle.cpa_reached.proofs.Keeping.{links_kept, entries_kept, waiting_append, waiting_same}

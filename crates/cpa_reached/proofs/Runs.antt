@@ -52,7 +52,8 @@ run_counted s facts run print first count is all next so_far =
     let small : print ≡ print % 4294967296 =
     so_far
     ∙ (print_small s.store.values first count ∙ ap (λ (n : ℕ). n % 4294967296) (sym so_far)) in
-    let long : count + length own.values ≡ count + run.count = ap (λ n. count + n) (sym own.count) in
+    let long : count + length own.values ≡ count + run.count = ap (λ n. count + n)
+    (sym own.count) in
     sym (own.joins print small)
     ∙ (values_counted s own.values run.first first count print
     (subst (λ (fs : List Fact). AllByRecursion (FactHolds s) fs) own.are all) next so_far

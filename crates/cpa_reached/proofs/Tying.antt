@@ -10,7 +10,7 @@ use Rattle.cpa_reached.specs.declared.links.Link.{Link}
 use Rattle.cpa_reached.specs.Members.{IsIn, is_in}
 use Rattle.cpa_reached.specs.Kept.{IsTied, link_numbers, at_link, lists, depth_of}
 use Rattle.cpa_reached.specs.Kept.{is_named_by, those_links, renumbered}
-use Rattle.cpa_reached.specs.MemberLaws.{or_left, or_right, in_push, in_last}
+use Rattle.cpa_reached.specs.lemmas.MemberLaws.{or_left, or_right, in_push, in_last}
 
 -- How the links may change, so that they go on tying an entry that stays as it is.
 pub tied_along : (ls later : List Link) (n : ℕ) (parent : Option (ℕ × ℕ)) (uses : List ℕ)

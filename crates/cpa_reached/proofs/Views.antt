@@ -8,7 +8,7 @@ use Rattle.cpa_iface.specs.declared.entries.Turn.{Turn}
 use Rattle.cpa_reached.specs.declared.links.Link.{Link}
 use Rattle.cpa_reached.specs.Members.{is_in}
 use Rattle.cpa_reached.specs.Entries.{ReachedSet, IsLive, IsNumbered}
-use Rattle.cpa_reached.specs.MemberLaws.{in_live}
+use Rattle.cpa_reached.specs.lemmas.MemberLaws.{in_live}
 use Rattle.cpa_reached.specs.Kept.{IsKept, is_named_by}
 use Rattle.cpa_reached.proofs.Tying.{named_there}
 

@@ -1,15 +1,13 @@
 pub mod Members
 pub mod Entries
-pub mod MemberLaws
 pub mod Calls
 pub mod Removal
 pub mod Keyed
 pub mod Paths
 pub mod Successors
-pub mod SuccessorLaws
 pub mod Kept
 pub mod Indexes
 pub mod Marks
 pub mod Tables
 pub mod Passed
-pub mod PassedLaws
+pub mod lemmas

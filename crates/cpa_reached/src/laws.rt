@@ -1,5 +1,5 @@
 //! That the calls keep covered successors. The function does nothing: its contract is the law,
-//! which is shown in `specs/SuccessorLaws.antt`.
+//! which is shown in `specs/lemmas/SuccessorLaws.antt`.
 
 ghost use Rattle.std.specs.Prelude.{ℕ, List};
 ghost use Rattle.cpa_model.specs.declared.automaton.Cfa.{Cfa};

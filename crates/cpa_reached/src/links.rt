@@ -1,7 +1,8 @@
 //! What is kept of each entry beside it: how deep it lies, and who names it. `specs/Kept.antt` says
 //! what holds of it.
 
-ghost use Rattle.std.specs.Prelude.{◌≡◌, ℕ, ◌<◌, true, Some, length, slice_get, vec_capacity, vec_len};
+ghost use Rattle.std.specs.Prelude.{◌≡◌, ℕ, ◌<◌, true, Some, length, slice_get, vec_capacity};
+ghost use Rattle.std.specs.Prelude.{vec_len};
 ghost use Rattle.std.specs.Prelude.{OnOk, OnErr};
 ghost use Rattle.cpa_model.specs.Ascending.{AreAscending};
 ghost use Rattle.cpa_reached.specs.Kept.{at_link, lists, link_numbers, depth_of};

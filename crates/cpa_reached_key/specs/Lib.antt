@@ -1,3 +1,3 @@
 pub mod Rows
 pub mod Writes
-pub mod RowLaws
+pub mod lemmas

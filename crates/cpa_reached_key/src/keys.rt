@@ -6,7 +6,8 @@ ghost use Rattle.std.specs.Cmp.{on_per, on_equiv};
 ghost use Rattle.std.specs.Hash.{on_Alike};
 ghost use Rattle.cpa_reached_key.specs.Rows.{same_row};
 ghost use Rattle.cpa_reached_key.specs.Writes.{fact_writes, elem_writes, row_writes};
-ghost use Rattle.cpa_reached_key.specs.RowLaws.{same_row-per, same_row-equiv, row_writes-alike};
+ghost use Rattle.cpa_reached_key.specs.lemmas.RowLaws.{same_row-per, same_row-equiv};
+ghost use Rattle.cpa_reached_key.specs.lemmas.RowLaws.{row_writes-alike};
 
 use crate::comparing::same_row;
 use cpa_ints::Seq;

@@ -1,5 +1,5 @@
 //! That rows are the same exactly where they are equal. The function does nothing: its contract is
-//! the law, which is shown in `specs/RowLaws.antt`.
+//! the law, which is shown in `specs/lemmas/RowLaws.antt`.
 
 ghost use Rattle.std.specs.Prelude.{◌≡◌, List, IsTrue, ◌↔◌};
 ghost use Rattle.cpa_model.specs.declared.facts.Elem.{Elem as AnElem};

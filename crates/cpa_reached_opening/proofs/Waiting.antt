@@ -6,7 +6,7 @@ use Rattle.std.specs.List.{list_any}
 use Rattle.std.proofs.lemmas.Bool.{eq-eqb, eqb-true, or_cases, and_parts, and_from, not-true}
 use Rattle.std.proofs.lemmas.Bool.{cases_Bool}
 use Rattle.cpa_iface.specs.declared.entries.Entry.{Entry}
-use Rattle.cpa_reached_opening.specs.MemberLaws.{or_left, or_right, member_in, in_member}
+use Rattle.cpa_reached_opening.specs.lemmas.MemberLaws.{or_left, or_right, member_in, in_member}
 use Rattle.cpa_reached_opening.specs.Members.{IsIn, is_in}
 use Rattle.cpa_reached_opening.specs.Opening.{UsesOneOf, WaitsAgain, is_opened, waits_again}
 

@@ -1,3 +1,3 @@
 pub mod Members
-pub mod MemberLaws
 pub mod Opening
+pub mod lemmas

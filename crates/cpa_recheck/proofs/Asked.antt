@@ -53,7 +53,8 @@ target_at cfa xs x g edge o then here at is =
 
 -- ---- rivals
 
-pub start_rivals : (cfa : Cfa) (xs : List Elem) (spots : List (Option Spot)) (numbers sites : List ℕ)
+pub start_rivals : (cfa : Cfa) (xs : List Elem) (spots : List (Option Spot))
+    (numbers sites : List ℕ)
     → spots ≡ spots_of xs → sites ≡ []
     → numbers ≡ candidates spots (spot_of_parts (Some cfa.start) (Some sites))
     → AreRivals cfa xs Begins numbers

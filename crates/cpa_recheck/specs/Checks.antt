@@ -73,7 +73,8 @@ abbrev pub IsSettledFor : Cfa → List (List Elem) → Budget → Keeping → Ob
 IsSettledFor cfa entries budget keeping o (settled.Shown lines) =
     IsMetWithin cfa entries budget o
     × (keeping ≡ Refutations → IsShown cfa entries budget.learnt o lines.items)
-IsSettledFor cfa entries budget keeping o (settled.Open reason) = StopsAt cfa entries budget o reason
+IsSettledFor cfa entries budget keeping o (settled.Open reason) = StopsAt cfa entries budget o
+    reason
 
 -- the obligation at this place of a list is not shown to hold, and all before it are met
 pub record StopsIn (cfa : Cfa) (entries : List (List Elem)) (budget : Budget)

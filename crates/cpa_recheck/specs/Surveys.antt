@@ -1,4 +1,5 @@
--- What is found once of all entries (this project's own): their weights, and a table of their spots.
+-- What is found once of all entries (this project's own): their weights, and a table of their
+-- spots.
 use Rattle.std.specs.Prelude.{◌≡◌, List, Option}
 use Rattle.cpa_model.specs.declared.facts.Elem.{Elem}
 use Rattle.cpa_model.specs.declared.automaton.Cfa.{Cfa}

@@ -1,5 +1,5 @@
-//! The form of an obligation, by `form_at` of `cpa_recheck_obligations`, and the entries that it asks
-//! about. Proved with `proofs/Asked.antt`.
+//! The form of an obligation, by `form_at` of `cpa_recheck_obligations`, and the entries that it
+//! asks about. Proved with `proofs/Asked.antt`.
 
 ghost use Rattle.std.specs.Prelude.{◌≡◌, ◌<◌, ◌^◌, List, map, length, IfOk};
 ghost use Rattle.std.specs.List.{AllByRecursion};

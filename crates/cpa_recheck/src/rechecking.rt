@@ -212,8 +212,8 @@ pub fn recheck<R: Threads + Sync, G: Gate>(
     Ok(said(walked.part))
 }
 
-/// The same check, which keeps no refutation: an obligation that bounds of cells settle is put to no
-/// solver. What it weighs, and whether a line may be written at all, counts as for `recheck`. It
+/// The same check, which keeps no refutation: an obligation that bounds of cells settle is put to
+/// no solver. What it weighs, and whether a line may be written at all, counts as for `recheck`. It
 /// fails only where memory runs out; 2^32 entries or obligations count as that.
 pub fn confirm<R: Threads + Sync, G: Gate>(
     rt: &R,

@@ -1,4 +1,5 @@
-//! What is found once of all entries, before their obligations are looked at, by `specs/Surveys.antt`.
+//! What is found once of all entries, before their obligations are looked at, by
+//! `specs/Surveys.antt`.
 
 ghost use Rattle.std.specs.Prelude.{◌<◌, ◌^◌, length, IfOk};
 ghost use Rattle.cpa_recheck.specs.Surveys.{IsSurveyOf};

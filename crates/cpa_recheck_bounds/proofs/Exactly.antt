@@ -45,7 +45,8 @@ one_number b (Some v) same h =
 
 module _ (e : Expr) (all : List Bounds) (store : List ℤ) (lie : LieWithin all store)
     (fixed : AreFixedBelow e all (length all)) where
-  agrees : (cell : ℕ) → IsTrue (may_read e cell) → slice_get store cell ≡ slice_get (lows_of all) cell
+  agrees : (cell : ℕ) → IsTrue (may_read e cell) → slice_get store cell ≡ slice_get
+      (lows_of all) cell
   agrees cell reads = by (slice_get all cell) refl
     where
       by : (o : Option Bounds) → slice_get all cell ≡ o

@@ -1,5 +1,6 @@
 -- The bounds that an element's facts leave have the values of each store on which it holds.
-use Rattle.std.proofs.Common.{◌≡◌, ℕ, ℤ, ◌≤ℤ◌, Bool, true, false, List, [], ◌∷◌, map, refl, sym, subst}
+use Rattle.std.proofs.Common.{◌≡◌, ℕ, ℤ, ◌≤ℤ◌, Bool, true, false, List, [], ◌∷◌, map, refl, sym}
+use Rattle.std.proofs.Common.{subst}
 use Rattle.std.proofs.Common.{arith}
 use Rattle.std.specs.Prelude.{Option, None, Some, slice_get, IsSomeAnd, if◌then◌else◌}
 use Rattle.std.specs.Prelude.{IfSome}

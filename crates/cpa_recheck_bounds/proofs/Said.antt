@@ -12,7 +12,7 @@ use Rattle.cpa_facts.specs.declared.fact.Fact.{Fact}
 use Rattle.cpa_facts.specs.declared.fact.Fact.TheVariants.{At, Stack, Equals, Within, Truth}
 use Rattle.cpa_model.specs.declared.facts.Elem.{Elem}
 use Rattle.cpa_model.specs.Standing.{same_fact}
-use Rattle.cpa_model.specs.StandingLaws.{same_fact-means}
+use Rattle.cpa_model.specs.lemmas.StandingLaws.{same_fact-means}
 use Rattle.cpa_form_rules.specs.Runs.{StoreFactHolds, StoreHolds}
 use Rattle.cpa_form_rules.specs.Stores.{failing_is_not_holding}
 use Rattle.cpa_interval_bounds.specs.declared.bounds.Bounds.{Bounds}

@@ -1,6 +1,7 @@
 -- An expression has the same truth before and behind an act that writes no cell which it may read;
 -- the truth that an act tests holds behind it, and an element that says the other one bars it.
-use Rattle.std.proofs.Common.{◌≡◌, ◌≢◌, ℕ, ◌+◌, ◌==◌, not, ℤ, Bool, true, false, List, [], ◌∷◌, ◌++◌}
+use Rattle.std.proofs.Common.{◌≡◌, ◌≢◌, ℕ, ◌+◌, ◌==◌, not, ℤ, Bool, true, false, List, [], ◌∷◌}
+use Rattle.std.proofs.Common.{◌++◌}
 use Rattle.std.proofs.Common.{refl, sym, ap, ◌∙◌, subst, arith}
 use Rattle.std.specs.Prelude.{zero, suc, slice_get, slice_set, IsSomeAnd, Option, None, Some}
 use Rattle.std.specs.List.{AllByRecursion, list_any}

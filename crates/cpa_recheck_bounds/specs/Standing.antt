@@ -1,5 +1,5 @@
--- Facts that an act leaves true (this project's own): those on the truth of expressions that read no
--- cell which it may write, and the truth that it tests.
+-- Facts that an act leaves true (this project's own): those on the truth of expressions that read
+-- no cell which it may write, and the truth that it tests.
 use Rattle.std.specs.Prelude.{◌≡◌, ◌≤◌, ◌<◌, ◌+◌, ℕ, ℤ, false, List}
 use Rattle.std.specs.List.{AllByRecursion}
 use Rattle.cpa_expr.specs.declared.tree.Expr.{Expr}

@@ -2,7 +2,8 @@
 //! `proofs/Exactly.antt`.
 
 ghost use Rattle.std.specs.Prelude.{◌≡◌, ℕ, ℤ, List, None, Some, IfOk, IfSome, IsTrue, pos, ◌+◌};
-ghost use Rattle.std.specs.Prelude.{◌<◌, ◌++◌, ◌∷◌, [], slice_get, length, if◌then◌else◌, false, OnOk};
+ghost use Rattle.std.specs.Prelude.{◌<◌, ◌++◌, ◌∷◌, [], slice_get, length, if◌then◌else◌, false};
+ghost use Rattle.std.specs.Prelude.{OnOk};
 ghost use Rattle.cpa_expr.specs.Values.{is_nonzero, value_of};
 ghost use Rattle.cpa_model.specs.declared.program.Cell.{Cell as ACell};
 ghost use Rattle.cpa_model.specs.Steps.{StepsStore};

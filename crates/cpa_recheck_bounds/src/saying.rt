@@ -1,5 +1,5 @@
-//! What bounds of cells, and facts that hold, say of the facts of an element, by `specs/Saying.antt`.
-//! Proved with `proofs/Said.antt`.
+//! What bounds of cells, and facts that hold, say of the facts of an element, by
+//! `specs/Saying.antt`. Proved with `proofs/Said.antt`.
 
 ghost use Rattle.std.specs.Prelude.{◌≡◌, ◌<◌, ℤ, List, IsTrue, Some, length, map, slice_get};
 ghost use Rattle.std.specs.List.{list_any};
@@ -8,7 +8,8 @@ ghost use Rattle.cpa_model.specs.Standing.{same_fact};
 ghost use Rattle.cpa_interval_bounds.specs.ExpressionBounds.{LieWithin};
 ghost use Rattle.cpa_recheck_obligations.specs.Forms.{entry_at};
 ghost use Rattle.cpa_recheck_bounds.specs.Exact.{lows_of};
-ghost use Rattle.cpa_recheck_bounds.specs.Saying.{is_among, bounds_say, IsSaid, AreAllSaid, AreSaid};
+ghost use Rattle.cpa_recheck_bounds.specs.Saying.{is_among, bounds_say, IsSaid, AreAllSaid};
+ghost use Rattle.cpa_recheck_bounds.specs.Saying.{AreSaid};
 
 use crate::exact::are_fixed;
 use cpa_expr::{Expr, Store, same_expr, value_depends_on_what_is_read};
@@ -117,8 +118,8 @@ fn number_at(numbers: &[u32], place: usize) -> u32
     numbers[place]
 }
 
-/// Whether each fact of one of the elements with these numbers is said, so that one of them holds on
-/// each store within the bounds on which the element does.
+/// Whether each fact of one of the elements with these numbers is said, so that one of them holds
+/// on each store within the bounds on which the element does.
 pub(crate) fn are_said(
     all: &KnownBounds,
     lows: &Store,

@@ -10,7 +10,7 @@ use Rattle.std.proofs.lemmas.Bool.{cases_Bool}
 use Rattle.std.proofs.lemmas.List.{length-take-le, take_more}
 use Rattle.cpa_recheck_obligations.specs.declared.spots.Spot.{Spot}
 use Rattle.cpa_recheck_obligations.specs.Spots.{same_spot}
-use Rattle.cpa_recheck_obligations.specs.SpotLaws.{same_spot-means}
+use Rattle.cpa_recheck_obligations.specs.lemmas.SpotLaws.{same_spot-means}
 use Rattle.cpa_recheck_obligations.specs.Obligations.{is_at, places_from, under}
 use Rattle.cpa_recheck_obligations.specs.Tables.{SpotRows, items_of, numbers_at, IsTableOf}
 

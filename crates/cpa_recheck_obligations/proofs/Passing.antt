@@ -16,7 +16,8 @@ module _ {A : Type 0} (test : A → Bool) where
   pub skipped : (xs : List A) (k i : ℕ)
       → ((j : ℕ) (x : A) → slice_get xs j ≡ Some x → test x ≡ true → i ≤ j)
       → places_from test (k + i) (drop i xs) ≡ places_from test k xs
-  skipped xs k zero none = let same : k + 0 ≡ k = omega arith in ap (λ n. places_from test n xs) same
+  skipped xs k zero none = let same : k + 0 ≡ k = omega arith in ap
+      (λ n. places_from test n xs) same
   skipped [] k (suc i) none = refl
   skipped (x ∷ xs) k (suc i) none =
       let same : k + suc i ≡ (k + 1) + i = omega arith in
@@ -51,7 +52,8 @@ module _ {A : Type 0} (test : A → Bool) where
       ended xs k i (λ j y at passes. let less = none (suc j) y at passes in omega (arith, less))
 
   -- the item at a place comes next
-  next_is : (xs : List A) (i : ℕ) (x : A) → slice_get xs i ≡ Some x → drop i xs ≡ x ∷ drop (i + 1) xs
+  next_is : (xs : List A) (i : ℕ) (x : A) → slice_get xs i ≡ Some x → drop i xs ≡ x ∷ drop
+      (i + 1) xs
   next_is [] i x at = absurd (cc)
   next_is (y ∷ xs) zero x at = let same : y ≡ x = cc in ap (λ z. z ∷ xs) same
   next_is (y ∷ xs) (suc i) x at =

@@ -1,6 +1,5 @@
 pub mod Spots
 pub mod Writes
-pub mod SpotLaws
 pub mod Obligations
 pub mod Tables
 pub mod Meeting

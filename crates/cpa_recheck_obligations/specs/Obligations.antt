@@ -86,7 +86,7 @@ is_at key (Some spot) = same_spot spot key
 abbrev pub under : List (Option Spot) → Spot → List ℕ
 under spots key = places (is_at key) spots
 
--- the numbers of the entries in which a state of the spot may lie, by its point and its stack; where
--- the spot says no stack, those alone that say none
+-- the numbers of the entries in which a state of the spot may lie, by its point and its stack;
+-- where the spot says no stack, those alone that say none
 abbrev pub candidates : List (Option Spot) → Spot → List ℕ
 candidates spots spot = flat_map (under spots) (around spot)

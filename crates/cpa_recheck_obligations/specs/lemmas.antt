@@ -5,3 +5,4 @@ pub mod Standing
 pub mod Covers
 pub mod Asking
 pub mod Breaking
+pub mod SpotLaws

@@ -1,9 +1,10 @@
-//! The laws of obligations, stated in `specs/Laws.antt`. Each function does nothing: its contract is
-//! the law.
+//! The laws of obligations, stated in `specs/Laws.antt`. Each function does nothing: its contract
+//! is the law.
 
 ghost use Rattle.cpa_recheck_obligations.specs.Laws.{EntriesAreOne, ObligationsAreCovers};
 ghost use Rattle.cpa_recheck_obligations.specs.Laws.{BrokenIsUnmet, AddedFit, UnmodelledIsMet};
-ghost use Rattle.cpa_recheck_obligations.specs.Laws.{ObligationsAreNamed, ModelsBreak, RunlessIsMet};
+ghost use Rattle.cpa_recheck_obligations.specs.Laws.{ObligationsAreNamed, ModelsBreak};
+ghost use Rattle.cpa_recheck_obligations.specs.Laws.{RunlessIsMet};
 
 use cpa_model::{automata_are_small, steps_keep_states};
 

@@ -1,5 +1,5 @@
-//! The obligations of a list of entries: what is to be shown for them to be a cover, one by one, and
-//! what is asked of a solver about each. The definitions stand in `specs/`, the laws in `laws`.
+//! The obligations of a list of entries: what is to be shown for them to be a cover, one by one,
+//! and what is asked of a solver about each. The definitions stand in `specs/`, the laws in `laws`.
 #![tactic(auto)]
 
 mod laws;

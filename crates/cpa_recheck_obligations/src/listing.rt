@@ -1,12 +1,14 @@
 //! What is to be shown of a list of entries, by `specs/Obligations.antt`. Proved with
 //! `proofs/listing/`.
 
-ghost use Rattle.std.specs.Prelude.{◌≡◌, ◌∷◌, ◌++◌, ◌<◌, ◌≤◌, ◌^◌, ℕ, map, length, IfOk, OnOk, slice_get};
+ghost use Rattle.std.specs.Prelude.{◌≡◌, ◌∷◌, ◌++◌, ◌<◌, ◌≤◌, ◌^◌, ℕ, map, length, IfOk, OnOk};
+ghost use Rattle.std.specs.Prelude.{slice_get};
 ghost use Rattle.std.specs.Prelude.{Some, false, IsTrue};
 ghost use Rattle.std.specs.List.{filter};
 ghost use Rattle.cpa_model.specs.declared.automaton.Edge.{Edge as AnEdge};
 ghost use Rattle.cpa_model.specs.Automata.{IsAutomaton};
-ghost use Rattle.cpa_recheck_obligations.specs.Obligations.{edges_of, errors_of, leaves, obligations};
+ghost use Rattle.cpa_recheck_obligations.specs.Obligations.{edges_of, errors_of, leaves};
+ghost use Rattle.cpa_recheck_obligations.specs.Obligations.{obligations};
 ghost use Rattle.cpa_recheck_obligations.specs.Obligations.{own, own_from};
 ghost use Rattle.cpa_recheck_obligations.specs.Spots.{spots_of};
 

@@ -3,10 +3,12 @@
 
 ghost use Rattle.std.specs.Prelude.{◌≡◌, ◌++◌, None, Some, IfOk, OnOk, if◌then◌else◌, fold};
 ghost use Rattle.cpa_model.specs.Standing.{same_sites};
-ghost use Rattle.cpa_recheck_obligations.specs.SpotLaws.{same_spot-equiv, same_spot-per};
-ghost use Rattle.cpa_recheck_obligations.specs.SpotLaws.{spot_writes-alike};
-ghost use Rattle.cpa_recheck_obligations.specs.Spots.{joined, spot_of, spot_of_parts, noted, permits};
-ghost use Rattle.cpa_recheck_obligations.specs.Spots.{permits_stack, same_point, same_spot, same_stack};
+ghost use Rattle.cpa_recheck_obligations.specs.lemmas.SpotLaws.{same_spot-equiv, same_spot-per};
+ghost use Rattle.cpa_recheck_obligations.specs.lemmas.SpotLaws.{spot_writes-alike};
+ghost use Rattle.cpa_recheck_obligations.specs.Spots.{joined, spot_of, spot_of_parts, noted};
+ghost use Rattle.cpa_recheck_obligations.specs.Spots.{permits};
+ghost use Rattle.cpa_recheck_obligations.specs.Spots.{permits_stack, same_point, same_spot};
+ghost use Rattle.cpa_recheck_obligations.specs.Spots.{same_stack};
 ghost use Rattle.cpa_recheck_obligations.specs.Writes.{point_writes, spot_writes, stack_writes};
 
 use cpa_model::{Elem, Fact, Seq, copy_fact};

@@ -92,8 +92,8 @@ fn total_of(weights: &[u64], numbers: &[u32]) -> u64
     total
 }
 
-/// What an obligation weighs of entries with these weights, its rivals being those of these numbers.
-/// It takes no memory.
+/// What an obligation weighs of entries with these weights, its rivals being those of these
+/// numbers. It takes no memory.
 pub fn weigh(cfa: &Cfa, weights: &[u64], numbers: &[u32], obligation: Obligation) -> u64
     requires automaton { IsAutomaton cfa.now }
     requires named { (xs : List AnElem) × IsObligationOf cfa.now xs obligation }

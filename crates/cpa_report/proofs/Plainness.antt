@@ -91,7 +91,8 @@ line_plain line h = (
   ),
 )
 
-lines_plain : (lines : List Line) → AllByRecursion LineFits lines → IsPlain (list_data line_data lines)
+lines_plain : (lines : List Line) → AllByRecursion LineFits lines → IsPlain
+    (list_data line_data lines)
 lines_plain = list_plain line_data LineFits line_plain
 
 module _ (E : Expr → Type 0) where

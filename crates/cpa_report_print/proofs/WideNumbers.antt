@@ -1,5 +1,6 @@
 -- The text of a number of 128 bits is a number of JSON.
-use Rattle.std.proofs.Common.{◌≡◌, ℕ, zero, suc, ◌+◌, ◌%◌, ◌^◌, ◌<◌, ◌≤◌, ℤ, pos, negsuc, ap, refl, ◌∙◌}
+use Rattle.std.proofs.Common.{◌≡◌, ℕ, zero, suc, ◌+◌, ◌%◌, ◌^◌, ◌<◌, ◌≤◌, ℤ, pos, negsuc, ap, refl}
+use Rattle.std.proofs.Common.{◌∙◌}
 use Rattle.std.proofs.Common.{List, [], ◌∷◌, length, drop, get_or, Some, option_and_then, false}
 use Rattle.std.proofs.Common.{cond, decimal, arith, length-append}
 use lib.ListN.{get_or-append}

@@ -1,5 +1,6 @@
 -- What is written one after the other.
-use Rattle.std.proofs.Common.{◌≡◌, ◌++◌, ◌∷◌, [], List, Result, Ok, Err, OnOk, ap, sym, ◌∙◌, append_assoc}
+use Rattle.std.proofs.Common.{◌≡◌, ◌++◌, ◌∷◌, [], List, Result, Ok, Err, OnOk, ap, sym, ◌∙◌}
+use Rattle.std.proofs.Common.{append_assoc}
 use Rattle.json.specs.Token.{Token}
 use Rattle.json.specs.Written.{Written, Writes}
 use Rattle.json.specs.Token.{end_array}

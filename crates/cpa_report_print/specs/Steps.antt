@@ -1,5 +1,5 @@
--- Steps of the code: the members of a body by where they stand in a report. Nothing here is promised
--- to a caller.
+-- Steps of the code: the members of a body by where they stand in a report. Nothing here is
+-- promised to a caller.
 use Rattle.std.specs.Prelude.{List, [], ◌∷◌, codes}
 use Rattle.json.specs.Token.{Token, key}
 use Rattle.cpa_report_print.specs.declared.report.Body.{Body}

@@ -13,7 +13,8 @@ use Rattle.cpa_sat_trail.specs.declared.assertion.Jump.{Jump}
 use Rattle.cpa_sat_trail.specs.declared.trail.Trail.{Trail}
 use Rattle.cpa_sat_trail.specs.declared.trail.TheConstants.{NONE}
 use Rattle.cpa_sat_trail.specs.Trails.{IsTrail, IsReasonFor, height, lit_at, reason_at, place_of}
-use Rattle.cpa_sat_search.specs.Analyses.{AreFalseBefore, AreOthersBefore, GivesWay, HasUnion, IsAsserting}
+use Rattle.cpa_sat_search.specs.Analyses.{AreFalseBefore, AreOthersBefore, GivesWay, HasUnion}
+use Rattle.cpa_sat_search.specs.Analyses.{IsAsserting}
 use Rattle.cpa_sat_search.specs.Analyses.{IsReducible}
 use Rattle.cpa_sat_trail.specs.lemmas.TrailSteps.{opposite_twice, opposite_below}
 use Rattle.cpa_sat_search.proofs.Marks.{marked_inside}

@@ -8,8 +8,10 @@ ghost use Rattle.cpa_cnf.specs.Marking.{marked};
 ghost use Rattle.cpa_sat_trail.specs.Trails.{IsFalse, IsTrail, IsJustified, height, lit_at};
 ghost use Rattle.cpa_sat_trail.specs.Trails.{reason_at};
 ghost use Rattle.cpa_sat_trail.specs.Trails.{place_of, AreClauses};
-ghost use Rattle.cpa_sat_search.specs.Analyses.{AreFalseBefore, AreNoted, AreOthersBefore, GivesWay};
-ghost use Rattle.cpa_sat_search.specs.Analyses.{IsAnalysing, IsAsserting, IsConcluded, IsCut, IsReducible};
+ghost use Rattle.cpa_sat_search.specs.Analyses.{AreFalseBefore, AreNoted, AreOthersBefore};
+ghost use Rattle.cpa_sat_search.specs.Analyses.{GivesWay};
+ghost use Rattle.cpa_sat_search.specs.Analyses.{IsAnalysing, IsAsserting, IsConcluded, IsCut};
+ghost use Rattle.cpa_sat_search.specs.Analyses.{IsReducible};
 ghost use Rattle.cpa_sat_search.specs.Analyses.{IsStepped, IsDerived, IsIdle};
 
 use crate::analysis::Analysis;

@@ -10,7 +10,8 @@ ghost use Rattle.cpa_sat_trail.specs.Trails.{IsFalse, IsTrail, height};
 ghost use Rattle.cpa_sat_trail.specs.Findings.{IsOpen};
 ghost use Rattle.cpa_sat_trail.specs.Progress.{Asserts, IsRisen, IsSound, progress};
 ghost use Rattle.cpa_sat_trail.specs.Propagations.{IsPropagated};
-ghost use Rattle.cpa_sat_search.specs.States.{IsAsBut, IsAsButAnalysis, IsBegun, IsEnded, IsLearned};
+ghost use Rattle.cpa_sat_search.specs.States.{IsAsBut, IsAsButAnalysis, IsBegun, IsEnded};
+ghost use Rattle.cpa_sat_search.specs.States.{IsLearned};
 ghost use Rattle.cpa_sat_search.specs.States.{IsNumberOf, IsState, IsTurned, rank};
 
 use crate::analysis::Analysis;

@@ -136,8 +136,8 @@ pub record IsWritten (call : Call) (output : Output) (name : List ℕ) (file : O
 
 -- ---- rechecks, in the words of the headline
 
--- CONFIRMED: the entries of the report, which is one of the one program of the bytes, are a cover of
--- it.
+-- CONFIRMED: the entries of the report, which is one of the one program of the bytes, are a cover
+-- of it.
 pub record IsConfirmedText (analyses : List Meaning) (said bytes list text : List ℕ) : Type 0 where
   pub program : Program
   pub is : IsTheProgram bytes program

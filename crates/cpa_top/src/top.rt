@@ -23,8 +23,8 @@ use std::thread::Threads;
 /// The words are those after the program's own name. The commands today are
 /// `verify PROGRAM [--config FILE]`, by the handed analyses that the configuration picks,
 /// `replay PROGRAM INPUTS [--steps N]`, `recheck PROGRAM REPORT [--config FILE]`, which asks no
-/// analysis, and `bench N`. All output goes to `out` in one `write_whole`. Analyses of several types
-/// are handed in as one type, `Handed` of `cpa_composite`.
+/// analysis, and `bench N`. All output goes to `out` in one `write_whole`. Analyses of several
+/// types are handed in as one type, `Handed` of `cpa_composite`.
 pub fn run<R: Threads + Sync, A: Analysis, I: Inputs, K: Sink>(
     rt: &R,
     alloc: Global,
@@ -62,23 +62,24 @@ pub fn run<R: Threads + Sync, A: Analysis, I: Inputs, K: Sink>(
         (files_of (I.bytes_of inputs.old) (I.faults_of inputs.old) (I.faults_of inputs.new)))
         (output_of (K.written out.old) (K.written out.new) (K.faults out.old) (K.faults out.new))
         name list file IsConfirmedText }
-    // REFUSED: the printed state breaks the least obligation of the entries that is not met, so they
-    // are no cover, and those of no TRUE answer on the program.
+    // REFUSED: the printed state breaks the least obligation of the entries that is not met, so
+    // they are no cover, and those of no TRUE answer on the program.
     ensures refuted { result ≡ 1 → (name list : List ℕ) (file : Option (List ℕ)) →
         Asks (map string_bytes words.items) (recheck name list file) → AreRechecked
         (call_of (map string_bytes words.items) (map A.meaning analyses.items)
         (files_of (I.bytes_of inputs.old) (I.faults_of inputs.old) (I.faults_of inputs.new)))
         (output_of (K.written out.old) (K.written out.new) (K.faults out.old) (K.faults out.new))
         name list file IsRefutedText }
-    // UNKNOWN of a recheck: a budget was spent on the named obligation, and all lesser ones are met.
+    // UNKNOWN of a recheck: a budget was spent on the named obligation, and all lesser ones are
+    // met.
     ensures undecided { result ≡ 2 → (name list : List ℕ) (file : Option (List ℕ)) →
         Asks (map string_bytes words.items) (recheck name list file) → AreRechecked
         (call_of (map string_bytes words.items) (map A.meaning analyses.items)
         (files_of (I.bytes_of inputs.old) (I.faults_of inputs.old) (I.faults_of inputs.new)))
         (output_of (K.written out.old) (K.written out.new) (K.faults out.old) (K.faults out.new))
         name list file IsUndecidedText }
-    // bench: the line has the counts and the verdict of an answer on the text of a measurement; where
-    // it is TRUE, no execution of this text calls reach_error.
+    // bench: the line has the counts and the verdict of an answer on the text of a measurement;
+    // where it is TRUE, no execution of this text calls reach_error.
     ensures measured { result ≤ 2 → (functions : ℕ) →
         Asks (map string_bytes words.items) (bench functions) → IsLineWritten
         (call_of (map string_bytes words.items) (map A.meaning analyses.items)

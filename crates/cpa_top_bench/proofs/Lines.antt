@@ -1,5 +1,6 @@
 -- The lines of the numbers below one more than this, and how long the text is.
-use Rattle.std.proofs.Common.{◌≡◌, refl, ap, ◌∙◌, arith, ℕ, zero, suc, ◌+◌, ◌*◌, ◌<◌, ◌≤◌, List, ◌++◌}
+use Rattle.std.proofs.Common.{◌≡◌, refl, ap, ◌∙◌, arith, ℕ, zero, suc, ◌+◌, ◌*◌, ◌<◌, ◌≤◌, List}
+use Rattle.std.proofs.Common.{◌++◌}
 use Rattle.std.proofs.Common.{length, codes}
 use Rattle.std.specs.Prelude.{◌^◌, decimal}
 use Rattle.std.proofs.lemmas.Fmt.{length-decimal-le}
@@ -43,7 +44,8 @@ functions_length n few =
 calls_length : (n : ℕ) → n ≤ 100 → length (lines_of call_line n) ≤ 23 * n
 calls_length n few =
     lines_length (codes "x=f") (codes "(x);\n") 23 n
-    (λ k small. line_length (codes "x=f") (codes "(x);\n") 10 10 k (omega arith) (omega arith) small)
+    (λ k small. line_length (codes "x=f") (codes "(x);\n") 10 10 k (omega arith) (omega arith)
+    small)
     (omega arith)
 
 test_length : (n : ℕ) → n ≤ 100 → length (test_line (4 * n)) ≤ 33

@@ -21,8 +21,8 @@ fn place_of(handed: &[String], name: &str) -> Option<usize>
     handed.iter().position(|other| other.as_str() == name)
 }
 
-/// The pick of a name, where an analysis of that name is handed in. A place beyond 32 bits counts as
-/// want of memory.
+/// The pick of a name, where an analysis of that name is handed in. A place beyond 32 bits counts
+/// as want of memory.
 fn pick_of(handed: &[String], name: &str) -> Result<Option<Pick>, AllocError>
     ensures pick { IfOk result (λ found.
         IfSome found (IsKeptApart (map string_bytes handed.now) name.now)) }

@@ -62,8 +62,8 @@ HasConfig names bytes = (config : Config) × Configures bytes names config
 abbrev pub HasBenchConfig : List (List ℕ) → Type 0
 HasBenchConfig names = (config : Config) × IsBenchConfig names config
 
--- The stage gives nothing to refuse: the bytes of its file, which are those that are told where they
--- are told, are few enough, or stand for what they are read as.
+-- The stage gives nothing to refuse: the bytes of its file, which are those that are told where
+-- they are told, are few enough, or stand for what they are read as.
 abbrev pub Passes : Files → Stage → Type 0
 Passes files (reading which name) =
     HoldsOf (files.bytes_of name) (λ bytes. length bytes ≤ limit_of which)

@@ -15,9 +15,10 @@ limit_of role.Inputs = MAX_TEXT
 limit_of role.Report = MAX_REPORT
 
 -- a stage: the file of a name is read in its role; the program of its bytes is found, or the inputs
--- that they list, or the TRUE report of the program of the first name; for the names of the handed analyses the configuration is found, that of the
--- named file or, without a name, that of the empty text; the analyses of a measurement are found
--- among these names, and the program of the text of one
+-- that they list, or the TRUE report of the program of the first name; for the names of the handed
+-- analyses the configuration is found, that of the named file or, without a name, that of the empty
+-- text; the analyses of a measurement are found among these names, and the program of the text of
+-- one
 pub data Stage : Type 0 where
   reading : Role → List ℕ → Stage
   parsing : List ℕ → Stage

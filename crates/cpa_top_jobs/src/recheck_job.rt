@@ -1,5 +1,5 @@
-//! The job of the command `recheck`: what comes of the entries of a report, without the analyses that
-//! made it (`IsRecheckedBy` of `specs/Ends.antt`); shown in `proofs/Rechecks.antt`.
+//! The job of the command `recheck`: what comes of the entries of a report, without the analyses
+//! that made it (`IsRecheckedBy` of `specs/Ends.antt`); shown in `proofs/Rechecks.antt`.
 ghost use Rattle.std.specs.Prelude.{◌≡◌, map, option_map, IfOk, IfErr};
 ghost use Rattle.cpa_model.specs.Programs.{IsWellFormed};
 ghost use Rattle.cpa_top_words.specs.Jobs.{recheck};

@@ -53,8 +53,9 @@ pub record IsLeast (automaton : Cfa) (entries : List (List Elem)) (number : ℕ)
   pub lesser : AllByRecursion (IsMet automaton entries)
       (take number (obligations automaton (as_one entries)))
 
--- REFUSED: the state of the line, with its successor for an edge, breaks the least obligation of the
--- entries that is not met. So the entries are no cover, and no TRUE answer on the program has them.
+-- REFUSED: the state of the line, with its successor for an edge, breaks the least obligation of
+-- the entries that is not met. So the entries are no cover, and no TRUE answer on the program has
+-- them.
 pub record IsRefutation (P : Program) (text line : List ℕ) : Type 0 where
   pub automaton : Cfa
   pub entries : List (List Elem)

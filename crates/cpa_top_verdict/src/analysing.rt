@@ -12,8 +12,8 @@ use cpa_iface::Analysis;
 use cpa_model::Cfa;
 use std::alloc::{AllocError, Global};
 
-/// The answer on an automaton, by the analyses that the configuration picks, in its order and by its
-/// rules. Analyses of several types come as one, `Handed` of `cpa_composite`.
+/// The answer on an automaton, by the analyses that the configuration picks, in its order and by
+/// its rules. Analyses of several types come as one, `Handed` of `cpa_composite`.
 pub fn answer_on<A: Analysis>(
     alloc: Global,
     cfa: &Cfa,

@@ -1,6 +1,7 @@
 -- Words that clap takes ask for a job (`taken_words_ask`), since clap takes none without a
 -- subcommand (`named`), and each subcommand has a job (`job_named`).
-use Rattle.std.proofs.Common.{◌≡◌, ◌⊎◌, inl, inr, List, [], ◌∷◌, Option, Some, None, Bool, true, false, refl, sym, ap, codes, option_map}
+use Rattle.std.proofs.Common.{◌≡◌, ◌⊎◌, inl, inr, List, [], ◌∷◌, Option, Some, None, Bool, true}
+use Rattle.std.proofs.Common.{false, refl, sym, ap, codes, option_map}
 use Rattle.std.specs.Prelude.{◌&&◌, not, is_some, if◌then◌else◌}
 use Rattle.std.specs.List.{list_any}
 use Rattle.std.specs.Option.{option_map_or}
@@ -36,9 +37,11 @@ named w e =
     let rows = finished a.top.rules walked.held in
     let has = is_some (entered a walked.stopped) in
     let check : check_fault a.top rows has ≡ [] =
-    last_of (walk_fault a.top (names_of a) (walk_from nothing_held) words) (entered_fault a walked.stopped)
+    last_of (walk_fault a.top (names_of a) (walk_from nothing_held) words)
+        (entered_fault a walked.stopped)
     (settle_fault a.top.rules a.top.args_override_self walked.held)
-    (defaults_fault (settled a.top.rules walked.held).rows a.top.rules) (check_fault a.top rows has) e in
+    (defaults_fault (settled a.top.rules walked.held).rows a.top.rules)
+        (check_fault a.top rows has) e in
     met has (not (a.top.subcommand_negates_reqs && has)
     && list_any (λ x. x.required && not (is_given x.id rows)) a.top.rules) check
 
@@ -91,6 +94,7 @@ some_of None e = absurd (cc)
 pub taken_words_ask : (w : List Text) → AskForAJobWhereTaken w
 taken_words_ask w e =
     let found = told (subcommand_of cpaverify w) (named w e)
-    (stopped (stop_after (built cpaverify).top.rules (names_of (built cpaverify)) (argument_words cpaverify w))) in
+    (stopped (stop_after (built cpaverify).top.rules (names_of (built cpaverify))
+        (argument_words cpaverify w))) in
     let job = some_of (asked_by w) found in
     (job.0, record { taken = e; asked = job.1 })

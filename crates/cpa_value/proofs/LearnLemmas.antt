@@ -27,7 +27,8 @@ use Rattle.cpa_value_changes.specs.Acts.{told, first_told, set_told, equated, ze
 use Rattle.cpa_value_changes.specs.Acts.{says_equal, learned}
 use Rattle.cpa_value.proofs.KnownLemmas.{Agrees, AgreeCells, known_agrees}
 use Rattle.cpa_value.proofs.RangeLemmas.{AreKnown, AreKnown-set, typed_cell, zero_in_range}
-use Rattle.cpa_folds.specs.lemmas.ScalarReads.{IsScalar, StaysInRange, scalar_node, read_value, value_at}
+use Rattle.cpa_folds.specs.lemmas.ScalarReads.{IsScalar, StaysInRange, scalar_node, read_value}
+use Rattle.cpa_folds.specs.lemmas.ScalarReads.{value_at}
 use Rattle.cpa_folds.specs.lemmas.ScalarReads.{int_le-means}
 use Rattle.cpa_value.proofs.StoreLemmas.{agree_set}
 

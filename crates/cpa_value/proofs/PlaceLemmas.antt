@@ -1,7 +1,8 @@
 -- Facts in the order of the cells, all of tracked ones: those of cells before one and from one on
 -- stand before and behind its place.
 use Rattle.std.proofs.Common.{◌≡◌, ℕ, suc, ◌+◌, ◌-◌, ◌<◌, ◌≤◌, ℤ, Bool, true, false}
-use Rattle.std.proofs.Common.{List, [], ◌∷◌, ◌++◌, inl, inr, refl, sym, ap, ◌∙◌, arith, cond, length}
+use Rattle.std.proofs.Common.{List, [], ◌∷◌, ◌++◌, inl, inr, refl, sym, ap, ◌∙◌, arith, cond}
+use Rattle.std.proofs.Common.{length}
 use Rattle.std.proofs.Common.{take, drop}
 use Rattle.std.specs.Prelude.{Some, ◌&&◌, nat_le, nat_lt, min}
 use Rattle.std.specs.List.{list_all}
@@ -95,7 +96,8 @@ all_behind tracked n low from (Equals cell v ∷ fs) is past all =
     let both = and_parts (is_within tracked 0 n (Equals cell v))
     (list_all (is_within tracked 0 n) fs) all in
     let own = and_parts (nat_le 0 cell && nat_lt cell n) (tracked cell) both.0 in
-    ap (λ t. cond t (Equals cell v ∷ facts_within tracked from n fs) (facts_within tracked from n fs))
+    ap (λ t. cond t (Equals cell v ∷ facts_within tracked from n fs)
+        (facts_within tracked from n fs))
     (and_from (nat_le from cell && nat_lt cell n) (tracked cell)
     (and_from (nat_le from cell) (nat_lt cell n) (le-leb from cell (omega (arith, past, above)))
     (lt-ltb cell n b.below)) own.1)

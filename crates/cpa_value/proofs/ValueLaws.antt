@@ -20,7 +20,7 @@ use Rattle.cpa_model.specs.Facts.{FactHolds, Holds, LiesIn, IsFact}
 use Rattle.cpa_model.specs.Automata.{IsAutomaton, initial_state}
 use Rattle.cpa_iface.specs.declared.precisions.Precision.{Precision}
 use Rattle.cpa_iface.specs.declared.entries.Entry.{Entry}
-use Rattle.cpa_iface.specs.CommonLaws.{kept_all, kept_length, unadjusted-laws}
+use Rattle.cpa_iface.specs.lemmas.CommonLaws.{kept_all, kept_length, unadjusted-laws}
 use Rattle.cpa_iface.specs.Meanings.{IsShaped, AreShaped, IsPrecision}
 use Rattle.cpa_iface.specs.Pins.{equals_from, IsControlPin}
 use Rattle.cpa_iface.specs.Laws.{InitialLaws, StrengthenLaws, AdjustLaws}

@@ -4,7 +4,7 @@ use Rattle.cpa_model.specs.declared.program.Cell.{Cell}
 use Rattle.cpa_model.specs.declared.facts.Elem.{Elem}
 use Rattle.cpa_model.specs.declared.automaton.Cfa.{Cfa}
 use Rattle.cpa_model.specs.Standing.{has_facts}
-use Rattle.cpa_model.specs.StandingLaws.{has_facts-within, has_facts-same}
+use Rattle.cpa_model.specs.lemmas.StandingLaws.{has_facts-within, has_facts-same}
 use Rattle.cpa_iface.specs.declared.analysis.Part.TheVariants as part
 use Rattle.cpa_iface.specs.Meanings.{Meaning, Replies}
 use Rattle.cpa_iface.specs.Common.{merged_facts, fact_count}
@@ -34,8 +34,8 @@ value_replies = record {
   refine = refined;
 }
 
--- It is exact on the store, covers by the letter, suggests the cells that are needed, and tells what
--- it answers.
+-- It is exact on the store, covers by the letter, suggests the cells that are needed, and tells
+-- what it answers.
 abbrev pub values : Meaning
 values = record {
   name = codes "value";

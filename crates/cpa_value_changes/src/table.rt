@@ -8,7 +8,8 @@ ghost use Rattle.cpa_facts.specs.declared.fact.Fact.{Fact as AFact};
 ghost use Rattle.cpa_facts.specs.Blocks.{joined};
 ghost use Rattle.cpa_facts.specs.Runs.{run_of};
 ghost use Rattle.cpa_value_changes.specs.Cells.{known_cells};
-ghost use Rattle.cpa_value_changes.specs.Tables.{are_ordered, end_in, is_before, place_in, own_value};
+ghost use Rattle.cpa_value_changes.specs.Tables.{are_ordered, end_in, is_before, place_in};
+ghost use Rattle.cpa_value_changes.specs.Tables.{own_value};
 
 use cpa_model::{Block, Fact, Facts, Pieces, Run};
 use std::marker::Model;

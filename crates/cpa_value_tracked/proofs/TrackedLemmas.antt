@@ -5,7 +5,7 @@ use Rattle.std.specs.Prelude.{zero, suc, Some, slice_get, ◌==◌, ◌||◌}
 use Rattle.std.specs.List.{list_any}
 use Rattle.std.proofs.lemmas.Bool.{eq-eqb}
 use Rattle.cpa_iface.specs.Cells.{own_places}
-use Rattle.cpa_iface.specs.CellLaws.{stands_own, behind_own}
+use Rattle.cpa_iface.specs.lemmas.CellLaws.{stands_own, behind_own}
 
 stands_at : (cells : List ℕ) (place cell : ℕ) → slice_get cells place ≡ Some cell
     → list_any (λ own. own == cell) cells ≡ true

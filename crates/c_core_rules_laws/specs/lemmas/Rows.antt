@@ -195,7 +195,8 @@ alike_stepped_for : (origin : ℕ) (usage : Usage) (operator : StepOperator) {p 
     Alike SameValued (stepped_for origin usage operator p) (stepped_for origin usage operator q)
 unfolding stepped_for
 alike_stepped_for origin Used operator at = alike_stepped origin operator at
-alike_stepped_for origin Unused operator at = alike_kept Unused (alike_incremented origin operator at)
+alike_stepped_for origin Unused operator at = alike_kept Unused
+    (alike_incremented origin operator at)
 
 alike_stepping : (origin : ℕ) (usage : Usage) (operator : StepOperator) {t u : Target} →
     AlikeTarget t u →

@@ -7,7 +7,8 @@ use Rattle.c_lower_expressions.specs.Rows.{suffixed_by}
 use Rattle.c_types_rules.specs.Tables.{suffix_count}
 use Rattle.c_lower_expressions.proofs.Chains.{linked_kept, linked_done}
 use Rattle.c_lower_expressions.proofs.Lists.{comma_kept, comma_done, comma_past_done}
-use Rattle.c_lower_expressions.proofs.Suffixes.{rows_of_last, of_Index, of_Call, of_Skipped, of_Step}
+use Rattle.c_lower_expressions.proofs.Suffixes.{rows_of_last, of_Index, of_Call, of_Skipped}
+use Rattle.c_lower_expressions.proofs.Suffixes.{of_Step}
 use Rattle.c_lower_expressions.proofs.Suffixes.{postfix_is, placed_all, target_by}
 use Rattle.c_lower_expressions.proofs.Suffixes.{suffixes_counted}
 use Rattle.c_lower_expressions.proofs.+expression.Goals as goal

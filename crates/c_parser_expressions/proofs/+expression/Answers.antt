@@ -1,11 +1,11 @@
 use Rattle.std.specs.Prelude.{suc, ◌-◌, refl}
 use Rattle.std.proofs.Common.{sym, ◌∙◌, arith}
 use Rattle.c_grammar_forms.specs.Forms.{Skip, Deeper}
-use Rattle.c_grammar_forms.specs.Found.{reads_skip}
-use Rattle.c_grammar_forms.specs.NotFound.{none_skip}
-use Rattle.c_grammar_forms.specs.Exits.{at_exit, answers_with, answers_deeper}
-use Rattle.c_grammar_forms.specs.Loops.{no_parts, one_more, no_more, no_part, at_items}
-use Rattle.c_grammar_forms.specs.Loops.{behind_first}
+use Rattle.c_grammar_forms.specs.lemmas.Found.{reads_skip}
+use Rattle.c_grammar_forms.specs.lemmas.NotFound.{none_skip}
+use Rattle.c_grammar_forms.specs.lemmas.Exits.{at_exit, answers_with, answers_deeper}
+use Rattle.c_grammar_forms.specs.lemmas.Loops.{no_parts, one_more, no_more, no_part, at_items}
+use Rattle.c_grammar_forms.specs.lemmas.Loops.{behind_first}
 use Rattle.c_grammar_symbols.specs.declared.words.Terminal.TheVariants as terminal
 use Rattle.c_grammar_symbols.specs.Symbols.{symbol_of}
 use Rattle.c_grammar_symbols.specs.Sources.{leaf_at, is}
@@ -13,10 +13,10 @@ use Rattle.c_grammar_tree.specs.declared.TheConstants.{MAX_LEVEL}
 use Rattle.c_grammar_tree.specs.Parts.{begins_expression, is_operator}
 use Rattle.c_grammar_tree.specs.Grammar.{grammar}
 use Rattle.c_grammar_tree.specs.Expressions.{assignment, chain, operand}
-use Rattle.c_grammar_tree.specs.Levels.{comma_above, assignment_above, conditional_above}
-use Rattle.c_grammar_tree.specs.Levels.{cast_above}
-use Rattle.c_grammar_tree.specs.Levels.{unary_above, answers_no_level}
-use Rattle.c_grammar_tree.specs.Terminals.{at_lack, reads_closed}
+use Rattle.c_grammar_tree.specs.lemmas.Levels.{comma_above, assignment_above, conditional_above}
+use Rattle.c_grammar_tree.specs.lemmas.Levels.{cast_above}
+use Rattle.c_grammar_tree.specs.lemmas.Levels.{unary_above, answers_no_level}
+use Rattle.c_grammar_tree.specs.lemmas.Terminals.{at_lack, reads_closed}
 use Rattle.c_parser_expressions.proofs.Steadies.{steady_skip_item, steady_skip_assignment}
 use Rattle.c_parser_expressions.proofs.Steadies.{steady_operand}
 use Rattle.c_parser_expressions.proofs.Steadies.{steady_suffix}

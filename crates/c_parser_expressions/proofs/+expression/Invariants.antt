@@ -2,7 +2,7 @@
 use Rattle.std.specs.Prelude.{suc, ◌-◌, ◌≤◌, length}
 use Rattle.std.proofs.Common.{◌+◌, ◌*◌}
 use Rattle.c_grammar_forms.specs.Forms.{Skip, Deeper}
-use Rattle.c_grammar_forms.specs.Loops.{SoFar}
+use Rattle.c_grammar_forms.specs.lemmas.Loops.{SoFar}
 use Rattle.c_grammar_forms.specs.Reading.{Reads}
 use Rattle.c_grammar_symbols.specs.declared.words.Terminal.TheVariants as terminal
 use Rattle.c_grammar_symbols.specs.Sources.{leaf_at, is}

@@ -1,26 +1,26 @@
 -- Each statement from its parts.
 use Rattle.std.proofs.Common.{length, sym, ◌∙◌, ap, arith, refl, not}
 use Rattle.c_grammar_forms.specs.Forms.{Skip, Before, Deeper, Choice}
-use Rattle.c_grammar_forms.specs.Found.{reads_node, reads_skip, reads_pair, reads_choice}
-use Rattle.c_grammar_forms.specs.Found.{reads_nearest, reads_nearest_no}
-use Rattle.c_grammar_forms.specs.NotFound.{none_node, none_skip, none_first, none_second}
-use Rattle.c_grammar_forms.specs.NotFound.{none_before}
-use Rattle.c_grammar_forms.specs.NotFound.{none_before_here, none_choice, none_nearest}
-use Rattle.c_grammar_forms.specs.NotFound.{none_then_first, none_behind_here}
-use Rattle.c_grammar_forms.specs.Loops.{no_parts, one_more, no_more, no_part, at_items}
-use Rattle.c_grammar_forms.specs.Exits.{at_exit, answers_with, answers_deeper}
+use Rattle.c_grammar_forms.specs.lemmas.Found.{reads_node, reads_skip, reads_pair, reads_choice}
+use Rattle.c_grammar_forms.specs.lemmas.Found.{reads_nearest, reads_nearest_no}
+use Rattle.c_grammar_forms.specs.lemmas.NotFound.{none_node, none_skip, none_first, none_second}
+use Rattle.c_grammar_forms.specs.lemmas.NotFound.{none_before}
+use Rattle.c_grammar_forms.specs.lemmas.NotFound.{none_before_here, none_choice, none_nearest}
+use Rattle.c_grammar_forms.specs.lemmas.NotFound.{none_then_first, none_behind_here}
+use Rattle.c_grammar_forms.specs.lemmas.Loops.{no_parts, one_more, no_more, no_part, at_items}
+use Rattle.c_grammar_forms.specs.lemmas.Exits.{at_exit, answers_with, answers_deeper}
 use Rattle.c_grammar_symbols.specs.declared.words.Terminal.TheVariants as terminal
 use Rattle.c_grammar_symbols.specs.Symbols.{symbol_of}
 use Rattle.c_grammar_symbols.specs.Sources.{leaf_at, is}
 use Rattle.c_grammar_tree.specs.declared.TheConstants.{MAX_LEVEL}
 use Rattle.c_grammar_tree.specs.Grammar.{grammar}
-use Rattle.c_grammar_tree.specs.Levels.{statement_above, item_above, answers_no_level}
+use Rattle.c_grammar_tree.specs.lemmas.Levels.{statement_above, item_above, answers_no_level}
 use Rattle.c_grammar_tree.specs.Parts.{is_not, is_local_specifier, bare_name}
 use Rattle.c_grammar_tree.specs.Statements.{items, condition, behind_comma_at, labeled_or_not}
 use Rattle.c_grammar_tree.specs.Statements.{statement_at}
 use Rattle.c_grammar_tree.specs.Statements.{item_by, item}
-use Rattle.c_grammar_tree.specs.Terminals.{reads_opened, reads_closed, none_opened, at_lack}
-use Rattle.c_parser_declarations.specs.Readers.{reads_then_onto, none_then_onto}
+use Rattle.c_grammar_tree.specs.lemmas.Terminals.{reads_opened, reads_closed, none_opened, at_lack}
+use Rattle.c_parser_declarations.specs.lemmas.Readers.{reads_then_onto, none_then_onto}
 use Rattle.c_parser_statements.specs.declared.kinds.StatementKind.TheVariants as kind
 use Rattle.c_parser_statements.specs.Forms.{optional_else, branches, begun}
 use Rattle.c_parser_statements.proofs.Steadies.{steady_comma, steady_condition, steady_head}

@@ -1,7 +1,7 @@
 -- Each call goes on at a level less, or at the same level to a narrower form.
 use Rattle.std.proofs.Common.{◌+◌, ◌-◌, ◌*◌, length}
 use Rattle.c_grammar_forms.specs.Forms.{Deeper}
-use Rattle.c_grammar_forms.specs.Loops.{SoFar}
+use Rattle.c_grammar_forms.specs.lemmas.Loops.{SoFar}
 use Rattle.c_grammar_symbols.specs.declared.words.Terminal.TheVariants.{RightBrace}
 use Rattle.c_grammar_symbols.specs.Sources.{leaf_at}
 use Rattle.c_grammar_tree.specs.Parts.{is_not}

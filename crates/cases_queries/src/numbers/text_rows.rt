@@ -50,8 +50,8 @@ fn push_is_text(alloc: Global, out: &mut String, text: &str) -> Result<(), RowFa
     Ok(push_word(out, yes_or_no(is_expr_text(alloc, text)?))?)
 }
 
-/// `nested N`: how high the expression behind so many negations is; `text nested N`: whether the text
-/// behind so many is that of an expression.
+/// `nested N`: how high the expression behind so many negations is; `text nested N`: whether the
+/// text behind so many is that of an expression.
 fn push_negated(alloc: Global, out: &mut String, front: &str, text: &str) -> Result<(), RowFault> {
     let (front, count) = front.rsplit_once(' ').ok_or(RowFault::Unreadable)?;
     let whole = negated(alloc, count, text)?;

@@ -54,8 +54,8 @@ fn turns<A: Analysis>(
     Ok(true)
 }
 
-/// The journal of at most so many turns from the initial state on, and behind a bar the entries that
-/// are there then.
+/// The journal of at most so many turns from the initial state on, and behind a bar the entries
+/// that are there then.
 pub fn explore<A: Analysis>(
     alloc: Global,
     out: &mut String,

@@ -17,8 +17,8 @@ use cpa_reached::{Key, Reached};
 use std::alloc::{AllocError, Global};
 use std::mem;
 
-/// Adds the answer of a row behind ` =`, its words each behind a space. The whole row is read before
-/// the call.
+/// Adds the answer of a row behind ` =`, its words each behind a space. The whole row is read
+/// before the call.
 pub fn push_answer(
     alloc: Global,
     out: &mut String,

@@ -25,7 +25,7 @@ use Rattle.cpa_composite.specs.Laws.{MergedRow}
 use Rattle.cpa_reached.specs.Members.{IsIn}
 use Rattle.cpa_reached.specs.Entries.{ReachedSet}
 use Rattle.cpa_reached_key.specs.Rows.{picked}
-use Rattle.cpa_reached_key.specs.RowLaws.{same_row-decides}
+use Rattle.cpa_reached_key.specs.lemmas.RowLaws.{same_row-decides}
 use Rattle.cpa_engine_turn.specs.Keys.{key_of, HasPlaces}
 use Rattle.cpa_engine_turn.specs.Stages.{fellows, first_cover}
 use Rattle.cpa_engine_turn.specs.lemmas.Keyed.{key_control, key_at, key_by, pins_size, pin_there}

@@ -18,7 +18,7 @@ use Rattle.cpa_composite.specs.Components.{Component}
 use Rattle.cpa_composite.specs.Laws.{RefinedRow, EachRefined, is_longer, some_longer}
 use Rattle.cpa_model.specs.lemmas.Lists.{in_list}
 use Rattle.cpa_reached.specs.Members.{IsIn, is_in}
-use Rattle.cpa_reached.specs.MemberLaws.{in_all, in_member}
+use Rattle.cpa_reached.specs.lemmas.MemberLaws.{in_all, in_member}
 use Rattle.cpa_engine_laws.specs.Cells.{TellCells, untracked, all_untracked}
 
 -- ---- cells that are not tracked

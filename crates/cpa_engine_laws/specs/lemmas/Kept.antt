@@ -9,7 +9,7 @@ use Rattle.cpa_model.specs.declared.facts.Elem.{Elem}
 use Rattle.cpa_iface.specs.declared.entries.Entry.{Entry}
 use Rattle.cpa_iface.specs.declared.precisions.Precision.{Precision}
 use Rattle.cpa_reached.specs.Members.{IsIn}
-use Rattle.cpa_reached.specs.MemberLaws.{in_map, in_append, in_filter}
+use Rattle.cpa_reached.specs.lemmas.MemberLaws.{in_map, in_append, in_filter}
 use Rattle.cpa_reached.specs.Calls.{at_number, rests, gains, fresh, rename, rename_parent, renamed}
 use Rattle.cpa_reached.specs.Calls.{begun}
 use Rattle.cpa_reached.specs.Calls.{replacing, others, those, added_entries, replaced_entries}

@@ -8,7 +8,7 @@ use Rattle.cpa_model.specs.declared.facts.Elem.{Elem}
 use Rattle.cpa_iface.specs.declared.entries.Entry.{Entry}
 use Rattle.cpa_model.specs.Ascending.{AreAscending}
 use Rattle.cpa_reached.specs.Members.{IsIn}
-use Rattle.cpa_reached.specs.MemberLaws.{one_entry}
+use Rattle.cpa_reached.specs.lemmas.MemberLaws.{one_entry}
 use Rattle.cpa_reached.specs.Entries.{numbers}
 use Rattle.cpa_reached.specs.Paths.{LeadsBack}
 use Rattle.cpa_engine_turn.specs.lemmas.Counted.{without}

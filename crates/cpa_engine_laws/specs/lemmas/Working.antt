@@ -15,7 +15,7 @@ use Rattle.cpa_composite.specs.Components.{Component, IsEntryOf}
 use Rattle.cpa_composite.specs.Laws.{SuccessorRows, MergedRow, AdjustedRow}
 use Rattle.cpa_iface.specs.declared.merging.Order.{Order}
 use Rattle.cpa_reached.specs.Members.{IsIn}
-use Rattle.cpa_reached.specs.MemberLaws.{in_all, entry_in, one_entry}
+use Rattle.cpa_reached.specs.lemmas.MemberLaws.{in_all, entry_in, one_entry}
 use Rattle.cpa_reached.specs.Entries.{ReachedSet, IsNumbered, numbers}
 use Rattle.cpa_reached.specs.Calls.{rename}
 use Rattle.cpa_reached.specs.Calls.{at_number, gains, taken}
@@ -316,7 +316,8 @@ module _ (cfa : Cfa) (cs : List Component) (R : ℕ → List Elem → List Elem 
       let one = laws.each edge rows (place + 0) row a.reached.live s.elems s.precisions less made
       (there 0 row refl) s.adjusted in
       let middle = all_compares_lined es ps s.elems s.precisions
-      (numbers (fellows a.reached s.elems)) a s.compared laws s.adjusted.elems.size s.adjusted.precisions.size s.compares at in
+      (numbers (fellows a.reached s.elems)) a s.compared laws s.adjusted.elems.size
+        s.adjusted.precisions.size s.compares at in
       let first = ended_lined es s.elems s.precisions edge
       (first_cover cs s.elems (fellows s.compared.reached s.elems)) s.compared all.0
       s.adjusted.elems.size comes one s.is middle in

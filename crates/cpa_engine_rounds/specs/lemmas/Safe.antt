@@ -15,7 +15,7 @@ use Rattle.cpa_model.specs.Facts.{FactHolds, LiesIn}
 use Rattle.cpa_model.specs.lemmas.Lists.{in_list, place_of}
 use Rattle.cpa_iface.specs.Pins.{pin}
 use Rattle.cpa_reached.specs.Members.{IsIn, is_in}
-use Rattle.cpa_reached.specs.MemberLaws.{in_member, member_in}
+use Rattle.cpa_reached.specs.lemmas.MemberLaws.{in_member, member_in}
 use Rattle.cpa_engine_rounds.specs.Errors.{stands_off, may_err}
 
 -- between a number that is contained and one that is there by the test

@@ -18,7 +18,7 @@ use Rattle.cpa_composite.specs.Laws.{EachMerged}
 use Rattle.cpa_composite.specs.Ranks.{row_rank, rank_by}
 use Rattle.cpa_model.specs.Ascending.{AreAscending}
 use Rattle.cpa_reached.specs.Members.{IsIn}
-use Rattle.cpa_reached.specs.MemberLaws.{in_all, entry_in}
+use Rattle.cpa_reached.specs.lemmas.MemberLaws.{in_all, entry_in}
 use Rattle.cpa_reached.specs.Entries.{numbers}
 use Rattle.cpa_engine_turn.specs.Bounds.{ArePinned}
 use Rattle.cpa_engine_turn.specs.lemmas.Lists.{in_map_of}

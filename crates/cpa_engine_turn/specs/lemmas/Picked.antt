@@ -9,9 +9,9 @@ use Rattle.cpa_iface.specs.declared.entries.Entry.{Entry}
 use Rattle.cpa_composite.specs.Components.{Component}
 use Rattle.cpa_composite.specs.Keys.{is_key, key_places, key_places_from}
 use Rattle.cpa_reached_key.specs.Rows.{same_row, picked}
-use Rattle.cpa_reached_key.specs.RowLaws.{same_row-means}
+use Rattle.cpa_reached_key.specs.lemmas.RowLaws.{same_row-means}
 use Rattle.cpa_reached.specs.Members.{IsIn}
-use Rattle.cpa_reached.specs.MemberLaws.{in_filter}
+use Rattle.cpa_reached.specs.lemmas.MemberLaws.{in_filter}
 use Rattle.cpa_reached.specs.Entries.{ReachedSet}
 use Rattle.cpa_engine_turn.specs.Keys.{key_of, HasPlaces}
 use Rattle.cpa_engine_turn.specs.Stages.{under}

@@ -1,6 +1,7 @@
 -- The value of the expression of a bit, and the bits of a number below the width of its type.
 use Rattle.std.proofs.Common.{◌≡◌, ◌≢◌, ℕ, zero, suc, ◌+◌, ◌-◌, ◌/◌, ◌%◌, ◌^◌, ◌<◌, ◌≤◌, Bool}
-use Rattle.std.proofs.Common.{true, false, not, ℤ, pos, negsuc, List, length, Option, Some, None, IsSomeAnd}
+use Rattle.std.proofs.Common.{true, false, not, ℤ, pos, negsuc, List, length, Option, Some, None}
+use Rattle.std.proofs.Common.{IsSomeAnd}
 use Rattle.std.proofs.Common.{option_map, bit_and, refl, sym, ap, subst, ◌∙◌, arith}
 use Rattle.std.specs.Prelude.{◌==◌, slice_index_or, if◌then◌else◌}
 use Rattle.std.specs.Int.{int_div_euclid}

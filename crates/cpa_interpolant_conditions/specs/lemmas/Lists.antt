@@ -83,7 +83,8 @@ leaves_are old (leaf ∷ leaves) all f are =
     (λ values. f values ++ leaf_value values leaf ∷ [])
     (one_more old all (leaf_made all.nodes leaf) f (λ values. leaf_value values leaf) are
     (leaf_is all.nodes leaf are.scoped)))
-    (λ values. append_assoc (f values) (leaf_value values leaf ∷ []) (map (leaf_value values) leaves))
+    (λ values. append_assoc (f values) (leaf_value values leaf ∷ [])
+    (map (leaf_value values) leaves))
 
 partial_is : (old : List Node) (all : Numbered) (p : Partial) (f : List Bool → List Bool)
     → AreMade old all f

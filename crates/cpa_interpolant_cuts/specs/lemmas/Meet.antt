@@ -136,7 +136,8 @@ module _ (circuits : CircuitsHaveValues) (cells : List Cell) (A B : Form)
       → j < width t
       → IsBitAt A.query.cells (first_bits A.query) (place_now A c) t j ((at c t).before + j)
       × ((at c t).before + width t ≤ (formula A.query).vars)
-  before_bit c t j ty below = bit_at_place A.query are.before (place_now A c) t j (are.ty c t ty) below
+  before_bit c t j ty below = bit_at_place A.query are.before (place_now A c) t j
+      (are.ty c t ty) below
 
   pub behind_bit : (c : ℕ) (t : IntType) (j : ℕ) → slice_get (types_of cells) c ≡ Some t
       → j < width t → IsBitAt B.query.cells (first_bits B.query) c t j ((at c t).behind + j)

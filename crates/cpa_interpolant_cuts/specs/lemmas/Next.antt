@@ -1,7 +1,8 @@
 -- The expression of an interpolant of a cut's joined formula is an interpolant of the path.
 use Rattle.std.proofs.Common.{◌≡◌, ℕ, zero, suc, ◌+◌, ◌<◌, ◌≤◌, Bool, true, false, ℤ, pos, List}
 use Rattle.std.proofs.Common.{[], ◌∷◌, ◌++◌, map, take, length, Option, None, Some, slice_get, refl}
-use Rattle.std.proofs.Common.{sym, ap, ◌∙◌, subst, arith, zero-add, ◌⊎◌, inl, inr, IsTrue, IsSomeAnd}
+use Rattle.std.proofs.Common.{sym, ap, ◌∙◌, subst, arith, zero-add, ◌⊎◌, inl, inr, IsTrue}
+use Rattle.std.proofs.Common.{IsSomeAnd}
 use Rattle.std.specs.Prelude.{slice_index_or, IsSome, unwrap_or}
 use Rattle.std.specs.List.{AllByRecursion, range_with_len}
 use Rattle.std.proofs.lemmas.List.{length-map, append-nil, get_or_append_left}

@@ -36,7 +36,8 @@ module _ (A : Type 0) where
               omega arith,
               here,
               same_entry x (value n)
-                  (sym is ∙ (ap (λ k. slice_get (slice_set before (start + n) (Some (value n))) k) here
+                  (sym is ∙ (ap (λ k. slice_get
+                  (slice_set before (start + n) (Some (value n))) k) here
                   ∙ found)),
             )
         | inr other ↦

@@ -12,7 +12,7 @@ use Rattle.cpa_model.specs.declared.facts.Elem.{Elem}
 use Rattle.cpa_model.specs.declared.states.State.{State}
 use Rattle.cpa_model.specs.Facts.{FactHolds, IsWithin}
 use Rattle.cpa_model.specs.Standing.{same_fact}
-use Rattle.cpa_model.specs.StandingLaws.{same_fact-means, same_fact-self}
+use Rattle.cpa_model.specs.lemmas.StandingLaws.{same_fact-means, same_fact-self}
 use Rattle.cpa_interval_bounds.specs.lemmas.Sets.{le_true, from_le}
 use Rattle.cpa_interval.specs.Covers.{says, has_covered, covers}
 

@@ -1,5 +1,6 @@
 -- That halving finds the bounds of a cell, and what is left where they change.
-use Rattle.std.proofs.Common.{◌≡◌, ℕ, ◌<◌, ◌≤◌, Bool, true, false, List, [], ◌∷◌, refl, sym, ap, ◌∙◌}
+use Rattle.std.proofs.Common.{◌≡◌, ℕ, ◌<◌, ◌≤◌, Bool, true, false, List, [], ◌∷◌, refl, sym, ap}
+use Rattle.std.proofs.Common.{◌∙◌}
 use Rattle.std.proofs.Common.{subst, arith, cond, length, inl, inr, ◌≢◌}
 use Rattle.std.specs.Prelude.{zero, suc, None, Some, option_map, slice_get, slice_set}
 use Rattle.std.specs.Prelude.{nat_lt}
@@ -258,7 +259,8 @@ insert_keeps n cell own (k ∷ ks) less none is =
           (rest (ltb-true cell k.cell above) not_there)
       by false above not_there rest =
           let not_above = ltb-false cell k.cell above in
-          let other : k.cell ≢ cell = λ same. false≢true (sym not_there ∙ eq-eqb k.cell cell same) in
+          let other : k.cell ≢ cell = λ same. false≢true
+          (sym not_there ∙ eq-eqb k.cell cell same) in
           let lies : k.cell < cell = elim (cases_order k.cell cell) [
             | inl same ↦ absurd (other same)
             | inr apart ↦ elim apart [

@@ -1,7 +1,8 @@
 -- An obligation is met where no run of stores meets what is asked about it (`runless_met`), and so
 -- where its query has no model (`unmodelled_met`).
 use Rattle.std.proofs.Common.{◌≡◌, ℕ, zero, suc, ℤ, List, [], ◌∷◌, get_or}
-use Rattle.std.proofs.Common.{Option, Some, None, slice_get, ◌⊎◌, inl, inr, refl, sym, ap, ◌∙◌, subst}
+use Rattle.std.proofs.Common.{Option, Some, None, slice_get, ◌⊎◌, inl, inr, refl, sym, ap, ◌∙◌}
+use Rattle.std.proofs.Common.{subst}
 use Rattle.std.specs.Prelude.{IfSome, option_map, option_and_then}
 use Rattle.std.specs.List.{AllByRecursion}
 use Rattle.std.proofs.lemmas.List.{append-nil}
@@ -75,7 +76,8 @@ module _ (cfa : Cfa) (xs : List Elem)
             → IsAddedOf cfa (taken (edge_at cfa g).act)
         by (Some edge) at =
             subst (λ (e : Edge). IsAddedOf cfa (taken e.act))
-            (sym (get_or_from_slice_get cfa.edges g edge (edge_of 0 Skip 0) at)) (edges g edge at).act
+            (sym (get_or_from_slice_get cfa.edges g edge (edge_of 0 Skip 0) at))
+            (edges g edge at).act
         by None at =
             subst (λ (e : Edge). IsAddedOf cfa (taken e.act))
             (sym (get_or_none cfa.edges g (edge_of 0 Skip 0) at)) tt

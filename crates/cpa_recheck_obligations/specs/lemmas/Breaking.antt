@@ -38,7 +38,8 @@ use Rattle.cpa_recheck_obligations.specs.lemmas.Places.{map_all}
 use Rattle.cpa_recheck_obligations.specs.lemmas.Standing.{one_holds, holds_one, control_at}
 use Rattle.cpa_recheck_obligations.specs.lemmas.Standing.{Includes, at_candidates, permits_back}
 use Rattle.cpa_recheck_obligations.specs.lemmas.Covers.{some_at, one_at, lies_at_spot, spot_at}
-use Rattle.cpa_recheck_obligations.specs.lemmas.Asking.{FormIs, of_spot, of_entry, entry_is, edge_is}
+use Rattle.cpa_recheck_obligations.specs.lemmas.Asking.{FormIs, of_spot, of_entry, entry_is}
+use Rattle.cpa_recheck_obligations.specs.lemmas.Asking.{edge_is}
 use Rattle.cpa_recheck_obligations.specs.lemmas.Asking.{target_is}
 
 -- ---- states that lie in no entry

@@ -22,7 +22,8 @@ use Rattle.cpa_recheck_obligations.specs.declared.listing.Obligation.{Obligation
 use Rattle.cpa_recheck_obligations.specs.declared.listing.Obligation.TheVariants.{Leads}
 use Rattle.cpa_recheck_obligations.specs.declared.listing.Obligation.TheVariants.{Avoids}
 use Rattle.cpa_recheck_obligations.specs.declared.spots.Spot.{Spot}
-use Rattle.cpa_recheck_obligations.specs.Spots.{joined, as_one, StandsAt, permits, spot_of, spots_of}
+use Rattle.cpa_recheck_obligations.specs.Spots.{joined, as_one, StandsAt, permits, spot_of}
+use Rattle.cpa_recheck_obligations.specs.Spots.{spots_of}
 use Rattle.cpa_recheck_obligations.specs.Obligations.{stack_behind, leaves, edges_of}
 use Rattle.cpa_recheck_obligations.specs.Obligations.{errors_of, own, own_from, obligations}
 use Rattle.cpa_recheck_obligations.specs.Obligations.{IsObligationOf}

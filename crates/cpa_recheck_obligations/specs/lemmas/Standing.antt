@@ -12,13 +12,13 @@ use Rattle.cpa_model.specs.declared.facts.Elem.{Elem}
 use Rattle.cpa_model.specs.declared.states.State.{State}
 use Rattle.cpa_model.specs.Facts.{FactHolds, Holds, LiesIn}
 use Rattle.cpa_model.specs.Standing.{same_sites}
-use Rattle.cpa_model.specs.StandingLaws.{same_fact-self}
+use Rattle.cpa_model.specs.lemmas.StandingLaws.{same_fact-self}
 use Rattle.cpa_form_rules.specs.Stores.{ControlFactHolds, ControlHolds}
 use Rattle.cpa_recheck_obligations.specs.declared.spots.Spot.{Spot}
 use Rattle.cpa_recheck_obligations.specs.Spots.{joined, StandsAt, spot_of_parts, permits}
 use Rattle.cpa_recheck_obligations.specs.Spots.{permits_stack, spot_from, anywhere, spot_of}
-use Rattle.cpa_recheck_obligations.specs.SpotLaws.{same_sites-means, same_spot-means}
-use Rattle.cpa_recheck_obligations.specs.SpotLaws.{same_spot-self}
+use Rattle.cpa_recheck_obligations.specs.lemmas.SpotLaws.{same_sites-means, same_spot-means}
+use Rattle.cpa_recheck_obligations.specs.lemmas.SpotLaws.{same_spot-self}
 use Rattle.cpa_recheck_obligations.specs.Obligations.{said_or_not, around, is_at, under, candidates}
 use Rattle.cpa_recheck_obligations.specs.lemmas.Places.{all_flat, flat_all, map_all, all_map}
 use Rattle.cpa_recheck_obligations.specs.lemmas.Places.{all_places, at_places, all_so}
@@ -95,7 +95,8 @@ module _ (s : State) where
   control_from [] spot found is at =
       let same : found ≡ spot = cc in (tt, subst (StandsAt s) same at)
   control_from (At p ∷ facts) spot found is at =
-      by (permits spot.point p) refl is (λ further. control_from facts (spot_of_parts (Some p) spot.stack) found further at)
+      by (permits spot.point p) refl is
+      (λ further. control_from facts (spot_of_parts (Some p) spot.stack) found further at)
     where
       next : Spot
       next = spot_of_parts (Some p) spot.stack
@@ -114,7 +115,8 @@ module _ (s : State) where
           )
       by false other is further = absurd (cc)
   control_from (Stack sites ∷ facts) spot found is at =
-      by (permits_stack spot.stack sites) refl is (λ further. control_from facts (spot_of_parts spot.point (Some sites)) found further at)
+      by (permits_stack spot.stack sites) refl is
+      (λ further. control_from facts (spot_of_parts spot.point (Some sites)) found further at)
     where
       next : Spot
       next = spot_of_parts spot.point (Some sites)
@@ -181,7 +183,8 @@ around_has Q own spot includes all =
 
 around_only : (spot : Spot) → AllByRecursion (λ own. Includes own spot) (around spot)
 around_only spot =
-    all_flat (λ own. Includes own spot) (λ point. map (spot_of_parts point) (said_or_not spot.stack))
+    all_flat (λ own. Includes own spot)
+    (λ point. map (spot_of_parts point) (said_or_not spot.stack))
     (said_or_not spot.point)
     (all_so (λ (point : Option ℕ). IfSome point (λ p. spot.point ≡ Some p))
     (λ point. AllByRecursion (λ own. Includes own spot)

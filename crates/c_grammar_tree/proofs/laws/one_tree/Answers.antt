@@ -4,7 +4,7 @@ use Rattle.std.proofs.Common.{sym, ◌∙◌}
 use Rattle.c_lexer.specs.declared.token.Token.{Token}
 use Rattle.c_grammar_tree.specs.declared.item.Unit.{Unit as UnitTree}
 use Rattle.c_grammar_tree.specs.Grammar.{Tree, grammar}
-use Rattle.c_grammar_tree.specs.OneReadingOfText.{good_unit_items, good_grammar}
+use Rattle.c_grammar_tree.specs.lemmas.OneReadingOfText.{good_unit_items, good_grammar}
 use Rattle.c_grammar_tree.proofs.laws.one_tree.Goals as goal
 
 unit_path : (u v : UnitTree) → u.items ≡ v.items → u.length ≡ v.length → u ≡ v

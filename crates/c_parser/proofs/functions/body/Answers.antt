@@ -1,8 +1,8 @@
 -- Tokens that are skipped, or what stands in a block.
 use Rattle.std.proofs.Common.{sym, subst, refl}
-use Rattle.c_grammar_forms.specs.Found.{reads_node, reads_skip}
-use Rattle.c_grammar_forms.specs.NotFound.{none_node, none_skip}
-use Rattle.c_grammar_forms.specs.Exits.{at_exit}
+use Rattle.c_grammar_forms.specs.lemmas.Found.{reads_node, reads_skip}
+use Rattle.c_grammar_forms.specs.lemmas.NotFound.{none_node, none_skip}
+use Rattle.c_grammar_forms.specs.lemmas.Exits.{at_exit}
 use Rattle.c_grammar_tree.specs.declared.TheConstants.{MAX_LEVEL}
 use Rattle.c_grammar_tree.specs.Items.{body_of}
 use Rattle.c_grammar_tree.specs.Reading.{Gives}

@@ -1,9 +1,9 @@
 -- A semicolon, a body, or neither.
 use Rattle.std.proofs.Common.{sym, refl}
-use Rattle.c_grammar_forms.specs.Found.{reads_node, reads_one}
-use Rattle.c_grammar_forms.specs.NotFound.{none_node, none_nothing}
-use Rattle.c_grammar_forms.specs.Exits.{at_exit}
-use Rattle.c_grammar_forms.specs.Choices.{reads_arm, none_arm}
+use Rattle.c_grammar_forms.specs.lemmas.Found.{reads_node, reads_one}
+use Rattle.c_grammar_forms.specs.lemmas.NotFound.{none_node, none_nothing}
+use Rattle.c_grammar_forms.specs.lemmas.Exits.{at_exit}
+use Rattle.c_grammar_forms.specs.lemmas.Choices.{reads_arm, none_arm}
 use Rattle.c_grammar_symbols.specs.Symbols.{symbol_of}
 use Rattle.c_grammar_symbols.specs.Sources.{leaf_at}
 use Rattle.c_grammar_tree.specs.declared.TheConstants.{MAX_LEVEL}

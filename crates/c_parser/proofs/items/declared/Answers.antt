@@ -1,6 +1,6 @@
 -- A semicolon, or a name and what stands behind it.
 use Rattle.std.proofs.Common.{sym, refl, arith}
-use Rattle.c_grammar_forms.specs.Exits.{at_exit, answers_with}
+use Rattle.c_grammar_forms.specs.lemmas.Exits.{at_exit, answers_with}
 use Rattle.c_grammar_tree.specs.declared.TheConstants.{MAX_LEVEL}
 use Rattle.c_parser.proofs.Behind.{reads_bare, none_name, reads_named, none_named}
 use Rattle.c_parser.proofs.items.declared.Goals as goal

@@ -1,7 +1,7 @@
 -- The first declarator, those behind it, a semicolon.
-use Rattle.c_grammar_forms.specs.Exits.{at_exit}
+use Rattle.c_grammar_forms.specs.lemmas.Exits.{at_exit}
 use Rattle.c_grammar_tree.specs.declared.TheConstants.{MAX_LEVEL}
-use Rattle.c_grammar_tree.specs.Terminals.{at_lack}
+use Rattle.c_grammar_tree.specs.lemmas.Terminals.{at_lack}
 use Rattle.c_parser.proofs.Behind.{none_objects_first, none_objects_more, none_objects_end}
 use Rattle.c_parser.proofs.Behind.{reads_objects}
 use Rattle.c_parser.proofs.items.objects.Goals as goal

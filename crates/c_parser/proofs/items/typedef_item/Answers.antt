@@ -1,15 +1,15 @@
 -- Specifiers, names, a semicolon.
 use Rattle.std.proofs.Common.{ap}
-use Rattle.c_grammar_forms.specs.Found.{reads_node, reads_skip, reads_pair}
-use Rattle.c_grammar_forms.specs.NotFound.{none_node, none_skip, none_first, none_second}
-use Rattle.c_grammar_forms.specs.NotFound.{none_before, none_before_here}
-use Rattle.c_grammar_forms.specs.Exits.{at_exit}
+use Rattle.c_grammar_forms.specs.lemmas.Found.{reads_node, reads_skip, reads_pair}
+use Rattle.c_grammar_forms.specs.lemmas.NotFound.{none_node, none_skip, none_first, none_second}
+use Rattle.c_grammar_forms.specs.lemmas.NotFound.{none_before, none_before_here}
+use Rattle.c_grammar_forms.specs.lemmas.Exits.{at_exit}
 use Rattle.c_grammar_symbols.specs.declared.words.Terminal.TheVariants as terminal
 use Rattle.c_grammar_symbols.specs.Sources.{is}
 use Rattle.c_grammar_tree.specs.declared.TheConstants.{MAX_LEVEL}
 use Rattle.c_grammar_tree.specs.declared.item.Item.TheVariants as node
 use Rattle.c_grammar_tree.specs.Parts.{is_typedef_specifier}
-use Rattle.c_grammar_tree.specs.Terminals.{reads_closed, at_lack}
+use Rattle.c_grammar_tree.specs.lemmas.Terminals.{reads_closed, at_lack}
 use Rattle.c_parser.proofs.Steadies.{steady_specifiers, steady_typedef_names}
 use Rattle.c_parser.proofs.items.typedef_item.Goals as goal
 

@@ -1,17 +1,17 @@
 -- A semicolon, a typedef, or specifiers and what they declare.
 use Rattle.std.proofs.Common.{sym, refl, arith}
 use Rattle.c_grammar_forms.specs.Forms.{Choice}
-use Rattle.c_grammar_forms.specs.Found.{reads_node, reads_one}
-use Rattle.c_grammar_forms.specs.NotFound.{none_node, none_then_first}
-use Rattle.c_grammar_forms.specs.Exits.{at_exit, answers_with}
-use Rattle.c_grammar_forms.specs.Choices.{reads_arm, none_arm}
+use Rattle.c_grammar_forms.specs.lemmas.Found.{reads_node, reads_one}
+use Rattle.c_grammar_forms.specs.lemmas.NotFound.{none_node, none_then_first}
+use Rattle.c_grammar_forms.specs.lemmas.Exits.{at_exit, answers_with}
+use Rattle.c_grammar_forms.specs.lemmas.Choices.{reads_arm, none_arm}
 use Rattle.c_grammar_symbols.specs.Symbols.{symbol_of}
 use Rattle.c_grammar_symbols.specs.Sources.{leaf_at}
 use Rattle.c_grammar_tree.specs.declared.TheConstants.{MAX_LEVEL}
 use Rattle.c_grammar_tree.specs.Grammar.{grammar}
 use Rattle.c_grammar_tree.specs.Parts.{is_specifier, is_listed}
 use Rattle.c_grammar_tree.specs.Items.{declared_at, declared_of, unit_item_at, unit_item}
-use Rattle.c_parser_declarations.specs.Readers.{reads_then_onto, none_then_onto}
+use Rattle.c_parser_declarations.specs.lemmas.Readers.{reads_then_onto, none_then_onto}
 use Rattle.c_parser.proofs.Steadies.{steady_specifiers}
 use Rattle.c_parser.proofs.Arms.{arm_empty, arm_typedef, arm_declared}
 use Rattle.c_parser.proofs.items.unit_item.Goals as goal

@@ -1,7 +1,8 @@
 -- One item more, or no more, each in the tokens as they are seen behind those before it.
 use Rattle.std.specs.List.{flat_map}
 use Rattle.std.proofs.Common.{sym, ◌∙◌, ap, arith, not, map}
-use Rattle.c_grammar_forms.specs.Seen.{none_seen, one_seen, no_more_seen, no_part_seen, at_seen}
+use Rattle.c_grammar_forms.specs.lemmas.Seen.{none_seen, one_seen, no_more_seen, no_part_seen}
+use Rattle.c_grammar_forms.specs.lemmas.Seen.{at_seen}
 use Rattle.c_grammar_tree.specs.Items.{typedefs_in, behind_typedefs, seen_behind}
 use Rattle.c_parser.proofs.SeenItems.{same_length, seen_reads, seen_none, seen_item, seen_after}
 use Rattle.c_parser.proofs.SeenItems.{seen_nothing, end_there, seen_exit}

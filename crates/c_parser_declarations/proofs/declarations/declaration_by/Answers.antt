@@ -1,17 +1,18 @@
 -- Specifiers, declarators or none, a semicolon.
 use Rattle.std.proofs.Common.{refl, arith}
 use Rattle.c_grammar_forms.specs.Forms.{Before}
-use Rattle.c_grammar_forms.specs.Found.{reads_node, reads_then}
-use Rattle.c_grammar_forms.specs.NotFound.{none_node, none_then_first, none_then, none_before}
-use Rattle.c_grammar_forms.specs.NotFound.{none_before_here}
-use Rattle.c_grammar_forms.specs.Exits.{at_exit}
+use Rattle.c_grammar_forms.specs.lemmas.Found.{reads_node, reads_then}
+use Rattle.c_grammar_forms.specs.lemmas.NotFound.{none_node, none_then_first, none_then}
+use Rattle.c_grammar_forms.specs.lemmas.NotFound.{none_before}
+use Rattle.c_grammar_forms.specs.lemmas.NotFound.{none_before_here}
+use Rattle.c_grammar_forms.specs.lemmas.Exits.{at_exit}
 use Rattle.c_grammar_symbols.specs.declared.words.Terminal.TheVariants.{Semicolon}
 use Rattle.c_grammar_symbols.specs.Sources.{is}
 use Rattle.c_grammar_tree.specs.declared.TheConstants.{MAX_LEVEL}
 use Rattle.c_grammar_tree.specs.Grammar.{grammar}
 use Rattle.c_grammar_tree.specs.Parts.{is_local_specifier, is_listed}
 use Rattle.c_grammar_tree.specs.Declarations.{declaration_by, declarators_by}
-use Rattle.c_grammar_tree.specs.Terminals.{reads_closed, at_lack}
+use Rattle.c_grammar_tree.specs.lemmas.Terminals.{reads_closed, at_lack}
 use Rattle.c_parser_declarations.proofs.Steadies.{steady_specifiers, steady_declarators}
 use Rattle.c_parser_declarations.proofs.declarations.declaration_by.Goals as goal
 

@@ -3,8 +3,8 @@ use Rattle.std.proofs.Common.{arith, length}
 use Rattle.c_grammar_symbols.specs.Sources.{leaf_at}
 use Rattle.c_grammar_tree.specs.declared.TheConstants.{MAX_LEVEL}
 use Rattle.c_grammar_tree.specs.Grammar.{grammar}
-use Rattle.c_grammar_tree.specs.Levels.{declaration_above, answers_no_level}
-use Rattle.c_grammar_forms.specs.Exits.{answers_deeper}
+use Rattle.c_grammar_tree.specs.lemmas.Levels.{declaration_above, answers_no_level}
+use Rattle.c_grammar_forms.specs.lemmas.Exits.{answers_deeper}
 use Rattle.c_parser_declarations.proofs.declarations.inner_declaration.Goals as goal
 
 pub returns-then-left-eq0 : goal.returns-then-left-eq0

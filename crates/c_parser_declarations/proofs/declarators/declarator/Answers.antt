@@ -1,11 +1,11 @@
 -- A name, and what stands behind it.
 use Rattle.std.proofs.Common.{refl, arith}
-use Rattle.c_grammar_forms.specs.NotFound.{none_node, none_first}
-use Rattle.c_grammar_forms.specs.Exits.{at_exit, answers_with}
+use Rattle.c_grammar_forms.specs.lemmas.NotFound.{none_node, none_first}
+use Rattle.c_grammar_forms.specs.lemmas.Exits.{at_exit, answers_with}
 use Rattle.c_grammar_tree.specs.declared.TheConstants.{MAX_LEVEL}
 use Rattle.c_grammar_tree.specs.Grammar.{grammar}
 use Rattle.c_grammar_tree.specs.Declarations.{declarator, declarator_of, declarator_rest}
-use Rattle.c_parser_declarations.specs.Readers.{reads_onto, none_onto}
+use Rattle.c_parser_declarations.specs.lemmas.Readers.{reads_onto, none_onto}
 use Rattle.c_parser_declarations.proofs.Steadies.{steady_identifier}
 use Rattle.c_parser_declarations.proofs.declarators.declarator.Goals as goal
 

@@ -1,10 +1,10 @@
 -- Brackets or none, attributes, an initializer or none.
 use Rattle.std.proofs.Common.{refl, arith, is_some}
 use Rattle.c_grammar_forms.specs.Forms.{Skip, Perhaps}
-use Rattle.c_grammar_forms.specs.Found.{reads_node, reads_pair, reads_then}
-use Rattle.c_grammar_forms.specs.NotFound.{none_node, none_then_first, none_then, none_first}
-use Rattle.c_grammar_forms.specs.NotFound.{none_second}
-use Rattle.c_grammar_forms.specs.Exits.{at_exit}
+use Rattle.c_grammar_forms.specs.lemmas.Found.{reads_node, reads_pair, reads_then}
+use Rattle.c_grammar_forms.specs.lemmas.NotFound.{none_node, none_then_first, none_then, none_first}
+use Rattle.c_grammar_forms.specs.lemmas.NotFound.{none_second}
+use Rattle.c_grammar_forms.specs.lemmas.Exits.{at_exit}
 use Rattle.c_grammar_tree.specs.declared.TheConstants.{MAX_LEVEL}
 use Rattle.c_grammar_tree.specs.Grammar.{grammar}
 use Rattle.c_grammar_tree.specs.Parts.{is_initializing}

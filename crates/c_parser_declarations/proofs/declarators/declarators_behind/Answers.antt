@@ -1,10 +1,10 @@
 -- One declarator more, or no more.
 use Rattle.std.proofs.Common.{sym, arith}
 use Rattle.c_grammar_forms.specs.Forms.{Skip}
-use Rattle.c_grammar_forms.specs.Found.{reads_skip}
-use Rattle.c_grammar_forms.specs.NotFound.{none_skip}
-use Rattle.c_grammar_forms.specs.Loops.{one_more, no_more, no_part, at_items, behind_first}
-use Rattle.c_grammar_forms.specs.Exits.{at_exit}
+use Rattle.c_grammar_forms.specs.lemmas.Found.{reads_skip}
+use Rattle.c_grammar_forms.specs.lemmas.NotFound.{none_skip}
+use Rattle.c_grammar_forms.specs.lemmas.Loops.{one_more, no_more, no_part, at_items, behind_first}
+use Rattle.c_grammar_forms.specs.lemmas.Exits.{at_exit}
 use Rattle.c_grammar_symbols.specs.declared.words.Terminal.TheVariants.{Comma}
 use Rattle.c_grammar_symbols.specs.Sources.{is}
 use Rattle.c_grammar_tree.specs.declared.TheConstants.{MAX_LEVEL}

@@ -1,7 +1,7 @@
 -- The declarators are read up to here. The rest of the text gets shorter.
 use Rattle.std.proofs.Common.{◌-◌, length}
 use Rattle.c_grammar_forms.specs.Forms.{Skip}
-use Rattle.c_grammar_forms.specs.Loops.{SoFar}
+use Rattle.c_grammar_forms.specs.lemmas.Loops.{SoFar}
 use Rattle.c_grammar_symbols.specs.declared.words.Terminal.TheVariants.{Comma}
 use Rattle.c_grammar_symbols.specs.Sources.{leaf_at, is}
 use Rattle.c_grammar_tree.specs.Grammar.{grammar}

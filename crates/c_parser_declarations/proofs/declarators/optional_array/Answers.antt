@@ -1,15 +1,15 @@
 -- Brackets with a length or without one, where one opens.
 use Rattle.std.proofs.Common.{sym, refl}
-use Rattle.c_grammar_forms.specs.Found.{reads_no, reads_one_more, reads_node, reads_skip}
-use Rattle.c_grammar_forms.specs.NotFound.{none_perhaps, none_node, none_skip, none_before}
-use Rattle.c_grammar_forms.specs.NotFound.{none_before_here}
-use Rattle.c_grammar_forms.specs.Exits.{at_exit}
+use Rattle.c_grammar_forms.specs.lemmas.Found.{reads_no, reads_one_more, reads_node, reads_skip}
+use Rattle.c_grammar_forms.specs.lemmas.NotFound.{none_perhaps, none_node, none_skip, none_before}
+use Rattle.c_grammar_forms.specs.lemmas.NotFound.{none_before_here}
+use Rattle.c_grammar_forms.specs.lemmas.Exits.{at_exit}
 use Rattle.c_grammar_symbols.specs.declared.words.Terminal.TheVariants.{LeftBracket, RightBracket}
 use Rattle.c_grammar_symbols.specs.Sources.{is}
 use Rattle.c_grammar_tree.specs.declared.TheConstants.{MAX_LEVEL}
 use Rattle.c_grammar_tree.specs.Grammar.{grammar}
 use Rattle.c_grammar_tree.specs.Declarations.{array}
-use Rattle.c_grammar_tree.specs.Terminals.{reads_closed, at_lack}
+use Rattle.c_grammar_tree.specs.lemmas.Terminals.{reads_closed, at_lack}
 use Rattle.c_parser_declarations.proofs.Steadies.{steady_length}
 use Rattle.c_parser_declarations.proofs.declarators.optional_array.Goals as goal
 

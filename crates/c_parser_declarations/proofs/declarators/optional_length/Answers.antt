@@ -1,9 +1,9 @@
 -- A conditional where the bracket does not close at once.
 use Rattle.std.proofs.Common.{sym, ap, not}
 use Rattle.c_grammar_forms.specs.Forms.{Deeper}
-use Rattle.c_grammar_forms.specs.Found.{reads_no, reads_one_more}
-use Rattle.c_grammar_forms.specs.NotFound.{none_perhaps}
-use Rattle.c_grammar_forms.specs.Exits.{at_exit}
+use Rattle.c_grammar_forms.specs.lemmas.Found.{reads_no, reads_one_more}
+use Rattle.c_grammar_forms.specs.lemmas.NotFound.{none_perhaps}
+use Rattle.c_grammar_forms.specs.lemmas.Exits.{at_exit}
 use Rattle.c_grammar_symbols.specs.declared.words.Terminal.TheVariants.{RightBracket}
 use Rattle.c_grammar_tree.specs.declared.TheConstants.{MAX_LEVEL}
 use Rattle.c_grammar_tree.specs.Grammar.{grammar}

@@ -1,8 +1,8 @@
 -- A tag says which of the two it is.
 use Rattle.std.proofs.Common.{sym}
-use Rattle.c_grammar_forms.specs.Found.{reads_choice}
-use Rattle.c_grammar_forms.specs.NotFound.{none_choice}
-use Rattle.c_grammar_forms.specs.Exits.{answers_with}
+use Rattle.c_grammar_forms.specs.lemmas.Found.{reads_choice}
+use Rattle.c_grammar_forms.specs.lemmas.NotFound.{none_choice}
+use Rattle.c_grammar_forms.specs.lemmas.Exits.{answers_with}
 use Rattle.c_grammar_tree.specs.declared.TheConstants.{MAX_LEVEL}
 use Rattle.c_grammar_tree.specs.Grammar.{grammar}
 use Rattle.c_grammar_tree.specs.Parts.{is_name}

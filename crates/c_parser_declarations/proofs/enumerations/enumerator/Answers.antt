@@ -1,9 +1,9 @@
 -- A name, and its value.
 use Rattle.std.proofs.Common.{refl, arith}
 use Rattle.c_grammar_forms.specs.Forms.{Skip, Deeper, Perhaps}
-use Rattle.c_grammar_forms.specs.Found.{reads_node, reads_pair}
-use Rattle.c_grammar_forms.specs.NotFound.{none_node, none_first, none_second}
-use Rattle.c_grammar_forms.specs.Exits.{at_exit}
+use Rattle.c_grammar_forms.specs.lemmas.Found.{reads_node, reads_pair}
+use Rattle.c_grammar_forms.specs.lemmas.NotFound.{none_node, none_first, none_second}
+use Rattle.c_grammar_forms.specs.lemmas.Exits.{at_exit}
 use Rattle.c_grammar_tree.specs.declared.TheConstants.{MAX_LEVEL}
 use Rattle.c_grammar_tree.specs.Grammar.{grammar}
 use Rattle.c_grammar_tree.specs.Parts.{is_initializing}

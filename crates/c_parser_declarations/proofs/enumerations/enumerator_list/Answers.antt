@@ -1,13 +1,13 @@
 -- A brace, enumerators, a brace.
 use Rattle.c_grammar_forms.specs.Forms.{Before}
-use Rattle.c_grammar_forms.specs.NotFound.{none_behind_here, none_before, none_before_here}
-use Rattle.c_grammar_forms.specs.Exits.{at_exit}
+use Rattle.c_grammar_forms.specs.lemmas.NotFound.{none_behind_here, none_before, none_before_here}
+use Rattle.c_grammar_forms.specs.lemmas.Exits.{at_exit}
 use Rattle.c_grammar_symbols.specs.declared.words.Terminal.TheVariants as terminal
 use Rattle.c_grammar_symbols.specs.Sources.{is}
 use Rattle.c_grammar_tree.specs.declared.TheConstants.{MAX_LEVEL}
 use Rattle.c_grammar_tree.specs.Grammar.{grammar}
 use Rattle.c_grammar_tree.specs.Declarations.{enumerators, enumerator_list}
-use Rattle.c_grammar_tree.specs.Terminals.{reads_opened, reads_closed, none_opened, at_lack}
+use Rattle.c_grammar_tree.specs.lemmas.Terminals.{reads_opened, reads_closed, none_opened, at_lack}
 use Rattle.c_parser_declarations.proofs.Steadies.{steady_enumerators}
 use Rattle.c_parser_declarations.proofs.enumerations.enumerator_list.Goals as goal
 

@@ -1,9 +1,9 @@
 -- A first enumerator, and one more or no more.
 use Rattle.std.proofs.Common.{◌++◌, [], ◌∷◌, sym, ◌∙◌, ap, arith, not}
-use Rattle.c_grammar_forms.specs.Loops.{first_part, one_more, no_more, no_part, at_items}
-use Rattle.c_grammar_forms.specs.NotFound.{none_node, none_first}
+use Rattle.c_grammar_forms.specs.lemmas.Loops.{first_part, one_more, no_more, no_part, at_items}
+use Rattle.c_grammar_forms.specs.lemmas.NotFound.{none_node, none_first}
 use Rattle.c_grammar_forms.specs.Forms.{Many}
-use Rattle.c_grammar_forms.specs.Exits.{at_exit}
+use Rattle.c_grammar_forms.specs.lemmas.Exits.{at_exit}
 use Rattle.c_grammar_symbols.specs.declared.words.Terminal.TheVariants.{RightBrace}
 use Rattle.c_grammar_tree.specs.declared.TheConstants.{MAX_LEVEL}
 use Rattle.c_grammar_tree.specs.Grammar.{grammar}

@@ -1,9 +1,9 @@
 -- An enumerator, and a comma or none.
 use Rattle.std.proofs.Common.{refl}
 use Rattle.c_grammar_forms.specs.Forms.{Choice}
-use Rattle.c_grammar_forms.specs.Found.{reads_node, reads_pair}
-use Rattle.c_grammar_forms.specs.NotFound.{none_node, none_first, none_second}
-use Rattle.c_grammar_forms.specs.Exits.{at_exit}
+use Rattle.c_grammar_forms.specs.lemmas.Found.{reads_node, reads_pair}
+use Rattle.c_grammar_forms.specs.lemmas.NotFound.{none_node, none_first, none_second}
+use Rattle.c_grammar_forms.specs.lemmas.Exits.{at_exit}
 use Rattle.c_grammar_symbols.specs.Symbols.{symbol_of}
 use Rattle.c_grammar_tree.specs.declared.TheConstants.{MAX_LEVEL}
 use Rattle.c_grammar_tree.specs.Declarations.{comma_or_end_at, element}

@@ -1,8 +1,8 @@
 -- Enumerators where their brace stands there.
 use Rattle.std.proofs.Common.{sym}
-use Rattle.c_grammar_forms.specs.Found.{reads_no, reads_one_more}
-use Rattle.c_grammar_forms.specs.NotFound.{none_perhaps}
-use Rattle.c_grammar_forms.specs.Exits.{at_exit}
+use Rattle.c_grammar_forms.specs.lemmas.Found.{reads_no, reads_one_more}
+use Rattle.c_grammar_forms.specs.lemmas.NotFound.{none_perhaps}
+use Rattle.c_grammar_forms.specs.lemmas.Exits.{at_exit}
 use Rattle.c_grammar_symbols.specs.declared.words.Terminal.TheVariants.{LeftBrace}
 use Rattle.c_grammar_symbols.specs.Sources.{is}
 use Rattle.c_grammar_tree.specs.declared.TheConstants.{MAX_LEVEL}

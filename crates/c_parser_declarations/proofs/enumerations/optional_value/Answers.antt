@@ -1,9 +1,9 @@
 -- A value behind the sign that gives it.
 use Rattle.std.proofs.Common.{sym}
 use Rattle.c_grammar_forms.specs.Forms.{Skip, Deeper}
-use Rattle.c_grammar_forms.specs.Found.{reads_no, reads_one_more, reads_skip}
-use Rattle.c_grammar_forms.specs.NotFound.{none_perhaps, none_skip}
-use Rattle.c_grammar_forms.specs.Exits.{at_exit}
+use Rattle.c_grammar_forms.specs.lemmas.Found.{reads_no, reads_one_more, reads_skip}
+use Rattle.c_grammar_forms.specs.lemmas.NotFound.{none_perhaps, none_skip}
+use Rattle.c_grammar_forms.specs.lemmas.Exits.{at_exit}
 use Rattle.c_grammar_tree.specs.declared.TheConstants.{MAX_LEVEL}
 use Rattle.c_grammar_tree.specs.Grammar.{grammar}
 use Rattle.c_grammar_tree.specs.Parts.{is_initializing}

@@ -1,9 +1,9 @@
 -- A tag, and enumerators or none.
 use Rattle.std.proofs.Common.{◌∙◌, arith}
 use Rattle.c_grammar_forms.specs.Forms.{Perhaps}
-use Rattle.c_grammar_forms.specs.Found.{reads_node, reads_pair}
-use Rattle.c_grammar_forms.specs.NotFound.{none_node, none_first, none_second}
-use Rattle.c_grammar_forms.specs.Exits.{at_exit}
+use Rattle.c_grammar_forms.specs.lemmas.Found.{reads_node, reads_pair}
+use Rattle.c_grammar_forms.specs.lemmas.NotFound.{none_node, none_first, none_second}
+use Rattle.c_grammar_forms.specs.lemmas.Exits.{at_exit}
 use Rattle.c_grammar_symbols.specs.declared.words.Terminal.TheVariants.{LeftBrace}
 use Rattle.c_grammar_symbols.specs.Sources.{is}
 use Rattle.c_grammar_tree.specs.declared.TheConstants.{MAX_LEVEL}

@@ -1,7 +1,7 @@
 -- Enumerators alone.
-use Rattle.c_grammar_forms.specs.Found.{reads_node}
-use Rattle.c_grammar_forms.specs.NotFound.{none_node}
-use Rattle.c_grammar_forms.specs.Exits.{at_exit}
+use Rattle.c_grammar_forms.specs.lemmas.Found.{reads_node}
+use Rattle.c_grammar_forms.specs.lemmas.NotFound.{none_node}
+use Rattle.c_grammar_forms.specs.lemmas.Exits.{at_exit}
 use Rattle.c_grammar_tree.specs.declared.TheConstants.{MAX_LEVEL}
 use Rattle.c_grammar_tree.specs.Declarations.{enumeration_by}
 use Rattle.c_parser_declarations.proofs.enumerations.without_tag.Goals as goal

@@ -1,8 +1,8 @@
 -- A comma, a brace that is not taken, or neither.
 use Rattle.std.proofs.Common.{sym, refl}
-use Rattle.c_grammar_forms.specs.Found.{reads_one, reads_empty}
-use Rattle.c_grammar_forms.specs.NotFound.{none_nothing}
-use Rattle.c_grammar_forms.specs.Choices.{reads_arm, none_arm}
+use Rattle.c_grammar_forms.specs.lemmas.Found.{reads_one, reads_empty}
+use Rattle.c_grammar_forms.specs.lemmas.NotFound.{none_nothing}
+use Rattle.c_grammar_forms.specs.lemmas.Choices.{reads_arm, none_arm}
 use Rattle.c_grammar_symbols.specs.Symbols.{symbol_of}
 use Rattle.c_grammar_symbols.specs.Sources.{leaf_at}
 use Rattle.c_grammar_tree.specs.Declarations.{comma_or_end_at}

@@ -1,7 +1,7 @@
 -- One expression more, or no more.
 use Rattle.std.proofs.Common.{sym, ap, arith, not}
-use Rattle.c_grammar_forms.specs.Loops.{no_parts, one_more, no_more, no_part, at_items}
-use Rattle.c_grammar_forms.specs.Exits.{at_exit}
+use Rattle.c_grammar_forms.specs.lemmas.Loops.{no_parts, one_more, no_more, no_part, at_items}
+use Rattle.c_grammar_forms.specs.lemmas.Exits.{at_exit}
 use Rattle.c_grammar_symbols.specs.declared.words.Terminal.TheVariants.{RightBrace}
 use Rattle.c_grammar_tree.specs.declared.TheConstants.{MAX_LEVEL}
 use Rattle.c_grammar_tree.specs.Grammar.{grammar}

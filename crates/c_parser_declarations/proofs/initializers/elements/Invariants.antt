@@ -1,6 +1,6 @@
 -- The expressions are read up to here. The rest of the text gets shorter.
 use Rattle.std.proofs.Common.{◌-◌, length}
-use Rattle.c_grammar_forms.specs.Loops.{SoFar}
+use Rattle.c_grammar_forms.specs.lemmas.Loops.{SoFar}
 use Rattle.c_grammar_symbols.specs.declared.words.Terminal.TheVariants.{RightBrace}
 use Rattle.c_grammar_symbols.specs.Sources.{leaf_at}
 use Rattle.c_grammar_tree.specs.Grammar.{grammar}

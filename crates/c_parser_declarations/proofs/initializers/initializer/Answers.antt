@@ -1,8 +1,8 @@
 -- A list, or an expression.
 use Rattle.std.proofs.Common.{sym, subst, refl}
-use Rattle.c_grammar_forms.specs.Found.{reads_node}
-use Rattle.c_grammar_forms.specs.NotFound.{none_node}
-use Rattle.c_grammar_forms.specs.Exits.{at_exit}
+use Rattle.c_grammar_forms.specs.lemmas.Found.{reads_node}
+use Rattle.c_grammar_forms.specs.lemmas.NotFound.{none_node}
+use Rattle.c_grammar_forms.specs.lemmas.Exits.{at_exit}
 use Rattle.c_grammar_tree.specs.declared.TheConstants.{MAX_LEVEL}
 use Rattle.c_grammar_tree.specs.Declarations.{initializer_of}
 use Rattle.c_grammar_tree.specs.Reading.{Gives}

@@ -1,16 +1,16 @@
 -- A brace, expressions, a brace.
 use Rattle.std.proofs.Common.{refl}
 use Rattle.c_grammar_forms.specs.Forms.{Before}
-use Rattle.c_grammar_forms.specs.Found.{reads_node}
-use Rattle.c_grammar_forms.specs.NotFound.{none_node, none_behind_here, none_before}
-use Rattle.c_grammar_forms.specs.NotFound.{none_before_here}
-use Rattle.c_grammar_forms.specs.Exits.{at_exit}
+use Rattle.c_grammar_forms.specs.lemmas.Found.{reads_node}
+use Rattle.c_grammar_forms.specs.lemmas.NotFound.{none_node, none_behind_here, none_before}
+use Rattle.c_grammar_forms.specs.lemmas.NotFound.{none_before_here}
+use Rattle.c_grammar_forms.specs.lemmas.Exits.{at_exit}
 use Rattle.c_grammar_symbols.specs.declared.words.Terminal.TheVariants as terminal
 use Rattle.c_grammar_symbols.specs.Sources.{is}
 use Rattle.c_grammar_tree.specs.declared.TheConstants.{MAX_LEVEL}
 use Rattle.c_grammar_tree.specs.Grammar.{grammar}
 use Rattle.c_grammar_tree.specs.Declarations.{list}
-use Rattle.c_grammar_tree.specs.Terminals.{reads_opened, reads_closed, none_opened, at_lack}
+use Rattle.c_grammar_tree.specs.lemmas.Terminals.{reads_opened, reads_closed, none_opened, at_lack}
 use Rattle.c_parser_declarations.specs.Forms.{elements}
 use Rattle.c_parser_declarations.proofs.Steadies.{steady_elements}
 use Rattle.c_parser_declarations.proofs.initializers.list.Goals as goal

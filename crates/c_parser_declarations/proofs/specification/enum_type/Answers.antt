@@ -1,7 +1,7 @@
 -- An enumerated type behind the word, and the words behind it.
-use Rattle.c_grammar_forms.specs.Found.{reads_node, reads_skip, reads_pair}
-use Rattle.c_grammar_forms.specs.NotFound.{none_node, none_skip, none_first, none_second}
-use Rattle.c_grammar_forms.specs.Exits.{at_exit}
+use Rattle.c_grammar_forms.specs.lemmas.Found.{reads_node, reads_skip, reads_pair}
+use Rattle.c_grammar_forms.specs.lemmas.NotFound.{none_node, none_skip, none_first, none_second}
+use Rattle.c_grammar_forms.specs.lemmas.Exits.{at_exit}
 use Rattle.c_grammar_symbols.specs.Sources.{leaf_at}
 use Rattle.c_grammar_tree.specs.declared.TheConstants.{MAX_LEVEL}
 use Rattle.c_grammar_tree.specs.Declarations.{qualifiers, enum_words}

@@ -1,5 +1,5 @@
 use Rattle.std.proofs.Common.{sym}
-use Rattle.c_grammar_forms.specs.Exits.{at_exit}
+use Rattle.c_grammar_forms.specs.lemmas.Exits.{at_exit}
 use Rattle.c_grammar_tree.specs.declared.TheConstants.{MAX_LEVEL}
 use Rattle.c_parser_expressions.proofs.Tight.{skipped_no, skipped_read, skipped_none}
 use Rattle.c_parser_expressions.proofs.arguments.skipped_call.Goals as goal

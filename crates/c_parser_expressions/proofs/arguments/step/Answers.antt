@@ -1,6 +1,6 @@
 use Rattle.std.proofs.Common.{sym, ◌∙◌}
-use Rattle.c_grammar_forms.specs.NotFound.{none_nothing}
-use Rattle.c_grammar_forms.specs.Choices.{none_arm}
+use Rattle.c_grammar_forms.specs.lemmas.NotFound.{none_nothing}
+use Rattle.c_grammar_forms.specs.lemmas.Choices.{none_arm}
 use Rattle.c_grammar_symbols.specs.Symbols.{symbol_of}
 use Rattle.c_grammar_symbols.specs.Sources.{leaf_at}
 use Rattle.c_grammar_tree.specs.Expressions.{suffix_at}

@@ -1,7 +1,7 @@
 use Rattle.std.proofs.Common.{sym, ◌∙◌, ap, rules}
-use Rattle.c_grammar_forms.specs.Found.{reads_choice, reads_node, reads_one}
-use Rattle.c_grammar_forms.specs.NotFound.{none_nothing}
-use Rattle.c_grammar_forms.specs.Choices.{none_arm}
+use Rattle.c_grammar_forms.specs.lemmas.Found.{reads_choice, reads_node, reads_one}
+use Rattle.c_grammar_forms.specs.lemmas.NotFound.{none_nothing}
+use Rattle.c_grammar_forms.specs.lemmas.Choices.{none_arm}
 use Rattle.c_grammar_symbols.specs.Symbols.{symbol_of}
 use Rattle.c_grammar_symbols.specs.Sources.{leaf_at}
 use Rattle.c_grammar_tree.specs.declared.expression.Expression.TheVariants as expression

@@ -1,7 +1,7 @@
 -- No level is left, or the type has one level less.
 use Rattle.std.proofs.Common.{◌-◌, arith}
-use Rattle.c_grammar_forms.specs.NotFound.{none_too_deep}
-use Rattle.c_grammar_forms.specs.Exits.{answers_deeper_flat}
+use Rattle.c_grammar_forms.specs.lemmas.NotFound.{none_too_deep}
+use Rattle.c_grammar_forms.specs.lemmas.Exits.{answers_deeper_flat}
 use Rattle.c_grammar_tree.specs.declared.TheConstants.{MAX_LEVEL}
 use Rattle.c_grammar_tree.specs.Expressions.{type_name}
 use Rattle.c_parser_expressions.proofs.unary.inner_type_name.Goals as goal

@@ -1,13 +1,13 @@
 -- The items, then the brace and its place.
 use Rattle.std.proofs.Common.{refl}
-use Rattle.c_grammar_forms.specs.Found.{reads_node, reads_pair}
-use Rattle.c_grammar_forms.specs.NotFound.{none_node, none_first, none_second, none_such}
-use Rattle.c_grammar_forms.specs.Exits.{at_exit}
+use Rattle.c_grammar_forms.specs.lemmas.Found.{reads_node, reads_pair}
+use Rattle.c_grammar_forms.specs.lemmas.NotFound.{none_node, none_first, none_second, none_such}
+use Rattle.c_grammar_forms.specs.lemmas.Exits.{at_exit}
 use Rattle.c_grammar_symbols.specs.declared.words.Terminal.TheVariants.{RightBrace}
 use Rattle.c_grammar_symbols.specs.Sources.{is}
 use Rattle.c_grammar_tree.specs.declared.TheConstants.{MAX_LEVEL}
 use Rattle.c_grammar_tree.specs.Items.{closing_brace, closed_items}
-use Rattle.c_grammar_tree.specs.Terminals.{at_lack}
+use Rattle.c_grammar_tree.specs.lemmas.Terminals.{at_lack}
 use Rattle.c_parser_statements.proofs.Dispatch.{reads_taken}
 use Rattle.c_parser_statements.proofs.Steadies.{steady_items}
 use Rattle.c_parser_statements.proofs.blocks.closed_items.Goals as goal

@@ -1,6 +1,6 @@
 -- One token.
 use Rattle.std.proofs.Common.{refl}
-use Rattle.c_grammar_forms.specs.Found.{reads_node, reads_one}
+use Rattle.c_grammar_forms.specs.lemmas.Found.{reads_node, reads_one}
 use Rattle.c_grammar_tree.specs.Statements.{statement_at}
 use Rattle.c_parser_statements.proofs.blocks.empty.Goals as goal
 

@@ -1,12 +1,12 @@
 -- A semicolon behind the word.
 use Rattle.std.proofs.Common.{refl}
-use Rattle.c_grammar_forms.specs.Found.{reads_node, reads_skip}
-use Rattle.c_grammar_forms.specs.NotFound.{none_node, none_skip, none_such}
+use Rattle.c_grammar_forms.specs.lemmas.Found.{reads_node, reads_skip}
+use Rattle.c_grammar_forms.specs.lemmas.NotFound.{none_node, none_skip, none_such}
 use Rattle.c_grammar_symbols.specs.declared.words.Terminal.TheVariants.{Semicolon}
 use Rattle.c_grammar_symbols.specs.Sources.{is}
 use Rattle.c_grammar_tree.specs.declared.TheConstants.{MAX_LEVEL}
 use Rattle.c_grammar_tree.specs.Statements.{statement_at}
-use Rattle.c_grammar_tree.specs.Terminals.{at_lack}
+use Rattle.c_grammar_tree.specs.lemmas.Terminals.{at_lack}
 use Rattle.c_parser_statements.proofs.Dispatch.{reads_taken}
 use Rattle.c_parser_statements.proofs.jumps.continue_statement.Goals as goal
 

@@ -1,13 +1,14 @@
 -- A value or none and a semicolon behind the word.
 use Rattle.std.proofs.Common.{refl}
-use Rattle.c_grammar_forms.specs.Found.{reads_node, reads_skip}
-use Rattle.c_grammar_forms.specs.NotFound.{none_node, none_skip, none_before, none_before_here}
-use Rattle.c_grammar_forms.specs.Exits.{at_exit}
+use Rattle.c_grammar_forms.specs.lemmas.Found.{reads_node, reads_skip}
+use Rattle.c_grammar_forms.specs.lemmas.NotFound.{none_node, none_skip, none_before}
+use Rattle.c_grammar_forms.specs.lemmas.NotFound.{none_before_here}
+use Rattle.c_grammar_forms.specs.lemmas.Exits.{at_exit}
 use Rattle.c_grammar_symbols.specs.declared.words.Terminal.TheVariants.{Semicolon}
 use Rattle.c_grammar_symbols.specs.Sources.{is}
 use Rattle.c_grammar_tree.specs.declared.TheConstants.{MAX_LEVEL}
 use Rattle.c_grammar_tree.specs.Statements.{statement_at}
-use Rattle.c_grammar_tree.specs.Terminals.{reads_closed, at_lack}
+use Rattle.c_grammar_tree.specs.lemmas.Terminals.{reads_closed, at_lack}
 use Rattle.c_parser_statements.proofs.Steadies.{steady_optional_value}
 use Rattle.c_parser_statements.proofs.jumps.return_statement.Goals as goal
 

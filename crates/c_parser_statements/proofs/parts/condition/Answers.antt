@@ -1,13 +1,13 @@
 -- A bracket, an expression, a bracket.
 use Rattle.c_grammar_forms.specs.Forms.{Before, Deeper}
-use Rattle.c_grammar_forms.specs.NotFound.{none_behind_here, none_before, none_before_here}
-use Rattle.c_grammar_forms.specs.Exits.{at_exit}
+use Rattle.c_grammar_forms.specs.lemmas.NotFound.{none_behind_here, none_before, none_before_here}
+use Rattle.c_grammar_forms.specs.lemmas.Exits.{at_exit}
 use Rattle.c_grammar_symbols.specs.declared.words.Terminal.TheVariants.{LeftParen, RightParen}
 use Rattle.c_grammar_symbols.specs.Sources.{is}
 use Rattle.c_grammar_tree.specs.declared.TheConstants.{MAX_LEVEL}
 use Rattle.c_grammar_tree.specs.Grammar.{grammar}
 use Rattle.c_grammar_tree.specs.Statements.{condition}
-use Rattle.c_grammar_tree.specs.Terminals.{reads_opened, reads_closed, none_opened, at_lack}
+use Rattle.c_grammar_tree.specs.lemmas.Terminals.{reads_opened, reads_closed, none_opened, at_lack}
 use Rattle.c_parser_statements.proofs.Steadies.{steady_test}
 use Rattle.c_parser_statements.proofs.parts.condition.Goals as goal
 
@@ -34,4 +34,5 @@ returns-in_err-behind c =
 pub returns : goal.returns
 unfolding condition
 returns c = rw c.in_ok-test.ensures
-    (reads_opened c.in_ok-start.ensures (reads_closed c.in_ok-inside.ensures c.in_ok-behind.ensures))
+    (reads_opened c.in_ok-start.ensures
+        (reads_closed c.in_ok-inside.ensures c.in_ok-behind.ensures))

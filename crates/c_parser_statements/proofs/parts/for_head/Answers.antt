@@ -1,15 +1,15 @@
 -- A bracket, the first part, the test and the step.
 use Rattle.c_grammar_forms.specs.Forms.{Pair, Choice}
-use Rattle.c_grammar_forms.specs.Found.{reads_pair}
-use Rattle.c_grammar_forms.specs.NotFound.{none_behind_here, none_first, none_second}
-use Rattle.c_grammar_forms.specs.Exits.{at_exit}
+use Rattle.c_grammar_forms.specs.lemmas.Found.{reads_pair}
+use Rattle.c_grammar_forms.specs.lemmas.NotFound.{none_behind_here, none_first, none_second}
+use Rattle.c_grammar_forms.specs.lemmas.Exits.{at_exit}
 use Rattle.c_grammar_symbols.specs.declared.words.Terminal.TheVariants.{LeftParen}
 use Rattle.c_grammar_symbols.specs.Sources.{is}
 use Rattle.c_grammar_tree.specs.declared.TheConstants.{MAX_LEVEL}
 use Rattle.c_grammar_tree.specs.Grammar.{grammar}
 use Rattle.c_grammar_tree.specs.Parts.{is_local_specifier}
 use Rattle.c_grammar_tree.specs.Statements.{for_start}
-use Rattle.c_grammar_tree.specs.Terminals.{reads_opened, none_opened, at_lack}
+use Rattle.c_grammar_tree.specs.lemmas.Terminals.{reads_opened, none_opened, at_lack}
 use Rattle.c_parser_statements.specs.Forms.{test_and_step}
 use Rattle.c_parser_statements.proofs.Steadies.{steady_start}
 use Rattle.c_parser_statements.proofs.parts.for_head.Goals as goal

@@ -1,8 +1,8 @@
 -- A declaration, or an expression or none with its semicolon.
 use Rattle.std.proofs.Common.{sym, refl}
-use Rattle.c_grammar_forms.specs.Found.{reads_choice, reads_node}
-use Rattle.c_grammar_forms.specs.NotFound.{none_choice, none_node}
-use Rattle.c_grammar_forms.specs.Exits.{at_exit}
+use Rattle.c_grammar_forms.specs.lemmas.Found.{reads_choice, reads_node}
+use Rattle.c_grammar_forms.specs.lemmas.NotFound.{none_choice, none_node}
+use Rattle.c_grammar_forms.specs.lemmas.Exits.{at_exit}
 use Rattle.c_grammar_tree.specs.declared.TheConstants.{MAX_LEVEL}
 use Rattle.c_grammar_tree.specs.Grammar.{grammar}
 use Rattle.c_grammar_tree.specs.Parts.{is_local_specifier}

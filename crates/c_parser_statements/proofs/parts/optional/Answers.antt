@@ -1,10 +1,10 @@
 -- An expression or none, and the terminal.
-use Rattle.c_grammar_forms.specs.NotFound.{none_before, none_before_here}
-use Rattle.c_grammar_forms.specs.Exits.{at_exit}
+use Rattle.c_grammar_forms.specs.lemmas.NotFound.{none_before, none_before_here}
+use Rattle.c_grammar_forms.specs.lemmas.Exits.{at_exit}
 use Rattle.c_grammar_symbols.specs.Sources.{is}
 use Rattle.c_grammar_tree.specs.declared.TheConstants.{MAX_LEVEL}
 use Rattle.c_grammar_tree.specs.Statements.{optional}
-use Rattle.c_grammar_tree.specs.Terminals.{reads_closed, at_lack}
+use Rattle.c_grammar_tree.specs.lemmas.Terminals.{reads_closed, at_lack}
 use Rattle.c_parser_statements.proofs.Steadies.{steady_optional_comma}
 use Rattle.c_parser_statements.proofs.parts.optional.Goals as goal
 

@@ -1,7 +1,7 @@
 -- The test, then the step.
-use Rattle.c_grammar_forms.specs.Found.{reads_pair}
-use Rattle.c_grammar_forms.specs.NotFound.{none_first, none_second}
-use Rattle.c_grammar_forms.specs.Exits.{at_exit}
+use Rattle.c_grammar_forms.specs.lemmas.Found.{reads_pair}
+use Rattle.c_grammar_forms.specs.lemmas.NotFound.{none_first, none_second}
+use Rattle.c_grammar_forms.specs.lemmas.Exits.{at_exit}
 use Rattle.c_grammar_symbols.specs.declared.words.Terminal.TheVariants as terminal
 use Rattle.c_grammar_tree.specs.declared.TheConstants.{MAX_LEVEL}
 use Rattle.c_grammar_tree.specs.Grammar.{grammar}

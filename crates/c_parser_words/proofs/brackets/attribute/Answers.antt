@@ -2,10 +2,11 @@
 use Rattle.std.proofs.Common.{sym, subst}
 use Rattle.std.proofs.lemmas.Result.{MatchResult-weaker}
 use Rattle.c_grammar_forms.specs.Reading.{Faults}
-use Rattle.c_grammar_forms.specs.Found.{reads_skip, reads_behind_by, reads_before_by}
-use Rattle.c_grammar_forms.specs.NotFound.{none_skip, none_behind_by, none_behind_here, none_before}
-use Rattle.c_grammar_forms.specs.NotFound.{none_before_here}
-use Rattle.c_grammar_forms.specs.Exits.{skip_exit, skip_fault}
+use Rattle.c_grammar_forms.specs.lemmas.Found.{reads_skip, reads_behind_by, reads_before_by}
+use Rattle.c_grammar_forms.specs.lemmas.NotFound.{none_skip, none_behind_by, none_behind_here}
+use Rattle.c_grammar_forms.specs.lemmas.NotFound.{none_before}
+use Rattle.c_grammar_forms.specs.lemmas.NotFound.{none_before_here}
+use Rattle.c_grammar_forms.specs.lemmas.Exits.{skip_exit, skip_fault}
 use Rattle.c_grammar_symbols.specs.declared.words.Terminal.TheVariants as terminal
 use Rattle.c_grammar_symbols.specs.Sources.{leaf_at, is}
 use Rattle.c_grammar_tree.specs.declared.TheConstants.{MAX_LEVEL}

@@ -1,9 +1,9 @@
 -- One attribute more, or no more, and an error in an attribute is one of them all.
 use Rattle.std.proofs.Common.{sym, refl, arith}
-use Rattle.c_grammar_forms.specs.Found.{reads_node}
-use Rattle.c_grammar_forms.specs.NotFound.{none_node}
-use Rattle.c_grammar_forms.specs.Loops.{no_more, no_part}
-use Rattle.c_grammar_forms.specs.Exits.{skip_exit}
+use Rattle.c_grammar_forms.specs.lemmas.Found.{reads_node}
+use Rattle.c_grammar_forms.specs.lemmas.NotFound.{none_node}
+use Rattle.c_grammar_forms.specs.lemmas.Loops.{no_more, no_part}
+use Rattle.c_grammar_forms.specs.lemmas.Exits.{skip_exit}
 use Rattle.c_grammar_tree.specs.declared.TheConstants.{MAX_LEVEL}
 use Rattle.c_grammar_tree.specs.Declarations.{attributes}
 use Rattle.c_parser_words.proofs.Skipped.{strict_attribute, skipped_more}

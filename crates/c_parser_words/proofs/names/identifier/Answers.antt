@@ -1,7 +1,7 @@
 -- An identifier is a token that is a name.
 use Rattle.std.proofs.Common.{sym, refl}
-use Rattle.c_grammar_forms.specs.Found.{reads_node, reads_such}
-use Rattle.c_grammar_forms.specs.NotFound.{none_node, none_such}
+use Rattle.c_grammar_forms.specs.lemmas.Found.{reads_node, reads_such}
+use Rattle.c_grammar_forms.specs.lemmas.NotFound.{none_node, none_such}
 use Rattle.c_grammar_tree.specs.Parts.{is_name, name_of}
 use Rattle.c_grammar_tree.specs.Declarations.{identifier}
 use Rattle.c_parser_words.proofs.names.identifier.Goals as goal

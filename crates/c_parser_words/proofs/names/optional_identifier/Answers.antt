@@ -1,8 +1,8 @@
 -- An identifier is there where the next token is a name.
 use Rattle.std.proofs.Common.{sym}
-use Rattle.c_grammar_forms.specs.Found.{reads_no, reads_one_more}
-use Rattle.c_grammar_forms.specs.NotFound.{none_perhaps}
-use Rattle.c_grammar_forms.specs.Exits.{at_exit}
+use Rattle.c_grammar_forms.specs.lemmas.Found.{reads_no, reads_one_more}
+use Rattle.c_grammar_forms.specs.lemmas.NotFound.{none_perhaps}
+use Rattle.c_grammar_forms.specs.lemmas.Exits.{at_exit}
 use Rattle.c_grammar_tree.specs.declared.TheConstants.{MAX_LEVEL}
 use Rattle.c_grammar_tree.specs.Parts.{is_name}
 use Rattle.c_grammar_tree.specs.Declarations.{identifier}

@@ -1,9 +1,9 @@
 -- A name and those behind commas.
 use Rattle.std.proofs.Common.{◌++◌, [], ◌∷◌, length, sym, ◌∙◌, ap, subst, arith}
 use Rattle.c_grammar_forms.specs.Reading.{Reads}
-use Rattle.c_grammar_forms.specs.NotFound.{none_skip}
-use Rattle.c_grammar_forms.specs.Loops.{no_more, no_part}
-use Rattle.c_grammar_forms.specs.Exits.{at_exit}
+use Rattle.c_grammar_forms.specs.lemmas.NotFound.{none_skip}
+use Rattle.c_grammar_forms.specs.lemmas.Loops.{no_more, no_part}
+use Rattle.c_grammar_forms.specs.lemmas.Exits.{at_exit}
 use Rattle.c_grammar_symbols.specs.Sources.{leaf_at}
 use Rattle.c_grammar_tree.specs.declared.TheConstants.{MAX_LEVEL}
 use Rattle.c_grammar_tree.specs.Items.{typedef_names}

@@ -1,9 +1,9 @@
 -- A bracket, parameters or none, the bracket that closes, attributes.
-use Rattle.c_grammar_forms.specs.Found.{reads_node, reads_skip, reads_pair, reads_before_by}
-use Rattle.c_grammar_forms.specs.NotFound.{none_node, none_skip, none_first, none_second}
-use Rattle.c_grammar_forms.specs.NotFound.{none_before}
-use Rattle.c_grammar_forms.specs.NotFound.{none_before_here}
-use Rattle.c_grammar_forms.specs.Exits.{at_exit, at_fault}
+use Rattle.c_grammar_forms.specs.lemmas.Found.{reads_node, reads_skip, reads_pair, reads_before_by}
+use Rattle.c_grammar_forms.specs.lemmas.NotFound.{none_node, none_skip, none_first, none_second}
+use Rattle.c_grammar_forms.specs.lemmas.NotFound.{none_before}
+use Rattle.c_grammar_forms.specs.lemmas.NotFound.{none_before_here}
+use Rattle.c_grammar_forms.specs.lemmas.Exits.{at_exit, at_fault}
 use Rattle.c_grammar_symbols.specs.declared.words.Terminal.TheVariants.{RightParen}
 use Rattle.c_grammar_symbols.specs.Sources.{is}
 use Rattle.c_grammar_tree.specs.declared.TheConstants.{MAX_LEVEL}

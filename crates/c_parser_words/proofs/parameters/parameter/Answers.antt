@@ -1,8 +1,9 @@
 -- Specifiers, then a pointer where one may stand, then a name where one stands.
 use Rattle.std.proofs.Common.{◌∙◌, ap}
-use Rattle.c_grammar_forms.specs.Found.{reads_node, reads_then, reads_pair}
-use Rattle.c_grammar_forms.specs.NotFound.{none_node, none_then, none_then_first, none_second}
-use Rattle.c_grammar_forms.specs.Exits.{at_exit}
+use Rattle.c_grammar_forms.specs.lemmas.Found.{reads_node, reads_then, reads_pair}
+use Rattle.c_grammar_forms.specs.lemmas.NotFound.{none_node, none_then, none_then_first}
+use Rattle.c_grammar_forms.specs.lemmas.NotFound.{none_second}
+use Rattle.c_grammar_forms.specs.lemmas.Exits.{at_exit}
 use Rattle.c_grammar_tree.specs.declared.TheConstants.{MAX_LEVEL}
 use Rattle.c_grammar_tree.specs.Parts.{have_char}
 use Rattle.c_grammar_tree.specs.Items.{parameter}

@@ -2,7 +2,7 @@
 use Rattle.std.proofs.Common.{sym, refl}
 use Rattle.std.proofs.lemmas.Bool.{and_from, and_left, and_right}
 use Rattle.c_grammar_forms.specs.Forms.{One}
-use Rattle.c_grammar_forms.specs.Found.{reads_no, reads_one, reads_one_more}
+use Rattle.c_grammar_forms.specs.lemmas.Found.{reads_no, reads_one, reads_one_more}
 use Rattle.c_parser_words.proofs.parameters.pointer.Goals as goal
 use Rattle.c_parser_words.proofs.parameters.pointer.Goals.{else-allowed-via-then-allowed+else-is_pointer}
 use Rattle.c_parser_words.proofs.parameters.pointer.Goals.{else-allowed-via-else-allowed}

@@ -1,8 +1,8 @@
 -- A tag behind the word.
 use Rattle.std.proofs.Common.{ap}
-use Rattle.c_grammar_forms.specs.Found.{reads_node, reads_skip}
-use Rattle.c_grammar_forms.specs.NotFound.{none_node, none_skip}
-use Rattle.c_grammar_forms.specs.Exits.{at_exit}
+use Rattle.c_grammar_forms.specs.lemmas.Found.{reads_node, reads_skip}
+use Rattle.c_grammar_forms.specs.lemmas.NotFound.{none_node, none_skip}
+use Rattle.c_grammar_forms.specs.lemmas.Exits.{at_exit}
 use Rattle.c_grammar_tree.specs.declared.TheConstants.{MAX_LEVEL}
 use Rattle.c_grammar_tree.specs.declared.expression.TypeName.TheVariants as type_name'
 use Rattle.c_grammar_tree.specs.Expressions.{type_name_at}

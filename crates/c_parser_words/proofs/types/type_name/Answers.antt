@@ -1,8 +1,8 @@
 -- enum and a tag, a typedef name, or the words of a type.
 use Rattle.std.proofs.Common.{◌∙◌, ap, sym}
-use Rattle.c_grammar_forms.specs.Exits.{answers_with}
-use Rattle.c_grammar_forms.specs.Found.{reads_node, reads_one, reads_choice}
-use Rattle.c_grammar_forms.specs.Choices.{reads_arm, none_arm}
+use Rattle.c_grammar_forms.specs.lemmas.Exits.{answers_with}
+use Rattle.c_grammar_forms.specs.lemmas.Found.{reads_node, reads_one, reads_choice}
+use Rattle.c_grammar_forms.specs.lemmas.Choices.{reads_arm, none_arm}
 use Rattle.c_grammar_symbols.specs.Symbols.{symbol_of}
 use Rattle.c_grammar_symbols.specs.Sources.{leaf_at}
 use Rattle.c_grammar_tree.specs.declared.TheConstants.{MAX_LEVEL}

@@ -1,7 +1,7 @@
 -- One word more, or no more; a word with which there is no type is the fault, and so is what stands
 -- where no word does.
 use Rattle.std.proofs.Common.{◌≡◌, ◌==◌, length, vec_len, sym, ◌∙◌, ap, arith}
-use Rattle.c_grammar_forms.specs.Exits.{at_exit}
+use Rattle.c_grammar_forms.specs.lemmas.Exits.{at_exit}
 use Rattle.c_grammar_tree.specs.declared.TheConstants.{MAX_LEVEL}
 use Rattle.c_grammar_tree.specs.Parts.{types}
 use Rattle.c_grammar_tree.specs.declared.expression.TypeName.TheVariants as type_name'

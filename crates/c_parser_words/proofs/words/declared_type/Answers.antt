@@ -1,6 +1,6 @@
 -- Nothing; or enum and a tag; or a typedef name.
 use Rattle.std.proofs.Common.{sym, ◌∙◌, ap, subst, None}
-use Rattle.c_grammar_forms.specs.Found.{reads_node, reads_empty}
+use Rattle.c_grammar_forms.specs.lemmas.Found.{reads_node, reads_empty}
 use Rattle.c_grammar_tree.specs.Declarations.{tag, declared_type}
 use Rattle.c_parser_words.specs.Answers.{Finds}
 use Rattle.c_parser_words.specs.Storage.{goes_in}

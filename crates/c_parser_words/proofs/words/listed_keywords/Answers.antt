@@ -3,7 +3,7 @@ use Rattle.std.proofs.Common.{◌≡◌, ◌++◌, [], ◌∷◌, length, sym, �
 use Rattle.c_grammar_forms.specs.Reading.{Reads}
 use Rattle.c_grammar_symbols.specs.Sources.{leaf_at}
 use Rattle.c_grammar_tree.specs.Declarations.{keywords}
-use Rattle.c_grammar_forms.specs.Exits.{at_exit}
+use Rattle.c_grammar_forms.specs.lemmas.Exits.{at_exit}
 use Rattle.c_grammar_tree.specs.declared.TheConstants.{MAX_LEVEL}
 use Rattle.c_parser_words.specs.Storage.{goes_in, keeps_on}
 use Rattle.c_parser_words.specs.Steps.{kind_of}

@@ -1,8 +1,8 @@
 -- Keywords, and a type that the text declares where no word of a type is among them.
 use Rattle.std.proofs.Common.{◌∙◌, ap}
-use Rattle.c_grammar_forms.specs.Found.{reads_node, reads_then}
-use Rattle.c_grammar_forms.specs.NotFound.{none_node, none_then, none_then_first}
-use Rattle.c_grammar_forms.specs.Exits.{at_exit}
+use Rattle.c_grammar_forms.specs.lemmas.Found.{reads_node, reads_then}
+use Rattle.c_grammar_forms.specs.lemmas.NotFound.{none_node, none_then, none_then_first}
+use Rattle.c_grammar_forms.specs.lemmas.Exits.{at_exit}
 use Rattle.c_grammar_symbols.specs.Sources.{leaf_at}
 use Rattle.c_grammar_tree.specs.declared.TheConstants.{MAX_LEVEL}
 use Rattle.c_grammar_tree.specs.Parts.{have_word}

@@ -1,7 +1,7 @@
 -- A tag is an identifier.
-use Rattle.c_grammar_forms.specs.Found.{reads_node}
-use Rattle.c_grammar_forms.specs.NotFound.{none_node}
-use Rattle.c_grammar_forms.specs.Exits.{at_exit}
+use Rattle.c_grammar_forms.specs.lemmas.Found.{reads_node}
+use Rattle.c_grammar_forms.specs.lemmas.NotFound.{none_node}
+use Rattle.c_grammar_forms.specs.lemmas.Exits.{at_exit}
 use Rattle.c_grammar_tree.specs.declared.TheConstants.{MAX_LEVEL}
 use Rattle.c_grammar_tree.specs.Declarations.{tag}
 use Rattle.c_parser_words.proofs.words.tag.Goals as goal

@@ -59,17 +59,20 @@ loop-one-preserved c =
 pub returns-clause-names : goal.returns-clause-names
 returns-clause-names c = λ around named.
     let l = c.loop-one in
-    (enumerated_end c.args.survey.now c.args.caller (to_z w128 l.next-bits) c.args.list.now l.one-index around
+    (enumerated_end c.args.survey.now c.args.caller (to_z w128 l.next-bits) c.args.list.now
+    l.one-index around
     l.names l.first l.calls.items _ _ _ (omega arith) (l.invariant.gives around named)).names_at
 
 pub returns-clause-first : goal.returns-clause-first
 returns-clause-first c = λ around named.
     let l = c.loop-one in
-    (enumerated_end c.args.survey.now c.args.caller (to_z w128 l.next-bits) c.args.list.now l.one-index around
+    (enumerated_end c.args.survey.now c.args.caller (to_z w128 l.next-bits) c.args.list.now
+    l.one-index around
     l.names l.first l.calls.items _ _ _ (omega arith) (l.invariant.gives around named)).first_at
 
 pub returns-clause-calls : goal.returns-clause-calls
 returns-clause-calls c = λ around named.
     let l = c.loop-one in
-    (enumerated_end c.args.survey.now c.args.caller (to_z w128 l.next-bits) c.args.list.now l.one-index around
+    (enumerated_end c.args.survey.now c.args.caller (to_z w128 l.next-bits) c.args.list.now
+    l.one-index around
     l.names l.first l.calls.items _ _ _ (omega arith) (l.invariant.gives around named)).calls_at

@@ -5,7 +5,7 @@ use Rattle.cpa_model.specs.declared.facts.Elem.{Elem}
 use Rattle.cpa_iface.specs.declared.precisions.Precision.{Precision}
 use Rattle.cpa_iface.specs.Laws.{AdjustLaws}
 use Rattle.cpa_iface.specs.Meanings.{Meaning}
-use Rattle.cpa_composite_covers.specs.PickLaws.{meant}
+use Rattle.cpa_composite_covers.specs.lemmas.PickLaws.{meant}
 use Rattle.cpa_composite.proofs.asking.adjust.Goals as goal
 
 pub returns-clause-laws : goal.returns-clause-laws

@@ -4,7 +4,7 @@ use Rattle.std.proofs.lemmas.Result.{IfOk-weaker}
 use Rattle.cpa_model.specs.declared.facts.Elem.{Elem}
 use Rattle.cpa_iface.specs.Laws.{StrengthenLaws}
 use Rattle.cpa_iface.specs.Meanings.{Meaning}
-use Rattle.cpa_composite_covers.specs.PickLaws.{meant}
+use Rattle.cpa_composite_covers.specs.lemmas.PickLaws.{meant}
 use Rattle.cpa_composite.proofs.asking.strengthen.Goals as goal
 
 pub returns-clause-laws : goal.returns-clause-laws

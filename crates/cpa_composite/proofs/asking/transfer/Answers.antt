@@ -6,7 +6,7 @@ use Rattle.std.proofs.lemmas.Result.{IfOk-weaker}
 use Rattle.cpa_model.specs.declared.facts.Elem.{Elem}
 use Rattle.cpa_iface.specs.Laws.{TransferLaws}
 use Rattle.cpa_iface.specs.Meanings.{Meaning}
-use Rattle.cpa_composite_covers.specs.PickLaws.{meant}
+use Rattle.cpa_composite_covers.specs.lemmas.PickLaws.{meant}
 use Rattle.cpa_composite.proofs.asking.transfer.Goals as goal
 
 pub returns-clause-laws : goal.returns-clause-laws

@@ -6,7 +6,7 @@ use Rattle.cpa_model.specs.declared.facts.Elem.{Elem}
 use Rattle.cpa_iface.specs.declared.precisions.Precision.{Precision}
 use Rattle.cpa_composite.specs.Components.{picked}
 use Rattle.cpa_composite.proofs.Picking.{picked_length}
-use Rattle.cpa_composite_covers.specs.PickLaws.{within_meanings}
+use Rattle.cpa_composite_covers.specs.lemmas.PickLaws.{within_meanings}
 use Rattle.cpa_composite.proofs.Lifted.{initial_row}
 use Rattle.cpa_composite.proofs.calls.initial.Goals as goal
 

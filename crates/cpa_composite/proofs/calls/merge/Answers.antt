@@ -7,7 +7,7 @@ use Rattle.cpa_model.specs.declared.facts.Elem.{Elem}
 use Rattle.cpa_composite.specs.Components.{picked, AreElems, ArePrecisions}
 use Rattle.cpa_composite.specs.Laws.{MergedRow, AgreeOnSep, WidenCovers, EachMerged}
 use Rattle.cpa_composite.proofs.Picking.{picked_length}
-use Rattle.cpa_composite_covers.specs.PickLaws.{within_meanings}
+use Rattle.cpa_composite_covers.specs.lemmas.PickLaws.{within_meanings}
 use Rattle.cpa_composite.proofs.Compared.{agree_means, agree_fails}
 use Rattle.cpa_composite.proofs.Lifted.{merged_row, widen_covers, if_none}
 use Rattle.cpa_composite.proofs.calls.merge.Goals as goal

@@ -1,7 +1,7 @@
 use Rattle.std.proofs.Common.{◌≡◌, List, true, false, refl, sym, subst}
 use Rattle.cpa_model.specs.declared.facts.Elem.{Elem}
 use Rattle.cpa_reached_key.specs.Rows.{same_row}
-use Rattle.cpa_reached_key.specs.RowLaws.{same_row-means}
+use Rattle.cpa_reached_key.specs.lemmas.RowLaws.{same_row-means}
 use Rattle.cpa_composite.proofs.Compared.{row_differs}
 use Rattle.cpa_composite.proofs.calls.other_row.Goals as goal
 

@@ -7,7 +7,7 @@ use Rattle.cpa_iface.specs.declared.precisions.Precision.{Precision}
 use Rattle.cpa_composite.specs.Components.{picked, ArePrecisions}
 use Rattle.cpa_composite.specs.Laws.{RefinedRow}
 use Rattle.cpa_composite.proofs.Picking.{picked_length}
-use Rattle.cpa_composite_covers.specs.PickLaws.{within_meanings}
+use Rattle.cpa_composite_covers.specs.lemmas.PickLaws.{within_meanings}
 use Rattle.cpa_composite.proofs.Lifted.{refined_row, suggestions_stand, precisions_stay, if_none}
 use Rattle.cpa_composite.proofs.calls.refine.Goals as goal
 

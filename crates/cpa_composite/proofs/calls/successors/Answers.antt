@@ -9,7 +9,7 @@ use Rattle.cpa_iface.specs.Meanings.{Meaning}
 use Rattle.cpa_composite.specs.Components.{picked, AreElems, ArePrecisions}
 use Rattle.cpa_composite.specs.Laws.{choices, EachStrengthened}
 use Rattle.cpa_composite.proofs.Picking.{picked_length}
-use Rattle.cpa_composite_covers.specs.PickLaws.{within_meanings}
+use Rattle.cpa_composite_covers.specs.lemmas.PickLaws.{within_meanings}
 use Rattle.cpa_composite.proofs.Picking.{within_kept}
 use Rattle.cpa_composite.proofs.Covering.{lists_shaped, choices_shaped, successor_rows}
 use Rattle.cpa_composite.proofs.calls.successors.Goals as goal

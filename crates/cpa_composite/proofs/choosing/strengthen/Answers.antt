@@ -3,7 +3,7 @@ use Rattle.std.proofs.Common.{◌∙◌}
 use Rattle.std.proofs.Common.{arith}
 use Rattle.std.proofs.lemmas.Option.{slice_get_read, slice_get-get_or}
 use Rattle.cpa_composite.specs.Components.{picked}
-use Rattle.cpa_composite_covers.specs.PickLaws.{within_meanings}
+use Rattle.cpa_composite_covers.specs.lemmas.PickLaws.{within_meanings}
 use Rattle.cpa_iface.specs.declared.merging.Pick.{Pick}
 use Rattle.std.proofs.Common.{get_or}
 use Rattle.cpa_composite.proofs.Picking.{picked_length}
@@ -99,6 +99,7 @@ returns-clause-laws g c =
     let handed = c.args.handed.now.items in
     let ms = map meaning handed in
     let many = picked_length ms picks (within_meanings meaning handed picks c.requires.picks) in
-    halfway_whole c.args.cfa.now (picked ms picks) c.args.choice.items c.args.precisions.now at.place
+    halfway_whole c.args.cfa.now (picked ms picks) c.args.choice.items c.args.precisions.now
+        at.place
     at.row.items (omega (arith, c.loop-place-test.false, many))
     at.invariant.half

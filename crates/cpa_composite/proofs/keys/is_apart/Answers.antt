@@ -1,7 +1,7 @@
 use Rattle.std.proofs.Common.{rules, map, length, ltb-true, sym, ◌∙◌, refl}
 use Rattle.std.proofs.lemmas.Option.{slice_get_read}
 use Rattle.cpa_composite.proofs.Apart.{apart_rule, rule_apart, no_component}
-use Rattle.cpa_composite_covers.specs.PickLaws.{within_meanings}
+use Rattle.cpa_composite_covers.specs.lemmas.PickLaws.{within_meanings}
 use Rattle.cpa_composite.proofs.keys.is_apart.Goals as goal
 
 pub returns-in-Some : goal.returns-in-Some

@@ -1,7 +1,7 @@
 use Rattle.std.proofs.Common.{map}
 use Rattle.std.proofs.lemmas.Option.{slice_get-get_or}
 use Rattle.cpa_composite.proofs.Numbered.{places_step, places_end}
-use Rattle.cpa_composite_covers.specs.PickLaws.{within_meanings}
+use Rattle.cpa_composite_covers.specs.lemmas.PickLaws.{within_meanings}
 use Rattle.cpa_composite.proofs.keys.key_places.Goals as goal
 
 pub loop-place-preserved : goal.loop-place-preserved

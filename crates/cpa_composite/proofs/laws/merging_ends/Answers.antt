@@ -1,4 +1,4 @@
-use Rattle.cpa_composite.specs.RankLaws.{merged_falls, merged_covers, stays_covers}
+use Rattle.cpa_composite.specs.lemmas.RankLaws.{merged_falls, merged_covers, stays_covers}
 use Rattle.cpa_composite.proofs.laws.merging_ends.Goals as goal
 
 pub returns-clause-falls : goal.returns-clause-falls

@@ -6,7 +6,7 @@ use Rattle.std.proofs.lemmas.Option.{slice_get_read, slice_get-get_or}
 use Rattle.cpa_iface.specs.Meanings.{HasPlace}
 use Rattle.std.proofs.Common.{get_or}
 use Rattle.cpa_iface.specs.declared.merging.Pick.{Pick}
-use Rattle.cpa_composite_covers.specs.PickLaws.{within_meanings}
+use Rattle.cpa_composite_covers.specs.lemmas.PickLaws.{within_meanings}
 use Rattle.cpa_composite.proofs.Growing.{IsAt, adjust_more}
 use Rattle.cpa_composite.proofs.Lifted.{have_place}
 use Rattle.cpa_composite.proofs.rows.adjusts.Goals as goal

@@ -6,7 +6,7 @@ use Rattle.std.proofs.lemmas.Option.{slice_get_read, slice_get-get_or}
 use Rattle.cpa_composite.specs.Components.{picked}
 use Rattle.std.proofs.Common.{get_or}
 use Rattle.cpa_iface.specs.declared.merging.Pick.{Pick}
-use Rattle.cpa_composite_covers.specs.PickLaws.{within_meanings}
+use Rattle.cpa_composite_covers.specs.lemmas.PickLaws.{within_meanings}
 use Rattle.cpa_composite.specs.Laws.{EachMerged}
 use Rattle.cpa_composite.proofs.Growing.{IsAt, merge_more}
 use Rattle.cpa_composite.proofs.rows.merges.Goals as goal

@@ -9,7 +9,7 @@ use Rattle.cpa_model.specs.declared.facts.Elem.{Elem}
 use Rattle.cpa_composite.specs.Components.{picked}
 use Rattle.std.proofs.Common.{get_or}
 use Rattle.cpa_iface.specs.declared.merging.Pick.{Pick}
-use Rattle.cpa_composite_covers.specs.PickLaws.{within_meanings}
+use Rattle.cpa_composite_covers.specs.lemmas.PickLaws.{within_meanings}
 use Rattle.cpa_composite.specs.Laws.{EachTransfer}
 use Rattle.cpa_composite.proofs.Growing.{IsAt, transfer_more}
 use Rattle.cpa_composite.proofs.rows.transfers.Goals as goal

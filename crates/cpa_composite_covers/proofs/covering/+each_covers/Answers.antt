@@ -1,5 +1,5 @@
 use Rattle.std.proofs.Common.{true, map, sym, ◌∙◌}
-use Rattle.cpa_composite_covers.specs.PickLaws.{within_meanings}
+use Rattle.cpa_composite_covers.specs.lemmas.PickLaws.{within_meanings}
 use Rattle.cpa_composite_covers.proofs.Compared.{cover_split, cover_rest, cover_fails, both_true}
 use Rattle.cpa_composite_covers.proofs.covering.+each_covers.Goals as goal
 

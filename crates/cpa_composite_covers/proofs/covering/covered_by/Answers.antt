@@ -1,6 +1,6 @@
 use Rattle.std.proofs.Common.{map, sym, ◌∙◌}
 use Rattle.cpa_composite_covers.specs.Components.{picked}
-use Rattle.cpa_composite_covers.specs.CoverLaws.{cover_within}
+use Rattle.cpa_composite_covers.specs.lemmas.CoverLaws.{cover_within}
 use Rattle.cpa_composite_covers.proofs.covering.covered_by.Goals as goal
 
 pub returns-clause-within : goal.returns-clause-within

@@ -1,6 +1,6 @@
 use Rattle.std.proofs.Common.{◌∙◌, ap}
 use Rattle.cpa_iface.specs.Meanings.{Meaning}
-use Rattle.cpa_composite_covers.specs.PickLaws.{meant}
+use Rattle.cpa_composite_covers.specs.lemmas.PickLaws.{meant}
 use Rattle.cpa_composite_covers.proofs.covering.covers.Goals as goal
 
 pub returns : goal.returns

@@ -2,7 +2,7 @@ use Rattle.std.proofs.Common.{sym, ap, ◌∙◌}
 use Rattle.cpa_iface.specs.declared.entries.Entry.{Entry}
 use Rattle.cpa_composite.specs.Composites.{components}
 use Rattle.cpa_composite.specs.Covers.{all_cover}
-use Rattle.cpa_reached.specs.MemberLaws.{one_entry}
+use Rattle.cpa_reached.specs.lemmas.MemberLaws.{one_entry}
 use Rattle.cpa_engine_turn.proofs.settling.covers.Goals as goal
 
 pub returns : goal.returns

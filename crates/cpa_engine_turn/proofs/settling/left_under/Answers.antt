@@ -1,6 +1,6 @@
 use Rattle.cpa_reached.specs.Entries.{numbers}
 use Rattle.cpa_reached.specs.Passed.{IsPassedBy}
-use Rattle.cpa_reached.specs.PassedLaws.{left_weaker}
+use Rattle.cpa_reached.specs.lemmas.PassedLaws.{left_weaker}
 use Rattle.cpa_engine_turn.specs.Stages.{under}
 use Rattle.cpa_engine_turn.specs.Steps.{IsOff}
 use Rattle.cpa_engine_turn.proofs.Passing.{the_mark, mark_of, stands_apart}

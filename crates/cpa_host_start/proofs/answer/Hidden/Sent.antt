@@ -6,7 +6,7 @@ use denote.Param.Send.{arg_send}
 use denote.Param.Sent.{Sends}
 use mir.Raw.{raw}
 use Rattle.cpa_host_start.proofs.answer.OwnLists.{part-1-6}
-use Rattle.cpa_craig.specs.Sending.{craig_sent}
+use Rattle.cpa_craig.specs.lemmas.Sending.{craig_sent}
 use Rattle.cpa_craig.specs.contracts.craig.Craig
 
 pub sends-part-1-6 : Sends part-1-6

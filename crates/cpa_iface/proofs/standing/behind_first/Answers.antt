@@ -1,6 +1,6 @@
 use Rattle.std.proofs.Common.{arith, sym, ◌∙◌}
 use Rattle.cpa_model.specs.Standing.{same_fact}
-use Rattle.cpa_iface.specs.PlaceLaws.{found_at, passed_over}
+use Rattle.cpa_iface.specs.lemmas.PlaceLaws.{found_at, passed_over}
 use Rattle.cpa_iface.proofs.standing.behind_first.Goals as goal
 
 pub loop-place-preserved : goal.loop-place-preserved

@@ -16,4 +16,5 @@ returns c = λ learnt gates walked long.
     let path = c.args.path.now in
     let count = acts_long cfa path c.requires.path in
     all_found cfa learnt gates (acts_along cfa path) c.args.exprs.items (one_is_expr cfa.cells)
-    walked (long ∙ ap (λ n. n + 1) (sym count)) (some_long cfa path c.requires.path c.if-is_empty.ensures)
+    walked (long ∙ ap (λ n. n + 1) (sym count))
+    (some_long cfa path c.requires.path c.if-is_empty.ensures)

@@ -12,7 +12,8 @@ pub loop-place-preserved : goal.loop-place-preserved
 loop-place-preserved c =
     let place = c.loop-place.place in
     let next : place ≡ (place - 1) + 1 = omega arith in
-    says_more (λ _. true) c.args.cells.now c.args.known.now place c.args.facts.now c.loop-place.facts
+    says_more (λ _. true) c.args.cells.now c.args.known.now place c.args.facts.now
+    c.loop-place.facts
     c.push_fact.new.facts c.known_at-it.result c.cell_at.result.now true (place - 1) next
     c.known_at-it.ensures c.cell_at.ensures refl c.in_ok-push_fact.ensures
     c.loop-place.invariant

@@ -13,7 +13,8 @@ pub loop-place-preserved : goal.loop-place-preserved
 loop-place-preserved c =
     let place = c.loop-place.place in
     let next : place ≡ (place - 1) + 1 = omega arith in
-    says_more (is_tracked c.args.tracked.now) c.args.cells.now c.args.known.now place c.args.facts.now c.loop-place.facts
+    says_more (is_tracked c.args.tracked.now) c.args.cells.now c.args.known.now place
+    c.args.facts.now c.loop-place.facts
     c.push_fact.new.facts c.known_at-it.result c.cell_at.result.now c.has.result (place - 1) next
     c.known_at-it.ensures c.cell_at.ensures c.has.ensures c.in_ok-push_fact.ensures
     c.loop-place.invariant
@@ -22,5 +23,6 @@ pub returns : goal.returns
 returns c =
     let place = c.loop-place.place in
     let none : place ≡ 0 = omega arith in
-    says_all (is_tracked c.args.tracked.now) c.args.cells.now c.args.known.now place c.args.facts.now c.loop-place.facts
+    says_all (is_tracked c.args.tracked.now) c.args.cells.now c.args.known.now place
+    c.args.facts.now c.loop-place.facts
     c.requires.order none c.loop-place.invariant

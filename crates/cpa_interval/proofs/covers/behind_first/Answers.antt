@@ -1,5 +1,5 @@
 use Rattle.std.proofs.Common.{arith, sym, ◌∙◌}
-use Rattle.cpa_iface.specs.PlaceLaws.{found_at, passed_over}
+use Rattle.cpa_iface.specs.lemmas.PlaceLaws.{found_at, passed_over}
 use Rattle.cpa_interval.specs.Covers.{says}
 use Rattle.cpa_interval.proofs.covers.behind_first.Goals as goal
 

@@ -1,5 +1,5 @@
 use Rattle.std.proofs.Common.{sym}
-use Rattle.cpa_iface.specs.PlaceLaws.{found_behind}
+use Rattle.cpa_iface.specs.lemmas.PlaceLaws.{found_behind}
 use Rattle.cpa_interval.specs.Covers.{says}
 use Rattle.cpa_interval.proofs.covers.behind_saying.Goals as goal
 

@@ -1,5 +1,6 @@
 -- A number that is not negative has no more than 127 bits.
-use Rattle.std.proofs.Common.{◌≡◌, ◌≢◌, ℕ, ◌+◌, ◌*◌, ◌-◌, ◌^◌, ◌<◌, ◌≤◌, ◌==◌, refl, ap, subst, sym, ◌∙◌}
+use Rattle.std.proofs.Common.{◌≡◌, ◌≢◌, ℕ, ◌+◌, ◌*◌, ◌-◌, ◌^◌, ◌<◌, ◌≤◌, ◌==◌, refl, ap, subst, sym}
+use Rattle.std.proofs.Common.{◌∙◌}
 use Rattle.std.proofs.Common.{arith, Bool, true, false, ℤ, pos, negsuc, FitsSigned, of_z}
 use Rattle.std.specs.Prelude.{int_lt}
 use Rattle.std.specs.Int.{w128, leading_zeros}
@@ -35,6 +36,7 @@ pub ones-requires : goal.ones-requires
 ones-requires c =
     let n = c.args.n in
     let same = to_z-of_z w128 n c.ranges.n in
-    let test : int_lt n (pos 0) ≡ false = ap (λ z. int_lt z (pos 0)) (sym same) ∙ c.if-n-lt0.false in
+    let test : int_lt n (pos 0) ≡ false = ap (λ z. int_lt z (pos 0)) (sym same) ∙
+    c.if-n-lt0.false in
     subst (λ z. 128 - z < 128) (sym (c.leading_zeros.ensures
     ∙ ap (λ z. leading_zeros w128 (of_z w128 z)) same)) (bits_of_it n c.ranges.n test)

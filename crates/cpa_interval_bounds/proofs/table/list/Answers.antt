@@ -22,7 +22,8 @@ returns-then-is_of-clause-order c =
     c.place_near-place.ensures ∙ ap (place_in cell) c.as_slice.ensures.value in
     let there : is_of cell (slice_get items (place_in cell items)) ≡ true =
     ap (λ p. is_of cell (slice_get items p)) (sym at)
-    ∙ (ap (λ ks. is_of cell (slice_get ks c.place_near-place.result)) (sym c.as_slice-2.ensures.value)
+    ∙ (ap (λ ks. is_of cell (slice_get ks c.place_near-place.result))
+    (sym c.as_slice-2.ensures.value)
     ∙ (sym c.is_of.ensures ∙ c.if-is_of.true)) in
     ap (λ p. are_descending c.args.count (slice_set items p (cell_bounds cell c.args.own))) at
     ∙ replace_keeps c.args.count cell c.args.own items there c.requires.order
@@ -35,7 +36,8 @@ returns-then-is_of-clause-each c = λ cells.
     c.place_near-place.ensures ∙ ap (place_in cell) c.as_slice.ensures.value in
     let there : is_of cell (slice_get items (place_in cell items)) ≡ true =
     ap (λ p. is_of cell (slice_get items p)) (sym at)
-    ∙ (ap (λ ks. is_of cell (slice_get ks c.place_near-place.result)) (sym c.as_slice-2.ensures.value)
+    ∙ (ap (λ ks. is_of cell (slice_get ks c.place_near-place.result))
+    (sym c.as_slice-2.ensures.value)
     ∙ (sym c.is_of.ensures ∙ c.if-is_of.true)) in
     ap (λ p. known_bounds cells (slice_set items p (cell_bounds cell c.args.own))) at
     ∙ replaced cell c.args.own cells items there
@@ -48,7 +50,8 @@ returns-in_ok-insert-clause-order c =
     c.place_near-place.ensures ∙ ap (place_in cell) c.as_slice.ensures.value in
     let none : is_of cell (slice_get items (place_in cell items)) ≡ false =
     ap (λ p. is_of cell (slice_get items p)) (sym at)
-    ∙ (ap (λ ks. is_of cell (slice_get ks c.place_near-place.result)) (sym c.as_slice-2.ensures.value)
+    ∙ (ap (λ ks. is_of cell (slice_get ks c.place_near-place.result))
+    (sym c.as_slice-2.ensures.value)
     ∙ (sym c.is_of.ensures ∙ c.if-is_of.false)) in
     ap (are_descending c.args.count) c.in_ok-insert.ensures.items
     ∙ (ap (λ p. are_descending c.args.count (insert items p (cell_bounds cell c.args.own))) at

@@ -1,6 +1,6 @@
 -- Each clause is a lemma on the tests.
-use Rattle.cpa_model.specs.StandingLaws.{same_fact-exact, has_facts-exact, HasFacts-within}
-use Rattle.cpa_model.specs.StandingLaws.{HasFacts-same}
+use Rattle.cpa_model.specs.lemmas.StandingLaws.{same_fact-exact, has_facts-exact, HasFacts-within}
+use Rattle.cpa_model.specs.lemmas.StandingLaws.{HasFacts-same}
 use Rattle.cpa_model.proofs.standing.facts_that_stand.Goals as goal
 
 pub returns-clause-same : goal.returns-clause-same

@@ -1,7 +1,7 @@
 -- The test decides whether the facts stand.
 use Rattle.std.proofs.Common.{◌↔◌, IsTrue, sym, subst}
 use Rattle.cpa_model.specs.Facts.{HasFacts}
-use Rattle.cpa_model.specs.StandingLaws.{has_facts-exact}
+use Rattle.cpa_model.specs.lemmas.StandingLaws.{has_facts-exact}
 use Rattle.cpa_model.proofs.standing.has_facts.Goals as goal
 
 pub returns-clause-stand : goal.returns-clause-stand

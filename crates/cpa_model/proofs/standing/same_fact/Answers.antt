@@ -1,6 +1,6 @@
 -- The test decides whether the facts are equal.
 use Rattle.std.proofs.Common.{◌≡◌, ◌↔◌, IsTrue, sym, subst}
-use Rattle.cpa_model.specs.StandingLaws.{same_fact-exact}
+use Rattle.cpa_model.specs.lemmas.StandingLaws.{same_fact-exact}
 use Rattle.cpa_model.proofs.standing.same_fact.Goals as goal
 
 pub returns-clause-same : goal.returns-clause-same

@@ -8,7 +8,8 @@ use Rattle.cpa_path.specs.Paths.{path_weight}
 use Rattle.cpa_path.proofs.weighing.weight_along.Given as goal
 
 pub record IsSoFar (cfa : Cfa) (path rest : List ℕ) (total : ℕ) : Type 0 where
-  pub whole : min (total + sum_by act_weight (acts_along cfa rest)) (2 ^ 64 - 1) ≡ path_weight cfa path
+  pub whole : min (total + sum_by act_weight (acts_along cfa rest)) (2 ^ 64 - 1) ≡ path_weight
+      cfa path
   pub within : total ≤ 2 ^ 64 - 1
 
 abbrev pub invariant-loop-number : goal.invariant-loop-number

@@ -13,7 +13,8 @@ returns-in-Some-clause-truth c =
     IfSome truth (HasAfter c.args.cfa.now c.args.elem.now c.args.edge.now c.args.p.now))
     c.in-Some.is (c.in_ok-near.ensures.truth c.args.edge.now c.requires.at)
 
-pub returns-in_ok-look_further-in-None-clause-truth : goal.returns-in_ok-look_further-in-None-clause-truth
+pub returns-in_ok-look_further-in-None-clause-truth :
+    goal.returns-in_ok-look_further-in-None-clause-truth
 returns-in_ok-look_further-in-None-clause-truth c =
     let cfa = c.args.cfa.now in
     let e = c.args.elem.now in
@@ -21,13 +22,16 @@ returns-in_ok-look_further-in-None-clause-truth c =
     let after = c.whole_truth.new.asker in
     subst (λ (b : Budgets). IfOk c.whole_truth.result
     (IsTruthAfter (IsOpen b after cfa e g) cfa e g c.args.p.now))
-    (c.look_further-in-None.ensures ∙ c.near_truth.ensures.budgets ∙ c.look_further.ensures) c.whole_truth.ensures.truth
+    (c.look_further-in-None.ensures ∙ c.near_truth.ensures.budgets ∙ c.look_further.ensures)
+    c.whole_truth.ensures.truth
 
-pub returns-in_ok-look_further-in-None-clause-spends : goal.returns-in_ok-look_further-in-None-clause-spends
+pub returns-in_ok-look_further-in-None-clause-spends :
+    goal.returns-in_ok-look_further-in-None-clause-spends
 returns-in_ok-look_further-in-None-clause-spends c =
     let cfa = c.args.cfa.now in
     let e = c.args.elem.now in
     let g = c.args.edge.now in
     subst (λ (b : Budgets). Spends b c.whole_truth.new.asker
     (SomeBeyond b cfa e g (c.args.p.now ∷ [])))
-    (c.look_further-in-None.ensures ∙ c.near_truth.ensures.budgets ∙ c.look_further.ensures) c.whole_truth.ensures.spends
+    (c.look_further-in-None.ensures ∙ c.near_truth.ensures.budgets ∙ c.look_further.ensures)
+    c.whole_truth.ensures.spends

@@ -15,7 +15,8 @@ pub returns-in_err-truths-clause-spends : goal.returns-in_err-truths-clause-spen
 returns-in_err-truths-clause-spends c = λ g at.
     all_spent c.args.asker.now c.leads_nowhere.new.asker c.args.cfa.now c.args.elem.now g
     c.args.preds.now c.in_ok-step.step (c.in_ok-step.ensures g at) c.truths_after.new.asker
-    c.edge-along.result.now (same_Some _ _ (sym c.edge-along.ensures ∙ at)) c.leads_nowhere.ensures.spends
+    c.edge-along.result.now (same_Some _ _ (sym c.edge-along.ensures ∙ at))
+    c.leads_nowhere.ensures.spends
     c.truths_after.ensures.spends
 
 pub returns-then-never-clause-outcome : goal.returns-then-never-clause-outcome
@@ -45,7 +46,8 @@ pub returns-clause-spends : goal.returns-clause-spends
 returns-clause-spends c = λ g at.
     all_spent c.args.asker.now c.leads_nowhere.new.asker c.args.cfa.now c.args.elem.now g
     c.args.preds.now c.in_ok-step.step (c.in_ok-step.ensures g at) c.truths_after.new.asker
-    c.edge-along.result.now (same_Some _ _ (sym c.edge-along.ensures ∙ at)) c.leads_nowhere.ensures.spends
+    c.edge-along.result.now (same_Some _ _ (sym c.edge-along.ensures ∙ at))
+    c.leads_nowhere.ensures.spends
     c.truths_after.ensures.spends
 
 pub returns-then-settled-clause-outcome : goal.returns-then-settled-clause-outcome

@@ -20,7 +20,8 @@ found_truth-requires-clause-lacks_true c = λ lacks none.
     lacking_refutes c.args.cfa.now c.args.elem.now c.args.edge.now c.args.p.now true
     c.as_slice-behind.result.now
     (subst (AllByRecursion (IsAfter c.args.cfa.now c.args.elem.now c.args.edge.now))
-    (sym c.as_slice-behind.ensures.value) c.in_ok-stores.ensures) (c.some_lacks-lacks_true.ensures lacks)
+    (sym c.as_slice-behind.ensures.value) c.in_ok-stores.ensures)
+    (c.some_lacks-lacks_true.ensures lacks)
     (found_is c.args.cfa.now c.args.elem.now c.args.edge.now c.args.step.now c.requires.step
     c.args.p.now c.requires.predicate c.forms_are_runs.ensures c.steps_take_inputs.ensures
     c.failing_is_not_holding.ensures c.args.asker.now c.args.asker.now (Some true) none)
@@ -30,7 +31,8 @@ found_truth-requires-clause-lacks_false c = λ lacks none.
     lacking_refutes c.args.cfa.now c.args.elem.now c.args.edge.now c.args.p.now false
     c.as_slice-behind.result.now
     (subst (AllByRecursion (IsAfter c.args.cfa.now c.args.elem.now c.args.edge.now))
-    (sym c.as_slice-behind.ensures.value) c.in_ok-stores.ensures) (c.some_lacks-lacks_false.ensures lacks)
+    (sym c.as_slice-behind.ensures.value) c.in_ok-stores.ensures)
+    (c.some_lacks-lacks_false.ensures lacks)
     (found_is c.args.cfa.now c.args.elem.now c.args.edge.now c.args.step.now c.requires.step
     c.args.p.now c.requires.predicate c.forms_are_runs.ensures c.steps_take_inputs.ensures
     c.failing_is_not_holding.ensures c.args.asker.now c.args.asker.now (Some false) none)

@@ -1,4 +1,4 @@
-use Rattle.cpa_reached.specs.MemberLaws.{live_in}
+use Rattle.cpa_reached.specs.lemmas.MemberLaws.{live_in}
 use Rattle.cpa_reached.proofs.Keys.{places_rise, found_at, at_within}
 use Rattle.cpa_reached.proofs.finding.halved.Goals as goal
 

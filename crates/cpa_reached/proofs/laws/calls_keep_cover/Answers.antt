@@ -1,5 +1,5 @@
-use Rattle.cpa_reached.specs.SuccessorLaws.{added-covers, replaced-covers, used-covers}
-use Rattle.cpa_reached.specs.SuccessorLaws.{removed-covers, refined-covers}
+use Rattle.cpa_reached.specs.lemmas.SuccessorLaws.{added-covers, replaced-covers, used-covers}
+use Rattle.cpa_reached.specs.lemmas.SuccessorLaws.{removed-covers, refined-covers}
 use Rattle.cpa_reached.proofs.laws.calls_keep_cover.Goals as goal
 
 pub returns-clause-add : goal.returns-clause-add

@@ -9,5 +9,6 @@ use Rattle.cpa_reached.proofs.marks.followed_by_each.Given as goal
 abbrev pub invariant-loop-fact : goal.invariant-loop-fact
 invariant-loop-fact l = record {
   place : l.told.place ≡ l.fn.mark.place;
-  counts : (s : State) → AllByRecursion (FactHolds s) l.facts → Counts s l.fn.mark → Counts s l.told;
+  counts : (s : State) → AllByRecursion (FactHolds s) l.facts → Counts s l.fn.mark → Counts s
+      l.told;
 }

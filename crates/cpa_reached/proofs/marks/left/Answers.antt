@@ -2,7 +2,7 @@ use Rattle.std.proofs.Common.{ℕ, List, get_or, take, sym, subst}
 use Rattle.std.proofs.lemmas.List.{take_more}
 use Rattle.cpa_reached.specs.Marks.{DiffersAt}
 use Rattle.cpa_reached.specs.Passed.{LeavesOut}
-use Rattle.cpa_reached.specs.PassedLaws.{passed_more, left_more}
+use Rattle.cpa_reached.specs.lemmas.PassedLaws.{passed_more, left_more}
 use Rattle.cpa_reached.proofs.marks.left.Goals as goal
 use Rattle.cpa_reached.proofs.marks.left.Goals.{then-not-differs_at+in_ok-push}
 use Rattle.cpa_reached.proofs.marks.left.Goals.{else-not-differs_at}

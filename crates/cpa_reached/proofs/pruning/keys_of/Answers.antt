@@ -3,7 +3,7 @@ use Rattle.std.proofs.lemmas.List.{take_all, take_more}
 use Rattle.cpa_iface.specs.declared.entries.Entry.{Entry}
 use Rattle.cpa_reached_key.specs.Rows.{picked}
 use Rattle.cpa_reached.specs.Indexes.{AreKeysOf}
-use Rattle.cpa_reached.specs.MemberLaws.{one_entry}
+use Rattle.cpa_reached.specs.lemmas.MemberLaws.{one_entry}
 use Rattle.cpa_reached.proofs.Leaving.{keys_more}
 use Rattle.cpa_reached.proofs.Reopened.{live_item}
 use Rattle.cpa_reached.proofs.pruning.keys_of.Goals as goal

@@ -5,7 +5,7 @@ use Rattle.cpa_iface.specs.declared.entries.Entry.{Entry}
 use Rattle.cpa_reached.specs.Entries.{numbers, waiting_numbers}
 use Rattle.cpa_reached.specs.Indexes.{AreKeysOf, IsIndex}
 use Rattle.cpa_reached.specs.Kept.{IsKept, opened_among, waits_again, without_links}
-use Rattle.cpa_reached.specs.MemberLaws.{ascend_kept}
+use Rattle.cpa_reached.specs.lemmas.MemberLaws.{ascend_kept}
 use Rattle.cpa_reached.specs.Members.{is_in}
 use Rattle.cpa_reached.specs.Removal.{left, without}
 use Rattle.cpa_reached.proofs.Keying.{indexed_map}

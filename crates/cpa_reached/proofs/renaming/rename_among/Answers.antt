@@ -2,7 +2,7 @@ use Rattle.std.proofs.Common.{ℕ, List, map, take, get_or, sym, ap, ◌∙◌}
 use Rattle.std.proofs.Common.{subst}
 use Rattle.std.proofs.lemmas.List.{take_more}
 use Rattle.cpa_model.specs.Ascending.{AreAscending}
-use Rattle.cpa_reached.specs.MemberLaws.{numbers_map}
+use Rattle.cpa_reached.specs.lemmas.MemberLaws.{numbers_map}
 use Rattle.cpa_reached.specs.Kept.{renamed_among}
 use Rattle.cpa_reached.proofs.Renamed.{among_none, among_more, among_number}
 use Rattle.cpa_reached.proofs.renaming.rename_among.Goals as goal

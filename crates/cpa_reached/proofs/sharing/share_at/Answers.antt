@@ -1,7 +1,7 @@
 use Rattle.std.proofs.Common.{◌≡◌, ℕ, zero, suc, List, [], ◌∷◌, refl, sym, ap, ◌∙◌}
 use Rattle.std.specs.Prelude.{slice_index_or, slice_set}
 use Rattle.cpa_model.specs.declared.facts.Elem.{Elem}
-use Rattle.cpa_reached_key.specs.RowLaws.{same_elem-means}
+use Rattle.cpa_reached_key.specs.lemmas.RowLaws.{same_elem-means}
 use Rattle.cpa_reached.proofs.sharing.share_at.Goals as goal
 
 own : (es : List Elem) (i : ℕ) (d : Elem) → slice_set es i (slice_index_or es i d) ≡ es

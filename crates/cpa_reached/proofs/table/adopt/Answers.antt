@@ -2,7 +2,7 @@ use Rattle.std.proofs.Common.{◌≡◌, ℕ, true, List, refl, sym, subst}
 use Rattle.cpa_model.specs.Ascending.{AreAscending}
 use Rattle.cpa_reached.specs.Members.{is_in}
 use Rattle.cpa_reached.specs.Calls.{at_number, gains}
-use Rattle.cpa_reached.specs.MemberLaws.{in_live, live_in}
+use Rattle.cpa_reached.specs.lemmas.MemberLaws.{in_live, live_in}
 use Rattle.cpa_reached.proofs.Keying.{gained_numbers, indexed_at, indexed_more, indexed_same}
 use Rattle.cpa_reached.proofs.table.adopt.Goals as goal
 

@@ -2,7 +2,7 @@ use Rattle.std.proofs.Common.{◌≡◌, ℕ, true, Some, slice_get, List, subst
 use Rattle.std.proofs.lemmas.Result.{on_ok_weaker, on_err_weaker}
 use Rattle.cpa_reached.specs.Members.{is_in}
 use Rattle.cpa_reached.specs.Kept.{at_link, lists}
-use Rattle.cpa_reached.specs.MemberLaws.{live_in}
+use Rattle.cpa_reached.specs.lemmas.MemberLaws.{live_in}
 use Rattle.cpa_reached.proofs.Keeping.{kept_lists}
 use Rattle.cpa_reached.proofs.Tying.{now_named}
 use Rattle.cpa_reached.proofs.Views.{either_way}

@@ -4,7 +4,7 @@ use Rattle.cpa_iface.specs.declared.entries.Entry.{Entry}
 use Rattle.cpa_reached.specs.Calls.{replaced_entries}
 use Rattle.cpa_reached.specs.Entries.{numbers, IsLive}
 use Rattle.cpa_reached.specs.Kept.{is_named_by}
-use Rattle.cpa_reached.specs.MemberLaws.{ascend_kept, in_all, live_in}
+use Rattle.cpa_reached.specs.lemmas.MemberLaws.{ascend_kept, in_all, live_in}
 use Rattle.cpa_reached.proofs.Replacing.{ascend_succeeded, kept_replaced}
 use Rattle.cpa_reached.proofs.Renamed.{renamed_by}
 use Rattle.cpa_reached.proofs.table.replace.Goals as goal

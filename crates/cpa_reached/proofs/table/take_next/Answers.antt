@@ -1,7 +1,7 @@
 use Rattle.std.proofs.Common.{refl}
 use Rattle.cpa_iface.specs.declared.entries.Entry.{Entry}
 use Rattle.cpa_reached.specs.Calls.{rests}
-use Rattle.cpa_reached.specs.MemberLaws.{ascend_kept}
+use Rattle.cpa_reached.specs.lemmas.MemberLaws.{ascend_kept}
 use Rattle.cpa_reached.proofs.Keeping.{kept_rests, waiting_live}
 use Rattle.cpa_reached.proofs.Keying.{indexed_at}
 use Rattle.cpa_reached.proofs.table.take_next.Goals as goal

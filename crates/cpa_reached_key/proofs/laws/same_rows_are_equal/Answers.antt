@@ -1,4 +1,4 @@
-use Rattle.cpa_reached_key.specs.RowLaws.{same_row-decides}
+use Rattle.cpa_reached_key.specs.lemmas.RowLaws.{same_row-decides}
 use Rattle.cpa_reached_key.proofs.laws.same_rows_are_equal.Goals as goal
 
 pub returns : goal.returns

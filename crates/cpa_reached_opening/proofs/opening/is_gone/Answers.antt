@@ -1,4 +1,4 @@
-use Rattle.cpa_reached_opening.specs.MemberLaws.{found_exactly}
+use Rattle.cpa_reached_opening.specs.lemmas.MemberLaws.{found_exactly}
 use Rattle.cpa_reached_opening.proofs.opening.is_gone.Goals as goal
 
 pub returns : goal.returns

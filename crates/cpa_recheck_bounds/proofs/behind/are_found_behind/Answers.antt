@@ -29,7 +29,8 @@ returns-then-is_refuted c = λ is.
     let all = c.args.all.now.each in
     let others = map (entry_at c.args.entries.now) c.args.numbers.now in
     refuted c.wrap_keeps_the_range.ensures.stays cfa elem act all c.know.new.all.each others
-    c.in_ok-lows.lows.values c.in_ok-is_known.is_known c.is_refuted.result c.requires.act c.requires.shaped
+    c.in_ok-lows.lows.values c.in_ok-is_known.is_known c.is_refuted.result c.requires.act
+    c.requires.shaped
     c.requires.ranges
     c.in_ok-is_known.ensures.each
     c.is_refuted.ensures c.in_ok-lows.ensures c.if-is_refuted.true
@@ -42,8 +43,10 @@ returns-then-is_done c = λ is.
     let all = c.args.all.now.each in
     let others = map (entry_at c.args.entries.now) c.args.numbers.now in
     found c.bounds_follow_acts.ensures c.wrap_keeps_the_range.ensures.stays cfa elem act all
-    c.know.new.all.each c.step.new.all.each c.in_ok-left.left others c.written_by-written.result c.in_ok-lows.lows.values
-    c.in_ok-is_known.is_known c.in_ok-is_done.is_done c.requires.act c.requires.shaped c.requires.ranges
+    c.know.new.all.each c.step.new.all.each c.in_ok-left.left others c.written_by-written.result
+    c.in_ok-lows.lows.values
+    c.in_ok-is_known.is_known c.in_ok-is_done.is_done c.requires.act c.requires.shaped
+    c.requires.ranges
     c.in_ok-is_known.ensures.each
     c.written_by-written.ensures c.in_ok-lows.ensures
     (c.in_ok-is_done.ensures.each
@@ -59,8 +62,10 @@ returns c = λ is.
     let all = c.args.all.now.each in
     let others = map (entry_at c.args.entries.now) c.args.numbers.now in
     found c.bounds_follow_acts.ensures c.wrap_keeps_the_range.ensures.stays cfa elem act all
-    c.know.new.all.each c.step.new.all.each elem others c.written_by-written.result c.in_ok-lows.lows.values
-    c.in_ok-is_known.is_known c.in_ok-is_done.is_done c.requires.act c.requires.shaped c.requires.ranges
+    c.know.new.all.each c.step.new.all.each elem others c.written_by-written.result
+    c.in_ok-lows.lows.values
+    c.in_ok-is_known.is_known c.in_ok-is_done.is_done c.requires.act c.requires.shaped
+    c.requires.ranges
     c.in_ok-is_known.ensures.each
     c.written_by-written.ensures c.in_ok-lows.ensures
     (c.in_ok-is_done.ensures.each

@@ -22,7 +22,8 @@ loop-place-preserved c =
     filled_more place (place - 1) (map (λ (cell : Cell). only cell.start) cells)
     c.loop-place.all.each c.put.new.self.each (only cell.start) next
     (start_is cells (place - 1) cell c.cell_at.ensures)
-    (c.in_ok-put.ensures.each ∙ ap (λ b. slice_set c.loop-place.all.each (place - 1) b) c.start_of.ensures)
+    (c.in_ok-put.ensures.each ∙ ap (λ b. slice_set c.loop-place.all.each (place - 1) b)
+    c.start_of.ensures)
     c.loop-place.invariant
 
 pub returns : goal.returns

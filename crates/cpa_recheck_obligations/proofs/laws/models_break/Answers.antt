@@ -3,7 +3,8 @@ use Rattle.cpa_recheck_obligations.specs.declared.listing.Obligation.TheVariants
 use Rattle.cpa_recheck_obligations.specs.declared.listing.Obligation.TheVariants.{Avoids}
 use Rattle.cpa_recheck_obligations.specs.Spots.{as_one}
 use Rattle.cpa_recheck_obligations.specs.Laws.{form_is}
-use Rattle.cpa_recheck_obligations.specs.lemmas.Breaking.{begins_broken, leads_broken, avoids_broken}
+use Rattle.cpa_recheck_obligations.specs.lemmas.Breaking.{begins_broken, leads_broken}
+use Rattle.cpa_recheck_obligations.specs.lemmas.Breaking.{avoids_broken}
 use Rattle.cpa_recheck_obligations.proofs.laws.models_break.Goals as goal
 
 pub returns : goal.returns

@@ -5,5 +5,6 @@ use Rattle.cpa_recheck_obligations.proofs.listing.push_edges.Given as goal
 
 abbrev pub invariant-loop-edge : goal.invariant-loop-edge
 invariant-loop-edge l =
-    l.list.items ++ map (Leads l.entry) (places_from (leaves l.spot) l.edge (drop l.edge l.cfa.edges))
+    l.list.items ++ map (Leads l.entry)
+    (places_from (leaves l.spot) l.edge (drop l.edge l.cfa.edges))
     ≡ l.initial.list.items ++ map (Leads l.entry) (edges_of l.cfa l.spot)

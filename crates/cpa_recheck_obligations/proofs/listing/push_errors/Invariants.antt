@@ -8,5 +8,6 @@ use Rattle.cpa_recheck_obligations.proofs.listing.push_errors.Given as goal
 
 abbrev pub invariant-loop-point : goal.invariant-loop-point
 invariant-loop-point l =
-    l.list.items ++ map (Avoids l.entry) (filter (permits l.spot.point) (iter_rest l.point-iterator))
+    l.list.items ++ map (Avoids l.entry)
+    (filter (permits l.spot.point) (iter_rest l.point-iterator))
     ≡ l.initial.list.items ++ map (Avoids l.entry) (errors_of l.cfa l.spot)

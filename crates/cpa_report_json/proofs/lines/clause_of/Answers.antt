@@ -14,6 +14,7 @@ pub returns-clause-fit : goal.returns-clause-fit
 returns-clause-fit c all = (
   c.in_ok-clause.ensures.sorted,
   all_same LiteralFits _ _ (λ l h.
-      sym (c.in_ok-clause.ensures.literals l ∙ ap (λ (xs : List ℕ). has xs l) c.into_vec.ensures) ∙ h)
+      sym (c.in_ok-clause.ensures.literals l ∙ ap (λ (xs : List ℕ). has xs l)
+        c.into_vec.ensures) ∙ h)
       all,
 )

@@ -10,6 +10,7 @@ invariant-loop-item g l = record {
   before : l.writer.before ≡ l.initial.writer.before;
   tokens :
       (rest : List Token)
-      → l.writer.tokens ++ items_onto (items_of (map g.T.Json.json (drop l.item-index l.items))) rest
+      → l.writer.tokens ++ items_onto
+        (items_of (map g.T.Json.json (drop l.item-index l.items))) rest
       ≡ l.initial.writer.tokens ++ items_onto (items_of (map g.T.Json.json l.items)) rest;
 }

@@ -17,7 +17,8 @@ returns-clause-safe g c = λ is name file asked.
 pub returns-clause-called : goal.returns-clause-called
 returns-clause-called g c = λ is name file asked.
     written c.words_ask_for_one_job.ensures 1 (omega arith) _ _ _ _ _ name file IsCalledText
-    (called_text c.false_calls_the_error.ensures.told _ _ _) (rw c.as_slice.ensures.value at c.answer-answer.ensures)
+    (called_text c.false_calls_the_error.ensures.told _ _ _)
+    (rw c.as_slice.ensures.value at c.answer-answer.ensures)
     c.deliver.ensures is
     asked
 
@@ -29,19 +30,22 @@ returns-clause-unknown g c = λ is name file asked.
 
 pub returns-clause-confirmed : goal.returns-clause-confirmed
 returns-clause-confirmed g c = λ is name list file asked.
-    texts_written c.words_ask_for_one_job.ensures 0 (omega arith) _ _ _ _ _ name list file IsConfirmedText
+    texts_written c.words_ask_for_one_job.ensures 0 (omega arith) _ _ _ _ _ name list file
+    IsConfirmedText
     (λ said bytes report. confirmed_text _ _ _ said bytes report c.checks_tell.ensures.confirmed)
     (rw c.as_slice.ensures.value at c.answer-answer.ensures) c.deliver.ensures is asked
 
 pub returns-clause-refuted : goal.returns-clause-refuted
 returns-clause-refuted g c = λ is name list file asked.
-    texts_written c.words_ask_for_one_job.ensures 1 (omega arith) _ _ _ _ _ name list file IsRefutedText
+    texts_written c.words_ask_for_one_job.ensures 1 (omega arith) _ _ _ _ _ name list file
+    IsRefutedText
     (λ said bytes report. refuted_text _ _ _ said bytes report c.checks_tell.ensures.refused)
     (rw c.as_slice.ensures.value at c.answer-answer.ensures) c.deliver.ensures is asked
 
 pub returns-clause-undecided : goal.returns-clause-undecided
 returns-clause-undecided g c = λ is name list file asked.
-    texts_written c.words_ask_for_one_job.ensures 2 (omega arith) _ _ _ _ _ name list file IsUndecidedText
+    texts_written c.words_ask_for_one_job.ensures 2 (omega arith) _ _ _ _ _ name list file
+    IsUndecidedText
     (λ said bytes report. undecided_text _ _ _ said bytes report c.checks_tell.ensures.undecided)
     (rw c.as_slice.ensures.value at c.answer-answer.ensures) c.deliver.ensures is asked
 

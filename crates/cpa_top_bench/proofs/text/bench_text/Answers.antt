@@ -6,4 +6,5 @@ use Rattle.cpa_top_bench.proofs.text.bench_text.Goals as goal
 
 pub returns-clause-short : goal.returns-clause-short
 returns-clause-short c =
-    rw (c.into_bytes.ensures.value, c.in_ok-text.ensures) (text_is_short c.args.functions c.requires)
+    rw (c.into_bytes.ensures.value, c.in_ok-text.ensures)
+    (text_is_short c.args.functions c.requires)

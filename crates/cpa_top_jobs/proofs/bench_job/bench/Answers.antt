@@ -15,7 +15,8 @@ returns-in_err-config g c = λ files steady.
     let p = err_from_is_err_and c.from_residual-in_err-config.result
     c.from_residual-in_err-config.ensures.1 in
     let meanings = map g.A.Analysis.meaning in
-    let same : map string_bytes c.as_slice-2.result.now ≡ names_of (meanings c.args.analyses.items) =
+    let same : map string_bytes c.as_slice-2.result.now ≡ names_of
+    (meanings c.args.analyses.items) =
     ap (map string_bytes) c.as_slice-2.ensures.value ∙ c.in_ok-names.ensures
     ∙ ap (λ xs. names_of (meanings xs)) c.as_slice.ensures.value in
     subst (IsDone files _ _) (sym p.1)
@@ -28,7 +29,8 @@ returns-in_err-program g c = λ files steady.
     let p = err_from_is_err_and c.from_residual-in_err-program.result
     c.from_residual-in_err-program.ensures.1 in
     let meanings = map g.A.Analysis.meaning in
-    let same : map string_bytes c.as_slice-2.result.now ≡ names_of (meanings c.args.analyses.items) =
+    let same : map string_bytes c.as_slice-2.result.now ≡ names_of
+    (meanings c.args.analyses.items) =
     ap (map string_bytes) c.as_slice-2.ensures.value ∙ c.in_ok-names.ensures
     ∙ ap (λ xs. names_of (meanings xs)) c.as_slice.ensures.value in
     subst (IsDone files _ _) (sym p.1)
@@ -41,7 +43,8 @@ returns-in_err-program g c = λ files steady.
 pub conclude-requires-clause-places : goal.conclude-requires-clause-places
 conclude-requires-clause-places g c =
     let meanings = map g.A.Analysis.meaning in
-    let same : map string_bytes c.as_slice-2.result.now ≡ names_of (meanings c.args.analyses.items) =
+    let same : map string_bytes c.as_slice-2.result.now ≡ names_of
+    (meanings c.args.analyses.items) =
     ap (map string_bytes) c.as_slice-2.ensures.value ∙ c.in_ok-names.ensures
     ∙ ap (λ xs. names_of (meanings xs)) c.as_slice.ensures.value in
     subst (λ (n : ℕ). ArePlaces n c.in_ok-config.config.picks)
@@ -52,7 +55,8 @@ conclude-requires-clause-places g c =
 pub returns : goal.returns
 returns g c = λ files steady.
     let meanings = map g.A.Analysis.meaning in
-    let same : map string_bytes c.as_slice-2.result.now ≡ names_of (meanings c.args.analyses.items) =
+    let same : map string_bytes c.as_slice-2.result.now ≡ names_of
+    (meanings c.args.analyses.items) =
     ap (map string_bytes) c.as_slice-2.ensures.value ∙ c.in_ok-names.ensures
     ∙ ap (λ xs. names_of (meanings xs)) c.as_slice.ensures.value in
     bench_ends files steady (meanings c.args.analyses.items) c.args.functions _ same

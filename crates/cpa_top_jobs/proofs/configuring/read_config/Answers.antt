@@ -22,5 +22,6 @@ returns-clause-refused g c =
     c.as_slice.result.now r).
     config_refused _ _ c.args.file.now c.in_ok-bytes.bytes.items r c.in_ok-bytes.ensures.within
     c.in_ok-bytes.ensures.bytes c.in_ok-bytes.ensures.reads
-    (subst (λ (bytes : _). IsConfigRefused (map string_bytes c.args.names.now) bytes r) c.as_slice.ensures.value is))
+    (subst (λ (bytes : _). IsConfigRefused (map string_bytes c.args.names.now) bytes r)
+    c.as_slice.ensures.value is))
     c.config_of.ensures.refused

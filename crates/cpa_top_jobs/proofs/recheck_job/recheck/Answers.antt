@@ -16,11 +16,13 @@ returns-in_err-config g c =
     let p = err_from_is_err_and c.from_residual-in_err-config.result
     c.from_residual-in_err-config.ensures.1 in
     let meanings = map g.A.Analysis.meaning in
-    let same : map string_bytes c.as_slice-2.result.now ≡ names_of (meanings c.args.analyses.items) =
+    let same : map string_bytes c.as_slice-2.result.now ≡ names_of
+    (meanings c.args.analyses.items) =
     ap (map string_bytes) c.as_slice-2.ensures.value ∙ c.in_ok-names.ensures
     ∙ ap (λ xs. names_of (meanings xs)) c.as_slice.ensures.value in
     subst (IsDone _ _ _) (sym p.1)
-    (config_stops _ (meanings c.args.analyses.items) c.args.program.now c.args.report.now _ _ same p.0
+    (config_stops _ (meanings c.args.analyses.items) c.args.program.now c.args.report.now _ _
+    same p.0
     (subst (IsHalted _ _) (sym p.2) c.in_err-config.ensures.refused))
 
 pub returns-in_err-program : goal.returns-in_err-program
@@ -29,7 +31,8 @@ returns-in_err-program g c =
     c.from_residual-in_err-program.ensures.1 in
     let first = c.in_ok-config.ensures in
     let meanings = map g.A.Analysis.meaning in
-    let same : map string_bytes c.as_slice-2.result.now ≡ names_of (meanings c.args.analyses.items) =
+    let same : map string_bytes c.as_slice-2.result.now ≡ names_of
+    (meanings c.args.analyses.items) =
     ap (map string_bytes) c.as_slice-2.ensures.value ∙ c.in_ok-names.ensures
     ∙ ap (λ xs. names_of (meanings xs)) c.as_slice.ensures.value in
     subst (IsDone _ _ _) (sym p.1)
@@ -45,7 +48,8 @@ returns-in_err-text g c =
     let first = c.in_ok-config.ensures in
     let second = c.in_ok-program.ensures in
     let meanings = map g.A.Analysis.meaning in
-    let same : map string_bytes c.as_slice-2.result.now ≡ names_of (meanings c.args.analyses.items) =
+    let same : map string_bytes c.as_slice-2.result.now ≡ names_of
+    (meanings c.args.analyses.items) =
     ap (map string_bytes) c.as_slice-2.ensures.value ∙ c.in_ok-names.ensures
     ∙ ap (λ xs. names_of (meanings xs)) c.as_slice.ensures.value in
     subst (IsDone _ _ _) (sym p.1)
@@ -66,7 +70,8 @@ returns-in_err-conclusion g c =
     let second = c.in_ok-program.ensures in
     let third = c.in_ok-text.ensures in
     let meanings = map g.A.Analysis.meaning in
-    let same : map string_bytes c.as_slice-2.result.now ≡ names_of (meanings c.args.analyses.items) =
+    let same : map string_bytes c.as_slice-2.result.now ≡ names_of
+    (meanings c.args.analyses.items) =
     ap (map string_bytes) c.as_slice-2.ensures.value ∙ c.in_ok-names.ensures
     ∙ ap (λ xs. names_of (meanings xs)) c.as_slice.ensures.value in
     subst (IsDone _ _ _) (sym p.1)
@@ -90,7 +95,8 @@ returns g c =
     let second = c.in_ok-program.ensures in
     let third = c.in_ok-text.ensures in
     let meanings = map g.A.Analysis.meaning in
-    let same : map string_bytes c.as_slice-2.result.now ≡ names_of (meanings c.args.analyses.items) =
+    let same : map string_bytes c.as_slice-2.result.now ≡ names_of
+    (meanings c.args.analyses.items) =
     ap (map string_bytes) c.as_slice-2.ensures.value ∙ c.in_ok-names.ensures
     ∙ ap (λ xs. names_of (meanings xs)) c.as_slice.ensures.value in
     recheck_ends _ (meanings c.args.analyses.items) c.args.program.now c.args.report.now _ _ same

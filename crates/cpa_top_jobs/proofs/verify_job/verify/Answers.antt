@@ -16,7 +16,8 @@ returns-in_err-config g c =
     let p = err_from_is_err_and c.from_residual-in_err-config.result
     c.from_residual-in_err-config.ensures.1 in
     let meanings = map g.A.Analysis.meaning in
-    let same : map string_bytes c.as_slice-2.result.now ≡ names_of (meanings c.args.analyses.items) =
+    let same : map string_bytes c.as_slice-2.result.now ≡ names_of
+    (meanings c.args.analyses.items) =
     ap (map string_bytes) c.as_slice-2.ensures.value ∙ c.in_ok-names.ensures
     ∙ ap (λ xs. names_of (meanings xs)) c.as_slice.ensures.value in
     subst (IsDone _ _ _) (sym p.1)
@@ -29,7 +30,8 @@ returns-in_err-program g c =
     c.from_residual-in_err-program.ensures.1 in
     let before = c.in_ok-config.ensures in
     let meanings = map g.A.Analysis.meaning in
-    let same : map string_bytes c.as_slice-2.result.now ≡ names_of (meanings c.args.analyses.items) =
+    let same : map string_bytes c.as_slice-2.result.now ≡ names_of
+    (meanings c.args.analyses.items) =
     ap (map string_bytes) c.as_slice-2.ensures.value ∙ c.in_ok-names.ensures
     ∙ ap (λ xs. names_of (meanings xs)) c.as_slice.ensures.value in
     subst (IsDone _ _ _) (sym p.1)
@@ -41,7 +43,8 @@ returns-in_err-program g c =
 pub conclude-requires-clause-places : goal.conclude-requires-clause-places
 conclude-requires-clause-places g c =
     let meanings = map g.A.Analysis.meaning in
-    let same : map string_bytes c.as_slice-2.result.now ≡ names_of (meanings c.args.analyses.items) =
+    let same : map string_bytes c.as_slice-2.result.now ≡ names_of
+    (meanings c.args.analyses.items) =
     ap (map string_bytes) c.as_slice-2.ensures.value ∙ c.in_ok-names.ensures
     ∙ ap (λ xs. names_of (meanings xs)) c.as_slice.ensures.value in
     subst (λ (n : ℕ). ArePlaces n c.in_ok-config.config.picks)
@@ -54,7 +57,8 @@ returns g c =
     let before = c.in_ok-config.ensures in
     let after = c.in_ok-program.ensures in
     let meanings = map g.A.Analysis.meaning in
-    let same : map string_bytes c.as_slice-2.result.now ≡ names_of (meanings c.args.analyses.items) =
+    let same : map string_bytes c.as_slice-2.result.now ≡ names_of
+    (meanings c.args.analyses.items) =
     ap (map string_bytes) c.as_slice-2.ensures.value ∙ c.in_ok-names.ensures
     ∙ ap (λ xs. names_of (meanings xs)) c.as_slice.ensures.value in
     verify_ends _ (meanings c.args.analyses.items) c.args.program.now _ _ c.in_ok-config.config

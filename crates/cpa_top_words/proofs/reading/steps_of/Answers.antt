@@ -1,4 +1,5 @@
-use Rattle.std.proofs.Common.{ap, sym, refl, ◌∙◌, ◌≡◌, ℕ, List, Option, Some, None, Bool, true, false, codes, arith}
+use Rattle.std.proofs.Common.{ap, sym, refl, ◌∙◌, ◌≡◌, ℕ, List, Option, Some, None, Bool, true}
+use Rattle.std.proofs.Common.{false, codes, arith}
 use Rattle.std.specs.Prelude.{Result, Ok, Err}
 use Rattle.std.specs.Option.{option_map_or}
 use Rattle.std.specs.Str.Parse.{ParsesUnsigned, ExplainsUnsignedError, HasUnsignedDigitsIfOk}
@@ -22,9 +23,11 @@ passes true t e h = absurd (h e)
 passes false t e h = rw e refl
 
 refused : (E : Type 0) (t : List ℕ) (e : E) → ParsesUnsigned 64 10 t (Err e) → 1000000 ≡ number_of t
-refused E t e h = passes _ t refl (λ is. let a = accepts-Accepts false (vp.Unsigned 0 18446744073709551615) t is in h (a.0, a.1))
+refused E t e h = passes _ t refl
+    (λ is. let a = accepts-Accepts false (vp.Unsigned 0 18446744073709551615) t is in h (a.0, a.1))
 
-read : (E : Type 0) (P : List ℕ → Result ℕ E → Type 0) (text : Option (List ℕ)) (r : Option ℕ) (n : ℕ)
+read : (E : Type 0) (P : List ℕ → Result ℕ E → Type 0) (text : Option (List ℕ)) (r : Option ℕ)
+    (n : ℕ)
     → ((t : List ℕ) (x : Result ℕ E) → P t x → ParsesUnsigned 64 10 t x)
     → (text ≡ None → r ≡ None) → ((t : List ℕ) → text ≡ Some t → ReadsOne P t r)
     → r ≡ Some n → n ≡ option_map_or number_of text 1000000
@@ -44,12 +47,17 @@ unread E P (Some t) None f none value e =
 
 pub returns-in-Some : goal.returns-in-Some
 returns-in-Some c =
-    read _ (λ bs r. ParsesUnsigned 64 10 bs r × ExplainsUnsignedError 10 bs r × HasUnsignedDigitsIfOk bs r)
-    _ c.get_one.result c.in-Some.steps (λ t x h. h.0) c.get_one.ensures.none c.get_one.ensures.value c.in-Some.is
-    ∙ ap (λ (o : Option (List ℕ)). option_map_or number_of o 1000000) (one_text-rows (found_of c.args.matches.now) (codes "steps"))
+    read _ (λ bs r. ParsesUnsigned 64 10 bs r × ExplainsUnsignedError 10 bs r ×
+        HasUnsignedDigitsIfOk bs r)
+    _ c.get_one.result c.in-Some.steps (λ t x h. h.0) c.get_one.ensures.none c.get_one.ensures.value
+        c.in-Some.is
+    ∙ ap (λ (o : Option (List ℕ)). option_map_or number_of o 1000000)
+        (one_text-rows (found_of c.args.matches.now) (codes "steps"))
 
 pub returns-in-None : goal.returns-in-None
 returns-in-None c =
-    unread _ (λ bs r. ParsesUnsigned 64 10 bs r × ExplainsUnsignedError 10 bs r × HasUnsignedDigitsIfOk bs r)
+    unread _ (λ bs r. ParsesUnsigned 64 10 bs r × ExplainsUnsignedError 10 bs r ×
+        HasUnsignedDigitsIfOk bs r)
     _ c.get_one.result (λ t x h. h.0) c.get_one.ensures.none c.get_one.ensures.value c.in-None.is
-    ∙ ap (λ (o : Option (List ℕ)). option_map_or number_of o 1000000) (one_text-rows (found_of c.args.matches.now) (codes "steps"))
+    ∙ ap (λ (o : Option (List ℕ)). option_map_or number_of o 1000000)
+        (one_text-rows (found_of c.args.matches.now) (codes "steps"))

@@ -15,7 +15,8 @@ loop-low-preserved-then-is_before c =
     let l = c.loop-low in (
       l.invariant.0,
       λ n is.
-          let behind = place_behind n 0 c.args.cell (l.low + (l.high - l.low) / 2) c.args.facts.now is
+          let behind = place_behind n 0 c.args.cell (l.low + (l.high - l.low) / 2)
+          c.args.facts.now is
           (ap (is_before c.args.cell) (sym c.get.ensures)
           ∙ (sym c.is_before.ensures ∙ c.if-is_before.true)) in
           (omega (arith, behind), (l.invariant.1 n is).1),

@@ -2,7 +2,7 @@ use Rattle.std.proofs.Common.{◌≡◌, List, true, map, sym, ◌∙◌, subst}
 use Rattle.cpa_iface.specs.declared.merging.Pick.{Pick}
 use Rattle.cpa_composite.specs.Components.{picked}
 use Rattle.cpa_composite.specs.Covers.{all_cover}
-use Rattle.cpa_composite.specs.CoverLaws.{cover_within}
+use Rattle.cpa_composite.specs.lemmas.CoverLaws.{cover_within}
 use Rattle.cpa_composite.proofs.composite.Composite.covered_by.Goals as goal
 
 pub returns-clause-within : goal.returns-clause-within

@@ -1,7 +1,8 @@
 -- A walk from the initial element.
 use Rattle.std.proofs.Common.{sym, subst}
 use Rattle.cpa_iface.specs.Meanings.{AreShaped}
-use Rattle.cpa_craig.proofs.WalkClauses.{first_one, walk-known, walk-exact, walk-progress, walk-spends}
+use Rattle.cpa_craig.proofs.WalkClauses.{first_one, walk-known, walk-exact, walk-progress}
+use Rattle.cpa_craig.proofs.WalkClauses.{walk-spends}
 use Rattle.cpa_craig.proofs.craig.Craig.walk.Goals as goal
 
 pub walk_from-requires-clause-first : goal.walk_from-requires-clause-first
@@ -49,5 +50,6 @@ returns-clause-spends c =
     c.args.cfa.now c.args.precision.now.preds c.as_slice.result.now c.args.path.now.edges
     c.as_slice.ensures c.push.new.self.items
     (first_one c.new-first.result.items c.push.new.self.items c.in_ok-initial.field-0
-    c.new-first.ensures.items c.in_ok-initial.ensures.given c.in_ok-push.ensures.items) c.walk_from.result
+    c.new-first.ensures.items c.in_ok-initial.ensures.given c.in_ok-push.ensures.items)
+    c.walk_from.result
     c.walk_from.ensures.spends

@@ -3,7 +3,8 @@ use Rattle.std.specs.declared.alloc.Global.{Global}
 use Rattle.std.specs.declared.vec.Vec.{Vec}
 use Rattle.std.proofs.lemmas.Result.{IfOk-weaker}
 use Rattle.cpa_model.specs.declared.facts.Elem.{Elem}
-use Rattle.cpa_craig.proofs.CraigLaws.{transfer-laws, transfer-exact, transfer-known, transfer-spends}
+use Rattle.cpa_craig.proofs.CraigLaws.{transfer-laws, transfer-exact, transfer-known}
+use Rattle.cpa_craig.proofs.CraigLaws.{transfer-spends}
 use Rattle.cpa_craig.proofs.craig.CraigAnalysis.transfer.Goals as goal
 
 pub returns-clause-laws : goal.returns-clause-laws

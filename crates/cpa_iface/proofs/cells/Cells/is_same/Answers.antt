@@ -1,6 +1,6 @@
 -- All cells are known where they stand at their own places.
 use Rattle.std.proofs.Common.{rules, ap, length}
-use Rattle.cpa_iface.specs.CellLaws.{all_same}
+use Rattle.cpa_iface.specs.lemmas.CellLaws.{all_same}
 use Rattle.cpa_iface.proofs.cells.Cells.is_same.Goals as goal
 
 pub returns-then-are_own-2 : goal.returns-then-are_own-2

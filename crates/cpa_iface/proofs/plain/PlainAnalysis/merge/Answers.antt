@@ -2,7 +2,7 @@ use Rattle.std.proofs.Common.{refl, sym, subst}
 use Rattle.std.proofs.lemmas.Result.{IfOk-weaker}
 use Rattle.cpa_model.specs.declared.facts.Elem.{Elem}
 use Rattle.cpa_iface.specs.Laws.{MergeLaws}
-use Rattle.cpa_iface.specs.CommonLaws.{merged_facts-laws}
+use Rattle.cpa_iface.specs.lemmas.CommonLaws.{merged_facts-laws}
 use Rattle.cpa_iface.specs.PlainMeanings.{meaning_of}
 use Rattle.cpa_iface.proofs.plain.PlainAnalysis.merge.Goals as goal
 

@@ -23,7 +23,8 @@ invariant_of-self-2 c =
           (added_entries i.table.next i.table.entries.items es c.args.precisions.items
           c.args.parent)
           is c.in_ok-number.ensures.ok
-          (marked_added ms mark i.table.next i.table.entries.items es c.args.precisions.items c.args.parent
+          (marked_added ms mark i.table.next i.table.entries.items es c.args.precisions.items
+          c.args.parent
           c.self.invariant.counted tells c.self.invariant.marked);
       counted = marked_longer_by ms ns mark i.table.next is c.self.invariant.counted
           ∙ sym c.in_ok-number.ensures.next;

@@ -6,7 +6,7 @@ use Rattle.cpa_reached.specs.Entries.{ReachedSet}
 use Rattle.cpa_reached.specs.Marks.{DiffersAt, IsMarkOf}
 use Rattle.cpa_reached.specs.Members.{IsIn}
 use Rattle.cpa_reached.specs.Passed.{LeavesOut, IsPassedBy}
-use Rattle.cpa_reached.specs.PassedLaws.{all_left, left_weaker}
+use Rattle.cpa_reached.specs.lemmas.PassedLaws.{all_left, left_weaker}
 use Rattle.cpa_reached.proofs.Marking.{parted_there}
 use Rattle.cpa_reached.proofs.reached.Reached.left_under.Goals as goal
 

@@ -19,7 +19,8 @@ invariant_of-self c =
       indexed = c.remove_below.ensures.indexed;
       marked =
           removed_by c.remove_below.result i.marks.items c.args.pivot i.table.entries.items
-          c.remove_below.new.table.entries.items c.remove_below.ensures.ok c.remove_below.ensures.err
+          c.remove_below.new.table.entries.items c.remove_below.ensures.ok
+          c.remove_below.ensures.err
           c.self.invariant.marked;
       counted = c.self.invariant.counted ∙ sym c.remove_below.ensures.next;
     }

@@ -12,7 +12,8 @@ invariant_of-self c =
       kept = c.set_precisions.ensures.kept;
       indexed = c.set_precisions.ensures.indexed;
       marked =
-          subst (λ (ys : List Entry). AreMarked i.marks.items ys) (sym c.set_precisions.ensures.entries)
+          subst (λ (ys : List Entry). AreMarked i.marks.items ys)
+          (sym c.set_precisions.ensures.entries)
           (marked_at i.marks.items c.args.entry (with_precisions c.args.precisions.items)
           i.table.entries.items (λ e. refl) (λ e. refl) c.self.invariant.marked);
       counted = c.self.invariant.counted ∙ sym c.set_precisions.ensures.next;

@@ -2,7 +2,7 @@ use Rattle.std.proofs.Common.{refl, sym, subst}
 use Rattle.std.proofs.lemmas.Result.{IfOk-weaker}
 use Rattle.cpa_model.specs.declared.facts.Elem.{Elem}
 use Rattle.cpa_iface.specs.Laws.{MergeLaws}
-use Rattle.cpa_iface.specs.CommonLaws.{merged_facts-laws}
+use Rattle.cpa_iface.specs.lemmas.CommonLaws.{merged_facts-laws}
 use Rattle.cpa_value.specs.Values.{values}
 use Rattle.cpa_value.proofs.value.ValueAnalysis.merge.Goals as goal
 

@@ -6,9 +6,9 @@ use Rattle.c_grammar_forms.specs.Forms.{World, Form, Nothing, Such, Skip, Behind
 use Rattle.c_grammar_forms.specs.Forms.{Then}
 use Rattle.c_grammar_forms.specs.Forms.{Node, Shaped, Deeper, Choice, Many, Perhaps, Nearest}
 use Rattle.c_grammar_forms.specs.Forms.{greedy_text}
-use Rattle.c_grammar_forms.specs.Steady.{Alike, Steady, from_place, ends_or_goes, test_path}
+use Rattle.c_grammar_forms.specs.lemmas.Steady.{Alike, Steady, from_place, ends_or_goes, test_path}
 use Rattle.c_grammar_forms.specs.Reading.{Reads, Begins, NoneThrough}
-use Rattle.c_grammar_forms.specs.Found.{IsAbove}
+use Rattle.c_grammar_forms.specs.lemmas.Found.{IsAbove}
 
 -- the text and one that begins with the same tokens are alike
 pub alike_begins : {Token : Type 0} {at : ℕ → Token} {i edge : ℕ} {v : World Token} (j : ℕ) →

@@ -2,7 +2,7 @@
 -- one more is passed over or left, and other reasons. Lemmas for the crates above.
 use Rattle.std.specs.Prelude.{◌≡◌, ℕ, List, [], ◌∷◌, ◌++◌, refl}
 use Rattle.std.proofs.Common.{ap, ◌∙◌}
-use Rattle.cpa_reached.specs.MemberLaws.{all_push, all_weaker}
+use Rattle.cpa_reached.specs.lemmas.MemberLaws.{all_push, all_weaker}
 use Rattle.cpa_reached.specs.Passed.{StandsBehind, LeavesOut}
 
 grouped : (xs : List ℕ) (n : ℕ) (ys zs : List ℕ)

@@ -2,9 +2,10 @@
 use Rattle.std.specs.Prelude.{◌≡◌, ℕ, ◌<◌, ◌≤◌, Bool, true, false, List, [], ◌∷◌, ◌++◌, refl}
 use Rattle.std.proofs.Common.{sym, ◌∙◌, ap, subst, arith, append_assoc, append-nil}
 use Rattle.c_grammar_forms.specs.Forms.{World, Form, seen_through, Through, ManySeen}
-use Rattle.c_grammar_forms.specs.Steady.{Steady, ends_or_goes, from_place, good_through, test_path}
+use Rattle.c_grammar_forms.specs.lemmas.Steady.{Steady, ends_or_goes, from_place, good_through}
+use Rattle.c_grammar_forms.specs.lemmas.Steady.{test_path}
 use Rattle.c_grammar_forms.specs.Reading.{Reads, Begins, NoneThrough}
-use Rattle.c_grammar_forms.specs.NotFound.{only}
+use Rattle.c_grammar_forms.specs.lemmas.NotFound.{only}
 
 module _ {Token T : Type 0} (f : Token → Token) {A : ℕ → Form Token T} {at : ℕ → Token}
     {size left p : ℕ} where
@@ -117,7 +118,8 @@ module _ {Token T : Type 0} {see : List T → Token → Token} {go : Token → B
         Reads A (λ i. see items (at i)) size left m u k →
         SeenSoFar see go A at size left p (items ++ u ∷ []) k
     one_seen {u} {k} steady goes r = record {
-      reads = λ us q rest. subst (λ list. Reads (λ n. ManySeen see go (A n) []) at size left p list q)
+      reads = λ us q rest. subst
+        (λ list. Reads (λ n. ManySeen see go (A n) []) at size left p list q)
           (sym (append_assoc items (u ∷ []) us))
           (s.reads (u ∷ us) q (seen_more see go A items goes r rest));
       front = λ i n v below b ts q x.

@@ -22,9 +22,10 @@ use Rattle.cpa_reached.specs.Calls.{replaced_entries}
 use Rattle.cpa_reached.specs.Removal.{IsBelow, child, further, is_opened, opened, left, without}
 use Rattle.cpa_reached.specs.Removal.{RemovesBelow}
 use Rattle.cpa_reached.specs.Successors.{CoversSuccessors, HoldOfAll}
-use Rattle.cpa_reached.specs.MemberLaws.{one_entry, in_map}
-use Rattle.cpa_reached.specs.MemberLaws.{map_in, in_append, append_front, append_back, in_filter}
-use Rattle.cpa_reached.specs.MemberLaws.{filter_in}
+use Rattle.cpa_reached.specs.lemmas.MemberLaws.{one_entry, in_map}
+use Rattle.cpa_reached.specs.lemmas.MemberLaws.{map_in, in_append, append_front, append_back}
+use Rattle.cpa_reached.specs.lemmas.MemberLaws.{in_filter}
+use Rattle.cpa_reached.specs.lemmas.MemberLaws.{filter_in}
 
 -- the number is used still, after one more
 used_more : (n : ℕ) (uses : List ℕ) (by : ℕ) → IsIn n uses → IsIn n (uses ++ by ∷ [])

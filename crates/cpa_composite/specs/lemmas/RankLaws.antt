@@ -12,7 +12,7 @@ use Rattle.cpa_iface.specs.declared.precisions.Precision.{Precision}
 use Rattle.cpa_iface.specs.Laws.{MergeLaws}
 use Rattle.cpa_composite.specs.Components.{Component}
 use Rattle.cpa_reached_key.specs.Rows.{same_elem}
-use Rattle.cpa_reached_key.specs.RowLaws.{same_elem-means, same_elem-self}
+use Rattle.cpa_reached_key.specs.lemmas.RowLaws.{same_elem-means, same_elem-self}
 use Rattle.cpa_composite.specs.Covers.{all_cover}
 use Rattle.cpa_composite.specs.Laws.{EachMerged, MergedRow, AgreeOnSep, WidenCovers}
 use Rattle.cpa_composite.specs.Ranks.{rank_by, row_rank, JoinNone}

@@ -4,7 +4,7 @@ use Rattle.std.proofs.Common.{sym, ◌∙◌, ap, subst, arith}
 use native.Mathlib.Decide.{dec_le, dec_lt}
 use Prim.{yes, no}
 use Rattle.c_grammar_forms.specs.Forms.{count, Balanced}
-use Rattle.c_grammar_forms.specs.Steady.{closed_inside, ends_or_goes, test_path}
+use Rattle.c_grammar_forms.specs.lemmas.Steady.{closed_inside, ends_or_goes, test_path}
 use Rattle.c_grammar_forms.specs.Reading.{Reads, NoneThrough}
 
 -- behind a bracket that opens, n tokens on: so many brackets are open besides it, and the text has

@@ -1,11 +1,13 @@
 -- Lemmas: the same of declarations, statements and items, and of the grammar at each two depths.
 use Rattle.std.specs.Prelude.{ℕ, zero, suc, Bool, true, false, [], is_some, Option, Some}
 use Rattle.c_grammar_forms.specs.Forms.{Form}
-use Rattle.c_grammar_forms.specs.Steady.{Good, good_nothing, good_one, good_such, good_empty}
-use Rattle.c_grammar_forms.specs.Steady.{good_skip, good_behind, good_before, good_pair, good_then}
-use Rattle.c_grammar_forms.specs.Steady.{good_node, good_shaped, good_deeper, good_choice}
-use Rattle.c_grammar_forms.specs.Steady.{good_perhaps, good_nearest, good_many, good_balanced}
-use Rattle.c_grammar_forms.specs.Steady.{good_against_nothing, good_many_seen}
+use Rattle.c_grammar_forms.specs.lemmas.Steady.{Good, good_nothing, good_one, good_such, good_empty}
+use Rattle.c_grammar_forms.specs.lemmas.Steady.{good_skip, good_behind, good_before, good_pair}
+use Rattle.c_grammar_forms.specs.lemmas.Steady.{good_then}
+use Rattle.c_grammar_forms.specs.lemmas.Steady.{good_node, good_shaped, good_deeper, good_choice}
+use Rattle.c_grammar_forms.specs.lemmas.Steady.{good_perhaps, good_nearest, good_many}
+use Rattle.c_grammar_forms.specs.lemmas.Steady.{good_balanced}
+use Rattle.c_grammar_forms.specs.lemmas.Steady.{good_against_nothing, good_many_seen}
 use Rattle.c_grammar_symbols.specs.declared.words.Terminal.{Terminal}
 use Rattle.c_grammar_symbols.specs.declared.words.Terminal.TheVariants as terminal
 use Rattle.c_grammar_symbols.specs.declared.symbol.Symbol.{Symbol}
@@ -16,7 +18,8 @@ use Rattle.c_grammar_tree.specs.declared.declaration.Enumeration.{Enumeration}
 use Rattle.c_grammar_tree.specs.Parts.{is_name, bare_name, is_local_specifier, have_word, is_listed}
 use Rattle.c_grammar_tree.specs.Nested.{Grammar}
 use Rattle.c_grammar_tree.specs.Declarations.{specifier_at, keywords, qualifiers, tag}
-use Rattle.c_grammar_tree.specs.Declarations.{declared_type_at, declared_type, specifiers, attribute}
+use Rattle.c_grammar_tree.specs.Declarations.{declared_type_at, declared_type, specifiers}
+use Rattle.c_grammar_tree.specs.Declarations.{attribute}
 use Rattle.c_grammar_tree.specs.Declarations.{attributes}
 use Rattle.c_grammar_tree.specs.Declarations.{comma_or_end_at, element, list, initializer_of, array}
 use Rattle.c_grammar_tree.specs.Declarations.{array_part, declarator_rest, declarator}
@@ -35,10 +38,10 @@ use Rattle.c_grammar_tree.specs.Items.{declared_at}
 use Rattle.c_grammar_tree.specs.Items.{typedef_name, typedef_names, seen_behind}
 use Rattle.c_grammar_tree.specs.Items.{unit_item_at, unit_item, unit_items}
 use Rattle.c_grammar_tree.specs.Grammar.{grammar}
-use Rattle.c_grammar_tree.specs.OneReading.{GoodGrammar, good_round_brackets, good_comma}
-pub use Rattle.c_grammar_tree.specs.OneReading.{good_identifier}
-use Rattle.c_grammar_tree.specs.OneReading.{good_assignment}
-use Rattle.c_grammar_tree.specs.OneReading.{good_conditional, good_cast, good_unary}
+use Rattle.c_grammar_tree.specs.lemmas.OneReading.{GoodGrammar, good_round_brackets, good_comma}
+pub use Rattle.c_grammar_tree.specs.lemmas.OneReading.{good_identifier}
+use Rattle.c_grammar_tree.specs.lemmas.OneReading.{good_assignment}
+use Rattle.c_grammar_tree.specs.lemmas.OneReading.{good_conditional, good_cast, good_unary}
 
 pub good_specifier_at : (s : Symbol) → Good (specifier_at s) (specifier_at s)
 unfolding specifier_at
@@ -187,12 +190,14 @@ module _ (G H : Grammar) (g : GoodGrammar G H) where
   unfolding declarators
   good_declarators = good_node _ (good_pair good_declarator good_more_declarators)
 
-  pub good_declarators_by : (braces : Bool) → Good (declarators_by G braces) (declarators_by H braces)
+  pub good_declarators_by : (braces : Bool) → Good (declarators_by G braces)
+      (declarators_by H braces)
   unfolding declarators_by
   good_declarators_by false = good_declarators
   good_declarators_by true = good_node _ (good_perhaps _ good_declarators)
 
-  pub good_declaration_by : (braces : Bool) → Good (declaration_by braces G) (declaration_by braces H)
+  pub good_declaration_by : (braces : Bool) → Good (declaration_by braces G)
+      (declaration_by braces H)
   unfolding declaration_by
   good_declaration_by braces = good_node _ (good_then (good_specifiers (good_enumeration braces) _)
       (λ front. good_before (good_declarators_by (is_listed front.enumeration)) _))

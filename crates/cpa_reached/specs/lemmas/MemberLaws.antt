@@ -7,7 +7,7 @@ use Rattle.std.specs.List.{AllByRecursion, filter}
 use Rattle.std.proofs.lemmas.Bool.{cases_Bool, eq-eqb, ne_eqb, eqb-true, or_cases, cond_both}
 use Rattle.cpa_iface.specs.declared.entries.Entry.{Entry}
 use Rattle.cpa_model.specs.Ascending.{AreAscending}
-pub use Rattle.cpa_reached_opening.specs.MemberLaws.{or_left, or_right, member_in, in_member}
+pub use Rattle.cpa_reached_opening.specs.lemmas.MemberLaws.{or_left, or_right, member_in, in_member}
 use Rattle.cpa_reached.specs.Members.{IsIn, is_in}
 use Rattle.cpa_reached.specs.Entries.{numbers, IsLive}
 

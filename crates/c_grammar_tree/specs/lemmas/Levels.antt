@@ -2,15 +2,15 @@
 -- level deeper.
 use Rattle.std.specs.Prelude.{◌≡◌, ℕ, ◌<◌, ◌≤◌, Bool, true, false, Err}
 use Rattle.c_grammar_forms.specs.Forms.{Form, Deeper}
-use Rattle.c_grammar_forms.specs.Steady.{Steady, good_deeper}
+use Rattle.c_grammar_forms.specs.lemmas.Steady.{Steady, good_deeper}
 use Rattle.c_grammar_forms.specs.Reading.{Answers}
-use Rattle.c_grammar_forms.specs.Found.{IsAbove}
-use Rattle.c_grammar_forms.specs.NotFound.{none_too_deep}
+use Rattle.c_grammar_forms.specs.lemmas.Found.{IsAbove}
+use Rattle.c_grammar_forms.specs.lemmas.NotFound.{none_too_deep}
 use Rattle.c_grammar_tree.specs.Expressions.{comma, assignment, conditional, cast, unary}
 use Rattle.c_grammar_tree.specs.Declarations.{list, enumerator, declaration}
 use Rattle.c_grammar_tree.specs.Statements.{statement, item}
 use Rattle.c_grammar_tree.specs.Grammar.{grammar}
-use Rattle.c_grammar_tree.specs.OneReadingOfText.{good_grammar}
+use Rattle.c_grammar_tree.specs.lemmas.OneReadingOfText.{good_grammar}
 use Rattle.c_grammar_tree.specs.Reading.{no_level}
 
 pub comma_above : IsAbove (λ n. (grammar n).comma) (λ n. comma (grammar n))

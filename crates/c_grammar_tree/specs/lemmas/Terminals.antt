@@ -3,9 +3,9 @@ use Rattle.std.specs.Prelude.{◌≡◌, ℕ, false, List, length, Result, IsErr
 use Rattle.c_grammar_forms.specs.declared.fault.ReadError.{ReadError}
 use Rattle.c_grammar_forms.specs.Forms.{Form, Behind, Before}
 use Rattle.c_grammar_forms.specs.Reading.{Reads, NoneThrough, Answers}
-use Rattle.c_grammar_forms.specs.Found.{reads_behind_by, reads_before_by}
-use Rattle.c_grammar_forms.specs.NotFound.{none_behind_by}
-use Rattle.c_grammar_forms.specs.Exits.{at_fault}
+use Rattle.c_grammar_forms.specs.lemmas.Found.{reads_behind_by, reads_before_by}
+use Rattle.c_grammar_forms.specs.lemmas.NotFound.{none_behind_by}
+use Rattle.c_grammar_forms.specs.lemmas.Exits.{at_fault}
 use Rattle.c_grammar_symbols.specs.declared.words.Terminal.{Terminal}
 use Rattle.c_grammar_symbols.specs.Symbols.{Leaf}
 use Rattle.c_grammar_symbols.specs.Sources.{leaf_at, is, Takes, Lacks}

@@ -2,11 +2,12 @@
 -- it.
 use Rattle.std.specs.Prelude.{ℕ, zero, suc, Bool}
 use Rattle.c_grammar_forms.specs.Forms.{Form}
-use Rattle.c_grammar_forms.specs.Steady.{Good, good_nothing, good_one, good_such, good_skip}
-use Rattle.c_grammar_forms.specs.Steady.{good_before}
-use Rattle.c_grammar_forms.specs.Steady.{good_pair, good_then, good_node, good_shaped, good_deeper}
-use Rattle.c_grammar_forms.specs.Steady.{good_choice, good_perhaps, good_nearest, good_many}
-use Rattle.c_grammar_forms.specs.Steady.{good_balanced}
+use Rattle.c_grammar_forms.specs.lemmas.Steady.{Good, good_nothing, good_one, good_such, good_skip}
+use Rattle.c_grammar_forms.specs.lemmas.Steady.{good_before}
+use Rattle.c_grammar_forms.specs.lemmas.Steady.{good_pair, good_then, good_node, good_shaped}
+use Rattle.c_grammar_forms.specs.lemmas.Steady.{good_deeper}
+use Rattle.c_grammar_forms.specs.lemmas.Steady.{good_choice, good_perhaps, good_nearest, good_many}
+use Rattle.c_grammar_forms.specs.lemmas.Steady.{good_balanced}
 use Rattle.c_grammar_symbols.specs.declared.words.Terminal.TheVariants as terminal
 use Rattle.c_grammar_symbols.specs.declared.operators.BinaryOperator.TheVariants as binary
 use Rattle.c_grammar_symbols.specs.declared.symbol.Symbol.{Symbol}

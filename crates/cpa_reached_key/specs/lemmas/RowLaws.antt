@@ -9,7 +9,7 @@ use Rattle.std.proofs.lemmas.Bool.{and_parts}
 use Rattle.cpa_facts.specs.declared.fact.Fact.{Fact}
 use Rattle.cpa_model.specs.declared.facts.Elem.{Elem}
 use Rattle.cpa_model.specs.Standing.{same_fact}
-use Rattle.cpa_model.specs.StandingLaws.{same_fact-means, same_fact-self}
+use Rattle.cpa_model.specs.lemmas.StandingLaws.{same_fact-means, same_fact-self}
 use Rattle.cpa_reached_key.specs.Rows.{same_facts, same_elem, same_row}
 use Rattle.cpa_reached_key.specs.Writes.{row_writes}
 

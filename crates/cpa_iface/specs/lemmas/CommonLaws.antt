@@ -10,7 +10,7 @@ use Rattle.cpa_model.specs.declared.automaton.Cfa.{Cfa}
 use Rattle.cpa_model.specs.declared.automaton.Path.{Path}
 use Rattle.cpa_model.specs.Facts.{FactHolds, IsFact, IsWithin}
 use Rattle.cpa_model.specs.Standing.{has_facts}
-use Rattle.cpa_model.specs.StandingLaws.{has_facts-within}
+use Rattle.cpa_model.specs.lemmas.StandingLaws.{has_facts-within}
 use Rattle.cpa_iface.specs.declared.analysis.Part.TheVariants as part
 use Rattle.cpa_iface.specs.declared.analysis.Settings.{Settings}
 use Rattle.cpa_iface.specs.declared.merging.MergeRule.{MergeRule}

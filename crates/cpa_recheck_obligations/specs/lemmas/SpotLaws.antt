@@ -1,5 +1,5 @@
--- That spots are the same exactly where they are equal, and what a key of a table owes for it. Lemmas
--- for `Spot` and the tables below.
+-- That spots are the same exactly where they are equal, and what a key of a table owes for it.
+-- Lemmas for `Spot` and the tables below.
 use Rattle.std.proofs.Common.{◌≡◌, ℕ, ◌&&◌, true, List, Option, Some, None, refl, sym, ap, ◌∙◌}
 use Rattle.std.specs.Bool.{Decides}
 use Rattle.std.specs.Cmp.{IsPartialEquivalence, IsEquivalence, decided, partial_equiv_from_equiv}
@@ -8,7 +8,7 @@ use Rattle.std.proofs.lemmas.Bool.{and_parts}
 use Rattle.std.proofs.lemmas.Bool.Decides.{Decides-eqb}
 use Rattle.cpa_facts.specs.declared.fact.Fact.TheVariants.{Stack}
 use Rattle.cpa_model.specs.Standing.{same_sites}
-use Rattle.cpa_model.specs.StandingLaws.{same_fact-means, same_fact-self}
+use Rattle.cpa_model.specs.lemmas.StandingLaws.{same_fact-means, same_fact-self}
 use Rattle.cpa_recheck_obligations.specs.declared.spots.Spot.{Spot}
 use Rattle.cpa_recheck_obligations.specs.Spots.{same_point, same_stack, same_spot, spot_of_parts}
 use Rattle.cpa_recheck_obligations.specs.Writes.{spot_writes}

@@ -3,10 +3,10 @@ use Rattle.std.specs.Prelude.{◌≡◌, ℕ}
 use Rattle.std.specs.Prelude.{refl}
 use Rattle.std.proofs.Common.{sym, ◌∙◌, subst, arith}
 use Rattle.c_grammar_forms.specs.Forms.{Form, Node, Pair, Then}
-use Rattle.c_grammar_forms.specs.Steady.{Good, Steady, from_place}
+use Rattle.c_grammar_forms.specs.lemmas.Steady.{Good, Steady, from_place}
 use Rattle.c_grammar_forms.specs.Reading.{Reads, NoneThrough}
-use Rattle.c_grammar_forms.specs.NotFound.{only}
-use Rattle.c_grammar_forms.specs.Loops.{Strict}
+use Rattle.c_grammar_forms.specs.lemmas.NotFound.{only}
+use Rattle.c_grammar_forms.specs.lemmas.Loops.{Strict}
 
 -- what is made of a first part that is read already and of a second: of both
 module _ {Token R S T : Type 0} (f : Token → R × S → T) {A : ℕ → Form Token R} {at : ℕ → Token}

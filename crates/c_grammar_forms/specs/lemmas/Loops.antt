@@ -3,11 +3,11 @@ use Rattle.std.specs.Prelude.{◌≡◌, ℕ, ◌<◌, ◌≤◌, Bool, true, fa
 use Rattle.std.proofs.Common.{sym, ◌∙◌, ap, subst, arith, append_assoc, append-nil}
 use Rattle.c_grammar_forms.specs.Forms.{World, Form, One, Such, Skip, Behind, Before, Pair, Node}
 use Rattle.c_grammar_forms.specs.Forms.{Shaped, Choice, Many, listed}
-use Rattle.c_grammar_forms.specs.Steady.{Good, Steady, cons_path, from_place, test_path}
-use Rattle.c_grammar_forms.specs.Steady.{ends_or_goes}
+use Rattle.c_grammar_forms.specs.lemmas.Steady.{Good, Steady, cons_path, from_place, test_path}
+use Rattle.c_grammar_forms.specs.lemmas.Steady.{ends_or_goes}
 use Rattle.c_grammar_forms.specs.Reading.{Reads, Begins, NoneThrough}
-use Rattle.c_grammar_forms.specs.Found.{reads_pair, reads_node, reads_end, reads_more}
-use Rattle.c_grammar_forms.specs.NotFound.{only}
+use Rattle.c_grammar_forms.specs.lemmas.Found.{reads_pair, reads_node, reads_end, reads_more}
+use Rattle.c_grammar_forms.specs.lemmas.NotFound.{only}
 
 -- a reading of the form takes a token at least
 pub record Strict {Token T : Type 0} (A : Form Token T) : Type 0 where

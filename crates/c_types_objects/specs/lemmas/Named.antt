@@ -58,7 +58,8 @@ listed_names text next (one ∷ more) around =
       gotos = rest.gotos;
     }
 
-pub names_of : (text : Text) (found : Option Enumeration) (around : Around) → LeavesNames text found around
+pub names_of : (text : Text) (found : Option Enumeration) (around : Around) → LeavesNames text found
+    around
 names_of text None around = record { alone = refl; objects = refl; labels = refl; gotos = refl }
 names_of text (Some (enumeration.Tag tag)) around =
     record { alone = refl; objects = refl; labels = refl; gotos = refl }

@@ -7,8 +7,8 @@ use Rattle.c_grammar_forms.specs.declared.fault.ReadError.TheVariants.{Unexpecte
 use Rattle.c_grammar_forms.specs.declared.fault.ReadError.TheVariants.{OutOfMemory}
 use Rattle.c_grammar_forms.specs.Forms.{Form, Deeper}
 use Rattle.c_grammar_forms.specs.Reading.{Reads, NoneThrough, Faults, Answers}
-use Rattle.c_grammar_forms.specs.Found.{IsAbove, reads_deeper, reads_deeper_flat}
-use Rattle.c_grammar_forms.specs.NotFound.{none_deeper, none_deeper_flat}
+use Rattle.c_grammar_forms.specs.lemmas.Found.{IsAbove, reads_deeper, reads_deeper_flat}
+use Rattle.c_grammar_forms.specs.lemmas.NotFound.{none_deeper, none_deeper_flat}
 
 module _ {Token S T : Type 0} (limit : ℕ) {A : ℕ → Form Token S} {B : ℕ → Form Token T}
     {at : ℕ → Token} {size k r left p : ℕ} where

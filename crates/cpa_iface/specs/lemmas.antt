@@ -1,0 +1,5 @@
+-- Lemmas on the definitions, which proofs here and in other crates cite. No definition that a
+-- contract cites stands here.
+pub mod CellLaws
+pub mod CommonLaws
+pub mod PlaceLaws
