@@ -8,7 +8,6 @@ mod expressions;
 mod facts;
 mod graph;
 mod laws;
-mod next;
 mod program;
 mod spelling;
 mod stacks;
@@ -27,7 +26,6 @@ pub use laws::{
     automata_are_small, covers_are_safe, edges_are_sound, edges_are_steps, initial_is_state,
     moves_stay_inside, stacks_are_left, statements_are_trees, steps_keep_states,
 };
-pub use next::next_point;
 pub use program::{Cell, MAX_CELLS, MAX_POINTS, Program, Stmt, Successor};
 pub use spelling::{Spell, push_list};
 pub use stacks::step_stack;
