@@ -1,5 +1,5 @@
--- A tree has one typed text; and where its functions begin does not decide whether its core is too
--- large, so that of a sound text is within the limits.
+-- A tree has one checked text; and where its functions begin does not decide whether its core is
+-- too large, so that of a sound text is within the limits.
 use Rattle.std.proofs.Common.{◌≡◌, ℕ, ◌<◌, ◌≤◌, List, length, refl, ap, sym, ◌∙◌, arith, Option}
 use mathlib.Core.Logic.{inl, inr, ⊎_elim}
 use Rattle.std.specs.Prelude.{◌⊎◌}
@@ -14,15 +14,15 @@ use Rattle.cpa_model_trees.specs.Numbering.{Trees}
 use Rattle.c_core_rules.specs.Cells.{Made}
 use Rattle.c_core_rules_laws.specs.Sizes.{IsWithinLimits, points_of, tallest_of}
 use Rattle.c_core_rules_laws.specs.Laws.{there_is_one_layout, texts_are_as_large}
-use Rattle.c_core_checked.specs.declared.text.TypedText.{TypedText}
-use Rattle.c_core_checked.specs.Texts.{IsTypedText, unit_core, unit_main, ends_of}
+use Rattle.c_core_checked.specs.declared.text.CheckedText.{CheckedText}
+use Rattle.c_core_checked.specs.Texts.{IsCheckedText, unit_core, unit_main, ends_of}
 use Rattle.c_core_checked.specs.Sound.{Sound}
 
--- typed texts by their parts
+-- checked texts by their parts
 abbrev Names : Type 0
 Names = List (Option ℕ)
 
-abbrev of_parts : List Cell → Names → Trees → List ℕ → ℕ → ℕ → TypedText
+abbrev of_parts : List Cell → Names → Trees → List ℕ → ℕ → ℕ → CheckedText
 of_parts cells names trees ends main text_len = record {
   cells = cells;
   names = names;
@@ -43,20 +43,20 @@ same_parts cs ds ns ms ts us es fs m n l k c a t e i j =
     ∙ ap (λ x. of_parts ds ms us fs x l) i
     ∙ ap (λ x. of_parts ds ms us fs n x) j
 
--- a typed text, where its functions begin
-text_at : (tree : UnitTree) (typed : TypedText) (firsts : List ℕ) → (is : IsTypedText tree typed) →
-    is.first_cells ≡ firsts →
-    typed ≡ of_parts (unit_core firsts tree).taken.cells (unit_core firsts tree).taken.names
+-- a checked text, where its functions begin
+text_at : (tree : UnitTree) (checked : CheckedText) (firsts : List ℕ) →
+    (is : IsCheckedText tree checked) → is.first_cells ≡ firsts →
+    checked ≡ of_parts (unit_core firsts tree).taken.cells (unit_core firsts tree).taken.names
     (unit_core firsts tree).made (ends_of (unit_functions tree)) (unit_main tree) tree.length
-text_at tree typed firsts is same =
-    same_parts typed.cells (unit_core firsts tree).taken.cells typed.names
-    (unit_core firsts tree).taken.names typed.trees (unit_core firsts tree).made typed.ends
-    (ends_of (unit_functions tree)) typed.main (unit_main tree) typed.text_len tree.length
+text_at tree checked firsts is same =
+    same_parts checked.cells (unit_core firsts tree).taken.cells checked.names
+    (unit_core firsts tree).taken.names checked.trees (unit_core firsts tree).made checked.ends
+    (ends_of (unit_functions tree)) checked.main (unit_main tree) checked.text_len tree.length
     (is.cells ∙ ap (λ (ns : List ℕ). (unit_core ns tree).taken.cells) same)
     (is.names ∙ ap (λ (ns : List ℕ). (unit_core ns tree).taken.names) same)
     (is.trees ∙ ap (λ (ns : List ℕ). (unit_core ns tree).made) same) is.ends is.main is.text_len
 
-pub one_text : (tree : UnitTree) (a b : TypedText) → IsTypedText tree a → IsTypedText tree b →
+pub one_text : (tree : UnitTree) (a b : CheckedText) → IsCheckedText tree a → IsCheckedText tree b →
     a ≡ b
 one_text tree a b is are =
     text_at tree a are.first_cells is (there_is_one_layout (unit_globals tree) (unit_functions tree)

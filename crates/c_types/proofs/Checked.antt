@@ -1,4 +1,4 @@
--- The typed text that is answered is the tree's (`typed_is`).
+-- The checked text that is answered is the tree's (`checked_is`).
 use Rattle.std.proofs.Common.{◌≡◌, List, ap, ◌∙◌, subst}
 use Rattle.c_grammar_tree.specs.declared.item.Unit.{Unit as UnitTree}
 use Rattle.c_types_rules.specs.declared.typed.Global.{Global}
@@ -7,18 +7,18 @@ use Rattle.c_types_rules.specs.Sound.{unit_globals, unit_functions}
 use Rattle.c_core_rules_laws.specs.Layouts.{AreFirst, IsTooLarge, text_from}
 use Rattle.c_lower_layout.specs.declared.placing.TextLayout.{TextLayout}
 use Rattle.c_lower_layout.specs.Layouts.{IsLaidOut}
-use Rattle.c_core_checked.specs.declared.text.TypedText.{TypedText}
-use Rattle.c_core_checked.specs.Texts.{IsTypedText, unit_main, ends_of}
+use Rattle.c_core_checked.specs.declared.text.CheckedText.{CheckedText}
+use Rattle.c_core_checked.specs.Texts.{IsCheckedText, unit_main, ends_of}
 
-pub typed_is : (unit : UnitTree) (globals : List Global) (functions : List TypedFunction)
-    (layout : TextLayout) (typed : TypedText) → globals ≡ unit_globals unit →
+pub checked_is : (unit : UnitTree) (globals : List Global) (functions : List TypedFunction)
+    (layout : TextLayout) (checked : CheckedText) → globals ≡ unit_globals unit →
     functions ≡ unit_functions unit → IsLaidOut globals functions layout →
-    typed.cells ≡ (text_from layout.first_cells globals functions).taken.cells →
-    typed.names ≡ (text_from layout.first_cells globals functions).taken.names →
-    typed.trees ≡ (text_from layout.first_cells globals functions).made →
-    typed.ends ≡ ends_of functions → typed.main ≡ unit_main unit → typed.text_len ≡ unit.length →
-    IsTypedText unit typed
-typed_is unit globals functions layout typed g f is cells names trees ends main length =
+    checked.cells ≡ (text_from layout.first_cells globals functions).taken.cells →
+    checked.names ≡ (text_from layout.first_cells globals functions).taken.names →
+    checked.trees ≡ (text_from layout.first_cells globals functions).made →
+    checked.ends ≡ ends_of functions → checked.main ≡ unit_main unit →
+    checked.text_len ≡ unit.length → IsCheckedText unit checked
+checked_is unit globals functions layout checked g f is cells names trees ends main length =
     let firsts = layout.first_cells in
     let own = unit_globals unit in
     record {
