@@ -104,7 +104,7 @@ fault_or_parts model text ps qs rest rule one fails two =
     let some = fault_some model (fresh_after true ps) rule rest fails in
     elim (compare model true ps qs rest [] one.stand two.stand (sym one.spelled ∙ two.spelled)) [
       | inl b ↦ (let none : b.more ≡ [] = nothing_beyond model
-      (fresh_after true ps) rule rest [] b.more
+          (fresh_after true ps) rule rest [] b.more
           fails b.rest b.stand in
           let empty : rest ≡ [] = b.rest ∙ ap (λ z. joined z ++ []) none in
           let zero_long : length rest ≡ 0 = ap length empty in
@@ -171,10 +171,10 @@ one_fault model text f g one two =
     elim (compare model true one.parts two.parts one.rest two.rest one.falls.stand two.falls.stand
     (sym one.falls.spelled ∙ two.falls.spelled)) [
       | inl b ↦ same_fault model text f g one.parts two.parts one.rest two.rest one.placed
-      two.placed
+          two.placed
           one.fails two.fails b
       | inr b ↦ sym (same_fault model text g f two.parts one.parts two.rest one.rest two.placed
-      one.placed
+          one.placed
           two.fails one.fails b)
     ]
 
@@ -424,8 +424,11 @@ outcome_by : (model : DataModel) (m : ℕ) →
     IsCut model text place fresh found → place < length text → length text ≤ place + suc m →
     piece_of model fresh (drop place text) ≡ read → Outcome model text
 outcome_by model m ih text place fresh found (Err rule) cut more enough e =
-    inr (record { rule = rule; place = place }, fault_cut model text place fresh found rule cut more
-    e)
+    inr (
+      record { rule = rule; place = place },
+      fault_cut model text place fresh found rule cut more
+          e,
+    )
 outcome_by model m ih text place fresh found (Ok piece) cut more enough e =
     let some = piece_some model fresh (drop place text) piece e in
     let next = next_cut model text place fresh found piece cut e
@@ -436,13 +439,19 @@ outcome_from : (model : DataModel) (m : ℕ) (text : List ℕ) (place : ℕ) (fr
     (found : List Token) →
     IsCut model text place fresh found → length text ≤ place + m → Outcome model text
 outcome_from model zero text place fresh found cut enough =
-    inl (found ++ end_token (length text) ∷ [], last_cut model text place fresh found cut
-    (omega arith))
+    inl (
+      found ++ end_token (length text) ∷ [],
+      last_cut model text place fresh found cut
+          (omega arith),
+    )
 outcome_from model (suc m) text place fresh found cut enough = elim (cases_lt place (length text)) [
   | inl more ↦ outcome_by model m (outcome_from model m) text place fresh found
       (piece_of model fresh (drop place text)) cut more enough refl
-  | inr all ↦ inl (found ++ end_token (length text) ∷ [], last_cut model text place fresh found cut
-  all)
+  | inr all ↦ inl (
+    found ++ end_token (length text) ∷ [],
+    last_cut model text place fresh found cut
+        all,
+  )
 ]
 
 -- a text has tokens or a fault

@@ -122,10 +122,10 @@ all_real model text before place fresh (token kind bytes ∷ parts) at e stand =
     let here = real_more model text before bytes (joined parts ++ []) fresh kind
     (split_on text before (token kind bytes) parts e) stand.0 in (
       subst (λ z. IsReal model text (record { kind = kind; from = z; to = z + length bytes }))
-      (sym at)
+          (sym at)
           here,
       all_real model text (before ++ bytes) (place + length bytes)
-      (fresh_behind fresh (token kind bytes))
+          (fresh_behind fresh (token kind bytes))
           parts (omega (arith, at, length-append before bytes))
           (pushed_on text before (token kind bytes) parts e) stand.1,
     )

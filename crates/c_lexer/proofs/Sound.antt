@@ -302,7 +302,7 @@ mark_right : (model : DataModel) (fresh : Bool) (byte : ℕ) (rest : List ℕ) �
     Right model fresh (byte ∷ rest) (mark_piece (mark_length (byte ∷ rest)))
 mark_right model fresh byte rest o = elim (mark_is (byte ∷ rest)) [
   | inl f ↦ mark_right_by model fresh (byte ∷ rest)
-  (mark_length (byte ∷ rest)) f o.comment o.line_comment
+      (mark_length (byte ∷ rest)) f o.comment o.line_comment
   | inr none ↦ subst (λ z. Right model fresh (byte ∷ rest) (mark_piece z)) (sym none.0)
       (inr (inl (record {
         byte = byte;

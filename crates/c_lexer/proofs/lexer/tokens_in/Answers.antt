@@ -15,7 +15,7 @@ returns-in-Err-clause-fault c =
     c.in-Err.rule c.parts.invariant more read in (
       fault,
       fault_no_tokens c.args.model c.args.text.now (record
-      { rule = c.in-Err.rule; place = c.parts.place })
+          { rule = c.in-Err.rule; place = c.parts.place })
           fault,
     )
 
