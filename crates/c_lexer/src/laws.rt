@@ -53,7 +53,8 @@ pub fn tokens_end_once()
     ensures once { (model : DataModel) (text : List ℕ) (found : List Token) →
         Tokens model text found → EndsOnce text found }
     ensures lexeme { (model : DataModel) (text : List ℕ) (found : List Token) →
-        Tokens model text found → slice_get (lexemes text found) (length found - 1) ≡ Some end_lexeme }
+        Tokens model text found →
+        slice_get (lexemes text found) (length found - 1) ≡ Some end_lexeme }
 {}
 
 /// Tokens lie in the text, stand in its order and do not overlap.
