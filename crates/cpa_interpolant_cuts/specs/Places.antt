@@ -10,8 +10,8 @@ use Rattle.cpa_query.specs.Queries.{wanted_reads}
 use Rattle.cpa_form_rules.specs.Runs.{Added}
 use Rattle.cpa_form_rules.specs.Forms.{Form, form_of, place_now}
 use Rattle.cpa_form_rules.specs.Laws.{IsAddedOf}
-use Rattle.cpa_interpolant_places.specs.Touching.{IsGone, SomeAddedReads, SomeAddedTouches}
-use Rattle.cpa_interpolant_places.specs.lemmas.Wholes.{placed}
+use Rattle.cpa_interpolant_cuts.specs.Touching.{IsGone, SomeAddedReads, SomeAddedTouches}
+use Rattle.cpa_interpolant_cuts.specs.lemmas.Wholes.{placed}
 
 -- The places of the program's cells in a form from any store on: each has the type of its cell and
 -- is the place of no other one; it is the first one, or the cell was read or written. What is

@@ -21,12 +21,12 @@ use std::alloc::{AllocError, Global};
 
 /// The formulas of two parts of a path as one.
 #[derive(Drop)]
-pub struct JoinedParts {
-    pub cnf: Cnf,
+pub(crate) struct JoinedParts {
+    pub(crate) cnf: Cnf,
     /// For each clause whether it is one of the part before the cut.
-    pub sides: Vec<bool>,
+    pub(crate) sides: Vec<bool>,
     /// For each variable the bit that it is, of a cell that both parts read.
-    pub bits: Vec<Option<Bit>>,
+    pub(crate) bits: Vec<Option<Bit>>,
 }
 
 /// The formula of a query, and what is seen of it.
@@ -53,7 +53,7 @@ fn has_few_variables(cnf: &Cnf)
 
 /// The formulas of two parts of a path as one, joined on the bits of the program's cells. It takes
 /// time and memory linear in the two formulas.
-pub fn join_parts(
+pub(crate) fn join_parts(
     alloc: Global,
     cells: &[Cell],
     before: &EdgeForm,

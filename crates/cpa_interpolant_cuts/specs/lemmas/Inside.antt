@@ -20,7 +20,7 @@ use Rattle.cpa_form_renaming.specs.Laws.{cells_behind_change_nothing}
 use Rattle.cpa_form_rules.specs.Runs.{Added, taken, holding, failing}
 use Rattle.cpa_form_rules.specs.Reading.{ActReads, SomeReads, AddedReads}
 use Rattle.cpa_form_rules.specs.lemmas.Formed.{ActFits, AddedFits}
-use Rattle.cpa_interpolant_places.specs.Touching.{IsGone}
+use Rattle.cpa_interpolant_cuts.specs.Touching.{IsGone}
 
 some_within : {A : Type 0} (P : A → Type 0) (xs : List A) (i : ℕ)
     → IsSomeAnd (slice_get xs i) P → i < length xs

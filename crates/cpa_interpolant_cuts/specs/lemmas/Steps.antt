@@ -27,10 +27,10 @@ use Rattle.cpa_form_rules.specs.Drafts.{assigned, cell_written, array_written}
 use Rattle.cpa_form_rules.specs.Tests.{type_at, tests_of}
 use Rattle.cpa_form_rules.specs.Forms.{Form, draft_of, with_added}
 use Rattle.cpa_form_rules.specs.lemmas.TestReads.{tests_read, reads_one}
-use Rattle.cpa_interpolant_places.specs.Touching.{IsGone, AddedTouches}
-use Rattle.cpa_interpolant_places.specs.lemmas.Moves.{StandBelow, Moves, Marked, none_move}
-use Rattle.cpa_interpolant_places.specs.lemmas.Moves.{moves_wider, one_set, all_set, next_named}
-use Rattle.cpa_interpolant_places.specs.lemmas.Moves.{copies_move}
+use Rattle.cpa_interpolant_cuts.specs.Touching.{IsGone, AddedTouches}
+use Rattle.cpa_interpolant_cuts.specs.lemmas.Moves.{StandBelow, Moves, Marked, none_move}
+use Rattle.cpa_interpolant_cuts.specs.lemmas.Moves.{moves_wider, one_set, all_set, next_named}
+use Rattle.cpa_interpolant_cuts.specs.lemmas.Moves.{copies_move}
 
 -- a mark says that some expression reads the cell
 marked_reads : (asked : List (Expr × Bool)) (n c : ℕ)

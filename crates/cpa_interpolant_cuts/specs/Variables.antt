@@ -9,8 +9,8 @@ use Rattle.cpa_blast_circuits.specs.Laws.{CircuitsHaveValues}
 use Rattle.cpa_blast.specs.Formulas.{first_bits, store_at}
 use Rattle.cpa_blast.specs.Laws.{IsBlastable}
 use Rattle.cpa_interpolant_bits.specs.Bits.{bit_of}
-use Rattle.cpa_interpolant_variables.specs.lemmas.Apart.{bits_apart}
-use Rattle.cpa_interpolant_variables.specs.lemmas.Digits.{bit_is_variable}
+use Rattle.cpa_interpolant_cuts.specs.lemmas.Apart.{bits_apart}
+use Rattle.cpa_interpolant_cuts.specs.lemmas.Digits.{bit_is_variable}
 
 -- the variable is this bit of the cell, which has the type
 pub record IsBitAt (cells : List IntType) (firsts : List ℕ) (cell : ℕ) (t : IntType) (place : ℕ)

@@ -3,8 +3,8 @@ use Rattle.std.proofs.Common.{◌≡◌, ◌∙◌, ap}
 use Rattle.cpa_blast.specs.Formulas.{formula}
 use Rattle.cpa_interpolant_names.specs.Meetings.{names_of}
 use Rattle.cpa_interpolant_cuts.specs.Cuts.{seen, meetings_of}
-use Rattle.cpa_interpolant_parts.proofs.Fitting.{same_meetings, names_fit, bits_fit, formula_is}
-use Rattle.cpa_interpolant_parts.proofs.joints.join_parts.Goals as goal
+use Rattle.cpa_interpolant_answers.proofs.Fitting.{same_meetings, names_fit, bits_fit, formula_is}
+use Rattle.cpa_interpolant_answers.proofs.joints.join_parts.Goals as goal
 
 pub names_of-requires : goal.names_of-requires
 names_of-requires c =

@@ -24,7 +24,7 @@ fn told(alloc: Global, expr: &Expr) -> Result<Elem, AllocError>
 }
 
 /// The part before a cut: the expression is nonzero, and then the edge is taken.
-pub fn part_before(alloc: Global, cfa: &Cfa, expr: &Expr, edge: u32) -> Result<EdgeForm, AllocError>
+pub(crate) fn part_before(alloc: Global, cfa: &Cfa, expr: &Expr, edge: u32) -> Result<EdgeForm, AllocError>
     requires { edge < length cfa.now.edges }
     ensures { (g : AnEdge) → slice_get cfa.now.edges edge ≡ Some g
         → IfOk result (λ form. form ≡ before_cut cfa.now.cells expr.now g.act) }
@@ -37,7 +37,7 @@ pub fn part_before(alloc: Global, cfa: &Cfa, expr: &Expr, edge: u32) -> Result<E
 }
 
 /// The part behind a cut: the edges are taken, from any store on.
-pub fn part_behind(alloc: Global, cfa: &Cfa, edges: &[u32]) -> Result<EdgeForm, AllocError>
+pub(crate) fn part_behind(alloc: Global, cfa: &Cfa, edges: &[u32]) -> Result<EdgeForm, AllocError>
     requires path { AllByRecursion (λ edge. edge < length cfa.now.edges) edges.now }
     ensures { IfOk result (λ form.
         form ≡ behind_cut cfa.now.cells (acts_along cfa.now edges.now)) }
@@ -50,7 +50,7 @@ pub fn part_behind(alloc: Global, cfa: &Cfa, edges: &[u32]) -> Result<EdgeForm, 
 }
 
 /// What two parts weigh together, or the greatest `u64` where it is more. Takes no memory.
-pub fn weight_of(before: &EdgeForm, behind: &EdgeForm) -> u64
+pub(crate) fn weight_of(before: &EdgeForm, behind: &EdgeForm) -> u64
     ensures { result ≡ weight_of before.now behind.now }
 {
     before.weight().saturating_add(behind.weight())

@@ -28,10 +28,10 @@ use Rattle.cpa_form_rules.specs.lemmas.CallReads.{call_reads}
 use Rattle.cpa_form_rules.specs.lemmas.Copies.{Stand, types_at}
 use Rattle.cpa_form_rules.specs.lemmas.Formed.{AddedFits, call_is}
 use Rattle.cpa_form_rules.specs.lemmas.Lists.{all_both}
-use Rattle.cpa_interpolant_places.specs.Touching.{IsGone, SomeAddedReads, SomeAddedTouches}
-use Rattle.cpa_interpolant_places.specs.lemmas.Moves.{StandBelow, AreOwn, still_own}
-use Rattle.cpa_interpolant_places.specs.lemmas.Steps.{call_moves}
-use Rattle.cpa_interpolant_places.specs.lemmas.Inside.{reads_inside}
+use Rattle.cpa_interpolant_cuts.specs.Touching.{IsGone, SomeAddedReads, SomeAddedTouches}
+use Rattle.cpa_interpolant_cuts.specs.lemmas.Moves.{StandBelow, AreOwn, still_own}
+use Rattle.cpa_interpolant_cuts.specs.lemmas.Steps.{call_moves}
+use Rattle.cpa_interpolant_cuts.specs.lemmas.Inside.{reads_inside}
 
 for_each : {A : Type 0} (P Q : A → Type 0) (xs : List A) → ((x : A) → P x → Q x)
     → AllByRecursion P xs → AllByRecursion Q xs
