@@ -19,6 +19,11 @@ returns-in_err-tokens-clause-fault c =
     (tokens_refused c.args.model c.no_program_has_a_fault.ensures c.args.bytes.now _
     c.in_err-tokens.ensures.fault))
 
+pub parse-requires : goal.parse-requires
+parse-requires c =
+    (c.args.model, subst (Tokens c.args.model c.args.bytes.now) (sym c.as_slice.ensures.value)
+    c.in_ok-tokens.ensures.ok)
+
 pub returns-clause-fault : goal.returns-clause-fault
 returns-clause-fault c =
     let falls = subst (Tokens c.args.model c.args.bytes.now) (sym c.as_slice.ensures.value)
