@@ -1,4 +1,5 @@
-/* Roman numerals up to 39, letter by letter from the left, with the rule of a smaller one before. */
+/* Roman numerals of I, V and X, letter by letter from the left, with the rule of a smaller one before;
+   XXXVIX passes, which is 44. */
 extern char __VERIFIER_nondet_char(void);
 void reach_error(void) {}
 
@@ -35,7 +36,7 @@ int main(void)
         last = v;
         letters++;
     }
-    if (total < 0 || total > 39)
+    if (total < 0 || total > 44)
         reach_error();
     return 0;
 }
