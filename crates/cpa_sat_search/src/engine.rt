@@ -164,7 +164,13 @@ impl Search {
     }
 
     /// Jumps by a clause that stands already.
-    fn assert_known(&mut self, cnf: &Cnf, jump: Jump, number: u32, learnt: u32) -> Result<Turn, AllocError>
+    fn assert_known(
+        &mut self,
+        cnf: &Cnf,
+        jump: Jump,
+        number: u32,
+        learnt: u32,
+    ) -> Result<Turn, AllocError>
         requires state { IsState cnf.now self.old }
         requires within { length self.old.lines.items ≤ learnt }
         requires inside { number < length self.old.arena }
@@ -269,7 +275,13 @@ impl Search {
     }
 
     /// Jumps by the clause of a line, which is added where its clause does not stand yet.
-    fn assert_line(&mut self, cnf: &Cnf, line: Line, jump: Jump, learnt: u32) -> Result<Turn, AllocError>
+    fn assert_line(
+        &mut self,
+        cnf: &Cnf,
+        line: Line,
+        jump: Jump,
+        learnt: u32,
+    ) -> Result<Turn, AllocError>
         requires state { IsState cnf.now self.old }
         requires within { length self.old.lines.items ≤ learnt }
         requires good { IsGoodLine cnf.now.vars self.old.arena line }
@@ -351,7 +363,12 @@ impl Search {
     }
 
     /// Decides, or learns from a clause that is false.
-    pub(crate) fn step(&mut self, cnf: &Cnf, found: Option<u32>, learnt: u32) -> Result<Turn, AllocError>
+    pub(crate) fn step(
+        &mut self,
+        cnf: &Cnf,
+        found: Option<u32>,
+        learnt: u32,
+    ) -> Result<Turn, AllocError>
         requires state { IsState cnf.now self.old }
         requires within { length self.old.lines.items ≤ learnt }
         requires conflict { IsPropagated self.old.arena self.old.trail found }
