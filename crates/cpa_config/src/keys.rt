@@ -79,8 +79,7 @@ pub const KEYS: [(&str, Kind); 10] = [
 ];
 
 /// The data models, by the names that C programmers give them.
-pub const MODELS: [(&str, DataModel); 2] =
-    [("lp64", DataModel::Lp64), ("ilp32", DataModel::Ilp32)];
+pub const MODELS: [(&str, DataModel); 2] = [("lp64", DataModel::Lp64), ("ilp32", DataModel::Ilp32)];
 
 /// The data model where the text has none.
 pub const DEFAULT_MODEL: DataModel = DataModel::Lp64;

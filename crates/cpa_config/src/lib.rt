@@ -21,3 +21,4 @@ pub use keys::{
 };
 pub use laws::{texts_have_one_answer, the_empty_text_gives_the_defaults, the_tables};
 pub use reading::read;
+pub use values::model_named;

@@ -25,9 +25,14 @@ spelled r ts =
 
 spelled_is : (r : Report) (ts : List Token) → onto (object (ordered r)) ts ≡ spelled r ts
 spelled_is r ts =
-    rw (chain_onto (before_form r.body) _ ts, chain_onto (before_model r.body) _ ts,
-        chain_onto (model_members r.model) _ ts, chain_onto (before_points r.body) _ ts,
-        chain_onto (before_text r.body) _ ts, chain_onto (behind_text r.body) _ ts) refl
+    rw (
+      chain_onto (before_form r.body) _ ts,
+      chain_onto (before_model r.body) _ ts,
+      chain_onto (model_members r.model) _ ts,
+      chain_onto (before_points r.body) _ ts,
+      chain_onto (before_text r.body) _ ts,
+      chain_onto (behind_text r.body) _ ts,
+    ) refl
 
 respelled : {E : Type 0} (result : Result (Unit {0}) E) (a b : Written) (r : Report)
     → OnOk result (Wrote a b (spelled r)) → OnOk result (Wrote a b (onto (report_data r)))
