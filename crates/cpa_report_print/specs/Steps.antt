@@ -1,7 +1,7 @@
 -- Steps of the code: the members of a report by where they stand in it. Nothing here is promised to
 -- a caller.
 use Rattle.std.specs.Prelude.{ℕ, List, [], ◌∷◌, codes}
-use Rattle.json.specs.Token.{Token, key}
+use Rattle.json.specs.Token.{Token, begin_object, end_object, key}
 use Rattle.serde_json.specs.Data.{Members, no_members, member}
 use Rattle.cpa_ints.specs.declared.data_model.DataModel.{DataModel}
 use Rattle.cpa_report_print.specs.declared.report.Body.{Body}
@@ -69,6 +69,17 @@ ordered r =
     (chain (before_model r.body) (chain (model_members r.model) (chain (before_points r.body)
     (member (codes "points") (number_data r.points) (chain (before_text r.body)
     (member (codes "text") (number_data r.text) (chain (behind_text r.body) no_members))))))))))
+
+-- and their tokens, in front of others
+abbrev pub spelled : Report → List Token → List Token
+spelled r ts =
+    begin_object ∷ key (codes "cells") ∷ onto (number_data r.cells)
+    (key (codes "edges") ∷ onto (number_data r.edges)
+    (front (before_form r.body) (key (codes "form") ∷ onto (number_data (form_of r.model))
+    (front (before_model r.body) (front (model_members r.model)
+    (front (before_points r.body) (key (codes "points") ∷ onto (number_data r.points)
+    (front (before_text r.body) (key (codes "text") ∷ onto (number_data r.text)
+    (front (behind_text r.body) (end_object ∷ ts)))))))))))
 
 -- the report of these parts
 abbrev pub told : ℕ → ℕ → ℕ → ℕ → DataModel → Body → Report

@@ -1,47 +1,19 @@
-use Rattle.std.proofs.Common.{◌≡◌, List, ◌∷◌, Result, Ok, Err, OnOk, refl, sym, ◌++◌, ◌∙◌, ap}
-use Rattle.std.specs.Prelude.{codes}
-use Rattle.json.specs.Token.{Token, begin_object, end_object, key}
+use Rattle.std.proofs.Common.{Result, Ok, Err, OnOk, sym, ◌++◌, ◌∙◌, ap}
 use Rattle.json.specs.Written.{Written}
-use Rattle.serde_json.specs.Data.{object}
 use Rattle.cpa_report_print.specs.declared.report.Report.{Report}
-use Rattle.cpa_report_print.specs.Reports.{form_of, model_members, number_data, report_data}
-use Rattle.cpa_report_print.specs.Steps.{front, before_form, before_model, before_points}
-use Rattle.cpa_report_print.specs.Steps.{before_text, behind_text, ordered}
+use Rattle.cpa_report_print.specs.Reports.{report_data}
+use Rattle.cpa_report_print.specs.Steps.{spelled}
 use Rattle.cpa_report_print.specs.Tokens.{Wrote, onto}
-use Rattle.cpa_report_print.specs.lemmas.Ordered.{chain_onto, in_order}
+use Rattle.cpa_report_print.specs.lemmas.Ordered.{in_tokens}
 use Rattle.cpa_report_print.proofs.Writing.{one, both, last}
 use Rattle.cpa_report_print.proofs.printing.ReportJson.write.Goals as goal
-
--- the tokens as they are written
-abbrev spelled : Report → List Token → List Token
-spelled r ts =
-    begin_object ∷ key (codes "cells") ∷ onto (number_data r.cells)
-    (key (codes "edges") ∷ onto (number_data r.edges)
-    (front (before_form r.body) (key (codes "form") ∷ onto (number_data (form_of r.model))
-    (front (before_model r.body) (front (model_members r.model)
-    (front (before_points r.body) (key (codes "points") ∷ onto (number_data r.points)
-    (front (before_text r.body) (key (codes "text") ∷ onto (number_data r.text)
-    (front (behind_text r.body) (end_object ∷ ts)))))))))))
-
-spelled_is : (r : Report) (ts : List Token) → onto (object (ordered r)) ts ≡ spelled r ts
-spelled_is r ts =
-    rw (
-      chain_onto (before_form r.body) _ ts,
-      chain_onto (before_model r.body) _ ts,
-      chain_onto (model_members r.model) _ ts,
-      chain_onto (before_points r.body) _ ts,
-      chain_onto (before_text r.body) _ ts,
-      chain_onto (behind_text r.body) _ ts,
-    ) refl
 
 respelled : {E : Type 0} (result : Result (Unit {0}) E) (a b : Written) (r : Report)
     → OnOk result (Wrote a b (spelled r)) → OnOk result (Wrote a b (onto (report_data r)))
 respelled (Ok x) a b r w = record {
   before = w.before;
   tokens = λ rest. w.tokens rest
-      ∙ ap (λ ts. a.tokens ++ ts)
-      (sym (ap (λ d. onto d rest) (in_order r.text r.points r.cells r.edges r.model r.body)
-      ∙ spelled_is r rest));
+      ∙ ap (λ ts. a.tokens ++ ts) (sym (in_tokens r rest));
 }
 respelled (Err e) a b r w = tt
 
