@@ -1,4 +1,5 @@
-/* limits.h for cpaverify: LP64, plain char is signed (C11 5.2.4.2.1). */
+/* limits.h for cpaverify: plain char is signed; LP64, and ILP32 where the compiler is called with
+   -m32 (C11 5.2.4.2.1). */
 #ifndef CPAVERIFY_LIMITS_H
 #define CPAVERIFY_LIMITS_H
 #define CHAR_BIT 8
@@ -13,9 +14,15 @@
 #define INT_MIN (-2147483647 - 1)
 #define INT_MAX 2147483647
 #define UINT_MAX 4294967295U
+#ifdef __LP64__
 #define LONG_MIN (-9223372036854775807L - 1L)
 #define LONG_MAX 9223372036854775807L
 #define ULONG_MAX 18446744073709551615UL
+#else
+#define LONG_MIN (-2147483647L - 1L)
+#define LONG_MAX 2147483647L
+#define ULONG_MAX 4294967295UL
+#endif
 #define LLONG_MIN (-9223372036854775807LL - 1LL)
 #define LLONG_MAX 9223372036854775807LL
 #define ULLONG_MAX 18446744073709551615ULL

@@ -1,6 +1,7 @@
 //! What the words of a command ask for: what `read_words` of `cpa_top_words` answers.
 //! Proved safe by the checker alone.
 
+use cpa_ints::DataModel;
 use cpa_top_words::{Job, WordsError, read_words};
 use std::alloc::{AllocError, Global};
 
@@ -12,6 +13,14 @@ fn words_of(alloc: Global, row: &str) -> Result<Vec<String>, AllocError> {
         words.push(String::from_str(alloc, word)?)?;
     }
     Ok(words)
+}
+
+/// The data model, where it is not LP64.
+pub(crate) fn model_word(model: DataModel) -> &'static str {
+    match model {
+        DataModel::Lp64 => "",
+        DataModel::Ilp32 => ", ilp32",
+    }
 }
 
 /// A job in a line, each name in quotes.
@@ -29,7 +38,11 @@ fn line_of(alloc: Global, job: Job<'_>) -> Result<String, AllocError> {
             program,
             inputs,
             steps,
-        } => format!(in alloc; "replay \"{program}\" on \"{inputs}\" in {steps}"),
+            model,
+        } => {
+            let model = model_word(model);
+            format!(in alloc; "replay \"{program}\" on \"{inputs}\" in {steps}{model}")
+        }
         Job::Recheck {
             program,
             report,

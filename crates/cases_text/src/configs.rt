@@ -1,6 +1,7 @@
 //! The configuration of a text, or the line that refuses it: what `read` of `cpa_config` answers.
 //! Proved safe by the checker alone.
 
+use crate::commands::model_word;
 use cases_reader::bytes_of;
 use cpa_config::{Config, ConfigError};
 use cpa_iface::{MergeRule, Order, Pick};
@@ -51,7 +52,8 @@ fn push_numbers(line: &mut String, config: &Config) -> Result<(), AllocError> {
         config.turns, config.rounds
     )?;
     write!(line, "tracked {tracked}, limit {}, ", settings.limit)?;
-    write!(line, "learnt {}, gates {}", settings.learnt, settings.gates)
+    write!(line, "learnt {}, gates {}", settings.learnt, settings.gates)?;
+    line.push_str(model_word(config.model))
 }
 
 /// The names of a row, one blank between two of them.

@@ -2,9 +2,9 @@
 //! Proved safe by the checker alone.
 
 use cases_reader::{RowFault, bytes_of, next_index, next_word, type_of_word};
-use cpa_ints::Seq;
+use cpa_ints::{DataModel, Seq};
 use cpa_model::{Act, Cell, Cfa, Edge};
-use cpa_report::{Report, ReportError, ReportRule, Verdict, print, read};
+use cpa_report::{Report, ReportError, ReportRule, Verdict, print, read_in};
 use std::alloc::{AllocError, Global};
 use std::str::SplitWhitespace;
 
@@ -20,6 +20,17 @@ fn verdict_of_word(word: &str) -> Result<Verdict, RowFault> {
         "new" => Ok(Verdict::NoNew),
         "proof" => Ok(Verdict::Proof),
         _ => Err(RowFault::Unreadable),
+    }
+}
+
+/// The data model and the verdict that a row wants, LP64 where it does not say `ilp32`.
+fn wanted(words: &mut SplitWhitespace<'_>) -> Result<(DataModel, Verdict), RowFault> {
+    let word = next_word(words)?;
+    if word == "ilp32" {
+        let take = verdict_of_word(next_word(words)?)?;
+        Ok((DataModel::Ilp32, take))
+    } else {
+        Ok((DataModel::Lp64, verdict_of_word(word)?))
     }
 }
 
@@ -76,8 +87,14 @@ fn rule_word(rule: ReportRule) -> &'static str {
 }
 
 /// What is read of the text.
-fn found(alloc: Global, text: &[u8], cfa: &Cfa, take: Verdict) -> Result<&'static str, AllocError> {
-    match read(alloc, text, cfa, take) {
+fn found(
+    alloc: Global,
+    text: &[u8],
+    cfa: &Cfa,
+    take: Verdict,
+    model: DataModel,
+) -> Result<&'static str, AllocError> {
+    match read_in(alloc, text, cfa, take, model) {
         Ok(report) => printed(alloc, text, &report),
         Err(ReportError::Fault(rule)) => Ok(rule_word(rule)),
         Err(ReportError::OutOfMemory) => Err(AllocError),
@@ -92,20 +109,26 @@ fn printed(alloc: Global, text: &[u8], report: &Report) -> Result<&'static str, 
 }
 
 /// What is read of a written text.
-fn found_in(alloc: Global, row: &str, cfa: &Cfa, take: Verdict) -> Result<&'static str, RowFault> {
+fn found_in(
+    alloc: Global,
+    row: &str,
+    cfa: &Cfa,
+    take: Verdict,
+    model: DataModel,
+) -> Result<&'static str, RowFault> {
     let text = bytes_of(alloc, row)?.ok_or(RowFault::Unreadable)?;
-    Ok(found(alloc, text.as_slice(), cfa, take)?)
+    Ok(found(alloc, text.as_slice(), cfa, take, model)?)
 }
 
 /// The answer to a row that can be read.
 fn answered(alloc: Global, front: &str, row: &str) -> Result<&'static str, RowFault> {
     let mut words = front.split_whitespace();
-    let take = verdict_of_word(next_word(&mut words)?)?;
+    let (model, take) = wanted(&mut words)?;
     let cfa = automaton(alloc, &mut words)?;
-    found_in(alloc, row, &cfa, take)
+    found_in(alloc, row, &cfa, take, model)
 }
 
-/// The answer to a row: the verdict that is wanted and what the program has, and behind ` |` the
+/// The answer to a row: the data model and the verdict that are wanted and what the program has, and behind ` |` the
 /// text.
 pub(crate) fn answer(alloc: Global, row: &str) -> Result<String, AllocError> {
     let Some((front, text)) = row.split_once(" |") else {

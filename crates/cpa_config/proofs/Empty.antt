@@ -42,6 +42,7 @@ given handed c is = record {
   limit = is.limit;
   learnt = is.learnt;
   gates = is.gates;
+  model = is.model;
 }
 
 pub defaults : (handed : List (List ℕ)) (c : Config) → Configures [] handed c → IsDefault handed c

@@ -52,6 +52,7 @@ one_config handed table c d a b = λ i. record {
     learnt = (a.learnt ∙ sym b.learnt) i;
     gates = (a.gates ∙ sym b.gates) i;
   };
+  model = (a.model ∙ sym b.model) i;
 }
 
 -- ---- faults

@@ -21,10 +21,11 @@ use Rattle.cpa_config.specs.declared.faults.ConfigRule.{ConfigRule}
 use Rattle.cpa_config.specs.declared.faults.ConfigRule.TheVariants.{C1}
 use Rattle.cpa_config.specs.declared.keys.Range.{Range}
 use Rattle.cpa_config.specs.declared.keys.TheConstants.{GATES, LEARNT, LIMIT, ROUNDS, TURNS}
-use Rattle.cpa_config.specs.declared.keys.TheConstants.{DEFAULT_ORDER, DEFAULT_TRACKED}
+use Rattle.cpa_config.specs.declared.keys.TheConstants.{DEFAULT_MODEL, DEFAULT_ORDER}
+use Rattle.cpa_config.specs.declared.keys.TheConstants.{DEFAULT_TRACKED}
 use Rattle.cpa_config.specs.Rules.{Table, listed_in, rule_at}
-use Rattle.cpa_config.specs.Values.{is_widened, merge_rules, number_in, orders, place_of}
-use Rattle.cpa_config.specs.Values.{tracked_words, word_in}
+use Rattle.cpa_config.specs.Values.{is_widened, merge_rules, models, number_in, orders}
+use Rattle.cpa_config.specs.Values.{place_of, tracked_words, word_in}
 
 -- ---- the table
 
@@ -82,6 +83,7 @@ pub record IsConfig (handed : List (List ℕ)) (table : Table) (config : Config)
   pub limit : config.settings.limit ≡ number_at LIMIT table (codes "limit")
   pub learnt : config.settings.learnt ≡ number_at LEARNT table (codes "learnt")
   pub gates : config.settings.gates ≡ number_at GATES table (codes "gates")
+  pub model : config.model ≡ value_at (word_in models) DEFAULT_MODEL table (codes "model")
 
 -- the rule is broken at the key, and none is at a key before it in byte order
 pub record IsFirstFault (handed : List (List ℕ)) (table : Table) (rule : ConfigRule) (key : List ℕ)

@@ -5,14 +5,17 @@ use Rattle.std.specs.Prelude.{if◌then◌else◌}
 use Rattle.std.specs.List.{AllZip}
 use Rattle.cpa_iface.specs.declared.merging.MergeRule.TheVariants.{Sep, Join, Widen}
 use Rattle.cpa_iface.specs.declared.merging.Order.TheVariants.{First, Last}
+use Rattle.cpa_ints.specs.declared.data_model.DataModel.TheVariants.{Lp64, Ilp32}
 use Rattle.cpa_config.specs.declared.config.Config.{Config}
 use Rattle.cpa_config.specs.declared.faults.ConfigRule.{ConfigRule}
 use Rattle.cpa_config.specs.declared.keys.Kind.TheVariants as kind
 use Rattle.cpa_config.specs.declared.keys.Range.{Range}
 use Rattle.cpa_config.specs.declared.keys.TheConstants.{GATES, LEARNT, LIMIT, ROUNDS, TURNS}
-use Rattle.cpa_config.specs.declared.keys.TheConstants.{DEFAULT_ORDER, DEFAULT_TRACKED, WIDENED}
+use Rattle.cpa_config.specs.declared.keys.TheConstants.{DEFAULT_MODEL, DEFAULT_ORDER}
+use Rattle.cpa_config.specs.declared.keys.TheConstants.{DEFAULT_TRACKED, WIDENED}
 use Rattle.cpa_config.specs.Configurations.{Configures, Refuses}
-use Rattle.cpa_config.specs.Values.{keys, is_widened, merge_rules, orders, place_of, tracked_words}
+use Rattle.cpa_config.specs.Values.{keys, is_widened, merge_rules, models, orders, place_of}
+use Rattle.cpa_config.specs.Values.{tracked_words}
 
 -- ---- the tables
 
@@ -31,12 +34,14 @@ pub record AreTheRanges : Type 0 where
 pub record AreTheWords : Type 0 where
   pub all_keys : keys ≡ (codes "analyses", kind.Analyses) ∷ (codes "gates", kind.Number GATES)
       ∷ (codes "learnt", kind.Number LEARNT) ∷ (codes "limit", kind.Number LIMIT)
-      ∷ (codes "merge", kind.Merge) ∷ (codes "order", kind.Order)
+      ∷ (codes "merge", kind.Merge) ∷ (codes "model", kind.Model) ∷ (codes "order", kind.Order)
       ∷ (codes "rounds", kind.Number ROUNDS) ∷ (codes "tracked", kind.Tracked)
       ∷ (codes "turns", kind.Number TURNS) ∷ []
   pub merge : merge_rules ≡ (codes "sep", Sep) ∷ (codes "join", Join) ∷ (codes "widen", Widen) ∷ []
+  pub model : models ≡ (codes "lp64", Lp64) ∷ (codes "ilp32", Ilp32) ∷ []
   pub order : orders ≡ (codes "first", First) ∷ (codes "last", Last) ∷ []
   pub tracked : tracked_words ≡ (codes "all", true) ∷ (codes "none", false) ∷ []
+  pub default_model : DEFAULT_MODEL ≡ Lp64
   pub default_order : DEFAULT_ORDER ≡ First
   pub default_tracked : DEFAULT_TRACKED ≡ false
   pub widens : map (λ name. name.now) WIDENED ≡ codes "interval" ∷ []
@@ -62,3 +67,4 @@ pub record IsDefault (handed : List (List ℕ)) (config : Config) : Type 0 where
   pub limit : config.settings.limit ≡ 0
   pub learnt : config.settings.learnt ≡ 20000
   pub gates : config.settings.gates ≡ 4000000
+  pub model : config.model ≡ Lp64

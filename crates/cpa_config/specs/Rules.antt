@@ -10,8 +10,8 @@ use Rattle.cpa_config.specs.declared.faults.ConfigRule.{ConfigRule}
 use Rattle.cpa_config.specs.declared.faults.ConfigRule.TheVariants.{C2, C3, C4, C5}
 use Rattle.cpa_config.specs.declared.keys.Kind.{Kind}
 use Rattle.cpa_config.specs.declared.keys.Kind.TheVariants as kind
-use Rattle.cpa_config.specs.Values.{keys, merge_rules, named, number_in, orders, tracked_words}
-use Rattle.cpa_config.specs.Values.{word_in}
+use Rattle.cpa_config.specs.Values.{keys, merge_rules, models, named, number_in, orders}
+use Rattle.cpa_config.specs.Values.{tracked_words, word_in}
 use Rattle.cpa_config.specs.Values.{texts_in, are_texts, is_among, has_repeats}
 use Rattle.cpa_config.specs.Values.{place_of}
 
@@ -59,6 +59,7 @@ value_rule handed listed d (Some kind.Analyses) =
     option_map_or (list_rule handed) (as_array d) (Some C3)
 value_rule handed listed d (Some kind.Merge) =
     option_map_or (merge_rule listed) (as_table d) (Some C3)
+value_rule handed listed d (Some kind.Model) = kind_rule (word_in models d)
 value_rule handed listed d (Some (kind.Number range)) = kind_rule (number_in range d)
 value_rule handed listed d (Some kind.Order) = kind_rule (word_in orders d)
 value_rule handed listed d (Some kind.Tracked) = kind_rule (word_in tracked_words d)

@@ -8,10 +8,11 @@ use Rattle.std.specs.Str.{bytes_eq}
 use Rattle.toml.specs.Data.{Data, Items, no_items, item, as_integer, as_str}
 use Rattle.cpa_iface.specs.declared.merging.MergeRule.{MergeRule}
 use Rattle.cpa_iface.specs.declared.merging.Order.{Order}
+use Rattle.cpa_ints.specs.declared.data_model.DataModel.{DataModel}
 use Rattle.cpa_config.specs.declared.keys.Kind.{Kind}
 use Rattle.cpa_config.specs.declared.keys.Range.{Range}
-use Rattle.cpa_config.specs.declared.keys.TheConstants.{KEYS, MERGE_RULES, ORDERS, TRACKED}
-use Rattle.cpa_config.specs.declared.keys.TheConstants.{WIDENED}
+use Rattle.cpa_config.specs.declared.keys.TheConstants.{KEYS, MERGE_RULES, MODELS, ORDERS}
+use Rattle.cpa_config.specs.declared.keys.TheConstants.{TRACKED, WIDENED}
 
 -- what a word stands for in a table
 abbrev pub named : {A : Type 0} → List (List ℕ × A) → List ℕ → Option A
@@ -27,6 +28,9 @@ keys = map (λ row. (row.0.now, row.1)) KEYS
 
 abbrev pub merge_rules : List (List ℕ × MergeRule)
 merge_rules = map (λ row. (row.0.now, row.1)) MERGE_RULES
+
+abbrev pub models : List (List ℕ × DataModel)
+models = map (λ row. (row.0.now, row.1)) MODELS
 
 abbrev pub orders : List (List ℕ × Order)
 orders = map (λ row. (row.0.now, row.1)) ORDERS

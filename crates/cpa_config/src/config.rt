@@ -2,7 +2,7 @@
 //! `specs/Configurations.antt`.
 
 use cpa_iface::{Order, Pick, Settings};
-use cpa_ints::Seq;
+use cpa_ints::{DataModel, Seq};
 
 /// What a run is asked to do.
 #[derive(Drop)]
@@ -17,4 +17,6 @@ pub struct Config {
     pub rounds: u32,
     /// What each analysis is told.
     pub settings: Settings,
+    /// The data model in which the program is read.
+    pub model: DataModel,
 }

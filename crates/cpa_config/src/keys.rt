@@ -2,6 +2,7 @@
 //! key. What a value means by these tables is `specs/Values.antt`.
 
 use cpa_iface::{DEFAULT_GATES, DEFAULT_LEARNT, MergeRule, Order};
+use cpa_ints::DataModel;
 
 /// Whole numbers, and the one that counts where the text has none.
 #[derive(Clone, Copy)]
@@ -18,6 +19,8 @@ pub enum Kind {
     Analyses,
     /// A table from listed names to words of `MERGE_RULES`.
     Merge,
+    /// A word of `MODELS`.
+    Model,
     /// A whole number.
     Number(Range),
     /// A word of `ORDERS`.
@@ -62,17 +65,24 @@ pub const TURNS: Range = Range {
 };
 
 /// The keys that a text may have.
-pub const KEYS: [(&str, Kind); 9] = [
+pub const KEYS: [(&str, Kind); 10] = [
     ("analyses", Kind::Analyses),
     ("gates", Kind::Number(GATES)),
     ("learnt", Kind::Number(LEARNT)),
     ("limit", Kind::Number(LIMIT)),
     ("merge", Kind::Merge),
+    ("model", Kind::Model),
     ("order", Kind::Order),
     ("rounds", Kind::Number(ROUNDS)),
     ("tracked", Kind::Tracked),
     ("turns", Kind::Number(TURNS)),
 ];
+
+/// The data models, by the names that C programmers give them.
+pub const MODELS: [(&str, DataModel); 2] = [("lp64", DataModel::Lp64), ("ilp32", DataModel::Ilp32)];
+
+/// The data model where the text has none.
+pub const DEFAULT_MODEL: DataModel = DataModel::Lp64;
 
 /// Which waiting entry is taken.
 pub const ORDERS: [(&str, Order); 2] = [("first", Order::First), ("last", Order::Last)];

@@ -16,8 +16,9 @@ mod values;
 pub use config::Config;
 pub use faults::{ConfigError, ConfigFault, ConfigRule};
 pub use keys::{
-    DEFAULT_ORDER, DEFAULT_TRACKED, GATES, KEYS, Kind, LEARNT, LIMIT, MERGE_RULES, ORDERS, ROUNDS,
-    Range, TRACKED, TURNS, WIDENED,
+    DEFAULT_MODEL, DEFAULT_ORDER, DEFAULT_TRACKED, GATES, KEYS, Kind, LEARNT, LIMIT, MERGE_RULES,
+    MODELS, ORDERS, ROUNDS, Range, TRACKED, TURNS, WIDENED,
 };
 pub use laws::{texts_have_one_answer, the_empty_text_gives_the_defaults, the_tables};
 pub use reading::read;
+pub use values::model_named;

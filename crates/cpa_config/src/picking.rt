@@ -12,8 +12,8 @@ ghost use Rattle.cpa_config.specs.declared.keys.TheConstants.{LIMIT};
 
 use crate::config::Config;
 use crate::keys::{
-    DEFAULT_ORDER, DEFAULT_TRACKED, GATES, LEARNT, LIMIT, MERGE_RULES, ORDERS, ROUNDS, Range,
-    TRACKED, TURNS, WIDENED,
+    DEFAULT_MODEL, DEFAULT_ORDER, DEFAULT_TRACKED, GATES, LEARNT, LIMIT, MERGE_RULES, MODELS,
+    ORDERS, ROUNDS, Range, TRACKED, TURNS, WIDENED,
 };
 use crate::listing::{listed_in, place_of, value_of};
 use crate::values::{number_in, word_in};
@@ -129,5 +129,6 @@ pub(crate) fn config_of(
         turns: number_at(table, "turns", TURNS),
         rounds: number_at(table, "rounds", ROUNDS) as u32,
         settings: settings_of(table),
+        model: word_at(table, "model", &MODELS, DEFAULT_MODEL),
     })
 }

@@ -9,7 +9,7 @@ ghost use Rattle.cpa_config.specs.Rules.{names_rule, value_rule};
 ghost use Rattle.cpa_config.specs.Values.{keys, named, place_of};
 
 use crate::faults::{ConfigFault, ConfigRule};
-use crate::keys::{KEYS, Kind, MERGE_RULES, ORDERS, TRACKED};
+use crate::keys::{KEYS, Kind, MERGE_RULES, MODELS, ORDERS, TRACKED};
 use crate::listing::{are_texts, has_repeats, is_among, listed_in, place_of, texts_in};
 use crate::values::{named, number_in, word_in};
 use std::alloc::{AllocError, Global};
@@ -110,6 +110,7 @@ fn value_rule(
             Some(merge) => Ok(merge_rule(listed, merge)),
             None => Ok(Some(ConfigRule::C3)),
         },
+        Some(Kind::Model) => Ok(kind_rule(word_in(&MODELS, value))),
         Some(Kind::Number(range)) => Ok(kind_rule(number_in(range, value))),
         Some(Kind::Order) => Ok(kind_rule(word_in(&ORDERS, value))),
         Some(Kind::Tracked) => Ok(kind_rule(word_in(&TRACKED, value))),

@@ -2,9 +2,10 @@
 //! `named` with `proofs/Tables.antt`.
 ghost use Rattle.std.specs.Prelude.{◌≡◌, map};
 ghost use Rattle.toml.specs.View.{view};
-ghost use Rattle.cpa_config.specs.Values.{named, number_in, word_in};
+ghost use Rattle.cpa_config.specs.Values.{models, named, number_in, word_in};
 
-use crate::keys::Range;
+use crate::keys::{MODELS, Range};
+use cpa_ints::DataModel;
 use toml::Value;
 
 /// What a word stands for in a table.
@@ -12,6 +13,13 @@ pub(crate) fn named<T: Copy>(rows: &[(&'static str, T)], word: &str) -> Option<T
     ensures { result ≡ named (map (λ row. (row.0.now, row.1)) rows.now) word.now }
 {
     rows.iter().find(|row| row.0 == word).map(|row| row.1)
+}
+
+/// The data model of this name.
+pub fn model_named(name: &str) -> Option<DataModel>
+    ensures { result ≡ named models name.now }
+{
+    named(&MODELS, name)
 }
 
 /// What the word that a value is stands for in a table.

@@ -1,5 +1,5 @@
 -- Where the texts of expressions in the tokens of a report are put in place of others, what comes
--- of it are the tokens of a report, with the same counts.
+-- of it are the tokens of a report, with the same counts and the same data model.
 use Rattle.std.proofs.Common.{◌≡◌, ℕ, ℤ, pos, negsuc, Bool, true, false, List, [], ◌∷◌, map}
 use Rattle.std.proofs.Common.{refl, sym, ap, ap₂, ◌∙◌, subst}
 use Rattle.std.specs.Prelude.{codes, ◌==◌}
@@ -13,22 +13,26 @@ use Rattle.cpa_cnf.specs.declared.formula.Line.{Line}
 use Rattle.cpa_expr.specs.Spelling.{expr_text}
 use Rattle.cpa_expr.specs.declared.tree.Expr.{Expr}
 use Rattle.cpa_iface.specs.declared.entries.Turn.{Turn}
+use Rattle.cpa_ints.specs.declared.data_model.DataModel.{DataModel}
+use Rattle.cpa_ints.specs.declared.data_model.DataModel.TheVariants.{Lp64, Ilp32}
 use Rattle.cpa_model.specs.Ascending.{AreAscending}
+use Rattle.cpa_model.specs.declared.automaton.Path.{Path}
 use Rattle.cpa_facts.specs.declared.fact.Fact.{Fact}
 use Rattle.cpa_facts.specs.declared.fact.Fact.TheVariants.{At, Stack, Equals, Within, Truth}
 use Rattle.cpa_report.specs.Heights.{Along}
 use Rattle.cpa_report_json.specs.Fits.{FactFits, ElemFits, ListedFits, PrecisionFits, RefinedFits}
 use Rattle.cpa_report_json.specs.Fits.{BodyFits}
-use Rattle.cpa_report_json.specs.Taking.{told}
 use Rattle.cpa_report_print.specs.Reports.{number_data, integer_data, list_data, numbers_data}
 use Rattle.cpa_report_print.specs.Reports.{expr_data, truth_data, fact_data, elem_data}
 use Rattle.cpa_report_print.specs.Reports.{listed_data, pair_data, turn_data, path_data}
 use Rattle.cpa_report_print.specs.Reports.{precision_data, refined_data, literal_data, line_data}
-use Rattle.cpa_report_print.specs.Reports.{report_data, verdict_of}
+use Rattle.cpa_report_print.specs.Reports.{form_of, model_members, report_data, verdict_of}
+use Rattle.cpa_report_print.specs.Steps.{front, spelled, told}
 use Rattle.cpa_report_print.specs.Tokens.{onto, items_onto, members_onto}
 use Rattle.cpa_report_print.specs.declared.report.Body.{Body}
 use Rattle.cpa_report_print.specs.declared.report.Body.TheVariants as body
 use Rattle.cpa_report_print.specs.declared.report.Listed.{Listed}
+use Rattle.cpa_report_print.specs.lemmas.Ordered.{in_tokens}
 
 -- ---- values without texts
 
@@ -433,118 +437,146 @@ module _ (P : Token → Token → Type 0) where
           keep_both (counted (codes "points") p)
           (keep_both (counted (codes "text") t) (keep token.end_object refl))
 
-      pub record CarriedBody (t p c e : ℕ) (b : Body) (us : List Token) : Type 0 where
-        pub value : Body
-        pub fit : BodyFits G value
-        pub kind : verdict_of value ≡ verdict_of b
-        pub tokens : us ≡ onto (report_data (told t p c e value)) []
+      -- what tells the data model
+      model_kept : (m : DataModel) → Keeps (front (model_members m))
+      model_kept Lp64 = keep_none
+      model_kept Ilp32 =
+          keep_both (keep (token.key (codes "model")) refl)
+          (keep_token (token.string (codes "ilp32")) (names (codes "ilp32") refl))
+
+      -- a key and a path
+      path_kept : (path : Path) → Keeps (λ ts. token.key (codes "path") ∷ onto (path_data path) ts)
+      path_kept path =
+          keep_both (keep (token.key (codes "path")) refl)
+          (keep_data (path_data path) (numbers_textless path.edges))
+
+      pub record CarriedBody (t p c e : ℕ) (m : DataModel) (b : Body) (us : List Token) : Type 0
+        where
+          pub value : Body
+          pub fit : BodyFits G value
+          pub kind : verdict_of value ≡ verdict_of b
+          pub tokens : us ≡ onto (report_data (told t p c e m value)) []
 
       ended : (left : List Token) → Along P [] left → left ≡ []
       ended [] h = refl
       ended (u ∷ us) h = absurd h
 
-      stays_body : (t p c e : ℕ) (b : Body) → BodyFits G b
-          → IsTextless (report_data (told t p c e b)) → (us : List Token)
-          → Along P (onto (report_data (told t p c e b)) []) us → CarriedBody t p c e b us
-      stays_body t p c e b h textless us along =
-          let k = keep_data (report_data (told t p c e b)) textless [] us along in
-          record {
-            value = b;
-            fit = h;
-            kind = refl;
-            tokens = k.tokens
-                ∙ ap (onto (report_data (told t p c e b))) (ended k.left k.along);
-          }
+      -- a body whose tokens come of those of the members, in order
+      carried : (t p c e : ℕ) (m : DataModel) (b value : Body) (us left : List Token)
+          → BodyFits G value → verdict_of value ≡ verdict_of b
+          → us ≡ spelled (told t p c e m value) left → Along P [] left
+          → CarriedBody t p c e m b us
+      carried t p c e m b value us left fit kind tokens along = record {
+        value = value;
+        fit = fit;
+        kind = kind;
+        tokens = tokens
+            ∙ ap (spelled (told t p c e m value)) (ended left along)
+            ∙ sym (in_tokens (told t p c e m value) []);
+      }
 
-      pub carry_body : (t p c e : ℕ) (b : Body) → BodyFits E b → (us : List Token)
-          → Along P (onto (report_data (told t p c e b)) []) us → CarriedBody t p c e b us
-      carry_body t p c e (body.True entries) h us along =
+      stays_body : (t p c e : ℕ) (m : DataModel) (b : Body) → BodyFits G b
+          → Keeps (spelled (told t p c e m b)) → (us : List Token)
+          → Along P (spelled (told t p c e m b) []) us
+          → CarriedBody t p c e m b us
+      stays_body t p c e m b h keeps us along =
+          let k = keeps [] us along in
+          carried t p c e m b b us k.left h refl k.tokens k.along
+
+      -- the tokens of the members, in order
+      carry_ordered : (t p c e : ℕ) (m : DataModel) (b : Body) → BodyFits E b
+          → (us : List Token) → Along P (spelled (told t p c e m b) []) us
+          → CarriedBody t p c e m b us
+      carry_ordered t p c e m (body.True entries) h us along =
           let b =
           between (list_data listed_data) (AllByRecursion (ListedFits E))
           (AllByRecursion (ListedFits G)) (map number_of) carry_entries
           (keep_both (head c e) (keep (token.key (codes "entries")) refl))
-          (keep_both (counted (codes "form") 1) (tail p t)) entries h.0 [] us along in
-          record {
-            value = body.True b.value;
-            fit = (b.fit, subst AreAscending (sym b.same) h.1);
-            kind = refl;
-            tokens = b.tokens
-                ∙ ap (onto (report_data (told t p c e (body.True b.value))))
-                (ended b.left b.along);
-          }
-      carry_body t p c e (body.False inputs steps) h us along =
-          stays_body t p c e (body.False inputs steps) h
-          (tt, (tt, (tt, (integers_textless inputs, (tt, (tt, (tt, tt))))))) us along
-      carry_body t p c e (body.Turns journal) h us along =
-          stays_body t p c e (body.Turns journal) h
-          (tt, (tt, (tt, (list_textless turn_data turn_textless journal, (tt, (tt, tt)))))) us along
-      carry_body t p c e (body.Rounds path history) h us along =
+          (keep_both (counted (codes "form") (form_of m)) (keep_both (model_kept m) (tail p t)))
+          entries h.0 [] us along in
+          carried t p c e m (body.True entries) (body.True b.value) us b.left
+          (b.fit, subst AreAscending (sym b.same) h.1) refl b.tokens b.along
+      carry_ordered t p c e m (body.False inputs steps) h us along =
+          stays_body t p c e m (body.False inputs steps) h
+          (keep_both (head c e)
+          (keep_both (counted (codes "form") (form_of m))
+          (keep_both (keep (token.key (codes "inputs")) refl)
+          (keep_both (keep_data (list_data integer_data inputs) (integers_textless inputs))
+          (keep_both (model_kept m)
+          (keep_both (counted (codes "points") p)
+          (keep_both (counted (codes "steps") steps)
+          (keep_both (counted (codes "text") t) (keep token.end_object refl)))))))))
+          us along
+      carry_ordered t p c e m (body.Turns journal) h us along =
+          stays_body t p c e m (body.Turns journal) h
+          (keep_both (head c e)
+          (keep_both (counted (codes "form") (form_of m))
+          (keep_both (keep (token.key (codes "journal")) refl)
+          (keep_both
+          (keep_data (list_data turn_data journal)
+          (list_textless turn_data turn_textless journal))
+          (keep_both (model_kept m) (tail p t))))))
+          us along
+      carry_ordered t p c e m (body.Rounds path history) h us along =
           let b =
           between (list_data refined_data) (AllByRecursion (RefinedFits E))
           (AllByRecursion (RefinedFits G)) (map none) carry_history
           (keep_both (head c e)
-          (keep_both (counted (codes "form") 1) (keep (token.key (codes "history")) refl)))
-          (keep_both (keep (token.key (codes "path")) refl)
-          (keep_both (keep_data (path_data path) (numbers_textless path.edges)) (tail p t)))
+          (keep_both (counted (codes "form") (form_of m))
+          (keep (token.key (codes "history")) refl)))
+          (keep_both (model_kept m) (keep_both (path_kept path) (tail p t)))
           history h.1 [] us along in
-          record {
-            value = body.Rounds path b.value;
-            fit = (h.0, b.fit);
-            kind = refl;
-            tokens = b.tokens
-                ∙ ap (onto (report_data (told t p c e (body.Rounds path b.value))))
-                (ended b.left b.along);
-          }
-      carry_body t p c e (body.Learnt path lines) h us along =
-          stays_body t p c e (body.Learnt path lines) h (
-            tt,
-            (
-              tt,
-              (
-                tt,
-                (lines_textless lines, (numbers_textless path.edges, (tt, (tt, tt)))),
-              ),
-            ),
-          ) us along
-      carry_body t p c e (body.Gates path weight) h us along =
-          stays_body t p c e (body.Gates path weight) h
-          (tt, (tt, (tt, (numbers_textless path.edges, (tt, (tt, (tt, tt))))))) us along
-      carry_body t p c e (body.NoNew path precisions) h us along =
+          carried t p c e m (body.Rounds path history) (body.Rounds path b.value) us b.left
+          (h.0, b.fit) refl b.tokens b.along
+      carry_ordered t p c e m (body.Learnt path lines) h us along =
+          stays_body t p c e m (body.Learnt path lines) h
+          (keep_both (head c e)
+          (keep_both (counted (codes "form") (form_of m))
+          (keep_both (keep (token.key (codes "lines")) refl)
+          (keep_both (keep_data (list_data line_data lines) (lines_textless lines))
+          (keep_both (model_kept m) (keep_both (path_kept path) (tail p t)))))))
+          us along
+      carry_ordered t p c e m (body.Gates path weight) h us along =
+          stays_body t p c e m (body.Gates path weight) h
+          (keep_both (head c e)
+          (keep_both (counted (codes "form") (form_of m))
+          (keep_both (model_kept m)
+          (keep_both (path_kept path)
+          (keep_both (counted (codes "points") p)
+          (keep_both (counted (codes "text") t)
+          (keep_both (counted (codes "weight") weight) (keep token.end_object refl))))))))
+          us along
+      carry_ordered t p c e m (body.NoNew path precisions) h us along =
           let b =
           between (list_data precision_data) (AllByRecursion (PrecisionFits E))
           (AllByRecursion (PrecisionFits G)) (map none) carry_precisions
           (keep_both (head c e)
-          (keep_both (counted (codes "form") 1)
-          (keep_both (keep (token.key (codes "path")) refl)
-          (keep_both (keep_data (path_data path) (numbers_textless path.edges))
+          (keep_both (counted (codes "form") (form_of m))
+          (keep_both (model_kept m)
+          (keep_both (path_kept path)
           (keep_both (counted (codes "points") p)
           (keep (token.key (codes "precisions")) refl))))))
           (keep_both (counted (codes "text") t) (keep token.end_object refl))
           precisions h.1 [] us along in
-          record {
-            value = body.NoNew path b.value;
-            fit = (h.0, b.fit);
-            kind = refl;
-            tokens = b.tokens
-                ∙ ap (onto (report_data (told t p c e (body.NoNew path b.value))))
-                (ended b.left b.along);
-          }
-      carry_body t p c e (body.Proof entries logs) h us along =
+          carried t p c e m (body.NoNew path precisions) (body.NoNew path b.value) us b.left
+          (h.0, b.fit) refl b.tokens b.along
+      carry_ordered t p c e m (body.Proof entries logs) h us along =
           let b =
           between (list_data listed_data) (AllByRecursion (ListedFits E))
           (AllByRecursion (ListedFits G)) (map number_of) carry_entries
           (keep_both (head c e) (keep (token.key (codes "entries")) refl))
-          (keep_both (counted (codes "form") 1)
+          (keep_both (counted (codes "form") (form_of m))
           (keep_both (keep (token.key (codes "logs")) refl)
           (keep_both
           (keep_data (list_data (list_data line_data) logs)
           (list_textless (list_data line_data) lines_textless logs))
-          (tail p t)))) entries h.0.0 [] us along in
-          record {
-            value = body.Proof b.value logs;
-            fit = ((b.fit, subst AreAscending (sym b.same) h.0.1), h.1);
-            kind = refl;
-            tokens = b.tokens
-                ∙ ap (onto (report_data (told t p c e (body.Proof b.value logs))))
-                (ended b.left b.along);
-          }
+          (keep_both (model_kept m) (tail p t))))) entries h.0.0 [] us along in
+          carried t p c e m (body.Proof entries logs) (body.Proof b.value logs) us b.left
+          ((b.fit, subst AreAscending (sym b.same) h.0.1), h.1) refl b.tokens b.along
+
+      pub carry_body : (t p c e : ℕ) (m : DataModel) (b : Body) → BodyFits E b
+          → (us : List Token) → Along P (onto (report_data (told t p c e m b)) []) us
+          → CarriedBody t p c e m b us
+      carry_body t p c e m b h us along =
+          carry_ordered t p c e m b h us
+          (subst (λ (ts : List Token). Along P ts us) (in_tokens (told t p c e m b) []) along)

@@ -31,8 +31,8 @@ use Rattle.cpa_report.proofs.Carrying.{is_text, carry_body}
 use Rattle.cpa_report.proofs.Lowness.{report_fits}
 use Rattle.cpa_report.proofs.Plainness.{line_tokens, line_of_told}
 use Rattle.cpa_report_json.specs.Fits.{ReportFitsBy, IsLow}
-use Rattle.cpa_report_json.specs.Taking.{told}
 use Rattle.cpa_report_print.specs.Reports.{report_data, verdict_of, verdict_words, with_feed}
+use Rattle.cpa_report_print.specs.Steps.{told}
 use Rattle.cpa_report_print.specs.Tokens.{onto, items_onto, members_onto}
 use Rattle.cpa_report_print.specs.declared.report.Report.{Report}
 use Rattle.cpa_report_print.specs.declared.report.Verdict.{Verdict}
@@ -206,16 +206,17 @@ low_line line low verdict r is of =
     subst (λ (ts : List Token). Along LowersToken ts (tokens low))
     (ap tokens of.spelled ∙ line_tokens Fits r of.fit) is.along in
     let b =
-    carry_body LowersToken stays Fits IsLow names texts r.text r.points r.cells r.edges r.body
-    (of.fit).1 (tokens low) along in (
-      told r.text r.points r.cells r.edges b.value,
+    carry_body LowersToken stays Fits IsLow names texts r.text r.points r.cells r.edges r.model
+    r.body (of.fit).1 (tokens low) along in (
+      told r.text r.points r.cells r.edges r.model b.value,
       ((of.fit).0, b.fit),
       b.kind ∙ of.kind,
       is.low_spelled ∙ ap print b.tokens
-          ∙ print-onto (report_data (told r.text r.points r.cells r.edges b.value)),
+          ∙ print-onto (report_data (told r.text r.points r.cells r.edges r.model b.value)),
     )
 
 -- and where that is the line of a report, so is this, with the same counts
+-- and the same data model
 pub high_line : (line low : List ℕ) (verdict : Verdict) (s : Report) → IsLowered line low
     → ReportFitsBy IsLow s → verdict_of s.body ≡ verdict → low ≡ compact_text (report_data s)
     → IsLineLike line verdict s
@@ -225,14 +226,14 @@ high_line line low verdict s is fit kind spelled =
     (ap tokens spelled ∙ line_tokens IsLow s fit) (raised _ _ is.along) in
     let b =
     carry_body RaisesToken raised_stays IsLow Fits raised_names raised_texts s.text s.points
-    s.cells s.edges s.body fit.1 (tokens line) along in
+    s.cells s.edges s.model s.body fit.1 (tokens line) along in
     record {
       body = b.value;
       is = record {
         fit = (fit.0, b.fit);
         kind = b.kind ∙ kind;
         spelled = is.spelled ∙ ap print b.tokens
-            ∙ print-onto (report_data (told s.text s.points s.cells s.edges b.value));
+            ∙ print-onto (report_data (told s.text s.points s.cells s.edges s.model b.value));
       };
     }
 

@@ -1,9 +1,11 @@
 -- Which reports have low expressions alone: those that speak of a program, and those with the value
 -- of one that has.
 use Rattle.std.proofs.Common.{◌≡◌, ℕ, zero, suc, ◌+◌, List, [], ◌∷◌, ◌++◌, Some, sym, ap, ◌∙◌}
+use Rattle.std.proofs.Common.{refl}
 use Rattle.std.proofs.Common.{subst, arith, Option, None}
-use Rattle.std.specs.Prelude.{IfSome}
+use Rattle.std.specs.Prelude.{IfSome, codes, if◌then◌else◌}
 use Rattle.std.specs.List.{AllByRecursion}
+use Rattle.std.specs.Str.{bytes_eq}
 use Rattle.json.specs.Json as json
 use Rattle.json.specs.Json.{Json}
 use Rattle.json.specs.Lex.{tokens}
@@ -11,8 +13,8 @@ use Rattle.json.specs.Token.{Token}
 use Rattle.json.specs.Tree as tree
 use Rattle.json.specs.Tree.{json_tokens}
 use Rattle.json.proofs.Printed.Trees.{value-json_tokens}
-use Rattle.serde_json.specs.Data.{Data}
-use Rattle.serde_json.specs.Written.{compact_text, outline}
+use Rattle.serde_json.specs.Data.{Data, Members, object}
+use Rattle.serde_json.specs.Written.{compact_text, members_outline, outline}
 use Rattle.cpa_expr.specs.declared.tree.Expr.{Expr}
 use Rattle.cpa_expr.specs.Spelling.{expr_text}
 use Rattle.cpa_expr_text.specs.Laws.{TextIsOfOne}
@@ -20,6 +22,8 @@ use Rattle.cpa_expr_text.specs.Reading.{Fits}
 use Rattle.cpa_iface.specs.Meanings.{IsPrecision}
 use Rattle.cpa_iface.specs.declared.entries.Refined.{Refined}
 use Rattle.cpa_iface.specs.declared.precisions.Precision.{Precision}
+use Rattle.cpa_ints.specs.declared.data_model.DataModel.{DataModel}
+use Rattle.cpa_ints.specs.declared.data_model.DataModel.TheVariants.{Lp64, Ilp32}
 use Rattle.cpa_model.specs.Expressions.{IsExpr}
 use Rattle.cpa_model.specs.Facts.{IsFact, IsElem}
 use Rattle.cpa_model.specs.declared.automaton.Cfa.{Cfa}
@@ -31,10 +35,10 @@ use Rattle.cpa_report.specs.Faults.{IsTold}
 use Rattle.cpa_report.specs.Ranges.{IsBodyIn, IsListedIn, IsRefinedIn}
 use Rattle.cpa_report_json.specs.Fits.{FactFits, ElemFits, ListedFits, PrecisionFits, RefinedFits}
 use Rattle.cpa_report_json.specs.Fits.{EntriesFit, BodyFits, ReportFits, ReportFitsBy, IsLow}
-use Rattle.cpa_report_json.specs.Taking.{told}
 use Rattle.cpa_report_print.specs.Reports.{list_data, expr_data, fact_data, elem_data}
 use Rattle.cpa_report_print.specs.Reports.{listed_data, precision_data, refined_data}
-use Rattle.cpa_report_print.specs.Reports.{report_data, verdict_of}
+use Rattle.cpa_report_print.specs.Reports.{model_members, report_data, verdict_of}
+use Rattle.cpa_report_print.specs.Steps.{chain, ordered, told}
 use Rattle.cpa_report_print.specs.declared.report.Body.{Body}
 use Rattle.cpa_report_print.specs.declared.report.Body.TheVariants as body
 use Rattle.cpa_report_print.specs.declared.report.Listed.{Listed}
@@ -43,6 +47,7 @@ use Rattle.cpa_report_print.specs.Tokens.{onto}
 use Rattle.cpa_report_print.specs.declared.report.Report.{Report}
 use Rattle.cpa_report_print.specs.declared.report.Verdict.{Verdict}
 use Rattle.cpa_report_print.specs.lemmas.Onto.{onto_alone}
+use Rattle.cpa_report_print.specs.lemmas.Ordered.{in_order}
 
 -- ---- a report with low expressions fits
 
@@ -195,6 +200,22 @@ abbrev part_at : ℕ → Json → Json
 part_at n (json.object ms) = member_at n ms
 part_at n j = json.null
 
+-- the value of the first member of this name
+abbrev member_named : List ℕ → json.Members → Json
+member_named name json.no_members = json.null
+member_named name (json.member k j ms) = if bytes_eq k name then j else member_named name ms
+
+abbrev named : List ℕ → Json → Json
+named name (json.object ms) = member_named name ms
+named name j = json.null
+
+-- what tells the data model has another name
+found_precisions : (m : DataModel) (ms : Members)
+    → member_named (codes "precisions") (members_outline (chain (model_members m) ms))
+    ≡ member_named (codes "precisions") (members_outline ms)
+found_precisions Lp64 ms = refl
+found_precisions Ilp32 ms = refl
+
 -- two values that JSON writes alike
 abbrev AreAlike : Data → Data → Type 0
 AreAlike d e = outline d ≡ outline e
@@ -271,59 +292,74 @@ module _ (law : TextIsOfOne) where
   )
 
   -- the bodies are of one verdict
-  body_alike : (t p c e u q d f : ℕ) (a b : Body) → verdict_of a ≡ verdict_of b → BodyFits Fits a
-      → BodyFits IsLow b → AreAlike (report_data (told t p c e a)) (report_data (told u q d f b))
+  body_alike : (t p c e u q d f : ℕ) (m n : DataModel) (a b : Body) → verdict_of a ≡ verdict_of b
+      → BodyFits Fits a → BodyFits IsLow b
+      → AreAlike (object (ordered (told t p c e m a))) (object (ordered (told u q d f n b)))
       → BodyFits IsLow a
-  body_alike t p c e u q d f (body.True xs) (body.True ys) v h low is =
+  body_alike t p c e u q d f m n (body.True xs) (body.True ys) v h low is =
       entries_alike xs ys h low (ap (part_at 2) is)
-  body_alike t p c e u q d f (body.False inputs steps) b v h low is = h
-  body_alike t p c e u q d f (body.Turns journal) b v h low is = h
-  body_alike t p c e u q d f (body.Rounds path xs) (body.Rounds way ys) v h low is = (
+  body_alike t p c e u q d f m n (body.False inputs steps) b v h low is = h
+  body_alike t p c e u q d f m n (body.Turns journal) b v h low is = h
+  body_alike t p c e u q d f m n (body.Rounds path xs) (body.Rounds way ys) v h low is = (
     h.0,
     each_alike refined_data (RefinedFits Fits) (RefinedFits IsLow) refined_alike xs ys h.1 low.1
         (ap (part_at 3) is),
   )
-  body_alike t p c e u q d f (body.Learnt path lines) b v h low is = h
-  body_alike t p c e u q d f (body.Gates path weight) b v h low is = h
-  body_alike t p c e u q d f (body.NoNew path xs) (body.NoNew way ys) v h low is =
-      (h.0, precisions_alike xs ys h.1 low.1 (ap (part_at 5) is))
-  body_alike t p c e u q d f (body.Proof xs logs) (body.Proof ys others) v h low is =
+  body_alike t p c e u q d f m n (body.Learnt path lines) b v h low is = h
+  body_alike t p c e u q d f m n (body.Gates path weight) b v h low is = h
+  body_alike t p c e u q d f m n (body.NoNew path xs) (body.NoNew way ys) v h low is = (
+    h.0,
+    precisions_alike xs ys h.1 low.1
+        (sym (found_precisions m _) ∙ ap (named (codes "precisions")) is ∙ found_precisions n _),
+  )
+  body_alike t p c e u q d f m n (body.Proof xs logs) (body.Proof ys others) v h low is =
       (entries_alike xs ys h.0 low.0 (ap (part_at 2) is), h.1)
-  body_alike t p c e u q d f (body.True xs) (body.False inputs steps) v h low is = absurd (cc)
-  body_alike t p c e u q d f (body.True xs) (body.Turns journal) v h low is = absurd (cc)
-  body_alike t p c e u q d f (body.True xs) (body.Rounds way ys) v h low is = absurd (cc)
-  body_alike t p c e u q d f (body.True xs) (body.Learnt way lines) v h low is = absurd (cc)
-  body_alike t p c e u q d f (body.True xs) (body.Gates way weight) v h low is = absurd (cc)
-  body_alike t p c e u q d f (body.True xs) (body.NoNew way ys) v h low is = absurd (cc)
-  body_alike t p c e u q d f (body.True xs) (body.Proof ys logs) v h low is = absurd (cc)
-  body_alike t p c e u q d f (body.Rounds path xs) (body.True entries) v h low is = absurd (cc)
-  body_alike t p c e u q d f (body.Rounds path xs) (body.False inputs n) v h low is = absurd (cc)
-  body_alike t p c e u q d f (body.Rounds path xs) (body.Turns journal) v h low is = absurd (cc)
-  body_alike t p c e u q d f (body.Rounds path xs) (body.Learnt way lines) v h low is = absurd (cc)
-  body_alike t p c e u q d f (body.Rounds path xs) (body.Gates way weight) v h low is = absurd (cc)
-  body_alike t p c e u q d f (body.Rounds path xs) (body.NoNew way ys) v h low is = absurd (cc)
-  body_alike t p c e u q d f (body.Rounds path xs) (body.Proof ys logs) v h low is = absurd (cc)
-  body_alike t p c e u q d f (body.NoNew path xs) (body.True entries) v h low is = absurd (cc)
-  body_alike t p c e u q d f (body.NoNew path xs) (body.False inputs steps) v h low is = absurd (cc)
-  body_alike t p c e u q d f (body.NoNew path xs) (body.Turns journal) v h low is = absurd (cc)
-  body_alike t p c e u q d f (body.NoNew path xs) (body.Rounds way ys) v h low is = absurd (cc)
-  body_alike t p c e u q d f (body.NoNew path xs) (body.Learnt way lines) v h low is = absurd (cc)
-  body_alike t p c e u q d f (body.NoNew path xs) (body.Gates way weight) v h low is = absurd (cc)
-  body_alike t p c e u q d f (body.NoNew path xs) (body.Proof ys logs) v h low is = absurd (cc)
-  body_alike t p c e u q d f (body.Proof xs logs) (body.True ys) v h low is = absurd (cc)
-  body_alike t p c e u q d f (body.Proof xs logs) (body.False inputs steps) v h low is = absurd (cc)
-  body_alike t p c e u q d f (body.Proof xs logs) (body.Turns journal) v h low is = absurd (cc)
-  body_alike t p c e u q d f (body.Proof xs logs) (body.Rounds way ys) v h low is = absurd (cc)
-  body_alike t p c e u q d f (body.Proof xs logs) (body.Learnt way lines) v h low is = absurd (cc)
-  body_alike t p c e u q d f (body.Proof xs logs) (body.Gates way weight) v h low is = absurd (cc)
-  body_alike t p c e u q d f (body.Proof xs logs) (body.NoNew way ys) v h low is = absurd (cc)
+  body_alike t p c e u q d f m n (body.True xs) (body.False inputs steps) v h low is = absurd (cc)
+  body_alike t p c e u q d f m n (body.True xs) (body.Turns journal) v h low is = absurd (cc)
+  body_alike t p c e u q d f m n (body.True xs) (body.Rounds way ys) v h low is = absurd (cc)
+  body_alike t p c e u q d f m n (body.True xs) (body.Learnt way lines) v h low is = absurd (cc)
+  body_alike t p c e u q d f m n (body.True xs) (body.Gates way weight) v h low is = absurd (cc)
+  body_alike t p c e u q d f m n (body.True xs) (body.NoNew way ys) v h low is = absurd (cc)
+  body_alike t p c e u q d f m n (body.True xs) (body.Proof ys logs) v h low is = absurd (cc)
+  body_alike t p c e u q d f m n (body.Rounds path xs) (body.True entries) v h low is = absurd (cc)
+  body_alike t p c e u q d f m n (body.Rounds path xs) (body.False inputs n) v h low is =
+      absurd (cc)
+  body_alike t p c e u q d f m n (body.Rounds path xs) (body.Turns journal) v h low is = absurd (cc)
+  body_alike t p c e u q d f m n (body.Rounds path xs) (body.Learnt way lines) v h low is =
+      absurd (cc)
+  body_alike t p c e u q d f m n (body.Rounds path xs) (body.Gates way weight) v h low is =
+      absurd (cc)
+  body_alike t p c e u q d f m n (body.Rounds path xs) (body.NoNew way ys) v h low is = absurd (cc)
+  body_alike t p c e u q d f m n (body.Rounds path xs) (body.Proof ys logs) v h low is = absurd (cc)
+  body_alike t p c e u q d f m n (body.NoNew path xs) (body.True entries) v h low is = absurd (cc)
+  body_alike t p c e u q d f m n (body.NoNew path xs) (body.False inputs steps) v h low is =
+      absurd (cc)
+  body_alike t p c e u q d f m n (body.NoNew path xs) (body.Turns journal) v h low is = absurd (cc)
+  body_alike t p c e u q d f m n (body.NoNew path xs) (body.Rounds way ys) v h low is = absurd (cc)
+  body_alike t p c e u q d f m n (body.NoNew path xs) (body.Learnt way lines) v h low is =
+      absurd (cc)
+  body_alike t p c e u q d f m n (body.NoNew path xs) (body.Gates way weight) v h low is =
+      absurd (cc)
+  body_alike t p c e u q d f m n (body.NoNew path xs) (body.Proof ys logs) v h low is = absurd (cc)
+  body_alike t p c e u q d f m n (body.Proof xs logs) (body.True ys) v h low is = absurd (cc)
+  body_alike t p c e u q d f m n (body.Proof xs logs) (body.False inputs steps) v h low is =
+      absurd (cc)
+  body_alike t p c e u q d f m n (body.Proof xs logs) (body.Turns journal) v h low is = absurd (cc)
+  body_alike t p c e u q d f m n (body.Proof xs logs) (body.Rounds way ys) v h low is = absurd (cc)
+  body_alike t p c e u q d f m n (body.Proof xs logs) (body.Learnt way lines) v h low is =
+      absurd (cc)
+  body_alike t p c e u q d f m n (body.Proof xs logs) (body.Gates way weight) v h low is =
+      absurd (cc)
+  body_alike t p c e u q d f m n (body.Proof xs logs) (body.NoNew way ys) v h low is = absurd (cc)
 
   low_alike : (s r : Report) → verdict_of s.body ≡ verdict_of r.body → ReportFits s
       → ReportFitsBy IsLow r → AreAlike (report_data s) (report_data r) → ReportFitsBy IsLow s
   low_alike s r v h low is = (
     h.0,
-    body_alike s.text s.points s.cells s.edges r.text r.points r.cells r.edges s.body r.body v h.1
-        low.1 is,
+    body_alike s.text s.points s.cells s.edges r.text r.points r.cells r.edges s.model r.model s.body
+        r.body v h.1 low.1
+        (sym (ap outline (in_order s.text s.points s.cells s.edges s.model s.body)) ∙ is
+        ∙ ap outline (in_order r.text r.points r.cells r.edges r.model r.body)),
   )
 
 -- the value that was read

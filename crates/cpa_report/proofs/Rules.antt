@@ -5,6 +5,7 @@ use Rattle.std.proofs.Common.{sym, ap, ◌∙◌, subst}
 use Rattle.std.specs.Prelude.{IsUtf8, IfSome}
 use Rattle.serde_json.specs.Written.{compact_text}
 use Rattle.cpa_expr_text.specs.Laws.{TextIsOfOne}
+use Rattle.cpa_ints.specs.declared.data_model.DataModel.{DataModel}
 use Rattle.cpa_model.specs.declared.automaton.Cfa.{Cfa}
 use Rattle.cpa_report.specs.Faults.{IsLined, IsTold, Breaks}
 use Rattle.cpa_report.specs.Heights.{IsLineOf, IsLineLike, HasNoLow}
@@ -14,8 +15,8 @@ use Rattle.cpa_report.proofs.Lowness.{low_inside, low_too}
 use Rattle.cpa_report.proofs.Plainness.{line_of_told}
 use Rattle.cpa_report.proofs.Shown.{line_utf8, line_is_one}
 use Rattle.cpa_report_json.specs.Fits.{IsLow, ReportFitsBy}
-use Rattle.cpa_report_json.specs.Taking.{told}
 use Rattle.cpa_report_print.specs.Reports.{report_data, verdict_of, verdict_words, with_feed}
+use Rattle.cpa_report_print.specs.Steps.{told}
 use Rattle.cpa_report_print.specs.declared.report.Report.{Report}
 use Rattle.cpa_report_print.specs.declared.report.Verdict.{Verdict}
 
@@ -56,25 +57,26 @@ utf8_of text line verdict r lined told =
 
 -- ---- expressions that are too high
 
-pub breaks_counts : (text line : List ℕ) (cfa : Cfa) (take : Verdict) (low : Report)
-    → IsLined text take line → IsLineLike line take low → (Counts cfa low → ⊥)
-    → Breaks text cfa take rule.P5
-breaks_counts text line cfa take low lined like differ = (
-  told low.text low.points low.cells low.edges like.body,
+pub breaks_counts : (m : DataModel) (text line : List ℕ) (cfa : Cfa) (take : Verdict)
+    (low : Report) → IsLined text take line → IsLineLike line take low → (Counts m cfa low → ⊥)
+    → Breaks m text cfa take rule.P5
+breaks_counts m text line cfa take low lined like differ = (
+  told low.text low.points low.cells low.edges low.model like.body,
   told_of_line text line take _ lined like.is,
   λ counts. differ (record {
     text = counts.text;
     points = counts.points;
     cells = counts.cells;
     edges = counts.edges;
+    model = counts.model;
   }),
 )
 
-pub breaks_range : (text line : List ℕ) (cfa : Cfa) (take : Verdict) (low : Report)
-    → IsLined text take line → HasNoLow text take line → IsUtf8 line → IsLineLike line take low
-    → Counts cfa low → Breaks text cfa take rule.P4
-breaks_range text line cfa take low lined none utf8 like counts =
-    let high : Report = told low.text low.points low.cells low.edges like.body in
+pub breaks_range : (m : DataModel) (text line : List ℕ) (cfa : Cfa) (take : Verdict)
+    (low : Report) → IsLined text take line → HasNoLow text take line → IsUtf8 line
+    → IsLineLike line take low → Counts m cfa low → Breaks m text cfa take rule.P4
+breaks_range m text line cfa take low lined none utf8 like counts =
+    let high : Report = told low.text low.points low.cells low.edges low.model like.body in
     let is = told_of_line text line take high lined like.is in (
       high,
       is,
@@ -83,6 +85,7 @@ breaks_range text line cfa take low lined none utf8 like counts =
         points = counts.points;
         cells = counts.cells;
         edges = counts.edges;
+        model = counts.model;
       },
       λ inside. none utf8 high is (low_inside cfa high is.fit inside),
     )

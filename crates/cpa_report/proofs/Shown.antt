@@ -36,22 +36,25 @@ use Rattle.cpa_expr_text.specs.Reading.{FitsHere, Fits}
 use Rattle.cpa_iface.specs.declared.entries.Refined.{Refined}
 use Rattle.cpa_iface.specs.declared.entries.Turn.{Turn}
 use Rattle.cpa_iface.specs.declared.precisions.Precision.{Precision}
+use Rattle.cpa_ints.specs.declared.data_model.DataModel.{DataModel}
+use Rattle.cpa_ints.specs.declared.data_model.DataModel.TheVariants.{Lp64, Ilp32}
 use Rattle.cpa_model.specs.declared.facts.Elem.{Elem}
 use Rattle.cpa_facts.specs.declared.fact.Fact.{Fact}
 use Rattle.cpa_facts.specs.declared.fact.Fact.TheVariants.{At, Stack, Equals, Within, Truth}
 use Rattle.cpa_report_json.specs.Fits.{FactFits, ElemFits, ListedFits, PrecisionFits, RefinedFits}
 use Rattle.cpa_report_json.specs.Fits.{BodyFits, ReportFits}
 use Rattle.cpa_report_json.specs.Plain.{IsPlainNum, IsPlain, ItemsArePlain, MembersArePlain}
-use Rattle.cpa_report_json.specs.Taking.{told}
 use Rattle.cpa_report_print.specs.Reports.{number_data, integer_data, list_data, numbers_data}
 use Rattle.cpa_report_print.specs.Reports.{expr_data, truth_data, fact_data, elem_data}
 use Rattle.cpa_report_print.specs.Reports.{listed_data, pair_data, turn_data}
 use Rattle.cpa_report_print.specs.Reports.{precision_data, refined_data, literal_data, line_data}
-use Rattle.cpa_report_print.specs.Reports.{report_data}
+use Rattle.cpa_report_print.specs.Reports.{model_members, report_data}
+use Rattle.cpa_report_print.specs.Steps.{chain, ordered, told}
 use Rattle.cpa_report_print.specs.declared.report.Body.{Body}
 use Rattle.cpa_report_print.specs.declared.report.Body.TheVariants as body
 use Rattle.cpa_report_print.specs.declared.report.Listed.{Listed}
 use Rattle.cpa_report_print.specs.declared.report.Report.{Report}
+use Rattle.cpa_report_print.specs.lemmas.Ordered.{in_order}
 use Rattle.cpa_report.proofs.Plainness.{told_plain}
 
 -- ---- visible bytes
@@ -410,21 +413,23 @@ entries_clear : (entries : List Listed) → AllByRecursion (ListedFits Fits) ent
     → IsClear (list_data listed_data entries)
 entries_clear = list_clear listed_data (ListedFits Fits) listed_clear
 
-body_clear : (t p c e : ℕ) (b : Body) → BodyFits Fits b → IsClear (report_data (told t p c e b))
-body_clear t p c e (body.True entries) h = (
+-- what tells the data model
+model_clear : (m : DataModel) (ms : Members) → HoldClear ms → HoldClear (chain (model_members m) ms)
+model_clear Lp64 ms h = h
+model_clear Ilp32 ms h = (refl, refl, h)
+
+members_clear : (t p c e : ℕ) (m : DataModel) (b : Body) → BodyFits Fits b
+    → HoldClear (ordered (told t p c e m b))
+members_clear t p c e m (body.True entries) h = (
   refl,
   tt,
   (
     refl,
     tt,
-    (
-      refl,
-      entries_clear entries h.0,
-      (refl, tt, (refl, tt, (refl, tt, tt))),
-    ),
+    (refl, entries_clear entries h.0, (refl, tt, model_clear m _ (refl, tt, (refl, tt, tt)))),
   ),
 )
-body_clear t p c e (body.False inputs steps) h = (
+members_clear t p c e m (body.False inputs steps) h = (
   refl,
   tt,
   (
@@ -436,12 +441,12 @@ body_clear t p c e (body.False inputs steps) h = (
       (
         refl,
         all_clear integer_data integer_clear inputs,
-        (refl, tt, (refl, tt, (refl, tt, tt))),
+        model_clear m _ (refl, tt, (refl, tt, (refl, tt, tt))),
       ),
     ),
   ),
 )
-body_clear t p c e (body.Turns journal) h = (
+members_clear t p c e m (body.Turns journal) h = (
   refl,
   tt,
   (
@@ -453,12 +458,12 @@ body_clear t p c e (body.Turns journal) h = (
       (
         refl,
         all_clear turn_data turn_clear journal,
-        (refl, tt, (refl, tt, tt)),
+        model_clear m _ (refl, tt, (refl, tt, tt)),
       ),
     ),
   ),
 )
-body_clear t p c e (body.Rounds path history) h = (
+members_clear t p c e m (body.Rounds path history) h = (
   refl,
   tt,
   (
@@ -470,12 +475,12 @@ body_clear t p c e (body.Rounds path history) h = (
       (
         refl,
         list_clear refined_data (RefinedFits Fits) refined_clear history h.1,
-        (refl, numbers_clear path.edges, (refl, tt, (refl, tt, tt))),
+        model_clear m _ (refl, numbers_clear path.edges, (refl, tt, (refl, tt, tt))),
       ),
     ),
   ),
 )
-body_clear t p c e (body.Learnt path lines) h = (
+members_clear t p c e m (body.Learnt path lines) h = (
   refl,
   tt,
   (
@@ -487,12 +492,12 @@ body_clear t p c e (body.Learnt path lines) h = (
       (
         refl,
         lines_clear lines,
-        (refl, numbers_clear path.edges, (refl, tt, (refl, tt, tt))),
+        model_clear m _ (refl, numbers_clear path.edges, (refl, tt, (refl, tt, tt))),
       ),
     ),
   ),
 )
-body_clear t p c e (body.Gates path weight) h = (
+members_clear t p c e m (body.Gates path weight) h = (
   refl,
   tt,
   (
@@ -501,15 +506,12 @@ body_clear t p c e (body.Gates path weight) h = (
     (
       refl,
       tt,
-      (
-        refl,
-        numbers_clear path.edges,
-        (refl, tt, (refl, tt, (refl, tt, tt))),
-      ),
+      model_clear m _
+          (refl, numbers_clear path.edges, (refl, tt, (refl, tt, (refl, tt, tt)))),
     ),
   ),
 )
-body_clear t p c e (body.NoNew path precisions) h = (
+members_clear t p c e m (body.NoNew path precisions) h = (
   refl,
   tt,
   (
@@ -518,7 +520,7 @@ body_clear t p c e (body.NoNew path precisions) h = (
     (
       refl,
       tt,
-      (
+      model_clear m _ (
         refl,
         numbers_clear path.edges,
         (refl, tt, (refl, precisions_clear precisions h.1, (refl, tt, tt))),
@@ -526,7 +528,7 @@ body_clear t p c e (body.NoNew path precisions) h = (
     ),
   ),
 )
-body_clear t p c e (body.Proof entries logs) h = (
+members_clear t p c e m (body.Proof entries logs) h = (
   refl,
   tt,
   (
@@ -541,18 +543,23 @@ body_clear t p c e (body.Proof entries logs) h = (
         (
           refl,
           all_clear (list_data line_data) lines_clear logs,
-          (refl, tt, (refl, tt, tt)),
+          model_clear m _ (refl, tt, (refl, tt, tt)),
         ),
       ),
     ),
   ),
 )
 
+body_clear : (t p c e : ℕ) (m : DataModel) (b : Body) → BodyFits Fits b
+    → IsClear (report_data (told t p c e m b))
+body_clear t p c e m b h =
+    subst IsClear (sym (in_order t p c e m b)) (members_clear t p c e m b h)
+
 line_shown : (r : Report) → ReportFits r → AreShown (compact_text (report_data r))
 line_shown r h =
     text_shown (report_data r)
-    (told_plain Fits r.text r.points r.cells r.edges r.body h.0.0 h.0.1 h.0.2 h.0.3 h.1)
-    (body_clear r.text r.points r.cells r.edges r.body h.1)
+    (told_plain Fits r.text r.points r.cells r.edges r.model r.body h.0.0 h.0.1 h.0.2 h.0.3 h.1)
+    (body_clear r.text r.points r.cells r.edges r.model r.body h.1)
 
 pub line_utf8 : (r : Report) → ReportFits r → IsUtf8 (compact_text (report_data r))
 line_utf8 r h =

@@ -1,10 +1,11 @@
--- What a text is as a report of a program, and which rule it breaks (this project's own). The rules
+-- What a text is as a report of a program in a data model, and which rule it breaks (this project's own). The rules
 -- are tried in the order P1, P6, P2, P3, P5, P4. Expressions of a report may have any height: one
 -- of more than MAX_HEIGHT levels is none of the program's.
 use Rattle.std.specs.Prelude.{◌≡◌, ℕ, ◌==◌, false, List, ◌++◌, Some, IsUtf8, ⊤}
 use Rattle.std.specs.List.{list_any}
 use Rattle.serde_json.specs.Data.{Data}
 use Rattle.serde_json.specs.Read.{read}
+use Rattle.cpa_ints.specs.declared.data_model.DataModel.{DataModel}
 use Rattle.cpa_model.specs.declared.automaton.Cfa.{Cfa}
 use Rattle.cpa_report_json.specs.Fits.{IsLow, ReportFits, ReportFitsBy}
 use Rattle.cpa_report_print.specs.Reports.{report_text, verdict_of, verdict_words, with_feed}
@@ -34,31 +35,32 @@ pub record IsTold (text : List ℕ) (verdict : Verdict) (r : Report) : Type 0 wh
   pub spelled : text ≡ report_text r
 
 -- and it speaks of the program, with no expression of more than MAX_HEIGHT levels
-pub record IsFound (text : List ℕ) (cfa : Cfa) (verdict : Verdict) (r : Report) : Type 0 where
+pub record IsFound (m : DataModel) (text : List ℕ) (cfa : Cfa) (verdict : Verdict) (r : Report)
+    : Type 0 where
   pub told : IsTold text verdict r
   pub low : ReportFitsBy IsLow r
-  pub counts : Counts cfa r
+  pub counts : Counts m cfa r
   pub inside : IsBodyIn cfa r.body
 
-abbrev pub Breaks : List ℕ → Cfa → Verdict → ReportRule → Type 0
+abbrev pub Breaks : DataModel → List ℕ → Cfa → Verdict → ReportRule → Type 0
 -- it has not the form of two lines
-Breaks text cfa take P1 = (verdict : Verdict) (line : List ℕ) → IsLined text verdict line → ⊥
+Breaks m text cfa take P1 = (verdict : Verdict) (line : List ℕ) → IsLined text verdict line → ⊥
 -- its verdict is another
-Breaks text cfa take P6 =
+Breaks m text cfa take P6 =
     (verdict : Verdict) × (line : List ℕ) × IsLined text verdict line × (verdict ≡ take → ⊥)
 -- its second line is no JSON
-Breaks text cfa take P2 = (line : List ℕ) × IsLined text take line × (IsJson line → ⊥)
+Breaks m text cfa take P2 = (line : List ℕ) × IsLined text take line × (IsJson line → ⊥)
 -- it is the text of no report
-Breaks text cfa take P3 =
+Breaks m text cfa take P3 =
     (line : List ℕ) × IsLined text take line × IsJson line
     × ((r : Report) → IsTold text take r → ⊥)
--- it is that of a report with other counts than the program's
-Breaks text cfa take P5 = (r : Report) × IsTold text take r × (Counts cfa r → ⊥)
+-- it is that of a report with other counts or another data model than the program's
+Breaks m text cfa take P5 = (r : Report) × IsTold text take r × (Counts m cfa r → ⊥)
 -- it is that of a report which names what the program lacks, or an expression that is too high
-Breaks text cfa take P4 =
-    (r : Report) × IsTold text take r × Counts cfa r × (IsBodyIn cfa r.body → ⊥)
+Breaks m text cfa take P4 =
+    (r : Report) × IsTold text take r × Counts m cfa r × (IsBodyIn cfa r.body → ⊥)
 
 -- want of memory says nothing
-abbrev pub IsRefused : List ℕ → Cfa → Verdict → ReportError → Type 0
-IsRefused text cfa take (error.Fault rule) = Breaks text cfa take rule
-IsRefused text cfa take error.OutOfMemory = ⊤
+abbrev pub IsRefused : DataModel → List ℕ → Cfa → Verdict → ReportError → Type 0
+IsRefused m text cfa take (error.Fault rule) = Breaks m text cfa take rule
+IsRefused m text cfa take error.OutOfMemory = ⊤

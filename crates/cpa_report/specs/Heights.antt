@@ -11,8 +11,8 @@ use Rattle.serde_json.specs.Written.{compact_text}
 use Rattle.cpa_expr_text.specs.Due.{IsExprText}
 use Rattle.cpa_report.specs.Faults.{IsTold}
 use Rattle.cpa_report_json.specs.Fits.{IsLow, ReportFits, ReportFitsBy}
-use Rattle.cpa_report_json.specs.Taking.{told}
 use Rattle.cpa_report_print.specs.Reports.{report_data, verdict_of}
+use Rattle.cpa_report_print.specs.Steps.{told}
 use Rattle.cpa_report_print.specs.declared.report.Body.{Body}
 use Rattle.cpa_report_print.specs.declared.report.Report.{Report}
 use Rattle.cpa_report_print.specs.declared.report.Verdict.{Verdict}
@@ -50,10 +50,10 @@ pub record IsLineOf (line : List ℕ) (verdict : Verdict) (r : Report) : Type 0 
   pub kind : verdict_of r.body ≡ verdict
   pub spelled : line ≡ compact_text (report_data r)
 
--- it is that of a report with the counts of this one, whose expressions may have any height
+-- it is that of a report with the counts and the data model of this one, whose expressions may have any height
 pub record IsLineLike (line : List ℕ) (verdict : Verdict) (low : Report) : Type 0 where
   pub body : Body
-  pub is : IsLineOf line verdict (told low.text low.points low.cells low.edges body)
+  pub is : IsLineOf line verdict (told low.text low.points low.cells low.edges low.model body)
 
 -- no report with low expressions has the text
 abbrev pub HasNoLow : List ℕ → Verdict → List ℕ → Type 0

@@ -16,7 +16,7 @@ pub enum ReportRule {
     P3,
     /// The report names only what the program has.
     P4,
-    /// It tells the counts of the program.
+    /// It tells the counts of the program, and the data model in which it was read.
     P5,
     /// It is of the verdict that is wanted.
     P6,

@@ -6,18 +6,19 @@ ghost use Rattle.cpa_model.specs.Expressions.{IsExpr};
 ghost use Rattle.cpa_report.specs.Ranges.{Counts, IsListedIn, IsRefinedIn, IsBodyIn};
 
 use cpa_iface::{Precision, Refined};
-use cpa_ints::Seq;
+use cpa_ints::{DataModel, Seq};
 use cpa_model::{Cell, Cfa, Elem, Expr, Path, is_elem, is_expr};
 use cpa_report_print::{Body, Listed, Report};
 
-/// Whether the counts of the report are the program's.
-pub(crate) fn has_counts(report: &Report, cfa: &Cfa) -> bool
-    ensures { IsTrue result ↔ Counts cfa.now report.now }
+/// Whether the counts of the report are the program's, and its data model is this one.
+pub(crate) fn has_counts(report: &Report, cfa: &Cfa, model: DataModel) -> bool
+    ensures { IsTrue result ↔ Counts model cfa.now report.now }
 {
     report.text == cfa.text_len
         && report.points == cfa.points
         && report.cells as usize == cfa.cells.len()
         && report.edges as usize == cfa.edges.len()
+        && report.model == model
 }
 
 /// Whether each number is below the count.

@@ -12,6 +12,7 @@ use crate::lowering::told_high;
 use crate::ranges::{has_counts, is_body_in};
 use crate::telling::told;
 use cpa_expr_text::a_text_is_of_one_expression;
+use cpa_ints::DataModel;
 use cpa_model::Cfa;
 use cpa_report_print::{Report, Verdict};
 use serde_json::Value;
@@ -74,12 +75,12 @@ fn is_json(alloc: Global, line: &[u8]) -> Result<bool, AllocError>
 
 /// The rule that a text breaks whose line is that of a report with the counts of this one, and with
 /// an expression that is too high.
-fn high_rule(low: &Report, cfa: &Cfa) -> ReportRule
+fn high_rule(low: &Report, cfa: &Cfa, model: DataModel) -> ReportRule
     ensures { (text line : List ℕ) (take : AVerdict) → IsLined text take line
         → HasNoLow text take line → IsUtf8 line → IsLineLike line take low.now
-        → Breaks text cfa.now take result }
+        → Breaks model text cfa.now take result }
 {
-    if has_counts(low, cfa) {
+    if has_counts(low, cfa, model) {
         ReportRule::P4
     } else {
         ReportRule::P5
@@ -92,12 +93,13 @@ fn unread_rule(
     line: &[u8],
     cfa: &Cfa,
     take: Verdict,
+    model: DataModel,
 ) -> Result<ReportRule, AllocError>
     ensures { (text : List ℕ) → IsLined text take line.now → HasNoLow text take line.now
-        → IfOk result (Breaks text cfa.now take) }
+        → IfOk result (Breaks model text cfa.now take) }
 {
     if let Some(low) = told_high(alloc, line, take)? {
-        return Ok(high_rule(&low, cfa));
+        return Ok(high_rule(&low, cfa, model));
     }
     if is_json(alloc, line)? {
         Ok(ReportRule::P3)
@@ -106,17 +108,23 @@ fn unread_rule(
     }
 }
 
-/// The report of the verdict whose text it is, which speaks of the program: no other report has
-/// this text. Else the first rule that the text breaks.
+/// The report of the verdict whose text it is, which speaks of the program as it was read in this
+/// data model: no other report has this text. Else the first rule that the text breaks.
 ///
 /// Time is linear in the text's length but for sorted clauses. Where the text is no report's with
 /// low expressions, its second line is read again with such ones in place of all; where it is no
 /// report's at all, a value of `serde_json` is made of it.
-pub fn read(alloc: Global, text: &[u8], cfa: &Cfa, take: Verdict) -> Result<Report, ReportError>
-    ensures found { IfOk result (IsFound text.now cfa.now take) }
+pub fn read_in(
+    alloc: Global,
+    text: &[u8],
+    cfa: &Cfa,
+    take: Verdict,
+    model: DataModel,
+) -> Result<Report, ReportError>
+    ensures found { IfOk result (IsFound model text.now cfa.now take) }
     ensures one { IfOk result (λ r. (s : AReport) → IsTold text.now take s → s ≡ r) }
-    ensures refused { IfErr result (IsRefused text.now cfa.now take) }
-    ensures back { (r : AReport) → IsFound text.now cfa.now take r
+    ensures refused { IfErr result (IsRefused model text.now cfa.now take) }
+    ensures back { (r : AReport) → IsFound model text.now cfa.now take r
         → IfErr result (λ e. e ≡ OutOfMemory) }
 {
     a_text_is_of_one_expression();
@@ -129,10 +137,10 @@ pub fn read(alloc: Global, text: &[u8], cfa: &Cfa, take: Verdict) -> Result<Repo
         return Err(ReportError::Fault(rule));
     };
     let Some(report) = told(alloc, text, line, take)? else {
-        let rule = unread_rule(alloc, line, cfa, take)?;
+        let rule = unread_rule(alloc, line, cfa, take, model)?;
         return Err(ReportError::Fault(rule));
     };
-    if !has_counts(&report, cfa) {
+    if !has_counts(&report, cfa, model) {
         return Err(ReportError::Fault(ReportRule::P5));
     }
     if !is_body_in(&report.body, cfa) {

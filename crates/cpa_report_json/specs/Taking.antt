@@ -5,10 +5,23 @@ use Rattle.std.specs.List.{flat_map}
 use Rattle.std.specs.Borrow.{Bor}
 use Rattle.json.specs.Token.{Token}
 use Rattle.json.specs.Token as token
+use Rattle.cpa_cnf.specs.declared.formula.Line.{Line}
 use Rattle.cpa_cnf.specs.declared.formula.Step.{Step}
+use Rattle.cpa_iface.specs.declared.entries.Refined.{Refined}
+use Rattle.cpa_iface.specs.declared.entries.Turn.{Turn}
+use Rattle.cpa_iface.specs.declared.precisions.Precision.{Precision}
+use Rattle.cpa_model.specs.declared.automaton.Path.{Path}
+use Rattle.serde_json.specs.Data.{object}
+use Rattle.cpa_ints.specs.declared.data_model.DataModel.{DataModel}
+use Rattle.cpa_report_print.specs.Steps.{ordered, told}
+use Rattle.cpa_report_print.specs.Tokens.{onto}
 use Rattle.cpa_report_print.specs.declared.report.Body.{Body}
+use Rattle.cpa_report_print.specs.declared.report.Body.TheVariants as body
 use Rattle.cpa_report_print.specs.declared.report.Listed.{Listed}
 use Rattle.cpa_report_print.specs.declared.report.Report.{Report}
+use Rattle.cpa_report_print.specs.declared.report.Verdict.{Verdict}
+use Rattle.cpa_report_print.specs.declared.report.Verdict.TheVariants as verdict
+use Rattle.cpa_report_json.specs.Fits.{IsLow, ReportFitsBy}
 use Rattle.cpa_report_json.specs.declared.fault.ReadFault.{ReadFault}
 use Rattle.cpa_report_json.specs.declared.fault.ReadFault.TheVariants.{OutOfMemory}
 
@@ -42,10 +55,34 @@ literal_integer literal =
 abbrev pub numbers_of : List Step → List ℕ
 numbers_of steps = flat_map (λ step. step.pivot ∷ step.clause ∷ []) steps
 
--- a report of these counts and this body
-abbrev pub told : ℕ → ℕ → ℕ → ℕ → Body → Report
-told text points cells edges body =
-    record { text = text; points = points; cells = cells; edges = edges; body = body }
+-- what a report of a verdict tells besides, and the body that tells it
+abbrev pub Parts : Verdict → Type 0
+Parts verdict.True = List Listed
+Parts verdict.False = List ℤ × ℕ
+Parts verdict.Turns = List Turn
+Parts verdict.Rounds = Path × List Refined
+Parts verdict.Learnt = Path × List Line
+Parts verdict.Gates = Path × ℕ
+Parts verdict.NoNew = Path × List Precision
+Parts verdict.Proof = List Listed × List (List Line)
+
+abbrev pub body_of : (verdict : Verdict) → Parts verdict → Body
+body_of verdict.True entries = body.True entries
+body_of verdict.False p = body.False p.0 p.1
+body_of verdict.Turns journal = body.Turns journal
+body_of verdict.Rounds p = body.Rounds p.0 p.1
+body_of verdict.Learnt p = body.Learnt p.0 p.1
+body_of verdict.Gates p = body.Gates p.0 p.1
+body_of verdict.NoNew p = body.NoNew p.0 p.1
+body_of verdict.Proof p = body.Proof p.0 p.1
+
+-- a report of the verdict is taken, whose members come next in their order, and no token more
+abbrev pub TakesReport : Verdict → List Token → List Token → Result Report ReadFault → Type 0
+TakesReport verdict old new result =
+    (text points cells edges : ℕ) (model : DataModel) (x : Parts verdict) (rest : List Token)
+    → ReportFitsBy IsLow (told text points cells edges model (body_of verdict x))
+    → old ≡ onto (object (ordered (told text points cells edges model (body_of verdict x)))) rest
+    → Took (told text points cells edges model (body_of verdict x)) rest result new
 
 -- the numbers of entries, and that one is below the first of some
 abbrev pub numbers_in : List Listed → List ℕ

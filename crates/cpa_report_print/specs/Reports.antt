@@ -20,11 +20,12 @@ use Rattle.cpa_model.specs.declared.states.State.{State}
 use Rattle.cpa_iface.specs.declared.entries.Refined.{Refined}
 use Rattle.cpa_iface.specs.declared.entries.Turn.{Turn}
 use Rattle.cpa_iface.specs.declared.precisions.Precision.{Precision}
+use Rattle.cpa_ints.specs.declared.data_model.DataModel.{DataModel}
+use Rattle.cpa_ints.specs.declared.data_model.DataModel.TheVariants.{Lp64, Ilp32}
 use Rattle.cpa_report_print.specs.declared.report.Body.{Body}
 use Rattle.cpa_report_print.specs.declared.report.Body.TheVariants as body
 use Rattle.cpa_report_print.specs.declared.report.Listed.{Listed}
 use Rattle.cpa_report_print.specs.declared.report.Report.{Report}
-use Rattle.cpa_report_print.specs.declared.report.TheConstants.{FORM}
 use Rattle.cpa_report_print.specs.declared.report.Verdict.{Verdict}
 use Rattle.cpa_report_print.specs.declared.report.Verdict.TheVariants as verdict
 
@@ -141,11 +142,22 @@ verdict_words verdict.Gates = codes "UNKNOWN gates"
 verdict_words verdict.NoNew = codes "UNKNOWN new"
 verdict_words verdict.Proof = codes "PROOF"
 
+-- the form of the reports of a data model
+abbrev pub form_of : DataModel → ℕ
+form_of Lp64 = 1
+form_of Ilp32 = 2
+
+-- what tells the data model, which is LP64 where a report tells none
+abbrev pub model_members : DataModel → List Member
+model_members Lp64 = []
+model_members Ilp32 = at_key (codes "model") (string (codes "ilp32")) ∷ []
+
 -- what reports of every verdict tell
 abbrev pub common_members : Report → List Member
 common_members r =
     at_key (codes "cells") (number_data r.cells) ∷ at_key (codes "edges") (number_data r.edges)
-    ∷ at_key (codes "form") (number_data FORM) ∷ at_key (codes "points") (number_data r.points)
+    ∷ at_key (codes "form") (number_data (form_of r.model))
+    ∷ at_key (codes "points") (number_data r.points)
     ∷ at_key (codes "text") (number_data r.text) ∷ []
 
 -- what those of one verdict tell besides
@@ -170,7 +182,7 @@ body_members (body.Proof entries logs) =
     ∷ at_key (codes "logs") (list_data (list_data line_data) logs) ∷ []
 
 abbrev pub report_data : Report → Data
-report_data r = object_data (common_members r ++ body_members r.body)
+report_data r = object_data (common_members r ++ model_members r.model ++ body_members r.body)
 
 -- a line of a text
 abbrev pub with_feed : List ℕ → List ℕ

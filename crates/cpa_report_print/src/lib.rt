@@ -11,4 +11,4 @@ mod states;
 mod values;
 
 pub use printing::{print, print_break, print_within};
-pub use report::{Body, FORM, Listed, Report, Verdict};
+pub use report::{Body, Listed, Report, Verdict, form_of};

@@ -4,8 +4,11 @@ ghost use Rattle.std.specs.Prelude.{◌≡◌, ◌++◌, IfOk, option_map};
 ghost use Rattle.cpa_report_print.specs.Reports.{report_data, report_text, break_text, with_feed};
 ghost use Rattle.serde_json.specs.Written.{compact_text};
 
-use crate::bodies::{write_before_form, write_before_points, write_before_text, write_behind_text};
-use crate::report::{FORM, Report};
+use crate::bodies::{
+    write_before_form, write_before_model, write_before_points, write_before_text,
+    write_behind_text, write_model,
+};
+use crate::report::{Report, form_of};
 use crate::states::Break;
 use crate::values::{Json, write_member};
 use cpa_model::State;
@@ -21,13 +24,16 @@ impl Json for Report {
             points,
             cells,
             edges,
+            model,
             body,
         } = self;
         writer.begin_object()?;
         write_member(alloc, writer, "cells", cells)?;
         write_member(alloc, writer, "edges", edges)?;
         write_before_form(alloc, writer, body)?;
-        write_member(alloc, writer, "form", &FORM)?;
+        write_member(alloc, writer, "form", &form_of(*model))?;
+        write_before_model(alloc, writer, body)?;
+        write_model(writer, *model)?;
         write_before_points(alloc, writer, body)?;
         write_member(alloc, writer, "points", points)?;
         write_before_text(alloc, writer, body)?;

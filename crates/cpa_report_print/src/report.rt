@@ -1,9 +1,10 @@
 //! What is told of a program, as data. Its text is `report_text` of `specs/Reports.antt`.
 ghost use Rattle.std.specs.Prelude.{◌≡◌};
-ghost use Rattle.cpa_report_print.specs.Reports.{verdict_of, verdict_words};
+ghost use Rattle.cpa_report_print.specs.Reports.{form_of, verdict_of, verdict_words};
 
 use cpa_cnf::Line;
 use cpa_iface::{Precision, Refined, Turn};
+use cpa_ints::DataModel;
 use cpa_model::{Elem, Path, Seq};
 
 /// What a report says of a program.
@@ -69,18 +70,26 @@ pub enum Body {
     },
 }
 
-/// The form of reports that this is, which stands in each.
-pub const FORM: u32 = 1;
-
 /// What is told of a program: the length of its text in bytes, how many points, cells and edges its
-/// automaton has, and the verdict.
+/// automaton has, the data model in which it was read, and the verdict.
 #[derive(Drop)]
 pub struct Report {
     pub text: u32,
     pub points: u32,
     pub cells: u32,
     pub edges: u32,
+    pub model: DataModel,
     pub body: Body,
+}
+
+/// The form of the reports of a data model, which stands in each.
+pub fn form_of(model: DataModel) -> u32
+    ensures { result ≡ form_of model }
+{
+    match model {
+        DataModel::Lp64 => 1,
+        DataModel::Ilp32 => 2,
+    }
 }
 
 impl Body {

@@ -3,6 +3,7 @@ use Rattle.std.proofs.Common.{◌≡◌, ℕ, ◌≤◌, List, refl, sym, ap, �
 use Rattle.std.specs.Prelude.{Option}
 use Rattle.cpa_iface.specs.declared.analysis.Settings.{Settings}
 use Rattle.cpa_iface.specs.Meanings.{Meaning}
+use Rattle.cpa_ints.specs.declared.data_model.DataModel.{DataModel}
 use Rattle.cpa_model.specs.declared.program.Program.{Program}
 use Rattle.cpa_model.specs.Programs.{IsWellFormed}
 use Rattle.cpa_top_recheck.specs.declared.finding.Finding.{Finding}
@@ -24,21 +25,22 @@ use Rattle.cpa_top.proofs.Headline.{AskForOneJob, concluded}
 
 abbrev pub ConfirmedTells : Type 0
 ConfirmedTells =
-    (P : Program) (settings : Settings) (text : List ℕ) (told : Rechecked) → IsWellFormed P
-    → IsRechecked P settings text told → told.finding ≡ finding.Confirmed
-    → IsConfirmation P text told.text.items
+    (m : DataModel) (P : Program) (settings : Settings) (text : List ℕ) (told : Rechecked)
+    → IsWellFormed P
+    → IsRechecked m P settings text told → told.finding ≡ finding.Confirmed
+    → IsConfirmation m P text told.text.items
 
 abbrev pub RefusedTells : Type 0
 RefusedTells =
-    (P : Program) (settings : Settings) (text : List ℕ) (told : Rechecked)
-    → IsRechecked P settings text told → told.finding ≡ finding.Refused
-    → IsRefutation P text told.text.items
+    (m : DataModel) (P : Program) (settings : Settings) (text : List ℕ) (told : Rechecked)
+    → IsRechecked m P settings text told → told.finding ≡ finding.Refused
+    → IsRefutation m P text told.text.items
 
 abbrev pub OpenTells : Type 0
 OpenTells =
-    (P : Program) (settings : Settings) (text : List ℕ) (told : Rechecked)
-    → IsRechecked P settings text told → told.finding ≡ finding.Open
-    → IsUndecided P settings text told.text.items
+    (m : DataModel) (P : Program) (settings : Settings) (text : List ℕ) (told : Rechecked)
+    → IsRechecked m P settings text told → told.finding ≡ finding.Open
+    → IsUndecided m P settings text told.text.items
 
 -- ---- what the number of a finding says
 
@@ -67,11 +69,13 @@ module _ (analyses : List Meaning) (with : Status) (text said bytes list : List 
       → IsRecheckedBy analyses said bytes list with text
       → IsConfirmedText analyses said bytes list text
   confirmed_text tells zero r = record {
+    config = r.config;
+    configures = r.configures;
     program = r.program;
     is = r.is;
     shows =
-        subst (IsConfirmation r.program list) (sym r.text_is)
-        (tells r.program r.config.settings list r.told r.is.well_formed r.tells
+        subst (IsConfirmation r.config.model r.program list) (sym r.text_is)
+        (tells r.config.model r.program r.config.settings list r.told r.is.well_formed r.tells
         (is_confirmed r.told.finding (sym (ap code_of r.status) ∙ zero)));
   }
 
@@ -79,11 +83,13 @@ module _ (analyses : List Meaning) (with : Status) (text said bytes list : List 
       → IsRecheckedBy analyses said bytes list with text
       → IsRefutedText analyses said bytes list text
   refuted_text tells one r = record {
+    config = r.config;
+    configures = r.configures;
     program = r.program;
     is = r.is;
     shows =
-        subst (IsRefutation r.program list) (sym r.text_is)
-        (tells r.program r.config.settings list r.told r.tells
+        subst (IsRefutation r.config.model r.program list) (sym r.text_is)
+        (tells r.config.model r.program r.config.settings list r.told r.tells
         (is_refused r.told.finding (sym (ap code_of r.status) ∙ one)));
   }
 
@@ -96,8 +102,8 @@ module _ (analyses : List Meaning) (with : Status) (text said bytes list : List 
     program = r.program;
     is = r.is;
     shows =
-        subst (IsUndecided r.program r.config.settings list) (sym r.text_is)
-        (tells r.program r.config.settings list r.told r.tells
+        subst (IsUndecided r.config.model r.program r.config.settings list) (sym r.text_is)
+        (tells r.config.model r.program r.config.settings list r.told r.tells
         (is_open r.told.finding (sym (ap code_of r.status) ∙ two)));
   }
 

@@ -45,14 +45,14 @@ abbrev pub TrueIsSafe : Type 0
 TrueIsSafe =
     (P : Program) (cs : List Component) (config : Config) (told : Told) → IsWellFormed P
     → IsTold P cs config told → told.verdict ≡ verdict.True
-    → IsTextOf (IsSafeReport (length cs) P) told.text.items
+    → IsTextOf (IsSafeReport config.model (length cs) P) told.text.items
 
 -- FALSE is told of programs that call the error
 abbrev pub FalseCalls : Type 0
 FalseCalls =
     (P : Program) (cs : List Component) (config : Config) (told : Told) → IsWellFormed P
     → IsTold P cs config told → told.verdict ≡ verdict.False
-    → IsTextOf (IsErrorReport P) told.text.items
+    → IsTextOf (IsErrorReport config.model P) told.text.items
 
 -- a configuration picks handed analyses
 abbrev pub PicksArePlaces : Type 0
@@ -124,9 +124,10 @@ safe_text safe places components analyses with text said bytes zero v =
       program = v.program;
       is = v.is;
       report =
-          subst (λ (n : ℕ). IsTextOf (IsSafeReport n v.program) text)
+          subst (λ (n : ℕ). IsTextOf (IsSafeReport v.config.model n v.program) text)
           (components analyses v.config.picks inside)
-          (subst (IsTextOf (IsSafeReport (length (picked analyses v.config.picks)) v.program))
+          (subst (IsTextOf
+          (IsSafeReport v.config.model (length (picked analyses v.config.picks)) v.program))
           (sym v.text_is) reported);
     }
 
@@ -137,10 +138,12 @@ called_text calls analyses with text said bytes one v =
     let fails = told_false v.tells.answer v.told.verdict v.tells.verdict
     (sym (ap code_of v.status) ∙ one) in
     record {
+      config = v.config;
+      configures = v.configures;
       program = v.program;
       is = v.is;
       report =
-          subst (IsTextOf (IsErrorReport v.program)) (sym v.text_is)
+          subst (IsTextOf (IsErrorReport v.config.model v.program)) (sym v.text_is)
           (calls v.program (picked analyses v.config.picks) v.config v.told v.is.well_formed
           v.tells fails);
     }
@@ -165,7 +168,8 @@ unknown_text analyses with text said bytes two v =
           v.tells.says;
       report =
           v.text_is ∙ v.tells.text
-          ∙ ap (λ (a : Answer). report_text (report_of v.program v.tells.automaton a)) found.1;
+          ∙ ap (λ (a : Answer).
+          report_text (report_of v.config.model v.program v.tells.automaton a)) found.1;
     }
 
 -- ---- what a call came to
@@ -174,23 +178,23 @@ unknown_text analyses with text said bytes two v =
 refused_number : (files : Files) (with : Status) (line : List ℕ) (stage : Stage)
     → Refuses files with line stage → code_of with ≤ 2 → ⊥
 refused_number files status.Holds line (reading which name) h few = h
-refused_number files status.Holds line (parsing name) h few = h
+refused_number files status.Holds line (parsing source name) h few = h
 refused_number files status.Holds line (listing name) h few = h
-refused_number files status.Holds line (matching name report) h few = h
+refused_number files status.Holds line (matching source name report) h few = h
 refused_number files status.Holds line (configuring names file) h few = h
 refused_number files status.Holds line (picking names) h few = h
 refused_number files status.Holds line (composing functions) h few = h
 refused_number files status.Fails line (reading which name) h few = h
-refused_number files status.Fails line (parsing name) h few = h
+refused_number files status.Fails line (parsing source name) h few = h
 refused_number files status.Fails line (listing name) h few = h
-refused_number files status.Fails line (matching name report) h few = h
+refused_number files status.Fails line (matching source name report) h few = h
 refused_number files status.Fails line (configuring names file) h few = h
 refused_number files status.Fails line (picking names) h few = h
 refused_number files status.Fails line (composing functions) h few = h
 refused_number files status.Unknown line (reading which name) h few = h
-refused_number files status.Unknown line (parsing name) h few = h
+refused_number files status.Unknown line (parsing source name) h few = h
 refused_number files status.Unknown line (listing name) h few = h
-refused_number files status.Unknown line (matching name report) h few = h
+refused_number files status.Unknown line (matching source name report) h few = h
 refused_number files status.Unknown line (configuring names file) h few = h
 refused_number files status.Unknown line (picking names) h few = h
 refused_number files status.Unknown line (composing functions) h few = h

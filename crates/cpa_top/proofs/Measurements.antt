@@ -35,7 +35,8 @@ abbrev pub ProofsAreSafe : Type 0
 ProofsAreSafe =
     (P : Program) (cfa : Cfa) (cs : List Component) (config : Config) (entries : List Entry)
     → IsWellFormed P → IsAutomatonOf P cfa → IsAnswer cfa cs config (answer.True entries)
-    → IsSafeReport (length cs) P (report_of P cfa (answer.True entries))
+    → IsSafeReport config.model (length cs) P
+    (report_of config.model P cfa (answer.True entries))
 
 -- the number of TRUE is that of entries alone
 true_answer : (a : Answer) → number_of (verdict_of (body_of a)) ≡ 0

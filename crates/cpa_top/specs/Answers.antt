@@ -6,6 +6,7 @@ use Rattle.cpa_model.specs.declared.facts.Elem.{Elem}
 use Rattle.cpa_model.specs.Automata.{IsAutomatonOf}
 use Rattle.cpa_model.specs.Covers.{IsCover, IsSafe}
 use Rattle.cpa_iface.specs.Meanings.{Meaning}
+use Rattle.cpa_ints.specs.declared.data_model.DataModel.TheVariants.{Lp64}
 use Rattle.c_program.specs.Programs.{IsTheProgram}
 use Rattle.cpa_composite.specs.Components.{picked}
 use Rattle.cpa_config.specs.declared.config.Config.{Config}
@@ -20,7 +21,7 @@ use Rattle.cpa_top_bench.specs.Texts.{bench_text}
 use Rattle.cpa_top_recheck.specs.Findings.{IsConfirmation, IsRefutation, IsUndecided}
 use Rattle.cpa_top_verdict.specs.Reports.{IsSafeReport, IsErrorReport, IsTextOf}
 use Rattle.cpa_top_verdict.specs.Verdicts.{report_of}
-use Rattle.cpa_top_words.specs.Jobs.{Job, Asks, IsNoJob}
+use Rattle.cpa_top_words.specs.Jobs.{Job, Asks, IsNoJob, verify, recheck, bench}
 use Rattle.cpa_top_jobs.specs.declared.status.Status.{Status}
 use Rattle.cpa_top_jobs.specs.declared.status.Status.TheVariants as status
 use Rattle.cpa_top.specs.Calls.{Call, Output, IsWhole, IsCutOff}
@@ -69,40 +70,43 @@ pub record Answers (call : Call) (output : Output) (code : ℕ) : Type 0 where
 
 -- ---- verdicts, in the words of the headline
 
--- TRUE: the text is the report of a safe program, the one program of the bytes, with an element of
--- each analysis that the configuration picks.
+-- TRUE: the text is the report of a safe program, the one program of the bytes in the data model of
+-- the configuration, with an element of each analysis that it picks.
 pub record IsSafeText (analyses : List Meaning) (said bytes text : List ℕ) : Type 0 where
   pub config : Config
   pub configures : Configures said (names_of analyses) config
   pub program : Program
-  pub is : IsTheProgram bytes program
-  pub report : IsTextOf (IsSafeReport (length config.picks) program) text
+  pub is : IsTheProgram config.model bytes program
+  pub report : IsTextOf (IsSafeReport config.model (length config.picks) program) text
 
 -- FALSE: the text is the report of inputs and steps: the execution of the one program of the bytes
--- that takes exactly these inputs calls reach_error after so many steps.
+-- in the data model of the configuration that takes exactly these inputs calls reach_error after so many steps.
 pub record IsCalledText (analyses : List Meaning) (said bytes text : List ℕ) : Type 0 where
+  pub config : Config
+  pub configures : Configures said (names_of analyses) config
   pub program : Program
-  pub is : IsTheProgram bytes program
-  pub report : IsTextOf (IsErrorReport program) text
+  pub is : IsTheProgram config.model bytes program
+  pub report : IsTextOf (IsErrorReport config.model program) text
 
--- UNKNOWN: the text is the report of why there is no verdict on the one program of the bytes, with
--- what is kept of it.
+-- UNKNOWN: the text is the report of why there is no verdict on the one program of the bytes in
+-- the data model of the configuration, with what is kept of it.
 pub record IsUnknownText (analyses : List Meaning) (said bytes text : List ℕ) : Type 0 where
   pub config : Config
   pub configures : Configures said (names_of analyses) config
   pub program : Program
-  pub is : IsTheProgram bytes program
+  pub is : IsTheProgram config.model bytes program
   pub automaton : Cfa
   pub edges : IsAutomatonOf program automaton
   pub why : Why
   pub says : IsWhy automaton (picked analyses config.picks) config why
-  pub report : text ≡ report_text (report_of program automaton (answer.Unknown why))
+  pub report : text ≡ report_text
+      (report_of config.model program automaton (answer.Unknown why))
 
 -- TRUE of a measurement: the line has the counts of the automaton of its text's one program, and of
 -- entries that cover this program, so that no execution calls reach_error.
 pub record IsSafeLine (functions : ℕ) (line : List ℕ) : Type 0 where
   pub program : Program
-  pub is : IsTheProgram (bench_text functions) program
+  pub is : IsTheProgram Lp64 (bench_text functions) program
   pub automaton : Cfa
   pub edges : IsAutomatonOf program automaton
   pub entries : List (List Elem)
@@ -134,28 +138,43 @@ pub record IsWritten (call : Call) (output : Output) (name : List ℕ) (file : O
   pub is : HoldsOf (config_bytes call.files.bytes_of file) (λ said.
       HoldsOf (call.files.bytes_of name) (λ bytes. Is call.analyses said bytes text))
 
+-- so it is of each call that is asked to verify
+abbrev pub OnVerify : (List Meaning → List ℕ → List ℕ → List ℕ → Type 0) → Call → Output → Type 0
+OnVerify Is call output =
+    (name : List ℕ) (file : Option (List ℕ)) → Asks call.words (verify name file)
+    → IsWritten call output name file Is
+
+-- and of each that is asked for a measurement
+abbrev pub OnBench : Call → Output → ℕ → Type 0
+OnBench call output code =
+    (functions : ℕ) → Asks call.words (bench functions) → IsLineWritten call output functions code
+
 -- ---- rechecks, in the words of the headline
 
--- CONFIRMED: the entries of the report, which is one of the one program of the bytes, are a cover
--- of it.
+-- CONFIRMED: the entries of the report, which is one of the one program of the bytes in the data
+-- model of the configuration, are a cover of it.
 pub record IsConfirmedText (analyses : List Meaning) (said bytes list text : List ℕ) : Type 0 where
+  pub config : Config
+  pub configures : Configures said (names_of analyses) config
   pub program : Program
-  pub is : IsTheProgram bytes program
-  pub shows : IsConfirmation program list text
+  pub is : IsTheProgram config.model bytes program
+  pub shows : IsConfirmation config.model program list text
 
 -- REFUSED: the state of the text breaks the obligation that it names of the entries of the report.
 pub record IsRefutedText (analyses : List Meaning) (said bytes list text : List ℕ) : Type 0 where
+  pub config : Config
+  pub configures : Configures said (names_of analyses) config
   pub program : Program
-  pub is : IsTheProgram bytes program
-  pub shows : IsRefutation program list text
+  pub is : IsTheProgram config.model bytes program
+  pub shows : IsRefutation config.model program list text
 
 -- UNKNOWN: what the configuration allows was spent on the obligation that the text names.
 pub record IsUndecidedText (analyses : List Meaning) (said bytes list text : List ℕ) : Type 0 where
   pub config : Config
   pub configures : Configures said (names_of analyses) config
   pub program : Program
-  pub is : IsTheProgram bytes program
-  pub shows : IsUndecided program config.settings list text
+  pub is : IsTheProgram config.model bytes program
+  pub shows : IsUndecided config.model program config.settings list text
 
 -- A text was written whole that is as is said of a recheck, over the bytes of the configuration, of
 -- the named program and of its report, which are those that are told where they are told.
@@ -167,3 +186,10 @@ pub record AreRechecked (call : Call) (output : Output) (name list : List ℕ)
   pub is : HoldsOf (config_bytes call.files.bytes_of file) (λ said.
       HoldsOf (call.files.bytes_of name) (λ bytes.
       HoldsOf (call.files.bytes_of list) (λ report. Is call.analyses said bytes report text)))
+
+-- so it is of each call that is asked to recheck
+abbrev pub OnRecheck : (List Meaning → List ℕ → List ℕ → List ℕ → List ℕ → Type 0) → Call → Output
+    → Type 0
+OnRecheck Is call output =
+    (name list : List ℕ) (file : Option (List ℕ)) → Asks call.words (recheck name list file)
+    → AreRechecked call output name list file Is

@@ -1,7 +1,7 @@
 -- What a call of the program is given and what it leaves (this project's own).
-use Rattle.std.specs.Prelude.{◌≡◌, ℕ, List, Option}
+use Rattle.std.specs.Prelude.{◌≡◌, ℕ, List, Option, map}
 use Rattle.cpa_iface.specs.Meanings.{Meaning}
-use Rattle.cpa_top_jobs.specs.Files.{Files}
+use Rattle.cpa_top_jobs.specs.Files.{Files, files_of}
 use Rattle.cpa_outside.specs.Outside.{Rose, grown, GrewByPrefix}
 
 -- What was written, where it is told, and how many writes have failed, before the call and after
@@ -18,15 +18,23 @@ pub record Call : Type 0 where
   pub analyses : List Meaning
   pub files : Files
 
-abbrev pub call_of : List (List ℕ) → List Meaning → Files → Call
-call_of words analyses files = record { words = words; analyses = analyses; files = files }
+-- the call with these words, analyses and inputs, before it and after it; what an analysis means and
+-- what inputs tell is that of their types
+abbrev pub call_with : {A I : Type 0} → (A → Meaning) → (I → List ℕ → Option (List ℕ))
+    → (I → List ℕ → ℕ) → List (List ℕ) → List A → I → I → Call
+call_with meaning bytes_of faults_of words analyses before after = record {
+  words = words;
+  analyses = map meaning analyses;
+  files = files_of (bytes_of before) (faults_of before) (faults_of after);
+}
 
-abbrev pub output_of : Option (List ℕ) → Option (List ℕ) → ℕ → ℕ → Output
-output_of written_before written_after faults_before faults_after = record {
-  written_before = written_before;
-  written_after = written_after;
-  faults_before = faults_before;
-  faults_after = faults_after;
+-- the output of a sink, before the call and after it
+abbrev pub output_by : {K : Type 0} → (K → Option (List ℕ)) → (K → ℕ) → K → K → Output
+output_by written faults before after = record {
+  written_before = written before;
+  written_after = written after;
+  faults_before = faults before;
+  faults_after = faults after;
 }
 
 -- the text was written whole, and no write has failed

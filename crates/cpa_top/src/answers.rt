@@ -3,8 +3,7 @@
 ghost use Rattle.std.specs.Prelude.{◌≡◌, map};
 ghost use Rattle.std.specs.String.{string_bytes};
 ghost use Rattle.cpa_top.specs.Answers.{MayAnswer, IsDelivered};
-ghost use Rattle.cpa_top.specs.Calls.{call_of, output_of};
-ghost use Rattle.cpa_top_jobs.specs.Files.{files_of};
+ghost use Rattle.cpa_top.specs.Calls.{call_with, output_by};
 ghost use Rattle.cpa_top_jobs.specs.Refusals.{status_of, text_of};
 
 use cpa_iface::Analysis;
@@ -23,8 +22,8 @@ pub(crate) fn answer<R: Threads + Sync, A: Analysis, I: Inputs>(
     inputs: &mut I,
 ) -> Result<Conclusion, Refusal>
     ensures { MayAnswer
-        (call_of (map string_bytes words.now) (map A.meaning analyses.items)
-        (files_of (I.bytes_of inputs.old) (I.faults_of inputs.old) (I.faults_of inputs.new)))
+        (call_with A.meaning I.bytes_of I.faults_of (map string_bytes words.now) analyses.items
+        inputs.old inputs.new)
         (status_of result) (text_of result) }
 {
     words_ask_for_small_benches();
@@ -35,8 +34,9 @@ pub(crate) fn answer<R: Threads + Sync, A: Analysis, I: Inputs>(
                 program,
                 inputs: list,
                 steps,
+                model,
             },
-        ) => replay(alloc, program, list, steps, inputs),
+        ) => replay(alloc, program, list, steps, model, inputs),
         Ok(
             Job::Recheck {
                 program,
@@ -73,8 +73,7 @@ fn text(answer: &Result<Conclusion, Refusal>) -> &[u8]
 /// Writes the answer's text, and gives the number of its status, or of that of a failed write.
 pub(crate) fn deliver<K: Sink>(answer: &Result<Conclusion, Refusal>, out: &mut K) -> u8
     ensures { IsDelivered (status_of answer.now) (text_of answer.now)
-        (output_of (K.written out.old) (K.written out.new) (K.faults out.old) (K.faults out.new))
-        result }
+        (output_by K.written K.faults out.old out.new) result }
 {
     let status = match write_whole(out, text(answer)) {
         Ok(()) => status(answer),

@@ -1,13 +1,11 @@
 //! The one public call. Its clauses are the headline, in the words of `specs/Answers.antt`.
 //! Proved with `proofs/Headline.antt`, over what the other modules promise.
-ghost use Rattle.std.specs.Prelude.{◌≡◌, ◌≤◌, ℕ, List, Option, map};
+ghost use Rattle.std.specs.Prelude.{◌≡◌, ◌≤◌, map};
 ghost use Rattle.std.specs.String.{string_bytes};
-ghost use Rattle.cpa_top_words.specs.Jobs.{verify, recheck, bench, Asks};
-ghost use Rattle.cpa_top.specs.Answers.{Answers, IsWritten, IsLineWritten, AreRechecked};
+ghost use Rattle.cpa_top.specs.Answers.{Answers, OnBench, OnRecheck, OnVerify};
 ghost use Rattle.cpa_top.specs.Answers.{IsSafeText, IsCalledText, IsUnknownText, IsConfirmedText};
 ghost use Rattle.cpa_top.specs.Answers.{IsRefutedText, IsUndecidedText};
-ghost use Rattle.cpa_top.specs.Calls.{call_of, output_of};
-ghost use Rattle.cpa_top_jobs.specs.Files.{files_of};
+ghost use Rattle.cpa_top.specs.Calls.{call_with, output_by};
 
 use crate::answers::{answer, deliver};
 use cpa_iface::Analysis;
@@ -22,9 +20,10 @@ use std::thread::Threads;
 ///
 /// The words are those after the program's own name. The commands today are
 /// `verify PROGRAM [--config FILE]`, by the handed analyses that the configuration picks,
-/// `replay PROGRAM INPUTS [--steps N]`, `recheck PROGRAM REPORT [--config FILE]`, which asks no
-/// analysis, and `bench N`. All output goes to `out` in one `write_whole`. Analyses of several
-/// types are handed in as one type, `Handed` of `cpa_composite`.
+/// `replay PROGRAM INPUTS [--steps N] [--model NAME]`, `recheck PROGRAM REPORT [--config FILE]`,
+/// which asks no analysis, and `bench N`. A program is read in the data model of the configuration,
+/// that of a replay in the one that is named, else in LP64. All output goes to `out` in one
+/// `write_whole`. Analyses of several types are handed in as one type, `Handed` of `cpa_composite`.
 pub fn run<R: Threads + Sync, A: Analysis, I: Inputs, K: Sink>(
     rt: &R,
     alloc: Global,
@@ -34,64 +33,41 @@ pub fn run<R: Threads + Sync, A: Analysis, I: Inputs, K: Sink>(
     out: &mut K,
 ) -> u8
     // TRUE: no execution calls reach_error, and every reachable state lies in a printed entry.
-    ensures safe { result ≡ 0 → (name : List ℕ) (file : Option (List ℕ)) →
-        Asks (map string_bytes words.items) (verify name file) → IsWritten
-        (call_of (map string_bytes words.items) (map A.meaning analyses.items)
-        (files_of (I.bytes_of inputs.old) (I.faults_of inputs.old) (I.faults_of inputs.new)))
-        (output_of (K.written out.old) (K.written out.new) (K.faults out.old) (K.faults out.new))
-        name file IsSafeText }
+    ensures safe { result ≡ 0 → OnVerify IsSafeText
+        (call_with A.meaning I.bytes_of I.faults_of (map string_bytes words.items) analyses.items
+        inputs.old inputs.new) (output_by K.written K.faults out.old out.new) }
     // FALSE: the execution on the printed inputs calls reach_error.
-    ensures called { result ≡ 1 → (name : List ℕ) (file : Option (List ℕ)) →
-        Asks (map string_bytes words.items) (verify name file) → IsWritten
-        (call_of (map string_bytes words.items) (map A.meaning analyses.items)
-        (files_of (I.bytes_of inputs.old) (I.faults_of inputs.old) (I.faults_of inputs.new)))
-        (output_of (K.written out.old) (K.written out.new) (K.faults out.old) (K.faults out.new))
-        name file IsCalledText }
+    ensures called { result ≡ 1 → OnVerify IsCalledText
+        (call_with A.meaning I.bytes_of I.faults_of (map string_bytes words.items) analyses.items
+        inputs.old inputs.new) (output_by K.written K.faults out.old out.new) }
     // UNKNOWN: a budget was spent, or a path that has no run adds no precision.
-    ensures unknown { result ≡ 2 → (name : List ℕ) (file : Option (List ℕ)) →
-        Asks (map string_bytes words.items) (verify name file) → IsWritten
-        (call_of (map string_bytes words.items) (map A.meaning analyses.items)
-        (files_of (I.bytes_of inputs.old) (I.faults_of inputs.old) (I.faults_of inputs.new)))
-        (output_of (K.written out.old) (K.written out.new) (K.faults out.old) (K.faults out.new))
-        name file IsUnknownText }
+    ensures unknown { result ≡ 2 → OnVerify IsUnknownText
+        (call_with A.meaning I.bytes_of I.faults_of (map string_bytes words.items) analyses.items
+        inputs.old inputs.new) (output_by K.written K.faults out.old out.new) }
     // CONFIRMED: the entries of the report are a cover of the program, so no execution calls
     // reach_error.
-    ensures confirmed { result ≡ 0 → (name list : List ℕ) (file : Option (List ℕ)) →
-        Asks (map string_bytes words.items) (recheck name list file) → AreRechecked
-        (call_of (map string_bytes words.items) (map A.meaning analyses.items)
-        (files_of (I.bytes_of inputs.old) (I.faults_of inputs.old) (I.faults_of inputs.new)))
-        (output_of (K.written out.old) (K.written out.new) (K.faults out.old) (K.faults out.new))
-        name list file IsConfirmedText }
+    ensures confirmed { result ≡ 0 → OnRecheck IsConfirmedText
+        (call_with A.meaning I.bytes_of I.faults_of (map string_bytes words.items) analyses.items
+        inputs.old inputs.new) (output_by K.written K.faults out.old out.new) }
     // REFUSED: the printed state breaks the least obligation of the entries that is not met, so
     // they are no cover, and those of no TRUE answer on the program.
-    ensures refuted { result ≡ 1 → (name list : List ℕ) (file : Option (List ℕ)) →
-        Asks (map string_bytes words.items) (recheck name list file) → AreRechecked
-        (call_of (map string_bytes words.items) (map A.meaning analyses.items)
-        (files_of (I.bytes_of inputs.old) (I.faults_of inputs.old) (I.faults_of inputs.new)))
-        (output_of (K.written out.old) (K.written out.new) (K.faults out.old) (K.faults out.new))
-        name list file IsRefutedText }
+    ensures refuted { result ≡ 1 → OnRecheck IsRefutedText
+        (call_with A.meaning I.bytes_of I.faults_of (map string_bytes words.items) analyses.items
+        inputs.old inputs.new) (output_by K.written K.faults out.old out.new) }
     // UNKNOWN of a recheck: a budget was spent on the named obligation, and all lesser ones are
     // met.
-    ensures undecided { result ≡ 2 → (name list : List ℕ) (file : Option (List ℕ)) →
-        Asks (map string_bytes words.items) (recheck name list file) → AreRechecked
-        (call_of (map string_bytes words.items) (map A.meaning analyses.items)
-        (files_of (I.bytes_of inputs.old) (I.faults_of inputs.old) (I.faults_of inputs.new)))
-        (output_of (K.written out.old) (K.written out.new) (K.faults out.old) (K.faults out.new))
-        name list file IsUndecidedText }
+    ensures undecided { result ≡ 2 → OnRecheck IsUndecidedText
+        (call_with A.meaning I.bytes_of I.faults_of (map string_bytes words.items) analyses.items
+        inputs.old inputs.new) (output_by K.written K.faults out.old out.new) }
     // bench: the line has the counts and the verdict of an answer on the text of a measurement;
     // where it is TRUE, no execution of this text calls reach_error.
-    ensures measured { result ≤ 2 → (functions : ℕ) →
-        Asks (map string_bytes words.items) (bench functions) → IsLineWritten
-        (call_of (map string_bytes words.items) (map A.meaning analyses.items)
-        (files_of (I.bytes_of inputs.old) (I.faults_of inputs.old) (I.faults_of inputs.new)))
-        (output_of (K.written out.old) (K.written out.new) (K.faults out.old) (K.faults out.new))
-        functions result }
+    ensures measured { result ≤ 2 → OnBench
+        (call_with A.meaning I.bytes_of I.faults_of (map string_bytes words.items) analyses.items
+        inputs.old inputs.new) (output_by K.written K.faults out.old out.new) result }
     // Each status has its cause and its text.
     ensures answers { Answers
-        (call_of (map string_bytes words.items) (map A.meaning analyses.items)
-        (files_of (I.bytes_of inputs.old) (I.faults_of inputs.old) (I.faults_of inputs.new)))
-        (output_of (K.written out.old) (K.written out.new) (K.faults out.old) (K.faults out.new))
-        result }
+        (call_with A.meaning I.bytes_of I.faults_of (map string_bytes words.items) analyses.items
+        inputs.old inputs.new) (output_by K.written K.faults out.old out.new) result }
 {
     words_ask_for_one_job();
     picks_are_places();

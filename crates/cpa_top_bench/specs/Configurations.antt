@@ -7,6 +7,7 @@ use Rattle.cpa_config.specs.declared.keys.TheConstants.{ROUNDS}
 use Rattle.cpa_config.specs.Values.{place_of}
 use Rattle.cpa_iface.specs.declared.merging.MergeRule.TheVariants.{Sep}
 use Rattle.cpa_iface.specs.declared.merging.Pick.{Pick}
+use Rattle.cpa_ints.specs.declared.data_model.DataModel.TheVariants.{Lp64}
 
 -- the analyses of a measurement
 abbrev pub used : List (List ℕ)
@@ -18,7 +19,8 @@ pub record IsKeptApart (handed : List (List ℕ)) (name : List ℕ) (pick : Pick
   pub rule : pick.rule ≡ Sep
 
 -- The configuration picks location, callstack and value of the handed analyses, all kept apart. It
--- has all cells tracked and 1000000 turns, and of all else what counts where a text does not say.
+-- has all cells tracked, 1000000 turns and the data model LP64, and of all else what counts where a
+-- text does not say.
 pub record IsBenchConfig (handed : List (List ℕ)) (config : Config) : Type 0 where
   pub picks : AllZip (IsKeptApart handed) used config.picks
   pub order : config.order ≡ DEFAULT_ORDER
@@ -28,6 +30,7 @@ pub record IsBenchConfig (handed : List (List ℕ)) (config : Config) : Type 0 w
   pub limit : config.settings.limit ≡ LIMIT.default
   pub learnt : config.settings.learnt ≡ LEARNT.default
   pub gates : config.settings.gates ≡ GATES.default
+  pub model : config.model ≡ Lp64
 
 -- one of the three is not handed in
 abbrev pub LacksOne : List (List ℕ) → Type 0

@@ -8,7 +8,7 @@ ghost use Rattle.std.specs.List.{AllZip};
 
 use cpa_config::{Config, DEFAULT_ORDER, GATES, LEARNT, LIMIT, ROUNDS};
 use cpa_iface::{MergeRule, Pick, Settings};
-use cpa_ints::Seq;
+use cpa_ints::{DataModel, Seq};
 use std::alloc::{AllocError, Global};
 
 /// The turns of a measurement.
@@ -83,5 +83,6 @@ pub fn bench_config(alloc: Global, handed: &[String]) -> Result<Option<Config>, 
             learnt: LEARNT.default as u32,
             gates: GATES.default,
         },
+        model: DataModel::Lp64,
     }))
 }

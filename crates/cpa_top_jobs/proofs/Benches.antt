@@ -4,6 +4,7 @@ use Rattle.std.specs.Prelude.{Ok, Err}
 use Rattle.c_program.specs.Programs.{IsTheProgram}
 use Rattle.cpa_config.specs.declared.config.Config.{Config}
 use Rattle.cpa_iface.specs.Meanings.{Meaning}
+use Rattle.cpa_ints.specs.declared.data_model.DataModel.TheVariants.{Lp64}
 use Rattle.cpa_model.specs.declared.program.Program.{Program}
 use Rattle.cpa_top_bench.specs.Configurations.{IsBenchConfig}
 use Rattle.cpa_top_bench.specs.Texts.{bench_text}
@@ -33,7 +34,7 @@ module _ (files : Files) (steady : NoReadFailed files) where
   lacks_at names (refusal.NoReport rule) is = absurd is
 
   -- the text stands for no program
-  composed_at : (functions : ℕ) (r : Refusal) → IsTextRefused (bench_text functions) r
+  composed_at : (functions : ℕ) (r : Refusal) → IsTextRefused Lp64 (bench_text functions) r
       → IsRefusedAt files (composing functions) r
   composed_at functions (refusal.NoProgram line) is =
       record { why = inr is; reads = λ n. steady }
@@ -61,14 +62,14 @@ module _ (files : Files) (steady : NoReadFailed files) where
       configured : IsBenchConfig (names_of analyses) config
       configured = subst (λ (ns : List (List ℕ)). IsBenchConfig ns config) same configures
 
-      pub composing_stops : (r : Refusal) → IsTextRefused (bench_text functions) r
+      pub composing_stops : (r : Refusal) → IsTextRefused Lp64 (bench_text functions) r
           → IsDone files analyses (bench functions) (Err r)
       composing_stops r is =
           halted_done files analyses (bench functions) r
           (halts files (picking (names_of analyses) ∷ []) (composing functions) []
           ((config, configured), tt) r (composed_at functions r is))
 
-      pub bench_ends : (P : Program) (c : Conclusion) → IsTheProgram (bench_text functions) P
+      pub bench_ends : (P : Program) (c : Conclusion) → IsTheProgram Lp64 (bench_text functions) P
           → IsCounted functions analyses config P c
           → IsDone files analyses (bench functions) (Ok c)
       bench_ends P c is came = record {

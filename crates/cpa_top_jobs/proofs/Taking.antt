@@ -6,16 +6,17 @@ use Rattle.std.specs.List.{AllByRecursion}
 use Rattle.std.specs.String.{string_bytes}
 use Rattle.c_lexer.specs.declared.lexer.TheConstants.{MAX_TEXT}
 use Rattle.c_program.specs.Programs.{IsTheProgram}
-use Rattle.cpa_top_inputs.specs.Inputs.{IsInputs}
+use Rattle.cpa_top_jobs.specs.Inputs.{IsInputs}
+use Rattle.cpa_ints.specs.declared.data_model.DataModel.{DataModel}
 use Rattle.cpa_model.specs.declared.program.Program.{Program}
 use Rattle.cpa_top_jobs.specs.declared.refusal.Refusal.{Refusal}
 use Rattle.cpa_top_jobs.specs.declared.refusal.Refusal.TheVariants as refusal
 use Rattle.cpa_top_jobs.specs.declared.role.Role.{Role}
 use Rattle.cpa_top_jobs.specs.declared.role.Role.TheVariants as role
-use Rattle.cpa_top_jobs.specs.Ends.{Passes, HasProgram, HasInputs, IsFaultLine, NoInputs}
+use Rattle.cpa_top_jobs.specs.Ends.{Passes, HasProgram, HasInputs, IsFaultLine, IsModelOf, NoInputs}
 use Rattle.cpa_top_jobs.specs.Files.{Files, NoReadFailed, HoldsOf}
 use Rattle.cpa_top_jobs.specs.Jobs.{Stage, reading, parsing, listing, program_stages, inputs_stages}
-use Rattle.cpa_top_jobs.specs.Jobs.{limit_of}
+use Rattle.cpa_top_jobs.specs.Jobs.{ModelSource, limit_of}
 use Rattle.cpa_top_jobs.specs.Refusals.{IsRefusedAt, IsHalted, IsTaken, IsTextRefused}
 use Rattle.cpa_top_jobs.specs.Refusals.{IsListRefused}
 use Rattle.cpa_top_jobs.proofs.Stages.{halts}
@@ -49,30 +50,33 @@ was_read files which name bytes short same =
     as_told (files.bytes_of name) bytes (λ b. length b ≤ limit_of which) short same
 
 -- the bytes of a program are refused
-program_refused_at : (files : Files) (name bytes : List ℕ) (r : Refusal)
-    → IfSome (files.bytes_of name) (λ t. bytes ≡ t) → NoReadFailed files → IsTextRefused bytes r
-    → IsRefusedAt files (parsing name) r
-program_refused_at files name bytes (refusal.NoProgram line) same steady is = record {
-  why = inr (as_told (files.bytes_of name) bytes (IsFaultLine (string_bytes line)) is same);
+program_refused_at : (files : Files) (source : ModelSource) (m : DataModel) (name bytes : List ℕ)
+    (r : Refusal) → IsModelOf files.bytes_of source m
+    → IfSome (files.bytes_of name) (λ t. bytes ≡ t) → NoReadFailed files
+    → IsTextRefused m bytes r → IsRefusedAt files (parsing source name) r
+program_refused_at files source m name bytes (refusal.NoProgram line) of same steady is = record {
+  why =
+      inr (m, of, as_told (files.bytes_of name) bytes (IsFaultLine m (string_bytes line)) is same);
   reads = λ n. steady;
 }
-program_refused_at files name bytes refusal.OutOfMemory same steady is =
-    out_of_memory files (parsing name) steady
-program_refused_at files name bytes refusal.Usage same steady is = absurd is
-program_refused_at files name bytes refusal.LacksAnalysis same steady is = absurd is
-program_refused_at files name bytes (refusal.ReadFailed which) same steady is = absurd is
-program_refused_at files name bytes (refusal.TooLong which) same steady is = absurd is
-program_refused_at files name bytes (refusal.NoConfig line) same steady is = absurd is
-program_refused_at files name bytes refusal.NoInputs same steady is = absurd is
-program_refused_at files name bytes (refusal.NoReport rule) same steady is = absurd is
+program_refused_at files source m name bytes refusal.OutOfMemory of same steady is =
+    out_of_memory files (parsing source name) steady
+program_refused_at files source m name bytes refusal.Usage of same steady is = absurd is
+program_refused_at files source m name bytes refusal.LacksAnalysis of same steady is = absurd is
+program_refused_at files source m name bytes (refusal.ReadFailed which) of same steady is = absurd is
+program_refused_at files source m name bytes (refusal.TooLong which) of same steady is = absurd is
+program_refused_at files source m name bytes (refusal.NoConfig line) of same steady is = absurd is
+program_refused_at files source m name bytes refusal.NoInputs of same steady is = absurd is
+program_refused_at files source m name bytes (refusal.NoReport rule) of same steady is = absurd is
 
-pub program_refused : (files : Files) (name bytes : List ℕ) (r : Refusal)
+pub program_refused : (files : Files) (source : ModelSource) (m : DataModel)
+    (name bytes : List ℕ) (r : Refusal) → IsModelOf files.bytes_of source m
     → length bytes ≤ MAX_TEXT → IfSome (files.bytes_of name) (λ t. bytes ≡ t)
-    → NoReadFailed files → IsTextRefused bytes r → IsHalted files (program_stages name) r
-program_refused files name bytes r short same steady is =
-    halts files (reading role.Program name ∷ []) (parsing name) []
+    → NoReadFailed files → IsTextRefused m bytes r → IsHalted files (program_stages source name) r
+program_refused files source m name bytes r of short same steady is =
+    halts files (reading role.Program name ∷ []) (parsing source name) []
     (was_read files role.Program name bytes short same, tt) r
-    (program_refused_at files name bytes r same steady is)
+    (program_refused_at files source m name bytes r of same steady is)
 
 -- the bytes of a list of inputs are refused
 inputs_refused_at : (files : Files) (name bytes : List ℕ) (r : Refusal)
@@ -120,14 +124,19 @@ taken_read files which name Has limit is =
     told_weaker (files.bytes_of name) (λ b. (length b ≤ MAX_TEXT) × Has b)
     (λ b. length b ≤ limit_of which) (λ b h. subst (λ (n : ℕ). length b ≤ n) limit h.0) is
 
-pub program_passes : (files : Files) (name : List ℕ) (P : Program)
-    → IsTaken (files.bytes_of name) (λ b. IsTheProgram b P)
-    → AllByRecursion (Passes files) (program_stages name)
-program_passes files name P is = (
-  taken_read files role.Program name (λ b. IsTheProgram b P) refl is,
+pub program_passes : (files : Files) (source : ModelSource) (m : DataModel) (name : List ℕ)
+    (P : Program) → IsModelOf files.bytes_of source m
+    → IsTaken (files.bytes_of name) (λ b. IsTheProgram m b P)
+    → AllByRecursion (Passes files) (program_stages source name)
+program_passes files source m name P of is = (
+  taken_read files role.Program name (λ b. IsTheProgram m b P) refl is,
   (
-    told_weaker (files.bytes_of name) (λ b. (length b ≤ MAX_TEXT) × IsTheProgram b P) HasProgram
-        (λ b h. (P, h.1.is)) is,
+    (
+      m,
+      of,
+      told_weaker (files.bytes_of name) (λ b. (length b ≤ MAX_TEXT) × IsTheProgram m b P)
+          (HasProgram m) (λ b h. (P, h.1.is)) is,
+    ),
     tt,
   ),
 )

@@ -3,6 +3,8 @@ use Rattle.std.specs.Prelude.{◌≡◌, ℕ, ◌<◌, ◌≤◌, ℤ, List, [],
 use Rattle.std.specs.Prelude.{Option, Some, None, IfSome}
 use Rattle.std.specs.List.{AllByRecursion}
 use Rattle.c_lexer.specs.declared.fault.TextFault.{TextFault}
+use Rattle.cpa_ints.specs.declared.data_model.DataModel.{DataModel}
+use Rattle.cpa_ints.specs.declared.data_model.DataModel.TheVariants.{Lp64}
 use Rattle.cpa_model.specs.declared.program.Program.{Program}
 use Rattle.cpa_iface.specs.Meanings.{Meaning}
 use Rattle.cpa_outside.specs.Outside.{Rose}
@@ -17,7 +19,7 @@ use Rattle.cpa_top_bench.specs.declared.measuring.Measured.{Measured}
 use Rattle.cpa_top_bench.specs.Configurations.{IsBenchConfig, LacksOne}
 use Rattle.cpa_top_bench.specs.Measurements.{IsMeasured, bench_line}
 use Rattle.cpa_top_bench.specs.Texts.{bench_text}
-use Rattle.cpa_top_inputs.specs.Inputs.{IsInputs}
+use Rattle.cpa_top_jobs.specs.Inputs.{IsInputs}
 use Rattle.cpa_report.specs.declared.fault.ReportRule.{ReportRule}
 use Rattle.cpa_top_recheck.specs.declared.finding.Rechecked.{Rechecked}
 use Rattle.cpa_top_recheck.specs.Lines.{report_line}
@@ -30,6 +32,7 @@ use Rattle.cpa_top_jobs.specs.declared.status.Status.TheVariants as status
 use Rattle.cpa_top_jobs.specs.Files.{Files, HoldsOf}
 use Rattle.cpa_top_jobs.specs.Jobs.{Stage, reading, parsing, listing, matching, configuring}
 use Rattle.cpa_top_jobs.specs.Jobs.{picking, composing, limit_of, stages_of, names_of}
+use Rattle.cpa_top_jobs.specs.Jobs.{ModelSource, given, of_config}
 use Rattle.cpa_top_jobs.specs.Lines.{fault_line, config_line, read_line, long_line, inputs_line}
 use Rattle.cpa_top_jobs.specs.Lines.{lacking_line, memory_line, outcome_line}
 use Rattle.cpa_top_jobs.specs.Statuses.{finding_status, outcome_status, verdict_status}
@@ -42,17 +45,28 @@ abbrev pub config_bytes : (List ℕ → Option (List ℕ)) → Option (List ℕ)
 config_bytes bytes_of None = Some []
 config_bytes bytes_of (Some file) = bytes_of file
 
--- the bytes stand for some program
-abbrev pub HasProgram : List ℕ → Type 0
-HasProgram bytes = (P : Program) × IsProgram bytes P
+-- the data model is that of the source
+abbrev pub IsModelOf : (List ℕ → Option (List ℕ)) → ModelSource → DataModel → Type 0
+IsModelOf bytes_of (given model) m = m ≡ model
+IsModelOf bytes_of (of_config names file) m =
+    HoldsOf (config_bytes bytes_of file) (λ said.
+    (config : Config) × Configures said names config × (m ≡ config.model))
+
+-- it holds in the data model of the source
+abbrev pub HoldsIn : Files → ModelSource → (DataModel → Type 0) → Type 0
+HoldsIn files source Has = (m : DataModel) × IsModelOf files.bytes_of source m × Has m
+
+-- the bytes stand for some program in the data model
+abbrev pub HasProgram : DataModel → List ℕ → Type 0
+HasProgram m bytes = (P : Program) × IsProgram m bytes P
 
 -- the bytes are some list of inputs
 abbrev pub HasInputs : List ℕ → Type 0
 HasInputs bytes = (numbers : List ℤ) × IsInputs bytes numbers
 
--- the text is that of a TRUE report of the one program of the bytes
-abbrev pub HasReportOf : List ℕ → List ℕ → Type 0
-HasReportOf bytes text = (P : Program) × IsTheProgram bytes P × HasReport P text
+-- the text is that of a TRUE report of the one program of the bytes in the data model
+abbrev pub HasReportOf : DataModel → List ℕ → List ℕ → Type 0
+HasReportOf m bytes text = (P : Program) × IsTheProgram m bytes P × HasReport m P text
 
 -- the bytes give some configuration for the names
 abbrev pub HasConfig : List (List ℕ) → List ℕ → Type 0
@@ -67,20 +81,21 @@ HasBenchConfig names = (config : Config) × IsBenchConfig names config
 abbrev pub Passes : Files → Stage → Type 0
 Passes files (reading which name) =
     HoldsOf (files.bytes_of name) (λ bytes. length bytes ≤ limit_of which)
-Passes files (parsing name) = HoldsOf (files.bytes_of name) HasProgram
+Passes files (parsing source name) =
+    HoldsIn files source (λ m. HoldsOf (files.bytes_of name) (HasProgram m))
 Passes files (listing name) = HoldsOf (files.bytes_of name) HasInputs
-Passes files (matching name report) =
-    HoldsOf (files.bytes_of name) (λ bytes.
-    HoldsOf (files.bytes_of report) (λ text. HasReportOf bytes text))
+Passes files (matching source name report) =
+    HoldsIn files source (λ m. HoldsOf (files.bytes_of name) (λ bytes.
+    HoldsOf (files.bytes_of report) (λ text. HasReportOf m bytes text)))
 Passes files (configuring names file) =
     HoldsOf (config_bytes files.bytes_of file) (HasConfig names)
 Passes files (picking names) = HasBenchConfig names
-Passes files (composing functions) = HasProgram (bench_text functions)
+Passes files (composing functions) = HasProgram Lp64 (bench_text functions)
 
--- the bytes stand for no program, and the line names their fault
-abbrev pub IsFaultLine : List ℕ → List ℕ → Type 0
-IsFaultLine line bytes =
-    NoProgram bytes × (fault : TextFault) × IsTextFault bytes fault
+-- the bytes stand for no program in the data model, and the line names their fault
+abbrev pub IsFaultLine : DataModel → List ℕ → List ℕ → Type 0
+IsFaultLine m line bytes =
+    NoProgram m bytes × (fault : TextFault) × IsTextFault m bytes fault
     × (line ≡ fault_line bytes fault)
 
 -- the bytes are no list of inputs
@@ -89,9 +104,9 @@ NoInputs bytes = (numbers : List ℤ) → IsInputs bytes numbers → ⊥
 
 -- the text is that of no TRUE report of the one program of the bytes, and the line names the rule
 -- that it breaks
-abbrev pub IsReportLine : List ℕ → List ℕ → List ℕ → Type 0
-IsReportLine line bytes text =
-    (P : Program) × IsTheProgram bytes P × (rule : ReportRule) × BreaksFor P text rule
+abbrev pub IsReportLine : DataModel → List ℕ → List ℕ → List ℕ → Type 0
+IsReportLine m line bytes text =
+    (P : Program) × IsTheProgram m bytes P × (rule : ReportRule) × BreaksFor m P text rule
     × (line ≡ report_line rule)
 
 -- the bytes give no configuration for the names, and the line names the rule and the key
@@ -107,18 +122,18 @@ Refuses files status.ReadFailed line (reading which name) =
 Refuses files status.TooLong line (reading which name) =
     IfSome (files.bytes_of name) (λ bytes. limit_of which < length bytes)
     × (line ≡ long_line which)
-Refuses files status.NoProgram line (parsing name) =
-    HoldsOf (files.bytes_of name) (IsFaultLine line)
+Refuses files status.NoProgram line (parsing source name) =
+    HoldsIn files source (λ m. HoldsOf (files.bytes_of name) (IsFaultLine m line))
 Refuses files status.NoInputs line (listing name) =
     HoldsOf (files.bytes_of name) NoInputs × (line ≡ inputs_line)
-Refuses files status.NoReport line (matching name report) =
-    HoldsOf (files.bytes_of name) (λ bytes.
-    HoldsOf (files.bytes_of report) (λ text. IsReportLine line bytes text))
+Refuses files status.NoReport line (matching source name report) =
+    HoldsIn files source (λ m. HoldsOf (files.bytes_of name) (λ bytes.
+    HoldsOf (files.bytes_of report) (λ text. IsReportLine m line bytes text)))
 Refuses files status.NoConfig line (configuring names file) =
     HoldsOf (config_bytes files.bytes_of file) (IsConfigLine names line)
 Refuses files status.NoConfig line (picking names) = LacksOne names × (line ≡ lacking_line)
 Refuses files status.NoProgram line (composing functions) =
-    IsFaultLine line (bench_text functions)
+    IsFaultLine Lp64 line (bench_text functions)
 Refuses files _ line _ = ⊥
 
 -- One of these stages is refused, and no earlier one is.
@@ -133,30 +148,31 @@ pub record Stops (files : Files) (stages : List Stage) (with : Status) (line : L
 
 -- ---- ends
 
--- The status and the text are those of the verdict on the one program of the bytes, by the handed
--- analyses that the configuration picks; the configuration is what `said` gives.
+-- The status and the text are those of the verdict on the one program of the bytes in the data model
+-- of the configuration, by the handed analyses that it picks; it is what `said` gives.
 pub record IsVerified (analyses : List Meaning) (said bytes : List ℕ) (with : Status)
     (text : List ℕ) : Type 0 where
   pub config : Config
   pub configures : Configures said (names_of analyses) config
   pub program : Program
-  pub is : IsTheProgram bytes program
+  pub is : IsTheProgram config.model bytes program
   pub told : Told
   pub tells : IsTold program (picked analyses config.picks) config told
   pub status : with ≡ verdict_status told.verdict
   pub text_is : text ≡ told.text.items
 
--- The status and the line are those of what comes of the program on the inputs in so many steps.
-pub record IsReplayed (steps : ℕ) (bytes list : List ℕ) (with : Status) (line : List ℕ) : Type 0
-  where
-    pub program : Program
-    pub is : IsTheProgram bytes program
-    pub inputs : List ℤ
-    pub are : IsInputs list inputs
-    pub outcome : Outcome
-    pub replay : Replay program inputs steps outcome
-    pub status : with ≡ outcome_status outcome
-    pub line_is : line ≡ outcome_line outcome
+-- The status and the line are those of what comes of the one program of the bytes in the data model
+-- on the inputs in so many steps.
+pub record IsReplayed (m : DataModel) (steps : ℕ) (bytes list : List ℕ) (with : Status)
+    (line : List ℕ) : Type 0 where
+  pub program : Program
+  pub is : IsTheProgram m bytes program
+  pub inputs : List ℤ
+  pub are : IsInputs list inputs
+  pub outcome : Outcome
+  pub replay : Replay program inputs steps outcome
+  pub status : with ≡ outcome_status outcome
+  pub line_is : line ≡ outcome_line outcome
 
 -- The status and the text are those of what comes of the entries of the TRUE report of the one
 -- program of the bytes, checked again within what the configuration allows.
@@ -165,9 +181,9 @@ pub record IsRecheckedBy (analyses : List Meaning) (said bytes list : List ℕ) 
   pub config : Config
   pub configures : Configures said (names_of analyses) config
   pub program : Program
-  pub is : IsTheProgram bytes program
+  pub is : IsTheProgram config.model bytes program
   pub told : Rechecked
-  pub tells : IsRechecked program config.settings list told
+  pub tells : IsRechecked config.model program config.settings list told
   pub status : with ≡ finding_status told.finding
   pub text_is : text ≡ told.text.items
 
@@ -178,7 +194,7 @@ pub record IsMeasuredBy (analyses : List Meaning) (functions : ℕ) (with : Stat
   pub config : Config
   pub configures : IsBenchConfig (names_of analyses) config
   pub program : Program
-  pub is : IsTheProgram (bench_text functions) program
+  pub is : IsTheProgram Lp64 (bench_text functions) program
   pub measured : Measured
   pub measures : IsMeasured program (picked analyses config.picks) config measured
   pub status : with ≡ verdict_status measured.verdict
@@ -190,9 +206,9 @@ abbrev pub Concludes : Files → List Meaning → Job → Status → List ℕ �
 Concludes files analyses (verify name file) with text =
     HoldsOf (config_bytes files.bytes_of file) (λ said.
     HoldsOf (files.bytes_of name) (λ bytes. IsVerified analyses said bytes with text))
-Concludes files analyses (replay name inputs steps) with text =
+Concludes files analyses (replay name inputs steps model) with text =
     HoldsOf (files.bytes_of name) (λ bytes.
-    HoldsOf (files.bytes_of inputs) (λ list. IsReplayed steps bytes list with text))
+    HoldsOf (files.bytes_of inputs) (λ list. IsReplayed model steps bytes list with text))
 Concludes files analyses (recheck name report file) with text =
     HoldsOf (config_bytes files.bytes_of file) (λ said.
     HoldsOf (files.bytes_of name) (λ bytes.

@@ -1,5 +1,6 @@
 pub mod Ends
 pub mod Files
+pub mod Inputs
 pub mod Jobs
 pub mod Lines
 pub mod Refusals

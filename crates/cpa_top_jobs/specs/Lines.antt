@@ -52,6 +52,7 @@ rule_word rule.N15 = codes "N15"
 rule_word rule.N16 = codes "N16"
 rule_word rule.N17 = codes "N17"
 rule_word rule.N18 = codes "N18"
+rule_word rule.N19 = codes "N19"
 
 -- the word of a rule that a text breaks, and the line and column of the place
 abbrev pub placed_line : List ℕ → ℕ → ℕ → List ℕ
@@ -94,9 +95,9 @@ memory_line = codes "refused memory\n"
 abbrev pub usage_text : List ℕ
 usage_text =
     codes "usage: cpaverify verify PROGRAM [--config FILE]\n"
-    ++ codes "       cpaverify replay PROGRAM INPUTS [--steps N]\n"
+    ++ codes "       cpaverify replay PROGRAM INPUTS [--steps N] [--model NAME]\n"
     ++ codes "       cpaverify recheck PROGRAM REPORT [--config FILE] [--proof] [--workers N]\n"
-    ++ codes "       cpaverify audit PROGRAM PROOF [--workers N]\n"
+    ++ codes "       cpaverify audit PROGRAM PROOF [--workers N] [--model NAME]\n"
     ++ codes "       cpaverify bench N\n"
 
 -- what comes of a replay

@@ -3,6 +3,7 @@ use Rattle.std.specs.Prelude.{◌≡◌, ◌≢◌, ◌⊎◌, ℕ, ◌≤◌, �
 use Rattle.std.specs.Prelude.{Ok, Err}
 use Rattle.std.specs.String.{string_bytes}
 use Rattle.c_lexer.specs.declared.lexer.TheConstants.{MAX_TEXT}
+use Rattle.cpa_ints.specs.declared.data_model.DataModel.{DataModel}
 use Rattle.cpa_model.specs.declared.program.Program.{Program}
 use Rattle.cpa_iface.specs.Meanings.{Meaning}
 use Rattle.cpa_interp.specs.declared.outcome.Outcome.{Outcome}
@@ -77,11 +78,11 @@ pub record IsHalted (files : Files) (stages : List Stage) (refused : Refusal) : 
 abbrev pub IsTaken : Option (List ℕ) → (List ℕ → Type 0) → Type 0
 IsTaken told Has = HoldsOf told (λ bytes. (length bytes ≤ MAX_TEXT) × Has bytes)
 
--- the bytes of a program are refused
-abbrev pub IsTextRefused : List ℕ → Refusal → Type 0
-IsTextRefused bytes (refusal.NoProgram line) = IsFaultLine (string_bytes line) bytes
-IsTextRefused bytes refusal.OutOfMemory = Unit {0}
-IsTextRefused bytes _ = ⊥
+-- the bytes of a program are refused in the data model
+abbrev pub IsTextRefused : DataModel → List ℕ → Refusal → Type 0
+IsTextRefused m bytes (refusal.NoProgram line) = IsFaultLine m (string_bytes line) bytes
+IsTextRefused m bytes refusal.OutOfMemory = Unit {0}
+IsTextRefused m bytes _ = ⊥
 
 -- the bytes of a list of inputs are refused
 abbrev pub IsListRefused : List ℕ → Refusal → Type 0
@@ -90,10 +91,10 @@ IsListRefused bytes refusal.OutOfMemory = Unit {0}
 IsListRefused bytes _ = ⊥
 
 -- the text of a report of the program is refused
-abbrev pub IsReportRefused : Program → List ℕ → Refusal → Type 0
-IsReportRefused P text (refusal.NoReport rule) = BreaksFor P text rule
-IsReportRefused P text refusal.OutOfMemory = Unit {0}
-IsReportRefused P text _ = ⊥
+abbrev pub IsReportRefused : DataModel → Program → List ℕ → Refusal → Type 0
+IsReportRefused m P text (refusal.NoReport rule) = BreaksFor m P text rule
+IsReportRefused m P text refusal.OutOfMemory = Unit {0}
+IsReportRefused m P text _ = ⊥
 
 -- the bytes of a configuration are refused
 abbrev pub IsConfigRefused : List (List ℕ) → List ℕ → Refusal → Type 0
@@ -127,7 +128,7 @@ pub record IsConcluded (analyses : List Meaning) (config : Config) (P : Program)
 pub record IsChecked (config : Config) (P : Program) (text : List ℕ) (conclusion : Conclusion)
     : Type 0 where
   pub told : Rechecked
-  pub tells : IsRechecked P config.settings text told
+  pub tells : IsRechecked config.model P config.settings text told
   pub status : conclusion.status ≡ finding_status told.finding
   pub text_is : conclusion.text.items ≡ told.text.items
 

@@ -16,6 +16,7 @@ use crate::refusal::Refusal;
 use crate::verify_job::{names_of, verdict_status};
 use cpa_config::Config;
 use cpa_iface::Analysis;
+use cpa_ints::DataModel;
 use cpa_model::Program;
 use cpa_top_bench::{bench_config, bench_line, bench_text, measure};
 use std::alloc::{AllocError, Global};
@@ -65,6 +66,6 @@ pub fn bench<A: Analysis>(
     let names = names_of(alloc, analyses.as_slice())?;
     let config = config_for(alloc, names.as_slice())?;
     let text = bench_text(alloc, functions)?;
-    let program = program_of(alloc, text.as_slice())?;
+    let program = program_of(alloc, text.as_slice(), DataModel::Lp64)?;
     Ok(conclude(alloc, functions, &program, analyses, &config)?)
 }

@@ -4,22 +4,25 @@ ghost use Rattle.std.specs.Prelude.{◌≡◌, ◌<◌, ◌≤◌, ◌^◌, leng
 ghost use Rattle.c_lexer.specs.declared.lexer.TheConstants.{MAX_TEXT};
 ghost use Rattle.cpa_model.specs.Programs.{IsWellFormed};
 ghost use Rattle.c_program.specs.Programs.{IsTheProgram};
-ghost use Rattle.cpa_top_inputs.specs.Inputs.{IsInputs};
+ghost use Rattle.cpa_top_jobs.specs.Inputs.{IsInputs};
 ghost use Rattle.cpa_top_jobs.specs.declared.refusal.Refusal.TheVariants.{OutOfMemory};
-ghost use Rattle.cpa_top_jobs.specs.Ends.{NoInputs};
+ghost use Rattle.cpa_top_jobs.specs.Ends.{IsModelOf, NoInputs};
 ghost use Rattle.cpa_top_jobs.specs.Files.{files_of};
-ghost use Rattle.cpa_top_jobs.specs.Jobs.{limit_of, reading, program_stages, inputs_stages};
+ghost use Rattle.cpa_top_jobs.specs.Jobs.{ModelSource, limit_of, reading, program_stages};
+ghost use Rattle.cpa_top_jobs.specs.Jobs.{inputs_stages};
 ghost use Rattle.cpa_top_jobs.specs.Refusals.{IsRefusedAt, IsHalted, IsTaken, IsTextRefused};
 ghost use Rattle.cpa_top_jobs.specs.Refusals.{IsListRefused};
 
 use crate::Role;
+use crate::input_list::read_inputs;
+use crate::inputs_error::InputsError;
 use crate::place::fault_line;
 use crate::refusal::Refusal;
 use c_lexer::TextError;
 use c_program::program;
+use cpa_ints::DataModel;
 use cpa_model::Program;
 use cpa_outside::{Inputs, ReadFault};
-use cpa_top_inputs::{InputsError, read_inputs};
 use std::alloc::Global;
 
 /// The bytes of a file, of which there may be as many as its role allows.
@@ -46,13 +49,13 @@ pub(crate) fn read_file<I: Inputs>(
     }
 }
 
-/// The program that the bytes stand for.
-pub(crate) fn program_of(alloc: Global, bytes: &[u8]) -> Result<Program, Refusal>
+/// The program that the bytes stand for in the data model.
+pub(crate) fn program_of(alloc: Global, bytes: &[u8], model: DataModel) -> Result<Program, Refusal>
     requires { length bytes.now ≤ MAX_TEXT }
-    ensures program { IfOk result (λ program. IsTheProgram bytes.now program) }
-    ensures refused { IfErr result (λ refusal. IsTextRefused bytes.now refusal) }
+    ensures program { IfOk result (λ program. IsTheProgram model bytes.now program) }
+    ensures refused { IfErr result (λ refusal. IsTextRefused model bytes.now refusal) }
 {
-    match program(alloc, bytes) {
+    match program(alloc, bytes, model) {
         Ok(program) => Ok(program),
         Err(TextError::Fault(fault)) => Err(Refusal::NoProgram {
             line: fault_line(alloc, bytes, fault)?,
@@ -74,23 +77,25 @@ fn numbers_of(alloc: Global, bytes: &[u8]) -> Result<Vec<i128>, Refusal>
     }
 }
 
-/// The program that the file of a name stands for.
+/// The program that the file of a name stands for in the data model.
 pub(crate) fn take_program<I: Inputs>(
     alloc: Global,
     inputs: &mut I,
     name: &str,
+    model: DataModel,
 ) -> Result<Program, Refusal>
     ensures told { I.bytes_of inputs.new ≡ I.bytes_of inputs.old }
     ensures program { IfOk result (λ program.
-        IsTaken (I.bytes_of inputs.old name.now) (λ bytes. IsTheProgram bytes program)) }
+        IsTaken (I.bytes_of inputs.old name.now) (λ bytes. IsTheProgram model bytes program)) }
     ensures well_formed { IfOk result (λ program. IsWellFormed program) }
     ensures reads { OnOk result (I.faults_of inputs.new ≡ I.faults_of inputs.old) }
-    ensures refused { IfErr result (IsHalted
+    ensures refused { (source : ModelSource) → IsModelOf (I.bytes_of inputs.old) source model
+        → IfErr result (IsHalted
         (files_of (I.bytes_of inputs.old) (I.faults_of inputs.old) (I.faults_of inputs.new))
-        (program_stages name.now)) }
+        (program_stages source name.now)) }
 {
     let bytes = read_file(alloc, inputs, Role::Program, name)?;
-    program_of(alloc, bytes.as_slice())
+    program_of(alloc, bytes.as_slice(), model)
 }
 
 /// The inputs that the file of a name lists.

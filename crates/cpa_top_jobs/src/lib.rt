@@ -6,6 +6,8 @@ mod bench_job;
 mod conclusion;
 mod configuring;
 mod files;
+mod input_list;
+mod inputs_error;
 mod place;
 mod recheck_job;
 mod refusal;

@@ -73,6 +73,7 @@ fn rule_word(rule: Rule) -> &'static str
         Rule::N16 => "N16",
         Rule::N17 => "N17",
         Rule::N18 => "N18",
+        Rule::N19 => "N19",
     }
 }
 

@@ -42,9 +42,9 @@ fn conclude<R: Threads + Sync>(
 ) -> Result<Conclusion, Refusal>
     requires { IsWellFormed program.now }
     ensures checked { IfOk result (IsChecked config.now program.now text.now) }
-    ensures refused { IfErr result (IsReportRefused program.now text.now) }
+    ensures refused { IfErr result (IsReportRefused config.now.model program.now text.now) }
 {
-    match check_text(rt, alloc, program, text, &config.settings) {
+    match check_text(rt, alloc, program, text, &config.settings, config.model) {
         Ok(told) => Ok(Conclusion {
             status: finding_status(told.finding),
             text: told.text,
@@ -73,7 +73,7 @@ pub fn recheck<R: Threads + Sync, A: Analysis, I: Inputs>(
 {
     let names = names_of(alloc, analyses.as_slice())?;
     let config = take_config(alloc, inputs, names.as_slice(), file)?;
-    let program = take_program(alloc, inputs, program)?;
+    let program = take_program(alloc, inputs, program, config.model)?;
     let text = read_file(alloc, inputs, Role::Report, report)?;
     let conclusion = conclude(rt, alloc, &program, text.as_slice(), &config)?;
     Ok(conclusion)

@@ -42,9 +42,9 @@ impl From<AllocError> for Refusal {
 
 /// The calls that the program knows, those that are not built among them.
 const USAGE: &str = "usage: cpaverify verify PROGRAM [--config FILE]
-       cpaverify replay PROGRAM INPUTS [--steps N]
+       cpaverify replay PROGRAM INPUTS [--steps N] [--model NAME]
        cpaverify recheck PROGRAM REPORT [--config FILE] [--proof] [--workers N]
-       cpaverify audit PROGRAM PROOF [--workers N]
+       cpaverify audit PROGRAM PROOF [--workers N] [--model NAME]
        cpaverify bench N
 ";
 

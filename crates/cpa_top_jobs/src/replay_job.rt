@@ -17,6 +17,7 @@ use crate::files::{take_inputs, take_program};
 use crate::refusal::Refusal;
 use cfa_build::build;
 use cpa_interp::Outcome;
+use cpa_ints::DataModel;
 use cpa_model::Program;
 use cpa_outside::Inputs;
 use std::alloc::{AllocError, Global};
@@ -81,19 +82,21 @@ fn conclude(
     })
 }
 
-/// Replays the program of the first name on the inputs of the second, in so many steps at most.
+/// Replays the program of the first name, read in the data model, on the inputs of the second, in so
+/// many steps at most.
 pub fn replay<I: Inputs>(
     alloc: Global,
     program: &str,
     list: &str,
     steps: u64,
+    model: DataModel,
     inputs: &mut I,
 ) -> Result<Conclusion, Refusal>
     ensures { (analyses : List Meaning) → IsDone
         (files_of (I.bytes_of inputs.old) (I.faults_of inputs.old) (I.faults_of inputs.new))
-        analyses (replay program.now list.now steps) result }
+        analyses (replay program.now list.now steps model) result }
 {
-    let program = take_program(alloc, inputs, program)?;
+    let program = take_program(alloc, inputs, program, model)?;
     let numbers = take_inputs(alloc, inputs, list)?;
     Ok(conclude(alloc, &program, numbers.as_slice(), steps)?)
 }

@@ -84,6 +84,6 @@ pub fn verify<A: Analysis, I: Inputs>(
 {
     let names = names_of(alloc, analyses.as_slice())?;
     let config = take_config(alloc, inputs, names.as_slice(), file)?;
-    let program = take_program(alloc, inputs, program)?;
+    let program = take_program(alloc, inputs, program, config.model)?;
     Ok(conclude(alloc, &program, analyses, &config)?)
 }

@@ -3,6 +3,7 @@ use Rattle.std.proofs.Common.{◌≡◌, ℕ, List, [], ◌∷◌, map}
 use Rattle.std.specs.List.{AllByRecursion}
 use Rattle.cpa_iface.specs.declared.analysis.Settings.{Settings}
 use Rattle.cpa_iface.specs.Meanings.{AreShaped}
+use Rattle.cpa_ints.specs.declared.data_model.DataModel.{DataModel}
 use Rattle.cpa_model.specs.declared.automaton.Cfa.{Cfa}
 use Rattle.cpa_model.specs.declared.program.Program.{Program}
 use Rattle.cpa_model.specs.Automata.{IsAutomaton, IsAutomatonOf}
@@ -54,21 +55,22 @@ are_shaped cfa (body.NoNew path precisions) e inside = absurd (cc)
 are_shaped cfa (body.Proof entries logs) e inside = absurd (cc)
 
 -- the text is refused as that of a report of the program
-pub refused_for : (P : Program) (cfa : Cfa) (text : List ℕ) (why : ReportError)
-    → IsAutomatonOf P cfa → IsRefused text cfa verdict.True why → IsReportRefused P text why
-refused_for P cfa text (error.Fault rule) of refused =
+pub refused_for : (m : DataModel) (P : Program) (cfa : Cfa) (text : List ℕ) (why : ReportError)
+    → IsAutomatonOf P cfa → IsRefused m text cfa verdict.True why
+    → IsReportRefused m P text why
+refused_for m P cfa text (error.Fault rule) of refused =
     record { automaton = cfa; is = of; breaks = refused }
-refused_for P cfa text error.OutOfMemory of refused = tt
+refused_for m P cfa text error.OutOfMemory of refused = tt
 
 -- what is told of a check of its entries
-pub is_rechecked : (P : Program) (cfa : Cfa) (settings : Settings) (text : List ℕ)
+pub is_rechecked : (m : DataModel) (P : Program) (cfa : Cfa) (settings : Settings) (text : List ℕ)
     (report : Report) (c : Confirmation) (told : Rechecked) → IsAutomatonOf P cfa
-    → IsFound text cfa verdict.True report
+    → IsFound m text cfa verdict.True report
     → ((other : Report) → IsTold text verdict.True other → other ≡ report)
     → IsConfirming cfa (entries_in report.body) (budget_of settings) c
     → told.finding ≡ finding_of c → told.text.items ≡ checked_text c
-    → IsRechecked P settings text told
-is_rechecked P cfa settings text report c told of found one says finding spelled = record {
+    → IsRechecked m P settings text told
+is_rechecked m P cfa settings text report c told of found one says finding spelled = record {
   automaton = cfa;
   is = of;
   report = report;

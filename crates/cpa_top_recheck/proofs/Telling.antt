@@ -5,6 +5,7 @@ use Rattle.std.proofs.Common.{Some, slice_get, refl, subst, inl, inr}
 use Rattle.std.specs.List.{AllByRecursion}
 use Rattle.std.proofs.Common.{codes}
 use Rattle.cpa_iface.specs.declared.analysis.Settings.{Settings}
+use Rattle.cpa_ints.specs.declared.data_model.DataModel.{DataModel}
 use Rattle.cpa_model.specs.declared.automaton.Cfa.{Cfa}
 use Rattle.cpa_model.specs.declared.facts.Elem.{Elem}
 use Rattle.cpa_model.specs.declared.program.Program.{Program}
@@ -42,10 +43,10 @@ CoversAreSafe =
 
 -- ---- what a report lists
 
-lists : (P : Program) (settings : Settings) (text : List ℕ) (told : Rechecked)
-    (is : IsRechecked P settings text told)
-    → Lists P text is.automaton (entries_in is.report.body)
-lists P settings text told is =
+lists : (m : DataModel) (P : Program) (settings : Settings) (text : List ℕ) (told : Rechecked)
+    (is : IsRechecked m P settings text told)
+    → Lists m P text is.automaton (entries_in is.report.body)
+lists m P settings text told is =
     record { edges = is.is; report = is.report; found = is.found; one = is.one; entries_are = refl }
 
 -- what holds of all holds at a place
@@ -55,13 +56,13 @@ holds_at Q [] i x at all = absurd (cc)
 holds_at Q (y ∷ ys) zero x at all = let same : y ≡ x = cc in subst Q same all.0
 holds_at Q (y ∷ ys) (suc i) x at all = holds_at Q ys i x at all.1
 
-module _ (P : Program) (settings : Settings) (text line : List ℕ) (cfa : Cfa)
-    (entries : List (List Elem)) (is : Lists P text cfa entries) where
+module _ (m : DataModel) (P : Program) (settings : Settings) (text line : List ℕ) (cfa : Cfa)
+    (entries : List (List Elem)) (is : Lists m P text cfa entries) where
   -- ---- CONFIRMED
 
   confirmed : CoversAgree → CoversAreSafe → IsWellFormed P → (c : Confirmation)
       → IsConfirming cfa entries (budget_of settings) c → finding_of c ≡ finding.Confirmed
-      → line ≡ checked_text c → IsConfirmation P text line
+      → line ≡ checked_text c → IsConfirmation m P text line
   confirmed agree safe well (checked.Confirmed count) says found spelled =
       let cover = (agree P cfa entries is.edges).0 says.cover in
       record {
@@ -83,7 +84,7 @@ module _ (P : Program) (settings : Settings) (text line : List ℕ) (cfa : Cfa)
 
   refused : CoversAgree → ObligationsAreCovers → BrokenIsUnmet → (c : Confirmation)
       → IsConfirming cfa entries (budget_of settings) c → finding_of c ≡ finding.Refused
-      → line ≡ checked_text c → IsRefutation P text line
+      → line ≡ checked_text c → IsRefutation m P text line
   refused agree covers unmet (checked.Stopped number (why.Refused state next)) says found spelled =
       let stop = says.0 in
       let not_met = unmet cfa entries stop.obligation state next stop.stops in
@@ -111,7 +112,7 @@ module _ (P : Program) (settings : Settings) (text line : List ℕ) (cfa : Cfa)
       absurd (cc)
 
   open_for : (c : Confirmation) → IsConfirming cfa entries (budget_of settings) c
-      → finding_of c ≡ finding.Open → line ≡ checked_text c → IsUndecided P settings text line
+      → finding_of c ≡ finding.Open → line ≡ checked_text c → IsUndecided m P settings text line
   open_for (checked.Stopped number (why.Learnt lines)) says found spelled =
       let stop = says.0 in
       record {
@@ -139,25 +140,26 @@ module _ (P : Program) (settings : Settings) (text line : List ℕ) (cfa : Cfa)
 
 -- ---- what is told
 
-pub confirmed_tells : CoversAgree → CoversAreSafe → (P : Program) (settings : Settings)
-    (text : List ℕ) (told : Rechecked) → IsWellFormed P → IsRechecked P settings text told
-    → told.finding ≡ finding.Confirmed → IsConfirmation P text told.text.items
-confirmed_tells agree safe P settings text told well is found =
-    confirmed P settings text told.text.items is.automaton (entries_in is.report.body)
-    (lists P settings text told is) agree safe well is.checked is.says (sym is.finding ∙ found)
+pub confirmed_tells : CoversAgree → CoversAreSafe → (m : DataModel) (P : Program)
+    (settings : Settings) (text : List ℕ) (told : Rechecked) → IsWellFormed P → IsRechecked m P settings text told
+    → told.finding ≡ finding.Confirmed → IsConfirmation m P text told.text.items
+confirmed_tells agree safe m P settings text told well is found =
+    confirmed m P settings text told.text.items is.automaton (entries_in is.report.body)
+    (lists m P settings text told is) agree safe well is.checked is.says (sym is.finding ∙ found)
     is.text_is
 
-pub refused_tells : CoversAgree → ObligationsAreCovers → BrokenIsUnmet → (P : Program)
-    (settings : Settings) (text : List ℕ) (told : Rechecked) → IsRechecked P settings text told
-    → told.finding ≡ finding.Refused → IsRefutation P text told.text.items
-refused_tells agree covers unmet P settings text told is found =
-    refused P settings text told.text.items is.automaton (entries_in is.report.body)
-    (lists P settings text told is) agree covers unmet is.checked is.says
+pub refused_tells : CoversAgree → ObligationsAreCovers → BrokenIsUnmet → (m : DataModel)
+    (P : Program) (settings : Settings) (text : List ℕ) (told : Rechecked) → IsRechecked m P settings text told
+    → told.finding ≡ finding.Refused → IsRefutation m P text told.text.items
+refused_tells agree covers unmet m P settings text told is found =
+    refused m P settings text told.text.items is.automaton (entries_in is.report.body)
+    (lists m P settings text told is) agree covers unmet is.checked is.says
     (sym is.finding ∙ found) is.text_is
 
-pub open_tells : (P : Program) (settings : Settings) (text : List ℕ) (told : Rechecked)
-    → IsRechecked P settings text told → told.finding ≡ finding.Open
-    → IsUndecided P settings text told.text.items
-open_tells P settings text told is found =
-    open_for P settings text told.text.items is.automaton (entries_in is.report.body)
-    (lists P settings text told is) is.checked is.says (sym is.finding ∙ found) is.text_is
+pub open_tells : (m : DataModel) (P : Program) (settings : Settings) (text : List ℕ)
+    (told : Rechecked)
+    → IsRechecked m P settings text told → told.finding ≡ finding.Open
+    → IsUndecided m P settings text told.text.items
+open_tells m P settings text told is found =
+    open_for m P settings text told.text.items is.automaton (entries_in is.report.body)
+    (lists m P settings text told is) is.checked is.says (sym is.finding ∙ found) is.text_is

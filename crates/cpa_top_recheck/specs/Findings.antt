@@ -6,6 +6,7 @@ use Rattle.std.specs.List.{AllByRecursion}
 use Rattle.cpa_blast.specs.Formulas.{formula}
 use Rattle.cpa_cnf.specs.declared.formula.Line.{Line}
 use Rattle.cpa_iface.specs.declared.analysis.Settings.{Settings}
+use Rattle.cpa_ints.specs.declared.data_model.DataModel.{DataModel}
 use Rattle.cpa_model.specs.declared.automaton.Cfa.{Cfa}
 use Rattle.cpa_model.specs.declared.facts.Elem.{Elem}
 use Rattle.cpa_model.specs.declared.program.Program.{Program}
@@ -25,22 +26,22 @@ use Rattle.cpa_report_print.specs.Reports.{break_text}
 use Rattle.cpa_sat.specs.Outcomes.{IsSpent}
 use Rattle.cpa_top_recheck.specs.Lines.{numbered_line}
 
--- The text is that of one TRUE report of the program, whose entries are these, as the automaton
+-- The text is that of one TRUE report of the program in the data model, whose entries are these, as the automaton
 -- of the program has them.
-pub record Lists (P : Program) (text : List ℕ) (automaton : Cfa) (entries : List (List Elem))
-    : Type 0 where
+pub record Lists (m : DataModel) (P : Program) (text : List ℕ) (automaton : Cfa)
+    (entries : List (List Elem)) : Type 0 where
   pub edges : IsAutomatonOf P automaton
   pub report : Report
-  pub found : IsFound text automaton verdict.True report
+  pub found : IsFound m text automaton verdict.True report
   pub one : (other : Report) → IsTold text verdict.True other → other ≡ report
   pub entries_are : entries ≡ entries_in report.body
 
 -- CONFIRMED: the entries of the text are a cover of the program, so that each reachable state lies
 -- in one of them and no execution calls reach_error. The line says how many obligations they have.
-pub record IsConfirmation (P : Program) (text line : List ℕ) : Type 0 where
+pub record IsConfirmation (m : DataModel) (P : Program) (text line : List ℕ) : Type 0 where
   pub automaton : Cfa
   pub entries : List (List Elem)
-  pub lists : Lists P text automaton entries
+  pub lists : Lists m P text automaton entries
   pub cover : IsCover P entries
   pub safe : IsSafe P entries
   pub line_is : line
@@ -56,10 +57,10 @@ pub record IsLeast (automaton : Cfa) (entries : List (List Elem)) (number : ℕ)
 -- REFUSED: the state of the line, with its successor for an edge, breaks the least obligation of
 -- the entries that is not met. So the entries are no cover, and no TRUE answer on the program has
 -- them.
-pub record IsRefutation (P : Program) (text line : List ℕ) : Type 0 where
+pub record IsRefutation (m : DataModel) (P : Program) (text line : List ℕ) : Type 0 where
   pub automaton : Cfa
   pub entries : List (List Elem)
-  pub lists : Lists P text automaton entries
+  pub lists : Lists m P text automaton entries
   pub number : ℕ
   pub obligation : Obligation
   pub least : IsLeast automaton entries number obligation
@@ -83,10 +84,11 @@ IsSpentFor settings automaton entries number obligation line =
 
 -- UNKNOWN: what may be spent did not settle the obligation of this number, and all lesser ones are
 -- met.
-pub record IsUndecided (P : Program) (settings : Settings) (text line : List ℕ) : Type 0 where
+pub record IsUndecided (m : DataModel) (P : Program) (settings : Settings) (text line : List ℕ)
+    : Type 0 where
   pub automaton : Cfa
   pub entries : List (List Elem)
-  pub lists : Lists P text automaton entries
+  pub lists : Lists m P text automaton entries
   pub number : ℕ
   pub obligation : Obligation
   pub least : IsLeast automaton entries number obligation

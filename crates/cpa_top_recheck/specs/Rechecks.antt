@@ -2,6 +2,7 @@
 -- project's own).
 use Rattle.std.specs.Prelude.{◌≡◌, ℕ, List, ⊤}
 use Rattle.cpa_iface.specs.declared.analysis.Settings.{Settings}
+use Rattle.cpa_ints.specs.declared.data_model.DataModel.{DataModel}
 use Rattle.cpa_model.specs.declared.automaton.Cfa.{Cfa}
 use Rattle.cpa_model.specs.declared.program.Program.{Program}
 use Rattle.cpa_model.specs.Automata.{IsAutomatonOf}
@@ -24,23 +25,23 @@ use Rattle.cpa_top_recheck.specs.Lines.{checked_text}
 
 -- ---- the text
 
--- the text is that of a TRUE report which speaks of the program
-pub record HasReport (P : Program) (text : List ℕ) : Type 0 where
+-- the text is that of a TRUE report which speaks of the program as it was read in the data model
+pub record HasReport (m : DataModel) (P : Program) (text : List ℕ) : Type 0 where
   pub automaton : Cfa
   pub is : IsAutomatonOf P automaton
   pub report : Report
-  pub found : IsFound text automaton verdict.True report
+  pub found : IsFound m text automaton verdict.True report
 
 -- the text breaks the rule as that of a TRUE report of the program, and none that is tried before
-pub record BreaksFor (P : Program) (text : List ℕ) (rule : ReportRule) : Type 0 where
+pub record BreaksFor (m : DataModel) (P : Program) (text : List ℕ) (rule : ReportRule) : Type 0 where
   pub automaton : Cfa
   pub is : IsAutomatonOf P automaton
-  pub breaks : Breaks text automaton verdict.True rule
+  pub breaks : Breaks m text automaton verdict.True rule
 
 -- want of memory says nothing
-abbrev pub IsReportRefused : Program → List ℕ → ReportError → Type 0
-IsReportRefused P text (error.Fault rule) = BreaksFor P text rule
-IsReportRefused P text error.OutOfMemory = ⊤
+abbrev pub IsReportRefused : DataModel → Program → List ℕ → ReportError → Type 0
+IsReportRefused m P text (error.Fault rule) = BreaksFor m P text rule
+IsReportRefused m P text error.OutOfMemory = ⊤
 
 -- ---- the entries
 
@@ -62,12 +63,12 @@ budget_of settings =
 
 -- The text is that of one TRUE report, which speaks of the program, and what is told is what comes
 -- of a check of its entries.
-pub record IsRechecked (P : Program) (settings : Settings) (text : List ℕ) (told : Rechecked)
-    : Type 0 where
+pub record IsRechecked (m : DataModel) (P : Program) (settings : Settings) (text : List ℕ)
+    (told : Rechecked) : Type 0 where
   pub automaton : Cfa
   pub is : IsAutomatonOf P automaton
   pub report : Report
-  pub found : IsFound text automaton verdict.True report
+  pub found : IsFound m text automaton verdict.True report
   pub one : (other : Report) → IsTold text verdict.True other → other ≡ report
   pub checked : Confirmation
   pub says : IsConfirming automaton (entries_in report.body) (budget_of settings) checked

@@ -16,9 +16,10 @@ use crate::lines::checked_text;
 use cfa_build::build;
 use cpa_audit::NoGate;
 use cpa_iface::Settings;
+use cpa_ints::DataModel;
 use cpa_model::{Cfa, Program};
 use cpa_recheck::{Budget, Confirmation, confirm};
-use cpa_report::{Report, ReportError, Verdict, read};
+use cpa_report::{Report, ReportError, Verdict, read_in};
 use std::alloc::{AllocError, Global};
 use std::thread::Threads;
 
@@ -56,8 +57,8 @@ fn told(alloc: Global, checked: &Confirmation) -> Result<Rechecked, AllocError>
     })
 }
 
-/// Reads the text as that of a TRUE report of the program, and checks its entries, in one thread.
-/// No analysis is asked. A program has one automaton, so a text that breaks a rule is that of no
+/// Reads the text as that of a TRUE report of the program in the data model, and checks its entries,
+/// in one thread. No analysis is asked. A program has one automaton, so a text that breaks a rule is that of no
 /// TRUE report of the program.
 #[tactic(auto, using(crate::proofs::Reading::is_automaton))]
 pub fn check_text<R: Threads + Sync>(
@@ -66,13 +67,14 @@ pub fn check_text<R: Threads + Sync>(
     program: &Program,
     text: &[u8],
     settings: &Settings,
+    model: DataModel,
 ) -> Result<Rechecked, ReportError>
     requires { IsWellFormed program.now }
-    ensures told { IfOk result (IsRechecked program.now settings.now text.now) }
-    ensures refused { IfErr result (IsReportRefused program.now text.now) }
+    ensures told { IfOk result (IsRechecked model program.now settings.now text.now) }
+    ensures refused { IfErr result (IsReportRefused model program.now text.now) }
 {
     let cfa = build(alloc, program)?;
-    let report = read(alloc, text, &cfa, Verdict::True)?;
+    let report = read_in(alloc, text, &cfa, Verdict::True, model)?;
     let checked = check_report(rt, alloc, &cfa, &report, settings)?;
     Ok(told(alloc, &checked)?)
 }

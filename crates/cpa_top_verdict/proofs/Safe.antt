@@ -52,14 +52,20 @@ SafeBy P cfa = (rows : List (List Elem)) → CoversAutomaton cfa rows → IsCove
 
 pub safe_report : (P : Program) (cfa : Cfa) (cs : List Component) (config : Config)
     (entries : List Entry) → SafeBy P cfa → IsAutomatonOf P cfa → IsProof cfa cs config entries
-    → IsSafeReport (length cs) P (report_of P cfa (True entries))
+    → IsSafeReport config.model (length cs) P (report_of config.model P cfa (True entries))
 safe_report P cfa cs config entries shown of proves =
     let rows = sym (same_rows entries) in
     let shows = shown (map (λ e. e.elems) entries) proves.covers in
     record {
       automaton = cfa;
       edges = of;
-      counts = record { text_is = refl; points_are = refl; cells_are = refl; edges_are = refl };
+      counts = record {
+        text_is = refl;
+        points_are = refl;
+        cells_are = refl;
+        edges_are = refl;
+        model_is = refl;
+      };
       entries = listed entries;
       body_is = refl;
       ascending = subst AreAscending (sym (same_numbers entries)) proves.ascend;

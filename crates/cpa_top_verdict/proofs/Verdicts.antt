@@ -29,7 +29,7 @@ is_automaton P cfa well of = record { program = P; well_formed = well; automaton
 pub is_told : {E : Type 0} (P : Program) (cs : List Component) (config : Config) (cfa : Cfa)
     (a : Answer) (r : Result Told E) → IsAutomatonOf P cfa → IsAnswer cfa cs config a
     → IsDecided cfa cs config a → IfOk r (λ told. told.verdict ≡ verdict_of (body_of a))
-    → IfOk r (λ told. told.text.items ≡ report_text (report_of P cfa a))
+    → IfOk r (λ told. told.text.items ≡ report_text (report_of config.model P cfa a))
     → IfOk r (IsTold P cs config)
 is_told P cs config cfa a (Ok told) of says decided told_verdict told_text = record {
   automaton = cfa;
@@ -45,11 +45,11 @@ is_told P cs config cfa a (Err e) of says decided told_verdict told_text = tt
 -- where the verdict is TRUE, the text is a report of entries that show it
 true_text : (P : Program) (cs : List Component) (config : Config) (cfa : Cfa) (a : Answer)
     (text : List ℕ) → SafeBy P cfa → IsAutomatonOf P cfa → IsAnswer cfa cs config a
-    → text ≡ report_text (report_of P cfa a) → verdict_of (body_of a) ≡ verdict.True
-    → IsTextOf (IsSafeReport (length cs) P) text
+    → text ≡ report_text (report_of config.model P cfa a) → verdict_of (body_of a) ≡ verdict.True
+    → IsTextOf (IsSafeReport config.model (length cs) P) text
 true_text P cs config cfa (answer.True entries) text shown of says spelled is =
     let shows = safe_report P cfa cs config entries shown of says in
-    (report_of P cfa (answer.True entries), spelled, shows)
+    (report_of config.model P cfa (answer.True entries), spelled, shows)
 true_text P cs config cfa (answer.False inputs steps) text shown of says spelled is = absurd (cc)
 true_text P cs config cfa (answer.Unknown (why.Turns journal)) text shown of says spelled is =
     absurd (cc)
@@ -64,7 +64,7 @@ true_text P cs config cfa (answer.Unknown (why.NoNew path newest)) text shown of
 
 pub told_true : (P : Program) (cs : List Component) (config : Config) (told : Told)
     (is : IsTold P cs config told) → SafeBy P is.automaton → told.verdict ≡ verdict.True
-    → IsTextOf (IsSafeReport (length cs) P) told.text.items
+    → IsTextOf (IsSafeReport config.model (length cs) P) told.text.items
 told_true P cs config told is shown same =
     true_text P cs config is.automaton is.answer told.text.items shown is.is is.says is.text
     (sym is.verdict ∙ same)
@@ -72,16 +72,22 @@ told_true P cs config told is shown same =
 -- where it is FALSE, the text is a report of inputs with which the program calls the error
 error_text : (P : Program) (cs : List Component) (config : Config) (cfa : Cfa) (a : Answer)
     (text : List ℕ) → IsWellFormed P → IsAutomatonOf P cfa → IsAnswer cfa cs config a
-    → text ≡ report_text (report_of P cfa a) → verdict_of (body_of a) ≡ verdict.False
-    → IsTextOf (IsErrorReport P) text
+    → text ≡ report_text (report_of config.model P cfa a) → verdict_of (body_of a) ≡ verdict.False
+    → IsTextOf (IsErrorReport config.model P) text
 error_text P cs config cfa (answer.True entries) text well of says spelled is = absurd (cc)
 error_text P cs config cfa (answer.False inputs steps) text well of says spelled is = (
-  report_of P cfa (answer.False inputs steps),
+  report_of config.model P cfa (answer.False inputs steps),
   spelled,
   record {
     automaton = cfa;
     edges = of;
-    counts = record { text_is = refl; points_are = refl; cells_are = refl; edges_are = refl };
+    counts = record {
+      text_is = refl;
+      points_are = refl;
+      cells_are = refl;
+      edges_are = refl;
+      model_is = refl;
+    };
     inputs = inputs;
     steps = steps;
     body_is = refl;
@@ -101,7 +107,7 @@ error_text P cs config cfa (answer.Unknown (why.NoNew path newest)) text well of
 
 pub told_false : (P : Program) (cs : List Component) (config : Config) (told : Told)
     → IsWellFormed P → IsTold P cs config told → told.verdict ≡ verdict.False
-    → IsTextOf (IsErrorReport P) told.text.items
+    → IsTextOf (IsErrorReport config.model P) told.text.items
 told_false P cs config told well is same =
     error_text P cs config is.automaton is.answer told.text.items well is.is is.says is.text
     (sym is.verdict ∙ same)

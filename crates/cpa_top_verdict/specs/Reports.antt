@@ -2,6 +2,7 @@
 -- (this project's own).
 use Rattle.std.specs.Prelude.{◌≡◌, ℕ, ℤ, List, length, map}
 use Rattle.std.specs.List.{AllByRecursion}
+use Rattle.cpa_ints.specs.declared.data_model.DataModel.{DataModel}
 use Rattle.cpa_model.specs.declared.automaton.Cfa.{Cfa}
 use Rattle.cpa_model.specs.declared.program.Program.{Program}
 use Rattle.cpa_model.specs.Ascending.{AreAscending}
@@ -14,20 +15,21 @@ use Rattle.cpa_report_print.specs.declared.report.Listed.{Listed}
 use Rattle.cpa_report_print.specs.declared.report.Report.{Report}
 use Rattle.cpa_report_print.specs.Reports.{report_text}
 
--- The report has the counts of the program and of its automaton.
-pub record IsReportOn (P : Program) (cfa : Cfa) (report : Report) : Type 0 where
+-- The report has the counts of the program and of its automaton, and tells the data model.
+pub record IsReportOn (m : DataModel) (P : Program) (cfa : Cfa) (report : Report) : Type 0 where
   pub text_is : report.text ≡ P.text_len
   pub points_are : report.points ≡ cfa.points
   pub cells_are : report.cells ≡ length P.cells
   pub edges_are : report.edges ≡ length cfa.edges
+  pub model_is : report.model ≡ m
 
 -- The report is that of a program that is safe: its verdict is TRUE, and its entries cover the
 -- program, so that each reachable state lies in one of them and no execution calls reach_error.
 -- Their numbers ascend, and each has so many elements, which are shaped.
-pub record IsSafeReport (count : ℕ) (P : Program) (report : Report) : Type 0 where
+pub record IsSafeReport (m : DataModel) (count : ℕ) (P : Program) (report : Report) : Type 0 where
   pub automaton : Cfa
   pub edges : IsAutomatonOf P automaton
-  pub counts : IsReportOn P automaton report
+  pub counts : IsReportOn m P automaton report
   pub entries : List Listed
   pub body_is : report.body ≡ body.True entries
   pub ascending : AreAscending (map (λ entry. entry.number) entries)
@@ -38,10 +40,10 @@ pub record IsSafeReport (count : ℕ) (P : Program) (report : Report) : Type 0 w
 
 -- The report is that of a program that calls reach_error: its verdict is FALSE, and the execution
 -- that takes exactly its inputs calls reach_error after so many steps.
-pub record IsErrorReport (P : Program) (report : Report) : Type 0 where
+pub record IsErrorReport (m : DataModel) (P : Program) (report : Report) : Type 0 where
   pub automaton : Cfa
   pub edges : IsAutomatonOf P automaton
-  pub counts : IsReportOn P automaton report
+  pub counts : IsReportOn m P automaton report
   pub inputs : List ℤ
   pub steps : ℕ
   pub body_is : report.body ≡ body.False inputs steps

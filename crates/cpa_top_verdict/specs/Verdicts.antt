@@ -1,6 +1,7 @@
 -- What is told of a program: the verdict of an answer, and the text of the report that says it
 -- (this project's own).
 use Rattle.std.specs.Prelude.{◌≡◌, List, length, map}
+use Rattle.cpa_ints.specs.declared.data_model.DataModel.{DataModel}
 use Rattle.cpa_model.specs.declared.automaton.Cfa.{Cfa}
 use Rattle.cpa_model.specs.declared.program.Program.{Program}
 use Rattle.cpa_model.specs.Automata.{IsAutomatonOf}
@@ -41,13 +42,14 @@ body_of (answer.True entries) = body.True (listed entries)
 body_of (answer.False inputs steps) = body.False inputs steps
 body_of (answer.Unknown why) = body_of_why why
 
--- the report of an answer on a program with this automaton
-abbrev pub report_of : Program → Cfa → Answer → Report
-report_of P cfa a = record {
+-- the report of an answer on a program with this automaton, read in this data model
+abbrev pub report_of : DataModel → Program → Cfa → Answer → Report
+report_of m P cfa a = record {
   text = P.text_len;
   points = cfa.points;
   cells = length P.cells;
   edges = length cfa.edges;
+  model = m;
   body = body_of a;
 }
 
@@ -61,4 +63,4 @@ pub record IsTold (P : Program) (cs : List Component) (config : Config) (told : 
     pub says : IsAnswer automaton cs config answer
     pub decided : IsDecided automaton cs config answer
     pub verdict : told.verdict ≡ verdict_of (body_of answer)
-    pub text : told.text.items ≡ report_text (report_of P automaton answer)
+    pub text : told.text.items ≡ report_text (report_of config.model P automaton answer)

@@ -26,10 +26,11 @@ pub fn true_is_safe()
     ensures answer { (P : Program) (cfa : Cfa) (cs : List Component) (config : Config)
         (entries : List Entry) → IsWellFormed P → IsAutomatonOf P cfa
         → IsAnswer cfa cs config (True entries)
-        → IsSafeReport (length cs) P (report_of P cfa (True entries)) }
+        → IsSafeReport config.model (length cs) P
+        (report_of config.model P cfa (True entries)) }
     ensures told { (P : Program) (cs : List Component) (config : Config) (told : Told)
         → IsWellFormed P → IsTold P cs config told → told.verdict ≡ verdict.True
-        → IsTextOf (IsSafeReport (length cs) P) told.text.items }
+        → IsTextOf (IsSafeReport config.model (length cs) P) told.text.items }
 {
     covers_are_safe();
 }
@@ -42,7 +43,7 @@ pub fn false_calls_the_error()
         → IsAnswer cfa cs config (False inputs steps) → ReplaysTo P inputs steps }
     ensures told { (P : Program) (cs : List Component) (config : Config) (told : Told)
         → IsWellFormed P → IsTold P cs config told → told.verdict ≡ verdict.False
-        → IsTextOf (IsErrorReport P) told.text.items }
+        → IsTextOf (IsErrorReport config.model P) told.text.items }
 {}
 
 /// A law: the picks of a configuration name handed analyses, and each of them makes a component.

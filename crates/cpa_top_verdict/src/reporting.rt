@@ -7,6 +7,7 @@ ghost use Rattle.cpa_top_verdict.specs.Verdicts.{body_of, report_of};
 
 use crate::bodies::body_of;
 use cpa_engine::Answer;
+use cpa_ints::DataModel;
 use cpa_model::{Cfa, Program, automata_are_small};
 use cpa_report_print::{Report, Verdict, print};
 use std::alloc::{AllocError, Global};
@@ -24,10 +25,11 @@ fn report_of(
     program: &Program,
     cfa: &Cfa,
     answer: Answer,
+    model: DataModel,
 ) -> Result<Report, AllocError>
     requires well_formed { IsWellFormed program.now }
     requires automaton { IsAutomatonOf program.now cfa.now }
-    ensures { IfOk result (λ report. report ≡ report_of program.now cfa.now answer) }
+    ensures { IfOk result (λ report. report ≡ report_of model program.now cfa.now answer) }
 {
     automata_are_small();
     let body = body_of(alloc, answer)?;
@@ -36,6 +38,7 @@ fn report_of(
         points: cfa.points,
         cells: program.cells.len() as u32,
         edges: cfa.edges.len() as u32,
+        model,
         body,
     })
 }
@@ -57,13 +60,14 @@ pub(crate) fn told_of(
     program: &Program,
     cfa: &Cfa,
     answer: Answer,
+    model: DataModel,
 ) -> Result<Told, AllocError>
     requires well_formed { IsWellFormed program.now }
     requires automaton { IsAutomatonOf program.now cfa.now }
     ensures verdict { IfOk result (λ told. told.verdict ≡ verdict_of (body_of answer)) }
     ensures text { IfOk result (λ told.
-        told.text.items ≡ report_text (report_of program.now cfa.now answer)) }
+        told.text.items ≡ report_text (report_of model program.now cfa.now answer)) }
 {
-    let report = report_of(alloc, program, cfa, answer)?;
+    let report = report_of(alloc, program, cfa, answer, model)?;
     printed(alloc, &report)
 }

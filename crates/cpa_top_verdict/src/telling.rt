@@ -28,5 +28,5 @@ pub fn tell<A: Analysis>(
 {
     let cfa = build(alloc, program)?;
     let answer = answer_on(alloc, &cfa, analyses, config)?;
-    told_of(alloc, program, &cfa, answer)
+    told_of(alloc, program, &cfa, answer, config.model)
 }

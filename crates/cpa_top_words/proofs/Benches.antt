@@ -2,6 +2,7 @@
 -- that it is small (`benches_are_small`).
 use Rattle.std.proofs.Common.{◌≡◌, refl, ap, ℕ, ◌≤◌, List, [], ◌∷◌}
 use Rattle.std.proofs.Common.{Option, Some, None, Bool, true, false, codes, arith, cond}
+use Rattle.std.proofs.Common.{option_map}
 use Rattle.std.specs.Prelude.{decimal, drop, if◌then◌else◌}
 use Rattle.std.proofs.lemmas.Bool.{ne_eqb}
 use Rattle.std.proofs.lemmas.Fmt.{decimal_is_IsNumeral}
@@ -12,6 +13,7 @@ use Rattle.clap.specs.Words.{Row, Text, one_of, subcommand_of}
 use Rattle.clap.specs.ValueTests.{accepts}
 use Rattle.clap.specs.declared.builder.value_parser.ValueParser.TheVariants as vp
 use Rattle.clap.proofs.ValueTestLemmas.{accepts-Accepts, Accepts-accepts}
+use Rattle.cpa_ints.specs.declared.data_model.DataModel.{DataModel}
 use Rattle.cpa_top_words_command.specs.Commands.{cpaverify}
 use Rattle.cpa_top_words.specs.Jobs.{verify, replay, recheck, bench, asked_by, count_in}
 use Rattle.cpa_top_words.specs.Jobs.{job_of}
@@ -60,26 +62,32 @@ found_is_small : (text : Option (List ℕ)) → option_map_or count_in text 0 �
 found_is_small None = omega arith
 found_is_small (Some text) = count_is_small text
 
+no_replay : (program inputs : List ℕ) (steps n : ℕ) (o : Option DataModel)
+    → option_map (replay program inputs steps) o ≡ Some (bench n) → ⊥
+no_replay program inputs steps n None e = absurd (cc)
+no_replay program inputs steps n (Some model) e = absurd (cc)
+
 -- the job of a subcommand is a measurement of so many functions
 measures : (a b c d : Bool) (verified replayed rechecked inputs report : List ℕ)
-    (config its : Option (List ℕ)) (steps m n : ℕ) → m ≤ 100
+    (config its : Option (List ℕ)) (model : Option DataModel) (steps m n : ℕ) → m ≤ 100
     → (if a then Some (verify verified config)
-    else (if b then Some (replay replayed inputs steps)
+    else (if b then option_map (replay replayed inputs steps) model
     else (if c then Some (recheck rechecked report its)
     else (if d then Some (bench m) else None)))) ≡ Some (bench n)
     → n ≤ 100
-measures true b c d v r s i o config its steps m n few e = absurd (cc)
-measures false true c d v r s i o config its steps m n few e = absurd (cc)
-measures false false true d v r s i o config its steps m n few e = absurd (cc)
-measures false false false true v r s i o config its steps m n few e =
+measures true b c d v r s i o config its model steps m n few e = absurd (cc)
+measures false true c d v r s i o config its model steps m n few e =
+    absurd (no_replay r i steps n model e)
+measures false false true d v r s i o config its model steps m n few e = absurd (cc)
+measures false false false true v r s i o config its model steps m n few e =
     let same : m ≡ n = cc in omega (arith, few, same)
-measures false false false false v r s i o config its steps m n few e = absurd (cc)
+measures false false false false v r s i o config its model steps m n few e = absurd (cc)
 
 small : (found : Option (Text × List Row)) (n : ℕ)
     → option_map_or (λ p. job_of p.0 p.1) found None ≡ Some (bench n) → n ≤ 100
 small None n e = absurd (cc)
 small (Some p) n e =
-    measures _ _ _ _ _ _ _ _ _ _ _ _ _ n (found_is_small (one_of (codes "N") p.1)) e
+    measures _ _ _ _ _ _ _ _ _ _ _ _ _ _ n (found_is_small (one_of (codes "N") p.1)) e
 
 pub benches_are_small : (words : List (List ℕ)) (n : ℕ) → asked_by words ≡ Some (bench n)
     → n ≤ 100

@@ -1,7 +1,7 @@
 -- What the plain words of each subcommand ask for (`customary`): what clap promises computes, once
 -- it is told that a name is no option (`IsName`).
 use Rattle.std.proofs.Common.{◌≡◌, ◌∙◌, ap, ℕ, List, [], ◌∷◌, Some, None, Bool, true, false, refl}
-use Rattle.std.proofs.Common.{codes, arith}
+use Rattle.std.proofs.Common.{codes, arith, Option, option_map}
 use Rattle.std.specs.Prelude.{◌==◌, ◌&&◌, if◌then◌else◌, decimal}
 use Rattle.std.proofs.lemmas.Fmt.{decimal_is_IsNumeral}
 use Rattle.std.specs.Str.{bytes_eq}
@@ -10,8 +10,10 @@ use Rattle.clap.specs.Lexer.{long_of, short_of}
 use Rattle.clap.specs.ValueTests.{accepts}
 use Rattle.clap.specs.declared.builder.value_parser.ValueParser.TheVariants as vp
 use Rattle.clap.proofs.OnLiterals.{clap_on_literals}
+use Rattle.cpa_ints.specs.declared.data_model.DataModel.TheVariants.{Lp64}
+use Rattle.cpa_config.specs.Values.{models, named as model_named}
 use Rattle.cpa_top_words_command.specs.Commands.{cpaverify}
-use Rattle.cpa_top_words.specs.Jobs.{asked_by, count_in, verify, replay, recheck, bench}
+use Rattle.cpa_top_words.specs.Jobs.{Job, asked_by, count_in, verify, replay, recheck, bench}
 use Rattle.cpa_top_words.specs.Laws.{AskAsIsCustomary, IsPlain}
 use Rattle.cpa_top_words.proofs.Benches.{numeral_is_plain, small_is_taken, small_is_counted}
 
@@ -59,9 +61,25 @@ unfolding clap_on_literals
 replay_taken program inputs p i = rw (p.ends, p.long, p.short, i.ends, i.long, i.short) refl
 
 replay_asked : (program inputs : List ℕ) → IsName program → IsName inputs
-    → asked_by (codes "replay" ∷ program ∷ inputs ∷ []) ≡ Some (replay program inputs 1000000)
+    → asked_by (codes "replay" ∷ program ∷ inputs ∷ []) ≡ Some (replay program inputs 1000000 Lp64)
 unfolding clap_on_literals
 replay_asked program inputs p i = rw (p.ends, p.long, p.short, i.ends, i.long, i.short) refl
+
+replay_taken_in : (program inputs name : List ℕ) → IsName program → IsName inputs → IsName name
+    → fault_of cpaverify (codes "replay" ∷ program ∷ inputs ∷ codes "--model" ∷ name ∷ []) ≡ []
+unfolding clap_on_literals
+replay_taken_in program inputs name p i n =
+    rw (p.ends, p.long, p.short, i.ends, i.long, i.short, n.ends, n.long, n.short) refl
+
+replay_asked_in : (program inputs name : List ℕ) → IsName program → IsName inputs → IsName name
+    → asked_by (codes "replay" ∷ program ∷ inputs ∷ codes "--model" ∷ name ∷ [])
+    ≡ option_map (replay program inputs 1000000) (model_named models name)
+unfolding clap_on_literals
+replay_asked_in program inputs name p i n =
+    rw (p.ends, p.long, p.short, i.ends, i.long, i.short, n.ends, n.long, n.short) refl
+
+no_job : (o : Option Job) (job : Job) → o ≡ None → o ≡ Some job → ⊥
+no_job o job none some = absurd (cc)
 
 recheck_taken : (program report : List ℕ) → IsName program → IsName report
     → fault_of cpaverify (codes "recheck" ∷ program ∷ report ∷ []) ≡ []
@@ -113,6 +131,15 @@ customary = record {
     taken = replay_taken program inputs (named program e) (named inputs f);
     asked = replay_asked program inputs (named program e) (named inputs f);
   };
+  replays_in = λ program inputs name model e f h is. record {
+    taken = replay_taken_in program inputs name (named program e) (named inputs f) (named name h);
+    asked = replay_asked_in program inputs name (named program e) (named inputs f) (named name h)
+        ∙ ap (option_map (replay program inputs 1000000)) is;
+  };
+  replays_in_none = λ program inputs name e f h none job asks.
+      no_job _ job
+      (replay_asked_in program inputs name (named program e) (named inputs f) (named name h)
+      ∙ ap (option_map (replay program inputs 1000000)) none) asks.asked;
   rechecks = λ program report e f. record {
     taken = recheck_taken program report (named program e) (named report f);
     asked = recheck_asked program report (named program e) (named report f);

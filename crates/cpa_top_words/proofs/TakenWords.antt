@@ -1,5 +1,6 @@
--- Words that clap takes ask for a job (`taken_words_ask`), since clap takes none without a
--- subcommand (`named`), and each subcommand has a job (`job_named`).
+-- Words that clap takes ask for a job (`taken_words_ask`), where the data model that they name is
+-- one, since clap takes none without a subcommand (`named`), and each subcommand has a job
+-- (`job_named`).
 use Rattle.std.proofs.Common.{◌≡◌, ◌⊎◌, inl, inr, List, [], ◌∷◌, Option, Some, None, Bool, true}
 use Rattle.std.proofs.Common.{false, refl, sym, ap, codes, option_map}
 use Rattle.std.specs.Prelude.{◌&&◌, not, is_some, if◌then◌else◌}
@@ -12,7 +13,7 @@ use Rattle.clap.specs.Words.{Row, Shape, Text, fault_of, subcommand_of, built}
 use Rattle.clap.specs.Simple.{argument_words, entered, names_of, rows_at}
 use Rattle.clap.specs.Walk.{finished, nothing_held, settled, stop_after, walk, walk_from}
 use Rattle.cpa_top_words_command.specs.Commands.{cpaverify}
-use Rattle.cpa_top_words.specs.Jobs.{Job, asked_by, job_of}
+use Rattle.cpa_top_words.specs.Jobs.{Job, asked_by, job_of, model_of}
 use Rattle.cpa_top_words.specs.Laws.{AskForAJobWhereTaken}
 
 -- ---- a subcommand is named
@@ -70,11 +71,17 @@ picked false false false true x y z u words p e =
     inr (inr (inr (ap (λ (q : Text × List Row). q.0) (sym same))))
 picked false false false false x y z u words p e = absurd (cc)
 
-job_named : (name : Text) (rows : List Row) → IsCommand name → is_some (job_of name rows) ≡ true
-job_named name rows (inl e) = rw e refl
-job_named name rows (inr (inl e)) = rw e refl
-job_named name rows (inr (inr (inl e))) = rw e refl
-job_named name rows (inr (inr (inr e))) = rw e refl
+mapped : {A B : Type 0} (f : A → B) (o : Option A) → is_some o ≡ true
+    → is_some (option_map f o) ≡ true
+mapped f None some = absurd (cc)
+mapped f (Some a) some = refl
+
+job_named : (name : Text) (rows : List Row) → is_some (model_of rows) ≡ true → IsCommand name
+    → is_some (job_of name rows) ≡ true
+job_named name rows some (inl e) = rw e refl
+job_named name rows some (inr (inl e)) = rw e (mapped _ (model_of rows) some)
+job_named name rows some (inr (inr (inl e))) = rw e refl
+job_named name rows some (inr (inr (inr e))) = rw e refl
 
 stopped : (stop : Option (Text × List Text)) (p : Text × List Row)
     → entered (built cpaverify) stop ≡ Some p → IsCommand p.0
@@ -82,18 +89,19 @@ stopped None p e = absurd (cc)
 stopped (Some q) p e = picked _ _ _ _ _ _ _ _ q.1 p e
 
 told : (o : Option (Text × List Row)) → is_some o ≡ true
+    → option_map_or (λ p. is_some (model_of p.1)) o true ≡ true
     → ((p : Text × List Row) → o ≡ Some p → IsCommand p.0)
     → is_some (option_map_or (λ p. job_of p.0 p.1) o None) ≡ true
-told None some f = absurd (cc)
-told (Some p) some f = job_named p.0 p.1 (f p refl)
+told None some model f = absurd (cc)
+told (Some p) some model f = job_named p.0 p.1 model (f p refl)
 
 some_of : (o : Option Job) → is_some o ≡ true → (job : Job) × (o ≡ Some job)
 some_of (Some job) e = (job, refl)
 some_of None e = absurd (cc)
 
 pub taken_words_ask : (w : List Text) → AskForAJobWhereTaken w
-taken_words_ask w e =
-    let found = told (subcommand_of cpaverify w) (named w e)
+taken_words_ask w e model =
+    let found = told (subcommand_of cpaverify w) (named w e) model
     (stopped (stop_after (built cpaverify).top.rules (names_of (built cpaverify))
     (argument_words cpaverify w))) in
     let job = some_of (asked_by w) found in

@@ -1,24 +1,27 @@
 -- What words ask for (this project's own), by what clap promises for the command `cpaverify`: that
 -- it takes the words, and what it finds for the subcommand that they name.
 use Rattle.std.specs.Prelude.{◌≡◌, ℕ, List, [], Option, Some, None, codes, if◌then◌else◌}
-use Rattle.std.specs.Prelude.{option_map, unwrap_or, false}
+use Rattle.std.specs.Prelude.{option_map, unwrap_or, false, true, is_some, Bool}
 use Rattle.std.specs.Option.{option_map_or}
 use Rattle.std.specs.Str.{bytes_eq}
 use Rattle.std.specs.Str.Parse.{digits_value, without_leading_plus}
 use Rattle.clap.specs.Words.{Row, fault_of, first_of, one_of, subcommand_of}
 use Rattle.clap.specs.ValueTests.{accepts}
 use Rattle.clap.specs.declared.builder.value_parser.ValueParser.TheVariants as vp
+use Rattle.cpa_ints.specs.declared.data_model.DataModel.{DataModel}
+use Rattle.cpa_config.specs.Values.{models, named}
+use Rattle.cpa_config.specs.declared.keys.TheConstants.{DEFAULT_MODEL}
 use Rattle.cpa_top_words_command.specs.Commands.{cpaverify}
 use Rattle.cpa_top_words.specs.declared.job.Job.{Job as Held}
 use Rattle.cpa_top_words.specs.declared.job.Job.TheVariants as held
 use Rattle.cpa_top_words.specs.declared.job.TheConstants.{STEPS}
 
 -- to verify a program, by a configuration where one is named; to replay a program on inputs, in at
--- most so many steps; to recheck the report of a program, by a configuration where one is named; to
+-- most so many steps, read in a data model; to recheck the report of a program, by a configuration where one is named; to
 -- verify the text of a measurement of so many functions. Names of files are the bytes given
 pub data Job : Type 0 where
   verify : List ℕ → Option (List ℕ) → Job
-  replay : List ℕ → List ℕ → ℕ → Job
+  replay : List ℕ → List ℕ → ℕ → DataModel → Job
   recheck : List ℕ → List ℕ → Option (List ℕ) → Job
   bench : ℕ → Job
 
@@ -36,6 +39,10 @@ number_of text = if accepts false (vp.Unsigned 0 18446744073709551615) text
 abbrev pub steps_of : List Row → ℕ
 steps_of rows = option_map_or number_of (one_of (codes "steps") rows) STEPS
 
+-- the data model that is named, by the names that configurations have, else theirs by default
+abbrev pub model_of : List Row → Option DataModel
+model_of rows = option_map_or (named models) (first_of (codes "model") rows) (Some DEFAULT_MODEL)
+
 -- the number of functions that a text is: clap takes no text that is none or a larger one
 abbrev pub count_in : List ℕ → ℕ
 count_in text = if accepts false (vp.Unsigned 0 100) text
@@ -49,8 +56,8 @@ abbrev pub job_of : List ℕ → List Row → Option Job
 job_of name rows = if bytes_eq name (codes "verify")
     then Some (verify (name_of (codes "PROGRAM") rows) (first_of (codes "config") rows))
     else (if bytes_eq name (codes "replay")
-    then Some (replay (name_of (codes "PROGRAM") rows) (name_of (codes "INPUTS") rows)
-    (steps_of rows))
+    then option_map (replay (name_of (codes "PROGRAM") rows) (name_of (codes "INPUTS") rows)
+    (steps_of rows)) (model_of rows)
     else (if bytes_eq name (codes "recheck")
     then Some (recheck (name_of (codes "PROGRAM") rows) (name_of (codes "REPORT") rows)
     (first_of (codes "config") rows))
@@ -58,6 +65,10 @@ job_of name rows = if bytes_eq name (codes "verify")
 
 abbrev pub asked_by : List (List ℕ) → Option Job
 asked_by words = option_map_or (λ p. job_of p.0 p.1) (subcommand_of cpaverify words) None
+
+-- they name no data model that is none
+abbrev pub has_model : List (List ℕ) → Bool
+has_model words = option_map_or (λ p. is_some (model_of p.1)) (subcommand_of cpaverify words) true
 
 -- ---- what words ask for
 
@@ -73,7 +84,7 @@ IsNoJob words = (job : Job) → Asks words job → ⊥
 -- the job that the code holds
 abbrev pub meant : Held → Job
 meant (held.Verify program config) = verify program.now (option_map (λ s. s.now) config)
-meant (held.Replay program inputs steps) = replay program.now inputs.now steps
+meant (held.Replay program inputs steps model) = replay program.now inputs.now steps model
 meant (held.Recheck program report config) =
     recheck program.now report.now (option_map (λ s. s.now) config)
 meant (held.Bench count) = bench count

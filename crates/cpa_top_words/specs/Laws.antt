@@ -1,14 +1,19 @@
 -- Laws of words: which words ask for a job, and for which.
-use Rattle.std.specs.Prelude.{◌≡◌, ℕ, ◌≤◌, List, [], ◌∷◌, Some, None, codes, decimal}
+use Rattle.std.specs.Prelude.{◌≡◌, ℕ, ◌≤◌, List, [], ◌∷◌, Some, None, true, codes, decimal}
 use Rattle.clap.specs.Words.{fault_of}
 use Rattle.clap.specs.Lexer.{strip_byte}
+use Rattle.cpa_ints.specs.declared.data_model.DataModel.{DataModel}
+use Rattle.cpa_ints.specs.declared.data_model.DataModel.TheVariants.{Lp64}
+use Rattle.cpa_config.specs.Values.{models, named}
 use Rattle.cpa_top_words_command.specs.Commands.{cpaverify}
-use Rattle.cpa_top_words.specs.Jobs.{Asks, Job, verify, replay, recheck, bench}
+use Rattle.cpa_top_words.specs.Jobs.{Asks, IsNoJob, Job, has_model}
+use Rattle.cpa_top_words.specs.Jobs.{verify, replay, recheck, bench}
 use Rattle.cpa_top_words.specs.declared.job.TheConstants.{MAX_BENCH}
 
--- where clap takes the words, they ask for a job
+-- where clap takes the words, and the data model that they name is one, they ask for a job
 abbrev pub AskForAJobWhereTaken : List (List ℕ) → Type 0
-AskForAJobWhereTaken words = fault_of cpaverify words ≡ [] → (job : Job) × Asks words job
+AskForAJobWhereTaken words =
+    fault_of cpaverify words ≡ [] → has_model words ≡ true → (job : Job) × Asks words job
 
 -- the name does not begin with a `-`
 abbrev pub IsPlain : List ℕ → Type 0
@@ -22,7 +27,14 @@ pub record AskAsIsCustomary : Type 0 where
       → Asks (codes "verify" ∷ program ∷ codes "--config" ∷ config ∷ [])
       (verify program (Some config))
   pub replays : (program inputs : List ℕ) → IsPlain program → IsPlain inputs
-      → Asks (codes "replay" ∷ program ∷ inputs ∷ []) (replay program inputs 1000000)
+      → Asks (codes "replay" ∷ program ∷ inputs ∷ []) (replay program inputs 1000000 Lp64)
+  pub replays_in : (program inputs name : List ℕ) (model : DataModel) → IsPlain program
+      → IsPlain inputs → IsPlain name → named models name ≡ Some model
+      → Asks (codes "replay" ∷ program ∷ inputs ∷ codes "--model" ∷ name ∷ [])
+      (replay program inputs 1000000 model)
+  pub replays_in_none : (program inputs name : List ℕ) → IsPlain program → IsPlain inputs
+      → IsPlain name → named models name ≡ None
+      → IsNoJob (codes "replay" ∷ program ∷ inputs ∷ codes "--model" ∷ name ∷ [])
   pub rechecks : (program report : List ℕ) → IsPlain program → IsPlain report
       → Asks (codes "recheck" ∷ program ∷ report ∷ []) (recheck program report None)
   pub rechecks_so : (program report config : List ℕ) → IsPlain program → IsPlain report

@@ -1,6 +1,8 @@
 //! What words ask for, and why they ask for nothing: `Job` of `specs/Jobs.antt`.
 //! Proved by the checker alone.
 
+use cpa_ints::DataModel;
+
 /// Why words gave no job.
 #[derive(Clone, Copy, PartialEq, Eq)]
 pub enum WordsError {
@@ -28,6 +30,8 @@ pub enum Job<'a> {
         inputs: &'a str,
         /// The greatest number of steps.
         steps: u64,
+        /// The data model in which the program is read.
+        model: DataModel,
     },
     /// To recheck the entries of a TRUE report.
     Recheck {

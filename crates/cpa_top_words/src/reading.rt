@@ -9,12 +9,14 @@ ghost use Rattle.clap.specs.Words.{subcommand_rows_of};
 ghost use Rattle.clap.specs.declared.error.ErrorKind.TheVariants.{OutOfMemory};
 ghost use Rattle.cpa_top_words_command.specs.Commands.{cpaverify};
 ghost use Rattle.cpa_top_words.specs.Jobs.{Asks, IsNoJob, asked_by, job_of, meant, name_of};
-ghost use Rattle.cpa_top_words.specs.Jobs.{count_of, steps_of};
+ghost use Rattle.cpa_top_words.specs.Jobs.{count_of, model_of, steps_of};
 ghost use Rattle.cpa_top_words.specs.declared.job.WordsError.TheVariants.{Refused};
 
 use crate::{Job, MAX_BENCH, STEPS, WordsError};
 use clap::error::ErrorKind;
 use clap::{ArgMatches, Error};
+use cpa_config::{DEFAULT_MODEL, model_named};
+use cpa_ints::DataModel;
 use cpa_top_words_command::matches_of;
 use std::alloc::Global;
 
@@ -35,6 +37,16 @@ fn steps_of(matches: &ArgMatches<'_>) -> u64
     match matches.get_one::<u64>("steps") {
         Some(steps) => steps,
         None => STEPS,
+    }
+}
+
+/// The data model that the words name, if it is one, else `DEFAULT_MODEL` where they name none.
+fn model_of(matches: &ArgMatches<'_>) -> Option<DataModel>
+    ensures { result ≡ model_of (rows_of (found_of matches.now)) }
+{
+    match matches.get_str("model") {
+        Some(name) => model_named(name),
+        None => Some(DEFAULT_MODEL),
     }
 }
 
@@ -77,6 +89,7 @@ fn job_of<'a>(name: &str, matches: &ArgMatches<'a>) -> Option<Job<'a>>
             program: name_of(matches, "PROGRAM"),
             inputs: name_of(matches, "INPUTS"),
             steps: steps_of(matches),
+            model: model_of(matches)?,
         })
     } else if name == "recheck" {
         Some(Job::Recheck {

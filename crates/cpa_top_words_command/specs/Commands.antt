@@ -9,9 +9,9 @@ use Rattle.clap.specs.declared.builder.value_parser.ValueParser.TheVariants as v
 abbrev pub word_rule : Text → Rule
 word_rule name = record (new_rule name) { required = true }
 
--- --config FILE
-abbrev pub config_rule : Rule
-config_rule = record (new_rule (codes "config")) { long = Some (codes "config") }
+-- --NAME TEXT
+abbrev pub option_rule : Text → Rule
+option_rule name = record (new_rule name) { long = Some name }
 
 -- --steps N, a number of 64 bits
 abbrev pub steps_rule : Rule
@@ -33,17 +33,20 @@ on_program name = with_rule (new_app name) (word_rule (codes "PROGRAM"))
 
 -- verify PROGRAM [--config FILE]
 abbrev pub verify_command : App
-verify_command = with_rule (on_program (codes "verify")) config_rule
+verify_command = with_rule (on_program (codes "verify")) (option_rule (codes "config"))
 
--- replay PROGRAM INPUTS [--steps N]
+-- replay PROGRAM INPUTS [--steps N] [--model NAME]
 abbrev pub replay_command : App
 replay_command =
-    with_rule (with_rule (on_program (codes "replay")) (word_rule (codes "INPUTS"))) steps_rule
+    with_rule
+    (with_rule (with_rule (on_program (codes "replay")) (word_rule (codes "INPUTS"))) steps_rule)
+    (option_rule (codes "model"))
 
 -- recheck PROGRAM REPORT [--config FILE]
 abbrev pub recheck_command : App
 recheck_command =
-    with_rule (with_rule (on_program (codes "recheck")) (word_rule (codes "REPORT"))) config_rule
+    with_rule (with_rule (on_program (codes "recheck")) (word_rule (codes "REPORT")))
+    (option_rule (codes "config"))
 
 -- bench N
 abbrev pub bench_command : App

@@ -4,7 +4,7 @@ ghost use Rattle.std.specs.Prelude.{◌≡◌, IfOk, true};
 ghost use Rattle.clap.specs.Words.{App, app_of, with_rule, with_subcommand};
 ghost use Rattle.cpa_top_words_command.specs.Commands.{bench_command, cpaverify, recheck_command};
 ghost use Rattle.cpa_top_words_command.specs.Commands.{replay_command, top_command, verify_command};
-ghost use Rattle.cpa_top_words_command.specs.Commands.{config_rule, on_program, steps_rule};
+ghost use Rattle.cpa_top_words_command.specs.Commands.{on_program, option_rule, steps_rule};
 ghost use Rattle.cpa_top_words_command.specs.Commands.{word_rule};
 
 use clap::{Arg, Command, value_parser};
@@ -32,16 +32,17 @@ fn with_word<'a>(
     }
 }
 
-/// The command with `--config FILE`, where memory sufficed for what it was.
-fn with_config<'a>(
+/// The command with one more option that takes any text, where memory sufficed for what it was.
+fn with_option<'a>(
     alloc: Global,
     part: Result<Command<'a>, AllocError>,
+    name: &'static str,
 ) -> Result<Command<'a>, AllocError>
     ensures { (app : App) → IfOk part.entry (λ command. app_of command ≡ app)
-        → IfOk result (λ command. app_of command ≡ with_rule app config_rule) }
+        → IfOk result (λ command. app_of command ≡ with_rule app (option_rule name.entry.now)) }
 {
     match part {
-        Ok(command) => command.arg(Arg::new(alloc, "config").long("config")),
+        Ok(command) => command.arg(Arg::new(alloc, name).long(name)),
         Err(error) => Err(error),
     }
 }
@@ -65,15 +66,16 @@ fn with_steps<'a>(
 fn verify_command<'a>(alloc: Global) -> Result<Command<'a>, AllocError>
     ensures { IfOk result (λ command. app_of command ≡ verify_command) }
 {
-    with_config(alloc, on_program(alloc, "verify"))
+    with_option(alloc, on_program(alloc, "verify"), "config")
 }
 
-/// `replay PROGRAM INPUTS [--steps N]`.
+/// `replay PROGRAM INPUTS [--steps N] [--model NAME]`.
 fn replay_command<'a>(alloc: Global) -> Result<Command<'a>, AllocError>
     ensures { IfOk result (λ command. app_of command ≡ replay_command) }
 {
     let words = with_word(alloc, on_program(alloc, "replay"), "INPUTS");
-    with_steps(alloc, words)
+    let steps = with_steps(alloc, words);
+    with_option(alloc, steps, "model")
 }
 
 /// `recheck PROGRAM REPORT [--config FILE]`.
@@ -81,7 +83,7 @@ fn recheck_command<'a>(alloc: Global) -> Result<Command<'a>, AllocError>
     ensures { IfOk result (λ command. app_of command ≡ recheck_command) }
 {
     let words = with_word(alloc, on_program(alloc, "recheck"), "REPORT");
-    with_config(alloc, words)
+    with_option(alloc, words, "config")
 }
 
 /// `bench N`.

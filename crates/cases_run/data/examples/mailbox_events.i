@@ -17,14 +17,20 @@ void reach_error(void);
 
 
 
+
 typedef signed char int8_t;
 typedef short int16_t;
 typedef int int32_t;
-typedef long int64_t;
 typedef unsigned char uint8_t;
 typedef unsigned short uint16_t;
 typedef unsigned int uint32_t;
+
+typedef long int64_t;
 typedef unsigned long uint64_t;
+
+
+
+
 typedef int8_t int_least8_t;
 typedef int16_t int_least16_t;
 typedef int32_t int_least32_t;
@@ -34,17 +40,18 @@ typedef uint16_t uint_least16_t;
 typedef uint32_t uint_least32_t;
 typedef uint64_t uint_least64_t;
 typedef signed char int_fast8_t;
+typedef int64_t int_fast64_t;
+typedef unsigned char uint_fast8_t;
+typedef uint64_t uint_fast64_t;
+typedef int64_t intmax_t;
+typedef uint64_t uintmax_t;
+
 typedef long int_fast16_t;
 typedef long int_fast32_t;
-typedef long int_fast64_t;
-typedef unsigned char uint_fast8_t;
 typedef unsigned long uint_fast16_t;
 typedef unsigned long uint_fast32_t;
-typedef unsigned long uint_fast64_t;
 typedef long intptr_t;
 typedef unsigned long uintptr_t;
-typedef long intmax_t;
-typedef unsigned long uintmax_t;
 # 8 "examples/mailbox_events.c" 2
 # 1 "include/verifier.h" 1
 

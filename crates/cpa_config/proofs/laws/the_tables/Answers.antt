@@ -14,8 +14,10 @@ pub returns-clause-words : goal.returns-clause-words
 returns-clause-words c = record {
   all_keys = refl;
   merge = refl;
+  model = refl;
   order = refl;
   tracked = refl;
+  default_model = refl;
   default_order = refl;
   default_tracked = refl;
   widens = refl;

@@ -1,28 +1,32 @@
 use Rattle.std.proofs.Common.{ap, ap₂, ℕ, List}
+use Rattle.cpa_ints.specs.declared.data_model.DataModel.{DataModel}
 use Rattle.cpa_report_print.specs.declared.report.Listed.{Listed}
 use Rattle.cpa_report_print.specs.declared.report.Body.TheVariants as body
-use Rattle.cpa_report_json.proofs.Parts.{same_told, pair_of, passed_on}
+use Rattle.cpa_report_json.proofs.Parts.{same_told, head_of, passed_on}
 use Rattle.cpa_report_json.proofs.reports.take_proof.Goals as goal
 
 pub returns-in_err-logs-clause-took : goal.returns-in_err-logs-clause-took
-returns-in_err-logs-clause-took c text points cells edges entries logs rest fit is =
-    let head = c.in_ok-cells.ensures.took cells edges entries _ fit.0.2 fit.0.3 fit.1.0 is in
+returns-in_err-logs-clause-took c text points cells edges m x rest fit is =
+    let head = c.in_ok-cells.ensures.took cells edges m x.0 _ fit.0.2 fit.0.3 fit.1.0 is in
     passed_on _ rest _ _ _ c.from_residual-in_err-logs.ensures.1
-    (c.in_err-logs.ensures.took logs _ fit.1.1 head.1)
+    (c.in_err-logs.ensures.took x.1 _ fit.1.1 head.1)
 
 pub returns-in_err-points-clause-took : goal.returns-in_err-points-clause-took
-returns-in_err-points-clause-took c text points cells edges entries logs rest fit is =
-    let head = c.in_ok-cells.ensures.took cells edges entries _ fit.0.2 fit.0.3 fit.1.0 is in
-    let first = c.in_ok-logs.ensures.took logs _ fit.1.1 head.1 in
+returns-in_err-points-clause-took c text points cells edges m x rest fit is =
+    let head = c.in_ok-cells.ensures.took cells edges m x.0 _ fit.0.2 fit.0.3 fit.1.0 is in
+    let first = c.in_ok-logs.ensures.took x.1 _ fit.1.1 head.1 in
     passed_on _ rest _ _ _ c.from_residual-in_err-points.ensures.1
-    (c.in_err-points.ensures.took points text _ fit.0.1 fit.0.0 first.1)
+    (c.in_err-points.ensures.took m points text _
+    (ap (λ (y : ℕ × ℕ × DataModel × List Listed). y.2) head.0) fit.0.1 fit.0.0 first.1)
 
 pub returns-clause-took : goal.returns-clause-took
-returns-clause-took c text points cells edges entries logs rest fit is =
-    let head = c.in_ok-cells.ensures.took cells edges entries _ fit.0.2 fit.0.3 fit.1.0 is in
-    let first = c.in_ok-logs.ensures.took logs _ fit.1.1 head.1 in
-    let tail = c.in_ok-points.ensures.took points text _ fit.0.1 fit.0.0 first.1 in (
-      same_told (ap (λ (x : ℕ × ℕ × List Listed). pair_of x.0 x.1) head.0) tail.0
-          (ap₂ body.Proof (ap (λ (x : ℕ × ℕ × List Listed). x.2) head.0) first.0),
+returns-clause-took c text points cells edges m x rest fit is =
+    let head = c.in_ok-cells.ensures.took cells edges m x.0 _ fit.0.2 fit.0.3 fit.1.0 is in
+    let first = c.in_ok-logs.ensures.took x.1 _ fit.1.1 head.1 in
+    let tail =
+    c.in_ok-points.ensures.took m points text _
+    (ap (λ (y : ℕ × ℕ × DataModel × List Listed). y.2) head.0) fit.0.1 fit.0.0 first.1 in (
+      same_told (ap head_of head.0) tail.0
+          (ap₂ body.Proof (ap (λ (y : ℕ × ℕ × DataModel × List Listed). y.3) head.0) first.0),
       tail.1,
     )

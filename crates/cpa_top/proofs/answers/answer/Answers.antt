@@ -7,7 +7,7 @@ use Rattle.cpa_top.proofs.answers.answer.Goals as goal
 pub returns-in-Ok-Replay : goal.returns-in-Ok-Replay
 returns-in-Ok-Replay g c =
     let job = c.in-Ok-Replay in
-    may_answer _ (replay job.program.now job.list.now job.steps) c.replay.result
+    may_answer _ (replay job.program.now job.list.now job.steps job.model) c.replay.result
     (subst (λ j. Asks (map string_bytes c.args.words.now) (meant j)) job.field-0-is
     job.ensures.asked)
     (c.replay.ensures _)

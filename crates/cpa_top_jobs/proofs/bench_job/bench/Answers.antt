@@ -4,6 +4,7 @@ use Rattle.std.proofs.lemmas.List.{length-map}
 use Rattle.std.proofs.lemmas.Result.{err_from_is_err_and}
 use Rattle.c_program.specs.Programs.{IsTheProgram}
 use Rattle.cpa_composite.specs.Components.{ArePlaces}
+use Rattle.cpa_ints.specs.declared.data_model.DataModel.TheVariants.{Lp64}
 use Rattle.cpa_top_jobs.specs.Jobs.{names_of}
 use Rattle.cpa_top_jobs.specs.Refusals.{IsDone, IsLackRefused, IsTextRefused}
 use Rattle.cpa_top_jobs.proofs.Benches.{picking_stops, composing_stops, bench_ends}
@@ -36,9 +37,9 @@ returns-in_err-program g c = λ files steady.
     subst (IsDone files _ _) (sym p.1)
     (composing_stops files steady (meanings c.args.analyses.items) c.args.functions _ same
     c.in_ok-config.config c.in_ok-config.ensures.config p.0
-    (subst (λ (bytes : List ℕ). IsTextRefused bytes p.0)
+    (subst (λ (bytes : List ℕ). IsTextRefused Lp64 bytes p.0)
     (c.as_slice-3.ensures.value ∙ c.in_ok-text.ensures.text)
-    (subst (IsTextRefused _) (sym p.2) c.in_err-program.ensures.refused)))
+    (subst (IsTextRefused _ _) (sym p.2) c.in_err-program.ensures.refused)))
 
 pub conclude-requires-clause-places : goal.conclude-requires-clause-places
 conclude-requires-clause-places g c =
@@ -62,6 +63,6 @@ returns g c = λ files steady.
     bench_ends files steady (meanings c.args.analyses.items) c.args.functions _ same
     c.in_ok-config.config c.in_ok-config.ensures.config c.in_ok-program.program
     c.in_ok-conclude.field-0
-    (subst (λ (bytes : List ℕ). IsTheProgram bytes c.in_ok-program.program)
+    (subst (λ (bytes : List ℕ). IsTheProgram Lp64 bytes c.in_ok-program.program)
     (c.as_slice-3.ensures.value ∙ c.in_ok-text.ensures.text) c.in_ok-program.ensures.program)
     c.in_ok-conclude.ensures

@@ -3,11 +3,12 @@ use Rattle.std.specs.Prelude.{Option, IfSome}
 use Rattle.std.specs.String.{string_bytes}
 use Rattle.std.proofs.lemmas.Result.{err_from_is_err_and}
 use Rattle.c_program.specs.Programs.{IsTheProgram}
-use Rattle.cpa_top_jobs.specs.Jobs.{names_of}
+use Rattle.cpa_top_jobs.specs.Ends.{IsModelOf}
+use Rattle.cpa_top_jobs.specs.Jobs.{names_of, of_config}
 use Rattle.cpa_top_jobs.specs.Refusals.{IsChecked, IsDone, IsHalted, IsRefusedAt, IsReportRefused}
 use Rattle.cpa_top_jobs.specs.Refusals.{IsTaken}
 use Rattle.cpa_top_jobs.proofs.Rechecks.{config_stops, program_stops, read_stops, recheck_ends}
-use Rattle.cpa_top_jobs.proofs.Rechecks.{text_stops}
+use Rattle.cpa_top_jobs.proofs.Rechecks.{of, text_stops}
 use Rattle.cpa_top_jobs.proofs.Stages.{moved, moved_at}
 use Rattle.cpa_top_jobs.proofs.recheck_job.recheck.Goals as goal
 
@@ -35,11 +36,16 @@ returns-in_err-program g c =
     (meanings c.args.analyses.items) =
     ap (map string_bytes) c.as_slice-2.ensures.value ∙ c.in_ok-names.ensures
     ∙ ap (λ xs. names_of (meanings xs)) c.as_slice.ensures.value in
+    let is = of _ (meanings c.args.analyses.items) c.args.program.now c.args.report.now _ _ same
+    c.in_ok-config.config first.config in
     subst (IsDone _ _ _) (sym p.1)
     (program_stops _ (meanings c.args.analyses.items) c.args.program.now c.args.report.now _ _ same
     c.in_ok-config.config first.config p.0
     (moved _ _ _ _ _ _ p.0 first.told first.reads
-    (subst (IsHalted _ _) (sym p.2) c.in_err-program.ensures.refused)))
+    (subst (IsHalted _ _) (sym p.2)
+    (c.in_err-program.ensures.refused (of_config (names_of (meanings c.args.analyses.items)) _)
+    (subst (λ (told : List ℕ → Option (List ℕ)). IsModelOf told (of_config _ _) _)
+    (sym first.told) is)))))
 
 pub returns-in_err-text : goal.returns-in_err-text
 returns-in_err-text g c =
@@ -56,7 +62,8 @@ returns-in_err-text g c =
     (read_stops _ (meanings c.args.analyses.items) c.args.program.now c.args.report.now _ _ same
     c.in_ok-config.config first.config c.in_ok-program.program
     (subst (λ (told : List ℕ → Option (List ℕ)).
-    IsTaken (told c.args.program.now) (λ bytes. IsTheProgram bytes c.in_ok-program.program))
+    IsTaken (told c.args.program.now)
+    (λ bytes. IsTheProgram c.in_ok-config.config.model bytes c.in_ok-program.program))
     first.told second.program)
     p.0
     (moved_at _ _ _ _ _ _ p.0 (second.told ∙ first.told) (second.reads ∙ first.reads)
@@ -78,16 +85,18 @@ returns-in_err-conclusion g c =
     (text_stops _ (meanings c.args.analyses.items) c.args.program.now c.args.report.now _ _ same
     c.in_ok-config.config first.config c.in_ok-program.program
     (subst (λ (told : List ℕ → Option (List ℕ)).
-    IsTaken (told c.args.program.now) (λ bytes. IsTheProgram bytes c.in_ok-program.program))
+    IsTaken (told c.args.program.now)
+    (λ bytes. IsTheProgram c.in_ok-config.config.model bytes c.in_ok-program.program))
     first.told second.program)
     c.in_ok-text.text.items third.within
     (subst (λ (told : List ℕ → Option (List ℕ)).
     IfSome (told c.args.report.now) (λ t. c.in_ok-text.text.items ≡ t))
     (second.told ∙ first.told) third.bytes)
     (third.reads ∙ second.reads ∙ first.reads) p.0
-    (subst (λ (text : List ℕ). IsReportRefused c.in_ok-program.program text p.0)
+    (subst (λ (text : List ℕ). IsReportRefused c.in_ok-config.config.model c.in_ok-program.program
+    text p.0)
     c.as_slice-3.ensures.value
-    (subst (IsReportRefused _ _) (sym p.2) c.in_err-conclusion.ensures.refused)))
+    (subst (IsReportRefused _ _ _) (sym p.2) c.in_err-conclusion.ensures.refused)))
 
 pub returns : goal.returns
 returns g c =
@@ -102,7 +111,8 @@ returns g c =
     recheck_ends _ (meanings c.args.analyses.items) c.args.program.now c.args.report.now _ _ same
     c.in_ok-config.config first.config c.in_ok-program.program
     (subst (λ (told : List ℕ → Option (List ℕ)).
-    IsTaken (told c.args.program.now) (λ bytes. IsTheProgram bytes c.in_ok-program.program))
+    IsTaken (told c.args.program.now)
+    (λ bytes. IsTheProgram c.in_ok-config.config.model bytes c.in_ok-program.program))
     first.told second.program)
     c.in_ok-text.text.items third.within
     (subst (λ (told : List ℕ → Option (List ℕ)).

@@ -1,4 +1,4 @@
 use Rattle.cpa_top_words_command.proofs.command.recheck_command.Goals as goal
 
 pub returns : goal.returns
-returns c = c.with_config.ensures _ (c.with_word-words.ensures _ c.on_program.ensures)
+returns c = c.with_option.ensures _ (c.with_word-words.ensures _ c.on_program.ensures)

@@ -1,47 +1,19 @@
-use Rattle.std.proofs.Common.{◌≡◌, ℕ, List, ◌∷◌, Result, Ok, Err, OnOk, refl, ◌++◌, ◌∙◌, ap}
-use Rattle.std.specs.Prelude.{codes}
-use Rattle.json.specs.Token.{Token, begin_object, end_object, key}
+use Rattle.std.proofs.Common.{Result, Ok, Err, OnOk, sym, ◌++◌, ◌∙◌, ap}
 use Rattle.json.specs.Written.{Written}
-use Rattle.cpa_report_print.specs.declared.report.Body.{Body}
-use Rattle.cpa_report_print.specs.declared.report.Body.TheVariants as body
 use Rattle.cpa_report_print.specs.declared.report.Report.{Report}
-use Rattle.cpa_report_print.specs.Reports.{number_data, report_data}
-use Rattle.cpa_report_print.specs.Steps.{front, before_form, before_points, before_text}
-use Rattle.cpa_report_print.specs.Steps.{behind_text}
+use Rattle.cpa_report_print.specs.Reports.{report_data}
+use Rattle.cpa_report_print.specs.Steps.{spelled}
 use Rattle.cpa_report_print.specs.Tokens.{Wrote, onto}
+use Rattle.cpa_report_print.specs.lemmas.Ordered.{in_tokens}
 use Rattle.cpa_report_print.proofs.Writing.{one, both, last}
 use Rattle.cpa_report_print.proofs.printing.ReportJson.write.Goals as goal
-
--- the tokens as they are written
-abbrev spelled : Report → List Token → List Token
-spelled r ts =
-    begin_object ∷ key (codes "cells") ∷ onto (number_data r.cells)
-    (key (codes "edges") ∷ onto (number_data r.edges)
-    (front (before_form r.body) (key (codes "form") ∷ onto (number_data 1)
-    (front (before_points r.body) (key (codes "points") ∷ onto (number_data r.points)
-    (front (before_text r.body) (key (codes "text") ∷ onto (number_data r.text)
-    (front (behind_text r.body) (end_object ∷ ts)))))))))
-
-abbrev told : ℕ → ℕ → ℕ → ℕ → Body → Report
-told t p c e b = record { text = t; points = p; cells = c; edges = e; body = b }
-
-in_order : (t p c e : ℕ) (b : Body) (ts : List Token)
-    → spelled (told t p c e b) ts ≡ onto (report_data (told t p c e b)) ts
-in_order t p c e (body.True entries) ts = refl
-in_order t p c e (body.False inputs steps) ts = refl
-in_order t p c e (body.Turns journal) ts = refl
-in_order t p c e (body.Rounds path history) ts = refl
-in_order t p c e (body.Learnt path lines) ts = refl
-in_order t p c e (body.Gates path weight) ts = refl
-in_order t p c e (body.NoNew path precisions) ts = refl
-in_order t p c e (body.Proof entries logs) ts = refl
 
 respelled : {E : Type 0} (result : Result (Unit {0}) E) (a b : Written) (r : Report)
     → OnOk result (Wrote a b (spelled r)) → OnOk result (Wrote a b (onto (report_data r)))
 respelled (Ok x) a b r w = record {
   before = w.before;
   tokens = λ rest. w.tokens rest
-      ∙ ap (λ ts. a.tokens ++ ts) (in_order r.text r.points r.cells r.edges r.body rest);
+      ∙ ap (λ ts. a.tokens ++ ts) (sym (in_tokens r rest));
 }
 respelled (Err e) a b r w = tt
 
@@ -52,8 +24,10 @@ returns c =
     both (both begun c.in_ok-write_member.ensures) c.in_ok-write_member-2.ensures in
     let formed =
     both (both counted c.in_ok-write_before_form.ensures) c.in_ok-write_member-3.ensures in
+    let modelled =
+    both (both formed c.in_ok-write_before_model.ensures) c.in_ok-write_model.ensures in
     let pointed =
-    both (both formed c.in_ok-write_before_points.ensures) c.in_ok-write_member-4.ensures in
+    both (both modelled c.in_ok-write_before_points.ensures) c.in_ok-write_member-4.ensures in
     let texted =
     both (both pointed c.in_ok-write_before_text.ensures) c.in_ok-write_member-5.ensures in
     respelled c.end_object.result _ _ c.args.self.now

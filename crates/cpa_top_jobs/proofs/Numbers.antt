@@ -8,7 +8,7 @@ use Rattle.std.proofs.lemmas.List.{drop_more, drop_all, append-nil, append_assoc
 use Rattle.std.specs.List.{AllByRecursion}
 use Rattle.serde_json.specs.declared.value.Value.{Value}
 use Rattle.serde_json.specs.View.{view, items_view}
-use Rattle.cpa_top_inputs.specs.Inputs.{IsInput, in_front, whole_number, whole_numbers}
+use Rattle.cpa_top_jobs.specs.Inputs.{IsInput, in_front, whole_number, whole_numbers}
 
 -- the numbers that were read, before those that are left
 abbrev pub before : List ℤ → Option (List ℤ) → Option (List ℤ)

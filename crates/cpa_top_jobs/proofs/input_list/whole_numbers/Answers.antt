@@ -2,11 +2,11 @@ use Rattle.std.proofs.Common.{◌≡◌, ◌++◌, ◌∷◌, [], ℤ, List, sym
 use Rattle.std.proofs.Common.{◌+◌}
 use Rattle.std.specs.Int.{w128}
 use Rattle.std.specs.List.{AllByRecursion}
-use Rattle.cpa_top_inputs.specs.Inputs.{IsInput}
-use Rattle.cpa_top_inputs.proofs.Numbers.{before, left, number_read, none_read, all_read}
-use Rattle.cpa_top_inputs.proofs.Numbers.{input_fits}
-use Rattle.cpa_top_inputs.proofs.Numbers.{inputs_pushed, none_before}
-use Rattle.cpa_top_inputs.proofs.list.whole_numbers.Goals as goal
+use Rattle.cpa_top_jobs.specs.Inputs.{IsInput}
+use Rattle.cpa_top_jobs.proofs.Numbers.{before, left, number_read, none_read, all_read}
+use Rattle.cpa_top_jobs.proofs.Numbers.{input_fits}
+use Rattle.cpa_top_jobs.proofs.Numbers.{inputs_pushed, none_before}
+use Rattle.cpa_top_jobs.proofs.input_list.whole_numbers.Goals as goal
 
 pub loop-value-init : goal.loop-value-init
 loop-value-init c =

@@ -1,14 +1,14 @@
 //! Why a file gives no inputs: it is no list of numbers in range, or memory was short.
 //! Proved by the checker alone.
 ghost use Rattle.std.specs.Prelude.{◌≡◌};
-ghost use Rattle.cpa_top_inputs.specs.declared.fault.InputsError.TheVariants.{OutOfMemory};
+ghost use Rattle.cpa_top_jobs.specs.declared.inputs_error.InputsError.TheVariants.{OutOfMemory};
 
 use std::alloc::{AllocError, AllocFailed};
 use thiserror::Error;
 
 /// Why no inputs were read.
 #[derive(Clone, Copy, Debug, PartialEq, Eq, Error)]
-pub enum InputsError {
+pub(crate) enum InputsError {
     /// The bytes are no JSON list of whole numbers from -2^63 to 2^64 - 1.
     #[error("no list of whole numbers")]
     NoList,

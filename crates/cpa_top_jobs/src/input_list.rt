@@ -6,11 +6,11 @@ ghost use Rattle.std.specs.List.{AllByRecursion};
 ghost use Rattle.serde_json.specs.Errors.{IsMemory};
 ghost use Rattle.serde_json.specs.Read.{read};
 ghost use Rattle.serde_json.specs.View.{view, items_view};
-ghost use Rattle.cpa_top_inputs.specs.declared.fault.InputsError.TheVariants.{NoList};
-ghost use Rattle.cpa_top_inputs.specs.Inputs.{IsInput, IsInputs, whole_number, whole_numbers};
-ghost use Rattle.cpa_top_inputs.specs.Inputs.{numbers_in};
+ghost use Rattle.cpa_top_jobs.specs.declared.inputs_error.InputsError.TheVariants.{NoList};
+ghost use Rattle.cpa_top_jobs.specs.Inputs.{IsInput, IsInputs, whole_number, whole_numbers};
+ghost use Rattle.cpa_top_jobs.specs.Inputs.{numbers_in};
 
-use crate::InputsError;
+use crate::inputs_error::InputsError;
 use serde_json::{Error, Value};
 use std::alloc::Global;
 
@@ -82,7 +82,7 @@ fn numbers_in(alloc: Global, value: &Value) -> Result<Vec<i128>, InputsError>
 /// The numbers of an inputs file, in order.
 ///
 /// The bytes are read whole. A list of 2^32 numbers counts as want of memory.
-pub fn read_inputs(alloc: Global, bytes: &[u8]) -> Result<Vec<i128>, InputsError>
+pub(crate) fn read_inputs(alloc: Global, bytes: &[u8]) -> Result<Vec<i128>, InputsError>
     ensures inputs { IfOk result (λ numbers. IsInputs bytes.now numbers.items) }
     ensures few { IfOk result (λ numbers. length numbers.items < 2 ^ 32) }
     ensures refused { IfErr result (λ error. error ≡ NoList →

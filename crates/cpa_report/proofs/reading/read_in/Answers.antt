@@ -1,6 +1,6 @@
 use Rattle.serde_json.specs.Written.{compact_text}
 use Rattle.cpa_report.proofs.Rules.{lined_of, utf8_of, one_found}
-use Rattle.cpa_report.proofs.reading.read.Goals as goal
+use Rattle.cpa_report.proofs.reading.read_in.Goals as goal
 use Rattle.cpa_report_print.specs.Reports.{report_data}
 
 pub returns-in_default-clause-back : goal.returns-in_default-clause-back
