@@ -1,0 +1,118 @@
+/* A chain of 10 calls, each with one more. */
+extern int __VERIFIER_nondet_int(void);
+extern void abort(void);
+void reach_error(void) {}
+
+int seed;
+
+int f10(int x)
+{
+    if (x != seed + 10)
+        reach_error();
+    return x;
+}
+
+int f9(int x)
+{
+    int result = 0;
+    result = f10(x + 1) - 1;
+    if (result != x)
+        reach_error();
+    return result;
+}
+
+int f8(int x)
+{
+    int result = 0;
+    result = f9(x + 1) - 1;
+    if (result != x)
+        reach_error();
+    return result;
+}
+
+int f7(int x)
+{
+    int result = 0;
+    if (x < 0)
+        return f8(x + 1) - 1;
+    result = f8(x + 1) - 1;
+    if (result != x)
+        reach_error();
+    return result;
+}
+
+int f6(int x)
+{
+    int result = 0;
+    result = f7(x + 1) - 1;
+    if (result != x)
+        reach_error();
+    return result;
+}
+
+int f5(int x)
+{
+    int result = 0;
+    result = f6(x + 1) - 1;
+    if (result != x)
+        reach_error();
+    return result;
+}
+
+int f4(int x)
+{
+    int result = 0;
+    result = f5(x + 1) - 1;
+    if (result != x)
+        reach_error();
+    return result;
+}
+
+int f3(int x)
+{
+    int result = 0;
+    result = f4(x + 1) - 1;
+    if (result != x)
+        reach_error();
+    return result;
+}
+
+int f2(int x)
+{
+    int result = 0;
+    if (x < 0)
+        return f3(x + 1) - 1;
+    result = f3(x + 1) - 1;
+    if (result != x)
+        reach_error();
+    return result;
+}
+
+int f1(int x)
+{
+    int result = 0;
+    result = f2(x + 1) - 1;
+    if (result != x)
+        reach_error();
+    return result;
+}
+
+int f0(int x)
+{
+    int result = 0;
+    result = f1(x + 1) - 1;
+    if (result != x)
+        reach_error();
+    return result;
+}
+
+int main(void)
+{
+    seed = __VERIFIER_nondet_int();
+    if (seed > 1000 || seed < -100)
+        abort();
+    int result = f0(seed);
+    if (result != seed)
+        reach_error();
+    return 0;
+}
