@@ -1,6 +1,6 @@
--- What a text is as a report of a program in a data model, and which rule it breaks (this project's own). The rules
--- are tried in the order P1, P6, P2, P3, P5, P4. Expressions of a report may have any height: one
--- of more than MAX_HEIGHT levels is none of the program's.
+-- What a text is as a report of a program in a data model, and which rule it breaks (this project's
+-- own). The rules are tried in the order P1, P6, P2, P3, P5, P4. Expressions of a report may have
+-- any height: one of more than MAX_HEIGHT levels is none of the program's.
 use Rattle.std.specs.Prelude.{◌≡◌, ℕ, ◌==◌, false, List, ◌++◌, Some, IsUtf8, ⊤}
 use Rattle.std.specs.List.{list_any}
 use Rattle.serde_json.specs.Data.{Data}
