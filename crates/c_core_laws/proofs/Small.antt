@@ -83,7 +83,7 @@ pub core_small : (model : DataModel) (tree : UnitTree) (checked : CheckedText) (
     Sound model tree →
     IsCheckedText model tree checked → IsCore checked P → IsSmall P
 core_small model tree checked P sound of is =
-    let within = sound_texts_are_within_limits tree of.first_cells sound in
+    let within = sound_texts_are_within_limits model tree of.first_cells sound in
     let m = unit_core model of.first_cells tree in
     let same = core_heights checked P is
     ∙ ap heights_of of.trees in
