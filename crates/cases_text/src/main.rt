@@ -20,7 +20,7 @@ use std::io::{BufRead, BufReader};
 use texts::asked_of;
 
 /// The answer to a row: a word for what is asked, and the text that it is asked of. A word alone
-/// asks it of the empty text. It is asked in LP64, or behind the word `ilp32` in that data model.
+/// asks it of the empty text. It is asked in LP64, or after the word `ilp32` in that data model.
 fn answer(alloc: Global, row: &str) -> Result<String, AllocError> {
     match row.strip_prefix("ilp32 ") {
         Some(row) => answer_in(alloc, row, DataModel::Ilp32),

@@ -20,9 +20,11 @@ returns-in_err-tokens-clause-fault c =
     c.in_err-tokens.ensures.fault))
 
 pub parse-requires : goal.parse-requires
-parse-requires c =
-    (c.args.model, subst (Tokens c.args.model c.args.bytes.now) (sym c.as_slice.ensures.value)
-    c.in_ok-tokens.ensures.ok)
+parse-requires c = (
+  c.args.model,
+  subst (Tokens c.args.model c.args.bytes.now) (sym c.as_slice.ensures.value)
+      c.in_ok-tokens.ensures.ok,
+)
 
 pub returns-clause-fault : goal.returns-clause-fault
 returns-clause-fault c =

@@ -4,6 +4,8 @@ use Rattle.c_lexer.specs.Parts.{Tokens}
 use Rattle.cases_text.proofs.checks.cells_of.Goals as goal
 
 pub parse-requires : goal.parse-requires
-parse-requires c =
-    (c.args.model, subst (Tokens c.args.model c.args.text.now) (sym c.deref.ensures.value)
-    c.in_ok-tokens.ensures.ok)
+parse-requires c = (
+  c.args.model,
+  subst (Tokens c.args.model c.args.text.now) (sym c.deref.ensures.value)
+      c.in_ok-tokens.ensures.ok,
+)
