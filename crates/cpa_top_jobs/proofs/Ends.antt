@@ -30,6 +30,28 @@ as_many bytes names analyses same =
     sym (length-map names bytes) ∙ ap (λ (xs : List (List ℕ)). length xs) same
     ∙ length-map analyses (λ (m : Meaning). m.name)
 
+-- the data model of the source is that of the configuration
+model_from : (bytes_of : List ℕ → Option (List ℕ)) (file : Option (List ℕ))
+    (names : List (List ℕ)) (config : Config)
+    → IsTaken (config_bytes bytes_of file) (λ b. Configures b names config)
+    → IsModelOf bytes_of (of_config names file) config.model
+model_from bytes_of file names config is =
+    told_weaker (config_bytes bytes_of file)
+    (λ b. (length b ≤ MAX_TEXT) × Configures b names config)
+    (λ b. (found : Config) × Configures b names found × (config.model ≡ found.model))
+    (λ b h. (config, h.1, refl)) is
+
+-- so it is where the files tell what they told when the configuration was taken
+pub model_told : (told was : List ℕ → Option (List ℕ)) (file : Option (List ℕ))
+    (names handed : List (List ℕ)) (config : Config) → told ≡ was → names ≡ handed
+    → IsTaken (config_bytes was file) (λ b. Configures b names config)
+    → IsModelOf told (of_config handed file) config.model
+model_told told was file names handed config steady same is =
+    subst (λ (bytes_of : List ℕ → Option (List ℕ)).
+    IsModelOf bytes_of (of_config handed file) config.model) (sym steady)
+    (subst (λ (ns : List (List ℕ)). IsModelOf was (of_config ns file) config.model) same
+    (model_from was file names config is))
+
 module _ (files : Files) (analyses : List Meaning) where
   -- ---- replay
 
@@ -108,26 +130,22 @@ module _ (files : Files) (analyses : List Meaning) where
       subst (λ (ns : List (List ℕ)).
       IsTaken (config_bytes files.bytes_of file) (λ b. Configures b ns config)) same is
 
-  -- the data model of the configuration
   pub model_is : (file : Option (List ℕ)) (config : Config)
       → IsTaken (config_bytes files.bytes_of file) (λ b. Configures b (names_of analyses) config)
       → IsModelOf files.bytes_of (of_config (names_of analyses) file) config.model
-  model_is file config is =
-      told_weaker (config_bytes files.bytes_of file)
-      (λ b. (length b ≤ MAX_TEXT) × Configures b (names_of analyses) config)
-      (λ b. (found : Config) × Configures b (names_of analyses) found
-      × (config.model ≡ found.model))
-      (λ b h. (config, h.1, refl)) is
+  model_is file config is = model_from files.bytes_of file (names_of analyses) config is
 
-  pub program_stops : (name : List ℕ) (file : Option (List ℕ)) (config : Config) (r : Refusal)
-      → IsTaken (config_bytes files.bytes_of file) (λ b. Configures b (names_of analyses) config)
+  pub program_stops : (name : List ℕ) (file : Option (List ℕ)) (names : List (List ℕ))
+      (config : Config) (r : Refusal) → names ≡ names_of analyses
+      → IsTaken (config_bytes files.bytes_of file) (λ b. Configures b names config)
       → IsHalted files (program_stages (of_config (names_of analyses) file) name) r
       → IsDone files analyses (verify name file) (Err r)
-  program_stops name file config r configures halted =
+  program_stops name file names config r same configures halted =
       halted_done files analyses (verify name file) r
       (halts_behind files (config_stages (names_of analyses) file)
       (program_stages (of_config (names_of analyses) file) name) r
-      (config_passes files (names_of analyses) file config configures) halted)
+      (config_passes files (names_of analyses) file config
+      (configured file names config same configures)) halted)
 
   verified : (said told : Option (List ℕ)) (config : Config) (P : Program) (c : Conclusion)
       → IsTaken said (λ b. Configures b (names_of analyses) config)

@@ -67,7 +67,7 @@ module _ (files : Files) (analyses : List Meaning) (name report : List ℕ)
         (halts_behind files (config_stages (names_of analyses) file) (program_stages source name) r
         (config_passes files (names_of analyses) file config taken) halted))
 
-    pub of : IsModelOf files.bytes_of source config.model
+    of : IsModelOf files.bytes_of source config.model
     of = model_is files analyses file config taken
 
     module _ (P : Program)

@@ -1,14 +1,14 @@
 use Rattle.std.proofs.Common.{◌≡◌, ℕ, List, map, sym, ap, ◌∙◌, subst}
-use Rattle.std.specs.Prelude.{Option, IfSome}
+use Rattle.std.specs.Prelude.{Option, IfSome, option_map}
 use Rattle.std.specs.String.{string_bytes}
 use Rattle.std.proofs.lemmas.Result.{err_from_is_err_and}
 use Rattle.c_program.specs.Programs.{IsTheProgram}
-use Rattle.cpa_top_jobs.specs.Ends.{IsModelOf}
 use Rattle.cpa_top_jobs.specs.Jobs.{names_of, of_config}
 use Rattle.cpa_top_jobs.specs.Refusals.{IsChecked, IsDone, IsHalted, IsRefusedAt, IsReportRefused}
 use Rattle.cpa_top_jobs.specs.Refusals.{IsTaken}
+use Rattle.cpa_top_jobs.proofs.Ends.{model_told}
 use Rattle.cpa_top_jobs.proofs.Rechecks.{config_stops, program_stops, read_stops, recheck_ends}
-use Rattle.cpa_top_jobs.proofs.Rechecks.{of, text_stops}
+use Rattle.cpa_top_jobs.proofs.Rechecks.{text_stops}
 use Rattle.cpa_top_jobs.proofs.Stages.{moved, moved_at}
 use Rattle.cpa_top_jobs.proofs.recheck_job.recheck.Goals as goal
 
@@ -36,16 +36,15 @@ returns-in_err-program g c =
     (meanings c.args.analyses.items) =
     ap (map string_bytes) c.as_slice-2.ensures.value ∙ c.in_ok-names.ensures
     ∙ ap (λ xs. names_of (meanings xs)) c.as_slice.ensures.value in
-    let is = of _ (meanings c.args.analyses.items) c.args.program.now c.args.report.now _ _ same
-    c.in_ok-config.config first.config in
+    let file = option_map (λ s. s.now) c.args.file.entry in
     subst (IsDone _ _ _) (sym p.1)
     (program_stops _ (meanings c.args.analyses.items) c.args.program.now c.args.report.now _ _ same
     c.in_ok-config.config first.config p.0
     (moved _ _ _ _ _ _ p.0 first.told first.reads
     (subst (IsHalted _ _) (sym p.2)
-    (c.in_err-program.ensures.refused (of_config (names_of (meanings c.args.analyses.items)) _)
-    (subst (λ (told : List ℕ → Option (List ℕ)). IsModelOf told (of_config _ _) _)
-    (sym first.told) is)))))
+    (c.in_err-program.ensures.refused
+    (of_config (names_of (meanings c.args.analyses.items)) file)
+    (model_told _ _ file _ _ c.in_ok-config.config first.told same first.config)))))
 
 pub returns-in_err-text : goal.returns-in_err-text
 returns-in_err-text g c =

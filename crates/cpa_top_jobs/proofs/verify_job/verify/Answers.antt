@@ -1,14 +1,13 @@
 use Rattle.std.proofs.Common.{◌≡◌, ℕ, List, map, sym, ap, ◌∙◌, subst}
-use Rattle.std.specs.Prelude.{Option}
+use Rattle.std.specs.Prelude.{Option, option_map}
 use Rattle.std.specs.String.{string_bytes}
 use Rattle.std.proofs.lemmas.List.{length-map}
 use Rattle.std.proofs.lemmas.Result.{err_from_is_err_and}
 use Rattle.c_program.specs.Programs.{IsTheProgram}
 use Rattle.cpa_composite.specs.Components.{ArePlaces}
-use Rattle.cpa_top_jobs.specs.Ends.{IsModelOf}
 use Rattle.cpa_top_jobs.specs.Jobs.{names_of, of_config}
 use Rattle.cpa_top_jobs.specs.Refusals.{IsDone, IsHalted, IsTaken}
-use Rattle.cpa_top_jobs.proofs.Ends.{as_many, config_stops, configured, model_is, program_stops}
+use Rattle.cpa_top_jobs.proofs.Ends.{as_many, config_stops, model_told, program_stops}
 use Rattle.cpa_top_jobs.proofs.Ends.{verify_ends}
 use Rattle.cpa_top_jobs.proofs.Stages.{moved}
 use Rattle.cpa_top_jobs.proofs.verify_job.verify.Goals as goal
@@ -36,17 +35,15 @@ returns-in_err-program g c =
     (meanings c.args.analyses.items) =
     ap (map string_bytes) c.as_slice-2.ensures.value ∙ c.in_ok-names.ensures
     ∙ ap (λ xs. names_of (meanings xs)) c.as_slice.ensures.value in
-    let taken =
-    configured _ (meanings c.args.analyses.items) _ _ c.in_ok-config.config same before.config in
-    let of = model_is _ (meanings c.args.analyses.items) _ c.in_ok-config.config taken in
+    let file = option_map (λ s. s.now) c.args.file.entry in
     subst (IsDone _ _ _) (sym p.1)
-    (program_stops _ (meanings c.args.analyses.items) c.args.program.now _ c.in_ok-config.config
-    p.0 taken
+    (program_stops _ (meanings c.args.analyses.items) c.args.program.now _ _
+    c.in_ok-config.config p.0 same before.config
     (moved _ _ _ _ _ _ p.0 before.told before.reads
     (subst (IsHalted _ _) (sym p.2)
-    (c.in_err-program.ensures.refused (of_config (names_of (meanings c.args.analyses.items)) _)
-    (subst (λ (told : List ℕ → Option (List ℕ)). IsModelOf told (of_config _ _) _)
-    (sym before.told) of)))))
+    (c.in_err-program.ensures.refused
+    (of_config (names_of (meanings c.args.analyses.items)) file)
+    (model_told _ _ file _ _ c.in_ok-config.config before.told same before.config)))))
 
 pub conclude-requires-clause-places : goal.conclude-requires-clause-places
 conclude-requires-clause-places g c =
