@@ -8,17 +8,20 @@ use Rattle.c_core_checked.specs.declared.text.CheckedText.{CheckedText}
 use Rattle.c_core_checked.specs.Texts.{IsCheckedText, unit_core}
 use Rattle.c_core_checked.specs.Sound.{Sound}
 use Rattle.c_core_checked.specs.lemmas.Checked as checked
+use Rattle.cpa_ints.specs.declared.data_model.DataModel.{DataModel}
 
 abbrev pub OneCheckedText : Type 0
 OneCheckedText =
-    (tree : UnitTree) (a b : CheckedText) → IsCheckedText tree a → IsCheckedText tree b → a ≡ b
+    (model : DataModel) (tree : UnitTree) (a b : CheckedText) → IsCheckedText model tree a →
+    IsCheckedText model tree b → a ≡ b
 
 pub one_checked_text : OneCheckedText
 one_checked_text = checked.one_text
 
 abbrev pub SoundTextsAreWithinLimits : Type 0
 SoundTextsAreWithinLimits =
-    (tree : UnitTree) (firsts : List ℕ) → Sound tree → IsWithinLimits (unit_core firsts tree)
+    (model : DataModel) (tree : UnitTree) (firsts : List ℕ) → Sound model tree →
+    IsWithinLimits (unit_core model firsts tree)
 
 pub sound_texts_are_within_limits : SoundTextsAreWithinLimits
 sound_texts_are_within_limits = checked.sound_within

@@ -10,31 +10,32 @@ use Rattle.c_types_rules.specs.Sound.{BreaksTree, NotBehind, unit_globals, unit_
 use Rattle.c_core_checked.specs.declared.text.CheckedText.{CheckedText}
 use Rattle.c_core_rules_laws.specs.Layouts as layouts
 use Rattle.c_core_checked.specs.Texts.{IsCheckedText}
+use Rattle.cpa_ints.specs.declared.data_model.DataModel.{DataModel}
 
 -- N13: the core, which a text has that breaks no other rule, is larger than a program may be
 -- (this project's own): the text's end
-pub record IsTooLarge (unit : UnitTree) (fault : TextFault) : Type 0 where
+pub record IsTooLarge (model : DataModel) (unit : UnitTree) (fault : TextFault) : Type 0 where
   pub rule : fault.rule ≡ rule.N13
   pub place : fault.place ≡ unit.length
-  pub has_core : (other : TextFault) → BreaksTree unit other → ⊥
-  pub large : layouts.IsTooLarge (unit_globals unit) (unit_functions unit)
+  pub has_core : (other : TextFault) → BreaksTree model unit other → ⊥
+  pub large : layouts.IsTooLarge (unit_globals model unit) (unit_functions model unit)
 
 -- the text breaks this rule at this place
-abbrev pub Breaks : UnitTree → TextFault → Type 0
-Breaks unit fault = BreaksTree unit fault ⊎ IsTooLarge unit fault
+abbrev pub Breaks : DataModel → UnitTree → TextFault → Type 0
+Breaks model unit fault = BreaksTree model unit fault ⊎ IsTooLarge model unit fault
 
 -- no rule is broken anywhere
-abbrev pub Sound : UnitTree → Type 0
-Sound unit = (fault : TextFault) → Breaks unit fault → ⊥
+abbrev pub Sound : DataModel → UnitTree → Type 0
+Sound model unit = (fault : TextFault) → Breaks model unit fault → ⊥
 
 -- a rule that is broken at the least place at which one is, and the lowest there
-pub record IsFirstBroken (unit : UnitTree) (fault : TextFault) : Type 0 where
-  pub breaks : Breaks unit fault
-  pub first : (other : TextFault) → Breaks unit other → NotBehind fault other
+pub record IsFirstBroken (model : DataModel) (unit : UnitTree) (fault : TextFault) : Type 0 where
+  pub breaks : Breaks model unit fault
+  pub first : (other : TextFault) → Breaks model unit other → NotBehind fault other
 
 -- what a check of a text answers: the checked text where the text is sound, and otherwise the first
 -- broken rule
-abbrev pub IsChecked : UnitTree → Result CheckedText TextError → Type 0
-IsChecked unit (Ok checked) = Sound unit × IsCheckedText unit checked
-IsChecked unit (Err (error.Fault fault)) = IsFirstBroken unit fault
-IsChecked unit (Err error.OutOfMemory) = Unit {0}
+abbrev pub IsChecked : DataModel → UnitTree → Result CheckedText TextError → Type 0
+IsChecked model unit (Ok checked) = Sound model unit × IsCheckedText model unit checked
+IsChecked model unit (Err (error.Fault fault)) = IsFirstBroken model unit fault
+IsChecked model unit (Err error.OutOfMemory) = Unit {0}

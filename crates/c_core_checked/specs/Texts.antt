@@ -5,21 +5,22 @@ use Rattle.cpa_model.specs.declared.program.Program.{Program}
 use Rattle.c_grammar_tree.specs.declared.item.Unit.{Unit as UnitTree}
 use Rattle.c_types_rules.specs.declared.typed.TypedFunction.{TypedFunction}
 use Rattle.c_types_rules.specs.Names.{body_of}
-use Rattle.c_types_rules.specs.Items.{text_of}
+use Rattle.c_types_rules.specs.Items.{text_in}
 use Rattle.c_types_rules.specs.Sound.{unit_globals, unit_functions, main_name}
 use Rattle.cpa_model_trees.specs.Numbering.{Trees, AreTreesOf}
 use Rattle.cpa_model_trees.specs.Rows.{places_of}
 use Rattle.c_core_rules.specs.Cells.{Made}
 use Rattle.c_core_rules_laws.specs.Layouts.{AreFirst, text_from}
 use Rattle.c_core_checked.specs.declared.text.CheckedText.{CheckedText}
+use Rattle.cpa_ints.specs.declared.data_model.DataModel.{DataModel}
 
 -- what the rules make of a tree's globals and functions, if these begin at these cells
-abbrev pub unit_core : List ℕ → UnitTree → Made Trees
-unit_core firsts unit = text_from firsts (unit_globals unit) (unit_functions unit)
+abbrev pub unit_core : DataModel → List ℕ → UnitTree → Made Trees
+unit_core model firsts unit = text_from firsts (unit_globals model unit) (unit_functions model unit)
 
 -- the number of its main among its functions
-abbrev pub unit_main : UnitTree → ℕ
-unit_main unit = unwrap_or (body_of (text_of unit.items) main_name) 0
+abbrev pub unit_main : DataModel → UnitTree → ℕ
+unit_main model unit = unwrap_or (body_of (text_in model unit.items) main_name) 0
 
 -- where functions are left
 abbrev pub ends_of : List TypedFunction → List ℕ
@@ -27,14 +28,15 @@ ends_of functions = map (λ (function : TypedFunction). function.end) functions
 
 -- the functions begin at some cells, where calls take them to begin there; the checked text has the
 -- cells that the rules then take, and the trees that they make of the functions
-pub record IsCheckedText (unit : UnitTree) (checked : CheckedText) : Type 0 where
+pub record IsCheckedText (model : DataModel) (unit : UnitTree)
+    (checked : CheckedText) : Type 0 where
   pub first_cells : List ℕ
-  pub are_first : AreFirst (unit_globals unit) (unit_functions unit) first_cells
-  pub cells : checked.cells ≡ (unit_core first_cells unit).taken.cells
-  pub names : checked.names ≡ (unit_core first_cells unit).taken.names
-  pub trees : checked.trees ≡ (unit_core first_cells unit).made
-  pub ends : checked.ends ≡ ends_of (unit_functions unit)
-  pub main : checked.main ≡ unit_main unit
+  pub are_first : AreFirst (unit_globals model unit) (unit_functions model unit) first_cells
+  pub cells : checked.cells ≡ (unit_core model first_cells unit).taken.cells
+  pub names : checked.names ≡ (unit_core model first_cells unit).taken.names
+  pub trees : checked.trees ≡ (unit_core model first_cells unit).made
+  pub ends : checked.ends ≡ ends_of (unit_functions model unit)
+  pub main : checked.main ≡ unit_main model unit
   pub text_len : checked.text_len ≡ unit.length
 
 -- P is the program of a checked text: its cells, the statements of its trees in the order of the

@@ -17,7 +17,7 @@ use Rattle.c_types_rules.specs.Names.{Text}
 use Rattle.c_types_rules.specs.Statements.{Site, Walk, walk_of, in_order, receiving, labels_of}
 use Rattle.c_types_rules.specs.StatementRules.{site_faults, jump_faults}
 use Rattle.c_types_rules.specs.TypedStatements.{grown, walk_in, typed_function}
-use Rattle.c_types_rules.specs.Items.{Before, text_of, listed, around_body, function_behind}
+use Rattle.c_types_rules.specs.Items.{Before, text_in, listed, around_body, function_behind}
 use Rattle.c_types_rules.specs.Items.{body_sites}
 use Rattle.c_types_rules.specs.Items.{head_faults, item_behind, item_faults, items_faults}
 use Rattle.c_types_rules.specs.Items.{nothing_before}
@@ -29,6 +29,7 @@ use Rattle.c_core_laws.specs.lemmas.SameWalk.{same_walk}
 use Rattle.c_core_laws.proofs.JumpsTyped.{Clean, clean_right, Keeps, keeps_still, keeps_then}
 use Rattle.c_core_laws.proofs.JumpsTyped.{items_fit, all_jumped, Stands, BelowSome}
 use Rattle.c_core_laws.proofs.JumpsTyped.{Quiet, quiet_still, quiet_then}
+use Rattle.cpa_ints.specs.declared.data_model.DataModel.{DataModel}
 
 -- every goto names one of the labels, and nothing is loose
 abbrev pub JumpsFit : Jumps → Type 0
@@ -151,6 +152,7 @@ functions_fit text (item.Function specifiers declarator (body.Block items place 
           (none_right (item_faults text one before) rest none),
     )
 
-pub unit_jumps_fit : (tree : UnitTree) → Sound tree → FunctionsFit (unit_functions tree)
-unit_jumps_fit tree sound =
-    functions_fit (text_of tree.items) tree.items nothing_before (no_fault tree sound)
+pub unit_jumps_fit : (model : DataModel) (tree : UnitTree) → Sound model tree →
+    FunctionsFit (unit_functions model tree)
+unit_jumps_fit model tree sound =
+    functions_fit (text_in model tree.items) tree.items nothing_before (no_fault model tree sound)

@@ -61,6 +61,7 @@ use Rattle.c_core_laws.proofs.Extending.{object_extends}
 use Rattle.c_core_laws.proofs.Jumping.{Has, TreeHas, has_none, has_plain, has_append, has_one}
 use Rattle.c_core_laws.proofs.Jumping.{plain_then, leaf_has, block_has, choice_has, loop_has}
 use Rattle.c_core_laws.proofs.Jumping.{node_has, jumps_is, AllAny, then_none}
+use Rattle.cpa_ints.specs.declared.data_model.DataModel.{DataModel}
 
 -- anything
 abbrev pub Any : {S : Type 0} → S → Type 0
@@ -588,10 +589,11 @@ functions_make frames (function ∷ functions) =
     })))
 
 -- the trees of a checked text
-pub text_keeps : (tree : UnitTree) (checked : CheckedText) → IsCheckedText tree checked →
-    Keep (unit_functions tree) checked.trees
-text_keeps tree checked of =
-    let functions = unit_functions tree in
+pub text_keeps : (model : DataModel) (tree : UnitTree) (checked : CheckedText) →
+    IsCheckedText model tree checked →
+    Keep (unit_functions model tree) checked.trees
+text_keeps model tree checked of =
+    let functions = unit_functions model tree in
     subst (Keep functions) (sym of.trees)
     ((functions_make (frames_of of.first_cells functions) functions).at (file_cells
-    (unit_globals tree)))
+    (unit_globals model tree)))

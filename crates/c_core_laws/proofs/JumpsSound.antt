@@ -30,6 +30,7 @@ use Rattle.c_core_laws.proofs.ProgramTrees.{InTree, in_tree, tree_stmt}
 use Rattle.c_core_laws.proofs.Loops.{leaves, IsInLoop, loops_in}
 use Rattle.c_core_laws.proofs.Gotos.{label_at, marked, GotoBelow, going}
 use Rattle.c_core_laws.proofs.FunctionsJump.{JumpsFit, unit_jumps_fit}
+use Rattle.cpa_ints.specs.declared.data_model.DataModel.{DataModel}
 
 all_of : {X Y : Type 0} (Q : Y → Type 0) (f : X → Y) (xs : List X) (k : ℕ) (x : X) →
     AllByRecursion Q (map f xs) → slice_get xs k ≡ Some x → Q (f x)
@@ -89,12 +90,13 @@ in_function trees P n s r i p at =
     (λ b c part up. function_part b part up) r.tree).at r.first r.placed_at r.fits
     (function_body r.body) i p at
 
-pub of_tree : (tree : UnitTree) (checked : CheckedText) (P : Program) → IsCheckedText tree checked →
+pub of_tree : (model : DataModel) (tree : UnitTree) (checked : CheckedText) (P : Program) →
+    IsCheckedText model tree checked →
     IsCore checked P → (n : ℕ) (s : Stmt) → IsStmt P n s → IsOfTree checked.trees P n s
-of_tree tree checked P of is n s at =
+of_tree model tree checked P of is n s at =
     let trees = checked.trees in
     let r : StandsIn trees P n s =
-    stands_in trees P is.trees (text_keeps tree checked of).shaped n s at in
+    stands_in trees P is.trees (text_keeps model tree checked of).shaped n s at in
     record {
       function = r.function;
       tree = r.tree;
@@ -151,17 +153,18 @@ goto_leads trees P N n s r label below f inside =
     (subst (InFunction P r.function) (sym goes) there) in
     (in_function_inside P N f (part labels label) to_there, to_there)
 
-pub jump_sound : (tree : UnitTree) (checked : CheckedText) (P : Program) → Sound tree →
-    IsCheckedText tree checked → IsCore checked P → (n : ℕ) (s : Stmt) → IsStmt P n s →
+pub jump_sound : (model : DataModel) (tree : UnitTree) (checked : CheckedText) (P : Program) →
+    Sound model tree →
+    IsCheckedText model tree checked → IsCore checked P → (n : ℕ) (s : Stmt) → IsStmt P n s →
     JumpIsSound P n s
-jump_sound tree checked P sound of is n s at =
+jump_sound model tree checked P sound of is n s at =
     let trees = checked.trees in
-    let kept = text_keeps tree checked of in
+    let kept = text_keeps model tree checked of in
     let r : StandsIn trees P n s = stands_in trees P is.trees kept.shaped n s at in
     let labels = labels_from r.first (statements r.tree) in
     let fit : JumpsFit (tree_jumps r.tree) =
     all_of JumpsFit tree_jumps trees r.function r.tree
-    (subst (AllByRecursion JumpsFit) (sym kept.are) (unit_jumps_fit tree sound))
+    (subst (AllByRecursion JumpsFit) (sym kept.are) (unit_jumps_fit model tree sound))
     r.is_tree in
     let many : length labels ≡ (tree_jumps r.tree).labels = (marked r.tree).at r.first r.fits in
     let below : GotoBelow (length labels) r.placed.head =
@@ -172,4 +175,4 @@ jump_sound tree checked P sound of is n s at =
     (by_head P labels n r.placed.head (numbers_from ((r.first + r.index) + 1) r.placed.sizes)
     (λ so. subst (IsInLoop P) (sym r.here)
     ((loops_in P labels r.tree).at r.first r.placed_at r.fits (inl fit.0) r.index r.placed r.at so))
-    below (goto_leads trees P (core_numbered tree checked P of is) n s r))
+    below (goto_leads trees P (core_numbered model tree checked P of is) n s r))

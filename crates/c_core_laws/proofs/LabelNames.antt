@@ -58,7 +58,7 @@ use Rattle.c_types_rules.specs.StatementRules.{entering_gotos, site_faults, jump
 use Rattle.c_types_rules.specs.ExpressionRules.{broken, at_if}
 use Rattle.c_types_rules.specs.TypedStatements.{Grown, grown, grown_item, grown_statement}
 use Rattle.c_types_rules.specs.TypedStatements.{label_number}
-use Rattle.c_types_rules.specs.Items.{Before, text_of, listed, around_body, function_behind}
+use Rattle.c_types_rules.specs.Items.{Before, text_in, listed, around_body, function_behind}
 use Rattle.c_types_rules.specs.Items.{body_sites, head_faults, item_behind, item_faults}
 use Rattle.c_types_rules.specs.Items.{items_faults, nothing_before}
 use Rattle.c_core_checked.specs.Sound.{Sound}
@@ -69,6 +69,7 @@ use Rattle.c_core_laws.proofs.JumpsTyped.{Keeps, Counts, labels_in, open_labels,
 use Rattle.c_core_laws.proofs.JumpsTyped.{items_walk, flat_items, item_jumped, statement_jumped}
 use Rattle.c_core_laws.proofs.JumpsTyped.{keeps_start, quiet_start, counts_quiet}
 use Rattle.c_core_laws.proofs.FunctionsJump.{walks_same, keeps_receiving, quiet_receiving}
+use Rattle.cpa_ints.specs.declared.data_model.DataModel.{DataModel}
 
 -- the names of the labels at these sites
 
@@ -876,8 +877,8 @@ items_named text (item.Function specifiers declarator (made.Block items place en
     (items_named text more (item_behind text one before)
     (none_right (item_faults text one before) rest none))
 
-pub labels_named : (tree : UnitTree) → Sound tree →
+pub labels_named : (model : DataModel) (tree : UnitTree) → Sound model tree →
     AllByRecursion (λ (site : Site). IsNamed site.around site.act)
-    (sites_in (text_of tree.items) tree.items nothing_before)
-labels_named tree sound =
-    items_named (text_of tree.items) tree.items nothing_before (no_fault tree sound)
+    (sites_in (text_in model tree.items) tree.items nothing_before)
+labels_named model tree sound =
+    items_named (text_in model tree.items) tree.items nothing_before (no_fault model tree sound)

@@ -33,7 +33,7 @@ use Rattle.c_types_rules.specs.TypedStatements.{Grown, grown, grown_item, grown_
 use Rattle.c_types_rules.specs.TypedStatements.{label_number, typed_expression, typed_optional}
 use Rattle.c_types_rules.specs.TypedStatements.{typed_for_start, typed_declaration, typed_function}
 use Rattle.c_types_rules.specs.TypedStatements.{typed_break}
-use Rattle.c_types_rules.specs.Items.{Before, text_of, listed, around_body, function_behind}
+use Rattle.c_types_rules.specs.Items.{Before, text_in, listed, around_body, function_behind}
 use Rattle.c_types_rules.specs.Items.{item_behind, nothing_before}
 use Rattle.c_types_rules.specs.Sound.{functions_of, unit_functions}
 use Rattle.c_core_checked.specs.Sound.{Sound}
@@ -45,6 +45,7 @@ use Rattle.c_core_laws.proofs.JumpsTyped.{labels_in, open_labels}
 use Rattle.c_core_laws.proofs.JumpsTyped.{open_labels_item, items_typed, flat_items}
 use Rattle.c_core_laws.proofs.JumpsTyped.{item_jumped, statement_jumped, quiet_start}
 use Rattle.c_core_laws.proofs.FunctionsJump.{quiet_receiving}
+use Rattle.cpa_ints.specs.declared.data_model.DataModel.{DataModel}
 
 -- the numbers of the labels in typed statements
 
@@ -429,6 +430,7 @@ functions_in_order text (item.Function specifiers declarator (made.Block items p
           before),
     )
 
-pub numbers_in_order : (tree : UnitTree) → Sound tree →
-    AllByRecursion AreInOrder (unit_functions tree)
-numbers_in_order tree sound = functions_in_order (text_of tree.items) tree.items nothing_before
+pub numbers_in_order : (model : DataModel) (tree : UnitTree) → Sound model tree →
+    AllByRecursion AreInOrder (unit_functions model tree)
+numbers_in_order model tree sound = functions_in_order
+    (text_in model tree.items) tree.items nothing_before

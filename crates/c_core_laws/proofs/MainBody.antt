@@ -17,7 +17,7 @@ use Rattle.cpa_ints.specs.declared.integers.IntType.TheVariants as ty
 use Rattle.c_types_rules.specs.declared.meaning.Kind.TheVariants.{Value}
 use Rattle.c_types_rules.specs.Names.{Text, place_of}
 use Rattle.c_types_rules.specs.Declarations.{kind_of}
-use Rattle.c_types_rules.specs.Items.{Before, text_of, body_name, item_behind, same_kind}
+use Rattle.c_types_rules.specs.Items.{Before, text_in, body_name, item_behind, same_kind}
 use Rattle.c_types_rules.specs.Items.{items_faults}
 use Rattle.c_types_rules.specs.Items.{nothing_before}
 use Rattle.c_types_rules.specs.Recursion.{Among}
@@ -28,6 +28,7 @@ use Rattle.c_core_checked.specs.declared.text.CheckedText.{CheckedText}
 use Rattle.c_core_checked.specs.Texts.{IsCheckedText, IsCore}
 use Rattle.c_core_checked.specs.Sound.{Sound}
 use Rattle.c_core_laws.specs.lemmas.BodyCounts.{bodies_are}
+use Rattle.cpa_ints.specs.declared.data_model.DataModel.{DataModel}
 
 -- and a function for each body of the text
 functions_many : (text : Text) (items : List Item) (before : Before) →
@@ -121,24 +122,26 @@ no_fault : (b : Bool) (fault : TextFault) (faults : List TextFault) →
 no_fault true fault faults none = refl
 no_fault false fault faults none = absurd (none fault (among_last fault faults))
 
-has_main : (tree : UnitTree) → Sound tree → list_any (is_main (text_of tree.items)) tree.items ≡
+has_main : (model : DataModel) (tree : UnitTree) → Sound model tree →
+    list_any (is_main (text_in model tree.items)) tree.items ≡
     true
 unfolding unit_faults
-has_main tree sound =
-    no_fault (list_any (is_main (text_of tree.items)) tree.items)
+has_main model tree sound =
+    no_fault (list_any (is_main (text_in model tree.items)) tree.items)
     (record { rule = rule.N11; place = tree.length })
-    (items_faults (text_of tree.items) tree.items nothing_before)
+    (items_faults (text_in model tree.items) tree.items nothing_before)
     (λ other among. sound other (inl (inl among)))
 
-pub main_body : (tree : UnitTree) (checked : CheckedText) (P : Program) → Sound tree →
-    IsCheckedText tree checked → IsCore checked P → P.main < length P.bodies
-main_body tree checked P sound of is =
+pub main_body : (model : DataModel) (tree : UnitTree) (checked : CheckedText) (P : Program) →
+    Sound model tree →
+    IsCheckedText model tree checked → IsCore checked P → P.main < length P.bodies
+main_body model tree checked P sound of is =
     let names = filter_map body_name tree.items in
     let f : Found names (place_of (bytes_eq main_name) names) =
-    found (bytes_eq main_name) names (main_named (text_of tree.items) tree.items
-    (has_main tree sound)) in
+    found (bytes_eq main_name) names (main_named (text_in model tree.items) tree.items
+    (has_main model tree sound)) in
     let here : P.main ≡ f.0 = is.main ∙ of.main ∙ ap (λ o. unwrap_or o 0) f.1 in
     let many : length P.bodies ≡ length names =
-    bodies_are tree checked P of is
-    ∙ functions_many (text_of tree.items) tree.items nothing_before in
+    bodies_are model tree checked P of is
+    ∙ functions_many (text_in model tree.items) tree.items nothing_before in
     omega (arith, f.2)

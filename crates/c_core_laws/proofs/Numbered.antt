@@ -7,8 +7,9 @@ use Rattle.c_grammar_tree.specs.declared.item.Unit.{Unit as UnitTree}
 use Rattle.c_core_checked.specs.declared.text.CheckedText.{CheckedText}
 use Rattle.c_core_checked.specs.Texts.{IsCheckedText, IsCore}
 use Rattle.c_core_laws.proofs.JumpsKept.{text_keeps}
+use Rattle.cpa_ints.specs.declared.data_model.DataModel.{DataModel}
 
-pub core_numbered : (tree : UnitTree) (checked : CheckedText) (P : Program) →
-    IsCheckedText tree checked → IsCore checked P → IsNumbered P
-core_numbered tree checked P of is =
-    are_numbered checked.trees P (text_keeps tree checked of).shaped is.trees
+pub core_numbered : (model : DataModel) (tree : UnitTree) (checked : CheckedText) (P : Program) →
+    IsCheckedText model tree checked → IsCore checked P → IsNumbered P
+core_numbered model tree checked P of is =
+    are_numbered checked.trees P (text_keeps model tree checked of).shaped is.trees

@@ -21,6 +21,7 @@ use Rattle.c_core_checked.specs.Sound.{Sound}
 use Rattle.c_core_checked.specs.Laws.{sound_texts_are_within_limits}
 use Rattle.c_core_laws.specs.Sizes.{IsSmall, stmt_height}
 use Rattle.c_core_laws.specs.lemmas.BodyCounts.{bodies_many}
+use Rattle.cpa_ints.specs.declared.data_model.DataModel.{DataModel}
 
 head_is : (labels : List ℕ) (h : Head) (parts : List ℕ) →
     stmt_height (stmt_of labels h parts) ≡ head_height h
@@ -78,11 +79,12 @@ each_height : (stmts : List Stmt) (n : ℕ) → greatest (map stmt_height stmts)
 each_height [] n h = tt
 each_height (s ∷ stmts) n h = (omega arith, each_height stmts n (omega arith))
 
-pub core_small : (tree : UnitTree) (checked : CheckedText) (P : Program) → Sound tree →
-    IsCheckedText tree checked → IsCore checked P → IsSmall P
-core_small tree checked P sound of is =
-    let within = sound_texts_are_within_limits tree of.first_cells sound in
-    let m = unit_core of.first_cells tree in
+pub core_small : (model : DataModel) (tree : UnitTree) (checked : CheckedText) (P : Program) →
+    Sound model tree →
+    IsCheckedText model tree checked → IsCore checked P → IsSmall P
+core_small model tree checked P sound of is =
+    let within = sound_texts_are_within_limits model tree of.first_cells sound in
+    let m = unit_core model of.first_cells tree in
     let same = core_heights checked P is
     ∙ ap heights_of of.trees in
     let stmts : length P.stmts ≡ length (heights_of m.made) =

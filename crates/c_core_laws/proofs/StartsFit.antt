@@ -41,7 +41,7 @@ use Rattle.c_types_rules.specs.Declarations.{tag_entry, enumerator_entry, enumer
 use Rattle.c_types_rules.specs.Statements.{Around, enumerates, tags, enumerating, naming}
 use Rattle.c_types_rules.specs.Statements.{enumeration_walk}
 use Rattle.c_types_rules.specs.StatementRules.{site_faults}
-use Rattle.c_types_rules.specs.Items.{Before, text_of, one_type, merged_object, redeclares_object}
+use Rattle.c_types_rules.specs.Items.{Before, text_in, one_type, merged_object, redeclares_object}
 use Rattle.c_types_rules.specs.Items.{global_of, global_behind, redeclared_object, start_faults}
 use Rattle.c_types_rules.specs.Items.{object_faults, global_faults, globals_behind, globals_faults}
 use Rattle.c_types_rules.specs.Items.{merged_function}
@@ -61,6 +61,7 @@ use Rattle.c_core_laws.specs.lemmas.Faults.{NoFaults, none_left, none_right, not
 use Rattle.c_core_laws.specs.lemmas.Entries.{push_named, push_other, same_object}
 use Rattle.c_core_laws.specs.lemmas.Enumerations.{fresh_enumerator, fresh_tag}
 use Rattle.c_core_laws.specs.lemmas.MadeValues.{type_same}
+use Rattle.cpa_ints.specs.declared.data_model.DataModel.{DataModel}
 
 first_of_three : (a b c : List TextFault) → NoFaults (a ++ b ++ c) → NoFaults a
 first_of_three a b c none = none_left a b (none_left (a ++ b) c none)
@@ -552,9 +553,10 @@ all_named names starts (name ∷ all) h =
     append_globals (global_named names starts name) (flat_map (global_named names starts) all)
     (named_fits names starts name (declared_as names name) refl h) (all_named names starts all h)
 
-pub globals_fit : (tree : UnitTree) → Sound tree → AllByRecursion InRange (unit_globals tree)
-globals_fit tree sound =
-    let text = text_of tree.items in
+pub globals_fit : (model : DataModel) (tree : UnitTree) → Sound model tree →
+    AllByRecursion InRange (unit_globals model tree)
+globals_fit model tree sound =
+    let text = text_in model tree.items in
     let names = (items_behind text tree.items nothing_before).names in
     all_named names (starts_of text tree.items nothing_before) (object_names [] names)
-    (items_fit text tree.items nothing_before (no_fault tree sound))
+    (items_fit text tree.items nothing_before (no_fault model tree sound))

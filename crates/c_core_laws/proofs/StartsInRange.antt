@@ -23,6 +23,7 @@ use Rattle.c_core_laws.proofs.Extending.{zero_cell}
 use Rattle.c_core_laws.proofs.JumpsKept.{functions_make}
 use Rattle.c_core_laws.proofs.StartsFit.{InRange, globals_fit}
 use Rattle.c_core_laws.specs.lemmas.MadeValues.{zero_in_range}
+use Rattle.cpa_ints.specs.declared.data_model.DataModel.{DataModel}
 
 abbrev CellInRange : Cell → Type 0
 CellInRange c = IsInRange c.ty c.start
@@ -73,10 +74,11 @@ text_in_range firsts globals functions h =
     (cells_append front.cells (map zero_cell behind.more)
     (globals_in_range globals nothing_taken h tt) (zero_cells behind.more))
 
-pub cells_in_range : (tree : UnitTree) (checked : CheckedText) (P : Program) → Sound tree →
-    IsCheckedText tree checked → IsCore checked P →
+pub cells_in_range : (model : DataModel) (tree : UnitTree) (checked : CheckedText) (P : Program) →
+    Sound model tree →
+    IsCheckedText model tree checked → IsCore checked P →
     AllByRecursion (λ (c : Cell). IsInRange c.ty c.start) P.cells
-cells_in_range tree checked P sound of is =
+cells_in_range model tree checked P sound of is =
     subst AllInRange (sym (is.cells ∙ of.cells))
-    (text_in_range of.first_cells (unit_globals tree) (unit_functions tree)
-    (globals_fit tree sound))
+    (text_in_range of.first_cells (unit_globals model tree) (unit_functions model tree)
+    (globals_fit model tree sound))

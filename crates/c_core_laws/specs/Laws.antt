@@ -9,7 +9,7 @@ use Rattle.cpa_model.specs.Programs.{IsStmt, IsNumbered}
 use Rattle.c_grammar_tree.specs.declared.item.Unit.{Unit as UnitTree}
 use Rattle.c_types_rules.specs.declared.typed.Global.{Global}
 use Rattle.c_types_rules.specs.declared.typed.TypedFunction.{TypedFunction}
-use Rattle.c_types_rules.specs.Items.{text_of, nothing_before}
+use Rattle.c_types_rules.specs.Items.{text_in, nothing_before}
 use Rattle.c_types_rules.specs.Sound.{unit_functions}
 use Rattle.c_types_rules.specs.Types.{object_type}
 use Rattle.c_core_rules.specs.Values.{cell_at}
@@ -27,6 +27,7 @@ use Rattle.c_core_laws.specs.Labels.{function_labels, AreInOrder, IsBlockOf, IsN
 use Rattle.c_core_laws.specs.Sizes.{IsSmall}
 use Rattle.c_core_laws.specs.Starts.{FrameStands}
 use Rattle.c_core_laws.specs.Standing.{IsOfTree}
+use Rattle.cpa_ints.specs.declared.data_model.DataModel.{DataModel}
 
 abbrev pub OneCore : Type 0
 OneCore = (checked : CheckedText) (P Q : Program) → IsCore checked P → IsCore checked Q → P ≡ Q
@@ -41,48 +42,52 @@ FramesAreThere =
 
 abbrev pub CoresAreNumbered : Type 0
 CoresAreNumbered =
-    (tree : UnitTree) (checked : CheckedText) (P : Program) → IsCheckedText tree checked →
+    (model : DataModel) (tree : UnitTree) (checked : CheckedText) (P : Program) →
+    IsCheckedText model tree checked →
     IsCore checked P → IsNumbered P
 
 abbrev pub CoresAreSmall : Type 0
 CoresAreSmall =
-    (tree : UnitTree) (checked : CheckedText) (P : Program) → Sound tree →
-    IsCheckedText tree checked → IsCore checked P → IsSmall P
+    (model : DataModel) (tree : UnitTree) (checked : CheckedText) (P : Program) → Sound model tree →
+    IsCheckedText model tree checked → IsCore checked P → IsSmall P
 
 abbrev pub CoresHaveAMain : Type 0
 CoresHaveAMain =
-    (tree : UnitTree) (checked : CheckedText) (P : Program) → Sound tree →
-    IsCheckedText tree checked → IsCore checked P → P.main < length P.bodies
+    (model : DataModel) (tree : UnitTree) (checked : CheckedText) (P : Program) → Sound model tree →
+    IsCheckedText model tree checked → IsCore checked P → P.main < length P.bodies
 
 abbrev pub CellsStartInRange : Type 0
 CellsStartInRange =
-    (tree : UnitTree) (checked : CheckedText) (P : Program) → Sound tree →
-    IsCheckedText tree checked
+    (model : DataModel) (tree : UnitTree) (checked : CheckedText) (P : Program) → Sound model tree →
+    IsCheckedText model tree checked
     → IsCore checked P → AllByRecursion (λ cell. IsInRange cell.ty cell.start) P.cells
 
 abbrev pub JumpsAreKept : Type 0
 JumpsAreKept =
-    (tree : UnitTree) (checked : CheckedText) → IsCheckedText tree checked
-    → map tree_jumps checked.trees ≡ map function_jumps (unit_functions tree)
+    (model : DataModel) (tree : UnitTree) (checked : CheckedText) → IsCheckedText model tree checked
+    → map tree_jumps checked.trees ≡ map function_jumps (unit_functions model tree)
 
 abbrev pub StatementsAreOfTrees : Type 0
 StatementsAreOfTrees =
-    (tree : UnitTree) (checked : CheckedText) (P : Program) → IsCheckedText tree checked →
+    (model : DataModel) (tree : UnitTree) (checked : CheckedText) (P : Program) →
+    IsCheckedText model tree checked →
     IsCore checked P → (n : ℕ) (s : Stmt) → IsStmt P n s → IsOfTree checked.trees P n s
 
 abbrev pub JumpsAreSound : Type 0
 JumpsAreSound =
-    (tree : UnitTree) (checked : CheckedText) (P : Program) → Sound tree →
-    IsCheckedText tree checked
+    (model : DataModel) (tree : UnitTree) (checked : CheckedText) (P : Program) → Sound model tree →
+    IsCheckedText model tree checked
     → IsCore checked P → (n : ℕ) (s : Stmt) → IsStmt P n s → JumpIsSound P n s
 
 abbrev pub LabelsAreInOrder : Type 0
-LabelsAreInOrder = (tree : UnitTree) → Sound tree → AllByRecursion AreInOrder (unit_functions tree)
+LabelsAreInOrder = (model : DataModel) (tree : UnitTree) → Sound model tree →
+    AllByRecursion AreInOrder (unit_functions model tree)
 
 abbrev pub GotosGoToLabels : Type 0
 GotosGoToLabels =
-    (tree : UnitTree) → Sound tree → AllByRecursion (λ site. IsNamed site.around site.act)
-    (sites_in (text_of tree.items) tree.items nothing_before)
+    (model : DataModel) (tree : UnitTree) → Sound model tree →
+    AllByRecursion (λ site. IsNamed site.around site.act)
+    (sites_in (text_in model tree.items) tree.items nothing_before)
 
 abbrev pub LabelsAreBlocks : Type 0
 LabelsAreBlocks =

@@ -35,7 +35,7 @@ use Rattle.c_types_rules.specs.Declarations.{kind_of, has_const}
 use Rattle.c_types_rules.specs.StatementRules.{jump_faults, site_faults}
 use Rattle.c_types_rules.specs.Statements.{walk_of}
 use Rattle.c_types_rules.specs.TypedStatements.{grown}
-use Rattle.c_types_rules.specs.Items.{Before, Call, text_of, items_faults, items_calls}
+use Rattle.c_types_rules.specs.Items.{Before, Call, text_in, items_faults, items_calls}
 use Rattle.c_types_rules.specs.Items.{nothing_before, body_sites, body_faults, globals_faults}
 use Rattle.c_types_rules.specs.Items.{head_faults, enumeration_behind, enumeration_faults}
 use Rattle.c_types_rules.specs.Items.{item_behind, item_faults, listed}
@@ -76,6 +76,7 @@ use Rattle.c_core_sound.proofs.RunText.{Callee, Fit, body_around, globals_scope,
 use Rattle.c_core_sound.proofs.RunText.{later_scope, text_runs}
 use Rattle.c_core_sound.proofs.Bodies.{FoundBody, Single, found_body, frames_single, places_fit}
 use Rattle.c_core_sound.proofs.Bodies.{single_at}
+use Rattle.cpa_ints.specs.declared.data_model.DataModel.{DataModel}
 
 -- statements by the heads of their trees
 
@@ -194,10 +195,10 @@ callee all frames bodies functions last name result ps d is body many found stan
 
 -- a sound text, opened
 
-calls_are : (tree : UnitTree) →
-    unit_calls tree ≡ items_calls (text_of tree.items) tree.items nothing_before
+calls_are : (model : DataModel) (tree : UnitTree) →
+    unit_calls model tree ≡ items_calls (text_in model tree.items) tree.items nothing_before
 unfolding unit_calls
-calls_are tree = refl
+calls_are model tree = refl
 
 module _ (walks : (text : Text) (one : BlockItem) → (grown text one).walk ≡ walk_of text one) where
   -- file scope, to the end of the text
@@ -269,23 +270,24 @@ module _ (walks : (text : Text) (one : BlockItem) → (grown text one).walk ≡ 
       (function_scope text before true specifiers declarator none_head f))
 
   -- the trees of the functions
-  trees_fit : FramesAreThere → (tree : UnitTree) (firsts : List ℕ) →
-      AreFirst (unit_globals tree) (unit_functions tree) firsts → IsWhole tree → Sound tree →
-      Fit (types_of (unit_core firsts tree).taken.cells) (unit_calls tree)
-      (length (unit_functions tree)) (frames_of firsts (unit_functions tree))
-      (text_of tree.items) (file_cells (unit_globals tree)).starts
-      (items_behind (text_of tree.items) tree.items nothing_before).names 0
-      (unit_core firsts tree).made
-  trees_fit frames_there tree firsts are_first whole sound =
-      let text = text_of tree.items in
-      let globals = unit_globals tree in
-      let functions = unit_functions tree in
+  trees_fit : FramesAreThere → (model : DataModel) (tree : UnitTree) (firsts : List ℕ) →
+      AreFirst (unit_globals model tree) (unit_functions model tree) firsts → IsWhole tree →
+      Sound model tree →
+      Fit (types_of (unit_core model firsts tree).taken.cells) (unit_calls model tree)
+      (length (unit_functions model tree)) (frames_of firsts (unit_functions model tree))
+      (text_in model tree.items) (file_cells (unit_globals model tree)).starts
+      (items_behind (text_in model tree.items) tree.items nothing_before).names 0
+      (unit_core model firsts tree).made
+  trees_fit frames_there model tree firsts are_first whole sound =
+      let text = text_in model tree.items in
+      let globals = unit_globals model tree in
+      let functions = unit_functions model tree in
       let frames = frames_of firsts functions in
       let front = file_cells globals in
-      let all = types_of (unit_core firsts tree).taken.cells in
+      let all = types_of (unit_core model firsts tree).taken.cells in
       let last = (items_behind text tree.items nothing_before).names in
       let bodies = length functions in
-      let none = no_fault tree sound in
+      let none = no_fault model tree sound in
       let scope0 : FileScope [] 0 = record {
         some = λ name d is. absurd (cc);
         below = record { at = λ name d is. absurd (cc) };
@@ -299,17 +301,19 @@ module _ (walks : (text : Text) (one : BlockItem) → (grown text one).walk ≡ 
       (found_body text tree.items nothing_before none name body has)
       (λ function at. frames_there globals functions firsts are_first body function at)
       (frames_single firsts functions) in
-      let r = text_runs all (unit_calls tree) bodies frames text front.starts last (walks text)
+      let r = text_runs all (unit_calls model tree) bodies frames text front.starts last
+      (walks text)
       stand
       tree.items nothing_before none whole
-      (λ c here. subst (Among c) (sym (calls_are tree)) here) scope0 refl in
+      (λ c here. subst (Among c) (sym (calls_are model tree)) here) scope0 refl in
       let within : Within all (each (map (function_rule frames) functions) front).taken = record {
         more = [];
         is = sym (append-nil _);
       } in
       let begin = λ (name : List ℕ) (object : Object) (i : Bool)
       (is : declared_as last name ≡ Some (declared.Object object i)).
-      globals_begin (ground all (unit_calls tree) bodies frames text front.starts last 0) last
+      globals_begin (ground all (unit_calls model tree) bodies frames text front.starts last 0)
+      last
       (items_behind text tree.items nothing_before).objects (starts_of text tree.items
       nothing_before) scope name object i is
       (within_before all front (each (map (function_rule frames) functions) front).taken
@@ -336,13 +340,15 @@ module _ (walks : (text : Text) (one : BlockItem) → (grown text one).walk ≡ 
       (fit_at all calls bodies frames text first last (j + 1) trees k t fit.1 at)
 
   -- a call leads back to no caller
-  call_sound : (tree : UnitTree) (P : Program) → Sound tree → IsNumbered P → (bodies : ℕ) →
+  call_sound : (model : DataModel) (tree : UnitTree) (P : Program) → Sound model tree →
+      IsNumbered P → (bodies : ℕ) →
       bodies ≡ length P.bodies →
-      ((a n b : ℕ) → InFunction P a n → IsStmt P n (stmt.Call b) → Calls (unit_calls tree) a b) →
-      (k n f : ℕ) → InFunction P k n → Calls (unit_calls tree) k f × (f < bodies) →
+      ((a n b : ℕ) → InFunction P a n → IsStmt P n (stmt.Call b) →
+      Calls (unit_calls model tree) a b) →
+      (k n f : ℕ) → InFunction P k n → Calls (unit_calls model tree) k f × (f < bodies) →
       IsSound P n (stmt.Call f)
-  call_sound tree P sound N bodies many called k n f inside lands =
-      let calls = unit_calls tree in
+  call_sound model tree P sound N bodies many called k n f inside lands =
+      let calls = unit_calls model tree in
       let never : recursion.Reaches calls f k → ⊥ =
       λ back. sound (record { rule = rule.N10; place = lands.0.0 }) (inl (inr (record {
         rule = refl;
@@ -363,23 +369,25 @@ module _ (walks : (text : Text) (one : BlockItem) → (grown text one).walk ≡ 
       )
 
   sound_at : FramesAreThere → StatementsAreOfTrees → CoresAreNumbered → CoresAreSmall →
-      JumpsAreSound → (tree : UnitTree) (checked : CheckedText) (P : Program) → IsWhole tree →
-      Sound tree → IsCheckedText tree checked → IsCore checked P →
-      length (unit_functions tree) ≡ length P.bodies → (n : ℕ) (s : Stmt) → IsStmt P n s →
+      JumpsAreSound → (model : DataModel) (tree : UnitTree) (checked : CheckedText)
+      (P : Program) →
+      IsWhole tree → Sound model tree → IsCheckedText model tree checked → IsCore checked P →
+      length (unit_functions model tree) ≡ length P.bodies → (n : ℕ) (s : Stmt) → IsStmt P n s →
       IsSound P n s
-  sound_at frames_there of_trees numbered small jumps tree checked P whole sound of is many n s at =
-      let text = text_of tree.items in
+  sound_at frames_there of_trees numbered small jumps model tree checked P whole sound of is
+      many n s at =
+      let text = text_in model tree.items in
       let firsts = of.first_cells in
-      let frames = frames_of firsts (unit_functions tree) in
-      let all = types_of (unit_core firsts tree).taken.cells in
-      let calls = unit_calls tree in
-      let bodies = length (unit_functions tree) in
-      let starts = (file_cells (unit_globals tree)).starts in
+      let frames = frames_of firsts (unit_functions model tree) in
+      let all = types_of (unit_core model firsts tree).taken.cells in
+      let calls = unit_calls model tree in
+      let bodies = length (unit_functions model tree) in
+      let starts = (file_cells (unit_globals model tree)).starts in
       let last = (items_behind text tree.items nothing_before).names in
       let fit : Fit all calls bodies frames text starts last 0 checked.trees =
       subst (Fit all calls bodies frames text starts last 0) (sym of.trees)
-      (trees_fit frames_there tree firsts of.are_first whole sound) in
-      let N = numbered tree checked P of is in
+      (trees_fit frames_there model tree firsts of.are_first whole sound) in
+      let N = numbered model tree checked P of is in
       let g = ground all calls bodies frames text starts last in
       let fits_of : (m : ℕ) (t : Stmt) (r : IsOfTree checked.trees P m t) →
       HeadFits (g r.function) r.placed.head =
@@ -389,33 +397,35 @@ module _ (walks : (text : Text) (one : BlockItem) → (grown text one).walk ≡ 
       r.tree fit r.is_tree).all r.among) in
       let called : (a m b : ℕ) → InFunction P a m → IsStmt P m (stmt.Call b) → Calls calls a b =
       λ a m b inside here.
-      let r = of_trees tree checked P of is m (stmt.Call b) here in
+      let r = of_trees model tree checked P of is m (stmt.Call b) here in
       let h = call_head r.labels r.placed.head r.parts b r.is in
       subst (λ k. Calls calls k b) (one_function P N r.function a m r.inside inside)
       ((subst (HeadFits (g r.function)) h (fits_of m (stmt.Call b) r)).0) in
-      let r = of_trees tree checked P of is n s at in
+      let r = of_trees model tree checked P of is n s at in
       let cells : all ≡ types_of P.cells = ap types_of (sym (is.cells ∙ of.cells)) in
       let tall : stmt_height s ≤ MAX_HEIGHT =
       all_at (λ (t : Stmt). stmt_height t ≤ MAX_HEIGHT) P.stmts n s
-      (small tree checked P sound of is).heights at in
+      (small model tree checked P sound of is).heights at in
       subst (IsSound P n) (sym r.is) (by_head P (g r.function) n r.labels r.placed.head r.parts
       cells
       (fits_of n s r) (subst (λ (t : Stmt). stmt_height t ≤ MAX_HEIGHT) r.is tall)
-      (subst (JumpIsSound P n) r.is (jumps tree checked P sound of is n s at))
-      (λ f lands. call_sound tree P sound N bodies many called r.function n f r.inside lands))
+      (subst (JumpIsSound P n) r.is (jumps model tree checked P sound of is n s at))
+      (λ f lands. call_sound model tree P sound N bodies many called r.function n f r.inside
+      lands))
 
 pub well_formed : FramesAreThere → StatementsAreOfTrees → CoresAreNumbered → CoresAreSmall →
-    JumpsAreSound → CoresHaveAMain → CellsStartInRange → (tree : UnitTree) (checked : CheckedText)
-    (P : Program) → IsWhole tree → Sound tree → IsCheckedText tree checked → IsCore checked P →
-    IsWellFormed P
-well_formed frames_there of_trees numbered small jumps main starts tree checked P whole sound of is
+    JumpsAreSound → CoresHaveAMain → CellsStartInRange → (model : DataModel) (tree : UnitTree)
+    (checked : CheckedText) (P : Program) → IsWhole tree → Sound model tree →
+    IsCheckedText model tree checked → IsCore checked P → IsWellFormed P
+well_formed frames_there of_trees numbered small jumps main starts model tree checked P whole sound
+    of is
     =
     record {
-      numbered = numbered tree checked P of is;
-      sound = sound_at same_walk frames_there of_trees numbered small jumps tree checked P whole
-          sound of is (sym (bodies_are tree checked P of is));
-      starts = starts tree checked P sound of is;
-      few_cells = (small tree checked P sound of is).cells;
-      few_points = (small tree checked P sound of is).points;
-      main = main tree checked P sound of is;
+      numbered = numbered model tree checked P of is;
+      sound = sound_at same_walk frames_there of_trees numbered small jumps model tree checked P
+          whole sound of is (sym (bodies_are model tree checked P of is));
+      starts = starts model tree checked P sound of is;
+      few_cells = (small model tree checked P sound of is).cells;
+      few_points = (small model tree checked P sound of is).points;
+      main = main model tree checked P sound of is;
     }

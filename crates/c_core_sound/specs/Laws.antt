@@ -10,19 +10,24 @@ use Rattle.c_core_checked.specs.declared.text.CheckedText.{CheckedText}
 use Rattle.c_core_checked.specs.Texts.{IsCheckedText, IsCore}
 use Rattle.c_core_checked.specs.Sound.{Sound}
 use Rattle.c_core_sound.specs.Whole.{IsWhole}
+use Rattle.cpa_ints.specs.declared.data_model.DataModel.{DataModel}
 
 abbrev pub TextsAreWhole : Type 0
 TextsAreWhole =
-    (text : List ℕ) (tokens : List Token) (tree : UnitTree) → Tokens text tokens
+    (model : DataModel) (text : List ℕ) (tokens : List Token) (tree : UnitTree) →
+    Tokens model text tokens
     → Tree text tokens tree → IsWhole tree
 
 abbrev pub WholeCores : Type 0
 WholeCores =
-    (tree : UnitTree) (checked : CheckedText) (P : Program) → IsWhole tree → Sound tree
-    → IsCheckedText tree checked → IsCore checked P → IsWellFormed P
+    (model : DataModel) (tree : UnitTree) (checked : CheckedText) (P : Program) → IsWhole tree →
+    Sound model tree
+    → IsCheckedText model tree checked → IsCore checked P → IsWellFormed P
 
 abbrev pub CoresAreWellFormed : Type 0
 CoresAreWellFormed =
-    (text : List ℕ) (tokens : List Token) (tree : UnitTree) (checked : CheckedText) (P : Program)
-    → Tokens text tokens → Tree text tokens tree → Sound tree → IsCheckedText tree checked
+    (model : DataModel) (text : List ℕ) (tokens : List Token) (tree : UnitTree)
+    (checked : CheckedText) (P : Program)
+    → Tokens model text tokens → Tree text tokens tree → Sound model tree →
+    IsCheckedText model tree checked
     → IsCore checked P → IsWellFormed P

@@ -1,6 +1,7 @@
 //! Laws of words and marks (`WORDS` and `MARKS` lack none) and of sources. Each function does
 //! nothing: its contract is the law.
 ghost use Rattle.std.specs.Prelude.{◌≡◌, ◌≢◌, ℕ, List, IsTrue};
+ghost use Rattle.cpa_ints.specs.declared.data_model.DataModel.{DataModel};
 ghost use Rattle.c_lexer.specs.declared.token.TokenKind.TheVariants.{Word, Mark};
 ghost use Rattle.c_lexer.specs.declared.token.Token.{Token};
 ghost use Rattle.c_lexer.specs.Marks.{is_mark};
@@ -57,7 +58,8 @@ pub fn marks_are_no_text()
 
 /// The tokens of a text are a source: what `Source::new` asks for.
 pub fn tokens_are_a_source()
-    ensures { (text : List ℕ) (tokens : List Token) → Tokens text tokens → IsSource text tokens }
+    ensures { (model : DataModel) (text : List ℕ) (tokens : List Token) →
+        Tokens model text tokens → IsSource text tokens }
 {
     tokens_lie_in_order();
     tokens_end_once();

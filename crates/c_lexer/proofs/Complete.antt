@@ -40,65 +40,72 @@ use Rattle.c_lexer.proofs.Constants.{constant_read, constant_bytes, constant_fir
 use Rattle.c_lexer.proofs.Quotes.{quoted_read, quoted_made, quote_is, character_read, character_is}
 use Rattle.c_lexer.proofs.MarkFacts.{mark_first, mark_short, mark_is, mark_read, begins_mark}
 use Rattle.c_lexer.proofs.Pieces.{piece_from}
+use Rattle.cpa_ints.specs.declared.data_model.DataModel.{DataModel}
 
 -- a text that begins a token
-token_first_by : (fresh : Bool) (byte : ℕ) (rest : List ℕ) → is_blank byte ≡ false →
+token_first_by : (model : DataModel) (fresh : Bool) (byte : ℕ) (rest : List ℕ) →
+    is_blank byte ≡ false →
     (byte == 35) ≡ false → opens_comment (byte ∷ rest) ≡ false →
     opens_line_comment (byte ∷ rest) ≡ false →
-    piece_of fresh (byte ∷ rest) ≡ token_at byte (byte ∷ rest)
-token_first_by fresh byte rest a b c d = rw (a, b, c, d)
+    piece_of model fresh (byte ∷ rest) ≡ token_at model byte (byte ∷ rest)
+token_first_by model fresh byte rest a b c d = rw (a, b, c, d)
 
 not_line_opened : (first : ℕ) (rest : List ℕ) → (47 ≡ first → ⊥) →
     opens_line_comment (first ∷ rest) ≡ false
 not_line_opened first rest h = rw (ne_eqb 47 first h)
 
-token_first : (fresh : Bool) (byte : ℕ) (rest : List ℕ) → 32 < byte → (byte ≡ 35 → ⊥) →
-    (byte ≡ 47 → ⊥) → piece_of fresh (byte ∷ rest) ≡ token_at byte (byte ∷ rest)
-token_first fresh byte rest plain no_hash no_slash =
-    token_first_by fresh byte rest (not_blank byte plain) (ne_eqb byte 35 no_hash)
+token_first : (model : DataModel) (fresh : Bool) (byte : ℕ) (rest : List ℕ) → 32 < byte →
+    (byte ≡ 35 → ⊥) →
+    (byte ≡ 47 → ⊥) → piece_of model fresh (byte ∷ rest) ≡ token_at model byte (byte ∷ rest)
+token_first model fresh byte rest plain no_hash no_slash =
+    token_first_by model fresh byte rest (not_blank byte plain) (ne_eqb byte 35 no_hash)
     (not_opened byte rest (λ e. no_slash (sym e)))
     (not_line_opened byte rest (λ e. no_slash (sym e)))
 
 -- gaps
 
-blank_read : (fresh : Bool) (bytes rest : List ℕ) → IsBlank bytes →
-    piece_of fresh (bytes ++ rest) ≡ Ok (piece_from (gap bytes))
-blank_read fresh bytes rest is =
-    let step : piece_of fresh (is.byte ∷ rest) ≡ Ok (piece_from (gap (is.byte ∷ []))) = rw is.blank
+blank_read : (model : DataModel) (fresh : Bool) (bytes rest : List ℕ) → IsBlank bytes →
+    piece_of model fresh (bytes ++ rest) ≡ Ok (piece_from (gap bytes))
+blank_read model fresh bytes rest is =
+    let step : piece_of model fresh (is.byte ∷ rest) ≡ Ok
+    (piece_from (gap (is.byte ∷ []))) = rw is.blank
     in
-    ap (λ z. piece_of fresh (z ++ rest)) is.spelled ∙ step
+    ap (λ z. piece_of model fresh (z ++ rest)) is.spelled ∙ step
     ∙ ap (λ z. Ok (piece_from (gap z))) (sym is.spelled)
 
-block_read : (fresh : Bool) (bytes rest : List ℕ) → IsBlockComment bytes →
-    piece_of fresh (bytes ++ rest) ≡ Ok (piece_from (gap bytes))
-block_read fresh bytes rest is =
+block_read : (model : DataModel) (fresh : Bool) (bytes rest : List ℕ) → IsBlockComment bytes →
+    piece_of model fresh (bytes ++ rest) ≡ Ok (piece_from (gap bytes))
+block_read model fresh bytes rest is =
     let behind : bytes ++ rest ≡ 47 ∷ 42 ∷ ((is.body ++ codes "*/") ++ rest) = ap (λ z. z ++ rest)
     is.spelled in
     let read = comment_read bytes rest is in
-    ap (piece_of fresh) behind ∙ ap (λ z. comment_piece (comment_length z)) (sym behind)
+    ap (piece_of model fresh) behind ∙ ap (λ z. comment_piece (comment_length z)) (sym behind)
     ∙ ap comment_piece read.1
 
-line_read : (fresh : Bool) (bytes rest : List ℕ) → IsLineComment bytes → StopsAt is_on_line rest →
-    piece_of fresh (bytes ++ rest) ≡ Ok (piece_from (gap bytes))
-line_read fresh bytes rest is stop =
+line_read : (model : DataModel) (fresh : Bool) (bytes rest : List ℕ) → IsLineComment bytes →
+    StopsAt is_on_line rest →
+    piece_of model fresh (bytes ++ rest) ≡ Ok (piece_from (gap bytes))
+line_read model fresh bytes rest is stop =
     let behind : bytes ++ rest ≡ 47 ∷ 47 ∷ (is.body ++ rest) = ap (λ z. z ++ rest) is.spelled in
     let all : list_all is_on_line bytes ≡ true = ap (list_all is_on_line) is.spelled ∙ is.on_line in
-    ap (piece_of fresh) behind ∙ ap (λ z. gap_piece (prefix_len is_on_line z)) (sym behind)
+    ap (piece_of model fresh) behind ∙ ap (λ z. gap_piece (prefix_len is_on_line z)) (sym behind)
     ∙ ap gap_piece (run_stops is_on_line bytes rest all stop)
 
-gap_read : (fresh : Bool) (bytes rest : List ℕ) → IsGap bytes rest →
-    piece_of fresh (bytes ++ rest) ≡ Ok (piece_from (gap bytes))
-gap_read fresh bytes rest is = elim is [
-  | inl b ↦ blank_read fresh bytes rest b
+gap_read : (model : DataModel) (fresh : Bool) (bytes rest : List ℕ) → IsGap bytes rest →
+    piece_of model fresh (bytes ++ rest) ≡ Ok (piece_from (gap bytes))
+gap_read model fresh bytes rest is = elim is [
+  | inl b ↦ blank_read model fresh bytes rest b
   | inr other ↦ elim other [
-    | inl c ↦ block_read fresh bytes rest c
-    | inr l ↦ line_read fresh bytes rest l.0 l.1
+    | inl c ↦ block_read model fresh bytes rest c
+    | inr l ↦ line_read model fresh bytes rest l.0 l.1
   ]
 ]
 
-directive_part : (fresh : Bool) (bytes rest : List ℕ) → fresh ≡ true → IsDirective bytes →
-    StopsAt is_on_line rest → piece_of fresh (bytes ++ rest) ≡ Ok (piece_from (directive bytes))
-directive_part fresh bytes rest first is stop =
+directive_part : (model : DataModel) (fresh : Bool) (bytes rest : List ℕ) → fresh ≡ true →
+    IsDirective bytes →
+    StopsAt is_on_line rest → piece_of model fresh (bytes ++ rest) ≡ Ok
+    (piece_from (directive bytes))
+directive_part model fresh bytes rest first is stop =
     let behind : bytes ++ rest ≡ 35 ∷ ((is.gap ++ is.tail) ++ rest) = ap (λ z. z ++ rest) is.spelled
     in
     let named = directive_read bytes rest is stop in
@@ -107,66 +114,71 @@ directive_part fresh bytes rest first is stop =
       named,
       long,
     ) in
-    ap (piece_of fresh) behind ∙ ap (directive_piece fresh) (sym behind)
+    ap (piece_of model fresh) behind ∙ ap (directive_piece fresh) (sym behind)
     ∙ ap (λ z. directive_piece z (bytes ++ rest)) first ∙ made
 
 -- tokens
 
-word_read : (fresh : Bool) (bytes rest : List ℕ) → is_word bytes ≡ true →
-    StopsAt is_word_byte rest → piece_of fresh (bytes ++ rest) ≡ Ok (piece_from (token Word bytes))
-word_read fresh [] rest is stop = cc
-word_read fresh (byte ∷ more) rest is stop =
+word_read : (model : DataModel) (fresh : Bool) (bytes rest : List ℕ) → is_word bytes ≡ true →
+    StopsAt is_word_byte rest → piece_of model fresh (bytes ++ rest) ≡ Ok
+    (piece_from (token Word bytes))
+word_read model fresh [] rest is stop = cc
+word_read model fresh (byte ∷ more) rest is stop =
     let p = and_parts (is_word_head byte) (list_all is_word_byte (byte ∷ more)) is in
     let high : 64 < byte = word_head_high byte p.0 in
-    let first = token_first fresh byte (more ++ rest) (omega arith) (λ e. omega arith) (λ e.
+    let first = token_first model fresh byte (more ++ rest) (omega arith) (λ e. omega arith) (λ e.
     omega arith) in
     let long : prefix_len is_word_byte (byte ∷ more ++ rest)
     ≡ length (byte ∷ more) = run_stops is_word_byte (byte ∷ more) rest p.1 stop in
-    let word : token_at byte (byte ∷ more ++ rest)
+    let word : token_at model byte (byte ∷ more ++ rest)
     ≡ token_piece (prefix_len is_word_byte (byte ∷ more ++ rest)) (Ok Word) = rw p.0 in
     first ∙ word ∙ ap (λ z. token_piece z (Ok Word)) long
 
 -- a text that begins with a number's run
-run_read : (fresh : Bool) (run rest : List ℕ) → begins_with is_ascii_digit run ≡ true →
+run_read : (model : DataModel) (fresh : Bool) (run rest : List ℕ) →
+    begins_with is_ascii_digit run ≡ true →
     list_all is_number_byte run ≡ true → StopsAt is_number_byte rest →
-    piece_of fresh (run ++ rest) ≡ token_piece (length run) (number_of run)
-run_read fresh [] rest digit all stop = cc
-run_read fresh (byte ∷ more) rest digit all stop =
+    piece_of model fresh (run ++ rest) ≡ token_piece (length run) (number_of model run)
+run_read model fresh [] rest digit all stop = cc
+run_read model fresh (byte ∷ more) rest digit all stop =
     let low : 47 < byte = digit_low byte digit in
     let high : byte < 58 = digit_high byte digit in
-    let first = token_first fresh byte (more ++ rest) (omega arith) (λ e. omega arith) (λ e.
+    let first = token_first model fresh byte (more ++ rest) (omega arith) (λ e. omega arith) (λ e.
     omega arith) in
     let no_word : is_word_head byte ≡ false = not_word_head byte (omega arith) in
-    let number : token_at byte (byte ∷ more ++ rest)
-    ≡ number_piece (byte ∷ more ++ rest) = rw (no_word, digit) in
+    let number : token_at model byte (byte ∷ more ++ rest)
+    ≡ number_piece model (byte ∷ more ++ rest) = rw (no_word, digit) in
     let long : prefix_len is_number_byte (byte ∷ more ++ rest)
     ≡ length (byte ∷ more) = run_stops is_number_byte (byte ∷ more) rest all stop in
     let taken : take (length (byte ∷ more)) (byte ∷ more ++ rest)
     ≡ byte ∷ more = take-append_seam (byte ∷ more) rest in
-    first ∙ number ∙ ap (λ z. token_piece z (number_of (take z (byte ∷ more ++ rest)))) long
-    ∙ ap (λ z. token_piece (length (byte ∷ more)) (number_of z)) taken
+    first ∙ number ∙ ap (λ z. token_piece z (number_of model (take z (byte ∷ more ++ rest)))) long
+    ∙ ap (λ z. token_piece (length (byte ∷ more)) (number_of model z)) taken
 
-constant_part : (fresh : Bool) (bytes rest : List ℕ) (base : _) (suffix : _) (number : ℕ) →
+constant_part : (model : DataModel) (fresh : Bool) (bytes rest : List ℕ) (base : _) (suffix : _)
+    (number : ℕ) →
     IsConstant bytes base suffix number → StopsAt is_number_byte rest →
-    piece_of fresh (bytes ++ rest) ≡ token_piece (length bytes)
-    (typed (type_of suffix base number) number)
-constant_part fresh bytes rest base suffix number is stop =
-    run_read fresh bytes rest (constant_first bytes base suffix number is)
+    piece_of model fresh (bytes ++ rest) ≡ token_piece (length bytes)
+    (typed (type_of model suffix base number) number)
+constant_part model fresh bytes rest base suffix number is stop =
+    run_read model fresh bytes rest (constant_first bytes base suffix number is)
     (constant_bytes bytes base suffix number is) stop
-    ∙ ap (token_piece (length bytes)) (constant_read bytes base suffix number is)
+    ∙ ap (token_piece (length bytes)) (constant_read model bytes base suffix number is)
 
-number_read : (fresh : Bool) (t : _) (value : ℤ) (bytes rest : List ℕ) → IsNumber bytes t value →
+number_read : (model : DataModel) (fresh : Bool) (t : _) (value : ℤ) (bytes rest : List ℕ) →
+    IsNumber model bytes t value →
     StopsAt is_number_byte rest →
-    piece_of fresh (bytes ++ rest) ≡ Ok (piece_from (token (Number t value) bytes))
-number_read fresh t value bytes rest is stop =
-    constant_part fresh bytes rest is.base is.suffix is.number is.constant stop
+    piece_of model fresh (bytes ++ rest) ≡ Ok (piece_from (token (Number t value) bytes))
+number_read model fresh t value bytes rest is stop =
+    constant_part model fresh bytes rest is.base is.suffix is.number is.constant stop
     ∙ ap (λ z. token_piece (length bytes) (typed z is.number)) is.first_type
     ∙ ap (λ z. Ok (piece_from (token (Number t z) bytes))) (sym is.valued)
 
 -- a text that begins with a quoted character
-enclosed_read : (fresh : Bool) (bytes content rest : List ℕ) → IsQuoted 39 bytes content →
-    piece_of fresh (bytes ++ rest) ≡ token_piece (length bytes) (character_of content)
-enclosed_read fresh bytes content rest is =
+enclosed_read : (model : DataModel) (fresh : Bool) (bytes content rest : List ℕ) →
+    IsQuoted 39 bytes content →
+    piece_of model fresh (bytes ++ rest) ≡ token_piece (length bytes) (character_of content)
+enclosed_read model fresh bytes content rest is =
     let behind : bytes ++ rest ≡ 39 ∷ ((content ++ 39 ∷ []) ++ rest) = ap (λ z. z ++ rest)
     is.spelled in
     let closed = quoted_read 39 bytes content rest refl refl is in
@@ -179,7 +191,7 @@ enclosed_read fresh bytes content rest is =
       ap length is.spelled,
       length-append content (39 ∷ []),
     ) in
-    ap (piece_of fresh) behind
+    ap (piece_of model fresh) behind
     ∙ ap (λ z. character_in (close_quote 39 false (drop 1 z)) z) (sym behind)
     ∙ ap (λ z. character_in z (bytes ++ rest)) closed
     ∙ ap (λ z. token_piece (length content + 2) (character_of z)) taken
@@ -193,17 +205,18 @@ held_small number small = rw (le-leb number 255 small)
 held_large : (number : ℕ) → 255 < number → held number ≡ Err L3
 held_large number large = rw (lt-leb number 255 large)
 
-character_part : (fresh : Bool) (value : ℤ) (bytes rest : List ℕ) → IsCharacter bytes value →
-    piece_of fresh (bytes ++ rest) ≡ Ok (piece_from (token (Character value) bytes))
-character_part fresh value bytes rest is =
-    enclosed_read fresh bytes is.content rest is.quoted
+character_part : (model : DataModel) (fresh : Bool) (value : ℤ) (bytes rest : List ℕ) →
+    IsCharacter bytes value →
+    piece_of model fresh (bytes ++ rest) ≡ Ok (piece_from (token (Character value) bytes))
+character_part model fresh value bytes rest is =
+    enclosed_read model fresh bytes is.content rest is.quoted
     ∙ ap (token_piece (length bytes)) (character_read is.content is.number is.stands_for
     ∙ held_small is.number is.fits)
     ∙ ap (λ z. Ok (piece_from (token (Character z) bytes))) (sym is.valued)
 
-text_read : (fresh : Bool) (bytes rest : List ℕ) → IsText bytes →
-    piece_of fresh (bytes ++ rest) ≡ Ok (piece_from (token Text bytes))
-text_read fresh bytes rest is =
+text_read : (model : DataModel) (fresh : Bool) (bytes rest : List ℕ) → IsText bytes →
+    piece_of model fresh (bytes ++ rest) ≡ Ok (piece_from (token Text bytes))
+text_read model fresh bytes rest is =
     let behind : bytes ++ rest ≡ 34 ∷ ((is.content ++ 34 ∷ []) ++ rest) = ap (λ z. z ++ rest)
     is.quoted.spelled in
     let closed = quoted_read 34 bytes is.content rest refl refl is.quoted in
@@ -212,7 +225,8 @@ text_read fresh bytes rest is =
       ap length is.quoted.spelled,
       length-append is.content (34 ∷ []),
     ) in
-    ap (piece_of fresh) behind ∙ ap (λ z. text_in (close_quote 34 false (drop 1 z))) (sym behind)
+    ap (piece_of model fresh) behind ∙ ap (λ z. text_in (close_quote 34 false (drop 1 z)))
+    (sym behind)
     ∙ ap text_in closed ∙ ap (λ z. token_piece z (Ok Text)) long
 
 -- what a mark's first byte is not
@@ -240,20 +254,23 @@ plain_of byte h =
       double = not-true (byte == 34) a.1;
     }
 
-mark_at : (byte : ℕ) (text : List ℕ) → is_word_head byte ≡ false → is_ascii_digit byte ≡ false →
-    (byte == 39) ≡ false → (byte == 34) ≡ false → token_at byte text ≡ mark_piece (mark_length text)
-mark_at byte text a b c d = rw (a, b, c, d)
+mark_at : (model : DataModel) (byte : ℕ) (text : List ℕ) → is_word_head byte ≡ false →
+    is_ascii_digit byte ≡ false →
+    (byte == 39) ≡ false → (byte == 34) ≡ false → token_at model byte text ≡ mark_piece
+    (mark_length text)
+mark_at model byte text a b c d = rw (a, b, c, d)
 
-mark_part : (fresh : Bool) (bytes rest : List ℕ) → IsLongestMark bytes rest →
-    piece_of fresh (bytes ++ rest) ≡ Ok (piece_from (token Mark bytes))
-mark_part fresh [] rest is = absurd (true≢false (sym is.marked))
-mark_part fresh (byte ∷ more) rest is =
+mark_part : (model : DataModel) (fresh : Bool) (bytes rest : List ℕ) → IsLongestMark bytes rest →
+    piece_of model fresh (bytes ++ rest) ≡ Ok (piece_from (token Mark bytes))
+mark_part model fresh [] rest is = absurd (true≢false (sym is.marked))
+mark_part model fresh (byte ∷ more) rest is =
     let plain = plain_of byte (mark_first byte more is.marked) in
     let comments = or_parts (opens_comment (byte ∷ more ++ rest))
     (opens_line_comment (byte ∷ more ++ rest)) is.no_comment in
-    let first = token_first_by fresh byte (more ++ rest) plain.blank plain.hash comments.0
+    let first = token_first_by model fresh byte (more ++ rest) plain.blank plain.hash comments.0
     comments.1 in
-    let at = mark_at byte (byte ∷ more ++ rest) plain.word plain.digit plain.single plain.double in
+    let at = mark_at model byte (byte ∷ more ++ rest) plain.word plain.digit plain.single
+    plain.double in
     let long = mark_read (byte ∷ more) rest is.marked is.longest in
     let some : (length (byte ∷ more) == 0) ≡ false = ne_eqb (length (byte ∷ more)) 0 (λ e.
     omega arith) in
@@ -261,29 +278,34 @@ mark_part fresh (byte ∷ more) rest is =
     some in
     first ∙ at ∙ ap mark_piece long ∙ made
 
-token_read : (fresh : Bool) (kind : TokenKind) (bytes rest : List ℕ) → IsToken kind bytes rest →
-    piece_of fresh (bytes ++ rest) ≡ Ok (piece_from (token kind bytes))
-token_read fresh Word bytes rest is = word_read fresh bytes rest is.0 is.1
-token_read fresh (Number t value) bytes rest is = number_read fresh t value bytes rest is.0 is.1
-token_read fresh (Character value) bytes rest is = character_part fresh value bytes rest is
-token_read fresh Text bytes rest is = text_read fresh bytes rest is
-token_read fresh Mark bytes rest is = mark_part fresh bytes rest is
-token_read fresh End bytes rest is = absurd is
+token_read : (model : DataModel) (fresh : Bool) (kind : TokenKind) (bytes rest : List ℕ) →
+    IsToken model kind bytes rest →
+    piece_of model fresh (bytes ++ rest) ≡ Ok (piece_from (token kind bytes))
+token_read model fresh Word bytes rest is = word_read model fresh bytes rest is.0 is.1
+token_read model fresh (Number t value) bytes rest is = number_read model fresh t value bytes rest
+    is.0 is.1
+token_read model fresh (Character value) bytes rest is = character_part model fresh value bytes rest
+    is
+token_read model fresh Text bytes rest is = text_read model fresh bytes rest is
+token_read model fresh Mark bytes rest is = mark_part model fresh bytes rest is
+token_read model fresh End bytes rest is = absurd is
 
 -- each part is read
-pub part_read : (fresh : Bool) (part : Part) (rest : List ℕ) → IsPart fresh part rest →
-    piece_of fresh (bytes_of part ++ rest) ≡ Ok (piece_from part)
-part_read fresh (gap bytes) rest stands = gap_read fresh bytes rest stands
-part_read fresh (directive bytes) rest stands =
-    directive_part fresh bytes rest stands.0 stands.1 stands.2
-part_read fresh (token kind bytes) rest stands = token_read fresh kind bytes rest stands
+pub part_read : (model : DataModel) (fresh : Bool) (part : Part) (rest : List ℕ) →
+    IsPart model fresh part rest →
+    piece_of model fresh (bytes_of part ++ rest) ≡ Ok (piece_from part)
+part_read model fresh (gap bytes) rest stands = gap_read model fresh bytes rest stands
+part_read model fresh (directive bytes) rest stands =
+    directive_part model fresh bytes rest stands.0 stands.1 stands.2
+part_read model fresh (token kind bytes) rest stands = token_read model fresh kind bytes rest stands
 
 -- faults
 
-stray_hash : (fresh : Bool) (text rest : List ℕ) → fresh ≡ false → text ≡ 35 ∷ rest →
-    piece_of fresh text ≡ Err L1
-stray_hash fresh text rest first e =
-    ap (piece_of fresh) e ∙ ap (λ z. directive_piece z (35 ∷ rest)) first
+stray_hash : (model : DataModel) (fresh : Bool) (text rest : List ℕ) → fresh ≡ false →
+    text ≡ 35 ∷ rest →
+    piece_of model fresh text ≡ Err L1
+stray_hash model fresh text rest first e =
+    ap (piece_of model fresh) e ∙ ap (λ z. directive_piece z (35 ∷ rest)) first
 
 no_front : (text : List ℕ) →
     ((mark after : List ℕ) → IsTrue (is_mark mark) → text ≡ mark ++ after → ⊥) →
@@ -294,47 +316,52 @@ no_front text none = elim (mark_is text) [
   | inr n ↦ n.0
 ]
 
-stray_byte : (fresh : Bool) (text : List ℕ) → HasStrayByte text → piece_of fresh text ≡ Err L1
-stray_byte fresh text has =
+stray_byte : (model : DataModel) (fresh : Bool) (text : List ℕ) → HasStrayByte text →
+    piece_of model fresh text ≡ Err L1
+stray_byte model fresh text has =
     let no_slash : has.byte ≡ 47 →
     ⊥ = λ e. has.no_mark (has.byte ∷ []) has.rest (ap (λ z. is_mark (z ∷ [])) e) has.spelled in
-    let first = token_first_by fresh has.byte has.rest has.no_blank (ne_eqb has.byte 35 has.no_hash)
+    let first = token_first_by model fresh has.byte has.rest has.no_blank
+    (ne_eqb has.byte 35 has.no_hash)
     (not_opened has.byte has.rest (λ e. no_slash (sym e)))
     (not_line_opened has.byte has.rest (λ e. no_slash (sym e))) in
-    let at = mark_at has.byte (has.byte ∷ has.rest) has.no_word has.no_number
+    let at = mark_at model has.byte (has.byte ∷ has.rest) has.no_word has.no_number
     (ne_eqb has.byte 39 (λ e. has.no_quote (inl e)))
     (ne_eqb has.byte 34 (λ e. has.no_quote (inr e))) in
-    ap (piece_of fresh) has.spelled ∙ first ∙ at
+    ap (piece_of model fresh) has.spelled ∙ first ∙ at
     ∙ ap (λ z. mark_piece (mark_length z)) (sym has.spelled)
     ∙ ap mark_piece (no_front text has.no_mark)
 
-malformed_number : (fresh : Bool) (text : List ℕ) → HasMalformedNumber text →
-    piece_of fresh text ≡ Err L1
-malformed_number fresh text has =
-    let none : number_of has.run ≡ Err L1 = elim (constant_is has.run) [
+malformed_number : (model : DataModel) (fresh : Bool) (text : List ℕ) → HasMalformedNumber text →
+    piece_of model fresh text ≡ Err L1
+malformed_number model fresh text has =
+    let none : number_of model has.run ≡ Err L1 = elim (constant_is model has.run) [
       | inl c ↦ absurd (has.malformed c.base c.suffix c.number c.constant)
       | inr e ↦ e
     ] in
-    ap (piece_of fresh) has.spelled
-    ∙ run_read fresh has.run has.rest has.longest.digit has.longest.all has.longest.longest
+    ap (piece_of model fresh) has.spelled
+    ∙ run_read model fresh has.run has.rest has.longest.digit has.longest.all has.longest.longest
     ∙ ap (token_piece (length has.run)) none
 
-malformed_character : (fresh : Bool) (text : List ℕ) → HasMalformedCharacter text →
-    piece_of fresh text ≡ Err L1
-malformed_character fresh text has =
+malformed_character : (model : DataModel) (fresh : Bool) (text : List ℕ) →
+    HasMalformedCharacter text →
+    piece_of model fresh text ≡ Err L1
+malformed_character model fresh text has =
     let none : character_of has.content ≡ Err L1 = elim (character_is has.content) [
       | inl s ↦ absurd (has.malformed s.number s.stands_for)
       | inr e ↦ e
     ] in
-    ap (piece_of fresh) has.spelled ∙ enclosed_read fresh has.bytes has.content has.rest has.quoted
+    ap (piece_of model fresh) has.spelled ∙ enclosed_read model fresh has.bytes has.content has.rest
+    has.quoted
     ∙ ap (token_piece (length has.bytes)) none
 
-open_comment : (fresh : Bool) (text : List ℕ) → HasOpenComment text → piece_of fresh text ≡ Err L2
-open_comment fresh text has =
+open_comment : (model : DataModel) (fresh : Bool) (text : List ℕ) → HasOpenComment text →
+    piece_of model fresh text ≡ Err L2
+open_comment model fresh text has =
     let none : comment_length (47 ∷ 42 ∷ has.body)
     ≡ None = ap (option_map (λ n. n + 2)) (open_read false has.body
     (lacks_open has.body has.unclosed)) in
-    ap (piece_of fresh) has.spelled ∙ ap comment_piece none
+    ap (piece_of model fresh) has.spelled ∙ ap comment_piece none
 
 unclosed_by : (quote : ℕ) (text rest : List ℕ) (found : Option ℕ) → text ≡ quote ∷ rest →
     close_quote quote false rest ≡ found → HasOpenQuote quote text → found ≡ None
@@ -346,35 +373,40 @@ unclosed_by quote text rest (Some n) e read has =
     absurd (has.unclosed (quote ∷ (c.content ++ quote ∷ [])) c.content c.rest whole
     (quoted_made quote (quote ∷ (c.content ++ quote ∷ [])) c.content refl c.inside))
 
-open_single : (fresh : Bool) (text : List ℕ) → HasOpenQuote 39 text → piece_of fresh text ≡ Err L2
-open_single fresh text has =
+open_single : (model : DataModel) (fresh : Bool) (text : List ℕ) → HasOpenQuote 39 text →
+    piece_of model fresh text ≡ Err L2
+open_single model fresh text has =
     let none = unclosed_by 39 text has.begins.0 (close_quote 39 false has.begins.0) has.begins.1
     refl has in
-    ap (piece_of fresh) has.begins.1 ∙ ap (λ z. character_in z (39 ∷ has.begins.0)) none
+    ap (piece_of model fresh) has.begins.1 ∙ ap (λ z. character_in z (39 ∷ has.begins.0)) none
 
-open_double : (fresh : Bool) (text : List ℕ) → HasOpenQuote 34 text → piece_of fresh text ≡ Err L2
-open_double fresh text has =
+open_double : (model : DataModel) (fresh : Bool) (text : List ℕ) → HasOpenQuote 34 text →
+    piece_of model fresh text ≡ Err L2
+open_double model fresh text has =
     let none = unclosed_by 34 text has.begins.0 (close_quote 34 false has.begins.0) has.begins.1
     refl has in
-    ap (piece_of fresh) has.begins.1 ∙ ap text_in none
+    ap (piece_of model fresh) has.begins.1 ∙ ap text_in none
 
-large_number : (fresh : Bool) (text : List ℕ) → HasLargeNumber text → piece_of fresh text ≡ Err L3
-large_number fresh text has =
-    ap (piece_of fresh) has.spelled
-    ∙ constant_part fresh has.run has.rest has.base has.suffix has.number has.constant
+large_number : (model : DataModel) (fresh : Bool) (text : List ℕ) → HasLargeNumber model text →
+    piece_of model fresh text ≡ Err L3
+large_number model fresh text has =
+    ap (piece_of model fresh) has.spelled
+    ∙ constant_part model fresh has.run has.rest has.base has.suffix has.number has.constant
     has.longest
     ∙ ap (λ z. token_piece (length has.run) (typed z has.number)) has.unheld
 
-large_character : (fresh : Bool) (text : List ℕ) → HasLargeCharacter text →
-    piece_of fresh text ≡ Err L3
-large_character fresh text has =
-    ap (piece_of fresh) has.spelled ∙ enclosed_read fresh has.bytes has.content has.rest has.quoted
+large_character : (model : DataModel) (fresh : Bool) (text : List ℕ) → HasLargeCharacter text →
+    piece_of model fresh text ≡ Err L3
+large_character model fresh text has =
+    ap (piece_of model fresh) has.spelled ∙ enclosed_read model fresh has.bytes has.content has.rest
+    has.quoted
     ∙ ap (token_piece (length has.bytes)) (character_read has.content has.number has.stands_for
     ∙ held_large has.number has.large)
 
-unknown_directive : (fresh : Bool) (text : List ℕ) → HasUnknownDirective fresh text →
-    piece_of fresh text ≡ Err L4
-unknown_directive fresh text has =
+unknown_directive : (model : DataModel) (fresh : Bool) (text : List ℕ) →
+    HasUnknownDirective fresh text →
+    piece_of model fresh text ≡ Err L4
+unknown_directive model fresh text has =
     let rest : List ℕ = has.begins.0 in
     let unnamed : names_directive (behind_spaces (directive_line (35 ∷ rest))) ≡ false =
     false_from_ne_true _ (λ named. has.unknown (take (prefix_len is_on_line (35 ∷ rest))
@@ -382,34 +414,36 @@ unknown_directive fresh text has =
     (has.begins.1 ∙ sym (take-append-drop (prefix_len is_on_line (35 ∷ rest)) (35 ∷ rest)))
     (directive_is rest named) (run_ends is_on_line (35 ∷ rest))) in
     let made : directive_piece true (35 ∷ rest) ≡ Err L4 = rw unnamed in
-    ap (piece_of fresh) has.begins.1 ∙ ap (λ z. directive_piece z (35 ∷ rest)) has.first ∙ made
+    ap (piece_of model fresh) has.begins.1 ∙ ap (λ z. directive_piece z (35 ∷ rest)) has.first
+    ∙ made
 
 -- each fault is read
-pub fault_read : (fresh : Bool) (rule : Rule) (text : List ℕ) → Fails fresh rule text →
-    piece_of fresh text ≡ Err rule
-fault_read fresh L1 text fails = elim fails [
-  | inl a ↦ stray_hash fresh text a.1.0 a.0 a.1.1
+pub fault_read : (model : DataModel) (fresh : Bool) (rule : Rule) (text : List ℕ) →
+    Fails model fresh rule text →
+    piece_of model fresh text ≡ Err rule
+fault_read model fresh L1 text fails = elim fails [
+  | inl a ↦ stray_hash model fresh text a.1.0 a.0 a.1.1
   | inr x ↦ elim x [
-    | inl b ↦ stray_byte fresh text b
+    | inl b ↦ stray_byte model fresh text b
     | inr y ↦ elim y [
-      | inl c ↦ malformed_number fresh text c
-      | inr d ↦ malformed_character fresh text d
+      | inl c ↦ malformed_number model fresh text c
+      | inr d ↦ malformed_character model fresh text d
     ]
   ]
 ]
-fault_read fresh L2 text fails = elim fails [
-  | inl a ↦ open_comment fresh text a
+fault_read model fresh L2 text fails = elim fails [
+  | inl a ↦ open_comment model fresh text a
   | inr x ↦ elim x [
-    | inl b ↦ open_single fresh text b
-    | inr c ↦ open_double fresh text c
+    | inl b ↦ open_single model fresh text b
+    | inr c ↦ open_double model fresh text c
   ]
 ]
-fault_read fresh L3 text fails = elim fails [
-  | inl a ↦ large_number fresh text a
-  | inr b ↦ large_character fresh text b
+fault_read model fresh L3 text fails = elim fails [
+  | inl a ↦ large_number model fresh text a
+  | inr b ↦ large_character model fresh text b
 ]
-fault_read fresh L4 text fails = unknown_directive fresh text fails
-fault_read fresh _ text fails = absurd fails
+fault_read model fresh L4 text fails = unknown_directive model fresh text fails
+fault_read model fresh _ text fails = absurd fails
 
 -- a part has a byte, and so has a fault
 gap_some : (bytes rest : List ℕ) → IsGap bytes rest → 0 < length bytes
@@ -425,23 +459,25 @@ first_some : (p : ℕ → Bool) (bytes : List ℕ) → begins_with p bytes ≡ t
 first_some p [] h = cc
 first_some p (byte ∷ rest) h = omega arith
 
-token_some : (kind : TokenKind) (bytes rest : List ℕ) → IsToken kind bytes rest → 0 < length bytes
-token_some Word bytes rest is =
+token_some : (model : DataModel) (kind : TokenKind) (bytes rest : List ℕ) →
+    IsToken model kind bytes rest → 0 < length bytes
+token_some model Word bytes rest is =
     first_some is_word_head bytes (and_parts (begins_with is_word_head bytes)
     (list_all is_word_byte bytes) is.0).0
-token_some (Number t value) bytes rest is =
+token_some model (Number t value) bytes rest is =
     first_some is_ascii_digit bytes (constant_first bytes is.0.base is.0.suffix is.0.number
     is.0.constant)
-token_some (Character value) bytes rest is = omega (arith, ap length is.quoted.spelled)
-token_some Text bytes rest is = omega (arith, ap length is.quoted.spelled)
-token_some Mark bytes rest is = (mark_short bytes is.marked).0
-token_some End bytes rest is = absurd is
+token_some model (Character value) bytes rest is = omega (arith, ap length is.quoted.spelled)
+token_some model Text bytes rest is = omega (arith, ap length is.quoted.spelled)
+token_some model Mark bytes rest is = (mark_short bytes is.marked).0
+token_some model End bytes rest is = absurd is
 
-pub part_some : (fresh : Bool) (part : Part) (rest : List ℕ) → IsPart fresh part rest →
+pub part_some : (model : DataModel) (fresh : Bool) (part : Part) (rest : List ℕ) →
+    IsPart model fresh part rest →
     0 < length (bytes_of part)
-part_some fresh (gap bytes) rest stands = gap_some bytes rest stands
-part_some fresh (directive bytes) rest stands = omega (arith, ap length stands.1.spelled)
-part_some fresh (token kind bytes) rest stands = token_some kind bytes rest stands
+part_some model fresh (gap bytes) rest stands = gap_some bytes rest stands
+part_some model fresh (directive bytes) rest stands = omega (arith, ap length stands.1.spelled)
+part_some model fresh (token kind bytes) rest stands = token_some model kind bytes rest stands
 
 begins_some : (byte : ℕ) (text rest : List ℕ) → text ≡ byte ∷ rest → 0 < length text
 begins_some byte text rest e = omega (arith, ap length e)
@@ -452,9 +488,10 @@ front_some text bytes rest e some = omega (arith, ap length e, length-append byt
 quoted_some : (quote : ℕ) (bytes content : List ℕ) → IsQuoted quote bytes content → 0 < length bytes
 quoted_some quote bytes content is = omega (arith, ap length is.spelled)
 
-pub fault_some : (fresh : Bool) (rule : Rule) (text : List ℕ) → Fails fresh rule text →
+pub fault_some : (model : DataModel) (fresh : Bool) (rule : Rule) (text : List ℕ) →
+    Fails model fresh rule text →
     0 < length text
-fault_some fresh L1 text fails = elim fails [
+fault_some model fresh L1 text fails = elim fails [
   | inl a ↦ begins_some 35 text a.1.0 a.1.1
   | inr x ↦ elim x [
     | inl b ↦ begins_some b.byte text b.rest b.spelled
@@ -465,17 +502,17 @@ fault_some fresh L1 text fails = elim fails [
     ]
   ]
 ]
-fault_some fresh L2 text fails = elim fails [
+fault_some model fresh L2 text fails = elim fails [
   | inl a ↦ begins_some 47 text (42 ∷ a.body) a.spelled
   | inr x ↦ elim x [
     | inl b ↦ begins_some 39 text b.begins.0 b.begins.1
     | inr c ↦ begins_some 34 text c.begins.0 c.begins.1
   ]
 ]
-fault_some fresh L3 text fails = elim fails [
+fault_some model fresh L3 text fails = elim fails [
   | inl a ↦ front_some text a.run a.rest a.spelled
       (first_some is_ascii_digit a.run (constant_first a.run a.base a.suffix a.number a.constant))
   | inr b ↦ front_some text b.bytes b.rest b.spelled (quoted_some 39 b.bytes b.content b.quoted)
 ]
-fault_some fresh L4 text fails = begins_some 35 text fails.begins.0 fails.begins.1
-fault_some fresh _ text fails = absurd fails
+fault_some model fresh L4 text fails = begins_some 35 text fails.begins.0 fails.begins.1
+fault_some model fresh _ text fails = absurd fails

@@ -23,6 +23,7 @@ use Rattle.c_lexer.specs.Steps.ReadingConstants.{is_x, base_of, front_of, digit_
 use Rattle.c_lexer.specs.Steps.ReadingConstants.{typed, suffixed, number_in, number_of}
 use Rattle.c_lexer.proofs.Runs.{run_stops, run_passes, take_more}
 use Rattle.c_lexer.proofs.Suffixes.{suffix_read, suffix_is}
+use Rattle.cpa_ints.specs.declared.data_model.DataModel.{DataModel}
 
 -- no digit of the base
 abbrev pub in_base : Base → ℕ → Bool
@@ -131,10 +132,12 @@ begins_some Hexadecimal [] h = cc
 begins_some base (d ∷ digits) h = omega arith
 
 -- digits and a suffix behind them are read
-in_read : (base : Base) (digits behind : List ℕ) (s : Suffix) → 0 < length digits →
+in_read : (model : DataModel) (base : Base) (digits behind : List ℕ) (s : Suffix) →
+    0 < length digits →
     list_all (in_base base) digits ≡ true → IsSuffix s behind →
-    number_in base (digits ++ behind) ≡ suffixed (Some s) base (digits_value (radix base) digits)
-in_read base digits behind s some all is =
+    number_in model base (digits ++ behind) ≡ suffixed model (Some s) base
+    (digits_value (radix base) digits)
+in_read model base digits behind s some all is =
     let run : digit_run base (digits ++ behind) ≡ length digits = run_stops (in_base base) digits
     behind all (digits_stop base s behind is) in
     let taken : take (length digits) (digits ++ behind) ≡ digits = take-append_seam digits behind in
@@ -143,47 +146,50 @@ in_read base digits behind s some all is =
     let more : (length digits == 0) ≡ false = ne_eqb (length digits) 0 (λ e. omega arith) in
     let read : suffix_of behind ≡ Some s = suffix_read s behind is in
     let shape : ℕ → Result TokenKind Rule = λ n. cond (n == 0) (Err L1)
-    (suffixed (suffix_of (drop n (digits ++ behind))) base
+    (suffixed model (suffix_of (drop n (digits ++ behind))) base
     (digits_value (radix base) (take n (digits ++ behind)))) in
-    ap shape run ∙ ap (λ z. cond z (Err L1) (suffixed
+    ap shape run ∙ ap (λ z. cond z (Err L1) (suffixed model
     (suffix_of (drop (length digits) (digits ++ behind))) base
     (digits_value (radix base) (take (length digits) (digits ++ behind))))) more
-    ∙ ap (λ z. suffixed (suffix_of z) base (digits_value (radix base)
+    ∙ ap (λ z. suffixed model (suffix_of z) base (digits_value (radix base)
     (take (length digits) (digits ++ behind)))) dropped
-    ∙ ap (λ z. suffixed z base (digits_value (radix base)
+    ∙ ap (λ z. suffixed model z base (digits_value (radix base)
     (take (length digits) (digits ++ behind)))) read
-    ∙ ap (λ z. suffixed (Some s) base (digits_value (radix base) z)) taken
+    ∙ ap (λ z. suffixed model (Some s) base (digits_value (radix base) z)) taken
 
-pub constant_read : (run : List ℕ) (base : Base) (s : Suffix) (number : ℕ) →
-    IsConstant run base s number → number_of run ≡ typed (type_of s base number) number
-constant_read run base s number is =
+pub constant_read : (model : DataModel) (run : List ℕ) (base : Base) (s : Suffix) (number : ℕ) →
+    IsConstant run base s number → number_of model run ≡ typed (type_of model s base number) number
+constant_read model run base s number is =
     let b = base_read base is.front is.digits is.behind s is.marked is.begins is.numeral is.suffixed
     in
     let base_is : base_of run ≡ base = ap base_of is.spelled ∙ b.0 in
     let behind_is : drop (front_of base) run ≡ is.digits ++ is.behind = ap (drop (front_of base))
     is.spelled ∙ b.1 in
-    ap (λ z. number_in z (drop (front_of z) run)) base_is ∙ ap (number_in base) behind_is
-    ∙ in_read base is.digits is.behind s (begins_some base is.digits is.begins) is.numeral
+    ap (λ z. number_in model z (drop (front_of z) run)) base_is
+    ∙ ap (number_in model base) behind_is
+    ∙ in_read model base is.digits is.behind s (begins_some base is.digits is.begins) is.numeral
     is.suffixed
-    ∙ ap (λ z. typed (type_of s base z) z) (sym is.valued)
+    ∙ ap (λ z. typed (type_of model s base z) z) (sym is.valued)
 
 typed_not_malformed : (found : Option IntType) (number : ℕ) → typed found number ≡ Err L1 → ⊥
 typed_not_malformed None number e = cc
 typed_not_malformed (Some t) number e = cc
 
-pub constant_malformed : (run : List ℕ) (base : Base) (s : Suffix) (number : ℕ) →
-    number_of run ≡ Err L1 → IsConstant run base s number → ⊥
-constant_malformed run base s number e is =
-    typed_not_malformed (type_of s base number) number (sym (constant_read run base s number is)
+pub constant_malformed : (model : DataModel) (run : List ℕ) (base : Base) (s : Suffix)
+    (number : ℕ) →
+    number_of model run ≡ Err L1 → IsConstant run base s number → ⊥
+constant_malformed model run base s number e is =
+    typed_not_malformed (type_of model s base number) number
+    (sym (constant_read model run base s number is)
     ∙ e)
 
 -- what is read is a constant
-pub record Constant (run : List ℕ) : Type 0 where
+pub record Constant (model : DataModel) (run : List ℕ) : Type 0 where
   pub base : Base
   pub suffix : Suffix
   pub number : ℕ
   pub constant : IsConstant run base suffix number
-  pub read : number_of run ≡ typed (type_of suffix base number) number
+  pub read : number_of model run ≡ typed (type_of model suffix base number) number
 
 -- the digits begin as the base has it
 digits_first : (p : ℕ → Bool) (byte : ℕ) (rest : List ℕ) → (prefix_len p (byte ∷ rest) ≡ 0 → ⊥) →
@@ -274,29 +280,31 @@ constant_made run base s based some read = record {
   valued = refl;
 }
 
-with_suffix : (run : List ℕ) (found : Option Suffix) →
+with_suffix : (model : DataModel) (run : List ℕ) (found : Option Suffix) →
     (digit_run (base_of run) (drop (front_of (base_of run)) run) ≡ 0 → ⊥) →
     suffix_of (drop (digit_run (base_of run) (drop (front_of (base_of run)) run))
-    (drop (front_of (base_of run)) run)) ≡ found → Constant run ⊎ (number_of run ≡ Err L1)
-with_suffix run None some read =
+    (drop (front_of (base_of run)) run)) ≡ found → Constant model run
+    ⊎ (number_of model run ≡ Err L1)
+with_suffix model run None some read =
     let more : (digit_run (base_of run) (drop (front_of (base_of run)) run) == 0)
     ≡ false = ne_eqb _ 0 some in
     inr (rw (more, read))
-with_suffix run (Some s) some read =
+with_suffix model run (Some s) some read =
     let is = constant_made run (base_of run) s (base_is run) some read in
     inl (record {
       base = base_of run;
       suffix = s;
       number = _;
       constant = is;
-      read = constant_read run (base_of run) s _ is;
+      read = constant_read model run (base_of run) s _ is;
     })
 
-pub constant_is : (run : List ℕ) → Constant run ⊎ (number_of run ≡ Err L1)
-constant_is run =
+pub constant_is : (model : DataModel) (run : List ℕ) →
+    Constant model run ⊎ (number_of model run ≡ Err L1)
+constant_is model run =
     elim (cases_Bool (digit_run (base_of run) (drop (front_of (base_of run)) run) == 0)) [
       | inl h ↦ inr (rw h)
-      | inr h ↦ with_suffix run (suffix_of (drop (digit_run (base_of run)
+      | inr h ↦ with_suffix model run (suffix_of (drop (digit_run (base_of run)
           (drop (front_of (base_of run)) run)) (drop (front_of (base_of run)) run)))
           (eqb-false _ 0 h) refl
     ]

@@ -25,14 +25,16 @@ use Rattle.c_lexer.specs.Numbers.{IsNumber, types_of}
 use Rattle.c_lexer.specs.Lexemes.{end_lexeme, lexeme_of, lexemes, bytes_at, IsSpelled, EndsOnce}
 use Rattle.c_lexer.specs.Lexemes.{AreInOrder, ForEachToken}
 use Rattle.c_lexer.proofs.Complete.{part_some}
+use Rattle.cpa_ints.specs.declared.data_model.DataModel.{DataModel}
 
-not_end : (kind : TokenKind) (bytes rest : List ℕ) → IsToken kind bytes rest → kind ≢ End
-not_end Word bytes rest is = λ e. (cc)
-not_end (Number t value) bytes rest is = λ e. (cc)
-not_end (Character value) bytes rest is = λ e. (cc)
-not_end Text bytes rest is = λ e. (cc)
-not_end Mark bytes rest is = λ e. (cc)
-not_end End bytes rest is = absurd is
+not_end : (model : DataModel) (kind : TokenKind) (bytes rest : List ℕ) →
+    IsToken model kind bytes rest → kind ≢ End
+not_end model Word bytes rest is = λ e. (cc)
+not_end model (Number t value) bytes rest is = λ e. (cc)
+not_end model (Character value) bytes rest is = λ e. (cc)
+not_end model Text bytes rest is = λ e. (cc)
+not_end model Mark bytes rest is = λ e. (cc)
+not_end model End bytes rest is = absurd is
 
 -- the token with these bytes between those before and those behind
 abbrev pub token_between : TokenKind → List ℕ → List ℕ → Token
@@ -55,32 +57,36 @@ rest_behind before bytes rest =
     ∙ ap (drop (length (before ++ bytes))) (sym (append_assoc before bytes rest))
     ∙ drop-append_seam (before ++ bytes) rest
 
-spelled_between : (kind : TokenKind) (before bytes rest : List ℕ) → 0 < length bytes →
-    IsToken kind bytes rest →
-    IsSpelled (before ++ (bytes ++ rest)) (token_between kind before bytes)
-spelled_between kind before bytes rest some is =
+spelled_between : (model : DataModel) (kind : TokenKind) (before bytes rest : List ℕ) →
+    0 < length bytes →
+    IsToken model kind bytes rest →
+    IsSpelled model (before ++ (bytes ++ rest)) (token_between kind before bytes)
+spelled_between model kind before bytes rest some is =
     let e = bytes_between kind before bytes rest in
-    let here : IsToken kind (bytes_at (before ++ (bytes ++ rest)) (token_between kind before bytes))
-    rest = subst (λ z. IsToken kind z rest) (sym e) is in
+    let here : IsToken model kind (bytes_at (before ++ (bytes ++ rest))
+    (token_between kind before bytes))
+    rest = subst (λ z. IsToken model kind z rest) (sym e) is in
     record {
       kind =
-          subst (λ z. IsToken kind (bytes_at (before ++ (bytes ++ rest))
+          subst (λ z. IsToken model kind (bytes_at (before ++ (bytes ++ rest))
           (token_between kind before bytes)) z) (sym (rest_behind before bytes rest)) here;
       some = omega arith;
       within = omega (arith, length-append before (bytes ++ rest), length-append bytes rest);
     }
 
 -- a token and that it is no End
-abbrev IsReal : List ℕ → Token → Type 0
-IsReal text t = IsSpelled text t × (t.kind ≢ End)
+abbrev IsReal : DataModel → List ℕ → Token → Type 0
+IsReal model text t = IsSpelled model text t × (t.kind ≢ End)
 
-real_more : (text : List ℕ) (before bytes rest : List ℕ) (fresh : Bool) (kind : TokenKind) →
-    text ≡ before ++ (bytes ++ rest) → IsToken kind bytes rest →
-    IsReal text (token_between kind before bytes)
-real_more text before bytes rest fresh kind e is = (
-  subst (λ z. IsSpelled z (token_between kind before bytes)) (sym e)
-      (spelled_between kind before bytes rest (part_some fresh (token kind bytes) rest is) is),
-  not_end kind bytes rest is,
+real_more : (model : DataModel) (text : List ℕ) (before bytes rest : List ℕ) (fresh : Bool)
+    (kind : TokenKind) →
+    text ≡ before ++ (bytes ++ rest) → IsToken model kind bytes rest →
+    IsReal model text (token_between kind before bytes)
+real_more model text before bytes rest fresh kind e is = (
+  subst (λ z. IsSpelled model z (token_between kind before bytes)) (sym e)
+      (spelled_between model kind before bytes rest
+      (part_some model fresh (token kind bytes) rest is) is),
+  not_end model kind bytes rest is,
 )
 
 -- what is before the parts that are left
@@ -97,24 +103,29 @@ pushed_on text before part parts e =
     split_on text before part parts e
     ∙ sym (append_assoc before (bytes_of part) (joined parts ++ []))
 
-all_real : (text before : List ℕ) (place : ℕ) (fresh : Bool) (parts : List Part) →
-    place ≡ length before → text ≡ before ++ (joined parts ++ []) → Stand fresh parts [] →
-    AllByRecursion (IsReal text) (tokens_from place parts)
-all_real text before place fresh [] at e stand = tt
-all_real text before place fresh (gap bytes ∷ parts) at e stand =
-    all_real text (before ++ bytes) (place + length bytes) (fresh_behind fresh (gap bytes)) parts
+all_real : (model : DataModel) (text before : List ℕ) (place : ℕ) (fresh : Bool)
+    (parts : List Part) →
+    place ≡ length before → text ≡ before ++ (joined parts ++ []) → Stand model fresh parts [] →
+    AllByRecursion (IsReal model text) (tokens_from place parts)
+all_real model text before place fresh [] at e stand = tt
+all_real model text before place fresh (gap bytes ∷ parts) at e stand =
+    all_real model text (before ++ bytes) (place + length bytes)
+    (fresh_behind fresh (gap bytes)) parts
     (omega (arith, at, length-append before bytes)) (pushed_on text before (gap bytes) parts e)
     stand.1
-all_real text before place fresh (directive bytes ∷ parts) at e stand =
-    all_real text (before ++ bytes) (place + length bytes) (fresh_behind fresh (directive bytes))
+all_real model text before place fresh (directive bytes ∷ parts) at e stand =
+    all_real model text (before ++ bytes) (place + length bytes)
+    (fresh_behind fresh (directive bytes))
     parts (omega (arith, at, length-append before bytes))
     (pushed_on text before (directive bytes) parts e) stand.1
-all_real text before place fresh (token kind bytes ∷ parts) at e stand =
-    let here = real_more text before bytes (joined parts ++ []) fresh kind
+all_real model text before place fresh (token kind bytes ∷ parts) at e stand =
+    let here = real_more model text before bytes (joined parts ++ []) fresh kind
     (split_on text before (token kind bytes) parts e) stand.0 in (
-      subst (λ z. IsReal text (record { kind = kind; from = z; to = z + length bytes })) (sym at)
+      subst (λ z. IsReal model text (record { kind = kind; from = z; to = z + length bytes }))
+          (sym at)
           here,
-      all_real text (before ++ bytes) (place + length bytes) (fresh_behind fresh (token kind bytes))
+      all_real model text (before ++ bytes) (place + length bytes)
+          (fresh_behind fresh (token kind bytes))
           parts (omega (arith, at, length-append before bytes))
           (pushed_on text before (token kind bytes) parts e) stand.1,
     )
@@ -147,25 +158,28 @@ all_at P (x ∷ xs) (suc i) t all e = all_at P xs i t all.1 e
 
 -- the token at an index is a real one, or End at the last
 
-at_index : (text : List ℕ) (found : List Token) (i : ℕ) (t : Token) (is : Tokens text found) →
+at_index : (model : DataModel) (text : List ℕ) (found : List Token) (i : ℕ) (t : Token)
+    (is : Tokens model text found) →
     slice_get found i ≡ Some t →
-    IsReal text t ⊎ Last (tokens_from 0 is.parts) (end_token (length text)) t i
-at_index text found i t is e =
+    IsReal model text t ⊎ Last (tokens_from 0 is.parts) (end_token (length text)) t i
+at_index model text found i t is e =
     elim (at_end (tokens_from 0 is.parts) (end_token (length text)) i t
     (ap (λ z. slice_get z i) (sym is.listed) ∙ e)) [
-      | inl here ↦ inl (all_at (IsReal text) (tokens_from 0 is.parts) i t
-          (all_real text [] 0 true is.parts refl is.falls.spelled is.falls.stand) here)
+      | inl here ↦ inl (all_at (IsReal model text) (tokens_from 0 is.parts) i t
+          (all_real model text [] 0 true is.parts refl is.falls.spelled is.falls.stand) here)
       | inr last ↦ inr last
     ]
 
-pub spelled : ForEachToken (λ text t. t.kind ≢ End → IsSpelled text t)
-spelled text found i t is e apart = elim (at_index text found i t is e) [
+pub spelled : (model : DataModel) → ForEachToken model
+    (λ text t. t.kind ≢ End → IsSpelled model text t)
+spelled model text found i t is e apart = elim (at_index model text found i t is e) [
   | inl real ↦ real.0
   | inr last ↦ absurd (apart (ap (λ z. z.kind) last.same))
 ]
 
-pub ends_once : (text : List ℕ) (found : List Token) → Tokens text found → EndsOnce text found
-ends_once text found is =
+pub ends_once : (model : DataModel) (text : List ℕ) (found : List Token) → Tokens model text found →
+    EndsOnce text found
+ends_once model text found is =
     let long : length found ≡ length (tokens_from 0 is.parts) + 1 = ap length is.listed
     ∙ length-append (tokens_from 0 is.parts) (end_token (length text) ∷ []) in
     let index : length found - 1 ≡ length (tokens_from 0 is.parts) = omega (arith, long) in
@@ -175,7 +189,7 @@ ends_once text found is =
           ap (λ z. slice_get z (length found - 1)) is.listed
           ∙ ap (λ z. slice_get (tokens_from 0 is.parts ++ end_token (length text) ∷ []) z) index
           ∙ end_at (tokens_from 0 is.parts) (end_token (length text));
-      only = λ i t e kind. elim (at_index text found i t is e) [
+      only = λ i t e kind. elim (at_index model text found i t is e) [
         | inl real ↦ absurd (real.1 kind)
         | inr last ↦ omega (arith, long, last.index)
       ];
@@ -237,8 +251,9 @@ ordered_at place (x ∷ ts) all (suc i) zero a b less e f = absurd (omega (arith
 ordered_at place (x ∷ ts) all (suc i) (suc j) a b less e f =
     ordered_at x.to ts all.2 i j a b (omega (arith, less)) e f
 
-pub in_order : (text : List ℕ) (found : List Token) → Tokens text found → AreInOrder found
-in_order text found is =
+pub in_order : (model : DataModel) (text : List ℕ) (found : List Token) → Tokens model text found →
+    AreInOrder found
+in_order model text found is =
     let all = all_ordered text [] 0 is.parts refl is.falls.spelled in
     ordered_at 0 found (subst (Ordered 0) (sym is.listed) all)
 
@@ -270,36 +285,42 @@ in_order_of a b h = le_z_yes (subst T (sym h) tt)
 held_in_range : (t : IntType) (n : ℕ) → int_le (pos n) (greatest t) ≡ true → IsInRange t (pos n)
 held_in_range t n h = (not_negative t n, in_order_of (pos n) (greatest t) h)
 
-number_in_range : (bytes : List ℕ) (t : IntType) (value : ℤ) → IsNumber bytes t value →
+number_in_range : (model : DataModel) (bytes : List ℕ) (t : IntType) (value : ℤ) →
+    IsNumber model bytes t value →
     IsInRange t value
-number_in_range bytes t value is =
+number_in_range model bytes t value is =
     let holds = found_passes (λ z. int_le (pos is.number) (greatest z))
-    (types_of is.suffix.rank is.suffix.unsigned is.base) t is.first_type in
+    (types_of model is.suffix.rank is.suffix.unsigned is.base) t is.first_type in
     subst (IsInRange t) (sym is.valued) (held_in_range t is.number holds)
 
 -- a token of a kind other than End has that kind's meaning
-kind_at : (text : List ℕ) (found : List Token) (i : ℕ) (t : Token) (kind : TokenKind) →
-    Tokens text found → slice_get found i ≡ Some t → t.kind ≡ kind → kind ≢ End →
-    IsToken kind (bytes_at text t) (drop t.to text)
-kind_at text found i t kind is e same apart =
-    let s = spelled text found i t is e (λ bad. apart (sym same ∙ bad)) in
-    subst (λ z. IsToken z (bytes_at text t) (drop t.to text)) same s.kind
+kind_at : (model : DataModel) (text : List ℕ) (found : List Token) (i : ℕ) (t : Token)
+    (kind : TokenKind) →
+    Tokens model text found → slice_get found i ≡ Some t → t.kind ≡ kind → kind ≢ End →
+    IsToken model kind (bytes_at text t) (drop t.to text)
+kind_at model text found i t kind is e same apart =
+    let s = spelled model text found i t is e (λ bad. apart (sym same ∙ bad)) in
+    subst (λ z. IsToken model z (bytes_at text t) (drop t.to text)) same s.kind
 
-pub number_value : ForEachToken (λ text t. (type : IntType) (value : ℤ) →
+pub number_value : (model : DataModel) → ForEachToken model
+    (λ text t. (type : IntType) (value : ℤ) →
     t.kind ≡ Number type value → IsInRange type value)
-number_value text found i t is e type value kind =
-    number_in_range (bytes_at text t) type value (kind_at text found i t (Number type value) is e
+number_value model text found i t is e type value kind =
+    number_in_range model (bytes_at text t) type value
+    (kind_at model text found i t (Number type value) is e
     kind (λ bad. (cc))).0
 
-pub character_value : ((type : IntType) (n : ℤ) → IsInRange type (wrapped type n)) →
-    ForEachToken (λ text t. (value : ℤ) → t.kind ≡ Character value → IsInRange ty.I8 value)
-character_value range text found i t is e value kind =
-    let c = kind_at text found i t (Character value) is e kind (λ bad. (cc)) in
+pub character_value : (model : DataModel) → ((type : IntType) (n : ℤ) →
+    IsInRange type (wrapped type n)) →
+    ForEachToken model (λ text t. (value : ℤ) → t.kind ≡ Character value → IsInRange ty.I8 value)
+character_value model range text found i t is e value kind =
+    let c = kind_at model text found i t (Character value) is e kind (λ bad. (cc)) in
     subst (IsInRange ty.I8) (sym c.valued) (range ty.I8 (pos c.number))
 
 -- each token lies in the text, End too
-pub within_text : ForEachToken (λ text t. (t.from ≤ t.to) × (t.to ≤ length text))
-within_text text found i t is e = elim (at_index text found i t is e) [
+pub within_text : (model : DataModel) → ForEachToken model
+    (λ text t. (t.from ≤ t.to) × (t.to ≤ length text))
+within_text model text found i t is e = elim (at_index model text found i t is e) [
   | inl real ↦ (omega (arith, real.0.some), real.0.within)
   | inr last ↦ subst (λ z. (z.from ≤ z.to) × (z.to ≤ length text)) (sym last.same) (
     omega arith,
@@ -311,9 +332,10 @@ end_lexeme_of : (text : List ℕ) → lexeme_of text (end_token (length text)) �
 end_lexeme_of text = let none : length text - length text ≡ 0 = omega arith in rw none refl
 
 -- the last lexeme is that of the end
-pub last_lexeme : (text : List ℕ) (found : List Token) → Tokens text found →
+pub last_lexeme : (model : DataModel) (text : List ℕ) (found : List Token) →
+    Tokens model text found →
     slice_get (lexemes text found) (length found - 1) ≡ Some end_lexeme
-last_lexeme text found is =
+last_lexeme model text found is =
     slice_get-map (lexeme_of text) found (length found - 1)
-    ∙ ap (option_map (lexeme_of text)) (ends_once text found is).last
+    ∙ ap (option_map (lexeme_of text)) (ends_once model text found is).last
     ∙ ap Some (end_lexeme_of text)

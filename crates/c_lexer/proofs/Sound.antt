@@ -38,33 +38,37 @@ use Rattle.c_lexer.proofs.Constants.{Constant, constant_is, constant_malformed}
 use Rattle.c_lexer.proofs.Quotes.{Enclosed, quote_is, quoted_read, quoted_made, Stood, character_is}
 use Rattle.c_lexer.proofs.Quotes.{character_malformed}
 use Rattle.c_lexer.proofs.MarkFacts.{LongestFront, mark_is}
+use Rattle.cpa_ints.specs.declared.data_model.DataModel.{DataModel}
 
 -- what is read is a part that stands, or a rule that is broken
-abbrev Right : Bool → List ℕ → Result Piece Rule → Type 0
-Right fresh text read =
-    MatchResult read (λ (piece : Piece). IsPart fresh (part_of piece.kind (take piece.length text))
-    (drop piece.length text)) (λ rule. Fails fresh rule text)
+abbrev Right : DataModel → Bool → List ℕ → Result Piece Rule → Type 0
+Right model fresh text read =
+    MatchResult read (λ (piece : Piece). IsPart model fresh
+    (part_of piece.kind (take piece.length text))
+    (drop piece.length text)) (λ rule. Fails model fresh rule text)
 
 -- the token of this length stands, or a rule is broken
-abbrev TokenRight : Bool → List ℕ → ℕ → Result TokenKind Rule → Type 0
-TokenRight fresh text n read =
-    MatchResult read (λ kind. IsToken kind (take n text) (drop n text)) (λ rule.
-    Fails fresh rule text)
+abbrev TokenRight : DataModel → Bool → List ℕ → ℕ → Result TokenKind Rule → Type 0
+TokenRight model fresh text n read =
+    MatchResult read (λ kind. IsToken model kind (take n text) (drop n text)) (λ rule.
+    Fails model fresh rule text)
 
-token_right : (fresh : Bool) (text : List ℕ) (n : ℕ) (read : Result TokenKind Rule) →
-    TokenRight fresh text n read → Right fresh text (token_piece n read)
-token_right fresh text n (Ok kind) right = right
-token_right fresh text n (Err rule) right = right
+token_right : (model : DataModel) (fresh : Bool) (text : List ℕ) (n : ℕ)
+    (read : Result TokenKind Rule) →
+    TokenRight model fresh text n read → Right model fresh text (token_piece n read)
+token_right model fresh text n (Ok kind) right = right
+token_right model fresh text n (Err rule) right = right
 
-blank_right : (fresh : Bool) (byte : ℕ) (rest : List ℕ) → is_blank byte ≡ true →
-    Right fresh (byte ∷ rest) (gap_piece 1)
-blank_right fresh byte rest blank = inl (record { byte = byte; spelled = refl; blank = blank })
+blank_right : (model : DataModel) (fresh : Bool) (byte : ℕ) (rest : List ℕ) → is_blank byte ≡ true →
+    Right model fresh (byte ∷ rest) (gap_piece 1)
+blank_right model fresh byte rest blank = inl (record
+    { byte = byte; spelled = refl; blank = blank })
 
-directive_right : (fresh : Bool) (rest : List ℕ) →
-    Right fresh (35 ∷ rest) (directive_piece fresh (35 ∷ rest))
-directive_right fresh rest = cond_both fresh _ _ (Right fresh (35 ∷ rest))
+directive_right : (model : DataModel) (fresh : Bool) (rest : List ℕ) →
+    Right model fresh (35 ∷ rest) (directive_piece fresh (35 ∷ rest))
+directive_right model fresh rest = cond_both fresh _ _ (Right model fresh (35 ∷ rest))
     (λ first. cond_both (names_directive (behind_spaces (directive_line (35 ∷ rest)))) _ _
-    (Right fresh (35 ∷ rest))
+    (Right model fresh (35 ∷ rest))
     (λ named. (first, directive_is rest named, run_ends is_on_line (35 ∷ rest)))
     (λ unnamed. record {
       first = first;
@@ -80,9 +84,10 @@ none_length : (found : Option ℕ) → option_map (λ n. n + 2) found ≡ None �
 none_length None e = refl
 none_length (Some n) e = cc
 
-comment_right : (fresh : Bool) (text : List ℕ) (found : Option ℕ) → opens_comment text ≡ true →
-    comment_length text ≡ found → Right fresh text (comment_piece found)
-comment_right fresh text None opens read =
+comment_right : (model : DataModel) (fresh : Bool) (text : List ℕ) (found : Option ℕ) →
+    opens_comment text ≡ true →
+    comment_length text ≡ found → Right model fresh text (comment_piece found)
+comment_right model fresh text None opens read =
     let two = starts_two 47 42 text opens in
     let none : close_from false two.0 ≡ None = none_length (close_from false two.0)
     (ap comment_length (sym two.1) ∙ read) in
@@ -92,12 +97,12 @@ comment_right fresh text None opens read =
       unclosed = open_lacks false two.0
           (close_none false two.0 none);
     })
-comment_right fresh text (Some n) opens read =
+comment_right model fresh text (Some n) opens read =
     inr (inl (front_take IsBlockComment text n (comment_is text n opens read)))
 
-line_right : (fresh : Bool) (text : List ℕ) → opens_line_comment text ≡ true →
-    Right fresh text (gap_piece (prefix_len is_on_line text))
-line_right fresh text opens =
+line_right : (model : DataModel) (fresh : Bool) (text : List ℕ) → opens_line_comment text ≡ true →
+    Right model fresh text (gap_piece (prefix_len is_on_line text))
+line_right model fresh text opens =
     let two = starts_two 47 47 text opens in
     let body : List ℕ = take (prefix_len is_on_line two.0) two.0 in
     let whole : take (prefix_len is_on_line (47 ∷ 47 ∷ two.0)) (47 ∷ 47 ∷ two.0) ≡ 47 ∷ 47 ∷ body =
@@ -113,20 +118,22 @@ line_right fresh text opens =
       run_ends is_on_line text,
     ))
 
-word_right : (fresh : Bool) (byte : ℕ) (rest : List ℕ) → is_word_head byte ≡ true →
-    Right fresh (byte ∷ rest) (token_piece (prefix_len is_word_byte (byte ∷ rest)) (Ok Word))
-word_right fresh byte rest head =
+word_right : (model : DataModel) (fresh : Bool) (byte : ℕ) (rest : List ℕ) →
+    is_word_head byte ≡ true →
+    Right model fresh (byte ∷ rest) (token_piece (prefix_len is_word_byte (byte ∷ rest)) (Ok Word))
+word_right model fresh byte rest head =
     let front = take_more is_word_byte byte rest (word_head_goes_on byte head) in (
       and_from _ _ (ap (begins_with is_word_head) front
           ∙ head) (run_passes is_word_byte (byte ∷ rest)),
       run_ends is_word_byte (byte ∷ rest),
     )
 
-typed_right : (fresh : Bool) (text : List ℕ) (n : ℕ) (c : Constant (take n text))
-    (found : Option IntType) → type_of c.suffix c.base c.number ≡ found →
+typed_right : (model : DataModel) (fresh : Bool) (text : List ℕ) (n : ℕ)
+    (c : Constant model (take n text))
+    (found : Option IntType) → type_of model c.suffix c.base c.number ≡ found →
     StopsAt is_number_byte (drop n text) →
-    TokenRight fresh text n (typed found c.number)
-typed_right fresh text n c None e stop = inl (record {
+    TokenRight model fresh text n (typed found c.number)
+typed_right model fresh text n c None e stop = inl (record {
   run = take n text;
   rest = drop n text;
   spelled = sym (take-append-drop n text);
@@ -137,7 +144,7 @@ typed_right fresh text n c None e stop = inl (record {
   constant = c.constant;
   unheld = e;
 })
-typed_right fresh text n c (Some t) e stop = (
+typed_right model fresh text n c (Some t) e stop = (
   record {
     base = c.base;
     suffix = c.suffix;
@@ -149,16 +156,18 @@ typed_right fresh text n c (Some t) e stop = (
   stop,
 )
 
-number_right : (fresh : Bool) (byte : ℕ) (rest : List ℕ) → is_ascii_digit byte ≡ true →
-    Right fresh (byte ∷ rest) (number_piece (byte ∷ rest))
-number_right fresh byte rest digit =
+number_right : (model : DataModel) (fresh : Bool) (byte : ℕ) (rest : List ℕ) →
+    is_ascii_digit byte ≡ true →
+    Right model fresh (byte ∷ rest) (number_piece model (byte ∷ rest))
+number_right model fresh byte rest digit =
     let text : List ℕ = byte ∷ rest in
     let n : ℕ = prefix_len is_number_byte text in
     let stop : StopsAt is_number_byte (drop n text) = run_ends is_number_byte text in
-    token_right fresh text n (number_of (take n text)) (elim (constant_is (take n text)) [
-      | inl c ↦ subst (TokenRight fresh text n) (sym c.read)
-          (typed_right fresh text n c (type_of c.suffix c.base c.number) refl stop)
-      | inr e ↦ subst (TokenRight fresh text n) (sym e) (inr (inr (inl (record {
+    token_right model fresh text n (number_of model (take n text))
+    (elim (constant_is model (take n text)) [
+      | inl c ↦ subst (TokenRight model fresh text n) (sym c.read)
+          (typed_right model fresh text n c (type_of model c.suffix c.base c.number) refl stop)
+      | inr e ↦ subst (TokenRight model fresh text n) (sym e) (inr (inr (inl (record {
         run = take n text;
         rest = drop n text;
         spelled = sym (take-append-drop n text);
@@ -170,7 +179,7 @@ number_right fresh byte rest digit =
           longest = stop;
         };
         malformed =
-            λ base suffix number is. constant_malformed (take n text) base suffix number e is;
+            λ base suffix number is. constant_malformed model (take n text) base suffix number e is;
       }))))
     ])
 
@@ -205,11 +214,12 @@ open_right quote rest line other none bytes content behind e is =
     let bad : None ≡ Some (length content) = sym none ∙ some in
     cc
 
-held_right : (fresh : Bool) (n : ℕ) (rest : List ℕ) (c : Enclosed 39 false rest n)
-    (s : Stood c.content) → TokenRight fresh (39 ∷ rest) (n + 2) (held s.number)
-held_right fresh n rest c s =
+held_right : (model : DataModel) (fresh : Bool) (n : ℕ) (rest : List ℕ)
+    (c : Enclosed 39 false rest n)
+    (s : Stood c.content) → TokenRight model fresh (39 ∷ rest) (n + 2) (held s.number)
+held_right model fresh n rest c s =
     let front = quoted_front 39 n rest c in
-    cond_both (nat_le s.number 255) _ _ (TokenRight fresh (39 ∷ rest) (n + 2))
+    cond_both (nat_le s.number 255) _ _ (TokenRight model fresh (39 ∷ rest) (n + 2))
     (λ small. record {
       content = c.content;
       number = s.number;
@@ -229,19 +239,20 @@ held_right fresh n rest c s =
       large = leb-false s.number 255 large;
     }))
 
-character_right : (fresh : Bool) (rest : List ℕ) (found : Option ℕ) →
-    close_quote 39 false rest ≡ found → Right fresh (39 ∷ rest) (character_in found (39 ∷ rest))
-character_right fresh rest None read =
+character_right : (model : DataModel) (fresh : Bool) (rest : List ℕ) (found : Option ℕ) →
+    close_quote 39 false rest ≡ found → Right model fresh (39 ∷ rest)
+    (character_in found (39 ∷ rest))
+character_right model fresh rest None read =
     inr (inl (record { begins = (rest, refl); unclosed = open_right 39 rest refl refl read }))
-character_right fresh rest (Some n) read =
+character_right model fresh rest (Some n) read =
     let c = quote_is 39 false rest n read in
     let front = quoted_front 39 n rest c in
-    token_right fresh (39 ∷ rest) (n + 2) (character_of (take n rest))
-    (subst (λ z. TokenRight fresh (39 ∷ rest) (n + 2) (character_of z)) (sym front.2)
+    token_right model fresh (39 ∷ rest) (n + 2) (character_of (take n rest))
+    (subst (λ z. TokenRight model fresh (39 ∷ rest) (n + 2) (character_of z)) (sym front.2)
     (elim (character_is c.content) [
-      | inl s ↦ subst (TokenRight fresh (39 ∷ rest) (n + 2)) (sym s.read)
-          (held_right fresh n rest c s)
-      | inr e ↦ subst (TokenRight fresh (39 ∷ rest) (n + 2)) (sym e) (inr (inr (inr (record {
+      | inl s ↦ subst (TokenRight model fresh (39 ∷ rest) (n + 2)) (sym s.read)
+          (held_right model fresh n rest c s)
+      | inr e ↦ subst (TokenRight model fresh (39 ∷ rest) (n + 2)) (sym e) (inr (inr (inr (record {
         bytes = 39 ∷ (c.content ++ 39 ∷ []);
         content = c.content;
         rest = c.rest;
@@ -251,11 +262,12 @@ character_right fresh rest (Some n) read =
       }))))
     ]))
 
-text_right : (fresh : Bool) (rest : List ℕ) (found : Option ℕ) → close_quote 34 false rest ≡ found →
-    Right fresh (34 ∷ rest) (text_in found)
-text_right fresh rest None read =
+text_right : (model : DataModel) (fresh : Bool) (rest : List ℕ) (found : Option ℕ) →
+    close_quote 34 false rest ≡ found →
+    Right model fresh (34 ∷ rest) (text_in found)
+text_right model fresh rest None read =
     inr (inr (record { begins = (rest, refl); unclosed = open_right 34 rest refl refl read }))
-text_right fresh rest (Some n) read =
+text_right model fresh rest (Some n) read =
     let c = quote_is 34 false rest n read in
     let front = quoted_front 34 n rest c in
     record { content = c.content; quoted = quoted_made 34 _ c.content front.0 c.inside }
@@ -271,9 +283,10 @@ record Other (text : List ℕ) (byte : ℕ) : Type 0 where
   single : (byte == 39) ≡ false
   double : (byte == 34) ≡ false
 
-mark_right_by : (fresh : Bool) (text : List ℕ) (n : ℕ) → LongestFront text n →
-    opens_comment text ≡ false → opens_line_comment text ≡ false → Right fresh text (mark_piece n)
-mark_right_by fresh text n f a b = cond_both (n == 0) _ _ (Right fresh text)
+mark_right_by : (model : DataModel) (fresh : Bool) (text : List ℕ) (n : ℕ) → LongestFront text n →
+    opens_comment text ≡ false → opens_line_comment text ≡ false →
+    Right model fresh text (mark_piece n)
+mark_right_by model fresh text n f a b = cond_both (n == 0) _ _ (Right model fresh text)
     (λ h. (let none : n ≡ 0 = eqb-true n 0 h in absurd
     (false≢true (ap (λ z. is_mark (take z text)) (sym none) ∙ f.marked))))
     (λ h. record {
@@ -284,11 +297,13 @@ mark_right_by fresh text n f a b = cond_both (n == 0) _ _ (Right fresh text)
           ∙ a) (ap opens_line_comment (take-append-drop n text) ∙ b);
     })
 
-mark_right : (fresh : Bool) (byte : ℕ) (rest : List ℕ) → Other (byte ∷ rest) byte →
-    Right fresh (byte ∷ rest) (mark_piece (mark_length (byte ∷ rest)))
-mark_right fresh byte rest o = elim (mark_is (byte ∷ rest)) [
-  | inl f ↦ mark_right_by fresh (byte ∷ rest) (mark_length (byte ∷ rest)) f o.comment o.line_comment
-  | inr none ↦ subst (λ z. Right fresh (byte ∷ rest) (mark_piece z)) (sym none.0)
+mark_right : (model : DataModel) (fresh : Bool) (byte : ℕ) (rest : List ℕ) →
+    Other (byte ∷ rest) byte →
+    Right model fresh (byte ∷ rest) (mark_piece (mark_length (byte ∷ rest)))
+mark_right model fresh byte rest o = elim (mark_is (byte ∷ rest)) [
+  | inl f ↦ mark_right_by model fresh (byte ∷ rest)
+      (mark_length (byte ∷ rest)) f o.comment o.line_comment
+  | inr none ↦ subst (λ z. Right model fresh (byte ∷ rest) (mark_piece z)) (sym none.0)
       (inr (inl (record {
         byte = byte;
         rest = rest;
@@ -307,22 +322,24 @@ mark_right fresh byte rest o = elim (mark_is (byte ∷ rest)) [
       })))
 ]
 
-token_at_right : (fresh : Bool) (byte : ℕ) (rest : List ℕ) → is_blank byte ≡ false →
+token_at_right : (model : DataModel) (fresh : Bool) (byte : ℕ) (rest : List ℕ) →
+    is_blank byte ≡ false →
     (byte == 35) ≡ false → opens_comment (byte ∷ rest) ≡ false →
     opens_line_comment (byte ∷ rest) ≡ false →
-    Right fresh (byte ∷ rest) (token_at byte (byte ∷ rest))
-token_at_right fresh byte rest a b c d =
-    cond_both (is_word_head byte) _ _ (Right fresh (byte ∷ rest))
-    (λ h. word_right fresh byte rest h)
-    (λ e. cond_both (is_ascii_digit byte) _ _ (Right fresh (byte ∷ rest))
-    (λ h. number_right fresh byte rest h)
-    (λ f. cond_both (byte == 39) _ _ (Right fresh (byte ∷ rest))
-    (λ h. subst (λ z. Right fresh (z ∷ rest) (character_in (close_quote 39 false rest) (z ∷ rest)))
-    (sym (eqb-true byte 39 h)) (character_right fresh rest (close_quote 39 false rest) refl))
-    (λ g. cond_both (byte == 34) _ _ (Right fresh (byte ∷ rest))
-    (λ h. subst (λ z. Right fresh (z ∷ rest) (text_in (close_quote 34 false rest)))
-    (sym (eqb-true byte 34 h)) (text_right fresh rest (close_quote 34 false rest) refl))
-    (λ h. mark_right fresh byte rest (record {
+    Right model fresh (byte ∷ rest) (token_at model byte (byte ∷ rest))
+token_at_right model fresh byte rest a b c d =
+    cond_both (is_word_head byte) _ _ (Right model fresh (byte ∷ rest))
+    (λ h. word_right model fresh byte rest h)
+    (λ e. cond_both (is_ascii_digit byte) _ _ (Right model fresh (byte ∷ rest))
+    (λ h. number_right model fresh byte rest h)
+    (λ f. cond_both (byte == 39) _ _ (Right model fresh (byte ∷ rest))
+    (λ h. subst (λ z. Right model fresh (z ∷ rest) (character_in (close_quote 39 false rest)
+    (z ∷ rest)))
+    (sym (eqb-true byte 39 h)) (character_right model fresh rest (close_quote 39 false rest) refl))
+    (λ g. cond_both (byte == 34) _ _ (Right model fresh (byte ∷ rest))
+    (λ h. subst (λ z. Right model fresh (z ∷ rest) (text_in (close_quote 34 false rest)))
+    (sym (eqb-true byte 34 h)) (text_right model fresh rest (close_quote 34 false rest) refl))
+    (λ h. mark_right model fresh byte rest (record {
       blank = a;
       hash = b;
       comment = c;
@@ -334,27 +351,29 @@ token_at_right fresh byte rest a b c d =
     })))))
 
 -- what reading one part gives is right
-right : (fresh : Bool) (byte : ℕ) (rest : List ℕ) →
-    Right fresh (byte ∷ rest) (piece_of fresh (byte ∷ rest))
-right fresh byte rest = cond_both (is_blank byte) _ _ (Right fresh (byte ∷ rest))
-    (λ h. blank_right fresh byte rest h)
-    (λ a. cond_both (byte == 35) _ _ (Right fresh (byte ∷ rest))
-    (λ h. subst (λ z. Right fresh (z ∷ rest) (directive_piece fresh (z ∷ rest)))
-    (sym (eqb-true byte 35 h)) (directive_right fresh rest))
-    (λ b. cond_both (opens_comment (byte ∷ rest)) _ _ (Right fresh (byte ∷ rest))
-    (λ h. comment_right fresh (byte ∷ rest) (comment_length (byte ∷ rest)) h refl)
-    (λ c. cond_both (opens_line_comment (byte ∷ rest)) _ _ (Right fresh (byte ∷ rest))
-    (λ h. line_right fresh (byte ∷ rest) h)
-    (λ d. token_at_right fresh byte rest a b c d))))
+right : (model : DataModel) (fresh : Bool) (byte : ℕ) (rest : List ℕ) →
+    Right model fresh (byte ∷ rest) (piece_of model fresh (byte ∷ rest))
+right model fresh byte rest = cond_both (is_blank byte) _ _ (Right model fresh (byte ∷ rest))
+    (λ h. blank_right model fresh byte rest h)
+    (λ a. cond_both (byte == 35) _ _ (Right model fresh (byte ∷ rest))
+    (λ h. subst (λ z. Right model fresh (z ∷ rest) (directive_piece fresh (z ∷ rest)))
+    (sym (eqb-true byte 35 h)) (directive_right model fresh rest))
+    (λ b. cond_both (opens_comment (byte ∷ rest)) _ _ (Right model fresh (byte ∷ rest))
+    (λ h. comment_right model fresh (byte ∷ rest) (comment_length (byte ∷ rest)) h refl)
+    (λ c. cond_both (opens_line_comment (byte ∷ rest)) _ _ (Right model fresh (byte ∷ rest))
+    (λ h. line_right model fresh (byte ∷ rest) h)
+    (λ d. token_at_right model fresh byte rest a b c d))))
 
-pub piece_stands : (fresh : Bool) (text : List ℕ) (piece : Piece) → piece_of fresh text ≡ Ok piece →
-    IsPart fresh (part_of piece.kind (take piece.length text)) (drop piece.length text)
-piece_stands fresh [] piece e = cc
-piece_stands fresh (byte ∷ rest) piece e =
-    subst (Right fresh (byte ∷ rest)) e (right fresh byte rest)
+pub piece_stands : (model : DataModel) (fresh : Bool) (text : List ℕ) (piece : Piece) →
+    piece_of model fresh text ≡ Ok piece →
+    IsPart model fresh (part_of piece.kind (take piece.length text)) (drop piece.length text)
+piece_stands model fresh [] piece e = cc
+piece_stands model fresh (byte ∷ rest) piece e =
+    subst (Right model fresh (byte ∷ rest)) e (right model fresh byte rest)
 
-pub piece_fails : (fresh : Bool) (text : List ℕ) (rule : Rule) → 0 < length text →
-    piece_of fresh text ≡ Err rule → Fails fresh rule text
-piece_fails fresh [] rule some e = absurd (omega arith)
-piece_fails fresh (byte ∷ rest) rule some e =
-    subst (Right fresh (byte ∷ rest)) e (right fresh byte rest)
+pub piece_fails : (model : DataModel) (fresh : Bool) (text : List ℕ) (rule : Rule) →
+    0 < length text →
+    piece_of model fresh text ≡ Err rule → Fails model fresh rule text
+piece_fails model fresh [] rule some e = absurd (omega arith)
+piece_fails model fresh (byte ∷ rest) rule some e =
+    subst (Right model fresh (byte ∷ rest)) e (right model fresh byte rest)

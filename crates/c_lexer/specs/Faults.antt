@@ -17,6 +17,7 @@ use Rattle.c_lexer.specs.Numbers.{Base, Suffix, IsConstant, type_of}
 use Rattle.c_lexer.specs.Quoted.{IsQuoted, StandsFor}
 use Rattle.c_lexer.specs.Marks.{is_mark}
 use Rattle.c_lexer.specs.Parts.{Part, joined, Falls, fresh_after, NoTokens}
+use Rattle.cpa_ints.specs.declared.data_model.DataModel.{DataModel}
 
 -- the text begins with this byte
 abbrev pub Begins : ℕ → List ℕ → Type 0
@@ -75,7 +76,7 @@ pub record HasOpenQuote (quote : ℕ) (text : List ℕ) : Type 0 where
       IsQuoted quote bytes content → ⊥
 
 -- an integer constant that no type of its list holds
-pub record HasLargeNumber (text : List ℕ) : Type 0 where
+pub record HasLargeNumber (model : DataModel) (text : List ℕ) : Type 0 where
   pub run : List ℕ
   pub rest : List ℕ
   pub spelled : text ≡ run ++ rest
@@ -84,7 +85,7 @@ pub record HasLargeNumber (text : List ℕ) : Type 0 where
   pub suffix : Suffix
   pub number : ℕ
   pub constant : IsConstant run base suffix number
-  pub unheld : type_of suffix base number ≡ None
+  pub unheld : type_of model suffix base number ≡ None
 
 -- an escape above 255
 pub record HasLargeCharacter (text : List ℕ) : Type 0 where
@@ -105,24 +106,24 @@ pub record HasUnknownDirective (fresh : Bool) (text : List ℕ) : Type 0 where
       StopsAt is_on_line rest → ⊥
 
 -- why no part begins the text, by the rule that is broken
-abbrev pub Fails : Bool → Rule → List ℕ → Type 0
-Fails fresh L1 text = HasStrayHash fresh text ⊎ (HasStrayByte text ⊎
+abbrev pub Fails : DataModel → Bool → Rule → List ℕ → Type 0
+Fails model fresh L1 text = HasStrayHash fresh text ⊎ (HasStrayByte text ⊎
     (HasMalformedNumber text ⊎ HasMalformedCharacter text))
-Fails fresh L2 text = HasOpenComment text ⊎
+Fails model fresh L2 text = HasOpenComment text ⊎
     (HasOpenQuote SINGLE_QUOTE text ⊎ HasOpenQuote DOUBLE_QUOTE text)
-Fails fresh L3 text = HasLargeNumber text ⊎ HasLargeCharacter text
-Fails fresh L4 text = HasUnknownDirective fresh text
-Fails fresh _ text = ⊥
+Fails model fresh L3 text = HasLargeNumber model text ⊎ HasLargeCharacter text
+Fails model fresh L4 text = HasUnknownDirective fresh text
+Fails model fresh _ text = ⊥
 
 -- up to its place the text falls into parts, and there the rule is broken
-pub record HasFault (text : List ℕ) (fault : TextFault) : Type 0 where
+pub record HasFault (model : DataModel) (text : List ℕ) (fault : TextFault) : Type 0 where
   pub parts : List Part
   pub rest : List ℕ
-  pub falls : Falls text parts rest
+  pub falls : Falls model text parts rest
   pub placed : fault.place ≡ length (joined parts)
-  pub fails : Fails (fresh_after true parts) fault.rule rest
+  pub fails : Fails model (fresh_after true parts) fault.rule rest
 
 -- what an error says of the text
-abbrev pub IsRefused : List ℕ → TextError → Type 0
-IsRefused text (Fault fault) = HasFault text fault × NoTokens text
-IsRefused text OutOfMemory = Unit {0}
+abbrev pub IsRefused : DataModel → List ℕ → TextError → Type 0
+IsRefused model text (Fault fault) = HasFault model text fault × NoTokens model text
+IsRefused model text OutOfMemory = Unit {0}

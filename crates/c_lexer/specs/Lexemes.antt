@@ -6,6 +6,7 @@ use Rattle.c_lexer.specs.declared.token.Token.{Token}
 use Rattle.c_lexer.specs.declared.token.TokenKind.{TokenKind}
 use Rattle.c_lexer.specs.declared.token.TokenKind.TheVariants.{End}
 use Rattle.c_lexer.specs.Parts.{IsToken, Tokens, end_token}
+use Rattle.cpa_ints.specs.declared.data_model.DataModel.{DataModel}
 
 -- the bytes of the text at the token's places
 abbrev pub bytes_at : List ℕ → Token → List ℕ
@@ -29,8 +30,8 @@ abbrev pub lexemes : List ℕ → List Token → List Lexeme
 lexemes text tokens = map (lexeme_of text) tokens
 
 -- the token has bytes, they lie in the text, and there they are a longest token of its kind
-pub record IsSpelled (text : List ℕ) (token : Token) : Type 0 where
-  pub kind : IsToken token.kind (bytes_at text token) (drop token.to text)
+pub record IsSpelled (model : DataModel) (text : List ℕ) (token : Token) : Type 0 where
+  pub kind : IsToken model token.kind (bytes_at text token) (drop token.to text)
   pub some : token.from < token.to
   pub within : token.to ≤ length text
 
@@ -47,6 +48,6 @@ AreInOrder tokens = (i j : ℕ) (first second : Token) → i < j →
     slice_get tokens i ≡ Some first → slice_get tokens j ≡ Some second → first.to ≤ second.from
 
 -- a fact of each token of each text
-abbrev pub ForEachToken : (List ℕ → Token → Type 0) → Type 0
-ForEachToken Fact = (text : List ℕ) (found : List Token) (i : ℕ) (token : Token) →
-    Tokens text found → slice_get found i ≡ Some token → Fact text token
+abbrev pub ForEachToken : DataModel → (List ℕ → Token → Type 0) → Type 0
+ForEachToken model Fact = (text : List ℕ) (found : List Token) (i : ℕ) (token : Token) →
+    Tokens model text found → slice_get found i ≡ Some token → Fact text token

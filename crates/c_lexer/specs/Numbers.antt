@@ -8,6 +8,8 @@ use Rattle.c_lexer.specs.declared.byte.TheConstants.{ZERO}
 use Rattle.cpa_ints.specs.declared.integers.IntType.{IntType}
 use Rattle.cpa_ints.specs.declared.integers.IntType.TheVariants as ty
 use Rattle.cpa_ints.specs.Integers.{greatest}
+use Rattle.cpa_ints.specs.declared.data_model.DataModel.{DataModel}
+use Rattle.cpa_ints.specs.DataModels.{long, unsigned_long}
 use Rattle.c_lexer.specs.Bytes.{begins_with}
 
 -- in which base a constant is written
@@ -76,28 +78,30 @@ pub record IsConstant (bytes : List ℕ) (base : Base) (suffix : Suffix) (number
   pub suffixed : IsSuffix suffix behind
   pub valued : number ≡ digits_value (radix base) digits
 
--- the list of types of a constant (C11 6.4.4.1p5): int, long, long long and their unsigned ones
-abbrev pub types_of : Rank → Bool → Base → List IntType
-types_of Int false Decimal = ty.I32 ∷ ty.I64 ∷ ty.I64 ∷ []
-types_of Int false _ = ty.I32 ∷ ty.U32 ∷ ty.I64 ∷ ty.U64 ∷ ty.I64 ∷ ty.U64 ∷ []
-types_of Int true _ = ty.U32 ∷ ty.U64 ∷ ty.U64 ∷ []
-types_of Long false Decimal = ty.I64 ∷ ty.I64 ∷ []
-types_of Long false _ = ty.I64 ∷ ty.U64 ∷ ty.I64 ∷ ty.U64 ∷ []
-types_of Long true _ = ty.U64 ∷ ty.U64 ∷ []
-types_of LongLong false Decimal = ty.I64 ∷ []
-types_of LongLong false _ = ty.I64 ∷ ty.U64 ∷ []
-types_of LongLong true _ = ty.U64 ∷ []
+-- the list of types of a constant in a data model (C11 6.4.4.1p5): int, long, long long and their
+-- unsigned ones
+abbrev pub types_of : DataModel → Rank → Bool → Base → List IntType
+types_of model Int false Decimal = ty.I32 ∷ long model ∷ ty.I64 ∷ []
+types_of model Int false _ =
+    ty.I32 ∷ ty.U32 ∷ long model ∷ unsigned_long model ∷ ty.I64 ∷ ty.U64 ∷ []
+types_of model Int true _ = ty.U32 ∷ unsigned_long model ∷ ty.U64 ∷ []
+types_of model Long false Decimal = long model ∷ ty.I64 ∷ []
+types_of model Long false _ = long model ∷ unsigned_long model ∷ ty.I64 ∷ ty.U64 ∷ []
+types_of model Long true _ = unsigned_long model ∷ ty.U64 ∷ []
+types_of model LongLong false Decimal = ty.I64 ∷ []
+types_of model LongLong false _ = ty.I64 ∷ ty.U64 ∷ []
+types_of model LongLong true _ = ty.U64 ∷ []
 
 -- the first of them that holds the number
-abbrev pub type_of : Suffix → Base → ℕ → Option IntType
-type_of suffix base number =
-    find (λ t. int_le (pos number) (greatest t)) (types_of suffix.rank suffix.unsigned base)
+abbrev pub type_of : DataModel → Suffix → Base → ℕ → Option IntType
+type_of model suffix base number =
+    find (λ t. int_le (pos number) (greatest t)) (types_of model suffix.rank suffix.unsigned base)
 
 -- an integer constant of this type and value
-pub record IsNumber (bytes : List ℕ) (t : IntType) (value : ℤ) : Type 0 where
+pub record IsNumber (model : DataModel) (bytes : List ℕ) (t : IntType) (value : ℤ) : Type 0 where
   pub base : Base
   pub suffix : Suffix
   pub number : ℕ
   pub constant : IsConstant bytes base suffix number
-  pub first_type : type_of suffix base number ≡ Some t
+  pub first_type : type_of model suffix base number ≡ Some t
   pub valued : value ≡ pos number

@@ -13,6 +13,7 @@ use Rattle.c_lexer.specs.Gaps.{IsGap, IsDirective}
 use Rattle.c_lexer.specs.Numbers.{IsNumber}
 use Rattle.c_lexer.specs.Quoted.{IsCharacter, IsText}
 use Rattle.c_lexer.specs.Marks.{IsLongestMark}
+use Rattle.cpa_ints.specs.declared.data_model.DataModel.{DataModel}
 
 -- a part of the text: a blank or a comment, a directive line without its line feed, or a token
 pub data Part : Type 0 where
@@ -31,20 +32,22 @@ abbrev pub is_word : List ℕ → Bool
 is_word bytes = begins_with is_word_head bytes && list_all is_word_byte bytes
 
 -- the bytes are a token of this kind, and no longer one can be made with the rest of the text
-abbrev pub IsToken : TokenKind → List ℕ → List ℕ → Type 0
-IsToken Word bytes rest = IsTrue (is_word bytes) × StopsAt is_word_byte rest
-IsToken (Number t value) bytes rest = IsNumber bytes t value × StopsAt is_number_byte rest
-IsToken (Character value) bytes rest = IsCharacter bytes value
-IsToken Text bytes rest = IsText bytes
-IsToken Mark bytes rest = IsLongestMark bytes rest
-IsToken End bytes rest = ⊥
+abbrev pub IsToken : DataModel → TokenKind → List ℕ → List ℕ → Type 0
+IsToken model Word bytes rest = IsTrue (is_word bytes) × StopsAt is_word_byte rest
+IsToken model (Number t value) bytes rest = IsNumber model bytes t value
+    × StopsAt is_number_byte rest
+IsToken model (Character value) bytes rest = IsCharacter bytes value
+IsToken model Text bytes rest = IsText bytes
+IsToken model Mark bytes rest = IsLongestMark bytes rest
+IsToken model End bytes rest = ⊥
 
 -- the part may stand before the rest; `fresh` says that only blanks and comments stand before it on
 -- its line
-abbrev pub IsPart : Bool → Part → List ℕ → Type 0
-IsPart fresh (gap bytes) rest = IsGap bytes rest
-IsPart fresh (directive bytes) rest = IsTrue fresh × IsDirective bytes × StopsAt is_on_line rest
-IsPart fresh (token kind bytes) rest = IsToken kind bytes rest
+abbrev pub IsPart : DataModel → Bool → Part → List ℕ → Type 0
+IsPart model fresh (gap bytes) rest = IsGap bytes rest
+IsPart model fresh (directive bytes) rest = IsTrue fresh × IsDirective bytes
+    × StopsAt is_on_line rest
+IsPart model fresh (token kind bytes) rest = IsToken model kind bytes rest
 
 -- whether behind the part only blanks and comments stand before on the line
 abbrev pub fresh_behind : Bool → Part → Bool
@@ -63,15 +66,17 @@ joined [] = []
 joined (part ∷ parts) = bytes_of part ++ joined parts
 
 -- the parts may stand in this order before the rest
-abbrev pub Stand : Bool → List Part → List ℕ → Type 0
-Stand fresh [] rest = Unit {0}
-Stand fresh (part ∷ parts) rest =
-    IsPart fresh part (joined parts ++ rest) × Stand (fresh_behind fresh part) parts rest
+abbrev pub Stand : DataModel → Bool → List Part → List ℕ → Type 0
+Stand model fresh [] rest = Unit {0}
+Stand model fresh (part ∷ parts) rest =
+    IsPart model fresh part (joined parts ++ rest) × Stand model
+    (fresh_behind fresh part) parts rest
 
 -- the text falls into these parts and a rest
-pub record Falls (text : List ℕ) (parts : List Part) (rest : List ℕ) : Type 0 where
+pub record Falls (model : DataModel) (text : List ℕ) (parts : List Part)
+    (rest : List ℕ) : Type 0 where
   pub spelled : text ≡ joined parts ++ rest
-  pub stand : Stand true parts rest
+  pub stand : Stand model true parts rest
 
 -- the tokens among the parts, with their places, where the first part stands at `place`
 abbrev pub tokens_from : ℕ → List Part → List Token
@@ -87,11 +92,11 @@ abbrev pub end_token : ℕ → Token
 end_token place = record { kind = End; from = place; to = place }
 
 -- the text falls into parts, and these are their tokens and one End at its length
-pub record Tokens (text : List ℕ) (tokens : List Token) : Type 0 where
+pub record Tokens (model : DataModel) (text : List ℕ) (tokens : List Token) : Type 0 where
   pub parts : List Part
-  pub falls : Falls text parts []
+  pub falls : Falls model text parts []
   pub listed : tokens ≡ tokens_from 0 parts ++ end_token (length text) ∷ []
 
 -- no tokens are those of the text
-abbrev pub NoTokens : List ℕ → Type 0
-NoTokens text = (tokens : List Token) → Tokens text tokens → ⊥
+abbrev pub NoTokens : DataModel → List ℕ → Type 0
+NoTokens model text = (tokens : List Token) → Tokens model text tokens → ⊥

@@ -3,7 +3,7 @@ use Rattle.std.specs.Prelude.{ℕ}
 use Rattle.c_lexer.specs.declared.fault.Rule.{Rule}
 use Rattle.c_lexer.specs.declared.fault.Rule.TheVariants.{L1, L2, L3, L4, S1, S2, S3, N1, N2, N3}
 use Rattle.c_lexer.specs.declared.fault.Rule.TheVariants.{N4, N5, N6, N7, N8, N9, N10, N11, N12}
-use Rattle.c_lexer.specs.declared.fault.Rule.TheVariants.{N13, N14, N15, N16, N17, N18}
+use Rattle.c_lexer.specs.declared.fault.Rule.TheVariants.{N13, N14, N15, N16, N17, N18, N19}
 
 -- how many rules come before it
 abbrev pub rule_number : Rule → ℕ
@@ -32,3 +32,4 @@ rule_number N15 = 21
 rule_number N16 = 22
 rule_number N17 = 23
 rule_number N18 = 24
+rule_number N19 = 25

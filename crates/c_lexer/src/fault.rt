@@ -63,6 +63,8 @@ pub enum Rule {
     N17,
     /// A `switch` has two cases of one converted value, or two defaults.
     N18,
+    /// With the checks of what is asked of it, the program is larger than the bounds of `N13`.
+    N19,
 }
 
 impl Rule {

@@ -1,8 +1,10 @@
 //! Integer constants: their base, suffix, digits and type. What they mean stands in
 //! `specs/Numbers.antt`; `proofs/Constants.antt` shows that this reads each of them and no others.
 ghost use Rattle.std.specs.Prelude.{◌≡◌, ◌+◌, ◌*◌, ◌≤◌, ◌<◌, ◌^◌, length, MatchOption, option_map};
+ghost use Rattle.std.specs.Prelude.{find, int_le, pos};
 ghost use Rattle.std.specs.Str.Parse.{digits_value};
-ghost use Rattle.c_lexer.specs.Numbers.{radix, types_of, type_of};
+ghost use Rattle.cpa_ints.specs.Integers.{greatest};
+ghost use Rattle.c_lexer.specs.Numbers.{radix, type_of};
 ghost use Rattle.c_lexer.specs.Steps.Pieces.{base_from, rank_from, suffix_from};
 ghost use Rattle.c_lexer.specs.Steps.ReadingConstants.{base_of, front_of, digit_run, is_u, rank_of};
 ghost use Rattle.c_lexer.specs.Steps.ReadingConstants.{with_rank, suffix_of, typed, suffixed};
@@ -10,7 +12,7 @@ ghost use Rattle.c_lexer.specs.Steps.ReadingConstants.{number_in, number_of};
 
 use crate::byte::digit_value;
 use crate::{Rule, TokenKind};
-use cpa_ints::IntType;
+use cpa_ints::{DataModel, IntType};
 
 /// The base in which a constant is written.
 #[derive(Clone, Copy, PartialEq, Eq)]
@@ -71,40 +73,49 @@ fn rank_of(letters: &[u8]) -> Option<Rank>
     }
 }
 
-/// The types that a constant can have, the first that holds it first.
-fn types_of(suffix: Suffix, base: Base) -> &'static [IntType]
-    ensures { result.now ≡ types_of (rank_from suffix.rank) suffix.unsigned (base_from base) }
+/// The first of the types that holds the number.
+fn first_holding(types: &[IntType], number: u64) -> Option<IntType>
+    ensures { result ≡ find (λ t. int_le (pos number) (greatest t)) types.now }
 {
-    match (suffix.rank, suffix.unsigned, base) {
-        (Rank::Int, false, Base::Decimal) => &[IntType::I32, IntType::I64, IntType::I64],
-        (Rank::Int, false, _) => {
-            &[
-                IntType::I32,
-                IntType::U32,
-                IntType::I64,
-                IntType::U64,
-                IntType::I64,
-                IntType::U64,
-            ]
-        }
-        (Rank::Int, true, _) => &[IntType::U32, IntType::U64, IntType::U64],
-        (Rank::Long, false, Base::Decimal) => &[IntType::I64, IntType::I64],
-        (Rank::Long, false, _) => &[IntType::I64, IntType::U64, IntType::I64, IntType::U64],
-        (Rank::Long, true, _) => &[IntType::U64, IntType::U64],
-        (Rank::LongLong, false, Base::Decimal) => &[IntType::I64],
-        (Rank::LongLong, false, _) => &[IntType::I64, IntType::U64],
-        (Rank::LongLong, true, _) => &[IntType::U64],
-    }
-}
-
-/// The first of its types that holds the number.
-fn type_of(suffix: Suffix, base: Base, number: u64) -> Option<IntType>
-    ensures { result ≡ type_of (suffix_from suffix) (base_from base) number }
-{
-    types_of(suffix, base)
+    types
         .iter()
         .copied()
         .find(|ty| number as i128 <= ty.greatest())
+}
+
+/// The first of the types of its list that holds the number.
+fn type_of(model: DataModel, suffix: Suffix, base: Base, number: u64) -> Option<IntType>
+    ensures { result ≡ type_of model (suffix_from suffix) (base_from base) number }
+{
+    let long = model.long();
+    let unsigned_long = model.unsigned_long();
+    match (suffix.rank, suffix.unsigned, base) {
+        (Rank::Int, false, Base::Decimal) => {
+            first_holding(&[IntType::I32, long, IntType::I64], number)
+        }
+        (Rank::Int, false, _) => first_holding(
+            &[
+                IntType::I32,
+                IntType::U32,
+                long,
+                unsigned_long,
+                IntType::I64,
+                IntType::U64,
+            ],
+            number,
+        ),
+        (Rank::Int, true, _) => {
+            first_holding(&[IntType::U32, unsigned_long, IntType::U64], number)
+        }
+        (Rank::Long, false, Base::Decimal) => first_holding(&[long, IntType::I64], number),
+        (Rank::Long, false, _) => {
+            first_holding(&[long, unsigned_long, IntType::I64, IntType::U64], number)
+        }
+        (Rank::Long, true, _) => first_holding(&[unsigned_long, IntType::U64], number),
+        (Rank::LongLong, false, Base::Decimal) => first_holding(&[IntType::I64], number),
+        (Rank::LongLong, false, _) => first_holding(&[IntType::I64, IntType::U64], number),
+        (Rank::LongLong, true, _) => first_holding(&[IntType::U64], number),
+    }
 }
 
 /// The number with one more digit, where it is below 2^64.
@@ -186,8 +197,13 @@ fn typed(ty: Option<IntType>, number: u64) -> Result<TokenKind, Rule>
 }
 
 /// The number with this suffix, where there is one.
-fn suffixed(suffix: Option<Suffix>, base: Base, digits: &[u8]) -> Result<TokenKind, Rule>
-    ensures { result ≡ suffixed (option_map suffix_from suffix) (base_from base)
+fn suffixed(
+    model: DataModel,
+    suffix: Option<Suffix>,
+    base: Base,
+    digits: &[u8],
+) -> Result<TokenKind, Rule>
+    ensures { result ≡ suffixed model (option_map suffix_from suffix) (base_from base)
         (digits_value (radix (base_from base)) digits.now) }
 {
     let Some(suffix) = suffix else {
@@ -196,24 +212,24 @@ fn suffixed(suffix: Option<Suffix>, base: Base, digits: &[u8]) -> Result<TokenKi
     let Some(number) = value_of(digits, radix(base)) else {
         return Err(Rule::L3);
     };
-    typed(type_of(suffix, base, number), number)
+    typed(type_of(model, suffix, base, number), number)
 }
 
 /// The constant of this base whose digits begin the text.
-fn number_in(base: Base, text: &[u8]) -> Result<TokenKind, Rule>
-    ensures { result ≡ number_in (base_from base) text.now }
+fn number_in(model: DataModel, base: Base, text: &[u8]) -> Result<TokenKind, Rule>
+    ensures { result ≡ number_in model (base_from base) text.now }
 {
     let run = digit_run(base, text);
     if run == 0 {
         return Err(Rule::L1);
     }
-    suffixed(suffix_of(&text[run..]), base, &text[..run])
+    suffixed(model, suffix_of(&text[run..]), base, &text[..run])
 }
 
 /// The integer constant that the run is.
-pub(crate) fn number_of(run: &[u8]) -> Result<TokenKind, Rule>
-    ensures { result ≡ number_of run.now }
+pub(crate) fn number_of(model: DataModel, run: &[u8]) -> Result<TokenKind, Rule>
+    ensures { result ≡ number_of model run.now }
 {
     let base = base_of(run);
-    number_in(base, &run[front_of(base)..])
+    number_in(model, base, &run[front_of(base)..])
 }

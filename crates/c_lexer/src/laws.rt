@@ -3,6 +3,7 @@
 //! Proved in `proofs/LexemeFacts.antt` and `proofs/Cuts.antt`.
 
 ghost use Rattle.std.specs.Prelude.{◌≡◌, ◌≢◌, ◌≤◌, ◌-◌, ◌⊎◌, ℕ, ℤ, List, length, slice_get};
+ghost use Rattle.cpa_ints.specs.declared.data_model.DataModel.{DataModel};
 ghost use Rattle.cpa_ints.specs.declared.integers.IntType.{IntType};
 ghost use Rattle.cpa_ints.specs.declared.integers.IntType.TheVariants.{I8};
 ghost use Rattle.cpa_ints.specs.Integers.{IsInRange};
@@ -26,43 +27,49 @@ use cpa_ints::wrap_keeps_the_range;
 
 /// A text has one list of tokens at most.
 pub fn one_token_list()
-    ensures { (text : List ℕ) (first second : List Token) →
-        Tokens text first → Tokens text second → first ≡ second }
+    ensures { (model : DataModel) (text : List ℕ) (first second : List Token) →
+        Tokens model text first → Tokens model text second → first ≡ second }
 {}
 
 /// A text has a list of tokens or a fault, never both, and one fault at most.
 pub fn tokens_or_one_fault()
-    ensures some { (text : List ℕ) →
-        ((found : List Token) × Tokens text found) ⊎ ((fault : TextFault) × HasFault text fault) }
-    ensures either { (text : List ℕ) (fault : TextFault) → HasFault text fault → NoTokens text }
-    ensures one { (text : List ℕ) (first second : TextFault) →
-        HasFault text first → HasFault text second → first ≡ second }
+    ensures some { (model : DataModel) (text : List ℕ) →
+        ((found : List Token) × Tokens model text found)
+        ⊎ ((fault : TextFault) × HasFault model text fault) }
+    ensures either { (model : DataModel) (text : List ℕ) (fault : TextFault) →
+        HasFault model text fault → NoTokens model text }
+    ensures one { (model : DataModel) (text : List ℕ) (first second : TextFault) →
+        HasFault model text first → HasFault model text second → first ≡ second }
 {}
 
 /// Each token but `End` has bytes, and is what they spell.
 pub fn tokens_are_spelled()
-    ensures { ForEachToken (λ text token. token.kind ≢ End → IsSpelled text token) }
+    ensures { (model : DataModel) → ForEachToken model (λ text token.
+        token.kind ≢ End → IsSpelled model text token) }
 {}
 
 /// The last token is `End` at the text's length, and no other is `End`.
 pub fn tokens_end_once()
-    ensures once { (text : List ℕ) (found : List Token) → Tokens text found → EndsOnce text found }
-    ensures lexeme { (text : List ℕ) (found : List Token) → Tokens text found →
+    ensures once { (model : DataModel) (text : List ℕ) (found : List Token) →
+        Tokens model text found → EndsOnce text found }
+    ensures lexeme { (model : DataModel) (text : List ℕ) (found : List Token) →
+        Tokens model text found →
         slice_get (lexemes text found) (length found - 1) ≡ Some end_lexeme }
 {}
 
 /// Tokens lie in the text, stand in its order and do not overlap.
 pub fn tokens_lie_in_order()
-    ensures within { ForEachToken (λ text token.
+    ensures within { (model : DataModel) → ForEachToken model (λ text token.
         (token.from ≤ token.to) × (token.to ≤ length text)) }
-    ensures order { (text : List ℕ) (found : List Token) → Tokens text found → AreInOrder found }
+    ensures order { (model : DataModel) (text : List ℕ) (found : List Token) →
+        Tokens model text found → AreInOrder found }
 {}
 
 /// The value of a number lies in the range of its type, that of a character in the range of `char`.
 pub fn constants_lie_in_range()
-    ensures number { ForEachToken (λ _ token.
+    ensures number { (model : DataModel) → ForEachToken model (λ _ token.
         (t : IntType) (value : ℤ) → token.kind ≡ Number t value → IsInRange t value) }
-    ensures character { ForEachToken (λ _ token.
+    ensures character { (model : DataModel) → ForEachToken model (λ _ token.
         (value : ℤ) → token.kind ≡ Character value → IsInRange I8 value) }
 {
     wrap_keeps_the_range();

@@ -6,10 +6,12 @@ ghost use Rattle.c_lexer.specs.Parts.{Tokens, fresh_behind};
 ghost use Rattle.c_lexer.specs.Steps.Pieces.{part_of, tokens_of};
 ghost use Rattle.c_lexer.specs.Faults.{IsRefused};
 ghost use Rattle.c_lexer.specs.declared.fault.TextError.TheVariants.{OutOfMemory};
+ghost use Rattle.cpa_ints.specs.declared.data_model.DataModel.TheVariants.{Lp64};
 
 use crate::byte::{LINE_FEED, behind};
 use crate::piece::{Piece, PieceKind, piece_of};
 use crate::{TextError, TextFault, Token, TokenKind};
+use cpa_ints::DataModel;
 use std::alloc::Global;
 
 /// The most bytes that a text may have, 2^20, as a program file. So each place fits a `u32`.
@@ -52,18 +54,18 @@ fn push_token(found: &mut Vec<Token>, place: usize, piece: Piece) -> Result<(), 
 
 /// The tokens of a text, in order, and one `End` at its length.
 ///
-/// One pass over the text; memory for the list alone.
-pub fn tokens(alloc: Global, text: &[u8]) -> Result<Vec<Token>, TextError>
+/// One pass over the text; memory for the list alone. The data model tells the types of numbers.
+pub fn tokens_in(alloc: Global, text: &[u8], model: DataModel) -> Result<Vec<Token>, TextError>
     requires { length text.now ≤ MAX_TEXT }
-    ensures ok { IfOk result (λ found. Tokens text.now found.items) }
-    ensures fault { IfErr result (λ error. IsRefused text.now error) }
+    ensures ok { IfOk result (λ found. Tokens model text.now found.items) }
+    ensures fault { IfErr result (λ error. IsRefused model text.now error) }
 {
     let mut found = Vec::new(alloc);
     let mut place = 0;
     let mut fresh = true;
     'parts: while place < text.len() {
         let rest = behind(text, place);
-        let piece = match piece_of(rest, fresh) {
+        let piece = match piece_of(model, rest, fresh) {
             Ok(piece) => piece,
             Err(rule) => return Err(TextError::Fault(TextFault {
                 rule,
@@ -81,4 +83,13 @@ pub fn tokens(alloc: Global, text: &[u8]) -> Result<Vec<Token>, TextError>
         to: end,
     })?;
     Ok(found)
+}
+
+/// The tokens of a text where `long` has 64 bits.
+pub fn tokens(alloc: Global, text: &[u8]) -> Result<Vec<Token>, TextError>
+    requires { length text.now ≤ MAX_TEXT }
+    ensures ok { IfOk result (λ found. Tokens Lp64 text.now found.items) }
+    ensures fault { IfErr result (λ error. IsRefused Lp64 text.now error) }
+{
+    tokens_in(alloc, text, DataModel::Lp64)
 }

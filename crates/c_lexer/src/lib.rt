@@ -25,5 +25,5 @@ pub use laws::{
     rules_are_ordered_by_number, tokens_are_spelled, tokens_end_once, tokens_lie_in_order,
     tokens_or_one_fault,
 };
-pub use lexer::{MAX_TEXT, tokens};
+pub use lexer::{MAX_TEXT, tokens, tokens_in};
 pub use token::{Token, TokenKind};

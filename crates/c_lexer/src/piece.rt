@@ -16,6 +16,7 @@ use crate::integer::number_of;
 use crate::mark::mark_length;
 use crate::quote::close_quote;
 use crate::{Rule, TokenKind};
+use cpa_ints::DataModel;
 
 /// What a part of the text is.
 #[derive(Clone, Copy)]
@@ -87,12 +88,12 @@ fn directive(text: &[u8], fresh: bool) -> Result<Piece, Rule>
 }
 
 /// The number that begins the text.
-fn number(text: &[u8]) -> Result<Piece, Rule>
-    ensures value { result ≡ number_piece text.now }
+fn number(model: DataModel, text: &[u8]) -> Result<Piece, Rule>
+    ensures value { result ≡ number_piece model text.now }
     ensures within { IfOk result (λ piece. piece.length ≤ length text.now) }
 {
     let length = number_run(text);
-    let kind = number_of(&text[..length])?;
+    let kind = number_of(model, &text[..length])?;
     Ok(token(kind, length))
 }
 
@@ -137,15 +138,15 @@ fn mark(text: &[u8]) -> Result<Piece, Rule>
 }
 
 /// The token that begins a text of this first byte.
-fn token_at(byte: u8, text: &[u8]) -> Result<Piece, Rule>
+fn token_at(model: DataModel, byte: u8, text: &[u8]) -> Result<Piece, Rule>
     requires { 0 < length text.now }
-    ensures value { result ≡ token_at byte text.now }
+    ensures value { result ≡ token_at model byte text.now }
     ensures within { IfOk result (λ piece. piece.length ≤ length text.now) }
 {
     if is_word_head(byte) {
         Ok(token(TokenKind::Word, word_run(text)))
     } else if byte.is_ascii_digit() {
-        number(text)
+        number(model, text)
     } else if byte == SINGLE_QUOTE {
         character(text)
     } else if byte == DOUBLE_QUOTE {
@@ -157,9 +158,9 @@ fn token_at(byte: u8, text: &[u8]) -> Result<Piece, Rule>
 
 /// The part that begins the text, or the rule that is broken there. `fresh` says that only blanks
 /// and comments stand before it on its line.
-pub(crate) fn piece_of(text: &[u8], fresh: bool) -> Result<Piece, Rule>
+pub(crate) fn piece_of(model: DataModel, text: &[u8], fresh: bool) -> Result<Piece, Rule>
     requires { 0 < length text.now }
-    ensures value { result ≡ piece_of fresh text.now }
+    ensures value { result ≡ piece_of model fresh text.now }
     ensures within { IfOk result (λ piece. piece.length ≤ length text.now) }
 {
     let byte = text[0];
@@ -172,6 +173,6 @@ pub(crate) fn piece_of(text: &[u8], fresh: bool) -> Result<Piece, Rule>
     } else if opens_line_comment(text) {
         Ok(gap(line_run(text)))
     } else {
-        token_at(byte, text)
+        token_at(model, byte, text)
     }
 }

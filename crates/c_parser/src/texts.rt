@@ -1,6 +1,7 @@
 //! The tree of a text, or its fault, which are `Tree` and `IsTreeFault` of `c_grammar_tree`;
 //! `proofs/Whole.antt` goes from its items to it.
 ghost use Rattle.std.specs.Prelude.{◌≡◌, ◌<◌, length, IfOk, IfErr};
+ghost use Rattle.cpa_ints.specs.declared.data_model.DataModel.{DataModel};
 ghost use Rattle.c_lexer.specs.Parts.{Tokens};
 ghost use Rattle.c_grammar_symbols.specs.Sources.{leaf_at};
 ghost use Rattle.c_grammar_tree.specs.Faults.{is_outside};
@@ -47,12 +48,12 @@ fn fault_of(source: &Source, error: ReadError) -> TextError
     }
 }
 
-/// The tree of the text with these tokens.
+/// The tree of the text with these tokens, which a data model gives it.
 ///
 /// One descent, linear in the tokens; memory for the tree alone. The stack is bounded by
 /// `MAX_LEVEL`.
 pub fn parse(alloc: Global, text: &[u8], tokens: &[Token]) -> Result<Unit, TextError>
-    requires { Tokens text.now tokens.now }
+    requires { (model : DataModel) × Tokens model text.now tokens.now }
     ensures tree { IfOk result (λ unit. Tree text.now tokens.now unit) }
     ensures fault { IfErr result (λ error. IsRefused text.now tokens.now error) }
 {

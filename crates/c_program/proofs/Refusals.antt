@@ -21,11 +21,13 @@ use Rattle.std.specs.Prelude.{Ok, Err}
 use Rattle.c_program.specs.Programs.{IsTheProgram, IsProgram, IsTextFault, IsTreeOf, NoProgram}
 use Rattle.c_program.specs.Programs.{IsRefused, AreTheOrigins}
 use Rattle.c_program.specs.Programs.{no_tokens, no_tree, unsound}
+use Rattle.cpa_ints.specs.declared.data_model.DataModel.{DataModel}
 
 -- bytes have one list of tokens
 abbrev pub OneList : Type 0
 OneList =
-    (bytes : List ℕ) (a b : List Token) → Tokens bytes a → Tokens bytes b → a ≡ b
+    (model : DataModel) (bytes : List ℕ) (a b : List Token) → Tokens model bytes a →
+    Tokens model bytes b → a ≡ b
 
 -- tokens have one tree
 abbrev pub OneTree : Type 0
@@ -41,11 +43,13 @@ TreeOrFault =
 
 -- no bytes have tokens and a fault of them
 abbrev pub TokensOrFault : Type 0
-TokensOrFault = (bytes : List ℕ) (fault : TextFault) → HasFault bytes fault → NoTokens bytes
+TokensOrFault = (model : DataModel) (bytes : List ℕ) (fault : TextFault) →
+    HasFault model bytes fault → NoTokens model bytes
 
 -- a tree has one checked text
 abbrev pub OneText : Type 0
-OneText = (tree : UnitTree) (a b : CheckedText) → IsCheckedText tree a → IsCheckedText tree b →
+OneText = (model : DataModel) (tree : UnitTree) (a b : CheckedText) → IsCheckedText model tree a →
+    IsCheckedText model tree b →
     a ≡ b
 
 -- a checked text has one core
@@ -54,69 +58,81 @@ CoreOnce = (checked : CheckedText) (P Q : Program) → IsCore checked P → IsCo
 
 -- bytes stand for one program
 abbrev pub OneProgram : Type 0
-OneProgram = (bytes : List ℕ) (P Q : Program) → IsProgram bytes P → IsProgram bytes Q → P ≡ Q
+OneProgram = (model : DataModel) (bytes : List ℕ) (P Q : Program) → IsProgram model bytes P →
+    IsProgram model bytes Q → P ≡ Q
 
 -- the program of bytes is well formed
 abbrev pub WellFormed : Type 0
-WellFormed = (bytes : List ℕ) (P : Program) → IsProgram bytes P → IsWellFormed P
+WellFormed = (model : DataModel) (bytes : List ℕ) (P : Program) → IsProgram model bytes P →
+    IsWellFormed P
 
 -- no bytes have a fault and a program
 abbrev pub FaultOrProgram : Type 0
-FaultOrProgram = (bytes : List ℕ) (fault : TextFault) → IsTextFault bytes fault → NoProgram bytes
+FaultOrProgram = (model : DataModel) (bytes : List ℕ) (fault : TextFault) →
+    IsTextFault model bytes fault → NoProgram model bytes
 
 -- the bytes have one tree
-same_tree : OneList → OneTree → (bytes : List ℕ) (ts us : List Token) (u v : UnitTree)
-    → Tokens bytes ts → Tree bytes ts u → Tokens bytes us → Tree bytes us v → u ≡ v
-same_tree lists trees bytes ts us u v f r g s =
-    trees bytes ts u v r (subst (λ x. Tree bytes x v) (lists bytes us ts g f) s)
+same_tree : (model : DataModel) → OneList → OneTree →
+    (bytes : List ℕ) (ts us : List Token) (u v : UnitTree)
+    → Tokens model bytes ts → Tree bytes ts u → Tokens model bytes us → Tree bytes us v → u ≡ v
+same_tree model lists trees bytes ts us u v f r g s =
+    trees bytes ts u v r (subst (λ x. Tree bytes x v) (lists model bytes us ts g f) s)
 
-pub one : OneList → OneTree → OneText → CoreOnce → (bytes : List ℕ) (P Q : Program)
-    → IsProgram bytes P → IsProgram bytes Q → P ≡ Q
-one lists trees texts cores bytes P Q p q =
-    let own = subst (λ u. IsCheckedText u q.checked)
-    (same_tree lists trees bytes q.tokens p.tokens q.tree p.tree q.falls q.reads p.falls p.reads)
+pub one : OneList → OneTree → OneText → CoreOnce →
+    (model : DataModel) (bytes : List ℕ) (P Q : Program)
+    → IsProgram model bytes P → IsProgram model bytes Q → P ≡ Q
+one lists trees texts cores model bytes P Q p q =
+    let own = subst (λ u. IsCheckedText model u q.checked)
+    (same_tree model lists trees bytes q.tokens p.tokens q.tree p.tree q.falls q.reads p.falls
+    p.reads)
     q.of_tree in
     cores p.checked P Q p.core
-    (subst (λ (t : CheckedText). IsCore t Q) (texts p.tree q.checked p.checked own p.of_tree)
+    (subst (λ (t : CheckedText). IsCore t Q) (texts model p.tree q.checked p.checked own p.of_tree)
     q.core)
 
 pub none : OneList → OneTree → TreeOrFault → TokensOrFault → FaultOrProgram
-none lists trees apart either bytes fault (no_tokens f) P p = either bytes fault f p.tokens p.falls
-none lists trees apart either bytes fault (no_tree tokens falls f) P p =
+none lists trees apart either model bytes fault (no_tokens f) P p = either model bytes fault f
+    p.tokens
+    p.falls
+none lists trees apart either model bytes fault (no_tree tokens falls f) P p =
     apart bytes tokens p.tree fault
-    (subst (λ x. Tree bytes x p.tree) (lists bytes p.tokens tokens p.falls falls) p.reads) f
-none lists trees apart either bytes fault (unsound tree is f) P p =
-    p.sound fault (subst (λ u. IsFirstBroken u fault)
-    (same_tree lists trees bytes is.tokens p.tokens tree p.tree is.falls is.reads p.falls p.reads)
+    (subst (λ x. Tree bytes x p.tree) (lists model bytes p.tokens tokens p.falls falls) p.reads) f
+none lists trees apart either model bytes fault (unsound tree is f) P p =
+    p.sound fault (subst (λ u. IsFirstBroken model u fault)
+    (same_tree model lists trees bytes is.tokens p.tokens tree p.tree is.falls is.reads p.falls
+    p.reads)
     f).breaks
 
 -- a fault of the tokens is one of the text
-pub tokens_refused : FaultOrProgram → (bytes : List ℕ) (error : TextError)
-    → NoTokensRefused bytes error → IsRefused bytes error
-tokens_refused law bytes (Fault fault) is =
-    (no_tokens is.0, law bytes fault (no_tokens is.0))
-tokens_refused law bytes OutOfMemory is = tt
+pub tokens_refused : (model : DataModel) → FaultOrProgram → (bytes : List ℕ) (error : TextError)
+    → NoTokensRefused model bytes error → IsRefused model bytes error
+tokens_refused model law bytes (Fault fault) is =
+    (no_tokens is.0, law model bytes fault (no_tokens is.0))
+tokens_refused model law bytes OutOfMemory is = tt
 
 -- a fault of the tree is one of the text
-pub tree_refused : FaultOrProgram → (bytes : List ℕ) (tokens : List Token) (error : TextError)
-    → Tokens bytes tokens → NoTreeRefused bytes tokens error → IsRefused bytes error
-tree_refused law bytes tokens (Fault fault) falls is =
-    (no_tree tokens falls is, law bytes fault (no_tree tokens falls is))
-tree_refused law bytes tokens OutOfMemory falls is = tt
+pub tree_refused : (model : DataModel) → FaultOrProgram →
+    (bytes : List ℕ) (tokens : List Token) (error : TextError)
+    → Tokens model bytes tokens → NoTreeRefused bytes tokens error → IsRefused model bytes error
+tree_refused model law bytes tokens (Fault fault) falls is =
+    (no_tree tokens falls is, law model bytes fault (no_tree tokens falls is))
+tree_refused model law bytes tokens OutOfMemory falls is = tt
 
 -- a broken rule is a fault of the text
-pub check_refused : FaultOrProgram → (bytes : List ℕ) (tree : UnitTree) (error : TextError)
-    → IsTreeOf bytes tree → IsChecked tree (Err error) → IsRefused bytes error
-check_refused law bytes tree (Fault fault) of is =
-    (unsound tree of is, law bytes fault (unsound tree of is))
-check_refused law bytes tree OutOfMemory of is = tt
+pub check_refused : (model : DataModel) → FaultOrProgram →
+    (bytes : List ℕ) (tree : UnitTree) (error : TextError)
+    → IsTreeOf model bytes tree → IsChecked model tree (Err error) → IsRefused model bytes error
+check_refused model law bytes tree (Fault fault) of is =
+    (unsound tree of is, law model bytes fault (unsound tree of is))
+check_refused model law bytes tree OutOfMemory of is = tt
 
 -- the core of a sound tree is the program
-pub the_program : OneProgram → WellFormed → (bytes : List ℕ) (tree : UnitTree)
+pub the_program : (model : DataModel) → OneProgram → WellFormed → (bytes : List ℕ) (tree : UnitTree)
     (checked : CheckedText) (P : Program)
-    → IsTreeOf bytes tree → IsChecked tree (Ok checked) → IsCore checked P → IsTheProgram bytes P
-the_program law sound bytes tree checked P of is_checked core =
-    let is : IsProgram bytes P = record {
+    → IsTreeOf model bytes tree → IsChecked model tree (Ok checked) → IsCore checked P →
+    IsTheProgram model bytes P
+the_program model law sound bytes tree checked P of is_checked core =
+    let is : IsProgram model bytes P = record {
       tokens = of.tokens;
       tree = tree;
       checked = checked;
@@ -128,16 +144,17 @@ the_program law sound bytes tree checked P of is_checked core =
     } in
     record {
       is = is;
-      only = λ Q q. law bytes Q P q is;
+      only = λ Q q. law model bytes Q P q is;
       length_is = core.text_len ∙ is_checked.1.text_len ∙ of.reads.length_is;
-      well_formed = sound bytes P is;
+      well_formed = sound model bytes P is;
     }
 
 -- and where it comes from is what the rules give for the text
-pub the_origins : (bytes : List ℕ) (tree : UnitTree) (checked : CheckedText) (points : List ℕ)
-    (cells : List (Option ℕ)) → IsTreeOf bytes tree → IsChecked tree (Ok checked)
-    → AreOrigins checked points cells → AreTheOrigins bytes points cells
-the_origins bytes tree checked points cells of is_checked origins = record {
+pub the_origins : (model : DataModel) (bytes : List ℕ) (tree : UnitTree) (checked : CheckedText)
+    (points : List ℕ)
+    (cells : List (Option ℕ)) → IsTreeOf model bytes tree → IsChecked model tree (Ok checked)
+    → AreOrigins checked points cells → AreTheOrigins model bytes points cells
+the_origins model bytes tree checked points cells of is_checked origins = record {
   tree = tree;
   checked = checked;
   of = of;

@@ -15,55 +15,58 @@ use Rattle.c_core_checked.specs.Texts.{IsCheckedText, IsCore, AreOrigins}
 use Rattle.c_core_checked.specs.Sound.{Sound, IsFirstBroken}
 use Rattle.cpa_model.specs.declared.program.Program.{Program}
 use Rattle.cpa_model.specs.Programs.{IsWellFormed}
+use Rattle.cpa_ints.specs.declared.data_model.DataModel.{DataModel}
 
 -- the bytes fall into tokens, these have a tree, it breaks no rule, and P is the core of its
 -- checked text
-pub record IsProgram (bytes : List ℕ) (P : Program) : Type 0 where
+pub record IsProgram (model : DataModel) (bytes : List ℕ) (P : Program) : Type 0 where
   pub tokens : List Token
   pub tree : UnitTree
   pub checked : CheckedText
-  pub falls : Tokens bytes tokens
+  pub falls : Tokens model bytes tokens
   pub reads : Tree bytes tokens tree
-  pub sound : Sound tree
-  pub of_tree : IsCheckedText tree checked
+  pub sound : Sound model tree
+  pub of_tree : IsCheckedText model tree checked
   pub core : IsCore checked P
 
 -- P is the one program of the bytes; it has their length, and it is well formed
-pub record IsTheProgram (bytes : List ℕ) (P : Program) : Type 0 where
-  pub is : IsProgram bytes P
-  pub only : (Q : Program) → IsProgram bytes Q → Q ≡ P
+pub record IsTheProgram (model : DataModel) (bytes : List ℕ) (P : Program) : Type 0 where
+  pub is : IsProgram model bytes P
+  pub only : (Q : Program) → IsProgram model bytes Q → Q ≡ P
   pub length_is : P.text_len ≡ length bytes
   pub well_formed : IsWellFormed P
 
 -- the tree of the bytes is this one
-pub record IsTreeOf (bytes : List ℕ) (tree : UnitTree) : Type 0 where
+pub record IsTreeOf (model : DataModel) (bytes : List ℕ) (tree : UnitTree) : Type 0 where
   pub tokens : List Token
-  pub falls : Tokens bytes tokens
+  pub falls : Tokens model bytes tokens
   pub reads : Tree bytes tokens tree
 
 -- where the points and the cells of the program of the bytes come from: what the rules give for
 -- the checked text of the tree of the bytes
-pub record AreTheOrigins (bytes points : List ℕ) (cells : List (Option ℕ)) : Type 0 where
+pub record AreTheOrigins (model : DataModel) (bytes points : List ℕ)
+    (cells : List (Option ℕ)) : Type 0 where
   pub tree : UnitTree
   pub checked : CheckedText
-  pub of : IsTreeOf bytes tree
-  pub of_tree : IsCheckedText tree checked
+  pub of : IsTreeOf model bytes tree
+  pub of_tree : IsCheckedText model tree checked
   pub origins : AreOrigins checked points cells
 
 -- the fault of the bytes: that of the tokens where there are none, else that of the tree where
 -- there is none, else the first broken rule
-pub data IsTextFault : List ℕ → TextFault → Type 0 where
-  no_tokens : {bytes : List ℕ} {fault : TextFault} → HasFault bytes fault → IsTextFault bytes fault
-  no_tree : {bytes : List ℕ} {fault : TextFault} (tokens : List Token) → Tokens bytes tokens
-      → IsTreeFault bytes tokens fault → IsTextFault bytes fault
-  unsound : {bytes : List ℕ} {fault : TextFault} (tree : UnitTree) → IsTreeOf bytes tree
-      → IsFirstBroken tree fault → IsTextFault bytes fault
+pub data IsTextFault (model : DataModel) : List ℕ → TextFault → Type 0 where
+  no_tokens : {bytes : List ℕ} {fault : TextFault} → HasFault model bytes fault
+      → IsTextFault model bytes fault
+  no_tree : {bytes : List ℕ} {fault : TextFault} (tokens : List Token) → Tokens model bytes tokens
+      → IsTreeFault bytes tokens fault → IsTextFault model bytes fault
+  unsound : {bytes : List ℕ} {fault : TextFault} (tree : UnitTree) → IsTreeOf model bytes tree
+      → IsFirstBroken model tree fault → IsTextFault model bytes fault
 
 -- the bytes stand for no program
-abbrev pub NoProgram : List ℕ → Type 0
-NoProgram bytes = (P : Program) → IsProgram bytes P → ⊥
+abbrev pub NoProgram : DataModel → List ℕ → Type 0
+NoProgram model bytes = (P : Program) → IsProgram model bytes P → ⊥
 
 -- what an error says of the bytes
-abbrev pub IsRefused : List ℕ → TextError → Type 0
-IsRefused bytes (Fault fault) = IsTextFault bytes fault × NoProgram bytes
-IsRefused bytes OutOfMemory = Unit {0}
+abbrev pub IsRefused : DataModel → List ℕ → TextError → Type 0
+IsRefused model bytes (Fault fault) = IsTextFault model bytes fault × NoProgram model bytes
+IsRefused model bytes OutOfMemory = Unit {0}

@@ -1,6 +1,7 @@
 //! Laws of programs. Each function does nothing: its contract is the law.
 //! They speak of `specs/Programs.antt` and are proved in `proofs/Refusals.antt`.
 ghost use Rattle.std.specs.Prelude.{◌≡◌, ℕ, List};
+ghost use Rattle.cpa_ints.specs.declared.data_model.DataModel.{DataModel};
 ghost use Rattle.c_lexer.specs.declared.fault.TextFault.{TextFault};
 ghost use Rattle.cpa_model.specs.declared.program.Program.{Program};
 ghost use Rattle.cpa_model.specs.Programs.{IsWellFormed};
@@ -12,9 +13,10 @@ use c_core_sound::cores_are_well_formed;
 use c_grammar_tree::{no_tree_has_a_fault, one_tree};
 use c_lexer::{one_token_list, tokens_or_one_fault};
 
-/// Bytes stand for one program at most.
+/// Bytes stand for one program at most in a data model.
 pub fn one_program()
-    ensures { (bytes : List ℕ) (P Q : Program) → IsProgram bytes P → IsProgram bytes Q → P ≡ Q }
+    ensures { (model : DataModel) (bytes : List ℕ) (P Q : Program) →
+        IsProgram model bytes P → IsProgram model bytes Q → P ≡ Q }
 {
     one_token_list();
     one_tree();
@@ -24,7 +26,8 @@ pub fn one_program()
 
 /// No bytes have a program and a fault.
 pub fn no_program_has_a_fault()
-    ensures { (bytes : List ℕ) (fault : TextFault) → IsTextFault bytes fault → NoProgram bytes }
+    ensures { (model : DataModel) (bytes : List ℕ) (fault : TextFault) →
+        IsTextFault model bytes fault → NoProgram model bytes }
 {
     one_token_list();
     tokens_or_one_fault();
@@ -34,7 +37,8 @@ pub fn no_program_has_a_fault()
 
 /// The program of a text is well formed.
 pub fn programs_are_well_formed()
-    ensures { (bytes : List ℕ) (P : Program) → IsProgram bytes P → IsWellFormed P }
+    ensures { (model : DataModel) (bytes : List ℕ) (P : Program) →
+        IsProgram model bytes P → IsWellFormed P }
 {
     cores_are_well_formed();
 }

@@ -8,20 +8,21 @@ ghost use Rattle.c_program.specs.Programs.{IsTheProgram, IsRefused, IsTreeOf, Ar
 use crate::laws::{no_program_has_a_fault, one_program, programs_are_well_formed};
 use c_core::{Traced, trace};
 use c_grammar_tree::Unit;
-use c_lexer::{TextError, tokens};
+use c_lexer::{TextError, tokens_in};
 use c_parser::parse;
-use c_types::check;
+use c_types::check_in;
+use cpa_ints::DataModel;
 use cpa_model::Program;
 use std::alloc::Global;
 
 /// The tree of the bytes, or the fault of their tokens or of their tree.
-fn tree(alloc: Global, bytes: &[u8]) -> Result<Unit, TextError>
+fn tree(alloc: Global, bytes: &[u8], model: DataModel) -> Result<Unit, TextError>
     requires { length bytes.now ≤ MAX_TEXT }
-    ensures tree { IfOk result (λ tree. IsTreeOf bytes.now tree) }
-    ensures fault { IfErr result (λ error. IsRefused bytes.now error) }
+    ensures tree { IfOk result (λ tree. IsTreeOf model bytes.now tree) }
+    ensures fault { IfErr result (λ error. IsRefused model bytes.now error) }
 {
     no_program_has_a_fault();
-    let tokens = tokens(alloc, bytes)?;
+    let tokens = tokens_in(alloc, bytes, model)?;
     parse(alloc, bytes, tokens.as_slice())
 }
 
@@ -29,28 +30,28 @@ fn tree(alloc: Global, bytes: &[u8]) -> Result<Unit, TextError>
 ///
 /// The stages run one after another, each over the whole of what the one before gave. The tree is
 /// at most `MAX_LEVEL` levels deep, and so is the stack that each stage takes.
-pub fn traced_program(alloc: Global, bytes: &[u8]) -> Result<Traced, TextError>
+pub fn traced_program(alloc: Global, bytes: &[u8], model: DataModel) -> Result<Traced, TextError>
     requires { length bytes.now ≤ MAX_TEXT }
-    ensures program { IfOk result (λ traced. IsTheProgram bytes.now traced.program) }
+    ensures program { IfOk result (λ traced. IsTheProgram model bytes.now traced.program) }
     ensures origins { IfOk result (λ traced.
-        AreTheOrigins bytes.now traced.points traced.cells) }
-    ensures fault { IfErr result (λ error. IsRefused bytes.now error) }
+        AreTheOrigins model bytes.now traced.points traced.cells) }
+    ensures fault { IfErr result (λ error. IsRefused model bytes.now error) }
 {
     no_program_has_a_fault();
     one_program();
     programs_are_well_formed();
-    let tree = tree(alloc, bytes)?;
-    let checked = check(alloc, &tree)?;
+    let tree = tree(alloc, bytes, model)?;
+    let checked = check_in(alloc, &tree, model)?;
     Ok(trace(alloc, checked)?)
 }
 
 /// The program alone, or the fault of the bytes.
-pub fn program(alloc: Global, bytes: &[u8]) -> Result<Program, TextError>
+pub fn program(alloc: Global, bytes: &[u8], model: DataModel) -> Result<Program, TextError>
     requires { length bytes.now ≤ MAX_TEXT }
-    ensures program { IfOk result (λ program. IsTheProgram bytes.now program) }
-    ensures fault { IfErr result (λ error. IsRefused bytes.now error) }
+    ensures program { IfOk result (λ program. IsTheProgram model bytes.now program) }
+    ensures fault { IfErr result (λ error. IsRefused model bytes.now error) }
 {
-    match traced_program(alloc, bytes) {
+    match traced_program(alloc, bytes, model) {
         Ok(traced) => Ok(traced.program),
         Err(error) => Err(error),
     }

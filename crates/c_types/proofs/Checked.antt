@@ -9,18 +9,20 @@ use Rattle.c_lower_layout.specs.declared.placing.TextLayout.{TextLayout}
 use Rattle.c_lower_layout.specs.Layouts.{IsLaidOut}
 use Rattle.c_core_checked.specs.declared.text.CheckedText.{CheckedText}
 use Rattle.c_core_checked.specs.Texts.{IsCheckedText, unit_main, ends_of}
+use Rattle.cpa_ints.specs.declared.data_model.DataModel.{DataModel}
 
-pub checked_is : (unit : UnitTree) (globals : List Global) (functions : List TypedFunction)
-    (layout : TextLayout) (checked : CheckedText) → globals ≡ unit_globals unit →
-    functions ≡ unit_functions unit → IsLaidOut globals functions layout →
+pub checked_is : (model : DataModel) (unit : UnitTree) (globals : List Global)
+    (functions : List TypedFunction)
+    (layout : TextLayout) (checked : CheckedText) → globals ≡ unit_globals model unit →
+    functions ≡ unit_functions model unit → IsLaidOut globals functions layout →
     checked.cells ≡ (text_from layout.first_cells globals functions).taken.cells →
     checked.names ≡ (text_from layout.first_cells globals functions).taken.names →
     checked.trees ≡ (text_from layout.first_cells globals functions).made →
-    checked.ends ≡ ends_of functions → checked.main ≡ unit_main unit →
-    checked.text_len ≡ unit.length → IsCheckedText unit checked
-checked_is unit globals functions layout checked g f is cells names trees ends main length =
+    checked.ends ≡ ends_of functions → checked.main ≡ unit_main model unit →
+    checked.text_len ≡ unit.length → IsCheckedText model unit checked
+checked_is model unit globals functions layout checked g f is cells names trees ends main length =
     let firsts = layout.first_cells in
-    let own = unit_globals unit in
+    let own = unit_globals model unit in
     record {
       first_cells = firsts;
       are_first = subst (λ (fs : List TypedFunction). AreFirst own fs firsts) f
@@ -40,17 +42,20 @@ checked_is unit globals functions layout checked g f is cells names trees ends m
     }
 
 -- a layout is that of the tree, where it is of its globals and functions
-pub unit_too_large : (unit : UnitTree) (globals : List Global) (functions : List TypedFunction) →
-    globals ≡ unit_globals unit → functions ≡ unit_functions unit →
-    IsTooLarge globals functions → IsTooLarge (unit_globals unit) (unit_functions unit)
-unit_too_large unit globals functions g f large =
-    subst (λ (fs : List TypedFunction). IsTooLarge (unit_globals unit) fs) f
+pub unit_too_large : (model : DataModel) (unit : UnitTree) (globals : List Global)
+    (functions : List TypedFunction) →
+    globals ≡ unit_globals model unit → functions ≡ unit_functions model unit →
+    IsTooLarge globals functions → IsTooLarge (unit_globals model unit) (unit_functions model unit)
+unit_too_large model unit globals functions g f large =
+    subst (λ (fs : List TypedFunction). IsTooLarge (unit_globals model unit) fs) f
     (subst (λ (gs : List Global). IsTooLarge gs functions) g large)
 
-pub unit_laid_out : (unit : UnitTree) (globals : List Global) (functions : List TypedFunction)
-    (layout : TextLayout) → globals ≡ unit_globals unit → functions ≡ unit_functions unit →
+pub unit_laid_out : (model : DataModel) (unit : UnitTree) (globals : List Global)
+    (functions : List TypedFunction)
+    (layout : TextLayout) → globals ≡ unit_globals model unit →
+    functions ≡ unit_functions model unit →
     IsLaidOut globals functions layout →
-    IsLaidOut (unit_globals unit) (unit_functions unit) layout
-unit_laid_out unit globals functions layout g f is =
-    subst (λ (fs : List TypedFunction). IsLaidOut (unit_globals unit) fs layout) f
+    IsLaidOut (unit_globals model unit) (unit_functions model unit) layout
+unit_laid_out model unit globals functions layout g f is =
+    subst (λ (fs : List TypedFunction). IsLaidOut (unit_globals model unit) fs layout) f
     (subst (λ (gs : List Global). IsLaidOut gs functions layout) g is)

@@ -13,7 +13,7 @@ use Rattle.c_grammar_tree.specs.declared.item.Unit.{Unit as UnitTree}
 use Rattle.c_types_rules.specs.Names.{Text}
 use Rattle.c_types_rules.specs.First.{comes_before, first_of_two, first_with, first_append}
 use Rattle.c_types_rules.specs.ExpressionRules.{broken, option_places}
-use Rattle.c_types_rules.specs.Items.{Before, Call, text_of, nothing_before, items_faults}
+use Rattle.c_types_rules.specs.Items.{Before, Call, text_in, nothing_before, items_faults}
 use Rattle.c_types_rules.specs.Items.{items_calls}
 use Rattle.c_types_rules.specs.Recursion.{Among, LeadsBack}
 use Rattle.c_types_rules.specs.Sound.{NotBehind, BreaksTree, unit_faults, unit_calls}
@@ -25,6 +25,7 @@ use Rattle.c_core_checked.specs.Texts.{unit_core}
 use Rattle.c_core_checked.specs.Sound.{Sound, IsFirstBroken}
 use Rattle.c_types.specs.Firsts.{FindsFirst}
 use mathlib.Core.Logic.{inl, inr, ⊎_elim}
+use Rattle.cpa_ints.specs.declared.data_model.DataModel.{DataModel}
 
 -- the order of faults, as a relation of numbers
 abbrev IsBefore : ℕ → ℕ → ℕ → ℕ → Type 0
@@ -141,21 +142,24 @@ places_order m n r s le same = ⊎_elim
     (λ t. inl (omega (arith, t.1)))
     (leb_tells n m)
 
-pub finds_joined : (unit : UnitTree) (held : Option TextFault) (least : Option ℕ) →
-    FindsFirst (λ f. Among f (unit_faults unit)) held →
-    FindsLeast (LeadsBack (unit_calls unit)) least →
-    FindsFirst (BreaksTree unit) (joined held least)
-finds_joined unit held None h none =
-    found_of (λ f. Among f (unit_faults unit)) (BreaksTree unit) held h (λ f a. inl a)
+pub finds_joined : (model : DataModel) (unit : UnitTree) (held : Option TextFault)
+    (least : Option ℕ) →
+    FindsFirst (λ f. Among f (unit_faults model unit)) held →
+    FindsLeast (LeadsBack (unit_calls model unit)) least →
+    FindsFirst (BreaksTree model unit) (joined held least)
+finds_joined model unit held None h none =
+    found_of (λ f. Among f (unit_faults model unit)) (BreaksTree model unit) held h (λ f a. inl a)
     (λ f. ⊎_elim (λ a. (f, (a, not_behind_same f)))
     (λ r. absurd (none f.place r.back)))
-finds_joined unit held (Some place) h some =
-    found_of (λ f. Among f (unit_faults unit) ⊎ (f ≡ leading_back place)) (BreaksTree unit)
+finds_joined model unit held (Some place) h some =
+    found_of (λ f. Among f (unit_faults model unit) ⊎ (f ≡ leading_back place))
+    (BreaksTree model unit)
     (first_of_two held (leading_back place))
-    (finds_added (λ f. Among f (unit_faults unit)) held (leading_back place) h)
+    (finds_added (λ f. Among f (unit_faults model unit)) held (leading_back place) h)
     (λ f. ⊎_elim (λ a. inl a) (λ e. inr (record {
       rule = ap (λ (g : TextFault). g.rule) e;
-      back = subst (LeadsBack (unit_calls unit)) (sym (ap (λ (g : TextFault). g.place) e)) some.0;
+      back = subst (LeadsBack (unit_calls model unit))
+          (sym (ap (λ (g : TextFault). g.place) e)) some.0;
     })))
     (λ f. ⊎_elim (λ a. (f, (inl a, not_behind_same f)))
     (λ r. (
@@ -168,38 +172,40 @@ finds_joined unit held (Some place) h some =
     )))
 
 -- the fault that is found is the first broken rule
-pub fault_checked : (unit : UnitTree) (fault : TextFault) →
-    FindsFirst (BreaksTree unit) (Some fault) → IsFirstBroken unit fault
-fault_checked unit fault h = record {
+pub fault_checked : (model : DataModel) (unit : UnitTree) (fault : TextFault) →
+    FindsFirst (BreaksTree model unit) (Some fault) → IsFirstBroken model unit fault
+fault_checked model unit fault h = record {
   breaks = inl h.0;
   first = λ other. ⊎_elim (λ b. h.1 other b) (λ large. absurd (large.has_core fault h.0));
 }
 
 -- where no rule is broken but that the core is too large, that one is the first
-pub large_checked : (unit : UnitTree) → FindsFirst (BreaksTree unit) None →
-    IsTooLarge (unit_globals unit) (unit_functions unit) →
-    IsFirstBroken unit (record { rule = rule.N13; place = unit.length })
-large_checked unit h large = record {
+pub large_checked : (model : DataModel) (unit : UnitTree) →
+    FindsFirst (BreaksTree model unit) None →
+    IsTooLarge (unit_globals model unit) (unit_functions model unit) →
+    IsFirstBroken model unit (record { rule = rule.N13; place = unit.length })
+large_checked model unit h large = record {
   breaks = inr (record { rule = refl; place = refl; has_core = h; large = large });
   first = λ other. ⊎_elim (λ b. absurd (h other b))
       (λ more. inr (sym more.place, omega (arith, ap rule_number more.rule)));
 }
 
 -- where none is broken and the core is not too large the text is sound
-pub sound_checked : (unit : UnitTree) → FindsFirst (BreaksTree unit) None →
-    (firsts : List ℕ) → IsWithinLimits (unit_core firsts unit) → Sound unit
-sound_checked unit h firsts within = λ fault. ⊎_elim (λ b. h fault b)
+pub sound_checked : (model : DataModel) (unit : UnitTree) →
+    FindsFirst (BreaksTree model unit) None →
+    (firsts : List ℕ) → IsWithinLimits (unit_core model firsts unit) → Sound model unit
+sound_checked model unit h firsts within = λ fault. ⊎_elim (λ b. h fault b)
     (λ more. more.large firsts within)
 
-faults_are : (unit : UnitTree) → unit_faults unit
-    ≡ items_faults (text_of unit.items) unit.items nothing_before ++ without_main unit
+faults_are : (model : DataModel) (unit : UnitTree) → unit_faults model unit
+    ≡ items_faults (text_in model unit.items) unit.items nothing_before ++ without_main model unit
 unfolding unit_faults
-faults_are unit = refl
+faults_are model unit = refl
 
-calls_are : (unit : UnitTree) →
-    unit_calls unit ≡ items_calls (text_of unit.items) unit.items nothing_before
+calls_are : (model : DataModel) (unit : UnitTree) →
+    unit_calls model unit ≡ items_calls (text_in model unit.items) unit.items nothing_before
 unfolding unit_calls
-calls_are unit = refl
+calls_are model unit = refl
 
 joined_is : (held : Option TextFault) (least : Option ℕ) →
     first_with held (broken rule.N10 (option_places least)) ≡ joined held least
@@ -208,30 +214,32 @@ joined_is held (Some place) = refl
 
 -- the fault that is held behind the items, a missing main and the least place of a call that leads
 -- back
-pub finds_gathered : (unit : UnitTree) (text : Text) (before : Before)
+pub finds_gathered : (model : DataModel) (unit : UnitTree) (text : Text) (before : Before)
     (held behind main whole : Option TextFault) (calls : List Call) (least : Option ℕ) →
-    text ≡ text_of unit.items → before ≡ nothing_before → held ≡ None →
+    text ≡ text_in model unit.items → before ≡ nothing_before → held ≡ None →
     behind ≡ first_with held (items_faults text unit.items before) →
-    main ≡ first_with behind (without_main unit) →
+    main ≡ first_with behind (without_main model unit) →
     whole ≡ first_with main (broken rule.N10 (option_places least)) →
     calls ≡ items_calls text unit.items before →
-    FindsLeast (LeadsBack calls) least → FindsFirst (BreaksTree unit) whole
-finds_gathered unit text before held behind main whole calls least t b n h m w c found =
+    FindsLeast (LeadsBack calls) least → FindsFirst (BreaksTree model unit) whole
+finds_gathered model unit text before held behind main whole calls least t b n h m w c found =
     let items = unit.items in
-    let faults = items_faults (text_of items) items nothing_before in
+    let faults = items_faults (text_in model items) items nothing_before in
     let behind_is : behind ≡ first_with None faults =
     h ∙ ap (λ (f : Option TextFault). first_with f (items_faults text items before)) n
     ∙ ap (λ (x : Text). first_with None (items_faults x items before)) t
-    ∙ ap (λ (x : Before). first_with None (items_faults (text_of items) items x)) b in
-    let main_is : main ≡ first_with None (unit_faults unit) =
-    m ∙ ap (λ (f : Option TextFault). first_with f (without_main unit)) behind_is
-    ∙ sym (first_append None faults (without_main unit))
-    ∙ ap (first_with None) (sym (faults_are unit)) in
-    let whole_is : whole ≡ joined (first_with None (unit_faults unit)) least =
+    ∙ ap (λ (x : Before). first_with None (items_faults (text_in model items) items x)) b in
+    let main_is : main ≡ first_with None (unit_faults model unit) =
+    m ∙ ap (λ (f : Option TextFault). first_with f (without_main model unit)) behind_is
+    ∙ sym (first_append None faults (without_main model unit))
+    ∙ ap (first_with None) (sym (faults_are model unit)) in
+    let whole_is : whole ≡ joined (first_with None (unit_faults model unit)) least =
     w ∙ joined_is main least ∙ ap (λ (f : Option TextFault). joined f least) main_is in
-    let calls_is : calls ≡ unit_calls unit =
+    let calls_is : calls ≡ unit_calls model unit =
     c ∙ ap (λ (x : Text). items_calls x items before) t
-    ∙ ap (λ (x : Before). items_calls (text_of items) items x) b ∙ sym (calls_are unit) in
-    subst (FindsFirst (BreaksTree unit)) (sym whole_is)
-    (finds_joined unit (first_with None (unit_faults unit)) least (finds_list (unit_faults unit))
+    ∙ ap (λ (x : Before). items_calls (text_in model items) items x) b
+    ∙ sym (calls_are model unit) in
+    subst (FindsFirst (BreaksTree model unit)) (sym whole_is)
+    (finds_joined model unit (first_with None (unit_faults model unit)) least
+    (finds_list (unit_faults model unit))
     (subst (λ (cs : List Call). FindsLeast (LeadsBack cs) least) calls_is found))

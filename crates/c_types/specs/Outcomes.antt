@@ -10,6 +10,7 @@ use Rattle.c_core_checked.specs.Texts.{IsCheckedText}
 use Rattle.c_core_checked.specs.Sound.{Sound, IsFirstBroken}
 use Rattle.c_types.specs.declared.outcome.Outcome.{Outcome}
 use Rattle.c_types.specs.declared.outcome.Outcome.TheVariants as outcome
+use Rattle.cpa_ints.specs.declared.data_model.DataModel.{DataModel}
 
 -- the layout of the core of these, or that it is too large
 abbrev pub IsFoundLayout : List Global → List TypedFunction → Option TextLayout → Type 0
@@ -17,6 +18,6 @@ IsFoundLayout globals functions (Some layout) = IsLaidOut globals functions layo
 IsFoundLayout globals functions None = IsTooLarge globals functions
 
 -- the checked text where the text is sound, and otherwise the first broken rule
-abbrev pub IsOutcome : UnitTree → Outcome → Type 0
-IsOutcome unit (outcome.Sound checked) = Sound unit × IsCheckedText unit checked
-IsOutcome unit (outcome.Broken fault) = IsFirstBroken unit fault
+abbrev pub IsOutcome : DataModel → UnitTree → Outcome → Type 0
+IsOutcome model unit (outcome.Sound checked) = Sound model unit × IsCheckedText model unit checked
+IsOutcome model unit (outcome.Broken fault) = IsFirstBroken model unit fault

@@ -3,7 +3,7 @@
 ghost use Rattle.std.specs.Prelude.{◌≡◌, IfOk, OnOk};
 ghost use Rattle.std.specs.List.{list_any};
 ghost use Rattle.c_types_rules.specs.First.{first_with};
-ghost use Rattle.c_types_rules.specs.Items.{text_of};
+ghost use Rattle.c_types_rules.specs.Items.{text_in};
 ghost use Rattle.c_types_rules.specs.Sound.{has_no_parameters, is_main, without_main};
 
 use c_grammar_tree::{Body, Item, Parameters, Unit};
@@ -69,8 +69,9 @@ pub(crate) fn note_missing_main(
     unit: &Unit,
     first: &mut Option<TextFault>,
 ) -> Result<(), AllocError>
-    requires { survey.now ≡ text_of unit.now.items }
-    ensures { OnOk result (first.new ≡ first_with first.old (without_main unit.now)) }
+    requires { survey.now ≡ text_in survey.now.model unit.now.items }
+    ensures { OnOk result (first.new
+        ≡ first_with first.old (without_main survey.now.model unit.now)) }
 {
     let has_main = has_main(alloc, survey, unit.items.as_slice())?;
     note_if(first, Rule::N11, !has_main, unit.length);

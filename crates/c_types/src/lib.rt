@@ -9,4 +9,4 @@ mod listing;
 mod outcome;
 mod unit;
 
-pub use unit::check;
+pub use unit::{check, check_in};

@@ -1,7 +1,7 @@
 //! What a check of a text finds (`IsOutcome` of `specs/Outcomes.antt`). Proved with `proofs/Law`
 //! and `proofs/Checked`.
 ghost use Rattle.std.specs.Prelude.{◌≡◌, None, IfOk};
-ghost use Rattle.c_types_rules.specs.Items.{text_of, nothing_before};
+ghost use Rattle.c_types_rules.specs.Items.{text_in, nothing_before};
 ghost use Rattle.c_types_rules.specs.Sound.{items_behind, starts_of, functions_of, BreaksTree};
 ghost use Rattle.c_types_rules.specs.Sound.{unit_globals, unit_functions};
 ghost use Rattle.c_core_checked.specs.Texts.{unit_main, ends_of};
@@ -58,16 +58,17 @@ fn ends_of(alloc: Memory, functions: &[TypedFunction]) -> Result<Seq<u32>, Alloc
 /// functions, and with this main.
 fn outcome_of(
     alloc: Memory,
+    model: DataModel,
     unit: &Unit,
     globals: &[Global],
     functions: &[TypedFunction],
     main: u32,
 ) -> Result<Outcome, AllocError>
-    requires globals { globals.now ≡ unit_globals unit.now }
-    requires functions { functions.now ≡ unit_functions unit.now }
-    requires main { main ≡ unit_main unit.now }
-    requires first { FindsFirst (BreaksTree unit.now) None }
-    ensures { IfOk result (IsOutcome unit.now) }
+    requires globals { globals.now ≡ unit_globals model unit.now }
+    requires functions { functions.now ≡ unit_functions model unit.now }
+    requires main { main ≡ unit_main model unit.now }
+    requires first { FindsFirst (BreaksTree model unit.now) None }
+    ensures { IfOk result (IsOutcome model unit.now) }
 {
     let found = found_layout(alloc, globals, functions)?;
     match found {
@@ -89,34 +90,40 @@ fn outcome_of(
     }
 }
 
-/// The same behind what was gathered of the text.
+/// The same after what was gathered of the text.
 fn finish(
     alloc: Memory,
     survey: &Survey,
     unit: &Unit,
     gathered: &Gathered,
 ) -> Result<Outcome, AllocError>
-    requires survey { survey.now ≡ text_of unit.now.items }
+    requires survey { survey.now ≡ text_in survey.now.model unit.now.items }
     requires names { gathered.now.scope.names
-        ≡ (items_behind (text_of unit.now.items) unit.now.items nothing_before).names }
+        ≡ (items_behind (text_in survey.now.model unit.now.items) unit.now.items
+        nothing_before).names }
     requires starts { gathered.now.starts.items
-        ≡ starts_of (text_of unit.now.items) unit.now.items nothing_before }
+        ≡ starts_of (text_in survey.now.model unit.now.items) unit.now.items nothing_before }
     requires functions { gathered.now.functions.items
-        ≡ functions_of (text_of unit.now.items) unit.now.items nothing_before }
-    requires first { FindsFirst (BreaksTree unit.now) None }
-    ensures { IfOk result (IsOutcome unit.now) }
+        ≡ functions_of (text_in survey.now.model unit.now.items) unit.now.items nothing_before }
+    requires first { FindsFirst (BreaksTree survey.now.model unit.now) None }
+    ensures { IfOk result (IsOutcome survey.now.model unit.now) }
 {
     let globals = globals_of(alloc, &gathered.scope.names, &gathered.starts)?;
     let main = survey.body_of(MAIN).unwrap_or(0);
     let functions = gathered.functions.as_slice();
-    outcome_of(alloc, unit, globals.as_slice(), functions, main)
+    let model = survey.model();
+    outcome_of(alloc, model, unit, globals.as_slice(), functions, main)
 }
 
 /// What is found.
-pub(crate) fn find_outcome(alloc: Memory, unit: &Unit) -> Result<Outcome, AllocError>
-    ensures { IfOk result (IsOutcome unit.now) }
+pub(crate) fn find_outcome(
+    alloc: Memory,
+    unit: &Unit,
+    model: DataModel,
+) -> Result<Outcome, AllocError>
+    ensures { IfOk result (IsOutcome model unit.now) }
 {
-    let survey = Survey::of(alloc, DataModel::Lp64, unit.items.as_slice())?;
+    let survey = Survey::of(alloc, model, unit.items.as_slice())?;
     let gathered = gather(alloc, &survey, unit)?;
     match gathered.first {
         Some(fault) => Ok(Outcome::Broken(fault)),

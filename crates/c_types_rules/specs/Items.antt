@@ -10,7 +10,6 @@ use Rattle.c_lexer.specs.declared.fault.Rule.TheVariants as rule
 use Rattle.c_lexer.specs.declared.fault.TextFault.{TextFault}
 use Rattle.cpa_ints.specs.declared.integers.IntType.{IntType}
 use Rattle.cpa_ints.specs.declared.data_model.DataModel.{DataModel}
-use Rattle.cpa_ints.specs.declared.data_model.DataModel.TheVariants.{Lp64}
 use Rattle.c_grammar_tree.specs.declared.name.Name.{Name}
 use Rattle.c_grammar_tree.specs.declared.expression.Expression.{Expression}
 use Rattle.c_grammar_tree.specs.declared.declaration.Specifiers.{Specifiers}
@@ -85,10 +84,6 @@ text_in model items = record {
   bodies = filter_map body_name items;
   arities = filter_map item_arity items;
 }
-
--- in this project's data model
-abbrev pub text_of : List Item → Text
-text_of items = text_in Lp64 items
 
 -- what is known where an item stands: the names of objects and functions that are declared so far,
 -- the typedef names and their types, how many objects, and how many bodies stand before it

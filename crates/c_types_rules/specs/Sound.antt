@@ -30,11 +30,12 @@ use Rattle.c_types_rules.specs.declared.typed.Global.{Global}
 use Rattle.c_types_rules.specs.Names.{Text, declared_as}
 use Rattle.c_types_rules.specs.Types.{object_type}
 use Rattle.c_types_rules.specs.Declarations.{kind_of, has_const, items_of, constant_number}
-use Rattle.c_types_rules.specs.Items.{Call, Before, text_of, same_kind, global_behind}
+use Rattle.c_types_rules.specs.Items.{Call, Before, text_in, same_kind, global_behind}
 use Rattle.c_types_rules.specs.Items.{enumeration_behind, item_behind, items_faults, items_calls}
 use Rattle.c_types_rules.specs.Items.{nothing_before}
 use Rattle.c_types_rules.specs.Recursion.{Among, LeadsBack}
 use Rattle.c_types_rules.specs.TypedStatements.{typed_function}
+use Rattle.cpa_ints.specs.declared.data_model.DataModel.{DataModel}
 
 -- what is known behind items
 abbrev pub items_behind : Text → List Item → Before → Before
@@ -132,12 +133,13 @@ abbrev pub main_name : List ℕ
 main_name = codes "main"
 
 -- the typed tree of a text: its objects of file scope, and its functions with a body
-abbrev pub unit_globals : UnitTree → List Global
-unit_globals unit = globals_of (items_behind (text_of unit.items) unit.items nothing_before).names
-    (starts_of (text_of unit.items) unit.items nothing_before)
+abbrev pub unit_globals : DataModel → UnitTree → List Global
+unit_globals model unit = globals_of (items_behind (text_in model unit.items) unit.items
+    nothing_before).names
+    (starts_of (text_in model unit.items) unit.items nothing_before)
 
-abbrev pub unit_functions : UnitTree → List TypedFunction
-unit_functions unit = functions_of (text_of unit.items) unit.items nothing_before
+abbrev pub unit_functions : DataModel → UnitTree → List TypedFunction
+unit_functions model unit = functions_of (text_in model unit.items) unit.items nothing_before
 
 -- no parameters
 abbrev pub has_no_parameters : Parameters → Bool
@@ -153,28 +155,29 @@ is_main text (item.Function specifiers declarator (body.Block items place end)) 
 is_main text _ = false
 
 -- N11: there is no such main (5.1.2.2.1p1, without parameters of main): the text's end
-abbrev pub without_main : UnitTree → List TextFault
-without_main unit =
-    if list_any (is_main (text_of unit.items)) unit.items then []
+abbrev pub without_main : DataModel → UnitTree → List TextFault
+without_main model unit =
+    if list_any (is_main (text_in model unit.items)) unit.items then []
     else (record { rule = rule.N11; place = unit.length } ∷ [])
 
 -- the faults that are found item by item, and that of a text without main
-unfoldable pub unit_faults : UnitTree → List TextFault
-unit_faults unit = items_faults (text_of unit.items) unit.items nothing_before ++ without_main unit
+unfoldable pub unit_faults : DataModel → UnitTree → List TextFault
+unit_faults model unit = items_faults (text_in model unit.items) unit.items nothing_before
+    ++ without_main model unit
 
 -- the calls in its bodies
-unfoldable pub unit_calls : UnitTree → List Call
-unit_calls unit = items_calls (text_of unit.items) unit.items nothing_before
+unfoldable pub unit_calls : DataModel → UnitTree → List Call
+unit_calls model unit = items_calls (text_in model unit.items) unit.items nothing_before
 
 -- N10: a call whose called function reaches, by calls in bodies, the function in which the call
 -- stands (this project's own): the called name
-pub record IsRecursive (unit : UnitTree) (fault : TextFault) : Type 0 where
+pub record IsRecursive (model : DataModel) (unit : UnitTree) (fault : TextFault) : Type 0 where
   pub rule : fault.rule ≡ rule.N10
-  pub back : LeadsBack (unit_calls unit) fault.place
+  pub back : LeadsBack (unit_calls model unit) fault.place
 
 -- a rule other than N13 is broken at this place
-abbrev pub BreaksTree : UnitTree → TextFault → Type 0
-BreaksTree unit fault = Among fault (unit_faults unit) ⊎ IsRecursive unit fault
+abbrev pub BreaksTree : DataModel → UnitTree → TextFault → Type 0
+BreaksTree model unit fault = Among fault (unit_faults model unit) ⊎ IsRecursive model unit fault
 
 -- at a lesser place, or at the same place by no higher rule
 abbrev pub NotBehind : TextFault → TextFault → Type 0

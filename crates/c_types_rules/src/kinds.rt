@@ -3,7 +3,7 @@
 ghost use Rattle.std.specs.Prelude.{◌≡◌};
 ghost use Rattle.c_types_rules.specs.Types.{has, repeats, signed_or, type_of_words, kind_of_words};
 ghost use Rattle.c_types_rules.specs.Types.{type_of_named, kind_of_type_name, object_type};
-ghost use Rattle.c_types_rules.specs.Types.{value_type, value_kind, binary_type};
+ghost use Rattle.c_types_rules.specs.Types.{value_kind, binary_type};
 ghost use Rattle.c_types_rules.specs.Parts.{unary_type, cast_kind, ends_kind, value};
 
 use crate::Kind;
@@ -104,16 +104,6 @@ impl Kind {
         match self {
             Kind::Void => IntType::I32,
             Kind::Value(ty) => ty,
-        }
-    }
-
-    /// The integer type, where it is one.
-    pub fn value_type(self) -> Option<IntType>
-        ensures { result ≡ value_type self }
-    {
-        match self {
-            Kind::Void => None,
-            Kind::Value(ty) => Some(ty),
         }
     }
 }

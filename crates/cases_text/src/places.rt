@@ -6,13 +6,14 @@ ghost use Rattle.c_lexer.specs.declared.lexer.TheConstants.{MAX_TEXT};
 use c_lexer::TextError;
 use c_program::traced_program;
 use cases_reader::Place;
+use cpa_ints::DataModel;
 use std::alloc::{AllocError, Global};
 
 /// The places of a text in a line.
-pub(crate) fn line(alloc: Global, text: &[u8]) -> Result<String, TextError>
+pub(crate) fn line(alloc: Global, text: &[u8], model: DataModel) -> Result<String, TextError>
     requires { length text.now ≤ MAX_TEXT }
 {
-    let traced = traced_program(alloc, text)?;
+    let traced = traced_program(alloc, text, model)?;
     Ok(line_of(
         alloc,
         text,

@@ -7,22 +7,23 @@ use crate::words::{automaton_line, program_line};
 use c_lexer::TextError;
 use c_program::program;
 use cfa_build::build;
+use cpa_ints::DataModel;
 use cpa_model::Program;
 use std::alloc::{AllocError, Global};
 
 /// The program of a text in a line.
-pub(crate) fn statements(alloc: Global, text: &[u8]) -> Result<String, TextError>
+pub(crate) fn statements(alloc: Global, text: &[u8], model: DataModel) -> Result<String, TextError>
     requires { length text.now ≤ MAX_TEXT }
 {
-    let program = program(alloc, text)?;
+    let program = program(alloc, text, model)?;
     Ok(program_line(alloc, &program)?)
 }
 
 /// The automaton of a text's program in a line.
-pub(crate) fn edges(alloc: Global, text: &[u8]) -> Result<String, TextError>
+pub(crate) fn edges(alloc: Global, text: &[u8], model: DataModel) -> Result<String, TextError>
     requires { length text.now ≤ MAX_TEXT }
 {
-    let program = program(alloc, text)?;
+    let program = program(alloc, text, model)?;
     Ok(edges_of(alloc, &program)?)
 }
 

@@ -6,6 +6,7 @@ ghost use Rattle.c_lexer.specs.declared.lexer.TheConstants.{MAX_TEXT};
 use crate::{checks, places, programs, tokens, trees};
 use c_lexer::{MAX_TEXT, TextError};
 use cases_reader::{bytes_of, fault_line};
+use cpa_ints::DataModel;
 use std::alloc::{AllocError, Global};
 
 /// What is asked of a text.
@@ -38,20 +39,30 @@ pub(crate) fn asked_of(word: &str) -> Option<Asked> {
     }
 }
 
-/// What is asked of a written text, in a line; or why it is not answered.
-pub(crate) fn answer(alloc: Global, row: &str, asked: Asked) -> Result<String, AllocError> {
+/// What is asked of a written text in a data model, in a line; or why it is not answered.
+pub(crate) fn answer(
+    alloc: Global,
+    row: &str,
+    asked: Asked,
+    model: DataModel,
+) -> Result<String, AllocError> {
     match bytes_of(alloc, row)? {
-        Some(text) => bounded(alloc, &text, asked),
+        Some(text) => bounded(alloc, &text, asked, model),
         None => String::from_str(alloc, "no text"),
     }
 }
 
 /// The answer to a text of any length.
-fn bounded(alloc: Global, text: &[u8], asked: Asked) -> Result<String, AllocError> {
+fn bounded(
+    alloc: Global,
+    text: &[u8],
+    asked: Asked,
+    model: DataModel,
+) -> Result<String, AllocError> {
     if text.len() > MAX_TEXT {
         return String::from_str(alloc, "longer than a text may be");
     }
-    match line_of(alloc, text, asked) {
+    match line_of(alloc, text, asked, model) {
         Ok(line) => Ok(line),
         Err(TextError::Fault(fault)) => fault_line(alloc, text, fault),
         Err(TextError::OutOfMemory) => Err(AllocError),
@@ -59,18 +70,18 @@ fn bounded(alloc: Global, text: &[u8], asked: Asked) -> Result<String, AllocErro
 }
 
 /// The line of a text that is short enough. Its fault is handed on.
-fn line_of(alloc: Global, text: &[u8], asked: Asked) -> Result<String, TextError>
+fn line_of(alloc: Global, text: &[u8], asked: Asked, model: DataModel) -> Result<String, TextError>
     requires { length text.now ≤ MAX_TEXT }
 {
     match asked {
-        Asked::Tokens => tokens::line(alloc, text),
+        Asked::Tokens => tokens::line(alloc, text, model),
         Asked::Tree => trees::line(alloc, text),
-        Asked::Soundness => checks::soundness(alloc, text),
-        Asked::Kept => checks::last_type(alloc, text),
-        Asked::Start => checks::first_start(alloc, text),
-        Asked::Cells => checks::cells(alloc, text),
-        Asked::Statements => programs::statements(alloc, text),
-        Asked::Edges => programs::edges(alloc, text),
-        Asked::Places => places::line(alloc, text),
+        Asked::Soundness => checks::soundness(alloc, text, model),
+        Asked::Kept => checks::last_type(alloc, text, model),
+        Asked::Start => checks::first_start(alloc, text, model),
+        Asked::Cells => checks::cells(alloc, text, model),
+        Asked::Statements => programs::statements(alloc, text, model),
+        Asked::Edges => programs::edges(alloc, text, model),
+        Asked::Places => places::line(alloc, text, model),
     }
 }

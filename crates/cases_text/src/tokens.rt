@@ -1,16 +1,17 @@
-//! The tokens of a text, or its first fault, as a line: what `tokens` of `c_lexer` answers.
+//! The tokens of a text, or its first fault, as a line: what `tokens_in` of `c_lexer` answers.
 //! Proved safe by the checker alone.
 ghost use Rattle.std.specs.Prelude.{◌≤◌, length};
 ghost use Rattle.c_lexer.specs.declared.lexer.TheConstants.{MAX_TEXT};
 
-use c_lexer::{TextError, Token, TokenKind, tokens};
+use c_lexer::{TextError, Token, TokenKind, tokens_in};
+use cpa_ints::DataModel;
 use std::alloc::{AllocError, Global};
 
-/// The tokens of a text in a line.
-pub(crate) fn line(alloc: Global, text: &[u8]) -> Result<String, TextError>
+/// The tokens of a text in a data model, in a line.
+pub(crate) fn line(alloc: Global, text: &[u8], model: DataModel) -> Result<String, TextError>
     requires { length text.now ≤ MAX_TEXT }
 {
-    let tokens = tokens(alloc, text)?;
+    let tokens = tokens_in(alloc, text, model)?;
     Ok(line_of(alloc, &tokens)?)
 }
 

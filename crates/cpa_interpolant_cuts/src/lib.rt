@@ -5,5 +5,7 @@
 
 mod laws;
 
-pub use laws::{bits_are_variables, bits_stand_apart, places_stand_apart};
-pub use laws::{cuts_are_asked, cuts_are_runs, cuts_are_typed, cuts_interpolate};
+pub use laws::{
+    bits_are_variables, bits_stand_apart, cuts_are_asked, cuts_are_runs, cuts_are_typed,
+    cuts_interpolate, places_stand_apart,
+};

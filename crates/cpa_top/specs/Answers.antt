@@ -80,7 +80,8 @@ pub record IsSafeText (analyses : List Meaning) (said bytes text : List ℕ) : T
   pub report : IsTextOf (IsSafeReport config.model (length config.picks) program) text
 
 -- FALSE: the text is the report of inputs and steps: the execution of the one program of the bytes
--- in the data model of the configuration that takes exactly these inputs calls reach_error after so many steps.
+-- in the data model of the configuration that takes exactly these inputs calls reach_error after so
+-- many steps.
 pub record IsCalledText (analyses : List Meaning) (said bytes text : List ℕ) : Type 0 where
   pub config : Config
   pub configures : Configures said (names_of analyses) config

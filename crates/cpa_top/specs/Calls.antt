@@ -18,8 +18,8 @@ pub record Call : Type 0 where
   pub analyses : List Meaning
   pub files : Files
 
--- the call with these words, analyses and inputs, before it and after it; what an analysis means and
--- what inputs tell is that of their types
+-- the call with these words, analyses and inputs, before it and after it; what an analysis means
+-- and what inputs tell is that of their types
 abbrev pub call_with : {A I : Type 0} → (A → Meaning) → (I → List ℕ → Option (List ℕ))
     → (I → List ℕ → ℕ) → List (List ℕ) → List A → I → I → Call
 call_with meaning bytes_of faults_of words analyses before after = record {

@@ -63,7 +63,8 @@ program_refused_at files source m name bytes refusal.OutOfMemory of same steady 
     out_of_memory files (parsing source name) steady
 program_refused_at files source m name bytes refusal.Usage of same steady is = absurd is
 program_refused_at files source m name bytes refusal.LacksAnalysis of same steady is = absurd is
-program_refused_at files source m name bytes (refusal.ReadFailed which) of same steady is = absurd is
+program_refused_at files source m name bytes (refusal.ReadFailed which) of same steady is =
+    absurd is
 program_refused_at files source m name bytes (refusal.TooLong which) of same steady is = absurd is
 program_refused_at files source m name bytes (refusal.NoConfig line) of same steady is = absurd is
 program_refused_at files source m name bytes refusal.NoInputs of same steady is = absurd is

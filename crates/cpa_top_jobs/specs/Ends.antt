@@ -148,8 +148,8 @@ pub record Stops (files : Files) (stages : List Stage) (with : Status) (line : L
 
 -- ---- ends
 
--- The status and the text are those of the verdict on the one program of the bytes in the data model
--- of the configuration, by the handed analyses that it picks; it is what `said` gives.
+-- The status and the text are those of the verdict on the one program of the bytes in the data
+-- model of the configuration, by the handed analyses that it picks; it is what `said` gives.
 pub record IsVerified (analyses : List Meaning) (said bytes : List ℕ) (with : Status)
     (text : List ℕ) : Type 0 where
   pub config : Config

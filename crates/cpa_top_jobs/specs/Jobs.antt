@@ -21,11 +21,11 @@ pub data ModelSource : Type 0 where
   given : DataModel → ModelSource
   of_config : List (List ℕ) → Option (List ℕ) → ModelSource
 
--- a stage: the file of a name is read in its role; the program of its bytes is found in a data model,
--- or the inputs that they list, or the TRUE report of the program of the first name; for the names of the handed
--- analyses the configuration is found, that of the named file or, without a name, that of the empty
--- text; the analyses of a measurement are found among these names, and the program of the text of
--- one
+-- a stage: the file of a name is read in its role; the program of its bytes is found in a data
+-- model, or the inputs that they list, or the TRUE report of the program of the first name; for the
+-- names of the handed analyses the configuration is found, that of the named file or, without a
+-- name, that of the empty text; the analyses of a measurement are found among these names, and the
+-- program of the text of one
 pub data Stage : Type 0 where
   reading : Role → List ℕ → Stage
   parsing : ModelSource → List ℕ → Stage

@@ -82,8 +82,8 @@ fn conclude(
     })
 }
 
-/// Replays the program of the first name, read in the data model, on the inputs of the second, in so
-/// many steps at most.
+/// Replays the program of the first name, read in the data model, on the inputs of the second, in
+/// so many steps at most.
 pub fn replay<I: Inputs>(
     alloc: Global,
     program: &str,

@@ -141,7 +141,8 @@ module _ (m : DataModel) (P : Program) (settings : Settings) (text line : List �
 -- ---- what is told
 
 pub confirmed_tells : CoversAgree → CoversAreSafe → (m : DataModel) (P : Program)
-    (settings : Settings) (text : List ℕ) (told : Rechecked) → IsWellFormed P → IsRechecked m P settings text told
+    (settings : Settings) (text : List ℕ) (told : Rechecked) → IsWellFormed P
+    → IsRechecked m P settings text told
     → told.finding ≡ finding.Confirmed → IsConfirmation m P text told.text.items
 confirmed_tells agree safe m P settings text told well is found =
     confirmed m P settings text told.text.items is.automaton (entries_in is.report.body)
@@ -149,7 +150,8 @@ confirmed_tells agree safe m P settings text told well is found =
     is.text_is
 
 pub refused_tells : CoversAgree → ObligationsAreCovers → BrokenIsUnmet → (m : DataModel)
-    (P : Program) (settings : Settings) (text : List ℕ) (told : Rechecked) → IsRechecked m P settings text told
+    (P : Program) (settings : Settings) (text : List ℕ) (told : Rechecked)
+    → IsRechecked m P settings text told
     → told.finding ≡ finding.Refused → IsRefutation m P text told.text.items
 refused_tells agree covers unmet m P settings text told is found =
     refused m P settings text told.text.items is.automaton (entries_in is.report.body)

@@ -26,8 +26,8 @@ use Rattle.cpa_report_print.specs.Reports.{break_text}
 use Rattle.cpa_sat.specs.Outcomes.{IsSpent}
 use Rattle.cpa_top_recheck.specs.Lines.{numbered_line}
 
--- The text is that of one TRUE report of the program in the data model, whose entries are these, as the automaton
--- of the program has them.
+-- The text is that of one TRUE report of the program in the data model, whose entries are these, as
+-- the automaton of the program has them.
 pub record Lists (m : DataModel) (P : Program) (text : List ℕ) (automaton : Cfa)
     (entries : List (List Elem)) : Type 0 where
   pub edges : IsAutomatonOf P automaton

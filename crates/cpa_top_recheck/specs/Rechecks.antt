@@ -33,10 +33,11 @@ pub record HasReport (m : DataModel) (P : Program) (text : List ℕ) : Type 0 wh
   pub found : IsFound m text automaton verdict.True report
 
 -- the text breaks the rule as that of a TRUE report of the program, and none that is tried before
-pub record BreaksFor (m : DataModel) (P : Program) (text : List ℕ) (rule : ReportRule) : Type 0 where
-  pub automaton : Cfa
-  pub is : IsAutomatonOf P automaton
-  pub breaks : Breaks m text automaton verdict.True rule
+pub record BreaksFor (m : DataModel) (P : Program) (text : List ℕ) (rule : ReportRule) : Type 0
+  where
+    pub automaton : Cfa
+    pub is : IsAutomatonOf P automaton
+    pub breaks : Breaks m text automaton verdict.True rule
 
 -- want of memory says nothing
 abbrev pub IsReportRefused : DataModel → Program → List ℕ → ReportError → Type 0

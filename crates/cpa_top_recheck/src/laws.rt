@@ -16,8 +16,8 @@ use cpa_recheck_obligations::{broken_is_unmet, obligations_are_covers};
 /// A law: what each finding says of the program and of the entries of the text.
 pub fn checks_tell()
     ensures confirmed { (m : DataModel) (P : Program) (settings : Settings) (text : List ℕ)
-        (told : ARechecked) → IsWellFormed P → IsRechecked m P settings text told → told.finding ≡ finding.Confirmed
-        → IsConfirmation m P text told.text.items }
+        (told : ARechecked) → IsWellFormed P → IsRechecked m P settings text told
+        → told.finding ≡ finding.Confirmed → IsConfirmation m P text told.text.items }
     ensures refused { (m : DataModel) (P : Program) (settings : Settings) (text : List ℕ)
         (told : ARechecked) → IsRechecked m P settings text told → told.finding ≡ finding.Refused
         → IsRefutation m P text told.text.items }

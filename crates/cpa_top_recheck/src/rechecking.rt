@@ -57,9 +57,9 @@ fn told(alloc: Global, checked: &Confirmation) -> Result<Rechecked, AllocError>
     })
 }
 
-/// Reads the text as that of a TRUE report of the program in the data model, and checks its entries,
-/// in one thread. No analysis is asked. A program has one automaton, so a text that breaks a rule is that of no
-/// TRUE report of the program.
+/// Reads the text as that of a TRUE report of the program in the data model, and checks its
+/// entries, in one thread. No analysis is asked. A program has one automaton, so a text that breaks
+/// a rule is that of no TRUE report of the program.
 #[tactic(auto, using(crate::proofs::Reading::is_automaton))]
 pub fn check_text<R: Threads + Sync>(
     rt: &R,

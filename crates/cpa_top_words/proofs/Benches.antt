@@ -8,15 +8,16 @@ use Rattle.std.proofs.lemmas.Bool.{ne_eqb}
 use Rattle.std.proofs.lemmas.Fmt.{decimal_is_IsNumeral}
 use Rattle.std.proofs.lemmas.Str.Parse.{digit_from_value}
 use Rattle.std.specs.Option.{option_map_or}
+use Rattle.std.specs.Str.{bytes_eq}
 use Rattle.std.specs.Str.Parse.{IsNumeral, digits_value, without_leading_plus}
-use Rattle.clap.specs.Words.{Row, Text, one_of, subcommand_of}
+use Rattle.clap.specs.Words.{Row, Text, first_of, one_of, subcommand_of}
 use Rattle.clap.specs.ValueTests.{accepts}
 use Rattle.clap.specs.declared.builder.value_parser.ValueParser.TheVariants as vp
 use Rattle.clap.proofs.ValueTestLemmas.{accepts-Accepts, Accepts-accepts}
 use Rattle.cpa_ints.specs.declared.data_model.DataModel.{DataModel}
 use Rattle.cpa_top_words_command.specs.Commands.{cpaverify}
 use Rattle.cpa_top_words.specs.Jobs.{verify, replay, recheck, bench, asked_by, count_in}
-use Rattle.cpa_top_words.specs.Jobs.{job_of}
+use Rattle.cpa_top_words.specs.Jobs.{count_of, job_of, model_of, name_of, steps_of}
 use Rattle.cpa_top_words.specs.Laws.{IsPlain}
 
 -- ---- of numerals
@@ -87,7 +88,12 @@ small : (found : Option (Text × List Row)) (n : ℕ)
     → option_map_or (λ p. job_of p.0 p.1) found None ≡ Some (bench n) → n ≤ 100
 small None n e = absurd (cc)
 small (Some p) n e =
-    measures _ _ _ _ _ _ _ _ _ _ _ _ _ _ n (found_is_small (one_of (codes "N") p.1)) e
+    let program = name_of (codes "PROGRAM") p.1 in
+    let config = first_of (codes "config") p.1 in
+    measures (bytes_eq p.0 (codes "verify")) (bytes_eq p.0 (codes "replay"))
+    (bytes_eq p.0 (codes "recheck")) (bytes_eq p.0 (codes "bench")) program program program
+    (name_of (codes "INPUTS") p.1) (name_of (codes "REPORT") p.1) config config (model_of p.1)
+    (steps_of p.1) (count_of p.1) n (found_is_small (one_of (codes "N") p.1)) e
 
 pub benches_are_small : (words : List (List ℕ)) (n : ℕ) → asked_by words ≡ Some (bench n)
     → n ≤ 100

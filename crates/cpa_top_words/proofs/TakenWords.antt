@@ -1,8 +1,8 @@
--- Words that clap takes ask for a job (`taken_words_ask`), where the data model that they name is
--- one, since clap takes none without a subcommand (`named`), and each subcommand has a job
--- (`job_named`).
-use Rattle.std.proofs.Common.{◌≡◌, ◌⊎◌, inl, inr, List, [], ◌∷◌, Option, Some, None, Bool, true}
-use Rattle.std.proofs.Common.{false, refl, sym, ap, codes, option_map}
+-- Words that clap takes ask for a job exactly where the data model that they name is one
+-- (`taken_words_ask`), since clap takes none without a subcommand (`named`), and each subcommand
+-- has a job, a replay where the model is one (`job_named`).
+use Rattle.std.proofs.Common.{◌≡◌, ◌∙◌, ◌⊎◌, inl, inr, List, [], ◌∷◌, Option, Some, None, Bool}
+use Rattle.std.proofs.Common.{true, false, refl, sym, ap, codes, option_map}
 use Rattle.std.specs.Prelude.{◌&&◌, not, is_some, if◌then◌else◌}
 use Rattle.std.specs.List.{list_any}
 use Rattle.std.specs.Option.{option_map_or}
@@ -13,7 +13,7 @@ use Rattle.clap.specs.Words.{Row, Shape, Text, fault_of, subcommand_of, built}
 use Rattle.clap.specs.Simple.{argument_words, entered, names_of, rows_at}
 use Rattle.clap.specs.Walk.{finished, nothing_held, settled, stop_after, walk, walk_from}
 use Rattle.cpa_top_words_command.specs.Commands.{cpaverify}
-use Rattle.cpa_top_words.specs.Jobs.{Job, asked_by, job_of, model_of}
+use Rattle.cpa_top_words.specs.Jobs.{Job, asked_by, job_of, model_of, names_model}
 use Rattle.cpa_top_words.specs.Laws.{AskForAJobWhereTaken}
 
 -- ---- a subcommand is named
@@ -71,17 +71,16 @@ picked false false false true x y z u words p e =
     inr (inr (inr (ap (λ (q : Text × List Row). q.0) (sym same))))
 picked false false false false x y z u words p e = absurd (cc)
 
-mapped : {A B : Type 0} (f : A → B) (o : Option A) → is_some o ≡ true
-    → is_some (option_map f o) ≡ true
-mapped f None some = absurd (cc)
-mapped f (Some a) some = refl
+mapped : {A B : Type 0} (f : A → B) (o : Option A) → is_some (option_map f o) ≡ is_some o
+mapped f None = refl
+mapped f (Some a) = refl
 
-job_named : (name : Text) (rows : List Row) → is_some (model_of rows) ≡ true → IsCommand name
-    → is_some (job_of name rows) ≡ true
-job_named name rows some (inl e) = rw e refl
-job_named name rows some (inr (inl e)) = rw e (mapped _ (model_of rows) some)
-job_named name rows some (inr (inr (inl e))) = rw e refl
-job_named name rows some (inr (inr (inr e))) = rw e refl
+job_named : (name : Text) (rows : List Row) → IsCommand name
+    → is_some (job_of name rows) ≡ names_model name rows
+job_named name rows (inl e) = rw e refl
+job_named name rows (inr (inl e)) = rw e (mapped _ (model_of rows))
+job_named name rows (inr (inr (inl e))) = rw e refl
+job_named name rows (inr (inr (inr e))) = rw e refl
 
 stopped : (stop : Option (Text × List Text)) (p : Text × List Row)
     → entered (built cpaverify) stop ≡ Some p → IsCommand p.0
@@ -89,20 +88,25 @@ stopped None p e = absurd (cc)
 stopped (Some q) p e = picked _ _ _ _ _ _ _ _ q.1 p e
 
 told : (o : Option (Text × List Row)) → is_some o ≡ true
-    → option_map_or (λ p. is_some (model_of p.1)) o true ≡ true
     → ((p : Text × List Row) → o ≡ Some p → IsCommand p.0)
-    → is_some (option_map_or (λ p. job_of p.0 p.1) o None) ≡ true
-told None some model f = absurd (cc)
-told (Some p) some model f = job_named p.0 p.1 model (f p refl)
+    → is_some (option_map_or (λ p. job_of p.0 p.1) o None)
+    ≡ option_map_or (λ p. names_model p.0 p.1) o true
+told None some f = absurd (cc)
+told (Some p) some f = job_named p.0 p.1 (f p refl)
 
 some_of : (o : Option Job) → is_some o ≡ true → (job : Job) × (o ≡ Some job)
 some_of (Some job) e = (job, refl)
 some_of None e = absurd (cc)
 
+is_some_of : (o : Option Job) (job : Job) → o ≡ Some job → is_some o ≡ true
+is_some_of o job e = rw e refl
+
 pub taken_words_ask : (w : List Text) → AskForAJobWhereTaken w
-taken_words_ask w e model =
-    let found = told (subcommand_of cpaverify w) (named w e) model
+taken_words_ask w e =
+    let same = told (subcommand_of cpaverify w) (named w e)
     (stopped (stop_after (built cpaverify).top.rules (names_of (built cpaverify))
-    (argument_words cpaverify w))) in
-    let job = some_of (asked_by w) found in
-    (job.0, record { taken = e; asked = job.1 })
+    (argument_words cpaverify w))) in (
+      λ asks. sym same ∙ is_some_of (asked_by w) asks.0 asks.1.asked,
+      λ model. let job = some_of (asked_by w) (same ∙ model) in
+          (job.0, record { taken = e; asked = job.1 }),
+    )

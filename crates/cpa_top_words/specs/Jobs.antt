@@ -16,9 +16,10 @@ use Rattle.cpa_top_words.specs.declared.job.Job.{Job as Held}
 use Rattle.cpa_top_words.specs.declared.job.Job.TheVariants as held
 use Rattle.cpa_top_words.specs.declared.job.TheConstants.{STEPS}
 
--- to verify a program, by a configuration where one is named; to replay a program on inputs, in at
--- most so many steps, read in a data model; to recheck the report of a program, by a configuration where one is named; to
--- verify the text of a measurement of so many functions. Names of files are the bytes given
+-- to verify a program, by a configuration where one is named; to replay a program, read in a data
+-- model, on inputs, in at most so many steps; to recheck the report of a program, by a
+-- configuration where one is named; to verify the text of a measurement of so many functions.
+-- Names of files are the bytes given
 pub data Job : Type 0 where
   verify : List ℕ → Option (List ℕ) → Job
   replay : List ℕ → List ℕ → ℕ → DataModel → Job
@@ -66,9 +67,12 @@ job_of name rows = if bytes_eq name (codes "verify")
 abbrev pub asked_by : List (List ℕ) → Option Job
 asked_by words = option_map_or (λ p. job_of p.0 p.1) (subcommand_of cpaverify words) None
 
--- they name no data model that is none
+-- the data model that a replay names is one
+abbrev pub names_model : List ℕ → List Row → Bool
+names_model name rows = if bytes_eq name (codes "replay") then is_some (model_of rows) else true
+
 abbrev pub has_model : List (List ℕ) → Bool
-has_model words = option_map_or (λ p. is_some (model_of p.1)) (subcommand_of cpaverify words) true
+has_model words = option_map_or (λ p. names_model p.0 p.1) (subcommand_of cpaverify words) true
 
 -- ---- what words ask for
 

@@ -1,5 +1,5 @@
 -- Laws of words: which words ask for a job, and for which.
-use Rattle.std.specs.Prelude.{◌≡◌, ℕ, ◌≤◌, List, [], ◌∷◌, Some, None, true, codes, decimal}
+use Rattle.std.specs.Prelude.{◌≡◌, ◌↔◌, ℕ, ◌≤◌, List, [], ◌∷◌, Some, None, true, codes, decimal}
 use Rattle.clap.specs.Words.{fault_of}
 use Rattle.clap.specs.Lexer.{strip_byte}
 use Rattle.cpa_ints.specs.declared.data_model.DataModel.{DataModel}
@@ -10,10 +10,10 @@ use Rattle.cpa_top_words.specs.Jobs.{Asks, IsNoJob, Job, has_model}
 use Rattle.cpa_top_words.specs.Jobs.{verify, replay, recheck, bench}
 use Rattle.cpa_top_words.specs.declared.job.TheConstants.{MAX_BENCH}
 
--- where clap takes the words, and the data model that they name is one, they ask for a job
+-- where clap takes the words, they ask for a job exactly where the data model that they name is one
 abbrev pub AskForAJobWhereTaken : List (List ℕ) → Type 0
 AskForAJobWhereTaken words =
-    fault_of cpaverify words ≡ [] → has_model words ≡ true → (job : Job) × Asks words job
+    fault_of cpaverify words ≡ [] → ((job : Job) × Asks words job) ↔ (has_model words ≡ true)
 
 -- the name does not begin with a `-`
 abbrev pub IsPlain : List ℕ → Type 0

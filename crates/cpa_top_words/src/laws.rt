@@ -14,7 +14,7 @@ pub fn words_ask_for_small_benches()
     ensures { (words : List (List ℕ)) (n : ℕ) → Asks words (bench n) → n ≤ MAX_BENCH }
 {}
 
-/// Words that clap takes ask for a job, where the data model that they name is one.
+/// Words that clap takes ask for a job exactly where the data model that they name is one.
 pub fn taken_words_ask_for_a_job()
     ensures { (words : List (List ℕ)) → AskForAJobWhereTaken words }
 {}

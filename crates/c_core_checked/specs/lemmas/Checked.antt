@@ -17,6 +17,7 @@ use Rattle.c_core_rules_laws.specs.Laws.{there_is_one_layout, texts_are_as_large
 use Rattle.c_core_checked.specs.declared.text.CheckedText.{CheckedText}
 use Rattle.c_core_checked.specs.Texts.{IsCheckedText, unit_core, unit_main, ends_of}
 use Rattle.c_core_checked.specs.Sound.{Sound}
+use Rattle.cpa_ints.specs.declared.data_model.DataModel.{DataModel}
 
 -- checked texts by their parts
 abbrev Names : Type 0
@@ -44,24 +45,31 @@ same_parts cs ds ns ms ts us es fs m n l k c a t e i j =
     ∙ ap (λ x. of_parts ds ms us fs n x) j
 
 -- a checked text, where its functions begin
-text_at : (tree : UnitTree) (checked : CheckedText) (firsts : List ℕ) →
-    (is : IsCheckedText tree checked) → is.first_cells ≡ firsts →
-    checked ≡ of_parts (unit_core firsts tree).taken.cells (unit_core firsts tree).taken.names
-    (unit_core firsts tree).made (ends_of (unit_functions tree)) (unit_main tree) tree.length
-text_at tree checked firsts is same =
-    same_parts checked.cells (unit_core firsts tree).taken.cells checked.names
-    (unit_core firsts tree).taken.names checked.trees (unit_core firsts tree).made checked.ends
-    (ends_of (unit_functions tree)) checked.main (unit_main tree) checked.text_len tree.length
-    (is.cells ∙ ap (λ (ns : List ℕ). (unit_core ns tree).taken.cells) same)
-    (is.names ∙ ap (λ (ns : List ℕ). (unit_core ns tree).taken.names) same)
-    (is.trees ∙ ap (λ (ns : List ℕ). (unit_core ns tree).made) same) is.ends is.main is.text_len
+text_at : (model : DataModel) (tree : UnitTree) (checked : CheckedText) (firsts : List ℕ) →
+    (is : IsCheckedText model tree checked) → is.first_cells ≡ firsts →
+    checked ≡ of_parts (unit_core model firsts tree).taken.cells
+    (unit_core model firsts tree).taken.names
+    (unit_core model firsts tree).made (ends_of (unit_functions model tree))
+    (unit_main model tree) tree.length
+text_at model tree checked firsts is same =
+    same_parts checked.cells (unit_core model firsts tree).taken.cells checked.names
+    (unit_core model firsts tree).taken.names checked.trees
+    (unit_core model firsts tree).made checked.ends
+    (ends_of (unit_functions model tree)) checked.main
+    (unit_main model tree) checked.text_len tree.length
+    (is.cells ∙ ap (λ (ns : List ℕ). (unit_core model ns tree).taken.cells) same)
+    (is.names ∙ ap (λ (ns : List ℕ). (unit_core model ns tree).taken.names) same)
+    (is.trees ∙ ap (λ (ns : List ℕ). (unit_core model ns tree).made) same) is.ends is.main
+    is.text_len
 
-pub one_text : (tree : UnitTree) (a b : CheckedText) → IsCheckedText tree a → IsCheckedText tree b →
+pub one_text : (model : DataModel) (tree : UnitTree) (a b : CheckedText) →
+    IsCheckedText model tree a → IsCheckedText model tree b →
     a ≡ b
-one_text tree a b is are =
-    text_at tree a are.first_cells is (there_is_one_layout (unit_globals tree) (unit_functions tree)
+one_text model tree a b is are =
+    text_at model tree a are.first_cells is (there_is_one_layout (unit_globals model tree)
+    (unit_functions model tree)
     is.first_cells are.first_cells is.are_first are.are_first)
-    ∙ sym (text_at tree b are.first_cells are refl)
+    ∙ sym (text_at model tree b are.first_cells are refl)
 
 -- a number is within a limit, or above it
 within_or : (n limit : ℕ) → (n ≤ limit) ⊎ (limit < n)
@@ -81,12 +89,12 @@ not_beyond : (m : Made Trees) → ((IsWithinLimits m → ⊥) → ⊥) →
 not_beyond m never (inl beyond) = absurd (never beyond)
 not_beyond m never (inr within) = within
 
-pub sound_within : (tree : UnitTree) (firsts : List ℕ) → Sound tree →
-    IsWithinLimits (unit_core firsts tree)
-sound_within tree firsts sound =
-    let globals = unit_globals tree in
-    let functions = unit_functions tree in
-    let m = unit_core firsts tree in
+pub sound_within : (model : DataModel) (tree : UnitTree) (firsts : List ℕ) → Sound model tree →
+    IsWithinLimits (unit_core model firsts tree)
+sound_within model tree firsts sound =
+    let globals = unit_globals model tree in
+    let functions = unit_functions model tree in
+    let m = unit_core model firsts tree in
     not_beyond m
     (λ beyond. sound (record { rule = rule.N13; place = tree.length }) (inr (record {
       rule = refl;

@@ -14,19 +14,21 @@ use Rattle.c_core_rules.specs.Programs.{frames_of}
 use Rattle.c_core_rules_laws.specs.Layouts.{file_cells}
 use Rattle.c_core_checked.specs.declared.text.CheckedText.{CheckedText}
 use Rattle.c_core_checked.specs.Texts.{IsCheckedText, IsCore}
+use Rattle.cpa_ints.specs.declared.data_model.DataModel.{DataModel}
 
 each_length : {S : Type 0} (rules : List (core.Rule S)) (taken : Taken) →
     length (core.each rules taken).made ≡ length rules
 each_length [] taken = refl
 each_length (rule ∷ rules) taken = ap suc (each_length rules (rule taken).taken)
 
-trees_many : (tree : UnitTree) (checked : CheckedText) → IsCheckedText tree checked →
-    length checked.trees ≡ length (unit_functions tree)
-trees_many tree checked of =
-    let functions = unit_functions tree in
+trees_many : (model : DataModel) (tree : UnitTree) (checked : CheckedText) →
+    IsCheckedText model tree checked →
+    length checked.trees ≡ length (unit_functions model tree)
+trees_many model tree checked of =
+    let functions = unit_functions model tree in
     let frames = frames_of of.first_cells functions in
     ap (λ (trees : Trees). length trees) of.trees
-    ∙ each_length (map (function_rule frames) functions) (file_cells (unit_globals tree))
+    ∙ each_length (map (function_rule frames) functions) (file_cells (unit_globals model tree))
     ∙ length-map functions (function_rule frames)
 
 pub bodies_many : (checked : CheckedText) (P : Program) → IsCore checked P →
@@ -37,6 +39,7 @@ bodies_many checked P is =
     ∙ numbers_length 0 sizes
     ∙ length-map checked.trees (λ (tree : CoreTree). length (statements tree))
 
-pub bodies_are : (tree : UnitTree) (checked : CheckedText) (P : Program) →
-    IsCheckedText tree checked → IsCore checked P → length P.bodies ≡ length (unit_functions tree)
-bodies_are tree checked P of is = bodies_many checked P is ∙ trees_many tree checked of
+pub bodies_are : (model : DataModel) (tree : UnitTree) (checked : CheckedText) (P : Program) →
+    IsCheckedText model tree checked → IsCore checked P →
+    length P.bodies ≡ length (unit_functions model tree)
+bodies_are model tree checked P of is = bodies_many checked P is ∙ trees_many model tree checked of

@@ -4,10 +4,11 @@ use Rattle.c_lexer.specs.declared.fault.Rule.{Rule}
 use Rattle.c_lexer.specs.declared.fault.TextFault.{TextFault}
 use Rattle.c_grammar_tree.specs.declared.item.Unit.{Unit as UnitTree}
 use Rattle.c_types_rules.specs.ExpressionRules.{broken, at_if}
-use Rattle.c_types_rules.specs.Items.{text_of, items_faults, nothing_before}
+use Rattle.c_types_rules.specs.Items.{text_in, items_faults, nothing_before}
 use Rattle.c_types_rules.specs.Recursion.{Among}
 use Rattle.c_types_rules.specs.Sound.{unit_faults, without_main}
 use Rattle.c_core_checked.specs.Sound.{Sound}
+use Rattle.cpa_ints.specs.declared.data_model.DataModel.{DataModel}
 
 -- none of these faults
 abbrev pub NoFaults : List TextFault → Type 0
@@ -35,9 +36,10 @@ not_broken r true place none = absurd (none (record { rule = r; place = place })
 not_broken r false place none = refl
 
 -- a sound text has no fault in its items
-pub no_fault : (tree : UnitTree) → Sound tree →
-    NoFaults (items_faults (text_of tree.items) tree.items nothing_before)
+pub no_fault : (model : DataModel) (tree : UnitTree) → Sound model tree →
+    NoFaults (items_faults (text_in model tree.items) tree.items nothing_before)
 unfolding unit_faults
-no_fault tree sound fault among =
+no_fault model tree sound fault among =
     sound fault (inl (inl (among_left fault
-    (items_faults (text_of tree.items) tree.items nothing_before) (without_main tree) among)))
+    (items_faults (text_in model tree.items) tree.items nothing_before)
+    (without_main model tree) among)))

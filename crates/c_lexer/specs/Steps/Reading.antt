@@ -18,6 +18,7 @@ use Rattle.c_lexer.specs.Bytes.{begins_with}
 use Rattle.c_lexer.specs.Gaps.{names_directive}
 use Rattle.c_lexer.specs.Marks.{is_mark}
 use Rattle.c_lexer.specs.Steps.ReadingConstants.{number_of, character_of}
+use Rattle.cpa_ints.specs.declared.data_model.DataModel.{DataModel}
 
 -- one more, where there is a number
 abbrev pub one_more : Option ℕ → Option ℕ
@@ -95,9 +96,9 @@ directive_piece fresh text = cond fresh
     (Err L1)
 
 -- the number that the longest run of a number's bytes is
-abbrev pub number_piece : List ℕ → Result Piece Rule
-number_piece text = token_piece (prefix_len is_number_byte text)
-    (number_of (take (prefix_len is_number_byte text) text))
+abbrev pub number_piece : DataModel → List ℕ → Result Piece Rule
+number_piece model text = token_piece (prefix_len is_number_byte text)
+    (number_of model (take (prefix_len is_number_byte text) text))
 
 -- the character between the quotes, where they are closed
 abbrev pub character_in : Option ℕ → List ℕ → Result Piece Rule
@@ -114,19 +115,19 @@ abbrev pub mark_piece : ℕ → Result Piece Rule
 mark_piece n = cond (n == 0) (Err L1) (token_piece n (Ok Mark))
 
 -- the part that begins a text of this first byte, if it is no blank, directive or comment
-abbrev pub token_at : ℕ → List ℕ → Result Piece Rule
-token_at byte text =
+abbrev pub token_at : DataModel → ℕ → List ℕ → Result Piece Rule
+token_at model byte text =
     cond (is_word_head byte) (token_piece (prefix_len is_word_byte text) (Ok Word)) (
-    cond (is_ascii_digit byte) (number_piece text) (
+    cond (is_ascii_digit byte) (number_piece model text) (
     cond (byte == SINGLE_QUOTE) (character_in (close_quote SINGLE_QUOTE false (drop 1 text)) text) (
     cond (byte == DOUBLE_QUOTE) (text_in (close_quote DOUBLE_QUOTE false (drop 1 text)))
     (mark_piece (mark_length text)))))
 
 -- the part that begins the text, or the rule that is broken there
-abbrev pub piece_of : Bool → List ℕ → Result Piece Rule
-piece_of fresh [] = Err L1
-piece_of fresh (byte ∷ rest) = cond (is_blank byte) (gap_piece 1) (
+abbrev pub piece_of : DataModel → Bool → List ℕ → Result Piece Rule
+piece_of model fresh [] = Err L1
+piece_of model fresh (byte ∷ rest) = cond (is_blank byte) (gap_piece 1) (
     cond (byte == NUMBER_SIGN) (directive_piece fresh (byte ∷ rest)) (
     cond (opens_comment (byte ∷ rest)) (comment_piece (comment_length (byte ∷ rest))) (
     cond (opens_line_comment (byte ∷ rest)) (gap_piece (prefix_len is_on_line (byte ∷ rest))) (
-    token_at byte (byte ∷ rest)))))
+    token_at model byte (byte ∷ rest)))))

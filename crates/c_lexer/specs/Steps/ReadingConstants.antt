@@ -16,6 +16,7 @@ use Rattle.c_lexer.specs.declared.token.TokenKind.TheVariants.{Number, Character
 use Rattle.c_lexer.specs.Numbers.{Base, Decimal, Octal, Hexadecimal, Rank, Int, Long, LongLong}
 use Rattle.c_lexer.specs.Numbers.{Suffix, radix, type_of}
 use Rattle.c_lexer.specs.Quoted.{simple_escape}
+use Rattle.cpa_ints.specs.declared.data_model.DataModel.{DataModel}
 
 -- x or X
 abbrev pub is_x : ℕ → Bool
@@ -73,19 +74,19 @@ typed None number = Err L3
 typed (Some t) number = Ok (Number t (pos number))
 
 -- the number with this suffix, if it has one
-abbrev pub suffixed : Option Suffix → Base → ℕ → Result TokenKind Rule
-suffixed None base number = Err L1
-suffixed (Some suffix) base number = typed (type_of suffix base number) number
+abbrev pub suffixed : DataModel → Option Suffix → Base → ℕ → Result TokenKind Rule
+suffixed model None base number = Err L1
+suffixed model (Some suffix) base number = typed (type_of model suffix base number) number
 
 -- the constant of this base whose digits come first
-abbrev pub number_in : Base → List ℕ → Result TokenKind Rule
-number_in base text = cond (digit_run base text == 0) (Err L1)
-    (suffixed (suffix_of (drop (digit_run base text) text)) base
+abbrev pub number_in : DataModel → Base → List ℕ → Result TokenKind Rule
+number_in model base text = cond (digit_run base text == 0) (Err L1)
+    (suffixed model (suffix_of (drop (digit_run base text) text)) base
     (digits_value (radix base) (take (digit_run base text) text)))
 
 -- the integer constant that the run is
-abbrev pub number_of : List ℕ → Result TokenKind Rule
-number_of run = number_in (base_of run) (drop (front_of (base_of run)) run)
+abbrev pub number_of : DataModel → List ℕ → Result TokenKind Rule
+number_of model run = number_in model (base_of run) (drop (front_of (base_of run)) run)
 
 -- a byte that stands for itself between quotes of a character
 abbrev pub is_plain : ℕ → Bool

@@ -9,6 +9,7 @@ use cpa_composite::{Composite, copy_row};
 use cpa_config::Config;
 use cpa_engine::{Answer, Why, analyse};
 use cpa_iface::{Analysis, Entry};
+use cpa_ints::DataModel;
 use cpa_model::{Cfa, Seq};
 use cpa_report_print::{Body, Listed, Report, print};
 use std::alloc::{AllocError, Global};
@@ -31,6 +32,7 @@ pub fn push_analysis<A: Analysis>(
         turns: search.turns,
         rounds: search.rounds,
         settings: search.settings,
+        model: DataModel::Lp64,
     };
     let answer = analyse(alloc, cfa, composite, &config)?;
     push_answer(alloc, out, cfa, answer, is_whole)
@@ -50,6 +52,7 @@ fn push_answer(
         points: cfa.points,
         cells: count(cfa.cells.len()),
         edges: count(cfa.edges.len()),
+        model: DataModel::Lp64,
         body,
     };
     push_report(alloc, out, &report, is_whole)

@@ -3,4 +3,4 @@ use Rattle.c_core_laws.proofs.JumpsKept.{text_keeps}
 use Rattle.c_core_laws.proofs.laws.jumps_are_kept.Goals as goal
 
 pub returns : goal.returns
-returns c = λ tree typed of. (text_keeps tree typed of).are
+returns c = λ model tree checked of. (text_keeps model tree checked of).are

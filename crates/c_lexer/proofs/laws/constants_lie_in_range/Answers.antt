@@ -5,4 +5,4 @@ pub returns-clause-number : goal.returns-clause-number
 returns-clause-number c = number_value
 
 pub returns-clause-character : goal.returns-clause-character
-returns-clause-character c = character_value c.wrap_keeps_the_range.ensures.within
+returns-clause-character c = λ model. character_value model c.wrap_keeps_the_range.ensures.within

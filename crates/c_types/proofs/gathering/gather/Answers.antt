@@ -8,7 +8,8 @@ pub returns-clause-first : goal.returns-clause-first
 returns-clause-first c =
     let new = c.new-gathered.result in
     let gathered = c.gather_items.new.gathered in
-    finds_gathered c.args.unit.now c.args.survey.now (before_of new.scope) new.first gathered.first
+    finds_gathered c.args.survey.now.model c.args.unit.now c.args.survey.now
+    (before_of new.scope) new.first gathered.first
     c.note_missing_main.new.first c.note_place.new.first gathered.calls.items c.in_ok-least.least
     c.requires c.new-gathered.ensures.scope c.new-gathered.ensures.first
     (rw c.as_slice.ensures at c.in_ok-gather_items.ensures.first)

@@ -2,14 +2,15 @@
 use Rattle.std.proofs.Common.{ℕ, List, Option, unwrap_or, ap, ◌∙◌}
 use Rattle.c_types_rules.specs.declared.meaning.Entry.{Entry}
 use Rattle.c_types_rules.specs.Names.{Text, body_of}
-use Rattle.c_types_rules.specs.Items.{text_of, nothing_before}
+use Rattle.c_types_rules.specs.Items.{text_in, nothing_before}
 use Rattle.c_types_rules.specs.Sound.{globals_of, items_behind, main_name}
 use Rattle.c_types.proofs.outcome.finish.Goals as goal
 
 pub outcome_of-requires-clause-globals : goal.outcome_of-requires-clause-globals
 outcome_of-requires-clause-globals c =
     let unit = c.args.unit.now in
-    let behind = (items_behind (text_of unit.items) unit.items nothing_before).names in
+    let behind = (items_behind (text_in c.args.survey.now.model unit.items) unit.items
+    nothing_before).names in
     c.as_slice.ensures ∙ c.in_ok-globals.ensures
     ∙ ap (λ (ns : List Entry). globals_of ns c.deref.result.now) c.requires.names
     ∙ ap (globals_of behind) (c.deref.ensures.value ∙ c.requires.starts)

@@ -10,8 +10,9 @@ pub returns-in-None : goal.returns-in-None
 returns-in-None c =
     let globals = c.args.globals.now in
     let functions = c.args.functions.now in
-    large_checked c.args.unit.now c.requires.first
-    (unit_too_large c.args.unit.now globals functions c.requires.globals c.requires.functions
+    large_checked c.args.model c.args.unit.now c.requires.first
+    (unit_too_large c.args.model c.args.unit.now globals functions c.requires.globals
+    c.requires.functions
     (subst (IsFoundLayout globals functions) c.in-None.is c.in_ok-found.ensures))
 
 pub returns-in_ok-ends-in-Some : goal.returns-in_ok-ends-in-Some
@@ -29,10 +30,12 @@ returns-in_ok-ends-in-Some c =
       main = c.args.main;
       text_len = unit.length;
     } in (
-      sound_checked unit c.requires.first layout.first_cells
-          (unit_laid_out unit globals functions layout c.requires.globals c.requires.functions
+      sound_checked c.args.model unit c.requires.first layout.first_cells
+          (unit_laid_out c.args.model unit globals functions layout c.requires.globals
+          c.requires.functions
           laid_out).within,
-      checked_is unit globals functions layout checked c.requires.globals c.requires.functions
+      checked_is c.args.model unit globals functions layout checked c.requires.globals
+          c.requires.functions
           laid_out laid_out.cells laid_out.names laid_out.trees c.in_ok-ends-in-Some.ensures
           c.requires.main refl,
     )

@@ -17,7 +17,7 @@ pub returns-clause-refused : goal.returns-clause-refused
 returns-clause-refused g c = λ source of.
     IfErr-weaker c.program_of.result _ _
     (λ (r : Refusal) (is : IsTextRefused c.args.model c.as_slice.result.now r).
-    program_refused _ source c.args.model _ c.in_ok-bytes.bytes.items r of c.in_ok-bytes.ensures.within
-    c.in_ok-bytes.ensures.bytes c.in_ok-bytes.ensures.reads
+    program_refused _ source c.args.model _ c.in_ok-bytes.bytes.items r of
+    c.in_ok-bytes.ensures.within c.in_ok-bytes.ensures.bytes c.in_ok-bytes.ensures.reads
     (subst (λ (bytes : _). IsTextRefused c.args.model bytes r) c.as_slice.ensures.value is))
     c.program_of.ensures.refused
