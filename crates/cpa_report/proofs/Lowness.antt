@@ -356,8 +356,8 @@ module _ (law : TextIsOfOne) where
       → ReportFitsBy IsLow r → AreAlike (report_data s) (report_data r) → ReportFitsBy IsLow s
   low_alike s r v h low is = (
     h.0,
-    body_alike s.text s.points s.cells s.edges r.text r.points r.cells r.edges s.model r.model s.body
-        r.body v h.1 low.1
+    body_alike s.text s.points s.cells s.edges r.text r.points r.cells r.edges s.model r.model
+        s.body r.body v h.1 low.1
         (sym (ap outline (in_order s.text s.points s.cells s.edges s.model s.body)) ∙ is
         ∙ ap outline (in_order r.text r.points r.cells r.edges r.model r.body)),
   )
