@@ -2,8 +2,18 @@ use Rattle.std.proofs.Common.{ap, ap₂, ℕ, List}
 use Rattle.cpa_iface.specs.declared.precisions.Precision.{Precision}
 use Rattle.cpa_ints.specs.declared.data_model.DataModel.{DataModel}
 use Rattle.cpa_report_print.specs.declared.report.Body.TheVariants as body
-use Rattle.cpa_report_json.proofs.Parts.{same_told, both}
+use Rattle.cpa_report_json.proofs.Parts.{same_told, both, passed_on}
 use Rattle.cpa_report_json.proofs.reports.take_no_new.Goals as goal
+
+pub returns-in_err-precisions-clause-took : goal.returns-in_err-precisions-clause-took
+returns-in_err-precisions-clause-took c text points cells edges m x rest fit is =
+    let head = c.in_ok-cells.ensures.took cells edges m _ fit.0.2 fit.0.3 is in
+    let first =
+    c.in_ok-path.ensures.took m x.0 _ _ (ap (λ (y : ℕ × ℕ × DataModel). y.2) head.0) fit.1.0
+    head.1 in
+    let second = c.in_ok-points.ensures.took points _ fit.0.1 first.1 in
+    passed_on _ rest _ _ _ c.from_residual-in_err-precisions.ensures.1
+    (c.in_err-precisions.ensures.took x.1 text _ fit.1.1 fit.0.0 second.1)
 
 pub returns-clause-took : goal.returns-clause-took
 returns-clause-took c text points cells edges m x rest fit is =
