@@ -151,12 +151,7 @@ pub fn read_in(
 }
 
 /// The same of a program that was read where `long` has 64 bits.
-pub fn read(
-    alloc: Global,
-    text: &[u8],
-    cfa: &Cfa,
-    take: Verdict,
-) -> Result<Report, ReportError>
+pub fn read(alloc: Global, text: &[u8], cfa: &Cfa, take: Verdict) -> Result<Report, ReportError>
     ensures found { IfOk result (IsFound Lp64 text.now cfa.now take) }
     ensures one { IfOk result (λ r. (s : AReport) → IsTold text.now take s → s ≡ r) }
     ensures refused { IfErr result (IsRefused Lp64 text.now cfa.now take) }
