@@ -13,8 +13,8 @@ use Rattle.json.specs.Token.{Token}
 use Rattle.json.specs.Tree as tree
 use Rattle.json.specs.Tree.{json_tokens}
 use Rattle.json.proofs.Printed.Trees.{value-json_tokens}
-use Rattle.serde_json.specs.Data.{Data, Members, object}
-use Rattle.serde_json.specs.Written.{compact_text, members_outline, outline}
+use Rattle.serde_json.specs.Data.{Data, object}
+use Rattle.serde_json.specs.Written.{compact_text, outline}
 use Rattle.cpa_expr.specs.declared.tree.Expr.{Expr}
 use Rattle.cpa_expr.specs.Spelling.{expr_text}
 use Rattle.cpa_expr_text.specs.Laws.{TextIsOfOne}
@@ -27,6 +27,7 @@ use Rattle.cpa_ints.specs.declared.data_model.DataModel.TheVariants.{Lp64, Ilp32
 use Rattle.cpa_model.specs.Expressions.{IsExpr}
 use Rattle.cpa_model.specs.Facts.{IsFact, IsElem}
 use Rattle.cpa_model.specs.declared.automaton.Cfa.{Cfa}
+use Rattle.cpa_model.specs.declared.automaton.Path.{Path}
 use Rattle.cpa_model.specs.declared.facts.Elem.{Elem}
 use Rattle.cpa_facts.specs.declared.fact.Fact.{Fact}
 use Rattle.cpa_facts.specs.declared.fact.Fact.TheVariants.{At, Stack, Equals, Within, Truth}
@@ -37,8 +38,8 @@ use Rattle.cpa_report_json.specs.Fits.{FactFits, ElemFits, ListedFits, Precision
 use Rattle.cpa_report_json.specs.Fits.{EntriesFit, BodyFits, ReportFits, ReportFitsBy, IsLow}
 use Rattle.cpa_report_print.specs.Reports.{list_data, expr_data, fact_data, elem_data}
 use Rattle.cpa_report_print.specs.Reports.{listed_data, precision_data, refined_data}
-use Rattle.cpa_report_print.specs.Reports.{model_members, report_data, verdict_of}
-use Rattle.cpa_report_print.specs.Steps.{chain, ordered, told}
+use Rattle.cpa_report_print.specs.Reports.{report_data, verdict_of}
+use Rattle.cpa_report_print.specs.Steps.{ordered, told}
 use Rattle.cpa_report_print.specs.declared.report.Body.{Body}
 use Rattle.cpa_report_print.specs.declared.report.Body.TheVariants as body
 use Rattle.cpa_report_print.specs.declared.report.Listed.{Listed}
@@ -209,12 +210,12 @@ abbrev named : List ℕ → Json → Json
 named name (json.object ms) = member_named name ms
 named name j = json.null
 
--- what tells the data model has another name
-found_precisions : (m : DataModel) (ms : Members)
-    → member_named (codes "precisions") (members_outline (chain (model_members m) ms))
-    ≡ member_named (codes "precisions") (members_outline ms)
-found_precisions Lp64 ms = refl
-found_precisions Ilp32 ms = refl
+-- those of a report without new ones, in each data model
+found_precisions : (t p c e : ℕ) (m : DataModel) (path : Path) (ps : List Precision)
+    → named (codes "precisions") (outline (object (ordered (told t p c e m (body.NoNew path ps)))))
+    ≡ outline (list_data precision_data ps)
+found_precisions t p c e Lp64 path ps = refl
+found_precisions t p c e Ilp32 path ps = refl
 
 -- two values that JSON writes alike
 abbrev AreAlike : Data → Data → Type 0
@@ -310,7 +311,8 @@ module _ (law : TextIsOfOne) where
   body_alike t p c e u q d f m n (body.NoNew path xs) (body.NoNew way ys) v h low is = (
     h.0,
     precisions_alike xs ys h.1 low.1
-        (sym (found_precisions m _) ∙ ap (named (codes "precisions")) is ∙ found_precisions n _),
+        (sym (found_precisions t p c e m path xs) ∙ ap (named (codes "precisions")) is
+        ∙ found_precisions u q d f n way ys),
   )
   body_alike t p c e u q d f m n (body.Proof xs logs) (body.Proof ys others) v h low is =
       (entries_alike xs ys h.0 low.0 (ap (part_at 2) is), h.1)
@@ -322,7 +324,7 @@ module _ (law : TextIsOfOne) where
   body_alike t p c e u q d f m n (body.True xs) (body.NoNew way ys) v h low is = absurd (cc)
   body_alike t p c e u q d f m n (body.True xs) (body.Proof ys logs) v h low is = absurd (cc)
   body_alike t p c e u q d f m n (body.Rounds path xs) (body.True entries) v h low is = absurd (cc)
-  body_alike t p c e u q d f m n (body.Rounds path xs) (body.False inputs n) v h low is =
+  body_alike t p c e u q d f m n (body.Rounds path xs) (body.False inputs steps) v h low is =
       absurd (cc)
   body_alike t p c e u q d f m n (body.Rounds path xs) (body.Turns journal) v h low is = absurd (cc)
   body_alike t p c e u q d f m n (body.Rounds path xs) (body.Learnt way lines) v h low is =
@@ -356,8 +358,8 @@ module _ (law : TextIsOfOne) where
       → ReportFitsBy IsLow r → AreAlike (report_data s) (report_data r) → ReportFitsBy IsLow s
   low_alike s r v h low is = (
     h.0,
-    body_alike s.text s.points s.cells s.edges r.text r.points r.cells r.edges s.model r.model s.body
-        r.body v h.1 low.1
+    body_alike s.text s.points s.cells s.edges r.text r.points r.cells r.edges s.model r.model
+        s.body r.body v h.1 low.1
         (sym (ap outline (in_order s.text s.points s.cells s.edges s.model s.body)) ∙ is
         ∙ ap outline (in_order r.text r.points r.cells r.edges r.model r.body)),
   )

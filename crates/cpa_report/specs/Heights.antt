@@ -50,7 +50,8 @@ pub record IsLineOf (line : List ℕ) (verdict : Verdict) (r : Report) : Type 0 
   pub kind : verdict_of r.body ≡ verdict
   pub spelled : line ≡ compact_text (report_data r)
 
--- it is that of a report with the counts and the data model of this one, whose expressions may have any height
+-- it is that of a report with the counts and the data model of this one, whose expressions may have
+-- any height
 pub record IsLineLike (line : List ℕ) (verdict : Verdict) (low : Report) : Type 0 where
   pub body : Body
   pub is : IsLineOf line verdict (told low.text low.points low.cells low.edges low.model body)

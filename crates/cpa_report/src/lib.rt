@@ -10,4 +10,4 @@ mod telling;
 
 pub use cpa_report_print::{Body, Listed, Report, Verdict, print, print_break};
 pub use fault::{ReportError, ReportRule};
-pub use reading::read_in;
+pub use reading::{read, read_in};

@@ -1,5 +1,6 @@
 //! A report from its text, or the first rule that the text breaks.
 ghost use Rattle.std.specs.Prelude.{◌≡◌, ◌↔◌, IsTrue, IfOk, IfErr, MatchOption, List, ℕ, IsUtf8};
+ghost use Rattle.cpa_ints.specs.declared.data_model.DataModel.TheVariants.{Lp64};
 ghost use Rattle.cpa_report.specs.Faults.{IsLined, IsJson, IsTold, IsFound, Breaks, IsRefused};
 ghost use Rattle.cpa_report.specs.Heights.{HasNoLow, IsLineLike};
 ghost use Rattle.cpa_report.specs.declared.fault.ReportError.TheVariants.{OutOfMemory};
@@ -147,4 +148,15 @@ pub fn read_in(
         return Err(ReportError::Fault(ReportRule::P4));
     }
     Ok(report)
+}
+
+/// The same of a program that was read where `long` has 64 bits.
+pub fn read(alloc: Global, text: &[u8], cfa: &Cfa, take: Verdict) -> Result<Report, ReportError>
+    ensures found { IfOk result (IsFound Lp64 text.now cfa.now take) }
+    ensures one { IfOk result (λ r. (s : AReport) → IsTold text.now take s → s ≡ r) }
+    ensures refused { IfErr result (IsRefused Lp64 text.now cfa.now take) }
+    ensures back { (r : AReport) → IsFound Lp64 text.now cfa.now take r
+        → IfErr result (λ e. e ≡ OutOfMemory) }
+{
+    read_in(alloc, text, cfa, take, DataModel::Lp64)
 }
