@@ -36,7 +36,7 @@ returns-in_err-program g c =
     (meanings c.args.analyses.items) =
     ap (map string_bytes) c.as_slice-2.ensures.value ∙ c.in_ok-names.ensures
     ∙ ap (λ xs. names_of (meanings xs)) c.as_slice.ensures.value in
-    let file = option_map (λ s. s.now) c.args.file.entry in
+    let file : Option (List ℕ) = option_map (λ s. s.now) c.args.file in
     subst (IsDone _ _ _) (sym p.1)
     (program_stops _ (meanings c.args.analyses.items) c.args.program.now c.args.report.now _ _ same
     c.in_ok-config.config first.config p.0
