@@ -26,3 +26,9 @@ returns-else-branch-clause-every c utf8 r told low =
     let yes = c.in_ok-is_text.ensures.1 (told.spelled ∙ ap report_text (sym same)) in
     let no = c.if-branch.false in
     absurd (cc)
+
+pub returns-in_default-2-clause-every : goal.returns-in_default-2-clause-every
+returns-in_default-2-clause-every c utf8 r told low =
+    let line = line_of_told _ c.args.line.now c.args.verdict r c.requires told in
+    absurd (c.in_default-2.not-Some r
+    (c.in_ok-report.ensures.read r low told.kind (c.in-Ok.ensures.cases.0 ∙ line)))
