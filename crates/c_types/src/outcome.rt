@@ -115,6 +115,18 @@ fn finish(
     outcome_of(alloc, model, unit, globals.as_slice(), functions, main)
 }
 
+/// What is found of a text of which this is known.
+fn outcome_over(alloc: Memory, survey: &Survey, unit: &Unit) -> Result<Outcome, AllocError>
+    requires { survey.now ≡ text_in survey.now.model unit.now.items }
+    ensures { IfOk result (IsOutcome survey.now.model unit.now) }
+{
+    let gathered = gather(alloc, survey, unit)?;
+    match gathered.first {
+        Some(fault) => Ok(Outcome::Broken(fault)),
+        None => finish(alloc, survey, unit, &gathered),
+    }
+}
+
 /// What is found.
 pub(crate) fn find_outcome(
     alloc: Memory,
@@ -124,9 +136,5 @@ pub(crate) fn find_outcome(
     ensures { IfOk result (IsOutcome model unit.now) }
 {
     let survey = Survey::of(alloc, model, unit.items.as_slice())?;
-    let gathered = gather(alloc, &survey, unit)?;
-    match gathered.first {
-        Some(fault) => Ok(Outcome::Broken(fault)),
-        None => finish(alloc, &survey, unit, &gathered),
-    }
+    outcome_over(alloc, &survey, unit)
 }
