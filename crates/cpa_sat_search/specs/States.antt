@@ -12,7 +12,7 @@ use Rattle.cpa_sat_search.specs.declared.engine.End.{End}
 use Rattle.cpa_sat_search.specs.declared.engine.End.TheVariants.{Model, Refutation, Lines}
 use Rattle.cpa_sat_search.specs.declared.engine.Turn.{Turn}
 use Rattle.cpa_sat_search.specs.declared.engine.Turn.TheVariants.{Again, Satisfied, Refuted, Spent}
-use Rattle.cpa_sat_trail.specs.declared.trail.TheConstants.{NONE}
+use Rattle.cpa_sat_arena.specs.declared.literal.TheConstants.{NO_CLAUSE}
 use Rattle.cpa_sat_search.specs.Analyses.{IsIdle}
 use Rattle.cpa_sat_trail.specs.Findings.{AreSatisfied}
 use Rattle.cpa_sat_search.specs.Fresh.{AreNew}
@@ -32,7 +32,7 @@ pub record IsState (cnf : Cnf) (s : Search) : Type 0 where
   pub analysis_vars : s.analysis.vars ≡ cnf.vars
   pub idle : IsIdle s.analysis
   pub clauses : s.arena ≡ known cnf s.lines.items
-  pub few : length s.arena < NONE
+  pub few : length s.arena < NO_CLAUSE
   pub good : AreGood cnf s.lines.items
   pub fresh : AreNew cnf s.lines.items
   pub filled : AllByRecursion (λ (line : Line). line.clause ≢ []) s.lines.items
@@ -86,4 +86,4 @@ IsBegun cnf learnt t Spent = IsState cnf t × (length t.lines.items ≡ learnt)
 pub record AreLoaded (cnf : Cnf) (count : ℕ) (arena : List (List ℕ)) : Type 0 where
   pub clauses : arena ≡ take count cnf.clauses
   pub sorted : (k : ℕ) → IsClause (slice_index_or (take count cnf.clauses) k [])
-  pub few : length arena < NONE
+  pub few : length arena < NO_CLAUSE

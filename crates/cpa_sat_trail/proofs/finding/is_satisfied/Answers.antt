@@ -1,7 +1,7 @@
 use Rattle.std.proofs.Common.{◌≡◌, ℕ, get_or, refl}
 use Rattle.std.proofs.lemmas.List.{get_or_default}
 use Rattle.cpa_cnf.specs.lemmas.Members.{has-at, more}
-use Rattle.cpa_sat_trail.specs.declared.trail.TheConstants.{NONE}
+use Rattle.cpa_sat_trail.specs.declared.trail.TheConstants.{NO_PLACE}
 use Rattle.cpa_sat_trail.specs.Trails.{place_of}
 use Rattle.cpa_sat_trail.specs.lemmas.Values.{none_of}
 use Rattle.cpa_sat_trail.proofs.finding.is_satisfied.Goals as goal
@@ -21,7 +21,7 @@ loop-literal-preserved c =
     let xs = c.args.clause.now in
     let k = c.loop-literal.literal-index in
     let x : ℕ = get_or xs k 0 in
-    let P : ℕ → Type 0 = λ l. place_of c.args.trail.now l ≡ NONE in
+    let P : ℕ → Type 0 = λ l. place_of c.args.trail.now l ≡ NO_PLACE in
     more P xs k x c.loop-literal-test.true (get_or_default xs k 0 x c.loop-literal-test.true)
     c.loop-literal.invariant
     (none_of (place_of c.args.trail.now x) c.if-is_true.ensures.1)
