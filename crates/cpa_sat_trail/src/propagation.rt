@@ -110,9 +110,15 @@ fn holds(trail: &Trail, literal: PackedLit) -> bool
 }
 
 /// Looks at the clause of a watch of a literal that is false.
-fn visit(arena: &Arena, trail: &Trail, watches: &Watches, literal: PackedLit, watch: Watch) -> Seen
+fn visit(
+    arena: &Arena,
+    trail: &Trail,
+    watches: &Watches,
+    literal: PackedLit,
+    watch: &Watch,
+) -> Seen
     requires { IsSound arena.now trail.now }
-    ensures { IsVisited arena.now trail.now watch.clause result }
+    ensures { IsVisited arena.now trail.now watch.now.clause result }
 {
     if holds(trail, watch.blocker) || watch.clause.index() >= arena.len() {
         return Seen::Satisfied;
@@ -140,12 +146,12 @@ fn wake(
     trail: &mut Trail,
     watches: &mut Watches,
     literal: PackedLit,
-    watch: Watch,
+    watch: &Watch,
 ) -> Result<After, AllocError>
     requires { IsSound arena.now trail.old }
     ensures sound { OnOk result (IsSound arena.now trail.new) }
     ensures rises { OnOk result (IsRisen trail.old trail.new) }
-    ensures conflict { IfOk result (IsAwake arena.now trail.new watch.clause) }
+    ensures conflict { IfOk result (IsAwake arena.now trail.new watch.now.clause) }
 {
     match visit(arena, trail, watches, literal, watch) {
         Seen::Satisfied => Ok(After::Stays),
@@ -178,8 +184,8 @@ fn wake_all(
     let mut kept = 0;
     for i in 0..list.len() {
         let watch = watch_at(list, i);
-        match wake(arena, trail, watches, literal, watch)? {
-            After::Stays => kept = keep(list, kept, watch),
+        match wake(arena, trail, watches, literal, &watch)? {
+            After::Stays => kept = keep(list, kept, &watch),
             After::Moved => {}
             After::Stopped => {
                 close_up(list, kept, i);

@@ -17,6 +17,16 @@ pub(crate) struct Watch {
     pub(crate) blocker: PackedLit,
 }
 
+impl Watch {
+    /// The same watch.
+    fn again(&self) -> Watch {
+        Watch {
+            clause: self.clause,
+            blocker: self.blocker,
+        }
+    }
+}
+
 /// The watches of all literals.
 #[derive(Drop)]
 pub struct Watches {
@@ -94,7 +104,7 @@ impl Watches {
     /// Watches a literal in place of another.
     pub(crate) fn shift(
         &mut self,
-        watch: Watch,
+        watch: &Watch,
         from: PackedLit,
         to: PackedLit,
     ) -> Result<(), AllocError> {
@@ -102,7 +112,7 @@ impl Watches {
         if number < self.pairs.len() {
             self.pairs[number] = LitPair::new(self.pairs[number].other(from), to);
         }
-        self.push(to, watch)
+        self.push(to, watch.again())
     }
 
     /// Watches two literals of a clause.
@@ -187,9 +197,9 @@ pub(crate) fn watch_at(list: &[Watch], place: usize) -> Watch {
 }
 
 /// Keeps a watch at the place; the place behind it.
-pub(crate) fn keep(list: &mut [Watch], place: usize, watch: Watch) -> usize {
+pub(crate) fn keep(list: &mut [Watch], place: usize, watch: &Watch) -> usize {
     if place < list.len() {
-        list[place] = watch;
+        list[place] = watch.again();
         place + 1
     } else {
         place
@@ -201,7 +211,7 @@ pub(crate) fn close_up(list: &mut Vec<Watch>, to: usize, from: usize) {
     let mut place = to;
     for i in from..list.len() {
         let watch = watch_at(list, i);
-        place = keep(list, place, watch);
+        place = keep(list, place, &watch);
     }
     list.truncate(place);
 }
