@@ -14,13 +14,17 @@ use Rattle.std.proofs.lemmas.List.{length-append, length-take-le}
 use Rattle.std.proofs.lemmas.List.Elements.{All-from_recursion, recursion_from_All}
 use Rattle.std.proofs.lemmas.Map.Keys.{IsDistinct-from_apart}
 use Rattle.std.proofs.lemmas.Map.Steps.{length-le_from_distinct_below}
-use Rattle.std.proofs.lemmas.Option.{slice_get-get_or}
+use Rattle.std.proofs.lemmas.Option.{none-some, slice_get-get_or}
 use Rattle.cpa_cnf.specs.declared.formula.Cnf.{Cnf}
 use Rattle.cpa_cnf.specs.declared.formula.Line.{Line}
 use Rattle.cpa_cnf.specs.Clauses.{has, IsClause}
-use Rattle.cpa_cnf.specs.Lines.{AreBelow, known}
+use Rattle.cpa_cnf.specs.Lines.{AreBelow, IsRefutation, known}
 use Rattle.cpa_cnf.specs.lemmas.Chains.{member_below, same_members, has_head}
+use Rattle.cpa_sat_search.specs.declared.found.Found.{Found}
+use Rattle.cpa_sat_search.specs.declared.found.Found.TheVariants.{Model, Refuted, Spent}
+use Rattle.cpa_sat_search.specs.Endings.{IsEnding}
 use Rattle.cpa_sat_search.specs.Fresh.{AreNew}
+use Rattle.cpa_sat.specs.Outcomes.{IsFound}
 
 -- the bits of a set of numbers from n on, as a number of k bits, the lowest first
 number : ℕ → ℕ → (ℕ → Bool) → ℕ
@@ -248,3 +252,23 @@ few_lines cnf log sorted below filled fresh =
       where
         minus_one : (a p : ℕ) → 0 < a → a < p → a - 1 < p - 1
         minus_one a p x y = omega arith
+
+-- a refutation has a line
+some_lines : (cnf : Cnf) (log : List Line) → IsRefutation cnf log → 1 ≤ length log
+some_lines cnf [] r = absurd (none-some [] r.last)
+some_lines cnf (line ∷ log) r = omega arith
+
+-- what the search left, with the number of clauses that there are
+pub found_as : (cnf : Cnf) (learnt : ℕ) (found : Found) → IsEnding cnf learnt found
+    → IsFound cnf learnt found
+found_as cnf learnt (Model values) h = h
+found_as cnf learnt (Refuted lines) h =
+    record { refutes = h.0; some = some_lines cnf lines.items h.0; within = h.1 }
+found_as cnf learnt (Spent lines) h = record {
+  all = h.all;
+  good = h.good;
+  filled = h.filled;
+  fresh = h.fresh;
+  few = subst (λ n. n < 4 ^ cnf.vars) h.all
+      (few_lines cnf lines.items h.clauses_are.sorted h.clauses_are.below h.filled h.fresh);
+}

@@ -6,8 +6,8 @@ use Rattle.cpa_cnf.specs.declared.formula.Cnf.{Cnf}
 use Rattle.cpa_cnf.specs.declared.formula.Line.{Line}
 use Rattle.cpa_cnf.specs.Lines.{AreGood, IsRefutation}
 use Rattle.cpa_cnf.specs.Models.{IsModel}
-use Rattle.cpa_sat.specs.declared.outcome.Found.{Found}
-use Rattle.cpa_sat.specs.declared.outcome.Found.TheVariants.{Model, Refuted, Spent}
+use Rattle.cpa_sat_search.specs.declared.found.Found.{Found}
+use Rattle.cpa_sat_search.specs.declared.found.Found.TheVariants.{Model, Refuted, Spent}
 use Rattle.cpa_sat_search.specs.Fresh.{AreNew}
 
 -- exactly as many lines as are allowed, good, not empty and of new clauses, and fewer than there

@@ -2,8 +2,7 @@
 //! comes with the chain of resolutions that gives it.
 #![tactic(auto)]
 
-mod outcome;
 mod start;
 
-pub use outcome::Found;
+pub use cpa_sat_search::Found;
 pub use start::search;

@@ -1,4 +1,4 @@
-//! From what is left of a search to what it found (`specs/Outcomes.antt`). Proved with
+//! What a search finds, by its contract (`specs/Outcomes.antt`). Proved with
 //! `proofs/Counting.antt`.
 
 ghost use Rattle.std.specs.Prelude.{IfOk};
@@ -6,9 +6,8 @@ ghost use Rattle.std.specs.List.{AllByRecursion};
 ghost use Rattle.cpa_cnf.specs.Lines.{AreBelow};
 ghost use Rattle.cpa_sat.specs.Outcomes.{IsFound};
 
-use crate::outcome::Found;
 use cpa_cnf::Cnf;
-use cpa_sat_search::{Ending, solve};
+use cpa_sat_search::{Found, solve};
 use std::alloc::{AllocError, Global};
 
 /// Searches for a model of the formula, or a refutation of at most `learnt` lines. Where neither is
@@ -19,10 +18,6 @@ pub fn search(alloc: Global, cnf: &Cnf, learnt: u32) -> Result<Found, AllocError
     requires { AllByRecursion (AreBelow cnf.now.vars) cnf.now.clauses }
     ensures { IfOk result (IsFound cnf.now learnt) }
 {
-    let ending = solve(alloc, cnf, learnt)?;
-    match ending {
-        Ending::Model(values) => Ok(Found::Model(values)),
-        Ending::Refutation(lines) => Ok(Found::Refuted(lines)),
-        Ending::Lines(lines) => Ok(Found::Spent(lines)),
-    }
+    let found = solve(alloc, cnf, learnt)?;
+    Ok(found)
 }

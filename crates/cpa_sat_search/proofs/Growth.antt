@@ -283,18 +283,6 @@ rank_keeps learnt s t lines vars rises =
     under : (x m p q : ℕ) → p ≤ q → x + (m - q) ≤ x + (m - p)
     under x m p q h = omega arith
 
--- a turn from a state of no greater rank
-pub turned_after : (cnf : Cnf) (learnt : ℕ) (s m t : Search) (turn : Turn)
-    → rank learnt m ≤ rank learnt s → IsTurned cnf learnt m t turn → IsTurned cnf learnt s t turn
-turned_after cnf learnt s m t Again h turned =
-    (turned.0, turned.1, less (rank learnt t) (rank learnt m) (rank learnt s) turned.2 h)
-  where
-    less : (a b c : ℕ) → a < b → b ≤ c → a < c
-    less a b c f g = omega arith
-turned_after cnf learnt s m t Satisfied h turned = turned
-turned_after cnf learnt s m t Refuted h turned = turned
-turned_after cnf learnt s m t Spent h turned = turned
-
 -- propagation leaves a state of no greater rank
 pub state_after : (cnf : Cnf) (s t : Search) → IsState cnf s → IsSound t.arena t.trail
     → IsRisen s.trail t.trail → IsAsBut s t → IsState cnf t

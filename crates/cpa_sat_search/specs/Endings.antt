@@ -1,4 +1,4 @@
--- What is left at the end of a search (this project's own): a model, a refutation, or as many lines
+-- What a search finds (this project's own): a model, a refutation, or as many lines
 -- as it may write.
 use Rattle.std.specs.Prelude.{◌≡◌, ◌≢◌, ℕ, ◌≤◌, List, [], length}
 use Rattle.std.specs.List.{AllByRecursion}
@@ -6,8 +6,8 @@ use Rattle.cpa_cnf.specs.declared.formula.Cnf.{Cnf}
 use Rattle.cpa_cnf.specs.declared.formula.Line.{Line}
 use Rattle.cpa_cnf.specs.Lines.{AreGood, IsRefutation, known}
 use Rattle.cpa_cnf.specs.Models.{IsModel}
-use Rattle.cpa_sat_search.specs.declared.ending.Ending.{Ending}
-use Rattle.cpa_sat_search.specs.declared.ending.Ending.TheVariants.{Model, Refutation, Lines}
+use Rattle.cpa_sat_search.specs.declared.found.Found.{Found}
+use Rattle.cpa_sat_search.specs.declared.found.Found.TheVariants.{Model, Refuted, Spent}
 use Rattle.cpa_sat_search.specs.Fresh.{AreNew}
 use Rattle.cpa_sat_trail.specs.Trails.{AreClauses}
 
@@ -20,8 +20,8 @@ pub record AreWritten (cnf : Cnf) (learnt : ℕ) (log : List Line) : Type 0 wher
   pub fresh : AreNew cnf log
   pub clauses_are : AreClauses cnf.vars (known cnf log)
 
-abbrev pub IsEnding : Cnf → ℕ → Ending → Type 0
+abbrev pub IsEnding : Cnf → ℕ → Found → Type 0
 IsEnding cnf learnt (Model values) = IsModel cnf values.items
-IsEnding cnf learnt (Refutation lines) = IsRefutation cnf lines.items
+IsEnding cnf learnt (Refuted lines) = IsRefutation cnf lines.items
     × (length lines.items ≤ learnt)
-IsEnding cnf learnt (Lines lines) = AreWritten cnf learnt lines.items
+IsEnding cnf learnt (Spent lines) = AreWritten cnf learnt lines.items

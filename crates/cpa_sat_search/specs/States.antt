@@ -8,8 +8,6 @@ use Rattle.cpa_cnf.specs.Clauses.{IsClause}
 use Rattle.cpa_cnf.specs.Lines.{AreGood, IsGoodLine, IsRefutation, known}
 use Rattle.cpa_sat_search.specs.declared.engine.Learned.{Learned}
 use Rattle.cpa_sat_search.specs.declared.engine.Search.{Search}
-use Rattle.cpa_sat_search.specs.declared.engine.End.{End}
-use Rattle.cpa_sat_search.specs.declared.engine.End.TheVariants.{Model, Refutation, Lines}
 use Rattle.cpa_sat_search.specs.declared.engine.Turn.{Turn}
 use Rattle.cpa_sat_search.specs.declared.engine.Turn.TheVariants.{Again, Satisfied, Refuted, Spent}
 use Rattle.cpa_sat_arena.specs.declared.literal.TheConstants.{NO_CLAUSE}
@@ -68,19 +66,6 @@ pub record IsAsButAnalysis (s t : Search) : Type 0 where
 abbrev pub IsNumberOf : List (List ℕ) → List ℕ → ℕ → Type 0
 IsNumberOf clauses clause number = (number < length clauses)
     × (slice_index_or clauses number [] ≡ clause)
-
--- how a search ends
-abbrev pub IsEnded : Cnf → ℕ → Search → End → Type 0
-IsEnded cnf learnt t Model = IsState cnf t × AreSatisfied t.arena t.trail
-IsEnded cnf learnt t Refutation = IsRefutation cnf t.lines.items × (length t.lines.items ≤ learnt)
-IsEnded cnf learnt t Lines = IsState cnf t × (length t.lines.items ≡ learnt)
-
--- how a search begins: with an end, or with a state
-abbrev pub IsBegun : Cnf → ℕ → Search → Turn → Type 0
-IsBegun cnf learnt t Again = IsState cnf t × (length t.lines.items ≤ learnt)
-IsBegun cnf learnt t Satisfied = IsState cnf t × AreSatisfied t.arena t.trail
-IsBegun cnf learnt t Refuted = IsRefutation cnf t.lines.items × (length t.lines.items ≤ learnt)
-IsBegun cnf learnt t Spent = IsState cnf t × (length t.lines.items ≡ learnt)
 
 -- the clauses of a formula, of which so many are loaded
 pub record AreLoaded (cnf : Cnf) (count : ℕ) (arena : List (List ℕ)) : Type 0 where

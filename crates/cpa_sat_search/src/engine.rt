@@ -5,13 +5,12 @@ ghost use Rattle.std.specs.Prelude.{◌≡◌, ◌≢◌, ◌<◌, ◌≤◌, �
 ghost use Rattle.std.specs.Prelude.{length, slice_index_or, OnOk, IfOk, IfSome, IfNone};
 ghost use Rattle.cpa_cnf.specs.Clauses.{IsClause};
 ghost use Rattle.cpa_cnf.specs.Lines.{IsGoodLine};
-ghost use Rattle.cpa_sat_trail.specs.declared.trail.TheConstants.{NONE};
+ghost use Rattle.cpa_sat_arena.specs.declared.literal.TheConstants.{NO_CLAUSE};
 ghost use Rattle.cpa_sat_trail.specs.Trails.{IsFalse, IsTrail, height};
 ghost use Rattle.cpa_sat_trail.specs.Findings.{IsOpen};
 ghost use Rattle.cpa_sat_trail.specs.Progress.{Asserts, IsRisen, IsSound, progress};
 ghost use Rattle.cpa_sat_trail.specs.Propagations.{IsPropagated};
-ghost use Rattle.cpa_sat_search.specs.States.{IsAsBut, IsAsButAnalysis, IsBegun, IsEnded};
-ghost use Rattle.cpa_sat_search.specs.States.{IsLearned};
+ghost use Rattle.cpa_sat_search.specs.States.{IsAsBut, IsAsButAnalysis, IsLearned};
 ghost use Rattle.cpa_sat_search.specs.States.{IsNumberOf, IsState, IsTurned, rank};
 
 use crate::analysis::Analysis;
@@ -19,14 +18,15 @@ use crate::conflict::analyse;
 use crate::quality::Quality;
 use crate::redundancy::Redundancy;
 use cpa_cnf::{Cnf, Line};
-use cpa_sat_arena::Arena;
+use cpa_sat_arena::{Arena, ClauseRef, NO_CLAUSE, PackedLit};
 use cpa_sat_trail::{
-    Jump, NONE, Order, Restarts, Trail, Watches, decide, force_units, is_open, jump_back,
+    Jump, NO_PLACE, Order, Restarts, Trail, Watches, decide, force_units, is_open, jump_back,
     open_literal, propagate, unsatisfied, watch_clause,
 };
 use std::alloc::{AllocError, Global};
 
-/// A search under way.
+/// A search under way. Its calls take the formula for their contracts, which say what the state is
+/// to it; where a body hands it on to no other call, `let _vars = cnf.vars;` is its one use.
 #[derive(Drop)]
 pub(crate) struct Search {
     pub(crate) alloc: Global,
@@ -46,7 +46,7 @@ pub(crate) struct Search {
     pub(crate) ground: usize,
 }
 
-/// How a turn of the search ends.
+/// How a turn of the search ends: a decision, or a clause that is false.
 #[derive(Clone, Copy)]
 pub(crate) enum Turn {
     Again,
@@ -55,16 +55,8 @@ pub(crate) enum Turn {
     Spent,
 }
 
-/// How a search ends.
-#[derive(Clone, Copy)]
-pub(crate) enum End {
-    Model,
-    Refutation,
-    Lines,
-}
-
 /// The next literal to decide, by the order.
-fn pick(order: &mut Order, trail: &Trail) -> Option<u32>
+fn pick(order: &mut Order, trail: &Trail) -> Option<PackedLit>
     requires { IsTrail trail.now }
     ensures { IfSome result (IsOpen trail.now) }
 {
@@ -79,7 +71,7 @@ fn pick(order: &mut Order, trail: &Trail) -> Option<u32>
 
 impl Search {
     /// Propagates; the number of a clause that is false, if there is one.
-    fn propagate(&mut self) -> Result<Option<u32>, AllocError>
+    fn propagate_trail(&mut self) -> Result<Option<ClauseRef>, AllocError>
         requires { IsSound self.old.arena self.old.trail }
         ensures sound { OnOk result (IsSound self.new.arena self.new.trail) }
         ensures rises { OnOk result (IsRisen self.old.trail self.new.trail) }
@@ -93,7 +85,7 @@ impl Search {
     }
 
     /// The line of the chain from a clause that is false, and the jump that its clause forces.
-    fn analyse(&mut self, cnf: &Cnf, number: u32) -> Result<Learned, AllocError>
+    fn analyse(&mut self, cnf: &Cnf, number: ClauseRef) -> Result<Learned, AllocError>
         requires state { IsState cnf.now self.old }
         requires inside { number < length self.old.arena }
         requires untrue { IsFalse (slice_index_or self.old.arena number []) self.old.trail }
@@ -125,7 +117,7 @@ impl Search {
         ensures lines { OnOk result (self.new.lines.items ≡ self.old.lines.items ++ line ∷ []) }
     {
         let _vars = cnf.vars;
-        if self.arena.len() >= NONE as usize - 1 {
+        if self.arena.len() >= NO_CLAUSE as usize - 1 {
             return Err(AllocError);
         }
         self.watches.add()?;
@@ -136,7 +128,7 @@ impl Search {
     }
 
     /// Jumps back, and puts the variables whose literals go into the order again.
-    fn jump(&mut self, cnf: &Cnf, jump: Jump, number: u32) -> Result<(), AllocError>
+    fn backjump(&mut self, cnf: &Cnf, jump: Jump, number: ClauseRef) -> Result<(), AllocError>
         requires state { IsState cnf.now self.old }
         requires inside { number < length self.old.arena }
         requires asserts { Asserts (slice_index_or self.old.arena number []) self.old.trail jump }
@@ -156,7 +148,7 @@ impl Search {
 
 impl Search {
     /// Ends with the empty clause, or with the lines spent.
-    fn conclude(&mut self, cnf: &Cnf, line: Line, learnt: u32) -> Result<Turn, AllocError>
+    fn refute(&mut self, cnf: &Cnf, line: Line, learnt: u32) -> Result<Turn, AllocError>
         requires state { IsState cnf.now self.old }
         requires within { length self.old.lines.items ≤ learnt }
         requires good { IsGoodLine cnf.now.vars self.old.arena line }
@@ -172,19 +164,19 @@ impl Search {
     }
 
     /// Jumps by a clause that stands already.
-    fn reuse(&mut self, cnf: &Cnf, jump: Jump, number: u32, learnt: u32) -> Result<Turn, AllocError>
+    fn assert_known(&mut self, cnf: &Cnf, jump: Jump, number: ClauseRef, learnt: u32) -> Result<Turn, AllocError>
         requires state { IsState cnf.now self.old }
         requires within { length self.old.lines.items ≤ learnt }
         requires inside { number < length self.old.arena }
         requires asserts { Asserts (slice_index_or self.old.arena number []) self.old.trail jump }
         ensures { IfOk result (IsTurned cnf.now learnt self.old self.new) }
     {
-        self.jump(cnf, jump, number)?;
+        self.backjump(cnf, jump, number)?;
         Ok(Turn::Again)
     }
 
     /// Adds a line and jumps by its clause.
-    fn extend(&mut self, cnf: &Cnf, line: Line, jump: Jump, learnt: u32) -> Result<Turn, AllocError>
+    fn learn(&mut self, cnf: &Cnf, line: Line, jump: Jump, learnt: u32) -> Result<Turn, AllocError>
         requires state { IsState cnf.now self.old }
         requires within { length self.old.lines.items ≤ learnt }
         requires good { IsGoodLine cnf.now.vars self.old.arena line }
@@ -197,17 +189,17 @@ impl Search {
         if self.lines.len() >= learnt as usize {
             return Ok(Turn::Spent);
         }
-        let number = self.arena.len() as u32;
+        let number = ClauseRef::new(self.arena.len());
         self.add(cnf, line)?;
         self.watch(cnf, number)?;
-        self.jump(cnf, jump, number)?;
+        self.backjump(cnf, jump, number)?;
         self.restart(cnf)?;
-        self.thin(cnf)?;
+        self.reduce_watches(cnf)?;
         Ok(Turn::Again)
     }
 
     /// Watches two literals of a clause.
-    fn watch(&mut self, cnf: &Cnf, number: u32) -> Result<(), AllocError>
+    fn watch(&mut self, cnf: &Cnf, number: ClauseRef) -> Result<(), AllocError>
         requires state { IsState cnf.now self.old }
         requires inside { number < length self.old.arena }
         ensures state { OnOk result (IsState cnf.now self.new) }
@@ -221,7 +213,7 @@ impl Search {
     }
 
     /// Watches fewer clauses, if it is time to.
-    fn thin(&mut self, cnf: &Cnf) -> Result<(), AllocError>
+    fn reduce_watches(&mut self, cnf: &Cnf) -> Result<(), AllocError>
         requires { IsState cnf.now self.old }
         ensures state { OnOk result (IsState cnf.now self.new) }
         ensures same { OnOk result (IsAsButAnalysis self.old self.new) }
@@ -262,7 +254,7 @@ impl Search {
 
 impl Search {
     /// Learns from a clause that is false, and jumps back; or ends.
-    fn conflict(&mut self, cnf: &Cnf, number: u32, learnt: u32) -> Result<Turn, AllocError>
+    fn conflict(&mut self, cnf: &Cnf, number: ClauseRef, learnt: u32) -> Result<Turn, AllocError>
         requires state { IsState cnf.now self.old }
         requires within { length self.old.lines.items ≤ learnt }
         requires inside { number < length self.old.arena }
@@ -271,13 +263,13 @@ impl Search {
     {
         let Learned { line, jump } = self.analyse(cnf, number)?;
         match jump {
-            Some(jump) => self.learn(cnf, line, jump, learnt),
-            None => self.conclude(cnf, line, learnt),
+            Some(jump) => self.assert_line(cnf, line, jump, learnt),
+            None => self.refute(cnf, line, learnt),
         }
     }
 
     /// Jumps by the clause of a line, which is added where its clause does not stand yet.
-    fn learn(&mut self, cnf: &Cnf, line: Line, jump: Jump, learnt: u32) -> Result<Turn, AllocError>
+    fn assert_line(&mut self, cnf: &Cnf, line: Line, jump: Jump, learnt: u32) -> Result<Turn, AllocError>
         requires state { IsState cnf.now self.old }
         requires within { length self.old.lines.items ≤ learnt }
         requires good { IsGoodLine cnf.now.vars self.old.arena line }
@@ -286,14 +278,14 @@ impl Search {
         ensures { IfOk result (IsTurned cnf.now learnt self.old self.new) }
     {
         match self.find(&line) {
-            Some(number) => self.reuse(cnf, jump, number, learnt),
-            None => self.extend(cnf, line, jump, learnt),
+            Some(number) => self.assert_known(cnf, jump, number, learnt),
+            None => self.learn(cnf, line, jump, learnt),
         }
     }
 
     /// The number of the clause that is the line's.
-    fn find(&self, line: &Line) -> Option<u32>
-        requires { length self.now.arena < NONE }
+    fn find(&self, line: &Line) -> Option<ClauseRef>
+        requires { length self.now.arena < NO_CLAUSE }
         ensures some { IfSome result (IsNumberOf self.now.arena line.now.clause) }
         ensures none { IfNone result ((k : ℕ) → k < length self.now.arena
             → slice_index_or self.now.arena k [] ≢ line.now.clause) }
@@ -302,7 +294,7 @@ impl Search {
     }
 
     /// Decides that a literal is true.
-    fn decide(&mut self, cnf: &Cnf, literal: u32, learnt: u32) -> Result<Turn, AllocError>
+    fn decide(&mut self, cnf: &Cnf, literal: PackedLit, learnt: u32) -> Result<Turn, AllocError>
         requires state { IsState cnf.now self.old }
         requires within { length self.old.lines.items ≤ learnt }
         requires open { IsOpen self.old.trail literal }
@@ -316,7 +308,7 @@ impl Search {
     }
 
     /// Decides, or looks at all clauses where the order has no literal left.
-    fn go_on(&mut self, cnf: &Cnf, learnt: u32) -> Result<Turn, AllocError>
+    fn decide_next(&mut self, cnf: &Cnf, learnt: u32) -> Result<Turn, AllocError>
         requires state { IsState cnf.now self.old }
         requires within { length self.old.lines.items ≤ learnt }
         ensures { IfOk result (IsTurned cnf.now learnt self.old self.new) }
@@ -324,12 +316,12 @@ impl Search {
         let trail = &mut self.trail;
         match pick(&mut self.order, trail) {
             Some(literal) => self.decide(cnf, literal, learnt),
-            None => self.last_look(cnf, learnt),
+            None => self.check_model(cnf, learnt),
         }
     }
 
-    /// Ends with a model, or goes on with a clause of which no literal is true.
-    fn last_look(&mut self, cnf: &Cnf, learnt: u32) -> Result<Turn, AllocError>
+    /// Ends with a model, or decides a literal of a clause of which none is true.
+    fn check_model(&mut self, cnf: &Cnf, learnt: u32) -> Result<Turn, AllocError>
         requires state { IsState cnf.now self.old }
         requires within { length self.old.lines.items ≤ learnt }
         ensures { IfOk result (IsTurned cnf.now learnt self.old self.new) }
@@ -346,7 +338,7 @@ impl Search {
     }
 
     /// Propagates, and keeps the state.
-    fn settle(&mut self, cnf: &Cnf) -> Result<Option<u32>, AllocError>
+    pub(crate) fn propagate(&mut self, cnf: &Cnf) -> Result<Option<ClauseRef>, AllocError>
         requires { IsState cnf.now self.old }
         ensures state { OnOk result (IsState cnf.now self.new) }
         ensures lines { OnOk result (self.new.lines.items ≡ self.old.lines.items) }
@@ -354,12 +346,12 @@ impl Search {
         ensures conflict { IfOk result (IsPropagated self.new.arena self.new.trail) }
     {
         let _vars = cnf.vars;
-        let found = self.propagate()?;
+        let found = self.propagate_trail()?;
         Ok(found)
     }
 
     /// Decides, or learns from a clause that is false.
-    fn proceed(&mut self, cnf: &Cnf, found: Option<u32>, learnt: u32) -> Result<Turn, AllocError>
+    pub(crate) fn step(&mut self, cnf: &Cnf, found: Option<ClauseRef>, learnt: u32) -> Result<Turn, AllocError>
         requires state { IsState cnf.now self.old }
         requires within { length self.old.lines.items ≤ learnt }
         requires conflict { IsPropagated self.old.arena self.old.trail found }
@@ -367,25 +359,14 @@ impl Search {
     {
         match found {
             Some(number) => self.conflict(cnf, number, learnt),
-            None => self.go_on(cnf, learnt),
+            None => self.decide_next(cnf, learnt),
         }
-    }
-
-    /// One turn: propagates, and decides or learns.
-    pub(crate) fn turn(&mut self, cnf: &Cnf, learnt: u32) -> Result<Turn, AllocError>
-        requires state { IsState cnf.now self.old }
-        requires within { length self.old.lines.items ≤ learnt }
-        ensures { IfOk result (IsTurned cnf.now learnt self.old self.new) }
-    {
-        let found = self.settle(cnf)?;
-        let turn = self.proceed(cnf, found, learnt)?;
-        Ok(turn)
     }
 }
 
 impl Search {
     /// Makes the literals of unit clauses true; the number of a clause that is false, if one is.
-    fn force_units(&mut self, cnf: &Cnf) -> Result<Option<u32>, AllocError>
+    fn force_units(&mut self, cnf: &Cnf) -> Result<Option<ClauseRef>, AllocError>
         requires { IsState cnf.now self.old }
         ensures state { OnOk result (IsState cnf.now self.new) }
         ensures lines { OnOk result (self.new.lines.items ≡ self.old.lines.items) }
@@ -398,31 +379,16 @@ impl Search {
         Ok(found)
     }
 
-    /// Begins with the unit clauses.
-    pub(crate) fn begin(&mut self, cnf: &Cnf, learnt: u32) -> Result<Turn, AllocError>
-        requires state { IsState cnf.now self.old }
-        requires within { length self.old.lines.items ≤ learnt }
-        ensures { IfOk result (IsBegun cnf.now learnt self.new) }
+    /// Propagates the unit clauses; the number of a clause that is false, if one is.
+    pub(crate) fn begin(&mut self, cnf: &Cnf) -> Result<Option<ClauseRef>, AllocError>
+        requires { IsState cnf.now self.old }
+        ensures state { OnOk result (IsState cnf.now self.new) }
+        ensures lines { OnOk result (self.new.lines.items ≡ self.old.lines.items) }
+        ensures conflict { IfOk result (IsPropagated self.new.arena self.new.trail) }
     {
         match self.force_units(cnf)? {
-            Some(number) => self.conflict(cnf, number, learnt),
-            None => Ok(Turn::Again),
-        }
-    }
-
-    /// Turns until the search ends.
-    pub(crate) fn run(&mut self, cnf: &Cnf, learnt: u32) -> Result<End, AllocError>
-        requires state { IsState cnf.now self.old }
-        requires within { length self.old.lines.items ≤ learnt }
-        ensures { IfOk result (IsEnded cnf.now learnt self.new) }
-    {
-        loop {
-            match self.turn(cnf, learnt)? {
-                Turn::Again => {}
-                Turn::Satisfied => return Ok(End::Model),
-                Turn::Refuted => return Ok(End::Refutation),
-                Turn::Spent => return Ok(End::Lines),
-            }
+            Some(number) => Ok(Some(number)),
+            None => self.propagate(cnf),
         }
     }
 }
@@ -433,7 +399,7 @@ fn first_decision(trail: &Trail, from: usize) -> usize
     ensures { result ≤ height trail.now }
 {
     for place in from..trail.lits.len() {
-        if trail.reason(place) == NONE {
+        if trail.reason(place).is_none() {
             return place;
         }
     }
@@ -447,23 +413,24 @@ fn watch_kept(
     arena: &Arena,
     ground: &Trail,
 ) -> Result<(), AllocError>
-    requires { length arena.now < NONE }
+    requires { length arena.now < NO_CLAUSE }
 {
     watches.reset();
     for number in 0..arena.len() {
-        let clause = arena.clause(number as u32);
+        let reference = ClauseRef::new(number);
+        let clause = arena.clause(reference);
         if quality.is_kept(number) && !is_settled(ground, clause) {
-            watch_clause(watches, ground, clause, number as u32)?;
+            watch_clause(watches, ground, clause, reference)?;
         }
     }
     Ok(())
 }
 
 /// Whether a literal of the clause is true.
-fn is_settled(trail: &Trail, clause: &[u32]) -> bool {
+fn is_settled(trail: &Trail, clause: &[PackedLit]) -> bool {
     clause
         .iter()
-        .any(|literal| trail.when_false(*literal ^ 1) != NONE)
+        .any(|literal| trail.when_false(literal.opposite()) != NO_PLACE)
 }
 
 /// Puts the variables of the literals from the place on into the order again.
@@ -477,7 +444,7 @@ fn release(order: &mut Order, trail: &Trail, from: usize) -> Result<(), AllocErr
 /// Raises the activities of the variables that the analysis met.
 fn bump(order: &mut Order, analysis: &Analysis) {
     for literal in &analysis.touched {
-        order.bump(*literal / 2);
+        order.bump(literal.var());
     }
     order.decay();
 }

@@ -4,11 +4,11 @@
 
 mod analysis;
 mod conflict;
-mod ending;
 mod engine;
+mod found;
 mod quality;
 mod redundancy;
 mod start;
 
-pub use ending::Ending;
+pub use found::Found;
 pub use start::solve;

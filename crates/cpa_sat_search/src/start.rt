@@ -1,4 +1,4 @@
-//! From a formula to a search, and from the end of the search to what is left of it
+//! From a formula to a search, and from the end of the search to what it found
 //! (`specs/Endings.antt`). Proved with `proofs/Loading.antt`.
 
 ghost use Rattle.std.specs.Prelude.{◌≡◌, ◌<◌, ◌≤◌, ◌^◌, [], ◌∷◌, ◌++◌, length, IfOk, OnOk};
@@ -6,19 +6,19 @@ ghost use Rattle.std.specs.List.{AllByRecursion};
 ghost use Rattle.cpa_cnf.specs.Clauses.{IsClause};
 ghost use Rattle.cpa_cnf.specs.Lines.{AreBelow};
 ghost use Rattle.cpa_cnf.specs.Models.{IsModel};
-ghost use Rattle.cpa_sat_trail.specs.declared.trail.TheConstants.{NONE};
+ghost use Rattle.cpa_sat_arena.specs.declared.literal.TheConstants.{NO_CLAUSE};
 ghost use Rattle.cpa_sat_trail.specs.Findings.{AreSatisfied};
 ghost use Rattle.cpa_sat_search.specs.Endings.{IsEnding};
-ghost use Rattle.cpa_sat_search.specs.States.{AreLoaded, IsEnded, IsState};
+ghost use Rattle.cpa_sat_search.specs.States.{AreLoaded, IsState};
 
 use crate::analysis::Analysis;
-use crate::ending::Ending;
-use crate::engine::{End, Search, Turn};
+use crate::engine::{Search, Turn};
+use crate::found::Found;
 use crate::quality::Quality;
 use crate::redundancy::Redundancy;
 use cpa_cnf::{Clause, Cnf, Line};
-use cpa_sat_arena::Arena;
-use cpa_sat_trail::{NONE, Order, Restarts, Trail, VARS_LIMIT, values, watch_all};
+use cpa_sat_arena::{Arena, NO_CLAUSE};
+use cpa_sat_trail::{Order, Restarts, Trail, VARS_LIMIT, values, watch_all};
 use std::alloc::{AllocError, Global};
 use std::mem;
 
@@ -27,9 +27,9 @@ fn load_clause(arena: &mut Arena, clause: &Clause) -> Result<(), AllocError>
     requires { AllByRecursion (λ l. l < 2 ^ 32) clause.now }
     ensures loaded { OnOk result (arena.new ≡ arena.old ++ clause.now ∷ []) }
     ensures sorted { OnOk result (IsClause clause.now) }
-    ensures few { OnOk result (length arena.new < NONE) }
+    ensures few { OnOk result (length arena.new < NO_CLAUSE) }
 {
-    if arena.len() >= NONE as usize - 1 {
+    if arena.len() >= NO_CLAUSE as usize - 1 {
         return Err(AllocError);
     }
     let _sorted = clause.literals();
@@ -81,20 +81,6 @@ fn start(alloc: Global, cnf: &Cnf) -> Result<Search, AllocError>
     })
 }
 
-/// Turns to the end.
-fn finish(search: &mut Search, cnf: &Cnf, learnt: u32) -> Result<End, AllocError>
-    requires state { IsState cnf.now search.old }
-    requires within { length search.old.lines.items ≤ learnt }
-    ensures { IfOk result (IsEnded cnf.now learnt search.new) }
-{
-    match search.begin(cnf, learnt)? {
-        Turn::Again => search.run(cnf, learnt),
-        Turn::Satisfied => Ok(End::Model),
-        Turn::Refuted => Ok(End::Refutation),
-        Turn::Spent => Ok(End::Lines),
-    }
-}
-
 /// The model at the end of a search.
 fn model(search: &mut Search, cnf: &Cnf) -> Result<Vec<bool>, AllocError>
     requires state { IsState cnf.now search.old }
@@ -114,23 +100,27 @@ fn lines(search: &mut Search) -> Vec<Line>
     mem::replace(&mut search.lines, Vec::new(search.alloc))
 }
 
-/// What is left of a search.
-fn conclude(search: &mut Search, cnf: &Cnf, learnt: u32, end: End) -> Result<Ending, AllocError>
-    requires { IsEnded cnf.now learnt search.old end }
+/// Decides, or learns from a clause that is false, and propagates, until the search ends.
+fn run(search: &mut Search, cnf: &Cnf, learnt: u32) -> Result<Found, AllocError>
+    requires state { IsState cnf.now search.old }
+    requires within { length search.old.lines.items ≤ learnt }
     ensures { IfOk result (IsEnding cnf.now learnt) }
 {
-    let _learnt = learnt;
-    match end {
-        End::Model => Ok(Ending::Model(model(search, cnf)?)),
-        End::Refutation => Ok(Ending::Refutation(lines(search))),
-        End::Lines => Ok(Ending::Lines(lines(search))),
+    let mut conflict = search.begin(cnf)?;
+    loop {
+        match search.step(cnf, conflict, learnt)? {
+            Turn::Again => conflict = search.propagate(cnf)?,
+            Turn::Satisfied => return Ok(Found::Model(model(search, cnf)?)),
+            Turn::Refuted => return Ok(Found::Refuted(lines(search))),
+            Turn::Spent => return Ok(Found::Spent(lines(search))),
+        }
     }
 }
 
 /// Searches for a model of the formula, or a refutation of at most `learnt` lines. Where neither is
 /// found within `learnt` lines, it gives these. Want of memory is also answered where the formula
 /// has 2^31 variables, or 2^32 - 2 clauses would stand.
-pub fn solve(alloc: Global, cnf: &Cnf, learnt: u32) -> Result<Ending, AllocError>
+pub fn solve(alloc: Global, cnf: &Cnf, learnt: u32) -> Result<Found, AllocError>
     requires { AllByRecursion (AreBelow cnf.now.vars) cnf.now.clauses }
     ensures { IfOk result (IsEnding cnf.now learnt) }
 {
@@ -138,6 +128,5 @@ pub fn solve(alloc: Global, cnf: &Cnf, learnt: u32) -> Result<Ending, AllocError
         return Err(AllocError);
     }
     let mut search = start(alloc, cnf)?;
-    let end = finish(&mut search, cnf, learnt)?;
-    conclude(&mut search, cnf, learnt, end)
+    run(&mut search, cnf, learnt)
 }

@@ -12,7 +12,9 @@ returns-clause-marks c l =
     let old = c.args.self.now in
     let cs = c.args.arena.now in
     let k = c.args.number in
-    let m = c.in_ok-mark_others.ensures.marks in
+    let m = subst (λ n. (x : ℕ) → marked c.mark_others.new.self.marks.items x
+    ≡ (marked old.marks.items x || (has c.clause.result.now x && not (x == n)))) c.none.ensures
+    c.in_ok-mark_others.ensures.marks in
     begun_marks old.vars old.marks.items c.mark_others.new.self.marks.items (slice_index_or cs k [])
     (subst (λ n. n < 2 ^ 31) c.requires.vars c.requires.trail.small) (c.requires.clauses.below k)
     c.requires.idle.blank
@@ -24,7 +26,9 @@ returns-clause-derived c =
     let old = c.args.self.now in
     let cs = c.args.arena.now in
     let k = c.args.number in
-    let m = c.in_ok-mark_others.ensures.marks in
+    let m = subst (λ n. (x : ℕ) → marked c.mark_others.new.self.marks.items x
+    ≡ (marked old.marks.items x || (has c.clause.result.now x && not (x == n)))) c.none.ensures
+    c.in_ok-mark_others.ensures.marks in
     let same = c.in_ok-mark_others.ensures.same in
     let marks : HasMarksOf (slice_index_or cs k []) c.mark_others.new.self = λ l.
     begun_marks old.vars old.marks.items c.mark_others.new.self.marks.items (slice_index_or cs k [])

@@ -1,5 +1,5 @@
 //! What a search finds.
-//! What each outcome holds is said in `specs/Outcomes.antt`.
+//! What each outcome holds is said in `specs/Endings.antt`.
 
 use cpa_cnf::Line;
 

@@ -3,7 +3,7 @@ use Rattle.std.proofs.lemmas.List.{length_push}
 use Rattle.cpa_cnf.specs.declared.formula.Line.{Line}
 use Rattle.cpa_cnf.specs.Lines.{IsGoodLine, IsRefutation}
 use Rattle.cpa_sat_search.proofs.Growth.{good_more, last_line}
-use Rattle.cpa_sat_search.proofs.engine.Search.conclude.Goals as goal
+use Rattle.cpa_sat_search.proofs.engine.Search.refute.Goals as goal
 
 pub returns : goal.returns
 returns c =
