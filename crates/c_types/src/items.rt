@@ -12,7 +12,7 @@ ghost use Rattle.c_types.specs.Blocks.{block_behind, block_faults, block_calls, 
 
 use c_grammar_tree::{BlockItem, Body, FunctionDeclarator, Item, Specifiers};
 use c_lexer::TextFault;
-use c_types_bodies::read_body;
+use c_types_bodies::{FunctionDefinition, read_body};
 use c_types_globals::{
     Scope, Start, declare_enumeration, declare_function, declare_objects, declare_typedefs,
 };
@@ -77,17 +77,20 @@ fn gather_block(
     ensures starts { gathered.new.starts.items ≡ gathered.old.starts.items }
 {
     let bodies = gathered.scope.bodies.checked_add(1).ok_or(AllocError)?;
-    let body = read_body(
-        alloc,
-        survey,
-        &mut gathered.scope.names,
-        gathered.scope.objects,
-        gathered.scope.bodies,
+    let function = FunctionDefinition {
+        number: gathered.scope.bodies,
         specifiers,
-        &declarator.parameters,
+        parameters: &declarator.parameters,
         items,
         place,
         end,
+    };
+    let body = read_body(
+        alloc,
+        survey,
+        &function,
+        &mut gathered.scope.names,
+        gathered.scope.objects,
         &mut gathered.first,
         &mut gathered.calls,
     )?;
@@ -116,17 +119,20 @@ fn gather_parameters(
     ensures functions { gathered.new.functions.items ≡ gathered.old.functions.items }
     ensures starts { gathered.new.starts.items ≡ gathered.old.starts.items }
 {
+    let function = FunctionDefinition {
+        number: gathered.scope.bodies,
+        specifiers,
+        parameters: &declarator.parameters,
+        items: &[],
+        place: 0,
+        end: 0,
+    };
     read_body(
         alloc,
         survey,
+        &function,
         &mut gathered.scope.names,
         gathered.scope.objects,
-        gathered.scope.bodies,
-        specifiers,
-        &declarator.parameters,
-        &[],
-        0,
-        0,
         &mut gathered.first,
         &mut gathered.calls,
     )?;
