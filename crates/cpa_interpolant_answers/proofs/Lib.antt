@@ -1,3 +1,5 @@
+pub mod Edges
+pub mod Fitting
 pub mod Parted
 pub mod Running
 pub mod Concluding

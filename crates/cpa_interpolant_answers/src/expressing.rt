@@ -17,12 +17,12 @@ ghost use Rattle.cpa_interpolant_answers.specs.Asked.{IsOfCut, IsWhole};
 
 use crate::answer::Answer;
 use crate::asking::Refuted;
+use crate::joints::JoinedParts;
 use cpa_chains::{Partial, leaves};
 use cpa_expr::Expr;
 use cpa_interpolant_bits::Conditions;
 use cpa_interpolant_conditions::{condition_of, conditions_of_partials_mean};
 use cpa_interpolant_cuts::{cuts_are_typed, cuts_interpolate};
-use cpa_interpolant_parts::JoinedParts;
 use cpa_ints::Boxed;
 use std::alloc::{AllocError, Global};
 

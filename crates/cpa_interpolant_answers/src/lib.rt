@@ -6,6 +6,8 @@ mod answer;
 mod answering;
 mod asking;
 mod expressing;
+mod forms;
+mod joints;
 mod modelling;
 
 pub use answer::Answer;

@@ -9,9 +9,9 @@ ghost use Rattle.cpa_folds.specs.Along.{acts_along};
 ghost use Rattle.cpa_interpolant_rules.specs.Stores.{RunsFrom};
 ghost use Rattle.cpa_interpolant_cuts.specs.Cuts.{behind_cut};
 
+use crate::forms::part_behind;
 use cpa_expr::Store;
 use cpa_form_rules::forms_are_runs;
-use cpa_interpolant_parts::part_behind;
 use cpa_model::{Cfa, edges_are_sound, steps_keep_states};
 use cpa_solver::{Decided, decide};
 use std::alloc::{AllocError, Global};

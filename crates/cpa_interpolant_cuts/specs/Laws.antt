@@ -33,8 +33,8 @@ use Rattle.cpa_chains.specs.Interpolants.{IsInterpolant}
 use Rattle.cpa_chains.specs.Partials.{partials_of}
 use Rattle.cpa_interpolant_joining.specs.Joining.{renamed_clause}
 use Rattle.cpa_interpolant_names.specs.Meetings.{names_of}
-use Rattle.cpa_interpolant_places.specs.Touching.{IsGone}
-use Rattle.cpa_interpolant_places.specs.Laws.{ArePlaces, places_stand_apart}
+use Rattle.cpa_interpolant_cuts.specs.Touching.{IsGone}
+use Rattle.cpa_interpolant_cuts.specs.Places.{ArePlaces, places_stand_apart}
 use Rattle.cpa_interpolant_rules.specs.Stores.{IsStore}
 use Rattle.cpa_interpolant_rules.specs.Interpolants.{IsNext}
 use Rattle.cpa_interpolant_cuts.specs.Cuts.{added_before, added_behind, before_cut, behind_cut}

@@ -5,4 +5,5 @@
 
 mod laws;
 
+pub use laws::{bits_are_variables, bits_stand_apart, places_stand_apart};
 pub use laws::{cuts_are_asked, cuts_are_runs, cuts_are_typed, cuts_interpolate};

@@ -17,7 +17,7 @@ use Rattle.cpa_blast.specs.Formulas.{formula, first_bits, store_at}
 use Rattle.cpa_blast.specs.Laws.{IsBlastable, formulas_below}
 use Rattle.cpa_form_rules.specs.Forms.{Form, place_now}
 use Rattle.cpa_interpolant_bits.specs.Bits.{bit_of}
-use Rattle.cpa_interpolant_variables.specs.Laws.{IsBitAt, bits_stand_apart, bits_are_variables}
+use Rattle.cpa_interpolant_cuts.specs.Variables.{IsBitAt, bits_stand_apart, bits_are_variables}
 use Rattle.cpa_interpolant_names.specs.declared.gathering.Meeting.{Meeting}
 use Rattle.cpa_interpolant_names.specs.declared.gathering.Seen.{Seen}
 use Rattle.cpa_interpolant_names.specs.Meetings.{meeting_of, meetings_from}

@@ -46,8 +46,8 @@ use Rattle.cpa_interpolant_conditions.specs.Laws.{conditions_of_partials_mean}
 use Rattle.cpa_interpolant_names.specs.declared.gathering.Meeting.{Meeting}
 use Rattle.cpa_interpolant_names.specs.Meetings.{names_of, bits_of}
 use Rattle.cpa_interpolant_names.specs.Laws.{IsOne, AreApart, names_are_bits}
-use Rattle.cpa_interpolant_places.specs.Touching.{SomeAddedReads, SomeAddedTouches}
-use Rattle.cpa_interpolant_places.specs.Laws.{ArePlaces}
+use Rattle.cpa_interpolant_cuts.specs.Touching.{SomeAddedReads, SomeAddedTouches}
+use Rattle.cpa_interpolant_cuts.specs.Places.{ArePlaces}
 use Rattle.cpa_interpolant_rules.specs.Stores.{IsStore, StepsBy, RunsFrom, ActWrites}
 use Rattle.cpa_interpolant_rules.specs.Stores.{SomeActReads}
 use Rattle.cpa_interpolant_rules.specs.Interpolants.{LeadsTo, HasNoRun, ReadsShared, NeverTraps}

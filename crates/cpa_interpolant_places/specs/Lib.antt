@@ -1,3 +1,0 @@
-pub mod Touching
-pub mod lemmas
-pub mod Laws

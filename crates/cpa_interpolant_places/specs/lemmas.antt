@@ -1,6 +1,0 @@
--- Lemmas on the definitions, which the law's proof cites. No definition that a contract cites
--- stands here.
-pub mod Moves
-pub mod Steps
-pub mod Inside
-pub mod Wholes

@@ -1,5 +1,0 @@
-use Rattle.cpa_interpolant_variables.specs.Laws.{bits_stand_apart}
-use Rattle.cpa_interpolant_variables.proofs.laws.bits_stand_apart.Goals as goal
-
-pub returns : goal.returns
-returns c = bits_stand_apart c.circuits_have_values.ensures
