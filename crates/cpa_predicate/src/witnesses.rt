@@ -103,6 +103,16 @@ fn copy_of(alloc: Global, store: &Store) -> Result<Store, AllocError>
     })
 }
 
+/// Whether the act may be done on the store, as far as its test tells: this is cheaper than what
+/// `behind` asks and does.
+fn admits(act: &Act, store: &Store) -> bool {
+    if let Act::Assume { test, holds } = act {
+        has_truth(test, *holds, store)
+    } else {
+        true
+    }
+}
+
 /// The store to which the edge leads from this one, where the predicates of the element have their
 /// truths on it.
 fn behind(
@@ -114,7 +124,10 @@ fn behind(
 ) -> Result<Option<Store>, AllocError>
     ensures { IfOk result (λ found. IfSome found (IsAfter cfa.now elem.now edge.now)) }
 {
-    if !has_truths(elem, store) || !are_values(cfa.cells.as_slice(), store.values.as_slice()) {
+    if !admits(&edge.act, store) || !has_truths(elem, store) {
+        return Ok(None);
+    }
+    if !are_values(cfa.cells.as_slice(), store.values.as_slice()) {
         return Ok(None);
     }
     let mut new = copy_of(alloc, store)?;
@@ -123,25 +136,25 @@ fn behind(
 }
 
 /// The stores to which the edge leads from those of the given ones on which the predicates of the
-/// element have their truths, or the first of them where one does.
+/// element have their truths, from the newest one on, and at most so many.
 pub(crate) fn stores_behind(
     alloc: Global,
     cfa: &Cfa,
     edge: &Edge,
     elem: &Elem,
     stores: &[Store],
-    one_does: bool,
+    most: usize,
 ) -> Result<Vec<Store>, AllocError>
     ensures { IfOk result (λ found.
         AllByRecursion (IsAfter cfa.now elem.now edge.now) found.items) }
 {
     let mut found = Vec::new(alloc);
-    for store in stores {
+    for store in stores.iter().rev() {
+        if found.len() >= most {
+            return Ok(found);
+        }
         if let Some(new) = behind(alloc, cfa, edge, elem, store)? {
             found.push(new)?;
-            if one_does {
-                return Ok(found);
-            }
         }
     }
     Ok(found)
