@@ -145,12 +145,14 @@ nothing_asked cfa e g one preds a own leads none empty =
     (subst (AllByRecursion (λ (c : Cell). IsInRange c.ty c.start)) (sym a.automaton.cells)
     a.well_formed.starts) in
     let next = leads _ first in
-    subst (λ (ps : List Expr). IsOutcome NoneOpen cfa e g ps (Some [])) (sym empty)
-    (λ never. never _ next.0 (record {
-      values = first;
-      truths = subst (AllByRecursion (StoreFactHolds _)) (sym none) tt;
-      step = subst (λ (x : Act). StepsStore cfa.cells x _ next.0) (sym own) next.1;
-    }), tt)
+    subst (λ (ps : List Expr). IsOutcome NoneOpen cfa e g ps (Some [])) (sym empty) (
+      λ never. never _ next.0 (record {
+        values = first;
+        truths = subst (AllByRecursion (StoreFactHolds _)) (sym none) tt;
+        step = subst (λ (x : Act). StepsStore cfa.cells x _ next.0) (sym own) next.1;
+      }),
+      tt,
+    )
 
 pub free_gives : (O : Question → Type 0) (cfa : Cfa) (e : Elem) (g h : Edge) (preds : List Expr)
     (es : List Elem) → h ≡ g → IsAutomaton cfa → IsActOf cfa h.act

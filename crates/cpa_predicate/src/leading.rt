@@ -54,12 +54,7 @@ fn node_never_traps(e: &Expr) -> bool
 {
     match e {
         Expr::Read { len, index, .. } => is_number_below(index.get(), *len),
-        Expr::Bin {
-            op,
-            ty,
-            right,
-            ..
-        } => has_values(*op, *ty, right.get()),
+        Expr::Bin { op, ty, right, .. } => has_values(*op, *ty, right.get()),
         _ => true,
     }
 }

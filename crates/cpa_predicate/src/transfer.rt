@@ -340,7 +340,14 @@ fn outcome_of(
     forms_are_runs();
     steps_take_inputs();
     let along = cfa.edge(edge);
-    let stores = stores_behind(alloc, cfa, along, elem, asker.stores(), stores_wanted(preds))?;
+    let stores = stores_behind(
+        alloc,
+        cfa,
+        along,
+        elem,
+        asker.stores(),
+        stores_wanted(preds),
+    )?;
     let behind = stores.as_slice();
     let settled = is_settled(preds, behind);
     if settled {

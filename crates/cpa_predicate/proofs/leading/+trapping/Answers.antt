@@ -18,19 +18,22 @@ parts_never_trap-returns-in-One t c = λ never.
 
 pub parts_never_trap-returns-then-never_traps : goal.parts_never_trap-returns-then-never_traps
 parts_never_trap-returns-then-never_traps t c = λ never.
-    all_parts c.args.e.now _ (ap part_list (sym c.in-Two.is) ∙ c.parts_of.ensures)
-    (c.never_traps-in-Two.ensures c.if-never_traps.true,
-    (c.never_traps-then-never_traps.ensures never, tt))
+    all_parts c.args.e.now _ (ap part_list (sym c.in-Two.is) ∙ c.parts_of.ensures) (
+      c.never_traps-in-Two.ensures c.if-never_traps.true,
+      (c.never_traps-then-never_traps.ensures never, tt),
+    )
 
 pub parts_never_trap-returns-then-never_traps-3 : goal.parts_never_trap-returns-then-never_traps-3
 parts_never_trap-returns-then-never_traps-3 t c = λ never.
     all_parts c.args.e.now _ (ap part_list (sym c.in-Three.is) ∙ c.parts_of.ensures)
     (elim c.if-never_traps-2.branch [
       | parts_never_trap-then-never_traps-2 w ↦ (
-          c.never_traps-in-Three.ensures w.if-never_traps-2.true,
-          (w.never_traps-then-never_traps-2.ensures (sym w.value-is ∙ c.if-never_traps-3.true),
-          (c.never_traps-then-never_traps-3.ensures never, tt)),
-        )
+        c.never_traps-in-Three.ensures w.if-never_traps-2.true,
+        (
+          w.never_traps-then-never_traps-2.ensures (sym w.value-is ∙ c.if-never_traps-3.true),
+          (c.never_traps-then-never_traps-3.ensures never, tt),
+        ),
+      )
       | parts_never_trap-else-never_traps-2 w ↦
           absurd (cc (w.value-is, c.if-never_traps-3.true))
     ])

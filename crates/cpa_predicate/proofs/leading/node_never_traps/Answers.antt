@@ -15,7 +15,7 @@ returns-in-Read c = λ is values traps.
     (subst (λ (e : Expr). TrapsHere values (out-Expr e)) c.in-Read.is traps)))
 
 pub returns-in-Bin : goal.returns-in-Bin
-returns-in-Bin c = λ is values traps. 
+returns-in-Bin c = λ is values traps.
     c.has_values.ensures is values
     (subst (λ (e : Expr). IsSomeAnd (value_of e values) (HasNoValue c.in-Bin.op c.in-Bin.ty))
     (sym c.get-in-Bin.ensures) (bin_traps values _ _ _ _
